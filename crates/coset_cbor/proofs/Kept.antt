@@ -1,0 +1,90 @@
+-- What grows at its end.
+use Rattle.std.proofs.Common.{◌≡◌, ℕ, suc, Box, ◌+◌, ◌<◌, Vec, Global, Result, rules, List, [], ◌∷◌, ◌++◌, map, take, length, get_or, refl, sym, ap, subst, ◌∙◌, append_assoc}
+use Rattle.std.proofs.lemmas.List.{append-nil, take_more, map_push}
+use Rattle.std.proofs.lemmas.Result.{on_ok_weaker}
+use Rattle.std.specs.Prelude.{OnOk}
+use Rattle.coset_value.specs.Item.{Item, array, dict, items_count, pairs_count}
+use Rattle.coset_value.specs.Range.{IsInRange, AreInRange, ArePairsInRange}
+use Rattle.coset_value.specs.View.{items_of, pairs_of, view, pair_view, items_view, pairs_view}
+use Rattle.coset_value.specs.declared.value.Value.{Value, Tag, Array, Map, the_lemmas}
+use Rattle.coset_cbor.specs.Least.{Extends, least_head, short, shorts, pair_shorts}
+
+pub extends_self : (old new : List ℕ) → new ≡ old → Extends old new
+extends_self old new e = ([], e ∙ sym (append-nil old))
+
+pub extends_by : (old new more : List ℕ) → new ≡ old ++ more → Extends old new
+extends_by old new more e = (more, e)
+
+pub extends_then : (old middle new : List ℕ) → Extends old middle → Extends middle new → Extends old new
+extends_then old middle new p q = (p.0 ++ q.0, q.1 ∙ ap (λ (x : List ℕ). x ++ q.0) p.1 ∙ append_assoc old p.0 q.0)
+
+pub shorts-push : (vs : List Item) (v : Item) → shorts (items_of (vs ++ v ∷ [])) ≡ shorts (items_of vs) ++ short v
+shorts-push [] v = append-nil (short v)
+shorts-push (w ∷ vs) v = ap (λ (x : List ℕ). short w ++ x) (shorts-push vs v) ∙ sym (append_assoc (short w) (shorts (items_of vs)) (short v))
+
+pub pair_shorts-push : (ps : List (Item × Item)) (p : Item × Item) → pair_shorts (pairs_of (ps ++ p ∷ [])) ≡ pair_shorts (pairs_of ps) ++ (short p.0 ++ short p.1)
+pair_shorts-push [] p = ap (λ (x : List ℕ). short p.0 ++ x) (append-nil (short p.1))
+pair_shorts-push (q ∷ ps) p = ap (λ (x : List ℕ). short q.0 ++ (short q.1 ++ x)) (pair_shorts-push ps p) ∙ simp append_assoc
+
+pub item_put : (xs : List Value) (i : ℕ) (x : Value) (old middle new : List ℕ) → i < length xs → x ≡ get_or xs i x → middle ≡ old ++ shorts (items_view (take i xs)) → new ≡ middle ++ short (view x)
+    → new ≡ old ++ shorts (items_view (take (i + 1) xs))
+item_put xs i x old middle new lt is so_far put =
+    let more : take (i + 1) xs ≡ take i xs ++ x ∷ [] = take_more xs i x lt ∙ ap (λ (y : Value). take i xs ++ y ∷ []) (sym is) in
+    let total : shorts (items_view (take (i + 1) xs)) ≡ shorts (items_view (take i xs)) ++ short (view x) =
+    ap (λ (ys : List Value). shorts (items_view ys)) more ∙ ap (λ (zs : List Item). shorts (items_of zs)) (map_push view (take i xs) x) ∙ shorts-push (map view (take i xs)) (view x) in
+    put ∙ ap (λ (s : List ℕ). s ++ short (view x)) so_far ∙ append_assoc old (shorts (items_view (take i xs))) (short (view x)) ∙ ap (λ (s : List ℕ). old ++ s) (sym total)
+
+pub pair_put : (xs : List (Value × Value)) (i : ℕ) (x : Value × Value) (old middle half new : List ℕ) → i < length xs → x ≡ get_or xs i x → middle ≡ old ++ pair_shorts (pairs_view (take i xs)) → half ≡ middle ++ short (view x.0) → new ≡ half ++ short (view x.1)
+    → new ≡ old ++ pair_shorts (pairs_view (take (i + 1) xs))
+pair_put xs i x old middle half new lt is so_far key put =
+    let more : take (i + 1) xs ≡ take i xs ++ x ∷ [] = take_more xs i x lt ∙ ap (λ (y : Value × Value). take i xs ++ y ∷ []) (sym is) in
+    let both = short (view x.0) ++ short (view x.1) in
+    let total : pair_shorts (pairs_view (take (i + 1) xs)) ≡ pair_shorts (pairs_view (take i xs)) ++ both =
+    ap (λ (ys : List (Value × Value)). pair_shorts (pairs_view ys)) more ∙ ap (λ (zs : List (Item × Item)). pair_shorts (pairs_of zs)) (map_push pair_view (take i xs) x) ∙ pair_shorts-push (map pair_view (take i xs)) (pair_view x) in
+    let all : new ≡ middle ++ both = put ∙ ap (λ (s : List ℕ). s ++ short (view x.1)) key ∙ append_assoc middle (short (view x.0)) (short (view x.1)) in
+    all ∙ ap (λ (s : List ℕ). s ++ both) so_far ∙ append_assoc old (pair_shorts (pairs_view (take i xs))) both ∙ ap (λ (s : List ℕ). old ++ s) (sym total)
+
+in_range-push : (vs : List Item) (v : Item) → AreInRange (items_of vs) → IsInRange v → AreInRange (items_of (vs ++ v ∷ []))
+in_range-push [] v h k = (k, tt)
+in_range-push (w ∷ vs) v h k = (h.0, in_range-push vs v h.1 k)
+
+pairs_in_range-push : (ps : List (Item × Item)) (p : Item × Item) → ArePairsInRange (pairs_of ps) → IsInRange p.0 → IsInRange p.1 → ArePairsInRange (pairs_of (ps ++ p ∷ []))
+pairs_in_range-push [] p h k l = (k, l, tt)
+pairs_in_range-push (q ∷ ps) p h k l = (h.0, h.1, pairs_in_range-push ps p h.2 k l)
+
+pub item_in_range : (xs : List Value) (i : ℕ) (x : Value) → i < length xs → x ≡ get_or xs i x → AreInRange (items_view (take i xs)) → IsInRange (view x) → AreInRange (items_view (take (i + 1) xs))
+item_in_range xs i x lt is so_far here =
+    let more : take (i + 1) xs ≡ take i xs ++ x ∷ [] = take_more xs i x lt ∙ ap (λ (y : Value). take i xs ++ y ∷ []) (sym is) in
+    let views : items_view (take (i + 1) xs) ≡ items_of (map view (take i xs) ++ view x ∷ []) = ap items_view more ∙ ap items_of (map_push view (take i xs) x) in
+    subst AreInRange (sym views) (in_range-push (map view (take i xs)) (view x) so_far here)
+
+pub pair_in_range : (xs : List (Value × Value)) (i : ℕ) (x : Value × Value) → i < length xs → x ≡ get_or xs i x → ArePairsInRange (pairs_view (take i xs)) → IsInRange (view x.0) → IsInRange (view x.1)
+    → ArePairsInRange (pairs_view (take (i + 1) xs))
+pair_in_range xs i x lt is so_far key value =
+    let more : take (i + 1) xs ≡ take i xs ++ x ∷ [] = take_more xs i x lt ∙ ap (λ (y : Value × Value). take i xs ++ y ∷ []) (sym is) in
+    let views : pairs_view (take (i + 1) xs) ≡ pairs_of (map pair_view (take i xs) ++ pair_view x ∷ []) = ap pairs_view more ∙ ap pairs_of (map_push pair_view (take i xs) x) in
+    subst ArePairsInRange (sym views) (pairs_in_range-push (map pair_view (take i xs)) (pair_view x) so_far key value)
+
+pub headed_put : {A B : Type 0} (r : Result A B) (m n k : ℕ) (body old middle new whole : List ℕ) → whole ≡ least_head m k ++ body → n ≡ k → middle ≡ old ++ least_head m n → OnOk r (new ≡ middle ++ body) → OnOk r (new ≡ old ++ whole)
+headed_put r m n k body old middle new whole is same head put =
+    on_ok_weaker r (λ e. e ∙ ap (λ (s : List ℕ). s ++ body) (head ∙ ap (λ (j : ℕ). old ++ least_head m j) same) ∙ append_assoc old (least_head m k) body ∙ ap (λ (s : List ℕ). old ++ s) (sym is)) put
+
+pub items_count-items_view : (vs : List Value) → items_count (items_view vs) ≡ length vs
+items_count-items_view [] = refl
+items_count-items_view (v ∷ vs) = ap suc (items_count-items_view vs)
+
+pub pairs_count-pairs_view : (vs : List (Value × Value)) → pairs_count (pairs_view vs) ≡ length vs
+pairs_count-pairs_view [] = refl
+pairs_count-pairs_view (v ∷ vs) = ap suc (pairs_count-pairs_view vs)
+
+pub view-Array : (v : Vec Value Global) → view (Array v) ≡ array (items_view v.items)
+view-Array v = search (rules, the_lemmas)
+
+pub view-Map : (v : Vec (Value × Value) Global) → view (Map v) ≡ dict (pairs_view v.items)
+view-Map v = search (rules, the_lemmas)
+
+pub view-Tag : (n : ℕ) (b : Box Value Global) → view (Tag n b) ≡ Item.tag n (view b.value)
+view-Tag n b = search (rules, the_lemmas)
+
+pub in_range_of : {A B P : Type 0} (r : Result A B) (v w : Item) → v ≡ w → (P → IsInRange w) → OnOk r P → OnOk r (IsInRange v)
+in_range_of r v w is step h = on_ok_weaker r (λ p. subst IsInRange (sym is) (step p)) h

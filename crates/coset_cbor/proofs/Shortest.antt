@@ -1,0 +1,227 @@
+-- The text with the least heads is the one shortest definite text.
+use Rattle.std.proofs.Common.{◌≡◌, ℕ, ◌^◌, ◌+◌, ◌<◌, ◌≤◌, true, false, ltb, List, [], ◌++◌, length, refl, sym, ap, ap₂, subst, ◌∙◌, arith, inl, inr, ◌⊎◌}
+use Rattle.std.specs.Prelude.{pos, negsuc}
+use Rattle.std.proofs.lemmas.Bool.{lt-ltb, le-ltb, cases_lt, ltb-true, cond_both}
+use Rattle.std.proofs.lemmas.List.{length-append}
+use Rattle.coset_value.specs.Item.{half, single, double, Item, integer, bytes, float, text, boolean, null, tag, array, dict, Items, no_items, item, Pairs, no_pairs, pair, items_count, pairs_count}
+use Rattle.coset_value.specs.Range.{IsInRange, AreInRange, ArePairsInRange}
+use Rattle.coset_cbor.specs.Grammar.{Place, within, one, two, four, eight, Holds, head_in, IsHead, IsHeaded, IsText, AreTexts, ArePairTexts}
+use Rattle.coset_cbor.specs.Definite.{IsDefiniteText, AreDefiniteTexts, AreDefinitePairs}
+use Rattle.coset_cbor.specs.Shortest.{IsShort}
+use Rattle.coset_cbor.specs.Least.{least_place, least_head, short, shorts, pair_shorts}
+
+-- ---- which place is the least
+
+abbrev size : Place → ℕ
+size within = 1
+size one = 2
+size two = 3
+size four = 5
+size eight = 9
+
+length-head_in : (p : Place) (m n : ℕ) → length (head_in p m n) ≡ size p
+length-head_in within m n = refl
+length-head_in one m n = refl
+length-head_in two m n = refl
+length-head_in four m n = refl
+length-head_in eight m n = refl
+
+least_within : (n : ℕ) → n < 24 → least_place n ≡ within
+least_within n h = rw (lt-ltb n 24 h) refl
+
+least_one : (n : ℕ) → 24 ≤ n → n < 2 ^ 8 → least_place n ≡ one
+least_one n a h = rw (le-ltb n 24 a, lt-ltb n (2 ^ 8) h) refl
+
+least_two : (n : ℕ) → 2 ^ 8 ≤ n → n < 2 ^ 16 → least_place n ≡ two
+least_two n a h = let b : 24 ≤ n = omega arith in rw (le-ltb n 24 b, le-ltb n (2 ^ 8) a, lt-ltb n (2 ^ 16) h) refl
+
+least_four : (n : ℕ) → 2 ^ 16 ≤ n → n < 2 ^ 32 → least_place n ≡ four
+least_four n a h =
+    let b : 24 ≤ n = omega arith in
+    let c : 2 ^ 8 ≤ n = omega arith in
+    rw (le-ltb n 24 b, le-ltb n (2 ^ 8) c, le-ltb n (2 ^ 16) a, lt-ltb n (2 ^ 32) h) refl
+
+least_eight : (n : ℕ) → 2 ^ 32 ≤ n → least_place n ≡ eight
+least_eight n a =
+    let b : 24 ≤ n = omega arith in
+    let c : 2 ^ 8 ≤ n = omega arith in
+    let d : 2 ^ 16 ≤ n = omega arith in
+    rw (le-ltb n 24 b, le-ltb n (2 ^ 8) c, le-ltb n (2 ^ 16) d, le-ltb n (2 ^ 32) a) refl
+
+abbrev IsLeastPlace : Place → ℕ → Type 0
+IsLeastPlace p n = (least_place n ≡ p) ⊎ (size (least_place n) < size p)
+
+smaller : (p q : Place) (n : ℕ) → least_place n ≡ q → size q < size p → IsLeastPlace p n
+smaller p q n e lt = inr (subst (λ (x : Place). size x < size p) (sym e) lt)
+
+least_of_place : (p : Place) (n : ℕ) → Holds p n → IsLeastPlace p n
+least_of_place within n h = inl (least_within n h)
+least_of_place one n h = elim (cases_lt n 24) [
+  | inl a ↦ smaller one within n (least_within n a) (omega arith)
+  | inr a ↦ inl (least_one n a h)
+]
+least_of_place two n h = elim (cases_lt n 24) [
+  | inl a ↦ smaller two within n (least_within n a) (omega arith)
+  | inr a ↦ elim (cases_lt n (2 ^ 8)) [
+    | inl b ↦ smaller two one n (least_one n a b) (omega arith)
+    | inr b ↦ inl (least_two n b h)
+  ]
+]
+least_of_place four n h = elim (cases_lt n 24) [
+  | inl a ↦ smaller four within n (least_within n a) (omega arith)
+  | inr a ↦ elim (cases_lt n (2 ^ 8)) [
+    | inl b ↦ smaller four one n (least_one n a b) (omega arith)
+    | inr b ↦ elim (cases_lt n (2 ^ 16)) [
+      | inl c ↦ smaller four two n (least_two n b c) (omega arith)
+      | inr c ↦ inl (least_four n c h)
+    ]
+  ]
+]
+least_of_place eight n h = elim (cases_lt n 24) [
+  | inl a ↦ smaller eight within n (least_within n a) (omega arith)
+  | inr a ↦ elim (cases_lt n (2 ^ 8)) [
+    | inl b ↦ smaller eight one n (least_one n a b) (omega arith)
+    | inr b ↦ elim (cases_lt n (2 ^ 16)) [
+      | inl c ↦ smaller eight two n (least_two n b c) (omega arith)
+      | inr c ↦ elim (cases_lt n (2 ^ 32)) [
+        | inl d ↦ smaller eight four n (least_four n c d) (omega arith)
+        | inr d ↦ inl (least_eight n d)
+      ]
+    ]
+  ]
+]
+
+-- ---- no text is shorter
+
+-- s is no longer than c, and where c is no longer, it is s
+record IsLeast (s c : List ℕ) : Type 0 where
+  shorter : length s ≤ length c
+  same : length c ≤ length s → c ≡ s
+
+least_self : (s : List ℕ) → IsLeast s s
+least_self s = record { shorter = omega arith; same = λ h. refl }
+
+least_is : (s c : List ℕ) → c ≡ s → IsLeast s c
+least_is s c e = subst (λ (x : List ℕ). IsLeast s x) (sym e) (least_self s)
+
+least_append : (s t c d b : List ℕ) → IsLeast s c → IsLeast t d → b ≡ c ++ d → IsLeast (s ++ t) b
+least_append s t c d b p q e =
+    let ps = p.shorter in
+    let qs = q.shorter in
+    let whole : length b ≡ length c + length d = ap length e ∙ length-append c d in
+    let least : length (s ++ t) ≡ length s + length t = length-append s t in
+    record {
+      shorter = omega arith;
+      same = λ h. e ∙ ap₂ (λ (x y : List ℕ). x ++ y) (p.same (omega arith)) (q.same (omega arith));
+    }
+
+least_in : (p : Place) (m n : ℕ) → Holds p n → IsLeast (least_head m n) (head_in p m n)
+unfolding least_head
+least_in p m n h = elim (least_of_place p n h) [
+  | inl e ↦ subst (λ (q : Place). IsLeast (head_in (least_place n) m n) (head_in q m n)) e (least_self (head_in (least_place n) m n))
+  | inr lt ↦
+      let a = length-head_in (least_place n) m n in
+      let b = length-head_in p m n in
+      record { shorter = omega arith; same = λ le. absurd (omega arith) }
+]
+
+least_of_head : (m n : ℕ) (h : List ℕ) → IsHead m n h → IsLeast (least_head m n) h
+least_of_head m n h is = subst (λ (x : List ℕ). IsLeast (least_head m n) x) (sym is.spelled) (least_in is.place m n is.holds)
+
+least_of_headed : (m n : ℕ) (t s b : List ℕ) → IsHeaded m n s b → IsLeast t s → IsLeast (least_head m n ++ t) b
+least_of_headed m n t s b is p = least_append (least_head m n) t is.head s b (least_of_head m n is.head is.is_head) p is.parts
+
+mutual
+  short_least : (v : Item) (b : List ℕ) → IsDefiniteText v b → IsLeast (short v) b
+  short_least (integer (pos n)) b h = least_of_head 0 n b h
+  short_least (integer (negsuc n)) b h = least_of_head 1 n b h
+  short_least (bytes s) b h = least_of_headed 2 (length s) s s b h.1 (least_self s)
+  short_least (float (half n)) b h = least_is _ b h.1
+  short_least (float (single n)) b h = least_is _ b h.1
+  short_least (float (double n)) b h = least_is _ b h.1
+  short_least (text s) b h = least_of_headed 3 (length s) s s b h.1 (least_self s)
+  short_least (boolean false) b h = least_is _ b h
+  short_least (boolean true) b h = least_is _ b h
+  short_least null b h = least_is _ b h
+  short_least (tag t v) b h = least_of_headed 6 t (short v) h.0 b h.2 (short_least v h.0 h.1)
+  short_least (array vs) b h = least_of_headed 4 (items_count vs) (shorts vs) h.0 b h.2 (shorts_least vs h.0 h.1)
+  short_least (dict ps) b h = least_of_headed 5 (pairs_count ps) (pair_shorts ps) h.0 b h.2 (pair_shorts_least ps h.0 h.1)
+
+  shorts_least : (vs : Items) (b : List ℕ) → AreDefiniteTexts vs b → IsLeast (shorts vs) b
+  shorts_least no_items b h = least_is [] b h
+  shorts_least (item v vs) b h = least_append (short v) (shorts vs) h.0 h.1 b (short_least v h.0 h.2) (shorts_least vs h.1 h.3) h.4
+
+  pair_shorts_least : (ps : Pairs) (b : List ℕ) → AreDefinitePairs ps b → IsLeast (pair_shorts ps) b
+  pair_shorts_least no_pairs b h = least_is [] b h
+  pair_shorts_least (pair k v ps) b h =
+      least_append (short k) (short v ++ pair_shorts ps) h.0 (h.1 ++ h.2) b (short_least k h.0 h.3)
+      (least_append (short v) (pair_shorts ps) h.1 h.2 (h.1 ++ h.2) (short_least v h.1 h.4) (pair_shorts_least ps h.2 h.5) refl) h.6
+
+-- ---- it is a definite text
+
+least_holds : (n : ℕ) → n < 2 ^ 64 → Holds (least_place n) n
+least_holds n lt =
+    cond_both (ltb n 24) within _ (λ p. Holds p n) (λ e. ltb-true n 24 e) (λ a.
+    cond_both (ltb n (2 ^ 8)) one _ (λ p. Holds p n) (λ e. ltb-true n (2 ^ 8) e) (λ b.
+    cond_both (ltb n (2 ^ 16)) two _ (λ p. Holds p n) (λ e. ltb-true n (2 ^ 16) e) (λ c.
+    cond_both (ltb n (2 ^ 32)) four eight (λ p. Holds p n) (λ e. ltb-true n (2 ^ 32) e) (λ d. lt))))
+
+least_is_head : (m n : ℕ) → n < 2 ^ 64 → IsHead m n (least_head m n)
+unfolding least_head
+least_is_head m n lt = record { place = least_place n; holds = least_holds n lt; spelled = refl }
+
+least_headed : (m n : ℕ) (s : List ℕ) → n < 2 ^ 64 → IsHeaded m n s (least_head m n ++ s)
+least_headed m n s lt = record { head = least_head m n; is_head = least_is_head m n lt; parts = refl }
+
+mutual
+  short_definite : (v : Item) → IsInRange v → IsDefiniteText v (short v)
+  short_definite (integer (pos n)) h = least_is_head 0 n h
+  short_definite (integer (negsuc n)) h = least_is_head 1 n h
+  short_definite (bytes s) h = (tt, least_headed 2 (length s) s h)
+  short_definite (float (half n)) h = (h, refl)
+  short_definite (float (single n)) h = (h, refl)
+  short_definite (float (double n)) h = (h, refl)
+  short_definite (text s) h = (h.1, least_headed 3 (length s) s h.0)
+  short_definite (boolean false) h = refl
+  short_definite (boolean true) h = refl
+  short_definite null h = refl
+  short_definite (tag t v) h = (short v, short_definite v h.1, least_headed 6 t (short v) h.0)
+  short_definite (array vs) h = (shorts vs, shorts_definite vs h.1, least_headed 4 (items_count vs) (shorts vs) h.0)
+  short_definite (dict ps) h = (pair_shorts ps, pair_shorts_definite ps h.1, least_headed 5 (pairs_count ps) (pair_shorts ps) h.0)
+
+  shorts_definite : (vs : Items) → AreInRange vs → AreDefiniteTexts vs (shorts vs)
+  shorts_definite no_items h = refl
+  shorts_definite (item v vs) h = (short v, shorts vs, short_definite v h.0, shorts_definite vs h.1, refl)
+
+  pair_shorts_definite : (ps : Pairs) → ArePairsInRange ps → AreDefinitePairs ps (pair_shorts ps)
+  pair_shorts_definite no_pairs h = refl
+  pair_shorts_definite (pair k v ps) h = (short k, short v, pair_shorts ps, short_definite k h.0, short_definite v h.1, pair_shorts_definite ps h.2, refl)
+
+-- The text with the least heads is the shortest text.
+pub short_is_short : (v : Item) → IsInRange v → IsShort (short v) v
+short_is_short v h = record { definite = short_definite v h; least = λ c d. (short_least v c d).shorter }
+
+-- The shortest text is the one with the least heads.
+pub only_short : (v : Item) → IsInRange v → (b : List ℕ) → IsShort b v → b ≡ short v
+only_short v h b is = (short_least v b is.definite).same (is.least (short v) (short_definite v h))
+
+mutual
+  -- A definite text is a text.
+  pub definite_is_text : (v : Item) (b : List ℕ) → IsDefiniteText v b → IsText v b
+  definite_is_text (integer n) b h = h
+  definite_is_text (bytes s) b h = inl h
+  definite_is_text (float x) b h = h
+  definite_is_text (text s) b h = inl h
+  definite_is_text (boolean x) b h = h
+  definite_is_text null b h = h
+  definite_is_text (tag t v) b h = (h.0, definite_is_text v h.0 h.1, h.2)
+  definite_is_text (array vs) b h = (h.0, definites_are_texts vs h.0 h.1, inl h.2)
+  definite_is_text (dict ps) b h = (h.0, definite_pairs_are_texts ps h.0 h.1, inl h.2)
+
+  definites_are_texts : (vs : Items) (b : List ℕ) → AreDefiniteTexts vs b → AreTexts vs b
+  definites_are_texts no_items b h = h
+  definites_are_texts (item v vs) b h = (h.0, h.1, definite_is_text v h.0 h.2, definites_are_texts vs h.1 h.3, h.4)
+
+  definite_pairs_are_texts : (ps : Pairs) (b : List ℕ) → AreDefinitePairs ps b → ArePairTexts ps b
+  definite_pairs_are_texts no_pairs b h = h
+  definite_pairs_are_texts (pair k v ps) b h = (h.0, h.1, h.2, definite_is_text k h.0 h.3, definite_is_text v h.1 h.4, definite_pairs_are_texts ps h.2 h.5, h.6)

@@ -1,0 +1,5 @@
+use Rattle.coset_cbor.proofs.Again.{texts_differ}
+use Rattle.coset_cbor.proofs.laws.one_item.Goals as goal
+
+pub returns : goal.returns
+returns c = texts_differ

@@ -1,0 +1,131 @@
+-- Which fault stands where in bytes (RFC 8949, section 5.3 and appendix C). A fault stands between what is before
+-- it, c, after which something is due, and what is left, t, which begins with what can't be there.
+use Rattle.std.specs.Prelude.{◌≡◌, ◌≢◌, ℕ, zero, suc, ◌+◌, ◌*◌, ◌/◌, ◌%◌, ◌^◌, ◌<◌, ◌≤◌, ◌⊎◌, Bool, true, false, not, List, [], ◌∷◌, ◌++◌, length, take}
+use Rattle.std.specs.Str.{IsUtf8}
+use Rattle.coset_value.specs.Item.{Items, items_count}
+use Rattle.coset_cbor.specs.Grammar.{IsHead, IsHeaded, Each, IsDefinite, string_type, AreTexts}
+use Rattle.coset_cbor.specs.declared.fault.Fault.{Fault}
+use Rattle.coset_cbor.specs.declared.fault.Fault.TheVariants.{End, Syntax, Simple, Deep}
+
+abbrev pub is_even : ℕ → Bool
+is_even zero = true
+is_even (suc n) = not (is_even n)
+
+-- ---- what is before
+
+-- o opens an array, a map or a tag, and then has some of its members, not all. The flag: the break may stand after o.
+pub data Opens : List ℕ → Bool → Type 0 where
+  in_array : (n : ℕ) (vs : Items) (c o : List ℕ) → items_count vs < n → AreTexts vs c → IsHeaded 4 n c o → Opens o false
+  in_map : (n : ℕ) (vs : Items) (c o : List ℕ) → items_count vs < 2 * n → AreTexts vs c → IsHeaded 5 n c o → Opens o false
+  in_tag : (t : ℕ) (o : List ℕ) → IsHead 6 t o → Opens o false
+  in_open_array : (vs : Items) (c : List ℕ) → AreTexts vs c → Opens (0x9F ∷ c) true
+  in_open_map : (vs : Items) (c : List ℕ) → AreTexts vs c → Opens (0xBF ∷ c) (is_even (items_count vs))
+
+-- An item is due after c, inside that many open arrays, maps and tags. The flag: the break may stand there instead.
+pub data Due : List ℕ → ℕ → Bool → Type 0 where
+  at_start : Due [] 0 false
+  innermost : (o : List ℕ) (e : Bool) → Opens o e → Due o 1 e
+  outer : (o c : List ℕ) (d : ℕ) (e f : Bool) → Opens o f → Due c (suc d) e → Due (o ++ c) (suc (suc d)) e
+
+-- A chunk of an indefinite string, or the break, is due after c.
+pub record DueChunk (is_text : Bool) (c : List ℕ) : Type 0 where
+  pub before : List ℕ
+  pub level : ℕ
+  pub flag : Bool
+  pub due : Due before level flag
+  pub chunks : List (List ℕ)
+  pub texts : List ℕ
+  pub are_chunks : Each (IsDefinite is_text) chunks texts
+  pub parts : c ≡ before ++ ((32 * string_type is_text + 31) ∷ texts)
+
+-- an item or a chunk is due after c
+abbrev pub IsDue : List ℕ → Type 0
+IsDue c = ((d : ℕ) × (e : Bool) × Due c d e) ⊎ ((is_text : Bool) × DueChunk is_text c)
+
+-- ---- what is left
+
+-- fewer bytes follow than the first byte announces for its argument
+abbrev pub LacksArgument : List ℕ → Type 0
+LacksArgument [] = ⊥
+LacksArgument (x ∷ t) = (k : ℕ) × (k < 4) × (x % 32 ≡ 24 + k) × (length t < 2 ^ k)
+
+-- fewer bytes follow than the head needs for its bytes, items or pairs
+pub record LacksContent (t : List ℕ) : Type 0 where
+  pub m : ℕ
+  pub n : ℕ
+  pub rest : List ℕ
+  pub headed : IsHeaded m n rest t
+  pub lacks : ((2 ≤ m) × (m ≤ 4) × (length rest < n)) ⊎ ((m ≡ 5) × (length rest < 2 * n))
+
+-- the input ends too early
+abbrev pub Ends : List ℕ → Type 0
+Ends t = (t ≡ []) ⊎ (LacksArgument t ⊎ LacksContent t)
+
+-- additional information 28 to 30, which is reserved
+abbrev pub HasBadInfo : List ℕ → Type 0
+HasBadInfo [] = ⊥
+HasBadInfo (x ∷ t) = (28 ≤ x % 32) × (x % 32 ≤ 30)
+
+-- additional information 31 at an integer or a tag, which have no indefinite form
+abbrev pub HasNoLength : List ℕ → Type 0
+HasNoLength [] = ⊥
+HasNoLength (x ∷ t) = (x % 32 ≡ 31) × ((x / 32 ≡ 0) ⊎ ((x / 32 ≡ 1) ⊎ (x / 32 ≡ 6)))
+
+-- a simple value below 32 in two bytes, which is not well-formed
+abbrev pub IsLowSimple : List ℕ → Type 0
+IsLowSimple [] = ⊥
+IsLowSimple (x ∷ []) = ⊥
+IsLowSimple (x ∷ y ∷ t) = (x ≡ 0xF8) × (y < 32)
+
+-- the break stands at the front
+abbrev pub BeginsBreak : List ℕ → Type 0
+BeginsBreak [] = ⊥
+BeginsBreak (x ∷ t) = x ≡ 255
+
+-- no item begins so, nor a break where one may stand
+abbrev pub NoItem : Bool → List ℕ → Type 0
+NoItem e t = HasBadInfo t ⊎ (HasNoLength t ⊎ (IsLowSimple t ⊎ (BeginsBreak t × (e ≡ false))))
+
+-- no chunk of the string's type begins so, nor the break
+abbrev pub NoChunk : Bool → List ℕ → Type 0
+NoChunk is_text [] = ⊥
+NoChunk is_text (x ∷ t) = (x ≢ 255) × ((x / 32 ≡ string_type is_text) × (x % 32 ≤ 27) → ⊥)
+
+-- a text whose bytes are all there and aren't UTF-8
+pub record IsBadText (t : List ℕ) : Type 0 where
+  pub n : ℕ
+  pub rest : List ℕ
+  pub headed : IsHeaded 3 n rest t
+  pub there : n ≤ length rest
+  pub bad : IsUtf8 (take n rest) → ⊥
+
+-- a simple value other than false, true and null
+abbrev pub IsNotSupported : List ℕ → Type 0
+IsNotSupported [] = ⊥
+IsNotSupported (x ∷ t) = ((224 ≤ x) × (x ≤ 243)) ⊎ ((x ≡ 247) ⊎ ((x ≡ 0xF8) × (y : ℕ) × (r : List ℕ) × (t ≡ y ∷ r) × (32 ≤ y)))
+
+-- an array, a map or a tag begins
+abbrev pub Nests : List ℕ → Type 0
+Nests [] = ⊥
+Nests (x ∷ t) = (4 ≤ x / 32) × (x / 32 ≤ 6)
+
+-- ---- the faults
+
+abbrev pub EndAt : List ℕ → List ℕ → Type 0
+EndAt c t = IsDue c × Ends t
+
+abbrev pub SyntaxAt : List ℕ → List ℕ → Type 0
+SyntaxAt c t = ((d : ℕ) × (e : Bool) × Due c d e × NoItem e t) ⊎ (((is_text : Bool) × DueChunk is_text c × NoChunk is_text t) ⊎ (IsDue c × IsBadText t))
+
+abbrev pub SimpleAt : List ℕ → List ℕ → Type 0
+SimpleAt c t = (d : ℕ) × (e : Bool) × Due c d e × IsNotSupported t
+
+abbrev pub DeepAt : ℕ → List ℕ → List ℕ → Type 0
+DeepAt d c t = (e : Bool) × Due c d e × Nests t
+
+-- the fault stands in s, of which a reader goes d deep; a number is how many bytes are left there
+abbrev pub Stands : ℕ → List ℕ → Fault → Type 0
+Stands d s End = (c : List ℕ) × (t : List ℕ) × (s ≡ c ++ t) × EndAt c t
+Stands d s (Syntax left) = (c : List ℕ) × (t : List ℕ) × (s ≡ c ++ t) × (left ≡ length t) × SyntaxAt c t
+Stands d s (Simple left) = (c : List ℕ) × (t : List ℕ) × (s ≡ c ++ t) × (left ≡ length t) × SimpleAt c t
+Stands d s Deep = (c : List ℕ) × (t : List ℕ) × (s ≡ c ++ t) × DeepAt d c t

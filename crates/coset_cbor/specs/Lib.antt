@@ -1,0 +1,10 @@
+pub use Rattle.coset_value.specs.Item
+pub use Rattle.coset_value.specs.Range
+pub use Rattle.coset_value.specs.View
+pub mod Grammar
+pub mod Definite
+pub mod Shortest
+pub mod Faults
+pub mod Refused
+pub mod Reading
+pub mod Least

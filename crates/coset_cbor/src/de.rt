@@ -1,0 +1,84 @@
+//! Reading a value from bytes (RFC 8949, section 3 and appendix C).
+
+ghost use Rattle.std.specs.Prelude.{◌≡◌, ◌≤◌, ◌++◌, List, ℕ, take, length, IfOk, IfErr};
+ghost use Rattle.coset_value.specs.Item.{Item};
+ghost use Rattle.coset_value.specs.View.{view};
+ghost use Rattle.coset_cbor.specs.Grammar.{IsItem};
+ghost use Rattle.coset_cbor.specs.Faults.{Stands};
+ghost use Rattle.coset_cbor.specs.Refused.{IsMemory, StandsIn};
+
+use crate::fault::{Fault, ReadError};
+use crate::read::item;
+use coset_value::Value;
+use std::alloc::Global;
+use std::fmt;
+
+/// How deep arrays, maps and tags may nest in what is read.
+const MAX_DEPTH: u32 = 256;
+
+/// The input ends where more is due.
+#[derive(Clone, Copy, Debug, PartialEq, Eq)]
+pub struct EndOfFile;
+
+/// Why bytes were not read. A number is the offset of the first byte of the head that is at fault.
+#[derive(Debug, Drop)]
+pub enum Error<T> {
+    /// The input ends too early, or a head announces more than is left.
+    Io(T),
+    /// The bytes are not well-formed (RFC 8949, section 5.3), or a text is not UTF-8.
+    Syntax(usize),
+    /// The item is well-formed and has no place in `Value`: a simple value other than false, true and null.
+    Semantic(Option<usize>, &'static str),
+    /// Arrays, maps and tags nest more than 256 levels deep.
+    RecursionLimitExceeded,
+    /// A request for memory was refused.
+    OutOfMemory,
+}
+
+impl<T: fmt::Debug> fmt::Display for Error<T> {
+    fn fmt<W: fmt::Write>(&self, f: &mut fmt::Formatter<W>) -> fmt::Result {
+        write!(f, "{self:?}")
+    }
+}
+
+/// The error that a fault is in an input of `len` bytes.
+fn error_of(fault: Fault, len: usize) -> Error<EndOfFile>
+    ensures other { IsMemory result → ⊥ }
+    ensures stands { (s : List ℕ) → length s ≡ len → Stands 256 s fault → StandsIn s result }
+{
+    match fault {
+        Fault::End => Error::Io(EndOfFile),
+        Fault::Syntax(left) => Error::Syntax(len.saturating_sub(left)),
+        Fault::Simple(left) => {
+            Error::Semantic(Some(len.saturating_sub(left)), "unsupported simple value")
+        }
+        Fault::Deep => Error::RecursionLimitExceeded,
+    }
+}
+
+/// Reads the item at the front of the bytes: its value, and how many bytes it takes. Bytes may follow it.
+///
+/// Every spelling is accepted (RFC 8949, section 3): a head of any width that holds its argument, definite and
+/// indefinite lengths; in a map, keys may repeat. Arrays, maps and tags nest at most 256 deep. Nothing is
+/// reserved because a head announces it.
+///
+/// # Errors
+/// Other than for memory, bytes are refused only where no front of them is an item within 256 levels, and the
+/// error is a fault that stands in them. Of several faults it is the first in reading order: at a head its form,
+/// then its argument, then the depth, then an announced length that can't be there, then what the head holds.
+pub fn read_value(alloc: Global, bytes: &[u8]) -> Result<(Value, usize), Error<EndOfFile>>
+    ensures length { IfOk result (λ x. x.1 ≤ length bytes.now) }
+    // What is read is the item at the front.
+    ensures found { IfOk result (λ x. IsItem (take x.1 bytes.now) (view x.0)) }
+    // No front of what is refused is an item, unless memory ran out.
+    ensures refused { IfErr result (λ e. (IsMemory e → ⊥)
+        → (v : Item) (b rest : List ℕ) → bytes.now ≡ b ++ rest → IsItem b v → ⊥) }
+    // The fault stands in the bytes, at the offset that it carries.
+    ensures stands { IfErr result (λ e. StandsIn bytes.now e) }
+{
+    match item(alloc, bytes, MAX_DEPTH) {
+        Ok((value, rest)) => Ok((value, bytes.len() - rest.len())),
+        Err(ReadError::Memory) => Err(Error::OutOfMemory),
+        Err(ReadError::Fault(fault)) => Err(error_of(fault, bytes.len())),
+    }
+}

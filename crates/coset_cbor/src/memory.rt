@@ -1,0 +1,5 @@
+//! Want of memory.
+
+/// A request for memory was refused.
+#[derive(Clone, Copy, Debug, PartialEq, Eq)]
+pub struct OutOfMemory;

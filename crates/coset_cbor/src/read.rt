@@ -1,0 +1,215 @@
+//! Items (RFC 8949, section 3).
+
+ghost use Rattle.std.specs.Prelude.{◌≡◌, map, length, negsuc};
+ghost use Rattle.coset_value.specs.View.{view, pair_view};
+ghost use Rattle.coset_cbor.specs.Reading.{Gives, times_at, until_at, pair_at, array_by, map_by, simple_at, item_at};
+
+use crate::fault::{Fault, ReadError};
+use crate::head::{Argument, Kind, head_of};
+use crate::string::{after_break, byte_string, text_string};
+use coset_value::{Float, Integer, Value};
+use std::alloc::Global;
+
+/// How many places a list or a map reserves at once, however many are announced.
+const PLACES: u64 = 16;
+
+/// The integer -1 - n.
+fn negative(n: u64) -> Integer
+    ensures { result ≡ negsuc n }
+{
+    Integer::try_from(-1 - i128::from(n)).unwrap()
+}
+
+/// A simple value or a float. `left` is what was left at the head.
+fn simple(left: usize, argument: Argument, bytes: &[u8]) -> Result<(Value, &[u8]), ReadError>
+    ensures { Gives (λ x. (view x.0, x.1.now)) result (simple_at left argument bytes.now) }
+{
+    match argument {
+        Argument::Within(20) => Ok((Value::Bool(false), bytes)),
+        Argument::Within(21) => Ok((Value::Bool(true), bytes)),
+        Argument::Within(22) => Ok((Value::Null, bytes)),
+        Argument::Within(_) => Err(ReadError::Fault(Fault::Simple(left))),
+        Argument::One(n) if n < 32 => Err(ReadError::Fault(Fault::Syntax(left))),
+        Argument::One(_) => Err(ReadError::Fault(Fault::Simple(left))),
+        Argument::Two(bits) => Ok((Value::Float(Float::Half(bits)), bytes)),
+        Argument::Four(bits) => Ok((Value::Float(Float::Single(bits)), bytes)),
+        Argument::Eight(bits) => Ok((Value::Float(Float::Double(bits)), bytes)),
+        Argument::Indefinite => Err(ReadError::Fault(Fault::Syntax(left))),
+    }
+}
+
+/// An item in which arrays, maps and tags nest at most `depth` deep, and the bytes after it.
+#[cycle(item)]
+#[tactic(auto, unfolding(crate::specs::Reading::item_at, crate::specs::Reading::nothing, crate::specs::Reading::things))]
+pub(crate) fn item(alloc: Global, bytes: &[u8], depth: u32) -> Result<(Value, &[u8]), ReadError>
+    ensures { Gives (λ x. (view x.0, x.1.now)) result (item_at depth bytes.now) }
+{
+    let left = bytes.len();
+    let (head, rest) = head_of(bytes)?;
+    let number = head.argument.number();
+    match head.kind {
+        Kind::Unsigned => {
+            let n = number.ok_or(ReadError::Fault(Fault::Syntax(left)))?;
+            Ok((Value::Integer(Integer::from(n)), rest))
+        }
+        Kind::Negative => {
+            let n = number.ok_or(ReadError::Fault(Fault::Syntax(left)))?;
+            Ok((Value::Integer(negative(n)), rest))
+        }
+        Kind::Bytes => {
+            let (found, rest) = byte_string(alloc, left, number, rest)?;
+            Ok((Value::Bytes(found), rest))
+        }
+        Kind::Text => {
+            let (found, rest) = text_string(alloc, left, number, rest)?;
+            Ok((Value::Text(found), rest))
+        }
+        Kind::Array => {
+            if depth == 0 {
+                return Err(ReadError::Fault(Fault::Deep));
+            }
+            let (items, rest) = array(alloc, number, rest, depth - 1)?;
+            Ok((Value::Array(items), rest))
+        }
+        Kind::Map => {
+            if depth == 0 {
+                return Err(ReadError::Fault(Fault::Deep));
+            }
+            let (pairs, rest) = map(alloc, number, rest, depth - 1)?;
+            Ok((Value::Map(pairs), rest))
+        }
+        Kind::Tag => {
+            let n = number.ok_or(ReadError::Fault(Fault::Syntax(left)))?;
+            if depth == 0 {
+                return Err(ReadError::Fault(Fault::Deep));
+            }
+            let (inside, rest) = item(alloc, rest, depth - 1)?;
+            Ok((Value::Tag(n, Box::new(alloc, inside)?), rest))
+        }
+        Kind::Simple => simple(left, head.argument, rest),
+    }
+}
+
+/// The members of an array of that many, or up to the break where no number is announced.
+#[cycle(item)]
+fn array(
+    alloc: Global,
+    count: Option<u64>,
+    bytes: &[u8],
+    depth: u32,
+) -> Result<(Vec<Value>, &[u8]), ReadError>
+    ensures { Gives (λ x. (map view x.0.items, x.1.now)) result (array_by (item_at depth) count bytes.now) }
+{
+    match count {
+        Some(count) if (bytes.len() as u64) < count => Err(ReadError::Fault(Fault::End)),
+        Some(count) => items(alloc, count, bytes, depth),
+        None => items_until(alloc, bytes, depth),
+    }
+}
+
+/// The pairs of a map of that many, or up to the break where no number is announced.
+#[cycle(item)]
+fn map(
+    alloc: Global,
+    count: Option<u64>,
+    bytes: &[u8],
+    depth: u32,
+) -> Result<(Vec<(Value, Value)>, &[u8]), ReadError>
+    ensures { Gives (λ x. (map pair_view x.0.items, x.1.now)) result (map_by (item_at depth) count bytes.now) }
+{
+    match count {
+        Some(count) if (bytes.len() as u64) / 2 < count => Err(ReadError::Fault(Fault::End)),
+        Some(count) => pairs(alloc, count, bytes, depth),
+        None => pairs_until(alloc, bytes, depth),
+    }
+}
+
+/// That many items.
+#[cycle(item)]
+fn items(
+    alloc: Global,
+    count: u64,
+    bytes: &[u8],
+    depth: u32,
+) -> Result<(Vec<Value>, &[u8]), ReadError>
+    ensures { Gives (λ x. (map view x.0.items, x.1.now)) result (times_at (item_at depth) count bytes.now) }
+{
+    let mut found = Vec::with_capacity(alloc, count.min(PLACES) as usize)?;
+    let mut rest = bytes;
+    for _ in 0..count {
+        let (value, after) = item(alloc, rest, depth)?;
+        found.push(value)?;
+        rest = after;
+    }
+    Ok((found, rest))
+}
+
+/// The items up to the break. Each takes at least a byte, so the bytes are turns enough.
+#[cycle(item)]
+fn items_until(alloc: Global, bytes: &[u8], depth: u32) -> Result<(Vec<Value>, &[u8]), ReadError>
+    ensures { Gives (λ x. (map view x.0.items, x.1.now)) result (until_at (item_at depth) (length bytes.now) bytes.now) }
+{
+    let mut found = Vec::new(alloc);
+    let mut rest = bytes;
+    for _ in 0..bytes.len() {
+        if let Some(end) = after_break(rest) {
+            return Ok((found, end));
+        }
+        let (value, after) = item(alloc, rest, depth)?;
+        found.push(value)?;
+        rest = after;
+    }
+    Err(ReadError::Fault(Fault::End))
+}
+
+/// A key and its value.
+#[cycle(item)]
+fn pair(alloc: Global, bytes: &[u8], depth: u32) -> Result<((Value, Value), &[u8]), ReadError>
+    ensures { Gives (λ x. (pair_view x.0, x.1.now)) result (pair_at (item_at depth) bytes.now) }
+{
+    let (key, rest) = item(alloc, bytes, depth)?;
+    let (value, rest) = item(alloc, rest, depth)?;
+    Ok(((key, value), rest))
+}
+
+/// That many pairs.
+#[cycle(item)]
+fn pairs(
+    alloc: Global,
+    count: u64,
+    bytes: &[u8],
+    depth: u32,
+) -> Result<(Vec<(Value, Value)>, &[u8]), ReadError>
+    ensures { Gives (λ x. (map pair_view x.0.items, x.1.now)) result (times_at (pair_at (item_at depth)) count bytes.now) }
+{
+    let mut found = Vec::with_capacity(alloc, count.min(PLACES) as usize)?;
+    let mut rest = bytes;
+    for _ in 0..count {
+        let (both, after) = pair(alloc, rest, depth)?;
+        found.push(both)?;
+        rest = after;
+    }
+    Ok((found, rest))
+}
+
+/// The pairs up to the break.
+#[cycle(item)]
+fn pairs_until(
+    alloc: Global,
+    bytes: &[u8],
+    depth: u32,
+) -> Result<(Vec<(Value, Value)>, &[u8]), ReadError>
+    ensures { Gives (λ x. (map pair_view x.0.items, x.1.now)) result (until_at (pair_at (item_at depth)) (length bytes.now) bytes.now) }
+{
+    let mut found = Vec::new(alloc);
+    let mut rest = bytes;
+    for _ in 0..bytes.len() {
+        if let Some(end) = after_break(rest) {
+            return Ok((found, end));
+        }
+        let (both, after) = pair(alloc, rest, depth)?;
+        found.push(both)?;
+        rest = after;
+    }
+    Err(ReadError::Fault(Fault::End))
+}

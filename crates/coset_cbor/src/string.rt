@@ -1,0 +1,143 @@
+//! Byte strings and texts (RFC 8949, sections 3.1 and 3.2.3).
+
+ghost use Rattle.std.specs.Prelude.{◌≡◌, true, false, drop, string_bytes, MatchOption};
+ghost use Rattle.std.specs.Str.{is_utf8};
+ghost use Rattle.coset_cbor.specs.Reading.{Answers, Gives, string_at, chunk_at, chunks_at, any_string_by, begins_break};
+
+use crate::fault::{Fault, ReadError};
+use crate::head::{Kind, head_of};
+use std::alloc::Global;
+
+/// What follows the break, where it is at the front.
+pub(crate) fn after_break(bytes: &[u8]) -> Option<&[u8]>
+    ensures { MatchOption result (begins_break bytes.now ≡ false) (λ after. (begins_break bytes.now ≡ true) × (after.now ≡ drop 1 bytes.now)) }
+{
+    match bytes {
+        [255, rest @ ..] => Some(rest),
+        _ => None,
+    }
+}
+
+/// The bytes as text, where they are UTF-8.
+fn text_of(bytes: &[u8]) -> Option<&str>
+    ensures { MatchOption result (is_utf8 bytes.now ≡ false) (λ s. (s.now ≡ bytes.now) × (is_utf8 bytes.now ≡ true)) }
+{
+    match std::str::from_utf8(bytes) {
+        Ok(text) => Some(text),
+        Err(_) => None,
+    }
+}
+
+/// That many bytes, and the bytes after them.
+#[tactic(auto, unfolding(crate::specs::Reading::string_at))]
+pub(crate) fn bytes_at(left: usize, count: u64, bytes: &[u8]) -> Result<(&[u8], &[u8]), Fault>
+    ensures { Answers (λ x. (x.0.now, x.1.now)) result (string_at false left count bytes.now) }
+{
+    if (bytes.len() as u64) < count {
+        return Err(Fault::End);
+    }
+    Ok(bytes.split_at(count as usize))
+}
+
+/// The same, where the bytes are to be text. `left` is what was left at the head.
+#[tactic(auto, unfolding(crate::specs::Reading::string_at))]
+pub(crate) fn text_at(left: usize, count: u64, bytes: &[u8]) -> Result<(&str, &[u8]), Fault>
+    ensures { Answers (λ x. (x.0.now, x.1.now)) result (string_at true left count bytes.now) }
+{
+    if (bytes.len() as u64) < count {
+        return Err(Fault::End);
+    }
+    let (front, rest) = bytes.split_at(count as usize);
+    let text = text_of(front).ok_or(Fault::Syntax(left))?;
+    Ok((text, rest))
+}
+
+/// A chunk of a byte string: a definite one.
+#[tactic(auto, unfolding(crate::specs::Reading::chunk_at))]
+pub(crate) fn byte_chunk(bytes: &[u8]) -> Result<(&[u8], &[u8]), Fault>
+    ensures { Answers (λ x. (x.0.now, x.1.now)) result (chunk_at false bytes.now) }
+{
+    let (head, rest) = head_of(bytes)?;
+    match (head.kind, head.argument.number()) {
+        (Kind::Bytes, Some(count)) => bytes_at(bytes.len(), count, rest),
+        _ => Err(Fault::Syntax(bytes.len())),
+    }
+}
+
+/// A chunk of a text: a definite one, UTF-8 by itself.
+#[tactic(auto, unfolding(crate::specs::Reading::chunk_at))]
+pub(crate) fn text_chunk(bytes: &[u8]) -> Result<(&str, &[u8]), Fault>
+    ensures { Answers (λ x. (x.0.now, x.1.now)) result (chunk_at true bytes.now) }
+{
+    let (head, rest) = head_of(bytes)?;
+    match (head.kind, head.argument.number()) {
+        (Kind::Text, Some(count)) => text_at(bytes.len(), count, rest),
+        _ => Err(Fault::Syntax(bytes.len())),
+    }
+}
+
+/// The chunks up to the break, joined. Each takes at least a byte, so the bytes are turns enough.
+fn byte_chunks(alloc: Global, bytes: &[u8]) -> Result<(Vec<u8>, &[u8]), ReadError>
+    ensures { Gives (λ x. (x.0.items, x.1.now)) result (chunks_at false bytes.now) }
+{
+    let mut joined = Vec::new(alloc);
+    let mut rest = bytes;
+    for _ in 0..bytes.len() {
+        if let Some(end) = after_break(rest) {
+            return Ok((joined, end));
+        }
+        let (chunk, after) = byte_chunk(rest)?;
+        joined.extend_from_slice(chunk)?;
+        rest = after;
+    }
+    Err(ReadError::Fault(Fault::End))
+}
+
+/// The same of a text.
+fn text_chunks(alloc: Global, bytes: &[u8]) -> Result<(String, &[u8]), ReadError>
+    ensures { Gives (λ x. (string_bytes x.0, x.1.now)) result (chunks_at true bytes.now) }
+{
+    let mut joined = String::new(alloc);
+    let mut rest = bytes;
+    for _ in 0..bytes.len() {
+        if let Some(end) = after_break(rest) {
+            return Ok((joined, end));
+        }
+        let (chunk, after) = text_chunk(rest)?;
+        joined.push_str(chunk)?;
+        rest = after;
+    }
+    Err(ReadError::Fault(Fault::End))
+}
+
+/// A byte string of that many bytes, or in chunks where no length is announced.
+pub(crate) fn byte_string(
+    alloc: Global,
+    left: usize,
+    count: Option<u64>,
+    bytes: &[u8],
+) -> Result<(Vec<u8>, &[u8]), ReadError>
+    ensures { Gives (λ x. (x.0.items, x.1.now)) result (any_string_by false left count bytes.now) }
+{
+    let Some(count) = count else {
+        return byte_chunks(alloc, bytes);
+    };
+    let (found, rest) = bytes_at(left, count, bytes)?;
+    Ok((Vec::from_slice(alloc, found)?, rest))
+}
+
+/// The same of a text. `left` is what was left at the head.
+pub(crate) fn text_string(
+    alloc: Global,
+    left: usize,
+    count: Option<u64>,
+    bytes: &[u8],
+) -> Result<(String, &[u8]), ReadError>
+    ensures { Gives (λ x. (string_bytes x.0, x.1.now)) result (any_string_by true left count bytes.now) }
+{
+    let Some(count) = count else {
+        return text_chunks(alloc, bytes);
+    };
+    let (found, rest) = text_at(left, count, bytes)?;
+    Ok((String::from_str(alloc, found)?, rest))
+}

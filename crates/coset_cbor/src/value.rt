@@ -1,0 +1,3 @@
+//! CBOR's values.
+
+pub use coset_value::{Float, Integer, Value};

@@ -1,0 +1,158 @@
+//! Writing values.
+
+ghost use Rattle.std.specs.Prelude.{◌≡◌, ◌++◌, ◌∷◌, [], OnOk, length, ◌*◌, ◌+◌, ◌<◌, ◌^◌};
+ghost use Rattle.std.specs.Str.{IsUtf8};
+ghost use Rattle.coset_value.specs.Range.{IsIntegerInRange, AreBitsInRange, IsInRange, AreInRange, ArePairsInRange};
+ghost use Rattle.coset_value.specs.View.{view, bits_of, items_view, pairs_view};
+ghost use Rattle.coset_cbor.specs.Least.{least_head, type_of, short, shorts, pair_shorts, short_integer, short_float, Extends};
+
+use crate::head::Kind;
+use coset_value::{Float, Integer, Value};
+use std::alloc::AllocError;
+
+/// The first byte of a head of this type, with these low bits.
+fn first_byte(kind: Kind, low: u8) -> u8
+    requires { low < 32 }
+    ensures { result ≡ 32 * type_of kind + low }
+{
+    match kind {
+        Kind::Unsigned => low,
+        Kind::Negative => 32 + low,
+        Kind::Bytes => 64 + low,
+        Kind::Text => 96 + low,
+        Kind::Array => 128 + low,
+        Kind::Map => 160 + low,
+        Kind::Tag => 192 + low,
+        Kind::Simple => 224 + low,
+    }
+}
+
+/// Writes a byte and some bytes, or nothing.
+fn put_two(out: &mut Vec<u8>, first: u8, more: &[u8]) -> Result<(), AllocError>
+    ensures ok { OnOk result (out.new.items ≡ out.old.items ++ first ∷ more.now) }
+    ensures kept { Extends out.old.items out.new.items }
+{
+    out.push(first)?;
+    out.extend_from_slice(more)?;
+    Ok(())
+}
+
+/// Writes the shortest head of this type with argument `n`.
+#[tactic(auto, unfolding(crate::specs::Least::least_head))]
+fn put_head(out: &mut Vec<u8>, kind: Kind, n: u64) -> Result<(), AllocError>
+    ensures ok { OnOk result (out.new.items ≡ out.old.items ++ least_head (type_of kind) n) }
+    ensures kept { Extends out.old.items out.new.items }
+{
+    if n < 24 {
+        put_two(out, first_byte(kind, n as u8), &[])
+    } else if n < 0x100 {
+        put_two(out, first_byte(kind, 24), &[n as u8])
+    } else if n < 0x1_0000 {
+        put_two(out, first_byte(kind, 25), &(n as u16).to_be_bytes())
+    } else if n < 0x1_0000_0000 {
+        put_two(out, first_byte(kind, 26), &(n as u32).to_be_bytes())
+    } else {
+        put_two(out, first_byte(kind, 27), &n.to_be_bytes())
+    }
+}
+
+fn put_float(out: &mut Vec<u8>, float: Float) -> Result<(), AllocError>
+    ensures ok { OnOk result (out.new.items ≡ out.old.items ++ short_float (bits_of float)) }
+    ensures in_range { OnOk result (AreBitsInRange (bits_of float)) }
+    ensures kept { Extends out.old.items out.new.items }
+{
+    match float {
+        Float::Half(bits) => put_two(out, 0xF9, &bits.to_be_bytes()),
+        Float::Single(bits) => put_two(out, 0xFA, &bits.to_be_bytes()),
+        Float::Double(bits) => put_two(out, 0xFB, &bits.to_be_bytes()),
+    }
+}
+
+fn put_integer(out: &mut Vec<u8>, n: Integer) -> Result<(), AllocError>
+    ensures ok { OnOk result (out.new.items ≡ out.old.items ++ short_integer n) }
+    ensures in_range { OnOk result (IsIntegerInRange n) }
+    ensures kept { Extends out.old.items out.new.items }
+{
+    let n = i128::from(n);
+    if n >= 0 {
+        put_head(out, Kind::Unsigned, n as u64)
+    } else {
+        put_head(out, Kind::Negative, (-1 - n) as u64)
+    }
+}
+
+/// Writes a head with the length, and the bytes.
+fn put_string(out: &mut Vec<u8>, kind: Kind, bytes: &[u8]) -> Result<(), AllocError>
+    ensures ok { OnOk result (out.new.items ≡ out.old.items
+        ++ (least_head (type_of kind) (length bytes.now) ++ bytes.now)) }
+    ensures in_range { OnOk result (length bytes.now < 2 ^ 64) }
+    ensures kept { Extends out.old.items out.new.items }
+{
+    put_head(out, kind, bytes.len() as u64)?;
+    out.extend_from_slice(bytes)?;
+    Ok(())
+}
+
+/// Writes a text: a head with the length, and the bytes.
+fn put_text(out: &mut Vec<u8>, text: &str) -> Result<(), AllocError>
+    ensures ok { OnOk result (out.new.items ≡ out.old.items ++ (least_head 3 (length text.now) ++ text.now)) }
+    ensures in_range { OnOk result ((length text.now < 2 ^ 64) × IsUtf8 text.now) }
+    ensures kept { Extends out.old.items out.new.items }
+{
+    put_string(out, Kind::Text, text.as_bytes())
+}
+
+/// Writes the shortest text of the value at the end. An `Err` may leave part of it there.
+#[cycle(put)]
+pub(crate) fn put(out: &mut Vec<u8>, value: &Value) -> Result<(), AllocError>
+    ensures ok { OnOk result (out.new.items ≡ out.old.items ++ short (view value.now)) }
+    ensures in_range { OnOk result (IsInRange (view value.now)) }
+    ensures kept { Extends out.old.items out.new.items }
+{
+    match value {
+        Value::Integer(n) => put_integer(out, *n),
+        Value::Bytes(bytes) => put_string(out, Kind::Bytes, bytes),
+        Value::Float(x) => put_float(out, *x),
+        Value::Text(text) => put_text(out, text.as_str()),
+        Value::Bool(false) => put_two(out, 0xF4, &[]),
+        Value::Bool(true) => put_two(out, 0xF5, &[]),
+        Value::Null => put_two(out, 0xF6, &[]),
+        Value::Tag(number, inside) => {
+            put_head(out, Kind::Tag, *number)?;
+            put(out, inside)
+        }
+        Value::Array(items) => {
+            put_head(out, Kind::Array, items.len() as u64)?;
+            put_items(out, items)
+        }
+        Value::Map(pairs) => {
+            put_head(out, Kind::Map, pairs.len() as u64)?;
+            put_pairs(out, pairs)
+        }
+    }
+}
+
+#[cycle(put)]
+fn put_items(out: &mut Vec<u8>, items: &Vec<Value>) -> Result<(), AllocError>
+    ensures ok { OnOk result (out.new.items ≡ out.old.items ++ shorts (items_view items.now.items)) }
+    ensures in_range { OnOk result (AreInRange (items_view items.now.items)) }
+    ensures kept { Extends out.old.items out.new.items }
+{
+    for item in items {
+        put(out, item)?;
+    }
+    Ok(())
+}
+
+#[cycle(put)]
+fn put_pairs(out: &mut Vec<u8>, pairs: &Vec<(Value, Value)>) -> Result<(), AllocError>
+    ensures ok { OnOk result (out.new.items ≡ out.old.items ++ pair_shorts (pairs_view pairs.now.items)) }
+    ensures in_range { OnOk result (ArePairsInRange (pairs_view pairs.now.items)) }
+    ensures kept { Extends out.old.items out.new.items }
+{
+    for (key, value) in pairs {
+        put(out, key)?;
+        put(out, value)?;
+    }
+    Ok(())
+}

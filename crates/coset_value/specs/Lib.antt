@@ -1,0 +1,7 @@
+pub mod Item
+pub mod Parts
+pub mod Range
+pub mod Same
+pub mod SameLaws
+pub mod View
+pub mod ViewLaws

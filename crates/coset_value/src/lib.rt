@@ -1,0 +1,18 @@
+//! CBOR's values, apart from the bytes that spell them (RFC 8949, sections 2 and 3).
+//!
+//! Contracts see a [`Value`] as the item that it stands for, `view value` of `specs/View.antt`,
+//! and an [`Integer`] as a number.
+#![tactic(auto)]
+
+mod clone;
+mod float;
+mod integer;
+pub mod laws;
+mod same;
+#[cfg(test)]
+mod tests;
+mod value;
+
+pub use float::Float;
+pub use integer::Integer;
+pub use value::Value;

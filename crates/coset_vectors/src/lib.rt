@@ -1,0 +1,7 @@
+//! Tests of what no contract says, over the public calls of the other crates. It has no code of its own.
+#![tactic(auto)]
+
+#[cfg(test)]
+mod cbor;
+#[cfg(test)]
+mod refused;
