@@ -1,0 +1,20 @@
+-- The numbers of the labels of headers that go with an algorithm (RFC 8152, section 16.3).
+use Rattle.std.specs.Prelude.{ℤ}
+use Rattle.coset_iana.specs.Registry.{minus}
+use Rattle.coset_iana.specs.declared.headers.HeaderAlgorithmParameter.{HeaderAlgorithmParameter}
+use Rattle.coset_iana.specs.declared.headers.HeaderAlgorithmParameter.TheVariants.{X5ChainSender, X5USender, X5TSender, PartyVOther, PartyVNonce, PartyVIdentity, PartyUOther, PartyUNonce, PartyUIdentity, Salt, StaticKeyId, StaticKey, EphemeralKey}
+
+abbrev pub number : HeaderAlgorithmParameter → ℤ
+number X5ChainSender = minus 29
+number X5USender = minus 28
+number X5TSender = minus 27
+number PartyVOther = minus 26
+number PartyVNonce = minus 25
+number PartyVIdentity = minus 24
+number PartyUOther = minus 23
+number PartyUNonce = minus 22
+number PartyUIdentity = minus 21
+number Salt = minus 20
+number StaticKeyId = minus 3
+number StaticKey = minus 2
+number EphemeralKey = minus 1

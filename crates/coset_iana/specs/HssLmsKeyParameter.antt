@@ -1,0 +1,8 @@
+-- The numbers of the labels of keys of HSS/LMS (RFC 8778).
+use Rattle.std.specs.Prelude.{ℤ}
+use Rattle.coset_iana.specs.Registry.{minus}
+use Rattle.coset_iana.specs.declared.key_parameters.HssLmsKeyParameter.{HssLmsKeyParameter}
+use Rattle.coset_iana.specs.declared.key_parameters.HssLmsKeyParameter.TheVariants.{Pub}
+
+abbrev pub number : HssLmsKeyParameter → ℤ
+number Pub = minus 1

@@ -1,0 +1,12 @@
+-- The numbers of the labels of every key (RFC 8152, sections 7.1 and 16.5).
+use Rattle.std.specs.Prelude.{ℤ, pos}
+use Rattle.coset_iana.specs.declared.keys.KeyParameter.{KeyParameter}
+use Rattle.coset_iana.specs.declared.keys.KeyParameter.TheVariants.{Reserved, Kty, Kid, Alg, KeyOps, BaseIv}
+
+abbrev pub number : KeyParameter → ℤ
+number Reserved = pos 0
+number Kty = pos 1
+number Kid = pos 2
+number Alg = pos 3
+number KeyOps = pos 4
+number BaseIv = pos 5

@@ -1,0 +1,14 @@
+-- The numbers of the kinds of keys (RFC 8152, sections 13 and 16.7).
+use Rattle.std.specs.Prelude.{ℤ, pos}
+use Rattle.coset_iana.specs.declared.keys.KeyType.{KeyType}
+use Rattle.coset_iana.specs.declared.keys.KeyType.TheVariants.{Reserved, OKP, EC2, RSA, Symmetric, HSS_LMS, WalnutDSA, AKP}
+
+abbrev pub number : KeyType → ℤ
+number Reserved = pos 0
+number OKP = pos 1
+number EC2 = pos 2
+number RSA = pos 3
+number Symmetric = pos 4
+number HSS_LMS = pos 5
+number WalnutDSA = pos 6
+number AKP = pos 7

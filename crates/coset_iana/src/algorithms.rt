@@ -1,0 +1,312 @@
+//! Algorithms.
+
+ghost use Rattle.std.specs.Prelude.{refl};
+ghost use Rattle.coset_iana.specs.Registry.{first_numbered, number-first_numbered};
+ghost use Rattle.coset_iana.specs.WithPrivateRange.{is_private_use};
+
+use crate::registry::{Numbered, look_up};
+use crate::{EnumI64, WithPrivateRange};
+
+/// Algorithms below this number are for private use (RFC 8152, section 16.4).
+pub const ALGORITHM_PRIVATE_USE_MAX: i64 = -65536;
+
+/// An algorithm, as IANA's registry "COSE Algorithms" assigns it (RFC 8152, sections 8 to 12 and
+/// 16.4; RFC 9053).
+#[derive(Clone, Copy, Debug, Eq, Ord, PartialEq, PartialOrd)]
+#[allow(non_camel_case_types)]
+pub enum Algorithm {
+    /// RSASSA-PKCS1-v1_5 with SHA-1.
+    RS1 = -65535,
+    /// AES-CTR with a key of 128 bits.
+    AesCtr128 = -65534,
+    /// AES-CTR with a key of 192 bits.
+    AesCtr192 = -65533,
+    /// AES-CTR with a key of 256 bits.
+    AesCtr256 = -65532,
+    /// AES-CBC with a key of 128 bits.
+    AesCbc128 = -65531,
+    /// AES-CBC with a key of 192 bits.
+    AesCbc192 = -65530,
+    /// AES-CBC with a key of 256 bits.
+    AesCbc256 = -65529,
+    /// ECDSA on brainpoolP512r1 with SHA-512.
+    ESB512 = -268,
+    /// ECDSA on brainpoolP384r1 with SHA-384.
+    ESB384 = -267,
+    /// ECDSA on brainpoolP320r1 with SHA-384.
+    ESB320 = -266,
+    /// ECDSA on brainpoolP256r1 with SHA-256.
+    ESB256 = -265,
+    /// WalnutDSA (RFC 9021).
+    WalnutDSA = -260,
+    /// RSASSA-PKCS1-v1_5 with SHA-512.
+    RS512 = -259,
+    /// RSASSA-PKCS1-v1_5 with SHA-384.
+    RS384 = -258,
+    /// RSASSA-PKCS1-v1_5 with SHA-256.
+    RS256 = -257,
+    /// EdDSA on Ed448.
+    Ed448 = -53,
+    /// ECDSA on P-521 with SHA-512.
+    ESP512 = -52,
+    /// ECDSA on P-384 with SHA-384.
+    ESP384 = -51,
+    /// ML-DSA-87 (FIPS 204).
+    ML_DSA_87 = -50,
+    /// ML-DSA-65 (FIPS 204).
+    ML_DSA_65 = -49,
+    /// ML-DSA-44 (FIPS 204).
+    ML_DSA_44 = -48,
+    /// ECDSA on secp256k1 with SHA-256 (RFC 8812, section 3.2).
+    ES256K = -47,
+    /// HSS/LMS, a signature built of hashes (RFC 8778).
+    HSS_LMS = -46,
+    /// SHAKE-256 with a value of 512 bits (RFC 9054, section 3.3).
+    SHAKE256 = -45,
+    /// SHA-512 (RFC 9054, section 3.2).
+    SHA_512 = -44,
+    /// SHA-384 (RFC 9054, section 3.2).
+    SHA_384 = -43,
+    /// RSAES-OAEP with SHA-512 (RFC 8230, section 3).
+    RSAES_OAEP_SHA_512 = -42,
+    /// RSAES-OAEP with SHA-256 (RFC 8230, section 3).
+    RSAES_OAEP_SHA_256 = -41,
+    /// RSAES-OAEP with the parameters that RFC 8017 takes where none are given (RFC 8230, section
+    /// 3).
+    RSAES_OAEP_RFC_8017_default = -40,
+    /// RSASSA-PSS with SHA-512 (RFC 8230, section 2).
+    PS512 = -39,
+    /// RSASSA-PSS with SHA-384 (RFC 8230, section 2).
+    PS384 = -38,
+    /// RSASSA-PSS with SHA-256 (RFC 8230, section 2).
+    PS256 = -37,
+    /// ECDSA with SHA-512, on any curve.
+    ES512 = -36,
+    /// ECDSA with SHA-384, on any curve.
+    ES384 = -35,
+    /// ECDH of two static keys, its key wrapping another by AES with 256 bits.
+    ECDH_SS_A256KW = -34,
+    /// ECDH of two static keys, its key wrapping another by AES with 192 bits.
+    ECDH_SS_A192KW = -33,
+    /// ECDH of two static keys, its key wrapping another by AES with 128 bits.
+    ECDH_SS_A128KW = -32,
+    /// ECDH with an ephemeral key, its key wrapping another by AES with 256 bits.
+    ECDH_ES_A256KW = -31,
+    /// ECDH with an ephemeral key, its key wrapping another by AES with 192 bits.
+    ECDH_ES_A192KW = -30,
+    /// ECDH with an ephemeral key, its key wrapping another by AES with 128 bits.
+    ECDH_ES_A128KW = -29,
+    /// ECDH of two static keys, its HKDF with SHA-512 giving the key.
+    ECDH_SS_HKDF_512 = -28,
+    /// ECDH of two static keys, its HKDF with SHA-256 giving the key.
+    ECDH_SS_HKDF_256 = -27,
+    /// ECDH with an ephemeral key, its HKDF with SHA-512 giving the key.
+    ECDH_ES_HKDF_512 = -26,
+    /// ECDH with an ephemeral key, its HKDF with SHA-256 giving the key.
+    ECDH_ES_HKDF_256 = -25,
+    /// EdDSA on Ed25519.
+    Ed25519 = -19,
+    /// SHAKE-128 with a value of 256 bits (RFC 9054, section 3.3).
+    SHAKE128 = -18,
+    /// SHA-512/256 (RFC 9054, section 3.2).
+    SHA_512_256 = -17,
+    /// SHA-256 (RFC 9054, section 3.2).
+    SHA_256 = -16,
+    /// SHA-256 cut to 64 bits (RFC 9054, section 3.2).
+    SHA_256_64 = -15,
+    /// SHA-1 (RFC 9054, section 3.1).
+    SHA_1 = -14,
+    /// A shared secret, from which HKDF with AES-MAC of 256 bits derives the key.
+    Direct_HKDF_AES_256 = -13,
+    /// A shared secret, from which HKDF with AES-MAC of 128 bits derives the key.
+    Direct_HKDF_AES_128 = -12,
+    /// A shared secret, from which HKDF with SHA-512 derives the key.
+    Direct_HKDF_SHA_512 = -11,
+    /// A shared secret, from which HKDF with SHA-256 derives the key.
+    Direct_HKDF_SHA_256 = -10,
+    /// ECDSA on P-256 with SHA-256.
+    ESP256 = -9,
+    /// EdDSA, on either curve.
+    EdDSA = -8,
+    /// ECDSA with SHA-256, on any curve.
+    ES256 = -7,
+    /// The shared secret is itself the content's key.
+    Direct = -6,
+    /// AES key wrap with a key of 256 bits.
+    A256KW = -5,
+    /// AES key wrap with a key of 192 bits.
+    A192KW = -4,
+    /// AES key wrap with a key of 128 bits.
+    A128KW = -3,
+    /// Never an algorithm; reserved.
+    Reserved = 0,
+    /// AES-GCM with a key of 128 bits and a tag of 128.
+    A128GCM = 1,
+    /// AES-GCM with a key of 192 bits and a tag of 128.
+    A192GCM = 2,
+    /// AES-GCM with a key of 256 bits and a tag of 128.
+    A256GCM = 3,
+    /// HMAC with SHA-256, cut to 64 bits.
+    HMAC_256_64 = 4,
+    /// HMAC with SHA-256.
+    HMAC_256_256 = 5,
+    /// HMAC with SHA-384.
+    HMAC_384_384 = 6,
+    /// HMAC with SHA-512.
+    HMAC_512_512 = 7,
+    /// AES-CCM with a key of 128 bits, a tag of 64 and a nonce of 13 bytes.
+    AES_CCM_16_64_128 = 10,
+    /// AES-CCM with a key of 256 bits, a tag of 64 and a nonce of 13 bytes.
+    AES_CCM_16_64_256 = 11,
+    /// AES-CCM with a key of 128 bits, a tag of 64 and a nonce of 7 bytes.
+    AES_CCM_64_64_128 = 12,
+    /// AES-CCM with a key of 256 bits, a tag of 64 and a nonce of 7 bytes.
+    AES_CCM_64_64_256 = 13,
+    /// AES-CBC-MAC with a key of 128 bits and a tag of 64.
+    AES_MAC_128_64 = 14,
+    /// AES-CBC-MAC with a key of 256 bits and a tag of 64.
+    AES_MAC_256_64 = 15,
+    /// ChaCha20 and Poly1305 with a key of 256 bits and a tag of 128.
+    ChaCha20Poly1305 = 24,
+    /// AES-CBC-MAC with a key of 128 bits and a tag of 128.
+    AES_MAC_128_128 = 25,
+    /// AES-CBC-MAC with a key of 256 bits and a tag of 128.
+    AES_MAC_256_128 = 26,
+    /// AES-CCM with a key of 128 bits, a tag of 128 and a nonce of 13 bytes.
+    AES_CCM_16_128_128 = 30,
+    /// AES-CCM with a key of 256 bits, a tag of 128 and a nonce of 13 bytes.
+    AES_CCM_16_128_256 = 31,
+    /// AES-CCM with a key of 128 bits, a tag of 128 and a nonce of 7 bytes.
+    AES_CCM_64_128_128 = 32,
+    /// AES-CCM with a key of 256 bits, a tag of 128 and a nonce of 7 bytes.
+    AES_CCM_64_128_256 = 33,
+    /// Makes initialization vectors for symmetric algorithms (RFC 9459).
+    IV_GENERATION = 34,
+}
+
+// In ascending order of their numbers.
+const ALGORITHMS: [Algorithm; 83] = [
+    Algorithm::RS1,
+    Algorithm::AesCtr128,
+    Algorithm::AesCtr192,
+    Algorithm::AesCtr256,
+    Algorithm::AesCbc128,
+    Algorithm::AesCbc192,
+    Algorithm::AesCbc256,
+    Algorithm::ESB512,
+    Algorithm::ESB384,
+    Algorithm::ESB320,
+    Algorithm::ESB256,
+    Algorithm::WalnutDSA,
+    Algorithm::RS512,
+    Algorithm::RS384,
+    Algorithm::RS256,
+    Algorithm::Ed448,
+    Algorithm::ESP512,
+    Algorithm::ESP384,
+    Algorithm::ML_DSA_87,
+    Algorithm::ML_DSA_65,
+    Algorithm::ML_DSA_44,
+    Algorithm::ES256K,
+    Algorithm::HSS_LMS,
+    Algorithm::SHAKE256,
+    Algorithm::SHA_512,
+    Algorithm::SHA_384,
+    Algorithm::RSAES_OAEP_SHA_512,
+    Algorithm::RSAES_OAEP_SHA_256,
+    Algorithm::RSAES_OAEP_RFC_8017_default,
+    Algorithm::PS512,
+    Algorithm::PS384,
+    Algorithm::PS256,
+    Algorithm::ES512,
+    Algorithm::ES384,
+    Algorithm::ECDH_SS_A256KW,
+    Algorithm::ECDH_SS_A192KW,
+    Algorithm::ECDH_SS_A128KW,
+    Algorithm::ECDH_ES_A256KW,
+    Algorithm::ECDH_ES_A192KW,
+    Algorithm::ECDH_ES_A128KW,
+    Algorithm::ECDH_SS_HKDF_512,
+    Algorithm::ECDH_SS_HKDF_256,
+    Algorithm::ECDH_ES_HKDF_512,
+    Algorithm::ECDH_ES_HKDF_256,
+    Algorithm::Ed25519,
+    Algorithm::SHAKE128,
+    Algorithm::SHA_512_256,
+    Algorithm::SHA_256,
+    Algorithm::SHA_256_64,
+    Algorithm::SHA_1,
+    Algorithm::Direct_HKDF_AES_256,
+    Algorithm::Direct_HKDF_AES_128,
+    Algorithm::Direct_HKDF_SHA_512,
+    Algorithm::Direct_HKDF_SHA_256,
+    Algorithm::ESP256,
+    Algorithm::EdDSA,
+    Algorithm::ES256,
+    Algorithm::Direct,
+    Algorithm::A256KW,
+    Algorithm::A192KW,
+    Algorithm::A128KW,
+    Algorithm::Reserved,
+    Algorithm::A128GCM,
+    Algorithm::A192GCM,
+    Algorithm::A256GCM,
+    Algorithm::HMAC_256_64,
+    Algorithm::HMAC_256_256,
+    Algorithm::HMAC_384_384,
+    Algorithm::HMAC_512_512,
+    Algorithm::AES_CCM_16_64_128,
+    Algorithm::AES_CCM_16_64_256,
+    Algorithm::AES_CCM_64_64_128,
+    Algorithm::AES_CCM_64_64_256,
+    Algorithm::AES_MAC_128_64,
+    Algorithm::AES_MAC_256_64,
+    Algorithm::ChaCha20Poly1305,
+    Algorithm::AES_MAC_128_128,
+    Algorithm::AES_MAC_256_128,
+    Algorithm::AES_CCM_16_128_128,
+    Algorithm::AES_CCM_16_128_256,
+    Algorithm::AES_CCM_64_128_128,
+    Algorithm::AES_CCM_64_128_256,
+    Algorithm::IV_GENERATION,
+];
+
+impl Numbered for Algorithm {
+    ghost use Rattle.coset_iana.specs.Algorithm.{number};
+
+    ghost number = { number };
+
+    fn number(self) -> i64 {
+        self as i64
+    }
+}
+
+impl EnumI64 for Algorithm {
+    ghost use Rattle.coset_iana.specs.Algorithm.{number};
+    ghost use Rattle.coset_iana.specs.declared.algorithms.Algorithm.TheVariants.{RS1};
+    ghost use Rattle.coset_iana.specs.declared.algorithms.TheConstants.{ALGORITHMS};
+
+    ghost number = { number };
+
+    ghost value_of = { first_numbered number ALGORITHMS };
+
+    fn from_i64(i: i64) -> Option<Self> {
+        look_up(&ALGORITHMS, i)
+    }
+
+    fn to_i64(&self) -> i64 {
+        self.number()
+    }
+
+    ghost value_of_number = { elim [ RS1 ↦ refl | _ ↦ refl ] };
+
+    ghost number_of_value = { number-first_numbered number ALGORITHMS };
+}
+
+impl WithPrivateRange for Algorithm {
+    ghost is_private = { is_private_use };
+
+    fn is_private(i: i64) -> bool {
+        i < ALGORITHM_PRIVATE_USE_MAX
+    }
+}

@@ -1,0 +1,286 @@
+//! Formats of content.
+
+ghost use Rattle.std.specs.Prelude.{refl};
+ghost use Rattle.coset_iana.specs.Registry.{first_numbered, number-first_numbered};
+
+use crate::EnumI64;
+use crate::registry::{Numbered, look_up};
+
+/// What content holds, as IANA's registry "CoAP Content-Formats" assigns it (RFC 7252, section
+/// 12.3): a media type, with its coding where it has one.
+#[derive(Clone, Copy, Debug, Eq, Ord, PartialEq, PartialOrd)]
+pub enum CoapContentFormat {
+    /// `text/plain; charset=utf-8`
+    TextPlainUtf8 = 0,
+    /// `application/cose; cose-type="cose-encrypt0"`
+    CoseEncrypt0 = 16,
+    /// `application/cose; cose-type="cose-mac0"`
+    CoseMac0 = 17,
+    /// `application/cose; cose-type="cose-sign1"`
+    CoseSign1 = 18,
+    /// `application/ace+cbor`
+    AceCbor = 19,
+    /// `image/gif`
+    ImageGif = 21,
+    /// `image/jpeg`
+    ImageJpeg = 22,
+    /// `image/png`
+    ImagePng = 23,
+    /// `application/link-format`
+    LinkFormat = 40,
+    /// `application/xml`
+    Xml = 41,
+    /// `application/octet-stream`
+    OctetStream = 42,
+    /// `application/exi`
+    Exi = 47,
+    /// `application/json`
+    Json = 50,
+    /// `application/json-patch+json`
+    JsonPatchJson = 51,
+    /// `application/merge-patch+json`
+    MergePatchJson = 52,
+    /// `application/cbor`
+    Cbor = 60,
+    /// `application/cwt`
+    Cwt = 61,
+    /// `application/multipart-core`
+    MultipartCore = 62,
+    /// `application/cbor-seq`
+    CborSeq = 63,
+    /// `application/edhoc+cbor-seq`
+    EdhocCborSeq = 64,
+    /// `application/cid-edhoc+cbor-seq`
+    CidEdhocCborSeq = 65,
+    /// `application/cose; cose-type="cose-encrypt"`
+    CoseEncrypt = 96,
+    /// `application/cose; cose-type="cose-mac"`
+    CoseMac = 97,
+    /// `application/cose; cose-type="cose-sign"`
+    CoseSign = 98,
+    /// `application/cose-key`
+    CoseKey = 101,
+    /// `application/cose-key-set`
+    CoseKeySet = 102,
+    /// `application/senml+json`
+    SenmlJson = 110,
+    /// `application/sensml+json`
+    SensmlJson = 111,
+    /// `application/senml+cbor`
+    SenmlCbor = 112,
+    /// `application/sensml+cbor`
+    SensmlCbor = 113,
+    /// `application/senml-exi`
+    SenmlExi = 114,
+    /// `application/sensml-exi`
+    SensmlExi = 115,
+    /// `application/yang-data+cbor; id=sid`
+    YangData = 140,
+    /// `application/coap-group+json`
+    CoapGroupJson = 256,
+    /// `application/concise-problem-details+cbor`
+    ConciseProblemDetailsCbor = 257,
+    /// `application/swid+cbor`
+    SwidCbor = 258,
+    /// `application/pkixcmp`
+    PkixCmp = 259,
+    /// `application/yang-sid+json`
+    YangSidJson = 260,
+    /// `application/ace-groupcomm+cbor`
+    AceGroupcommCbor = 261,
+    /// `application/ace-trl+cbor`
+    AceTrlCbor = 262,
+    /// `application/eat+cwt`
+    EatCwt = 263,
+    /// `application/eat+jwt`
+    EatJwt = 264,
+    /// `application/eat-bun+cbor`
+    EatBunCbor = 265,
+    /// `application/eat-bun+json`
+    EatBunJson = 266,
+    /// `application/eat-ucs+cbor`
+    EatUcsCbor = 267,
+    /// `application/eat-ucs+json`
+    EatUcsJson = 268,
+    /// `application/dots+cbor`
+    DotsCbor = 271,
+    /// `application/missing-blocks+cbor-seq`
+    MissingBlocksCborSeq = 272,
+    /// `application/pkcs7-mime; smime-type=server-generated-key`
+    Pkcs7MimeSmimeTypeServerGeneratedKey = 280,
+    /// `application/pkcs7-mime; smime-type=certs-only`
+    Pkcs7MimeSmimeTypeCertsOnly = 281,
+    /// `application/pkcs7-mime; smime-type=CMC-request`
+    Pkcs7MimeSmimeTypeCmcRequest = 282,
+    /// `application/pkcs7-mime; smime-type=CMC-response`
+    Pkcs7MimeSmimeTypeCmcResponse = 283,
+    /// `application/pkcs8`
+    Pkcs8 = 284,
+    /// `application/csrattrs`
+    Csrattrs = 285,
+    /// `application/pkcs10`
+    Pkcs10 = 286,
+    /// `application/pkix-cert`
+    PkixCert = 287,
+    /// `application/aif+cbor`
+    AifCbor = 290,
+    /// `application/aif+json`
+    AifJson = 291,
+    /// `application/senml+xml`
+    SenmlXml = 310,
+    /// `application/sensml+xml`
+    SensmlXml = 311,
+    /// `application/senml-etch+json`
+    SenmlEtchJson = 320,
+    /// `application/senml-etch+cbor`
+    SenmlEtchCbor = 322,
+    /// `application/yang-data+cbor`
+    YangDataCbor = 340,
+    /// `application/yang-data+cbor; id=name`
+    YangDataCborName = 341,
+    /// `application/td+json`
+    TdJson = 432,
+    /// `application/tm+json`
+    TmJson = 433,
+    /// `application/uccs+cbor`
+    UccsCbor = 601,
+    /// `application/vnd.ocf+cbor`
+    VndOcfCbor = 10000,
+    /// `application/oscore`
+    Oscore = 10001,
+    /// `application/javascript`
+    Javascript = 10002,
+    /// `application/eat+cwt` of the PSA token's profile of 2023.
+    EatCwtTfm = 10003,
+    /// `application/eat+cwt` of the PSA token's profile of 2019.
+    EatCwtLegacy = 10004,
+    /// `application/json`, compressed by deflate.
+    JsonDeflate = 11050,
+    /// `application/cbor`, compressed by deflate.
+    CborDeflate = 11060,
+    /// `application/vnd.oma.lwm2m+tlv`
+    VndOmaLwm2mTlv = 11542,
+    /// `application/vnd.oma.lwm2m+json`
+    VndOmaLwm2mJson = 11543,
+    /// `application/vnd.oma.lwm2m+cbor`
+    VndOmaLwm2mCbor = 11544,
+    /// `text/css`
+    TextCss = 20000,
+    /// `image/svg+xml`
+    ImageSvgXml = 30000,
+}
+
+// In ascending order of their numbers.
+const COAP_CONTENT_FORMATS: [CoapContentFormat; 79] = [
+    CoapContentFormat::TextPlainUtf8,
+    CoapContentFormat::CoseEncrypt0,
+    CoapContentFormat::CoseMac0,
+    CoapContentFormat::CoseSign1,
+    CoapContentFormat::AceCbor,
+    CoapContentFormat::ImageGif,
+    CoapContentFormat::ImageJpeg,
+    CoapContentFormat::ImagePng,
+    CoapContentFormat::LinkFormat,
+    CoapContentFormat::Xml,
+    CoapContentFormat::OctetStream,
+    CoapContentFormat::Exi,
+    CoapContentFormat::Json,
+    CoapContentFormat::JsonPatchJson,
+    CoapContentFormat::MergePatchJson,
+    CoapContentFormat::Cbor,
+    CoapContentFormat::Cwt,
+    CoapContentFormat::MultipartCore,
+    CoapContentFormat::CborSeq,
+    CoapContentFormat::EdhocCborSeq,
+    CoapContentFormat::CidEdhocCborSeq,
+    CoapContentFormat::CoseEncrypt,
+    CoapContentFormat::CoseMac,
+    CoapContentFormat::CoseSign,
+    CoapContentFormat::CoseKey,
+    CoapContentFormat::CoseKeySet,
+    CoapContentFormat::SenmlJson,
+    CoapContentFormat::SensmlJson,
+    CoapContentFormat::SenmlCbor,
+    CoapContentFormat::SensmlCbor,
+    CoapContentFormat::SenmlExi,
+    CoapContentFormat::SensmlExi,
+    CoapContentFormat::YangData,
+    CoapContentFormat::CoapGroupJson,
+    CoapContentFormat::ConciseProblemDetailsCbor,
+    CoapContentFormat::SwidCbor,
+    CoapContentFormat::PkixCmp,
+    CoapContentFormat::YangSidJson,
+    CoapContentFormat::AceGroupcommCbor,
+    CoapContentFormat::AceTrlCbor,
+    CoapContentFormat::EatCwt,
+    CoapContentFormat::EatJwt,
+    CoapContentFormat::EatBunCbor,
+    CoapContentFormat::EatBunJson,
+    CoapContentFormat::EatUcsCbor,
+    CoapContentFormat::EatUcsJson,
+    CoapContentFormat::DotsCbor,
+    CoapContentFormat::MissingBlocksCborSeq,
+    CoapContentFormat::Pkcs7MimeSmimeTypeServerGeneratedKey,
+    CoapContentFormat::Pkcs7MimeSmimeTypeCertsOnly,
+    CoapContentFormat::Pkcs7MimeSmimeTypeCmcRequest,
+    CoapContentFormat::Pkcs7MimeSmimeTypeCmcResponse,
+    CoapContentFormat::Pkcs8,
+    CoapContentFormat::Csrattrs,
+    CoapContentFormat::Pkcs10,
+    CoapContentFormat::PkixCert,
+    CoapContentFormat::AifCbor,
+    CoapContentFormat::AifJson,
+    CoapContentFormat::SenmlXml,
+    CoapContentFormat::SensmlXml,
+    CoapContentFormat::SenmlEtchJson,
+    CoapContentFormat::SenmlEtchCbor,
+    CoapContentFormat::YangDataCbor,
+    CoapContentFormat::YangDataCborName,
+    CoapContentFormat::TdJson,
+    CoapContentFormat::TmJson,
+    CoapContentFormat::UccsCbor,
+    CoapContentFormat::VndOcfCbor,
+    CoapContentFormat::Oscore,
+    CoapContentFormat::Javascript,
+    CoapContentFormat::EatCwtTfm,
+    CoapContentFormat::EatCwtLegacy,
+    CoapContentFormat::JsonDeflate,
+    CoapContentFormat::CborDeflate,
+    CoapContentFormat::VndOmaLwm2mTlv,
+    CoapContentFormat::VndOmaLwm2mJson,
+    CoapContentFormat::VndOmaLwm2mCbor,
+    CoapContentFormat::TextCss,
+    CoapContentFormat::ImageSvgXml,
+];
+
+impl Numbered for CoapContentFormat {
+    ghost use Rattle.coset_iana.specs.CoapContentFormat.{number};
+
+    ghost number = { number };
+
+    fn number(self) -> i64 {
+        self as i64
+    }
+}
+
+impl EnumI64 for CoapContentFormat {
+    ghost use Rattle.coset_iana.specs.CoapContentFormat.{number};
+    ghost use Rattle.coset_iana.specs.declared.content_formats.CoapContentFormat.TheVariants.{TextPlainUtf8};
+    ghost use Rattle.coset_iana.specs.declared.content_formats.TheConstants.{COAP_CONTENT_FORMATS};
+
+    ghost number = { number };
+
+    ghost value_of = { first_numbered number COAP_CONTENT_FORMATS };
+
+    fn from_i64(i: i64) -> Option<Self> {
+        look_up(&COAP_CONTENT_FORMATS, i)
+    }
+
+    fn to_i64(&self) -> i64 {
+        self.number()
+    }
+
+    ghost value_of_number = { elim [ TextPlainUtf8 ↦ refl | _ ↦ refl ] };
+
+    ghost number_of_value = { number-first_numbered number COAP_CONTENT_FORMATS };
+}

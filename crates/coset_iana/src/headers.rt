@@ -1,0 +1,209 @@
+//! Labels of headers and of what recipients add to them.
+
+ghost use Rattle.std.specs.Prelude.{refl};
+ghost use Rattle.coset_iana.specs.Registry.{first_numbered, number-first_numbered};
+ghost use Rattle.coset_iana.specs.WithPrivateRange.{is_private_use};
+
+use crate::registry::{Numbered, look_up};
+use crate::{EnumI64, WithPrivateRange};
+
+/// Labels of headers below this number are for private use (RFC 8152, section 16.2).
+pub const HEADER_PARAMETER_PRIVATE_USE_MAX: i64 = -65536;
+
+/// A label of a header, as IANA's registry "COSE Header Parameters" assigns it (RFC 8152, sections
+/// 3.1 and 16.2).
+#[derive(Clone, Copy, Debug, Eq, Ord, PartialEq, PartialOrd)]
+pub enum HeaderParameter {
+    /// Never a label of a header; reserved.
+    Reserved = 0,
+    /// The algorithm: int or tstr.
+    Alg = 1,
+    /// The labels that a recipient must understand: an array of labels.
+    Crit = 2,
+    /// What the payload holds: a CoAP content format or a media type.
+    ContentType = 3,
+    /// A hint at the key: bstr.
+    Kid = 4,
+    /// The whole initialization vector: bstr.
+    Iv = 5,
+    /// The part of the initialization vector that changes with each message: bstr.
+    PartialIv = 6,
+    /// One countersignature or several.
+    CounterSignature = 7,
+    /// A countersignature bare of headers: bstr.
+    CounterSignature0 = 9,
+    /// Tells apart equal key identifiers of different senders: bstr (RFC 8613, section 5.1).
+    KidContext = 10,
+    /// One countersignature or several, version 2 (RFC 9338, section 3.1).
+    CounterSignatureV2 = 11,
+    /// A countersignature bare of headers, version 2 (RFC 9338, section 3.2).
+    CounterSignature0V2 = 12,
+    /// A CWT whose `cnf` claim holds the key (RFC 9528).
+    KeyCwt = 13,
+    /// An unsigned claims set whose `cnf` claim holds the key (RFC 9528).
+    KeyCwtClaimsSet = 14,
+    /// Claims about the message, outside of its payload: map (RFC 9597).
+    CwtClaims = 15,
+    /// The type of the whole COSE object: a CoAP content format or a media type (RFC 9596).
+    ObjectContentType = 16,
+    /// X.509 certificates in no order (RFC 9360, section 2).
+    X5Bag = 32,
+    /// A chain of X.509 certificates, the end entity's first (RFC 9360, section 2).
+    X5Chain = 33,
+    /// The hash of the end entity's X.509 certificate (RFC 9360, section 2).
+    X5T = 34,
+    /// Where an X.509 certificate or chain can be had: a URI (RFC 9360, section 2).
+    X5U = 35,
+    /// A nonce of FIDO Device Onboard: bstr.
+    CuphNonce = 256,
+    /// The owner's public key in FIDO Device Onboard.
+    CuphOwnerPubKey = 257,
+}
+
+// In ascending order of their numbers.
+const HEADER_PARAMETERS: [HeaderParameter; 22] = [
+    HeaderParameter::Reserved,
+    HeaderParameter::Alg,
+    HeaderParameter::Crit,
+    HeaderParameter::ContentType,
+    HeaderParameter::Kid,
+    HeaderParameter::Iv,
+    HeaderParameter::PartialIv,
+    HeaderParameter::CounterSignature,
+    HeaderParameter::CounterSignature0,
+    HeaderParameter::KidContext,
+    HeaderParameter::CounterSignatureV2,
+    HeaderParameter::CounterSignature0V2,
+    HeaderParameter::KeyCwt,
+    HeaderParameter::KeyCwtClaimsSet,
+    HeaderParameter::CwtClaims,
+    HeaderParameter::ObjectContentType,
+    HeaderParameter::X5Bag,
+    HeaderParameter::X5Chain,
+    HeaderParameter::X5T,
+    HeaderParameter::X5U,
+    HeaderParameter::CuphNonce,
+    HeaderParameter::CuphOwnerPubKey,
+];
+
+impl Numbered for HeaderParameter {
+    ghost use Rattle.coset_iana.specs.HeaderParameter.{number};
+
+    ghost number = { number };
+
+    fn number(self) -> i64 {
+        self as i64
+    }
+}
+
+impl EnumI64 for HeaderParameter {
+    ghost use Rattle.coset_iana.specs.HeaderParameter.{number};
+    ghost use Rattle.coset_iana.specs.declared.headers.HeaderParameter.TheVariants.{Reserved};
+    ghost use Rattle.coset_iana.specs.declared.headers.TheConstants.{HEADER_PARAMETERS};
+
+    ghost number = { number };
+
+    ghost value_of = { first_numbered number HEADER_PARAMETERS };
+
+    fn from_i64(i: i64) -> Option<Self> {
+        look_up(&HEADER_PARAMETERS, i)
+    }
+
+    fn to_i64(&self) -> i64 {
+        self.number()
+    }
+
+    ghost value_of_number = { elim [ Reserved ↦ refl | _ ↦ refl ] };
+
+    ghost number_of_value = { number-first_numbered number HEADER_PARAMETERS };
+}
+
+impl WithPrivateRange for HeaderParameter {
+    ghost is_private = { is_private_use };
+
+    fn is_private(i: i64) -> bool {
+        i < HEADER_PARAMETER_PRIVATE_USE_MAX
+    }
+}
+
+/// A label of a header whose meaning goes with the algorithm of a recipient, as IANA's registry
+/// "COSE Header Algorithm Parameters" assigns it (RFC 8152, sections 11 to 12 and 16.3).
+#[derive(Clone, Copy, Debug, Eq, Ord, PartialEq, PartialOrd)]
+pub enum HeaderAlgorithmParameter {
+    /// The certificate chain of the sender's static key (RFC 9360, section 3).
+    X5ChainSender = -29,
+    /// Where the certificate chain of the sender's static key can be had: a URI (RFC 9360, section
+    /// 3).
+    X5USender = -28,
+    /// The hash of the certificate of the sender's static key (RFC 9360, section 3).
+    X5TSender = -27,
+    /// More about party V: bstr.
+    PartyVOther = -26,
+    /// A nonce that party V gives: bstr or int.
+    PartyVNonce = -25,
+    /// Who party V is: bstr.
+    PartyVIdentity = -24,
+    /// More about party U: bstr.
+    PartyUOther = -23,
+    /// A nonce that party U gives: bstr or int.
+    PartyUNonce = -22,
+    /// Who party U is: bstr.
+    PartyUIdentity = -21,
+    /// A random salt of HKDF: bstr.
+    Salt = -20,
+    /// The identifier of the sender's static key: bstr.
+    StaticKeyId = -3,
+    /// The sender's static public key: COSE_Key.
+    StaticKey = -2,
+    /// The sender's public key for this message alone: COSE_Key.
+    EphemeralKey = -1,
+}
+
+// In ascending order of their numbers.
+const HEADER_ALGORITHM_PARAMETERS: [HeaderAlgorithmParameter; 13] = [
+    HeaderAlgorithmParameter::X5ChainSender,
+    HeaderAlgorithmParameter::X5USender,
+    HeaderAlgorithmParameter::X5TSender,
+    HeaderAlgorithmParameter::PartyVOther,
+    HeaderAlgorithmParameter::PartyVNonce,
+    HeaderAlgorithmParameter::PartyVIdentity,
+    HeaderAlgorithmParameter::PartyUOther,
+    HeaderAlgorithmParameter::PartyUNonce,
+    HeaderAlgorithmParameter::PartyUIdentity,
+    HeaderAlgorithmParameter::Salt,
+    HeaderAlgorithmParameter::StaticKeyId,
+    HeaderAlgorithmParameter::StaticKey,
+    HeaderAlgorithmParameter::EphemeralKey,
+];
+
+impl Numbered for HeaderAlgorithmParameter {
+    ghost use Rattle.coset_iana.specs.HeaderAlgorithmParameter.{number};
+
+    ghost number = { number };
+
+    fn number(self) -> i64 {
+        self as i64
+    }
+}
+
+impl EnumI64 for HeaderAlgorithmParameter {
+    ghost use Rattle.coset_iana.specs.HeaderAlgorithmParameter.{number};
+    ghost use Rattle.coset_iana.specs.declared.headers.HeaderAlgorithmParameter.TheVariants.{X5ChainSender};
+    ghost use Rattle.coset_iana.specs.declared.headers.TheConstants.{HEADER_ALGORITHM_PARAMETERS};
+
+    ghost number = { number };
+
+    ghost value_of = { first_numbered number HEADER_ALGORITHM_PARAMETERS };
+
+    fn from_i64(i: i64) -> Option<Self> {
+        look_up(&HEADER_ALGORITHM_PARAMETERS, i)
+    }
+
+    fn to_i64(&self) -> i64 {
+        self.number()
+    }
+
+    ghost value_of_number = { elim [ X5ChainSender ↦ refl | _ ↦ refl ] };
+
+    ghost number_of_value = { number-first_numbered number HEADER_ALGORITHM_PARAMETERS };
+}

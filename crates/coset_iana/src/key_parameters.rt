@@ -1,0 +1,381 @@
+//! Labels of keys that go with the kind of key. The numbers of one kind mean other things in another.
+
+ghost use Rattle.std.specs.Prelude.{refl};
+ghost use Rattle.coset_iana.specs.Registry.{first_numbered, number-first_numbered};
+
+use crate::EnumI64;
+use crate::registry::{Numbered, look_up};
+
+/// A label of an octet key pair, as IANA's registry "COSE Key Type Parameters" assigns it to key
+/// type 1 (RFC 8152, sections 13.2 and 16.6).
+#[derive(Clone, Copy, Debug, Eq, Ord, PartialEq, PartialOrd)]
+pub enum OkpKeyParameter {
+    /// The curve: int or tstr.
+    Crv = -1,
+    /// The public key: bstr.
+    X = -2,
+    /// The private key: bstr.
+    D = -4,
+}
+
+// In ascending order of their numbers.
+const OKP_KEY_PARAMETERS: [OkpKeyParameter; 3] = [
+    OkpKeyParameter::D,
+    OkpKeyParameter::X,
+    OkpKeyParameter::Crv,
+];
+
+impl Numbered for OkpKeyParameter {
+    ghost use Rattle.coset_iana.specs.OkpKeyParameter.{number};
+
+    ghost number = { number };
+
+    fn number(self) -> i64 {
+        self as i64
+    }
+}
+
+impl EnumI64 for OkpKeyParameter {
+    ghost use Rattle.coset_iana.specs.OkpKeyParameter.{number};
+    ghost use Rattle.coset_iana.specs.declared.key_parameters.OkpKeyParameter.TheVariants.{Crv};
+    ghost use Rattle.coset_iana.specs.declared.key_parameters.TheConstants.{OKP_KEY_PARAMETERS};
+
+    ghost number = { number };
+
+    ghost value_of = { first_numbered number OKP_KEY_PARAMETERS };
+
+    fn from_i64(i: i64) -> Option<Self> {
+        look_up(&OKP_KEY_PARAMETERS, i)
+    }
+
+    fn to_i64(&self) -> i64 {
+        self.number()
+    }
+
+    ghost value_of_number = { elim [ Crv ↦ refl | _ ↦ refl ] };
+
+    ghost number_of_value = { number-first_numbered number OKP_KEY_PARAMETERS };
+}
+
+/// A label of a key on an elliptic curve with two coordinates, as IANA's registry "COSE Key Type
+/// Parameters" assigns it to key type 2 (RFC 8152, sections 13.1.1 and 16.6).
+#[derive(Clone, Copy, Debug, Eq, Ord, PartialEq, PartialOrd)]
+pub enum Ec2KeyParameter {
+    /// The curve: int or tstr.
+    Crv = -1,
+    /// The x coordinate: bstr.
+    X = -2,
+    /// The y coordinate: bstr, or bool for its sign alone.
+    Y = -3,
+    /// The private key: bstr.
+    D = -4,
+}
+
+// In ascending order of their numbers.
+const EC2_KEY_PARAMETERS: [Ec2KeyParameter; 4] = [
+    Ec2KeyParameter::D,
+    Ec2KeyParameter::Y,
+    Ec2KeyParameter::X,
+    Ec2KeyParameter::Crv,
+];
+
+impl Numbered for Ec2KeyParameter {
+    ghost use Rattle.coset_iana.specs.Ec2KeyParameter.{number};
+
+    ghost number = { number };
+
+    fn number(self) -> i64 {
+        self as i64
+    }
+}
+
+impl EnumI64 for Ec2KeyParameter {
+    ghost use Rattle.coset_iana.specs.Ec2KeyParameter.{number};
+    ghost use Rattle.coset_iana.specs.declared.key_parameters.Ec2KeyParameter.TheVariants.{Crv};
+    ghost use Rattle.coset_iana.specs.declared.key_parameters.TheConstants.{EC2_KEY_PARAMETERS};
+
+    ghost number = { number };
+
+    ghost value_of = { first_numbered number EC2_KEY_PARAMETERS };
+
+    fn from_i64(i: i64) -> Option<Self> {
+        look_up(&EC2_KEY_PARAMETERS, i)
+    }
+
+    fn to_i64(&self) -> i64 {
+        self.number()
+    }
+
+    ghost value_of_number = { elim [ Crv ↦ refl | _ ↦ refl ] };
+
+    ghost number_of_value = { number-first_numbered number EC2_KEY_PARAMETERS };
+}
+
+/// A label of an RSA key, as IANA's registry "COSE Key Type Parameters" assigns it to key type 3
+/// (RFC 8230, section 4). All but `Other` are bstr.
+#[derive(Clone, Copy, Debug, Eq, Ord, PartialEq, PartialOrd)]
+pub enum RsaKeyParameter {
+    /// The modulus.
+    N = -1,
+    /// The public exponent.
+    E = -2,
+    /// The private exponent.
+    D = -3,
+    /// The prime factor p of the modulus.
+    P = -4,
+    /// The prime factor q of the modulus.
+    Q = -5,
+    /// d modulo p - 1.
+    DP = -6,
+    /// d modulo q - 1.
+    DQ = -7,
+    /// The inverse of q modulo p.
+    QInv = -8,
+    /// What is known of further prime factors: an array of maps.
+    Other = -9,
+    /// In such a map, the prime factor.
+    RI = -10,
+    /// In such a map, d modulo the prime factor less 1.
+    DI = -11,
+    /// In such a map, the inverse of the product of all factors before it.
+    TI = -12,
+}
+
+// In ascending order of their numbers.
+const RSA_KEY_PARAMETERS: [RsaKeyParameter; 12] = [
+    RsaKeyParameter::TI,
+    RsaKeyParameter::DI,
+    RsaKeyParameter::RI,
+    RsaKeyParameter::Other,
+    RsaKeyParameter::QInv,
+    RsaKeyParameter::DQ,
+    RsaKeyParameter::DP,
+    RsaKeyParameter::Q,
+    RsaKeyParameter::P,
+    RsaKeyParameter::D,
+    RsaKeyParameter::E,
+    RsaKeyParameter::N,
+];
+
+impl Numbered for RsaKeyParameter {
+    ghost use Rattle.coset_iana.specs.RsaKeyParameter.{number};
+
+    ghost number = { number };
+
+    fn number(self) -> i64 {
+        self as i64
+    }
+}
+
+impl EnumI64 for RsaKeyParameter {
+    ghost use Rattle.coset_iana.specs.RsaKeyParameter.{number};
+    ghost use Rattle.coset_iana.specs.declared.key_parameters.RsaKeyParameter.TheVariants.{N};
+    ghost use Rattle.coset_iana.specs.declared.key_parameters.TheConstants.{RSA_KEY_PARAMETERS};
+
+    ghost number = { number };
+
+    ghost value_of = { first_numbered number RSA_KEY_PARAMETERS };
+
+    fn from_i64(i: i64) -> Option<Self> {
+        look_up(&RSA_KEY_PARAMETERS, i)
+    }
+
+    fn to_i64(&self) -> i64 {
+        self.number()
+    }
+
+    ghost value_of_number = { elim [ N ↦ refl | _ ↦ refl ] };
+
+    ghost number_of_value = { number-first_numbered number RSA_KEY_PARAMETERS };
+}
+
+/// A label of a symmetric key, as IANA's registry "COSE Key Type Parameters" assigns it to key type
+/// 4 (RFC 8152, sections 13.3 and 16.6).
+#[derive(Clone, Copy, Debug, Eq, Ord, PartialEq, PartialOrd)]
+pub enum SymmetricKeyParameter {
+    /// The key: bstr.
+    K = -1,
+}
+
+// In ascending order of their numbers.
+const SYMMETRIC_KEY_PARAMETERS: [SymmetricKeyParameter; 1] = [SymmetricKeyParameter::K];
+
+impl Numbered for SymmetricKeyParameter {
+    ghost use Rattle.coset_iana.specs.SymmetricKeyParameter.{number};
+
+    ghost number = { number };
+
+    fn number(self) -> i64 {
+        self as i64
+    }
+}
+
+impl EnumI64 for SymmetricKeyParameter {
+    ghost use Rattle.coset_iana.specs.SymmetricKeyParameter.{number};
+    ghost use Rattle.coset_iana.specs.declared.key_parameters.SymmetricKeyParameter.TheVariants.{K};
+    ghost use Rattle.coset_iana.specs.declared.key_parameters.TheConstants.{SYMMETRIC_KEY_PARAMETERS};
+
+    ghost number = { number };
+
+    ghost value_of = { first_numbered number SYMMETRIC_KEY_PARAMETERS };
+
+    fn from_i64(i: i64) -> Option<Self> {
+        look_up(&SYMMETRIC_KEY_PARAMETERS, i)
+    }
+
+    fn to_i64(&self) -> i64 {
+        self.number()
+    }
+
+    ghost value_of_number = { elim [ K ↦ refl ] };
+
+    ghost number_of_value = { number-first_numbered number SYMMETRIC_KEY_PARAMETERS };
+}
+
+/// A label of a key of HSS/LMS, as IANA's registry "COSE Key Type Parameters" assigns it to key
+/// type 5 (RFC 8778).
+#[derive(Clone, Copy, Debug, Eq, Ord, PartialEq, PartialOrd)]
+pub enum HssLmsKeyParameter {
+    /// The public key: bstr.
+    Pub = -1,
+}
+
+// In ascending order of their numbers.
+const HSS_LMS_KEY_PARAMETERS: [HssLmsKeyParameter; 1] = [HssLmsKeyParameter::Pub];
+
+impl Numbered for HssLmsKeyParameter {
+    ghost use Rattle.coset_iana.specs.HssLmsKeyParameter.{number};
+
+    ghost number = { number };
+
+    fn number(self) -> i64 {
+        self as i64
+    }
+}
+
+impl EnumI64 for HssLmsKeyParameter {
+    ghost use Rattle.coset_iana.specs.HssLmsKeyParameter.{number};
+    ghost use Rattle.coset_iana.specs.declared.key_parameters.HssLmsKeyParameter.TheVariants.{Pub};
+    ghost use Rattle.coset_iana.specs.declared.key_parameters.TheConstants.{HSS_LMS_KEY_PARAMETERS};
+
+    ghost number = { number };
+
+    ghost value_of = { first_numbered number HSS_LMS_KEY_PARAMETERS };
+
+    fn from_i64(i: i64) -> Option<Self> {
+        look_up(&HSS_LMS_KEY_PARAMETERS, i)
+    }
+
+    fn to_i64(&self) -> i64 {
+        self.number()
+    }
+
+    ghost value_of_number = { elim [ Pub ↦ refl ] };
+
+    ghost number_of_value = { number-first_numbered number HSS_LMS_KEY_PARAMETERS };
+}
+
+/// A label of a key of WalnutDSA, as IANA's registry "COSE Key Type Parameters" assigns it to key
+/// type 6 (RFC 9021).
+#[derive(Clone, Copy, Debug, Eq, Ord, PartialEq, PartialOrd)]
+pub enum WalnutDsaKeyParameter {
+    /// The size of the braid group.
+    N = -1,
+    /// The size of the finite field.
+    Q = -2,
+    /// The T-values, elements of the field: a list.
+    TValues = -3,
+    /// The first matrix of the public key.
+    Matrix1 = -4,
+    /// The permutation that belongs to the first matrix.
+    Permutation1 = -5,
+    /// The second matrix of the public key.
+    Matrix2 = -6,
+}
+
+// In ascending order of their numbers.
+const WALNUT_DSA_KEY_PARAMETERS: [WalnutDsaKeyParameter; 6] = [
+    WalnutDsaKeyParameter::Matrix2,
+    WalnutDsaKeyParameter::Permutation1,
+    WalnutDsaKeyParameter::Matrix1,
+    WalnutDsaKeyParameter::TValues,
+    WalnutDsaKeyParameter::Q,
+    WalnutDsaKeyParameter::N,
+];
+
+impl Numbered for WalnutDsaKeyParameter {
+    ghost use Rattle.coset_iana.specs.WalnutDsaKeyParameter.{number};
+
+    ghost number = { number };
+
+    fn number(self) -> i64 {
+        self as i64
+    }
+}
+
+impl EnumI64 for WalnutDsaKeyParameter {
+    ghost use Rattle.coset_iana.specs.WalnutDsaKeyParameter.{number};
+    ghost use Rattle.coset_iana.specs.declared.key_parameters.WalnutDsaKeyParameter.TheVariants.{N};
+    ghost use Rattle.coset_iana.specs.declared.key_parameters.TheConstants.{WALNUT_DSA_KEY_PARAMETERS};
+
+    ghost number = { number };
+
+    ghost value_of = { first_numbered number WALNUT_DSA_KEY_PARAMETERS };
+
+    fn from_i64(i: i64) -> Option<Self> {
+        look_up(&WALNUT_DSA_KEY_PARAMETERS, i)
+    }
+
+    fn to_i64(&self) -> i64 {
+        self.number()
+    }
+
+    ghost value_of_number = { elim [ N ↦ refl | _ ↦ refl ] };
+
+    ghost number_of_value = { number-first_numbered number WALNUT_DSA_KEY_PARAMETERS };
+}
+
+/// A label of an algorithm key pair, as IANA's registry "COSE Key Type Parameters" assigns it to
+/// key type 7.
+#[derive(Clone, Copy, Debug, Eq, Ord, PartialEq, PartialOrd)]
+pub enum AkpKeyParameter {
+    /// The public key: bstr.
+    Pub = -1,
+    /// The private key: bstr.
+    Priv = -2,
+}
+
+// In ascending order of their numbers.
+const AKP_KEY_PARAMETERS: [AkpKeyParameter; 2] = [AkpKeyParameter::Priv, AkpKeyParameter::Pub];
+
+impl Numbered for AkpKeyParameter {
+    ghost use Rattle.coset_iana.specs.AkpKeyParameter.{number};
+
+    ghost number = { number };
+
+    fn number(self) -> i64 {
+        self as i64
+    }
+}
+
+impl EnumI64 for AkpKeyParameter {
+    ghost use Rattle.coset_iana.specs.AkpKeyParameter.{number};
+    ghost use Rattle.coset_iana.specs.declared.key_parameters.AkpKeyParameter.TheVariants.{Pub};
+    ghost use Rattle.coset_iana.specs.declared.key_parameters.TheConstants.{AKP_KEY_PARAMETERS};
+
+    ghost number = { number };
+
+    ghost value_of = { first_numbered number AKP_KEY_PARAMETERS };
+
+    fn from_i64(i: i64) -> Option<Self> {
+        look_up(&AKP_KEY_PARAMETERS, i)
+    }
+
+    fn to_i64(&self) -> i64 {
+        self.number()
+    }
+
+    ghost value_of_number = { elim [ Pub ↦ refl | _ ↦ refl ] };
+
+    ghost number_of_value = { number-first_numbered number AKP_KEY_PARAMETERS };
+}

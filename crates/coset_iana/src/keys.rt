@@ -1,0 +1,299 @@
+//! What a key says of itself, whatever its kind.
+
+ghost use Rattle.std.specs.Prelude.{refl};
+ghost use Rattle.coset_iana.specs.Registry.{first_numbered, number-first_numbered};
+ghost use Rattle.coset_iana.specs.WithPrivateRange.{is_private_use};
+
+use crate::registry::{Numbered, look_up};
+use crate::{EnumI64, WithPrivateRange};
+
+/// Elliptic curves below this number are for private use (RFC 8152, section 16.8).
+pub const ELLIPTIC_CURVE_PRIVATE_USE_MAX: i64 = -65536;
+
+/// A label of a key of any kind, as IANA's registry "COSE Key Common Parameters" assigns it (RFC
+/// 8152, sections 7.1 and 16.5).
+#[derive(Clone, Copy, Debug, Eq, Ord, PartialEq, PartialOrd)]
+pub enum KeyParameter {
+    /// Never a label of a key; reserved.
+    Reserved = 0,
+    /// The kind of key, which decides the other parameters: int or tstr.
+    Kty = 1,
+    /// The identifier of the key: bstr.
+    Kid = 2,
+    /// The only algorithm that the key may serve: int or tstr.
+    Alg = 3,
+    /// What the key may be used for: an array of key operations.
+    KeyOps = 4,
+    /// The bytes that a partial initialization vector is added to: bstr.
+    BaseIv = 5,
+}
+
+// In ascending order of their numbers.
+const KEY_PARAMETERS: [KeyParameter; 6] = [
+    KeyParameter::Reserved,
+    KeyParameter::Kty,
+    KeyParameter::Kid,
+    KeyParameter::Alg,
+    KeyParameter::KeyOps,
+    KeyParameter::BaseIv,
+];
+
+impl Numbered for KeyParameter {
+    ghost use Rattle.coset_iana.specs.KeyParameter.{number};
+
+    ghost number = { number };
+
+    fn number(self) -> i64 {
+        self as i64
+    }
+}
+
+impl EnumI64 for KeyParameter {
+    ghost use Rattle.coset_iana.specs.KeyParameter.{number};
+    ghost use Rattle.coset_iana.specs.declared.keys.KeyParameter.TheVariants.{Reserved};
+    ghost use Rattle.coset_iana.specs.declared.keys.TheConstants.{KEY_PARAMETERS};
+
+    ghost number = { number };
+
+    ghost value_of = { first_numbered number KEY_PARAMETERS };
+
+    fn from_i64(i: i64) -> Option<Self> {
+        look_up(&KEY_PARAMETERS, i)
+    }
+
+    fn to_i64(&self) -> i64 {
+        self.number()
+    }
+
+    ghost value_of_number = { elim [ Reserved ↦ refl | _ ↦ refl ] };
+
+    ghost number_of_value = { number-first_numbered number KEY_PARAMETERS };
+}
+
+/// A kind of key, as IANA's registry "COSE Key Types" assigns it (RFC 8152, sections 13 and 16.7).
+#[derive(Clone, Copy, Debug, Eq, Ord, PartialEq, PartialOrd)]
+#[allow(non_camel_case_types)]
+pub enum KeyType {
+    /// Never a key type; reserved.
+    Reserved = 0,
+    /// Octet key pair: a key of which one coordinate is given, as of X25519 or Ed25519.
+    OKP = 1,
+    /// A key on an elliptic curve, given by two coordinates.
+    EC2 = 2,
+    /// RSA (RFC 8230, section 4).
+    RSA = 3,
+    /// A secret shared by both sides.
+    Symmetric = 4,
+    /// A public key of HSS/LMS (RFC 8778).
+    HSS_LMS = 5,
+    /// A public key of WalnutDSA (RFC 9021).
+    WalnutDSA = 6,
+    /// Algorithm key pair: a key that serves only the algorithm it names, as ML-DSA.
+    AKP = 7,
+}
+
+// In ascending order of their numbers.
+const KEY_TYPES: [KeyType; 8] = [
+    KeyType::Reserved,
+    KeyType::OKP,
+    KeyType::EC2,
+    KeyType::RSA,
+    KeyType::Symmetric,
+    KeyType::HSS_LMS,
+    KeyType::WalnutDSA,
+    KeyType::AKP,
+];
+
+impl Numbered for KeyType {
+    ghost use Rattle.coset_iana.specs.KeyType.{number};
+
+    ghost number = { number };
+
+    fn number(self) -> i64 {
+        self as i64
+    }
+}
+
+impl EnumI64 for KeyType {
+    ghost use Rattle.coset_iana.specs.KeyType.{number};
+    ghost use Rattle.coset_iana.specs.declared.keys.KeyType.TheVariants.{Reserved};
+    ghost use Rattle.coset_iana.specs.declared.keys.TheConstants.{KEY_TYPES};
+
+    ghost number = { number };
+
+    ghost value_of = { first_numbered number KEY_TYPES };
+
+    fn from_i64(i: i64) -> Option<Self> {
+        look_up(&KEY_TYPES, i)
+    }
+
+    fn to_i64(&self) -> i64 {
+        self.number()
+    }
+
+    ghost value_of_number = { elim [ Reserved ↦ refl | _ ↦ refl ] };
+
+    ghost number_of_value = { number-first_numbered number KEY_TYPES };
+}
+
+/// An elliptic curve, as IANA's registry "COSE Elliptic Curves" assigns it (RFC 8152, sections
+/// 13.1, 13.2 and 16.8).
+#[derive(Clone, Copy, Debug, Eq, Ord, PartialEq, PartialOrd)]
+#[allow(non_camel_case_types)]
+pub enum EllipticCurve {
+    /// Never a curve; reserved.
+    Reserved = 0,
+    /// NIST P-256, for EC2 keys.
+    P_256 = 1,
+    /// NIST P-384, for EC2 keys.
+    P_384 = 2,
+    /// NIST P-521, for EC2 keys.
+    P_521 = 3,
+    /// X25519, for ECDH with OKP keys.
+    X25519 = 4,
+    /// X448, for ECDH with OKP keys.
+    X448 = 5,
+    /// Ed25519, for EdDSA with OKP keys.
+    Ed25519 = 6,
+    /// Ed448, for EdDSA with OKP keys.
+    Ed448 = 7,
+    /// SECG secp256k1, for EC2 keys (RFC 8812).
+    Secp256k1 = 8,
+    /// brainpoolP256r1, for EC2 keys.
+    BrainpoolP256R1 = 256,
+    /// brainpoolP320r1, for EC2 keys.
+    BrainpoolP320R1 = 257,
+    /// brainpoolP384r1, for EC2 keys.
+    BrainpoolP384R1 = 258,
+    /// brainpoolP512r1, for EC2 keys.
+    BrainpoolP512R1 = 259,
+}
+
+// In ascending order of their numbers.
+const ELLIPTIC_CURVES: [EllipticCurve; 13] = [
+    EllipticCurve::Reserved,
+    EllipticCurve::P_256,
+    EllipticCurve::P_384,
+    EllipticCurve::P_521,
+    EllipticCurve::X25519,
+    EllipticCurve::X448,
+    EllipticCurve::Ed25519,
+    EllipticCurve::Ed448,
+    EllipticCurve::Secp256k1,
+    EllipticCurve::BrainpoolP256R1,
+    EllipticCurve::BrainpoolP320R1,
+    EllipticCurve::BrainpoolP384R1,
+    EllipticCurve::BrainpoolP512R1,
+];
+
+impl Numbered for EllipticCurve {
+    ghost use Rattle.coset_iana.specs.EllipticCurve.{number};
+
+    ghost number = { number };
+
+    fn number(self) -> i64 {
+        self as i64
+    }
+}
+
+impl EnumI64 for EllipticCurve {
+    ghost use Rattle.coset_iana.specs.EllipticCurve.{number};
+    ghost use Rattle.coset_iana.specs.declared.keys.EllipticCurve.TheVariants.{Reserved};
+    ghost use Rattle.coset_iana.specs.declared.keys.TheConstants.{ELLIPTIC_CURVES};
+
+    ghost number = { number };
+
+    ghost value_of = { first_numbered number ELLIPTIC_CURVES };
+
+    fn from_i64(i: i64) -> Option<Self> {
+        look_up(&ELLIPTIC_CURVES, i)
+    }
+
+    fn to_i64(&self) -> i64 {
+        self.number()
+    }
+
+    ghost value_of_number = { elim [ Reserved ↦ refl | _ ↦ refl ] };
+
+    ghost number_of_value = { number-first_numbered number ELLIPTIC_CURVES };
+}
+
+impl WithPrivateRange for EllipticCurve {
+    ghost is_private = { is_private_use };
+
+    fn is_private(i: i64) -> bool {
+        i < ELLIPTIC_CURVE_PRIVATE_USE_MAX
+    }
+}
+
+/// What a key may be used for, as the label `key_ops` lists it. IANA keeps no registry of these:
+/// the numbers are those of RFC 8152, section 7.1, table 4.
+#[derive(Clone, Copy, Debug, Eq, Ord, PartialEq, PartialOrd)]
+pub enum KeyOperation {
+    /// To make signatures, with a private key.
+    Sign = 1,
+    /// To verify signatures.
+    Verify = 2,
+    /// To encrypt content or, of a recipient, keys.
+    Encrypt = 3,
+    /// To decrypt content or, of a recipient, keys; with a private key.
+    Decrypt = 4,
+    /// To wrap keys.
+    WrapKey = 5,
+    /// To unwrap keys; with a private key.
+    UnwrapKey = 6,
+    /// To derive keys; with a private key.
+    DeriveKey = 7,
+    /// To derive bits that are no key; with a private key.
+    DeriveBits = 8,
+    /// To make MAC tags.
+    MacCreate = 9,
+    /// To verify MAC tags.
+    MacVerify = 10,
+}
+
+// In ascending order of their numbers.
+const KEY_OPERATIONS: [KeyOperation; 10] = [
+    KeyOperation::Sign,
+    KeyOperation::Verify,
+    KeyOperation::Encrypt,
+    KeyOperation::Decrypt,
+    KeyOperation::WrapKey,
+    KeyOperation::UnwrapKey,
+    KeyOperation::DeriveKey,
+    KeyOperation::DeriveBits,
+    KeyOperation::MacCreate,
+    KeyOperation::MacVerify,
+];
+
+impl Numbered for KeyOperation {
+    ghost use Rattle.coset_iana.specs.KeyOperation.{number};
+
+    ghost number = { number };
+
+    fn number(self) -> i64 {
+        self as i64
+    }
+}
+
+impl EnumI64 for KeyOperation {
+    ghost use Rattle.coset_iana.specs.KeyOperation.{number};
+    ghost use Rattle.coset_iana.specs.declared.keys.KeyOperation.TheVariants.{Sign};
+    ghost use Rattle.coset_iana.specs.declared.keys.TheConstants.{KEY_OPERATIONS};
+
+    ghost number = { number };
+
+    ghost value_of = { first_numbered number KEY_OPERATIONS };
+
+    fn from_i64(i: i64) -> Option<Self> {
+        look_up(&KEY_OPERATIONS, i)
+    }
+
+    fn to_i64(&self) -> i64 {
+        self.number()
+    }
+
+    ghost value_of_number = { elim [ Sign ↦ refl | _ ↦ refl ] };
+
+    ghost number_of_value = { number-first_numbered number KEY_OPERATIONS };
+}

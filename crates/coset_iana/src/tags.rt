@@ -1,0 +1,73 @@
+//! Tags of CBOR.
+
+ghost use Rattle.std.specs.Prelude.{refl};
+ghost use Rattle.coset_iana.specs.Registry.{first_numbered, number-first_numbered};
+
+use crate::EnumI64;
+use crate::registry::{Numbered, look_up};
+
+/// A tag that names a kind of COSE message or a token, as IANA's registry "CBOR Tags" assigns it
+/// (RFC 8949, section 9.2; RFC 8152, section 2).
+#[derive(Clone, Copy, Debug, Eq, Ord, PartialEq, PartialOrd)]
+pub enum CborTag {
+    /// A message encrypted for one recipient, whose key is known.
+    CoseEncrypt0 = 16,
+    /// A message with a MAC tag for one recipient, whose key is known.
+    CoseMac0 = 17,
+    /// A message with one signature.
+    CoseSign1 = 18,
+    /// A countersignature that stands by itself (RFC 9338).
+    CoseCountersignature = 19,
+    /// A CBOR web token (RFC 8392, section 6).
+    Cwt = 61,
+    /// A message encrypted for any number of recipients.
+    CoseEncrypt = 96,
+    /// A message with a MAC tag for any number of recipients.
+    CoseMac = 97,
+    /// A message with any number of signatures.
+    CoseSign = 98,
+}
+
+// In ascending order of their numbers.
+const CBOR_TAGS: [CborTag; 8] = [
+    CborTag::CoseEncrypt0,
+    CborTag::CoseMac0,
+    CborTag::CoseSign1,
+    CborTag::CoseCountersignature,
+    CborTag::Cwt,
+    CborTag::CoseEncrypt,
+    CborTag::CoseMac,
+    CborTag::CoseSign,
+];
+
+impl Numbered for CborTag {
+    ghost use Rattle.coset_iana.specs.CborTag.{number};
+
+    ghost number = { number };
+
+    fn number(self) -> i64 {
+        self as i64
+    }
+}
+
+impl EnumI64 for CborTag {
+    ghost use Rattle.coset_iana.specs.CborTag.{number};
+    ghost use Rattle.coset_iana.specs.declared.tags.CborTag.TheVariants.{CoseEncrypt0};
+    ghost use Rattle.coset_iana.specs.declared.tags.TheConstants.{CBOR_TAGS};
+
+    ghost number = { number };
+
+    ghost value_of = { first_numbered number CBOR_TAGS };
+
+    fn from_i64(i: i64) -> Option<Self> {
+        look_up(&CBOR_TAGS, i)
+    }
+
+    fn to_i64(&self) -> i64 {
+        self.number()
+    }
+
+    ghost value_of_number = { elim [ CoseEncrypt0 ↦ refl | _ ↦ refl ] };
+
+    ghost number_of_value = { number-first_numbered number CBOR_TAGS };
+}
