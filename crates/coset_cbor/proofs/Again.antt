@@ -159,7 +159,7 @@ IsText-begins (dict ps) b h = IsHeld-begins 5 (pairs_count ps) h.0 b (omega arit
 other_break : (n : ℕ) → n < 255 → eqb n 255 ≡ false
 other_break n lt = ne_eqb n 255 (λ e. absurd (omega arith))
 
-no_break : (b rest : List ℕ) → Begins b → begins_break (b ++ rest) ≡ false
+pub no_break : (b rest : List ℕ) → Begins b → begins_break (b ++ rest) ≡ false
 no_break b rest g = ap (λ (x : List ℕ). begins_break (x ++ rest)) g.parts ∙ other_break g.first g.low
 
 -- ---- strings
@@ -168,13 +168,13 @@ sound_again : (is_text : Bool) (s : List ℕ) → IsSound is_text s → is_sound
 sound_again false s h = refl
 sound_again true s h = is_utf8-from_IsUtf8 s h
 
-string_again : (is_text : Bool) (left : ℕ) (s rest : List ℕ) → IsSound is_text s → string_at is_text left (length s) (s ++ rest) ≡ Ok (s, rest)
+pub string_again : (is_text : Bool) (left : ℕ) (s rest : List ℕ) → IsSound is_text s → string_at is_text left (length s) (s ++ rest) ≡ Ok (s, rest)
 unfolding string_at
 string_again is_text left s rest sound =
     let long : ltb (length (s ++ rest)) (length s) ≡ false = le-ltb _ _ (omega (arith, length-append s rest)) in
     rw (long, take_at s rest (length s) refl, drop_at s rest (length s) refl, sound_again is_text s sound) refl
 
-chunk_kind-type : (is_text : Bool) → chunk_kind is_text (kind_of (string_type is_text)) ≡ true
+pub chunk_kind-type : (is_text : Bool) → chunk_kind is_text (kind_of (string_type is_text)) ≡ true
 chunk_kind-type false = refl
 chunk_kind-type true = refl
 
@@ -191,7 +191,7 @@ pub record ReadsAgain {A : Type 0} (R : A → List ℕ → Type 0) (read : Parse
   pub again : (x : A) (c rest : List ℕ) → R x c → read (c ++ rest) ≡ Ok (x, rest)
   pub begins : (x : A) (c : List ℕ) → R x c → Begins c
 
-regroup : (c d b rest : List ℕ) → b ≡ c ++ d → b ++ rest ≡ c ++ (d ++ rest)
+pub regroup : (c d b rest : List ℕ) → b ≡ c ++ d → b ++ rest ≡ c ++ (d ++ rest)
 regroup c d b rest e = ap (λ (x : List ℕ). x ++ rest) e ∙ append_assoc c d rest
 
 pub times_again : {A : Type 0} (R : A → List ℕ → Type 0) (read : Parse A) (reads : ReadsAgain R read) (xs : List A) (b rest : List ℕ) → Each R xs b → times_at read (length xs) (b ++ rest) ≡ Ok (xs, rest)
@@ -287,10 +287,10 @@ nothing_again = record {
   pairs_until = λ v c rest h lt. absurd (omega arith);
 }
 
-within_turns : (c rest : List ℕ) → length c < length (c ++ 255 ∷ rest)
+pub within_turns : (c rest : List ℕ) → length c < length (c ++ 255 ∷ rest)
 within_turns c rest = omega (arith, length-append c (255 ∷ rest))
 
-things_again : (d : ℕ) (read : Parse Item) → ReadsAgain (IsTextBelow d) read → InsideAgain d (things read)
+pub things_again : (d : ℕ) (read : Parse Item) → ReadsAgain (IsTextBelow d) read → InsideAgain d (things read)
 unfolding things
 things_again d read reads =
     let pair_readers = pair_reads d read reads in
@@ -323,16 +323,16 @@ things_again d read reads =
         omega arith
 
 -- what reading a string gives
-record StringAgain (is_text : Bool) (left : ℕ) (s b rest : List ℕ) : Type 0 where
+pub record StringAgain (is_text : Bool) (left : ℕ) (s b rest : List ℕ) : Type 0 where
   argument : Argument
   more : List ℕ
   reads : head_at b ≡ Ok (head_of (string_type is_text) argument, more)
   string : any_string_by is_text left (number_of argument) more ≡ Ok (s, rest)
 
-broken_is : (m : ℕ) (c b rest : List ℕ) → IsIndefinite m c b → b ++ rest ≡ (32 * m + 31) ∷ (c ++ 255 ∷ rest)
+pub broken_is : (m : ℕ) (c b rest : List ℕ) → IsIndefinite m c b → b ++ rest ≡ (32 * m + 31) ∷ (c ++ 255 ∷ rest)
 broken_is m c b rest e = ap (λ (x : List ℕ). x ++ rest) e ∙ ap (λ (x : List ℕ). (32 * m + 31) ∷ x) (append_assoc c (255 ∷ []) rest)
 
-chunk_reads : (is_text : Bool) → ReadsAgain (IsDefinite is_text) (chunk_at is_text)
+pub chunk_reads : (is_text : Bool) → ReadsAgain (IsDefinite is_text) (chunk_at is_text)
 chunk_reads is_text = record {
   again = λ s c rest h. chunk_again is_text s c rest h;
   begins = λ s c h. IsHeaded-begins (string_type is_text) (length s) s c (type_low is_text) h.1;

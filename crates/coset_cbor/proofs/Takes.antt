@@ -25,7 +25,7 @@ IsBytes bs = (i : ℕ) → get_or bs i 0 < 256
 pub IsBytes-drop : (n : ℕ) (bs : List ℕ) → IsBytes bs → IsBytes (drop n bs)
 IsBytes-drop n bs h i = rw get_or-drop (h (n + i))
 
-IsBytes-take : (n : ℕ) (bs : List ℕ) → IsBytes bs → IsBytes (take n bs)
+pub IsBytes-take : (n : ℕ) (bs : List ℕ) → IsBytes bs → IsBytes (take n bs)
 IsBytes-take n bs h i =
     elim (cases_lt i n) [
       | inl lt ↦ rw (get_or-take n bs i 0 lt) (h i)
@@ -307,7 +307,7 @@ pub record TakesBroken {A : Type 0} (R : A → List ℕ → Type 0) (s : List �
   pub parts : s ≡ front ++ 255 ∷ x.1
   pub rest_fits : IsBytes x.1
 
-break_is : (s : List ℕ) → begins_break s ≡ true → s ≡ 255 ∷ drop 1 s
+pub break_is : (s : List ℕ) → begins_break s ≡ true → s ≡ 255 ∷ drop 1 s
 break_is [] e = absurd cc
 break_is (x ∷ s) e = ap (λ (y : ℕ). y ∷ s) (eqb-true x 255 e)
 

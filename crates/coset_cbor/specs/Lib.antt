@@ -8,3 +8,8 @@ pub mod Faults
 pub mod Refused
 pub mod Reading
 pub mod Least
+pub mod Cost
+pub mod Counting
+pub mod Whole
+pub mod Pulls
+pub mod Scalars

@@ -1,20 +1,25 @@
 //! Reading a value from bytes (RFC 8949, section 3 and appendix C).
 
-ghost use Rattle.std.specs.Prelude.{◌≡◌, ◌≤◌, ◌++◌, List, ℕ, take, length, IfOk, IfErr};
+ghost use Rattle.std.specs.Prelude.{◌≡◌, ◌≤◌, ◌+◌, ◌++◌, List, ℕ, take, length, IfOk, IfErr};
 ghost use Rattle.coset_value.specs.Item.{Item};
 ghost use Rattle.coset_value.specs.View.{view};
 ghost use Rattle.coset_cbor.specs.Grammar.{IsItem};
+ghost use Rattle.coset_cbor.specs.Cost.{IsCost};
 ghost use Rattle.coset_cbor.specs.Faults.{Stands};
 ghost use Rattle.coset_cbor.specs.Refused.{IsMemory, StandsIn};
 
-use crate::fault::{Fault, ReadError};
-use crate::read::item;
+use crate::fault::Fault;
+use crate::memory::OutOfMemory;
+pub use crate::pull::Pull;
+pub use crate::steps::Steps;
+use crate::{read, skim};
 use coset_value::Value;
 use std::alloc::Global;
 use std::fmt;
+use std::sync::ledger::Ledger;
 
 /// How deep arrays, maps and tags may nest in what is read.
-const MAX_DEPTH: u32 = 256;
+pub(crate) const MAX_DEPTH: u32 = 256;
 
 /// The input ends where more is due.
 #[derive(Clone, Copy, Debug, PartialEq, Eq)]
@@ -41,6 +46,16 @@ impl<T: fmt::Debug> fmt::Display for Error<T> {
     }
 }
 
+impl<T> From<OutOfMemory> for Error<T> {
+    ghost use Rattle.coset_cbor.specs.declared.de.Error.TheVariants as errors;
+
+    ghost from_gives = { λ _ e. e ≡ errors.OutOfMemory };
+
+    fn from(_e: OutOfMemory) -> Error<T> {
+        Error::OutOfMemory
+    }
+}
+
 /// The error that a fault is in an input of `len` bytes.
 fn error_of(fault: Fault, len: usize) -> Error<EndOfFile>
     ensures other { IsMemory result → ⊥ }
@@ -56,6 +71,33 @@ fn error_of(fault: Fault, len: usize) -> Error<EndOfFile>
     }
 }
 
+/// Checks that an item stands at the front of the bytes, and answers its length. It makes no value and takes no
+/// memory, and goes over the bytes once; those of a byte string it passes over.
+///
+/// The steps go up by what the item costs: one for each head of an item or a chunk and each closing break, and one
+/// for each byte of the content of a text. Refused or not, they go up by no more than there are bytes.
+///
+/// # Errors
+/// Bytes are refused only where no front of them is an item within 256 levels, and the error is a fault that stands
+/// in them; never for memory.
+pub fn check<L: Ledger>(bytes: &[u8], steps: &mut Steps<L>) -> Result<usize, Error<EndOfFile>>
+    ensures length { IfOk result (λ n. n ≤ length bytes.now) }
+    // An item stands there, and the steps are its cost.
+    ensures found { IfOk result (λ n. (v : Item) × (k : ℕ) × IsItem (take n bytes.now) v
+        × IsCost v (take n bytes.now) k × (steps.new ≡ steps.old + k)) }
+    // No front of what is refused is an item.
+    ensures refused { IfErr result (λ e. (v : Item) (b rest : List ℕ) → bytes.now ≡ b ++ rest → IsItem b v → ⊥) }
+    ensures memory { IfErr result (λ e. IsMemory e → ⊥) }
+    // The fault stands in the bytes, at the offset that it carries.
+    ensures stands { IfErr result (λ e. StandsIn bytes.now e) }
+    ensures bound { steps.new ≤ steps.old + length bytes.now }
+{
+    match skim::item(bytes, MAX_DEPTH, steps) {
+        Ok(rest) => Ok(bytes.len() - rest.len()),
+        Err(fault) => Err(error_of(fault, bytes.len())),
+    }
+}
+
 /// Reads the item at the front of the bytes: its value, and how many bytes it takes. Bytes may follow it.
 ///
 /// Every spelling is accepted (RFC 8949, section 3): a head of any width that holds its argument, definite and
@@ -63,8 +105,9 @@ fn error_of(fault: Fault, len: usize) -> Error<EndOfFile>
 /// reserved because a head announces it.
 ///
 /// # Errors
-/// Other than for memory, bytes are refused only where no front of them is an item within 256 levels, and the
-/// error is a fault that stands in them. Of several faults it is the first in reading order: at a head its form,
+/// Bytes are refused for memory only where an item stands at their front, since they are checked first, without
+/// memory. Else they are refused only where no front of them is an item within 256 levels, and the error is a fault
+/// that stands in them. Of several faults it is the first in reading order: at a head its form,
 /// then its argument, then the depth, then an announced length that can't be there, then what the head holds.
 pub fn read_value(alloc: Global, bytes: &[u8]) -> Result<(Value, usize), Error<EndOfFile>>
     ensures length { IfOk result (λ x. x.1 ≤ length bytes.now) }
@@ -73,12 +116,13 @@ pub fn read_value(alloc: Global, bytes: &[u8]) -> Result<(Value, usize), Error<E
     // No front of what is refused is an item, unless memory ran out.
     ensures refused { IfErr result (λ e. (IsMemory e → ⊥)
         → (v : Item) (b rest : List ℕ) → bytes.now ≡ b ++ rest → IsItem b v → ⊥) }
+    // Memory runs out only where a front is an item.
+    ensures memory { IfErr result (λ e. IsMemory e
+        → (v : Item) × (b : List ℕ) × (rest : List ℕ) × (bytes.now ≡ b ++ rest) × IsItem b v) }
     // The fault stands in the bytes, at the offset that it carries.
     ensures stands { IfErr result (λ e. StandsIn bytes.now e) }
 {
-    match item(alloc, bytes, MAX_DEPTH) {
-        Ok((value, rest)) => Ok((value, bytes.len() - rest.len())),
-        Err(ReadError::Memory) => Err(Error::OutOfMemory),
-        Err(ReadError::Fault(fault)) => Err(error_of(fault, bytes.len())),
-    }
+    let (pull, _) = Pull::new(bytes)?;
+    let value = pull.to_value(alloc)?;
+    Ok((value, pull.slice().len()))
 }

@@ -1,9 +1,10 @@
 //! Laws of the definitions, which callers may cite. Each is the contract of a function that does nothing.
 
-ghost use Rattle.std.specs.Prelude.{◌≡◌, ℕ, List, ◌++◌};
+ghost use Rattle.std.specs.Prelude.{◌≡◌, ℕ, ◌+◌, List, [], ◌∷◌, ◌++◌, replicate};
 ghost use Rattle.coset_value.specs.Item.{Item};
 ghost use Rattle.coset_value.specs.Range.{IsInRange};
 ghost use Rattle.coset_cbor.specs.Grammar.{IsText};
+ghost use Rattle.coset_cbor.specs.Cost.{IsCost};
 ghost use Rattle.coset_cbor.specs.Shortest.{IsShort};
 
 /// Bytes are the text of at most one item, and no text is a proper front of another.
@@ -20,4 +21,15 @@ pub fn one_shortest()
 /// The shortest text of an item is a text of it.
 pub fn shortest_is_text()
     ensures { (v : Item) (b : List ℕ) → IsShort b v → IsText v b }
+{}
+
+/// A text has exactly one cost.
+pub fn one_cost()
+    ensures { (v : Item) (b : List ℕ) → IsText v b
+        → (k : ℕ) × IsCost v b k × ((j : ℕ) → IsCost v b j → j ≡ k) }
+{}
+
+/// Arrays of one member each, n of them inside one another around an empty one, cost n + 1 steps.
+pub fn nested_arrays_cost()
+    ensures { (n k : ℕ) (v : Item) → IsCost v (replicate n 0x81 ++ 0x80 ∷ []) k → k ≡ n + 1 }
 {}

@@ -2,7 +2,7 @@
 
 ghost use Rattle.std.specs.Prelude.{◌≡◌, map, length, negsuc};
 ghost use Rattle.coset_value.specs.View.{view, pair_view};
-ghost use Rattle.coset_cbor.specs.Reading.{Gives, times_at, until_at, pair_at, array_by, map_by, simple_at, item_at};
+ghost use Rattle.coset_cbor.specs.Reading.{Answers, Gives, times_at, until_at, pair_at, array_by, map_by, simple_at, item_at};
 
 use crate::fault::{Fault, ReadError};
 use crate::head::{Argument, Kind, head_of};
@@ -14,27 +14,27 @@ use std::alloc::Global;
 const PLACES: u64 = 16;
 
 /// The integer -1 - n.
-fn negative(n: u64) -> Integer
+pub(crate) fn negative(n: u64) -> Integer
     ensures { result ≡ negsuc n }
 {
     Integer::try_from(-1 - i128::from(n)).unwrap()
 }
 
 /// A simple value or a float. `left` is what was left at the head.
-fn simple(left: usize, argument: Argument, bytes: &[u8]) -> Result<(Value, &[u8]), ReadError>
-    ensures { Gives (λ x. (view x.0, x.1.now)) result (simple_at left argument bytes.now) }
+pub(crate) fn simple(left: usize, argument: Argument, bytes: &[u8]) -> Result<(Value, &[u8]), Fault>
+    ensures { Answers (λ x. (view x.0, x.1.now)) result (simple_at left argument bytes.now) }
 {
     match argument {
         Argument::Within(20) => Ok((Value::Bool(false), bytes)),
         Argument::Within(21) => Ok((Value::Bool(true), bytes)),
         Argument::Within(22) => Ok((Value::Null, bytes)),
-        Argument::Within(_) => Err(ReadError::Fault(Fault::Simple(left))),
-        Argument::One(n) if n < 32 => Err(ReadError::Fault(Fault::Syntax(left))),
-        Argument::One(_) => Err(ReadError::Fault(Fault::Simple(left))),
+        Argument::Within(_) => Err(Fault::Simple(left)),
+        Argument::One(n) if n < 32 => Err(Fault::Syntax(left)),
+        Argument::One(_) => Err(Fault::Simple(left)),
         Argument::Two(bits) => Ok((Value::Float(Float::Half(bits)), bytes)),
         Argument::Four(bits) => Ok((Value::Float(Float::Single(bits)), bytes)),
         Argument::Eight(bits) => Ok((Value::Float(Float::Double(bits)), bytes)),
-        Argument::Indefinite => Err(ReadError::Fault(Fault::Syntax(left))),
+        Argument::Indefinite => Err(Fault::Syntax(left)),
     }
 }
 
@@ -86,7 +86,7 @@ pub(crate) fn item(alloc: Global, bytes: &[u8], depth: u32) -> Result<(Value, &[
             let (inside, rest) = item(alloc, rest, depth - 1)?;
             Ok((Value::Tag(n, Box::new(alloc, inside)?), rest))
         }
-        Kind::Simple => simple(left, head.argument, rest),
+        Kind::Simple => Ok(simple(left, head.argument, rest)?),
     }
 }
 

@@ -1,0 +1,153 @@
+-- What the head of a lent item says of the item.
+use Rattle.std.proofs.Common.{◌≡◌, ℕ, ◌≤◌, true, false, eqb, ltb, List, [], ◌++◌, length, Option, Some, None, Result, Ok, Err, refl, sym, ap, subst, ◌∙◌, arith, inl, inr}
+use Rattle.std.proofs.lemmas.List.{append-nil}
+use Rattle.std.specs.Prelude.{pos, negsuc, option_map}
+use Rattle.coset_value.specs.Item.{Item, depth, integer, bytes, float, half, single, double, boolean, null, tag, array, dict}
+use Rattle.coset_value.specs.Parts.{as_tag}
+use Rattle.coset_value.specs.View.{items_of, pairs_of}
+use Rattle.coset_cbor.specs.declared.fault.Fault.{Fault}
+use Rattle.coset_cbor.specs.declared.fault.Fault.TheVariants.{Simple}
+use Rattle.coset_cbor.specs.declared.head.Kind.{Kind}
+use Rattle.coset_cbor.specs.declared.head.Kind.TheVariants as kinds
+use Rattle.coset_cbor.specs.declared.head.Argument.{Argument}
+use Rattle.coset_cbor.specs.declared.head.Argument.TheVariants as places
+use Rattle.coset_cbor.specs.declared.head.Head.{Head}
+use Rattle.coset_cbor.specs.Reading.{◌>>=◌, number_of, unless_none, head_at, any_string_by, simple_at, Inside, things, item_by, item_from, item_at}
+use Rattle.coset_cbor.specs.Grammar.{IsText, IsItem}
+use Rattle.coset_cbor.specs.Scalars.{as_scalar, read_of, scalar_by, tag_by}
+use Rattle.coset_cbor.specs.Whole.{is_one_item, item_of}
+use Rattle.coset_cbor.proofs.Takes.{bind_ok, chosen, guard_else, ok_is, some_ok, head_takes, item_takes}
+use Rattle.coset_cbor.proofs.Whole.{one_item_bytes, one_item_read, one_item_from, item_of_one}
+
+abbrev done : Item × List ℕ → Result (Item × List ℕ) Fault
+done x = Ok x
+
+-- one item is what its head says
+pub one_item_by : (b : List ℕ) (h : Head × List ℕ) → is_one_item b ≡ true → head_at b ≡ Ok h → item_by (things (item_at 255)) (length b) h.0.argument h.0.kind h.1 ≡ Ok (item_of b, [])
+unfolding item_at
+one_item_by b h one e =
+    let whole : item_from (things (item_at 255)) b ≡ Ok (item_of b, []) = one_item_read b one in
+    sym (ap (λ (r : Result (Head × List ℕ) Fault). r >>= λ x. item_by (things (item_at 255)) (length b) x.0.argument x.0.kind x.1) e) ∙ whole
+
+-- one item has a head
+pub one_item_head : (b : List ℕ) (f : Fault) → is_one_item b ≡ true → head_at b ≡ Err f → ⊥
+unfolding item_at
+one_item_head b f one e =
+    let whole : item_from (things (item_at 255)) b ≡ Ok (item_of b, []) = one_item_read b one in
+    differ (sym (ap (λ (r : Result (Head × List ℕ) Fault). r >>= λ x. item_by (things (item_at 255)) (length b) x.0.argument x.0.kind x.1) e) ∙ whole)
+  where
+    differ : ◌≡◌ {A = Result (Item × List ℕ) Fault} (Err f) (Ok (item_of b, [])) → ⊥
+    differ e = cc
+
+-- ---- items that hold no other bytes
+
+number_scalar : (left : ℕ) (o : Option ℕ) (f : ℕ → Item) (s : List ℕ) (x : Item × List ℕ) → ((n : ℕ) → as_scalar (f n) ≡ Some (f n)) → unless_none left o (λ n. Ok (f n, s)) ≡ Ok x → option_map f o ≡ as_scalar x.0
+number_scalar left o f s x is e =
+    let n = some_ok left o (λ n. Ok (f n, s)) x e in
+    ap (option_map f) n.1 ∙ sym (is n.0) ∙ ap (λ (y : Item × List ℕ). as_scalar y.0) (ok_is (f n.0, s) x n.2)
+
+simple_scalar : (left : ℕ) (a : Argument) (s : List ℕ) (x : Item × List ℕ) → simple_at left a s ≡ Ok x → read_of (simple_at left a s) ≡ as_scalar x.0
+simple_scalar left a s x e = ap read_of e ∙ sym (is left a s x e)
+  where
+    found : (v : Item) (s : List ℕ) (x : Item × List ℕ) → as_scalar v ≡ Some v → done (v, s) ≡ done x → as_scalar x.0 ≡ Some x.0
+    found v s x is e = subst (λ (y : Item × List ℕ). as_scalar y.0 ≡ Some y.0) (ok_is (v, s) x e) is
+
+    is : (left : ℕ) (a : Argument) (s : List ℕ) (x : Item × List ℕ) → simple_at left a s ≡ Ok x → as_scalar x.0 ≡ Some x.0
+    is left (places.Within n) s x e =
+        elim (chosen (eqb n 20) _ _ _ e) [
+          | inl a ↦ found (boolean false) s x refl a.1
+          | inr a ↦ elim (chosen (eqb n 21) _ _ _ a.1) [
+            | inl b ↦ found (boolean true) s x refl b.1
+            | inr b ↦ found null s x refl (guard_else (eqb n 22) (Simple left) (Ok (null, s)) x b.1).1
+          ]
+        ]
+    is left (places.One n) s x e = elim (chosen (ltb n 32) _ _ _ e) [ inl a ↦ absurd (cc (a.1)) | inr a ↦ absurd (cc (a.1)) ]
+    is left (places.Two n) s x e = found (float (half n)) s x refl e
+    is left (places.Four n) s x e = found (float (single n)) s x refl e
+    is left (places.Eight n) s x e = found (float (double n)) s x refl e
+    is left places.Indefinite s x e = absurd cc
+
+-- what was made of what was read is an f
+made_is : {A : Type 0} (r : Result (A × List ℕ) Fault) (f : A → Item) (x : Item × List ℕ) → (r >>= λ y. Ok (f y.0, y.1)) ≡ Ok x → (y : A) × (x.0 ≡ f y)
+made_is r f x e =
+    let y = bind_ok r (λ y. Ok (f y.0, y.1)) x e in
+    (y.0.0, ap (λ (z : Item × List ℕ). z.0) (sym (ok_is (f y.0.0, y.0.1) x y.2)))
+
+pub scalar_is : (inside : Inside) (left : ℕ) (a : Argument) (k : Kind) (s : List ℕ) (x : Item × List ℕ) → item_by inside left a k s ≡ Ok x → scalar_by left a k s ≡ as_scalar x.0
+scalar_is inside left a kinds.Unsigned s x e = number_scalar left (number_of a) (λ n. integer (pos n)) s x (λ n. refl) e
+scalar_is inside left a kinds.Negative s x e = number_scalar left (number_of a) (λ n. integer (negsuc n)) s x (λ n. refl) e
+scalar_is inside left a kinds.Bytes s x e = ap as_scalar (sym (made_is (any_string_by false left (number_of a) s) bytes x e).1)
+scalar_is inside left a kinds.Text s x e = ap as_scalar (sym (made_is (any_string_by true left (number_of a) s) Item.text x e).1)
+scalar_is inside left a kinds.Array s x e = ap as_scalar (sym (made_is (inside.items (number_of a) s) (λ vs. array (items_of vs)) x e).1)
+scalar_is inside left a kinds.Map s x e = ap as_scalar (sym (made_is (inside.pairs (number_of a) s) (λ ps. dict (pairs_of ps)) x e).1)
+scalar_is inside left a kinds.Tag s x e =
+    let n = some_ok left (number_of a) (λ n. inside.one s >>= λ y. Ok (tag n y.0, y.1)) x e in
+    ap as_scalar (sym (made_is (inside.one s) (tag n.0) x n.2).1)
+scalar_is inside left a kinds.Simple s x e = simple_scalar left a s x e
+
+-- ---- tags
+
+-- what a head that is no tag's says
+pub no_tag : (inside : Inside) (left : ℕ) (a : Argument) (k : Kind) (s : List ℕ) (x : Item × List ℕ) → tag_by a k ≡ None → item_by inside left a k s ≡ Ok x → None ≡ as_tag x.0
+no_tag inside left a kinds.Unsigned s x t e = let n = some_ok left (number_of a) (λ n. Ok (integer (pos n), s)) x e in ap (λ (y : Item × List ℕ). as_tag y.0) (ok_is (integer (pos n.0), s) x n.2)
+no_tag inside left a kinds.Negative s x t e = let n = some_ok left (number_of a) (λ n. Ok (integer (negsuc n), s)) x e in ap (λ (y : Item × List ℕ). as_tag y.0) (ok_is (integer (negsuc n.0), s) x n.2)
+no_tag inside left a kinds.Bytes s x t e = ap as_tag (sym (made_is (any_string_by false left (number_of a) s) bytes x e).1)
+no_tag inside left a kinds.Text s x t e = ap as_tag (sym (made_is (any_string_by true left (number_of a) s) Item.text x e).1)
+no_tag inside left a kinds.Array s x t e = ap as_tag (sym (made_is (inside.items (number_of a) s) (λ vs. array (items_of vs)) x e).1)
+no_tag inside left a kinds.Map s x t e = ap as_tag (sym (made_is (inside.pairs (number_of a) s) (λ ps. dict (pairs_of ps)) x e).1)
+no_tag inside left a kinds.Tag s x t e =
+    let n = some_ok left (number_of a) (λ n. inside.one s >>= λ y. Ok (tag n y.0, y.1)) x e in
+    absurd (differ n.0 (sym n.1 ∙ t))
+  where
+    differ : (n : ℕ) → ◌≡◌ {A = Option ℕ} (Some n) None → ⊥
+    differ n e = cc
+no_tag inside left a kinds.Simple s x t e = as_scalar_tag x.0 (sym (simple_scalar left a s x e) ∙ ap read_of e)
+  where
+    as_scalar_tag : (v : Item) → as_scalar v ≡ Some v → None ≡ as_tag v
+    as_scalar_tag (integer n) h = refl
+    as_scalar_tag (bytes s) h = refl
+    as_scalar_tag (float x) h = refl
+    as_scalar_tag (Item.text s) h = refl
+    as_scalar_tag (boolean b) h = refl
+    as_scalar_tag null h = refl
+    as_scalar_tag (tag t v) h = absurd cc
+    as_scalar_tag (array vs) h = refl
+    as_scalar_tag (dict ps) h = refl
+
+-- what a tag's head says: what is read inside
+tag_inside : (inside : Inside) (left : ℕ) (a : Argument) (k : Kind) (s : List ℕ) (x : Item × List ℕ) (n : ℕ) → tag_by a k ≡ Some n → item_by inside left a k s ≡ Ok x → (w : Item × List ℕ) × (inside.one s ≡ Ok w) × (x ≡ (tag n w.0, w.1))
+tag_inside inside left a kinds.Unsigned s x n t e = absurd cc
+tag_inside inside left a kinds.Negative s x n t e = absurd cc
+tag_inside inside left a kinds.Bytes s x n t e = absurd cc
+tag_inside inside left a kinds.Text s x n t e = absurd cc
+tag_inside inside left a kinds.Array s x n t e = absurd cc
+tag_inside inside left a kinds.Map s x n t e = absurd cc
+tag_inside inside left a kinds.Tag s x n t e =
+    let m = some_ok left (number_of a) (λ n. inside.one s >>= λ y. Ok (tag n y.0, y.1)) x e in
+    let w = bind_ok (inside.one s) (λ y. Ok (tag m.0 y.0, y.1)) x m.2 in
+    let same : m.0 ≡ n = some_same m.0 n (sym m.1 ∙ t) in
+    (w.0, w.1, sym (ok_is (tag m.0 w.0.0, w.0.1) x w.2) ∙ ap (λ (k : ℕ). (tag k w.0.0, w.0.1)) same)
+  where
+    some_same : (m n : ℕ) → ◌≡◌ {A = Option ℕ} (Some m) (Some n) → m ≡ n
+    some_same m n e = cc
+tag_inside inside left a kinds.Simple s x n t e = absurd cc
+
+-- the bytes after a tag's head are one item, which the tag encloses
+pub record IsEnclosed (n : ℕ) (b s : List ℕ) : Type 0 where
+  pub one : is_one_item s ≡ true
+  pub item : item_of b ≡ tag n (item_of s)
+
+pub enclosed : (b : List ℕ) (h : Head × List ℕ) (n : ℕ) → is_one_item b ≡ true → head_at b ≡ Ok h → tag_by h.0.argument h.0.kind ≡ Some n → IsEnclosed n b h.1
+unfolding things
+enclosed b h n one e t =
+    let w = tag_inside (things (item_at 255)) (length b) h.0.argument h.0.kind h.1 (item_of b, []) n t (one_item_by b h one e) in
+    let fits = (head_takes b h (one_item_bytes b one) e).rest_fits in
+    let inner = item_takes 255 h.1 w.0 fits w.1 in
+    let rest : [] ≡ w.0.1 = ap (λ (x : Item × List ℕ). x.1) w.2 in
+    let all : h.1 ≡ inner.front = inner.parts ∙ ap (λ (r : List ℕ). inner.front ++ r) (sym rest) ∙ append-nil inner.front in
+    let low : depth w.0.0 ≤ 255 = inner.text.1 in
+    let text : IsItem h.1 w.0.0 = (subst (λ (c : List ℕ). IsText w.0.0 c) (sym all) inner.text.0, omega arith) in
+    record {
+      one = one_item_from h.1 w.0.0 fits text;
+      item = ap (λ (x : Item × List ℕ). x.0) w.2 ∙ ap (tag n) (sym (item_of_one h.1 w.0.0 text));
+    }

@@ -1,0 +1,95 @@
+-- How many steps a check takes on any bytes, those that it refuses included, as a function beside that of reading.
+-- Only contracts of private functions cite it. That it agrees with the cost of a text is proved in proofs/.
+use Rattle.std.specs.Prelude.{◌≡◌, ℕ, zero, suc, ◌+◌, ◌/◌, Bool, true, false, List, length, Option, Some, None, Result, Ok, Err, nat_lt, if◌then◌else◌}
+use Rattle.std.specs.Borrow.{Bor}
+use Rattle.coset_value.specs.Item.{Item}
+use Rattle.coset_cbor.specs.declared.fault.Fault.{Fault}
+use Rattle.coset_cbor.specs.declared.head.Kind.{Kind}
+use Rattle.coset_cbor.specs.declared.head.Kind.TheVariants as kinds
+use Rattle.coset_cbor.specs.declared.head.Argument.{Argument}
+use Rattle.coset_cbor.specs.Reading.{Parse, number_of, head_at, string_at, chunk_kind, chunk_at, begins_break, pair_at, item_at}
+use Rattle.coset_cbor.specs.Cost.{content_cost}
+
+-- what is left after reading
+abbrev pub left_of : {A : Type 0} → Result (A × List ℕ) Fault → Result (List ℕ) Fault
+left_of (Ok x) = Ok x.1
+left_of (Err f) = Err f
+
+-- the steps that follow a reading, where it succeeds
+abbrev pub after : {A : Type 0} → Result (A × List ℕ) Fault → (A × List ℕ → ℕ) → ℕ
+after (Ok x) steps = steps x
+after (Err f) steps = 0
+
+-- those of an argument that is a number
+abbrev pub where_some : Option ℕ → (ℕ → ℕ) → ℕ
+where_some None steps = 0
+where_some (Some n) steps = steps n
+
+-- the content of a definite string
+unfoldable pub content_steps : Bool → ℕ → ℕ → List ℕ → ℕ
+content_steps is_text left n s = after (string_at is_text left n s) (λ x. content_cost is_text x.0)
+
+unfoldable pub chunk_steps : Bool → List ℕ → ℕ
+chunk_steps is_text s = after (head_at s) (λ h.
+    suc (if chunk_kind is_text h.0.kind then where_some (number_of h.0.argument) (λ n. content_steps is_text (length s) n h.1) else 0))
+
+-- n of them
+unfoldable pub times_steps : {A : Type 0} → Parse A → (List ℕ → ℕ) → ℕ → List ℕ → ℕ
+times_steps one steps zero s = 0
+times_steps one steps (suc n) s = steps s + after (one s) (λ x. times_steps one steps n x.1)
+
+-- up to the break, and the break
+unfoldable pub until_steps : {A : Type 0} → Parse A → (List ℕ → ℕ) → ℕ → List ℕ → ℕ
+until_steps one steps zero s = 0
+until_steps one steps (suc turns) s = if begins_break s then 1 else steps s + after (one s) (λ x. until_steps one steps turns x.1)
+
+abbrev pub string_steps : Bool → ℕ → Option ℕ → List ℕ → ℕ
+string_steps is_text left None s = until_steps (chunk_at is_text) (chunk_steps is_text) (length s) s
+string_steps is_text left (Some n) s = content_steps is_text left n s
+
+unfoldable pub pair_steps : Parse Item → (List ℕ → ℕ) → List ℕ → ℕ
+pair_steps one steps s = steps s + after (one s) (λ k. steps k.1)
+
+abbrev pub array_steps : Parse Item → (List ℕ → ℕ) → Option ℕ → List ℕ → ℕ
+array_steps one steps None s = until_steps one steps (length s) s
+array_steps one steps (Some n) s = if nat_lt (length s) n then 0 else times_steps one steps n s
+
+abbrev pub map_steps : Parse Item → (List ℕ → ℕ) → Option ℕ → List ℕ → ℕ
+map_steps one steps None s = until_steps (pair_at one) (pair_steps one steps) (length s) s
+map_steps one steps (Some n) s = if nat_lt (length s / 2) n then 0 else times_steps (pair_at one) (pair_steps one steps) n s
+
+-- the steps of what is inside
+pub record StepsInside : Type 0 where
+  pub items : Option ℕ → List ℕ → ℕ
+  pub pairs : Option ℕ → List ℕ → ℕ
+  pub one : List ℕ → ℕ
+
+unfoldable pub no_steps : StepsInside
+no_steps = record { items = λ n s. 0; pairs = λ n s. 0; one = λ s. 0 }
+
+unfoldable pub steps_of : Parse Item → (List ℕ → ℕ) → StepsInside
+steps_of one steps = record { items = array_steps one steps; pairs = map_steps one steps; one = steps }
+
+-- by the kind; left is what was left at the head
+abbrev pub body_steps : StepsInside → ℕ → Argument → Kind → List ℕ → ℕ
+body_steps inside left a kinds.Unsigned s = 0
+body_steps inside left a kinds.Negative s = 0
+body_steps inside left a kinds.Bytes s = string_steps false left (number_of a) s
+body_steps inside left a kinds.Text s = string_steps true left (number_of a) s
+body_steps inside left a kinds.Array s = inside.items (number_of a) s
+body_steps inside left a kinds.Map s = inside.pairs (number_of a) s
+body_steps inside left a kinds.Tag s = where_some (number_of a) (λ n. inside.one s)
+body_steps inside left a kinds.Simple s = 0
+
+abbrev pub steps_from : StepsInside → List ℕ → ℕ
+steps_from inside s = after (head_at s) (λ h. suc (body_steps inside (length s) h.0.argument h.0.kind h.1))
+
+-- an item in which arrays, maps and tags nest no deeper than the number
+unfoldable pub item_steps : ℕ → List ℕ → ℕ
+item_steps zero s = steps_from no_steps s
+item_steps (suc d) s = steps_from (steps_of (item_at d) (item_steps d)) s
+
+-- What a function that passes over bytes returned is what reading leaves.
+abbrev pub Passes : {A : Type 0} → Result (Bor (List ℕ)) Fault → Result (A × List ℕ) Fault → Type 0
+Passes (Ok rest) read = left_of read ≡ Ok rest.now
+Passes (Err f) read = left_of read ≡ Err f

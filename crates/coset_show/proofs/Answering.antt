@@ -1,0 +1,20 @@
+-- From a refusal to what is answered.
+use Rattle.std.proofs.Common.{◌≡◌, ℕ, List, Some, None, IfSome, refl, sym, subst, inr}
+use Rattle.std.specs.Prelude.{Option}
+use Rattle.std.specs.Io.KnownBytes.{Appends}
+use Rattle.coset_show.specs.declared.kind.Kind.{Kind}
+use Rattle.coset_show.specs.declared.kind.Kind.TheVariants.{Value}
+use Rattle.coset_show.specs.declared.refusal.Refusal.{Refusal}
+use Rattle.coset_show.specs.Kind.{kind_name}
+use Rattle.coset_show.specs.Answer.{RefusesInput, Answers, refusal_line}
+
+-- kinds of one name are one
+pub kind_of_name : (k j : Kind) → kind_name k ≡ kind_name j → k ≡ j
+kind_of_name Value Value e = refl
+
+-- the line of a true refusal answers the input
+pub refusal_answers : (known before after : Option (List ℕ)) (k j : Kind) (refusal : Refusal) (lines : List ℕ) (status : ℕ) → k ≡ j → lines ≡ refusal_line refusal → Appends before after lines × (status ≡ 1)
+    → IfSome known (λ input. RefusesInput j input refusal) → IfSome known (λ input. (x : List ℕ) × Appends before after x × Answers k input x status)
+refusal_answers None before after k j refusal lines status same is put refused = tt
+refusal_answers (Some input) before after k j refusal lines status same is put refused =
+    (lines, put.0, inr (refusal, subst (λ i. RefusesInput i input refusal) (sym same) refused, is, put.1))

@@ -1,0 +1,3 @@
+mod Refused
+mod Gathering
+mod Answering

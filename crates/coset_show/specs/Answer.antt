@@ -1,0 +1,49 @@
+-- What the program answers.
+use Rattle.std.specs.Prelude.{◌≡◌, ⊤, ◌⊎◌, ◌||◌, ◌==◌, not, ℕ, Bool, List, ◌++◌, filter, codes, Ok}
+use Rattle.hex.specs.Hex.{decode_of}
+use Rattle.coset_show.specs.declared.kind.Kind.{Kind}
+use Rattle.coset_show.specs.declared.refusal.Refusal.{Refusal}
+use Rattle.coset_show.specs.declared.refusal.Refusal.TheVariants.{Unreadable, NotHexadecimal, OutOfMemory, Decode, ExtraneousData}
+use Rattle.coset_show.specs.Refusal.{refusal_text}
+use Rattle.coset_show.specs.Kind.{line, Shows, Refuses}
+
+-- tab, line feed, carriage return and space
+abbrev pub is_space : ℕ → Bool
+is_space c = (c == 9) || (c == 10) || (c == 13) || (c == 32)
+
+abbrev pub without_space : List ℕ → List ℕ
+without_space input = filter (λ c. not (is_space c)) input
+
+-- the input spells b in hexadecimal, white space aside
+abbrev pub Spells : List ℕ → List ℕ → Type 0
+Spells input b = decode_of (without_space input) ≡ Ok b
+
+-- the input isn't hexadecimal, or memory ran out
+abbrev pub RefusesText : List ℕ → Refusal → Type 0
+RefusesText input OutOfMemory = ⊤
+RefusesText input NotHexadecimal = (b : List ℕ) → Spells input b → ⊥
+RefusesText input Unreadable = ⊥
+RefusesText input (Decode error) = ⊥
+RefusesText input ExtraneousData = ⊥
+
+-- the refusal is true of the input
+abbrev pub RefusesInput : Kind → List ℕ → Refusal → Type 0
+RefusesInput kind input refusal = RefusesText input refusal ⊎ ((b : List ℕ) × Spells input b × Refuses kind b refusal)
+
+-- the lines show what the input spells
+abbrev pub ShowsInput : Kind → List ℕ → List ℕ → Type 0
+ShowsInput kind input lines = (b : List ℕ) × Spells input b × Shows kind b lines
+
+-- the line that tells of a refusal
+abbrev pub refusal_line : Refusal → List ℕ
+refusal_line refusal = line (codes "error: " ++ refusal_text refusal)
+
+-- what is written for an input that was read to its end, and the status
+abbrev pub Answers : Kind → List ℕ → List ℕ → ℕ → Type 0
+Answers kind input lines status =
+    (ShowsInput kind input lines × (status ≡ 0))
+    ⊎ ((refusal : Refusal) × RefusesInput kind input refusal × (lines ≡ refusal_line refusal) × (status ≡ 1))
+
+-- what is written for a kind that isn't known
+abbrev pub usage_line : List ℕ
+usage_line = line (codes "usage: coset_show KIND")

@@ -1,0 +1,4 @@
+pub mod Refusal
+pub mod Kind
+pub mod Stream
+pub mod Answer

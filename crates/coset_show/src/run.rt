@@ -1,0 +1,152 @@
+//! The program, over any reader and writer.
+
+ghost use Rattle.std.specs.Prelude.{◌≡◌, ◌⊎◌, ℕ, List, true, false, IfOk, IfErr, IfSome, OnOk, MatchResult};
+ghost use Rattle.std.specs.String.{string_bytes};
+ghost use Rattle.std.specs.Io.KnownBytes.{Appends};
+ghost use Rattle.coset_show.specs.declared.kind.Kind.{Kind};
+ghost use Rattle.coset_show.specs.Kind.{kind_name};
+ghost use Rattle.coset_show.specs.Stream.{inside, has_failed, IsSound, Fails};
+ghost use Rattle.coset_show.specs.Answer.{without_space, Spells, ShowsInput, RefusesText, RefusesInput, refusal_line, usage_line, Answers};
+ghost use Rattle.coset_show.specs.Answer.{is_space as is_space_spec};
+
+use crate::kind::Kind;
+use crate::refusal::Refusal;
+use crate::stream::Stream;
+use std::alloc::{AllocError, Global};
+use std::io::{ErrorKind, Read, Write};
+
+/// The status of an input that was shown.
+const SHOWN: u8 = 0;
+
+/// The status of an input that was refused, and of a write that failed.
+const REFUSED: u8 = 1;
+
+/// The status of a kind that isn't known.
+const MISUSED: u8 = 2;
+
+/// Shows what the reader's input spells in hexadecimal, as the kind says, and answers the exit status.
+///
+/// White space in the input (the bytes 09, 0a, 0d and 20) is dropped, and digits may be of either case. What is
+/// written is made before any of it goes out. The status is 0 where the input is shown; 1 where it is refused,
+/// which a line that begins `error: ` tells, and where a write fails; 2 for a kind that isn't known, of which the
+/// usage line tells: then the reader isn't asked.
+pub fn run<R: Read, W: Write>(
+    alloc: Global,
+    kind: &str,
+    reader: &mut Stream<R>,
+    writer: &mut Stream<W>,
+) -> u8
+    // Another kind: the usage line and 2, and the reader isn't asked.
+    ensures unknown { ((k : Kind) → kind.now ≡ kind_name k → ⊥) → (reader.new ≡ reader.old)
+        × (IsSound writer.new
+        → Appends (W.contents (inside writer.old)) (W.contents (inside writer.new)) usage_line
+        × (result ≡ 2)) }
+    // No call fails, and the bytes are known: what is written answers the input.
+    ensures known { (k : Kind) → kind.now ≡ kind_name k → IsSound reader.new → IsSound writer.new
+        → IfSome (R.remaining (inside reader.old)) (λ input. (lines : List ℕ)
+        × Appends (W.contents (inside writer.old)) (W.contents (inside writer.new)) lines
+        × Answers k input lines result) }
+    // A read fails: the line that tells of it, or of want of memory, and 1.
+    ensures unreadable { (k : Kind) → kind.now ≡ kind_name k → Fails reader.old reader.new
+        → IsSound writer.new → (lines : List ℕ)
+        × Appends (W.contents (inside writer.old)) (W.contents (inside writer.new)) lines
+        × ((lines ≡ refusal_line Refusal.Unreadable) ⊎ (lines ≡ refusal_line Refusal.OutOfMemory))
+        × (result ≡ 1) }
+    // A write fails: 1.
+    ensures unwritten { Fails writer.old writer.new → result ≡ 1 }
+{
+    let Some(kind) = Kind::of(kind) else {
+        return write_lines(writer, "usage: coset_show KIND\n", MISUSED);
+    };
+    match answer(alloc, kind, reader) {
+        Ok(lines) => write_lines(writer, lines.as_str(), SHOWN),
+        Err(refusal) => match refusal_line(alloc, &refusal) {
+            Ok(line) => write_lines(writer, line.as_str(), REFUSED),
+            Err(AllocError) => write_lines(writer, "error: out of memory\n", REFUSED),
+        },
+    }
+}
+
+/// The lines for the reader's input.
+///
+/// # Errors
+/// Why the input isn't shown.
+fn answer<R: Read>(alloc: Global, kind: Kind, reader: &mut Stream<R>) -> Result<String, Refusal>
+    ensures known { IsSound reader.new → IfSome (R.remaining (inside reader.old)) (λ input.
+        MatchResult result (λ lines. ShowsInput kind input (string_bytes lines))
+        (λ refusal. RefusesInput kind input refusal)) }
+    ensures unreadable { Fails reader.old reader.new → result ≡ Err Refusal.Unreadable }
+{
+    let input = read_to_end(alloc, reader)?;
+    let bytes = spelled(alloc, input)?;
+    kind.lines(alloc, bytes.as_slice())
+}
+
+/// All that the reader has left.
+fn read_to_end<R: Read>(alloc: Global, reader: &mut Stream<R>) -> Result<Vec<u8>, Refusal>
+    ensures bytes { IfSome (R.remaining (inside reader.old)) (λ input.
+        IfOk result (λ v. v.items ≡ input)) }
+    ensures ok { OnOk result (has_failed reader.new ≡ has_failed reader.old) }
+    ensures err { IfErr result (λ refusal.
+        ((refusal ≡ Refusal.OutOfMemory) × (has_failed reader.new ≡ has_failed reader.old))
+        ⊎ ((refusal ≡ Refusal.Unreadable) × (has_failed reader.new ≡ true))) }
+{
+    let mut input = Vec::new(alloc);
+    let mut chunk = [0; 4096];
+    for _ in 0..u64::MAX {
+        match reader.read(&mut chunk) {
+            Ok(0) => return Ok(input),
+            Ok(count) => input.extend_from_slice(&chunk[..count])?,
+            Err(error) => {
+                if error.kind() != ErrorKind::Interrupted {
+                    return Err(Refusal::Unreadable);
+                }
+            }
+        }
+    }
+    // That many bytes fit into no memory.
+    Err(Refusal::OutOfMemory)
+}
+
+/// The bytes that the input spells in hexadecimal, white space aside.
+fn spelled(alloc: Global, mut input: Vec<u8>) -> Result<Vec<u8>, Refusal>
+    ensures { MatchResult result (λ bytes. Spells input.items bytes.items)
+        (λ refusal. RefusesText input.items refusal) }
+{
+    drop_space(&mut input);
+    Ok(hex::decode(alloc, input.as_slice())?)
+}
+
+/// Drops the white space.
+fn drop_space(input: &mut Vec<u8>)
+    ensures { input.new.items ≡ without_space input.old.items }
+{
+    input.retain(|&byte| !is_space(byte));
+}
+
+/// Whether the byte is a tab, a line feed, a carriage return or a space.
+fn is_space(byte: u8) -> bool
+    ensures { result ≡ is_space_spec byte }
+{
+    matches!(byte, b'\t' | b'\n' | b'\r' | b' ')
+}
+
+/// The line that tells of the refusal.
+fn refusal_line(alloc: Global, refusal: &Refusal) -> Result<String, AllocError>
+    ensures { IfOk result (λ text. string_bytes text ≡ refusal_line refusal.now) }
+{
+    format!(in alloc; "error: {refusal}\n")
+}
+
+/// Writes the lines, and answers the status, or that of a failed write.
+fn write_lines<W: Write>(writer: &mut Stream<W>, lines: &str, status: u8) -> u8
+    ensures written { IsSound writer.new
+        → Appends (W.contents (inside writer.old)) (W.contents (inside writer.new)) lines.now
+        × (result ≡ status) }
+    ensures failed { Fails writer.old writer.new → result ≡ 1 }
+{
+    match writer.write_all(lines.as_bytes()) {
+        Ok(()) => status,
+        Err(_) => REFUSED,
+    }
+}

@@ -1,0 +1,86 @@
+//! Readers and writers that remember a failure.
+
+ghost use Rattle.std.specs.Prelude.{◌≡◌, ◌≢◌, true, IfErr, OnOk, OnErr};
+ghost use Rattle.std.specs.Io.{ReadsAtMost};
+ghost use Rattle.std.specs.Io.KnownBytes.{Appends, ReadConsumes};
+ghost use Rattle.std.specs.IoError.{error_kind};
+ghost use Rattle.coset_show.specs.Stream.{inside, has_failed, IsSound};
+
+use std::io;
+use std::io::{ErrorKind, Read, Write};
+
+/// A reader or a writer, and whether a call of it has failed. A call that was interrupted hasn't failed: it can
+/// be made again.
+#[derive(Drop)]
+pub struct Stream<T> {
+    inner: T,
+    failed: bool,
+}
+
+impl<T> Stream<T> {
+    /// A reader or a writer of which no call has failed.
+    pub fn new(inner: T) -> Stream<T>
+        ensures inner { inside result ≡ inner }
+        ensures sound { IsSound result }
+    {
+        Stream {
+            inner,
+            failed: false,
+        }
+    }
+
+    /// The reader or the writer itself.
+    #[cfg(test)]
+    pub fn into_inner(self) -> T
+        ensures { result ≡ inside self }
+    {
+        self.inner
+    }
+}
+
+impl<R: Read> Stream<R> {
+    /// Reads once into the buffer, and answers how many bytes: none at the end of the input.
+    ///
+    /// # Errors
+    /// Those of the reader.
+    pub fn read(&mut self, buffer: &mut [u8]) -> io::Result<usize>
+        ensures bound { ReadsAtMost result buffer.new }
+        ensures bytes { ReadConsumes (R.remaining (inside self.old)) (R.remaining (inside self.new))
+            result buffer.new }
+        ensures ok { OnOk result (has_failed self.new ≡ has_failed self.old) }
+        ensures interrupted { IfErr result (λ e. error_kind e ≡ ErrorKind.Interrupted
+            → has_failed self.new ≡ has_failed self.old) }
+        ensures failed { IfErr result (λ e. error_kind e ≢ ErrorKind.Interrupted
+            → has_failed self.new ≡ true) }
+    {
+        let read = self.inner.read(buffer);
+        if let Err(error) = &read {
+            if error.kind() != ErrorKind::Interrupted {
+                self.failed = true;
+            }
+        }
+        read
+    }
+}
+
+impl<W: Write> Stream<W> {
+    /// Writes all of the bytes, and sees them through.
+    ///
+    /// # Errors
+    /// Those of the writer, which may then have taken some of the bytes.
+    pub fn write_all(&mut self, bytes: &[u8]) -> io::Result<()>
+        ensures bytes { OnOk result
+            (Appends (W.contents (inside self.old)) (W.contents (inside self.new)) bytes.now) }
+        ensures ok { OnOk result (has_failed self.new ≡ has_failed self.old) }
+        ensures failed { OnErr result (has_failed self.new ≡ true) }
+    {
+        let written = match self.inner.write_all(bytes) {
+            Ok(()) => self.inner.flush(),
+            refused => refused,
+        };
+        if written.is_err() {
+            self.failed = true;
+        }
+        written
+    }
+}

@@ -1,0 +1,414 @@
+//! The program over memory.
+
+use crate::run::run;
+use crate::stream::Stream;
+use std::alloc::{AllocError, Global};
+use std::io;
+use std::io::{ErrorKind, Read, Write};
+use std::test::Fail;
+
+/// A text and how often it stands.
+type Run<'a> = (&'a str, usize);
+
+/// The texts, one after the other.
+fn repeated(alloc: Global, runs: &[Run<'_>]) -> Result<Vec<u8>, AllocError> {
+    let mut text = Vec::new(alloc);
+    for (part, times) in runs {
+        for _ in 0..*times {
+            text.extend_from_slice(part.as_bytes())?;
+        }
+    }
+    Ok(text)
+}
+
+/// What is written for the input, and the status.
+fn shown(alloc: Global, kind: &str, input: &[u8]) -> (Vec<u8>, u8) {
+    let mut reader = Stream::new(input);
+    let mut writer = Stream::new(Vec::new(alloc));
+    let status = run(alloc, kind, &mut reader, &mut writer);
+    (writer.into_inner(), status)
+}
+
+#[test]
+fn shows_values(rt: HostRuntime) -> Result<(), Fail> {
+    for (input, line) in [
+        ("a20126180126", "a201260126\n"),
+        ("A2 01\t26\r\n18 01 26\n", "a201260126\n"),
+        ("5f41014102ff", "420102\n"),
+        ("5fff", "40\n"),
+        ("9fff", "80\n"),
+        ("bf0102ff", "a10102\n"),
+        ("d81240", "d240\n"),
+        ("c2410a", "c2410a\n"),
+        ("fa3fc00000", "fa3fc00000\n"),
+        ("FA3FC00000", "fa3fc00000\n"),
+        ("f97e01", "f97e01\n"),
+        ("1b0000000000000017", "17\n"),
+        ("1818", "1818\n"),
+        ("9b0000000000000000", "80\n"),
+    ] {
+        let (written, status) = shown(rt.alloc(), "value", input.as_bytes());
+        assert_eq!(rt; written.as_slice(), line.as_bytes(), "at {input}");
+        assert_eq!(rt; status, 0, "at {input}");
+    }
+    Ok(())
+}
+
+#[test]
+fn refuses_the_rest(rt: HostRuntime) -> Result<(), Fail> {
+    for (input, line) in [
+        ("8400", "error: decode CBOR failure: Io(EndOfFile)\n"),
+        ("82ff", "error: decode CBOR failure: Io(EndOfFile)\n"),
+        ("9f01", "error: decode CBOR failure: Io(EndOfFile)\n"),
+        ("c1", "error: decode CBOR failure: Io(EndOfFile)\n"),
+        ("f8", "error: decode CBOR failure: Io(EndOfFile)\n"),
+        (
+            "9bffffffffffffffff",
+            "error: decode CBOR failure: Io(EndOfFile)\n",
+        ),
+        (
+            "5bffffffffffffffff",
+            "error: decode CBOR failure: Io(EndOfFile)\n",
+        ),
+        (
+            "7bffffffffffffffff",
+            "error: decode CBOR failure: Io(EndOfFile)\n",
+        ),
+        (
+            "bbffffffffffffffff",
+            "error: decode CBOR failure: Io(EndOfFile)\n",
+        ),
+        (
+            "bb80000000000000010000",
+            "error: decode CBOR failure: Io(EndOfFile)\n",
+        ),
+        ("", "error: decode CBOR failure: Io(EndOfFile)\n"),
+        (" \n", "error: decode CBOR failure: Io(EndOfFile)\n"),
+        ("61ff", "error: decode CBOR failure: Syntax(0)\n"),
+        ("1f", "error: decode CBOR failure: Syntax(0)\n"),
+        ("df", "error: decode CBOR failure: Syntax(0)\n"),
+        ("fc", "error: decode CBOR failure: Syntax(0)\n"),
+        ("f818", "error: decode CBOR failure: Syntax(0)\n"),
+        ("ff", "error: decode CBOR failure: Syntax(0)\n"),
+        ("5f6161ff", "error: decode CBOR failure: Syntax(1)\n"),
+        ("5f5fffff", "error: decode CBOR failure: Syntax(1)\n"),
+        ("7f61c361a9ff", "error: decode CBOR failure: Syntax(1)\n"),
+        ("bf01ff", "error: decode CBOR failure: Syntax(2)\n"),
+        ("8201ff", "error: decode CBOR failure: Syntax(2)\n"),
+        (
+            "f7",
+            "error: decode CBOR failure: Semantic(Some(0), \"unsupported simple value\")\n",
+        ),
+        (
+            "f820",
+            "error: decode CBOR failure: Semantic(Some(0), \"unsupported simple value\")\n",
+        ),
+        ("0202", "error: extraneous data in CBOR input\n"),
+        ("zz", "error: input is not hexadecimal\n"),
+        ("0", "error: input is not hexadecimal\n"),
+        ("020", "error: input is not hexadecimal\n"),
+        ("0x02", "error: input is not hexadecimal\n"),
+    ] {
+        let (written, status) = shown(rt.alloc(), "value", input.as_bytes());
+        assert_eq!(rt; written.as_slice(), line.as_bytes(), "at {input}");
+        assert_eq!(rt; status, 1, "at {input}");
+    }
+    Ok(())
+}
+
+#[test]
+fn nests_256_deep(rt: HostRuntime) -> Result<(), Fail> {
+    let alloc = rt.alloc();
+    let rows: [([Run<'_>; 2], [Run<'_>; 2]); 5] = [
+        ([("9f", 256), ("ff", 256)], [("81", 255), ("80", 1)]),
+        ([("81", 255), ("80", 1)], [("81", 255), ("80", 1)]),
+        ([("c1", 255), ("80", 1)], [("c1", 255), ("80", 1)]),
+        ([("a100", 255), ("80", 1)], [("a100", 255), ("80", 1)]),
+        ([("c1", 256), ("00", 1)], [("c1", 256), ("00", 1)]),
+    ];
+    for (input, output) in &rows {
+        let (written, status) = shown(alloc, "value", repeated(alloc, input)?.as_slice());
+        let mut line = repeated(alloc, output)?;
+        line.push(b'\n')?;
+        assert_eq!(rt; written.as_slice(), line.as_slice());
+        assert_eq!(rt; status, 0);
+    }
+    let line = b"error: decode CBOR failure: RecursionLimitExceeded\n";
+    let rows: [[Run<'_>; 2]; 5] = [
+        [("9f", 257), ("ff", 257)],
+        [("81", 256), ("80", 1)],
+        [("c1", 256), ("80", 1)],
+        [("a100", 256), ("80", 1)],
+        [("c1", 257), ("00", 1)],
+    ];
+    for input in &rows {
+        let (written, status) = shown(alloc, "value", repeated(alloc, input)?.as_slice());
+        assert_eq!(rt; written.as_slice(), line.as_slice());
+        assert_eq!(rt; status, 1);
+    }
+    Ok(())
+}
+
+/// A string of that many letters: its shortest text where the first byte of its major type is `short`.
+fn string(alloc: Global, major: u8, length: usize) -> Result<(String, String), AllocError> {
+    let body = repeated(alloc, &[("61", length)])?;
+    let body = String::from_utf8_lossy(alloc, body.as_slice())?;
+    let head = if length < 24 {
+        format!(in alloc; "{:02x}", 32 * usize::from(major & 7) + length)?
+    } else if length < 256 {
+        format!(in alloc; "{:02x}{length:02x}", 32 * usize::from(major & 7) + 24)?
+    } else {
+        format!(in alloc; "{:02x}{length:04x}", 32 * usize::from(major & 7) + 25)?
+    };
+    let long = format!(in alloc;
+        "{:02x}{length:016x}{body}",
+        32 * usize::from(major & 7) + 27
+    )?;
+    Ok((format!(in alloc; "{head}{body}")?, long))
+}
+
+#[test]
+fn shows_strings(rt: HostRuntime) -> Result<(), Fail> {
+    let alloc = rt.alloc();
+    for major in [2u8, 3] {
+        for length in 0..=300usize {
+            let (short, long) = string(alloc, major, length)?;
+            let opening = if major == 2 { "5f" } else { "7f" };
+            let chunk = format!(in alloc; "{opening}{short}ff")?;
+            let line = format!(in alloc; "{short}\n")?;
+            for input in [short.as_str(), long.as_str(), chunk.as_str()] {
+                let (written, status) = shown(alloc, "value", input.as_bytes());
+                assert_eq!(rt; written.as_slice(), line.as_str().as_bytes(), "at {length}");
+                assert_eq!(rt; status, 0, "at {length}");
+            }
+        }
+    }
+    Ok(())
+}
+
+/// A reader of a byte a call that fails, or is interrupted, at one call.
+#[derive(Drop)]
+struct FaultyReader<'a> {
+    rest: &'a [u8],
+    calls_left: usize,
+    fault: ErrorKind,
+}
+
+impl Read for FaultyReader<'_> {
+    fn read(&mut self, buffer: &mut [u8]) -> io::Result<usize> {
+        if self.calls_left == 1 {
+            self.calls_left = 0;
+            return Err(io::Error::from(self.fault));
+        }
+        self.calls_left = self.calls_left.saturating_sub(1);
+        match self.rest.split_first() {
+            Some((first, rest)) if !buffer.is_empty() => {
+                buffer[0] = *first;
+                self.rest = rest;
+                Ok(1)
+            }
+            _ => Ok(0),
+        }
+    }
+}
+
+#[test]
+fn tells_of_other_kinds(rt: HostRuntime) -> Result<(), Fail> {
+    let alloc = rt.alloc();
+    for kind in ["", "sign1", "VALUE", "value ", "valu"] {
+        let mut reader = Stream::new(FaultyReader {
+            rest: b"80",
+            calls_left: 9,
+            fault: ErrorKind::Other,
+        });
+        let mut writer = Stream::new(Vec::new(alloc));
+        let status = run(alloc, kind, &mut reader, &mut writer);
+        let written: Vec<u8> = writer.into_inner();
+        assert_eq!(rt; written.as_slice(), b"usage: coset_show KIND\n".as_slice());
+        assert_eq!(rt; status, 2);
+        assert_eq!(rt; reader.into_inner().calls_left, 9);
+    }
+    Ok(())
+}
+
+#[test]
+fn tells_of_failed_reads(rt: HostRuntime) -> Result<(), Fail> {
+    let alloc = rt.alloc();
+    let unread = b"error: input cannot be read\n".as_slice();
+    for fault in [
+        ErrorKind::Other,
+        ErrorKind::OutOfMemory,
+        ErrorKind::Interrupted,
+    ] {
+        // The input takes seven calls: one for each byte, and one that finds the end.
+        for failing in 1..=8usize {
+            let mut reader = Stream::new(FaultyReader {
+                rest: b"d81240",
+                calls_left: failing,
+                fault,
+            });
+            let mut writer = Stream::new(Vec::new(alloc));
+            let status = run(alloc, "value", &mut reader, &mut writer);
+            let written: Vec<u8> = writer.into_inner();
+            if failing == 8 || fault == ErrorKind::Interrupted {
+                assert_eq!(rt; written.as_slice(), b"d240\n".as_slice());
+                assert_eq!(rt; status, 0);
+            } else {
+                assert_eq!(rt; written.as_slice(), unread);
+                assert_eq!(rt; status, 1);
+            }
+        }
+    }
+    Ok(())
+}
+
+/// A writer of a byte a call that fails, or takes nothing, at one call and at each after it.
+#[derive(Drop)]
+struct FaultyWriter {
+    taken: Vec<u8>,
+    calls_left: usize,
+    fault: Option<ErrorKind>,
+}
+
+impl Write for FaultyWriter {
+    fn write(&mut self, buffer: &[u8]) -> io::Result<usize> {
+        if self.calls_left == 0 {
+            return match self.fault {
+                Some(kind) => Err(io::Error::from(kind)),
+                None => Ok(0),
+            };
+        }
+        self.calls_left -= 1;
+        match buffer.first() {
+            Some(first) => {
+                self.taken.push(*first)?;
+                Ok(1)
+            }
+            None => Ok(0),
+        }
+    }
+
+    fn flush(&mut self) -> io::Result<()> {
+        match self.fault {
+            Some(kind) if self.calls_left == 0 => Err(io::Error::from(kind)),
+            _ => Ok(()),
+        }
+    }
+}
+
+#[test]
+fn tells_of_failed_writes(rt: HostRuntime) -> Result<(), Fail> {
+    let alloc = rt.alloc();
+    for (kind, input, line, answer) in [
+        ("value", "9f01ff", "8101\n", 0u8),
+        (
+            "value",
+            "9f01",
+            "error: decode CBOR failure: Io(EndOfFile)\n",
+            1,
+        ),
+        ("", "9f01", "usage: coset_show KIND\n", 2),
+    ] {
+        for fault in [Some(ErrorKind::Other), None] {
+            for working in 0..=50usize {
+                let mut reader = Stream::new(input.as_bytes());
+                let mut writer = Stream::new(FaultyWriter {
+                    taken: Vec::new(alloc),
+                    calls_left: working,
+                    fault,
+                });
+                let status = run(alloc, kind, &mut reader, &mut writer);
+                let taken = writer.into_inner().taken;
+                // The last byte, and where that is the writer's last call, what follows it, must go out too.
+                let whole = line.len() < working || (line.len() == working && fault.is_none());
+                let front = line.len().min(working);
+                assert!(rt; front <= line.len());
+                assert_eq!(rt; taken.as_slice(), &line.as_bytes()[..front]);
+                assert_eq!(rt;
+                    status,
+                    if whole { answer } else { 1 },
+                    "at {working} of {kind}"
+                );
+            }
+        }
+    }
+    Ok(())
+}
+
+/// Blocks that together hold all the memory that is left, so that every request is refused while they stand.
+fn fill(alloc: Global) -> Result<Vec<Vec<u8>>, AllocError> {
+    let mut held: Vec<Vec<u8>> = Vec::with_capacity(alloc, 200_000)?;
+    let mut size = 1usize << 40;
+    for _ in 0..40u32 {
+        for _ in 0..150_000u32 {
+            match Vec::with_capacity(alloc, size) {
+                Ok(block) => {
+                    if held.push(block).is_err() {
+                        break;
+                    }
+                }
+                Err(_) => break,
+            }
+        }
+        size /= 2;
+    }
+    Ok(held)
+}
+
+/// What `run` wrote in little memory: how often the line of want of memory, the given line, and anything else.
+#[derive(Clone, Copy, Debug)]
+struct Tally {
+    refused: u32,
+    answered: u32,
+    others: u32,
+}
+
+/// Calls `run` with less and less memory left.
+fn sweep(alloc: Global, input: &[u8], line: &[u8], answer: u8) -> Tally {
+    let mut tally = Tally {
+        refused: 0,
+        answered: 0,
+        others: 0,
+    };
+    for step in 0..200usize {
+        let pad: Result<Vec<u8>, AllocError> = Vec::with_capacity(alloc, 65536 - 16 * step);
+        // In a slice, the writer takes no memory of its own.
+        let mut room = [0u8; 64];
+        let mut reader = Stream::new(input);
+        let mut writer = Stream::new(room.as_mut_slice());
+        let status = run(alloc, "value", &mut reader, &mut writer);
+        drop(pad);
+        let left = writer.into_inner().len();
+        let written = &room[..room.len().saturating_sub(left)];
+        if written == b"error: out of memory\n".as_slice() && status == 1 {
+            tally.refused = tally.refused.wrapping_add(1);
+        } else if written == line && status == answer {
+            tally.answered = tally.answered.wrapping_add(1);
+        } else {
+            tally.others = tally.others.wrapping_add(1);
+        }
+    }
+    tally
+}
+
+#[test]
+fn refuses_for_want_of_memory(rt: HostRuntime) -> Result<(), Fail> {
+    let alloc = rt.alloc();
+    let reserve: Vec<u8> = Vec::with_capacity(alloc, 65536)?;
+    let held = fill(alloc)?;
+    drop(reserve);
+    let shown = sweep(alloc, b"9f5f420001430203 04ffff", b"81450001020304\n", 0);
+    let refused = sweep(
+        alloc,
+        b"8201ff",
+        b"error: decode CBOR failure: Syntax(2)\n",
+        1,
+    );
+    drop(held);
+    for tally in [shown, refused] {
+        assert!(rt; tally.refused > 0, "{tally:?}");
+        assert!(rt; tally.answered > 0, "{tally:?}");
+        assert_eq!(rt; tally.others, 0, "{tally:?}");
+    }
+    Ok(())
+}
