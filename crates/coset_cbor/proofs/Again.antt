@@ -117,7 +117,7 @@ head_begins two m n lt h = record { first = 32 * m + 25; more = to_be_bytes w16 
 head_begins four m n lt h = record { first = 32 * m + 26; more = to_be_bytes w32 n; parts = refl; low = omega arith }
 head_begins eight m n lt h = record { first = 32 * m + 27; more = to_be_bytes w64 n; parts = refl; low = omega arith }
 
-IsHead-begins : (m n : ℕ) (h : List ℕ) → m < 7 → IsHead m n h → Begins h
+pub IsHead-begins : (m n : ℕ) (h : List ℕ) → m < 7 → IsHead m n h → Begins h
 IsHead-begins m n h lt is = subst (λ (x : List ℕ). Begins x) (sym is.spelled) (head_begins is.place m n lt is.holds)
 
 pub begins_append : (c d b : List ℕ) → b ≡ c ++ d → Begins c → Begins b

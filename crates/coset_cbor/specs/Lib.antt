@@ -13,3 +13,4 @@ pub mod Counting
 pub mod Whole
 pub mod Pulls
 pub mod Scalars
+pub mod Fronts

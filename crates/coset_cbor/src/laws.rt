@@ -3,8 +3,12 @@
 ghost use Rattle.std.specs.Prelude.{◌≡◌, ℕ, ◌+◌, List, [], ◌∷◌, ◌++◌, replicate};
 ghost use Rattle.coset_value.specs.Item.{Item};
 ghost use Rattle.coset_value.specs.Range.{IsInRange};
-ghost use Rattle.coset_cbor.specs.Grammar.{IsText};
+ghost use Rattle.coset_cbor.specs.Grammar.{IsText, IsItem};
 ghost use Rattle.coset_cbor.specs.Cost.{IsCost};
+ghost use Rattle.coset_cbor.specs.Fronts.{AreBytes, HasNoItem, IsEnd};
+ghost use Rattle.coset_cbor.specs.Refused.{IsMemory, StandsIn};
+ghost use Rattle.coset_cbor.specs.declared.de.EndOfFile.{EndOfFile};
+ghost use Rattle.coset_cbor.specs.declared.de.Error.{Error};
 ghost use Rattle.coset_cbor.specs.Shortest.{IsShort};
 
 /// Bytes are the text of at most one item, and no text is a proper front of another.
@@ -32,4 +36,15 @@ pub fn one_cost()
 /// Arrays of one member each, n of them inside one another around an empty one, cost n + 1 steps.
 pub fn nested_arrays_cost()
     ensures { (n k : ℕ) (v : Item) → IsCost v (replicate n 0x81 ++ 0x80 ∷ []) k → k ≡ n + 1 }
+{}
+
+/// Where a fault stands in bytes, no front of them is an item.
+pub fn no_item_at_a_fault()
+    ensures { (s : List ℕ) (e : Error EndOfFile) → AreBytes s → (IsMemory e → ⊥) → StandsIn s e → HasNoItem s }
+{}
+
+/// In a front of an item, of the faults other than want of memory only the end of the input stands.
+pub fn only_the_end_in_a_front()
+    ensures { (v : Item) (b s more : List ℕ) (e : Error EndOfFile) → AreBytes b → IsItem b v → b ≡ s ++ more
+        → (IsMemory e → ⊥) → StandsIn s e → IsEnd e }
 {}

@@ -2,7 +2,7 @@
 //! it left: each answers the want of memory, or what it answers with ample memory.
 
 use crate::cbor::{EACH_KIND, each_kind};
-use coset_cbor::de::{Error, read_value};
+use coset_cbor::de::{EndOfFile, Error, read_value};
 use coset_cbor::ser::write_value;
 use coset_cbor::value::Value;
 use std::alloc::{AllocError, Global};
@@ -81,6 +81,44 @@ fn reading(alloc: Global, expected: &Value) -> Answer {
     }
 }
 
+/// Ill-formed inputs, and what is at fault in each.
+const ILL_FORMED: [(&[u8], Error<EndOfFile>); 9] = [
+    (b"", Error::Io(EndOfFile)),
+    (b"\x84\x00", Error::Io(EndOfFile)),
+    (
+        b"\x9b\xff\xff\xff\xff\xff\xff\xff\xff",
+        Error::Io(EndOfFile),
+    ),
+    (b"\x5f\x41\x01", Error::Io(EndOfFile)),
+    (b"\xbf\x01\xff", Error::Syntax(2)),
+    (b"\x5f\x61\x61\xff", Error::Syntax(1)),
+    (b"\x83\x40\x61\xff\x00", Error::Syntax(2)),
+    (
+        b"\x81\xf7",
+        Error::Semantic(Some(1), "unsupported simple value"),
+    ),
+    (&[0x9f; 257], Error::RecursionLimitExceeded),
+];
+
+/// Whether the two errors are the same, but for the text of a semantic one.
+fn same_error(a: &Error<EndOfFile>, b: &Error<EndOfFile>) -> bool {
+    match (a, b) {
+        (Error::Io(_), Error::Io(_)) => true,
+        (Error::Syntax(i), Error::Syntax(j)) => *i == *j,
+        (Error::Semantic(i, _), Error::Semantic(j, _)) => *i == *j,
+        (Error::RecursionLimitExceeded, Error::RecursionLimitExceeded) => true,
+        _ => false,
+    }
+}
+
+/// Whether each ill-formed input is refused for what is at fault in it.
+fn faults_stand(alloc: Global) -> bool {
+    ILL_FORMED.iter().all(|(input, fault)| match read_value(alloc, input) {
+        Ok(_) => false,
+        Err(error) => same_error(&error, fault),
+    })
+}
+
 fn writing(alloc: Global, value: &Value) -> Answer {
     let Ok(mut out) = Vec::from_slice(alloc, b"\x07") else {
         return Answer::Refused;
@@ -107,6 +145,10 @@ fn refuses_or_answers(rt: HostRuntime) -> Result<(), Fail> {
     let (mut read, mut written, mut cloned) = (Tally::new(), Tally::new(), Tally::new());
     let hole: Vec<u8> = Vec::with_capacity(alloc, HOLE)?;
     let held = fill(alloc)?;
+    assert!(rt;
+        faults_stand(alloc),
+        "ill-formed input is refused without memory"
+    );
     drop(hole);
     for turn in 0..TURNS {
         let pad: Result<Vec<u8>, AllocError> = Vec::with_capacity(alloc, HOLE - STEP * turn);

@@ -1,0 +1,23 @@
+-- What holds of fronts of bytes and of faults.
+use Rattle.std.specs.Prelude.{◌≡◌, ◌<◌, ⊤, ℕ, List, ◌++◌, slice_index}
+use Rattle.coset_value.specs.Item.{Item}
+use Rattle.coset_cbor.specs.Grammar.{IsItem}
+use Rattle.coset_cbor.specs.declared.de.EndOfFile.{EndOfFile}
+use Rattle.coset_cbor.specs.declared.de.Error.{Error}
+use Rattle.coset_cbor.specs.declared.de.Error.TheVariants as errors
+
+-- every number in the list is a byte
+abbrev pub AreBytes : List ℕ → Type 0
+AreBytes s = (i : ℕ) → slice_index s i < 256
+
+-- no front of s is an item
+abbrev pub HasNoItem : List ℕ → Type 0
+HasNoItem s = (v : Item) (b rest : List ℕ) → s ≡ b ++ rest → IsItem b v → ⊥
+
+-- the input ends too early
+abbrev pub IsEnd : Error EndOfFile → Type 0
+IsEnd (errors.Io x) = ⊤
+IsEnd (errors.Syntax n) = ⊥
+IsEnd (errors.Semantic n t) = ⊥
+IsEnd errors.RecursionLimitExceeded = ⊥
+IsEnd errors.OutOfMemory = ⊥
