@@ -99,16 +99,16 @@ checked s rest fits e =
 
 -- ---- bytes that are one item
 
-both : (a b : Bool) → (a && b) ≡ true → (a ≡ true) × (b ≡ true)
+pub both : (a b : Bool) → (a && b) ≡ true → (a ≡ true) × (b ≡ true)
 both true b e = (refl, e)
 both false b e = absurd cc
 
-are_bytes_is : (s : List ℕ) → are_bytes s ≡ true → IsBytes s
+pub are_bytes_is : (s : List ℕ) → are_bytes s ≡ true → IsBytes s
 are_bytes_is [] e i = omega arith
 are_bytes_is (x ∷ s) e zero = ltb-true x 256 (both (ltb x 256) (are_bytes s) e).0
 are_bytes_is (x ∷ s) e (suc i) = are_bytes_is s (both (ltb x 256) (are_bytes s) e).1 i
 
-are_bytes_from : (s : List ℕ) → IsBytes s → are_bytes s ≡ true
+pub are_bytes_from : (s : List ℕ) → IsBytes s → are_bytes s ≡ true
 are_bytes_from [] fits = refl
 are_bytes_from (x ∷ s) fits = rw (lt-ltb x 256 (fits 0)) (are_bytes_from s (λ i. fits (suc i)))
 

@@ -1,6 +1,7 @@
 pub use Rattle.coset_value.specs.Item
 pub use Rattle.coset_value.specs.Range
 pub use Rattle.coset_value.specs.View
+pub use Rattle.coset_value.specs.Parts
 pub mod Grammar
 pub mod Definite
 pub mod Shortest
@@ -12,5 +13,9 @@ pub mod Cost
 pub mod Counting
 pub mod Whole
 pub mod Pulls
+pub mod Between
+pub mod Members
+pub mod StringChunks
+pub mod Chunks
 pub mod Scalars
 pub mod Fronts

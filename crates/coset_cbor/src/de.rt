@@ -8,7 +8,9 @@ ghost use Rattle.coset_cbor.specs.Cost.{IsCost};
 ghost use Rattle.coset_cbor.specs.Faults.{Stands};
 ghost use Rattle.coset_cbor.specs.Refused.{IsMemory, StandsIn};
 
+pub use crate::chunks::{ByteChunks, TextChunks};
 use crate::fault::Fault;
+pub use crate::members::{Items, Pairs};
 use crate::memory::OutOfMemory;
 pub use crate::pull::Pull;
 pub use crate::steps::Steps;

@@ -1,11 +1,13 @@
 //! CBOR: values read from bytes and written to them (RFC 8949).
 #![tactic(auto)]
 
+mod chunks;
 pub mod de;
 mod fault;
 mod head;
 pub mod laws;
 mod lent;
+mod members;
 mod memory;
 mod pull;
 mod read;

@@ -76,7 +76,7 @@ fn content<'a, L: Ledger>(
 }
 
 /// Whether a head of this kind begins a chunk of the string.
-fn begins_chunk(is_text: bool, kind: Kind) -> bool
+pub(crate) fn begins_chunk(is_text: bool, kind: Kind) -> bool
     ensures { result ≡ chunk_kind is_text kind }
 {
     match kind {

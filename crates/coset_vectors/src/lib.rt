@@ -4,4 +4,10 @@
 #[cfg(test)]
 mod cbor;
 #[cfg(test)]
+mod chunks;
+#[cfg(test)]
+mod members;
+#[cfg(test)]
 mod refused;
+#[cfg(test)]
+mod walks;

@@ -1,0 +1,26 @@
+use Rattle.std.proofs.Common.{ap, arith}
+use Rattle.coset_value.specs.Item.{items_count}
+use Rattle.coset_cbor.proofs.Between.{first_item, no_first_item}
+use Rattle.coset_cbor.proofs.members.ItemsIterator.next.Goals as goal
+
+pub returns-in_err-member : goal.returns-in_err-member
+returns-in_err-member c =
+    let none = no_first_item c.args.self.now.rest.now c.args.self.now.checked c.in_err-member.ensures in
+    rw c.from_residual.ensures (record {
+      steps = (none, none);
+      goes = record { on = λ _. tt; keeps = tt; rests = λ _. tt };
+    })
+
+pub invariant_of-self : goal.invariant_of-self
+invariant_of-self c =
+    let found = first_item c.args.self.now.rest.now c.in_ok-member.member.bytes.now c.in_ok-member.rest.now _ c.args.self.now.checked c.in_ok-member.ensures.0 c.in_ok-member.ensures.1 in
+    record { checked = found.others }
+
+pub returns : goal.returns
+returns c =
+    let found = first_item c.args.self.now.rest.now c.in_ok-member.member.bytes.now c.in_ok-member.rest.now _ c.args.self.now.checked c.in_ok-member.ensures.0 c.in_ok-member.ensures.1 in
+    let fewer = ap items_count found.seen in
+    record {
+      steps = found.seen;
+      goes = record { on = λ _. (tt, tt, omega arith); keeps = tt; rests = λ _. tt };
+    }

@@ -1,0 +1,123 @@
+//! The members of a lent array or map, one after the other (RFC 8949, section 3.2.2).
+
+ghost use Rattle.std.specs.Prelude.{◌≡◌, ◌≢◌, ◌++◌, ◌∷◌, [], List, ℕ, true, MatchOption};
+ghost use Rattle.coset_value.specs.Item.{Item};
+ghost use Rattle.coset_cbor.specs.declared.head.Head.{Head};
+ghost use Rattle.coset_cbor.specs.Grammar.{IsItem};
+ghost use Rattle.coset_cbor.specs.Reading.{head_at};
+ghost use Rattle.coset_cbor.specs.Whole.{is_one_item};
+ghost use Rattle.coset_cbor.specs.Pulls.{pull_bytes, pull_item};
+ghost use Rattle.coset_cbor.specs.Between.{array_around, map_around, IsContent};
+
+use crate::head::{Kind, head_of};
+use crate::pull::Pull;
+
+/// The members of a lent array that are still to come, each lent.
+#[derive(Clone, Copy, Debug)]
+pub struct Items<'a> {
+    rest: &'a [u8],
+    ghost checked: { is_one_item (array_around rest.now) ≡ true },
+}
+
+/// The pairs of a lent map that are still to come, each key with its value, both lent.
+#[derive(Clone, Copy, Debug)]
+pub struct Pairs<'a> {
+    rest: &'a [u8],
+    ghost checked: { is_one_item (map_around rest.now) ≡ true },
+}
+
+/// What follows a head, without the break where the head announces no number.
+fn without_break(number: Option<u64>, bytes: &[u8]) -> &[u8]
+    ensures definite { (n : ℕ) → number ≡ Some n → result.now ≡ bytes.now }
+    ensures indefinite { number ≡ None → (s : List ℕ) → bytes.now ≡ s ++ 255 ∷ [] → result.now ≡ s }
+{
+    match (number, bytes.split_last()) {
+        (None, Some((_, front))) => front,
+        _ => bytes,
+    }
+}
+
+/// The bytes of the members, where the head is of that kind.
+fn content(kind: Kind, bytes: &[u8]) -> Option<&[u8]>
+    ensures { MatchOption result ((h : Head × List ℕ) → head_at bytes.now ≡ Ok h → h.0.kind ≢ kind)
+        (λ s. IsContent kind bytes.now s.now) }
+{
+    match head_of(bytes) {
+        Ok((head, rest)) if head.kind == kind => {
+            Some(without_break(head.argument.number(), rest))
+        }
+        _ => None,
+    }
+}
+
+/// The item at the front, and what follows it; `None` where no item stands there.
+fn first(bytes: &[u8]) -> Option<(Pull<'_>, &[u8])>
+    ensures { MatchOption result ((v : Item) (b rest : List ℕ) → bytes.now ≡ b ++ rest → IsItem b v → ⊥)
+        (λ x. (bytes.now ≡ pull_bytes x.0 ++ x.1.now) × IsItem (pull_bytes x.0) (pull_item x.0)) }
+{
+    Pull::new(bytes).ok()
+}
+
+impl<'a> Pull<'a> {
+    ghost use Rattle.std.specs.Prelude.{option_map};
+    ghost use Rattle.coset_value.specs.Parts.{as_array, as_map};
+    ghost use Rattle.coset_cbor.specs.Members.{items_left, pairs_left};
+
+    /// The members of an array, of definite or indefinite length, in order; `None` of any other item. It takes no
+    /// memory (RFC 8949, sections 3.1 and 3.2.2).
+    pub fn items(&self) -> Option<Items<'a>>
+        ensures { option_map items_left result ≡ as_array (pull_item self.now) }
+    {
+        let rest = content(Kind::Array, self.bytes)?;
+        Some(Items { rest })
+    }
+
+    /// The pairs of a map, of definite or indefinite length, in order; `None` of any other item. It takes no memory
+    /// (RFC 8949, sections 3.1 and 3.2.2).
+    pub fn pairs(&self) -> Option<Pairs<'a>>
+        ensures { option_map pairs_left result ≡ as_map (pull_item self.now) }
+    {
+        let rest = content(Kind::Map, self.bytes)?;
+        Some(Pairs { rest })
+    }
+}
+
+impl<'a> Iterator for Items<'a> {
+    ghost use Rattle.std.specs.Iterator.{at_most};
+    ghost use Rattle.coset_value.specs.Item.{items_count};
+    ghost use Rattle.coset_cbor.specs.Members.{items_left, YieldsItem};
+
+    type Item = Pull<'a>;
+
+    ghost next_gives = { YieldsItem };
+
+    ghost remaining = { λ it. at_most (items_count (items_left it)) };
+
+    /// The next member, or `None` where all were yielded. It passes over that member once and takes no memory.
+    fn next(&mut self) -> Option<Pull<'a>> {
+        let (member, rest) = first(self.rest)?;
+        self.rest = rest;
+        Some(member)
+    }
+}
+
+impl<'a> Iterator for Pairs<'a> {
+    ghost use Rattle.std.specs.Iterator.{at_most};
+    ghost use Rattle.coset_value.specs.Item.{pairs_count};
+    ghost use Rattle.coset_cbor.specs.Members.{pairs_left, YieldsPair};
+
+    type Item = (Pull<'a>, Pull<'a>);
+
+    ghost next_gives = { YieldsPair };
+
+    ghost remaining = { λ it. at_most (pairs_count (pairs_left it)) };
+
+    /// The next key and its value, or `None` where all were yielded. It passes over each of the two once and takes no
+    /// memory.
+    fn next(&mut self) -> Option<(Pull<'a>, Pull<'a>)> {
+        let (key, rest) = first(self.rest)?;
+        let (value, rest) = first(rest)?;
+        self.rest = rest;
+        Some((key, value))
+    }
+}
