@@ -1,7 +1,36 @@
 //! The members of arrays and maps, of both lengths, in order.
 
+ghost use Rattle.std.specs.Prelude.{◌≡◌, map, IfOk};
+ghost use Rattle.coset_cbor.specs.Pulls.{pull_item};
+ghost use Rattle.coset_cbor.specs.Members.{items_left, pairs_left};
+ghost use Rattle.coset_vectors.specs.Lists.{item_list, pair_list, pull_pair};
+
 use coset_cbor::de::{Items, Pairs, Pull};
+use std::alloc::{AllocError, Global};
 use std::process::Abort;
+use std::test::*;
+
+/// The members: a loop sees each of them once, in order, to the end.
+fn members_of<'a>(alloc: Global, items: Items<'a>) -> Result<Vec<Pull<'a>>, AllocError>
+    ensures { IfOk result (λ v. map pull_item v.items ≡ item_list (items_left items.entry)) }
+{
+    let mut all = Vec::new(alloc);
+    for member in items {
+        all.push(member)?;
+    }
+    Ok(all)
+}
+
+/// The same of pairs.
+fn pairs_of<'a>(alloc: Global, pairs: Pairs<'a>) -> Result<Vec<(Pull<'a>, Pull<'a>)>, AllocError>
+    ensures { IfOk result (λ v. map pull_pair v.items ≡ pair_list (pairs_left pairs.entry)) }
+{
+    let mut all = Vec::new(alloc);
+    for pair in pairs {
+        all.push(pair)?;
+    }
+    Ok(all)
+}
 
 /// The item that the bytes are.
 fn whole<'a>(rt: &impl Abort, bytes: &'a [u8]) -> Pull<'a> {
@@ -88,10 +117,13 @@ fn other_items(rt: HostRuntime) {
 }
 
 #[test]
-fn by_for(rt: HostRuntime) {
-    let mut count = 0usize;
-    for member in items(&rt, b"\x83\x01\x02\x03") {
-        count = count.saturating_add(member.slice().len());
-    }
-    assert_eq!(rt; count, 3);
+fn by_loops(rt: HostRuntime) -> Result<(), Fail> {
+    let members = members_of(rt.alloc(), items(&rt, b"\x83\x01\x42\x02\x03\xf6"))?;
+    assert_eq!(rt; members.len(), 3);
+    assert_eq!(rt; members[1].slice(), b"\x42\x02\x03".as_slice());
+    let both = pairs_of(rt.alloc(), pairs(&rt, b"\xbf\x01\x80\x02\x81\x03\xff"))?;
+    assert_eq!(rt; both.len(), 2);
+    assert_eq!(rt; both[1].0.slice(), b"\x02".as_slice());
+    assert_eq!(rt; both[1].1.slice(), b"\x81\x03".as_slice());
+    Ok(())
 }
