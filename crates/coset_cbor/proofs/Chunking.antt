@@ -13,12 +13,13 @@ use Rattle.coset_cbor.specs.declared.head.Argument.TheVariants as places
 use Rattle.coset_cbor.specs.declared.head.Head.{Head}
 use Rattle.std.specs.Prelude.{pos, negsuc}
 use Rattle.coset_cbor.specs.Grammar.{Each, joined, string_type, IsDefinite, IsIndefinite}
-use Rattle.coset_cbor.specs.Reading.{◌>>=◌, number_of, head_at, string_at, chunk_kind, chunk_at, until_at, chunks_at, any_string_by, simple_at, Inside, things, item_by, item_from, item_at}
+use Rattle.coset_cbor.specs.Reading.{◌>>=◌, number_of, head_at, string_at, chunk_kind, chunk_at, until_at, chunks_at, any_string_by, simple_at, Inside, things, item_by, item_at}
 use Rattle.coset_cbor.specs.Whole.{are_bytes, is_one_item, item_of}
 use Rattle.coset_cbor.specs.StringChunks.{as_string, chunks_read, is_all_read, contents_or_none, are_chunks, chunk_contents, AreChunksOf}
 use Rattle.coset_cbor.proofs.Again.{Each-long, chunk_again, chunk_reads, until_again}
 use Rattle.coset_cbor.proofs.Takes.{IsBytes, IsBytes-take, IsBytes-rest, bind_ok, done, ok_is, chosen, some_ok, head_takes, none_head, type_of, chunk_type, chunk_takes, until_take}
-use Rattle.coset_cbor.proofs.Whole.{both, are_bytes_is, are_bytes_from, one_item_bytes, one_item_read}
+use Rattle.coset_cbor.proofs.Heads.{one_item_by}
+use Rattle.coset_cbor.proofs.Whole.{both, are_bytes_is, are_bytes_from, one_item_bytes}
 
 -- ---- what the test says
 
@@ -120,25 +121,11 @@ no_chunk is_text b f are e = end_of is_text (chunk_contents is_text b) b f (chun
 
 -- ---- the item that stands behind a head
 
-one_more : (d : ℕ) (b : List ℕ) → item_at (suc d) b ≡ item_from (things (item_at d)) b
-unfolding item_at
-one_more d b = refl
-
-pub behind_head : (b : List ℕ) (h : Head × List ℕ) → is_one_item b ≡ true → head_at b ≡ Ok h → item_by (things (item_at 255)) (length b) h.0.argument h.0.kind h.1 ≡ Ok (item_of b, [])
-behind_head b h is e =
-    let opens : item_from (things (item_at 255)) b ≡ item_by (things (item_at 255)) (length b) h.0.argument h.0.kind h.1 = rw e refl in
-    sym opens ∙ sym (one_more 255 b) ∙ one_item_read b is
-
 abbrev unread : Fault → Result (Item × List ℕ) Fault
 unread f = Err f
 
 item_apart : (x : Item × List ℕ) (f : Fault) → done x ≡ unread f → ⊥
 item_apart x f e = cc
-
-pub has_head : (b : List ℕ) (f : Fault) → is_one_item b ≡ true → head_at b ≡ Err f → ⊥
-has_head b f is e =
-    let fails : item_from (things (item_at 255)) b ≡ unread f = rw e refl in
-    item_apart (item_of b, []) f (sym (one_item_read b is) ∙ one_more 255 b ∙ fails)
 
 abbrev string_item : Bool → List ℕ → Item
 string_item false s = bytes s
@@ -237,7 +224,7 @@ other_read is_text inside left a kinds.Tag s v rest is e =
 other_read is_text inside left a kinds.Simple s v rest is e = simple_read is_text left a s v rest e
 
 pub no_string : (is_text : Bool) (b : List ℕ) (h : Head × List ℕ) → is_one_item b ≡ true → head_at b ≡ Ok h → chunk_kind is_text h.0.kind ≡ false → as_string is_text (item_of b) ≡ None
-no_string is_text b h is e kind = other_read is_text (things (item_at 255)) (length b) h.0.argument h.0.kind h.1 (item_of b) [] kind (behind_head b h is e)
+no_string is_text b h is e kind = other_read is_text (things (item_at 255)) (length b) h.0.argument h.0.kind h.1 (item_of b) [] kind (one_item_by b h is e)
 
 -- ---- the chunks of a string
 
@@ -246,7 +233,7 @@ pub whole_chunk : (is_text : Bool) (b : List ℕ) (h : Head × List ℕ) (n : �
 unfolding chunk_at
 whole_chunk is_text b h n is e kind number =
     let fits = one_item_bytes b is in
-    let r = string_read is_text (things (item_at 255)) (length b) h.0.argument h.0.kind h.1 (item_of b) kind (behind_head b h is e) in
+    let r = string_read is_text (things (item_at 255)) (length b) h.0.argument h.0.kind h.1 (item_of b) kind (one_item_by b h is e) in
     let content : string_at is_text (length b) n h.1 ≡ Ok (r.content, []) = rw number at r.read in
     let read : chunk_at is_text b ≡ Ok (r.content, []) = rw (e, kind, number) content in
     let t = chunk_takes is_text b (r.content, []) fits read in
@@ -283,7 +270,7 @@ record Between (is_text : Bool) (b s : List ℕ) : Type 0 where
 between_of : (is_text : Bool) (b : List ℕ) (h : Head × List ℕ) → is_one_item b ≡ true → head_at b ≡ Ok h → chunk_kind is_text h.0.kind ≡ true → number_of h.0.argument ≡ None → Between is_text b h.1
 unfolding chunks_at
 between_of is_text b h is e kind number =
-    let r = string_read is_text (things (item_at 255)) (length b) h.0.argument h.0.kind h.1 (item_of b) kind (behind_head b h is e) in
+    let r = string_read is_text (things (item_at 255)) (length b) h.0.argument h.0.kind h.1 (item_of b) kind (one_item_by b h is e) in
     let read : (until_at (chunk_at is_text) (length h.1) h.1 >>= λ x. Ok (joined x.0, x.1)) ≡ Ok (r.content, []) = rw number at r.read in
     let u = bind_ok (until_at (chunk_at is_text) (length h.1) h.1) (λ x. Ok (joined x.0, x.1)) (r.content, []) read in
     let same = ok_is (joined u.0.0, u.0.1) (r.content, []) u.2 in

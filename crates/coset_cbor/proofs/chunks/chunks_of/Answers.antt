@@ -1,9 +1,10 @@
 use Rattle.std.proofs.Common.{sym}
-use Rattle.coset_cbor.proofs.Chunking.{has_head, no_string, whole_chunk, broken_chunks, has_break}
+use Rattle.coset_cbor.proofs.Chunking.{no_string, whole_chunk, broken_chunks, has_break}
+use Rattle.coset_cbor.proofs.Heads.{one_item_head}
 use Rattle.coset_cbor.proofs.chunks.chunks_of.Goals as goal
 
 pub returns-in_default : goal.returns-in_default
-returns-in_default c = absurd (has_head c.args.bytes.now c.in_default.field-0 c.requires c.in_default.ensures)
+returns-in_default c = absurd (one_item_head c.args.bytes.now c.in_default.field-0 c.requires c.in_default.ensures)
 
 pub returns-then-not-begins_chunk : goal.returns-then-not-begins_chunk
 returns-then-not-begins_chunk c = no_string c.args.is_text c.args.bytes.now (c.in-Ok.head, c.in-Ok.rest.now) c.requires c.in-Ok.ensures (sym c.if-not-begins_chunk.ensures)
