@@ -2,11 +2,12 @@
 use Rattle.std.proofs.Common.{◌≡◌, ℕ, zero, suc, ◌+◌, ◌*◌, ◌/◌, ◌<◌, ◌≤◌, Bool, true, false, ltb, List, [], ◌∷◌, ◌++◌, replicate, length, Some, None, Ok, refl, sym, ap, subst, ◌∙◌, append_assoc, arith, inl, inr}
 use Rattle.std.specs.Prelude.{pos, negsuc}
 use Rattle.std.proofs.lemmas.List.{length-append, append-nil}
+use Rattle.std.proofs.Math.Nat.{max-zero}
 use Rattle.coset_value.specs.Item.{half, single, double, Item, integer, bytes, float, text, boolean, null, tag, array, dict, Items, no_items, item, Pairs, no_pairs, pair, items_count, pairs_count, depth, items_depth, pairs_depth}
 use Rattle.coset_cbor.specs.declared.fault.Fault.TheVariants.{End}
 use Rattle.coset_cbor.specs.declared.head.Argument.{Argument}
 use Rattle.coset_cbor.specs.declared.head.Argument.TheVariants as places
-use Rattle.coset_cbor.specs.Grammar.{within, two, four, eight, IsHeaded, Each, string_type, IsDefinite, IsStringText, IsHeld, IsText, AreTexts, ArePairTexts}
+use Rattle.coset_cbor.specs.Grammar.{within, two, four, eight, IsHeaded, Each, string_type, IsDefinite, IsStringText, IsHeld, IsText, AreTexts, ArePairTexts, IsItem}
 use Rattle.coset_cbor.specs.Reading.{Parse, number_of, head_at, string_at, chunk_at, times_at, pair_at, things, item_at}
 use Rattle.coset_cbor.specs.Cost.{content_cost, chunks_cost, IsStringCost, IsHeldCost, IsCost, AreCosts, ArePairCosts}
 use Rattle.coset_cbor.specs.Counting.{after, content_steps, chunk_steps, times_steps, until_steps, string_steps, pair_steps, StepsInside, no_steps, steps_of, steps_from, item_steps}
@@ -299,3 +300,12 @@ nested_costs n k v h =
     let same = texts_differ v (nest n) b b [] [] (cost_text v b k h) (cost_text (nest n) b (suc n) (nested_cost n)) refl in
     let is = one_cost_lem (nest n) b k (suc n) (subst (λ (w : Item). IsCost w b k) same.0 h) (nested_cost n) in
     omega arith
+
+nest_depth : (n : ℕ) → depth (nest n) ≡ suc n
+nest_depth zero = refl
+nest_depth (suc n) = ap suc (max-zero (depth (nest n)) ∙ nest_depth n)
+
+pub nested_item : (n : ℕ) → n < 256 → (v : Item) × IsItem (replicate n 0x81 ++ 0x80 ∷ []) v
+nested_item n lt =
+    let deep = nest_depth n in
+    (nest n, (cost_text (nest n) (replicate n 0x81 ++ 0x80 ∷ []) (suc n) (nested_cost n), omega arith))

@@ -1,6 +1,6 @@
 //! Laws of the definitions, which callers may cite. Each is the contract of a function that does nothing.
 
-ghost use Rattle.std.specs.Prelude.{◌≡◌, ℕ, ◌+◌, List, [], ◌∷◌, ◌++◌, replicate};
+ghost use Rattle.std.specs.Prelude.{◌≡◌, ◌<◌, ℕ, ◌+◌, List, [], ◌∷◌, ◌++◌, replicate};
 ghost use Rattle.coset_value.specs.Item.{Item};
 ghost use Rattle.coset_value.specs.Range.{IsInRange};
 ghost use Rattle.coset_cbor.specs.Grammar.{IsText, IsItem};
@@ -33,9 +33,11 @@ pub fn one_cost()
         → (k : ℕ) × IsCost v b k × ((j : ℕ) → IsCost v b j → j ≡ k) }
 {}
 
-/// Arrays of one member each, n of them inside one another around an empty one, cost n + 1 steps.
+/// Arrays of one member each, n of them inside one another around an empty one, cost n + 1 steps; and they are an item,
+/// where n is below 256.
 pub fn nested_arrays_cost()
-    ensures { (n k : ℕ) (v : Item) → IsCost v (replicate n 0x81 ++ 0x80 ∷ []) k → k ≡ n + 1 }
+    ensures cost { (n k : ℕ) (v : Item) → IsCost v (replicate n 0x81 ++ 0x80 ∷ []) k → k ≡ n + 1 }
+    ensures item { (n : ℕ) → n < 256 → (v : Item) × IsItem (replicate n 0x81 ++ 0x80 ∷ []) v }
 {}
 
 /// Where a fault stands in bytes, no front of them is an item.

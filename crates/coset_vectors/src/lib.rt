@@ -10,4 +10,6 @@ mod members;
 #[cfg(test)]
 mod refused;
 #[cfg(test)]
+mod steps;
+#[cfg(test)]
 mod walks;
