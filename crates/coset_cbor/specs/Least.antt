@@ -1,5 +1,5 @@
 -- The definite text of an item in which every head has the least width that holds its argument, as a function.
--- Only contracts of private functions cite it. That it is the shortest text is proved in proofs/.
+-- That it is the shortest text is a law of the crate (`laws::least_heads_are_shortest`).
 use Rattle.std.specs.Prelude.{◌≡◌, ℕ, ◌^◌, ℤ, pos, negsuc, Bool, true, false, List, [], ◌∷◌, ◌++◌, length, nat_lt, if◌then◌else◌}
 use Rattle.std.specs.Int.{w16, w32, w64, to_be_bytes}
 use Rattle.coset_cbor.specs.declared.head.Kind.{Kind}

@@ -9,6 +9,7 @@ ghost use Rattle.coset_cbor.specs.Fronts.{AreBytes, HasNoItem, IsEnd};
 ghost use Rattle.coset_cbor.specs.Refused.{IsMemory, StandsIn};
 ghost use Rattle.coset_cbor.specs.declared.de.EndOfFile.{EndOfFile};
 ghost use Rattle.coset_cbor.specs.declared.de.Error.{Error};
+ghost use Rattle.coset_cbor.specs.Least.{short};
 ghost use Rattle.coset_cbor.specs.Shortest.{IsShort};
 
 /// Bytes are the text of at most one item, and no text is a proper front of another.
@@ -20,6 +21,12 @@ pub fn one_item()
 /// Every item within CBOR's ranges has exactly one shortest text.
 pub fn one_shortest()
     ensures { (v : Item) → IsInRange v → (b : List ℕ) × IsShort b v × ((c : List ℕ) → IsShort c v → c ≡ b) }
+{}
+
+/// The shortest text of an item within CBOR's ranges is the one in which every head has the least width that holds its
+/// argument.
+pub fn least_heads_are_shortest()
+    ensures { (v : Item) (b : List ℕ) → IsInRange v → IsShort b v → b ≡ short v }
 {}
 
 /// The shortest text of an item is a text of it.

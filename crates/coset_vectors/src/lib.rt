@@ -6,9 +6,17 @@ mod cbor;
 #[cfg(test)]
 mod chunks;
 #[cfg(test)]
+mod errors;
+#[cfg(test)]
+mod kinds;
+#[cfg(test)]
+mod labels;
+#[cfg(test)]
 mod members;
 #[cfg(test)]
 mod refused;
+#[cfg(test)]
+mod sample;
 #[cfg(test)]
 mod steps;
 #[cfg(test)]

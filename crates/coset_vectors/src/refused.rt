@@ -2,9 +2,14 @@
 //! it left: each answers the want of memory, or what it answers with ample memory.
 
 use crate::cbor::{EACH_KIND, each_kind};
+use crate::sample::forty;
 use coset_cbor::de::{EndOfFile, Error, read_value};
 use coset_cbor::ser::write_value;
 use coset_cbor::value::Value;
+use coset_sample::reading::Reading;
+use coset_sample::settings::{Name, Settings};
+use coset_shape::traits::read_slice;
+use coset_shape::{CborSerializable, CoseError, TaggedCborSerializable, has_repeats};
 use std::alloc::{AllocError, Global};
 use std::process::Abort;
 use std::test::*;
@@ -119,6 +124,22 @@ fn faults_stand(alloc: Global) -> bool {
     })
 }
 
+/// Items with every kind of head, definite and indefinite, inside one another.
+const WHOLE: [&[u8]; 5] = [
+    &EACH_KIND,
+    b"\x9f\x5f\x41\x01\x42\x02\x03\xff\x7f\x61\x61\xff\xbf\x01\x9f\xff\xff\xff",
+    b"\x9b\x00\x00\x00\x00\x00\x00\x00\x02\x7a\x00\x00\x00\x03\xe2\x82\xac\x19\x01\x00",
+    b"\xd8\x62\x84\x40\xa0\xf6\x81\x83\x43\xa1\x01\x26\xa1\x04\x41\x31\x41\xaa",
+    b"\xbb\x00\x00\x00\x00\x00\x00\x00\x01\x3b\xff\xff\xff\xff\xff\xff\xff\xff\x5f\xff",
+];
+
+/// Whether each proper front of each item is refused as an early end.
+fn fronts_end_early(alloc: Global) -> bool {
+    WHOLE.iter().all(|item| {
+        (0..item.len()).all(|n| matches!(read_value(alloc, &item[..n]), Err(Error::Io(_))))
+    })
+}
+
 fn writing(alloc: Global, value: &Value) -> Answer {
     let Ok(mut out) = Vec::from_slice(alloc, b"\x07") else {
         return Answer::Refused;
@@ -149,6 +170,10 @@ fn refuses_or_answers(rt: HostRuntime) -> Result<(), Fail> {
         faults_stand(alloc),
         "ill-formed input is refused without memory"
     );
+    assert!(rt;
+        fronts_end_early(alloc),
+        "a front of an item is refused without memory"
+    );
     drop(hole);
     for turn in 0..TURNS {
         let pad: Result<Vec<u8>, AllocError> = Vec::with_capacity(alloc, HOLE - STEP * turn);
@@ -159,5 +184,105 @@ fn refuses_or_answers(rt: HostRuntime) -> Result<(), Fail> {
     }
     drop(held);
     assert!(rt; read.had_both() && written.had_both() && cloned.had_both());
+    Ok(())
+}
+
+/// A map of the sample type, with a string, and an array and a text in the rest.
+const SETTINGS: [u8; 12] = *b"\xa3\x01\x05\x02\x42\x01\x02\x07\x82\x01\x61\x61";
+
+const READING: [u8; 8] = *b"\x83\x05\x42\x01\x02\x82\x01\x20";
+
+fn settings(alloc: Global) -> Answer {
+    match Settings::from_slice(alloc, &SETTINGS) {
+        Ok(x) if x.level == 5 && x.name.is_some() && x.rest.len() == 1 => Answer::Same,
+        Err(CoseError::OutOfMemory) => Answer::Refused,
+        _ => Answer::Other,
+    }
+}
+
+fn settings_lent(alloc: Global) -> Answer {
+    match read_slice::<Settings>(alloc, &SETTINGS) {
+        Ok(x) if x.level == 5 && x.name.is_some() && x.rest.len() == 1 => Answer::Same,
+        Err(CoseError::OutOfMemory) => Answer::Refused,
+        _ => Answer::Other,
+    }
+}
+
+fn settings_written(alloc: Global) -> Answer {
+    match Settings::from_slice(alloc, &SETTINGS) {
+        Ok(x) => match x.to_vec(alloc) {
+            Ok(text) if text.as_slice() == SETTINGS.as_slice() => Answer::Same,
+            Err(CoseError::OutOfMemory) => Answer::Refused,
+            _ => Answer::Other,
+        },
+        Err(CoseError::OutOfMemory) => Answer::Refused,
+        Err(_) => Answer::Other,
+    }
+}
+
+fn reading_written(alloc: Global) -> Answer {
+    match Reading::from_slice(alloc, &READING) {
+        Ok(x) => match x.to_tagged_vec(alloc) {
+            Ok(text) if text.len() == 11 => Answer::Same,
+            Err(CoseError::OutOfMemory) => Answer::Refused,
+            _ => Answer::Other,
+        },
+        Err(CoseError::OutOfMemory) => Answer::Refused,
+        Err(_) => Answer::Other,
+    }
+}
+
+fn repeats(alloc: Global, labels: &[(Name, Value)]) -> Answer {
+    match has_repeats(alloc, labels) {
+        Ok(true) => Answer::Same,
+        Ok(false) => Answer::Other,
+        Err(CoseError::OutOfMemory) => Answer::Refused,
+        Err(_) => Answer::Other,
+    }
+}
+
+/// Whether bytes that aren't one item are refused for their own fault, and a reading without strings is read.
+fn typed_faults_stand(alloc: Global) -> bool {
+    matches!(
+        Reading::from_slice(alloc, b"\x9b\xff\xff\xff\xff\xff\xff\xff\xff"),
+        Err(CoseError::DecodeFailed(Error::Io(EndOfFile)))
+    ) && matches!(
+        Reading::from_slice(alloc, b"\x83\x05\xf6\x80\x00"),
+        Err(CoseError::ExtraneousData)
+    ) && matches!(
+        Reading::from_tagged_slice(alloc, b"\xd9\x03\xe8\x1e"),
+        Err(CoseError::DecodeFailed(Error::Syntax(3)))
+    ) && matches!(
+        Reading::from_slice(alloc, b"\x83\x05\xf6\x80"),
+        Ok(Reading {
+            number: 5,
+            payload: None,
+            ..
+        })
+    )
+}
+
+#[test]
+fn types_refuse_or_answer(rt: HostRuntime) -> Result<(), Fail> {
+    let alloc = rt.alloc();
+    let labels = forty(alloc, 3)?;
+    let mut tallies = [Tally::new(); 5];
+    let hole: Vec<u8> = Vec::with_capacity(alloc, HOLE)?;
+    let held = fill(alloc)?;
+    assert!(rt; typed_faults_stand(alloc), "refused without memory");
+    drop(hole);
+    for turn in 0..TURNS {
+        let pad: Result<Vec<u8>, AllocError> = Vec::with_capacity(alloc, HOLE - STEP * turn);
+        tallies[0].count(&rt, settings(alloc));
+        tallies[1].count(&rt, settings_lent(alloc));
+        tallies[2].count(&rt, settings_written(alloc));
+        tallies[3].count(&rt, reading_written(alloc));
+        tallies[4].count(&rt, repeats(alloc, &labels));
+        drop(pad);
+    }
+    drop(held);
+    for tally in &tallies {
+        assert!(rt; tally.had_both());
+    }
     Ok(())
 }

@@ -1,0 +1,50 @@
+-- Labels by their shortest texts.
+use Rattle.std.proofs.Common.{◌≡◌, ◌<◌, ◌^◌, ℕ, List, Ordering, sym, ◌∙◌, ap, arith}
+use Rattle.std.specs.Prelude.{pos, negsuc, length}
+use Rattle.std.specs.Ordering.{nat_cmp, ordering_then}
+use Rattle.std.specs.Cmp.Lexicographic.{slice_cmp}
+use Rattle.coset_value.specs.Item.{Item}
+use Rattle.coset_value.specs.Range.{IsInRange}
+use Rattle.coset_cbor.specs.Grammar.{Place, within, one, two, four, eight, Holds}
+use Rattle.coset_cbor.specs.Least.{short}
+use Rattle.coset_cbor.specs.Shortest.{IsShort}
+use Rattle.coset_label.specs.Names.{Name, number, word, name_item, name_cmp, IsNamed, encoded_length}
+use Rattle.coset_label.specs.NameOrder.{names-compare, names-compare-canonical}
+
+-- what a head holds is below 2 ^ 64
+holds-below : (p : Place) (n : ℕ) → Holds p n → n < 2 ^ 64
+holds-below within n h = omega (arith, h)
+holds-below one n h = omega (arith, h)
+holds-below two n h = omega (arith, h)
+holds-below four n h = omega (arith, h)
+holds-below eight n h = h
+
+-- what has a text is within CBOR's ranges
+in-range : (a : Name) (s : List ℕ) → IsShort s (name_item a) → IsInRange (name_item a)
+in-range (number (pos n)) s h = holds-below h.definite.place n h.definite.holds
+in-range (number (negsuc n)) s h = holds-below h.definite.place n h.definite.holds
+in-range (word b) s h = (holds-below h.definite.1.is_head.place (length b) h.definite.1.is_head.holds, h.definite.0)
+
+named : (a : Name) → IsInRange (name_item a) → IsNamed a
+named (number (pos n)) h = h
+named (number (negsuc n)) h = h
+named (word b) h = h.0
+
+abbrev pub OneShort : Type 0
+OneShort = (v : Item) (b : List ℕ) → IsInRange v → IsShort b v → b ≡ short v
+
+pub texts-compare : OneShort → (a b : Name) (s t : List ℕ) → IsShort s (name_item a) → IsShort t (name_item b) → name_cmp a b ≡ slice_cmp nat_cmp s t
+texts-compare law a b s t p q =
+    let r = in-range a s p in
+    let w = in-range b t q in
+    sym (names-compare a b (named a r) (named b w)) ∙ (ap (λ x. slice_cmp nat_cmp x (short (name_item b))) (sym (law (name_item a) s r p)) ∙ ap (slice_cmp nat_cmp s) (sym (law (name_item b) t w q)))
+
+-- by their lengths first
+pub texts-compare-canonical :
+    OneShort → (a b : Name) (s t : List ℕ) → IsShort s (name_item a) → IsShort t (name_item b)
+    → ordering_then (nat_cmp (encoded_length a) (encoded_length b)) (name_cmp a b) ≡ ordering_then (nat_cmp (length s) (length t)) (slice_cmp nat_cmp s t)
+texts-compare-canonical law a b s t p q =
+    let r = in-range a s p in
+    let w = in-range b t q in
+    let whole : List ℕ → List ℕ → Ordering = λ x y. ordering_then (nat_cmp (length x) (length y)) (slice_cmp nat_cmp x y) in
+    sym (names-compare-canonical a b (named a r) (named b w)) ∙ (ap (λ x. whole x (short (name_item b))) (sym (law (name_item a) s r p)) ∙ ap (whole s) (sym (law (name_item b) t w q)))

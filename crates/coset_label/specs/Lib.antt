@@ -1,0 +1,5 @@
+pub mod Names
+pub mod NameOrder
+pub mod Labels
+pub mod LabelLaws
+pub mod Views

@@ -1,0 +1,202 @@
+-- The byte order of shortest heads and of labels' encodings.
+use Rattle.std.proofs.Common.{◌≡◌, ℕ, zero, suc, ◌^◌, ◌+◌, ◌*◌, ◌/◌, ◌%◌, ◌<◌, ◌≤◌, List, ◌∷◌, ◌++◌, length, refl, sym, ap, subst, arith, inl, inr, Ordering, Less, Equal, Greater, nat_cmp}
+use Rattle.std.proofs.Math.Nat.{mul-le-mul_right, mul_comm, mod-lt, mod-one, mod-eq_of_lt, one-le-pow, pow-succ'}
+use Rattle.std.proofs.Math.Arith.{mod-mul}
+use Rattle.std.proofs.lemmas.Bool.{cases_order}
+use Rattle.std.proofs.lemmas.List.{length-append, append-nil}
+use Rattle.std.proofs.lemmas.Map.Lookups.{exact_unsigned, exact_bytes}
+use Rattle.std.specs.Prelude.{pos, negsuc}
+use Rattle.std.specs.Int.{bytes_high_first, byte_at}
+use Rattle.std.specs.Ordering.{ordering_then}
+use Rattle.std.specs.Cmp.{IsTotalOrder, tied_itself}
+use Rattle.std.specs.Cmp.Lexicographic.{slice_cmp}
+use Rattle.std.specs.Cmp.Rules.{comparing}
+use Rattle.coset_cbor.specs.Grammar.{Place, within, one, two, four, eight, head_in}
+use Rattle.coset_cbor.specs.Least.{least_place, least_head, short}
+use Rattle.coset_label.specs.Names.{Name, number, word, name_item, major, argument, content, name_cmp, IsNamed, head_length, encoded_length}
+
+-- ---- orderings
+
+-- a chain of three orderings may be bracketed either way
+then-then : (p q r : Ordering) → ordering_then (ordering_then p q) r ≡ ordering_then p (ordering_then q r)
+then-then Less q r = refl
+then-then Equal q r = refl
+then-then Greater q r = refl
+
+-- a chain that is level is level in its first part
+then-first : (p q : Ordering) → ordering_then p q ≡ Equal → p ≡ Equal
+then-first p q h = grind arith
+
+-- and in its second
+then-second : (p q : Ordering) → ordering_then p q ≡ Equal → q ≡ Equal
+then-second p q h = grind arith
+
+-- a smaller number compares as less
+less : (x y : ℕ) → x < y → nat_cmp x y ≡ Less
+less x y h = grind arith
+
+-- and a larger one as greater
+greater : (x y : ℕ) → y < x → nat_cmp x y ≡ Greater
+greater x y h = grind arith
+
+-- ---- the bytes of a number
+
+-- quotients by p compare first, and then the remainders
+digits-compare : (p a b x y : ℕ) → x < p → y < p → nat_cmp (a * p + x) (b * p + y) ≡ ordering_then (nat_cmp a b) (nat_cmp x y)
+digits-compare p a b x y hx hy = elim (cases_order a b) [
+  | inl e ↦ grind arith
+  | inr (inl lt) ↦ let le : suc a * p ≤ b * p = mul-le-mul_right p lt in grind arith
+  | inr (inr lt) ↦ let le : suc b * p ≤ a * p = mul-le-mul_right p lt in grind arith
+]
+
+-- byte k as a quotient's remainder, also for the lowest byte
+byte_at-is : (k n : ℕ) → byte_at k n ≡ n / 256 ^ k % 256
+byte_at-is zero n = omega arith
+byte_at-is (suc k) n = refl
+
+-- the lowest k bytes of two numbers, highest first, compare as the numbers that these bytes make
+bytes-compare : (k n l : ℕ) (s t : List ℕ)
+    → slice_cmp nat_cmp (bytes_high_first k n ++ s) (bytes_high_first k l ++ t) ≡ ordering_then (nat_cmp (n % 256 ^ k) (l % 256 ^ k)) (slice_cmp nat_cmp s t)
+bytes-compare zero n l s t = rw (mod-one n, mod-one l)
+bytes-compare (suc k) n l s t =
+    let p : 0 < 256 ^ k = one-le-pow k 256 (omega arith) in
+    let b : 0 < 256 = omega arith in
+    let digits = digits-compare (256 ^ k) (n / 256 ^ k % 256) (l / 256 ^ k % 256) (n % 256 ^ k) (l % 256 ^ k) (mod-lt n p) (mod-lt l p) in
+    rw (byte_at-is k n, byte_at-is k l, pow-succ' 256 k, mod-mul n b p, mod-mul l b p, digits, then-then, bytes-compare k n l s t)
+
+-- two numbers of k bytes compare as all their bytes do
+whole-compare : (k n l : ℕ) (s t : List ℕ) → n < 256 ^ k → l < 256 ^ k
+    → slice_cmp nat_cmp (bytes_high_first k n ++ s) (bytes_high_first k l ++ t) ≡ ordering_then (nat_cmp n l) (slice_cmp nat_cmp s t)
+whole-compare k n l s t hn hl = rw (mod-eq_of_lt hn, mod-eq_of_lt hl) at (bytes-compare k n l s t)
+
+-- ---- the five forms of a head
+
+-- n is in the range for which this place is the shortest
+abbrev Spans : Place → ℕ → Type 0
+Spans within n = n < 24
+Spans one n = (24 ≤ n) × (n < 2 ^ 8)
+Spans two n = (2 ^ 8 ≤ n) × (n < 2 ^ 16)
+Spans four n = (2 ^ 16 ≤ n) × (n < 2 ^ 32)
+Spans eight n = (2 ^ 32 ≤ n) × (n < 2 ^ 64)
+
+-- the place that `least_place` picks is that one
+spans : (n : ℕ) → n < 2 ^ 64 → Spans (least_place n) n
+spans n h = grind arith
+
+-- the low five bits of a head's first byte
+abbrev low : Place → ℕ → ℕ
+low within n = n
+low one n = 24
+low two n = 25
+low four n = 26
+low eight n = 27
+
+-- how many bytes are behind the first
+abbrev behind : Place → ℕ
+behind within = 0
+behind one = 1
+behind two = 2
+behind four = 4
+behind eight = 8
+
+-- a head is its first byte and the bytes behind
+head-parts : (p : Place) (m n : ℕ) → head_in p m n ≡ (32 * m + low p n) ∷ bytes_high_first (behind p) n
+head-parts within m n = refl
+head-parts one m n = refl
+head-parts two m n = refl
+head-parts four m n = refl
+head-parts eight m n = refl
+
+-- these bits are below 32
+low-small : (p : Place) (n : ℕ) → Spans p n → low p n < 32
+low-small p n h = grind arith
+
+-- smaller low bits belong to a smaller argument
+low-less : (p q : Place) (n l : ℕ) → Spans p n → Spans q l → low p n < low q l → n < l
+low-less p q n l hn hl h = grind arith
+
+-- equal low bits belong to one place
+low-same : (p q : Place) (n l : ℕ) → Spans p n → Spans q l → low p n ≡ low q l → p ≡ q
+low-same p q n l hn hl h = grind arith
+
+-- the low bits, the bytes behind and what follows the head compare as the arguments and what follows
+abbrev Agree : Place → Place → ℕ → ℕ → List ℕ → List ℕ → Type 0
+Agree p q n l s t =
+    ordering_then (nat_cmp (low p n) (low q l)) (slice_cmp nat_cmp (bytes_high_first (behind p) n ++ s) (bytes_high_first (behind q) l ++ t)) ≡ ordering_then (nat_cmp n l) (slice_cmp nat_cmp s t)
+
+-- so they do where both arguments have one place
+same-place : (p : Place) (n l : ℕ) (s t : List ℕ) → Spans p n → Spans p l → Agree p p n l s t
+same-place within n l s t hn hl = refl
+same-place one n l s t hn hl = whole-compare 1 n l s t hn.1 hl.1
+same-place two n l s t hn hl = whole-compare 2 n l s t hn.1 hl.1
+same-place four n l s t hn hl = whole-compare 4 n l s t hn.1 hl.1
+same-place eight n l s t hn hl = whole-compare 8 n l s t hn.1 hl.1
+
+-- and where they may have two
+places-compare : (p q : Place) (n l : ℕ) (s t : List ℕ) → Spans p n → Spans q l → Agree p q n l s t
+places-compare p q n l s t hn hl = elim (cases_order (low p n) (low q l)) [
+  | inl e ↦ subst (λ (r : Place). Spans r l → Agree p r n l s t) (low-same p q n l hn hl e) (same-place p n l s t hn) hl
+  | inr (inl lt) ↦ rw (less (low p n) (low q l) lt, less n l (low-less p q n l hn hl lt))
+  | inr (inr lt) ↦ rw (greater (low p n) (low q l) lt, greater n l (low-less q p l n hl hn lt))
+]
+
+-- two shortest heads and what follows them compare by major type, then by argument, and then by what follows
+pub heads-compare : (m n k l : ℕ) (s t : List ℕ) → m < 8 → k < 8 → n < 2 ^ 64 → l < 2 ^ 64
+    → slice_cmp nat_cmp (least_head m n ++ s) (least_head k l ++ t) ≡ ordering_then (nat_cmp m k) (ordering_then (nat_cmp n l) (slice_cmp nat_cmp s t))
+unfolding least_head
+heads-compare m n k l s t _ _ hn hl =
+    let p = least_place n in
+    let q = least_place l in
+    let a = spans n hn in
+    let b = spans l hl in
+    let first = digits-compare 32 m k (low p n) (low q l) (low-small p n a) (low-small q l b) in
+    rw (head-parts p m n, head-parts q k l, mul_comm 32 m, mul_comm 32 k, first, then-then, places-compare p q n l s t a b)
+
+-- ---- labels
+
+-- a label's encoding is its head and its content
+short-parts : (a : Name) → short (name_item a) ≡ least_head (major a) (argument a) ++ content a
+short-parts (number (pos n)) = sym (append-nil (least_head 0 n))
+short-parts (number (negsuc n)) = sym (append-nil (least_head 1 n))
+short-parts (word s) = refl
+
+-- a label's major type is one of the eight
+major-small : (a : Name) → major a < 8
+major-small a = grind arith
+
+-- the encodings of two labels compare as the labels do
+pub names-compare : (a b : Name) → IsNamed a → IsNamed b → slice_cmp nat_cmp (short (name_item a)) (short (name_item b)) ≡ name_cmp a b
+names-compare a b ha hb =
+    rw (short-parts a, short-parts b) (heads-compare (major a) (argument a) (major b) (argument b) (content a) (content b) (major-small a) (major-small b) ha hb)
+
+-- the shortest head is as long as `head_length` says
+length-least_head : (m n : ℕ) → length (least_head m n) ≡ head_length n
+unfolding least_head
+length-least_head m n = grind arith
+
+-- a label's encoding is as long as `encoded_length` says
+pub short-length : (a : Name) → length (short (name_item a)) ≡ encoded_length a
+short-length a = rw (short-parts a, length-append, length-least_head)
+
+-- the encodings in the order of RFC 7049, section 3.9: the shorter first, and those of one length by their bytes
+pub names-compare-canonical : (a b : Name) → IsNamed a → IsNamed b
+    → ordering_then (nat_cmp (length (short (name_item a))) (length (short (name_item b)))) (slice_cmp nat_cmp (short (name_item a)) (short (name_item b)))
+    ≡ ordering_then (nat_cmp (encoded_length a) (encoded_length b)) (name_cmp a b)
+names-compare-canonical a b ha hb = rw (names-compare a b ha hb, short-length a, short-length b)
+
+-- ---- the laws of labels' order
+
+-- `name_cmp` is a total order
+pub name_cmp_total : IsTotalOrder name_cmp
+name_cmp_total = search comparing
+
+-- a label is level with itself
+pub name_cmp-itself : (a : Name) → name_cmp a a ≡ Equal
+name_cmp-itself = tied_itself name_cmp_total
+
+-- and with no other
+pub name_cmp-equal : (a b : Name) → name_cmp a b ≡ Equal → a ≡ b
+name_cmp-equal (number (pos n)) (number (pos l)) h = ap (λ k. number (pos k)) (exact_unsigned n l (then-first (nat_cmp n l) Equal h))
+name_cmp-equal (number (negsuc n)) (number (negsuc l)) h = ap (λ k. number (negsuc k)) (exact_unsigned n l (then-first (nat_cmp n l) Equal h))
+name_cmp-equal (word s) (word t) h = ap word (exact_bytes s t (then-second (nat_cmp (length s) (length t)) (slice_cmp nat_cmp s t) h))
+name_cmp-equal a b h = grind arith

@@ -1,0 +1,67 @@
+-- Labels apart from where they lie in memory, and the order of their encodings, as functions.
+-- That the encodings compare so is proved in `NameOrder.antt`.
+use Rattle.std.specs.Prelude.{ℕ, ◌+◌, ◌^◌, ◌<◌, ℤ, pos, negsuc, List, [], length, nat_lt, if◌then◌else◌}
+use Rattle.std.specs.declared.cmp.Ordering.{Ordering}
+use Rattle.std.specs.Ordering.{nat_cmp, on, then_cmp}
+use Rattle.std.specs.Cmp.Lexicographic.{slice_cmp}
+use Rattle.coset_value.specs.Item.{Item, integer, text}
+
+-- a label without its memory: a number, or a text as its UTF-8 bytes
+pub data Name : Type 0 where
+  number : ℤ → Name
+  word : List ℕ → Name
+
+-- a label of a registry with a private range: the number of one of its values, a number for private use, or a text
+pub data RegisteredName : Type 0 where
+  assigned : ℤ → RegisteredName
+  private_use : ℤ → RegisteredName
+  phrase : List ℕ → RegisteredName
+
+-- the label as such, and whether it is for private use
+abbrev pub as_name : RegisteredName → Name
+as_name (assigned i) = number i
+as_name (private_use i) = number i
+as_name (phrase s) = word s
+
+abbrev pub tie : RegisteredName → ℕ
+tie (assigned i) = 0
+tie (private_use i) = 1
+tie (phrase s) = 0
+
+-- the item that a label is
+abbrev pub name_item : Name → Item
+name_item (number i) = integer i
+name_item (word s) = text s
+
+-- the major type of a label's head (RFC 8949, section 3)
+abbrev pub major : Name → ℕ
+major (number (pos n)) = 0
+major (number (negsuc n)) = 1
+major (word s) = 3
+
+-- the head's argument
+abbrev pub argument : Name → ℕ
+argument (number (pos n)) = n
+argument (number (negsuc n)) = n
+argument (word s) = length s
+
+-- what follows the head
+abbrev pub content : Name → List ℕ
+content (number i) = []
+content (word s) = s
+
+-- the order of the three parts, one after the other
+abbrev pub name_cmp : Name → Name → Ordering
+name_cmp = then_cmp (on major nat_cmp) (then_cmp (on argument nat_cmp) (on content (slice_cmp nat_cmp)))
+
+-- the argument fits a head
+abbrev pub IsNamed : Name → Type 0
+IsNamed a = argument a < 2 ^ 64
+
+-- how many bytes the shortest head with this argument has
+abbrev pub head_length : ℕ → ℕ
+head_length n = if nat_lt n 24 then 1 else (if nat_lt n (2 ^ 8) then 2 else (if nat_lt n (2 ^ 16) then 3 else (if nat_lt n (2 ^ 32) then 5 else 9)))
+
+-- how many bytes a label's encoding has
+abbrev pub encoded_length : Name → ℕ
+encoded_length a = head_length (argument a) + length (content a)

@@ -1,0 +1,88 @@
+//! Labels: integers and texts.
+
+ghost use Rattle.std.specs.Prelude.{◌≡◌, IfOk, IfErr};
+ghost use Rattle.coset_shape.specs.declared.error.CoseError.TheVariants.{OutOfMemory};
+ghost use Rattle.coset_shape.specs.Answers.{Reads};
+ghost use Rattle.coset_shape.specs.Sources.{source_item, MayCopy};
+ghost use Rattle.coset_label.specs.Labels.{label};
+ghost use Rattle.coset_label.specs.Views.{label_seen};
+
+use coset_cbor::de::Pull;
+use coset_cbor::value::Value;
+use coset_shape::traits::{FromPull, read_slice};
+use coset_shape::{AsCborValue, CborSerializable, Result, Source};
+use std::alloc::Global;
+
+/// A label: an integer within 64 bits with a sign, or a text (RFC 8152, section 1.4).
+#[derive(Debug, Drop)]
+pub enum Label {
+    /// An integer.
+    Int(i64),
+    /// A text.
+    Text(String),
+}
+
+/// Reads a label.
+pub(crate) fn read_label(alloc: Global, source: Source<'_>) -> Result<Label>
+    ensures read { Reads label label_seen (source_item source.entry) result }
+    ensures memory { IfErr result (λ e. e ≡ OutOfMemory → MayCopy source.entry) }
+{
+    match source.integer() {
+        Some(number) => Ok(Label::Int(i64::try_from(number)?)),
+        None => Ok(Label::Text(source.into_text(alloc, "int/tstr")?)),
+    }
+}
+
+impl AsCborValue for Label {
+    ghost use Rattle.coset_label.specs.Names.{Name};
+    ghost use Rattle.coset_label.specs.LabelLaws.{label_laws};
+
+    ghost Seen = { Name };
+
+    ghost seen = { label_seen };
+
+    ghost shape = { label };
+
+    ghost unique = { label_laws.unique };
+
+    ghost sound = { label_laws.sound };
+
+    fn from_cbor_value(alloc: Global, value: Value) -> Result<Label> {
+        read_label(alloc, Source::Tree(value))
+    }
+
+    fn to_cbor_value(self, _alloc: Global) -> Result<Value> {
+        match self {
+            Label::Int(number) => Ok(Value::from(number)),
+            Label::Text(text) => Ok(Value::Text(text)),
+        }
+    }
+}
+
+impl FromPull for Label {
+    fn from_pull(alloc: Global, pull: Pull<'_>) -> Result<Label> {
+        read_label(alloc, Source::Lent(pull))
+    }
+}
+
+impl CborSerializable for Label {
+    fn from_slice(alloc: Global, s: &[u8]) -> Result<Label> {
+        read_slice(alloc, s)
+    }
+}
+
+impl Label {
+    /// A label that equals this one.
+    ///
+    /// # Errors
+    /// Want of memory alone.
+    pub fn clone(&self) -> Result<Label>
+        ensures copy { IfOk result (λ x. label_seen x ≡ label_seen self.now) }
+        ensures memory { IfErr result (λ e. e ≡ OutOfMemory) }
+    {
+        match self {
+            Label::Int(number) => Ok(Label::Int(*number)),
+            Label::Text(text) => Ok(Label::Text(text.clone()?)),
+        }
+    }
+}

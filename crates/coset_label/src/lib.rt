@@ -1,0 +1,11 @@
+//! Labels of COSE (RFC 8152, section 1.4), and those that registries assign.
+#![tactic(auto)]
+
+mod label;
+mod names;
+mod order;
+mod registered;
+
+pub use label::Label;
+pub use names::{Algorithm, ContentType, KeyOperation, KeyType};
+pub use registered::{RegisteredLabel, RegisteredLabelWithPrivate};

@@ -1,0 +1,152 @@
+//! Labels that a registry assigns.
+
+ghost use Rattle.std.specs.Prelude.{◌≡◌, IfErr, is_some};
+ghost use Rattle.coset_shape.specs.declared.error.CoseError.TheVariants.{OutOfMemory};
+ghost use Rattle.coset_shape.specs.Answers.{Reads};
+ghost use Rattle.coset_shape.specs.Sources.{source_item, MayCopy};
+ghost use Rattle.coset_label.specs.Labels.{registered, registered_or_private};
+ghost use Rattle.coset_label.specs.Views.{registered_seen, registered_or_private_seen};
+
+use coset_cbor::de::Pull;
+use coset_cbor::value::Value;
+use coset_iana::{EnumI64, WithPrivateRange};
+use coset_shape::traits::{FromPull, read_slice};
+use coset_shape::{AsCborValue, CborSerializable, CoseError, Result, Source};
+use std::alloc::Global;
+
+/// A label of a registry without a private range: one of its values, or a text (RFC 8152, section 16).
+#[derive(Debug, Drop)]
+pub enum RegisteredLabel<T> {
+    /// A value of the registry.
+    Assigned(T),
+    /// A text.
+    Text(String),
+}
+
+/// A label of a registry with a private range: one of its values, a number of the range, or a text (RFC 8152, section
+/// 16).
+#[derive(Debug, Drop)]
+pub enum RegisteredLabelWithPrivate<T> {
+    /// A number for private use.
+    PrivateUse(i64),
+    /// A value of the registry.
+    Assigned(T),
+    /// A text.
+    Text(String),
+}
+
+/// Reads a label of a registry without a private range.
+pub(crate) fn read_registered<T: EnumI64 + Drop>(
+    alloc: Global,
+    source: Source<'_>,
+) -> Result<RegisteredLabel<T>>
+    ensures read { Reads (registered (λ i. is_some (T.value_of i))) (registered_seen T.number) (source_item source.entry) result }
+    ensures memory { IfErr result (λ e. e ≡ OutOfMemory → MayCopy source.entry) }
+{
+    match source.integer() {
+        Some(number) => match T::from_i64(i64::try_from(number)?) {
+            Some(value) => Ok(RegisteredLabel::Assigned(value)),
+            None => Err(CoseError::UnregisteredIanaValue),
+        },
+        None => Ok(RegisteredLabel::Text(source.into_text(alloc, "int/tstr")?)),
+    }
+}
+
+/// Reads a label of a registry with a private range.
+pub(crate) fn read_registered_or_private<T: EnumI64 + WithPrivateRange + Drop>(
+    alloc: Global,
+    source: Source<'_>,
+) -> Result<RegisteredLabelWithPrivate<T>>
+    ensures read { Reads (registered_or_private (λ i. is_some (T.value_of i)) T.is_private) (registered_or_private_seen T.number) (source_item source.entry) result }
+    ensures memory { IfErr result (λ e. e ≡ OutOfMemory → MayCopy source.entry) }
+{
+    let Some(number) = source.integer() else {
+        return Ok(RegisteredLabelWithPrivate::Text(source.into_text(alloc, "int/tstr")?));
+    };
+    let number = i64::try_from(number)?;
+    if let Some(value) = T::from_i64(number) {
+        return Ok(RegisteredLabelWithPrivate::Assigned(value));
+    }
+    if T::is_private(number) {
+        Ok(RegisteredLabelWithPrivate::PrivateUse(number))
+    } else {
+        Err(CoseError::UnregisteredIanaNonPrivateValue)
+    }
+}
+
+impl<T: EnumI64 + Drop> AsCborValue for RegisteredLabel<T> {
+    ghost use Rattle.coset_label.specs.Names.{Name};
+    ghost use Rattle.coset_label.specs.LabelLaws.{registered_laws};
+
+    ghost Seen = { Name };
+
+    ghost seen = { registered_seen T.number };
+
+    ghost shape = { registered (λ i. is_some (T.value_of i)) };
+
+    ghost unique = { (registered_laws (λ i. is_some (T.value_of i))).unique };
+
+    ghost sound = { (registered_laws (λ i. is_some (T.value_of i))).sound };
+
+    fn from_cbor_value(alloc: Global, value: Value) -> Result<RegisteredLabel<T>> {
+        read_registered(alloc, Source::Tree(value))
+    }
+
+    fn to_cbor_value(self, _alloc: Global) -> Result<Value> {
+        match self {
+            RegisteredLabel::Assigned(value) => Ok(Value::from(value.to_i64())),
+            RegisteredLabel::Text(text) => Ok(Value::Text(text)),
+        }
+    }
+}
+
+impl<T: EnumI64 + Drop> FromPull for RegisteredLabel<T> {
+    fn from_pull(alloc: Global, pull: Pull<'_>) -> Result<RegisteredLabel<T>> {
+        read_registered(alloc, Source::Lent(pull))
+    }
+}
+
+impl<T: EnumI64 + Drop> CborSerializable for RegisteredLabel<T> {
+    fn from_slice(alloc: Global, s: &[u8]) -> Result<RegisteredLabel<T>> {
+        read_slice(alloc, s)
+    }
+}
+
+impl<T: EnumI64 + WithPrivateRange + Drop> AsCborValue for RegisteredLabelWithPrivate<T> {
+    ghost use Rattle.coset_label.specs.Names.{RegisteredName};
+    ghost use Rattle.coset_label.specs.LabelLaws.{registered_or_private_laws};
+
+    ghost Seen = { RegisteredName };
+
+    ghost seen = { registered_or_private_seen T.number };
+
+    ghost shape = { registered_or_private (λ i. is_some (T.value_of i)) T.is_private };
+
+    ghost unique = { (registered_or_private_laws (λ i. is_some (T.value_of i)) T.is_private).unique };
+
+    ghost sound = { (registered_or_private_laws (λ i. is_some (T.value_of i)) T.is_private).sound };
+
+    fn from_cbor_value(alloc: Global, value: Value) -> Result<RegisteredLabelWithPrivate<T>> {
+        read_registered_or_private(alloc, Source::Tree(value))
+    }
+
+    fn to_cbor_value(self, _alloc: Global) -> Result<Value> {
+        match self {
+            RegisteredLabelWithPrivate::PrivateUse(number) => Ok(Value::from(number)),
+            RegisteredLabelWithPrivate::Assigned(value) => Ok(Value::from(value.to_i64())),
+            RegisteredLabelWithPrivate::Text(text) => Ok(Value::Text(text)),
+        }
+    }
+}
+
+impl<T: EnumI64 + WithPrivateRange + Drop> FromPull for RegisteredLabelWithPrivate<T> {
+    fn from_pull(alloc: Global, pull: Pull<'_>) -> Result<RegisteredLabelWithPrivate<T>> {
+        read_registered_or_private(alloc, Source::Lent(pull))
+    }
+}
+
+impl<T: EnumI64 + WithPrivateRange + Drop> CborSerializable for RegisteredLabelWithPrivate<T> {
+    fn from_slice(alloc: Global, s: &[u8]) -> Result<RegisteredLabelWithPrivate<T>> {
+        read_slice(alloc, s)
+    }
+}

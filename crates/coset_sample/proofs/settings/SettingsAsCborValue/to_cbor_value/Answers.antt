@@ -1,0 +1,24 @@
+use Rattle.std.proofs.Common.{◌≡◌, map, option_map, refl, ap, ◌∙◌, subst, rules}
+use Rattle.std.specs.Ordering.{int_eq}
+use Rattle.coset_value.specs.Item.{integer}
+use Rattle.coset_value.specs.View.{view}
+use Rattle.coset_shape.specs.Answers.{Images}
+use Rattle.coset_shape.specs.Maps.{put_fields}
+use Rattle.coset_shape.specs.RestLaws.{as_seen, repeated-seen, distinct-seen, no-entries, some-entries}
+use Rattle.coset_sample.specs.Settings.{name_seen, names}
+use Rattle.coset_sample.proofs.settings.SettingsAsCborValue.to_cbor_value.Goals as goal
+
+pub returns-then-branch : goal.returns-then-branch
+returns-then-branch c =
+    let rest = map (as_seen name_seen view) c.args.self.rest.items in
+    λ _. (refl, no-entries names rest _ (repeated-seen name_seen view _ int_eq (λ x y. refl) c.in_ok-has_repeats.field-0 c.args.self.rest.items (rw c.deref.ensures.value at c.in_ok-has_repeats.ensures.answer) c.if-branch.true))
+
+pub returns : goal.returns
+returns c =
+    let rest = map (as_seen name_seen view) c.args.self.rest.items in
+    let es = put_fields (map (λ f. (name_seen f.0, option_map view f.1)) c.in_ok-fields.fields.items) in
+    let level : view c.from.result ≡ integer c.args.self.level = c.from.ensures ∙ ap integer (search rules) in
+    subst (λ image. Images image view c.labelled_value.result)
+    (some-entries names rest es _ (distinct-seen name_seen view _ int_eq (λ x y. refl) c.in_ok-has_repeats.field-0 c.args.self.rest.items (rw c.deref.ensures.value at c.in_ok-has_repeats.ensures.answer) c.if-branch.false)
+    (rw (c.optional_bytes.ensures, c.in_ok-fields.ensures.items, level) refl))
+    c.labelled_value.ensures

@@ -1,0 +1,164 @@
+//! Settings: a map of labels.
+
+ghost use Rattle.std.specs.Prelude.{ℤ};
+ghost use Rattle.coset_shape.specs.Answers.{Reads};
+ghost use Rattle.coset_shape.specs.Shape.{int64};
+ghost use Rattle.coset_shape.specs.ShapeLaws.{int64_laws};
+ghost use Rattle.coset_shape.specs.Sources.{source_item};
+ghost use Rattle.coset_sample.specs.Settings.{name_seen, seen, settings};
+
+use coset_cbor::de::Pull;
+use coset_cbor::value::Value;
+use coset_shape::list::optional_bytes;
+use coset_shape::map::{Gather, labelled_value, read_map};
+use coset_shape::traits::FromPull;
+use coset_shape::{
+    AsCborValue, CborSerializable, CoseError, Result, Source, TaggedCborSerializable, has_repeats,
+};
+use std::alloc::Global;
+
+/// A label: a number of 64 bits with a sign.
+#[derive(Clone, Copy, Debug, PartialEq, Eq, PartialOrd, Ord)]
+pub struct Name(pub i64);
+
+impl AsCborValue for Name {
+    ghost Seen = { ℤ };
+
+    ghost seen = { name_seen };
+
+    ghost shape = { int64 };
+
+    ghost unique = { int64_laws.unique };
+
+    ghost sound = { int64_laws.sound };
+
+    fn from_cbor_value(_alloc: Global, value: Value) -> Result<Name> {
+        Ok(Name(Source::Tree(value).into_int64("int")?))
+    }
+
+    fn to_cbor_value(self, _alloc: Global) -> Result<Value> {
+        Ok(Value::from(self.0))
+    }
+}
+
+/// Settings: a level, a name that may be missing, and all else that the map holds, in order.
+#[derive(Debug, Drop, PartialEq, Eq)]
+pub struct Settings {
+    /// Label 1.
+    pub level: i64,
+    /// Label 2.
+    pub name: Option<Vec<u8>>,
+    /// The pairs of other labels.
+    pub rest: Vec<(Name, Value)>,
+}
+
+/// Settings of which some pairs were read.
+#[derive(Drop)]
+struct SoFar {
+    level: Option<i64>,
+    name: Option<Vec<u8>>,
+    rest: Vec<(Name, Value)>,
+}
+
+impl Gather for SoFar {
+    ghost use Rattle.coset_sample.specs.Settings.{names, fields, so_far_seen, names_laws, fields_laws};
+    ghost use Rattle.std.specs.Prelude.{Option, List, ℕ};
+
+    ghost Name = { ℤ };
+
+    ghost Got = { Option ℤ × (Option (List ℕ) × Unit {0}) };
+
+    ghost names = { names };
+
+    ghost fields = { fields };
+
+    ghost seen = { so_far_seen };
+
+    ghost lawful_names = { names_laws };
+
+    ghost lawful_fields = { fields_laws };
+
+    fn add(&mut self, alloc: Global, key: Source<'_>, value: Source<'_>) -> Result<()> {
+        let label = key.into_int64("int")?;
+        if label == 1 {
+            if self.level.is_some() {
+                return Err(CoseError::DuplicateMapKey);
+            }
+            self.level = Some(value.into_int64("int")?);
+            return Ok(());
+        }
+        if label == 2 {
+            if self.name.is_some() {
+                return Err(CoseError::DuplicateMapKey);
+            }
+            self.name = Some(value.into_bytes(alloc, "bstr")?);
+            return Ok(());
+        }
+        let value = value.into_value(alloc)?;
+        self.rest.push((Name(label), value))?;
+        Ok(())
+    }
+
+    fn repeats(&self, alloc: Global) -> Result<bool> {
+        has_repeats(alloc, &self.rest)
+    }
+}
+
+fn read_settings(alloc: Global, source: Source<'_>) -> Result<Settings>
+    ensures { Reads settings seen (source_item source.entry) result }
+{
+    let start = SoFar {
+        level: None,
+        name: None,
+        rest: Vec::new(alloc),
+    };
+    let SoFar { level, name, rest } = read_map(alloc, source, start)?;
+    let Some(level) = level else {
+        return Err(CoseError::UnexpectedItem("no level", "level"));
+    };
+    Ok(Settings { level, name, rest })
+}
+
+impl AsCborValue for Settings {
+    ghost use Rattle.coset_sample.specs.Settings.{Seen as SettingsSeen, settings_laws};
+
+    ghost Seen = { SettingsSeen };
+
+    ghost seen = { seen };
+
+    ghost shape = { settings };
+
+    ghost unique = { settings_laws.unique };
+
+    ghost sound = { settings_laws.sound };
+
+    fn from_cbor_value(alloc: Global, value: Value) -> Result<Settings> {
+        read_settings(alloc, Source::Tree(value))
+    }
+
+    fn to_cbor_value(self, alloc: Global) -> Result<Value> {
+        let Settings { level, name, rest } = self;
+        if has_repeats(alloc, &rest)? {
+            return Err(CoseError::DuplicateMapKey);
+        }
+        let fields = vec![in alloc;
+            (Name(1), Some(Value::from(level))),
+            (Name(2), optional_bytes(name)),
+        ]?;
+        labelled_value(alloc, fields, rest)
+    }
+}
+
+impl FromPull for Settings {
+    fn from_pull(alloc: Global, pull: Pull<'_>) -> Result<Settings> {
+        read_settings(alloc, Source::Lent(pull))
+    }
+}
+
+impl CborSerializable for Settings {}
+
+impl TaggedCborSerializable for Settings {
+    ghost TAG = { 1001 };
+
+    const TAG: u64 = 1001;
+}

@@ -1,0 +1,34 @@
+-- What the errors say, and which tell of a fault in what is read.
+use Rattle.std.specs.Prelude.{◌≡◌, ℕ, List, ◌++◌, codes, Option, Some, None, ⊤}
+use Rattle.coset_cbor.specs.declared.de.Error as decoding
+use Rattle.coset_shape.specs.declared.error.CoseError.{CoseError}
+use Rattle.coset_shape.specs.declared.error.CoseError.TheVariants.{DecodeFailed, DuplicateMapKey, EncodeFailed, ExtraneousData, OutOfRangeIntegerValue, UnexpectedItem, UnregisteredIanaValue, UnregisteredIanaNonPrivateValue, OutOfMemory}
+
+-- the text of an error; of a failed decoding tests show it
+abbrev pub error_text : CoseError → Option (List ℕ)
+error_text (DecodeFailed e) = None
+error_text DuplicateMapKey = Some (codes "duplicate map key")
+error_text EncodeFailed = Some (codes "encode CBOR failure")
+error_text ExtraneousData = Some (codes "extraneous data in CBOR input")
+error_text OutOfRangeIntegerValue = Some (codes "out of range integer value")
+error_text (UnexpectedItem got want) = Some (codes "got " ++ got.now ++ codes ", expected " ++ want.now)
+error_text UnregisteredIanaValue = Some (codes "expected recognized IANA value")
+error_text UnregisteredIanaNonPrivateValue = Some (codes "expected value in IANA or private use range")
+error_text OutOfMemory = Some (codes "out of memory")
+
+-- an item isn't as its place asks
+abbrev pub IsUnexpected : CoseError → Type 0
+IsUnexpected (UnexpectedItem got want) = ⊤
+IsUnexpected e = ⊥
+
+-- the error of a failed decoding: the end of the input whatever the reader's own error is, and want of memory as such
+abbrev pub decode_failure : {T : Type 0} → decoding.Error T → CoseError
+decode_failure (decoding.TheVariants.Io x) = DecodeFailed (decoding.TheVariants.Io (record {}))
+decode_failure (decoding.TheVariants.Syntax n) = DecodeFailed (decoding.TheVariants.Syntax n)
+decode_failure (decoding.TheVariants.Semantic n s) = DecodeFailed (decoding.TheVariants.Semantic n s)
+decode_failure decoding.TheVariants.RecursionLimitExceeded = DecodeFailed decoding.TheVariants.RecursionLimitExceeded
+decode_failure decoding.TheVariants.OutOfMemory = OutOfMemory
+
+-- what the error tells of stands; of want of memory nothing is said
+abbrev pub Names : CoseError → (CoseError → Type 0) → Type 0
+Names e stands = (e ≡ OutOfMemory → ⊥) → stands e

@@ -1,0 +1,36 @@
+-- Items of the kind that is asked for, and the errors that tell of another.
+use Rattle.std.specs.Prelude.{◌≡◌, ◌≢◌, ◌⊎◌, ℕ, List, [], codes, Option, Some, None, Result, Ok, Err}
+use Rattle.coset_value.specs.Item.{Item, integer, bytes, float, text, boolean, null, tag, array, dict}
+use Rattle.coset_value.specs.Parts.{as_bytes}
+use Rattle.coset_shape.specs.declared.error.CoseError.{CoseError}
+use Rattle.coset_shape.specs.declared.error.CoseError.TheVariants.{UnexpectedItem}
+use Rattle.coset_shape.specs.Errors.{IsUnexpected}
+
+-- the name of an item's kind in errors
+abbrev pub kind : Item → List ℕ
+kind (integer n) = codes "int"
+kind (bytes s) = codes "bstr"
+kind (float x) = codes "float"
+kind (text s) = codes "tstr"
+kind (boolean b) = codes "bool"
+kind null = codes "nul"
+kind (tag t v) = codes "tag"
+kind (array vs) = codes "array"
+kind (dict ps) = codes "map"
+
+-- the error is that an item isn't as its place asks, with these two texts: what it is, and what was asked for
+abbrev pub Says : List ℕ → List ℕ → CoseError → Type 0
+Says got want (UnexpectedItem g w) = (g.now ≡ got) × (w.now ≡ want)
+Says got want e = ⊥
+
+-- What the item holds, where `part` says that it is of the kind; else the error that names the kind that it has, and `want`
+abbrev pub Asks : {T A : Type 0} → (Item → Option A) → (T → A) → List ℕ → Item → Result T CoseError → Type 0
+Asks part seen want v (Ok x) = part v ≡ Some (seen x)
+Asks part seen want v (Err e) = (part v ≡ None) × IsUnexpected e × Says (kind v) want e
+
+-- The same of a byte string that isn't empty, with an error of its own for an empty one
+abbrev pub AsksFilled : {T : Type 0} → (T → List ℕ) → Item → Result T CoseError → Type 0
+AsksFilled seen v (Ok x) = (as_bytes v ≡ Some (seen x)) × (seen x ≢ [])
+AsksFilled seen v (Err e) =
+    ((as_bytes v ≡ None) × IsUnexpected e × Says (kind v) (codes "bstr") e)
+    ⊎ ((as_bytes v ≡ Some []) × IsUnexpected e × Says (codes "empty bstr") (codes "non-empty bstr") e)

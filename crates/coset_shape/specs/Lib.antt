@@ -1,0 +1,10 @@
+pub mod Errors
+pub mod Shape
+pub mod ShapeLaws
+pub mod Maps
+pub mod MapLaws
+pub mod RestLaws
+pub mod Answers
+pub mod Kinds
+pub mod Sources
+pub mod Lists

@@ -1,0 +1,19 @@
+//! What every type of COSE stands on: errors, the traits by which types are read and written, and the shapes that say
+//! which items stand for which values.
+#![tactic(auto)]
+
+pub mod error;
+pub mod laws;
+pub mod list;
+pub mod map;
+mod places;
+mod repeats;
+pub mod source;
+pub mod traits;
+pub mod util;
+
+pub use coset_cbor::EndOfFile;
+pub use error::{CallError, CoseError, Result};
+pub use repeats::has_repeats;
+pub use source::Source;
+pub use traits::{AsCborValue, CborSerializable, TaggedCborSerializable};

@@ -1,0 +1,224 @@
+//! How a type is read from CBOR and written to it.
+
+ghost use Rattle.std.specs.Prelude.{◌≡◌, ℕ, IfErr};
+ghost use Rattle.coset_cbor.specs.Item.{Item};
+ghost use Rattle.coset_cbor.specs.View.{view};
+ghost use Rattle.coset_cbor.specs.Pulls.{pull_item};
+ghost use Rattle.coset_cbor.specs.Grammar.{IsItem};
+ghost use Rattle.coset_shape.specs.declared.error.CoseError.{CoseError};
+ghost use Rattle.coset_shape.specs.declared.error.CoseError.TheVariants.{OutOfMemory};
+ghost use Rattle.coset_shape.specs.Answers.{Reads, Images, Writes, ReadsSlice, ReadsWhole, Untags, DescribesNothing};
+ghost use Rattle.coset_shape.specs.Errors.{Names};
+ghost use Rattle.coset_shape.specs.Shape.{Shape, any, tagged};
+
+use crate::error::{CoseError, Result};
+use crate::util::{ValueTryAs, pull_type_error};
+use coset_cbor::de::Pull;
+use coset_cbor::laws;
+use coset_cbor::ser::write_value;
+use coset_cbor::value::Value;
+use std::alloc::Global;
+
+/// A type whose values stand for items of CBOR.
+///
+/// An implementer says how contracts see its values (`Seen`, `seen`) and its shape: which items describe which values,
+/// what a value is written as, and which errors tell of a fault in an item. It proves that an item describes at most
+/// one value, and none where a fault stands in it.
+pub trait AsCborValue: Sized {
+    /// What contracts see of a value: all of it but where it lies in memory.
+    ghost Seen: { Type 0 };
+
+    ghost seen: { Self → Seen };
+
+    /// Which items stand for which values, what a value is written as, and what may be wrong with an item.
+    ghost shape: { Shape Seen };
+
+    /// Reads a value from an item.
+    ///
+    /// # Errors
+    /// Want of memory, or a fault that stands in the item; the item then describes no value.
+    fn from_cbor_value(alloc: Global, value: Value) -> Result<Self>
+        ensures { Reads shape seen (view value) result };
+
+    /// Makes the item that the value is written as.
+    ///
+    /// # Errors
+    /// Want of memory, or `DuplicateMapKey`, only where the value has no such item.
+    fn to_cbor_value(self, alloc: Global) -> Result<Value>
+        ensures { Images (shape.image (seen self)) view result };
+
+    /// An item describes at most one value.
+    ghost unique: { (v : Item) (x y : Seen) → shape.describes v x → shape.describes v y → x ≡ y };
+
+    /// Where a fault stands in an item, it describes no value.
+    ghost sound: { (v : Item) (x : Seen) (e : CoseError) → shape.describes v x → shape.faults v e → ⊥ };
+}
+
+/// The one item that the bytes are, lent. It takes no memory.
+fn whole(s: &[u8]) -> Result<Pull<'_>>
+    ensures whole { ReadsWhole pull_item s.now result }
+    ensures memory { IfErr result (λ e. e ≡ OutOfMemory → ⊥) }
+{
+    laws::one_item();
+    let (pull, rest) = Pull::new(s)?;
+    if !rest.is_empty() {
+        return Err(CoseError::ExtraneousData);
+    }
+    Ok(pull)
+}
+
+/// The one item that the bytes are.
+fn whole_value(alloc: Global, s: &[u8]) -> Result<Value>
+    ensures whole { ReadsWhole view s.now result }
+    ensures memory { IfErr result (λ e. e ≡ OutOfMemory → (v : Item) × IsItem s.now v) }
+{
+    Ok(whole(s)?.to_value(alloc)?)
+}
+
+/// The shortest text of an item (RFC 8949, section 4.2.1).
+fn text_of(alloc: Global, value: &Value) -> Result<Vec<u8>>
+    ensures { Writes (Some (view value.now)) (λ b. b.items) result }
+{
+    let mut text = Vec::new(alloc);
+    write_value(value, &mut text)?;
+    Ok(text)
+}
+
+/// Reading from bytes, and writing to them.
+pub trait CborSerializable: AsCborValue {
+    /// Reads a value from the one item that the bytes are.
+    ///
+    /// # Errors
+    /// Want of memory, or the first fault found: the bytes aren't an item within 256 levels (`DecodeFailed`), others
+    /// follow it (`ExtraneousData`), or a fault of the type stands in it. The bytes then describe no value.
+    fn from_slice(alloc: Global, s: &[u8]) -> Result<Self>
+        ensures read { ReadsSlice Self.shape Self.seen s.now result }
+        ensures refused { IfErr result (λ e. Names e (λ _. DescribesNothing Self.shape s.now)) }
+    {
+        Self::from_cbor_value(alloc, whole_value(alloc, s)?)
+    }
+
+    /// Writes the value as the shortest text of its item (RFC 8949, section 4.2.1).
+    ///
+    /// # Errors
+    /// Want of memory, or `DuplicateMapKey`, only where the value has no item.
+    fn to_vec(self, alloc: Global) -> Result<Vec<u8>>
+        ensures { Writes (Self.shape.image (Self.seen self)) (λ b. b.items) result }
+    {
+        let value = self.to_cbor_value(alloc)?;
+        text_of(alloc, &value)
+    }
+}
+
+/// Reading and writing under a tag of the type's own (RFC 8949, section 3.4).
+pub trait TaggedCborSerializable: AsCborValue {
+    ghost TAG: { ℕ };
+
+    /// The number of the tag.
+    const TAG: u64;
+
+    /// Reads a value from the one item that the bytes are, a tag of this number on the item of the value.
+    ///
+    /// # Errors
+    /// As of [`CborSerializable::from_slice`]; an item without a tag, or with another, is `UnexpectedItem`.
+    fn from_tagged_slice(alloc: Global, s: &[u8]) -> Result<Self>
+        ensures read { ReadsSlice (tagged TAG Self.shape) Self.seen s.now result }
+        ensures refused { IfErr result (λ e. Names e (λ _. DescribesNothing (tagged TAG Self.shape) s.now)) }
+    {
+        let (number, value) = whole_value(alloc, s)?.try_as_tag()?;
+        if number != Self::TAG {
+            return Err(CoseError::UnexpectedItem("tag", "other tag"));
+        }
+        Self::from_cbor_value(alloc, Box::into_inner(value))
+    }
+
+    /// Writes the value as the shortest text of its item under the tag (RFC 8949, section 4.2.1).
+    ///
+    /// # Errors
+    /// As of [`CborSerializable::to_vec`].
+    fn to_tagged_vec(self, alloc: Global) -> Result<Vec<u8>>
+        ensures { Writes ((tagged TAG Self.shape).image (Self.seen self)) (λ b. b.items) result }
+    {
+        let value = self.to_cbor_value(alloc)?;
+        text_of(alloc, &Value::Tag(Self::TAG, Box::new(alloc, value)?))
+    }
+}
+
+/// A value is read and written as it is.
+impl AsCborValue for Value {
+    ghost use Rattle.coset_shape.specs.ShapeLaws.{any_laws};
+
+    ghost Seen = { Item };
+
+    ghost seen = { view };
+
+    ghost shape = { any };
+
+    ghost unique = { any_laws.unique };
+
+    ghost sound = { any_laws.sound };
+
+    fn from_cbor_value(_alloc: Global, value: Value) -> Result<Value> {
+        Ok(value)
+    }
+
+    fn to_cbor_value(self, _alloc: Global) -> Result<Value> {
+        Ok(self)
+    }
+}
+
+impl CborSerializable for Value {}
+
+/// A type that is read straight from lent bytes, without a value in between.
+pub trait FromPull: AsCborValue {
+    /// Reads a value from a lent item.
+    ///
+    /// # Errors
+    /// As of [`AsCborValue::from_cbor_value`].
+    fn from_pull(alloc: Global, pull: Pull<'_>) -> Result<Self>
+        ensures { Reads Self.shape Self.seen (pull_item pull.entry) result };
+}
+
+impl FromPull for Value {
+    fn from_pull(alloc: Global, pull: Pull<'_>) -> Result<Value> {
+        Ok(pull.to_value(alloc)?)
+    }
+}
+
+/// What `from_slice` is made of for a type that is read from lent bytes. The answers are those of
+/// [`CborSerializable::from_slice`].
+///
+/// # Errors
+/// As of [`CborSerializable::from_slice`]; and bytes that aren't one item are refused without asking for memory.
+pub fn read_slice<T: FromPull>(alloc: Global, s: &[u8]) -> Result<T>
+    ensures read { ReadsSlice T.shape T.seen s.now result }
+    ensures refused { IfErr result (λ e. Names e (λ _. DescribesNothing T.shape s.now)) }
+    ensures memory { IfErr result (λ e. e ≡ OutOfMemory → (v : Item) × IsItem s.now v) }
+{
+    T::from_pull(alloc, whole(s)?)
+}
+
+/// The item under the tag of that number.
+fn untagged(number: u64, pull: Pull<'_>) -> Result<Pull<'_>>
+    ensures { Untags number (pull_item pull.entry) (λ p. pull_item p) result }
+{
+    match pull.tag() {
+        Some((found, inner)) if found == number => Ok(inner),
+        Some(_) => Err(CoseError::UnexpectedItem("tag", "other tag")),
+        None => Err(pull_type_error(pull, "tag")),
+    }
+}
+
+/// What `from_tagged_slice` is made of for a type that is read from lent bytes, under the tag of that number. The
+/// answers are those of [`TaggedCborSerializable::from_tagged_slice`].
+///
+/// # Errors
+/// As of [`TaggedCborSerializable::from_tagged_slice`]; and bytes that aren't one item are refused without asking for
+/// memory.
+pub fn read_tagged_slice<T: FromPull>(alloc: Global, number: u64, s: &[u8]) -> Result<T>
+    ensures read { ReadsSlice (tagged number T.shape) T.seen s.now result }
+    ensures refused { IfErr result (λ e. Names e (λ _. DescribesNothing (tagged number T.shape) s.now)) }
+    ensures memory { IfErr result (λ e. e ≡ OutOfMemory → (v : Item) × IsItem s.now v) }
+{
+    T::from_pull(alloc, untagged(number, whole(s)?)?)
+}
