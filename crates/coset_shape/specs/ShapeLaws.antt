@@ -131,8 +131,8 @@ module _ {A B : Type 0} (is_first : Item → Bool) (s : Shape A) (t : Shape B) (
   either_sound v (inr x) e p (inr f) = lt.sound v x e p.1 f.1
 
   module _
-    (first : (v : Item) (x : A) (w : Item) → is_first v ≡ true → s.describes v x → s.image x ≡ Some w → is_first w ≡ true)
-    (second : (v : Item) (y : B) (w : Item) → is_first v ≡ false → t.describes v y → t.image y ≡ Some w → is_first w ≡ false) where
+      (first : (v : Item) (x : A) (w : Item) → is_first v ≡ true → s.describes v x → s.image x ≡ Some w → is_first w ≡ true)
+      (second : (v : Item) (y : B) (w : Item) → is_first v ≡ false → t.describes v y → t.image y ≡ Some w → is_first w ≡ false) where
     either_again : (v : Item) (x : A ⊎ B) → (either is_first s t).describes v x → Again (A ⊎ B) (either is_first s t) v x
     either_again v (inl x) p =
         let a : Again A s v x = ls.again v x p.1 in
