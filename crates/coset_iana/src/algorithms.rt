@@ -185,7 +185,7 @@ pub enum Algorithm {
 }
 
 // In ascending order of their numbers.
-const ALGORITHMS: [Algorithm; 83] = [
+pub const ALGORITHMS: [Algorithm; 83] = [
     Algorithm::RS1,
     Algorithm::AesCtr128,
     Algorithm::AesCtr192,

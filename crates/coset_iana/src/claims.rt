@@ -160,7 +160,7 @@ pub enum CwtClaimName {
 }
 
 // In ascending order of their numbers.
-const CWT_CLAIM_NAMES: [CwtClaimName; 70] = [
+pub const CWT_CLAIM_NAMES: [CwtClaimName; 70] = [
     CwtClaimName::GlobalPlatformComponents,
     CwtClaimName::Hcert,
     CwtClaimName::EuphNonce,

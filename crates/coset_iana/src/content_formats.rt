@@ -171,7 +171,7 @@ pub enum CoapContentFormat {
 }
 
 // In ascending order of their numbers.
-const COAP_CONTENT_FORMATS: [CoapContentFormat; 79] = [
+pub const COAP_CONTENT_FORMATS: [CoapContentFormat; 79] = [
     CoapContentFormat::TextPlainUtf8,
     CoapContentFormat::CoseEncrypt0,
     CoapContentFormat::CoseMac0,

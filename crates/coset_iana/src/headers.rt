@@ -61,7 +61,7 @@ pub enum HeaderParameter {
 }
 
 // In ascending order of their numbers.
-const HEADER_PARAMETERS: [HeaderParameter; 22] = [
+pub const HEADER_PARAMETERS: [HeaderParameter; 22] = [
     HeaderParameter::Reserved,
     HeaderParameter::Alg,
     HeaderParameter::Crit,
@@ -160,7 +160,7 @@ pub enum HeaderAlgorithmParameter {
 }
 
 // In ascending order of their numbers.
-const HEADER_ALGORITHM_PARAMETERS: [HeaderAlgorithmParameter; 13] = [
+pub const HEADER_ALGORITHM_PARAMETERS: [HeaderAlgorithmParameter; 13] = [
     HeaderAlgorithmParameter::X5ChainSender,
     HeaderAlgorithmParameter::X5USender,
     HeaderAlgorithmParameter::X5TSender,

@@ -19,7 +19,7 @@ pub enum OkpKeyParameter {
 }
 
 // In ascending order of their numbers.
-const OKP_KEY_PARAMETERS: [OkpKeyParameter; 3] = [
+pub const OKP_KEY_PARAMETERS: [OkpKeyParameter; 3] = [
     OkpKeyParameter::D,
     OkpKeyParameter::X,
     OkpKeyParameter::Crv,
@@ -72,7 +72,7 @@ pub enum Ec2KeyParameter {
 }
 
 // In ascending order of their numbers.
-const EC2_KEY_PARAMETERS: [Ec2KeyParameter; 4] = [
+pub const EC2_KEY_PARAMETERS: [Ec2KeyParameter; 4] = [
     Ec2KeyParameter::D,
     Ec2KeyParameter::Y,
     Ec2KeyParameter::X,
@@ -142,7 +142,7 @@ pub enum RsaKeyParameter {
 }
 
 // In ascending order of their numbers.
-const RSA_KEY_PARAMETERS: [RsaKeyParameter; 12] = [
+pub const RSA_KEY_PARAMETERS: [RsaKeyParameter; 12] = [
     RsaKeyParameter::TI,
     RsaKeyParameter::DI,
     RsaKeyParameter::RI,
@@ -198,7 +198,7 @@ pub enum SymmetricKeyParameter {
 }
 
 // In ascending order of their numbers.
-const SYMMETRIC_KEY_PARAMETERS: [SymmetricKeyParameter; 1] = [SymmetricKeyParameter::K];
+pub const SYMMETRIC_KEY_PARAMETERS: [SymmetricKeyParameter; 1] = [SymmetricKeyParameter::K];
 
 impl Numbered for SymmetricKeyParameter {
     ghost use Rattle.coset_iana.specs.SymmetricKeyParameter.{number};
@@ -241,7 +241,7 @@ pub enum HssLmsKeyParameter {
 }
 
 // In ascending order of their numbers.
-const HSS_LMS_KEY_PARAMETERS: [HssLmsKeyParameter; 1] = [HssLmsKeyParameter::Pub];
+pub const HSS_LMS_KEY_PARAMETERS: [HssLmsKeyParameter; 1] = [HssLmsKeyParameter::Pub];
 
 impl Numbered for HssLmsKeyParameter {
     ghost use Rattle.coset_iana.specs.HssLmsKeyParameter.{number};
@@ -294,7 +294,7 @@ pub enum WalnutDsaKeyParameter {
 }
 
 // In ascending order of their numbers.
-const WALNUT_DSA_KEY_PARAMETERS: [WalnutDsaKeyParameter; 6] = [
+pub const WALNUT_DSA_KEY_PARAMETERS: [WalnutDsaKeyParameter; 6] = [
     WalnutDsaKeyParameter::Matrix2,
     WalnutDsaKeyParameter::Permutation1,
     WalnutDsaKeyParameter::Matrix1,
@@ -346,7 +346,7 @@ pub enum AkpKeyParameter {
 }
 
 // In ascending order of their numbers.
-const AKP_KEY_PARAMETERS: [AkpKeyParameter; 2] = [AkpKeyParameter::Priv, AkpKeyParameter::Pub];
+pub const AKP_KEY_PARAMETERS: [AkpKeyParameter; 2] = [AkpKeyParameter::Priv, AkpKeyParameter::Pub];
 
 impl Numbered for AkpKeyParameter {
     ghost use Rattle.coset_iana.specs.AkpKeyParameter.{number};

@@ -29,7 +29,7 @@ pub enum KeyParameter {
 }
 
 // In ascending order of their numbers.
-const KEY_PARAMETERS: [KeyParameter; 6] = [
+pub const KEY_PARAMETERS: [KeyParameter; 6] = [
     KeyParameter::Reserved,
     KeyParameter::Kty,
     KeyParameter::Kid,
@@ -93,7 +93,7 @@ pub enum KeyType {
 }
 
 // In ascending order of their numbers.
-const KEY_TYPES: [KeyType; 8] = [
+pub const KEY_TYPES: [KeyType; 8] = [
     KeyType::Reserved,
     KeyType::OKP,
     KeyType::EC2,
@@ -170,7 +170,7 @@ pub enum EllipticCurve {
 }
 
 // In ascending order of their numbers.
-const ELLIPTIC_CURVES: [EllipticCurve; 13] = [
+pub const ELLIPTIC_CURVES: [EllipticCurve; 13] = [
     EllipticCurve::Reserved,
     EllipticCurve::P_256,
     EllipticCurve::P_384,
@@ -253,7 +253,7 @@ pub enum KeyOperation {
 }
 
 // In ascending order of their numbers.
-const KEY_OPERATIONS: [KeyOperation; 10] = [
+pub const KEY_OPERATIONS: [KeyOperation; 10] = [
     KeyOperation::Sign,
     KeyOperation::Verify,
     KeyOperation::Encrypt,

@@ -29,7 +29,7 @@ pub enum CborTag {
 }
 
 // In ascending order of their numbers.
-const CBOR_TAGS: [CborTag; 8] = [
+pub const CBOR_TAGS: [CborTag; 8] = [
     CborTag::CoseEncrypt0,
     CborTag::CoseMac0,
     CborTag::CoseSign1,

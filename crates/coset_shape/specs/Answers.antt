@@ -43,10 +43,14 @@ IsNoItem s = (v : Item) → IsItem s v → ⊥
 abbrev pub IsOnlyItem : List ℕ → Item → Type 0
 IsOnlyItem s v = IsItem s v × ((w : Item) → IsItem s w → w ≡ v)
 
+-- an error that tells why the bytes are not one item
+abbrev pub IsWholeFault : List ℕ → CoseError → Type 0
+IsWholeFault s e = (IsByteFault s e ⊎ IsExtraneous s e) × IsNoItem s
+
 -- Reading the bytes s as one item, whatever it stands for
 abbrev pub ReadsWhole : {T : Type 0} → (T → Item) → List ℕ → Result T CoseError → Type 0
 ReadsWhole item_of s (Ok x) = IsOnlyItem s (item_of x)
-ReadsWhole item_of s (Err e) = Names e (λ f. (IsByteFault s f ⊎ IsExtraneous s f) × IsNoItem s)
+ReadsWhole item_of s (Err e) = Names e (IsWholeFault s)
 
 -- What is wrong with bytes that should be one item which the shape describes
 abbrev pub SliceFaults : {A : Type 0} → Shape A → List ℕ → CoseError → Type 0

@@ -5,6 +5,8 @@ pub mod Maps
 pub mod MapLaws
 pub mod RestLaws
 pub mod Answers
+pub mod Serialized
+pub mod SerializedLaws
 pub mod Kinds
 pub mod Sources
 pub mod Lists

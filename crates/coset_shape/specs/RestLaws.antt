@@ -1,9 +1,15 @@
 -- The rest of a map as it lies in memory, and as contracts see it: whether its labels repeat, and what it is written as.
 use Rattle.std.proofs.Common.{◌≡◌, ◌&&◌, List, [], ◌∷◌, ◌++◌, map, Option, Some, None, Bool, true, false, not, option_map, refl, sym, ◌∙◌, ap}
+use Rattle.std.specs.Prelude.{Result, Ok, Err, IfOk}
 use Rattle.std.specs.List.{list_all}
 use Rattle.std.specs.Map.{keys_of}
 use Rattle.coset_value.specs.Item.{Item, dict}
 use Rattle.coset_shape.specs.Maps.{Names, are_distinct, entries_image, may_write, named_image}
+
+-- what holds of each answer holds of the answer
+pub if_ok : {T E : Type 0} (r : Result T E) (P Q : T → Type 0) → ((x : T) → P x → Q x) → IfOk r P → IfOk r Q
+if_ok (Ok x) P Q f h = f x h
+if_ok (Err e) P Q f h = tt
 
 -- a pair as contracts see it
 abbrev pub as_seen : {K N V : Type 0} → (K → N) → (V → Item) → K × V → N × Item

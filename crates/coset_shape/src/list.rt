@@ -10,8 +10,8 @@ ghost use Rattle.coset_shape.specs.Answers.{Reads, Images};
 ghost use Rattle.coset_shape.specs.Errors.{Names};
 ghost use Rattle.coset_shape.specs.Kinds.{Says, kind};
 ghost use Rattle.coset_shape.specs.Lists.{LastHasNoImage};
-ghost use Rattle.coset_shape.specs.Maps.{optional};
-ghost use Rattle.coset_shape.specs.Shape.{images, list_of, some_of, bstr, or_nil};
+ghost use Rattle.coset_shape.specs.Maps.{optional, listed};
+ghost use Rattle.coset_shape.specs.Shape.{images, list_of, some_of, bstr, filled_bstr, or_nil};
 ghost use Rattle.coset_shape.specs.Sources.{source_item};
 
 use crate::error::{CoseError, Result};
@@ -133,5 +133,30 @@ pub fn optional_bytes(bytes: Option<Vec<u8>>) -> Option<Value>
     match bytes {
         Some(bytes) => Some(Value::Bytes(bytes)),
         None => None,
+    }
+}
+
+/// The value of a field that is left out where these bytes are none.
+pub fn filled_bytes(bytes: Vec<u8>) -> Option<Value>
+    ensures { (listed filled_bstr).image bytes.items ≡ Some (option_map view result) }
+{
+    if bytes.is_empty() {
+        None
+    } else {
+        Some(Value::Bytes(bytes))
+    }
+}
+
+/// The value of a field, where there is something for it.
+///
+/// # Errors
+/// As of [`AsCborValue::to_cbor_value`].
+pub fn optional_value<T: AsCborValue>(alloc: Global, field: Option<T>) -> Result<Option<Value>>
+    ensures ok { IfOk result (λ o. (optional T.shape).image (option_map T.seen field) ≡ Some (option_map view o)) }
+    ensures refused { IfErr result (λ e. Names e (λ f. (f ≡ DuplicateMapKey) × ((optional T.shape).image (option_map T.seen field) ≡ None))) }
+{
+    match field {
+        Some(field) => Ok(Some(field.to_cbor_value(alloc)?)),
+        None => Ok(None),
     }
 }

@@ -55,7 +55,10 @@ pub trait AsCborValue: Sized {
 }
 
 /// The one item that the bytes are, lent. It takes no memory.
-fn whole(s: &[u8]) -> Result<Pull<'_>>
+///
+/// # Errors
+/// Why they aren't one item within 256 levels (`DecodeFailed`), or that others follow it (`ExtraneousData`).
+pub fn whole(s: &[u8]) -> Result<Pull<'_>>
     ensures whole { ReadsWhole pull_item s.now result }
     ensures memory { IfErr result (λ e. e ≡ OutOfMemory → ⊥) }
 {

@@ -1,0 +1,3 @@
+pub mod Headers
+pub mod HeaderLaws
+pub mod Protected

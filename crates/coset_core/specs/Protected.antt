@@ -1,0 +1,52 @@
+-- Protected headers (RFC 8152, section 3): headers inside a byte string, which is kept as it was read.
+use Rattle.std.proofs.Common.{◌≡◌, ℕ, List, Option, None, option_map, refl, sym, ◌∙◌}
+use Rattle.coset_cbor.specs.Item.{Item}
+use Rattle.coset_shape.specs.Shape.{Shape, along}
+use Rattle.coset_shape.specs.ShapeLaws.{Again, Lawful, along_laws}
+use Rattle.coset_shape.specs.Serialized.{kept, serialized_or_empty}
+use Rattle.coset_shape.specs.SerializedLaws.{serialized_laws}
+use Rattle.coset_core.specs.Headers.{HeaderSeen, header_seen, empty_header, is_empty_header, header}
+use Rattle.coset_core.specs.HeaderLaws.{header_laws}
+use Rattle.coset_core.specs.declared.protected.ProtectedHeader.{ProtectedHeader}
+
+-- a protected header without its memory: the bytes as they were read, where it was read, and the header
+pub record ProtectedSeen : Type 0 where
+  pub original : Option (List ℕ)
+  pub header : HeaderSeen
+
+abbrev pub protected_seen : ProtectedHeader → ProtectedSeen
+protected_seen p = record { original = option_map (λ b. b.items) p.original_data; header = header_seen p.header }
+
+-- the bytes that stand for it in messages and under signatures: those that were read; else none where the header is
+-- empty; else the shortest text of its map, where it has one
+abbrev pub kept_bytes : ProtectedSeen → Option (List ℕ)
+kept_bytes p = kept is_empty_header header.image p.original p.header
+
+abbrev pub protected_of : Option (List ℕ) × HeaderSeen → ProtectedSeen
+protected_of p = record { original = p.0; header = p.1 }
+
+abbrev pub both_of : ProtectedSeen → Option (List ℕ) × HeaderSeen
+both_of p = (p.original, p.header)
+
+-- bstr .cbor header / bstr .size 0
+abbrev pub protected : Shape ProtectedSeen
+protected = along protected_of both_of (serialized_or_empty empty_header is_empty_header header)
+
+pub protected_laws : Lawful ProtectedSeen protected
+protected_laws = along_laws protected_of both_of (λ x. refl) _ (serialized_laws empty_header is_empty_header header header_laws)
+
+-- The map alone, outside a byte string: no bytes are kept
+abbrev pub bare : Shape ProtectedSeen
+bare = record { describes = λ v p. (p.original ≡ None) × header.describes v p.header; image = λ p. header.image p.header; faults = header.faults }
+
+pub bare_laws : Lawful ProtectedSeen bare
+bare_laws = record {
+  unique = λ v x y p q.
+      let same : x.original ≡ y.original = p.0 ∙ sym q.0 in
+      let held : x.header ≡ y.header = header_laws.unique v x.header y.header p.1 q.1 in
+      λ i. record { original = same i; header = held i };
+  again = λ v x p.
+      let a : Again HeaderSeen header v x.header = header_laws.again v x.header p.1 in
+      record { image = a.image; is_image = a.is_image; described = (p.0, a.described); shallow = a.shallow };
+  sound = λ v x e p f. header_laws.sound v x.header e p.1 f;
+}

@@ -1,0 +1,9 @@
+//! Headers of COSE messages (RFC 8152, section 3).
+#![tactic(auto)]
+
+mod header;
+mod protected;
+mod read;
+
+pub use header::Header;
+pub use protected::ProtectedHeader;
