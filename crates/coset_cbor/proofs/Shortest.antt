@@ -225,3 +225,39 @@ mutual
   definite_pairs_are_texts : (ps : Pairs) (b : List ℕ) → AreDefinitePairs ps b → ArePairTexts ps b
   definite_pairs_are_texts no_pairs b h = h
   definite_pairs_are_texts (pair k v ps) b h = (h.0, h.1, h.2, definite_is_text k h.0 h.3, definite_is_text v h.1 h.4, definite_pairs_are_texts ps h.2 h.5, h.6)
+
+-- ---- it is of an item in range
+
+holds_in_range : (p : Place) (n : ℕ) → Holds p n → n < 2 ^ 64
+holds_in_range within n h = omega arith
+holds_in_range one n h = omega arith
+holds_in_range two n h = omega arith
+holds_in_range four n h = omega arith
+holds_in_range eight n h = h
+
+headed_in_range : (m n : ℕ) (s b : List ℕ) → IsHeaded m n s b → n < 2 ^ 64
+headed_in_range m n s b is = holds_in_range is.is_head.place n is.is_head.holds
+
+mutual
+  -- An item with a definite text is in range.
+  pub definite_in_range : (v : Item) (b : List ℕ) → IsDefiniteText v b → IsInRange v
+  definite_in_range (integer (pos n)) b h = holds_in_range h.place n h.holds
+  definite_in_range (integer (negsuc n)) b h = holds_in_range h.place n h.holds
+  definite_in_range (bytes s) b h = headed_in_range 2 (length s) s b h.1
+  definite_in_range (float (half n)) b h = h.0
+  definite_in_range (float (single n)) b h = h.0
+  definite_in_range (float (double n)) b h = h.0
+  definite_in_range (text s) b h = (headed_in_range 3 (length s) s b h.1, h.0)
+  definite_in_range (boolean x) b h = tt
+  definite_in_range null b h = tt
+  definite_in_range (tag t v) b h = (headed_in_range 6 t h.0 b h.2, definite_in_range v h.0 h.1)
+  definite_in_range (array vs) b h = (headed_in_range 4 (items_count vs) h.0 b h.2, definites_in_range vs h.0 h.1)
+  definite_in_range (dict ps) b h = (headed_in_range 5 (pairs_count ps) h.0 b h.2, definite_pairs_in_range ps h.0 h.1)
+
+  definites_in_range : (vs : Items) (b : List ℕ) → AreDefiniteTexts vs b → AreInRange vs
+  definites_in_range no_items b h = tt
+  definites_in_range (item v vs) b h = (definite_in_range v h.0 h.2, definites_in_range vs h.1 h.3)
+
+  definite_pairs_in_range : (ps : Pairs) (b : List ℕ) → AreDefinitePairs ps b → ArePairsInRange ps
+  definite_pairs_in_range no_pairs b h = tt
+  definite_pairs_in_range (pair k v ps) b h = (definite_in_range k h.0 h.3, definite_in_range v h.1 h.4, definite_pairs_in_range ps h.2 h.5)

@@ -29,6 +29,17 @@ pub fn least_heads_are_shortest()
     ensures { (v : Item) (b : List ℕ) → IsInRange v → IsShort b v → b ≡ short v }
 {}
 
+/// The text of least heads is the shortest text of an item within CBOR's ranges. So an array's or map's shortest text is
+/// its head of least width, and then the shortest texts of what it holds.
+pub fn short_is_shortest()
+    ensures { (v : Item) → IsInRange v → IsShort (short v) v }
+{}
+
+/// An item with a shortest text lies within CBOR's ranges.
+pub fn shortest_is_in_range()
+    ensures { (v : Item) (b : List ℕ) → IsShort b v → IsInRange v }
+{}
+
 /// The shortest text of an item is a text of it.
 pub fn shortest_is_text()
     ensures { (v : Item) (b : List ℕ) → IsShort b v → IsText v b }

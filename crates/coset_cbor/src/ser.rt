@@ -1,12 +1,17 @@
-//! Writing a value as bytes (RFC 8949, section 4.2.1).
+//! Writing a value as bytes (RFC 8949, section 4.2.1), at once or part by part.
 
-ghost use Rattle.std.specs.Prelude.{◌≡◌, OnOk, OnErr};
+ghost use Rattle.std.specs.Prelude.{◌≡◌, ◌++◌, take, IsOk, OnOk, OnErr};
+ghost use Rattle.coset_value.specs.Item.{bytes, text, integer};
+ghost use Rattle.coset_value.specs.Range.{IsInRange};
 ghost use Rattle.coset_value.specs.View.{view};
+ghost use Rattle.coset_cbor.specs.Least.{least_head, short};
 ghost use Rattle.coset_cbor.specs.Shortest.{AppendsShort};
 
+use crate::head::Kind;
 use crate::memory::OutOfMemory;
-use crate::write::put;
-use coset_value::Value;
+use crate::write::{put, put_head, put_integer, put_string, put_text};
+use coset_value::{Integer, Value};
+use std::alloc::AllocError;
 use std::fmt;
 
 /// Why a value was not written. No call of this crate answers it: it stands for the errors of other writers.
@@ -34,7 +39,89 @@ pub fn write_value(value: &Value, out: &mut Vec<u8>) -> Result<(), OutOfMemory>
     ensures refused { OnErr result (out.new.items ≡ out.old.items) }
 {
     let before = out.len();
-    match put(out, value) {
+    let written = put(out, value);
+    settle(written, before, out)
+}
+
+/// Appends the shortest head of an array (RFC 8949, section 3.1, major type 4). So many items have to follow it.
+///
+/// # Errors
+/// As of [`write_value`].
+pub fn write_array_head(count: usize, out: &mut Vec<u8>) -> Result<(), OutOfMemory>
+    ensures ok { OnOk result (out.new.items ≡ out.old.items ++ least_head 4 count) }
+    ensures refused { OnErr result (out.new.items ≡ out.old.items) }
+{
+    let before = out.len();
+    let written = put_head(out, Kind::Array, count as u64);
+    settle(written, before, out)
+}
+
+/// Appends the shortest head of a map (RFC 8949, section 3.1, major type 5). So many pairs have to follow it.
+///
+/// # Errors
+/// As of [`write_value`].
+pub fn write_map_head(count: usize, out: &mut Vec<u8>) -> Result<(), OutOfMemory>
+    ensures ok { OnOk result (out.new.items ≡ out.old.items ++ least_head 5 count) }
+    ensures refused { OnErr result (out.new.items ≡ out.old.items) }
+{
+    let before = out.len();
+    let written = put_head(out, Kind::Map, count as u64);
+    settle(written, before, out)
+}
+
+/// Appends the shortest text of a byte string (RFC 8949, section 3.1, major type 2).
+///
+/// # Errors
+/// As of [`write_value`].
+pub fn write_bytes(content: &[u8], out: &mut Vec<u8>) -> Result<(), OutOfMemory>
+    ensures ok { OnOk result (out.new.items ≡ out.old.items ++ short (bytes content.now)) }
+    ensures in_range { OnOk result (IsInRange (bytes content.now)) }
+    ensures refused { OnErr result (out.new.items ≡ out.old.items) }
+{
+    let before = out.len();
+    let written = put_string(out, Kind::Bytes, content);
+    settle(written, before, out)
+}
+
+/// Appends the shortest text of a text string (RFC 8949, section 3.1, major type 3).
+///
+/// # Errors
+/// As of [`write_value`].
+pub fn write_text(content: &str, out: &mut Vec<u8>) -> Result<(), OutOfMemory>
+    ensures ok { OnOk result (out.new.items ≡ out.old.items ++ short (text content.now)) }
+    ensures in_range { OnOk result (IsInRange (text content.now)) }
+    ensures refused { OnErr result (out.new.items ≡ out.old.items) }
+{
+    let before = out.len();
+    let written = put_text(out, content);
+    settle(written, before, out)
+}
+
+/// Appends the shortest text of an integer (RFC 8949, section 3.1, major types 0 and 1).
+///
+/// # Errors
+/// As of [`write_value`].
+pub fn write_integer(n: Integer, out: &mut Vec<u8>) -> Result<(), OutOfMemory>
+    ensures ok { OnOk result (out.new.items ≡ out.old.items ++ short (integer n)) }
+    ensures in_range { OnOk result (IsInRange (integer n)) }
+    ensures refused { OnErr result (out.new.items ≡ out.old.items) }
+{
+    let before = out.len();
+    let written = put_integer(out, n);
+    settle(written, before, out)
+}
+
+/// The answer of a call that wrote. Where memory was wanting, what it left behind the first bytes is taken back.
+fn settle(
+    written: Result<(), AllocError>,
+    before: usize,
+    out: &mut Vec<u8>,
+) -> Result<(), OutOfMemory>
+    ensures ok { OnOk result (IsOk written) }
+    ensures same { OnOk result (out.new.items ≡ out.old.items) }
+    ensures refused { OnErr result (out.new.items ≡ take before out.old.items) }
+{
+    match written {
         Ok(()) => Ok(()),
         Err(_) => {
             out.truncate(before);

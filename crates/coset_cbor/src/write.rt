@@ -39,7 +39,7 @@ fn put_two(out: &mut Vec<u8>, first: u8, more: &[u8]) -> Result<(), AllocError>
 
 /// Writes the shortest head of this type with argument `n`.
 #[tactic(auto, unfolding(crate::specs::Least::least_head))]
-fn put_head(out: &mut Vec<u8>, kind: Kind, n: u64) -> Result<(), AllocError>
+pub(crate) fn put_head(out: &mut Vec<u8>, kind: Kind, n: u64) -> Result<(), AllocError>
     ensures ok { OnOk result (out.new.items ≡ out.old.items ++ least_head (type_of kind) n) }
     ensures kept { Extends out.old.items out.new.items }
 {
@@ -68,7 +68,7 @@ fn put_float(out: &mut Vec<u8>, float: Float) -> Result<(), AllocError>
     }
 }
 
-fn put_integer(out: &mut Vec<u8>, n: Integer) -> Result<(), AllocError>
+pub(crate) fn put_integer(out: &mut Vec<u8>, n: Integer) -> Result<(), AllocError>
     ensures ok { OnOk result (out.new.items ≡ out.old.items ++ short_integer n) }
     ensures in_range { OnOk result (IsIntegerInRange n) }
     ensures kept { Extends out.old.items out.new.items }
@@ -82,7 +82,7 @@ fn put_integer(out: &mut Vec<u8>, n: Integer) -> Result<(), AllocError>
 }
 
 /// Writes a head with the length, and the bytes.
-fn put_string(out: &mut Vec<u8>, kind: Kind, bytes: &[u8]) -> Result<(), AllocError>
+pub(crate) fn put_string(out: &mut Vec<u8>, kind: Kind, bytes: &[u8]) -> Result<(), AllocError>
     ensures ok { OnOk result (out.new.items ≡ out.old.items
         ++ (least_head (type_of kind) (length bytes.now) ++ bytes.now)) }
     ensures in_range { OnOk result (length bytes.now < 2 ^ 64) }
@@ -94,7 +94,7 @@ fn put_string(out: &mut Vec<u8>, kind: Kind, bytes: &[u8]) -> Result<(), AllocEr
 }
 
 /// Writes a text: a head with the length, and the bytes.
-fn put_text(out: &mut Vec<u8>, text: &str) -> Result<(), AllocError>
+pub(crate) fn put_text(out: &mut Vec<u8>, text: &str) -> Result<(), AllocError>
     ensures ok { OnOk result (out.new.items ≡ out.old.items ++ (least_head 3 (length text.now) ++ text.now)) }
     ensures in_range { OnOk result ((length text.now < 2 ^ 64) × IsUtf8 text.now) }
     ensures kept { Extends out.old.items out.new.items }

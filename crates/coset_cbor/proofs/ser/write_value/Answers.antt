@@ -1,11 +1,13 @@
-use Rattle.coset_value.specs.View.{view}
+use Rattle.std.proofs.Common.{◌≡◌, ℕ, List, ◌++◌, rules}
+use Rattle.coset_value.specs.Item.{Item}
+use Rattle.coset_value.specs.Range.{IsInRange}
 use Rattle.coset_cbor.specs.Least.{short}
+use Rattle.coset_cbor.specs.Shortest.{AppendsShort}
 use Rattle.coset_cbor.proofs.Shortest.{short_is_short}
 use Rattle.coset_cbor.proofs.ser.write_value.Goals as goal
 
-pub returns-in-Ok-clause-ok : goal.returns-in-Ok-clause-ok
-returns-in-Ok-clause-ok c = record {
-  text = short (view c.args.value.now);
-  is_short = short_is_short (view c.args.value.now) c.in-Ok.ensures.in_range;
-  parts = c.in-Ok.ensures.ok;
-}
+appends : (old new : List ℕ) (v : Item) → IsInRange v → new ≡ old ++ short v → AppendsShort old new v
+appends old new v h e = record { text = short v; is_short = short_is_short v h; parts = e }
+
+pub returns-clause-ok : goal.returns-clause-ok
+returns-clause-ok c = search (rules, appends)
