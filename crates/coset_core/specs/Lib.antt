@@ -1,3 +1,4 @@
 pub mod Headers
 pub mod HeaderLaws
 pub mod Protected
+pub mod Written

@@ -1,12 +1,15 @@
 -- Protected headers (RFC 8152, section 3): headers inside a byte string, which is kept as it was read.
-use Rattle.std.proofs.Common.{◌≡◌, ℕ, List, Option, None, option_map, refl, sym, ◌∙◌}
+use Rattle.std.proofs.Common.{◌≡◌, ℕ, List, Option, None, Result, Ok, Err, option_map, refl, sym, ◌∙◌}
 use Rattle.coset_cbor.specs.Item.{Item}
 use Rattle.coset_shape.specs.Shape.{Shape, along}
 use Rattle.coset_shape.specs.ShapeLaws.{Again, Lawful, along_laws}
-use Rattle.coset_shape.specs.Serialized.{kept, serialized_or_empty}
+use Rattle.coset_shape.specs.declared.error.CoseError.{CoseError}
+use Rattle.coset_shape.specs.Errors.{Names as Tells}
+use Rattle.coset_shape.specs.Serialized.{ContentDescribes, ContentFaults, kept, serialized_or_empty}
 use Rattle.coset_shape.specs.SerializedLaws.{serialized_laws}
 use Rattle.coset_core.specs.Headers.{HeaderSeen, header_seen, empty_header, is_empty_header, header}
 use Rattle.coset_core.specs.HeaderLaws.{header_laws}
+use Rattle.coset_core.specs.declared.header.Header.{Header}
 use Rattle.coset_core.specs.declared.protected.ProtectedHeader.{ProtectedHeader}
 
 -- a protected header without its memory: the bytes as they were read, where it was read, and the header
@@ -34,6 +37,11 @@ protected = along protected_of both_of (serialized_or_empty empty_header is_empt
 
 pub protected_laws : Lawful ProtectedSeen protected
 protected_laws = along_laws protected_of both_of (λ x. refl) _ (serialized_laws empty_header is_empty_header header header_laws)
+
+-- Reading what the string holds
+abbrev pub ReadsContent : List ℕ → Result Header CoseError → Type 0
+ReadsContent b (Ok h) = ContentDescribes empty_header header b (header_seen h)
+ReadsContent b (Err e) = Tells e (ContentFaults header b)
 
 -- The map alone, outside a byte string: no bytes are kept
 abbrev pub bare : Shape ProtectedSeen

@@ -4,6 +4,7 @@
 mod header;
 mod protected;
 mod read;
+mod write;
 
 pub use header::Header;
 pub use protected::ProtectedHeader;

@@ -1,18 +1,29 @@
 //! Protected headers: those that a signature covers, kept as they were read.
 
-ghost use Rattle.std.specs.Prelude.{◌≡◌, None};
-ghost use Rattle.coset_shape.specs.Answers.{Reads};
+ghost use Rattle.std.specs.Prelude.{◌≡◌, Some, None, option_map, IfOk, IfErr};
+ghost use Rattle.std.specs.Cow.{cow_slice_items};
+ghost use Rattle.coset_value.specs.View.{view};
+ghost use Rattle.coset_cbor.specs.Pulls.{pull_item};
+ghost use Rattle.coset_cbor.specs.Shortest.{IsShort};
+ghost use Rattle.coset_value.specs.Item.{Item, bytes};
+ghost use Rattle.coset_shape.specs.declared.error.CoseError.TheVariants.{DuplicateMapKey};
+ghost use Rattle.coset_shape.specs.Answers.{Reads, Images};
+ghost use Rattle.coset_shape.specs.Errors.{Names};
+ghost use Rattle.coset_shape.specs.Serialized.{fresh};
 ghost use Rattle.coset_shape.specs.Sources.{source_item};
-ghost use Rattle.coset_core.specs.Headers.{empty_header, is_empty_header, header_seen};
-ghost use Rattle.coset_core.specs.Protected.{protected, protected_seen};
+ghost use Rattle.coset_core.specs.Headers.{empty_header, is_empty_header, header as header_shape, header_seen};
+ghost use Rattle.coset_core.specs.Protected.{ReadsContent, protected, protected_seen, kept_bytes, bare, bare_laws};
 
 use crate::header::Header;
 use crate::read::read_header;
+use crate::write::write_header;
 use coset_cbor::de::Pull;
+use coset_cbor::laws;
 use coset_cbor::value::Value;
-use coset_shape::traits::whole;
-use coset_shape::{CoseError, Result, Source};
+use coset_shape::traits::{FromPull, read_slice, whole};
+use coset_shape::{AsCborValue, CborSerializable, Result, Source};
 use std::alloc::Global;
+use std::borrow::CowSlice;
 
 /// A protected header (RFC 8152, section 3).
 #[derive(Debug, Drop)]
@@ -21,6 +32,50 @@ pub struct ProtectedHeader {
     pub original_data: Option<Vec<u8>>,
     /// The header.
     pub header: Header,
+}
+
+/// The header that the content of a byte string is: none is the empty one.
+fn read_content(alloc: Global, content: &[u8]) -> Result<Header>
+    ensures { ReadsContent content.now result }
+{
+    if content.is_empty() {
+        return Ok(Header::new(alloc));
+    }
+    read_header(alloc, Source::Lent(whole(content)?))
+}
+
+/// Reads a protected header from its byte string.
+fn read_protected(alloc: Global, source: Source<'_>) -> Result<ProtectedHeader>
+    ensures { Reads protected protected_seen (source_item source.entry) result }
+{
+    let content = source.into_bytes(alloc, "bstr")?;
+    let header = read_content(alloc, &content)?;
+    Ok(ProtectedHeader {
+        original_data: Some(content),
+        header,
+    })
+}
+
+/// A protected header that wasn't read from a byte string.
+fn unread(header: Header) -> ProtectedHeader
+    ensures { protected_seen result ≡ record { original = None; header = header_seen header } }
+{
+    ProtectedHeader {
+        original_data: None,
+        header,
+    }
+}
+
+/// The bytes of a header that wasn't read.
+fn fresh_bytes(alloc: Global, header: &Header) -> Result<Vec<u8>>
+    ensures ok { IfOk result (λ b. fresh (is_empty_header (header_seen header.now)) (header_shape.image (header_seen header.now)) ≡ Some b.items) }
+    ensures refused { IfErr result (λ e. Names e (λ f. (f ≡ DuplicateMapKey) × (fresh (is_empty_header (header_seen header.now)) (header_shape.image (header_seen header.now)) ≡ None))) }
+{
+    let mut bytes = Vec::new(alloc);
+    if !header.is_empty() {
+        write_header(alloc, header, &mut bytes)?;
+    }
+    Ok(bytes)
 }
 
 impl ProtectedHeader {
@@ -40,5 +95,94 @@ impl ProtectedHeader {
         ensures { result ≡ is_empty_header (header_seen self.now.header) }
     {
         self.header.is_empty()
+    }
+
+    /// Reads a protected header from the byte string that holds it, and keeps its bytes.
+    ///
+    /// # Errors
+    /// Want of memory, or the first fault found: the value is no byte string (`UnexpectedItem`), what it holds isn't an
+    /// item within 256 levels (`DecodeFailed`), others follow that (`ExtraneousData`), or it isn't a header.
+    pub fn from_cbor_bstr(alloc: Global, value: Value) -> Result<ProtectedHeader>
+        ensures { Reads protected protected_seen (view value) result }
+    {
+        read_protected(alloc, Source::Tree(value))
+    }
+
+    /// The same from a lent item.
+    ///
+    /// # Errors
+    /// As of [`ProtectedHeader::from_cbor_bstr`].
+    pub fn from_pull_bstr(alloc: Global, pull: Pull<'_>) -> Result<ProtectedHeader>
+        ensures { Reads protected protected_seen (pull_item pull.entry) result }
+    {
+        read_protected(alloc, Source::Lent(pull))
+    }
+
+    /// The bytes that stand for the header in messages and under signatures (RFC 8152, sections 3 and 4.4): those that
+    /// were read; else none where the header is empty; else the shortest text of its map.
+    ///
+    /// # Errors
+    /// Want of memory, or `DuplicateMapKey` where no bytes were read and a label of the header's rest stands twice.
+    pub fn kept_bytes(&self, alloc: Global) -> Result<CowSlice<'_, u8, Global>>
+        ensures ok { IfOk result (λ b. kept_bytes (protected_seen self.now) ≡ Some (cow_slice_items b)) }
+        ensures refused { IfErr result (λ e. Names e (λ f. (f ≡ DuplicateMapKey) × (kept_bytes (protected_seen self.now) ≡ None))) }
+    {
+        if let Some(bytes) = &self.original_data {
+            return Ok(CowSlice::Borrowed(bytes));
+        }
+        Ok(CowSlice::Owned(fresh_bytes(alloc, &self.header)?))
+    }
+
+    /// The byte string that stands for the header in messages.
+    ///
+    /// # Errors
+    /// As of [`ProtectedHeader::kept_bytes`].
+    pub fn cbor_bstr(self, alloc: Global) -> Result<Value>
+        ensures { Images (protected.image (protected_seen self)) view result }
+    {
+        let ProtectedHeader {
+            original_data,
+            header,
+        } = self;
+        match original_data {
+            Some(bytes) => Ok(Value::Bytes(bytes)),
+            None => Ok(Value::Bytes(fresh_bytes(alloc, &header)?)),
+        }
+    }
+}
+
+impl AsCborValue for ProtectedHeader {
+    ghost use Rattle.coset_core.specs.Protected.{ProtectedSeen};
+
+    ghost Seen = { ProtectedSeen };
+
+    ghost seen = { protected_seen };
+
+    ghost shape = { bare };
+
+    ghost unique = { bare_laws.unique };
+
+    ghost sound = { bare_laws.sound };
+
+    /// Reads the header from its map. No bytes are kept.
+    fn from_cbor_value(alloc: Global, value: Value) -> Result<ProtectedHeader> {
+        Ok(unread(read_header(alloc, Source::Tree(value))?))
+    }
+
+    /// Writes the header's map, whatever bytes were kept.
+    fn to_cbor_value(self, alloc: Global) -> Result<Value> {
+        self.header.to_cbor_value(alloc)
+    }
+}
+
+impl FromPull for ProtectedHeader {
+    fn from_pull(alloc: Global, pull: Pull<'_>) -> Result<ProtectedHeader> {
+        Ok(unread(read_header(alloc, Source::Lent(pull))?))
+    }
+}
+
+impl CborSerializable for ProtectedHeader {
+    fn from_slice(alloc: Global, s: &[u8]) -> Result<ProtectedHeader> {
+        read_slice(alloc, s)
     }
 }
