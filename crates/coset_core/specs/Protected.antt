@@ -1,6 +1,7 @@
 -- Protected headers (RFC 8152, section 3): headers inside a byte string, which is kept as it was read.
-use Rattle.std.proofs.Common.{◌≡◌, ℕ, List, Option, None, Result, Ok, Err, option_map, refl, sym, ◌∙◌}
+use Rattle.std.proofs.Common.{◌≡◌, ℕ, List, Option, None, Result, Ok, Err, false, option_map, refl, sym, ◌∙◌}
 use Rattle.coset_cbor.specs.Item.{Item}
+use Rattle.coset_cbor.specs.Shortest.{IsShort}
 use Rattle.coset_shape.specs.Shape.{Shape, along}
 use Rattle.coset_shape.specs.ShapeLaws.{Again, Lawful, along_laws}
 use Rattle.coset_shape.specs.declared.error.CoseError.{CoseError}
@@ -24,6 +25,10 @@ protected_seen p = record { original = option_map (λ b. b.items) p.original_dat
 -- empty; else the shortest text of its map, where it has one
 abbrev pub kept_bytes : ProtectedSeen → Option (List ℕ)
 kept_bytes p = kept is_empty_header header.image p.original p.header
+
+-- of a header that isn't empty and wasn't read, the bytes are the shortest text of its map
+abbrev pub AreShortest : ProtectedSeen → List ℕ → Type 0
+AreShortest p b = p.original ≡ None → is_empty_header p.header ≡ false → (v : Item) → header.image p.header ≡ Some v → IsShort b v
 
 abbrev pub protected_of : Option (List ℕ) × HeaderSeen → ProtectedSeen
 protected_of p = record { original = p.0; header = p.1 }

@@ -1,6 +1,6 @@
 //! Protected headers: those that a signature covers, kept as they were read.
 
-ghost use Rattle.std.specs.Prelude.{◌≡◌, Some, None, option_map, IfOk, IfErr};
+ghost use Rattle.std.specs.Prelude.{◌≡◌, ℕ, List, false, Some, None, IfOk, IfErr};
 ghost use Rattle.std.specs.Cow.{cow_slice_items};
 ghost use Rattle.coset_value.specs.View.{view};
 ghost use Rattle.coset_cbor.specs.Pulls.{pull_item};
@@ -12,7 +12,7 @@ ghost use Rattle.coset_shape.specs.Errors.{Names};
 ghost use Rattle.coset_shape.specs.Serialized.{fresh};
 ghost use Rattle.coset_shape.specs.Sources.{source_item};
 ghost use Rattle.coset_core.specs.Headers.{empty_header, is_empty_header, header as header_shape, header_seen};
-ghost use Rattle.coset_core.specs.Protected.{ReadsContent, protected, protected_seen, kept_bytes, bare, bare_laws};
+ghost use Rattle.coset_core.specs.Protected.{ReadsContent, protected, protected_seen, kept_bytes, AreShortest, bare, bare_laws};
 
 use crate::header::Header;
 use crate::read::read_header;
@@ -69,8 +69,11 @@ fn unread(header: Header) -> ProtectedHeader
 /// The bytes of a header that wasn't read.
 fn fresh_bytes(alloc: Global, header: &Header) -> Result<Vec<u8>>
     ensures ok { IfOk result (λ b. fresh (is_empty_header (header_seen header.now)) (header_shape.image (header_seen header.now)) ≡ Some b.items) }
+    ensures shortest { IfOk result (λ b. is_empty_header (header_seen header.now) ≡ false
+        → (v : Item) → header_shape.image (header_seen header.now) ≡ Some v → IsShort b.items v) }
     ensures refused { IfErr result (λ e. Names e (λ f. (f ≡ DuplicateMapKey) × (fresh (is_empty_header (header_seen header.now)) (header_shape.image (header_seen header.now)) ≡ None))) }
 {
+    laws::short_is_shortest();
     let mut bytes = Vec::new(alloc);
     if !header.is_empty() {
         write_header(alloc, header, &mut bytes)?;
@@ -125,6 +128,7 @@ impl ProtectedHeader {
     /// Want of memory, or `DuplicateMapKey` where no bytes were read and a label of the header's rest stands twice.
     pub fn kept_bytes(&self, alloc: Global) -> Result<CowSlice<'_, u8, Global>>
         ensures ok { IfOk result (λ b. kept_bytes (protected_seen self.now) ≡ Some (cow_slice_items b)) }
+        ensures shortest { IfOk result (λ b. AreShortest (protected_seen self.now) (cow_slice_items b)) }
         ensures refused { IfErr result (λ e. Names e (λ f. (f ≡ DuplicateMapKey) × (kept_bytes (protected_seen self.now) ≡ None))) }
     {
         if let Some(bytes) = &self.original_data {
@@ -139,6 +143,7 @@ impl ProtectedHeader {
     /// As of [`ProtectedHeader::kept_bytes`].
     pub fn cbor_bstr(self, alloc: Global) -> Result<Value>
         ensures { Images (protected.image (protected_seen self)) view result }
+        ensures shortest { IfOk result (λ v. (b : List ℕ) → view v ≡ bytes b → AreShortest (protected_seen self) b) }
     {
         let ProtectedHeader {
             original_data,
