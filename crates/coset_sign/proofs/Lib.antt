@@ -1,0 +1,2 @@
+pub mod Structures
+pub mod Signatures

@@ -1,0 +1,21 @@
+-- The structure that is signed (RFC 8152, section 4.4).
+use Rattle.std.specs.Prelude.{ℕ, List, [], ◌∷◌, Option, Some, None, codes}
+use Rattle.coset_value.specs.Item.{Item}
+use Rattle.coset_sign.specs.declared.signature.SignatureContext.{SignatureContext}
+use Rattle.coset_sign.specs.declared.signature.SignatureContext.TheVariants.{CoseSignature, CoseSign1, CounterSignature}
+use Rattle.coset_sign.specs.Structure.{structure}
+
+-- context : "Signature" / "Signature1" / "CounterSignature"
+abbrev pub context_text : SignatureContext → List ℕ
+context_text CoseSignature = codes "Signature"
+context_text CoseSign1 = codes "Signature1"
+context_text CounterSignature = codes "CounterSignature"
+
+-- body_protected : bstr, ? sign_protected : bstr, external_aad : bstr, payload : bstr
+abbrev pub signed_parts : List ℕ → Option (List ℕ) → List ℕ → List ℕ → List (List ℕ)
+signed_parts body None aad payload = body ∷ aad ∷ payload ∷ []
+signed_parts body (Some signer) aad payload = body ∷ signer ∷ aad ∷ payload ∷ []
+
+-- Sig_structure: the context, and then these
+abbrev pub signature_structure : SignatureContext → List ℕ → Option (List ℕ) → List ℕ → List ℕ → Item
+signature_structure context body signer aad payload = structure (context_text context) (signed_parts body signer aad payload)

@@ -1,0 +1,27 @@
+//! Laws of the structures, which callers may cite. Each is the contract of a function that does nothing.
+
+ghost use Rattle.std.specs.Prelude.{◌≡◌, ℕ, List, Option};
+ghost use Rattle.coset_cbor.specs.Shortest.{IsShort};
+ghost use Rattle.coset_sign.specs.Structure.{structure};
+ghost use Rattle.coset_sign.specs.SignatureStructure.{signature_structure};
+ghost use Rattle.coset_sign.specs.declared.signature.SignatureContext.{SignatureContext};
+
+use coset_cbor::laws::{one_item, shortest_is_text};
+
+/// Bytes are the structure of at most one context and one list of parts.
+pub fn one_structure()
+    ensures { (c d b : List ℕ) (p q : List (List ℕ)) → IsShort b (structure c p) → IsShort b (structure d q)
+        → (c ≡ d) × (p ≡ q) }
+{
+    one_item();
+    shortest_is_text();
+}
+
+/// What is signed is of one context, one body, one signer or none, one external data and one payload alone.
+pub fn one_signature_structure()
+    ensures { (c d : SignatureContext) (p q : List ℕ) (s t : Option (List ℕ)) (a x l m b : List ℕ)
+        → IsShort b (signature_structure c p s a l) → IsShort b (signature_structure d q t x m)
+        → (c ≡ d) × (p ≡ q) × (s ≡ t) × (a ≡ x) × (l ≡ m) }
+{
+    one_structure();
+}

@@ -1,0 +1,72 @@
+//! The structure that is signed (RFC 8152, section 4.4).
+
+ghost use Rattle.std.specs.Prelude.{◌≡◌, IfOk, IfErr};
+ghost use Rattle.std.specs.Option.{option_copied};
+ghost use Rattle.coset_cbor.specs.Shortest.{IsShort};
+ghost use Rattle.coset_shape.specs.declared.error.CoseError.TheVariants.{OutOfMemory};
+ghost use Rattle.coset_sign.specs.SignatureStructure.{signature_structure};
+
+use crate::structure::structure_bytes;
+use coset_shape::Result;
+use std::alloc::Global;
+
+/// What a signature is part of (RFC 8152, section 4.4). It stands in the signed bytes, so that a signature made for the one
+/// is none for another.
+#[derive(Clone, Copy, Debug, PartialEq, Eq)]
+pub enum SignatureContext {
+    /// A signature of a `COSE_Sign` message, by one of its signers.
+    CoseSignature,
+    /// The signature of a `COSE_Sign1` message.
+    CoseSign1,
+    /// A counter signature, over any structure with a body (section 4.5).
+    CounterSignature,
+}
+
+impl SignatureContext {
+    ghost use Rattle.coset_sign.specs.SignatureStructure.{context_text};
+
+    /// Its text in the structure.
+    fn text(self) -> &'static str
+        ensures { result.now ≡ context_text self }
+    {
+        match self {
+            SignatureContext::CoseSignature => "Signature",
+            SignatureContext::CoseSign1 => "Signature1",
+            SignatureContext::CounterSignature => "CounterSignature",
+        }
+    }
+}
+
+/// The bytes that are signed: the shortest text of
+///
+/// ```text
+/// Sig_structure = [
+///     context : "Signature" / "Signature1" / "CounterSignature",
+///     body_protected : bstr,
+///     ? sign_protected : bstr,
+///     external_aad : bstr,
+///     payload : bstr
+/// ]
+/// ```
+///
+/// `body` and `signer` are the contents of the protected headers; there is no `signer` under `COSE_Sign1`.
+///
+/// # Errors
+/// Want of memory alone.
+pub(crate) fn signature_structure_bytes(
+    alloc: Global,
+    context: SignatureContext,
+    body: &[u8],
+    signer: Option<&[u8]>,
+    aad: &[u8],
+    payload: &[u8],
+) -> Result<Vec<u8>>
+    ensures text { IfOk result (λ b. IsShort b.items
+        (signature_structure context body.now (option_copied signer.entry) aad.now payload.now)) }
+    ensures memory { IfErr result (λ e. e ≡ OutOfMemory) }
+{
+    match signer {
+        Some(signer) => structure_bytes(alloc, context.text(), &[body, signer, aad, payload]),
+        None => structure_bytes(alloc, context.text(), &[body, aad, payload]),
+    }
+}

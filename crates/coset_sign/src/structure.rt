@@ -1,0 +1,44 @@
+//! The structures whose bytes are signed or authenticated, or go with a ciphertext (RFC 8152, sections 4.4, 5.3 and 6.3).
+
+ghost use Rattle.std.specs.Prelude.{◌≡◌, map, IfOk, IfErr};
+ghost use Rattle.coset_cbor.specs.Shortest.{IsShort};
+ghost use Rattle.coset_shape.specs.declared.error.CoseError.TheVariants.{OutOfMemory};
+ghost use Rattle.coset_sign.specs.Structure.{structure};
+
+use coset_cbor::laws::short_is_shortest;
+use coset_cbor::ser::{write_array_head, write_bytes, write_text};
+use coset_shape::Result;
+use std::alloc::Global;
+
+/// No head is longer (RFC 8949, section 3).
+const LONGEST_HEAD: usize = 9;
+
+/// The shortest text of an array of a context and byte strings. It is written straight from these, into a vector that is
+/// made large enough at once.
+///
+/// # Errors
+/// Want of memory alone.
+pub fn structure_bytes(alloc: Global, context: &str, parts: &[&[u8]]) -> Result<Vec<u8>>
+    ensures text { IfOk result (λ b. IsShort b.items (structure context.now (map (λ part. part.now) parts.now))) }
+    ensures memory { IfErr result (λ e. e ≡ OutOfMemory) }
+{
+    let mut out = Vec::with_capacity(alloc, room_for(context, parts))?;
+    write_array_head(parts.len() + 1, &mut out)?;
+    write_text(context, &mut out)?;
+    for part in parts {
+        write_bytes(part, &mut out)?;
+    }
+    short_is_shortest();
+    Ok(out)
+}
+
+/// As many bytes as these take at most, each behind its head.
+fn room_for(context: &str, parts: &[&[u8]]) -> usize {
+    let mut room = LONGEST_HEAD
+        .saturating_add(LONGEST_HEAD)
+        .saturating_add(context.len());
+    for part in parts {
+        room = room.saturating_add(LONGEST_HEAD).saturating_add(part.len());
+    }
+    room
+}
