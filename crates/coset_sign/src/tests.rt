@@ -1,6 +1,7 @@
-//! Worked rows of the structures that are signed.
+//! Worked rows of structures, and that their bytes are made room for at once.
 
 use crate::signature::{SignatureContext, signature_structure_bytes};
+use crate::structure::structure_bytes;
 use std::test::*;
 
 #[test]
@@ -47,6 +48,29 @@ fn signs_worked_rows(rt: HostRuntime) -> Result<(), Fail> {
             .ok()
             .ok_or("memory")?;
         assert_eq!(rt; bytes.as_slice(), expected);
+    }
+    Ok(())
+}
+
+#[test]
+fn makes_room_at_once(rt: HostRuntime) -> Result<(), Fail> {
+    let alloc = rt.alloc();
+    for (length, head) in [
+        (0, b"\x40".as_slice()),
+        (23, b"\x57"),
+        (24, b"\x58\x18"),
+        (256, b"\x59\x01\x00"),
+        (65_536, b"\x5a\x00\x01\x00\x00"),
+    ] {
+        let payload = vec![in alloc; 7; length]?;
+        let bytes = structure_bytes(alloc, "MAC0", &[b"\xa0", b"", &payload])
+            .ok()
+            .ok_or("memory")?;
+        let mut expected = Vec::from_slice(alloc, b"\x84\x64MAC0\x41\xa0\x40")?;
+        expected.extend_from_slice(head)?;
+        expected.extend_from_slice(&payload)?;
+        assert_eq!(rt; bytes.as_slice(), expected.as_slice());
+        assert_eq!(rt; bytes.capacity(), length.saturating_add(5 * 9 + 4 + 1));
     }
     Ok(())
 }
