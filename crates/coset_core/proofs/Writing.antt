@@ -74,6 +74,7 @@ fields-image (Some (phrase s)) (c ∷ b) = refl
 
 -- a header whose rest repeats no label is written as the map of its fields and the rest
 pub header-image : (h : HeaderSeen) → are_distinct same_name (keys_of h.rest) ≡ true → header.image h ≡ Some (dict (entry_pairs (header_fields h ++ h.rest)))
+unfolding header
 header-image h e =
     sym (some-entries names h.rest (header_fields h) (fields.image (parts_of h).0) e (fields-image h.alg h.key_id)) ∙ ap (option_map dict) (image-entries (header_fields h ++ h.rest))
 

@@ -51,4 +51,5 @@ fields_laws =
     (field_laws names names_laws (number (pos 4)) flat_kid _ (listed_laws filled_bstr (λ v p. p.1 refl) filled_bstr_laws) _ (no_field_laws names names_laws) refl) refl
 
 pub header_laws : Lawful HeaderSeen header
+unfolding header
 header_laws = along_laws header_of parts_of (λ x. refl) _ (labelled_laws names names_laws true fields fields_laws)

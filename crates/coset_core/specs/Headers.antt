@@ -70,5 +70,5 @@ abbrev pub parts_of : HeaderSeen → Fielded × List (Name × Item)
 parts_of h = ((h.alg, (h.key_id, tt)), h.rest)
 
 -- {? 1 => algorithm, ? 4 => bstr .size (1..), * label => any}
-abbrev pub header : Shape HeaderSeen
+unfoldable pub header : Shape HeaderSeen
 header = along header_of parts_of (labelled names fields)

@@ -1,6 +1,7 @@
 -- Protected headers (RFC 8152, section 3): headers inside a byte string, which is kept as it was read.
-use Rattle.std.proofs.Common.{◌≡◌, ℕ, List, Option, None, Result, Ok, Err, false, option_map, refl, sym, ◌∙◌}
-use Rattle.coset_cbor.specs.Item.{Item}
+use Rattle.std.proofs.Common.{◌≡◌, ℕ, List, Option, Some, None, Result, Ok, Err, false, option_map, refl, sym, ◌∙◌}
+use Rattle.std.specs.Prelude.{⊤}
+use Rattle.coset_cbor.specs.Item.{Item, bytes}
 use Rattle.coset_cbor.specs.Shortest.{IsShort}
 use Rattle.coset_shape.specs.Shape.{Shape, along}
 use Rattle.coset_shape.specs.ShapeLaws.{Again, Lawful, along_laws}
@@ -27,8 +28,14 @@ abbrev pub kept_bytes : ProtectedSeen → Option (List ℕ)
 kept_bytes p = kept is_empty_header header.image p.original p.header
 
 -- of a header that isn't empty and wasn't read, the bytes are the shortest text of its map
-abbrev pub AreShortest : ProtectedSeen → List ℕ → Type 0
-AreShortest p b = p.original ≡ None → is_empty_header p.header ≡ false → (v : Item) → header.image p.header ≡ Some v → IsShort b v
+abbrev pub AreShortest : Option (List ℕ) → HeaderSeen → List ℕ → Type 0
+AreShortest (Some read) h b = ⊤
+AreShortest None h b = is_empty_header h ≡ false → (v : Item) → header.image h ≡ Some v → IsShort b v
+
+-- the same of a byte string with these bytes
+abbrev pub HoldsShortest : Option (List ℕ) → HeaderSeen → Item → Type 0
+HoldsShortest original h (bytes b) = AreShortest original h b
+HoldsShortest original h v = ⊥
 
 abbrev pub protected_of : Option (List ℕ) × HeaderSeen → ProtectedSeen
 protected_of p = record { original = p.0; header = p.1 }
@@ -37,10 +44,11 @@ abbrev pub both_of : ProtectedSeen → Option (List ℕ) × HeaderSeen
 both_of p = (p.original, p.header)
 
 -- bstr .cbor header / bstr .size 0
-abbrev pub protected : Shape ProtectedSeen
+unfoldable pub protected : Shape ProtectedSeen
 protected = along protected_of both_of (serialized_or_empty empty_header is_empty_header header)
 
 pub protected_laws : Lawful ProtectedSeen protected
+unfolding protected
 protected_laws = along_laws protected_of both_of (λ x. refl) _ (serialized_laws empty_header is_empty_header header header_laws)
 
 -- Reading what the string holds

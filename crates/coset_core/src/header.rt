@@ -75,6 +75,7 @@ impl AsCborValue for Header {
         read_header(alloc, Source::Tree(value))
     }
 
+    #[tactic(auto, unfolding(crate::specs::Headers::header))]
     fn to_cbor_value(self, alloc: Global) -> Result<Value> {
         let Header { alg, key_id, rest } = self;
         if has_repeats(alloc, &rest)? {

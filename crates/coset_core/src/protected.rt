@@ -1,18 +1,16 @@
 //! Protected headers: those that a signature covers, kept as they were read.
 
-ghost use Rattle.std.specs.Prelude.{◌≡◌, ℕ, List, false, Some, None, IfOk, IfErr};
+ghost use Rattle.std.specs.Prelude.{◌≡◌, Some, None, IfOk, IfErr};
 ghost use Rattle.std.specs.Cow.{cow_slice_items};
 ghost use Rattle.coset_value.specs.View.{view};
 ghost use Rattle.coset_cbor.specs.Pulls.{pull_item};
-ghost use Rattle.coset_cbor.specs.Shortest.{IsShort};
-ghost use Rattle.coset_value.specs.Item.{Item, bytes};
 ghost use Rattle.coset_shape.specs.declared.error.CoseError.TheVariants.{DuplicateMapKey};
 ghost use Rattle.coset_shape.specs.Answers.{Reads, Images};
 ghost use Rattle.coset_shape.specs.Errors.{Names};
 ghost use Rattle.coset_shape.specs.Serialized.{fresh};
 ghost use Rattle.coset_shape.specs.Sources.{source_item};
 ghost use Rattle.coset_core.specs.Headers.{empty_header, is_empty_header, header as header_shape, header_seen};
-ghost use Rattle.coset_core.specs.Protected.{ReadsContent, protected, protected_seen, kept_bytes, AreShortest, bare, bare_laws};
+ghost use Rattle.coset_core.specs.Protected.{ReadsContent, protected, protected_seen, kept_bytes, AreShortest, HoldsShortest, bare, bare_laws};
 
 use crate::header::Header;
 use crate::read::read_header;
@@ -44,18 +42,6 @@ fn read_content(alloc: Global, content: &[u8]) -> Result<Header>
     read_header(alloc, Source::Lent(whole(content)?))
 }
 
-/// Reads a protected header from its byte string.
-fn read_protected(alloc: Global, source: Source<'_>) -> Result<ProtectedHeader>
-    ensures { Reads protected protected_seen (source_item source.entry) result }
-{
-    let content = source.into_bytes(alloc, "bstr")?;
-    let header = read_content(alloc, &content)?;
-    Ok(ProtectedHeader {
-        original_data: Some(content),
-        header,
-    })
-}
-
 /// A protected header that wasn't read from a byte string.
 fn unread(header: Header) -> ProtectedHeader
     ensures { protected_seen result ≡ record { original = None; header = header_seen header } }
@@ -69,8 +55,7 @@ fn unread(header: Header) -> ProtectedHeader
 /// The bytes of a header that wasn't read.
 fn fresh_bytes(alloc: Global, header: &Header) -> Result<Vec<u8>>
     ensures ok { IfOk result (λ b. fresh (is_empty_header (header_seen header.now)) (header_shape.image (header_seen header.now)) ≡ Some b.items) }
-    ensures shortest { IfOk result (λ b. is_empty_header (header_seen header.now) ≡ false
-        → (v : Item) → header_shape.image (header_seen header.now) ≡ Some v → IsShort b.items v) }
+    ensures shortest { IfOk result (λ b. AreShortest None (header_seen header.now) b.items) }
     ensures refused { IfErr result (λ e. Names e (λ f. (f ≡ DuplicateMapKey) × (fresh (is_empty_header (header_seen header.now)) (header_shape.image (header_seen header.now)) ≡ None))) }
 {
     laws::short_is_shortest();
@@ -108,7 +93,7 @@ impl ProtectedHeader {
     pub fn from_cbor_bstr(alloc: Global, value: Value) -> Result<ProtectedHeader>
         ensures { Reads protected protected_seen (view value) result }
     {
-        read_protected(alloc, Source::Tree(value))
+        ProtectedHeader::from_source_bstr(alloc, Source::Tree(value))
     }
 
     /// The same from a lent item.
@@ -118,7 +103,23 @@ impl ProtectedHeader {
     pub fn from_pull_bstr(alloc: Global, pull: Pull<'_>) -> Result<ProtectedHeader>
         ensures { Reads protected protected_seen (pull_item pull.entry) result }
     {
-        read_protected(alloc, Source::Lent(pull))
+        ProtectedHeader::from_source_bstr(alloc, Source::Lent(pull))
+    }
+
+    /// The same, whichever way the item is given.
+    ///
+    /// # Errors
+    /// As of [`ProtectedHeader::from_cbor_bstr`].
+    #[tactic(auto, unfolding(crate::specs::Protected::protected))]
+    pub fn from_source_bstr(alloc: Global, source: Source<'_>) -> Result<ProtectedHeader>
+        ensures { Reads protected protected_seen (source_item source.entry) result }
+    {
+        let content = source.into_bytes(alloc, "bstr")?;
+        let header = read_content(alloc, &content)?;
+        Ok(ProtectedHeader {
+            original_data: Some(content),
+            header,
+        })
     }
 
     /// The bytes that stand for the header in messages and under signatures (RFC 8152, sections 3 and 4.4): those that
@@ -128,7 +129,7 @@ impl ProtectedHeader {
     /// Want of memory, or `DuplicateMapKey` where no bytes were read and a label of the header's rest stands twice.
     pub fn kept_bytes(&self, alloc: Global) -> Result<CowSlice<'_, u8, Global>>
         ensures ok { IfOk result (λ b. kept_bytes (protected_seen self.now) ≡ Some (cow_slice_items b)) }
-        ensures shortest { IfOk result (λ b. AreShortest (protected_seen self.now) (cow_slice_items b)) }
+        ensures shortest { IfOk result (λ b. AreShortest (protected_seen self.now).original (header_seen self.now.header) (cow_slice_items b)) }
         ensures refused { IfErr result (λ e. Names e (λ f. (f ≡ DuplicateMapKey) × (kept_bytes (protected_seen self.now) ≡ None))) }
     {
         if let Some(bytes) = &self.original_data {
@@ -141,9 +142,10 @@ impl ProtectedHeader {
     ///
     /// # Errors
     /// As of [`ProtectedHeader::kept_bytes`].
+    #[tactic(auto, unfolding(crate::specs::Protected::protected))]
     pub fn cbor_bstr(self, alloc: Global) -> Result<Value>
-        ensures { Images (protected.image (protected_seen self)) view result }
-        ensures shortest { IfOk result (λ v. (b : List ℕ) → view v ≡ bytes b → AreShortest (protected_seen self) b) }
+        ensures image { Images (protected.image (protected_seen self)) view result }
+        ensures shortest { IfOk result (λ v. HoldsShortest (protected_seen self).original (header_seen self.header) (view v)) }
     {
         let ProtectedHeader {
             original_data,

@@ -81,6 +81,7 @@ impl Gather for SoFar {
 }
 
 /// Reads a header.
+#[tactic(auto, unfolding(crate::specs::Headers::header))]
 pub(crate) fn read_header(alloc: Global, source: Source<'_>) -> Result<Header>
     ensures { Reads header header_seen (source_item source.entry) result }
 {

@@ -111,6 +111,7 @@ fn count(header: &Header) -> usize
 /// # Errors
 /// Want of memory, or `DuplicateMapKey` where a label of the rest stands twice. What was appended before isn't taken
 /// back.
+#[tactic(auto, unfolding(crate::specs::Headers::header))]
 pub(crate) fn write_header(alloc: Global, header: &Header, out: &mut Vec<u8>) -> Result<()>
     ensures ok { OnOk result (AppendsHeader out.old.items out.new.items (header_seen header.now)) }
     ensures refused { IfErr result (λ e. Names e (λ f. (f ≡ DuplicateMapKey) × (header_shape.image (header_seen header.now) ≡ None))) }

@@ -1,2 +1,4 @@
 pub mod Structure
 pub mod SignatureStructure
+pub mod Signed
+pub mod Sign1

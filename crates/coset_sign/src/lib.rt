@@ -2,9 +2,11 @@
 #![tactic(auto)]
 
 pub mod laws;
+mod sign1;
 mod signature;
 pub mod structure;
 #[cfg(test)]
 mod tests;
 
-pub use signature::SignatureContext;
+pub use sign1::CoseSign1;
+pub use signature::{SignatureContext, sig_structure_data};

@@ -1,12 +1,16 @@
 //! The structure that is signed (RFC 8152, section 4.4).
 
-ghost use Rattle.std.specs.Prelude.{◌≡◌, IfOk, IfErr};
+ghost use Rattle.std.specs.Prelude.{◌≡◌, option_map, IfOk, IfErr};
 ghost use Rattle.std.specs.Option.{option_copied};
 ghost use Rattle.coset_cbor.specs.Shortest.{IsShort};
 ghost use Rattle.coset_shape.specs.declared.error.CoseError.TheVariants.{OutOfMemory};
+ghost use Rattle.coset_shape.specs.Answers.{Writes};
+ghost use Rattle.coset_core.specs.Protected.{protected_seen};
 ghost use Rattle.coset_sign.specs.SignatureStructure.{signature_structure};
+ghost use Rattle.coset_sign.specs.Signed.{signed};
 
 use crate::structure::structure_bytes;
+use coset_core::ProtectedHeader;
 use coset_shape::Result;
 use std::alloc::Global;
 
@@ -69,4 +73,46 @@ pub(crate) fn signature_structure_bytes(
         Some(signer) => structure_bytes(alloc, context.text(), &[body, signer, aad, payload]),
         None => structure_bytes(alloc, context.text(), &[body, aad, payload]),
     }
+}
+
+/// The structure over the kept bytes of the headers. Nothing of them is cloned, but a header that wasn't read is written.
+///
+/// # Errors
+/// Want of memory, or `DuplicateMapKey` where a header wasn't read and repeats a label of its rest.
+pub(crate) fn signed_bytes(
+    alloc: Global,
+    context: SignatureContext,
+    body: &ProtectedHeader,
+    signer: Option<&ProtectedHeader>,
+    aad: &[u8],
+    payload: &[u8],
+) -> Result<Vec<u8>>
+    ensures { Writes (signed context (protected_seen body.now) (option_map (λ s. protected_seen s.now) signer.entry) aad.now payload.now) (λ b. b.items) result }
+{
+    let body = body.kept_bytes(alloc)?;
+    match signer {
+        Some(signer) => {
+            let signer = signer.kept_bytes(alloc)?;
+            signature_structure_bytes(alloc, context, &body, Some(&signer), aad, payload)
+        }
+        None => signature_structure_bytes(alloc, context, &body, None, aad, payload),
+    }
+}
+
+/// The bytes that are signed (RFC 8152, section 4.4): the shortest text of the structure of this context, the kept bytes
+/// of the body's header and, where there is one, of the signer's, the external data and the payload.
+///
+/// # Errors
+/// Want of memory, or `DuplicateMapKey` where a header wasn't read and repeats a label of its rest.
+pub fn sig_structure_data(
+    alloc: Global,
+    context: SignatureContext,
+    body: ProtectedHeader,
+    sign: Option<ProtectedHeader>,
+    aad: &[u8],
+    payload: &[u8],
+) -> Result<Vec<u8>>
+    ensures { Writes (signed context (protected_seen body) (option_map protected_seen sign) aad.now payload.now) (λ b. b.items) result }
+{
+    signed_bytes(alloc, context, &body, sign.as_ref(), aad, payload)
 }

@@ -4,12 +4,13 @@ use Rattle.coset_value.specs.Item.{dict}
 use Rattle.coset_value.specs.View.{view}
 use Rattle.coset_shape.specs.RestLaws.{as_seen, repeated-seen, distinct-seen, no-entries}
 use Rattle.coset_label.specs.Views.{label_seen}
-use Rattle.coset_core.specs.Headers.{entry_seen, header_seen, names, same_name}
+use Rattle.coset_core.specs.Headers.{entry_seen, header, header_seen, names, same_name}
 use Rattle.coset_core.specs.Written.{entry_pairs, header_fields}
 use Rattle.coset_core.proofs.Writing.{header-image, header-put}
 use Rattle.coset_core.proofs.write.write_header.Goals as goal
 
 pub returns-then-branch-clause-refused : goal.returns-then-branch-clause-refused
+unfolding header
 returns-then-branch-clause-refused c =
     let items = c.args.header.now.rest.items in
     let rest = map (as_seen label_seen view) items in

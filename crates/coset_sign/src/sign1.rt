@@ -1,0 +1,147 @@
+//! Messages with one signature (RFC 8152, section 4.2).
+
+ghost use Rattle.std.specs.Prelude.{◌≡◌, [], Some, None};
+ghost use Rattle.coset_shape.specs.Answers.{Reads, Writes};
+ghost use Rattle.coset_shape.specs.Sources.{source_item};
+ghost use Rattle.coset_core.specs.Headers.{empty_header, header_seen};
+ghost use Rattle.coset_sign.specs.Sign1.{sign1, sign1_seen};
+ghost use Rattle.coset_sign.specs.Signed.{signed, or_empty};
+ghost use Rattle.coset_sign.specs.declared.signature.SignatureContext.TheVariants as contexts;
+
+use crate::signature::{SignatureContext, signed_bytes};
+use coset_cbor::de::Pull;
+use coset_cbor::value::Value;
+use coset_core::{Header, ProtectedHeader};
+use coset_shape::list::{array_value, bytes_or_nil, read_source};
+use coset_shape::traits::{FromPull, read_slice, read_tagged_slice};
+use coset_shape::{AsCborValue, CborSerializable, Result, Source, TaggedCborSerializable};
+use std::alloc::Global;
+
+/// A message with one signature: `COSE_Sign1` (RFC 8152, section 4.2).
+#[derive(Debug, Drop)]
+pub struct CoseSign1 {
+    /// The header that the signature covers.
+    pub protected: ProtectedHeader,
+    /// The header that it doesn't cover.
+    pub unprotected: Header,
+    /// What is signed, unless it is sent apart.
+    pub payload: Option<Vec<u8>>,
+    /// The signature.
+    pub signature: Vec<u8>,
+}
+
+/// Reads the places from the last to the first.
+fn read_sign1(alloc: Global, source: Source<'_>) -> Result<CoseSign1>
+    ensures { Reads sign1 sign1_seen (source_item source.entry) result }
+{
+    let (protected, unprotected, payload, signature) = source.into_four("array with 4 items")?;
+    let signature = signature.into_bytes(alloc, "bstr")?;
+    let payload = payload.into_bytes_or_nil(alloc, "bstr or nil")?;
+    let unprotected = read_source(alloc, unprotected)?;
+    let protected = ProtectedHeader::from_source_bstr(alloc, protected)?;
+    Ok(CoseSign1 {
+        protected,
+        unprotected,
+        payload,
+        signature,
+    })
+}
+
+impl CoseSign1 {
+    /// An empty message: empty headers, no payload, an empty signature. It takes no memory.
+    pub fn new(alloc: Global) -> CoseSign1
+        ensures { sign1_seen result ≡ record {
+          protected = record { original = None; header = empty_header };
+          unprotected = empty_header;
+          payload = None;
+          signature = [];
+        } }
+    {
+        CoseSign1 {
+            protected: ProtectedHeader::new(alloc),
+            unprotected: Header::new(alloc),
+            payload: None,
+            signature: Vec::new(alloc),
+        }
+    }
+
+    /// The bytes that the signature is over (RFC 8152, section 4.4), with the protected header as it was read. A missing
+    /// payload counts as empty.
+    ///
+    /// # Errors
+    /// Want of memory, or `DuplicateMapKey` where the protected header wasn't read and repeats a label of its rest.
+    pub fn tbs_data(&self, alloc: Global, aad: &[u8]) -> Result<Vec<u8>>
+        ensures { Writes (signed contexts.CoseSign1 (sign1_seen self.now).protected None aad.now (or_empty (sign1_seen self.now).payload)) (λ b. b.items) result }
+    {
+        let payload: &[u8] = match &self.payload {
+            Some(payload) => payload,
+            None => &[],
+        };
+        signed_bytes(
+            alloc,
+            SignatureContext::CoseSign1,
+            &self.protected,
+            None,
+            aad,
+            payload,
+        )
+    }
+}
+
+impl AsCborValue for CoseSign1 {
+    ghost use Rattle.coset_sign.specs.Sign1.{Sign1Seen, sign1_laws};
+
+    ghost Seen = { Sign1Seen };
+
+    ghost seen = { sign1_seen };
+
+    ghost shape = { sign1 };
+
+    ghost unique = { sign1_laws.unique };
+
+    ghost sound = { sign1_laws.sound };
+
+    fn from_cbor_value(alloc: Global, value: Value) -> Result<CoseSign1> {
+        read_sign1(alloc, Source::Tree(value))
+    }
+
+    fn to_cbor_value(self, alloc: Global) -> Result<Value> {
+        let CoseSign1 {
+            protected,
+            unprotected,
+            payload,
+            signature,
+        } = self;
+        let protected = protected.cbor_bstr(alloc)?;
+        let unprotected = unprotected.to_cbor_value(alloc)?;
+        let places = vec![in alloc;
+            protected,
+            unprotected,
+            bytes_or_nil(payload),
+            Value::Bytes(signature),
+        ]?;
+        Ok(array_value(places))
+    }
+}
+
+impl FromPull for CoseSign1 {
+    fn from_pull(alloc: Global, pull: Pull<'_>) -> Result<CoseSign1> {
+        read_sign1(alloc, Source::Lent(pull))
+    }
+}
+
+impl CborSerializable for CoseSign1 {
+    fn from_slice(alloc: Global, s: &[u8]) -> Result<CoseSign1> {
+        read_slice(alloc, s)
+    }
+}
+
+impl TaggedCborSerializable for CoseSign1 {
+    ghost TAG = { 18 };
+
+    const TAG: u64 = 18;
+
+    fn from_tagged_slice(alloc: Global, s: &[u8]) -> Result<CoseSign1> {
+        read_tagged_slice(alloc, 18, s)
+    }
+}
