@@ -10,6 +10,7 @@ use coset_sample::reading::Reading;
 use coset_sample::settings::{Name, Settings};
 use coset_shape::traits::read_slice;
 use coset_shape::{CborSerializable, CoseError, TaggedCborSerializable, has_repeats};
+use coset_sign::structure::structure_bytes;
 use std::alloc::{AllocError, Global};
 use std::process::Abort;
 use std::test::*;
@@ -241,6 +242,15 @@ fn repeats(alloc: Global, labels: &[(Name, Value)]) -> Answer {
     }
 }
 
+fn structure(alloc: Global) -> Answer {
+    match structure_bytes(alloc, "MAC0", &[b"\xa0", b"", b"\xaa"]) {
+        Ok(text) if text.as_slice() == b"\x84\x64MAC0\x41\xa0\x40\x41\xaa".as_slice() =>
+            Answer::Same,
+        Err(CoseError::OutOfMemory) => Answer::Refused,
+        _ => Answer::Other,
+    }
+}
+
 /// Whether bytes that aren't one item are refused for their own fault, and a reading without strings is read.
 fn typed_faults_stand(alloc: Global) -> bool {
     matches!(
@@ -266,7 +276,7 @@ fn typed_faults_stand(alloc: Global) -> bool {
 fn types_refuse_or_answer(rt: HostRuntime) -> Result<(), Fail> {
     let alloc = rt.alloc();
     let labels = forty(alloc, 3)?;
-    let mut tallies = [Tally::new(); 5];
+    let mut tallies = [Tally::new(); 6];
     let hole: Vec<u8> = Vec::with_capacity(alloc, HOLE)?;
     let held = fill(alloc)?;
     assert!(rt; typed_faults_stand(alloc), "refused without memory");
@@ -278,6 +288,7 @@ fn types_refuse_or_answer(rt: HostRuntime) -> Result<(), Fail> {
         tallies[2].count(&rt, settings_written(alloc));
         tallies[3].count(&rt, reading_written(alloc));
         tallies[4].count(&rt, repeats(alloc, &labels));
+        tallies[5].count(&rt, structure(alloc));
         drop(pad);
     }
     drop(held);
