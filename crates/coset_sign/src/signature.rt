@@ -14,8 +14,8 @@ use coset_core::ProtectedHeader;
 use coset_shape::Result;
 use std::alloc::Global;
 
-/// What a signature is part of (RFC 8152, section 4.4). It stands in the signed bytes, so that a signature made for the one
-/// is none for another.
+/// What a signature is part of (RFC 8152, section 4.4). It stands in the bytes that are signed, so that those of one
+/// are never those of another.
 #[derive(Clone, Copy, Debug, PartialEq, Eq)]
 pub enum SignatureContext {
     /// A signature of a `COSE_Sign` message, by one of its signers.
@@ -53,7 +53,7 @@ impl SignatureContext {
 /// ]
 /// ```
 ///
-/// `body` and `signer` are the contents of the protected headers; there is no `signer` under `COSE_Sign1`.
+/// `body` and `signer` are the contents of the protected headers. A `COSE_Sign1` message has no `signer`.
 ///
 /// # Errors
 /// Want of memory alone.
