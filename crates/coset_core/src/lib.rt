@@ -2,6 +2,7 @@
 #![tactic(auto)]
 
 mod header;
+pub mod laws;
 mod protected;
 mod read;
 mod write;

@@ -7,6 +7,7 @@ pub mod RestLaws
 pub mod Answers
 pub mod Serialized
 pub mod SerializedLaws
+pub mod ReadAgain
 pub mod Kinds
 pub mod Sources
 pub mod Lists

@@ -2,8 +2,12 @@
 
 ghost use Rattle.std.specs.Prelude.{◌≡◌, ℕ, List, Option};
 ghost use Rattle.coset_cbor.specs.Shortest.{IsShort};
+ghost use Rattle.coset_shape.specs.Answers.{Describes};
+ghost use Rattle.coset_shape.specs.ReadAgain.{ReadsAgain};
+ghost use Rattle.coset_shape.specs.Shape.{tagged};
 ghost use Rattle.coset_sign.specs.Structure.{structure};
 ghost use Rattle.coset_sign.specs.SignatureStructure.{signature_structure};
+ghost use Rattle.coset_sign.specs.Sign1.{Sign1Seen, sign1};
 ghost use Rattle.coset_sign.specs.declared.signature.SignatureContext.{SignatureContext};
 
 use coset_cbor::laws::{one_item, shortest_is_text};
@@ -25,3 +29,9 @@ pub fn one_signature_structure()
 {
     one_structure();
 }
+
+/// A message with one signature that was read, plain or tagged, is written, and then read again as itself.
+pub fn sign1_reads_again()
+    ensures plain { (s : List ℕ) (m : Sign1Seen) → Describes sign1 s m → ReadsAgain sign1 m }
+    ensures tagged { (s : List ℕ) (m : Sign1Seen) → Describes (tagged 18 sign1) s m → ReadsAgain (tagged 18 sign1) m }
+{}
