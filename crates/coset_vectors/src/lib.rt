@@ -18,6 +18,8 @@ mod refused;
 #[cfg(test)]
 mod sample;
 #[cfg(test)]
+mod sign1;
+#[cfg(test)]
 mod steps;
 #[cfg(test)]
 mod walks;

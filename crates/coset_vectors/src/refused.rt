@@ -16,15 +16,15 @@ use std::process::Abort;
 use std::test::*;
 
 /// The size of the hole that is left in the filled address space, and how much of it each turn leaves more.
-const HOLE: usize = 65536;
+pub(crate) const HOLE: usize = 65536;
 
-const STEP: usize = 16;
+pub(crate) const STEP: usize = 16;
 
-const TURNS: usize = 200;
+pub(crate) const TURNS: usize = 200;
 
 /// What a call answered.
 #[derive(Clone, Copy, PartialEq, Eq)]
-enum Answer {
+pub(crate) enum Answer {
     /// What it answers with ample memory.
     Same,
     Refused,
@@ -33,20 +33,20 @@ enum Answer {
 
 /// How often a call answered the one and the other. Anything else fails the test.
 #[derive(Clone, Copy)]
-struct Tally {
+pub(crate) struct Tally {
     same: u32,
     refused: u32,
 }
 
 impl Tally {
-    fn new() -> Tally {
+    pub(crate) fn new() -> Tally {
         Tally {
             same: 0,
             refused: 0,
         }
     }
 
-    fn count(&mut self, rt: &impl Abort, answer: Answer) {
+    pub(crate) fn count(&mut self, rt: &impl Abort, answer: Answer) {
         match answer {
             Answer::Same => self.same = self.same.saturating_add(1),
             Answer::Refused => self.refused = self.refused.saturating_add(1),
@@ -54,13 +54,13 @@ impl Tally {
         }
     }
 
-    fn had_both(&self) -> bool {
+    pub(crate) fn had_both(&self) -> bool {
         self.same > 0 && self.refused > 0
     }
 }
 
 /// Blocks that together hold all the memory that is left, so that every request is refused while they stand.
-fn fill(alloc: Global) -> Result<Vec<Vec<u8>>, AllocError> {
+pub(crate) fn fill(alloc: Global) -> Result<Vec<Vec<u8>>, AllocError> {
     let mut held: Vec<Vec<u8>> = Vec::with_capacity(alloc, 200_000)?;
     let mut size = 1usize << 40;
     for _ in 0..40u32 {
