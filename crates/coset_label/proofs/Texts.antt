@@ -1,15 +1,12 @@
 -- Labels by their shortest texts.
 use Rattle.std.proofs.Common.{◌≡◌, ◌<◌, ◌^◌, ℕ, List, Ordering, sym, ◌∙◌, ap, arith}
 use Rattle.std.specs.Prelude.{pos, negsuc, length}
-use Rattle.std.specs.Ordering.{nat_cmp, ordering_then}
-use Rattle.std.specs.Cmp.Lexicographic.{slice_cmp}
 use Rattle.coset_value.specs.Item.{Item}
 use Rattle.coset_value.specs.Range.{IsInRange}
 use Rattle.coset_cbor.specs.Grammar.{Place, within, one, two, four, eight, Holds}
 use Rattle.coset_cbor.specs.Least.{short}
 use Rattle.coset_cbor.specs.Shortest.{IsShort}
-use Rattle.coset_label.specs.Names.{Name, number, word, name_item, name_cmp, IsNamed, encoded_length}
-use Rattle.coset_label.specs.NameOrder.{names-compare, names-compare-canonical}
+use Rattle.coset_label.specs.Names.{Name, number, word, name_item, IsNamed, ComparesTexts}
 
 -- what a head holds is below 2 ^ 64
 holds-below : (p : Place) (n : ℕ) → Holds p n → n < 2 ^ 64
@@ -33,18 +30,10 @@ named (word b) h = h.0
 abbrev pub OneShort : Type 0
 OneShort = (v : Item) (b : List ℕ) → IsInRange v → IsShort b v → b ≡ short v
 
-pub texts-compare : OneShort → (a b : Name) (s t : List ℕ) → IsShort s (name_item a) → IsShort t (name_item b) → name_cmp a b ≡ slice_cmp nat_cmp s t
-texts-compare law a b s t p q =
+-- an order R of texts orders labels by their shortest texts where it agrees with C on the texts that `short` makes
+pub by-texts : OneShort → (R : List ℕ → List ℕ → Ordering) (C : Name → Name → Ordering)
+    → ((a b : Name) → IsNamed a → IsNamed b → R (short (name_item a)) (short (name_item b)) ≡ C a b) → (a b : Name) → ComparesTexts R a b (C a b)
+by-texts law R C agree a b s t p q =
     let r = in-range a s p in
     let w = in-range b t q in
-    sym (names-compare a b (named a r) (named b w)) ∙ (ap (λ x. slice_cmp nat_cmp x (short (name_item b))) (sym (law (name_item a) s r p)) ∙ ap (slice_cmp nat_cmp s) (sym (law (name_item b) t w q)))
-
--- by their lengths first
-pub texts-compare-canonical :
-    OneShort → (a b : Name) (s t : List ℕ) → IsShort s (name_item a) → IsShort t (name_item b)
-    → ordering_then (nat_cmp (encoded_length a) (encoded_length b)) (name_cmp a b) ≡ ordering_then (nat_cmp (length s) (length t)) (slice_cmp nat_cmp s t)
-texts-compare-canonical law a b s t p q =
-    let r = in-range a s p in
-    let w = in-range b t q in
-    let whole : List ℕ → List ℕ → Ordering = λ x y. ordering_then (nat_cmp (length x) (length y)) (slice_cmp nat_cmp x y) in
-    sym (names-compare-canonical a b (named a r) (named b w)) ∙ (ap (λ x. whole x (short (name_item b))) (sym (law (name_item a) s r p)) ∙ ap (whole s) (sym (law (name_item b) t w q)))
+    sym (agree a b (named a r) (named b w)) ∙ (ap (λ x. R x (short (name_item b))) (sym (law (name_item a) s r p)) ∙ ap (R s) (sym (law (name_item b) t w q)))

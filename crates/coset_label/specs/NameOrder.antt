@@ -1,5 +1,5 @@
 -- The byte order of shortest heads and of labels' encodings.
-use Rattle.std.proofs.Common.{◌≡◌, ℕ, zero, suc, ◌^◌, ◌+◌, ◌*◌, ◌/◌, ◌%◌, ◌<◌, ◌≤◌, List, ◌∷◌, ◌++◌, length, refl, sym, ap, subst, arith, inl, inr, Ordering, Less, Equal, Greater, nat_cmp}
+use Rattle.std.proofs.Common.{◌≡◌, ℕ, zero, suc, ◌^◌, ◌+◌, ◌*◌, ◌/◌, ◌%◌, ◌<◌, ◌≤◌, List, ◌∷◌, ◌++◌, length, true, refl, sym, ◌∙◌, ap, subst, arith, inl, inr, Ordering, Less, Equal, Greater, nat_cmp}
 use Rattle.std.proofs.Math.Nat.{mul-le-mul_right, mul_comm, mod-lt, mod-one, mod-eq_of_lt, one-le-pow, pow-succ'}
 use Rattle.std.proofs.Math.Arith.{mod-mul}
 use Rattle.std.proofs.lemmas.Bool.{cases_order}
@@ -7,13 +7,13 @@ use Rattle.std.proofs.lemmas.List.{length-append, append-nil}
 use Rattle.std.proofs.lemmas.Map.Lookups.{exact_unsigned, exact_bytes}
 use Rattle.std.specs.Prelude.{pos, negsuc}
 use Rattle.std.specs.Int.{bytes_high_first, byte_at}
-use Rattle.std.specs.Ordering.{ordering_then}
-use Rattle.std.specs.Cmp.{IsTotalOrder, tied_itself}
+use Rattle.std.specs.Ordering.{ordering_then, is_eq}
+use Rattle.std.specs.Cmp.{IsTotalOrder, Equal-is, tied_itself}
 use Rattle.std.specs.Cmp.Lexicographic.{slice_cmp}
 use Rattle.std.specs.Cmp.Rules.{comparing}
 use Rattle.coset_cbor.specs.Grammar.{Place, within, one, two, four, eight, head_in}
 use Rattle.coset_cbor.specs.Least.{least_place, least_head, short}
-use Rattle.coset_label.specs.Names.{Name, number, word, name_item, major, argument, content, name_cmp, IsNamed, head_length, encoded_length}
+use Rattle.coset_label.specs.Names.{Name, number, word, RegisteredName, assigned, private_use, phrase, as_name, tie, name_item, major, argument, content, name_cmp, registered_cmp, canonical_cmp, length_first_cmp, TellsApart, IsNamed, head_length, encoded_length}
 
 -- ---- orderings
 
@@ -180,23 +180,54 @@ short-length a = rw (short-parts a, length-append, length-least_head)
 
 -- the encodings in the order of RFC 7049, section 3.9: the shorter first, and those of one length by their bytes
 pub names-compare-canonical : (a b : Name) → IsNamed a → IsNamed b
-    → ordering_then (nat_cmp (length (short (name_item a))) (length (short (name_item b)))) (slice_cmp nat_cmp (short (name_item a)) (short (name_item b)))
-    ≡ ordering_then (nat_cmp (encoded_length a) (encoded_length b)) (name_cmp a b)
+    → length_first_cmp (short (name_item a)) (short (name_item b)) ≡ canonical_cmp a b
 names-compare-canonical a b ha hb = rw (names-compare a b ha hb, short-length a, short-length b)
 
--- ---- the laws of labels' order
+-- ---- the laws of labels' orders
 
--- `name_cmp` is a total order
+-- the three are total orders
 pub name_cmp_total : IsTotalOrder name_cmp
 name_cmp_total = search comparing
 
--- a label is level with itself
-pub name_cmp-itself : (a : Name) → name_cmp a a ≡ Equal
-name_cmp-itself = tied_itself name_cmp_total
+pub canonical_cmp_total : IsTotalOrder canonical_cmp
+canonical_cmp_total = search comparing
 
--- and with no other
-pub name_cmp-equal : (a b : Name) → name_cmp a b ≡ Equal → a ≡ b
+pub registered_cmp_total : IsTotalOrder registered_cmp
+registered_cmp_total = search comparing depth 9
+
+-- a total order tells apart what it doesn't call level unless equal
+tells-apart : {A : Type 0} (R : A → A → Ordering) → IsTotalOrder R → ((a b : A) → R a b ≡ Equal → a ≡ b) → TellsApart R
+tells-apart R total only a b = (λ e. only a b ((Equal-is (R a b)).0 e), λ same. subst (λ x. is_eq (R a x) ≡ true) same (ap is_eq (tied_itself total a)))
+
+name_cmp-equal : (a b : Name) → name_cmp a b ≡ Equal → a ≡ b
 name_cmp-equal (number (pos n)) (number (pos l)) h = ap (λ k. number (pos k)) (exact_unsigned n l (then-first (nat_cmp n l) Equal h))
 name_cmp-equal (number (negsuc n)) (number (negsuc l)) h = ap (λ k. number (negsuc k)) (exact_unsigned n l (then-first (nat_cmp n l) Equal h))
 name_cmp-equal (word s) (word t) h = ap word (exact_bytes s t (then-second (nat_cmp (length s) (length t)) (slice_cmp nat_cmp s t) h))
 name_cmp-equal a b h = grind arith
+
+pub name_cmp-apart : TellsApart name_cmp
+name_cmp-apart = tells-apart name_cmp name_cmp_total name_cmp-equal
+
+pub canonical_cmp-apart : TellsApart canonical_cmp
+canonical_cmp-apart = tells-apart canonical_cmp canonical_cmp_total (λ a b h. name_cmp-equal a b (then-second (nat_cmp (encoded_length a) (encoded_length b)) (name_cmp a b) h))
+
+-- a label of a registry is the label as such, and whether it is for private use
+registered_of : Name → ℕ → RegisteredName
+registered_of (number i) zero = assigned i
+registered_of (number i) (suc k) = private_use i
+registered_of (word s) k = phrase s
+
+registered-back : (a : RegisteredName) → registered_of (as_name a) (tie a) ≡ a
+unfolding registered_of
+registered-back (assigned i) = refl
+registered-back (private_use i) = refl
+registered-back (phrase s) = refl
+
+registered_cmp-equal : (a b : RegisteredName) → registered_cmp a b ≡ Equal → a ≡ b
+registered_cmp-equal a b h =
+    let same = name_cmp-equal (as_name a) (as_name b) (then-first (name_cmp (as_name a) (as_name b)) (nat_cmp (tie a) (tie b)) h) in
+    let tied = exact_unsigned (tie a) (tie b) (then-second (name_cmp (as_name a) (as_name b)) (nat_cmp (tie a) (tie b)) h) in
+    sym (registered-back a) ∙ (ap (λ x. registered_of x (tie a)) same ∙ (ap (registered_of (as_name b)) tied ∙ registered-back b))
+
+pub registered_cmp-apart : TellsApart registered_cmp
+registered_cmp-apart = tells-apart registered_cmp registered_cmp_total registered_cmp-equal

@@ -1,10 +1,11 @@
 -- Labels apart from where they lie in memory, and the order of their encodings, as functions.
 -- That the encodings compare so is proved in `NameOrder.antt`.
-use Rattle.std.specs.Prelude.{ℕ, ◌+◌, ◌^◌, ◌<◌, ℤ, pos, negsuc, List, [], length, nat_lt, if◌then◌else◌}
+use Rattle.std.specs.Prelude.{◌≡◌, ◌↔◌, IsTrue, ℕ, ◌+◌, ◌^◌, ◌<◌, ℤ, pos, negsuc, List, [], length, nat_lt, if◌then◌else◌}
 use Rattle.std.specs.declared.cmp.Ordering.{Ordering}
-use Rattle.std.specs.Ordering.{nat_cmp, on, then_cmp}
+use Rattle.std.specs.Ordering.{nat_cmp, on, ordering_then, then_cmp, is_eq}
 use Rattle.std.specs.Cmp.Lexicographic.{slice_cmp}
 use Rattle.coset_value.specs.Item.{Item, integer, text}
+use Rattle.coset_cbor.specs.Shortest.{IsShort}
 
 -- a label without its memory: a number, or a text as its UTF-8 bytes
 pub data Name : Type 0 where
@@ -54,6 +55,10 @@ content (word s) = s
 abbrev pub name_cmp : Name → Name → Ordering
 name_cmp = then_cmp (on major nat_cmp) (then_cmp (on argument nat_cmp) (on content (slice_cmp nat_cmp)))
 
+-- a label of a registry: the label as such, and then a value of the registry before private use of its number
+abbrev pub registered_cmp : RegisteredName → RegisteredName → Ordering
+registered_cmp = then_cmp (on as_name name_cmp) (on tie nat_cmp)
+
 -- the argument fits a head
 abbrev pub IsNamed : Name → Type 0
 IsNamed a = argument a < 2 ^ 64
@@ -65,3 +70,23 @@ head_length n = if nat_lt n 24 then 1 else (if nat_lt n (2 ^ 8) then 2 else (if 
 -- how many bytes a label's encoding has
 abbrev pub encoded_length : Name → ℕ
 encoded_length a = head_length (argument a) + length (content a)
+
+-- the shorter encoding first, and those of one length by their bytes
+abbrev pub canonical_cmp : Name → Name → Ordering
+canonical_cmp = then_cmp (on encoded_length nat_cmp) name_cmp
+
+-- texts by their lengths first, and those of one length by their bytes
+abbrev pub length_first_cmp : List ℕ → List ℕ → Ordering
+length_first_cmp = then_cmp (on length nat_cmp) (slice_cmp nat_cmp)
+
+-- r is what R answers of the shortest texts of the two labels, each of which has exactly one
+abbrev pub ComparesTexts : (List ℕ → List ℕ → Ordering) → Name → Name → Ordering → Type 0
+ComparesTexts R a b r = (s t : List ℕ) → IsShort s (name_item a) → IsShort t (name_item b) → r ≡ R s t
+
+-- the same of labels of a registry: of one text, a value of the registry comes before private use
+abbrev pub ComparesRegistered : RegisteredName → RegisteredName → Ordering → Type 0
+ComparesRegistered a b = ComparesTexts (λ s t. ordering_then (slice_cmp nat_cmp s t) (nat_cmp (tie a) (tie b))) (as_name a) (as_name b)
+
+-- R answers that two are level exactly where they are equal
+abbrev pub TellsApart : {A : Type 0} → (A → A → Ordering) → Type 0
+TellsApart {A} R = (a b : A) → IsTrue (is_eq (R a b)) ↔ (a ≡ b)

@@ -1,6 +1,7 @@
 //! Labels: integers and texts.
 
 ghost use Rattle.std.specs.Prelude.{◌≡◌, IfOk, IfErr};
+ghost use Rattle.coset_value.specs.View.{view};
 ghost use Rattle.coset_shape.specs.declared.error.CoseError.TheVariants.{OutOfMemory};
 ghost use Rattle.coset_shape.specs.Answers.{Reads};
 ghost use Rattle.coset_shape.specs.Sources.{source_item, MayCopy};
@@ -47,7 +48,11 @@ impl AsCborValue for Label {
 
     ghost sound = { label_laws.sound };
 
-    fn from_cbor_value(alloc: Global, value: Value) -> Result<Label> {
+    /// It takes no memory.
+    fn from_cbor_value(alloc: Global, value: Value) -> Result<Label>
+        ensures read { Reads label label_seen (view value) result }
+        ensures memory { IfErr result (λ e. e ≡ OutOfMemory → ⊥) }
+    {
         read_label(alloc, Source::Tree(value))
     }
 

@@ -2,10 +2,14 @@
 #![tactic(auto)]
 
 mod label;
+pub mod laws;
+mod lent;
 mod names;
 mod order;
+mod ordering;
 mod registered;
 
 pub use label::Label;
 pub use names::{Algorithm, ContentType, KeyOperation, KeyType};
+pub use ordering::CborOrdering;
 pub use registered::{RegisteredLabel, RegisteredLabelWithPrivate};

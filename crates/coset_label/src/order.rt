@@ -1,79 +1,41 @@
-//! The order of labels: that of their encodings, which compare by the head and then by what follows it (RFC 8949,
-//! sections 3 and 4.2.1). Nothing is encoded, and no memory taken.
+//! The orders of labels: those of their encodings (RFC 8949, section 4.2.1; RFC 7049, section 3.9).
 
-ghost use Rattle.std.specs.Prelude.{◌≡◌, List, ℕ, length, string_bytes};
-ghost use Rattle.std.specs.Ordering.{nat_cmp, on, ordering_then, as_partial_cmp, is_eq};
-ghost use Rattle.std.specs.Cmp.{partial_order_from_own_ties};
+ghost use Rattle.std.specs.Prelude.{◌≡◌, ◌↔◌, IsTrue};
+ghost use Rattle.std.specs.Ordering.{nat_cmp, on, as_partial_cmp, is_eq};
+ghost use Rattle.std.specs.Cmp.{eq_by_cmp_equiv, on_total, partial_equiv_from_equiv, partial_order_from_own_ties};
 ghost use Rattle.std.specs.Cmp.Lexicographic.{slice_cmp};
 ghost use Rattle.std.specs.Cmp.Rules.{comparing};
 ghost use Rattle.std.proofs.Common.{rules};
-ghost use Rattle.coset_cbor.specs.Shortest.{IsShort};
-ghost use Rattle.coset_label.specs.Names.{name_item, name_cmp, major, argument, content, head_length};
-ghost use Rattle.coset_label.specs.Views.{label_seen};
+ghost use Rattle.coset_label.specs.Lent.{lent_seen};
+ghost use Rattle.coset_label.specs.NameOrder.{registered_cmp_total};
+ghost use Rattle.coset_label.specs.Names.{ComparesRegistered, ComparesTexts, as_name, canonical_cmp, length_first_cmp, name_cmp, registered_cmp, tie};
+ghost use Rattle.coset_label.specs.Views.{label_seen, registered_seen, registered_or_private_seen};
 
 use crate::label::Label;
-use coset_cbor::laws;
+use crate::laws;
+use crate::lent::LentLabel;
+use crate::registered::{RegisteredLabel, RegisteredLabelWithPrivate};
+use coset_iana::EnumI64;
 use std::cmp::Ordering;
 
 impl Label {
-    /// The major type of the label's head.
-    fn major(&self) -> u8
-        ensures { result ≡ major (label_seen self.now) }
+    /// The label, lent.
+    fn lend(&self) -> LentLabel<'_>
+        ensures { lent_seen result ≡ label_seen self.now }
     {
         match self {
-            Label::Int(i) if *i >= 0 => 0,
-            Label::Int(_) => 1,
-            Label::Text(_) => 3,
-        }
-    }
-
-    /// The argument of the label's head.
-    fn argument(&self) -> u64
-        ensures { result ≡ argument (label_seen self.now) }
-    {
-        match self {
-            Label::Int(i) if *i >= 0 => *i as u64,
-            Label::Int(i) => (-1 - *i) as u64,
-            Label::Text(text) => text.len() as u64,
-        }
-    }
-
-    /// What follows the head.
-    fn content(&self) -> &[u8]
-        ensures { result.now ≡ content (label_seen self.now) }
-    {
-        match self {
-            Label::Int(_) => &[],
-            Label::Text(text) => text.as_bytes(),
-        }
-    }
-}
-
-impl Label {
-    /// How many bytes the head takes that holds this argument.
-    fn head_length(argument: u64) -> u64
-        ensures { result ≡ head_length argument }
-    {
-        match argument {
-            0..=23 => 1,
-            24..=0xff => 2,
-            0x100..=0xffff => 3,
-            0x1_0000..=0xffff_ffff => 5,
-            _ => 9,
+            Label::Int(i) => LentLabel::Int(*i),
+            Label::Text(text) => LentLabel::Text(text.as_str()),
         }
     }
 
     /// The order of the labels' encodings by their lengths first, and then by their bytes (RFC 7049, section 3.9).
     pub fn cmp_canonical(&self, other: &Label) -> Ordering
-        ensures texts { (s t : List ℕ) → IsShort s (name_item (label_seen self.now)) → IsShort t (name_item (label_seen other.now))
-            → result ≡ ordering_then (nat_cmp (length s) (length t)) (slice_cmp nat_cmp s t) }
+        ensures order { result ≡ canonical_cmp (label_seen self.now) (label_seen other.now) }
+        ensures texts { ComparesTexts length_first_cmp (label_seen self.now) (label_seen other.now) result }
     {
-        laws::least_heads_are_shortest();
-        let head = Label::head_length(self.argument());
-        let other_head = Label::head_length(other.argument());
-        let length = head as u128 + self.content().len() as u128;
-        let other_length = other_head as u128 + other.content().len() as u128;
-        length.cmp(&other_length).then_with(|| self.cmp(other))
+        laws::orders_are_of_texts();
+        self.lend().canonical_order(&other.lend())
     }
 }
 
@@ -89,14 +51,10 @@ impl Ord for Label {
     /// The byte order of the labels' encodings (RFC 8949, section 4.2.1).
     fn cmp(&self, other: &Label) -> Ordering
         ensures order { result ≡ name_cmp (label_seen self.now) (label_seen other.now) }
-        ensures texts { (s t : List ℕ) → IsShort s (name_item (label_seen self.now)) → IsShort t (name_item (label_seen other.now))
-            → result ≡ slice_cmp nat_cmp s t }
+        ensures texts { ComparesTexts (slice_cmp nat_cmp) (label_seen self.now) (label_seen other.now) result }
     {
-        laws::least_heads_are_shortest();
-        self.major()
-            .cmp(&other.major())
-            .then(self.argument().cmp(&other.argument()))
-            .then_with(|| self.content().cmp(other.content()))
+        laws::orders_are_of_texts();
+        self.lend().order(&other.lend())
     }
 }
 
@@ -115,11 +73,150 @@ impl PartialEq for Label {
 
     ghost laws = { Prim.search (comparing, rules) };
 
-    fn eq(&self, other: &Label) -> bool {
+    /// Whether the two are one number, or one text.
+    fn eq(&self, other: &Label) -> bool
+        ensures level { result ≡ is_eq (name_cmp (label_seen self.now) (label_seen other.now)) }
+        ensures equal { IsTrue result ↔ (label_seen self.now ≡ label_seen other.now) }
+    {
+        laws::orders_tell_apart();
         self.cmp(other).is_eq()
     }
 }
 
 impl Eq for Label {
     ghost laws = { Prim.search (comparing, rules) };
+}
+
+impl<T: EnumI64> RegisteredLabel<T> {
+    /// The label, lent.
+    fn lend(&self) -> LentLabel<'_>
+        ensures { lent_seen result ≡ registered_seen T.number self.now }
+    {
+        match self {
+            RegisteredLabel::Assigned(value) => LentLabel::Int(value.to_i64()),
+            RegisteredLabel::Text(text) => LentLabel::Text(text.as_str()),
+        }
+    }
+}
+
+impl<T: EnumI64> Ord for RegisteredLabel<T> {
+    ghost cmp = { on (registered_seen T.number) name_cmp };
+
+    ghost total = { Prim.search (comparing, rules) };
+
+    ghost matches_partial_cmp = { Prim.search (comparing, rules) };
+
+    ghost matches_eq = { Prim.search (comparing, rules) };
+
+    /// The byte order of the labels' encodings (RFC 8949, section 4.2.1).
+    fn cmp(&self, other: &RegisteredLabel<T>) -> Ordering
+        ensures order { result ≡ name_cmp (registered_seen T.number self.now) (registered_seen T.number other.now) }
+        ensures texts { ComparesTexts (slice_cmp nat_cmp) (registered_seen T.number self.now) (registered_seen T.number other.now) result }
+    {
+        laws::orders_are_of_texts();
+        self.lend().order(&other.lend())
+    }
+}
+
+impl<T: EnumI64> PartialOrd for RegisteredLabel<T> {
+    ghost partial_cmp = { as_partial_cmp (on (registered_seen T.number) name_cmp) };
+
+    ghost laws = { partial_order_from_own_ties (Prim.search (comparing, rules) depth 9) (Prim.search (comparing, rules) depth 9) };
+
+    fn partial_cmp(&self, other: &RegisteredLabel<T>) -> Option<Ordering> {
+        Some(self.cmp(other))
+    }
+}
+
+impl<T: EnumI64> PartialEq for RegisteredLabel<T> {
+    ghost eq = { λ a b. is_eq (name_cmp (registered_seen T.number a) (registered_seen T.number b)) };
+
+    ghost laws = { Prim.search (comparing, rules) };
+
+    /// Whether the two are one number, or one text.
+    fn eq(&self, other: &RegisteredLabel<T>) -> bool
+        ensures level { result ≡ is_eq (name_cmp (registered_seen T.number self.now) (registered_seen T.number other.now)) }
+        ensures equal { IsTrue result ↔ (registered_seen T.number self.now ≡ registered_seen T.number other.now) }
+    {
+        laws::orders_tell_apart();
+        self.cmp(other).is_eq()
+    }
+}
+
+impl<T: EnumI64> Eq for RegisteredLabel<T> {
+    ghost laws = { Prim.search (comparing, rules) };
+}
+
+impl<T: EnumI64> RegisteredLabelWithPrivate<T> {
+    /// The label as such, lent.
+    fn lend(&self) -> LentLabel<'_>
+        ensures { lent_seen result ≡ as_name (registered_or_private_seen T.number self.now) }
+    {
+        match self {
+            RegisteredLabelWithPrivate::PrivateUse(i) => LentLabel::Int(*i),
+            RegisteredLabelWithPrivate::Assigned(value) => LentLabel::Int(value.to_i64()),
+            RegisteredLabelWithPrivate::Text(text) => LentLabel::Text(text.as_str()),
+        }
+    }
+
+    /// Whether the label is a number for private use.
+    fn tie(&self) -> u8
+        ensures { result ≡ tie (registered_or_private_seen T.number self.now) }
+    {
+        match self {
+            RegisteredLabelWithPrivate::PrivateUse(_) => 1,
+            _ => 0,
+        }
+    }
+}
+
+impl<T: EnumI64> Ord for RegisteredLabelWithPrivate<T> {
+    ghost cmp = { on (registered_or_private_seen T.number) registered_cmp };
+
+    ghost total = { Prim.search (comparing, rules) depth 9 };
+
+    ghost matches_partial_cmp = { Prim.search (comparing, rules) depth 9 };
+
+    ghost matches_eq = { Prim.search (comparing, rules) depth 9 };
+
+    /// The byte order of the labels' encodings (RFC 8949, section 4.2.1); of one number a value of the registry stands
+    /// before private use.
+    fn cmp(&self, other: &RegisteredLabelWithPrivate<T>) -> Ordering
+        ensures order { result ≡ registered_cmp (registered_or_private_seen T.number self.now) (registered_or_private_seen T.number other.now) }
+        ensures texts { ComparesRegistered (registered_or_private_seen T.number self.now) (registered_or_private_seen T.number other.now) result }
+    {
+        laws::orders_are_of_texts();
+        self.lend()
+            .order(&other.lend())
+            .then(self.tie().cmp(&other.tie()))
+    }
+}
+
+impl<T: EnumI64> PartialOrd for RegisteredLabelWithPrivate<T> {
+    ghost partial_cmp = { as_partial_cmp (on (registered_or_private_seen T.number) registered_cmp) };
+
+    ghost laws = { partial_order_from_own_ties (Prim.search (comparing, rules) depth 9) (Prim.search (comparing, rules) depth 9) };
+
+    fn partial_cmp(&self, other: &RegisteredLabelWithPrivate<T>) -> Option<Ordering> {
+        Some(self.cmp(other))
+    }
+}
+
+impl<T: EnumI64> PartialEq for RegisteredLabelWithPrivate<T> {
+    ghost eq = { λ a b. is_eq (registered_cmp (registered_or_private_seen T.number a) (registered_or_private_seen T.number b)) };
+
+    ghost laws = { partial_equiv_from_equiv (eq_by_cmp_equiv (on_total (registered_or_private_seen T.number) registered_cmp_total)) };
+
+    /// Whether the two are one number, both of the registry or both for private use, or one text.
+    fn eq(&self, other: &RegisteredLabelWithPrivate<T>) -> bool
+        ensures level { result ≡ is_eq (registered_cmp (registered_or_private_seen T.number self.now) (registered_or_private_seen T.number other.now)) }
+        ensures equal { IsTrue result ↔ (registered_or_private_seen T.number self.now ≡ registered_or_private_seen T.number other.now) }
+    {
+        laws::orders_tell_apart();
+        self.cmp(other).is_eq()
+    }
+}
+
+impl<T: EnumI64> Eq for RegisteredLabelWithPrivate<T> {
+    ghost laws = { eq_by_cmp_equiv (on_total (registered_or_private_seen T.number) registered_cmp_total) };
 }

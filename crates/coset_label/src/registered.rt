@@ -1,6 +1,7 @@
 //! Labels that a registry assigns.
 
-ghost use Rattle.std.specs.Prelude.{◌≡◌, IfErr, is_some};
+ghost use Rattle.std.specs.Prelude.{◌≡◌, IfErr, IfOk, is_some};
+ghost use Rattle.coset_value.specs.View.{view};
 ghost use Rattle.coset_shape.specs.declared.error.CoseError.TheVariants.{OutOfMemory};
 ghost use Rattle.coset_shape.specs.Answers.{Reads};
 ghost use Rattle.coset_shape.specs.Sources.{source_item, MayCopy};
@@ -88,7 +89,11 @@ impl<T: EnumI64 + Drop> AsCborValue for RegisteredLabel<T> {
 
     ghost sound = { (registered_laws (λ i. is_some (T.value_of i))).sound };
 
-    fn from_cbor_value(alloc: Global, value: Value) -> Result<RegisteredLabel<T>> {
+    /// It takes no memory.
+    fn from_cbor_value(alloc: Global, value: Value) -> Result<RegisteredLabel<T>>
+        ensures read { Reads (registered (λ i. is_some (T.value_of i))) (registered_seen T.number) (view value) result }
+        ensures memory { IfErr result (λ e. e ≡ OutOfMemory → ⊥) }
+    {
         read_registered(alloc, Source::Tree(value))
     }
 
@@ -126,7 +131,11 @@ impl<T: EnumI64 + WithPrivateRange + Drop> AsCborValue for RegisteredLabelWithPr
 
     ghost sound = { (registered_or_private_laws (λ i. is_some (T.value_of i)) T.is_private).sound };
 
-    fn from_cbor_value(alloc: Global, value: Value) -> Result<RegisteredLabelWithPrivate<T>> {
+    /// It takes no memory.
+    fn from_cbor_value(alloc: Global, value: Value) -> Result<RegisteredLabelWithPrivate<T>>
+        ensures read { Reads (registered_or_private (λ i. is_some (T.value_of i)) T.is_private) (registered_or_private_seen T.number) (view value) result }
+        ensures memory { IfErr result (λ e. e ≡ OutOfMemory → ⊥) }
+    {
         read_registered_or_private(alloc, Source::Tree(value))
     }
 
@@ -148,5 +157,46 @@ impl<T: EnumI64 + WithPrivateRange + Drop> FromPull for RegisteredLabelWithPriva
 impl<T: EnumI64 + WithPrivateRange + Drop> CborSerializable for RegisteredLabelWithPrivate<T> {
     fn from_slice(alloc: Global, s: &[u8]) -> Result<RegisteredLabelWithPrivate<T>> {
         read_slice(alloc, s)
+    }
+}
+
+impl<T: EnumI64 + Clone> RegisteredLabel<T> {
+    /// A label that equals this one. A clone of the registry's value has to equal it.
+    ///
+    /// # Errors
+    /// Want of memory alone.
+    pub fn clone(&self) -> Result<RegisteredLabel<T>>
+        requires { (x y : T) → T.is_clone x y → y ≡ x }
+        ensures copy { IfOk result (λ x. registered_seen T.number x ≡ registered_seen T.number self.now) }
+        ensures memory { IfErr result (λ e. e ≡ OutOfMemory) }
+    {
+        match self {
+            RegisteredLabel::Assigned(value) => Ok(RegisteredLabel::Assigned(value.clone()?)),
+            RegisteredLabel::Text(text) => Ok(RegisteredLabel::Text(text.clone()?)),
+        }
+    }
+}
+
+impl<T: EnumI64 + Clone> RegisteredLabelWithPrivate<T> {
+    /// A label that equals this one. A clone of the registry's value has to equal it.
+    ///
+    /// # Errors
+    /// Want of memory alone.
+    pub fn clone(&self) -> Result<RegisteredLabelWithPrivate<T>>
+        requires { (x y : T) → T.is_clone x y → y ≡ x }
+        ensures copy { IfOk result (λ x. registered_or_private_seen T.number x ≡ registered_or_private_seen T.number self.now) }
+        ensures memory { IfErr result (λ e. e ≡ OutOfMemory) }
+    {
+        match self {
+            RegisteredLabelWithPrivate::PrivateUse(number) => {
+                Ok(RegisteredLabelWithPrivate::PrivateUse(*number))
+            }
+            RegisteredLabelWithPrivate::Assigned(value) => {
+                Ok(RegisteredLabelWithPrivate::Assigned(value.clone()?))
+            }
+            RegisteredLabelWithPrivate::Text(text) => {
+                Ok(RegisteredLabelWithPrivate::Text(text.clone()?))
+            }
+        }
     }
 }

@@ -1,0 +1,16 @@
+-- The orders that a `CborOrdering` names, of labels and of their encodings.
+use Rattle.std.specs.Prelude.{ℕ, List}
+use Rattle.std.specs.declared.cmp.Ordering.{Ordering}
+use Rattle.std.specs.Ordering.{nat_cmp}
+use Rattle.std.specs.Cmp.Lexicographic.{slice_cmp}
+use Rattle.coset_label.specs.Names.{Name, name_cmp, canonical_cmp, length_first_cmp}
+use Rattle.coset_label.specs.declared.ordering.CborOrdering.{CborOrdering}
+use Rattle.coset_label.specs.declared.ordering.CborOrdering.TheVariants.{Lexicographic, LengthFirstLexicographic}
+
+abbrev pub name_cmp_by : CborOrdering → Name → Name → Ordering
+name_cmp_by Lexicographic = name_cmp
+name_cmp_by LengthFirstLexicographic = canonical_cmp
+
+abbrev pub text_cmp_by : CborOrdering → List ℕ → List ℕ → Ordering
+text_cmp_by Lexicographic = slice_cmp nat_cmp
+text_cmp_by LengthFirstLexicographic = length_first_cmp

@@ -1,0 +1,31 @@
+//! The two orders of labels by name.
+
+ghost use Rattle.std.specs.Prelude.{◌≡◌};
+ghost use Rattle.coset_label.specs.Names.{ComparesTexts};
+ghost use Rattle.coset_label.specs.Orderings.{name_cmp_by, text_cmp_by};
+ghost use Rattle.coset_label.specs.Views.{label_seen};
+
+use crate::label::Label;
+use std::cmp::Ordering;
+
+/// An order of labels, by their encodings.
+#[derive(Drop)]
+pub enum CborOrdering {
+    /// By their bytes (RFC 8949, section 4.2.1).
+    Lexicographic,
+    /// By their lengths first, and then by their bytes (RFC 7049, section 3.9).
+    LengthFirstLexicographic,
+}
+
+impl CborOrdering {
+    /// Compares two labels in this order. It takes no memory.
+    pub fn compare(&self, a: &Label, b: &Label) -> Ordering
+        ensures order { result ≡ name_cmp_by self.now (label_seen a.now) (label_seen b.now) }
+        ensures texts { ComparesTexts (text_cmp_by self.now) (label_seen a.now) (label_seen b.now) result }
+    {
+        match self {
+            CborOrdering::Lexicographic => a.cmp(b),
+            CborOrdering::LengthFirstLexicographic => a.cmp_canonical(b),
+        }
+    }
+}
