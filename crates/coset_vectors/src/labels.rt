@@ -1,12 +1,17 @@
 //! Labels, read both ways and written; and their two orders.
 
+ghost use Rattle.std.specs.Prelude.{[], ◌∷◌, pos, true, refl};
+
 use crate::sample::{Expected, is_expected, through_a_value};
 use Expected::{Refused, Written};
-use coset_iana::{EllipticCurve, EnumI64};
-use coset_label::{Algorithm, KeyType, Label, RegisteredLabel, RegisteredLabelWithPrivate};
+use RegisteredLabelWithPrivate::{Assigned, PrivateUse};
+use coset_iana::{EllipticCurve, EnumI64, HeaderParameter, WithPrivateRange};
+use coset_label::{
+    Algorithm, CborOrdering, KeyType, Label, RegisteredLabel, RegisteredLabelWithPrivate,
+};
 use coset_shape::traits::FromPull;
 use coset_shape::{CborSerializable, Result};
-use std::alloc::{AllocError, Global};
+use std::alloc::Global;
 use std::cmp::Ordering;
 use std::test::*;
 
@@ -19,6 +24,64 @@ fn reads<T: FromPull + CborSerializable + Drop>(
     let lent: Result<T> = T::from_slice(alloc, input);
     let tree: Result<T> = through_a_value(alloc, input);
     Ok(is_expected(alloc, lent, expected)? && is_expected(alloc, tree, expected)?)
+}
+
+/// Whether this label is read.
+fn is_read<T: CborSerializable + PartialEq + Drop>(alloc: Global, input: &[u8], label: &T) -> bool {
+    match T::from_slice(alloc, input) {
+        Ok(read) => read == *label,
+        Err(_) => false,
+    }
+}
+
+/// A registry of a caller's own, in which every other number is for private use.
+#[derive(Clone, Copy, Debug, Eq, PartialEq)]
+enum Own {
+    Reserved,
+    Something,
+}
+
+impl EnumI64 for Own {
+    ghost use Rattle.coset_iana.specs.Registry.{first_numbered, number-first_numbered};
+    ghost use Rattle.coset_vectors.specs.declared.labels.Own.TheVariants.{Reserved, Something};
+
+    ghost number = { elim [ Reserved ↦ pos 0 | Something ↦ pos 1 ] };
+
+    ghost value_of = { first_numbered (elim [ Reserved ↦ pos 0 | Something ↦ pos 1 ]) (Reserved ∷ Something ∷ []) };
+
+    fn from_i64(i: i64) -> Option<Own> {
+        match i {
+            0 => Some(Own::Reserved),
+            1 => Some(Own::Something),
+            _ => None,
+        }
+    }
+
+    fn to_i64(&self) -> i64 {
+        match self {
+            Own::Reserved => 0,
+            Own::Something => 1,
+        }
+    }
+
+    ghost value_of_number = { elim [ Reserved ↦ refl | Something ↦ refl ] };
+
+    ghost number_of_value = { number-first_numbered (elim [ Reserved ↦ pos 0 | Something ↦ pos 1 ]) (Reserved ∷ Something ∷ []) };
+}
+
+impl WithPrivateRange for Own {
+    ghost is_private = { λ _. true };
+
+    fn is_private(_i: i64) -> bool {
+        true
+    }
+}
+
+/// A label of that text.
+macro_rules! text {
+    ($alloc:expr, $label:ident, $s:expr) => {
+        $label::Text(String::from_str($alloc, $s)?)
+    };
 }
 
 #[test]
@@ -49,6 +112,8 @@ fn labels(rt: HostRuntime) -> std::result::Result<(), Fail> {
     for (input, expected) in &rows {
         assert!(rt; reads::<Label>(alloc, input, *expected)?);
     }
+    let least = Label::from_slice(alloc, b"\x3b\x7f\xff\xff\xff\xff\xff\xff\xff");
+    assert!(rt; matches!(least, Ok(Label::Int(i64::MIN))));
     Ok(())
 }
 
@@ -81,28 +146,63 @@ fn registered_labels(rt: HostRuntime) -> std::result::Result<(), Fail> {
     for (input, expected) in &algorithms {
         assert!(rt; reads::<Algorithm>(alloc, input, *expected)?);
     }
-    assert!(rt;
-        matches!(
-            Algorithm::from_slice(alloc, b"\x01"),
-            Ok(RegisteredLabelWithPrivate::Assigned(coset_iana::Algorithm::A128GCM))
-        )
-    );
-    assert!(rt;
-        matches!(
-            Algorithm::from_slice(alloc, b"\x3a\x00\x01\x00\x00"),
-            Ok(RegisteredLabelWithPrivate::PrivateUse(-65537))
-        )
-    );
-    let one: Algorithm = RegisteredLabelWithPrivate::PrivateUse(1);
-    assert!(rt; matches!(one.to_vec(alloc), Ok(text) if text.as_slice() == b"\x01".as_slice()));
+    Ok(())
+}
+
+#[test]
+fn each_number_of_a_registry(rt: HostRuntime) -> std::result::Result<(), Fail> {
+    let alloc = rt.alloc();
+    let out_of_range = Refused("out of range integer value");
+    let beyond = b"\x1b\x80\x00\x00\x00\x00\x00\x00\x00";
+    assert!(rt; reads::<RegisteredLabel<HeaderParameter>>(alloc, beyond, out_of_range)?);
+    assert!(rt; reads::<RegisteredLabelWithPrivate<HeaderParameter>>(alloc, beyond, out_of_range)?);
+    let algorithms: [(&[u8], Algorithm); 5] = [
+        (b"\x01", Assigned(coset_iana::Algorithm::A128GCM)),
+        (b"\x26", Assigned(coset_iana::Algorithm::ES256)),
+        (b"\x39\xff\xfe", Assigned(coset_iana::Algorithm::RS1)),
+        (b"\x3a\x00\x01\x00\x00", PrivateUse(-65537)),
+        (b"\x61a", text!(alloc, RegisteredLabelWithPrivate, "a")),
+    ];
+    for (input, label) in &algorithms {
+        assert!(rt; is_read(alloc, input, label));
+        assert!(rt; reads::<Algorithm>(alloc, input, Written(input))?);
+    }
+    let own: [(&[u8], RegisteredLabelWithPrivate<Own>); 4] = [
+        (b"\x00", Assigned(Own::Reserved)),
+        (b"\x01", Assigned(Own::Something)),
+        (b"\x0b", PrivateUse(11)),
+        (b"\x3a\x00\x01\x11\x6f", PrivateUse(-70000)),
+    ];
+    for (input, label) in &own {
+        assert!(rt; is_read(alloc, input, label));
+        assert!(rt; reads::<RegisteredLabelWithPrivate<Own>>(alloc, input, Written(input))?);
+    }
+    Ok(())
+}
+
+/// Whether the label is written so.
+fn writes<T: CborSerializable + Drop>(alloc: Global, label: T, expected: &[u8]) -> bool {
+    match label.to_vec(alloc) {
+        Ok(written) => written.as_slice() == expected,
+        Err(_) => false,
+    }
+}
+
+#[test]
+fn built_labels_are_written(rt: HostRuntime) -> std::result::Result<(), Fail> {
+    let alloc = rt.alloc();
+    assert!(rt; writes(alloc, Label::Int(-1), b"\x20"));
+    assert!(rt; writes(alloc, text!(alloc, Label, "abc"), b"\x63abc"));
+    let one: Algorithm = PrivateUse(1);
+    assert!(rt; writes(alloc, one, b"\x01"));
+    let curve: RegisteredLabel<EllipticCurve> = RegisteredLabel::from(EllipticCurve::X25519);
+    assert!(rt; writes(alloc, curve, b"\x04"));
     Ok(())
 }
 
 #[test]
 fn defaults_are_reserved(rt: HostRuntime) -> std::result::Result<(), Fail> {
-    assert!(rt;
-        matches!(Algorithm::default(), RegisteredLabelWithPrivate::Assigned(x) if x.to_i64() == 0)
-    );
+    assert!(rt; matches!(Algorithm::default(), Assigned(x) if x.to_i64() == 0));
     assert!(rt; matches!(KeyType::default(), RegisteredLabel::Assigned(x) if x.to_i64() == 0));
     Ok(())
 }
@@ -114,9 +214,34 @@ fn list(alloc: Global, numbers: &[i64], texts: &[&str]) -> std::result::Result<V
         all.push(Label::Int(*n))?;
     }
     for text in texts {
-        all.push(Label::Text(String::from_str(alloc, *text)?))?;
+        all.push(text!(alloc, Label, *text))?;
     }
     Ok(all)
+}
+
+/// Whether the labels ascend, and each equals itself alone.
+fn ascend<T: Ord>(labels: &[T]) -> bool {
+    for i in 0..labels.len() {
+        for j in 0..labels.len() {
+            let (a, b) = (&labels[i], &labels[j]);
+            if a.cmp(b) != i.cmp(&j) || (*a == *b) != (i == j) {
+                return false;
+            }
+        }
+    }
+    true
+}
+
+/// Whether the labels ascend in that order.
+fn ascend_by(order: &CborOrdering, labels: &[Label]) -> bool {
+    for i in 0..labels.len() {
+        for j in 0..labels.len() {
+            if order.compare(&labels[i], &labels[j]) != i.cmp(&j) {
+                return false;
+            }
+        }
+    }
+    true
 }
 
 #[test]
@@ -137,21 +262,15 @@ fn byte_order(rt: HostRuntime) -> std::result::Result<(), Fail> {
         i64::MIN,
     ];
     let labels = list(rt.alloc(), &numbers, &["a", "aa", "ab", "cd", "abcd"])?;
-    for i in 0..labels.len() {
-        for j in 0..labels.len() {
-            assert!(rt; labels[i].cmp(&labels[j]) == i.cmp(&j));
-            assert!(rt; (labels[i] == labels[j]) == (i == j));
-        }
-    }
+    assert!(rt; ascend(&labels));
+    assert!(rt; ascend_by(&CborOrdering::Lexicographic, &labels));
+    assert!(rt; !ascend_by(&CborOrdering::LengthFirstLexicographic, &labels));
     Ok(())
 }
 
 #[test]
 fn length_first(rt: HostRuntime) -> std::result::Result<(), Fail> {
     let alloc = rt.alloc();
-    let text = |s: &str| -> std::result::Result<Label, AllocError> {
-        Ok(Label::Text(String::from_str(alloc, s)?))
-    };
     let labels: [Label; 13] = [
         Label::Int(0),
         Label::Int(10),
@@ -160,27 +279,98 @@ fn length_first(rt: HostRuntime) -> std::result::Result<(), Fail> {
         Label::Int(-2),
         Label::Int(-10),
         Label::Int(0x99),
-        text("a")?,
+        text!(alloc, Label, "a"),
         Label::Int(0x1234),
         Label::Int(0x1235),
-        text("aa")?,
-        text("ab")?,
+        text!(alloc, Label, "aa"),
+        text!(alloc, Label, "ab"),
         Label::Int(0x1234_5678),
     ];
-    for i in 0..labels.len() {
-        for j in 0..labels.len() {
-            assert!(rt; labels[i].cmp_canonical(&labels[j]) == i.cmp(&j));
-        }
+    assert!(rt; ascend_by(&CborOrdering::LengthFirstLexicographic, &labels));
+    assert!(rt; !ascend_by(&CborOrdering::Lexicographic, &labels));
+    Ok(())
+}
+
+#[test]
+fn where_the_orders_part(rt: HostRuntime) -> std::result::Result<(), Fail> {
+    let alloc = rt.alloc();
+    let rows = [
+        (
+            Label::Int(10),
+            Label::Int(-1),
+            Ordering::Less,
+            Ordering::Less,
+        ),
+        (
+            Label::Int(0x1234),
+            text!(alloc, Label, "a"),
+            Ordering::Less,
+            Ordering::Greater,
+        ),
+        (
+            Label::Int(256),
+            Label::Int(-25),
+            Ordering::Less,
+            Ordering::Greater,
+        ),
+        (
+            text!(alloc, Label, ""),
+            Label::Int(24),
+            Ordering::Greater,
+            Ordering::Less,
+        ),
+    ];
+    for (a, b, bytes, length) in &rows {
+        assert!(rt; a.cmp(b) == *bytes && b.cmp(a) == bytes.reverse());
+        assert!(rt; a.cmp_canonical(b) == *length && b.cmp_canonical(a) == length.reverse());
     }
-    assert!(rt; Label::Int(256).cmp_canonical(&Label::Int(-25)) == Ordering::Greater);
-    assert!(rt; text("")?.cmp_canonical(&Label::Int(24)) == Ordering::Less);
+    Ok(())
+}
+
+#[test]
+fn registered_order(rt: HostRuntime) -> std::result::Result<(), Fail> {
+    let alloc = rt.alloc();
+    let algorithms: [Algorithm; 7] = [
+        Assigned(coset_iana::Algorithm::A192GCM),
+        Assigned(coset_iana::Algorithm::AES_CCM_16_64_128),
+        Assigned(coset_iana::Algorithm::A128KW),
+        Assigned(coset_iana::Algorithm::WalnutDSA),
+        PrivateUse(-70000),
+        PrivateUse(-70001),
+        text!(alloc, RegisteredLabelWithPrivate, "a"),
+    ];
+    assert!(rt; ascend(&algorithms));
+    let of_one_number: [Algorithm; 2] = [Assigned(coset_iana::Algorithm::ES256), PrivateUse(-7)];
+    assert!(rt; ascend(&of_one_number));
+    let types: [KeyType; 4] = [
+        RegisteredLabel::Assigned(coset_iana::KeyType::Reserved),
+        RegisteredLabel::Assigned(coset_iana::KeyType::EC2),
+        text!(alloc, RegisteredLabel, ""),
+        text!(alloc, RegisteredLabel, "a"),
+    ];
+    assert!(rt; ascend(&types));
     Ok(())
 }
 
 #[test]
 fn copies(rt: HostRuntime) -> std::result::Result<(), Fail> {
-    let labels = list(rt.alloc(), &[7], &["abc"])?;
-    for label in &labels {
+    let alloc = rt.alloc();
+    for label in &list(alloc, &[7], &["abc"])? {
+        assert!(rt; matches!(label.clone(), Ok(copy) if copy == *label));
+    }
+    let types: [KeyType; 2] = [
+        RegisteredLabel::Assigned(coset_iana::KeyType::EC2),
+        text!(alloc, RegisteredLabel, "abc"),
+    ];
+    for label in &types {
+        assert!(rt; matches!(label.clone(), Ok(copy) if copy == *label));
+    }
+    let algorithms: [Algorithm; 3] = [
+        Assigned(coset_iana::Algorithm::ES256),
+        PrivateUse(-7),
+        text!(alloc, RegisteredLabelWithPrivate, "abc"),
+    ];
+    for label in &algorithms {
         assert!(rt; matches!(label.clone(), Ok(copy) if copy == *label));
     }
     Ok(())

@@ -2,14 +2,19 @@
 //! it left: each answers the want of memory, or what it answers with ample memory.
 
 use crate::cbor::{EACH_KIND, each_kind};
-use crate::sample::forty;
+use crate::kinds::twice;
+use crate::sample::{forty, through_a_value};
 use coset_cbor::de::{EndOfFile, Error, read_value};
 use coset_cbor::ser::write_value;
 use coset_cbor::value::Value;
+use coset_label::{Algorithm, KeyType, Label, RegisteredLabel, RegisteredLabelWithPrivate};
 use coset_sample::reading::Reading;
 use coset_sample::settings::{Name, Settings};
-use coset_shape::traits::read_slice;
-use coset_shape::{CborSerializable, CoseError, TaggedCborSerializable, has_repeats};
+use coset_shape::traits::{FromPull, read_slice};
+use coset_shape::util::ValueTryAs;
+use coset_shape::{
+    AsCborValue, CallError, CborSerializable, CoseError, TaggedCborSerializable, has_repeats,
+};
 use coset_sign::structure::structure_bytes;
 use std::alloc::{AllocError, Global};
 use std::process::Abort;
@@ -57,6 +62,10 @@ impl Tally {
     pub(crate) fn had_both(&self) -> bool {
         self.same > 0 && self.refused > 0
     }
+}
+
+fn all_had_both(tallies: &[Tally]) -> bool {
+    tallies.iter().all(|tally| tally.had_both())
 }
 
 /// Blocks that together hold all the memory that is left, so that every request is refused while they stand.
@@ -292,8 +301,108 @@ fn types_refuse_or_answer(rt: HostRuntime) -> Result<(), Fail> {
         drop(pad);
     }
     drop(held);
-    for tally in &tallies {
-        assert!(rt; tally.had_both());
+    assert!(rt; all_had_both(&tallies));
+    Ok(())
+}
+
+/// A text label, longer than the least that a request for memory is given.
+const WORDS: &str = "A label that is long enough to ask for memory of its own: abc.";
+
+const TEXT: [u8; 64] = *b"\x78\x3eA label that is long enough to ask for memory of its own: abc.";
+
+/// What an answer that is a label comes to.
+fn labelled<T: PartialEq + Drop>(answer: coset_shape::Result<T>, expected: &T) -> Answer {
+    match answer {
+        Ok(label) if label == *expected => Answer::Same,
+        Err(CoseError::OutOfMemory) => Answer::Refused,
+        _ => Answer::Other,
     }
+}
+
+/// What writing a label comes to, where there is memory to read it.
+fn label_written<T: CborSerializable + Drop>(alloc: Global) -> Option<Answer> {
+    let label = T::from_slice(alloc, &TEXT).ok()?;
+    Some(match label.to_vec(alloc) {
+        Ok(text) if text.as_slice() == TEXT.as_slice() => Answer::Same,
+        Err(CoseError::OutOfMemory) => Answer::Refused,
+        _ => Answer::Other,
+    })
+}
+
+/// A label read both ways, and written, each with its tally.
+fn count_label<T: FromPull + CborSerializable + PartialEq + Drop>(
+    rt: &impl Abort,
+    alloc: Global,
+    expected: &T,
+    tallies: &mut [Tally; 4],
+) {
+    tallies[0].count(rt, labelled(T::from_slice(alloc, &TEXT), expected));
+    tallies[1].count(rt, labelled(through_a_value(alloc, &TEXT), expected));
+    if let Some(answer) = label_written::<T>(alloc) {
+        tallies[2].count(rt, answer);
+    }
+}
+
+/// What converting an array of thirty comes to, where there is memory for a copy of it.
+fn conversion(alloc: Global, members: &Value) -> Option<Answer> {
+    let copy = members.clone().ok()?;
+    Some(match copy.try_as_array_then_convert(alloc, twice) {
+        Ok(all) if all.as_slice() == [14u8; 30].as_slice() => Answer::Same,
+        Err(CallError::Coset(CoseError::OutOfMemory)) => Answer::Refused,
+        _ => Answer::Other,
+    })
+}
+
+/// Whether labels that are integers are read, and others refused, without memory; so is a text of a value.
+fn labels_need_none(alloc: Global, text: Value) -> bool {
+    matches!(Label::from_slice(alloc, b"\x26"), Ok(Label::Int(-7)))
+        && KeyType::from_slice(alloc, b"\x02").is_ok()
+        && Algorithm::from_slice(alloc, b"\x3a\x00\x01\x00\x00").is_ok()
+        && matches!(
+            Label::from_slice(alloc, b"\x63ab"),
+            Err(CoseError::DecodeFailed(_))
+        )
+        && matches!(
+            KeyType::from_slice(alloc, b"\x09"),
+            Err(CoseError::UnregisteredIanaValue)
+        )
+        && Label::from_cbor_value(alloc, text).is_ok()
+}
+
+#[test]
+fn labels_refuse_or_answer(rt: HostRuntime) -> Result<(), Fail> {
+    let alloc = rt.alloc();
+    let label = Label::Text(String::from_str(alloc, WORDS)?);
+    let kind: KeyType = RegisteredLabel::Text(String::from_str(alloc, WORDS)?);
+    let algorithm: Algorithm = RegisteredLabelWithPrivate::Text(String::from_str(alloc, WORDS)?);
+    let text = Value::Text(String::from_str(alloc, "a")?);
+    let mut numbers = Vec::new(alloc);
+    for _ in 0..30u8 {
+        numbers.push(Value::from(7u8))?;
+    }
+    let members = Value::Array(numbers);
+    let none = [Tally::new(); 4];
+    let (mut of_label, mut of_kind, mut of_algorithm) = (none, none, none);
+    let mut conversions = Tally::new();
+    let hole: Vec<u8> = Vec::with_capacity(alloc, HOLE)?;
+    let held = fill(alloc)?;
+    assert!(rt; labels_need_none(alloc, text), "answered without memory");
+    drop(hole);
+    for turn in 0..TURNS {
+        let pad: Result<Vec<u8>, AllocError> = Vec::with_capacity(alloc, HOLE - STEP * turn);
+        count_label(&rt, alloc, &label, &mut of_label);
+        of_label[3].count(&rt, labelled(label.clone(), &label));
+        count_label(&rt, alloc, &kind, &mut of_kind);
+        of_kind[3].count(&rt, labelled(kind.clone(), &kind));
+        count_label(&rt, alloc, &algorithm, &mut of_algorithm);
+        of_algorithm[3].count(&rt, labelled(algorithm.clone(), &algorithm));
+        if let Some(answer) = conversion(alloc, &members) {
+            conversions.count(&rt, answer);
+        }
+        drop(pad);
+    }
+    drop(held);
+    assert!(rt; all_had_both(&of_label) && all_had_both(&of_kind) && all_had_both(&of_algorithm));
+    assert!(rt; conversions.had_both());
     Ok(())
 }
