@@ -79,7 +79,7 @@ canonical_cmp = then_cmp (on encoded_length nat_cmp) name_cmp
 abbrev pub length_first_cmp : List ℕ → List ℕ → Ordering
 length_first_cmp = then_cmp (on length nat_cmp) (slice_cmp nat_cmp)
 
--- r is what R answers of the shortest texts of the two labels, each of which has exactly one
+-- r is what R answers of the shortest texts of the two labels; a label has exactly one
 abbrev pub ComparesTexts : (List ℕ → List ℕ → Ordering) → Name → Name → Ordering → Type 0
 ComparesTexts R a b r = (s t : List ℕ) → IsShort s (name_item a) → IsShort t (name_item b) → r ≡ R s t
 

@@ -18,6 +18,11 @@ pub type KeyOperation = RegisteredLabel<Operation>;
 pub type Algorithm = RegisteredLabelWithPrivate<coset_iana::Algorithm>;
 
 impl Default for Algorithm {
+    ghost use Rattle.coset_iana.specs.declared.algorithms.Algorithm.TheVariants.{Reserved};
+    ghost use Rattle.coset_label.specs.declared.registered.RegisteredLabelWithPrivate.TheVariants.{Assigned};
+
+    ghost is_default = { λ label. label ≡ Assigned Reserved };
+
     /// The reserved algorithm.
     fn default() -> Algorithm {
         RegisteredLabelWithPrivate::Assigned(coset_iana::Algorithm::Reserved)
@@ -25,6 +30,11 @@ impl Default for Algorithm {
 }
 
 impl Default for KeyType {
+    ghost use Rattle.coset_iana.specs.declared.keys.KeyType.TheVariants.{Reserved};
+    ghost use Rattle.coset_label.specs.declared.registered.RegisteredLabel.TheVariants.{Assigned};
+
+    ghost is_default = { λ label. label ≡ Assigned Reserved };
+
     /// The reserved key type.
     fn default() -> KeyType {
         RegisteredLabel::Assigned(Kind::Reserved)
