@@ -1,6 +1,7 @@
 //! Headers of COSE messages (RFC 8152, section 3).
 #![tactic(auto)]
 
+mod clone;
 mod header;
 pub mod laws;
 mod protected;
