@@ -6,6 +6,7 @@ mod header;
 pub mod laws;
 mod protected;
 mod read;
+mod same;
 mod write;
 
 pub use header::Header;
