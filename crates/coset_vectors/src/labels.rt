@@ -2,29 +2,17 @@
 
 ghost use Rattle.std.specs.Prelude.{[], ◌∷◌, pos, true, refl};
 
-use crate::sample::{Expected, is_expected, through_a_value};
+use crate::sample::{Expected, reads};
 use Expected::{Refused, Written};
 use RegisteredLabelWithPrivate::{Assigned, PrivateUse};
 use coset_iana::{EllipticCurve, EnumI64, HeaderParameter, WithPrivateRange};
 use coset_label::{
     Algorithm, CborOrdering, KeyType, Label, RegisteredLabel, RegisteredLabelWithPrivate,
 };
-use coset_shape::traits::FromPull;
-use coset_shape::{CborSerializable, Result};
+use coset_shape::CborSerializable;
 use std::alloc::Global;
 use std::cmp::Ordering;
 use std::test::*;
-
-/// Whether the type reads the input as expected, straight from the bytes and through a value.
-fn reads<T: FromPull + CborSerializable + Drop>(
-    alloc: Global,
-    input: &[u8],
-    expected: Expected,
-) -> std::result::Result<bool, Fail> {
-    let lent: Result<T> = T::from_slice(alloc, input);
-    let tree: Result<T> = through_a_value(alloc, input);
-    Ok(is_expected(alloc, lent, expected)? && is_expected(alloc, tree, expected)?)
-}
 
 /// Whether this label is read.
 fn is_read<T: CborSerializable + PartialEq + Drop>(alloc: Global, input: &[u8], label: &T) -> bool {

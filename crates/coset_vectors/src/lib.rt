@@ -8,6 +8,8 @@ mod chunks;
 #[cfg(test)]
 mod errors;
 #[cfg(test)]
+mod headers;
+#[cfg(test)]
 mod kinds;
 #[cfg(test)]
 mod labels;

@@ -7,6 +7,7 @@ use crate::sample::{forty, through_a_value};
 use coset_cbor::de::{EndOfFile, Error, read_value};
 use coset_cbor::ser::write_value;
 use coset_cbor::value::Value;
+use coset_core::{Header, ProtectedHeader};
 use coset_label::{Algorithm, KeyType, Label, RegisteredLabel, RegisteredLabelWithPrivate};
 use coset_sample::reading::Reading;
 use coset_sample::settings::{Name, Settings};
@@ -218,10 +219,15 @@ fn settings_lent(alloc: Global) -> Answer {
     }
 }
 
-fn settings_written(alloc: Global) -> Answer {
-    match Settings::from_slice(alloc, &SETTINGS) {
+/// Whether what was made is written as this.
+fn written<T: CborSerializable + Drop>(
+    alloc: Global,
+    made: coset_shape::Result<T>,
+    expected: &[u8],
+) -> Answer {
+    match made {
         Ok(x) => match x.to_vec(alloc) {
-            Ok(text) if text.as_slice() == SETTINGS.as_slice() => Answer::Same,
+            Ok(text) if text.as_slice() == expected => Answer::Same,
             Err(CoseError::OutOfMemory) => Answer::Refused,
             _ => Answer::Other,
         },
@@ -260,6 +266,25 @@ fn structure(alloc: Global) -> Answer {
     }
 }
 
+/// A header with an algorithm and an identifier, and a text, an array and null in the rest.
+const HEADER: [u8; 17] = *b"\xa4\x01\x61\x61\x04\x42\x31\x31\x61\x6b\x82\x01\x61\x62\x18\x46\xf6";
+
+/// What the answer is, where a call ought to make what is expected.
+fn made<T: PartialEq + Drop>(answer: coset_shape::Result<T>, expected: &T) -> Answer {
+    match answer {
+        Ok(x) if x == *expected => Answer::Same,
+        Err(CoseError::OutOfMemory) => Answer::Refused,
+        _ => Answer::Other,
+    }
+}
+
+fn protected(alloc: Global, header: &Header) -> coset_shape::Result<ProtectedHeader> {
+    Ok(ProtectedHeader {
+        original_data: Some(Vec::from_slice(alloc, &HEADER)?),
+        header: header.clone()?,
+    })
+}
+
 /// Whether bytes that aren't one item are refused for their own fault, and a reading without strings is read.
 fn typed_faults_stand(alloc: Global) -> bool {
     matches!(
@@ -285,7 +310,9 @@ fn typed_faults_stand(alloc: Global) -> bool {
 fn types_refuse_or_answer(rt: HostRuntime) -> Result<(), Fail> {
     let alloc = rt.alloc();
     let labels = forty(alloc, 3)?;
-    let mut tallies = [Tally::new(); 6];
+    let header = Header::from_slice(alloc, &HEADER).ok().ok_or("memory")?;
+    let protected = protected(alloc, &header).ok().ok_or("memory")?;
+    let mut tallies = [Tally::new(); 11];
     let hole: Vec<u8> = Vec::with_capacity(alloc, HOLE)?;
     let held = fill(alloc)?;
     assert!(rt; typed_faults_stand(alloc), "refused without memory");
@@ -294,10 +321,18 @@ fn types_refuse_or_answer(rt: HostRuntime) -> Result<(), Fail> {
         let pad: Result<Vec<u8>, AllocError> = Vec::with_capacity(alloc, HOLE - STEP * turn);
         tallies[0].count(&rt, settings(alloc));
         tallies[1].count(&rt, settings_lent(alloc));
-        tallies[2].count(&rt, settings_written(alloc));
+        tallies[2].count(
+            &rt,
+            written(alloc, Settings::from_slice(alloc, &SETTINGS), &SETTINGS),
+        );
         tallies[3].count(&rt, reading_written(alloc));
         tallies[4].count(&rt, repeats(alloc, &labels));
-        tallies[5].count(&rt, structure(alloc));
+        tallies[5].count(&rt, made(Header::from_slice(alloc, &HEADER), &header));
+        tallies[6].count(&rt, made(through_a_value(alloc, &HEADER), &header));
+        tallies[7].count(&rt, made(header.clone(), &header));
+        tallies[8].count(&rt, made(protected.clone(), &protected));
+        tallies[9].count(&rt, written(alloc, header.clone(), &HEADER));
+        tallies[10].count(&rt, structure(alloc));
         drop(pad);
     }
     drop(held);
@@ -309,15 +344,6 @@ fn types_refuse_or_answer(rt: HostRuntime) -> Result<(), Fail> {
 const WORDS: &str = "A label that is long enough to ask for memory of its own: abc.";
 
 const TEXT: [u8; 64] = *b"\x78\x3eA label that is long enough to ask for memory of its own: abc.";
-
-/// What an answer that is a label comes to.
-fn labelled<T: PartialEq + Drop>(answer: coset_shape::Result<T>, expected: &T) -> Answer {
-    match answer {
-        Ok(label) if label == *expected => Answer::Same,
-        Err(CoseError::OutOfMemory) => Answer::Refused,
-        _ => Answer::Other,
-    }
-}
 
 /// What writing a label comes to, where there is memory to read it.
 fn label_written<T: CborSerializable + Drop>(alloc: Global) -> Option<Answer> {
@@ -336,8 +362,8 @@ fn count_label<T: FromPull + CborSerializable + PartialEq + Drop>(
     expected: &T,
     tallies: &mut [Tally; 4],
 ) {
-    tallies[0].count(rt, labelled(T::from_slice(alloc, &TEXT), expected));
-    tallies[1].count(rt, labelled(through_a_value(alloc, &TEXT), expected));
+    tallies[0].count(rt, made(T::from_slice(alloc, &TEXT), expected));
+    tallies[1].count(rt, made(through_a_value(alloc, &TEXT), expected));
     if let Some(answer) = label_written::<T>(alloc) {
         tallies[2].count(rt, answer);
     }
@@ -391,11 +417,11 @@ fn labels_refuse_or_answer(rt: HostRuntime) -> Result<(), Fail> {
     for turn in 0..TURNS {
         let pad: Result<Vec<u8>, AllocError> = Vec::with_capacity(alloc, HOLE - STEP * turn);
         count_label(&rt, alloc, &label, &mut of_label);
-        of_label[3].count(&rt, labelled(label.clone(), &label));
+        of_label[3].count(&rt, made(label.clone(), &label));
         count_label(&rt, alloc, &kind, &mut of_kind);
-        of_kind[3].count(&rt, labelled(kind.clone(), &kind));
+        of_kind[3].count(&rt, made(kind.clone(), &kind));
         count_label(&rt, alloc, &algorithm, &mut of_algorithm);
-        of_algorithm[3].count(&rt, labelled(algorithm.clone(), &algorithm));
+        of_algorithm[3].count(&rt, made(algorithm.clone(), &algorithm));
         if let Some(answer) = conversion(alloc, &members) {
             conversions.count(&rt, answer);
         }

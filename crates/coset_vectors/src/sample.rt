@@ -45,6 +45,17 @@ pub(crate) fn is_expected<T: CborSerializable + Drop>(
     }
 }
 
+/// Whether the type reads the input as expected, straight from the bytes and through a value.
+pub(crate) fn reads<T: CborSerializable + Drop>(
+    alloc: Global,
+    input: &[u8],
+    expected: Expected,
+) -> std::result::Result<bool, Fail> {
+    let lent: Result<T> = T::from_slice(alloc, input);
+    let tree: Result<T> = through_a_value(alloc, input);
+    Ok(is_expected(alloc, lent, expected)? && is_expected(alloc, tree, expected)?)
+}
+
 const READINGS: [(&[u8], Expected); 16] = [
     (
         b"\x83\x05\x42\x01\x02\x82\x01\x20",
@@ -98,10 +109,7 @@ const READINGS: [(&[u8], Expected); 16] = [
 fn readings(rt: HostRuntime) -> std::result::Result<(), Fail> {
     let alloc = rt.alloc();
     for (input, expected) in &READINGS {
-        let lent: Result<Reading> = Reading::from_slice(alloc, input);
-        assert!(rt; is_expected(alloc, lent, *expected)?);
-        let tree: Result<Reading> = through_a_value(alloc, input);
-        assert!(rt; is_expected(alloc, tree, *expected)?);
+        assert!(rt; reads::<Reading>(alloc, input, *expected)?);
     }
     Ok(())
 }
