@@ -1,26 +1,20 @@
 -- The laws of headers' shape.
-use Rattle.std.proofs.Common.{◌≡◌, Bool, true, false, Ordering, Less, Equal, Greater, refl, ap, sym, ◌∙◌, true≢false, rules}
+use Rattle.std.proofs.Common.{◌≡◌, Bool, true, false, refl, ap, sym, ◌∙◌, true≢false, rules}
 use Rattle.std.specs.Prelude.{pos, [], List}
-use Rattle.std.specs.Ordering.{is_eq}
 use Rattle.coset_value.specs.Item.{integer}
 use Rattle.coset_shape.specs.Shape.{filled_bstr}
 use Rattle.coset_shape.specs.ShapeLaws.{Lawful, along_laws, filled_bstr_laws}
 use Rattle.coset_shape.specs.MapLaws.{LawfulNames, LawfulFields, Flat, field_laws, no_field_laws, optional_laws, listed_laws, labelled_laws}
 use Rattle.coset_label.specs.Names.{Name, number, name_cmp, RegisteredName}
 use Rattle.coset_label.specs.LabelLaws.{label_laws, registered_or_private_laws}
-use Rattle.coset_label.specs.NameOrder.{name_cmp-itself, name_cmp-equal}
+use Rattle.coset_label.specs.NameOrder.{name_cmp-apart}
 use Rattle.coset_core.specs.Headers.{HeaderSeen, algorithm, same_name, names, Fielded, fields, header_of, parts_of, header}
-
-level : (o : Ordering) → is_eq o ≡ true → o ≡ Equal
-level Equal h = refl
-level Less h = absurd (true≢false (sym h))
-level Greater h = absurd (true≢false (sym h))
 
 pub names_laws : LawfulNames Name names
 names_laws = record {
   shape = label_laws;
-  same_is = λ l m h. name_cmp-equal l m (level (name_cmp l m) h);
-  same_self = λ l. ap is_eq (name_cmp-itself l);
+  same_is = λ l m h. (name_cmp-apart l m).0 h;
+  same_self = λ l. (name_cmp-apart l l).1 refl;
 }
 
 -- of two labels it is the same which is asked whether it is the other

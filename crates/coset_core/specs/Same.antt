@@ -1,20 +1,17 @@
 -- Whether two headers are the same, as tests that compute. They answer `true` exactly where the headers are equal.
-use Rattle.std.specs.Prelude.{Bool, false, ◌&&◌, ◌==◌}
+use Rattle.std.specs.Prelude.{Bool, ◌&&◌, ◌==◌}
 use Rattle.std.specs.Option.{option_eq}
-use Rattle.std.specs.Ordering.{int_eq}
+use Rattle.std.specs.Ordering.{is_eq}
 use Rattle.std.specs.Cmp.Lexicographic.{pointwise}
 use Rattle.coset_value.specs.Item.{Item}
 use Rattle.coset_value.specs.Same.{item_eq}
-use Rattle.coset_label.specs.Names.{Name, RegisteredName, assigned, private_use, phrase}
+use Rattle.coset_label.specs.Names.{Name, RegisteredName, registered_cmp}
 use Rattle.coset_core.specs.Headers.{HeaderSeen, same_name}
 use Rattle.coset_core.specs.Protected.{ProtectedSeen}
 
--- the same kind of label, and the same number or text
+-- the same algorithm
 abbrev pub algorithm_eq : RegisteredName → RegisteredName → Bool
-algorithm_eq (assigned i) (assigned j) = int_eq i j
-algorithm_eq (private_use i) (private_use j) = int_eq i j
-algorithm_eq (phrase s) (phrase t) = pointwise ◌==◌ s t
-algorithm_eq a b = false
+algorithm_eq a b = is_eq (registered_cmp a b)
 
 -- the same label, and the same item
 abbrev pub entry_eq : Name × Item → Name × Item → Bool

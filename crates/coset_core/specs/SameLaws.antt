@@ -8,7 +8,7 @@ use Rattle.std.proofs.Common.{sym, ap, subst, true≢false}
 use Rattle.std.proofs.lemmas.Bool.Decides.{Decides-like, Decides-and}
 use Rattle.coset_value.specs.Same.{item_eq}
 use Rattle.coset_value.specs.SameLaws.{item_eq-decides}
-use Rattle.coset_label.specs.Names.{RegisteredName, assigned, private_use, phrase}
+use Rattle.coset_label.specs.NameOrder.{registered_cmp-apart}
 use Rattle.coset_core.specs.Headers.{same_name}
 use Rattle.coset_core.specs.HeaderLaws.{names_laws}
 use Rattle.coset_core.specs.Same.{algorithm_eq, entry_eq, header_eq, protected_eq}
@@ -34,19 +34,8 @@ module _ {A : Type 0} (test : A → A → Bool) (decides : IsEquality test) wher
   pub option_eq-decides : IsEquality (option_eq test)
   option_eq-decides = told (option_eq test) option-sound option-itself
 
-algorithm-sound : (a b : RegisteredName) → algorithm_eq a b ≡ true → a ≡ b
-algorithm-sound (assigned i) (assigned j) h = ap assigned ((signed_Decides i j).0 h)
-algorithm-sound (private_use i) (private_use j) h = ap private_use ((signed_Decides i j).0 h)
-algorithm-sound (phrase s) (phrase t) h = ap phrase ((bytes_decides s t).0 h)
-algorithm-sound a b h = absurd (true≢false (sym h))
-
-algorithm-itself : (a : RegisteredName) → algorithm_eq a a ≡ true
-algorithm-itself (assigned i) = (signed_Decides i i).1 refl
-algorithm-itself (private_use i) = (signed_Decides i i).1 refl
-algorithm-itself (phrase s) = (bytes_decides s s).1 refl
-
 pub algorithm_eq-decides : IsEquality algorithm_eq
-algorithm_eq-decides = told algorithm_eq algorithm-sound algorithm-itself
+algorithm_eq-decides = registered_cmp-apart
 
 pub entry_eq-decides : IsEquality entry_eq
 entry_eq-decides e f =

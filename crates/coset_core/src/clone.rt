@@ -2,13 +2,13 @@
 
 ghost use Rattle.std.specs.Prelude.{◌≡◌, map, IfOk, IfErr};
 ghost use Rattle.coset_shape.specs.declared.error.CoseError.TheVariants.{OutOfMemory};
-ghost use Rattle.coset_core.specs.Headers.{algorithm_seen, entry_seen, header_seen};
+ghost use Rattle.coset_core.specs.Headers.{entry_seen, header_seen};
 ghost use Rattle.coset_core.specs.Protected.{protected_seen};
 
 use crate::header::Header;
 use crate::protected::ProtectedHeader;
 use coset_cbor::value::Value;
-use coset_label::{Algorithm, Label, RegisteredLabelWithPrivate};
+use coset_label::Label;
 use coset_shape::Result;
 
 impl Header {
@@ -21,7 +21,7 @@ impl Header {
         ensures memory { IfErr result (λ e. e ≡ OutOfMemory) }
     {
         let alg = match &self.alg {
-            Some(alg) => Some(copy_algorithm(alg)?),
+            Some(alg) => Some(alg.clone()?),
             None => None,
         };
         Ok(Header {
@@ -49,23 +49,6 @@ impl ProtectedHeader {
             original_data,
             header: self.header.clone()?,
         })
-    }
-}
-
-fn copy_algorithm(alg: &Algorithm) -> Result<Algorithm>
-    ensures copy { IfOk result (λ a. algorithm_seen a ≡ algorithm_seen alg.now) }
-    ensures memory { IfErr result (λ e. e ≡ OutOfMemory) }
-{
-    match alg {
-        RegisteredLabelWithPrivate::PrivateUse(number) => {
-            Ok(RegisteredLabelWithPrivate::PrivateUse(*number))
-        }
-        RegisteredLabelWithPrivate::Assigned(value) => {
-            Ok(RegisteredLabelWithPrivate::Assigned(*value))
-        }
-        RegisteredLabelWithPrivate::Text(text) => {
-            Ok(RegisteredLabelWithPrivate::Text(text.clone()?))
-        }
     }
 }
 

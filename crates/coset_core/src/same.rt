@@ -13,8 +13,7 @@ ghost use Rattle.coset_core.specs.SameLaws.{header_eq_equiv, protected_eq_equiv}
 use crate::header::Header;
 use crate::protected::ProtectedHeader;
 use coset_cbor::value::Value;
-use coset_iana::EnumI64;
-use coset_label::{Algorithm, Label, RegisteredLabelWithPrivate};
+use coset_label::{Algorithm, Label};
 
 /// Equality of every field; the rest is compared pair by pair, in order.
 impl PartialEq for Header {
@@ -67,20 +66,7 @@ fn same_protected(a: &ProtectedHeader, b: &ProtectedHeader) -> bool
 fn same_algorithm(a: &Option<Algorithm>, b: &Option<Algorithm>) -> bool
     ensures { result ≡ option_eq algorithm_eq (option_map algorithm_seen a.now) (option_map algorithm_seen b.now) }
 {
-    match (a, b) {
-        (None, None) => true,
-        (
-            Some(RegisteredLabelWithPrivate::PrivateUse(m)),
-            Some(RegisteredLabelWithPrivate::PrivateUse(n)),
-        ) => *m == *n,
-        (
-            Some(RegisteredLabelWithPrivate::Assigned(x)),
-            Some(RegisteredLabelWithPrivate::Assigned(y)),
-        ) => x.to_i64() == y.to_i64(),
-        (Some(RegisteredLabelWithPrivate::Text(s)), Some(RegisteredLabelWithPrivate::Text(t))) =>
-            s.as_str() == t.as_str(),
-        _ => false,
-    }
+    *a == *b
 }
 
 fn same_rest(a: &Vec<(Label, Value)>, b: &Vec<(Label, Value)>) -> bool
