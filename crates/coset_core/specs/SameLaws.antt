@@ -14,7 +14,7 @@ use Rattle.coset_core.specs.HeaderLaws.{names_laws}
 use Rattle.coset_core.specs.Same.{algorithm_eq, entry_eq, header_eq, protected_eq}
 
 -- a test that tells equal from unequal
-abbrev IsEquality : {A : Type 0} → (A → A → Bool) → Type 0
+abbrev pub IsEquality : {A : Type 0} → (A → A → Bool) → Type 0
 IsEquality {A} test = (x y : A) → Decides (test x y) (x ≡ y)
 
 -- a test is that where what passes it is equal, and all passes it against itself

@@ -10,6 +10,7 @@ use crate::protected::ProtectedHeader;
 use coset_cbor::value::Value;
 use coset_label::Label;
 use coset_shape::Result;
+use coset_shape::util::copy_bytes;
 
 impl Header {
     /// A header that equals this one.
@@ -50,13 +51,6 @@ impl ProtectedHeader {
             header: self.header.clone()?,
         })
     }
-}
-
-fn copy_bytes(bytes: &Vec<u8>) -> Result<Vec<u8>>
-    ensures copy { IfOk result (λ b. b.items ≡ bytes.now.items) }
-    ensures memory { IfErr result (λ e. e ≡ OutOfMemory) }
-{
-    Ok(Vec::from_slice(*bytes.allocator(), bytes)?)
 }
 
 fn copy_rest(rest: &Vec<(Label, Value)>) -> Result<Vec<(Label, Value)>>

@@ -220,3 +220,14 @@ impl ValueTryAs for Value {
         }
     }
 }
+
+/// A copy of bytes.
+///
+/// # Errors
+/// Want of memory alone.
+pub fn copy_bytes(bytes: &Vec<u8>) -> Result<Vec<u8>>
+    ensures copy { IfOk result (λ b. b.items ≡ bytes.now.items) }
+    ensures memory { IfErr result (λ e. e ≡ OutOfMemory) }
+{
+    Ok(Vec::from_slice(*bytes.allocator(), bytes)?)
+}

@@ -2,3 +2,4 @@ pub mod Structure
 pub mod SignatureStructure
 pub mod Signed
 pub mod Sign1
+pub mod Same

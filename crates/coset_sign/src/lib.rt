@@ -2,6 +2,7 @@
 #![tactic(auto)]
 
 pub mod laws;
+mod same;
 mod sign1;
 mod signature;
 pub mod structure;
