@@ -65,7 +65,7 @@ impl Tally {
     }
 }
 
-fn all_had_both(tallies: &[Tally]) -> bool {
+pub(crate) fn all_had_both(tallies: &[Tally]) -> bool {
     tallies.iter().all(|tally| tally.had_both())
 }
 
@@ -220,7 +220,7 @@ fn settings_lent(alloc: Global) -> Answer {
 }
 
 /// Whether what was made is written as this.
-fn written<T: CborSerializable + Drop>(
+pub(crate) fn written<T: CborSerializable + Drop>(
     alloc: Global,
     made: coset_shape::Result<T>,
     expected: &[u8],
@@ -270,7 +270,7 @@ fn structure(alloc: Global) -> Answer {
 const HEADER: [u8; 17] = *b"\xa4\x01\x61\x61\x04\x42\x31\x31\x61\x6b\x82\x01\x61\x62\x18\x46\xf6";
 
 /// What the answer is, where a call ought to make what is expected.
-fn made<T: PartialEq + Drop>(answer: coset_shape::Result<T>, expected: &T) -> Answer {
+pub(crate) fn made<T: PartialEq + Drop>(answer: coset_shape::Result<T>, expected: &T) -> Answer {
     match answer {
         Ok(x) if x == *expected => Answer::Same,
         Err(CoseError::OutOfMemory) => Answer::Refused,

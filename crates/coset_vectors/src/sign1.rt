@@ -1,11 +1,12 @@
 //! Messages with one signature: worked rows read both ways, written and tagged, and the bytes that are signed.
 
-use crate::refused::{Answer, HOLE, STEP, TURNS, Tally, fill};
+use crate::refused::{Answer, HOLE, STEP, TURNS, Tally, all_had_both, fill, made, written};
 use crate::sample::Expected::{Refused, Written};
 use crate::sample::{Expected, is_expected, through_a_value};
 use coset_cbor::de::{EndOfFile, Error};
 use coset_cbor::value::Value;
 use coset_core::{Header, ProtectedHeader};
+use coset_iana as iana;
 use coset_iana::Algorithm;
 use coset_label::Label;
 use coset_shape::{CborSerializable, CoseError, Result, TaggedCborSerializable};
@@ -230,6 +231,56 @@ fn built_messages(rt: HostRuntime) -> std::result::Result<(), Fail> {
     Ok(())
 }
 
+#[test]
+fn copies_are_equal_and_others_are_not(rt: HostRuntime) -> std::result::Result<(), Fail> {
+    let alloc = rt.alloc();
+    let message = readme(alloc)?;
+    assert!(rt; message.clone().ok().ok_or("memory")? == message);
+    let read: Result<CoseSign1> = CoseSign1::from_slice(alloc, README);
+    let read = read.ok().ok_or("read")?;
+    // The one that was read keeps its bytes.
+    assert!(rt; read != message && read.protected.header == message.protected.header);
+    let mut other = read.clone().ok().ok_or("memory")?;
+    assert!(rt; other == read);
+    other.protected.original_data = None;
+    assert!(rt; other == message);
+    other.signature = Vec::from_slice(alloc, b"1")?;
+    assert!(rt; other != message);
+    Ok(())
+}
+
+/// Stands for a signing key: signs by repeating what it is given.
+fn sign(tbs: &Vec<u8>) -> Result<Vec<u8>> {
+    Ok(tbs.clone()?)
+}
+
+/// Stands for the key that verifies.
+fn verify(signature: &[u8], tbs: &[u8]) -> bool {
+    signature == tbs
+}
+
+/// The README's first example.
+fn example(alloc: Global) -> Result<bool> {
+    let aad = b"this is additional data";
+
+    let mut message = CoseSign1::new(alloc);
+    message.protected.header.alg = Some(iana::Algorithm::ES256.into());
+    message.protected.header.key_id = Vec::from_slice(alloc, b"11")?;
+    message.payload = Some(Vec::from_slice(alloc, b"This is the content")?);
+    message.signature = sign(&message.tbs_data(alloc, aad)?)?;
+    let bytes = message.to_vec(alloc)?;
+
+    let received = CoseSign1::from_slice(alloc, &bytes)?;
+    let tbs = received.tbs_data(alloc, aad)?;
+    Ok(verify(&received.signature, &tbs))
+}
+
+#[test]
+fn readme_example(rt: HostRuntime) -> std::result::Result<(), Fail> {
+    assert!(rt; example(rt.alloc()).ok().ok_or("refused")?);
+    Ok(())
+}
+
 /// A protected header that wasn't read, with the label 70 twice.
 fn repeated(alloc: Global) -> std::result::Result<ProtectedHeader, Fail> {
     let mut protected = ProtectedHeader::new(alloc);
@@ -349,26 +400,6 @@ fn protected_headers(rt: HostRuntime) -> std::result::Result<(), Fail> {
     Ok(())
 }
 
-fn written_back(alloc: Global) -> Answer {
-    match CoseSign1::from_slice(alloc, README) {
-        Ok(message) => match message.to_vec(alloc) {
-            Ok(bytes) if bytes.as_slice() == README => Answer::Same,
-            Err(CoseError::OutOfMemory) => Answer::Refused,
-            _ => Answer::Other,
-        },
-        Err(CoseError::OutOfMemory) => Answer::Refused,
-        Err(_) => Answer::Other,
-    }
-}
-
-fn through_the_tree(alloc: Global) -> Answer {
-    match through_a_value::<CoseSign1>(alloc, README) {
-        Ok(message) if message.signature.is_empty() && message.payload.is_some() => Answer::Same,
-        Err(CoseError::OutOfMemory) => Answer::Refused,
-        _ => Answer::Other,
-    }
-}
-
 fn signed(alloc: Global, message: &CoseSign1) -> Answer {
     match message.tbs_data(alloc, README_AAD) {
         Ok(bytes) if bytes.as_slice() == README_TBS => Answer::Same,
@@ -394,7 +425,9 @@ fn needs_none(alloc: Global) -> bool {
 fn refuses_or_answers(rt: HostRuntime) -> std::result::Result<(), Fail> {
     let alloc = rt.alloc();
     let built = readme(alloc)?;
-    let mut tallies = [Tally::new(); 3];
+    let read: Result<CoseSign1> = CoseSign1::from_slice(alloc, README);
+    let read = read.ok().ok_or("read")?;
+    let mut tallies = [Tally::new(); 5];
     let hole: Vec<u8> = Vec::with_capacity(alloc, HOLE)?;
     let held = fill(alloc)?;
     assert!(rt; needs_none(alloc), "read or refused without memory");
@@ -404,14 +437,14 @@ fn refuses_or_answers(rt: HostRuntime) -> std::result::Result<(), Fail> {
             alloc,
             HOLE - STEP * turn,
         );
-        tallies[0].count(&rt, written_back(alloc));
-        tallies[1].count(&rt, through_the_tree(alloc));
-        tallies[2].count(&rt, signed(alloc, &built));
+        tallies[0].count(&rt, made(CoseSign1::from_slice(alloc, README), &read));
+        tallies[1].count(&rt, made(through_a_value(alloc, README), &read));
+        tallies[2].count(&rt, made(read.clone(), &read));
+        tallies[3].count(&rt, written(alloc, read.clone(), README));
+        tallies[4].count(&rt, signed(alloc, &built));
         drop(pad);
     }
     drop(held);
-    for tally in &tallies {
-        assert!(rt; tally.had_both());
-    }
+    assert!(rt; all_had_both(&tallies));
     Ok(())
 }
