@@ -16,6 +16,8 @@ mod labels;
 #[cfg(test)]
 mod members;
 #[cfg(test)]
+mod protected;
+#[cfg(test)]
 mod refused;
 #[cfg(test)]
 mod sample;

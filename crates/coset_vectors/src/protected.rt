@@ -1,0 +1,135 @@
+//! Protected headers: read from byte strings, kept as they were read, and written.
+
+use crate::sample::Expected;
+use Expected::{Refused, Written};
+use coset_cbor::de::{Pull, read_value};
+use coset_cbor::value::Value;
+use coset_core::{Header, ProtectedHeader};
+use coset_label::{Label, RegisteredLabelWithPrivate};
+use coset_shape::{CborSerializable, CoseError, Result};
+use std::alloc::Global;
+use std::test::*;
+
+/// Byte strings, and the bytes that are kept of each.
+const ROWS: [(&[u8], Expected); 13] = [
+    (b"\x40", Written(b"")),
+    (b"\x41\xa0", Written(b"\xa0")),
+    (b"\x43\xa1\x01\x26", Written(b"\xa1\x01\x26")),
+    (b"\x58\x03\xa1\x01\x26", Written(b"\xa1\x01\x26")),
+    (b"\x5f\x42\xa1\x01\x41\x26\xff", Written(b"\xa1\x01\x26")),
+    (
+        b"\x46\xbf\x18\x01\x38\x06\xff",
+        Written(b"\xbf\x18\x01\x38\x06\xff"),
+    ),
+    (b"\xf6", Refused("got nul, expected bstr")),
+    (b"\xa0", Refused("got map, expected bstr")),
+    (b"\x41\x01", Refused("got int, expected map")),
+    (
+        b"\x43\xa1\x01\x08",
+        Refused("expected value in IANA or private use range"),
+    ),
+    (b"\x42\xa0\x00", Refused("extraneous data in CBOR input")),
+    (
+        b"\x42\xa1\x01",
+        Refused("decode CBOR failure: Io(EndOfFile)"),
+    ),
+    (b"\x41\x1e", Refused("decode CBOR failure: Syntax(0)")),
+];
+
+/// Whether these are the bytes that stand for the header.
+fn keeps(alloc: Global, protected: &ProtectedHeader, bytes: &[u8]) -> bool {
+    match protected.kept_bytes(alloc) {
+        Ok(kept) => {
+            let kept: &[u8] = &kept;
+            kept == bytes
+        }
+        Err(_) => false,
+    }
+}
+
+/// Whether the answer is the byte string of these.
+fn holds(answer: Result<Value>, bytes: &[u8]) -> bool {
+    match &answer {
+        Ok(value) => match value.as_bytes() {
+            Some(held) => held.as_slice() == bytes,
+            None => false,
+        },
+        Err(_) => false,
+    }
+}
+
+/// Whether the answer keeps the bytes that are expected, and is written with them, or is the error that is expected.
+fn is_kept(
+    alloc: Global,
+    answer: Result<ProtectedHeader>,
+    expected: Expected,
+) -> std::result::Result<bool, Fail> {
+    match (answer, expected) {
+        (Ok(protected), Written(bytes)) => {
+            let same = keeps(alloc, &protected, bytes);
+            Ok(same && holds(protected.cbor_bstr(alloc), bytes))
+        }
+        (Err(error), Refused(text)) => Ok(format!(in alloc; "{error}")?.as_str() == text),
+        (Ok(_), Refused(_)) | (Err(_), Written(_)) => Ok(false),
+    }
+}
+
+#[test]
+fn protected_headers(rt: HostRuntime) -> std::result::Result<(), Fail> {
+    let alloc = rt.alloc();
+    for (input, expected) in &ROWS {
+        let (value, _) = read_value(alloc, input).ok().ok_or("read")?;
+        assert!(rt;
+            is_kept(
+                alloc,
+                ProtectedHeader::from_cbor_bstr(alloc, value),
+                *expected
+            )?
+        );
+        let (pull, _) = Pull::new(input).ok().ok_or("read")?;
+        assert!(rt;
+            is_kept(
+                alloc,
+                ProtectedHeader::from_pull_bstr(alloc, pull),
+                *expected
+            )?
+        );
+    }
+    Ok(())
+}
+
+/// A protected header that wasn't read, with this one.
+fn unread(header: Header) -> ProtectedHeader {
+    ProtectedHeader {
+        original_data: None,
+        header,
+    }
+}
+
+#[test]
+fn unread_headers(rt: HostRuntime) -> std::result::Result<(), Fail> {
+    let alloc = rt.alloc();
+    assert!(rt; is_kept(alloc, Ok(ProtectedHeader::new(alloc)), Written(b""))?);
+    let mut header = Header::new(alloc);
+    header.alg = Some(RegisteredLabelWithPrivate::Assigned(coset_iana::Algorithm::ES256));
+    assert!(rt; is_kept(alloc, Ok(unread(header)), Written(b"\xa1\x01\x26"))?);
+    let mut repeats = Header::new(alloc);
+    repeats.rest.push((Label::Int(70), Value::Null))?;
+    repeats.rest.push((Label::Int(70), Value::Null))?;
+    let repeats = unread(repeats);
+    assert!(rt; matches!(repeats.kept_bytes(alloc), Err(CoseError::DuplicateMapKey)));
+    assert!(rt; matches!(repeats.cbor_bstr(alloc), Err(CoseError::DuplicateMapKey)));
+    Ok(())
+}
+
+#[test]
+fn bare_maps(rt: HostRuntime) -> std::result::Result<(), Fail> {
+    let alloc = rt.alloc();
+    let bare = ProtectedHeader::from_slice(alloc, b"\xa1\x18\x01\x26")
+        .ok()
+        .ok_or("read")?;
+    assert!(rt; bare.original_data.is_none());
+    let written = bare.to_vec(alloc).ok().ok_or("memory")?;
+    assert!(rt; written.as_slice() == b"\xa1\x01\x26".as_slice());
+    Ok(())
+}
