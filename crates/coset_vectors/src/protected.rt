@@ -133,3 +133,17 @@ fn bare_maps(rt: HostRuntime) -> std::result::Result<(), Fail> {
     assert!(rt; written.as_slice() == b"\xa1\x01\x26".as_slice());
     Ok(())
 }
+
+#[test]
+fn emptiness(rt: HostRuntime) -> std::result::Result<(), Fail> {
+    let alloc = rt.alloc();
+    assert!(rt; Header::new(alloc).is_empty());
+    let mut protected = ProtectedHeader::new(alloc);
+    assert!(rt; protected.is_empty());
+    // Bytes that were kept don't matter.
+    protected.original_data = Some(Vec::from_slice(alloc, b"\xa0")?);
+    assert!(rt; protected.is_empty());
+    protected.header.key_id = Vec::from_slice(alloc, b"1")?;
+    assert!(rt; !protected.is_empty());
+    Ok(())
+}

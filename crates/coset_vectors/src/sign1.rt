@@ -363,43 +363,6 @@ fn structures(rt: HostRuntime) -> std::result::Result<(), Fail> {
     Ok(())
 }
 
-#[test]
-fn protected_headers(rt: HostRuntime) -> std::result::Result<(), Fail> {
-    let alloc = rt.alloc();
-    let bytes = Vec::from_slice(alloc, b"\xa1\x18\x01\x26")?;
-    let read = ProtectedHeader::from_cbor_bstr(alloc, Value::Bytes(bytes))
-        .ok()
-        .ok_or("read")?;
-    assert!(rt; !read.is_empty());
-    let kept = read.cbor_bstr(alloc).ok().ok_or("memory")?;
-    assert_eq!(rt;
-        kept.as_bytes().ok_or("bytes")?.as_slice(),
-        b"\xa1\x18\x01\x26".as_slice()
-    );
-    let empty = ProtectedHeader::new(alloc);
-    assert!(rt; empty.is_empty());
-    let kept = empty.cbor_bstr(alloc).ok().ok_or("memory")?;
-    assert_eq!(rt; kept.as_bytes().ok_or("bytes")?.as_slice(), b"".as_slice());
-    let mut built = ProtectedHeader::new(alloc);
-    built.header.alg = Some(Algorithm::ES256.into());
-    let kept = built.cbor_bstr(alloc).ok().ok_or("memory")?;
-    assert_eq!(rt;
-        kept.as_bytes().ok_or("bytes")?.as_slice(),
-        b"\xa1\x01\x26".as_slice()
-    );
-    // Outside a byte string it is a map, and no bytes are kept.
-    let bare: Result<ProtectedHeader> = ProtectedHeader::from_slice(alloc, b"\xa1\x18\x01\x26");
-    let bare = bare.ok().ok_or("read")?;
-    assert!(rt; bare.original_data.is_none());
-    let written = bare.to_vec(alloc).ok().ok_or("memory")?;
-    assert_eq!(rt; written.as_slice(), b"\xa1\x01\x26".as_slice());
-    let mut empty = ProtectedHeader::new(alloc);
-    empty.original_data = Some(Vec::from_slice(alloc, b"\xa0")?);
-    assert!(rt; empty.is_empty());
-    assert!(rt; Header::new(alloc).is_empty());
-    Ok(())
-}
-
 fn signed(alloc: Global, message: &CoseSign1) -> Answer {
     match message.tbs_data(alloc, README_AAD) {
         Ok(bytes) if bytes.as_slice() == README_TBS => Answer::Same,
