@@ -1,16 +1,25 @@
 -- From a refusal to what is answered.
-use Rattle.std.proofs.Common.{◌≡◌, ℕ, List, Some, None, IfSome, refl, sym, subst, inr}
-use Rattle.std.specs.Prelude.{Option}
+use Rattle.std.proofs.Common.{◌≡◌, ℕ, List, Some, None, IfSome, refl, sym, ap, ◌∙◌, subst, inl, inr, cond, eqb}
+use Rattle.std.specs.Prelude.{Option, sum}
 use Rattle.std.specs.Io.KnownBytes.{Appends}
 use Rattle.coset_show.specs.declared.kind.Kind.{Kind}
-use Rattle.coset_show.specs.declared.kind.Kind.TheVariants.{Value}
+use Rattle.coset_show.specs.declared.kind.Kind.TheVariants.{Value, Sign1}
 use Rattle.coset_show.specs.declared.refusal.Refusal.{Refusal}
+use Rattle.coset_show.specs.Refusal.{no_memory}
 use Rattle.coset_show.specs.Kind.{kind_name}
 use Rattle.coset_show.specs.Answer.{RefusesInput, Answers, refusal_line}
 
+-- names are told apart by their sums
+abbrev named : List ℕ → Kind
+named name = cond (eqb (sum name) (sum (kind_name Value))) Value Sign1
+
+named_again : (k : Kind) → named (kind_name k) ≡ k
+named_again Value = refl
+named_again Sign1 = refl
+
 -- kinds of one name are one
 pub kind_of_name : (k j : Kind) → kind_name k ≡ kind_name j → k ≡ j
-kind_of_name Value Value e = refl
+kind_of_name k j e = sym (named_again k) ∙ ap named e ∙ named_again j
 
 -- the line of a true refusal answers the input
 pub refusal_answers : (known before after : Option (List ℕ)) (k j : Kind) (refusal : Refusal) (lines : List ℕ) (status : ℕ) → k ≡ j → lines ≡ refusal_line refusal → Appends before after lines × (status ≡ 1)
@@ -18,3 +27,8 @@ pub refusal_answers : (known before after : Option (List ℕ)) (k j : Kind) (ref
 refusal_answers None before after k j refusal lines status same is put refused = tt
 refusal_answers (Some input) before after k j refusal lines status same is put refused =
     (lines, put.0, inr (refusal, subst (λ i. RefusesInput i input refusal) (sym same) refused, is, put.1))
+
+-- want of memory refuses any input
+pub memory_refuses : (known : Option (List ℕ)) (k : Kind) → IfSome known (λ input. RefusesInput k input no_memory)
+memory_refuses None k = tt
+memory_refuses (Some input) k = inl refl

@@ -1,3 +1,3 @@
-mod Refused
 mod Gathering
 mod Answering
+mod Showing

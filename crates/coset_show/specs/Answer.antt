@@ -1,11 +1,13 @@
 -- What the program answers.
-use Rattle.std.specs.Prelude.{◌≡◌, ⊤, ◌⊎◌, ◌||◌, ◌==◌, not, ℕ, Bool, List, ◌++◌, filter, codes, Ok}
+use Rattle.std.specs.Prelude.{◌≡◌, ◌⊎◌, ◌||◌, ◌==◌, not, ℕ, Bool, List, ◌++◌, filter, codes, Ok}
 use Rattle.hex.specs.Hex.{decode_of}
+use Rattle.coset_shape.specs.declared.error.CoseError.TheVariants.{OutOfMemory}
 use Rattle.coset_show.specs.declared.kind.Kind.{Kind}
 use Rattle.coset_show.specs.declared.refusal.Refusal.{Refusal}
-use Rattle.coset_show.specs.declared.refusal.Refusal.TheVariants.{Unreadable, NotHexadecimal, OutOfMemory, Decode, ExtraneousData}
+use Rattle.coset_show.specs.declared.refusal.Refusal.TheVariants.{Unreadable, NotHexadecimal, Cose}
 use Rattle.coset_show.specs.Refusal.{refusal_text}
-use Rattle.coset_show.specs.Kind.{line, Shows, Refuses}
+use Rattle.coset_show.specs.Show.{line}
+use Rattle.coset_show.specs.Kind.{Shows, Refuses}
 
 -- tab, line feed, carriage return and space
 abbrev pub is_space : ℕ → Bool
@@ -20,11 +22,9 @@ Spells input b = decode_of (without_space input) ≡ Ok b
 
 -- the input isn't hexadecimal, or memory ran out
 abbrev pub RefusesText : List ℕ → Refusal → Type 0
-RefusesText input OutOfMemory = ⊤
 RefusesText input NotHexadecimal = (b : List ℕ) → Spells input b → ⊥
+RefusesText input (Cose error) = error ≡ OutOfMemory
 RefusesText input Unreadable = ⊥
-RefusesText input (Decode error) = ⊥
-RefusesText input ExtraneousData = ⊥
 
 -- the refusal is true of the input
 abbrev pub RefusesInput : Kind → List ℕ → Refusal → Type 0

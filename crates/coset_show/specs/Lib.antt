@@ -1,4 +1,5 @@
 pub mod Refusal
+pub mod Show
 pub mod Kind
 pub mod Stream
 pub mod Answer

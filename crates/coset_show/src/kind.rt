@@ -1,21 +1,21 @@
 //! What the program can show.
 
-ghost use Rattle.std.specs.Prelude.{◌≡◌, IfOk, MatchOption, MatchResult};
-ghost use Rattle.hex.specs.Hex.{encode_lower};
+ghost use Rattle.std.specs.Prelude.{◌≡◌, MatchOption, MatchResult};
 ghost use Rattle.std.specs.String.{string_bytes};
-ghost use Rattle.coset_show.specs.Kind.{kind_name, line, Shows, Refuses, ShowsValue, RefusesValue};
+ghost use Rattle.coset_show.specs.Kind.{kind_name, Shows, Refuses};
 
 use crate::refusal::Refusal;
-use coset_cbor::de::read_value;
-use coset_cbor::laws;
-use coset_cbor::ser::write_value;
-use std::alloc::{AllocError, Global};
+use crate::show::{sign1_lines, type_line};
+use coset_cbor::value::Value;
+use std::alloc::Global;
 
 /// What the input spells.
 #[derive(Clone, Copy, Debug, PartialEq, Eq)]
 pub enum Kind {
     /// An item of CBOR (RFC 8949, section 3).
     Value,
+    /// A message with one signature (RFC 8152, section 4.2).
+    Sign1,
 }
 
 impl Kind {
@@ -26,6 +26,7 @@ impl Kind {
     {
         match name {
             "value" => Some(Kind::Value),
+            "sign1" => Some(Kind::Sign1),
             _ => None,
         }
     }
@@ -39,32 +40,8 @@ impl Kind {
             (λ refusal. Refuses self bytes.now refusal) }
     {
         match self {
-            Kind::Value => value_lines(alloc, bytes),
+            Kind::Value => type_line::<Value>(alloc, bytes),
+            Kind::Sign1 => sign1_lines(alloc, bytes),
         }
     }
-}
-
-/// The bytes as a line of lower-case hexadecimal.
-fn hexadecimal_line(alloc: Global, bytes: &[u8]) -> Result<String, AllocError>
-    ensures { IfOk result (λ text. string_bytes text ≡ line (encode_lower bytes.now)) }
-{
-    let mut text = hex::encode(alloc, bytes)?;
-    text.push('\n')?;
-    Ok(text)
-}
-
-/// The shortest text of the item that the bytes spell (RFC 8949, section 4.2.1).
-fn value_lines(alloc: Global, bytes: &[u8]) -> Result<String, Refusal>
-    ensures { MatchResult result (λ lines. ShowsValue bytes.now (string_bytes lines))
-        (λ refusal. RefusesValue bytes.now refusal) }
-{
-    let (value, length) = read_value(alloc, bytes)?;
-    if length < bytes.len() {
-        // The front is an item, so the whole is none.
-        laws::one_item();
-        return Err(Refusal::ExtraneousData);
-    }
-    let mut text = Vec::new(alloc);
-    write_value(&value, &mut text)?;
-    Ok(hexadecimal_line(alloc, text.as_slice())?)
 }

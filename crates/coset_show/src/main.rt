@@ -4,6 +4,7 @@
 mod kind;
 mod refusal;
 mod run;
+mod show;
 mod stream;
 #[cfg(test)]
 mod tests;

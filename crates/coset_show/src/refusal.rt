@@ -3,7 +3,8 @@
 ghost use Rattle.std.specs.Fmt.{WritesOnOk};
 ghost use Rattle.coset_show.specs.Refusal.{fault_text};
 
-use coset_cbor::{EndOfFile, OutOfMemory, de};
+use coset_cbor::{EndOfFile, de};
+use coset_shape::CoseError;
 use hex::FromHexError;
 use std::alloc::AllocError;
 use std::fmt;
@@ -15,12 +16,8 @@ pub enum Refusal {
     Unreadable,
     /// The input isn't hexadecimal.
     NotHexadecimal,
-    /// A request for memory was refused.
-    OutOfMemory,
-    /// The bytes don't begin with an item (RFC 8949, section 3).
-    Decode(de::Error<EndOfFile>),
-    /// Bytes follow the item.
-    ExtraneousData,
+    /// The bytes aren't of the kind, or a request for memory was refused.
+    Cose(CoseError),
 }
 
 impl fmt::Display for Refusal {
@@ -33,12 +30,11 @@ impl fmt::Display for Refusal {
         match self {
             Refusal::Unreadable => f.write_str("input cannot be read"),
             Refusal::NotHexadecimal => f.write_str("input is not hexadecimal"),
-            Refusal::OutOfMemory => f.write_str("out of memory"),
-            Refusal::Decode(error) => {
+            Refusal::Cose(CoseError::DecodeFailed(error)) => {
                 f.write_str("decode CBOR failure: ")?;
                 write_fault(f, error)
             }
-            Refusal::ExtraneousData => f.write_str("extraneous data in CBOR input"),
+            Refusal::Cose(error) => write!(f, "{error}"),
         }
     }
 }
@@ -60,17 +56,14 @@ fn write_fault<W: fmt::Write>(
     }
 }
 
-impl From<de::Error<EndOfFile>> for Refusal {
+impl From<CoseError> for Refusal {
     ghost use Rattle.std.specs.Prelude.{◌≡◌};
-    ghost use Rattle.coset_show.specs.Refusal.{refusal_of};
+    ghost use Rattle.coset_show.specs.declared.refusal.Refusal.TheVariants.{Cose};
 
-    ghost from_gives = { λ error refusal. refusal ≡ refusal_of error };
+    ghost from_gives = { λ error refusal. refusal ≡ Cose error };
 
-    fn from(error: de::Error<EndOfFile>) -> Refusal {
-        match &error {
-            de::Error::OutOfMemory => Refusal::OutOfMemory,
-            _ => Refusal::Decode(error),
-        }
+    fn from(error: CoseError) -> Refusal {
+        Refusal::Cose(error)
     }
 }
 
@@ -82,30 +75,19 @@ impl From<FromHexError> for Refusal {
 
     fn from(error: FromHexError) -> Refusal {
         match error {
-            FromHexError::OutOfMemory => Refusal::OutOfMemory,
+            FromHexError::OutOfMemory => Refusal::Cose(CoseError::OutOfMemory),
             _ => Refusal::NotHexadecimal,
         }
     }
 }
 
-impl From<OutOfMemory> for Refusal {
-    ghost use Rattle.std.specs.Prelude.{◌≡◌};
-    ghost use Rattle.coset_show.specs.declared.refusal.Refusal.TheVariants.{OutOfMemory as out_of_memory};
-
-    ghost from_gives = { λ _ refusal. refusal ≡ out_of_memory };
-
-    fn from(_refused: OutOfMemory) -> Refusal {
-        Refusal::OutOfMemory
-    }
-}
-
 impl From<AllocError> for Refusal {
     ghost use Rattle.std.specs.Prelude.{◌≡◌};
-    ghost use Rattle.coset_show.specs.declared.refusal.Refusal.TheVariants.{OutOfMemory as out_of_memory};
+    ghost use Rattle.coset_show.specs.Refusal.{no_memory};
 
-    ghost from_gives = { λ _ refusal. refusal ≡ out_of_memory };
+    ghost from_gives = { λ _ refusal. refusal ≡ no_memory };
 
     fn from(_refused: AllocError) -> Refusal {
-        Refusal::OutOfMemory
+        Refusal::Cose(CoseError::OutOfMemory)
     }
 }

@@ -7,11 +7,13 @@ ghost use Rattle.coset_show.specs.declared.kind.Kind.{Kind};
 ghost use Rattle.coset_show.specs.Kind.{kind_name};
 ghost use Rattle.coset_show.specs.Stream.{inside, has_failed, IsSound, Fails};
 ghost use Rattle.coset_show.specs.Answer.{without_space, Spells, ShowsInput, RefusesText, RefusesInput, refusal_line, usage_line, Answers};
+ghost use Rattle.coset_show.specs.Refusal.{no_memory};
 ghost use Rattle.coset_show.specs.Answer.{is_space as is_space_spec};
 
 use crate::kind::Kind;
 use crate::refusal::Refusal;
 use crate::stream::Stream;
+use coset_shape::CoseError;
 use std::alloc::{AllocError, Global};
 use std::io::{ErrorKind, Read, Write};
 
@@ -50,7 +52,7 @@ pub fn run<R: Read, W: Write>(
     ensures unreadable { (k : Kind) → kind.now ≡ kind_name k → Fails reader.old reader.new
         → IsSound writer.new → (lines : List ℕ)
         × Appends (W.contents (inside writer.old)) (W.contents (inside writer.new)) lines
-        × ((lines ≡ refusal_line Refusal.Unreadable) ⊎ (lines ≡ refusal_line Refusal.OutOfMemory))
+        × ((lines ≡ refusal_line Refusal.Unreadable) ⊎ (lines ≡ refusal_line no_memory))
         × (result ≡ 1) }
     // A write fails: 1.
     ensures unwritten { Fails writer.old writer.new → result ≡ 1 }
@@ -88,7 +90,7 @@ fn read_to_end<R: Read>(alloc: Global, reader: &mut Stream<R>) -> Result<Vec<u8>
         IfOk result (λ v. v.items ≡ input)) }
     ensures ok { OnOk result (has_failed reader.new ≡ has_failed reader.old) }
     ensures err { IfErr result (λ refusal.
-        ((refusal ≡ Refusal.OutOfMemory) × (has_failed reader.new ≡ has_failed reader.old))
+        ((refusal ≡ no_memory) × (has_failed reader.new ≡ has_failed reader.old))
         ⊎ ((refusal ≡ Refusal.Unreadable) × (has_failed reader.new ≡ true))) }
 {
     let mut input = Vec::new(alloc);
@@ -105,7 +107,7 @@ fn read_to_end<R: Read>(alloc: Global, reader: &mut Stream<R>) -> Result<Vec<u8>
         }
     }
     // That many bytes fit into no memory.
-    Err(Refusal::OutOfMemory)
+    Err(Refusal::Cose(CoseError::OutOfMemory))
 }
 
 /// The bytes that the input spells in hexadecimal, white space aside.

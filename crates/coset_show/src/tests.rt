@@ -29,9 +29,21 @@ fn shown(alloc: Global, kind: &str, input: &[u8]) -> (Vec<u8>, u8) {
     (writer.into_inner(), status)
 }
 
+/// An input and what is written for it.
+type Row<'a> = (&'a str, &'a str);
+
+/// Compares what is written for each input, and the status.
+fn answers(rt: &impl Abort, alloc: Global, kind: &str, rows: &[Row<'_>], status: u8) {
+    for (input, lines) in rows {
+        let (written, answer) = shown(alloc, kind, input.as_bytes());
+        assert_eq!(rt; written.as_slice(), lines.as_bytes(), "at {input}");
+        assert_eq!(rt; answer, status, "at {input}");
+    }
+}
+
 #[test]
 fn shows_values(rt: HostRuntime) -> Result<(), Fail> {
-    for (input, line) in [
+    let rows = [
         ("a20126180126", "a201260126\n"),
         ("A2 01\t26\r\n18 01 26\n", "a201260126\n"),
         ("5f41014102ff", "420102\n"),
@@ -46,17 +58,14 @@ fn shows_values(rt: HostRuntime) -> Result<(), Fail> {
         ("1b0000000000000017", "17\n"),
         ("1818", "1818\n"),
         ("9b0000000000000000", "80\n"),
-    ] {
-        let (written, status) = shown(rt.alloc(), "value", input.as_bytes());
-        assert_eq!(rt; written.as_slice(), line.as_bytes(), "at {input}");
-        assert_eq!(rt; status, 0, "at {input}");
-    }
+    ];
+    answers(&rt, rt.alloc(), "value", &rows, 0);
     Ok(())
 }
 
 #[test]
 fn refuses_the_rest(rt: HostRuntime) -> Result<(), Fail> {
-    for (input, line) in [
+    let rows = [
         ("8400", "error: decode CBOR failure: Io(EndOfFile)\n"),
         ("82ff", "error: decode CBOR failure: Io(EndOfFile)\n"),
         ("9f01", "error: decode CBOR failure: Io(EndOfFile)\n"),
@@ -108,11 +117,72 @@ fn refuses_the_rest(rt: HostRuntime) -> Result<(), Fail> {
         ("0", "error: input is not hexadecimal\n"),
         ("020", "error: input is not hexadecimal\n"),
         ("0x02", "error: input is not hexadecimal\n"),
-    ] {
-        let (written, status) = shown(rt.alloc(), "value", input.as_bytes());
-        assert_eq!(rt; written.as_slice(), line.as_bytes(), "at {input}");
-        assert_eq!(rt; status, 1, "at {input}");
-    }
+    ];
+    answers(&rt, rt.alloc(), "value", &rows, 1);
+    Ok(())
+}
+
+#[test]
+fn shows_messages_with_one_signature(rt: HostRuntime) -> Result<(), Fail> {
+    let rows = [
+        (
+            "8440a0f640",
+            "8440a0f640\ntbs 846a5369676e617475726531404040\n",
+        ),
+        (
+            "9f5fffbffff640ff",
+            "8440a0f640\ntbs 846a5369676e617475726531404040\n",
+        ),
+        (
+            "8444a1180126a0f640",
+            "8444a1180126a0f640\ntbs 846a5369676e61747572653144a11801264040\n",
+        ),
+        (
+            "8441a0a0f640",
+            "8441a0a0f640\ntbs 846a5369676e61747572653141a04040\n",
+        ),
+        (
+            "8440a041aa40",
+            "8440a041aa40\ntbs 846a5369676e617475726531404041aa\n",
+        ),
+        (
+            "D2 84 40 A0 F6 40\n",
+            "d28440a0f640\ntbs 846a5369676e617475726531404040\n",
+        ),
+        (
+            "d8129f5fffbffff640ff",
+            "d28440a0f640\ntbs 846a5369676e617475726531404040\n",
+        ),
+    ];
+    answers(&rt, rt.alloc(), "sign1", &rows, 0);
+    Ok(())
+}
+
+#[test]
+fn refuses_what_is_no_message_with_one_signature(rt: HostRuntime) -> Result<(), Fail> {
+    let rows = [
+        ("8442a000a0f640", "error: extraneous data in CBOR input\n"),
+        ("8440a0f64000", "error: extraneous data in CBOR input\n"),
+        ("d28440a0f64000", "error: extraneous data in CBOR input\n"),
+        ("d18440a0f640", "error: got tag, expected other tag\n"),
+        ("d2d28440a0f640", "error: got tag, expected array\n"),
+        ("8446a22000380000a0f640", "error: duplicate map key\n"),
+        (
+            "83000000",
+            "error: got array, expected array with 4 items\n",
+        ),
+        ("80", "error: got array, expected array with 4 items\n"),
+        ("8400000000", "error: got int, expected bstr\n"),
+        ("8400000040", "error: got int, expected bstr or nil\n"),
+        ("01", "error: got int, expected array\n"),
+        ("", "error: decode CBOR failure: Io(EndOfFile)\n"),
+        ("d2", "error: decode CBOR failure: Io(EndOfFile)\n"),
+        ("8440a0f6", "error: decode CBOR failure: Io(EndOfFile)\n"),
+        ("8440a0ff40", "error: decode CBOR failure: Syntax(3)\n"),
+        ("8441ffa0f640", "error: decode CBOR failure: Syntax(0)\n"),
+        ("zz", "error: input is not hexadecimal\n"),
+    ];
+    answers(&rt, rt.alloc(), "sign1", &rows, 1);
     Ok(())
 }
 
@@ -215,7 +285,7 @@ impl Read for FaultyReader<'_> {
 #[test]
 fn tells_of_other_kinds(rt: HostRuntime) -> Result<(), Fail> {
     let alloc = rt.alloc();
-    for kind in ["", "sign1", "VALUE", "value ", "valu"] {
+    for kind in ["", "VALUE", "value ", "valu", "sign1 ", "sign"] {
         let mut reader = Stream::new(FaultyReader {
             rest: b"80",
             calls_left: 9,
@@ -240,22 +310,31 @@ fn tells_of_failed_reads(rt: HostRuntime) -> Result<(), Fail> {
         ErrorKind::OutOfMemory,
         ErrorKind::Interrupted,
     ] {
-        // The input takes seven calls: one for each byte, and one that finds the end.
-        for failing in 1..=8usize {
-            let mut reader = Stream::new(FaultyReader {
-                rest: b"d81240",
-                calls_left: failing,
-                fault,
-            });
-            let mut writer = Stream::new(Vec::new(alloc));
-            let status = run(alloc, "value", &mut reader, &mut writer);
-            let written: Vec<u8> = writer.into_inner();
-            if failing == 8 || fault == ErrorKind::Interrupted {
-                assert_eq!(rt; written.as_slice(), b"d240\n".as_slice());
-                assert_eq!(rt; status, 0);
-            } else {
-                assert_eq!(rt; written.as_slice(), unread);
-                assert_eq!(rt; status, 1);
+        for (input, kind, lines) in [
+            ("d81240", "value", "d240\n"),
+            (
+                "8440a0f640",
+                "sign1",
+                "8440a0f640\ntbs 846a5369676e617475726531404040\n",
+            ),
+        ] {
+            // The input takes a call for each byte, and one that finds the end.
+            for failing in 1..=input.len() + 2 {
+                let mut reader = Stream::new(FaultyReader {
+                    rest: input.as_bytes(),
+                    calls_left: failing,
+                    fault,
+                });
+                let mut writer = Stream::new(Vec::new(alloc));
+                let status = run(alloc, kind, &mut reader, &mut writer);
+                let written: Vec<u8> = writer.into_inner();
+                if failing == input.len() + 2 || fault == ErrorKind::Interrupted {
+                    assert_eq!(rt; written.as_slice(), lines.as_bytes());
+                    assert_eq!(rt; status, 0);
+                } else {
+                    assert_eq!(rt; written.as_slice(), unread);
+                    assert_eq!(rt; status, 1);
+                }
             }
         }
     }
@@ -305,6 +384,18 @@ fn tells_of_failed_writes(rt: HostRuntime) -> Result<(), Fail> {
             "value",
             "9f01",
             "error: decode CBOR failure: Io(EndOfFile)\n",
+            1,
+        ),
+        (
+            "sign1",
+            "8440a0f640",
+            "8440a0f640\ntbs 846a5369676e617475726531404040\n",
+            0,
+        ),
+        (
+            "sign1",
+            "83000000",
+            "error: got array, expected array with 4 items\n",
             1,
         ),
         ("", "9f01", "usage: coset_show KIND\n", 2),
@@ -364,7 +455,7 @@ struct Tally {
 }
 
 /// Calls `run` with less and less memory left.
-fn sweep(alloc: Global, input: &[u8], line: &[u8], answer: u8) -> Tally {
+fn sweep(alloc: Global, kind: &str, input: &[u8], line: &[u8], answer: u8) -> Tally {
     let mut tally = Tally {
         refused: 0,
         answered: 0,
@@ -373,10 +464,10 @@ fn sweep(alloc: Global, input: &[u8], line: &[u8], answer: u8) -> Tally {
     for step in 0..200usize {
         let pad: Result<Vec<u8>, AllocError> = Vec::with_capacity(alloc, 65536 - 16 * step);
         // In a slice, the writer takes no memory of its own.
-        let mut room = [0u8; 64];
+        let mut room = [0u8; 256];
         let mut reader = Stream::new(input);
         let mut writer = Stream::new(room.as_mut_slice());
-        let status = run(alloc, "value", &mut reader, &mut writer);
+        let status = run(alloc, kind, &mut reader, &mut writer);
         drop(pad);
         let left = writer.into_inner().len();
         let written = &room[..room.len().saturating_sub(left)];
@@ -397,15 +488,37 @@ fn refuses_for_want_of_memory(rt: HostRuntime) -> Result<(), Fail> {
     let reserve: Vec<u8> = Vec::with_capacity(alloc, 65536)?;
     let held = fill(alloc)?;
     drop(reserve);
-    let shown = sweep(alloc, b"9f5f420001430203 04ffff", b"81450001020304\n", 0);
+    let value = sweep(
+        alloc,
+        "value",
+        b"9f5f420001430203 04ffff",
+        b"81450001020304\n",
+        0,
+    );
+    let message = sweep(
+        alloc,
+        "sign1",
+        b"8451a401260442313118468201026161a10000a11847f64301020341aa",
+        b"8451a401260442313118468201026161a10000a11847f64301020341aa\n\
+          tbs 846a5369676e61747572653151a401260442313118468201026161a100004043010203\n",
+        0,
+    );
     let refused = sweep(
         alloc,
+        "value",
         b"8201ff",
         b"error: decode CBOR failure: Syntax(2)\n",
         1,
     );
+    let no_message = sweep(
+        alloc,
+        "sign1",
+        b"8446a22000380000a0f640",
+        b"error: duplicate map key\n",
+        1,
+    );
     drop(held);
-    for tally in [shown, refused] {
+    for tally in [value, message, refused, no_message] {
         assert!(rt; tally.refused > 0, "{tally:?}");
         assert!(rt; tally.answered > 0, "{tally:?}");
         assert_eq!(rt; tally.others, 0, "{tally:?}");

@@ -1,0 +1,125 @@
+//! How values of the types of COSE are shown.
+
+ghost use Rattle.std.specs.Prelude.{◌≡◌, IfOk, IfErr, MatchResult};
+ghost use Rattle.hex.specs.Hex.{encode_lower};
+ghost use Rattle.std.specs.String.{string_bytes};
+ghost use Rattle.coset_value.specs.Item.{Item};
+ghost use Rattle.coset_shape.specs.declared.error.CoseError.TheVariants.{OutOfMemory};
+ghost use Rattle.coset_shape.specs.Answers.{ReadsSlice, DescribesNothing};
+ghost use Rattle.coset_shape.specs.Errors.{Names};
+ghost use Rattle.coset_shape.specs.ShapeLaws.{Lawful};
+ghost use Rattle.coset_sign.specs.Sign1.{sign1, sign1_seen};
+ghost use Rattle.coset_show.specs.Show.{line, ShowsType, RefusesType, ShowsSign1, IsLineOf, WritesRead, tagged_if, sign1_in, sign1_signed};
+ghost use Rattle.coset_show.specs.Show.{is_tagged as is_tagged_spec};
+
+use crate::refusal::Refusal;
+use coset_cbor::value::Value;
+use coset_shape::{CborSerializable, CoseError, TaggedCborSerializable};
+use coset_sign::CoseSign1;
+use std::alloc::{AllocError, Global};
+
+/// A type that is shown: what was read of it is written again.
+pub trait Shown: CborSerializable {
+    /// The laws of its shape.
+    ghost laws: { Lawful Self.Seen Self.shape };
+}
+
+impl Shown for Value {
+    ghost use Rattle.coset_shape.specs.ShapeLaws.{any_laws};
+
+    ghost laws = { any_laws };
+}
+
+impl Shown for CoseSign1 {
+    ghost use Rattle.coset_sign.specs.Sign1.{sign1_laws};
+
+    ghost laws = { sign1_laws };
+}
+
+/// The bytes as a line of lower-case hexadecimal.
+fn hexadecimal_line(alloc: Global, bytes: &[u8]) -> Result<String, AllocError>
+    ensures { IfOk result (λ text. string_bytes text ≡ line (encode_lower bytes.now)) }
+{
+    let mut text = hex::encode(alloc, bytes)?;
+    text.push('\n')?;
+    Ok(text)
+}
+
+/// The line of a value that was read.
+fn line_of<T: Shown>(alloc: Global, value: T) -> Result<String, CoseError>
+    ensures { WritesRead T.shape (T.seen value) (λ s. string_bytes s) result }
+{
+    let text = value.to_vec(alloc)?;
+    Ok(hexadecimal_line(alloc, &text)?)
+}
+
+/// The line of the value that the bytes describe.
+pub fn type_line<T: Shown>(alloc: Global, bytes: &[u8]) -> Result<String, Refusal>
+    ensures { MatchResult result (λ lines. ShowsType T.shape bytes.now (string_bytes lines))
+        (λ refusal. RefusesType T.shape bytes.now refusal) }
+{
+    let value = T::from_slice(alloc, bytes)?;
+    Ok(line_of(alloc, value)?)
+}
+
+/// Whether the bytes begin with a tag (RFC 8949, section 3.4).
+fn is_tagged(bytes: &[u8]) -> bool
+    ensures { result ≡ is_tagged_spec bytes.now }
+{
+    matches!(bytes.first(), Some(first) if first / 32 == 6)
+}
+
+/// Reads a message, under its tag or plain.
+fn read_message<T: Shown + TaggedCborSerializable>(
+    alloc: Global,
+    tagged: bool,
+    bytes: &[u8],
+) -> Result<T, CoseError>
+    ensures read { ReadsSlice (tagged_if tagged T.TAG T.shape) T.seen bytes.now result }
+    ensures refused { IfErr result (λ e. Names e (λ _. DescribesNothing (tagged_if tagged T.TAG T.shape) bytes.now)) }
+{
+    if tagged {
+        T::from_tagged_slice(alloc, bytes)
+    } else {
+        T::from_slice(alloc, bytes)
+    }
+}
+
+/// The line of a message that was read, under its tag or plain.
+fn message_line<T: Shown + TaggedCborSerializable>(
+    alloc: Global,
+    tagged: bool,
+    message: T,
+) -> Result<String, CoseError>
+    ensures { WritesRead (tagged_if tagged T.TAG T.shape) (T.seen message) (λ s. string_bytes s) result }
+{
+    if tagged {
+        let text = message.to_tagged_vec(alloc)?;
+        Ok(hexadecimal_line(alloc, &text)?)
+    } else {
+        line_of(alloc, message)
+    }
+}
+
+/// The line of what is signed where there is no external data, of a message that was read.
+fn signed_line(alloc: Global, message: &CoseSign1) -> Result<String, CoseError>
+    ensures { (v : Item) → sign1.describes v (sign1_seen message.now)
+        → MatchResult result (λ l. IsLineOf (sign1_signed (sign1_seen message.now)) (string_bytes l)) (λ e. e ≡ OutOfMemory) }
+{
+    let signed = message.tbs_data(alloc, &[])?;
+    Ok(hexadecimal_line(alloc, &signed)?)
+}
+
+/// The line of the message that the bytes describe, and behind `tbs ` that of what is signed.
+pub fn sign1_lines(alloc: Global, bytes: &[u8]) -> Result<String, Refusal>
+    ensures { MatchResult result (λ lines. ShowsSign1 bytes.now (string_bytes lines))
+        (λ refusal. RefusesType (sign1_in bytes.now) bytes.now refusal) }
+{
+    let tagged = is_tagged(bytes);
+    let message: CoseSign1 = read_message(alloc, tagged, bytes)?;
+    let signed = signed_line(alloc, &message)?;
+    let mut lines = message_line(alloc, tagged, message)?;
+    lines.push_str("tbs ")?;
+    lines.push_str(signed.as_str())?;
+    Ok(lines)
+}
