@@ -5,6 +5,7 @@ use crate::stream::Stream;
 use std::alloc::{AllocError, Global};
 use std::io;
 use std::io::{ErrorKind, Read, Write};
+use std::process::Abort;
 use std::test::Fail;
 
 /// A text and how often it stands.
@@ -455,17 +456,26 @@ struct Tally {
 }
 
 /// Calls `run` with less and less memory left.
-fn sweep(alloc: Global, kind: &str, input: &[u8], line: &[u8], answer: u8) -> Tally {
+fn sweep(
+    alloc: Global,
+    kind: &str,
+    input: &str,
+    line: &str,
+    answer: u8,
+) -> Result<Tally, AllocError> {
+    let reserve: Vec<u8> = Vec::with_capacity(alloc, 65536)?;
+    let held = fill(alloc)?;
+    drop(reserve);
     let mut tally = Tally {
         refused: 0,
         answered: 0,
         others: 0,
     };
-    for step in 0..200usize {
+    for step in 0..1000usize {
         let pad: Result<Vec<u8>, AllocError> = Vec::with_capacity(alloc, 65536 - 16 * step);
         // In a slice, the writer takes no memory of its own.
         let mut room = [0u8; 256];
-        let mut reader = Stream::new(input);
+        let mut reader = Stream::new(input.as_bytes());
         let mut writer = Stream::new(room.as_mut_slice());
         let status = run(alloc, kind, &mut reader, &mut writer);
         drop(pad);
@@ -473,55 +483,44 @@ fn sweep(alloc: Global, kind: &str, input: &[u8], line: &[u8], answer: u8) -> Ta
         let written = &room[..room.len().saturating_sub(left)];
         if written == b"error: out of memory\n".as_slice() && status == 1 {
             tally.refused = tally.refused.wrapping_add(1);
-        } else if written == line && status == answer {
+        } else if written == line.as_bytes() && status == answer {
             tally.answered = tally.answered.wrapping_add(1);
         } else {
             tally.others = tally.others.wrapping_add(1);
         }
     }
-    tally
+    drop(held);
+    Ok(tally)
 }
 
 #[test]
 fn refuses_for_want_of_memory(rt: HostRuntime) -> Result<(), Fail> {
-    let alloc = rt.alloc();
-    let reserve: Vec<u8> = Vec::with_capacity(alloc, 65536)?;
-    let held = fill(alloc)?;
-    drop(reserve);
-    let value = sweep(
-        alloc,
-        "value",
-        b"9f5f420001430203 04ffff",
-        b"81450001020304\n",
-        0,
-    );
-    let message = sweep(
-        alloc,
-        "sign1",
-        b"8451a401260442313118468201026161a10000a11847f64301020341aa",
-        b"8451a401260442313118468201026161a10000a11847f64301020341aa\n\
-          tbs 846a5369676e61747572653151a401260442313118468201026161a100004043010203\n",
-        0,
-    );
-    let refused = sweep(
-        alloc,
-        "value",
-        b"8201ff",
-        b"error: decode CBOR failure: Syntax(2)\n",
-        1,
-    );
-    let no_message = sweep(
-        alloc,
-        "sign1",
-        b"8446a22000380000a0f640",
-        b"error: duplicate map key\n",
-        1,
-    );
-    drop(held);
-    for tally in [value, message, refused, no_message] {
-        assert!(rt; tally.refused > 0, "{tally:?}");
-        assert!(rt; tally.answered > 0, "{tally:?}");
-        assert_eq!(rt; tally.others, 0, "{tally:?}");
+    for (kind, input, lines, answer) in [
+        ("value", "9f5f420001430203 04ffff", "81450001020304\n", 0u8),
+        (
+            "value",
+            "8201ff",
+            "error: decode CBOR failure: Syntax(2)\n",
+            1,
+        ),
+        (
+            "sign1",
+            "8451a401260442313118468201026161a10000a11847f64301020341aa",
+            "8451a401260442313118468201026161a10000a11847f64301020341aa\n\
+             tbs 846a5369676e61747572653151a401260442313118468201026161a100004043010203\n",
+            0,
+        ),
+        (
+            "sign1",
+            "8446a22000380000a0f640",
+            "error: duplicate map key\n",
+            1,
+        ),
+    ] {
+        let tally = sweep(rt.alloc(), kind, input, lines, answer)?;
+        assert!(rt; tally.refused > 0, "at {input}: {tally:?}");
+        assert!(rt; tally.answered > 0, "at {input}: {tally:?}");
+        assert_eq!(rt; tally.others, 0, "at {input}: {tally:?}");
     }
     Ok(())
 }
