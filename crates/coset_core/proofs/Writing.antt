@@ -1,10 +1,10 @@
 -- Pairs of a map, written one after the other.
-use Rattle.std.proofs.Common.{◌≡◌, ℕ, suc, ◌+◌, ◌<◌, ◌^◌, List, [], ◌∷◌, ◌++◌, map, length, take, Option, Some, None, Bool, true, false, option_map, refl, sym, ◌∙◌, ap, subst, arith, get_or, append-nil, append_assoc}
+use Rattle.std.proofs.Common.{◌≡◌, ℕ, suc, ◌+◌, ◌<◌, ◌^◌, List, [], ◌∷◌, ◌++◌, map, length, take, Option, Some, None, true, option_map, refl, sym, ◌∙◌, ap, subst, get_or, append-nil, append_assoc}
 use Rattle.std.specs.Prelude.{pos}
 use Rattle.std.specs.Map.{keys_of}
 use Rattle.std.proofs.lemmas.List.{length-append, take_more, map_push}
-use Rattle.coset_value.specs.Item.{Item, dict, pairs_count, pair, no_pairs}
-use Rattle.coset_value.specs.Range.{IsInRange, ArePairsInRange}
+use Rattle.coset_value.specs.Item.{Item, dict, pairs_count}
+use Rattle.coset_value.specs.Range.{ArePairsInRange}
 use Rattle.coset_cbor.specs.Least.{least_head, short, pair_shorts}
 use Rattle.coset_shape.specs.Maps.{named_image, are_distinct, put_fields}
 use Rattle.coset_shape.specs.RestLaws.{some-entries}

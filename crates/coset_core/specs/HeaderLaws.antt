@@ -1,11 +1,11 @@
 -- The laws of headers' shape.
-use Rattle.std.proofs.Common.{◌≡◌, Bool, true, false, refl, ap, sym, ◌∙◌, true≢false, rules}
-use Rattle.std.specs.Prelude.{pos, [], List}
+use Rattle.std.proofs.Common.{◌≡◌, Bool, true, false, refl, ap, sym, ◌∙◌, rules}
+use Rattle.std.specs.Prelude.{pos}
 use Rattle.coset_value.specs.Item.{integer}
 use Rattle.coset_shape.specs.Shape.{filled_bstr}
 use Rattle.coset_shape.specs.ShapeLaws.{Lawful, along_laws, filled_bstr_laws}
 use Rattle.coset_shape.specs.MapLaws.{LawfulNames, LawfulFields, Flat, field_laws, no_field_laws, optional_laws, listed_laws, labelled_laws}
-use Rattle.coset_label.specs.Names.{Name, number, name_cmp, RegisteredName}
+use Rattle.coset_label.specs.Names.{Name, number, RegisteredName}
 use Rattle.coset_label.specs.LabelLaws.{label_laws, registered_or_private_laws}
 use Rattle.coset_label.specs.NameOrder.{name_cmp-apart}
 use Rattle.coset_core.specs.Headers.{HeaderSeen, algorithm, same_name, names, Fielded, fields, header_of, parts_of, header}

@@ -1,5 +1,5 @@
 -- Headers (RFC 8152, section 3).
-use Rattle.std.specs.Prelude.{ℕ, ℤ, pos, ◌==◌, ◌&&◌, List, [], length, Option, None, Bool, map, option_map, is_some}
+use Rattle.std.specs.Prelude.{ℕ, pos, ◌==◌, ◌&&◌, List, [], length, Option, None, Bool, map, option_map, is_some}
 use Rattle.std.specs.Option.{is_none}
 use Rattle.std.specs.Ordering.{is_eq}
 use Rattle.coset_value.specs.Item.{Item}

@@ -1,5 +1,5 @@
 -- What holds of byte strings that hold an item, where its shape has laws.
-use Rattle.std.proofs.Common.{◌≡◌, ℕ, List, [], ◌∷◌, Option, Some, None, Bool, option_map, refl, sym, ◌∙◌, ap, subst, inl, inr, arith}
+use Rattle.std.proofs.Common.{◌≡◌, ℕ, List, [], ◌∷◌, Option, Some, Bool, option_map, refl, sym, ◌∙◌, ap, subst, inl, inr, arith}
 use Rattle.coset_value.specs.Item.{Item, bytes}
 use Rattle.coset_cbor.specs.Grammar.{IsItem}
 use Rattle.coset_cbor.proofs.Again.{texts_differ}

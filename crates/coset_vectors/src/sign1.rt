@@ -5,7 +5,7 @@ use crate::sample::Expected::{Refused, Written};
 use crate::sample::{Expected, is_expected, through_a_value};
 use coset_cbor::de::{EndOfFile, Error};
 use coset_cbor::value::Value;
-use coset_core::{Header, ProtectedHeader};
+use coset_core::ProtectedHeader;
 use coset_iana as iana;
 use coset_iana::Algorithm;
 use coset_label::Label;

@@ -1,5 +1,4 @@
-use Rattle.std.proofs.Common.{◌≡◌, Some, ap, sym, ◌∙◌}
-use Rattle.coset_shape.specs.ShapeLaws.{some-one}
+use Rattle.std.proofs.Common.{ap, sym, ◌∙◌}
 use Rattle.coset_shape.specs.Serialized.{kept}
 use Rattle.coset_core.specs.Headers.{header, is_empty_header}
 use Rattle.coset_core.specs.Protected.{protected}

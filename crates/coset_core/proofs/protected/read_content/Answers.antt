@@ -1,4 +1,3 @@
-use Rattle.coset_cbor.specs.Pulls.{pull_item}
 use Rattle.coset_core.proofs.Content.{from_whole}
 use Rattle.coset_core.proofs.protected.read_content.Goals as goal
 

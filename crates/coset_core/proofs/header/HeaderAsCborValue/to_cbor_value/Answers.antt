@@ -1,4 +1,4 @@
-use Rattle.std.proofs.Common.{map, option_map, refl, ◌∙◌, subst, rules}
+use Rattle.std.proofs.Common.{map, option_map, refl, subst}
 use Rattle.coset_value.specs.View.{view}
 use Rattle.coset_shape.specs.Answers.{Images}
 use Rattle.coset_shape.specs.Maps.{put_fields}
