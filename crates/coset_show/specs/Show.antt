@@ -49,16 +49,18 @@ abbrev pub tagged_if : {A : Type 0} → Bool → ℕ → Shape A → Shape A
 tagged_if true number s = tagged number s
 tagged_if false number s = s
 
--- the shape of COSE_Sign1 messages that b asks for
+-- the shape that messages have in b, where this is their number and their shape
+abbrev pub message_in : {A : Type 0} → List ℕ → ℕ → Shape A → Shape A
+message_in b number s = tagged_if (is_tagged b) number s
+
 abbrev pub sign1_in : List ℕ → Shape Sign1Seen
-sign1_in b = tagged_if (is_tagged b) 18 sign1
+sign1_in b = message_in b 18 sign1
 
 -- the structure that is signed where there is no external data, over the message's kept header
 abbrev pub sign1_signed : Sign1Seen → Option Item
 sign1_signed m = signed CoseSign1 m.protected None [] (or_empty m.payload)
 
--- b describes a message; the first line is that of its item, and the second, behind `tbs `, that of what is
--- signed
+-- b describes a message; the first line is that of its item, and the second that of what is signed, behind `tbs `
 pub record ShowsSign1 (b lines : List ℕ) : Type 0 where
   pub message : Sign1Seen
   pub described : Describes (sign1_in b) b message

@@ -54,6 +54,9 @@ fn line_of<T: Shown>(alloc: Global, value: T) -> Result<String, CoseError>
 }
 
 /// The line of the value that the bytes describe.
+///
+/// # Errors
+/// Why they describe none, or want of memory.
 pub fn type_line<T: Shown>(alloc: Global, bytes: &[u8]) -> Result<String, Refusal>
     ensures { MatchResult result (λ lines. ShowsType T.shape bytes.now (string_bytes lines))
         (λ refusal. RefusesType T.shape bytes.now refusal) }
@@ -111,6 +114,9 @@ fn signed_line(alloc: Global, message: &CoseSign1) -> Result<String, CoseError>
 }
 
 /// The line of the message that the bytes describe, and behind `tbs ` that of what is signed.
+///
+/// # Errors
+/// As of [`type_line`].
 pub fn sign1_lines(alloc: Global, bytes: &[u8]) -> Result<String, Refusal>
     ensures { MatchResult result (λ lines. ShowsSign1 bytes.now (string_bytes lines))
         (λ refusal. RefusesType (sign1_in bytes.now) bytes.now refusal) }
