@@ -1,5 +1,5 @@
 -- What the calls answer that read and write: by the shape of the type, and by how its values are seen.
-use Rattle.std.specs.Prelude.{◌≡◌, ◌≢◌, ◌⊎◌, ◌<◌, ℕ, List, Option, Some, None, Result, Ok, Err, length, take}
+use Rattle.std.specs.Prelude.{◌≡◌, ◌≢◌, ◌⊎◌, ◌<◌, ℕ, List, Option, Some, None, Result, Ok, Err, length, take, ⊤}
 use Rattle.coset_cbor.specs.Item.{Item}
 use Rattle.coset_cbor.specs.Parts.{as_tag}
 use Rattle.coset_cbor.specs.Grammar.{IsItem}
@@ -8,7 +8,7 @@ use Rattle.coset_cbor.specs.Shortest.{IsShort}
 use Rattle.coset_cbor.specs.declared.de.EndOfFile.{EndOfFile}
 use Rattle.coset_cbor.specs.declared.de.Error.{Error}
 use Rattle.coset_shape.specs.declared.error.CoseError.{CoseError}
-use Rattle.coset_shape.specs.declared.error.CoseError.TheVariants.{DecodeFailed, DuplicateMapKey, ExtraneousData}
+use Rattle.coset_shape.specs.declared.error.CoseError.TheVariants.{DecodeFailed, DuplicateMapKey, ExtraneousData, OutOfMemory}
 use Rattle.coset_shape.specs.Errors.{IsUnexpected, Names}
 use Rattle.coset_shape.specs.Shape.{Shape}
 
@@ -73,3 +73,8 @@ DescribesNothing {A} shape s = (x : A) → Describes shape s x → ⊥
 abbrev pub Untags : {T : Type 0} → ℕ → Item → (T → Item) → Result T CoseError → Type 0
 Untags number v item_of (Ok x) = as_tag v ≡ Some (number, item_of x)
 Untags number v item_of (Err e) = IsUnexpected e × ((as_tag v ≡ None) ⊎ ((t : ℕ) × (w : Item) × (as_tag v ≡ Some (t, w)) × (t ≢ number)))
+
+-- memory is wanting only where the bytes are one item: none is asked for before that is known
+abbrev pub AsksForItems : {T : Type 0} → List ℕ → Result T CoseError → Type 0
+AsksForItems s (Ok x) = ⊤
+AsksForItems s (Err e) = e ≡ OutOfMemory → (v : Item) × IsItem s v

@@ -34,3 +34,7 @@ AsksFilled seen v (Ok x) = (as_bytes v ≡ Some (seen x)) × (seen x ≢ [])
 AsksFilled seen v (Err e) =
     ((as_bytes v ≡ None) × IsUnexpected e × Says (kind v) (codes "bstr") e)
     ⊎ ((as_bytes v ≡ Some []) × IsUnexpected e × Says (codes "empty bstr") (codes "non-empty bstr") e)
+
+-- the error's two texts, of an item that should be a byte string that isn't empty
+abbrev pub SaysFilled : Item → CoseError → Type 0
+SaysFilled v e = ((as_bytes v ≡ None) × Says (kind v) (codes "bstr") e) ⊎ ((as_bytes v ≡ Some []) × Says (codes "empty bstr") (codes "non-empty bstr") e)

@@ -1,12 +1,14 @@
 //! Maps of labels, read pair by pair (RFC 8152, section 1.4).
 
-ghost use Rattle.std.specs.Prelude.{◌≡◌, ◌⊎◌, ◌++◌, List, [], Bool, false, not, map, Some, None, option_map, IfOk, IfErr, OnOk, OnErr};
+ghost use Rattle.std.specs.Prelude.{◌≡◌, codes, ◌⊎◌, ◌++◌, List, [], Bool, false, not, map, Some, None, option_map, IfOk, IfErr, OnOk, OnErr};
 ghost use Rattle.std.specs.Map.{keys_of};
 ghost use Rattle.coset_value.specs.Item.{Item, dict};
+ghost use Rattle.coset_value.specs.Parts.{as_map};
 ghost use Rattle.coset_value.specs.View.{view, pairs_view};
 ghost use Rattle.coset_shape.specs.declared.error.CoseError.TheVariants.{OutOfMemory, DuplicateMapKey};
 ghost use Rattle.coset_shape.specs.Answers.{Reads, Images};
 ghost use Rattle.coset_shape.specs.Errors.{Names as Tells};
+ghost use Rattle.coset_shape.specs.Kinds.{Says, kind};
 ghost use Rattle.coset_shape.specs.Maps.{Names, Fields, TakesKey, RefusesKey, are_distinct, labelled, named_image, put_fields, Appends};
 ghost use Rattle.coset_shape.specs.MapLaws.{LawfulNames, LawfulFields};
 ghost use Rattle.coset_shape.specs.Sources.{source_item};
@@ -77,7 +79,8 @@ fn first_error<G: Gather>(alloc: Global, so_far: &G, error: CoseError) -> CoseEr
 pub fn read_map<G: Gather + Drop>(alloc: Global, source: Source<'_>, start: G) -> Result<G>
     requires fields { G.fields.describes [] (G.seen start).0 }
     requires rest { (G.seen start).1 ≡ [] }
-    ensures { Reads (labelled G.names G.fields) G.seen (source_item source.entry) result }
+    ensures read { Reads (labelled G.names G.fields) G.seen (source_item source.entry) result }
+    ensures says { IfErr result (λ e. as_map (source_item source.entry) ≡ None → Says (kind (source_item source.entry)) (codes "map") e) }
 {
     let mut pairs = source.into_pairs()?;
     let mut so_far = start;

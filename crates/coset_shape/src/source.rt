@@ -8,7 +8,7 @@ ghost use Rattle.coset_cbor.specs.Pulls.{pull_item};
 ghost use Rattle.coset_shape.specs.declared.error.CoseError.TheVariants.{OutOfMemory, OutOfRangeIntegerValue};
 ghost use Rattle.coset_shape.specs.Answers.{Reads};
 ghost use Rattle.coset_shape.specs.Errors.{IsUnexpected, Names};
-ghost use Rattle.coset_shape.specs.Kinds.{Asks, Says, kind};
+ghost use Rattle.coset_shape.specs.Kinds.{Asks, Says, kind, SaysFilled};
 ghost use Rattle.coset_shape.specs.Shape.{bstr, filled_bstr, tstr, int64, or_nil, is_nil};
 ghost use Rattle.coset_shape.specs.Sources.{source_item, members_left, map_left, MayCopy, Copies, Takes, TakesPair};
 
@@ -192,7 +192,8 @@ impl<'a> Source<'a> {
 
     /// The bytes of a byte string that isn't empty.
     pub fn into_filled_bytes(self, alloc: Global) -> Result<Vec<u8>>
-        ensures { Reads filled_bstr (λ b. b.items) (source_item self.entry) result }
+        ensures read { Reads filled_bstr (λ b. b.items) (source_item self.entry) result }
+        ensures says { IfErr result (λ e. Names e (SaysFilled (source_item self.entry))) }
     {
         let bytes = self.into_bytes(alloc, "bstr")?;
         if bytes.is_empty() {

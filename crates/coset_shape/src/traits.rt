@@ -7,7 +7,7 @@ ghost use Rattle.coset_cbor.specs.Pulls.{pull_item};
 ghost use Rattle.coset_cbor.specs.Grammar.{IsItem};
 ghost use Rattle.coset_shape.specs.declared.error.CoseError.{CoseError};
 ghost use Rattle.coset_shape.specs.declared.error.CoseError.TheVariants.{OutOfMemory};
-ghost use Rattle.coset_shape.specs.Answers.{Reads, Images, Writes, ReadsSlice, ReadsWhole, Untags, DescribesNothing};
+ghost use Rattle.coset_shape.specs.Answers.{Reads, Images, Writes, ReadsSlice, ReadsWhole, Untags, DescribesNothing, AsksForItems};
 ghost use Rattle.coset_shape.specs.Errors.{Names};
 ghost use Rattle.coset_shape.specs.Shape.{Shape, any, tagged};
 
@@ -73,7 +73,7 @@ pub fn whole(s: &[u8]) -> Result<Pull<'_>>
 /// The one item that the bytes are.
 fn whole_value(alloc: Global, s: &[u8]) -> Result<Value>
     ensures whole { ReadsWhole view s.now result }
-    ensures memory { IfErr result (λ e. e ≡ OutOfMemory → (v : Item) × IsItem s.now v) }
+    ensures memory { AsksForItems s.now result }
 {
     Ok(whole(s)?.to_value(alloc)?)
 }
@@ -196,7 +196,7 @@ impl FromPull for Value {
 pub fn read_slice<T: FromPull>(alloc: Global, s: &[u8]) -> Result<T>
     ensures read { ReadsSlice T.shape T.seen s.now result }
     ensures refused { IfErr result (λ e. Names e (λ _. DescribesNothing T.shape s.now)) }
-    ensures memory { IfErr result (λ e. e ≡ OutOfMemory → (v : Item) × IsItem s.now v) }
+    ensures memory { AsksForItems s.now result }
 {
     T::from_pull(alloc, whole(s)?)
 }
@@ -221,7 +221,7 @@ fn untagged(number: u64, pull: Pull<'_>) -> Result<Pull<'_>>
 pub fn read_tagged_slice<T: FromPull>(alloc: Global, number: u64, s: &[u8]) -> Result<T>
     ensures read { ReadsSlice (tagged number T.shape) T.seen s.now result }
     ensures refused { IfErr result (λ e. Names e (λ _. DescribesNothing (tagged number T.shape) s.now)) }
-    ensures memory { IfErr result (λ e. e ≡ OutOfMemory → (v : Item) × IsItem s.now v) }
+    ensures memory { AsksForItems s.now result }
 {
     T::from_pull(alloc, untagged(number, whole(s)?)?)
 }

@@ -7,8 +7,8 @@ pub loop-key-init : goal.loop-key-init
 loop-key-init g c =
     sets_out g.G.Gather.names g.met.G.Gather.lawful_names g.G.Gather.fields g.met.G.Gather.lawful_fields (map_left c.in_ok-pairs.pairs) (g.G.Gather.seen c.args.start) c.requires.fields c.requires.rest
 
-pub returns-in-Err : goal.returns-in-Err
-returns-in-Err g c =
+pub returns-in-Err-clause-read : goal.returns-in-Err-clause-read
+returns-in-Err-clause-read g c =
     λ n. first_stands g.G.Gather.names g.met.G.Gather.lawful_names g.G.Gather.fields g.met.G.Gather.lawful_fields (source_item c.args.source) (map_left c.in_ok-pairs.pairs) (map_left c.loop-key.pairs)
     (map_left c.next.new.self) (source_item c.in-Some.key) (source_item c.in-Some.value) (g.G.Gather.seen c.loop-key.so_far) (g.G.Gather.seen c.add.new.self) c.in-Err.error c.first_error.result (search rules)
     c.loop-key.invariant c.in-Some.ensures c.in-Err.ensures.refused c.in-Err.ensures.kept (c.first_error.ensures n)
@@ -18,12 +18,12 @@ loop-key-preserved g c =
     goes_on g.G.Gather.names g.met.G.Gather.lawful_names g.G.Gather.fields g.met.G.Gather.lawful_fields (map_left c.in_ok-pairs.pairs) (map_left c.loop-key.pairs) (map_left c.next.new.self)
     (source_item c.in-Some.key) (source_item c.in-Some.value) (g.G.Gather.seen c.loop-key.so_far) (g.G.Gather.seen c.add.new.self) c.loop-key.invariant c.in-Some.ensures c.in_default-add.ensures.takes
 
-pub returns-then-branch : goal.returns-then-branch
-returns-then-branch g c =
+pub returns-then-branch-clause-read : goal.returns-then-branch-clause-read
+returns-then-branch-clause-read g c =
     λ _. stumbles g.G.Gather.names g.met.G.Gather.lawful_names g.G.Gather.fields g.met.G.Gather.lawful_fields (source_item c.args.source) (map_left c.in_ok-pairs.pairs) (map_left c.loop-key.pairs)
     (g.G.Gather.seen c.loop-key.so_far) (search rules) c.loop-key.invariant (not_true c.in_ok-repeats.field-0 _ c.in_ok-repeats.ensures.repeats c.if-branch.true)
 
-pub returns : goal.returns
-returns g c =
+pub returns-clause-read : goal.returns-clause-read
+returns-clause-read g c =
     arrives g.G.Gather.names g.met.G.Gather.lawful_names g.G.Gather.fields g.met.G.Gather.lawful_fields (source_item c.args.source) (map_left c.in_ok-pairs.pairs) (map_left c.loop-key.pairs)
     (g.G.Gather.seen c.loop-key.so_far) (search rules) c.loop-key.invariant (search rules) (not_false c.in_ok-repeats.field-0 _ c.in_ok-repeats.ensures.repeats c.if-branch.false)
