@@ -1,6 +1,8 @@
 pub mod Errors
 pub mod Shape
 pub mod ShapeLaws
+pub mod Sets
+pub mod SetLaws
 pub mod Maps
 pub mod MapLaws
 pub mod RestLaws

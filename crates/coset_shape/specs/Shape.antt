@@ -253,10 +253,10 @@ perhaps absent shows s = record {
   faults = LastFaults s.faults;
 }
 
--- The same, seen as `arrange` puts it: a list that stands for a set, which is seen and written in order
-abbrev pub arranged : {A : Type 0} → (A → A) → Shape A → Shape A
-arranged {A} arrange s = record {
-  describes = λ v y. (x : A) × s.describes v x × (y ≡ arrange x);
+-- The same, seen as what R relates it to, and written as that: a list that stands for a set is seen in order
+abbrev pub arranged : {A : Type 0} → (A → A → Type 0) → Shape A → Shape A
+arranged {A} R s = record {
+  describes = λ v y. (x : A) × s.describes v x × R x y;
   image = s.image;
   faults = s.faults;
 }

@@ -216,7 +216,7 @@ tagged_laws {A} number s l =
 
 -- ---- arrays
 
-as_array-depth : (v : Item) (vs : Items) → as_array v ≡ Some vs → suc (items_depth vs) ≡ depth v
+pub as_array-depth : (v : Item) (vs : Items) → as_array v ≡ Some vs → suc (items_depth vs) ≡ depth v
 as_array-depth (array ws) vs p = let h : ws ≡ vs = cc in ap (λ us. suc (items_depth us)) (sym h)
 as_array-depth (integer n) vs p = absurd (cc)
 as_array-depth (bytes s) vs p = absurd (cc)
@@ -355,20 +355,16 @@ module _ {A : Type 0} (absent : A) (shows : A → Bool) (hidden : shows absent �
   pub perhaps_laws : LawfulPlaces A (perhaps absent shows s)
   perhaps_laws = record { unique = last_unique; again = last_again; fits = last_fits; sound = last_sound }
 
+-- R relates a value to at most one, and that one to itself; and s writes that one as an item that stands for it
 pub arranged_laws :
-    {A : Type 0} (arrange : A → A) (s : Shape A) → ((x : A) → arrange (arrange x) ≡ arrange x) → ((v : Item) (x : A) → s.describes v x → Again A s v (arrange x)) → Lawful A s
-    → Lawful A (arranged arrange s)
-arranged_laws {A} arrange s same again l =
+    {A : Type 0} (R : A → A → Type 0) (s : Shape A) → ((x y z : A) → R x y → R x z → y ≡ z) → ((x y : A) → R x y → R y y)
+    → ((v : Item) (x y : A) → s.describes v x → R x y → Again A s v y) → Lawful A s → Lawful A (arranged R s)
+arranged_laws {A} R s one itself again l =
     record {
-      unique = λ v x y p q. p.2 ∙ (ap arrange (l.unique v p.0 q.0 p.1 q.1) ∙ sym q.2);
+      unique = λ v y z p q. one p.0 y z p.2 (subst (λ x. R x z) (l.unique v q.0 p.0 q.1 p.1) q.2);
       again = λ v y p.
-          let a : Again A s v (arrange p.0) = again v p.0 p.1 in
-          record {
-            image = a.image;
-            is_image = ap s.image p.2 ∙ a.is_image;
-            described = (arrange p.0, a.described, p.2 ∙ sym (same p.0));
-            shallow = a.shallow;
-          };
+          let a : Again A s v y = again v p.0 y p.1 p.2 in
+          record { image = a.image; is_image = a.is_image; described = (y, a.described, itself p.0 y p.2); shallow = a.shallow };
       sound = λ v y e p f. l.sound v p.0 e p.1 f;
     }
 
