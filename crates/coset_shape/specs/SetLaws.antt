@@ -6,18 +6,17 @@ use Rattle.std.specs.Ordering.{eq_by_cmp, match_ordering, ordering_reverse}
 use Rattle.std.specs.List.Sorted.{IsStrictlySortedBy}
 use Rattle.std.specs.List.{list_any}
 use Rattle.std.specs.BTreeSet.{BTreeSet, insert_key}
-use Rattle.std.proofs.lemmas.List.Elements.{All-nil, All-cons, All-weaker, All-contains, All-contains_itself, Contains-append_left, Contains-append_right, Contains-append_cases, Contains-push, Contains-push_cases, recursion_from_All}
+use Rattle.std.proofs.lemmas.List.Elements.{All-nil, All-cons, All-weaker, All-contains, All-contains_itself, Contains-append_left, Contains-append_right, Contains-append_cases, Contains-push, Contains-push_cases, recursion_from_All, All-from_recursion}
 use Rattle.std.proofs.lemmas.Cmp.{eq_by_cmp_equiv}
 use Rattle.std.proofs.lemmas.List.{get_or_append_left}
 use Rattle.std.proofs.Math.Seq.{get_or-append_seam}
-use Rattle.std.proofs.lemmas.Map.Keys.{IsDistinct-from_sorted, IsDistinct-push, apart_from_distinct}
+use Rattle.std.proofs.lemmas.Map.Keys.{IsDistinct-from_sorted, IsDistinct-head, IsDistinct-tail, IsDistinct-push, apart_from_distinct}
 use Rattle.std.proofs.lemmas.Map.Lookups.{CmpEqualImpliesEq, btree_set_from_contains}
 use Rattle.std.proofs.lemmas.Map.Views.{All-insert_key, All-after_first, Contains-from_any, list_any-from_Contains, tells_apart}
 use Rattle.coset_cbor.specs.Item.{Item, array, Items, no_items, item, depth, items_depth}
-use Rattle.coset_shape.specs.Errors.{IsUnexpected}
-use Rattle.coset_shape.specs.Shape.{Shape, that, Each, IsFilled, some_of}
-use Rattle.coset_shape.specs.ShapeLaws.{Again, Lawful, that_laws, some_of_laws, arranged_laws, as_array-depth}
-use Rattle.coset_shape.specs.Sets.{IsSetOf, IsDistinctBy, set_of}
+use Rattle.coset_shape.specs.Shape.{Shape, Each, IsFilled, some_of}
+use Rattle.coset_shape.specs.ShapeLaws.{Again, Lawful, some-one, some_of_laws, arranged_laws, as_array-depth}
+use Rattle.coset_shape.specs.Sets.{IsSetOf, IsDistinctBy, HasMember, Repeats, distinct_of, set_of}
 
 -- ---- sets of lists
 
@@ -149,18 +148,47 @@ module _ {A : Type 0} (s : Shape A) where
       (item a.0 b.0, (a.1, b.1), omega (arith, a.2, b.2))
 
 module _ {A : Type 0} (cmp : A → A → Ordering) (o : IsTotalOrder cmp) (exact : CmpEqualImpliesEq cmp) (s : Shape A) (l : Lawful A s) where
-  -- [+ s], no two members the same: seen as the list
-  abbrev distinct : Shape (List A)
-  distinct = that IsUnexpected (IsDistinctBy cmp) (some_of s)
+  -- what one of the items stands for is one of the values
+  member_contained : (vs : Items) (xs : List A) (x : A) → Each s.describes vs xs → HasMember s.describes x vs → Contains xs x
+  member_contained no_items xs x p h = absurd h
+  member_contained (item v vs) [] x p h = absurd p
+  member_contained (item v vs) (y ∷ ys) x p (inl d) = (0, omega arith, l.unique v y x p.0 d)
+  member_contained (item v vs) (y ∷ ys) x p (inr h) = Contains-append_right (y ∷ []) ys x (member_contained vs ys x p.1 h)
+
+  -- of values no two of which are the same no two items stand for one
+  no_repeats : (vs : Items) (xs : List A) → Each s.describes vs xs → IsDistinctBy cmp xs → Repeats s.describes vs → ⊥
+  no_repeats no_items xs p d h = h
+  no_repeats (item v vs) [] p d h = p
+  no_repeats (item v vs) (x ∷ xs) p d (inl h) =
+      let same : h.0 ≡ x = l.unique v h.0 x h.1 p.0 in
+      let c : Contains xs x = member_contained vs xs x p.1 (subst (λ y. HasMember s.describes y vs) same h.2) in
+      let P : A → Type 0 = λ y. eq_by_cmp cmp x y ≡ false in
+      true≢false (sym ((eq_by_cmp_equiv o).refl x) ∙ All-contains P xs x (All-from_recursion P xs (IsDistinct-head (eq_by_cmp cmp) x xs d)) c)
+  no_repeats (item v vs) (x ∷ xs) p d (inr h) = no_repeats vs xs p.1 (IsDistinct-tail (eq_by_cmp cmp) x xs d) h
+
+  pub distinct_of_laws : Lawful (List A) (distinct_of cmp s)
+  distinct_of_laws =
+      let m : Lawful (List A) (some_of s) = some_of_laws s l in
+      record {
+        unique = λ v x y p q. m.unique v x y p.0 q.0;
+        again = λ v x p.
+            let a : Again (List A) (some_of s) v x = m.again v x p.0 in
+            record { image = a.image; is_image = a.is_image; described = (a.described, p.1); shallow = a.shallow };
+        sound = λ v x e p f.
+            elim f [
+              | inl g ↦ m.sound v x e p.0 g
+              | inr g ↦ no_repeats g.1.0 x (subst (λ vs. Each s.describes vs x) (some-one p.0.0.1 g.1.1) p.0.0.2) p.1 g.1.2
+            ];
+      }
 
   -- each member of the set was one of the list, so it has an item
-  set_again : (v : Item) (xs ys : List A) → distinct.describes v xs → IsSetOf cmp xs ys → Again (List A) distinct v ys
+  set_again : (v : Item) (xs ys : List A) → (distinct_of cmp s).describes v xs → IsSetOf cmp xs ys → Again (List A) (distinct_of cmp s) v ys
   set_again v xs ys p m =
       let vs : Items = p.0.0.0 in
       let deep : suc (items_depth vs) ≡ depth v = as_array-depth v vs p.0.0.1 in
       let us = each_of s (items_depth vs) ys (All-set (HasItem s (items_depth vs)) xs ys m (each_has s vs xs p.0.0.2)) in
-      let a : Again (List A) distinct (array us.0) ys = (that_laws _ _ (some_of s) (some_of_laws s l)).again (array us.0) ys (((us.0, refl, us.1), set_filled xs ys p.0.1 m), set_distinct xs ys m) in
+      let a : Again (List A) (distinct_of cmp s) (array us.0) ys = distinct_of_laws.again (array us.0) ys (((us.0, refl, us.1), set_filled xs ys p.0.1 m), set_distinct xs ys m) in
       record { image = a.image; is_image = a.is_image; described = a.described; shallow = omega (arith, a.shallow, deep, us.2) }
 
   pub set_of_laws : Lawful (List A) (set_of cmp s)
-  set_of_laws = arranged_laws (IsSetOf cmp) distinct (set_unique o exact) set_of_itself set_again (that_laws _ _ (some_of s) (some_of_laws s l))
+  set_of_laws = arranged_laws (IsSetOf cmp) (distinct_of cmp s) (set_unique o exact) set_of_itself set_again distinct_of_laws
