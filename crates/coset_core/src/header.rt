@@ -7,6 +7,7 @@ ghost use Rattle.coset_shape.specs.Errors.{Names};
 ghost use Rattle.coset_shape.specs.Maps.{optional};
 ghost use Rattle.coset_core.specs.Headers.{algorithm, algorithm_seen, header, header_seen, empty_header, is_empty_header};
 ghost use Rattle.coset_core.specs.HeaderLaws.{header_laws};
+ghost use Rattle.coset_shape.specs.Answers.{ReadsSlice, DescribesNothing, AsksForItems};
 
 use crate::read::read_header;
 use coset_cbor::de::Pull;
@@ -96,7 +97,11 @@ impl FromPull for Header {
 }
 
 impl CborSerializable for Header {
-    fn from_slice(alloc: Global, s: &[u8]) -> Result<Header> {
+    fn from_slice(alloc: Global, s: &[u8]) -> Result<Header>
+        ensures read { ReadsSlice header header_seen s.now result }
+        ensures refused { IfErr result (λ e. Names e (λ _. DescribesNothing header s.now)) }
+        ensures memory { AsksForItems s.now result }
+    {
         read_slice(alloc, s)
     }
 }

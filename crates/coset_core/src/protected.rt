@@ -5,7 +5,7 @@ ghost use Rattle.std.specs.Cow.{cow_slice_items};
 ghost use Rattle.coset_value.specs.View.{view};
 ghost use Rattle.coset_cbor.specs.Pulls.{pull_item};
 ghost use Rattle.coset_shape.specs.declared.error.CoseError.TheVariants.{DuplicateMapKey};
-ghost use Rattle.coset_shape.specs.Answers.{Reads, Images};
+ghost use Rattle.coset_shape.specs.Answers.{Reads, Images, ReadsSlice, DescribesNothing, AsksForItems};
 ghost use Rattle.coset_shape.specs.Errors.{Names};
 ghost use Rattle.coset_shape.specs.Serialized.{fresh};
 ghost use Rattle.coset_shape.specs.Sources.{source_item};
@@ -189,7 +189,11 @@ impl FromPull for ProtectedHeader {
 }
 
 impl CborSerializable for ProtectedHeader {
-    fn from_slice(alloc: Global, s: &[u8]) -> Result<ProtectedHeader> {
+    fn from_slice(alloc: Global, s: &[u8]) -> Result<ProtectedHeader>
+        ensures read { ReadsSlice bare protected_seen s.now result }
+        ensures refused { IfErr result (λ e. Names e (λ _. DescribesNothing bare s.now)) }
+        ensures memory { AsksForItems s.now result }
+    {
         read_slice(alloc, s)
     }
 }

@@ -3,10 +3,11 @@
 ghost use Rattle.std.specs.Prelude.{◌≡◌, IfErr, IfOk, is_some};
 ghost use Rattle.coset_value.specs.View.{view};
 ghost use Rattle.coset_shape.specs.declared.error.CoseError.TheVariants.{OutOfMemory};
-ghost use Rattle.coset_shape.specs.Answers.{Reads};
+ghost use Rattle.coset_shape.specs.Answers.{Reads, ReadsSlice, DescribesNothing, AsksForItems};
 ghost use Rattle.coset_shape.specs.Sources.{source_item, MayCopy};
 ghost use Rattle.coset_label.specs.Labels.{registered, registered_or_private};
 ghost use Rattle.coset_label.specs.Views.{registered_seen, registered_or_private_seen};
+ghost use Rattle.coset_shape.specs.Errors.{Names};
 
 use coset_cbor::de::Pull;
 use coset_cbor::value::Value;
@@ -112,7 +113,11 @@ impl<T: EnumI64 + Drop> FromPull for RegisteredLabel<T> {
 }
 
 impl<T: EnumI64 + Drop> CborSerializable for RegisteredLabel<T> {
-    fn from_slice(alloc: Global, s: &[u8]) -> Result<RegisteredLabel<T>> {
+    fn from_slice(alloc: Global, s: &[u8]) -> Result<RegisteredLabel<T>>
+        ensures read { ReadsSlice (registered (λ i. is_some (T.value_of i))) (registered_seen T.number) s.now result }
+        ensures refused { IfErr result (λ e. Names e (λ _. DescribesNothing (registered (λ i. is_some (T.value_of i))) s.now)) }
+        ensures memory { AsksForItems s.now result }
+    {
         read_slice(alloc, s)
     }
 }
@@ -155,7 +160,11 @@ impl<T: EnumI64 + WithPrivateRange + Drop> FromPull for RegisteredLabelWithPriva
 }
 
 impl<T: EnumI64 + WithPrivateRange + Drop> CborSerializable for RegisteredLabelWithPrivate<T> {
-    fn from_slice(alloc: Global, s: &[u8]) -> Result<RegisteredLabelWithPrivate<T>> {
+    fn from_slice(alloc: Global, s: &[u8]) -> Result<RegisteredLabelWithPrivate<T>>
+        ensures read { ReadsSlice (registered_or_private (λ i. is_some (T.value_of i)) T.is_private) (registered_or_private_seen T.number) s.now result }
+        ensures refused { IfErr result (λ e. Names e (λ _. DescribesNothing (registered_or_private (λ i. is_some (T.value_of i)) T.is_private) s.now)) }
+        ensures memory { AsksForItems s.now result }
+    {
         read_slice(alloc, s)
     }
 }

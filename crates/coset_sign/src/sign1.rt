@@ -1,12 +1,14 @@
 //! Messages with one signature (RFC 8152, section 4.2).
 
-ghost use Rattle.std.specs.Prelude.{◌≡◌, [], Some, None};
-ghost use Rattle.coset_shape.specs.Answers.{Reads, Writes};
+ghost use Rattle.std.specs.Prelude.{IfErr, ◌≡◌, [], Some, None};
+ghost use Rattle.coset_shape.specs.Answers.{Reads, Writes, ReadsSlice, DescribesNothing, AsksForItems};
 ghost use Rattle.coset_shape.specs.Sources.{source_item};
 ghost use Rattle.coset_core.specs.Headers.{empty_header, header_seen};
 ghost use Rattle.coset_sign.specs.Sign1.{sign1, sign1_seen};
 ghost use Rattle.coset_sign.specs.Signed.{signed, or_empty};
 ghost use Rattle.coset_sign.specs.declared.signature.SignatureContext.TheVariants as contexts;
+ghost use Rattle.coset_shape.specs.Errors.{Names};
+ghost use Rattle.coset_shape.specs.Shape.{tagged};
 
 use crate::signature::{SignatureContext, signed_bytes};
 use coset_cbor::de::Pull;
@@ -131,7 +133,11 @@ impl FromPull for CoseSign1 {
 }
 
 impl CborSerializable for CoseSign1 {
-    fn from_slice(alloc: Global, s: &[u8]) -> Result<CoseSign1> {
+    fn from_slice(alloc: Global, s: &[u8]) -> Result<CoseSign1>
+        ensures read { ReadsSlice sign1 sign1_seen s.now result }
+        ensures refused { IfErr result (λ e. Names e (λ _. DescribesNothing sign1 s.now)) }
+        ensures memory { AsksForItems s.now result }
+    {
         read_slice(alloc, s)
     }
 }
@@ -141,7 +147,11 @@ impl TaggedCborSerializable for CoseSign1 {
 
     const TAG: u64 = 18;
 
-    fn from_tagged_slice(alloc: Global, s: &[u8]) -> Result<CoseSign1> {
+    fn from_tagged_slice(alloc: Global, s: &[u8]) -> Result<CoseSign1>
+        ensures read { ReadsSlice (tagged 18 sign1) sign1_seen s.now result }
+        ensures refused { IfErr result (λ e. Names e (λ _. DescribesNothing (tagged 18 sign1) s.now)) }
+        ensures memory { AsksForItems s.now result }
+    {
         read_tagged_slice(alloc, 18, s)
     }
 }
