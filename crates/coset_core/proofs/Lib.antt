@@ -1,2 +1,7 @@
+pub mod Putting
+pub mod Signatures
+pub mod Values
+pub mod Reading
 pub mod Writing
-pub mod Content
+pub mod WritingHeaders
+pub mod Keeping

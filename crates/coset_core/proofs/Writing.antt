@@ -1,17 +1,83 @@
--- Pairs of a map, written one after the other.
-use Rattle.std.proofs.Common.{◌≡◌, ℕ, suc, ◌+◌, ◌<◌, ◌^◌, List, [], ◌∷◌, ◌++◌, map, length, take, Option, Some, None, true, option_map, refl, sym, ◌∙◌, ap, subst, get_or, append-nil, append_assoc}
-use Rattle.std.specs.Prelude.{pos}
-use Rattle.std.specs.Map.{keys_of}
-use Rattle.std.proofs.lemmas.List.{length-append, take_more, map_push}
-use Rattle.coset_value.specs.Item.{Item, dict, pairs_count}
-use Rattle.coset_value.specs.Range.{ArePairsInRange}
-use Rattle.coset_cbor.specs.Least.{least_head, short, pair_shorts}
-use Rattle.coset_shape.specs.Maps.{named_image, are_distinct, put_fields}
-use Rattle.coset_shape.specs.RestLaws.{some-entries}
-use Rattle.coset_label.specs.Names.{Name, number, word, name_item, RegisteredName, assigned, private_use, phrase}
+-- Items and pairs, written one after the other.
+use Rattle.std.specs.Prelude.{pos, ◌==◌, not, true, is_some}
+use Rattle.std.proofs.Common.{◌≡◌, ℕ, suc, Option, Some, None, option_map, true≢false, ◌+◌, ◌<◌, ◌^◌, List, [], ◌∷◌, ◌++◌, map, length, take, drop, refl, sym, ◌∙◌, ap, subst, get_or, append-nil, append_assoc}
+use Rattle.std.proofs.lemmas.List.{take_more, take-append-drop, map_push, map-append, length-map}
+use Rattle.coset_value.specs.Item.{Item, array, items_count, pairs_count}
+use Rattle.coset_value.specs.Range.{AreInRange, ArePairsInRange}
+use Rattle.coset_value.specs.View.{items_of}
+use Rattle.coset_cbor.specs.Least.{least_head, short, shorts, pair_shorts}
+use Rattle.coset_shape.specs.Maps.{put_field, named_image}
 use Rattle.coset_label.specs.Labels.{label}
-use Rattle.coset_core.specs.Headers.{HeaderSeen, algorithm, names, same_name, fields, parts_of, header}
-use Rattle.coset_core.specs.Written.{AppendsItem, AppendsPairs, entry_pairs, registered_item, filled_item, header_fields}
+use Rattle.coset_label.specs.Names.{Name, number, word, name_item, RegisteredName}
+use Rattle.coset_core.specs.Fields.{FieldsSeen}
+use Rattle.coset_core.specs.HeaderWrites.{fields_put}
+use Rattle.coset_core.specs.Written.{AppendsItem, AppendsItems, AppendsPairs, entry_pairs, registered_item, critical_item, filled_item, plain_fields, one, count_pairs}
+use Rattle.coset_core.specs.ViewLaws.{HeaderLevel, header_level}
+use Rattle.coset_core.proofs.Signatures.{are_none_of}
+
+-- ---- lists
+
+-- one map after another
+pub map-twice : {A B C : Type 0} (f : B → C) (g : A → B) (xs : List A) → map (λ x. f (g x)) xs ≡ map f (map g xs)
+map-twice f g [] = refl
+map-twice f g (x ∷ xs) = ap (λ ys. f (g x) ∷ ys) (map-twice f g xs)
+
+-- one more member of a list, as they are seen
+pub taken : {X Y : Type 0} (see : X → Y) (xs : List X) (i : ℕ) (x : X) → i < length xs → x ≡ get_or xs i x → map see (take (i + 1) xs) ≡ map see (take i xs) ++ see x ∷ []
+taken {X} see xs i x lt is = ap (map see) (take_more xs i x lt ∙ ap (λ (y : X). take i xs ++ y ∷ []) (sym is)) ∙ map_push see (take i xs) x
+
+-- the members before one, it, and those after it
+pub around :
+    {X Y : Type 0} (see : X → Y) (xs : List X) (i : ℕ) (x : X) → i < length xs → x ≡ get_or xs i x → map see xs ≡ map see (take i xs) ++ see x ∷ map see (drop (i + 1) xs)
+around see xs i x lt is =
+    let after = map see (drop (i + 1) xs) in
+    ap (map see) (sym (take-append-drop (i + 1) xs))
+    ∙ (map-append see (take (i + 1) xs) (drop (i + 1) xs) ∙ (ap (λ ys. ys ++ after) (taken see xs i x lt is) ∙ append_assoc (map see (take i xs)) (see x ∷ []) after))
+
+-- ---- items
+
+shorts-append : (vs ws : List Item) → shorts (items_of (vs ++ ws)) ≡ shorts (items_of vs) ++ shorts (items_of ws)
+shorts-append [] ws = refl
+shorts-append (v ∷ vs) ws = rw (shorts-append vs ws, append_assoc (short v) (shorts (items_of vs)) (shorts (items_of ws))) refl
+
+items_in_range-append : (vs ws : List Item) → AreInRange (items_of vs) → AreInRange (items_of ws) → AreInRange (items_of (vs ++ ws))
+items_in_range-append [] ws p q = q
+items_in_range-append (v ∷ vs) ws p q = (p.0, items_in_range-append vs ws p.1 q)
+
+-- nothing was written
+pub items-none : (s : List ℕ) → AppendsItems s s []
+items-none s = record { in_range = tt; parts = sym (append-nil s) }
+
+-- some items, and one more
+pub items-push : (old mid new : List ℕ) (vs : List Item) (v : Item) → AppendsItems old mid vs → AppendsItem mid new v → AppendsItems old new (vs ++ v ∷ [])
+items-push old mid new vs v p q = record {
+  in_range = items_in_range-append vs (v ∷ []) p.in_range (q.in_range, tt);
+  parts = rw (q.parts, p.parts, shorts-append vs (v ∷ []), append-nil (short v)) (append_assoc old (shorts (items_of vs)) (short v));
+}
+
+-- one more of a row
+pub row-push :
+    {X : Type 0} (see : X → Item) (xs : List X) (i : ℕ) (x : X) (old mid new : List ℕ) → i < length xs → x ≡ get_or xs i x → AppendsItems old mid (map see (take i xs))
+    → AppendsItem mid new (see x) → AppendsItems old new (map see (take (i + 1) xs))
+row-push see xs i x old mid new lt is so_far one =
+    subst (AppendsItems old new) (sym (taken see xs i x lt is)) (items-push old mid new (map see (take i xs)) (see x) so_far one)
+
+-- as many items as members
+pub count-items : (vs : List Item) → items_count (items_of vs) ≡ length vs
+count-items [] = refl
+count-items (v ∷ vs) = ap (λ n. suc n) (count-items vs)
+
+-- a head and the items are an array
+pub array-put :
+    (vs : List Item) (n : ℕ) (old head new : List ℕ) → n ≡ length vs → n < 2 ^ 64 → head ≡ old ++ least_head 4 n → AppendsItems head new vs → AppendsItem old new (array (items_of vs))
+array-put vs n old head new count small first p =
+    let same : items_count (items_of vs) ≡ n = count-items vs ∙ sym count in
+    record {
+      in_range = (rw same small, p.in_range);
+      parts = rw (p.parts, first, same) (append_assoc old (least_head 4 n) (shorts (items_of vs)));
+    }
+
+-- ---- pairs
 
 pair_shorts-append : (es fs : List (Name × Item)) → pair_shorts (entry_pairs (es ++ fs)) ≡ pair_shorts (entry_pairs es) ++ pair_shorts (entry_pairs fs)
 pair_shorts-append [] fs = refl
@@ -55,37 +121,66 @@ image-entries ((word s, v) ∷ es) = rw (image-entries es) refl
 pub rest-put :
     {X : Type 0} (see : X → Name × Item) (xs : List X) (i : ℕ) (x : X) (old mid half new : List ℕ) → i < length xs → x ≡ get_or xs i x → AppendsPairs old mid (map see (take i xs))
     → AppendsItem mid half (name_item (see x).0) → AppendsItem half new (see x).1 → AppendsPairs old new (map see (take (i + 1) xs))
-rest-put {X} see xs i x old mid half new lt is so_far key value =
-    let more : take (i + 1) xs ≡ take i xs ++ x ∷ [] = take_more xs i x lt ∙ ap (λ (y : X). take i xs ++ y ∷ []) (sym is) in
-    let total : map see (take (i + 1) xs) ≡ map see (take i xs) ++ see x ∷ [] = ap (map see) more ∙ map_push see (take i xs) x in
-    subst (AppendsPairs old new) (sym total) (pairs-then old mid new (map see (take i xs)) (see x ∷ []) so_far (pair-put mid half new (see x).0 (see x).1 key value))
+rest-put see xs i x old mid half new lt is so_far key value =
+    subst (AppendsPairs old new) (sym (taken see xs i x lt is)) (pairs-then old mid new (map see (take i xs)) (see x ∷ []) so_far (pair-put mid half new (see x).0 (see x).1 key value))
 
--- the fields that are there are those of the header's map
-fields-image : (alg : Option RegisteredName) (b : List ℕ) → fields.image (alg, (b, tt)) ≡ Some (put_fields ((number (pos 1), option_map registered_item alg) ∷ (number (pos 4), filled_item b) ∷ []))
-unfolding algorithm
-fields-image None [] = refl
-fields-image None (c ∷ b) = refl
-fields-image (Some (assigned i)) [] = refl
-fields-image (Some (assigned i)) (c ∷ b) = refl
-fields-image (Some (private_use i)) [] = refl
-fields-image (Some (private_use i)) (c ∷ b) = refl
-fields-image (Some (phrase s)) [] = refl
-fields-image (Some (phrase s)) (c ∷ b) = refl
+-- ---- fields
 
--- a header whose rest repeats no label is written as the map of its fields and the rest
-pub header-image : (h : HeaderSeen) → are_distinct same_name (keys_of h.rest) ≡ true → header.image h ≡ Some (dict (entry_pairs (header_fields h ++ h.rest)))
-unfolding header
-header-image h e =
-    sym (some-entries names h.rest (header_fields h) (fields.image (parts_of h).0) e (fields-image h.alg h.key_id)) ∙ ap (option_map dict) (image-entries (header_fields h ++ h.rest))
+-- a head and labels are the pair of label 2, where they are any
+pub critical-put :
+    (xs : List RegisteredName) (n : ℕ) (old mid head new : List ℕ) → not (length xs == 0) ≡ true → n ≡ length xs → n < 2 ^ 64 → AppendsItem old mid (name_item (number (pos 2))) → head ≡ mid ++ least_head 4 n
+    → AppendsItems head new (map registered_item xs) → AppendsPairs old new (put_field (number (pos 2)) (critical_item xs) [])
+critical-put [] n old mid head new h count small key first p = absurd (true≢false (sym h))
+critical-put (x ∷ xs) n old mid head new h count small key first p =
+    pair-put old mid new (number (pos 2)) (array (items_of (map registered_item (x ∷ xs)))) key
+    (array-put (map registered_item (x ∷ xs)) n mid head new (count ∙ sym (length-map (x ∷ xs) registered_item)) small first p)
 
--- a head, the fields and the rest are that map
-pub header-put :
-    (es fs : List (Name × Item)) (n : ℕ) (old head mid new : List ℕ) → n ≡ length es + length fs → n < 2 ^ 64 → head ≡ old ++ least_head 5 n → AppendsPairs head mid es → AppendsPairs mid new fs
-    → AppendsItem old new (dict (entry_pairs (es ++ fs)))
-header-put es fs n old head mid new count small first p q =
-    let all = pairs-then head mid new es fs p q in
-    let same : pairs_count (entry_pairs (es ++ fs)) ≡ n = count-entries (es ++ fs) ∙ (length-append es fs ∙ sym count) in
-    record {
-      in_range = (rw same small, all.in_range);
-      parts = rw (all.parts, first, same) (append_assoc old (least_head 5 n) (pair_shorts (entry_pairs (es ++ fs))));
-    }
+-- a field in front of others
+front : (n : Name) (o : Option Item) (es : List (Name × Item)) → put_field n o es ≡ put_field n o [] ++ es
+front n None es = refl
+front n (Some v) es = refl
+
+-- the first six, one after the other
+pub fields-parts :
+    (a b t k i p : Option Item)
+    → fields_put a b t k i p None
+    ≡ put_field (number (pos 1)) a []
+    ++ (put_field (number (pos 2)) b [] ++ (put_field (number (pos 3)) t [] ++ (put_field (number (pos 4)) k [] ++ (put_field (number (pos 5)) i [] ++ put_field (number (pos 6)) p []))))
+fields-parts a b t k i p =
+    front _ a _ ∙ ap (λ es. put_field (number (pos 1)) a [] ++ es)
+    (front _ b _ ∙ ap (λ es. put_field (number (pos 2)) b [] ++ es)
+    (front _ t _ ∙ ap (λ es. put_field (number (pos 3)) t [] ++ es)
+    (front _ k _ ∙ ap (λ es. put_field (number (pos 4)) k [] ++ es) (front _ i _))))
+
+pub plain-put :
+    (f : FieldsSeen) (s0 s1 s2 s3 s4 s5 s6 : List ℕ)
+    → AppendsPairs s0 s1 (put_field (number (pos 1)) (option_map registered_item f.alg) [])
+    → AppendsPairs s1 s2 (put_field (number (pos 2)) (critical_item f.crit) [])
+    → AppendsPairs s2 s3 (put_field (number (pos 3)) (option_map name_item f.content_type) [])
+    → AppendsPairs s3 s4 (put_field (number (pos 4)) (filled_item f.key_id) [])
+    → AppendsPairs s4 s5 (put_field (number (pos 5)) (filled_item f.iv) [])
+    → AppendsPairs s5 s6 (put_field (number (pos 6)) (filled_item f.partial_iv) [])
+    → AppendsPairs s0 s6 (plain_fields f)
+plain-put f s0 s1 s2 s3 s4 s5 s6 p1 p2 p3 p4 p5 p6 =
+    subst (AppendsPairs s0 s6)
+    (sym (fields-parts (option_map registered_item f.alg) (critical_item f.crit) (option_map name_item f.content_type) (filled_item f.key_id) (filled_item f.iv) (filled_item f.partial_iv)))
+    (pairs-then s0 s1 s6 _ _ p1 (pairs-then s1 s2 s6 _ _ p2 (pairs-then s2 s3 s6 _ _ p3 (pairs-then s3 s4 s6 _ _ p4 (pairs-then s4 s5 s6 _ _ p5 p6)))))
+
+-- ---- how many pairs there are
+
+some_mapped : {A B : Type 0} (f : A → B) (o : Option A) → is_some (option_map f o) ≡ is_some o
+some_mapped f None = refl
+some_mapped f (Some x) = refl
+
+pub counted :
+    (x : HeaderLevel)
+    → length x.rest.items
+    + one (is_some x.alg)
+    + one (not (length x.crit.items == 0))
+    + one (is_some x.content_type)
+    + one (not (length x.key_id.items == 0))
+    + one (not (length x.iv.items == 0))
+    + one (not (length x.partial_iv.items == 0))
+    + one (not (length x.counter_signatures.items == 0))
+    ≡ count_pairs (header_level x)
+counted x = simp (length-map, are_none_of, some_mapped)

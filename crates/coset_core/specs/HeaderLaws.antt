@@ -1,49 +1,38 @@
--- The laws of headers' shape.
-use Rattle.std.proofs.Common.{◌≡◌, Bool, true, false, refl, ap, sym, ◌∙◌, rules}
-use Rattle.std.specs.Prelude.{pos}
-use Rattle.coset_value.specs.Item.{integer}
-use Rattle.coset_shape.specs.Shape.{filled_bstr}
-use Rattle.coset_shape.specs.ShapeLaws.{Lawful, along_laws, filled_bstr_laws}
-use Rattle.coset_shape.specs.MapLaws.{LawfulNames, LawfulFields, Flat, field_laws, no_field_laws, optional_laws, listed_laws, labelled_laws}
-use Rattle.coset_label.specs.Names.{Name, number, RegisteredName}
-use Rattle.coset_label.specs.LabelLaws.{label_laws, registered_or_private_laws}
-use Rattle.coset_label.specs.NameOrder.{name_cmp-apart}
-use Rattle.coset_core.specs.Headers.{HeaderSeen, algorithm, same_name, names, Fielded, fields, header_of, parts_of, header}
+-- The laws of the shapes of headers, protected headers and signatures, within however many layers.
+use Rattle.std.proofs.Common.{ℕ, zero, suc, refl}
+use Rattle.coset_shape.specs.Shape.{bstr, end}
+use Rattle.coset_shape.specs.ShapeLaws.{Lawful, along_laws, array_of_laws, then_laws, end_laws, bstr_laws}
+use Rattle.coset_shape.specs.SerializedLaws.{serialized_laws}
+use Rattle.coset_core.specs.Headers.{HeaderSeen, ProtectedSeen, SignatureSeen, empty_header, is_empty_header, layered_header, protected_of, both_of, layered_protected, signature_of, places_of, layered_signature, LAYERS, header, protected, signature}
+use Rattle.coset_core.specs.HeaderUnique.{header_unique}
+use Rattle.coset_core.specs.HeaderSound.{header_faultless}
+use Rattle.coset_core.specs.HeaderAgain.{header_written}
 
-pub names_laws : LawfulNames Name names
-names_laws = record {
-  shape = label_laws;
-  same_is = λ l m h. (name_cmp-apart l m).0 h;
-  same_self = λ l. (name_cmp-apart l l).1 refl;
-}
+pub layered_header_laws : (k : ℕ) → Lawful HeaderSeen (layered_header k)
+unfolding layered_header
+layered_header_laws k =
+    record {
+      unique = header_unique k;
+      again = λ v x p. let a = header_written k v x p in record { image = a.0; is_image = a.1; described = a.2; shallow = a.3 };
+      sound = λ v x e p f. header_faultless k v x e p f.0 f.1;
+    }
 
--- of two labels it is the same which is asked whether it is the other
-sym-either : (l m : Name) (b : Bool) → same_name l m ≡ b → same_name m l ≡ b
-sym-either l m true h = ap (λ n. same_name n l) (sym (names_laws.same_is l m h)) ∙ names_laws.same_self l
-sym-either l m false h = go (same_name m l) refl
-  where
-    go : (b : Bool) → same_name m l ≡ b → same_name m l ≡ false
-    go true e = let same : m ≡ l = names_laws.same_is m l e in ap (λ n. same_name n l) same ∙ (sym (ap (λ n. same_name l n) same) ∙ h)
-    go false e = e
+pub layered_protected_laws : (k : ℕ) → Lawful ProtectedSeen (layered_protected k)
+unfolding layered_protected
+layered_protected_laws zero = record { unique = λ v x y p q. absurd p; again = λ v x p. absurd p; sound = λ v x e p f. p }
+layered_protected_laws (suc k) = along_laws protected_of both_of (λ x. refl) _ (serialized_laws empty_header is_empty_header (layered_header k) (layered_header_laws k))
 
-pub same_name-sym : (l m : Name) → same_name l m ≡ same_name m l
-same_name-sym l m = sym (sym-either l m (same_name l m) refl)
+pub layered_signature_laws : (k : ℕ) → Lawful SignatureSeen (layered_signature k)
+layered_signature_laws k =
+    along_laws signature_of places_of (λ x. refl) _
+    (array_of_laws _ (then_laws (layered_protected k) _ (layered_protected_laws k) (then_laws (layered_header k) _ (layered_header_laws k) (then_laws bstr end bstr_laws end_laws))))
 
-pub algorithm_laws : Lawful RegisteredName algorithm
-unfolding algorithm
-algorithm_laws = registered_or_private_laws _ _
-
-flat_alg : Flat Name names (number (pos 1))
-flat_alg = record { key = integer (pos 1); is_image = refl; described = (refl, (refl, search rules)); flat = refl }
-
-flat_kid : Flat Name names (number (pos 4))
-flat_kid = record { key = integer (pos 4); is_image = refl; described = (refl, (refl, search rules)); flat = refl }
-
-pub fields_laws : LawfulFields Name Fielded names fields
-fields_laws =
-    field_laws names names_laws (number (pos 1)) flat_alg _ (optional_laws algorithm algorithm_laws) _
-    (field_laws names names_laws (number (pos 4)) flat_kid _ (listed_laws filled_bstr (λ v p. p.1 refl) filled_bstr_laws) _ (no_field_laws names names_laws) refl) refl
-
+-- within as many as are read
 pub header_laws : Lawful HeaderSeen header
-unfolding header
-header_laws = along_laws header_of parts_of (λ x. refl) _ (labelled_laws names names_laws true fields fields_laws)
+header_laws = layered_header_laws LAYERS
+
+pub protected_laws : Lawful ProtectedSeen protected
+protected_laws = layered_protected_laws LAYERS
+
+pub signature_laws : Lawful SignatureSeen signature
+signature_laws = layered_signature_laws LAYERS

@@ -1,74 +1,219 @@
--- Headers (RFC 8152, section 3).
-use Rattle.std.specs.Prelude.{ℕ, pos, ◌==◌, ◌&&◌, List, [], length, Option, None, Bool, map, option_map, is_some}
+-- Headers (RFC 8152, section 3), and the counter signatures in them, which hold headers (section 4.5): all those that
+-- stand in a protected header's byte string are one layer further in.
+use Rattle.std.specs.Prelude.{◌≡◌, ◌⊎◌, ℕ, zero, suc, List, [], ◌∷◌, length, ◌==◌, ◌&&◌, Option, Some, None, Bool, true, false, option_map, ⊤}
 use Rattle.std.specs.Option.{is_none}
-use Rattle.std.specs.Ordering.{is_eq}
-use Rattle.coset_value.specs.Item.{Item}
-use Rattle.coset_value.specs.View.{view}
-use Rattle.coset_value.specs.declared.value.Value.{Value}
-use Rattle.coset_iana.specs.Algorithm as algorithms
-use Rattle.coset_iana.specs.Registry.{first_numbered}
-use Rattle.coset_iana.specs.WithPrivateRange.{is_private_use}
-use Rattle.coset_iana.specs.declared.algorithms.Algorithm.{Algorithm}
-use Rattle.coset_iana.specs.declared.algorithms.TheConstants.{ALGORITHMS}
-use Rattle.coset_shape.specs.Shape.{Shape, along, filled_bstr}
-use Rattle.coset_shape.specs.Maps.{Names, Fields, field, no_field, optional, listed, labelled}
-use Rattle.coset_label.specs.Names.{Name, number, RegisteredName, name_cmp}
-use Rattle.coset_label.specs.Labels.{label, registered_or_private}
-use Rattle.coset_label.specs.Views.{label_seen, registered_or_private_seen}
-use Rattle.coset_label.specs.declared.label.Label.{Label}
-use Rattle.coset_label.specs.declared.registered.RegisteredLabelWithPrivate.{RegisteredLabelWithPrivate}
-use Rattle.coset_core.specs.declared.header.Header.{Header}
+use Rattle.coset_value.specs.Item.{Item, bytes, array, Items, no_items, item}
+use Rattle.coset_value.specs.Parts.{as_bytes}
+use Rattle.coset_cbor.specs.Grammar.{IsItem}
+use Rattle.coset_cbor.specs.declared.de.Error.TheVariants.{RecursionLimitExceeded}
+use Rattle.coset_shape.specs.Errors.{IsUnexpected}
+use Rattle.coset_shape.specs.Serialized.{ContentFaults, kept, serialized_or_empty}
+use Rattle.coset_shape.specs.Shape.{Shape, both, fixed, along, array_of, ◌then◌, end, any_number, bstr, one_or_more, bare, one_or_many}
+use Rattle.coset_shape.specs.declared.error.CoseError.{CoseError}
+use Rattle.coset_shape.specs.declared.error.CoseError.TheVariants.{DecodeFailed}
+use Rattle.coset_core.specs.Fields.{FieldsSeen, empty_fields, unread}
 
-abbrev pub algorithm_seen : RegisteredLabelWithPrivate Algorithm → RegisteredName
-algorithm_seen = registered_or_private_seen algorithms.number
+-- ---- headers without their memory
 
--- a header without its memory
+-- Counter signatures, one after the other. Of each: the bytes that its protected header was read from, where it was
+-- read; that header; the unprotected one; and the signature
+pub data Signatures : Type 0 where
+  no_signatures : Signatures
+  signature_and : Option (List ℕ) → FieldsSeen → Signatures → FieldsSeen → Signatures → List ℕ → Signatures → Signatures
+
 pub record HeaderSeen : Type 0 where
-  pub alg : Option RegisteredName
-  pub key_id : List ℕ
-  pub rest : List (Name × Item)
+  pub fields : FieldsSeen
+  pub counter_signatures : Signatures
 
-abbrev pub entry_seen : Label × Value → Name × Item
-entry_seen e = (label_seen e.0, view e.1)
+-- a protected header: the bytes that it was read from, where it was read, and the header
+pub record ProtectedSeen : Type 0 where
+  pub original : Option (List ℕ)
+  pub header : HeaderSeen
 
-abbrev pub header_seen : Header → HeaderSeen
-header_seen h = record {
-  alg = option_map algorithm_seen h.alg;
-  key_id = h.key_id.items;
-  rest = map entry_seen h.rest.items;
-}
+pub record SignatureSeen : Type 0 where
+  pub protected : ProtectedSeen
+  pub unprotected : HeaderSeen
+  pub signature : List ℕ
+
+abbrev pub and_signatures : SignatureSeen → Signatures → Signatures
+and_signatures s more =
+    signature_and s.protected.original s.protected.header.fields s.protected.header.counter_signatures s.unprotected.fields s.unprotected.counter_signatures s.signature more
+
+abbrev pub signatures_of : List SignatureSeen → Signatures
+signatures_of [] = no_signatures
+signatures_of (s ∷ ss) = and_signatures s (signatures_of ss)
 
 -- the header that holds nothing, and whether a header is that
 abbrev pub empty_header : HeaderSeen
-empty_header = record { alg = None; key_id = []; rest = [] }
+empty_header = record { fields = empty_fields; counter_signatures = no_signatures }
+
+abbrev pub are_none : Signatures → Bool
+are_none no_signatures = true
+are_none (signature_and o p ps u us s more) = false
 
 abbrev pub is_empty_header : HeaderSeen → Bool
-is_empty_header h = is_none h.alg && ((length h.key_id == 0) && (length h.rest == 0))
+is_empty_header h =
+    is_none h.fields.alg
+    && (length h.fields.crit == 0
+    && (is_none h.fields.content_type
+    && (length h.fields.key_id == 0
+    && (length h.fields.iv == 0 && (length h.fields.partial_iv == 0 && (are_none h.counter_signatures && length h.fields.rest == 0))))))
 
--- an algorithm: the number of one that IANA assigned, else a number for private use, or a text (section 3.1)
-unfoldable pub algorithm : Shape RegisteredName
-algorithm = registered_or_private (λ i. is_some (first_numbered algorithms.number ALGORITHMS i)) is_private_use
+-- ---- which items stand for them, with so many layers left
 
--- two labels are one
-abbrev pub same_name : Name → Name → Bool
-same_name a b = is_eq (name_cmp a b)
+-- the value of label 7 stands for signatures, where `Are` tells of the items of one or of several which stand for them,
+-- and `is_none` that there are none
+abbrev pub CountersAre : (Items → Type 0) → Type 0 → Option Item → Type 0
+CountersAre Are is_none None = is_none
+CountersAre Are is_none (Some w) = (vs : Items) × (one_or_more w ≡ Some vs) × Are vs
 
-abbrev pub names : Names Name
-names = record { shape = label; same = same_name }
+-- a map of these fields, and the value of its label 7 stands for the signatures
+abbrev pub HeaderIs : (Items → Type 0) → Type 0 → FieldsSeen → Item → Type 0
+HeaderIs Are is_none f v = (o : Option Item) × unread.describes v (f, o) × CountersAre Are is_none o
 
-abbrev pub Fielded : Type 0
-Fielded = Option RegisteredName × (List ℕ × Unit {0})
+-- what a byte string holds: nothing, where the header is empty; or one item, of which P tells
+abbrev pub ContentIs : (Item → Type 0) → Type 0 → List ℕ → Type 0
+ContentIs P is_empty [] = is_empty
+ContentIs P is_empty (c ∷ b) = (w : Item) × IsItem (c ∷ b) w × P w
 
--- ? 1 => algorithm, ? 4 => bstr .size (1..)
-abbrev pub fields : Fields Name Fielded
-fields = field names (number (pos 1)) (optional algorithm) (field names (number (pos 4)) (listed filled_bstr) no_field)
+-- a byte string, which is kept, one layer further in
+abbrev pub ProtectedIs : (ℕ → Item → Type 0) → Type 0 → Option (List ℕ) → ℕ → Item → Type 0
+ProtectedIs P is_empty o zero v = ⊥
+ProtectedIs P is_empty o (suc k) v = (b : List ℕ) × (as_bytes v ≡ Some b) × (o ≡ Some b) × ContentIs (P k) is_empty b
 
-abbrev pub header_of : Fielded × List (Name × Item) → HeaderSeen
-header_of p = record { alg = p.0.0; key_id = p.0.1.0; rest = p.1 }
+-- [protected, unprotected, signature : bstr]
+abbrev pub signed_array : {A B : Type 0} → Shape A → Shape B → Shape (A × (B × (List ℕ × Unit {0})))
+signed_array p u = array_of (p then u then bstr then end)
 
-abbrev pub parts_of : HeaderSeen → Fielded × List (Name × Item)
-parts_of h = ((h.alg, (h.key_id, tt)), h.rest)
+abbrev pub IsEmpty : FieldsSeen → Signatures → Type 0
+IsEmpty f ss = (f ≡ empty_fields) × (ss ≡ no_signatures)
 
--- {? 1 => algorithm, ? 4 => bstr .size (1..), * label => any}
-unfoldable pub header : Shape HeaderSeen
-header = along header_of parts_of (labelled names fields)
+abbrev nothing_wrong : Item → CoseError → Type 0
+nothing_wrong v e = ⊥
+
+-- a thing of which it is known which items stand for it
+abbrev pub told_by : (Item → Type 0) → Shape (Unit {0})
+told_by P = fixed P None nothing_wrong
+
+-- the items stand for these signatures, in order
+abbrev pub AreSignatures : Signatures → ℕ → Items → Type 0
+AreSignatures no_signatures k vs = vs ≡ no_items
+AreSignatures (signature_and o p ps u us s more) k no_items = ⊥
+AreSignatures (signature_and o p ps u us s more) k (item v vs) =
+    (signed_array
+    (told_by (ProtectedIs (λ j w. HeaderIs (λ ws. AreSignatures ps j ws) (ps ≡ no_signatures) p w) (IsEmpty p ps) o k))
+    (told_by (HeaderIs (λ ws. AreSignatures us k ws) (us ≡ no_signatures) u))).describes v (tt, (tt, (s, tt)))
+    × AreSignatures more k vs
+
+abbrev pub IsHeader : HeaderSeen → ℕ → Item → Type 0
+IsHeader h k v = HeaderIs (λ vs. AreSignatures h.counter_signatures k vs) (h.counter_signatures ≡ no_signatures) h.fields v
+
+-- ---- the items that they are written as
+
+-- the value of label 7, where the signatures are written as these
+abbrev pub counters_item : Signatures → Option Items → Option (Option Item)
+counters_item no_signatures o = Some None
+counters_item (signature_and b p ps u us s more) o = option_map (λ vs. Some (bare vs)) o
+
+abbrev pub header_item : FieldsSeen → Option (Option Item) → Option Item
+header_item f (Some o) = unread.image (f, o)
+header_item f None = None
+
+abbrev pub signature_item : Option (List ℕ) → Option Item → List ℕ → Option Item
+signature_item p u s = both (λ b v. array (item (bytes b) (item v (item (bytes s) no_items)))) p u
+
+abbrev pub with_counters : FieldsSeen → Signatures → HeaderSeen
+with_counters f ss = record { fields = f; counter_signatures = ss }
+
+-- the signatures' items
+abbrev pub signatures_image : Signatures → Option Items
+signatures_image no_signatures = Some no_items
+signatures_image (signature_and o p ps u us s more) =
+    both item
+    (signature_item
+    (kept is_empty_header (λ h. header_item p (counters_item ps (signatures_image ps))) o (with_counters p ps))
+    (header_item u (counters_item us (signatures_image us)))
+    s)
+    (signatures_image more)
+
+abbrev pub header_image : HeaderSeen → Option Item
+header_image h = header_item h.fields (counters_item h.counter_signatures (signatures_image h.counter_signatures))
+
+-- ---- what is wrong with an item
+
+-- with a header: with its map; or with the value of label 7, of which C tells, in a map that is right
+abbrev pub HeaderFaults : (Item → CoseError → Type 0) → Item → CoseError → Type 0
+HeaderFaults C v e = unread.faults v e ⊎ ((f : FieldsSeen) × (w : Item) × unread.describes v (f, Some w) × C w e)
+
+-- with the byte string of a protected header: it is none; or it is one layer too many; or with what it holds
+abbrev pub ProtectedFaults : (ℕ → Item → CoseError → Type 0) → ℕ → Item → CoseError → Type 0
+ProtectedFaults H zero v e = ((as_bytes v ≡ None) × IsUnexpected e) ⊎ ((b : List ℕ) × (as_bytes v ≡ Some b) × (e ≡ DecodeFailed RecursionLimitExceeded))
+ProtectedFaults H (suc k) v e = ((as_bytes v ≡ None) × IsUnexpected e) ⊎ ((b : List ℕ) × (as_bytes v ≡ Some b) × ContentFaults (fixed (λ w. ⊤) None (H k)) b e)
+
+-- with the value of label 7, found within n signatures, one inside another
+abbrev pub counters_faults : ℕ → ℕ → Item → CoseError → Type 0
+counters_faults zero k w e = ⊥
+counters_faults (suc n) k w e =
+    (one_or_many (any_number (signed_array
+    (fixed (λ v. ⊤) None (ProtectedFaults (λ j. HeaderFaults (counters_faults n j)) k))
+    (fixed (λ v. ⊤) None (HeaderFaults (counters_faults n k)))))).faults w e
+
+-- ---- the shapes
+
+-- a header, with k layers left
+unfoldable pub layered_header : ℕ → Shape HeaderSeen
+layered_header k = record {
+  describes = λ v h. IsHeader h k v;
+  image = header_image;
+  faults = λ v e. (n : ℕ) × HeaderFaults (counters_faults n k) v e;
+}
+
+-- a byte string that may not be there
+abbrev pub no_layer : {A : Type 0} → (A → Option (List ℕ)) → Shape A
+no_layer image = record {
+  describes = λ v x. ⊥;
+  image = λ x. option_map bytes (image x);
+  faults = λ v e. ((as_bytes v ≡ None) × IsUnexpected e) ⊎ ((b : List ℕ) × (as_bytes v ≡ Some b) × (e ≡ DecodeFailed RecursionLimitExceeded));
+}
+
+-- the bytes that stand for a protected header in messages and under signatures: those that were read; else none where
+-- the header is empty; else the shortest text of its map, where it has one
+abbrev pub kept_bytes : ProtectedSeen → Option (List ℕ)
+kept_bytes p = kept is_empty_header header_image p.original p.header
+
+abbrev pub protected_of : Option (List ℕ) × HeaderSeen → ProtectedSeen
+protected_of p = record { original = p.0; header = p.1 }
+
+abbrev pub both_of : ProtectedSeen → Option (List ℕ) × HeaderSeen
+both_of p = (p.original, p.header)
+
+abbrev protected_by : ℕ → Shape ProtectedSeen
+protected_by zero = no_layer kept_bytes
+protected_by (suc k) = along protected_of both_of (serialized_or_empty empty_header is_empty_header (layered_header k))
+
+-- bstr .cbor header / bstr .size 0, with k layers left
+unfoldable pub layered_protected : ℕ → Shape ProtectedSeen
+layered_protected k = protected_by k
+
+abbrev pub signature_of : ProtectedSeen × (HeaderSeen × (List ℕ × Unit {0})) → SignatureSeen
+signature_of p = record { protected = p.0; unprotected = p.1.0; signature = p.1.1.0 }
+
+abbrev pub places_of : SignatureSeen → ProtectedSeen × (HeaderSeen × (List ℕ × Unit {0}))
+places_of s = (s.protected, (s.unprotected, (s.signature, tt)))
+
+-- [protected, unprotected, signature : bstr], with k layers left
+abbrev pub layered_signature : ℕ → Shape SignatureSeen
+layered_signature k = along signature_of places_of (signed_array (layered_protected k) (layered_header k))
+
+-- at most this many byte strings of protected headers stand within one another
+abbrev pub LAYERS : ℕ
+LAYERS = 16
+
+abbrev pub header : Shape HeaderSeen
+header = layered_header LAYERS
+
+abbrev pub protected : Shape ProtectedSeen
+protected = layered_protected LAYERS
+
+abbrev pub signature : Shape SignatureSeen
+signature = layered_signature LAYERS

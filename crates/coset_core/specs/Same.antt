@@ -1,26 +1,53 @@
 -- Whether two headers are the same, as tests that compute. They answer `true` exactly where the headers are equal.
-use Rattle.std.specs.Prelude.{Bool, ◌&&◌, ◌==◌}
+use Rattle.std.specs.Prelude.{Bool, true, false, ◌&&◌, ◌==◌}
 use Rattle.std.specs.Option.{option_eq}
 use Rattle.std.specs.Ordering.{is_eq}
 use Rattle.std.specs.Cmp.Lexicographic.{pointwise}
 use Rattle.coset_value.specs.Item.{Item}
 use Rattle.coset_value.specs.Same.{item_eq}
 use Rattle.coset_label.specs.Names.{Name, RegisteredName, registered_cmp}
-use Rattle.coset_core.specs.Headers.{HeaderSeen, same_name}
-use Rattle.coset_core.specs.Protected.{ProtectedSeen}
+use Rattle.coset_core.specs.Fields.{FieldsSeen, same_name}
+use Rattle.coset_core.specs.Headers.{Signatures, no_signatures, signature_and, HeaderSeen, ProtectedSeen, SignatureSeen}
 
 -- the same algorithm
 abbrev pub algorithm_eq : RegisteredName → RegisteredName → Bool
 algorithm_eq a b = is_eq (registered_cmp a b)
 
+-- the same label that must be understood
+abbrev pub critical_eq : RegisteredName → RegisteredName → Bool
+critical_eq a b = is_eq (registered_cmp a b)
+
+-- the same content type
+abbrev pub content_type_eq : Name → Name → Bool
+content_type_eq = same_name
+
 -- the same label, and the same item
 abbrev pub entry_eq : Name × Item → Name × Item → Bool
 entry_eq e f = same_name e.0 f.0 && item_eq e.1 f.1
 
--- the same algorithm, the same identifier, and as many pairs in the rest, each the same as its counterpart
+-- each field the same; the lists have as many members, each the same as its counterpart
+abbrev pub fields_eq : FieldsSeen → FieldsSeen → Bool
+fields_eq f g =
+    option_eq algorithm_eq f.alg g.alg
+    && (pointwise critical_eq f.crit g.crit
+    && (option_eq content_type_eq f.content_type g.content_type
+    && (pointwise ◌==◌ f.key_id g.key_id && (pointwise ◌==◌ f.iv g.iv && (pointwise ◌==◌ f.partial_iv g.partial_iv && pointwise entry_eq f.rest g.rest)))))
+
+-- as many signatures, each the same as its counterpart: in the protected header, the unprotected one, and the signature
+abbrev pub signatures_eq : Signatures → Signatures → Bool
+signatures_eq no_signatures no_signatures = true
+signatures_eq (signature_and o p ps u us s more) (signature_and a q qs v vs t rest) =
+    ((option_eq (pointwise ◌==◌) o a && (fields_eq p q && signatures_eq ps qs)) && ((fields_eq u v && signatures_eq us vs) && pointwise ◌==◌ s t)) && signatures_eq more rest
+signatures_eq ss ts = false
+
+-- the same fields, and the same counter signatures
 abbrev pub header_eq : HeaderSeen → HeaderSeen → Bool
-header_eq h k = option_eq algorithm_eq h.alg k.alg && (pointwise ◌==◌ h.key_id k.key_id && pointwise entry_eq h.rest k.rest)
+header_eq h k = fields_eq h.fields k.fields && signatures_eq h.counter_signatures k.counter_signatures
 
 -- the same bytes kept, or none of either, and the same header
 abbrev pub protected_eq : ProtectedSeen → ProtectedSeen → Bool
 protected_eq p q = option_eq (pointwise ◌==◌) p.original q.original && header_eq p.header q.header
+
+-- the same headers, and the same bytes
+abbrev pub signature_eq : SignatureSeen → SignatureSeen → Bool
+signature_eq s t = protected_eq s.protected t.protected && (header_eq s.unprotected t.unprotected && pointwise ◌==◌ s.signature t.signature)

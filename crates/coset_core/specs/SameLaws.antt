@@ -1,17 +1,18 @@
 -- The tests of `Same` answer `true` exactly where what they compare is equal.
-use Rattle.std.specs.Prelude.{◌≡◌, Bool, true, ◌==◌, Option, Some, None, refl}
+use Rattle.std.specs.Prelude.{◌≡◌, Bool, true, ◌==◌, ◌&&◌, Option, Some, None, refl}
 use Rattle.std.specs.Option.{option_eq}
 use Rattle.std.specs.Bool.{Decides}
 use Rattle.std.specs.Cmp.{IsEquivalence, decided}
 use Rattle.std.specs.Cmp.Lexicographic.{pointwise, pointwise_decides, bytes_decides}
 use Rattle.std.proofs.Common.{sym, ap, subst, true≢false}
+use Rattle.std.proofs.lemmas.Bool.{and_parts}
 use Rattle.std.proofs.lemmas.Bool.Decides.{Decides-like, Decides-and}
 use Rattle.coset_value.specs.Same.{item_eq}
 use Rattle.coset_value.specs.SameLaws.{item_eq-decides}
-use Rattle.coset_label.specs.NameOrder.{registered_cmp-apart}
-use Rattle.coset_core.specs.Headers.{same_name}
-use Rattle.coset_core.specs.HeaderLaws.{names_laws}
-use Rattle.coset_core.specs.Same.{algorithm_eq, entry_eq, header_eq, protected_eq}
+use Rattle.coset_label.specs.NameOrder.{name_cmp-apart, registered_cmp-apart}
+use Rattle.coset_core.specs.Fields.{same_name}
+use Rattle.coset_core.specs.Headers.{Signatures, no_signatures, signature_and}
+use Rattle.coset_core.specs.Same.{algorithm_eq, critical_eq, content_type_eq, entry_eq, fields_eq, signatures_eq, header_eq, protected_eq, signature_eq}
 
 -- a test that tells equal from unequal
 abbrev pub IsEquality : {A : Type 0} → (A → A → Bool) → Type 0
@@ -37,29 +38,108 @@ module _ {A : Type 0} (test : A → A → Bool) (decides : IsEquality test) wher
 pub algorithm_eq-decides : IsEquality algorithm_eq
 algorithm_eq-decides = registered_cmp-apart
 
+pub critical_eq-decides : IsEquality critical_eq
+critical_eq-decides = registered_cmp-apart
+
+pub same_name-decides : IsEquality same_name
+same_name-decides = name_cmp-apart
+
 pub entry_eq-decides : IsEquality entry_eq
 entry_eq-decides e f =
     Decides-like (entry_eq e f) (λ p i. (p.0 i, p.1 i)) (λ p. (ap (λ x. x.0) p, ap (λ x. x.1) p))
-    (Decides-and (same_name e.0 f.0) (item_eq e.1 f.1) (told same_name names_laws.same_is names_laws.same_self e.0 f.0) (item_eq-decides e.1 f.1))
+    (Decides-and (same_name e.0 f.0) (item_eq e.1 f.1) (same_name-decides e.0 f.0) (item_eq-decides e.1 f.1))
+
+kept-decides : IsEquality (option_eq (pointwise ◌==◌))
+kept-decides = option_eq-decides (pointwise ◌==◌) bytes_decides
+
+pub fields_eq-decides : IsEquality fields_eq
+fields_eq-decides f g =
+    Decides-like (fields_eq f g)
+    (λ p i. record {
+      alg = p.0 i;
+      crit = p.1.0 i;
+      content_type = p.1.1.0 i;
+      key_id = p.1.1.1.0 i;
+      iv = p.1.1.1.1.0 i;
+      partial_iv = p.1.1.1.1.1.0 i;
+      rest = p.1.1.1.1.1.1 i;
+    })
+    (λ p. (ap (λ x. x.alg) p, (ap (λ x. x.crit) p, (ap (λ x. x.content_type) p, (ap (λ x. x.key_id) p, (ap (λ x. x.iv) p, (ap (λ x. x.partial_iv) p, ap (λ x. x.rest) p)))))))
+    (Decides-and (option_eq algorithm_eq f.alg g.alg) _ (option_eq-decides algorithm_eq algorithm_eq-decides f.alg g.alg)
+    (Decides-and (pointwise critical_eq f.crit g.crit) _ (pointwise_decides critical_eq-decides f.crit g.crit)
+    (Decides-and (option_eq content_type_eq f.content_type g.content_type) _ (option_eq-decides content_type_eq same_name-decides f.content_type g.content_type)
+    (Decides-and (pointwise ◌==◌ f.key_id g.key_id) _ (bytes_decides f.key_id g.key_id)
+    (Decides-and (pointwise ◌==◌ f.iv g.iv) _ (bytes_decides f.iv g.iv)
+    (Decides-and (pointwise ◌==◌ f.partial_iv g.partial_iv) (pointwise entry_eq f.rest g.rest)
+    (bytes_decides f.partial_iv g.partial_iv) (pointwise_decides entry_eq-decides f.rest g.rest)))))))
+
+-- signatures that pass the test are equal
+signatures-sound : (ss ts : Signatures) → signatures_eq ss ts ≡ true → ss ≡ ts
+signatures-sound no_signatures no_signatures h = refl
+signatures-sound (signature_and o p ps u us s more) (signature_and a q qs v vs t rest) h =
+    let covered = option_eq (pointwise ◌==◌) o a && (fields_eq p q && signatures_eq ps qs) in
+    let others = (fields_eq u v && signatures_eq us vs) && pointwise ◌==◌ s t in
+    let all = and_parts (covered && others) (signatures_eq more rest) h in
+    let first = and_parts covered others all.0 in
+    let protected = and_parts (option_eq (pointwise ◌==◌) o a) (fields_eq p q && signatures_eq ps qs) first.0 in
+    let inner = and_parts (fields_eq p q) (signatures_eq ps qs) protected.1 in
+    let last = and_parts (fields_eq u v && signatures_eq us vs) (pointwise ◌==◌ s t) first.1 in
+    let unprotected = and_parts (fields_eq u v) (signatures_eq us vs) last.0 in
+    let kept = (kept-decides o a).0 protected.0 in
+    let ps-fields = (fields_eq-decides p q).0 inner.0 in
+    let ps-counters = signatures-sound ps qs inner.1 in
+    let us-fields = (fields_eq-decides u v).0 unprotected.0 in
+    let us-counters = signatures-sound us vs unprotected.1 in
+    let bytes = (bytes_decides s t).0 last.1 in
+    let more-same = signatures-sound more rest all.1 in
+    λ i. signature_and (kept i) (ps-fields i) (ps-counters i) (us-fields i) (us-counters i) (bytes i) (more-same i)
+signatures-sound ss ts h = absurd (true≢false (sym h))
+
+-- signatures pass the test against themselves
+signatures-itself : (ss : Signatures) → signatures_eq ss ss ≡ true
+signatures-itself no_signatures = refl
+signatures-itself (signature_and o p ps u us s more) =
+    let kept = (kept-decides o o).1 refl in
+    let covered = (fields_eq-decides p p).1 refl in
+    let others = (fields_eq-decides u u).1 refl in
+    let bytes = (bytes_decides s s).1 refl in
+    rw (kept, covered, signatures-itself ps, others, signatures-itself us, bytes, signatures-itself more) refl
+
+pub signatures_eq-decides : IsEquality signatures_eq
+signatures_eq-decides = told signatures_eq signatures-sound signatures-itself
 
 pub header_eq-decides : IsEquality header_eq
 header_eq-decides h k =
     Decides-like (header_eq h k)
-    (λ p i. record { alg = p.0 i; key_id = p.1.0 i; rest = p.1.1 i })
-    (λ p. (ap (λ x. x.alg) p, (ap (λ x. x.key_id) p, ap (λ x. x.rest) p)))
-    (Decides-and (option_eq algorithm_eq h.alg k.alg) _ (option_eq-decides algorithm_eq algorithm_eq-decides h.alg k.alg)
-    (Decides-and (pointwise ◌==◌ h.key_id k.key_id) (pointwise entry_eq h.rest k.rest) (bytes_decides h.key_id k.key_id) (pointwise_decides entry_eq-decides h.rest k.rest)))
+    (λ e i. record { fields = e.0 i; counter_signatures = e.1 i })
+    (λ e. (ap (λ x. x.fields) e, ap (λ x. x.counter_signatures) e))
+    (Decides-and (fields_eq h.fields k.fields) (signatures_eq h.counter_signatures k.counter_signatures)
+    (fields_eq-decides h.fields k.fields) (signatures_eq-decides h.counter_signatures k.counter_signatures))
 
 pub protected_eq-decides : IsEquality protected_eq
 protected_eq-decides p q =
     Decides-like (protected_eq p q)
     (λ e i. record { original = e.0 i; header = e.1 i })
     (λ e. (ap (λ x. x.original) e, ap (λ x. x.header) e))
-    (Decides-and (option_eq (pointwise ◌==◌) p.original q.original) (header_eq p.header q.header) (option_eq-decides (pointwise ◌==◌) bytes_decides p.original q.original) (header_eq-decides p.header q.header))
+    (Decides-and (option_eq (pointwise ◌==◌) p.original q.original) (header_eq p.header q.header) (kept-decides p.original q.original) (header_eq-decides p.header q.header))
+
+pub signature_eq-decides : IsEquality signature_eq
+signature_eq-decides s t =
+    Decides-like (signature_eq s t)
+    (λ e i. record { protected = e.0 i; unprotected = e.1.0 i; signature = e.1.1 i })
+    (λ e. (ap (λ x. x.protected) e, (ap (λ x. x.unprotected) e, ap (λ x. x.signature) e)))
+    (Decides-and (protected_eq s.protected t.protected) _ (protected_eq-decides s.protected t.protected)
+    (Decides-and (header_eq s.unprotected t.unprotected) (pointwise ◌==◌ s.signature t.signature) (header_eq-decides s.unprotected t.unprotected) (bytes_decides s.signature t.signature)))
 
 -- so they are reflexive, symmetric and transitive
+pub fields_eq_equiv : IsEquivalence fields_eq
+fields_eq_equiv = decided fields_eq fields_eq-decides
+
 pub header_eq_equiv : IsEquivalence header_eq
 header_eq_equiv = decided header_eq header_eq-decides
 
 pub protected_eq_equiv : IsEquivalence protected_eq
 protected_eq_equiv = decided protected_eq protected_eq-decides
+
+pub signature_eq_equiv : IsEquivalence signature_eq
+signature_eq_equiv = decided signature_eq signature_eq-decides

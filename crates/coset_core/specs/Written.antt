@@ -1,40 +1,114 @@
--- Headers as bytes, without an item in between.
-use Rattle.std.specs.Prelude.{◌≡◌, ℕ, pos, List, [], ◌∷◌, ◌++◌, Option, Some, None, option_map}
-use Rattle.coset_value.specs.Item.{Item, bytes, Pairs, no_pairs, pair}
-use Rattle.coset_value.specs.Range.{IsInRange, ArePairsInRange}
-use Rattle.coset_cbor.specs.Least.{short, pair_shorts}
-use Rattle.coset_shape.specs.Maps.{put_fields}
+-- Headers and signatures as bytes, without an item in between.
+use Rattle.std.specs.Prelude.{◌≡◌, ℕ, ◌+◌, pos, List, [], ◌∷◌, ◌++◌, ◌==◌, map, length, Bool, true, false, not, Option, Some, None, option_map, is_some, ⊤}
+use Rattle.coset_value.specs.Item.{Item, bytes, array, Pairs, no_pairs, pair}
+use Rattle.coset_value.specs.Range.{IsInRange, AreInRange, ArePairsInRange}
+use Rattle.coset_value.specs.View.{items_of}
+use Rattle.coset_cbor.specs.Least.{short, shorts, pair_shorts}
+use Rattle.coset_cbor.specs.Shortest.{IsShort}
+use Rattle.coset_shape.specs.Maps.{put_field}
 use Rattle.coset_label.specs.Names.{Name, number, name_item, RegisteredName, as_name}
-use Rattle.coset_core.specs.Headers.{HeaderSeen, header}
+use Rattle.coset_core.specs.Fields.{FieldsSeen}
+use Rattle.coset_core.specs.Headers.{HeaderSeen, ProtectedSeen, SignatureSeen, Signatures, signatures_of, are_none, is_empty_header, counters_item, signature_item, signatures_image, header_image, kept_bytes}
+use Rattle.coset_core.specs.HeaderWrites.{fields_put}
+
+-- ---- items, one after the other
 
 -- new is old, and then the shortest text of the item, which CBOR can hold
 pub record AppendsItem (old new : List ℕ) (v : Item) : Type 0 where
   pub in_range : IsInRange v
   pub parts : new ≡ old ++ short v
 
+-- new is old, and then the shortest texts of these items
+pub record AppendsItems (old new : List ℕ) (vs : List Item) : Type 0 where
+  pub in_range : AreInRange (items_of vs)
+  pub parts : new ≡ old ++ shorts (items_of vs)
+
 -- the pairs of a map, by label
 abbrev pub entry_pairs : List (Name × Item) → Pairs
 entry_pairs [] = no_pairs
 entry_pairs (e ∷ es) = pair (name_item e.0) e.1 (entry_pairs es)
 
--- new is old, and then the shortest texts of these pairs, which CBOR can hold
+-- new is old, and then the shortest texts of these pairs
 pub record AppendsPairs (old new : List ℕ) (es : List (Name × Item)) : Type 0 where
   pub in_range : ArePairsInRange (entry_pairs es)
   pub parts : new ≡ old ++ pair_shorts (entry_pairs es)
 
+-- ---- fields
+
 -- the item of a registered label
 abbrev pub registered_item : RegisteredName → Item
 registered_item x = name_item (as_name x)
+
+-- the item of labels that are left out where there are none
+abbrev pub critical_item : List RegisteredName → Option Item
+critical_item [] = None
+critical_item (x ∷ xs) = Some (array (items_of (map registered_item (x ∷ xs))))
 
 -- the item of bytes that are left out where there are none
 abbrev pub filled_item : List ℕ → Option Item
 filled_item [] = None
 filled_item (c ∷ b) = Some (bytes (c ∷ b))
 
--- the fields that are there, and the rest
-abbrev pub header_fields : HeaderSeen → List (Name × Item)
-header_fields h = put_fields ((number (pos 1), option_map registered_item h.alg) ∷ (number (pos 4), filled_item h.key_id) ∷ [])
+-- the fields that are there, where o is the value of label 7
+abbrev pub header_fields : FieldsSeen → Option Item → List (Name × Item)
+header_fields f o =
+    fields_put (option_map registered_item f.alg) (critical_item f.crit) (option_map name_item f.content_type) (filled_item f.key_id) (filled_item f.iv) (filled_item f.partial_iv) o
+
+-- those of the first six labels
+abbrev pub plain_fields : FieldsSeen → List (Name × Item)
+plain_fields f = header_fields f None
+
+-- one for what is there
+abbrev pub one : Bool → ℕ
+one true = 1
+one false = 0
+
+-- how many pairs a header's map has
+abbrev pub count_pairs : HeaderSeen → ℕ
+count_pairs h =
+    length h.fields.rest
+    + one (is_some h.fields.alg)
+    + one (not (length h.fields.crit == 0))
+    + one (is_some h.fields.content_type)
+    + one (not (length h.fields.key_id == 0))
+    + one (not (length h.fields.iv == 0))
+    + one (not (length h.fields.partial_iv == 0))
+    + one (not (are_none h.counter_signatures))
+
+-- ---- headers and signatures
 
 -- new is old, and then the shortest text of the header's map
 abbrev pub AppendsHeader : List ℕ → List ℕ → HeaderSeen → Type 0
-AppendsHeader old new h = (v : Item) × (header.image h ≡ Some v) × AppendsItem old new v
+AppendsHeader old new h = (v : Item) × (header_image h ≡ Some v) × AppendsItem old new v
+
+-- new is old, and then the shortest texts of the arrays of these signatures
+abbrev pub AppendsSignatures : List ℕ → List ℕ → List SignatureSeen → Type 0
+AppendsSignatures old new ss = (vs : List Item) × (signatures_image (signatures_of ss) ≡ Some (items_of vs)) × (length vs ≡ length ss) × AppendsItems old new vs
+
+-- new is old, and then the pair of label 7, where there are signatures
+abbrev pub AppendsCounters : List ℕ → List ℕ → Signatures → Type 0
+AppendsCounters old new ss = (o : Option Item) × (counters_item ss (signatures_image ss) ≡ Some o) × AppendsPairs old new (put_field (number (pos 7)) o [])
+
+-- new is old, and then the shortest text of the byte string that stands for the protected header
+abbrev pub AppendsProtected : List ℕ → List ℕ → ProtectedSeen → Type 0
+AppendsProtected old new p = (b : List ℕ) × (kept_bytes p ≡ Some b) × AppendsItem old new (bytes b)
+
+-- the array of a signature
+abbrev pub signature_array : SignatureSeen → Option Item
+signature_array s = signature_item (kept_bytes s.protected) (header_image s.unprotected) s.signature
+
+-- new is old, and then the shortest text of that
+abbrev pub AppendsSignature : List ℕ → List ℕ → SignatureSeen → Type 0
+AppendsSignature old new s = (v : Item) × (signature_array s ≡ Some v) × AppendsItem old new v
+
+-- ---- the bytes of protected headers
+
+-- of a header that isn't empty and wasn't read, the bytes are the shortest text of its map
+abbrev pub AreShortest : Option (List ℕ) → HeaderSeen → List ℕ → Type 0
+AreShortest (Some read) h b = ⊤
+AreShortest None h b = is_empty_header h ≡ false → (v : Item) → header_image h ≡ Some v → IsShort b v
+
+-- the same of a byte string with these bytes
+abbrev pub HoldsShortest : Option (List ℕ) → HeaderSeen → Item → Type 0
+HoldsShortest original h (bytes b) = AreShortest original h b
+HoldsShortest original h v = ⊥

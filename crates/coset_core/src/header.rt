@@ -1,31 +1,40 @@
 //! Headers: what is said of a message's content beside it.
 
-ghost use Rattle.std.specs.Prelude.{◌≡◌, Some, None, option_map, IfOk, IfErr};
-ghost use Rattle.coset_value.specs.View.{view};
-ghost use Rattle.coset_shape.specs.declared.error.CoseError.TheVariants.{DuplicateMapKey};
-ghost use Rattle.coset_shape.specs.Errors.{Names};
-ghost use Rattle.coset_shape.specs.Maps.{optional};
-ghost use Rattle.coset_core.specs.Headers.{algorithm, algorithm_seen, header, header_seen, empty_header, is_empty_header};
-ghost use Rattle.coset_core.specs.HeaderLaws.{header_laws};
+ghost use Rattle.std.specs.Prelude.{◌≡◌, IfErr};
 ghost use Rattle.coset_shape.specs.Answers.{ReadsSlice, DescribesNothing, AsksForItems};
+ghost use Rattle.coset_shape.specs.Errors.{Names};
+ghost use Rattle.coset_core.specs.Headers.{empty_header, is_empty_header, header};
+ghost use Rattle.coset_core.specs.Views.{header_seen};
 
-use crate::read::read_header;
+use crate::read::{LAYERS, read_header};
+use crate::signature::CoseSignature;
+use crate::value::header_value;
 use coset_cbor::de::Pull;
 use coset_cbor::value::Value;
-use coset_label::{Algorithm, Label};
-use coset_shape::list::{filled_bytes, optional_value};
-use coset_shape::map::labelled_value;
+use coset_iana::HeaderParameter;
+use coset_label::{Algorithm, ContentType, Label, RegisteredLabelWithPrivate};
 use coset_shape::traits::{FromPull, read_slice};
-use coset_shape::{AsCborValue, CborSerializable, CoseError, Result, Source, has_repeats};
+use coset_shape::{AsCborValue, CborSerializable, Result, Source};
 use std::alloc::Global;
 
 /// A header (RFC 8152, section 3.1).
+#[cycle(header)]
 #[derive(Debug, Drop)]
 pub struct Header {
     /// The algorithm (label 1).
     pub alg: Option<Algorithm>,
+    /// The labels that a reader must understand (label 2); none where it is empty.
+    pub crit: Vec<RegisteredLabelWithPrivate<HeaderParameter>>,
+    /// The type of the content (label 3).
+    pub content_type: Option<ContentType>,
     /// The key's identifier (label 4); none where it is empty.
     pub key_id: Vec<u8>,
+    /// The initialization vector (label 5); none where it is empty.
+    pub iv: Vec<u8>,
+    /// A part of the initialization vector (label 6); none where it is empty.
+    pub partial_iv: Vec<u8>,
+    /// The counter signatures (label 7); none where it is empty.
+    pub counter_signatures: Vec<CoseSignature>,
     /// The pairs of other labels, in order.
     pub rest: Vec<(Label, Value)>,
 }
@@ -37,7 +46,12 @@ impl Header {
     {
         Header {
             alg: None,
+            crit: Vec::new(alloc),
+            content_type: None,
             key_id: Vec::new(alloc),
+            iv: Vec::new(alloc),
+            partial_iv: Vec::new(alloc),
+            counter_signatures: Vec::new(alloc),
             rest: Vec::new(alloc),
         }
     }
@@ -46,21 +60,20 @@ impl Header {
     pub fn is_empty(&self) -> bool
         ensures { result ≡ is_empty_header (header_seen self.now) }
     {
-        self.alg.is_none() && self.key_id.is_empty() && self.rest.is_empty()
+        self.alg.is_none()
+            && self.crit.is_empty()
+            && self.content_type.is_none()
+            && self.key_id.is_empty()
+            && self.iv.is_empty()
+            && self.partial_iv.is_empty()
+            && self.counter_signatures.is_empty()
+            && self.rest.is_empty()
     }
-}
-
-/// The value of a header's algorithm.
-#[tactic(auto, unfolding(crate::specs::Headers::algorithm))]
-fn algorithm_value(alloc: Global, alg: Option<Algorithm>) -> Result<Option<Value>>
-    ensures ok { IfOk result (λ o. (optional algorithm).image (option_map algorithm_seen alg) ≡ Some (option_map view o)) }
-    ensures refused { IfErr result (λ e. Names e (λ f. (f ≡ DuplicateMapKey) × ((optional algorithm).image (option_map algorithm_seen alg) ≡ None))) }
-{
-    optional_value(alloc, alg)
 }
 
 impl AsCborValue for Header {
     ghost use Rattle.coset_core.specs.Headers.{HeaderSeen};
+    ghost use Rattle.coset_core.specs.HeaderLaws.{header_laws};
 
     ghost Seen = { HeaderSeen };
 
@@ -73,26 +86,17 @@ impl AsCborValue for Header {
     ghost sound = { header_laws.sound };
 
     fn from_cbor_value(alloc: Global, value: Value) -> Result<Header> {
-        read_header(alloc, Source::Tree(value))
+        read_header(alloc, Source::Tree(value), LAYERS)
     }
 
-    #[tactic(auto, unfolding(crate::specs::Headers::header))]
     fn to_cbor_value(self, alloc: Global) -> Result<Value> {
-        let Header { alg, key_id, rest } = self;
-        if has_repeats(alloc, &rest)? {
-            return Err(CoseError::DuplicateMapKey);
-        }
-        let fields = vec![in alloc;
-            (Label::Int(1), algorithm_value(alloc, alg)?),
-            (Label::Int(4), filled_bytes(key_id)),
-        ]?;
-        labelled_value(alloc, fields, rest)
+        header_value(alloc, self)
     }
 }
 
 impl FromPull for Header {
     fn from_pull(alloc: Global, pull: Pull<'_>) -> Result<Header> {
-        read_header(alloc, Source::Lent(pull))
+        read_header(alloc, Source::Lent(pull), LAYERS)
     }
 }
 

@@ -2,12 +2,17 @@
 #![tactic(auto)]
 
 mod clone;
+mod content_type;
+mod fields;
 mod header;
 pub mod laws;
 mod protected;
 mod read;
 mod same;
+mod signature;
+mod value;
 mod write;
 
 pub use header::Header;
 pub use protected::ProtectedHeader;
+pub use signature::CoseSignature;

@@ -7,23 +7,24 @@ ghost use Rattle.coset_cbor.specs.Pulls.{pull_item};
 ghost use Rattle.coset_shape.specs.declared.error.CoseError.TheVariants.{DuplicateMapKey};
 ghost use Rattle.coset_shape.specs.Answers.{Reads, Images, ReadsSlice, DescribesNothing, AsksForItems};
 ghost use Rattle.coset_shape.specs.Errors.{Names};
-ghost use Rattle.coset_shape.specs.Serialized.{fresh};
 ghost use Rattle.coset_shape.specs.Sources.{source_item};
-ghost use Rattle.coset_core.specs.Headers.{empty_header, is_empty_header, header as header_shape, header_seen};
-ghost use Rattle.coset_core.specs.Protected.{ReadsContent, protected, protected_seen, kept_bytes, AreShortest, HoldsShortest, bare, bare_laws};
+ghost use Rattle.coset_core.specs.Bare.{bare, bare_laws};
+ghost use Rattle.coset_core.specs.Headers.{empty_header, is_empty_header, kept_bytes, protected as protected_shape};
+ghost use Rattle.coset_core.specs.Views.{header_seen, protected_seen};
+ghost use Rattle.coset_core.specs.Written.{AreShortest, HoldsShortest};
 
 use crate::header::Header;
-use crate::read::read_header;
-use crate::write::write_header;
+use crate::read::{LAYERS, read_header, read_protected};
+use crate::write::fresh_bytes;
 use coset_cbor::de::Pull;
-use coset_cbor::laws;
 use coset_cbor::value::Value;
-use coset_shape::traits::{FromPull, read_slice, whole};
+use coset_shape::traits::{FromPull, read_slice};
 use coset_shape::{AsCborValue, CborSerializable, Result, Source};
 use std::alloc::Global;
 use std::borrow::CowSlice;
 
 /// A protected header (RFC 8152, section 3).
+#[cycle(header)]
 #[derive(Debug, Drop)]
 pub struct ProtectedHeader {
     /// The bytes that held the header, where it was read: signatures are over them.
@@ -32,45 +33,10 @@ pub struct ProtectedHeader {
     pub header: Header,
 }
 
-/// The header that the content of a byte string is: none is the empty one.
-fn read_content(alloc: Global, content: &[u8]) -> Result<Header>
-    ensures { ReadsContent content.now result }
-{
-    if content.is_empty() {
-        return Ok(Header::new(alloc));
-    }
-    read_header(alloc, Source::Lent(whole(content)?))
-}
-
-/// A protected header that wasn't read from a byte string.
-fn unread(header: Header) -> ProtectedHeader
-    ensures { protected_seen result ≡ record { original = None; header = header_seen header } }
-{
-    ProtectedHeader {
-        original_data: None,
-        header,
-    }
-}
-
-/// The bytes of a header that wasn't read.
-fn fresh_bytes(alloc: Global, header: &Header) -> Result<Vec<u8>>
-    ensures ok { IfOk result (λ b. fresh (is_empty_header (header_seen header.now)) (header_shape.image (header_seen header.now)) ≡ Some b.items) }
-    ensures shortest { IfOk result (λ b. AreShortest None (header_seen header.now) b.items) }
-    ensures refused { IfErr result (λ e. Names e (λ f. (f ≡ DuplicateMapKey) × (fresh (is_empty_header (header_seen header.now)) (header_shape.image (header_seen header.now)) ≡ None))) }
-{
-    laws::short_is_shortest();
-    let mut bytes = Vec::new(alloc);
-    if !header.is_empty() {
-        write_header(alloc, header, &mut bytes)?;
-    }
-    Ok(bytes)
-}
-
 impl ProtectedHeader {
     /// An empty header, which wasn't read. It takes no memory.
     pub fn new(alloc: Global) -> ProtectedHeader
-        ensures original { result.original_data ≡ None }
-        ensures header { header_seen result.header ≡ empty_header }
+        ensures { protected_seen result ≡ record { original = None; header = empty_header } }
     {
         ProtectedHeader {
             original_data: None,
@@ -80,7 +46,7 @@ impl ProtectedHeader {
 
     /// Whether the header holds nothing, whatever bytes were kept.
     pub fn is_empty(&self) -> bool
-        ensures { result ≡ is_empty_header (header_seen self.now.header) }
+        ensures { result ≡ is_empty_header (protected_seen self.now).header }
     {
         self.header.is_empty()
     }
@@ -91,7 +57,7 @@ impl ProtectedHeader {
     /// Want of memory, or the first fault found: the value is no byte string (`UnexpectedItem`), what it holds isn't an
     /// item within 256 levels (`DecodeFailed`), others follow that (`ExtraneousData`), or it isn't a header.
     pub fn from_cbor_bstr(alloc: Global, value: Value) -> Result<ProtectedHeader>
-        ensures { Reads protected protected_seen (view value) result }
+        ensures { Reads protected_shape protected_seen (view value) result }
     {
         ProtectedHeader::from_source_bstr(alloc, Source::Tree(value))
     }
@@ -101,7 +67,7 @@ impl ProtectedHeader {
     /// # Errors
     /// As of [`ProtectedHeader::from_cbor_bstr`].
     pub fn from_pull_bstr(alloc: Global, pull: Pull<'_>) -> Result<ProtectedHeader>
-        ensures { Reads protected protected_seen (pull_item pull.entry) result }
+        ensures { Reads protected_shape protected_seen (pull_item pull.entry) result }
     {
         ProtectedHeader::from_source_bstr(alloc, Source::Lent(pull))
     }
@@ -110,26 +76,21 @@ impl ProtectedHeader {
     ///
     /// # Errors
     /// As of [`ProtectedHeader::from_cbor_bstr`].
-    #[tactic(auto, unfolding(crate::specs::Protected::protected))]
     pub fn from_source_bstr(alloc: Global, source: Source<'_>) -> Result<ProtectedHeader>
-        ensures { Reads protected protected_seen (source_item source.entry) result }
+        ensures { Reads protected_shape protected_seen (source_item source.entry) result }
     {
-        let content = source.into_bytes(alloc, "bstr")?;
-        let header = read_content(alloc, &content)?;
-        Ok(ProtectedHeader {
-            original_data: Some(content),
-            header,
-        })
+        read_protected(alloc, source, LAYERS)
     }
 
     /// The bytes that stand for the header in messages and under signatures (RFC 8152, sections 3 and 4.4): those that
     /// were read; else none where the header is empty; else the shortest text of its map.
     ///
     /// # Errors
-    /// Want of memory, or `DuplicateMapKey` where no bytes were read and a label of the header's rest stands twice.
+    /// Want of memory, or `DuplicateMapKey` where no bytes were read, and a label stands twice in the rest of the
+    /// header, or in that of one inside it whose bytes weren't read either.
     pub fn kept_bytes(&self, alloc: Global) -> Result<CowSlice<'_, u8, Global>>
         ensures ok { IfOk result (λ b. kept_bytes (protected_seen self.now) ≡ Some (cow_slice_items b)) }
-        ensures shortest { IfOk result (λ b. AreShortest (protected_seen self.now).original (header_seen self.now.header) (cow_slice_items b)) }
+        ensures shortest { IfOk result (λ b. AreShortest (protected_seen self.now).original (protected_seen self.now).header (cow_slice_items b)) }
         ensures refused { IfErr result (λ e. Names e (λ f. (f ≡ DuplicateMapKey) × (kept_bytes (protected_seen self.now) ≡ None))) }
     {
         if let Some(bytes) = &self.original_data {
@@ -142,10 +103,9 @@ impl ProtectedHeader {
     ///
     /// # Errors
     /// As of [`ProtectedHeader::kept_bytes`].
-    #[tactic(auto, unfolding(crate::specs::Protected::protected))]
     pub fn cbor_bstr(self, alloc: Global) -> Result<Value>
-        ensures image { Images (protected.image (protected_seen self)) view result }
-        ensures shortest { IfOk result (λ v. HoldsShortest (protected_seen self).original (header_seen self.header) (view v)) }
+        ensures image { Images (protected_shape.image (protected_seen self)) view result }
+        ensures shortest { IfOk result (λ v. HoldsShortest (protected_seen self).original (protected_seen self).header (view v)) }
     {
         let ProtectedHeader {
             original_data,
@@ -158,8 +118,18 @@ impl ProtectedHeader {
     }
 }
 
+/// A protected header that wasn't read from a byte string.
+fn unread(header: Header) -> ProtectedHeader
+    ensures { protected_seen result ≡ record { original = None; header = header_seen header } }
+{
+    ProtectedHeader {
+        original_data: None,
+        header,
+    }
+}
+
 impl AsCborValue for ProtectedHeader {
-    ghost use Rattle.coset_core.specs.Protected.{ProtectedSeen};
+    ghost use Rattle.coset_core.specs.Headers.{ProtectedSeen};
 
     ghost Seen = { ProtectedSeen };
 
@@ -173,7 +143,7 @@ impl AsCborValue for ProtectedHeader {
 
     /// Reads the header from its map. No bytes are kept.
     fn from_cbor_value(alloc: Global, value: Value) -> Result<ProtectedHeader> {
-        Ok(unread(read_header(alloc, Source::Tree(value))?))
+        Ok(unread(read_header(alloc, Source::Tree(value), LAYERS)?))
     }
 
     /// Writes the header's map, whatever bytes were kept.
@@ -184,7 +154,7 @@ impl AsCborValue for ProtectedHeader {
 
 impl FromPull for ProtectedHeader {
     fn from_pull(alloc: Global, pull: Pull<'_>) -> Result<ProtectedHeader> {
-        Ok(unread(read_header(alloc, Source::Lent(pull))?))
+        Ok(unread(read_header(alloc, Source::Lent(pull), LAYERS)?))
     }
 }
 

@@ -1,11 +1,14 @@
 //! Settings: a map of labels.
 
-ghost use Rattle.std.specs.Prelude.{ℤ};
+ghost use Rattle.std.specs.Prelude.{◌≡◌, ℤ, not, IfOk, IfErr};
+ghost use Rattle.std.specs.Map.{keys_of};
+ghost use Rattle.coset_shape.specs.declared.error.CoseError.TheVariants.{OutOfMemory};
+ghost use Rattle.coset_shape.specs.Maps.{are_distinct};
 ghost use Rattle.coset_shape.specs.Answers.{Reads};
 ghost use Rattle.coset_shape.specs.Shape.{int64};
 ghost use Rattle.coset_shape.specs.ShapeLaws.{int64_laws};
 ghost use Rattle.coset_shape.specs.Sources.{source_item};
-ghost use Rattle.coset_sample.specs.Settings.{name_seen, seen, settings};
+ghost use Rattle.coset_sample.specs.Settings.{name_seen, names, seen, settings, so_far_seen};
 
 use coset_cbor::de::Pull;
 use coset_cbor::value::Value;
@@ -60,8 +63,8 @@ struct SoFar {
     rest: Vec<(Name, Value)>,
 }
 
-impl Gather for SoFar {
-    ghost use Rattle.coset_sample.specs.Settings.{names, fields, so_far_seen, names_laws, fields_laws};
+impl<'a> Gather<Source<'a>> for SoFar {
+    ghost use Rattle.coset_sample.specs.Settings.{fields, names_laws, fields_laws};
     ghost use Rattle.std.specs.Prelude.{Option, List, ℕ};
 
     ghost Name = { ℤ };
@@ -78,7 +81,7 @@ impl Gather for SoFar {
 
     ghost lawful_fields = { fields_laws };
 
-    fn add(&mut self, alloc: Global, key: Source<'_>, value: Source<'_>) -> Result<()> {
+    fn add(&mut self, alloc: Global, key: Source<'a>, value: Source<'a>) -> Result<()> {
         let label = key.into_int64("int")?;
         if label == 1 {
             if self.level.is_some() {
@@ -99,7 +102,10 @@ impl Gather for SoFar {
         Ok(())
     }
 
-    fn repeats(&self, alloc: Global) -> Result<bool> {
+    fn repeats(&self, alloc: Global) -> Result<bool>
+        ensures repeats { IfOk result (λ b. b ≡ not (are_distinct names.same (keys_of (so_far_seen self.now).1))) }
+        ensures memory { IfErr result (λ e. e ≡ OutOfMemory) }
+    {
         has_repeats(alloc, &self.rest)
     }
 }

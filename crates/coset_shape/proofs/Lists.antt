@@ -1,5 +1,6 @@
 -- A list read member by member.
-use Rattle.std.proofs.Common.{◌≡◌, ◌++◌, List, [], ◌∷◌, Option, Some, Result, Ok, Err, refl, sym, ◌∙◌, ap, subst, inr, inl, append_assoc, append-nil, rules}
+use Rattle.std.proofs.Common.{◌≡◌, ◌++◌, List, [], ◌∷◌, Option, Some, Result, Ok, Err, refl, sym, ◌∙◌, ap, subst, inr, inl, append_assoc, append-nil, slice_get, rules}
+use Rattle.std.proofs.lemmas.Option.{none-some}
 use Rattle.std.specs.Prelude.{IsErrAnd, IfErr, Vec}
 use Rattle.std.specs.Global.{Global}
 use Rattle.std.specs.Iterator.{Yields}
@@ -71,3 +72,8 @@ moved ys x old new all p q = append_assoc ys (x ∷ []) new ∙ (ap (λ zs. ys +
 -- what is yielded, the one that comes next, and the others
 pub moved-back : {A : Type 0} (ys : List A) (x : A) (old new all : List A) → ys ++ old ≡ all → old ≡ x ∷ new → all ≡ ys ++ x ∷ new
 moved-back ys x old new all p q = sym p ∙ ap (λ zs. ys ++ zs) q
+
+-- the first of a list, where there is one
+pub begins_with : {A : Type 0} (xs : List A) (x : A) → slice_get xs 0 ≡ Some x → (ys : List A) × (xs ≡ x ∷ ys)
+begins_with [] x e = absurd (none-some x e)
+begins_with (y ∷ ys) x e = let f : Some y ≡ Some x = e in (ys, cc)

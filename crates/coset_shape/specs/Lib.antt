@@ -12,4 +12,5 @@ pub mod SerializedLaws
 pub mod ReadAgain
 pub mod Kinds
 pub mod Sources
+pub mod OneOrMore
 pub mod Lists

@@ -6,6 +6,7 @@ pub mod error;
 pub mod laws;
 pub mod list;
 pub mod map;
+pub mod one_or_more;
 mod places;
 mod repeats;
 pub mod source;

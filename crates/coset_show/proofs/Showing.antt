@@ -7,8 +7,7 @@ use Rattle.coset_shape.specs.declared.error.CoseError.TheVariants.{OutOfMemory}
 use Rattle.coset_shape.specs.Errors.{Names}
 use Rattle.coset_shape.specs.Shape.{Shape, FirstDescribes}
 use Rattle.coset_shape.specs.Answers.{Describes, SliceFaults, DescribesNothing}
-use Rattle.coset_core.specs.Headers.{header, is_empty_header}
-use Rattle.coset_core.specs.Protected.{ProtectedSeen, protected, kept_bytes}
+use Rattle.coset_core.specs.Headers.{ProtectedSeen, is_empty_header, header_image, layered_protected, protected, kept_bytes}
 use Rattle.coset_shape.specs.Serialized.{kept}
 use Rattle.coset_sign.specs.SignatureStructure.{signature_structure}
 use Rattle.coset_sign.specs.declared.signature.SignatureContext.TheVariants.{CoseSign1}
@@ -46,8 +45,8 @@ first_of r rs (item v vs) x p = (v, p.0)
 
 -- a protected header that was read has kept its bytes
 read_keeps : (v : Item) (p : ProtectedSeen) → protected.describes v p → (b : List ℕ) × (kept_bytes p ≡ Some b)
-unfolding protected
-read_keeps v p d = (d.0, ap (λ o. kept is_empty_header header.image o p.header) d.2)
+unfolding layered_protected
+read_keeps v p d = (d.0, ap (λ o. kept is_empty_header header_image o p.header) d.2)
 
 -- so there is something to sign of a message that was read
 pub read_is_signed : (v : Item) (m : Sign1Seen) → sign1.describes v m → (i : Item) × (sign1_signed m ≡ Some i)

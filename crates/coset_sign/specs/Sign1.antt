@@ -1,11 +1,10 @@
 -- COSE_Sign1 messages (RFC 8152, section 4.2).
-use Rattle.std.specs.Prelude.{ℕ, List, [], Option, Some, None, option_map, refl}
-use Rattle.coset_value.specs.Item.{Item}
-use Rattle.coset_shape.specs.Shape.{Shape, both, along, array_of, ◌then◌, end, bstr, or_nil}
+use Rattle.std.specs.Prelude.{ℕ, List, Option, option_map, refl}
+use Rattle.coset_shape.specs.Shape.{Shape, along, array_of, ◌then◌, end, bstr, or_nil}
 use Rattle.coset_shape.specs.ShapeLaws.{Lawful, bytes_no_nil, along_laws, array_of_laws, then_laws, end_laws, bstr_laws, or_nil_laws}
-use Rattle.coset_core.specs.Headers.{HeaderSeen, header, header_seen}
-use Rattle.coset_core.specs.HeaderLaws.{header_laws}
-use Rattle.coset_core.specs.Protected.{ProtectedSeen, protected, protected_laws, protected_seen}
+use Rattle.coset_core.specs.Headers.{HeaderSeen, ProtectedSeen, header, protected}
+use Rattle.coset_core.specs.HeaderLaws.{header_laws, protected_laws}
+use Rattle.coset_core.specs.Views.{header_seen, protected_seen}
 use Rattle.coset_sign.specs.declared.sign1.CoseSign1.{CoseSign1}
 
 -- a message without its memory

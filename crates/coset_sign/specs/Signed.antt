@@ -2,7 +2,7 @@
 use Rattle.std.specs.Prelude.{ℕ, List, [], Option, Some, None, option_map}
 use Rattle.coset_value.specs.Item.{Item}
 use Rattle.coset_shape.specs.Shape.{both}
-use Rattle.coset_core.specs.Protected.{ProtectedSeen, kept_bytes}
+use Rattle.coset_core.specs.Headers.{ProtectedSeen, kept_bytes}
 use Rattle.coset_sign.specs.SignatureStructure.{signature_structure}
 use Rattle.coset_sign.specs.declared.signature.SignatureContext.{SignatureContext}
 

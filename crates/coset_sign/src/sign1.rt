@@ -3,7 +3,7 @@
 ghost use Rattle.std.specs.Prelude.{IfErr, ◌≡◌, [], Some, None};
 ghost use Rattle.coset_shape.specs.Answers.{Reads, Writes, ReadsSlice, DescribesNothing, AsksForItems};
 ghost use Rattle.coset_shape.specs.Sources.{source_item};
-ghost use Rattle.coset_core.specs.Headers.{empty_header, header_seen};
+ghost use Rattle.coset_core.specs.Headers.{empty_header};
 ghost use Rattle.coset_sign.specs.Sign1.{sign1, sign1_seen};
 ghost use Rattle.coset_sign.specs.Signed.{signed, or_empty};
 ghost use Rattle.coset_sign.specs.declared.signature.SignatureContext.TheVariants as contexts;

@@ -3,8 +3,8 @@
 use crate::sample::{Expected, reads};
 use Expected::{Refused, Written};
 use coset_cbor::value::Value;
-use coset_core::{Header, ProtectedHeader};
-use coset_label::{Algorithm, Label, RegisteredLabelWithPrivate};
+use coset_core::{CoseSignature, Header, ProtectedHeader};
+use coset_label::{Algorithm, Label, RegisteredLabel, RegisteredLabelWithPrivate};
 use coset_shape::{CborSerializable, CoseError};
 use std::alloc::{AllocError, Global};
 use std::test::*;
@@ -197,6 +197,55 @@ fn copies_and_equality(rt: HostRuntime) -> Result<(), Fail> {
             assert!(rt; (copy == other) == (i == j));
         }
         assert!(rt; is_written(alloc, copy, input));
+    }
+    Ok(())
+}
+
+/// A header with something in each of its fields.
+fn full(alloc: Global) -> Result<Header, AllocError> {
+    let mut header = Header::new(alloc);
+    header.alg = Some(RegisteredLabelWithPrivate::Assigned(coset_iana::Algorithm::A128GCM));
+    header.crit = vec![in alloc; RegisteredLabelWithPrivate::PrivateUse(-65537)]?;
+    header.content_type = Some(RegisteredLabel::Text(String::from_str(alloc, "a/b")?));
+    header.key_id = Vec::from_slice(alloc, b"1")?;
+    header.iv = Vec::from_slice(alloc, b"2")?;
+    header.partial_iv = Vec::from_slice(alloc, b"3")?;
+    header.counter_signatures = vec![in alloc; CoseSignature::new(alloc)]?;
+    header.rest = vec![in alloc; (Label::Int(70), Value::Null)]?;
+    Ok(header)
+}
+
+/// That header without one of its fields.
+fn without(alloc: Global, field: u8) -> Result<Header, AllocError> {
+    let mut header = full(alloc)?;
+    match field {
+        0 => header.alg = None,
+        1 => header.crit = Vec::new(alloc),
+        2 => header.content_type = None,
+        3 => header.key_id = Vec::new(alloc),
+        4 => header.iv = Vec::new(alloc),
+        5 => header.partial_iv = Vec::new(alloc),
+        6 => header.counter_signatures = Vec::new(alloc),
+        _ => header.rest = Vec::new(alloc),
+    }
+    Ok(header)
+}
+
+#[test]
+fn each_field_is_compared(rt: HostRuntime) -> Result<(), Fail> {
+    let alloc = rt.alloc();
+    let whole = full(alloc)?;
+    assert!(rt; whole == full(alloc)?);
+    for i in 0..8u8 {
+        let one = without(alloc, i)?;
+        assert!(rt; one != whole, "field {i}");
+        let copy = one.clone().ok().ok_or("memory")?;
+        for j in 0..8u8 {
+            assert!(rt;
+                (copy == without(alloc, j)?) == (i == j),
+                "fields {i} and {j}"
+            );
+        }
     }
     Ok(())
 }

@@ -8,11 +8,15 @@ mod chunks;
 #[cfg(test)]
 mod errors;
 #[cfg(test)]
+mod fields;
+#[cfg(test)]
 mod headers;
 #[cfg(test)]
 mod kinds;
 #[cfg(test)]
 mod labels;
+#[cfg(test)]
+mod layers;
 #[cfg(test)]
 mod members;
 #[cfg(test)]
@@ -23,6 +27,8 @@ mod refused;
 mod sample;
 #[cfg(test)]
 mod sign1;
+#[cfg(test)]
+mod signatures;
 #[cfg(test)]
 mod steps;
 #[cfg(test)]

@@ -62,7 +62,7 @@ fn holds(answer: Result<Value>, bytes: &[u8]) -> bool {
 fn is_kept(
     alloc: Global,
     answer: Result<ProtectedHeader>,
-    expected: Expected,
+    expected: Expected<'_>,
 ) -> std::result::Result<bool, Fail> {
     match (answer, expected) {
         (Ok(protected), Written(bytes)) => {
@@ -74,26 +74,24 @@ fn is_kept(
     }
 }
 
+/// Whether a protected header is read as expected from the item, as a value and as it is lent.
+pub(crate) fn reads_kept(
+    alloc: Global,
+    input: &[u8],
+    expected: Expected<'_>,
+) -> std::result::Result<bool, Fail> {
+    let (value, _) = read_value(alloc, input).ok().ok_or("read")?;
+    let tree = ProtectedHeader::from_cbor_bstr(alloc, value);
+    let (pull, _) = Pull::new(input).ok().ok_or("read")?;
+    let lent = ProtectedHeader::from_pull_bstr(alloc, pull);
+    Ok(is_kept(alloc, tree, expected)? && is_kept(alloc, lent, expected)?)
+}
+
 #[test]
 fn protected_headers(rt: HostRuntime) -> std::result::Result<(), Fail> {
     let alloc = rt.alloc();
     for (input, expected) in &ROWS {
-        let (value, _) = read_value(alloc, input).ok().ok_or("read")?;
-        assert!(rt;
-            is_kept(
-                alloc,
-                ProtectedHeader::from_cbor_bstr(alloc, value),
-                *expected
-            )?
-        );
-        let (pull, _) = Pull::new(input).ok().ok_or("read")?;
-        assert!(rt;
-            is_kept(
-                alloc,
-                ProtectedHeader::from_pull_bstr(alloc, pull),
-                *expected
-            )?
-        );
+        assert!(rt; reads_kept(alloc, input, *expected)?);
     }
     Ok(())
 }

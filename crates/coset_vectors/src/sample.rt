@@ -13,9 +13,9 @@ use std::test::*;
 
 /// What a row expects: the bytes that are written of what was read, or the text of the error.
 #[derive(Clone, Copy)]
-pub(crate) enum Expected {
-    Written(&'static [u8]),
-    Refused(&'static str),
+pub(crate) enum Expected<'a> {
+    Written(&'a [u8]),
+    Refused(&'a str),
 }
 
 use Expected::{Refused, Written};
@@ -33,7 +33,7 @@ pub(crate) fn through_a_value<T: AsCborValue>(alloc: Global, s: &[u8]) -> Result
 pub(crate) fn is_expected<T: CborSerializable + Drop>(
     alloc: Global,
     answer: Result<T>,
-    expected: Expected,
+    expected: Expected<'_>,
 ) -> std::result::Result<bool, Fail> {
     match (answer, expected) {
         (Ok(x), Written(bytes)) => match x.to_vec(alloc) {
@@ -49,11 +49,33 @@ pub(crate) fn is_expected<T: CborSerializable + Drop>(
 pub(crate) fn reads<T: CborSerializable + Drop>(
     alloc: Global,
     input: &[u8],
-    expected: Expected,
+    expected: Expected<'_>,
 ) -> std::result::Result<bool, Fail> {
     let lent: Result<T> = T::from_slice(alloc, input);
     let tree: Result<T> = through_a_value(alloc, input);
     Ok(is_expected(alloc, lent, expected)? && is_expected(alloc, tree, expected)?)
+}
+
+/// The texts, one after the other.
+pub(crate) fn joined(alloc: Global, parts: &[&[u8]]) -> std::result::Result<Vec<u8>, AllocError> {
+    let mut all = Vec::new(alloc);
+    for part in parts {
+        all.extend_from_slice(part)?;
+    }
+    Ok(all)
+}
+
+/// The shortest text of the byte string of these, of which there are less than 65536 (RFC 8949, section 3).
+pub(crate) fn byte_string(alloc: Global, bytes: &[u8]) -> std::result::Result<Vec<u8>, AllocError> {
+    let length = bytes.len();
+    let [.., high, low] = length.to_be_bytes();
+    if length < 24 {
+        joined(alloc, &[&[0x40 | low], bytes])
+    } else if length < 256 {
+        joined(alloc, &[&[0x58, low], bytes])
+    } else {
+        joined(alloc, &[&[0x59, high, low], bytes])
+    }
 }
 
 const READINGS: [(&[u8], Expected); 16] = [

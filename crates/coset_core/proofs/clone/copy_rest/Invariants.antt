@@ -1,5 +1,5 @@
 use Rattle.std.proofs.Common.{◌≡◌, map, take}
-use Rattle.coset_core.specs.Headers.{entry_seen}
+use Rattle.coset_core.specs.Views.{entry_seen}
 use Rattle.coset_core.proofs.clone.copy_rest.Given as goal
 
 abbrev pub invariant-loop-label : goal.invariant-loop-label

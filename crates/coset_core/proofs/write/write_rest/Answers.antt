@@ -1,6 +1,6 @@
 use Rattle.std.proofs.Common.{◌≡◌, map, take, arith, subst}
 use Rattle.std.proofs.lemmas.List.{take_all}
-use Rattle.coset_core.specs.Headers.{entry_seen}
+use Rattle.coset_core.specs.Views.{entry_seen}
 use Rattle.coset_core.specs.Written.{AppendsPairs}
 use Rattle.coset_core.proofs.Writing.{pairs-none, rest-put}
 use Rattle.coset_core.proofs.write.write_rest.Goals as goal

@@ -1,5 +1,5 @@
 use Rattle.std.proofs.Common.{map, take}
-use Rattle.coset_core.specs.Headers.{entry_seen}
+use Rattle.coset_core.specs.Views.{entry_seen}
 use Rattle.coset_core.specs.Written.{AppendsPairs}
 use Rattle.coset_core.proofs.write.write_rest.Given as goal
 

@@ -1,0 +1,250 @@
+-- Headers and signatures, part by part.
+use Rattle.std.specs.Prelude.{pos, ◌==◌, ◌≢◌, not, Bool, true, false, is_some, Result, Ok, Err, IfErr, IsErrAnd}
+use Rattle.std.specs.Map.{keys_of}
+use Rattle.std.proofs.Common.{◌≡◌, ℕ, Option, Some, None, option_map, true≢false, ◌+◌, ◌<◌, ◌^◌, List, [], ◌∷◌, ◌++◌, map, length, refl, sym, ◌∙◌, ap, subst, append-nil, append_assoc, arith}
+use Rattle.std.proofs.lemmas.List.{length-append}
+use Rattle.std.proofs.lemmas.Grind.{common_steps}
+use Rattle.coset_value.specs.Item.{Item, bytes, array, dict, Items, no_items, item, pairs_count}
+use Rattle.coset_value.specs.View.{items_of}
+use Rattle.coset_cbor.specs.Least.{least_head, short, pair_shorts}
+use Rattle.coset_shape.specs.declared.error.CoseError.{CoseError}
+use Rattle.coset_shape.specs.declared.error.CoseError.TheVariants.{DuplicateMapKey}
+use Rattle.coset_shape.specs.Errors.{Names as Tells}
+use Rattle.coset_shape.specs.Maps.{put_field, are_distinct, optional, listed}
+use Rattle.coset_shape.specs.Shape.{both, images, bare, some_of, filled_bstr}
+use Rattle.coset_label.specs.Names.{Name, number, name_item, RegisteredName}
+use Rattle.coset_core.specs.Fields.{FieldsSeen, same_name, algorithm, critical, content_type}
+use Rattle.coset_core.specs.Headers.{HeaderSeen, SignatureSeen, Signatures, no_signatures, signature_and, signatures_of, are_none, counters_item, header_item, signature_item, signatures_image, header_image, kept_bytes}
+use Rattle.coset_core.specs.HeaderWrites.{fields_put, images_signatures, signature_image_is, algorithm_image, critical_image, content_type_image, Puts, header_put, header_repeats}
+use Rattle.coset_core.specs.Written.{AppendsItem, AppendsItems, AppendsPairs, AppendsHeader, AppendsCounters, AppendsSignatures, AppendsSignature, AppendsProtected, entry_pairs, registered_item, critical_item, filled_item, header_fields, plain_fields, one, count_pairs, signature_array}
+use Rattle.coset_core.proofs.Writing.{items-none, items-push, array-put, pairs-none, pairs-then, pair-put, count-entries, image-entries}
+
+-- an error passed on that says of P what another is asked to say of Q
+pub passes : {T : Type 0} (r : Result T CoseError) (f : CoseError) (P Q : Type 0) → IsErrAnd r (λ e. e ≡ f) → (P → Q) → Tells f (λ g. (g ≡ DuplicateMapKey) × P) → IfErr r (λ e. Tells e (λ g. (g ≡ DuplicateMapKey) × Q))
+passes (Ok x) f P Q same h tells = tt
+passes (Err e) f P Q same h tells = λ other. let told = tells (λ m. other (same ∙ m)) in (same ∙ told.0, h told.1)
+
+-- ---- signatures
+
+-- a head, the byte string, the unprotected header and the bytes are the array of a signature
+pub signature-put :
+    (s : SignatureSeen) (old head mid half new : List ℕ) → head ≡ old ++ least_head 4 3 → AppendsProtected head mid s.protected → AppendsHeader mid half s.unprotected → AppendsItem half new (bytes s.signature) → AppendsSignature old new s
+signature-put s old head mid half new first p u b =
+    let one = items-push head head mid [] (bytes p.0) (items-none head) p.2 in
+    let two = items-push head mid half (bytes p.0 ∷ []) u.0 one u.2 in
+    let three = items-push head half new (bytes p.0 ∷ u.0 ∷ []) (bytes s.signature) two b in (
+      array (items_of (bytes p.0 ∷ u.0 ∷ bytes s.signature ∷ [])),
+      λ i. signature_item (p.1 i) (u.1 i) s.signature,
+      array-put (bytes p.0 ∷ u.0 ∷ bytes s.signature ∷ []) 3 old head new refl (omega arith) first three,
+    )
+
+-- none of its parts may be missing
+pub unsigned-unprotected : (s : SignatureSeen) → header_image s.unprotected ≡ None → signature_array s ≡ None
+unsigned-unprotected s e = ap (λ o. signature_item (kept_bytes s.protected) o s.signature) e ∙ last (kept_bytes s.protected)
+  where
+    last : (o : Option (List ℕ)) → signature_item o None s.signature ≡ None
+    last (Some b) = refl
+    last None = refl
+
+pub unsigned-protected : (s : SignatureSeen) → kept_bytes s.protected ≡ None → signature_array s ≡ None
+unsigned-protected s e = ap (λ o. signature_item o (header_image s.unprotected) s.signature) e
+
+-- ---- several
+
+-- the arrays of signatures in a row
+each : (ss : List SignatureSeen) → signatures_image (signatures_of ss) ≡ images signature_array ss
+each ss = sym (images_signatures 0 ss) ∙ (λ i. images (λ x. signature_image_is 0 x i) ss)
+
+abbrev and_items : Items → Items → Items
+and_items no_items ws = ws
+and_items (item v vs) ws = item v (and_items vs ws)
+
+and_items-of : (vs : List Item) (v : Item) → and_items (items_of vs) (item v no_items) ≡ items_of (vs ++ v ∷ [])
+and_items-of [] v = refl
+and_items-of (w ∷ vs) v = ap (item w) (and_items-of vs v)
+
+both-and : (o : Option Item) (p q : Option Items) → both item o (both and_items p q) ≡ both and_items (both item o p) q
+both-and (Some v) (Some vs) (Some ws) = refl
+both-and (Some v) (Some vs) None = refl
+both-and (Some v) None q = refl
+both-and None p q = refl
+
+both-nothing : (q : Option Items) → both and_items (Some no_items) q ≡ q
+both-nothing (Some vs) = refl
+both-nothing None = refl
+
+both-none : (p : Option Items) → both and_items p None ≡ None
+both-none (Some vs) = refl
+both-none None = refl
+
+images-append : (f : SignatureSeen → Option Item) (xs ys : List SignatureSeen) → images f (xs ++ ys) ≡ both and_items (images f xs) (images f ys)
+images-append f [] ys = sym (both-nothing (images f ys))
+images-append f (x ∷ xs) ys = ap (both item (f x)) (images-append f xs ys) ∙ both-and (f x) (images f xs) (images f ys)
+
+-- one more signature
+pub signatures-push :
+    (ss : List SignatureSeen) (s : SignatureSeen) (old mid new : List ℕ) → AppendsSignatures old mid ss → AppendsSignature mid new s → AppendsSignatures old new (ss ++ s ∷ [])
+signatures-push ss s old mid new p q =
+    let so_far : images signature_array ss ≡ Some (items_of p.0) = sym (each ss) ∙ p.1 in
+    let all : images signature_array (ss ++ s ∷ []) ≡ Some (items_of (p.0 ++ q.0 ∷ [])) = rw (images-append signature_array ss (s ∷ []), so_far, q.1) (ap Some (and_items-of p.0 q.0)) in (
+      p.0 ++ q.0 ∷ [],
+      each (ss ++ s ∷ []) ∙ all,
+      length-append p.0 (q.0 ∷ []) ∙ (ap (λ n. n + 1) p.2 ∙ sym (length-append ss (s ∷ []))),
+      items-push old mid new p.0 q.0 p.3 q.2,
+    )
+
+-- one that can't be written
+pub signatures-none : (ss more : List SignatureSeen) (s : SignatureSeen) → signature_array s ≡ None → signatures_image (signatures_of (ss ++ s ∷ more)) ≡ None
+signatures-none ss more s e = each (ss ++ s ∷ more) ∙ (images-append signature_array ss (s ∷ more) ∙ rw e (both-none (images signature_array ss)))
+
+-- ---- label 7
+
+-- one alone, or a head and several
+bare-put :
+    (vs : List Item) (n : ℕ) (old head new : List ℕ) → not (length vs == 0) ≡ true → n ≡ length vs → n < 2 ^ 64 → (n ≡ 1 → head ≡ old) → (n ≢ 1 → head ≡ old ++ least_head 4 n) → AppendsItems head new vs
+    → AppendsItem old new (bare (items_of vs))
+bare-put [] n old head new h count small alone several p = absurd (true≢false (sym h))
+bare-put (v ∷ []) n old head new h count small alone several p = record { in_range = p.in_range.0; parts = p.parts ∙ rw (alone count, append-nil (short v)) refl }
+bare-put (v ∷ w ∷ vs) n old head new h count small alone several p = array-put (v ∷ w ∷ vs) n old head new count small (several (λ e. absurd (omega (arith, e, count)))) p
+
+pub counters-put :
+    (ss : List SignatureSeen) (n : ℕ) (old mid head new : List ℕ) → not (length ss == 0) ≡ true → n ≡ length ss → n < 2 ^ 64 → AppendsItem old mid (name_item (number (pos 7))) → (n ≡ 1 → head ≡ mid)
+    → (n ≢ 1 → head ≡ mid ++ least_head 4 n) → AppendsSignatures head new ss → AppendsCounters old new (signatures_of ss)
+counters-put [] n old mid head new h count small name alone several p = absurd (true≢false (sym h))
+counters-put (s ∷ ss) n old mid head new h count small name alone several p = (
+  Some (bare (items_of p.0)),
+  ap (option_map (λ vs. Some (bare vs))) p.1,
+  pair-put old mid new (number (pos 7)) (bare (items_of p.0)) name (bare-put p.0 n mid head new (rw p.2 h) (count ∙ sym p.2) small alone several p.3),
+)
+
+pub counters-none : (s : List ℕ) → AppendsCounters s s no_signatures
+counters-none s = (None, refl, pairs-none s)
+
+-- ---- what the fields are written as
+
+algorithm-put : (o : Option RegisteredName) → (optional algorithm).image o ≡ Some (option_map registered_item o)
+algorithm-put None = refl
+algorithm-put (Some x) = ap (option_map Some) (algorithm_image x)
+
+each-critical : (xs : List RegisteredName) → images critical.image xs ≡ Some (items_of (map registered_item xs))
+each-critical [] = refl
+each-critical (x ∷ xs) = rw (critical_image x, each-critical xs) refl
+
+critical-put : (xs : List RegisteredName) → (listed (some_of critical)).image xs ≡ Some (critical_item xs)
+critical-put [] = refl
+critical-put (x ∷ xs) = ap (λ o. option_map Some (option_map array o)) (each-critical (x ∷ xs))
+
+content_type-put : (o : Option Name) → (optional content_type).image o ≡ Some (option_map name_item o)
+content_type-put None = refl
+content_type-put (Some x) = ap (option_map Some) (content_type_image x)
+
+filled-put : (b : List ℕ) → (listed filled_bstr).image b ≡ Some (filled_item b)
+filled-put [] = refl
+filled-put (c ∷ b) = refl
+
+puts : (f : FieldsSeen) → Puts f (option_map registered_item f.alg) (critical_item f.crit) (option_map name_item f.content_type) (filled_item f.key_id) (filled_item f.iv) (filled_item f.partial_iv)
+puts f = record {
+  alg = algorithm-put f.alg;
+  crit = critical-put f.crit;
+  content_type = content_type-put f.content_type;
+  key_id = filled-put f.key_id;
+  iv = filled-put f.iv;
+  partial_iv = filled-put f.partial_iv;
+}
+
+-- ---- how many there are
+
+put-count : (n : Name) (o : Option Item) (es : List (Name × Item)) → length (put_field n o es) ≡ one (is_some o) + length es
+put-count n None es = omega arith
+put-count n (Some v) es = omega arith
+
+count-fields :
+    (a b t k i p o : Option Item)
+    → length (fields_put a b t k i p o) ≡ one (is_some a) + (one (is_some b) + (one (is_some t) + (one (is_some k) + (one (is_some i) + (one (is_some p) + (one (is_some o) + 0))))))
+count-fields a b t k i p o = simp put-count
+
+is_some-map : {A B : Type 0} (f : A → B) (o : Option A) → is_some (option_map f o) ≡ is_some o
+is_some-map f None = refl
+is_some-map f (Some x) = refl
+
+is_some-critical : (xs : List RegisteredName) → is_some (critical_item xs) ≡ not (length xs == 0)
+is_some-critical [] = refl
+is_some-critical (x ∷ xs) = grind (arith, common_steps)
+
+is_some-filled : (b : List ℕ) → is_some (filled_item b) ≡ not (length b == 0)
+is_some-filled [] = refl
+is_some-filled (c ∷ b) = grind (arith, common_steps)
+
+abbrev is_there : Option (Option Item) → Bool
+is_there (Some (Some v)) = true
+is_there o = false
+
+is_some-counters : (ss : Signatures) (o : Option Item) → counters_item ss (signatures_image ss) ≡ Some o → is_some o ≡ not (are_none ss)
+is_some-counters ss o e = there o ∙ (sym (ap is_there e) ∙ named ss o e)
+  where
+    there : (o : Option Item) → is_some o ≡ is_there (Some o)
+    there (Some v) = refl
+    there None = refl
+
+    some : (q : Option Items) (o : Option Item) → option_map (λ vs. Some (bare vs)) q ≡ Some o → is_there (option_map (λ vs. Some (bare vs)) q) ≡ true
+    some (Some vs) o e = refl
+    some None o e = absurd (true≢false (sym (ap is_some e)))
+
+    named : (ss : Signatures) (o : Option Item) → counters_item ss (signatures_image ss) ≡ Some o → is_there (counters_item ss (signatures_image ss)) ≡ not (are_none ss)
+    named no_signatures o e = refl
+    named (signature_and b p ps u us s more) o e = some (signatures_image (signature_and b p ps u us s more)) o e
+
+count-all : (h : HeaderSeen) (o : Option Item) → counters_item h.counter_signatures (signatures_image h.counter_signatures) ≡ Some o → length (header_fields h.fields o) + length h.fields.rest ≡ count_pairs h
+count-all h o e =
+    let f = h.fields in
+    let a : is_some (option_map registered_item f.alg) ≡ is_some f.alg = is_some-map registered_item f.alg in
+    let t : is_some (option_map name_item f.content_type) ≡ is_some f.content_type = is_some-map name_item f.content_type in
+    rw (count-fields, a, t, is_some-critical f.crit, is_some-filled f.key_id, is_some-filled f.iv, is_some-filled f.partial_iv, is_some-counters h.counter_signatures o e) (omega arith)
+
+-- ---- headers
+
+-- the pair of label 7 comes behind the other fields
+last-field : (f : FieldsSeen) (o : Option Item) → plain_fields f ++ put_field (number (pos 7)) o [] ≡ header_fields f o
+last-field f o =
+    front (number (pos 1)) (option_map registered_item f.alg) _ _ (front (number (pos 2)) (critical_item f.crit) _ _ (front (number (pos 3)) (option_map name_item f.content_type) _ _
+    (front (number (pos 4)) (filled_item f.key_id) _ _ (front (number (pos 5)) (filled_item f.iv) _ _ (front (number (pos 6)) (filled_item f.partial_iv) _ _ refl)))))
+  where
+    front : (n : Name) (v : Option Item) (es gs : List (Name × Item)) → es ++ put_field (number (pos 7)) o [] ≡ gs → put_field n v es ++ put_field (number (pos 7)) o [] ≡ put_field n v gs
+    front n None es gs e = e
+    front n (Some w) es gs e = ap (λ ds. (n, w) ∷ ds) e
+
+-- a head and pairs are a map
+dict-put :
+    (es : List (Name × Item)) (n : ℕ) (old head new : List ℕ) → n ≡ length es → n < 2 ^ 64 → head ≡ old ++ least_head 5 n → AppendsPairs head new es → AppendsItem old new (dict (entry_pairs es))
+dict-put es n old head new count small first p =
+    let same : pairs_count (entry_pairs es) ≡ n = count-entries es ∙ sym count in
+    record {
+      in_range = (rw same small, p.in_range);
+      parts = rw (p.parts, first, same) (append_assoc old (least_head 5 n) (pair_shorts (entry_pairs es)));
+    }
+
+-- a head, the first six fields, the pair of label 7 and the rest are the header's map
+pub map-put :
+    (h : HeaderSeen) (n : ℕ) (old head mid half new : List ℕ) → are_distinct same_name (keys_of h.fields.rest) ≡ true → n ≡ count_pairs h → n < 2 ^ 64 → head ≡ old ++ least_head 5 n → AppendsPairs head mid (plain_fields h.fields)
+    → AppendsCounters mid half h.counter_signatures → AppendsPairs half new h.fields.rest → AppendsHeader old new h
+map-put h n old head mid half new distinct count small first plain counters rest =
+    let f = h.fields in
+    let o = counters.0 in
+    let fields : AppendsPairs head half (header_fields f o) = subst (AppendsPairs head half) (last-field f o) (pairs-then head mid half (plain_fields f) (put_field (number (pos 7)) o []) plain counters.2) in
+    let all = pairs-then head half new (header_fields f o) f.rest fields rest in
+    let long : n ≡ length (header_fields f o ++ f.rest) = count ∙ (sym (count-all h o counters.1) ∙ sym (length-append (header_fields f o) f.rest)) in (
+      dict (entry_pairs (header_fields f o ++ f.rest)),
+      ap (header_item f) counters.1 ∙ (header_put f _ _ _ _ _ _ o (puts f) distinct ∙ ap (option_map dict) (image-entries (header_fields f o ++ f.rest))),
+      dict-put (header_fields f o ++ f.rest) n old head new long small first all,
+    )
+
+-- no map is written where a label of the rest repeats, or the signatures can't be written
+pub unwritten-rest : (h : HeaderSeen) → are_distinct same_name (keys_of h.fields.rest) ≡ false → header_image h ≡ None
+unwritten-rest h e = header_repeats h.fields (counters_item h.counter_signatures (signatures_image h.counter_signatures)) e
+
+pub unwritten-counters : (h : HeaderSeen) → signatures_image h.counter_signatures ≡ None → header_image h ≡ None
+unwritten-counters h e = ap (header_item h.fields) (none h.counter_signatures e)
+  where
+    none : (ss : Signatures) → signatures_image ss ≡ None → counters_item ss (signatures_image ss) ≡ None
+    none no_signatures e = absurd (true≢false (ap is_some e))
+    none (signature_and b p ps u us s more) e = ap (option_map (λ vs. Some (bare vs))) e

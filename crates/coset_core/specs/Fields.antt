@@ -1,0 +1,106 @@
+-- What a header holds beside its counter signatures, and maps of that (RFC 8152, section 3.1).
+use Rattle.std.specs.Prelude.{◌≡◌, ◌≢◌, ◌⊎◌, ℕ, pos, ◌==◌, List, [], filter, length, Option, None, Bool, is_some, ⊤}
+use Rattle.std.specs.Ordering.{is_eq}
+use Rattle.std.specs.Str.{trim}
+use Rattle.coset_value.specs.Item.{Item}
+use Rattle.coset_iana.specs.Algorithm as algorithms
+use Rattle.coset_iana.specs.CoapContentFormat as content_formats
+use Rattle.coset_iana.specs.HeaderParameter as parameters
+use Rattle.coset_iana.specs.Registry.{first_numbered}
+use Rattle.coset_iana.specs.WithPrivateRange.{is_private_use}
+use Rattle.coset_iana.specs.declared.algorithms.TheConstants.{ALGORITHMS}
+use Rattle.coset_iana.specs.declared.content_formats.TheConstants.{COAP_CONTENT_FORMATS}
+use Rattle.coset_iana.specs.declared.headers.TheConstants.{HEADER_PARAMETERS}
+use Rattle.coset_shape.specs.Errors.{IsUnexpected}
+use Rattle.coset_shape.specs.Shape.{Shape, that, any, along, some_of, filled_bstr}
+use Rattle.coset_shape.specs.Maps.{Names, Fields, Held, field, no_field, optional, listed, labelled}
+use Rattle.coset_label.specs.Names.{Name, number, word, RegisteredName, name_cmp}
+use Rattle.coset_label.specs.Labels.{label, registered, registered_or_private}
+
+-- a header without its memory and its counter signatures
+pub record FieldsSeen : Type 0 where
+  pub alg : Option RegisteredName
+  pub crit : List RegisteredName
+  pub content_type : Option Name
+  pub key_id : List ℕ
+  pub iv : List ℕ
+  pub partial_iv : List ℕ
+  pub rest : List (Name × Item)
+
+-- nothing
+abbrev pub empty_fields : FieldsSeen
+empty_fields = record { alg = None; crit = []; content_type = None; key_id = []; iv = []; partial_iv = []; rest = [] }
+
+-- ---- the fields' values
+
+-- an algorithm: the number of one that IANA assigned, else a number for private use, or a text
+unfoldable pub algorithm : Shape RegisteredName
+algorithm = registered_or_private (λ i. is_some (first_numbered algorithms.number ALGORITHMS i)) is_private_use
+
+-- a label that must be understood: the same of header parameters
+unfoldable pub critical : Shape RegisteredName
+critical = registered_or_private (λ i. is_some (first_numbered parameters.number HEADER_PARAMETERS i)) is_private_use
+
+-- a text names a media type: it isn't empty, doesn't begin or end with white space, and has one '/'
+pub record IsMediaType (s : List ℕ) : Type 0 where
+  pub filled : s ≢ []
+  pub trimmed : trim s ≡ s
+  pub slash : length (filter (λ b. b == 47) s) ≡ 1
+
+abbrev pub IsContentType : Name → Type 0
+IsContentType (number i) = ⊤
+IsContentType (word s) = IsMediaType s
+
+-- a content type: the number of a format of CoAP, or a media type
+unfoldable pub content_type : Shape Name
+content_type = that IsUnexpected IsContentType (registered (λ i. is_some (first_numbered content_formats.number COAP_CONTENT_FORMATS i)))
+
+-- ---- maps of them
+
+-- two labels are one
+abbrev pub same_name : Name → Name → Bool
+same_name a b = is_eq (name_cmp a b)
+
+abbrev pub names : Names Name
+names = record { shape = label; same = same_name }
+
+-- the fields by label, the last of which is what C says
+abbrev pub Fielded : Type 0 → Type 0
+Fielded C = Option RegisteredName × (List RegisteredName × (Option Name × (List ℕ × (List ℕ × (List ℕ × (C × Unit {0}))))))
+
+abbrev pub fields : {C : Type 0} → Held C → Fields Name (Fielded C)
+fields counters =
+    field names (number (pos 1)) (optional algorithm)
+    (field names (number (pos 2)) (listed (some_of critical))
+    (field names (number (pos 3)) (optional content_type)
+    (field names (number (pos 4)) (listed filled_bstr)
+    (field names (number (pos 5)) (listed filled_bstr)
+    (field names (number (pos 6)) (listed filled_bstr)
+    (field names (number (pos 7)) counters
+    no_field))))))
+
+abbrev pub fields_of : {C : Type 0} → Fielded C × List (Name × Item) → FieldsSeen × C
+fields_of p = (
+  record { alg = p.0.0; crit = p.0.1.0; content_type = p.0.1.1.0; key_id = p.0.1.1.1.0; iv = p.0.1.1.1.1.0; partial_iv = p.0.1.1.1.1.1.0; rest = p.1 },
+  p.0.1.1.1.1.1.1.0,
+)
+
+abbrev pub parts_of : {C : Type 0} → FieldsSeen × C → Fielded C × List (Name × Item)
+parts_of x = ((x.0.alg, (x.0.crit, (x.0.content_type, (x.0.key_id, (x.0.iv, (x.0.partial_iv, (x.1, tt))))))), x.0.rest)
+
+-- not both kinds of initialization vector
+abbrev pub HasOneIv : FieldsSeen → Type 0
+HasOneIv f = (f.iv ≡ []) ⊎ (f.partial_iv ≡ [])
+
+-- the fields by label, and the rest
+abbrev pub map_of : {C : Type 0} → Held C → Shape (FieldsSeen × C)
+map_of counters = along fields_of parts_of (labelled names (fields counters))
+
+-- {? 1 => algorithm, ? 2 => [+ critical], ? 3 => content_type, ? 4 => bstr .size (1..), ? 5 => bstr .size (1..) //
+-- 6 => bstr .size (1..), ? 7 => counters, * label => any}
+abbrev pub map_with : {C : Type 0} → Held C → Shape (FieldsSeen × C)
+map_with counters = that IsUnexpected (λ x. HasOneIv x.0) (map_of counters)
+
+-- the same, with the value of label 7 as it is
+unfoldable pub unread : Shape (FieldsSeen × Option Item)
+unread = map_with (optional any)

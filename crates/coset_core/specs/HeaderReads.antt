@@ -1,0 +1,143 @@
+-- Headers read from their parts: the map with the value of label 7 as it is, and the counter signatures of that value.
+use Rattle.std.specs.Prelude.{None, ⊤}
+use Rattle.std.proofs.Common.{◌≡◌, ℕ, zero, suc, List, [], ◌∷◌, Option, Some, refl, ap, inl, inr}
+use Rattle.coset_value.specs.Item.{Item, Items, no_items, item}
+use Rattle.coset_shape.specs.Shape.{Shape, Each, EachFaults, fixed, bstr, ◌then◌, end, any_number, one_or_more, one_or_many}
+use Rattle.coset_shape.specs.Serialized.{ContentDescribes, ContentFaults}
+use Rattle.coset_shape.specs.declared.error.CoseError.{CoseError}
+use Rattle.coset_shape.specs.Maps.{listed}
+use Rattle.coset_core.specs.Fields.{FieldsSeen, map_with, unread}
+use Rattle.coset_core.specs.FieldLaws.{split}
+use Rattle.coset_core.specs.Headers.{Signatures, no_signatures, HeaderSeen, ProtectedSeen, SignatureSeen, signatures_of, empty_header, with_counters, CountersAre, ContentIs, ProtectedIs, IsEmpty, IsHeader, AreSignatures, signed_array, told_by, HeaderFaults, ProtectedFaults, counters_faults, layered_header, layered_protected, layered_signature}
+
+-- ---- what stands for a value
+
+-- an array of three, whose first two places are seen otherwise
+pub signed_as :
+    {A B C D : Type 0} (p : Shape A) (u : Shape B) (q : Shape C) (t : Shape D) (a : A) (b : B) (c : C) (d : D) (s : List ℕ) → ((w : Item) → p.describes w a → q.describes w c)
+    → ((w : Item) → u.describes w b → t.describes w d) → (v : Item) → (signed_array p u).describes v (a, (b, (s, tt))) → (signed_array q t).describes v (c, (d, (s, tt)))
+signed_as p u q t a b c d s f g v h = (h.0, h.1, go h.0 h.2)
+  where
+    go : (vs : Items) → (p then u then bstr then end).describes vs (a, (b, (s, tt))) → (q then t then bstr then end).describes vs (c, (d, (s, tt)))
+    go no_items k = k
+    go (item x no_items) k = absurd k.1
+    go (item x (item y vs)) k = (f x k.0, (g y k.1.0, k.1.1))
+
+-- a protected header
+content_read : (k : ℕ) (h : HeaderSeen) (b : List ℕ) → ContentDescribes empty_header (layered_header k) b h → ContentIs (λ w. IsHeader h k w) (IsEmpty h.fields h.counter_signatures) b
+unfolding layered_header
+content_read k h [] p = (ap (λ g. g.fields) p, ap (λ g. g.counter_signatures) p)
+content_read k h (c ∷ b) p = p
+
+-- the byte string stands for the header and its signatures, within k layers
+abbrev pub ProtectedOf : Option (List ℕ) → FieldsSeen → Signatures → ℕ → Item → Type 0
+ProtectedOf o p ps k v = ProtectedIs (λ j w. IsHeader (with_counters p ps) j w) (IsEmpty p ps) o k v
+
+protected_read : (k : ℕ) (p : ProtectedSeen) (v : Item) → (layered_protected k).describes v p → ProtectedOf p.original p.header.fields p.header.counter_signatures k v
+unfolding layered_protected
+protected_read zero p v h = h
+protected_read (suc k) p v h = (h.0, h.1, h.2, content_read k p.header h.0 h.3)
+
+-- an unprotected one
+unprotected_read : (k : ℕ) (h : HeaderSeen) (v : Item) → (layered_header k).describes v h → IsHeader h k v
+unfolding layered_header
+unprotected_read k h v p = p
+
+-- signatures
+pub signatures_read : (k : ℕ) (vs : Items) (xs : List SignatureSeen) → Each (layered_signature k).describes vs xs → AreSignatures (signatures_of xs) k vs
+signatures_read k no_items [] h = refl
+signatures_read k no_items (x ∷ xs) h = h
+signatures_read k (item v vs) [] h = absurd h
+signatures_read k (item v vs) (x ∷ xs) h =
+    let p : Shape (Unit {0}) = told_by (ProtectedOf x.protected.original x.protected.header.fields x.protected.header.counter_signatures k) in
+    let u : Shape (Unit {0}) = told_by (λ w. IsHeader x.unprotected k w) in (
+      signed_as (layered_protected k) (layered_header k) p u x.protected x.unprotected tt tt x.signature (protected_read k x.protected) (unprotected_read k x.unprotected) v h.0,
+      signatures_read k vs xs h.1,
+    )
+
+-- one, or several
+pub counters_read :
+    (k : ℕ) (w : Item) (xs : List SignatureSeen) → (one_or_many (any_number (layered_signature k))).describes w xs → (vs : Items) × (one_or_more w ≡ Some vs) × AreSignatures (signatures_of xs) k vs
+counters_read k w xs h = (h.0, h.1, signatures_read k h.0 xs h.2)
+
+-- a header of which that is told
+pub header_read :
+    (k : ℕ) (v : Item) (f : FieldsSeen) (o : Option Item) (ss : Signatures) → unread.describes v (f, o) → CountersAre (λ vs. AreSignatures ss k vs) (ss ≡ no_signatures) o
+    → (layered_header k).describes v (with_counters f ss)
+unfolding layered_header
+header_read k v f o ss p q = (o, p, q)
+
+-- a map with a list of signatures, which is left out where it is empty
+listed_read :
+    (k : ℕ) (xs : List SignatureSeen) (o : Option Item) → (listed (one_or_many (any_number (layered_signature k)))).describes o xs
+    → CountersAre (λ vs. AreSignatures (signatures_of xs) k vs) (signatures_of xs ≡ no_signatures) o
+listed_read k xs (Some w) h = counters_read k w xs h
+listed_read k xs None h = ap signatures_of h
+
+pub header_read_with :
+    (k : ℕ) (v : Item) (f : FieldsSeen) (xs : List SignatureSeen) → (map_with (listed (one_or_many (any_number (layered_signature k))))).describes v (f, xs)
+    → (layered_header k).describes v (with_counters f (signatures_of xs))
+header_read_with k v f xs h =
+    let parts = split (listed (one_or_many (any_number (layered_signature k)))) v f xs h in
+    header_read k v f parts.0 (signatures_of xs) parts.1 (listed_read k xs parts.0 parts.2)
+
+-- ---- what is wrong
+
+-- faults of a signature, in whose label 7 they are found within n signatures
+abbrev pub protected_faults : ℕ → ℕ → Shape (Unit {0})
+protected_faults n k = fixed (λ v. ⊤) None (ProtectedFaults (λ j. HeaderFaults (counters_faults n j)) k)
+
+abbrev pub unprotected_faults : ℕ → ℕ → Shape (Unit {0})
+unprotected_faults n k = fixed (λ v. ⊤) None (HeaderFaults (counters_faults n k))
+
+-- the faults of a header, as they are found
+pub unread_fault : (k : ℕ) (v : Item) (e : CoseError) → unread.faults v e → (layered_header k).faults v e
+unfolding layered_header
+unread_fault k v e f = (0, inl f)
+
+header_fault : (k : ℕ) (v : Item) (e : CoseError) → (layered_header k).faults v e → (n : ℕ) × (unprotected_faults n k).faults v e
+unfolding layered_header
+header_fault k v e f = f
+
+content_fault : (k : ℕ) (b : List ℕ) (e : CoseError) → ContentFaults (layered_header k) b e → (n : ℕ) × ContentFaults (unprotected_faults n k) b e
+content_fault k [] e f = absurd f
+content_fault k (c ∷ b) e (inl f) = (0, inl f)
+content_fault k (c ∷ b) e (inr f) = let g = header_fault k f.0 e f.2 in (g.0, inr (f.0, f.1, g.1))
+
+protected_fault : (k : ℕ) (v : Item) (e : CoseError) → (layered_protected k).faults v e → (n : ℕ) × (protected_faults n k).faults v e
+unfolding layered_protected
+protected_fault zero v e f = (0, f)
+protected_fault (suc k) v e (inl f) = (0, inl f)
+protected_fault (suc k) v e (inr f) = let g = content_fault k f.0 e f.2 in (g.0, inr (f.0, f.1, g.1))
+
+-- the places of a signature
+places_fault :
+    (k : ℕ) (vs : Items) (e : CoseError) → (layered_protected k then layered_header k then bstr then end).faults vs e
+    → (n : ℕ) × (protected_faults n k then unprotected_faults n k then bstr then end).faults vs e
+places_fault k no_items e f = absurd f
+places_fault k (item v vs) e (inl f) = let g = protected_fault k v e f in (g.0, inl g.1)
+places_fault k (item v no_items) e (inr f) = absurd f
+places_fault k (item v (item w vs)) e (inr (inl f)) = let g = header_fault k w e f in (g.0, inr (inl g.1))
+places_fault k (item v (item w vs)) e (inr (inr f)) = (0, inr (inr f))
+
+signature_fault : (k : ℕ) (v : Item) (e : CoseError) → (layered_signature k).faults v e → (n : ℕ) × (signed_array (protected_faults n k) (unprotected_faults n k)).faults v e
+signature_fault k v e (inl f) = (0, inl f)
+signature_fault k v e (inr f) =
+    elim f.2 [ inl m ↦ (0, inr (f.0, f.1, inl m)) | inr m ↦ let g = places_fault k f.0 e m in (g.0, inr (f.0, f.1, inr g.1)) ]
+
+signatures_fault :
+    (k : ℕ) (vs : Items) (e : CoseError) → EachFaults (layered_signature k).faults vs e → (n : ℕ) × EachFaults (signed_array (protected_faults n k) (unprotected_faults n k)).faults vs e
+signatures_fault k no_items e f = absurd f
+signatures_fault k (item v vs) e (inl f) = let g = signature_fault k v e f in (g.0, inl g.1)
+signatures_fault k (item v vs) e (inr f) = let g = signatures_fault k vs e f in (g.0, inr g.1)
+
+-- those of one signature, or of several
+pub faults_read : (k : ℕ) (w : Item) (e : CoseError) → (one_or_many (any_number (layered_signature k))).faults w e → (n : ℕ) × counters_faults n k w e
+faults_read k w e (inl f) = (1, inl f)
+faults_read k w e (inr f) = elim f.2 [ inl m ↦ absurd m.0 | inr m ↦ let g = signatures_fault k f.0 e m in (suc g.0, inr (f.0, f.1, inr g.1)) ]
+
+-- and of the header that they stand in
+pub counters_fault :
+    (k : ℕ) (v : Item) (f : FieldsSeen) (w : Item) (e : CoseError) → unread.describes v (f, Some w) → (one_or_many (any_number (layered_signature k))).faults w e → (layered_header k).faults v e
+unfolding layered_header
+counters_fault k v f w e p q = let g = faults_read k w e q in (g.0, inr (f, w, p, g.1))

@@ -1,0 +1,56 @@
+-- What a header is seen as that was made, and one that is opened.
+use Rattle.std.specs.Prelude.{◌≡◌, map, option_map}
+use Rattle.coset_core.specs.Headers.{HeaderSeen, ProtectedSeen, SignatureSeen, signatures_of}
+use Rattle.coset_core.specs.Views.{algorithm_seen, critical_seen, content_type_seen, entry_seen, header_step, protected_step, signature_step, header_seen, protected_seen, signature_seen}
+use Rattle.coset_core.specs.declared.header.Header.{Header, Header-F, out-Header, roll-Header, fold-roll-Header, fold_out-Header}
+use Rattle.coset_core.specs.declared.protected.ProtectedHeader.{ProtectedHeader, ProtectedHeader-F, out-ProtectedHeader, roll-ProtectedHeader, fold-roll-ProtectedHeader, fold_out-ProtectedHeader}
+use Rattle.coset_core.specs.declared.signature.CoseSignature.{CoseSignature, CoseSignature-F, out-CoseSignature, roll-CoseSignature, fold-roll-CoseSignature, fold_out-CoseSignature}
+
+-- one level of each
+abbrev pub HeaderLevel : Type 0
+HeaderLevel = Header-F Header ProtectedHeader CoseSignature
+
+abbrev pub ProtectedLevel : Type 0
+ProtectedLevel = ProtectedHeader-F Header ProtectedHeader CoseSignature
+
+abbrev pub SignatureLevel : Type 0
+SignatureLevel = CoseSignature-F Header ProtectedHeader CoseSignature
+
+-- what each level is seen as
+abbrev pub header_level : HeaderLevel → HeaderSeen
+header_level h = record {
+  fields = record {
+    alg = option_map algorithm_seen h.alg;
+    crit = map critical_seen h.crit.items;
+    content_type = option_map content_type_seen h.content_type;
+    key_id = h.key_id.items;
+    iv = h.iv.items;
+    partial_iv = h.partial_iv.items;
+    rest = map entry_seen h.rest.items;
+  };
+  counter_signatures = signatures_of (map signature_seen h.counter_signatures.items);
+}
+
+abbrev pub protected_level : ProtectedLevel → ProtectedSeen
+protected_level p = record { original = option_map (λ v. v.items) p.original_data; header = header_seen p.header }
+
+abbrev pub signature_level : SignatureLevel → SignatureSeen
+signature_level s = record { protected = protected_seen s.protected; unprotected = header_seen s.unprotected; signature = s.signature.items }
+
+pub header-made : (x : HeaderLevel) → header_seen (roll-Header x) ≡ header_level x
+header-made = fold-roll-Header HeaderSeen ProtectedSeen SignatureSeen header_step protected_step signature_step
+
+pub header-opened : (h : Header) → header_seen h ≡ header_level (out-Header h)
+header-opened = fold_out-Header HeaderSeen ProtectedSeen SignatureSeen header_step protected_step signature_step
+
+pub protected-made : (x : ProtectedLevel) → protected_seen (roll-ProtectedHeader x) ≡ protected_level x
+protected-made = fold-roll-ProtectedHeader HeaderSeen ProtectedSeen SignatureSeen header_step protected_step signature_step
+
+pub protected-opened : (p : ProtectedHeader) → protected_seen p ≡ protected_level (out-ProtectedHeader p)
+protected-opened = fold_out-ProtectedHeader HeaderSeen ProtectedSeen SignatureSeen header_step protected_step signature_step
+
+pub signature-made : (x : SignatureLevel) → signature_seen (roll-CoseSignature x) ≡ signature_level x
+signature-made = fold-roll-CoseSignature HeaderSeen ProtectedSeen SignatureSeen header_step protected_step signature_step
+
+pub signature-opened : (s : CoseSignature) → signature_seen s ≡ signature_level (out-CoseSignature s)
+signature-opened = fold_out-CoseSignature HeaderSeen ProtectedSeen SignatureSeen header_step protected_step signature_step

@@ -1,0 +1,62 @@
+-- Headers without their memory.
+use Rattle.std.specs.Prelude.{map, option_map}
+use Rattle.coset_value.specs.Item.{Item}
+use Rattle.coset_value.specs.View.{view}
+use Rattle.coset_value.specs.declared.value.Value.{Value}
+use Rattle.coset_iana.specs.Algorithm as algorithms
+use Rattle.coset_iana.specs.CoapContentFormat as content_formats
+use Rattle.coset_iana.specs.HeaderParameter as parameters
+use Rattle.coset_iana.specs.declared.algorithms.Algorithm.{Algorithm}
+use Rattle.coset_iana.specs.declared.content_formats.CoapContentFormat.{CoapContentFormat}
+use Rattle.coset_iana.specs.declared.headers.HeaderParameter.{HeaderParameter}
+use Rattle.coset_label.specs.Names.{Name, RegisteredName}
+use Rattle.coset_label.specs.Views.{label_seen, registered_seen, registered_or_private_seen}
+use Rattle.coset_label.specs.declared.label.Label.{Label}
+use Rattle.coset_label.specs.declared.registered.RegisteredLabel.{RegisteredLabel}
+use Rattle.coset_label.specs.declared.registered.RegisteredLabelWithPrivate.{RegisteredLabelWithPrivate}
+use Rattle.coset_core.specs.Headers.{HeaderSeen, ProtectedSeen, SignatureSeen, signatures_of}
+use Rattle.coset_core.specs.declared.header.Header.{Header, Header-F, fold-Header}
+use Rattle.coset_core.specs.declared.protected.ProtectedHeader.{ProtectedHeader, ProtectedHeader-F, fold-ProtectedHeader}
+use Rattle.coset_core.specs.declared.signature.CoseSignature.{CoseSignature, CoseSignature-F, fold-CoseSignature}
+
+abbrev pub algorithm_seen : RegisteredLabelWithPrivate Algorithm → RegisteredName
+algorithm_seen = registered_or_private_seen algorithms.number
+
+abbrev pub critical_seen : RegisteredLabelWithPrivate HeaderParameter → RegisteredName
+critical_seen = registered_or_private_seen parameters.number
+
+abbrev pub content_type_seen : RegisteredLabel CoapContentFormat → Name
+content_type_seen = registered_seen content_formats.number
+
+abbrev pub entry_seen : Label × Value → Name × Item
+entry_seen e = (label_seen e.0, view e.1)
+
+-- one level of each, where what it holds is seen already
+abbrev pub header_step : Header-F HeaderSeen ProtectedSeen SignatureSeen → HeaderSeen
+header_step h = record {
+  fields = record {
+    alg = option_map algorithm_seen h.alg;
+    crit = map critical_seen h.crit.items;
+    content_type = option_map content_type_seen h.content_type;
+    key_id = h.key_id.items;
+    iv = h.iv.items;
+    partial_iv = h.partial_iv.items;
+    rest = map entry_seen h.rest.items;
+  };
+  counter_signatures = signatures_of h.counter_signatures.items;
+}
+
+abbrev pub protected_step : ProtectedHeader-F HeaderSeen ProtectedSeen SignatureSeen → ProtectedSeen
+protected_step p = record { original = option_map (λ v. v.items) p.original_data; header = p.header }
+
+abbrev pub signature_step : CoseSignature-F HeaderSeen ProtectedSeen SignatureSeen → SignatureSeen
+signature_step s = record { protected = s.protected; unprotected = s.unprotected; signature = s.signature.items }
+
+abbrev pub header_seen : Header → HeaderSeen
+header_seen = fold-Header HeaderSeen ProtectedSeen SignatureSeen header_step protected_step signature_step
+
+abbrev pub protected_seen : ProtectedHeader → ProtectedSeen
+protected_seen = fold-ProtectedHeader HeaderSeen ProtectedSeen SignatureSeen header_step protected_step signature_step
+
+abbrev pub signature_seen : CoseSignature → SignatureSeen
+signature_seen = fold-CoseSignature HeaderSeen ProtectedSeen SignatureSeen header_step protected_step signature_step

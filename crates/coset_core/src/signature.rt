@@ -1,0 +1,82 @@
+//! Signatures: those of a message, and those that countersign.
+
+ghost use Rattle.std.specs.Prelude.{◌≡◌, None, [], IfErr};
+ghost use Rattle.coset_shape.specs.Answers.{ReadsSlice, DescribesNothing, AsksForItems};
+ghost use Rattle.coset_shape.specs.Errors.{Names};
+ghost use Rattle.coset_core.specs.Headers.{empty_header, signature};
+ghost use Rattle.coset_core.specs.Views.{signature_seen};
+
+use crate::header::Header;
+use crate::protected::ProtectedHeader;
+use crate::read::{LAYERS, read_signature};
+use crate::value::signature_value;
+use coset_cbor::de::Pull;
+use coset_cbor::value::Value;
+use coset_shape::traits::{FromPull, read_slice};
+use coset_shape::{AsCborValue, CborSerializable, Result, Source};
+use std::alloc::Global;
+
+/// One signature (RFC 8152, section 4.1), which has its own headers: of a `COSE_Sign` message, or a counter signature
+/// (section 4.5).
+#[cycle(header)]
+#[derive(Debug, Drop)]
+pub struct CoseSignature {
+    /// The header that the signature covers.
+    pub protected: ProtectedHeader,
+    /// The header that it doesn't.
+    pub unprotected: Header,
+    /// The signature's bytes.
+    pub signature: Vec<u8>,
+}
+
+impl CoseSignature {
+    /// A signature of no bytes with empty headers. It takes no memory.
+    pub fn new(alloc: Global) -> CoseSignature
+        ensures { signature_seen result ≡ record { protected = record { original = None; header = empty_header }; unprotected = empty_header; signature = [] } }
+    {
+        CoseSignature {
+            protected: ProtectedHeader::new(alloc),
+            unprotected: Header::new(alloc),
+            signature: Vec::new(alloc),
+        }
+    }
+}
+
+impl AsCborValue for CoseSignature {
+    ghost use Rattle.coset_core.specs.Headers.{SignatureSeen};
+    ghost use Rattle.coset_core.specs.HeaderLaws.{signature_laws};
+
+    ghost Seen = { SignatureSeen };
+
+    ghost seen = { signature_seen };
+
+    ghost shape = { signature };
+
+    ghost unique = { signature_laws.unique };
+
+    ghost sound = { signature_laws.sound };
+
+    fn from_cbor_value(alloc: Global, value: Value) -> Result<CoseSignature> {
+        read_signature(alloc, Source::Tree(value), LAYERS)
+    }
+
+    fn to_cbor_value(self, alloc: Global) -> Result<Value> {
+        signature_value(alloc, self)
+    }
+}
+
+impl FromPull for CoseSignature {
+    fn from_pull(alloc: Global, pull: Pull<'_>) -> Result<CoseSignature> {
+        read_signature(alloc, Source::Lent(pull), LAYERS)
+    }
+}
+
+impl CborSerializable for CoseSignature {
+    fn from_slice(alloc: Global, s: &[u8]) -> Result<CoseSignature>
+        ensures read { ReadsSlice signature signature_seen s.now result }
+        ensures refused { IfErr result (λ e. Names e (λ _. DescribesNothing signature s.now)) }
+        ensures memory { AsksForItems s.now result }
+    {
+        read_slice(alloc, s)
+    }
+}
