@@ -24,6 +24,8 @@ mod protected;
 #[cfg(test)]
 mod refused;
 #[cfg(test)]
+mod refused_headers;
+#[cfg(test)]
 mod sample;
 #[cfg(test)]
 mod sign1;
@@ -31,5 +33,7 @@ mod sign1;
 mod signatures;
 #[cfg(test)]
 mod steps;
+#[cfg(test)]
+mod turns;
 #[cfg(test)]
 mod walks;

@@ -1,9 +1,9 @@
-//! Each request for memory refused in turn. The address space is filled, and then calls are made with ever more of
-//! it left: each answers the want of memory, or what it answers with ample memory.
+//! Values, types of a caller's own and labels while requests for memory are refused.
 
 use crate::cbor::{EACH_KIND, each_kind};
 use crate::kinds::twice;
 use crate::sample::{forty, through_a_value};
+use crate::turns::{Answer, Calls, made, refuse_or_answer, written};
 use coset_cbor::de::{EndOfFile, Error, read_value};
 use coset_cbor::ser::write_value;
 use coset_cbor::value::Value;
@@ -18,76 +18,8 @@ use coset_shape::{
 };
 use coset_sign::structure::structure_bytes;
 use std::alloc::{AllocError, Global};
-use std::process::Abort;
+use std::mem;
 use std::test::*;
-
-/// The size of the hole that is left in the filled address space, and how much of it each turn leaves more.
-pub(crate) const HOLE: usize = 65536;
-
-pub(crate) const STEP: usize = 16;
-
-pub(crate) const TURNS: usize = 200;
-
-/// What a call answered.
-#[derive(Clone, Copy, PartialEq, Eq)]
-pub(crate) enum Answer {
-    /// What it answers with ample memory.
-    Same,
-    Refused,
-    Other,
-}
-
-/// How often a call answered the one and the other. Anything else fails the test.
-#[derive(Clone, Copy)]
-pub(crate) struct Tally {
-    same: u32,
-    refused: u32,
-}
-
-impl Tally {
-    pub(crate) fn new() -> Tally {
-        Tally {
-            same: 0,
-            refused: 0,
-        }
-    }
-
-    pub(crate) fn count(&mut self, rt: &impl Abort, answer: Answer) {
-        match answer {
-            Answer::Same => self.same = self.same.saturating_add(1),
-            Answer::Refused => self.refused = self.refused.saturating_add(1),
-            Answer::Other => assert!(rt; false, "another answer"),
-        }
-    }
-
-    pub(crate) fn had_both(&self) -> bool {
-        self.same > 0 && self.refused > 0
-    }
-}
-
-pub(crate) fn all_had_both(tallies: &[Tally]) -> bool {
-    tallies.iter().all(|tally| tally.had_both())
-}
-
-/// Blocks that together hold all the memory that is left, so that every request is refused while they stand.
-pub(crate) fn fill(alloc: Global) -> Result<Vec<Vec<u8>>, AllocError> {
-    let mut held: Vec<Vec<u8>> = Vec::with_capacity(alloc, 200_000)?;
-    let mut size = 1usize << 40;
-    for _ in 0..40u32 {
-        for _ in 0..150_000u32 {
-            match Vec::with_capacity(alloc, size) {
-                Ok(block) => {
-                    if held.push(block).is_err() {
-                        break;
-                    }
-                }
-                Err(_) => break,
-            }
-        }
-        size /= 2;
-    }
-    Ok(held)
-}
 
 fn reading(alloc: Global, expected: &Value) -> Answer {
     match read_value(alloc, &EACH_KIND) {
@@ -170,32 +102,35 @@ fn cloning(value: &Value) -> Answer {
     }
 }
 
+/// Calls over values of every kind.
+#[derive(Drop)]
+struct OfValues {
+    expected: Value,
+}
+
+impl Calls for OfValues {
+    fn count(&self) -> usize {
+        3
+    }
+
+    fn need_none(&mut self, alloc: Global) -> bool {
+        faults_stand(alloc) && fronts_end_early(alloc)
+    }
+
+    fn answer(&self, alloc: Global, call: usize) -> Option<Answer> {
+        Some(match call {
+            0 => reading(alloc, &self.expected),
+            1 => writing(alloc, &self.expected),
+            _ => cloning(&self.expected),
+        })
+    }
+}
+
 #[test]
-fn refuses_or_answers(rt: HostRuntime) -> Result<(), Fail> {
+fn values_refuse_or_answer(rt: HostRuntime) -> Result<(), Fail> {
     let alloc = rt.alloc();
     let expected = each_kind(alloc)?;
-    let (mut read, mut written, mut cloned) = (Tally::new(), Tally::new(), Tally::new());
-    let hole: Vec<u8> = Vec::with_capacity(alloc, HOLE)?;
-    let held = fill(alloc)?;
-    assert!(rt;
-        faults_stand(alloc),
-        "ill-formed input is refused without memory"
-    );
-    assert!(rt;
-        fronts_end_early(alloc),
-        "a front of an item is refused without memory"
-    );
-    drop(hole);
-    for turn in 0..TURNS {
-        let pad: Result<Vec<u8>, AllocError> = Vec::with_capacity(alloc, HOLE - STEP * turn);
-        read.count(&rt, reading(alloc, &expected));
-        written.count(&rt, writing(alloc, &expected));
-        cloned.count(&rt, cloning(&expected));
-        drop(pad);
-    }
-    drop(held);
-    assert!(rt; read.had_both() && written.had_both() && cloned.had_both());
-    Ok(())
+    refuse_or_answer(&rt, alloc, &mut OfValues { expected })
 }
 
 /// A map of the sample type, with a string, and an array and a text in the rest.
@@ -216,23 +151,6 @@ fn settings_lent(alloc: Global) -> Answer {
         Ok(x) if x.level == 5 && x.name.is_some() && x.rest.len() == 1 => Answer::Same,
         Err(CoseError::OutOfMemory) => Answer::Refused,
         _ => Answer::Other,
-    }
-}
-
-/// Whether what was made is written as this.
-pub(crate) fn written<T: CborSerializable + Drop>(
-    alloc: Global,
-    made: coset_shape::Result<T>,
-    expected: &[u8],
-) -> Answer {
-    match made {
-        Ok(x) => match x.to_vec(alloc) {
-            Ok(text) if text.as_slice() == expected => Answer::Same,
-            Err(CoseError::OutOfMemory) => Answer::Refused,
-            _ => Answer::Other,
-        },
-        Err(CoseError::OutOfMemory) => Answer::Refused,
-        Err(_) => Answer::Other,
     }
 }
 
@@ -269,15 +187,6 @@ fn structure(alloc: Global) -> Answer {
 /// A header with an algorithm and an identifier, and a text, an array and null in the rest.
 const HEADER: [u8; 17] = *b"\xa4\x01\x61\x61\x04\x42\x31\x31\x61\x6b\x82\x01\x61\x62\x18\x46\xf6";
 
-/// What the answer is, where a call ought to make what is expected.
-pub(crate) fn made<T: PartialEq + Drop>(answer: coset_shape::Result<T>, expected: &T) -> Answer {
-    match answer {
-        Ok(x) if x == *expected => Answer::Same,
-        Err(CoseError::OutOfMemory) => Answer::Refused,
-        _ => Answer::Other,
-    }
-}
-
 fn protected(alloc: Global, header: &Header) -> coset_shape::Result<ProtectedHeader> {
     Ok(ProtectedHeader {
         original_data: Some(Vec::from_slice(alloc, &HEADER)?),
@@ -306,38 +215,55 @@ fn typed_faults_stand(alloc: Global) -> bool {
     )
 }
 
+/// Calls over the sample types, a header, repeated labels and structures.
+#[derive(Drop)]
+struct OfTypes {
+    labels: Vec<(Name, Value)>,
+    header: Header,
+    protected: ProtectedHeader,
+}
+
+impl Calls for OfTypes {
+    fn count(&self) -> usize {
+        11
+    }
+
+    fn need_none(&mut self, alloc: Global) -> bool {
+        typed_faults_stand(alloc)
+    }
+
+    fn answer(&self, alloc: Global, call: usize) -> Option<Answer> {
+        let OfTypes {
+            labels,
+            header,
+            protected,
+        } = self;
+        Some(match call {
+            0 => settings(alloc),
+            1 => settings_lent(alloc),
+            2 => written(alloc, Settings::from_slice(alloc, &SETTINGS), &SETTINGS),
+            3 => reading_written(alloc),
+            4 => repeats(alloc, labels),
+            5 => made(Header::from_slice(alloc, &HEADER), header),
+            6 => made(through_a_value(alloc, &HEADER), header),
+            7 => made(header.clone(), header),
+            8 => made(protected.clone(), protected),
+            9 => written(alloc, header.clone(), &HEADER),
+            _ => structure(alloc),
+        })
+    }
+}
+
 #[test]
 fn types_refuse_or_answer(rt: HostRuntime) -> Result<(), Fail> {
     let alloc = rt.alloc();
-    let labels = forty(alloc, 3)?;
     let header = Header::from_slice(alloc, &HEADER).ok().ok_or("memory")?;
-    let protected = protected(alloc, &header).ok().ok_or("memory")?;
-    let mut tallies = [Tally::new(); 11];
-    let hole: Vec<u8> = Vec::with_capacity(alloc, HOLE)?;
-    let held = fill(alloc)?;
-    assert!(rt; typed_faults_stand(alloc), "refused without memory");
-    drop(hole);
-    for turn in 0..TURNS {
-        let pad: Result<Vec<u8>, AllocError> = Vec::with_capacity(alloc, HOLE - STEP * turn);
-        tallies[0].count(&rt, settings(alloc));
-        tallies[1].count(&rt, settings_lent(alloc));
-        tallies[2].count(
-            &rt,
-            written(alloc, Settings::from_slice(alloc, &SETTINGS), &SETTINGS),
-        );
-        tallies[3].count(&rt, reading_written(alloc));
-        tallies[4].count(&rt, repeats(alloc, &labels));
-        tallies[5].count(&rt, made(Header::from_slice(alloc, &HEADER), &header));
-        tallies[6].count(&rt, made(through_a_value(alloc, &HEADER), &header));
-        tallies[7].count(&rt, made(header.clone(), &header));
-        tallies[8].count(&rt, made(protected.clone(), &protected));
-        tallies[9].count(&rt, written(alloc, header.clone(), &HEADER));
-        tallies[10].count(&rt, structure(alloc));
-        drop(pad);
-    }
-    drop(held);
-    assert!(rt; all_had_both(&tallies));
-    Ok(())
+    let mut calls = OfTypes {
+        labels: forty(alloc, 3)?,
+        protected: protected(alloc, &header).ok().ok_or("memory")?,
+        header,
+    };
+    refuse_or_answer(&rt, alloc, &mut calls)
 }
 
 /// A text label, longer than the least that a request for memory is given.
@@ -355,17 +281,16 @@ fn label_written<T: CborSerializable + Drop>(alloc: Global) -> Option<Answer> {
     })
 }
 
-/// A label read both ways, and written, each with its tally.
-fn count_label<T: FromPull + CborSerializable + PartialEq + Drop>(
-    rt: &impl Abort,
+/// A label read both ways, and written.
+fn label_answer<T: FromPull + CborSerializable + PartialEq + Drop>(
     alloc: Global,
     expected: &T,
-    tallies: &mut [Tally; 4],
-) {
-    tallies[0].count(rt, made(T::from_slice(alloc, &TEXT), expected));
-    tallies[1].count(rt, made(through_a_value(alloc, &TEXT), expected));
-    if let Some(answer) = label_written::<T>(alloc) {
-        tallies[2].count(rt, answer);
+    call: usize,
+) -> Option<Answer> {
+    match call {
+        0 => Some(made(T::from_slice(alloc, &TEXT), expected)),
+        1 => Some(made(through_a_value(alloc, &TEXT), expected)),
+        _ => label_written::<T>(alloc),
     }
 }
 
@@ -395,40 +320,59 @@ fn labels_need_none(alloc: Global, text: Value) -> bool {
         && Label::from_cbor_value(alloc, text).is_ok()
 }
 
-#[test]
-fn labels_refuse_or_answer(rt: HostRuntime) -> Result<(), Fail> {
-    let alloc = rt.alloc();
-    let label = Label::Text(String::from_str(alloc, WORDS)?);
-    let kind: KeyType = RegisteredLabel::Text(String::from_str(alloc, WORDS)?);
-    let algorithm: Algorithm = RegisteredLabelWithPrivate::Text(String::from_str(alloc, WORDS)?);
-    let text = Value::Text(String::from_str(alloc, "a")?);
+/// Calls over labels of text, and of an array of numbers.
+#[derive(Drop)]
+struct OfLabels {
+    label: Label,
+    kind: KeyType,
+    algorithm: Algorithm,
+    members: Value,
+    /// What is read without memory.
+    text: Value,
+}
+
+impl Calls for OfLabels {
+    fn count(&self) -> usize {
+        13
+    }
+
+    fn need_none(&mut self, alloc: Global) -> bool {
+        let text = mem::replace(&mut self.text, Value::Null);
+        labels_need_none(alloc, text)
+    }
+
+    fn answer(&self, alloc: Global, call: usize) -> Option<Answer> {
+        match call {
+            0..=2 => label_answer(alloc, &self.label, call),
+            3..=5 => label_answer(alloc, &self.kind, call - 3),
+            6..=8 => label_answer(alloc, &self.algorithm, call - 6),
+            9 => Some(made(self.label.clone(), &self.label)),
+            10 => Some(made(self.kind.clone(), &self.kind)),
+            11 => Some(made(self.algorithm.clone(), &self.algorithm)),
+            12 => conversion(alloc, &self.members),
+            _ => None,
+        }
+    }
+}
+
+/// An array of thirty times 7.
+fn sevens(alloc: Global) -> Result<Value, AllocError> {
     let mut numbers = Vec::new(alloc);
     for _ in 0..30u8 {
         numbers.push(Value::from(7u8))?;
     }
-    let members = Value::Array(numbers);
-    let none = [Tally::new(); 4];
-    let (mut of_label, mut of_kind, mut of_algorithm) = (none, none, none);
-    let mut conversions = Tally::new();
-    let hole: Vec<u8> = Vec::with_capacity(alloc, HOLE)?;
-    let held = fill(alloc)?;
-    assert!(rt; labels_need_none(alloc, text), "answered without memory");
-    drop(hole);
-    for turn in 0..TURNS {
-        let pad: Result<Vec<u8>, AllocError> = Vec::with_capacity(alloc, HOLE - STEP * turn);
-        count_label(&rt, alloc, &label, &mut of_label);
-        of_label[3].count(&rt, made(label.clone(), &label));
-        count_label(&rt, alloc, &kind, &mut of_kind);
-        of_kind[3].count(&rt, made(kind.clone(), &kind));
-        count_label(&rt, alloc, &algorithm, &mut of_algorithm);
-        of_algorithm[3].count(&rt, made(algorithm.clone(), &algorithm));
-        if let Some(answer) = conversion(alloc, &members) {
-            conversions.count(&rt, answer);
-        }
-        drop(pad);
-    }
-    drop(held);
-    assert!(rt; all_had_both(&of_label) && all_had_both(&of_kind) && all_had_both(&of_algorithm));
-    assert!(rt; conversions.had_both());
-    Ok(())
+    Ok(Value::Array(numbers))
+}
+
+#[test]
+fn labels_refuse_or_answer(rt: HostRuntime) -> Result<(), Fail> {
+    let alloc = rt.alloc();
+    let mut calls = OfLabels {
+        label: Label::Text(String::from_str(alloc, WORDS)?),
+        kind: RegisteredLabel::Text(String::from_str(alloc, WORDS)?),
+        algorithm: RegisteredLabelWithPrivate::Text(String::from_str(alloc, WORDS)?),
+        members: sevens(alloc)?,
+        text: Value::Text(String::from_str(alloc, "a")?),
+    };
+    refuse_or_answer(&rt, alloc, &mut calls)
 }

@@ -1,8 +1,8 @@
 //! Messages with one signature: worked rows read both ways, written and tagged, and the bytes that are signed.
 
-use crate::refused::{Answer, HOLE, STEP, TURNS, Tally, all_had_both, fill, made, written};
 use crate::sample::Expected::{Refused, Written};
 use crate::sample::{Expected, is_expected, through_a_value};
+use crate::turns::{Answer, Calls, made, refuse_or_answer, written};
 use coset_cbor::de::{EndOfFile, Error};
 use coset_cbor::value::Value;
 use coset_core::ProtectedHeader;
@@ -384,30 +384,40 @@ fn needs_none(alloc: Global) -> bool {
         )
 }
 
-#[test]
-fn refuses_or_answers(rt: HostRuntime) -> std::result::Result<(), Fail> {
-    let alloc = rt.alloc();
-    let built = readme(alloc)?;
-    let read: Result<CoseSign1> = CoseSign1::from_slice(alloc, README);
-    let read = read.ok().ok_or("read")?;
-    let mut tallies = [Tally::new(); 5];
-    let hole: Vec<u8> = Vec::with_capacity(alloc, HOLE)?;
-    let held = fill(alloc)?;
-    assert!(rt; needs_none(alloc), "read or refused without memory");
-    drop(hole);
-    for turn in 0..TURNS {
-        let pad: std::result::Result<Vec<u8>, AllocError> = Vec::with_capacity(
-            alloc,
-            HOLE - STEP * turn,
-        );
-        tallies[0].count(&rt, made(CoseSign1::from_slice(alloc, README), &read));
-        tallies[1].count(&rt, made(through_a_value(alloc, README), &read));
-        tallies[2].count(&rt, made(read.clone(), &read));
-        tallies[3].count(&rt, written(alloc, read.clone(), README));
-        tallies[4].count(&rt, signed(alloc, &built));
-        drop(pad);
+/// Calls over the README's message, as it is built and as it is read.
+#[derive(Drop)]
+struct OfMessages {
+    built: CoseSign1,
+    read: CoseSign1,
+}
+
+impl Calls for OfMessages {
+    fn count(&self) -> usize {
+        5
     }
-    drop(held);
-    assert!(rt; all_had_both(&tallies));
-    Ok(())
+
+    fn need_none(&mut self, alloc: Global) -> bool {
+        needs_none(alloc)
+    }
+
+    fn answer(&self, alloc: Global, call: usize) -> Option<Answer> {
+        Some(match call {
+            0 => made(CoseSign1::from_slice(alloc, README), &self.read),
+            1 => made(through_a_value(alloc, README), &self.read),
+            2 => made(self.read.clone(), &self.read),
+            3 => written(alloc, self.read.clone(), README),
+            _ => signed(alloc, &self.built),
+        })
+    }
+}
+
+#[test]
+fn messages_refuse_or_answer(rt: HostRuntime) -> std::result::Result<(), Fail> {
+    let alloc = rt.alloc();
+    let read: Result<CoseSign1> = CoseSign1::from_slice(alloc, README);
+    let mut calls = OfMessages {
+        built: readme(alloc)?,
+        read: read.ok().ok_or("read")?,
+    };
+    refuse_or_answer(&rt, alloc, &mut calls)
 }
