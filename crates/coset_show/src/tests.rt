@@ -220,6 +220,43 @@ fn nests_256_deep(rt: HostRuntime) -> Result<(), Fail> {
     Ok(())
 }
 
+/// The byte string of bytes, both as digits: its shortest text where there are less than 256.
+fn byte_string(alloc: Global, content: &str) -> Result<String, AllocError> {
+    let length = content.len() / 2;
+    if length < 24 {
+        format!(in alloc; "{:02x}{content}", 64 + length)
+    } else {
+        format!(in alloc; "58{length:02x}{content}")
+    }
+}
+
+/// What the byte string of a protected header holds that is the first of `strings` within one another, each but the last
+/// with a counter signature.
+fn nested(alloc: Global, strings: usize) -> Result<String, AllocError> {
+    let mut content = String::new(alloc);
+    for _ in 1..strings {
+        let inner = byte_string(alloc, content.as_str())?;
+        content = format!(in alloc; "a10783{inner}a040")?;
+    }
+    Ok(content)
+}
+
+#[test]
+fn counts_16_protected_headers_within_one_another(rt: HostRuntime) -> Result<(), Fail> {
+    let alloc = rt.alloc();
+    let string = byte_string(alloc, nested(alloc, 16)?.as_str())?;
+    let input = format!(in alloc; "84{string}a0f640")?;
+    assert_eq!(rt; input.len(), 2 * 107);
+    let lines = format!(in alloc; "{input}\ntbs 846a5369676e617475726531{string}4040\n")?;
+    answers(&rt, alloc, "sign1", &[(input.as_str(), lines.as_str())], 0);
+    let string = byte_string(alloc, nested(alloc, 17)?.as_str())?;
+    let input = format!(in alloc; "84{string}a0f640")?;
+    assert_eq!(rt; input.len(), 2 * 114);
+    let line = "error: decode CBOR failure: RecursionLimitExceeded\n";
+    answers(&rt, alloc, "sign1", &[(input.as_str(), line)], 1);
+    Ok(())
+}
+
 /// A string of that many letters: its shortest text where the first byte of its major type is `short`.
 fn string(alloc: Global, major: u8, length: usize) -> Result<(String, String), AllocError> {
     let body = repeated(alloc, &[("61", length)])?;
