@@ -93,7 +93,7 @@ fn read_counters(alloc: Global, source: Source<'_>, layers: usize) -> Result<Vec
     ensures { Reads (one_or_many (any_number (layered_signature layers))) (λ all. map signature_seen all.items) (source_item source.entry) result }
 {
     let mut signatures = source.into_one_or_more()?;
-    let mut all = Vec::new(alloc);
+    let mut all = Vec::with_capacity(alloc, 1)?;
     while let Some(signature) = signatures.next() {
         all.push(read_signature(alloc, signature, layers)?)?;
     }
