@@ -147,7 +147,7 @@ fn shows_messages_with_one_signature(rt: HostRuntime) -> Result<(), Fail> {
             "8440a041aa40\ntbs 846a5369676e617475726531404041aa\n",
         ),
         (
-            "D2 84 40 A0 F6 40\n",
+            "d2 84 40 A0 F6 40\n",
             "d28440a0f640\ntbs 846a5369676e617475726531404040\n",
         ),
         (
