@@ -15,6 +15,7 @@ use Rattle.coset_cbor.specs.Grammar.{IsHeld, IsText, AreTexts, ArePairTexts, IsI
 use Rattle.coset_cbor.specs.Reading.{◌>>=◌, number_of, head_at, any_string_by, simple_at, Inside, nothing, things, item_by, item_from, item_at}
 use Rattle.coset_cbor.specs.Whole.{is_one_item, item_of}
 use Rattle.coset_cbor.specs.Between.{IsContent, array_around, map_around, items_in, pairs_in}
+use Rattle.coset_cbor.specs.Jumps.{BeginsItem}
 use Rattle.coset_cbor.proofs.Again.{head_of, IsHeaded-again, opening_again, IsText-begins, texts_differ}
 use Rattle.coset_cbor.proofs.Takes.{IsBytes, IsBytes-take, IsBytes-drop, IsBytes-rest, done, ok_is, bind_ok, some_ok, chosen, guard_else, head_takes}
 use Rattle.coset_cbor.proofs.Whole.{one_item_bytes, one_item_read, one_item_is, one_item_from, item_of_one}
@@ -36,7 +37,7 @@ item_kind (dict ps) = kinds.Map
 kind_made : (y x : Item × List ℕ) → done y ≡ done x → item_kind x.0 ≡ item_kind y.0
 kind_made y x e = ap (λ (p : Item × List ℕ). item_kind p.0) (sym (ok_is y x e))
 
-simple_kind : (left : ℕ) (a : Argument) (s : List ℕ) (x : Item × List ℕ) → simple_at left a s ≡ Ok x → item_kind x.0 ≡ kinds.Simple
+pub simple_kind : (left : ℕ) (a : Argument) (s : List ℕ) (x : Item × List ℕ) → simple_at left a s ≡ Ok x → item_kind x.0 ≡ kinds.Simple
 simple_kind left (places.Within n) s x e =
     elim (chosen (eqb n 20) _ _ _ e) [
       | inl a ↦ kind_made (boolean false, s) x a.1
@@ -233,6 +234,10 @@ no_empty v f rest e is =
     let parts : [] ≡ g.first ∷ (g.more ++ rest) = e ∙ ap (λ (s : List ℕ). s ++ rest) g.parts in
     absurd cc
 
+pub no_item_in_none : (s : List ℕ) → length s ≡ 0 → (v : Item) (f rest : List ℕ) → s ≡ f ++ rest → IsItem f v → ⊥
+no_item_in_none [] none v f rest e is = no_empty v f rest e is.0
+no_item_in_none (x ∷ s) none v f rest e is = omega arith
+
 -- the first item, and the others
 pub record FirstItem (b rest : List ℕ) (v : Item) : Type 0 where
   pub others : is_one_item (array_around rest) ≡ true
@@ -353,3 +358,29 @@ value_of b f mid k (pair x y ps) (c, i, j, key, value, more, parts) low e is non
 -- a value stands behind each key
 pub has_value : (b f mid : List ℕ) (k : Item) → is_one_item (map_around b) ≡ true → b ≡ f ++ mid → IsItem f k → ((v : Item) (g rest : List ℕ) → mid ≡ g ++ rest → IsItem g v → ⊥) → ⊥
 has_value b f mid k one e is none = let a = are_pairs b one in value_of b f mid k a.pairs a.texts a.low e is none
+
+-- ---- bytes that are left begin with an item
+
+items_begin : (b : List ℕ) (vs : Items) → AreTexts vs b → items_depth vs < 256 → 0 < length b → BeginsItem b
+items_begin b no_items texts low some = let none = ap length texts in absurd (omega arith)
+items_begin b (item w ws) texts low some = record { item = w; front = texts.0; rest = texts.1; parts = texts.4; is_item = (texts.2, omega arith) }
+
+pub item_begins : (b : List ℕ) → is_one_item (array_around b) ≡ true → 0 < length b → BeginsItem b
+item_begins b one some = let a = are_items b one in items_begin b a.items a.texts a.low some
+
+keys_begin : (b : List ℕ) (ps : Pairs) → ArePairTexts ps b → pairs_depth ps < 256 → 0 < length b → BeginsItem b
+keys_begin b no_pairs texts low some = let none = ap length texts in absurd (omega arith)
+keys_begin b (pair x y ps) (c, i, j, key, value, more, parts) low some = record { item = x; front = c; rest = i ++ j; parts = parts; is_item = (key, omega arith) }
+
+pub key_begins : (b : List ℕ) → is_one_item (map_around b) ≡ true → 0 < length b → BeginsItem b
+key_begins b one some = let a = are_pairs b one in keys_begin b a.pairs a.texts a.low some
+
+value_behind : (b f mid : List ℕ) (k : Item) (ps : Pairs) → ArePairTexts ps b → pairs_depth ps < 256 → b ≡ f ++ mid → IsItem f k → BeginsItem mid
+value_behind b f mid k no_pairs texts low e is = absurd (no_empty k f mid (sym texts ∙ e) is.0)
+value_behind b f mid k (pair x y ps) (c, i, j, key, value, more, parts) low e is =
+    let first = texts_differ k x f c mid (i ++ j) is.0 key (sym e ∙ parts) in
+    let after : i ++ j ≡ mid = append_cancel_left f (i ++ j) mid (ap (λ (s : List ℕ). s ++ (i ++ j)) first.1 ∙ sym parts ∙ e) in
+    record { item = y; front = i; rest = j; parts = sym after; is_item = (value, omega arith) }
+
+pub value_begins : (b f mid : List ℕ) (k : Item) → is_one_item (map_around b) ≡ true → b ≡ f ++ mid → IsItem f k → BeginsItem mid
+value_begins b f mid k one e is = let a = are_pairs b one in value_behind b f mid k a.pairs a.texts a.low e is

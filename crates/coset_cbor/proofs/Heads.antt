@@ -1,9 +1,9 @@
 -- What the head of a lent item says of the item.
-use Rattle.std.proofs.Common.{◌≡◌, ℕ, ◌≤◌, true, false, eqb, ltb, List, [], ◌++◌, length, Option, Some, None, Result, Ok, Err, refl, sym, ap, subst, ◌∙◌, arith, inl, inr}
+use Rattle.std.proofs.Common.{◌≡◌, ℕ, ◌≤◌, Bool, true, false, eqb, ltb, List, [], ◌++◌, length, Option, Some, None, Result, Ok, Err, refl, sym, ap, subst, ◌∙◌, arith, inl, inr}
 use Rattle.std.proofs.lemmas.List.{append-nil}
 use Rattle.std.specs.Prelude.{pos, negsuc, option_map}
 use Rattle.coset_value.specs.Item.{Item, depth, integer, bytes, float, half, single, double, boolean, null, tag, array, dict}
-use Rattle.coset_value.specs.Parts.{as_tag}
+use Rattle.coset_value.specs.Parts.{as_integer, as_tag}
 use Rattle.coset_value.specs.View.{items_of, pairs_of}
 use Rattle.coset_cbor.specs.declared.fault.Fault.{Fault}
 use Rattle.coset_cbor.specs.declared.fault.Fault.TheVariants.{Simple}
@@ -12,11 +12,13 @@ use Rattle.coset_cbor.specs.declared.head.Kind.TheVariants as kinds
 use Rattle.coset_cbor.specs.declared.head.Argument.{Argument}
 use Rattle.coset_cbor.specs.declared.head.Argument.TheVariants as places
 use Rattle.coset_cbor.specs.declared.head.Head.{Head}
-use Rattle.coset_cbor.specs.Reading.{◌>>=◌, number_of, unless_none, head_at, any_string_by, simple_at, Inside, things, item_by, item_from, item_at}
+use Rattle.coset_cbor.specs.Reading.{◌>>=◌, number_of, unless_none, head_at, chunk_kind, any_string_by, simple_at, Inside, things, item_by, item_from, item_at}
 use Rattle.coset_cbor.specs.Grammar.{IsText, IsItem}
-use Rattle.coset_cbor.specs.Scalars.{as_scalar, read_of, scalar_by, tag_by}
+use Rattle.coset_cbor.specs.Scalars.{as_scalar, read_of, scalar_by, integer_by, tag_by}
 use Rattle.coset_cbor.specs.Whole.{is_one_item, item_of}
 use Rattle.coset_cbor.proofs.Takes.{bind_ok, chosen, guard_else, ok_is, some_ok, head_takes, item_takes}
+use Rattle.coset_cbor.specs.StringChunks.{as_string}
+use Rattle.coset_cbor.proofs.Between.{item_kind, simple_kind}
 use Rattle.coset_cbor.proofs.Whole.{one_item_bytes, one_item_read, one_item_from, item_of_one}
 
 abbrev done : Item × List ℕ → Result (Item × List ℕ) Fault
@@ -84,6 +86,71 @@ scalar_is inside left a kinds.Tag s x e =
     let n = some_ok left (number_of a) (λ n. inside.one s >>= λ y. Ok (tag n y.0, y.1)) x e in
     ap as_scalar (sym (made_is (inside.one s) (tag n.0) x n.2).1)
 scalar_is inside left a kinds.Simple s x e = simple_scalar left a s x e
+
+-- ---- integers
+
+pub integer_is : (inside : Inside) (left : ℕ) (a : Argument) (k : Kind) (s : List ℕ) (x : Item × List ℕ) → item_by inside left a k s ≡ Ok x → integer_by (number_of a) k ≡ as_integer x.0
+integer_is inside left a kinds.Unsigned s x e =
+    let n = some_ok left (number_of a) (λ n. Ok (integer (pos n), s)) x e in
+    ap (option_map (λ (n : ℕ). pos n)) n.1 ∙ ap (λ (y : Item × List ℕ). as_integer y.0) (ok_is (integer (pos n.0), s) x n.2)
+integer_is inside left a kinds.Negative s x e =
+    let n = some_ok left (number_of a) (λ n. Ok (integer (negsuc n), s)) x e in
+    ap (option_map (λ (n : ℕ). negsuc n)) n.1 ∙ ap (λ (y : Item × List ℕ). as_integer y.0) (ok_is (integer (negsuc n.0), s) x n.2)
+integer_is inside left a kinds.Bytes s x e = ap as_integer (sym (made_is (any_string_by false left (number_of a) s) bytes x e).1)
+integer_is inside left a kinds.Text s x e = ap as_integer (sym (made_is (any_string_by true left (number_of a) s) Item.text x e).1)
+integer_is inside left a kinds.Array s x e = ap as_integer (sym (made_is (inside.items (number_of a) s) (λ vs. array (items_of vs)) x e).1)
+integer_is inside left a kinds.Map s x e = ap as_integer (sym (made_is (inside.pairs (number_of a) s) (λ ps. dict (pairs_of ps)) x e).1)
+integer_is inside left a kinds.Tag s x e =
+    let n = some_ok left (number_of a) (λ n. inside.one s >>= λ y. Ok (tag n y.0, y.1)) x e in
+    ap as_integer (sym (made_is (inside.one s) (tag n.0) x n.2).1)
+integer_is inside left a kinds.Simple s x e = no_integer x.0 (simple_kind left a s x e)
+  where
+    no_integer : (v : Item) → item_kind v ≡ kinds.Simple → None ≡ as_integer v
+    no_integer (integer (pos n)) h = absurd cc
+    no_integer (integer (negsuc n)) h = absurd cc
+    no_integer (bytes s) h = refl
+    no_integer (float x) h = refl
+    no_integer (Item.text s) h = refl
+    no_integer (boolean b) h = refl
+    no_integer null h = refl
+    no_integer (tag t v) h = refl
+    no_integer (array vs) h = refl
+    no_integer (dict ps) h = refl
+
+-- ---- strings
+
+string_by : (is_text : Bool) (inside : Inside) (left : ℕ) (a : Argument) (k : Kind) (s : List ℕ) (x : Item × List ℕ) → chunk_kind is_text k ≡ true → item_by inside left a k s ≡ Ok x
+    → (y : List ℕ × List ℕ) × (any_string_by is_text left (number_of a) s ≡ Ok y) × (Some y.0 ≡ as_string is_text x.0)
+string_by false inside left a kinds.Bytes s x k e =
+    let r = bind_ok (any_string_by false left (number_of a) s) (λ y. Ok (bytes y.0, y.1)) x e in
+    (r.0, r.1, ap (λ (z : Item × List ℕ). as_string false z.0) (ok_is (bytes r.0.0, r.0.1) x r.2))
+string_by true inside left a kinds.Text s x k e =
+    let r = bind_ok (any_string_by true left (number_of a) s) (λ y. Ok (Item.text y.0, y.1)) x e in
+    (r.0, r.1, ap (λ (z : Item × List ℕ). as_string true z.0) (ok_is (Item.text r.0.0, r.0.1) x r.2))
+string_by true inside left a kinds.Bytes s x k e = absurd cc
+string_by false inside left a kinds.Text s x k e = absurd cc
+string_by is_text inside left a kinds.Unsigned s x k e = absurd cc
+string_by is_text inside left a kinds.Negative s x k e = absurd cc
+string_by is_text inside left a kinds.Array s x k e = absurd cc
+string_by is_text inside left a kinds.Map s x k e = absurd cc
+string_by is_text inside left a kinds.Tag s x k e = absurd cc
+string_by is_text inside left a kinds.Simple s x k e = absurd cc
+
+-- the string that a lent item is, read again, is its content
+pub string_read : (is_text : Bool) (b : List ℕ) (h : Head × List ℕ) (o : Option ℕ) (y : List ℕ × List ℕ) → is_one_item b ≡ true → head_at b ≡ Ok h → chunk_kind is_text h.0.kind ≡ true → o ≡ number_of h.0.argument
+    → any_string_by is_text (length b) o h.1 ≡ Ok y → Some y.0 ≡ as_string is_text (item_of b)
+string_read is_text b h o y one e k number is =
+    let r = string_by is_text (things (item_at 255)) (length b) h.0.argument h.0.kind h.1 (item_of b, []) k (one_item_by b h one e) in
+    ap (λ (z : List ℕ × List ℕ). Some z.0) (ok_is y r.0 (sym is ∙ ap (λ (p : Option ℕ). any_string_by is_text (length b) p h.1) number ∙ r.1)) ∙ r.2
+
+pub string_no_fault : (is_text : Bool) (b : List ℕ) (h : Head × List ℕ) (o : Option ℕ) (f : Fault) → is_one_item b ≡ true → head_at b ≡ Ok h → chunk_kind is_text h.0.kind ≡ true → o ≡ number_of h.0.argument
+    → any_string_by is_text (length b) o h.1 ≡ Err f → ⊥
+string_no_fault is_text b h o f one e k number is =
+    let r = string_by is_text (things (item_at 255)) (length b) h.0.argument h.0.kind h.1 (item_of b, []) k (one_item_by b h one e) in
+    differ r.0 (sym is ∙ ap (λ (p : Option ℕ). any_string_by is_text (length b) p h.1) number ∙ r.1)
+  where
+    differ : (y : List ℕ × List ℕ) → ◌≡◌ {A = Result (List ℕ × List ℕ) Fault} (Err f) (Ok y) → ⊥
+    differ y e = cc
 
 -- ---- tags
 

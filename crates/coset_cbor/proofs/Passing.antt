@@ -1,10 +1,14 @@
 -- Passing over one thing after the other, as a loop does, with its steps.
-use Rattle.std.proofs.Common.{◌≡◌, ℕ, suc, ◌-◌, ◌+◌, ◌≤◌, ◌<◌, Bool, true, false, List, ◌∷◌, drop, length, Result, Ok, Err, refl, sym, ap, ◌∙◌, arith}
+use Rattle.std.proofs.Common.{◌≡◌, ℕ, zero, suc, ◌-◌, ◌+◌, ◌≤◌, ◌<◌, Bool, true, false, List, ◌∷◌, drop, length, Option, Result, Ok, Err, refl, sym, ap, subst, ◌∙◌, arith}
 use Rattle.coset_cbor.specs.declared.fault.Fault.{Fault}
 use Rattle.coset_cbor.specs.declared.fault.Fault.TheVariants.{End}
-use Rattle.coset_value.specs.Item.{Item}
+use Rattle.coset_value.specs.Item.{Item, array, dict}
+use Rattle.coset_value.specs.View.{items_of, pairs_of}
+use Rattle.coset_cbor.specs.declared.head.Kind.{Kind}
+use Rattle.coset_cbor.specs.declared.head.Kind.TheVariants as kinds
+use Rattle.coset_cbor.specs.declared.head.Head.{Head}
 use Rattle.coset_cbor.specs.Grammar.{joined}
-use Rattle.coset_cbor.specs.Reading.{◌>>=◌, Parse, begins_break, string_at, chunk_at, chunks_at, times_at, until_at}
+use Rattle.coset_cbor.specs.Reading.{◌>>=◌, Parse, number_of, head_at, begins_break, string_at, chunk_at, chunks_at, times_at, until_at, array_by, map_by, things, item_by, item_at}
 use Rattle.std.specs.Borrow.{Bor}
 use Rattle.coset_cbor.specs.Cost.{content_cost}
 use Rattle.coset_cbor.specs.Counting.{left_of, Passes, after, content_steps, pair_steps, times_steps, until_steps}
@@ -200,3 +204,33 @@ pair_fails one st old new s d e more = let none = after_fault (one s) (λ k. st 
 pub pair_steps_left : (one : Parse Item) (st : List ℕ → ℕ) (old half new : ℕ) (s a : List ℕ) → left_of (one s) ≡ Ok a → half ≡ old + st s → new ≡ half + st a → new ≡ old + pair_steps one st s
 unfolding pair_steps
 pair_steps_left one st old half new s a e more rest = let then = after_left (one s) st a e in omega arith
+
+-- ---- an item by its head
+
+-- an array whose members are passed is passed
+pub array_passes : (r : Result (Bor (List ℕ)) Fault) (depth : ℕ) (s : List ℕ) (h : Head × List ℕ) (count : Option ℕ) → 0 < depth → head_at s ≡ Ok h → h.0.kind ≡ kinds.Array → count ≡ number_of h.0.argument
+    → Passes r (array_by (item_at (depth - 1)) count h.1) → Passes r (item_at depth s)
+unfolding item_at things
+array_passes r zero s h count lt e kind number is = absurd (omega arith)
+array_passes r (suc d) s h count lt e kind number is =
+    let back : suc d - 1 ≡ d = omega arith in
+    passes_same r (array_by (item_at d) count h.1) (item_at (suc d) s)
+    (ap (λ (x : Result (Head × List ℕ) Fault). left_of (x >>= λ y. item_by (things (item_at d)) (length s) y.0.argument y.0.kind y.1)) e
+    ∙ ap (λ (k : Kind). left_of (item_by (things (item_at d)) (length s) h.0.argument k h.1)) kind
+    ∙ ap (λ (o : Option ℕ). left_of (array_by (item_at d) o h.1 >>= λ x. Ok (array (items_of x.0), x.1))) (sym number)
+    ∙ left_of-made (array_by (item_at d) count h.1) (λ (vs : List Item). array (items_of vs)))
+    (subst (λ (n : ℕ). Passes r (array_by (item_at n) count h.1)) back is)
+
+-- the same of a map
+pub map_passes : (r : Result (Bor (List ℕ)) Fault) (depth : ℕ) (s : List ℕ) (h : Head × List ℕ) (count : Option ℕ) → 0 < depth → head_at s ≡ Ok h → h.0.kind ≡ kinds.Map → count ≡ number_of h.0.argument
+    → Passes r (map_by (item_at (depth - 1)) count h.1) → Passes r (item_at depth s)
+unfolding item_at things
+map_passes r zero s h count lt e kind number is = absurd (omega arith)
+map_passes r (suc d) s h count lt e kind number is =
+    let back : suc d - 1 ≡ d = omega arith in
+    passes_same r (map_by (item_at d) count h.1) (item_at (suc d) s)
+    (ap (λ (x : Result (Head × List ℕ) Fault). left_of (x >>= λ y. item_by (things (item_at d)) (length s) y.0.argument y.0.kind y.1)) e
+    ∙ ap (λ (k : Kind). left_of (item_by (things (item_at d)) (length s) h.0.argument k h.1)) kind
+    ∙ ap (λ (o : Option ℕ). left_of (map_by (item_at d) o h.1 >>= λ x. Ok (dict (pairs_of x.0), x.1))) (sym number)
+    ∙ left_of-made (map_by (item_at d) count h.1) (λ (ps : List (Item × Item)). dict (pairs_of ps)))
+    (subst (λ (n : ℕ). Passes r (map_by (item_at n) count h.1)) back is)

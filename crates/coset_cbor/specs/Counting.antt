@@ -93,3 +93,8 @@ item_steps (suc d) s = steps_from (steps_of (item_at d) (item_steps d)) s
 abbrev pub Passes : {A : Type 0} → Result (Bor (List ℕ)) Fault → Result (A × List ℕ) Fault → Type 0
 Passes (Ok rest) read = left_of read ≡ Ok rest.now
 Passes (Err f) read = left_of read ≡ Err f
+
+-- The same of one that says by what it was lent whether it answers.
+abbrev pub PassesTo : {A : Type 0} → Option Fault → List ℕ → Result (A × List ℕ) Fault → Type 0
+PassesTo None rest read = left_of read ≡ Ok rest
+PassesTo (Some f) rest read = left_of read ≡ Err f

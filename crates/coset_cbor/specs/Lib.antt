@@ -19,3 +19,4 @@ pub mod StringChunks
 pub mod Chunks
 pub mod Scalars
 pub mod Fronts
+pub mod Jumps

@@ -12,6 +12,7 @@ use Rattle.coset_cbor.specs.declared.head.Kind.TheVariants as kinds
 use Rattle.coset_cbor.specs.declared.head.Argument.{Argument}
 use Rattle.coset_cbor.specs.declared.head.Argument.TheVariants as places
 use Rattle.coset_cbor.specs.declared.head.Head.{Head}
+use Rattle.coset_cbor.specs.declared.head.Start.{Start}
 use Rattle.coset_value.specs.Item.{half, single, double, Item, integer, bytes, float, text, boolean, null, tag, array, dict}
 use Rattle.coset_value.specs.View.{items_of, pairs_of}
 use Rattle.coset_cbor.specs.Grammar.{joined}
@@ -49,6 +50,19 @@ number_of (places.Two n) = Some n
 number_of (places.Four n) = Some n
 number_of (places.Eight n) = Some n
 number_of places.Indefinite = None
+
+-- the argument whose number is n, by the low five bits of the first byte
+abbrev pub argument_from : ℕ → ℕ → Argument
+argument_from info n =
+    if nat_lt info 24 then places.Within n else
+    (if info == 24 then places.One n else
+    (if info == 25 then places.Two n else
+    (if info == 26 then places.Four n else
+    (if info == 27 then places.Eight n else
+    places.Indefinite))))
+
+abbrev pub head_from : Start → Head
+head_from s = record { kind = s.kind; argument = argument_from s.info s.number }
 
 -- a number in k bytes
 abbrev pub argument_at : (ℕ → Argument) → Width → ℕ → Parse Argument

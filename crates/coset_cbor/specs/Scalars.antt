@@ -1,5 +1,5 @@
 -- Items that hold no other bytes: integers, floats and simple values.
-use Rattle.std.specs.Prelude.{ℕ, List, Option, Some, None, Result, Ok, Err, option_map, pos, negsuc}
+use Rattle.std.specs.Prelude.{ℕ, ℤ, List, Option, Some, None, Result, Ok, Err, option_map, pos, negsuc}
 use Rattle.coset_value.specs.Item.{Bits, Item, integer, bytes, float, text, boolean, null, tag, array, dict}
 use Rattle.coset_cbor.specs.declared.fault.Fault.{Fault}
 use Rattle.coset_cbor.specs.declared.head.Kind.{Kind}
@@ -40,6 +40,17 @@ scalar_by left a kinds.Array s = None
 scalar_by left a kinds.Map s = None
 scalar_by left a kinds.Tag s = None
 scalar_by left a kinds.Simple s = read_of (simple_at left a s)
+
+-- the number of an integer's head
+abbrev pub integer_by : Option ℕ → Kind → Option ℤ
+integer_by o kinds.Unsigned = option_map (λ n. pos n) o
+integer_by o kinds.Negative = option_map (λ n. negsuc n) o
+integer_by o kinds.Bytes = None
+integer_by o kinds.Text = None
+integer_by o kinds.Array = None
+integer_by o kinds.Map = None
+integer_by o kinds.Tag = None
+integer_by o kinds.Simple = None
 
 -- the number of a tag's head
 abbrev pub tag_by : Argument → Kind → Option ℕ

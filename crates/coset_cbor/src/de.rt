@@ -3,18 +3,18 @@
 ghost use Rattle.std.specs.Prelude.{◌≡◌, ◌≤◌, ◌+◌, ◌++◌, List, ℕ, take, length, IfOk, IfErr};
 ghost use Rattle.coset_value.specs.Item.{Item};
 ghost use Rattle.coset_value.specs.View.{view};
-ghost use Rattle.coset_cbor.specs.Grammar.{IsItem};
+ghost use Rattle.coset_cbor.specs.Grammar.{IsItem, IsText};
 ghost use Rattle.coset_cbor.specs.Cost.{IsCost};
 ghost use Rattle.coset_cbor.specs.Faults.{Stands};
 ghost use Rattle.coset_cbor.specs.Refused.{IsMemory, StandsIn};
 
 pub use crate::chunks::{ByteChunks, TextChunks};
-use crate::fault::Fault;
+use crate::fault::{Fault, ReadError};
 pub use crate::members::{Items, Pairs};
 use crate::memory::OutOfMemory;
 pub use crate::pull::Pull;
-use crate::skim;
 pub use crate::steps::Steps;
+use crate::{read, skim};
 use coset_value::Value;
 use std::alloc::Global;
 use std::fmt;
@@ -127,4 +127,19 @@ pub fn read_value(alloc: Global, bytes: &[u8]) -> Result<(Value, usize), Error<E
     let (pull, _) = Pull::new(bytes)?;
     let value = pull.to_value(alloc)?;
     Ok((value, pull.slice().len()))
+}
+
+/// The value of the item that the bytes are, however deep it is: for bytes that were written, and not received.
+///
+/// # Errors
+/// Want of memory alone.
+pub fn decode_encoded(alloc: Global, bytes: &[u8]) -> Result<Value, OutOfMemory>
+    requires { (v : Item) × IsText v bytes.now }
+    ensures { IfOk result (λ x. IsText (view x) bytes.now) }
+{
+    match read::item(alloc, bytes, bytes.len()) {
+        Ok((value, _)) => Ok(value),
+        Err(ReadError::Memory) => Err(OutOfMemory),
+        Err(ReadError::Fault(_)) => unreachable!(),
+    }
 }

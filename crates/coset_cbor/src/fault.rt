@@ -1,6 +1,7 @@
 //! Why bytes could not be read.
 
 ghost use Rattle.std.specs.Prelude.{◌≡◌};
+ghost use Rattle.coset_cbor.specs.declared.fault.Fault.TheVariants.{End, Syntax};
 ghost use Rattle.coset_cbor.specs.declared.fault.ReadError.TheVariants.{Memory};
 
 use std::alloc::{AllocError, AllocFailed};
@@ -12,6 +13,24 @@ pub(crate) enum Fault {
     Syntax(usize),
     Simple(usize),
     Deep,
+}
+
+/// The input ends, apart: few bytes do.
+#[cold]
+#[inline(never)]
+pub(crate) fn end() -> Fault
+    ensures { result ≡ End }
+{
+    Fault::End
+}
+
+/// What is left is not well-formed, apart.
+#[cold]
+#[inline(never)]
+pub(crate) fn syntax(left: usize) -> Fault
+    ensures { result ≡ Syntax left }
+{
+    Fault::Syntax(left)
 }
 
 #[derive(Debug, Drop)]

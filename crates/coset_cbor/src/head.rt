@@ -2,9 +2,9 @@
 
 ghost use Rattle.std.specs.Prelude.{◌≡◌, ◌<◌, ◌/◌, length};
 ghost use Rattle.std.specs.Int.{w8, w16, w32, w64};
-ghost use Rattle.coset_cbor.specs.Reading.{Answers, kind_of, head_at, argument_at, argument_by, number_of};
+ghost use Rattle.coset_cbor.specs.Reading.{Answers, kind_of, head_at, argument_at, argument_by, argument_from, head_from, number_of};
 
-use crate::fault::Fault;
+use crate::fault::{Fault, end, syntax};
 
 /// The eight major types.
 #[derive(Clone, Copy, Debug, PartialEq, Eq)]
@@ -36,8 +36,31 @@ pub(crate) struct Head {
     pub(crate) argument: Argument,
 }
 
+/// A head whose argument is a number beside the low five bits of the first byte, which say where it stands.
+#[derive(Clone, Copy, Debug)]
+pub(crate) struct Start {
+    pub(crate) kind: Kind,
+    pub(crate) info: u8,
+    pub(crate) number: u64,
+}
+
+impl Start {
+    /// The number, where there is one.
+    #[inline(always)]
+    pub(crate) fn number(self) -> Option<u64>
+        ensures { result ≡ number_of (argument_from self.info self.number) }
+    {
+        if self.info < 28 {
+            Some(self.number)
+        } else {
+            None
+        }
+    }
+}
+
 impl Argument {
     /// The number, where there is one.
+    #[inline(always)]
     pub(crate) fn number(self) -> Option<u64>
         ensures { result ≡ number_of self }
     {
@@ -52,6 +75,7 @@ impl Argument {
 }
 
 impl Kind {
+    #[inline(always)]
     fn of(n: u8) -> Kind
         ensures { result ≡ kind_of n }
     {
@@ -68,74 +92,135 @@ impl Kind {
     }
 }
 
-fn one_at(bytes: &[u8]) -> Result<(Argument, &[u8]), Fault>
-    ensures { Answers (λ x. (x.0, x.1.now)) result (argument_at Argument.One w8 1 bytes.now) }
+#[inline(always)]
+fn one_at(bytes: &[u8]) -> Result<(u8, &[u8]), Fault>
+    ensures { Answers (λ x. (Argument.One x.0, x.1.now)) result (argument_at Argument.One w8 1 bytes.now) }
 {
     let Some((first, rest)) = bytes.split_first() else {
-        return Err(Fault::End);
+        return Err(end());
     };
-    Ok((Argument::One(*first), rest))
+    Ok((*first, rest))
 }
 
-fn two_at(bytes: &[u8]) -> Result<(Argument, &[u8]), Fault>
-    ensures { Answers (λ x. (x.0, x.1.now)) result (argument_at Argument.Two w16 2 bytes.now) }
+#[inline(always)]
+fn two_at(bytes: &[u8]) -> Result<(u16, &[u8]), Fault>
+    ensures { Answers (λ x. (Argument.Two x.0, x.1.now)) result (argument_at Argument.Two w16 2 bytes.now) }
 {
     if bytes.len() < 2 {
-        return Err(Fault::End);
+        return Err(end());
     }
     let (front, rest) = bytes.split_at(2);
     let number = u16::from_be_bytes([front[0], front[1]]);
-    Ok((Argument::Two(number), rest))
+    Ok((number, rest))
 }
 
-fn four_at(bytes: &[u8]) -> Result<(Argument, &[u8]), Fault>
-    ensures { Answers (λ x. (x.0, x.1.now)) result (argument_at Argument.Four w32 4 bytes.now) }
+#[inline(always)]
+fn four_at(bytes: &[u8]) -> Result<(u32, &[u8]), Fault>
+    ensures { Answers (λ x. (Argument.Four x.0, x.1.now)) result (argument_at Argument.Four w32 4 bytes.now) }
 {
     if bytes.len() < 4 {
-        return Err(Fault::End);
+        return Err(end());
     }
     let (front, rest) = bytes.split_at(4);
     let number = u32::from_be_bytes([front[0], front[1], front[2], front[3]]);
-    Ok((Argument::Four(number), rest))
+    Ok((number, rest))
 }
 
-fn eight_at(bytes: &[u8]) -> Result<(Argument, &[u8]), Fault>
-    ensures { Answers (λ x. (x.0, x.1.now)) result (argument_at Argument.Eight w64 8 bytes.now) }
+#[inline(always)]
+fn eight_at(bytes: &[u8]) -> Result<(u64, &[u8]), Fault>
+    ensures { Answers (λ x. (Argument.Eight x.0, x.1.now)) result (argument_at Argument.Eight w64 8 bytes.now) }
 {
     if bytes.len() < 8 {
-        return Err(Fault::End);
+        return Err(end());
     }
     let (front, rest) = bytes.split_at(8);
     let number = u64::from_be_bytes([
         front[0], front[1], front[2], front[3], front[4], front[5], front[6], front[7],
     ]);
-    Ok((Argument::Eight(number), rest))
+    Ok((number, rest))
 }
 
 /// The argument that the low five bits of a first byte announce. `left` is what was left at the head.
+#[inline(always)]
 fn argument_of(info: u8, left: usize, bytes: &[u8]) -> Result<(Argument, &[u8]), Fault>
     ensures { Answers (λ x. (x.0, x.1.now)) result (argument_by info left bytes.now) }
 {
     match info {
         0..=23 => Ok((Argument::Within(info), bytes)),
-        24 => one_at(bytes),
-        25 => two_at(bytes),
-        26 => four_at(bytes),
-        27 => eight_at(bytes),
+        24 => {
+            let (number, rest) = one_at(bytes)?;
+            Ok((Argument::One(number), rest))
+        }
+        25 => {
+            let (number, rest) = two_at(bytes)?;
+            Ok((Argument::Two(number), rest))
+        }
+        26 => {
+            let (number, rest) = four_at(bytes)?;
+            Ok((Argument::Four(number), rest))
+        }
+        27 => {
+            let (number, rest) = eight_at(bytes)?;
+            Ok((Argument::Eight(number), rest))
+        }
         31 => Ok((Argument::Indefinite, bytes)),
-        _ => Err(Fault::Syntax(left)),
+        _ => Err(syntax(left)),
+    }
+}
+
+/// The number that the low five bits of a first byte announce, 0 where there is none. `left` is what was left at the
+/// head.
+#[inline(always)]
+fn number_at(info: u8, left: usize, bytes: &[u8]) -> Result<(u64, &[u8]), Fault>
+    ensures { Answers (λ x. (argument_from info x.0, x.1.now)) result (argument_by info left bytes.now) }
+{
+    if info < 24 {
+        return Ok((u64::from(info), bytes));
+    }
+    match info {
+        24 => {
+            let (number, rest) = one_at(bytes)?;
+            Ok((u64::from(number), rest))
+        }
+        25 => {
+            let (number, rest) = two_at(bytes)?;
+            Ok((u64::from(number), rest))
+        }
+        26 => {
+            let (number, rest) = four_at(bytes)?;
+            Ok((u64::from(number), rest))
+        }
+        27 => eight_at(bytes),
+        31 => Ok((0, bytes)),
+        _ => Err(syntax(left)),
     }
 }
 
 /// The head at the front, and the bytes after it.
 #[tactic(auto, unfolding(crate::specs::Reading::head_at))]
+#[inline(always)]
 pub(crate) fn head_of(bytes: &[u8]) -> Result<(Head, &[u8]), Fault>
     ensures { Answers (λ x. (x.0, x.1.now)) result (head_at bytes.now) }
 {
     let Some((first, rest)) = bytes.split_first() else {
-        return Err(Fault::End);
+        return Err(end());
     };
     let kind = Kind::of(*first / 32);
     let (argument, rest) = argument_of(*first % 32, bytes.len(), rest)?;
     Ok((Head { kind, argument }, rest))
+}
+
+/// The head at the front, its argument as a number, and the bytes after it.
+#[tactic(auto, unfolding(crate::specs::Reading::head_at))]
+#[inline(always)]
+pub(crate) fn start_of(bytes: &[u8]) -> Result<(Start, &[u8]), Fault>
+    ensures { Answers (λ x. (head_from x.0, x.1.now)) result (head_at bytes.now) }
+{
+    let Some((first, rest)) = bytes.split_first() else {
+        return Err(end());
+    };
+    let kind = Kind::of(*first / 32);
+    let info = *first % 32;
+    let (number, rest) = number_at(info, bytes.len(), rest)?;
+    Ok((Start { kind, info, number }, rest))
 }

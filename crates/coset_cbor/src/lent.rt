@@ -1,21 +1,24 @@
 //! Taking a lent item apart.
 
-ghost use Rattle.std.specs.Prelude.{◌≡◌, ◌≤◌, ◌++◌, ◌+◌, ◌↔◌, List, ℕ, true, take, length, IfOk, IfErr, IsTrue, option_map};
+ghost use Rattle.std.specs.Prelude.{◌≡◌, ◌≤◌, ◌++◌, ◌+◌, ◌↔◌, List, ℕ, true, take, length, IfOk, IfErr, IsTrue, option_map, string_bytes};
 ghost use Rattle.coset_value.specs.Item.{Item, null};
-ghost use Rattle.coset_value.specs.Parts.{as_integer, as_bool, as_tag};
+ghost use Rattle.coset_value.specs.Parts.{as_integer, as_bytes, as_text, as_bool, as_tag};
 ghost use Rattle.coset_value.specs.View.{view, bits_of};
 ghost use Rattle.coset_cbor.specs.Grammar.{IsItem};
 ghost use Rattle.coset_cbor.specs.Pulls.{pull_bytes, pull_item};
+ghost use Rattle.coset_cbor.specs.Reading.{argument_from, number_of};
 ghost use Rattle.coset_cbor.specs.Refused.{IsMemory, StandsIn};
-ghost use Rattle.coset_cbor.specs.Scalars.{as_scalar, as_float, scalar_by, tag_by};
+ghost use Rattle.coset_cbor.specs.Scalars.{as_scalar, as_float, scalar_by, integer_by, tag_by};
 
 use crate::de::{EndOfFile, Error, MAX_DEPTH, check};
 use crate::fault::ReadError;
-use crate::head::{Head, Kind, head_of};
+use crate::head::{Head, Kind, Start, head_of, start_of};
 use crate::memory::OutOfMemory;
 use crate::pull::Pull;
 use crate::read;
+use crate::skim::begins_chunk;
 use crate::steps::Steps;
+use crate::string::{byte_string, text_string};
 use coset_value::{Float, Integer, Value};
 use std::alloc::Global;
 use std::marker::Brand;
@@ -52,6 +55,23 @@ fn scalar_of(head: Head, left: usize, bytes: &[u8]) -> Option<Value>
         Kind::Simple => match read::simple(left, head.argument, bytes) {
             Ok((value, _)) => Some(value),
             Err(_) => None,
+        },
+        _ => None,
+    }
+}
+
+/// The number of an integer, as its head says.
+fn integer_of(start: Start) -> Option<Integer>
+    ensures { result ≡ integer_by (number_of (argument_from start.info start.number)) start.kind }
+{
+    match start.kind {
+        Kind::Unsigned => match start.number() {
+            Some(n) => Some(Integer::from(n)),
+            None => None,
+        },
+        Kind::Negative => match start.number() {
+            Some(n) => Some(read::negative(n)),
+            None => None,
         },
         _ => None,
     }
@@ -106,10 +126,10 @@ impl<'a> Pull<'a> {
     pub fn integer(&self) -> Option<Integer>
         ensures { result ≡ as_integer (pull_item self.now) }
     {
-        match self.scalar() {
-            Some(value) => value.as_integer(),
-            None => None,
-        }
+        let Ok((start, _)) = start_of(self.bytes) else {
+            return None;
+        };
+        integer_of(start)
     }
 
     /// Which of `false` and `true` this is, and `None` of any other item (RFC 8949, section 3.3).
@@ -155,6 +175,46 @@ impl<'a> Pull<'a> {
         }
     }
 
+    /// The content of a byte string, copied; its chunks are joined. `None` of any other item (RFC 8949, section 3.1).
+    ///
+    /// # Errors
+    /// Want of memory alone.
+    pub fn to_bytes(&self, alloc: Global) -> Result<Option<Vec<u8>>, OutOfMemory>
+        ensures { IfOk result (λ o. option_map (λ b. b.items) o ≡ as_bytes (pull_item self.now)) }
+    {
+        let Ok((start, rest)) = start_of(self.bytes) else {
+            return Ok(None);
+        };
+        if !begins_chunk(false, start.kind) {
+            return Ok(None);
+        }
+        match byte_string(alloc, self.bytes.len(), start.number(), rest) {
+            Ok((found, _)) => Ok(Some(found)),
+            Err(ReadError::Memory) => Err(OutOfMemory),
+            Err(ReadError::Fault(_)) => unreachable!(),
+        }
+    }
+
+    /// The content of a text, copied; its chunks are joined. `None` of any other item (RFC 8949, section 3.1).
+    ///
+    /// # Errors
+    /// Want of memory alone.
+    pub fn to_text(&self, alloc: Global) -> Result<Option<String>, OutOfMemory>
+        ensures { IfOk result (λ o. option_map string_bytes o ≡ as_text (pull_item self.now)) }
+    {
+        let Ok((start, rest)) = start_of(self.bytes) else {
+            return Ok(None);
+        };
+        if !begins_chunk(true, start.kind) {
+            return Ok(None);
+        }
+        match text_string(alloc, self.bytes.len(), start.number(), rest) {
+            Ok((found, _)) => Ok(Some(found)),
+            Err(ReadError::Memory) => Err(OutOfMemory),
+            Err(ReadError::Fault(_)) => unreachable!(),
+        }
+    }
+
     /// The item as a value of its own.
     ///
     /// # Errors
@@ -162,7 +222,7 @@ impl<'a> Pull<'a> {
     pub fn to_value(&self, alloc: Global) -> Result<Value, OutOfMemory>
         ensures { IfOk result (λ v. view v ≡ pull_item self.now) }
     {
-        match read::item(alloc, self.bytes, MAX_DEPTH) {
+        match read::item(alloc, self.bytes, MAX_DEPTH as usize) {
             Ok((value, _)) => Ok(value),
             Err(ReadError::Memory) => Err(OutOfMemory),
             Err(ReadError::Fault(_)) => unreachable!(),

@@ -5,6 +5,7 @@ mod chunks;
 pub mod de;
 mod fault;
 mod head;
+mod jump;
 pub mod laws;
 mod lent;
 mod members;

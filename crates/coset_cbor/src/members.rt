@@ -1,15 +1,17 @@
 //! The members of a lent array or map, one after the other (RFC 8949, section 3.2.2).
 
-ghost use Rattle.std.specs.Prelude.{◌≡◌, ◌≢◌, ◌++◌, ◌∷◌, [], List, ℕ, true, MatchOption};
+ghost use Rattle.std.specs.Prelude.{◌≡◌, ◌≢◌, ◌<◌, ◌++◌, ◌∷◌, [], List, ℕ, true, length, MatchOption};
 ghost use Rattle.coset_value.specs.Item.{Item};
 ghost use Rattle.coset_cbor.specs.declared.head.Head.{Head};
 ghost use Rattle.coset_cbor.specs.Grammar.{IsItem};
 ghost use Rattle.coset_cbor.specs.Reading.{head_at};
 ghost use Rattle.coset_cbor.specs.Whole.{is_one_item};
 ghost use Rattle.coset_cbor.specs.Pulls.{pull_bytes, pull_item};
+ghost use Rattle.coset_cbor.specs.Jumps.{BeginsItem};
 ghost use Rattle.coset_cbor.specs.Between.{array_around, map_around, IsContent};
 
 use crate::head::{Kind, head_of};
+use crate::jump::jump;
 use crate::pull::Pull;
 
 /// The members of a lent array that are still to come, each lent.
@@ -50,12 +52,22 @@ fn content(kind: Kind, bytes: &[u8]) -> Option<&[u8]>
     }
 }
 
-/// The item at the front, and what follows it; `None` where no item stands there.
+/// The item that is known to stand at the front, and what follows it; `None` where nothing is left.
 fn first(bytes: &[u8]) -> Option<(Pull<'_>, &[u8])>
+    requires { 0 < length bytes.now → BeginsItem bytes.now }
     ensures { MatchOption result ((v : Item) (b rest : List ℕ) → bytes.now ≡ b ++ rest → IsItem b v → ⊥)
         (λ x. (bytes.now ≡ pull_bytes x.0 ++ x.1.now) × IsItem (pull_bytes x.0) (pull_item x.0)) }
 {
-    Pull::new(bytes).ok()
+    if bytes.is_empty() {
+        return None;
+    }
+    match jump(bytes) {
+        Some(rest) if rest.len() < bytes.len() => {
+            let (front, rest) = bytes.split_at(bytes.len() - rest.len());
+            Some((Pull { bytes: front }, rest))
+        }
+        _ => Pull::new(bytes).ok(),
+    }
 }
 
 impl<'a> Pull<'a> {

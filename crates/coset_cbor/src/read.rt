@@ -5,7 +5,7 @@ ghost use Rattle.coset_value.specs.View.{view, pair_view};
 ghost use Rattle.coset_cbor.specs.Reading.{Answers, Gives, times_at, until_at, pair_at, array_by, map_by, simple_at, item_at};
 
 use crate::fault::{Fault, ReadError};
-use crate::head::{Argument, Kind, head_of};
+use crate::head::{Argument, Kind, head_of, start_of};
 use crate::string::{after_break, byte_string, text_string};
 use coset_value::{Float, Integer, Value};
 use std::alloc::Global;
@@ -41,13 +41,13 @@ pub(crate) fn simple(left: usize, argument: Argument, bytes: &[u8]) -> Result<(V
 /// An item in which arrays, maps and tags nest at most `depth` deep, and the bytes after it.
 #[cycle(item)]
 #[tactic(auto, unfolding(crate::specs::Reading::item_at, crate::specs::Reading::nothing, crate::specs::Reading::things))]
-pub(crate) fn item(alloc: Global, bytes: &[u8], depth: u32) -> Result<(Value, &[u8]), ReadError>
+pub(crate) fn item(alloc: Global, bytes: &[u8], depth: usize) -> Result<(Value, &[u8]), ReadError>
     ensures { Gives (λ x. (view x.0, x.1.now)) result (item_at depth bytes.now) }
 {
     let left = bytes.len();
-    let (head, rest) = head_of(bytes)?;
-    let number = head.argument.number();
-    match head.kind {
+    let (start, rest) = start_of(bytes)?;
+    let number = start.number();
+    match start.kind {
         Kind::Unsigned => {
             let n = number.ok_or(ReadError::Fault(Fault::Syntax(left)))?;
             Ok((Value::Integer(Integer::from(n)), rest))
@@ -86,7 +86,10 @@ pub(crate) fn item(alloc: Global, bytes: &[u8], depth: u32) -> Result<(Value, &[
             let (inside, rest) = item(alloc, rest, depth - 1)?;
             Ok((Value::Tag(n, Box::new(alloc, inside)?), rest))
         }
-        Kind::Simple => Ok(simple(left, head.argument, rest)?),
+        Kind::Simple => {
+            let (head, rest) = head_of(bytes)?;
+            Ok(simple(left, head.argument, rest)?)
+        }
     }
 }
 
@@ -96,7 +99,7 @@ fn array(
     alloc: Global,
     count: Option<u64>,
     bytes: &[u8],
-    depth: u32,
+    depth: usize,
 ) -> Result<(Vec<Value>, &[u8]), ReadError>
     ensures { Gives (λ x. (map view x.0.items, x.1.now)) result (array_by (item_at depth) count bytes.now) }
 {
@@ -113,7 +116,7 @@ fn map(
     alloc: Global,
     count: Option<u64>,
     bytes: &[u8],
-    depth: u32,
+    depth: usize,
 ) -> Result<(Vec<(Value, Value)>, &[u8]), ReadError>
     ensures { Gives (λ x. (map pair_view x.0.items, x.1.now)) result (map_by (item_at depth) count bytes.now) }
 {
@@ -130,7 +133,7 @@ fn items(
     alloc: Global,
     count: u64,
     bytes: &[u8],
-    depth: u32,
+    depth: usize,
 ) -> Result<(Vec<Value>, &[u8]), ReadError>
     ensures { Gives (λ x. (map view x.0.items, x.1.now)) result (times_at (item_at depth) count bytes.now) }
 {
@@ -146,7 +149,7 @@ fn items(
 
 /// The items up to the break. Each takes at least a byte, so the bytes are turns enough.
 #[cycle(item)]
-fn items_until(alloc: Global, bytes: &[u8], depth: u32) -> Result<(Vec<Value>, &[u8]), ReadError>
+fn items_until(alloc: Global, bytes: &[u8], depth: usize) -> Result<(Vec<Value>, &[u8]), ReadError>
     ensures { Gives (λ x. (map view x.0.items, x.1.now)) result (until_at (item_at depth) (length bytes.now) bytes.now) }
 {
     let mut found = Vec::new(alloc);
@@ -164,7 +167,7 @@ fn items_until(alloc: Global, bytes: &[u8], depth: u32) -> Result<(Vec<Value>, &
 
 /// A key and its value.
 #[cycle(item)]
-fn pair(alloc: Global, bytes: &[u8], depth: u32) -> Result<((Value, Value), &[u8]), ReadError>
+fn pair(alloc: Global, bytes: &[u8], depth: usize) -> Result<((Value, Value), &[u8]), ReadError>
     ensures { Gives (λ x. (pair_view x.0, x.1.now)) result (pair_at (item_at depth) bytes.now) }
 {
     let (key, rest) = item(alloc, bytes, depth)?;
@@ -178,7 +181,7 @@ fn pairs(
     alloc: Global,
     count: u64,
     bytes: &[u8],
-    depth: u32,
+    depth: usize,
 ) -> Result<(Vec<(Value, Value)>, &[u8]), ReadError>
     ensures { Gives (λ x. (map pair_view x.0.items, x.1.now)) result (times_at (pair_at (item_at depth)) count bytes.now) }
 {
@@ -197,7 +200,7 @@ fn pairs(
 fn pairs_until(
     alloc: Global,
     bytes: &[u8],
-    depth: u32,
+    depth: usize,
 ) -> Result<(Vec<(Value, Value)>, &[u8]), ReadError>
     ensures { Gives (λ x. (map pair_view x.0.items, x.1.now)) result (until_at (pair_at (item_at depth)) (length bytes.now) bytes.now) }
 {

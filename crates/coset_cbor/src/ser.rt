@@ -69,6 +69,19 @@ pub fn write_map_head(count: usize, out: &mut Vec<u8>) -> Result<(), OutOfMemory
     settle(written, before, out)
 }
 
+/// Appends the shortest head of a tag (RFC 8949, section 3.1, major type 6). The item that it encloses has to follow it.
+///
+/// # Errors
+/// As of [`write_value`].
+pub fn write_tag_head(number: u64, out: &mut Vec<u8>) -> Result<(), OutOfMemory>
+    ensures ok { OnOk result (out.new.items ≡ out.old.items ++ least_head 6 number) }
+    ensures refused { OnErr result (out.new.items ≡ out.old.items) }
+{
+    let before = out.len();
+    let written = put_head(out, Kind::Tag, number);
+    settle(written, before, out)
+}
+
 /// Appends the shortest text of a byte string (RFC 8949, section 3.1, major type 2).
 ///
 /// # Errors

@@ -1,26 +1,28 @@
 //! Passing over items without making values of them: the check.
 
 ghost use Rattle.std.specs.Prelude.{◌≡◌, ◌+◌, length, drop, true, false, MatchOption};
-ghost use Rattle.coset_cbor.specs.Reading.{Answers, head_at, begins_break, string_at, chunk_at, chunk_kind, any_string_by, simple_at, times_at, until_at, pair_at, array_by, map_by, item_at};
-ghost use Rattle.coset_cbor.specs.Counting.{Passes, after, content_steps, chunk_steps, string_steps, times_steps, until_steps, pair_steps, array_steps, map_steps, item_steps};
+ghost use Rattle.coset_cbor.specs.Reading.{Answers, head_at, begins_break, string_at, chunk_at, chunk_kind, any_string_by, simple_at, argument_from, head_from, times_at, until_at, pair_at, array_by, map_by, item_at};
+ghost use Rattle.coset_cbor.specs.Counting.{Passes, PassesTo, after, content_steps, chunk_steps, string_steps, times_steps, until_steps, pair_steps, array_steps, map_steps, item_steps};
 
-use crate::fault::Fault;
-use crate::head::{Argument, Head, Kind, head_of};
+use crate::fault::{Fault, end, syntax};
+use crate::head::{Kind, Start, start_of};
 use crate::steps::Steps;
-use crate::string::{after_break, bytes_at, text_at};
+use crate::string::{after_break, bytes_at, is_text};
 use std::sync::ledger::Ledger;
 
 /// The head at the front and the bytes after it. It is a step.
-fn head<'a, L: Ledger>(bytes: &'a [u8], steps: &mut Steps<L>) -> Result<(Head, &'a [u8]), Fault>
-    ensures head { Answers (λ x. (x.0, x.1.now)) result (head_at bytes.now) }
+#[inline(always)]
+fn start<'a, L: Ledger>(bytes: &'a [u8], steps: &mut Steps<L>) -> Result<(Start, &'a [u8]), Fault>
+    ensures head { Answers (λ x. (head_from x.0, x.1.now)) result (head_at bytes.now) }
     ensures steps { steps.new ≡ steps.old + after (head_at bytes.now) (λ _. 1) }
 {
-    let found = head_of(bytes)?;
+    let found = start_of(bytes)?;
     steps.tick();
     Ok(found)
 }
 
 /// What follows the break, where it is at the front. It is a step.
+#[inline(always)]
 fn past_break<'a, L: Ledger>(bytes: &'a [u8], steps: &mut Steps<L>) -> Option<&'a [u8]>
     ensures { MatchOption result ((begins_break bytes.now ≡ false) × (steps.new ≡ steps.old))
         (λ rest. (begins_break bytes.now ≡ true) × (rest.now ≡ drop 1 bytes.now) × (steps.new ≡ steps.old + 1)) }
@@ -32,6 +34,7 @@ fn past_break<'a, L: Ledger>(bytes: &'a [u8], steps: &mut Steps<L>) -> Option<&'
 
 /// Passes the content of a definite byte string.
 #[tactic(auto, unfolding(crate::specs::Reading::string_at))]
+#[inline(always)]
 fn byte_content(left: usize, count: u64, bytes: &[u8]) -> Result<&[u8], Fault>
     ensures { Passes result (string_at false left count bytes.now) }
 {
@@ -41,6 +44,7 @@ fn byte_content(left: usize, count: u64, bytes: &[u8]) -> Result<&[u8], Fault>
 
 /// Passes the content of a definite text, a step for each byte.
 #[tactic(auto, unfolding(crate::specs::Reading::string_at, crate::specs::Counting::content_steps))]
+#[inline(always)]
 fn text_content<'a, L: Ledger>(
     left: usize,
     count: u64,
@@ -50,14 +54,21 @@ fn text_content<'a, L: Ledger>(
     ensures left { Passes result (string_at true left count bytes.now) }
     ensures steps { steps.new ≡ steps.old + content_steps true left count bytes.now }
 {
-    let (text, rest) = text_at(left, count, bytes)?;
-    for _ in 0..text.len() {
+    if (bytes.len() as u64) < count {
+        return Err(end());
+    }
+    let (front, rest) = bytes.split_at(count as usize);
+    if !is_text(front) {
+        return Err(syntax(left));
+    }
+    for _ in 0..front.len() {
         steps.tick();
     }
     Ok(rest)
 }
 
 /// Passes the content of a definite string.
+#[inline(always)]
 fn content<'a, L: Ledger>(
     is_text: bool,
     left: usize,
@@ -76,6 +87,7 @@ fn content<'a, L: Ledger>(
 }
 
 /// Whether a head of this kind begins a chunk of the string.
+#[inline(always)]
 pub(crate) fn begins_chunk(is_text: bool, kind: Kind) -> bool
     ensures { result ≡ chunk_kind is_text kind }
 {
@@ -96,18 +108,19 @@ fn chunk<'a, L: Ledger>(
     ensures left { Passes result (chunk_at is_text bytes.now) }
     ensures steps { steps.new ≡ steps.old + chunk_steps is_text bytes.now }
 {
-    let (head, rest) = head(bytes, steps)?;
-    if !begins_chunk(is_text, head.kind) {
+    let (start, rest) = start(bytes, steps)?;
+    if !begins_chunk(is_text, start.kind) {
         return Err(Fault::Syntax(bytes.len()));
     }
-    match head.argument.number() {
+    match start.number() {
         Some(count) => content(is_text, bytes.len(), count, rest, steps),
         None => Err(Fault::Syntax(bytes.len())),
     }
 }
 
 /// Passes chunks up to the break.
-fn chunks<'a, L: Ledger>(
+#[inline(always)]
+fn chunks_here<'a, L: Ledger>(
     is_text: bool,
     bytes: &'a [u8],
     steps: &mut Steps<L>,
@@ -126,7 +139,49 @@ fn chunks<'a, L: Ledger>(
     Err(Fault::End)
 }
 
+/// Passes chunks up to the break, by a function apart: it answers in registers, and says by `fault` whether what it answers is to be used.
+#[inline(never)]
+fn chunks_apart<'a, L: Ledger>(
+    is_text: bool,
+    bytes: &'a [u8],
+    steps: &mut Steps<L>,
+    fault: &mut Option<Fault>,
+) -> &'a [u8]
+    ensures left { PassesTo fault.new result.now (until_at (chunk_at is_text) (length bytes.now) bytes.now) }
+    ensures steps { steps.new ≡ steps.old + until_steps (chunk_at is_text) (chunk_steps is_text) (length bytes.now) bytes.now }
+{
+    match chunks_here(is_text, bytes, steps) {
+        Ok(rest) => {
+            *fault = None;
+            rest
+        }
+        Err(found) => {
+            *fault = Some(found);
+            bytes
+        }
+    }
+}
+
+/// Passes chunks up to the break.
+#[inline(always)]
+fn chunks<'a, L: Ledger>(
+    is_text: bool,
+    bytes: &'a [u8],
+    steps: &mut Steps<L>,
+) -> Result<&'a [u8], Fault>
+    ensures left { Passes result (until_at (chunk_at is_text) (length bytes.now) bytes.now) }
+    ensures steps { steps.new ≡ steps.old + until_steps (chunk_at is_text) (chunk_steps is_text) (length bytes.now) bytes.now }
+{
+    let mut fault = None;
+    let rest = chunks_apart(is_text, bytes, steps, &mut fault);
+    match fault {
+        None => Ok(rest),
+        Some(fault) => Err(fault),
+    }
+}
+
 /// Passes a string of that many bytes, or in chunks where no length is announced.
+#[inline(always)]
 fn string<'a, L: Ledger>(
     is_text: bool,
     left: usize,
@@ -144,22 +199,31 @@ fn string<'a, L: Ledger>(
 }
 
 /// Passes what follows the head of a simple value or a float.
-fn simple(left: usize, argument: Argument, bytes: &[u8]) -> Result<&[u8], Fault>
-    ensures { Passes result (simple_at left argument bytes.now) }
+#[inline(always)]
+fn simple(left: usize, info: u8, number: u64, bytes: &[u8]) -> Result<&[u8], Fault>
+    ensures { Passes result (simple_at left (argument_from info number) bytes.now) }
 {
-    match argument {
-        Argument::Within(20..=22) => Ok(bytes),
-        Argument::Within(_) => Err(Fault::Simple(left)),
-        Argument::One(n) if n < 32 => Err(Fault::Syntax(left)),
-        Argument::One(_) => Err(Fault::Simple(left)),
-        Argument::Two(_) | Argument::Four(_) | Argument::Eight(_) => Ok(bytes),
-        Argument::Indefinite => Err(Fault::Syntax(left)),
+    match info {
+        0..=23 => match number {
+            20..=22 => Ok(bytes),
+            _ => Err(Fault::Simple(left)),
+        },
+        24 => {
+            if number < 32 {
+                Err(Fault::Syntax(left))
+            } else {
+                Err(Fault::Simple(left))
+            }
+        }
+        25..=27 => Ok(bytes),
+        _ => Err(Fault::Syntax(left)),
     }
 }
 
 /// Passes an item in which arrays, maps and tags nest at most `depth` deep.
 #[cycle(skim)]
 #[tactic(auto, unfolding(crate::specs::Reading::item_at, crate::specs::Reading::nothing, crate::specs::Reading::things, crate::specs::Counting::item_steps, crate::specs::Counting::no_steps, crate::specs::Counting::steps_of))]
+#[inline(always)]
 pub(crate) fn item<'a, L: Ledger>(
     bytes: &'a [u8],
     depth: u32,
@@ -169,43 +233,176 @@ pub(crate) fn item<'a, L: Ledger>(
     ensures steps { steps.new ≡ steps.old + item_steps depth bytes.now }
 {
     let left = bytes.len();
-    let (head, rest) = head(bytes, steps)?;
-    let number = head.argument.number();
-    match head.kind {
-        Kind::Unsigned | Kind::Negative => match number {
+    let (start, rest) = start(bytes, steps)?;
+    match start.kind {
+        Kind::Unsigned | Kind::Negative => match start.number() {
             Some(_) => Ok(rest),
-            None => Err(Fault::Syntax(left)),
+            None => Err(syntax(left)),
         },
-        Kind::Bytes => string(false, left, number, rest, steps),
-        Kind::Text => string(true, left, number, rest, steps),
+        Kind::Bytes => string(false, left, start.number(), rest, steps),
+        Kind::Text => string(true, left, start.number(), rest, steps),
         Kind::Array => {
             if depth == 0 {
                 return Err(Fault::Deep);
             }
-            array(number, rest, depth - 1, steps)
+            array(start.number(), rest, depth - 1, steps)
         }
         Kind::Map => {
             if depth == 0 {
                 return Err(Fault::Deep);
             }
-            map(number, rest, depth - 1, steps)
+            map(start.number(), rest, depth - 1, steps)
         }
         Kind::Tag => {
-            if number.is_none() {
-                return Err(Fault::Syntax(left));
+            if start.number().is_none() {
+                return Err(syntax(left));
             }
             if depth == 0 {
                 return Err(Fault::Deep);
             }
-            item(rest, depth - 1, steps)
+            enclosed(rest, depth - 1, steps)
         }
-        Kind::Simple => simple(left, head.argument, rest),
+        Kind::Simple => simple(left, start.info, start.number, rest),
+    }
+}
+
+/// Passes the item that a tag encloses, by a function apart: it answers in registers, and says by `fault` whether what it answers is to be used.
+#[cycle(skim)]
+#[inline(never)]
+fn enclosed_apart<'a, L: Ledger>(
+    bytes: &'a [u8],
+    depth: u32,
+    steps: &mut Steps<L>,
+    fault: &mut Option<Fault>,
+) -> &'a [u8]
+    ensures left { PassesTo fault.new result.now (item_at depth bytes.now) }
+    ensures steps { steps.new ≡ steps.old + item_steps depth bytes.now }
+{
+    match item(bytes, depth, steps) {
+        Ok(rest) => {
+            *fault = None;
+            rest
+        }
+        Err(found) => {
+            *fault = Some(found);
+            bytes
+        }
+    }
+}
+
+/// Passes the item that a tag encloses.
+#[cycle(skim)]
+#[inline(always)]
+fn enclosed<'a, L: Ledger>(
+    bytes: &'a [u8],
+    depth: u32,
+    steps: &mut Steps<L>,
+) -> Result<&'a [u8], Fault>
+    ensures left { Passes result (item_at depth bytes.now) }
+    ensures steps { steps.new ≡ steps.old + item_steps depth bytes.now }
+{
+    let mut fault = None;
+    let rest = enclosed_apart(bytes, depth, steps, &mut fault);
+    match fault {
+        None => Ok(rest),
+        Some(fault) => Err(fault),
+    }
+}
+
+/// Passes the members of an array of that many, or up to the break where no number is announced, by a function apart: it answers in registers, and says by `fault` whether what it answers is to be used.
+#[cycle(skim)]
+#[inline(never)]
+fn array_apart<'a, L: Ledger>(
+    count: Option<u64>,
+    bytes: &'a [u8],
+    depth: u32,
+    steps: &mut Steps<L>,
+    fault: &mut Option<Fault>,
+) -> &'a [u8]
+    ensures left { PassesTo fault.new result.now (array_by (item_at depth) count bytes.now) }
+    ensures steps { steps.new ≡ steps.old + array_steps (item_at depth) (item_steps depth) count bytes.now }
+{
+    match array_here(count, bytes, depth, steps) {
+        Ok(rest) => {
+            *fault = None;
+            rest
+        }
+        Err(found) => {
+            *fault = Some(found);
+            bytes
+        }
     }
 }
 
 /// Passes the members of an array of that many, or up to the break where no number is announced.
 #[cycle(skim)]
+#[inline(always)]
 fn array<'a, L: Ledger>(
+    count: Option<u64>,
+    bytes: &'a [u8],
+    depth: u32,
+    steps: &mut Steps<L>,
+) -> Result<&'a [u8], Fault>
+    ensures left { Passes result (array_by (item_at depth) count bytes.now) }
+    ensures steps { steps.new ≡ steps.old + array_steps (item_at depth) (item_steps depth) count bytes.now }
+{
+    let mut fault = None;
+    let rest = array_apart(count, bytes, depth, steps, &mut fault);
+    match fault {
+        None => Ok(rest),
+        Some(fault) => Err(fault),
+    }
+}
+
+/// Passes the pairs of a map of that many, or up to the break where no number is announced, by a function apart: it answers in registers, and says by `fault` whether what it answers is to be used.
+#[cycle(skim)]
+#[inline(never)]
+fn map_apart<'a, L: Ledger>(
+    count: Option<u64>,
+    bytes: &'a [u8],
+    depth: u32,
+    steps: &mut Steps<L>,
+    fault: &mut Option<Fault>,
+) -> &'a [u8]
+    ensures left { PassesTo fault.new result.now (map_by (item_at depth) count bytes.now) }
+    ensures steps { steps.new ≡ steps.old + map_steps (item_at depth) (item_steps depth) count bytes.now }
+{
+    match map_here(count, bytes, depth, steps) {
+        Ok(rest) => {
+            *fault = None;
+            rest
+        }
+        Err(found) => {
+            *fault = Some(found);
+            bytes
+        }
+    }
+}
+
+/// Passes the pairs of a map of that many, or up to the break where no number is announced.
+#[cycle(skim)]
+#[inline(always)]
+fn map<'a, L: Ledger>(
+    count: Option<u64>,
+    bytes: &'a [u8],
+    depth: u32,
+    steps: &mut Steps<L>,
+) -> Result<&'a [u8], Fault>
+    ensures left { Passes result (map_by (item_at depth) count bytes.now) }
+    ensures steps { steps.new ≡ steps.old + map_steps (item_at depth) (item_steps depth) count bytes.now }
+{
+    let mut fault = None;
+    let rest = map_apart(count, bytes, depth, steps, &mut fault);
+    match fault {
+        None => Ok(rest),
+        Some(fault) => Err(fault),
+    }
+}
+
+/// Passes the members of an array of that many, or up to the break where no number is announced.
+#[cycle(skim)]
+#[inline(always)]
+fn array_here<'a, L: Ledger>(
     count: Option<u64>,
     bytes: &'a [u8],
     depth: u32,
@@ -223,7 +420,8 @@ fn array<'a, L: Ledger>(
 
 /// Passes the pairs of a map of that many, or up to the break where no number is announced.
 #[cycle(skim)]
-fn map<'a, L: Ledger>(
+#[inline(always)]
+fn map_here<'a, L: Ledger>(
     count: Option<u64>,
     bytes: &'a [u8],
     depth: u32,
@@ -241,6 +439,7 @@ fn map<'a, L: Ledger>(
 
 /// Passes that many items.
 #[cycle(skim)]
+#[inline(always)]
 fn items<'a, L: Ledger>(
     count: u64,
     bytes: &'a [u8],
@@ -259,6 +458,7 @@ fn items<'a, L: Ledger>(
 
 /// Passes items up to the break.
 #[cycle(skim)]
+#[inline(never)]
 fn items_until<'a, L: Ledger>(
     bytes: &'a [u8],
     depth: u32,
@@ -280,6 +480,7 @@ fn items_until<'a, L: Ledger>(
 
 /// Passes a key and its value.
 #[cycle(skim)]
+#[inline(always)]
 fn pair<'a, L: Ledger>(bytes: &'a [u8], depth: u32, steps: &mut Steps<L>) -> Result<&'a [u8], Fault>
     ensures left { Passes result (pair_at (item_at depth) bytes.now) }
     ensures steps { steps.new ≡ steps.old + pair_steps (item_at depth) (item_steps depth) bytes.now }
@@ -290,6 +491,7 @@ fn pair<'a, L: Ledger>(bytes: &'a [u8], depth: u32, steps: &mut Steps<L>) -> Res
 
 /// Passes that many pairs.
 #[cycle(skim)]
+#[inline(always)]
 fn pairs<'a, L: Ledger>(
     count: u64,
     bytes: &'a [u8],
@@ -309,6 +511,7 @@ fn pairs<'a, L: Ledger>(
 
 /// Passes pairs up to the break.
 #[cycle(skim)]
+#[inline(never)]
 fn pairs_until<'a, L: Ledger>(
     bytes: &'a [u8],
     depth: u32,

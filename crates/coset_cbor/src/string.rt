@@ -1,14 +1,15 @@
 //! Byte strings and texts (RFC 8949, sections 3.1 and 3.2.3).
 
-ghost use Rattle.std.specs.Prelude.{◌≡◌, true, false, drop, string_bytes, MatchOption};
-ghost use Rattle.std.specs.Str.{is_utf8};
+ghost use Rattle.std.specs.Prelude.{◌≡◌, true, false, drop, string_bytes, IsTrue, MatchOption};
+ghost use Rattle.std.specs.Str.{is_utf8, IsAscii};
 ghost use Rattle.coset_cbor.specs.Reading.{Answers, Gives, string_at, chunk_at, chunks_at, any_string_by, begins_break};
 
-use crate::fault::{Fault, ReadError};
+use crate::fault::{Fault, ReadError, end};
 use crate::head::{Kind, head_of};
 use std::alloc::Global;
 
 /// What follows the break, where it is at the front.
+#[inline(always)]
 pub(crate) fn after_break(bytes: &[u8]) -> Option<&[u8]>
     ensures { MatchOption result (begins_break bytes.now ≡ false) (λ after. (begins_break bytes.now ≡ true) × (after.now ≡ drop 1 bytes.now)) }
 {
@@ -28,24 +29,94 @@ fn text_of(bytes: &[u8]) -> Option<&str>
     }
 }
 
+/// Whether each of eight bytes is ASCII.
+#[inline(always)]
+fn eight_are_ascii(bytes: &[u8; 8]) -> bool
+    ensures { IsTrue result → IsAscii bytes.now }
+{
+    let front = bytes[0] | bytes[1] | bytes[2] | bytes[3];
+    let back = bytes[4] | bytes[5] | bytes[6] | bytes[7];
+    let all = front | back;
+    if 128 <= all {
+        return false;
+    }
+    true
+}
+
+/// Whether each of four bytes is ASCII.
+#[inline(always)]
+fn four_are_ascii(bytes: &[u8; 4]) -> bool
+    ensures { IsTrue result → IsAscii bytes.now }
+{
+    let all = bytes[0] | bytes[1] | bytes[2] | bytes[3];
+    if 128 <= all {
+        return false;
+    }
+    true
+}
+
+/// Whether each of a few bytes is ASCII.
+#[inline(always)]
+fn few_are_ascii(bytes: &[u8]) -> bool
+    ensures { IsTrue result → IsAscii bytes.now }
+{
+    for byte in bytes {
+        if 128 <= *byte {
+            return false;
+        }
+    }
+    true
+}
+
+/// Whether each byte is ASCII, eight at a time.
+#[inline(always)]
+fn is_ascii(bytes: &[u8]) -> bool
+    ensures { IsTrue result → IsAscii bytes.now }
+{
+    let mut rest = bytes;
+    while let Some((front, after)) = rest.split_first_chunk::<8>() {
+        if !eight_are_ascii(front) {
+            return false;
+        }
+        rest = after;
+    }
+    match rest.split_first_chunk::<4>() {
+        Some((front, after)) => four_are_ascii(front) && few_are_ascii(after),
+        None => few_are_ascii(rest),
+    }
+}
+
+/// Whether the bytes are UTF-8. Few bytes are first tried as ASCII.
+#[inline(never)]
+pub(crate) fn is_text(bytes: &[u8]) -> bool
+    ensures { result ≡ is_utf8 bytes.now }
+{
+    if bytes.len() <= 64 && is_ascii(bytes) {
+        return true;
+    }
+    text_of(bytes).is_some()
+}
+
 /// That many bytes, and the bytes after them.
 #[tactic(auto, unfolding(crate::specs::Reading::string_at))]
+#[inline(always)]
 pub(crate) fn bytes_at(left: usize, count: u64, bytes: &[u8]) -> Result<(&[u8], &[u8]), Fault>
     ensures { Answers (λ x. (x.0.now, x.1.now)) result (string_at false left count bytes.now) }
 {
     if (bytes.len() as u64) < count {
-        return Err(Fault::End);
+        return Err(end());
     }
     Ok(bytes.split_at(count as usize))
 }
 
 /// The same, where the bytes are to be text. `left` is what was left at the head.
 #[tactic(auto, unfolding(crate::specs::Reading::string_at))]
+#[inline(always)]
 pub(crate) fn text_at(left: usize, count: u64, bytes: &[u8]) -> Result<(&str, &[u8]), Fault>
     ensures { Answers (λ x. (x.0.now, x.1.now)) result (string_at true left count bytes.now) }
 {
     if (bytes.len() as u64) < count {
-        return Err(Fault::End);
+        return Err(end());
     }
     let (front, rest) = bytes.split_at(count as usize);
     let text = text_of(front).ok_or(Fault::Syntax(left))?;
@@ -111,6 +182,7 @@ fn text_chunks(alloc: Global, bytes: &[u8]) -> Result<(String, &[u8]), ReadError
 }
 
 /// A byte string of that many bytes, or in chunks where no length is announced.
+#[inline]
 pub(crate) fn byte_string(
     alloc: Global,
     left: usize,
@@ -127,6 +199,7 @@ pub(crate) fn byte_string(
 }
 
 /// The same of a text. `left` is what was left at the head.
+#[inline]
 pub(crate) fn text_string(
     alloc: Global,
     left: usize,

@@ -1,6 +1,5 @@
 pub mod Putting
 pub mod Signatures
-pub mod Values
 pub mod Reading
 pub mod Writing
 pub mod WritingHeaders

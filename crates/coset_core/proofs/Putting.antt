@@ -1,12 +1,21 @@
 -- A pair of a header, by its label.
-use Rattle.std.proofs.Common.{◌≡◌, ℤ, List, [], ◌∷◌, ◌++◌, Option, Bool, ◌||◌, false, true, refl, sym, ◌∙◌, subst}
-use Rattle.std.specs.Prelude.{pos}
+use Rattle.std.proofs.Common.{◌≡◌, ◌≢◌, ◌==◌, ℕ, ℤ, Vec, Global, map, arith, not, length, List, [], ◌∷◌, ◌++◌, Option, Bool, ◌||◌, false, true, refl, sym, ap, ◌∙◌, subst, true≢false, ◌⊎◌, inl, inr, Result, Ok, Err}
+use Rattle.std.specs.Prelude.{pos, IfErr, OnOk, OnErr}
 use Rattle.coset_value.specs.Item.{Item}
-use Rattle.coset_shape.specs.Maps.{optional, Where, is_core, Adds}
-use Rattle.coset_shape.specs.Shape.{any}
-use Rattle.coset_label.specs.Names.{Name, number}
-use Rattle.coset_core.specs.Fields.{Fielded, fields, names, same_name}
-use Rattle.coset_core.specs.FieldLaws.{names_laws, same_name-sym}
+use Rattle.coset_shape.specs.Maps.{Fields, optional, listed, Where, is_core, Adds, Refuses, RefusesKey, BarsKey, GatherFaults, labelled}
+use Rattle.coset_shape.specs.Errors.{Names, IsUnexpected}
+use Rattle.coset_shape.specs.declared.error.CoseError.{CoseError}
+use Rattle.coset_shape.specs.Shape.{any, some_of, filled_bstr}
+use Rattle.coset_label.specs.Names.{Name, RegisteredName, number}
+use Rattle.std.proofs.lemmas.Grind.{common_steps}
+use Rattle.coset_core.specs.Headers.{no_signatures, signatures_of}
+use Rattle.coset_core.specs.Views.{signature_seen}
+use Rattle.coset_core.specs.declared.signature.CoseSignature.{CoseSignature}
+use Rattle.coset_core.specs.Fields.{critical, content_type, FieldsSeen, Fielded, HasOneIv, fields, names, same_name, bars, parts_of, unread}
+use Rattle.coset_core.specs.Contents.{Fills}
+use Rattle.coset_core.specs.Held.{TakesHeld, RefusesHeld}
+use Rattle.coset_label.specs.Labels.{label}
+use Rattle.coset_core.specs.FieldLaws.{names_laws, same_name-sym, barred_fault}
 
 pub is_label : (i : ℤ) (m : Name) → same_name (number i) m ≡ true → number i ≡ m
 is_label i m h = names_laws.same_is (number i) m h
@@ -27,3 +36,118 @@ adds_rest m v x y h1 h2 h3 h4 h5 h6 h7 same rest =
   where
     turn : (i : ℤ) → same_name (number i) m ≡ false → same_name m (number i) ≡ false
     turn i h = same_name-sym m (number i) ∙ h
+
+-- ---- a map read whole
+
+-- a key's label, and why it is refused
+pub key_refused :
+    (k v : Item) (m : Name) (x : Fielded (Option Item) × List (Name × Item)) (r : Result (Unit {0}) CoseError) → label.describes k m
+    → IfErr r (λ e. Names e (λ f. Refuses names (fields (optional any)) m v x f ⊎ bars m x f))
+    → IfErr r (λ e. Names e (λ f. RefusesKey names (fields (optional any)) k v x f ⊎ BarsKey names bars k x f))
+key_refused k v m x (Ok u) d h = h
+key_refused k v m x (Err e) d h = λ n. elim (h n) [ inl g ↦ inl (inr (m, d, g)) | inr g ↦ inr (m, d, g) ]
+
+pub map_fills :
+    (v : Item) (x : FieldsSeen × Option Item) (r : Result (Unit {0}) CoseError) → OnOk r ((labelled names (fields (optional any))).describes v (parts_of x))
+    → IfErr r (λ e. Names e (GatherFaults names (fields (optional any)) bars v)) → HasOneIv x.0 → Fills unread v x r
+unfolding unread
+map_fills v x (Ok u) a b h = (a, h)
+map_fills v x (Err e) a b h = λ n. fault (b n)
+  where
+    fault : GatherFaults names (fields (optional any)) bars v e → unread.faults v e
+    fault (inl g) = inl g
+    fault (inr g) = barred_fault v e g
+
+-- ---- a pair of a field's label
+
+abbrev F : Fields Name (Fielded (Option Item))
+F = fields (optional any)
+
+pub adds_crit :
+    (m : Name) (v : Item) (r : Result (Unit {0}) CoseError) (f g : FieldsSeen) (a : List RegisteredName) (o : Option Item) → same_name (number (pos 2)) m ≡ true → OnOk r (TakesHeld (listed (some_of critical)) v f.crit a)
+    → g ≡ record f { crit = a } → OnOk r (Adds names F m v (parts_of (f, o)) (parts_of (g, o)))
+adds_crit m v (Ok u) f g a o h t e =
+    subst (λ l. Adds names F l v (parts_of (f, o)) (parts_of (g, o))) (is_label (pos 2) m h)
+    (subst (λ k. Adds names F (number (pos 2)) v (parts_of (f, o)) (parts_of (k, o))) (sym e) ((refl, (t.0, t.1, refl)), refl))
+adds_crit m v (Err x) f g a o h t e = t
+
+pub adds_content_type :
+    (m : Name) (v : Item) (r : Result (Unit {0}) CoseError) (f g : FieldsSeen) (a : Option Name) (o : Option Item) → same_name (number (pos 3)) m ≡ true → OnOk r (TakesHeld (optional content_type) v f.content_type a)
+    → g ≡ record f { content_type = a } → OnOk r (Adds names F m v (parts_of (f, o)) (parts_of (g, o)))
+adds_content_type m v (Ok u) f g a o h t e =
+    subst (λ l. Adds names F l v (parts_of (f, o)) (parts_of (g, o))) (is_label (pos 3) m h)
+    (subst (λ k. Adds names F (number (pos 3)) v (parts_of (f, o)) (parts_of (k, o))) (sym e) ((refl, (refl, (t.0, t.1, refl))), refl))
+adds_content_type m v (Err x) f g a o h t e = t
+
+pub adds_key_id :
+    (m : Name) (v : Item) (r : Result (Unit {0}) CoseError) (f g : FieldsSeen) (a : List ℕ) (o : Option Item) → same_name (number (pos 4)) m ≡ true → OnOk r (TakesHeld (listed filled_bstr) v f.key_id a)
+    → g ≡ record f { key_id = a } → OnOk r (Adds names F m v (parts_of (f, o)) (parts_of (g, o)))
+adds_key_id m v (Ok u) f g a o h t e =
+    subst (λ l. Adds names F l v (parts_of (f, o)) (parts_of (g, o))) (is_label (pos 4) m h)
+    (subst (λ k. Adds names F (number (pos 4)) v (parts_of (f, o)) (parts_of (k, o))) (sym e) ((refl, (refl, (refl, (t.0, t.1, refl)))), refl))
+adds_key_id m v (Err x) f g a o h t e = t
+
+pub adds_iv :
+    (m : Name) (v : Item) (r : Result (Unit {0}) CoseError) (f g : FieldsSeen) (a : List ℕ) (o : Option Item) → same_name (number (pos 5)) m ≡ true → OnOk r (TakesHeld (listed filled_bstr) v f.iv a)
+    → g ≡ record f { iv = a } → OnOk r (Adds names F m v (parts_of (f, o)) (parts_of (g, o)))
+adds_iv m v (Ok u) f g a o h t e =
+    subst (λ l. Adds names F l v (parts_of (f, o)) (parts_of (g, o))) (is_label (pos 5) m h)
+    (subst (λ k. Adds names F (number (pos 5)) v (parts_of (f, o)) (parts_of (k, o))) (sym e) ((refl, (refl, (refl, (refl, (t.0, t.1, refl))))), refl))
+adds_iv m v (Err x) f g a o h t e = t
+
+pub adds_partial_iv :
+    (m : Name) (v : Item) (r : Result (Unit {0}) CoseError) (f g : FieldsSeen) (a : List ℕ) (o : Option Item) → same_name (number (pos 6)) m ≡ true → OnOk r (TakesHeld (listed filled_bstr) v f.partial_iv a)
+    → g ≡ record f { partial_iv = a } → OnOk r (Adds names F m v (parts_of (f, o)) (parts_of (g, o)))
+adds_partial_iv m v (Ok u) f g a o h t e =
+    subst (λ l. Adds names F l v (parts_of (f, o)) (parts_of (g, o))) (is_label (pos 6) m h)
+    (subst (λ k. Adds names F (number (pos 6)) v (parts_of (f, o)) (parts_of (k, o))) (sym e) ((refl, (refl, (refl, (refl, (refl, (t.0, t.1, refl)))))), refl))
+adds_partial_iv m v (Err x) f g a o h t e = t
+
+-- why a field's label is refused
+pub refuses_crit :
+    (m : Name) (v : Item) (r : Result (Unit {0}) CoseError) (x : Fielded (Option Item) × List (Name × Item)) → same_name (number (pos 2)) m ≡ true
+    → IfErr r (λ e. Names e (RefusesHeld (listed (some_of critical)) v x.0.1.0)) → IfErr r (λ e. Names e (λ f. Refuses names F m v x f ⊎ bars m x f))
+refuses_crit m v (Ok u) x h t = t
+refuses_crit m v (Err e) x h t = λ n. inl (subst (λ l. Refuses names F l v x e) (is_label (pos 2) m h) (t n))
+
+pub refuses_iv :
+    (m : Name) (v : Item) (r : Result (Unit {0}) CoseError) (x : Fielded (Option Item) × List (Name × Item)) (b : Bool) → same_name (number (pos 5)) m ≡ true
+    → (b ≡ true → x.0.1.1.1.1.1.0 ≢ []) → IfErr r (λ e. Names e (λ f. RefusesHeld (listed filled_bstr) v x.0.1.1.1.1.0 f ⊎ ((b ≡ true) × IsUnexpected f)))
+    → IfErr r (λ e. Names e (λ f. Refuses names F m v x f ⊎ bars m x f))
+refuses_iv m v (Ok u) x b h some t = t
+refuses_iv m v (Err e) x b h some t = λ n. elim (t n) [ inl g ↦ inl (subst (λ l. Refuses names F l v x e) (is_label (pos 5) m h) g) | inr g ↦ inr (inl (h, some g.0, g.1)) ]
+
+pub refuses_partial_iv :
+    (m : Name) (v : Item) (r : Result (Unit {0}) CoseError) (x : Fielded (Option Item) × List (Name × Item)) (b : Bool) → same_name (number (pos 6)) m ≡ true
+    → (b ≡ true → x.0.1.1.1.1.0 ≢ []) → IfErr r (λ e. Names e (λ f. RefusesHeld (listed filled_bstr) v x.0.1.1.1.1.1.0 f ⊎ ((b ≡ true) × IsUnexpected f)))
+    → IfErr r (λ e. Names e (λ f. Refuses names F m v x f ⊎ bars m x f))
+refuses_partial_iv m v (Ok u) x b h some t = t
+refuses_partial_iv m v (Err e) x b h some t = λ n. elim (t n) [ inl g ↦ inl (subst (λ l. Refuses names F l v x e) (is_label (pos 6) m h) g) | inr g ↦ inr (inr (inl (h, some g.0, g.1))) ]
+
+-- one kind of initialization vector stays alone
+pub stays_alone :
+    (r : Result (Unit {0}) CoseError) (old new : Vec ℕ Global) (other : List ℕ) (b : Bool) → OnOk r (b ≡ false) → OnErr r (new ≡ old) → (b ≡ false → other ≡ []) → (old.items ≡ []) ⊎ (other ≡ [])
+    → (new.items ≡ []) ⊎ (other ≡ [])
+stays_alone (Ok u) old new other b a k none h = inr (none a)
+stays_alone (Err e) old new other b a k none (inl h) = inl (ap (λ v. v.items) k ∙ h)
+stays_alone (Err e) old new other b a k none (inr h) = inr h
+
+pub filled : (xs : List ℕ) (b c : Bool) → b ≡ not c → c ≡ (length xs == 0) → b ≡ true → xs ≢ []
+filled [] b c e h t = absurd (true≢false (sym t ∙ (e ∙ ap not h)))
+filled (x ∷ xs) b c e h t = λ n. absurd (cc)
+
+some-length : (x : ℕ) (xs : List ℕ) → (length (x ∷ xs) == 0) ≡ false
+some-length x xs = grind (arith, common_steps)
+
+pub empty : (xs : List ℕ) (b c : Bool) → b ≡ not c → c ≡ (length xs == 0) → b ≡ false → xs ≡ []
+empty [] b c e h t = refl
+empty (x ∷ xs) b c e h t = absurd (true≢false (sym (e ∙ ap not (h ∙ some-length x xs)) ∙ t))
+
+pub swapped : {A B : Type 0} → A ⊎ B → B ⊎ A
+swapped (inl x) = inr x
+swapped (inr x) = inl x
+
+-- no signature is seen in an empty list alone
+pub none_held : (xs : List CoseSignature) → signatures_of (map signature_seen xs) ≡ no_signatures → xs ≡ []
+none_held [] e = refl
+none_held (x ∷ xs) e = absurd (cc)

@@ -6,12 +6,13 @@ use Rattle.coset_value.specs.Item.{Item, array, items_count, pairs_count}
 use Rattle.coset_value.specs.Range.{AreInRange, ArePairsInRange}
 use Rattle.coset_value.specs.View.{items_of}
 use Rattle.coset_cbor.specs.Least.{least_head, short, shorts, pair_shorts}
+use Rattle.coset_shape.specs.Encoding.{AppendsItem}
 use Rattle.coset_shape.specs.Maps.{put_field, named_image}
 use Rattle.coset_label.specs.Labels.{label}
 use Rattle.coset_label.specs.Names.{Name, number, word, name_item, RegisteredName}
 use Rattle.coset_core.specs.Fields.{FieldsSeen}
 use Rattle.coset_core.specs.HeaderWrites.{fields_put}
-use Rattle.coset_core.specs.Written.{AppendsItem, AppendsItems, AppendsPairs, entry_pairs, registered_item, critical_item, filled_item, plain_fields, one, count_pairs}
+use Rattle.coset_core.specs.Written.{AppendsItems, AppendsPairs, entry_pairs, registered_item, critical_item, filled_item, plain_fields, one, count_pairs}
 use Rattle.coset_core.specs.ViewLaws.{HeaderLevel, header_level}
 use Rattle.coset_core.proofs.Signatures.{are_none_of}
 

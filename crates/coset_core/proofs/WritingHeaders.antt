@@ -9,34 +9,40 @@ use Rattle.coset_value.specs.View.{items_of}
 use Rattle.coset_cbor.specs.Least.{least_head, short, pair_shorts}
 use Rattle.coset_shape.specs.declared.error.CoseError.{CoseError}
 use Rattle.coset_shape.specs.declared.error.CoseError.TheVariants.{DuplicateMapKey}
+use Rattle.coset_shape.specs.Encoding.{AppendsItem, AppendsImage, Encodes}
 use Rattle.coset_shape.specs.Errors.{Names as Tells}
 use Rattle.coset_shape.specs.Maps.{put_field, are_distinct, optional, listed}
 use Rattle.coset_shape.specs.Shape.{both, images, bare, some_of, filled_bstr}
 use Rattle.coset_label.specs.Names.{Name, number, name_item, RegisteredName}
+use Rattle.coset_shape.proofs.Encoding.{array-put as array-put-places, place-put, nothing-put}
 use Rattle.coset_core.specs.Fields.{FieldsSeen, same_name, algorithm, critical, content_type}
-use Rattle.coset_core.specs.Headers.{HeaderSeen, SignatureSeen, Signatures, no_signatures, signature_and, signatures_of, are_none, counters_item, header_item, signature_item, signatures_image, header_image, kept_bytes}
-use Rattle.coset_core.specs.HeaderWrites.{fields_put, images_signatures, signature_image_is, algorithm_image, critical_image, content_type_image, Puts, header_put, header_repeats}
-use Rattle.coset_core.specs.Written.{AppendsItem, AppendsItems, AppendsPairs, AppendsHeader, AppendsCounters, AppendsSignatures, AppendsSignature, AppendsProtected, entry_pairs, registered_item, critical_item, filled_item, header_fields, plain_fields, one, count_pairs, signature_array}
-use Rattle.coset_core.proofs.Writing.{items-none, items-push, array-put, pairs-none, pairs-then, pair-put, count-entries, image-entries}
+use Rattle.coset_core.specs.Headers.{HeaderSeen, ProtectedSeen, SignatureSeen, Signatures, no_signatures, signature_and, signatures_of, are_none, counters_item, header_item, signature_item, signatures_image, header_image, kept_bytes}
+use Rattle.coset_core.specs.HeaderWrites.{three, fields_put, images_signatures, signature_image_is, algorithm_image, critical_image, content_type_image, Puts, header_put, header_repeats}
+use Rattle.coset_core.specs.Written.{AppendsItems, AppendsPairs, AppendsCounters, AppendsSignatures, entry_pairs, registered_item, critical_item, filled_item, header_fields, plain_fields, one, count_pairs, signature_array}
+use Rattle.coset_core.proofs.Writing.{items-push, array-put, pairs-none, pairs-then, pair-put, count-entries, image-entries}
 
 -- an error passed on that says of P what another is asked to say of Q
 pub passes : {T : Type 0} (r : Result T CoseError) (f : CoseError) (P Q : Type 0) → IsErrAnd r (λ e. e ≡ f) → (P → Q) → Tells f (λ g. (g ≡ DuplicateMapKey) × P) → IfErr r (λ e. Tells e (λ g. (g ≡ DuplicateMapKey) × Q))
 passes (Ok x) f P Q same h tells = tt
 passes (Err e) f P Q same h tells = λ other. let told = tells (λ m. other (same ∙ m)) in (same ∙ told.0, h told.1)
 
+-- the same, where that is that an item is missing
+pub unencoded : {T : Type 0} (r : Result T CoseError) (f : CoseError) (P : Type 0) (o : Option Item) (old new : List ℕ) → IsErrAnd r (λ e. e ≡ f) → (P → o ≡ None) → Tells f (λ g. (g ≡ DuplicateMapKey) × P) → Encodes o old new r
+unencoded {T} (Ok x) f P o old new same h tells = absurd same
+unencoded {T} (Err e) f P o old new same h tells = passes {T = T} (Err e) f P (o ≡ None) same h tells
+
 -- ---- signatures
 
 -- a head, the byte string, the unprotected header and the bytes are the array of a signature
 pub signature-put :
-    (s : SignatureSeen) (old head mid half new : List ℕ) → head ≡ old ++ least_head 4 3 → AppendsProtected head mid s.protected → AppendsHeader mid half s.unprotected → AppendsItem half new (bytes s.signature) → AppendsSignature old new s
+    (s : SignatureSeen) (old head mid half new : List ℕ) → head ≡ old ++ least_head 4 3 → AppendsImage (option_map bytes (kept_bytes s.protected)) head mid → AppendsImage (header_image s.unprotected) mid half → AppendsItem half new (bytes s.signature)
+    → AppendsImage (signature_array s) old new
 signature-put s old head mid half new first p u b =
-    let one = items-push head head mid [] (bytes p.0) (items-none head) p.2 in
-    let two = items-push head mid half (bytes p.0 ∷ []) u.0 one u.2 in
-    let three = items-push head half new (bytes p.0 ∷ u.0 ∷ []) (bytes s.signature) two b in (
-      array (items_of (bytes p.0 ∷ u.0 ∷ bytes s.signature ∷ [])),
-      λ i. signature_item (p.1 i) (u.1 i) s.signature,
-      array-put (bytes p.0 ∷ u.0 ∷ bytes s.signature ∷ []) 3 old head new refl (omega arith) first three,
-    )
+    subst (λ o. AppendsImage o old new) (three (kept_bytes s.protected) (header_image s.unprotected) s.signature) (array-put-places 3 (omega arith) first (place-put p (place-put u (place-put (bytes s.signature, refl, b) (nothing-put new)))))
+
+-- a byte string is that of a protected header
+pub string-put : (p : ProtectedSeen) (b old new : List ℕ) → kept_bytes p ≡ Some b → AppendsItem old new (bytes b) → AppendsImage (option_map bytes (kept_bytes p)) old new
+string-put p b old new e put = (bytes b, ap (option_map bytes) e, put)
 
 -- none of its parts may be missing
 pub unsigned-unprotected : (s : SignatureSeen) → header_image s.unprotected ≡ None → signature_array s ≡ None
@@ -46,8 +52,8 @@ unsigned-unprotected s e = ap (λ o. signature_item (kept_bytes s.protected) o s
     last (Some b) = refl
     last None = refl
 
-pub unsigned-protected : (s : SignatureSeen) → kept_bytes s.protected ≡ None → signature_array s ≡ None
-unsigned-protected s e = ap (λ o. signature_item o (header_image s.unprotected) s.signature) e
+pub unsigned-protected : (s : SignatureSeen) → option_map bytes (kept_bytes s.protected) ≡ None → signature_array s ≡ None
+unsigned-protected s e = sym (three (kept_bytes s.protected) (header_image s.unprotected) s.signature) ∙ ap (λ o. option_map array (both item o (both item (header_image s.unprotected) (Some (item (bytes s.signature) no_items))))) e
 
 -- ---- several
 
@@ -83,7 +89,7 @@ images-append f (x ∷ xs) ys = ap (both item (f x)) (images-append f xs ys) ∙
 
 -- one more signature
 pub signatures-push :
-    (ss : List SignatureSeen) (s : SignatureSeen) (old mid new : List ℕ) → AppendsSignatures old mid ss → AppendsSignature mid new s → AppendsSignatures old new (ss ++ s ∷ [])
+    (ss : List SignatureSeen) (s : SignatureSeen) (old mid new : List ℕ) → AppendsSignatures old mid ss → AppendsImage (signature_array s) mid new → AppendsSignatures old new (ss ++ s ∷ [])
 signatures-push ss s old mid new p q =
     let so_far : images signature_array ss ≡ Some (items_of p.0) = sym (each ss) ∙ p.1 in
     let all : images signature_array (ss ++ s ∷ []) ≡ Some (items_of (p.0 ++ q.0 ∷ [])) = rw (images-append signature_array ss (s ∷ []), so_far, q.1) (ap Some (and_items-of p.0 q.0)) in (
@@ -226,7 +232,7 @@ dict-put es n old head new count small first p =
 -- a head, the first six fields, the pair of label 7 and the rest are the header's map
 pub map-put :
     (h : HeaderSeen) (n : ℕ) (old head mid half new : List ℕ) → are_distinct same_name (keys_of h.fields.rest) ≡ true → n ≡ count_pairs h → n < 2 ^ 64 → head ≡ old ++ least_head 5 n → AppendsPairs head mid (plain_fields h.fields)
-    → AppendsCounters mid half h.counter_signatures → AppendsPairs half new h.fields.rest → AppendsHeader old new h
+    → AppendsCounters mid half h.counter_signatures → AppendsPairs half new h.fields.rest → AppendsImage (header_image h) old new
 map-put h n old head mid half new distinct count small first plain counters rest =
     let f = h.fields in
     let o = counters.0 in

@@ -1,18 +1,21 @@
 -- The laws of a header's fields, and of maps of them.
-use Rattle.std.proofs.Common.{◌≡◌, ◌≤◌, ◌<◌, ℕ, List, [], ◌∷◌, Option, Some, None, Bool, true, false, cond, refl, ap, sym, ◌∙◌, subst, rules, arith}
+use Rattle.std.proofs.Common.{◌≡◌, ◌≤◌, ◌<◌, ℕ, List, [], ◌∷◌, Option, Some, None, Bool, true, false, cond, inl, inr, ◌⊎◌, refl, ap, sym, ◌∙◌, subst, rules, arith}
 use Rattle.std.specs.Prelude.{pos}
-use Rattle.std.specs.Map.{lookup}
+use Rattle.std.specs.List.{IsDistinct}
+use Rattle.std.specs.Map.{keys_of, lookup}
 use Rattle.coset_value.specs.Item.{Item, integer, dict, depth, Pairs, no_pairs, pair, pairs_depth}
 use Rattle.coset_value.specs.Parts.{as_map}
 use Rattle.coset_shape.specs.Errors.{IsUnexpected}
 use Rattle.coset_shape.specs.Shape.{any, filled_bstr, some_of}
-use Rattle.coset_shape.specs.ShapeLaws.{Lawful, some-one, along_laws, that_laws, any_laws, filled_bstr_laws, some_of_laws}
-use Rattle.coset_shape.specs.Maps.{Held, optional, listed, Named}
-use Rattle.coset_shape.specs.MapLaws.{LawfulNames, LawfulHeld, LawfulFields, Flat, field_laws, no_field_laws, optional_laws, listed_laws, labelled_laws}
+use Rattle.coset_shape.specs.ShapeLaws.{Lawful, Again, some-one, some-none, along_laws, that_laws, any_laws, filled_bstr_laws, some_of_laws}
+use Rattle.coset_shape.specs.Maps.{Held, optional, listed, Named, HasLabel, SomePair, Twice, SoFar, Barred, Gathers, and_pairs}
+use Rattle.coset_shape.specs.declared.error.CoseError.{CoseError}
+use Rattle.coset_shape.specs.MapLaws.{LawfulNames, LawfulHeld, LawfulFields, Flat, field_laws, no_field_laws, optional_laws, listed_laws, labelled_laws, new_of, not_new, has_label, lookup_none, lookup_later, so_far_twice}
 use Rattle.coset_label.specs.Names.{Name, number, RegisteredName}
+use Rattle.coset_label.specs.Labels.{label}
 use Rattle.coset_label.specs.LabelLaws.{label_laws, registered_laws, registered_or_private_laws}
 use Rattle.coset_label.specs.NameOrder.{name_cmp-apart}
-use Rattle.coset_core.specs.Fields.{FieldsSeen, algorithm, critical, content_type, IsContentType, same_name, names, Fielded, fields, fields_of, parts_of, HasOneIv, map_with, unread}
+use Rattle.coset_core.specs.Fields.{FieldsSeen, algorithm, critical, content_type, IsContentType, same_name, names, Fielded, fields, fields_of, parts_of, HasOneIv, HasBothIvs, map_of, map_with, unread, SomeCounters, IsKept, bars}
 
 pub names_laws : LawfulNames Name names
 names_laws = record {
@@ -89,9 +92,38 @@ fields_laws c l =
 
 -- ---- maps of them
 
+map_of_laws : {C : Type 0} (c : Held C) → LawfulHeld C c → Lawful (FieldsSeen × C) (map_of c)
+map_of_laws c l = along_laws fields_of parts_of (λ x. refl) _ (labelled_laws names names_laws true (fields c) (fields_laws c l))
+
+-- a vector that some pair has is there
+iv_there : (l : Name) (ps : Pairs) (es : List (Name × Item)) (iv : List ℕ) → Named label.describes ps es → HasLabel label.describes l ps → (listed filled_bstr).describes (lookup (same_name l) es) iv → iv ≡ [] → ⊥
+iv_there l ps es iv n h d none = go (lookup (same_name l) es) refl d
+  where
+    go : (o : Option Item) → lookup (same_name l) es ≡ o → (listed filled_bstr).describes o iv → ⊥
+    go (Some w) e p = p.1 none
+    go None e p = not_new names names_laws ps es l n h (new_of names l es e)
+
+-- so both are where both labels stand
+not_both : {C : Type 0} (c : Held C) (v : Item) (x : FieldsSeen × C) → (map_of c).describes v x → HasOneIv x.0 → HasBothIvs v → ⊥
+not_both c v x p one both =
+    let ps = p.0 in
+    let m = p.2 in
+    let same : both.0 ≡ ps = some-one both.1 p.1 in
+    elim one [
+      | inl h ↦ iv_there (number (pos 5)) ps m.entries x.0.iv m.named (subst (HasLabel label.describes (number (pos 5))) same both.2) m.fields.1.1.1.1.0 h
+      | inr h ↦ iv_there (number (pos 6)) ps m.entries x.0.partial_iv m.named (subst (HasLabel label.describes (number (pos 6))) same both.3) m.fields.1.1.1.1.1.0 h
+    ]
+
 pub map_with_laws : {C : Type 0} (c : Held C) → LawfulHeld C c → Lawful (FieldsSeen × C) (map_with c)
-map_with_laws c l =
-    that_laws IsUnexpected (λ x. HasOneIv x.0) _ (along_laws fields_of parts_of (λ x. refl) _ (labelled_laws names names_laws true (fields c) (fields_laws c l)))
+map_with_laws {C} c l =
+    let m = map_of_laws c l in
+    record {
+      unique = λ v x y p q. m.unique v x y p.0 q.0;
+      again = λ v x p.
+          let a : Again (FieldsSeen × C) (map_of c) v x = m.again v x p.0 in
+          record { image = a.image; is_image = a.is_image; described = (a.described, p.1); shallow = a.shallow };
+      sound = λ v x e p f. elim f [ inl g ↦ m.sound v x e p.0 g | inr g ↦ not_both c v x p.0 p.1 g.0 ];
+    }
 
 -- where the value of label 7 is left as it is
 pub unread_fields_laws : LawfulFields Name (Fielded (Option Item)) names (fields (optional any))
@@ -164,30 +196,106 @@ unfolding unread
 image_with c f x (Some v) h = rw h refl
 image_with c f x None h = rw h refl
 
--- what is found among the pairs is no deeper than they are
-found_depth : {N : Type 0} (r : Item → N → Type 0) (t : N → Bool) (ps : Pairs) (es : List (N × Item)) (w : Item) → Named r ps es → lookup t es ≡ Some w → depth w ≤ pairs_depth ps
-found_depth r t no_pairs [] w n h = absurd (cc)
-found_depth r t no_pairs (e ∷ es) w n h = absurd n
-found_depth r t (pair k v ps) [] w n h = absurd n
-found_depth r t (pair k v ps) (e ∷ es) w n h = go (t e.0) h (λ g. found_depth r t ps es w n.2 g)
+-- a value that is found stands among the pairs
+found_pair : (l : Name) (w : Item) (ps : Pairs) (es : List (Name × Item)) → Named label.describes ps es → lookup (same_name l) es ≡ Some w → SomePair (λ k u. label.describes k l × (u ≡ w)) ps
+found_pair l w no_pairs [] p q = absurd (cc)
+found_pair l w no_pairs (e ∷ es) p q = absurd p
+found_pair l w (pair k v ps) [] p q = absurd p
+found_pair l w (pair k v ps) (e ∷ es) p q = go (same_name l e.0) refl q (found_pair l w ps es p.2)
   where
-    same : depth v ≡ depth e.1
-    same = ap depth n.1
+    go : (b : Bool) → same_name l e.0 ≡ b → cond b (Some e.1) (lookup (same_name l) es) ≡ Some w → (lookup (same_name l) es ≡ Some w → SomePair (λ k u. label.describes k l × (u ≡ w)) ps)
+        → (label.describes k l × (v ≡ w)) ⊎ SomePair (λ k u. label.describes k l × (u ≡ w)) ps
+    go true c h ih = inl (subst (label.describes k) (sym (names_laws.same_is l e.0 c)) p.0, p.1 ∙ some-one refl h)
+    go false c h ih = inr (ih h)
 
-    go : (b : Bool) → cond b (Some e.1) (lookup t es) ≡ Some w → (lookup t es ≡ Some w → depth w ≤ pairs_depth ps) → depth w ≤ pairs_depth (pair k v ps)
-    go true g ih = let deep : depth e.1 ≡ depth w = ap depth (some-one refl g) in omega (arith, same, deep)
-    go false g ih = omega (arith, ih g)
+-- and what stands among them is found, where no label stands twice
+pair_found :
+    (P : Item → Type 0) (l : Name) (ps : Pairs) (es : List (Name × Item)) → Named label.describes ps es → IsDistinct same_name (keys_of es) → SomePair (λ k u. label.describes k l × P u) ps
+    → (w : Item) × (lookup (same_name l) es ≡ Some w) × P w
+unfolding IsDistinct
+pair_found P l no_pairs es p d f = absurd f
+pair_found P l (pair k v ps) [] p d f = absurd p
+pair_found P l (pair k v ps) (e ∷ es) p d (inl f) =
+    let q : same_name l e.0 ≡ true = subst (λ m. same_name m e.0 ≡ true) (label_laws.unique k e.0 l p.0 f.0) (names_laws.same_self e.0) in
+    (e.1, rw q refl, subst P p.1 f.1)
+pair_found P l (pair k v ps) (e ∷ es) p d (inr f) = let g = pair_found P l ps es p.2 d.1 f in (g.0, lookup_later names names_laws e es l g.0 d.0 g.1, g.2)
+
+-- so the value of label 7 is the one that is left as it is
+pub counters_found : (P : Item → Type 0) (v : Item) (f : FieldsSeen) (o : Option Item) → unread.describes v (f, o) → SomeCounters P v → (w : Item) × (o ≡ Some w) × P w
+unfolding unread
+counters_found P v f o p s =
+    let m = p.0.2 in
+    let same : lookup (same_name (number (pos 7))) m.entries ≡ o = is_itself _ o m.fields.1.1.1.1.1.1.0 in
+    let g = pair_found P (number (pos 7)) p.0.0 m.entries m.named m.distinct (subst (SomePair (λ k u. label.describes k (number (pos 7)) × P u)) (some-one s.1 p.0.1) s.2) in
+    (g.0, sym same ∙ g.1, g.2)
+
+-- what stands among some pairs stands among them and others
+some_before : (P : Item → Item → Type 0) (ps qs : Pairs) → SomePair P ps → SomePair P (and_pairs ps qs)
+some_before P no_pairs qs f = absurd f
+some_before P (pair k v ps) qs (inl f) = inl f
+some_before P (pair k v ps) qs (inr f) = inr (some_before P ps qs f)
+
+label_before : (l : Name) (ps qs : Pairs) → HasLabel label.describes l ps → HasLabel label.describes l (and_pairs ps qs)
+label_before l no_pairs qs f = absurd f
+label_before l (pair k v ps) qs (inl f) = inl f
+label_before l (pair k v ps) qs (inr f) = inr (label_before l ps qs f)
+
+label_after : (l : Name) (ps qs : Pairs) → HasLabel label.describes l qs → HasLabel label.describes l (and_pairs ps qs)
+label_after l no_pairs qs f = f
+label_after l (pair k v ps) qs f = inr (label_after l ps qs f)
+
+-- the value of label 7 that was gathered stands there
+pub kept_there :
+    (v : Item) (x y : Fielded (Option Item) × List (Name × Item)) (o : Option Item) → (fields_of x).1 ≡ None → (fields_of y).1 ≡ o → Gathers names (fields (optional any)) v x y → IsKept v o
+kept_there v x y None n e g = tt
+kept_there v x y (Some w) n e (inl g) = absurd (some-none e (ap (λ z. (fields_of z).1) g.1 ∙ n))
+kept_there v x y (Some w) n e (inr g) =
+    let walk = g.3 in
+    let s = walk.so_far in
+    let found : lookup (same_name (number (pos 7))) s.entries ≡ Some w = is_itself _ (fields_of y).1 s.fields.1.1.1.1.1.1.0 ∙ e in
+    (g.0, g.2, subst (SomePair (λ k u. label.describes k (number (pos 7)) × (u ≡ w))) (sym walk.parts) (some_before _ walk.done g.1 (found_pair (number (pos 7)) w walk.done s.entries s.named found)))
+
+-- a vector that was gathered has its label
+iv_before : (l : Name) (ps : Pairs) (es : List (Name × Item)) (iv : List ℕ) → Named label.describes ps es → (listed filled_bstr).describes (lookup (same_name l) es) iv → (iv ≡ [] → ⊥) → HasLabel label.describes l ps
+iv_before l ps es iv n d some = has_label names names_laws ps es l n (λ a. some (subst (λ o. (listed filled_bstr).describes o iv) (lookup_none names l es a) d))
+
+-- what bars a label is a fault of the map
+pub barred_fault : (v : Item) (e : CoseError) → (ps : Pairs) × (as_map v ≡ Some ps) × Barred Name (Fielded (Option Item)) names (fields (optional any)) bars ps e → unread.faults v e
+unfolding unread
+barred_fault v e f = go f.2.barred.2
+  where
+    b : Barred Name (Fielded (Option Item)) names (fields (optional any)) bars f.0 e
+    b = f.2
+
+    s : SoFar Name (Fielded (Option Item)) names (fields (optional any)) b.walked.done b.before
+    s = b.walked.so_far
+
+    earlier : (l : Name) → HasLabel label.describes l b.walked.done → HasLabel label.describes l f.0
+    earlier l h = subst (HasLabel label.describes l) (sym b.walked.parts) (label_before l b.walked.done (pair b.key b.value b.left) h)
+
+    this : (l : Name) → same_name l b.barred.0 ≡ true → HasLabel label.describes l f.0
+    this l h =
+        subst (HasLabel label.describes l) (sym b.walked.parts)
+        (label_after l b.walked.done (pair b.key b.value b.left) (inl (subst (label.describes b.key) (sym (names_laws.same_is l b.barred.0 h)) b.barred.1)))
+
+    go : bars b.barred.0 b.before e → unread.faults v e
+    go (inl h) = inr ((f.0, f.1, this (number (pos 5)) h.0, earlier (number (pos 6)) (iv_before (number (pos 6)) b.walked.done s.entries (fields_of b.before).0.partial_iv s.named s.fields.1.1.1.1.1.0 h.1)), h.2)
+    go (inr (inl h)) = inr ((f.0, f.1, earlier (number (pos 5)) (iv_before (number (pos 5)) b.walked.done s.entries (fields_of b.before).0.iv s.named s.fields.1.1.1.1.0 h.1), this (number (pos 6)) h.0), h.2)
+    go (inr (inr h)) =
+        inl (inr (f.0, f.1, inr (subst (Twice label.describes) (sym b.walked.parts) (so_far_twice names names_laws (fields (optional any)) unread_fields_laws b.walked.done b.before s h.0 (pair b.key b.value b.left)), h.1)))
+
+-- a value that stands in a map is less deep than the map
+some_depth : (P : Item → Item → Type 0) (w : Item) (ps : Pairs) → ((k u : Item) → P k u → u ≡ w) → SomePair P ps → depth w ≤ pairs_depth ps
+some_depth P w no_pairs is f = absurd f
+some_depth P w (pair k v ps) is (inl f) = let same : depth v ≡ depth w = ap depth (is k v f) in omega (arith, same)
+some_depth P w (pair k v ps) is (inr f) = let inner : depth w ≤ pairs_depth ps = some_depth P w ps is f in omega (arith, inner)
 
 map-depth : (v : Item) (ps : Pairs) → as_map v ≡ Some ps → depth v ≡ depth (dict ps)
 map-depth (dict qs) ps p = ap (λ rs. depth (dict rs)) (some-one refl p)
 map-depth _ ps p = absurd (cc)
 
--- the value of label 7 is less deep than the map
-pub shallower : (v : Item) (f : FieldsSeen) (w : Item) → unread.describes v (f, Some w) → depth w < depth v
-unfolding unread
-shallower v f w p =
-    let m = p.0.2 in
-    let same : lookup (names.same (number (pos 7))) m.entries ≡ Some w = is_itself _ (Some w) m.fields.1.1.1.1.1.1.0 in
-    let inner : depth w ≤ pairs_depth p.0.0 = found_depth _ _ p.0.0 m.entries w m.named same in
-    let outer : depth v ≡ depth (dict p.0.0) = map-depth v p.0.0 p.0.1 in
+pub shallower : (v : Item) (w : Item) → SomeCounters (λ u. u ≡ w) v → depth w < depth v
+shallower v w s =
+    let inner : depth w ≤ pairs_depth s.0 = some_depth _ w s.0 (λ k u h. h.1) s.2 in
+    let outer : depth v ≡ depth (dict s.0) = map-depth v s.0 s.1 in
     omega (arith, inner, outer)

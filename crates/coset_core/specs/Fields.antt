@@ -1,8 +1,10 @@
 -- What a header holds beside its counter signatures, and maps of that (RFC 8152, section 3.1).
-use Rattle.std.specs.Prelude.{◌≡◌, ◌≢◌, ◌⊎◌, ℕ, pos, ◌==◌, List, [], filter, length, Option, None, Bool, is_some, ⊤}
+use Rattle.std.specs.Prelude.{◌≡◌, ◌≢◌, ◌⊎◌, ℕ, pos, ◌==◌, List, [], filter, length, Option, Some, None, Bool, true, false, is_some, ⊤}
 use Rattle.std.specs.Ordering.{is_eq}
 use Rattle.std.specs.Str.{trim}
-use Rattle.coset_value.specs.Item.{Item}
+use Rattle.std.specs.Map.{keys_of}
+use Rattle.coset_value.specs.Item.{Item, Pairs}
+use Rattle.coset_value.specs.Parts.{as_map}
 use Rattle.coset_iana.specs.Algorithm as algorithms
 use Rattle.coset_iana.specs.CoapContentFormat as content_formats
 use Rattle.coset_iana.specs.HeaderParameter as parameters
@@ -13,7 +15,8 @@ use Rattle.coset_iana.specs.declared.content_formats.TheConstants.{COAP_CONTENT_
 use Rattle.coset_iana.specs.declared.headers.TheConstants.{HEADER_PARAMETERS}
 use Rattle.coset_shape.specs.Errors.{IsUnexpected}
 use Rattle.coset_shape.specs.Shape.{Shape, that, any, along, some_of, filled_bstr}
-use Rattle.coset_shape.specs.Maps.{Names, Fields, Held, field, no_field, optional, listed, labelled}
+use Rattle.coset_shape.specs.Maps.{Names, Fields, Held, HasLabel, SomePair, Bars, are_distinct, field, no_field, optional, listed, labelled}
+use Rattle.coset_shape.specs.declared.error.CoseError.TheVariants.{DuplicateMapKey}
 use Rattle.coset_label.specs.Names.{Name, number, word, RegisteredName, name_cmp}
 use Rattle.coset_label.specs.Labels.{label, registered, registered_or_private}
 
@@ -96,11 +99,35 @@ HasOneIv f = (f.iv ≡ []) ⊎ (f.partial_iv ≡ [])
 abbrev pub map_of : {C : Type 0} → Held C → Shape (FieldsSeen × C)
 map_of counters = along fields_of parts_of (labelled names (fields counters))
 
+-- both kinds of initialization vector
+abbrev pub HasBothIvs : Item → Type 0
+HasBothIvs v = (ps : Pairs) × (as_map v ≡ Some ps) × HasLabel label.describes (number (pos 5)) ps × HasLabel label.describes (number (pos 6)) ps
+
 -- {? 1 => algorithm, ? 2 => [+ critical], ? 3 => content_type, ? 4 => bstr .size (1..), ? 5 => bstr .size (1..) //
 -- 6 => bstr .size (1..), ? 7 => counters, * label => any}
 abbrev pub map_with : {C : Type 0} → Held C → Shape (FieldsSeen × C)
-map_with counters = that IsUnexpected (λ x. HasOneIv x.0) (map_of counters)
+map_with counters = record {
+  describes = λ v x. (map_of counters).describes v x × HasOneIv x.0;
+  image = (map_of counters).image;
+  faults = λ v e. (map_of counters).faults v e ⊎ (HasBothIvs v × IsUnexpected e);
+}
 
 -- the same, with the value of label 7 as it is
 unfoldable pub unread : Shape (FieldsSeen × Option Item)
 unread = map_with (optional any)
+
+-- one of the pairs of a map has label 7, and a value of which P tells
+abbrev pub SomeCounters : (Item → Type 0) → Item → Type 0
+SomeCounters P v = (ps : Pairs) × (as_map v ≡ Some ps) × SomePair (λ k w. label.describes k (number (pos 7)) × P w) ps
+
+-- what is kept of label 7 stands there
+abbrev pub IsKept : Item → Option Item → Type 0
+IsKept v None = ⊤
+IsKept v (Some w) = SomeCounters (λ u. u ≡ w) v
+
+-- why a label is refused after others: one kind of initialization vector after the other; or labels of the rest repeat
+abbrev pub bars : {C : Type 0} → Bars Name (Fielded C)
+bars m x e =
+    ((same_name (number (pos 5)) m ≡ true) × ((fields_of x).0.partial_iv ≢ []) × IsUnexpected e)
+    ⊎ ((same_name (number (pos 6)) m ≡ true) × ((fields_of x).0.iv ≢ []) × IsUnexpected e)
+    ⊎ ((are_distinct same_name (keys_of x.1) ≡ false) × (e ≡ DuplicateMapKey))

@@ -1,12 +1,12 @@
 -- Headers read from their parts: the map with the value of label 7 as it is, and the counter signatures of that value.
 use Rattle.std.specs.Prelude.{None, ⊤}
-use Rattle.std.proofs.Common.{◌≡◌, ℕ, zero, suc, List, [], ◌∷◌, Option, Some, refl, ap, inl, inr}
-use Rattle.coset_value.specs.Item.{Item, Items, no_items, item}
+use Rattle.std.proofs.Common.{◌≡◌, ℕ, zero, suc, List, [], ◌∷◌, Option, Some, refl, ap, sym, subst, inl, inr}
+use Rattle.coset_value.specs.Item.{Item, Items, no_items, item, Pairs, no_pairs, pair}
 use Rattle.coset_shape.specs.Shape.{Shape, Each, EachFaults, fixed, bstr, ◌then◌, end, any_number, one_or_more, one_or_many}
 use Rattle.coset_shape.specs.Serialized.{ContentDescribes, ContentFaults}
 use Rattle.coset_shape.specs.declared.error.CoseError.{CoseError}
-use Rattle.coset_shape.specs.Maps.{listed}
-use Rattle.coset_core.specs.Fields.{FieldsSeen, map_with, unread}
+use Rattle.coset_shape.specs.Maps.{listed, SomePair}
+use Rattle.coset_core.specs.Fields.{FieldsSeen, map_with, unread, SomeCounters}
 use Rattle.coset_core.specs.FieldLaws.{split}
 use Rattle.coset_core.specs.Headers.{Signatures, no_signatures, HeaderSeen, ProtectedSeen, SignatureSeen, signatures_of, empty_header, with_counters, CountersAre, ContentIs, ProtectedIs, IsEmpty, IsHeader, AreSignatures, signed_array, told_by, HeaderFaults, ProtectedFaults, counters_faults, layered_header, layered_protected, layered_signature}
 
@@ -137,7 +137,13 @@ faults_read k w e (inl f) = (1, inl f)
 faults_read k w e (inr f) = elim f.2 [ inl m ↦ absurd m.0 | inr m ↦ let g = signatures_fault k f.0 e m in (suc g.0, inr (f.0, f.1, inr g.1)) ]
 
 -- and of the header that they stand in
-pub counters_fault :
-    (k : ℕ) (v : Item) (f : FieldsSeen) (w : Item) (e : CoseError) → unread.describes v (f, Some w) → (one_or_many (any_number (layered_signature k))).faults w e → (layered_header k).faults v e
+some_as : (P Q : Item → Item → Type 0) (ps : Pairs) → ((k u : Item) → P k u → Q k u) → SomePair P ps → SomePair Q ps
+some_as P Q no_pairs f s = s
+some_as P Q (pair k v ps) f (inl s) = inl (f k v s)
+some_as P Q (pair k v ps) f (inr s) = inr (some_as P Q ps f s)
+
+pub counters_fault : (k : ℕ) (v : Item) (w : Item) (e : CoseError) → SomeCounters (λ u. u ≡ w) v → (one_or_many (any_number (layered_signature k))).faults w e → (layered_header k).faults v e
 unfolding layered_header
-counters_fault k v f w e p q = let g = faults_read k w e q in (g.0, inr (f, w, p, g.1))
+counters_fault k v w e p q =
+    let g = faults_read k w e q in
+    (g.0, inr (p.0, p.1, some_as _ _ p.0 (λ j u h. (h.0, subst (λ t. counters_faults g.0 k t e) (sym h.1) g.1)) p.2))

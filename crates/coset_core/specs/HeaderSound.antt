@@ -1,6 +1,6 @@
 -- No fault stands in an item that stands for a header.
 use Rattle.std.specs.Prelude.{⊤}
-use Rattle.std.proofs.Common.{◌≡◌, ℕ, zero, suc, List, [], ◌∷◌, Option, Some, None, refl, ap, subst, inl, inr}
+use Rattle.std.proofs.Common.{◌≡◌, ℕ, zero, suc, List, [], ◌∷◌, Option, Some, None, refl, subst, inl, inr}
 use Rattle.coset_value.specs.Item.{Item, Items, no_items, item}
 use Rattle.coset_cbor.proofs.Again.{texts_differ}
 use Rattle.coset_shape.specs.declared.error.CoseError.{CoseError}
@@ -8,7 +8,7 @@ use Rattle.coset_shape.specs.Serialized.{ContentFaults}
 use Rattle.coset_shape.specs.Shape.{EachFaults, fixed, bstr, ◌then◌, end, one_or_more}
 use Rattle.coset_shape.specs.ShapeLaws.{some-one, some-none}
 use Rattle.coset_core.specs.Fields.{FieldsSeen}
-use Rattle.coset_core.specs.FieldLaws.{unread_laws}
+use Rattle.coset_core.specs.FieldLaws.{unread_laws, counters_found}
 use Rattle.coset_core.specs.Headers.{Signatures, no_signatures, signature_and, HeaderSeen, with_counters, CountersAre, ContentIs, IsEmpty, IsHeader, AreSignatures, signed_array, told_by, HeaderFaults, ProtectedFaults, counters_faults}
 use Rattle.coset_core.specs.HeaderReads.{ProtectedOf, protected_faults, unprotected_faults}
 
@@ -20,9 +20,9 @@ AreSound n = (k : ℕ) (w : Item) (e : CoseError) (ss : Signatures) (vs : Items)
 header_sound : (n : ℕ) → AreSound n → (k : ℕ) (e : CoseError) (f : FieldsSeen) (ss : Signatures) (v : Item) → IsHeader (with_counters f ss) k v → HeaderFaults (counters_faults n k) v e → ⊥
 header_sound n sound k e f ss v a (inl x) = unread_laws.sound v (f, a.0) e a.1 x
 header_sound n sound k e f ss v a (inr x) =
-    let same : ◌≡◌ {A = FieldsSeen × Option Item} (f, a.0) (x.0, Some x.1) = unread_laws.unique v (f, a.0) (x.0, Some x.1) a.1 x.2 in
-    let are : CountersAre (λ vs. AreSignatures ss k vs) (ss ≡ no_signatures) (Some x.1) = subst (CountersAre (λ vs. AreSignatures ss k vs) (ss ≡ no_signatures)) (ap (λ y. y.1) same) a.2 in
-    sound k x.1 e ss are.0 are.1 are.2 x.3
+    let found = counters_found (λ w. counters_faults n k w e) v f a.0 a.1 x in
+    let are : CountersAre (λ vs. AreSignatures ss k vs) (ss ≡ no_signatures) (Some found.0) = subst (CountersAre (λ vs. AreSignatures ss k vs) (ss ≡ no_signatures)) found.1 a.2 in
+    sound k found.0 e ss are.0 are.1 are.2 found.2
 
 content_sound :
     (n : ℕ) → AreSound n → (k : ℕ) (e : CoseError) (f : FieldsSeen) (ss : Signatures) (b : List ℕ) → ContentIs (λ w. IsHeader (with_counters f ss) k w) (IsEmpty f ss) b

@@ -25,7 +25,7 @@ protected_image_is zero p = refl
 protected_image_is (suc k) p = refl
 
 -- a signature
-three : (o : Option (List ℕ)) (i : Option Item) (s : List ℕ) → option_map array (both item (option_map bytes o) (both item i (Some (item (bytes s) no_items)))) ≡ signature_item o i s
+pub three : (o : Option (List ℕ)) (i : Option Item) (s : List ℕ) → option_map array (both item (option_map bytes o) (both item i (Some (item (bytes s) no_items)))) ≡ signature_item o i s
 three (Some b) (Some v) s = refl
 three (Some b) None s = refl
 three None i s = refl

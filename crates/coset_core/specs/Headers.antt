@@ -11,7 +11,7 @@ use Rattle.coset_shape.specs.Serialized.{ContentFaults, kept, serialized_or_empt
 use Rattle.coset_shape.specs.Shape.{Shape, both, fixed, along, array_of, ◌then◌, end, any_number, bstr, one_or_more, bare, one_or_many}
 use Rattle.coset_shape.specs.declared.error.CoseError.{CoseError}
 use Rattle.coset_shape.specs.declared.error.CoseError.TheVariants.{DecodeFailed}
-use Rattle.coset_core.specs.Fields.{FieldsSeen, empty_fields, unread}
+use Rattle.coset_core.specs.Fields.{FieldsSeen, empty_fields, unread, SomeCounters}
 
 -- ---- headers without their memory
 
@@ -141,9 +141,9 @@ header_image h = header_item h.fields (counters_item h.counter_signatures (signa
 
 -- ---- what is wrong with an item
 
--- with a header: with its map; or with the value of label 7, of which C tells, in a map that is right
+-- with a header: with its map; or with a value of label 7, of which C tells
 abbrev pub HeaderFaults : (Item → CoseError → Type 0) → Item → CoseError → Type 0
-HeaderFaults C v e = unread.faults v e ⊎ ((f : FieldsSeen) × (w : Item) × unread.describes v (f, Some w) × C w e)
+HeaderFaults C v e = unread.faults v e ⊎ SomeCounters (λ w. C w e) v
 
 -- with the byte string of a protected header: it is none; or it is one layer too many; or with what it holds
 abbrev pub ProtectedFaults : (ℕ → Item → CoseError → Type 0) → ℕ → Item → CoseError → Type 0

@@ -14,6 +14,5 @@ pub mod HeaderWrites
 pub mod Written
 pub mod Views
 pub mod ViewLaws
-pub mod Items
 pub mod Same
 pub mod SameLaws

@@ -1,22 +1,17 @@
 -- Headers and signatures as bytes, without an item in between.
 use Rattle.std.specs.Prelude.{◌≡◌, ℕ, ◌+◌, pos, List, [], ◌∷◌, ◌++◌, ◌==◌, map, length, Bool, true, false, not, Option, Some, None, option_map, is_some, ⊤}
 use Rattle.coset_value.specs.Item.{Item, bytes, array, Pairs, no_pairs, pair}
-use Rattle.coset_value.specs.Range.{IsInRange, AreInRange, ArePairsInRange}
+use Rattle.coset_value.specs.Range.{AreInRange, ArePairsInRange}
 use Rattle.coset_value.specs.View.{items_of}
-use Rattle.coset_cbor.specs.Least.{short, shorts, pair_shorts}
+use Rattle.coset_cbor.specs.Least.{shorts, pair_shorts}
 use Rattle.coset_cbor.specs.Shortest.{IsShort}
 use Rattle.coset_shape.specs.Maps.{put_field}
 use Rattle.coset_label.specs.Names.{Name, number, name_item, RegisteredName, as_name}
 use Rattle.coset_core.specs.Fields.{FieldsSeen}
-use Rattle.coset_core.specs.Headers.{HeaderSeen, ProtectedSeen, SignatureSeen, Signatures, signatures_of, are_none, is_empty_header, counters_item, signature_item, signatures_image, header_image, kept_bytes}
+use Rattle.coset_core.specs.Headers.{HeaderSeen, SignatureSeen, Signatures, signatures_of, are_none, is_empty_header, counters_item, signature_item, signatures_image, header_image, kept_bytes}
 use Rattle.coset_core.specs.HeaderWrites.{fields_put}
 
 -- ---- items, one after the other
-
--- new is old, and then the shortest text of the item, which CBOR can hold
-pub record AppendsItem (old new : List ℕ) (v : Item) : Type 0 where
-  pub in_range : IsInRange v
-  pub parts : new ≡ old ++ short v
 
 -- new is old, and then the shortest texts of these items
 pub record AppendsItems (old new : List ℕ) (vs : List Item) : Type 0 where
@@ -77,10 +72,6 @@ count_pairs h =
 
 -- ---- headers and signatures
 
--- new is old, and then the shortest text of the header's map
-abbrev pub AppendsHeader : List ℕ → List ℕ → HeaderSeen → Type 0
-AppendsHeader old new h = (v : Item) × (header_image h ≡ Some v) × AppendsItem old new v
-
 -- new is old, and then the shortest texts of the arrays of these signatures
 abbrev pub AppendsSignatures : List ℕ → List ℕ → List SignatureSeen → Type 0
 AppendsSignatures old new ss = (vs : List Item) × (signatures_image (signatures_of ss) ≡ Some (items_of vs)) × (length vs ≡ length ss) × AppendsItems old new vs
@@ -89,17 +80,9 @@ AppendsSignatures old new ss = (vs : List Item) × (signatures_image (signatures
 abbrev pub AppendsCounters : List ℕ → List ℕ → Signatures → Type 0
 AppendsCounters old new ss = (o : Option Item) × (counters_item ss (signatures_image ss) ≡ Some o) × AppendsPairs old new (put_field (number (pos 7)) o [])
 
--- new is old, and then the shortest text of the byte string that stands for the protected header
-abbrev pub AppendsProtected : List ℕ → List ℕ → ProtectedSeen → Type 0
-AppendsProtected old new p = (b : List ℕ) × (kept_bytes p ≡ Some b) × AppendsItem old new (bytes b)
-
 -- the array of a signature
 abbrev pub signature_array : SignatureSeen → Option Item
 signature_array s = signature_item (kept_bytes s.protected) (header_image s.unprotected) s.signature
-
--- new is old, and then the shortest text of that
-abbrev pub AppendsSignature : List ℕ → List ℕ → SignatureSeen → Type 0
-AppendsSignature old new s = (v : Item) × (signature_array s ≡ Some v) × AppendsItem old new v
 
 -- ---- the bytes of protected headers
 

@@ -1,6 +1,6 @@
 //! What a header holds beside its counter signatures, and reading it pair by pair (RFC 8152, section 3.1).
 
-ghost use Rattle.std.specs.Prelude.{◌≡◌, pos, ◌⊎◌, [], List, Bool, false, not, map, option_map, IfOk, IfErr, OnOk, OnErr};
+ghost use Rattle.std.specs.Prelude.{◌≡◌, pos, ◌⊎◌, [], List, None, Bool, true, false, not, map, option_map, IfOk, IfErr, OnOk, OnErr};
 ghost use Rattle.std.specs.Map.{keys_of};
 ghost use Rattle.coset_shape.specs.declared.error.CoseError.TheVariants.{OutOfMemory, DuplicateMapKey};
 ghost use Rattle.coset_shape.specs.Answers.{Reads};
@@ -10,12 +10,15 @@ ghost use Rattle.coset_shape.specs.Shape.{any, some_of, filled_bstr};
 ghost use Rattle.coset_shape.specs.Sources.{source_item};
 ghost use Rattle.coset_label.specs.Names.{number};
 ghost use Rattle.coset_label.specs.Views.{label_seen};
-ghost use Rattle.coset_core.specs.Fields.{HasOneIv, map_of, algorithm, critical, content_type, names, fields, parts_of, same_name, empty_fields, unread};
-ghost use Rattle.coset_core.specs.FieldsView.{fields_seen, unread_seen};
-ghost use Rattle.coset_core.specs.Views.{algorithm_seen, critical_seen, content_type_seen};
+ghost use Rattle.coset_core.specs.Fields.{algorithm, critical, content_type, names, fields, parts_of, same_name, empty_fields, unread, IsKept, bars};
+ghost use Rattle.coset_core.specs.FieldsView.{unread_seen, Holds};
+ghost use Rattle.coset_core.specs.Views.{algorithm_seen, critical_seen, content_type_seen, header_seen};
+ghost use Rattle.coset_core.specs.Contents.{Fills};
+ghost use Rattle.coset_core.specs.Headers.{no_signatures};
 ghost use Rattle.coset_core.specs.Held.{TakesHeld, RefusesHeld};
 
 use crate::content_type::read_content_type;
+use crate::header::Header;
 use coset_cbor::value::Value;
 use coset_iana::HeaderParameter;
 use coset_label::{Algorithm, ContentType, Label, RegisteredLabelWithPrivate};
@@ -24,39 +27,23 @@ use coset_shape::map::{Gather, read_map};
 use coset_shape::{CoseError, Result, Source, has_repeats};
 use std::alloc::Global;
 
-/// A header without its counter signatures.
-#[derive(Drop)]
-pub(crate) struct Fields {
-    /// The algorithm (label 1).
-    pub alg: Option<Algorithm>,
-    /// The labels that must be understood (label 2); none where it is empty.
-    pub crit: Vec<RegisteredLabelWithPrivate<HeaderParameter>>,
-    /// The type of the content (label 3).
-    pub content_type: Option<ContentType>,
-    /// The key's identifier (label 4); none where it is empty.
-    pub key_id: Vec<u8>,
-    /// The initialization vector (label 5); none where it is empty.
-    pub iv: Vec<u8>,
-    /// A part of the initialization vector (label 6); none where it is empty.
-    pub partial_iv: Vec<u8>,
-    /// The pairs of other labels, in order.
-    pub rest: Vec<(Label, Value)>,
-}
-
 /// A header of which some pairs were read, and the value of label 7 as it was lent.
 #[derive(Drop)]
-pub(crate) struct Unread<'a> {
-    /// All other fields.
-    pub fields: Fields,
+struct Unread<'a> {
+    /// All but its counter signatures.
+    header: Header,
     /// What stands for the counter signatures, where there is such a pair.
-    pub counters: Option<Source<'a>>,
+    counters: Option<Source<'a>>,
 }
 
 /// Whether the label is this number.
 fn is_number(label: &Label, wanted: i64) -> bool
     ensures { result ≡ same_name (number wanted) (label_seen label.now) }
 {
-    Label::Int(wanted) == *label
+    match label {
+        Label::Int(number) => *number == wanted,
+        Label::Text(_) => false,
+    }
 }
 
 /// Reads an algorithm.
@@ -139,6 +126,27 @@ fn set_bytes(alloc: Global, field: &mut Vec<u8>, value: Source<'_>) -> Result<()
     Ok(())
 }
 
+/// Sets one kind of initialization vector, where there is none yet; `barred` tells whether the other is there.
+fn set_iv(alloc: Global, field: &mut Vec<u8>, barred: bool, value: Source<'_>) -> Result<()>
+    ensures takes { OnOk result (TakesHeld (listed filled_bstr) (source_item value.entry) field.old.items field.new.items) }
+    ensures alone { OnOk result (barred ≡ false) }
+    ensures refused { IfErr result (λ e. Names e (λ f. RefusesHeld (listed filled_bstr) (source_item value.entry) field.old.items f ⊎ ((barred ≡ true) × IsUnexpected f))) }
+    ensures kept { OnErr result (field.new ≡ field.old) }
+{
+    if !field.is_empty() {
+        return Err(CoseError::DuplicateMapKey);
+    }
+    let bytes = value.into_filled_bytes(alloc)?;
+    if barred {
+        return Err(CoseError::UnexpectedItem(
+            "IV and partial-IV specified",
+            "only one of IV and partial IV",
+        ));
+    }
+    *field = bytes;
+    Ok(())
+}
+
 /// Keeps the value of label 7, where there is none yet.
 fn set_counters<'a>(field: &mut Option<Source<'a>>, value: Source<'a>) -> Result<()>
     ensures takes { OnOk result (TakesHeld (optional any) (source_item value.entry) (option_map source_item field.old) (option_map source_item field.new)) }
@@ -155,55 +163,56 @@ fn set_counters<'a>(field: &mut Option<Source<'a>>, value: Source<'a>) -> Result
 impl<'a> Unread<'a> {
     /// Nothing.
     fn new(alloc: Global) -> Unread<'a>
-        ensures { unread_seen result ≡ (empty_fields, None) }
+        ensures seen { unread_seen result ≡ (empty_fields, None) }
+        ensures holds { Holds result }
     {
         Unread {
-            fields: Fields {
-                alg: None,
-                crit: Vec::new(alloc),
-                content_type: None,
-                key_id: Vec::new(alloc),
-                iv: Vec::new(alloc),
-                partial_iv: Vec::new(alloc),
-                rest: Vec::new(alloc),
-            },
+            header: Header::new(alloc),
             counters: None,
         }
     }
 
-    /// Takes one more value, by its label. Whether a label of the rest repeats isn't asked.
+    /// Takes one more value, by its label. Whether a label of the rest repeats is asked before label 7 alone, whose
+    /// value is read when the map was.
     ///
     /// # Errors
-    /// Want of memory; `DuplicateMapKey` where a field has a value already; or a fault of its value. What was gathered
-    /// is then as before.
+    /// Want of memory; `DuplicateMapKey` where a field has a value already; a fault of its value; or `UnexpectedItem`
+    /// where it is the second kind of initialization vector. What was gathered is then as before.
     fn put(&mut self, alloc: Global, label: Label, value: Source<'a>) -> Result<()>
+        requires holds { Holds self.old }
         ensures takes { OnOk result (Adds names (fields (optional any)) (label_seen label) (source_item value.entry) (parts_of (unread_seen self.old)) (parts_of (unread_seen self.new))) }
-        ensures refused { IfErr result (λ e. Names e (Refuses names (fields (optional any)) (label_seen label) (source_item value.entry) (parts_of (unread_seen self.old)))) }
+        ensures refused { IfErr result (λ e. Names e (λ f. Refuses names (fields (optional any)) (label_seen label) (source_item value.entry) (parts_of (unread_seen self.old)) f ⊎ bars (label_seen label) (parts_of (unread_seen self.old)) f)) }
         ensures kept { OnErr result (unread_seen self.new ≡ unread_seen self.old) }
+        ensures holds { Holds self.new }
     {
         if is_number(&label, 1) {
-            return set_algorithm(alloc, &mut self.fields.alg, value);
+            return set_algorithm(alloc, &mut self.header.alg, value);
         }
         if is_number(&label, 2) {
-            return set_critical(alloc, &mut self.fields.crit, value);
+            return set_critical(alloc, &mut self.header.crit, value);
         }
         if is_number(&label, 3) {
-            return set_content_type(alloc, &mut self.fields.content_type, value);
+            return set_content_type(alloc, &mut self.header.content_type, value);
         }
         if is_number(&label, 4) {
-            return set_bytes(alloc, &mut self.fields.key_id, value);
+            return set_bytes(alloc, &mut self.header.key_id, value);
         }
         if is_number(&label, 5) {
-            return set_bytes(alloc, &mut self.fields.iv, value);
+            let barred = !self.header.partial_iv.is_empty();
+            return set_iv(alloc, &mut self.header.iv, barred, value);
         }
         if is_number(&label, 6) {
-            return set_bytes(alloc, &mut self.fields.partial_iv, value);
+            let barred = !self.header.iv.is_empty();
+            return set_iv(alloc, &mut self.header.partial_iv, barred, value);
         }
         if is_number(&label, 7) {
+            if has_repeats(alloc, &self.header.rest)? {
+                return Err(CoseError::DuplicateMapKey);
+            }
             return set_counters(&mut self.counters, value);
         }
         let value = value.into_value(alloc)?;
-        self.fields.rest.push((label, value))?;
+        self.header.rest.push((label, value))?;
         Ok(())
     }
 }
@@ -225,6 +234,10 @@ impl<'a> Gather<Source<'a>> for Unread<'a> {
 
     ghost seen = { λ u. parts_of (unread_seen u) };
 
+    ghost bars = { bars };
+
+    ghost holds = { Holds };
+
     ghost lawful_names = { names_laws };
 
     ghost lawful_fields = { unread_fields_laws };
@@ -238,43 +251,31 @@ impl<'a> Gather<Source<'a>> for Unread<'a> {
         ensures repeats { IfOk result (λ b. b ≡ not (are_distinct names.same (keys_of (parts_of (unread_seen self.now)).1))) }
         ensures memory { IfErr result (λ e. e ≡ OutOfMemory) }
     {
-        has_repeats(alloc, &self.fields.rest)
+        has_repeats(alloc, &self.header.rest)
     }
 }
 
-/// Reads the map, from the first pair on.
-fn read_pairs(alloc: Global, source: Source<'_>) -> Result<Unread<'_>>
-    ensures { Reads (map_of (optional any)) unread_seen (source_item source.entry) result }
-{
-    read_map(alloc, source, Unread::new(alloc))
-}
-
-/// Asks that not both kinds of initialization vector are there.
+/// Reads a header but for its counter signatures, of which it has none then, from the first pair on. What stands for
+/// them is answered as it is, also where a later pair is at fault.
 ///
 /// # Errors
-/// `UnexpectedItem`: both are.
-fn ask_one_iv(fields: &Fields) -> Result<()>
-    ensures ok { IfOk result (λ _. HasOneIv (fields_seen fields.now)) }
-    ensures refused { IfErr result (λ e. IsUnexpected e × (HasOneIv (fields_seen fields.now) → ⊥)) }
+/// As of the pairs.
+#[inline(never)]
+pub(crate) fn fill_fields<'a>(
+    header: &mut Header,
+    alloc: Global,
+    source: Source<'a>,
+) -> (Result<()>, Option<Source<'a>>)
+    ensures read { Fills unread (source_item source.entry) ((header_seen header.new).fields, option_map source_item result.1) result.0 }
+    ensures none { (header_seen header.new).counter_signatures ≡ no_signatures }
+    ensures kept { IsKept (source_item source.entry) (option_map source_item result.1) }
 {
-    if fields.iv.is_empty() || fields.partial_iv.is_empty() {
-        return Ok(());
-    }
-    Err(CoseError::UnexpectedItem(
-        "IV and partial-IV specified",
-        "only one of IV and partial IV",
-    ))
-}
-
-/// Reads a header but for its counter signatures, whose value is left as it is.
-///
-/// # Errors
-/// As of the pairs; and then `UnexpectedItem` where both kinds of initialization vector are there.
-#[tactic(auto, unfolding(crate::specs::Fields::unread))]
-pub(crate) fn read_fields(alloc: Global, source: Source<'_>) -> Result<Unread<'_>>
-    ensures { Reads unread unread_seen (source_item source.entry) result }
-{
-    let unread = read_pairs(alloc, source)?;
-    ask_one_iv(&unread.fields)?;
-    Ok(unread)
+    let mut unread = Unread::new(alloc);
+    let read = read_map(alloc, source, &mut unread);
+    let Unread {
+        header: filled,
+        counters,
+    } = unread;
+    *header = filled;
+    (read, counters)
 }

@@ -6,16 +6,20 @@ ghost use Rattle.coset_shape.specs.Errors.{Names};
 ghost use Rattle.coset_core.specs.Headers.{empty_header, is_empty_header, header};
 ghost use Rattle.coset_core.specs.Views.{header_seen};
 
-use crate::read::{LAYERS, read_header};
+use crate::read::read_header;
 use crate::signature::CoseSignature;
-use crate::value::header_value;
+use crate::write::write_header;
 use coset_cbor::de::Pull;
 use coset_cbor::value::Value;
 use coset_iana::HeaderParameter;
 use coset_label::{Algorithm, ContentType, Label, RegisteredLabelWithPrivate};
+use coset_shape::encode::{Encode, encode_to_value, encode_to_vec};
 use coset_shape::traits::{FromPull, read_slice};
 use coset_shape::{AsCborValue, CborSerializable, Result, Source};
 use std::alloc::Global;
+
+/// About what a header takes beside its byte strings.
+const HEADS: usize = 24;
 
 /// A header (RFC 8152, section 3.1).
 #[cycle(header)]
@@ -86,17 +90,34 @@ impl AsCborValue for Header {
     ghost sound = { header_laws.sound };
 
     fn from_cbor_value(alloc: Global, value: Value) -> Result<Header> {
-        read_header(alloc, Source::Tree(value), LAYERS)
+        read_header(alloc, Source::Tree(value))
     }
 
     fn to_cbor_value(self, alloc: Global) -> Result<Value> {
-        header_value(alloc, self)
+        encode_to_value(alloc, &self)
+    }
+}
+
+impl Encode for Header {
+    ghost image = { λ h. header.image (header_seen h) };
+
+    /// Enough for all but the rest and the counter signatures.
+    fn room(&self) -> usize {
+        HEADS
+            .saturating_add(self.key_id.len())
+            .saturating_add(self.iv.len())
+            .saturating_add(self.partial_iv.len())
+    }
+
+    #[tactic(auto, unfolding(crate::specs::Headers::layered_header))]
+    fn encode(&self, alloc: Global, out: &mut Vec<u8>) -> Result<()> {
+        write_header(alloc, self, out)
     }
 }
 
 impl FromPull for Header {
     fn from_pull(alloc: Global, pull: Pull<'_>) -> Result<Header> {
-        read_header(alloc, Source::Lent(pull), LAYERS)
+        read_header(alloc, Source::Lent(pull))
     }
 }
 
@@ -107,5 +128,9 @@ impl CborSerializable for Header {
         ensures memory { AsksForItems s.now result }
     {
         read_slice(alloc, s)
+    }
+
+    fn to_vec(self, alloc: Global) -> Result<Vec<u8>> {
+        encode_to_vec(alloc, &self)
     }
 }

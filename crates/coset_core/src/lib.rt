@@ -10,9 +10,8 @@ mod protected;
 mod read;
 mod same;
 mod signature;
-mod value;
 mod write;
 
 pub use header::Header;
-pub use protected::ProtectedHeader;
+pub use protected::{Bstr, ProtectedHeader};
 pub use signature::CoseSignature;

@@ -14,10 +14,11 @@ ghost use Rattle.coset_core.specs.Views.{header_seen, protected_seen};
 ghost use Rattle.coset_core.specs.Written.{AreShortest, HoldsShortest};
 
 use crate::header::Header;
-use crate::read::{LAYERS, read_header, read_protected};
-use crate::write::fresh_bytes;
+use crate::read::{read_header, read_protected};
+use crate::write::{fresh_bytes, write_protected};
 use coset_cbor::de::Pull;
 use coset_cbor::value::Value;
+use coset_shape::encode::{Encode, encode_to_value, encode_to_vec};
 use coset_shape::traits::{FromPull, read_slice};
 use coset_shape::{AsCborValue, CborSerializable, Result, Source};
 use std::alloc::Global;
@@ -79,7 +80,7 @@ impl ProtectedHeader {
     pub fn from_source_bstr(alloc: Global, source: Source<'_>) -> Result<ProtectedHeader>
         ensures { Reads protected_shape protected_seen (source_item source.entry) result }
     {
-        read_protected(alloc, source, LAYERS)
+        read_protected(alloc, source)
     }
 
     /// The bytes that stand for the header in messages and under signatures (RFC 8152, sections 3 and 4.4): those that
@@ -118,6 +119,26 @@ impl ProtectedHeader {
     }
 }
 
+/// A protected header as the byte string that stands for it in messages.
+#[derive(Clone, Copy)]
+pub struct Bstr<'a>(pub &'a ProtectedHeader);
+
+impl Encode for Bstr<'_> {
+    ghost image = { λ p. protected_shape.image (protected_seen p.0.now) };
+
+    fn room(&self) -> usize {
+        match &self.0.original_data {
+            Some(bytes) => bytes.room(),
+            None => self.0.header.room(),
+        }
+    }
+
+    /// As of [`ProtectedHeader::kept_bytes`].
+    fn encode(&self, alloc: Global, out: &mut Vec<u8>) -> Result<()> {
+        write_protected(alloc, self.0, out)
+    }
+}
+
 /// A protected header that wasn't read from a byte string.
 fn unread(header: Header) -> ProtectedHeader
     ensures { protected_seen result ≡ record { original = None; header = header_seen header } }
@@ -143,18 +164,31 @@ impl AsCborValue for ProtectedHeader {
 
     /// Reads the header from its map. No bytes are kept.
     fn from_cbor_value(alloc: Global, value: Value) -> Result<ProtectedHeader> {
-        Ok(unread(read_header(alloc, Source::Tree(value), LAYERS)?))
+        Ok(unread(read_header(alloc, Source::Tree(value))?))
     }
 
     /// Writes the header's map, whatever bytes were kept.
     fn to_cbor_value(self, alloc: Global) -> Result<Value> {
-        self.header.to_cbor_value(alloc)
+        encode_to_value(alloc, &self)
+    }
+}
+
+impl Encode for ProtectedHeader {
+    ghost image = { λ p. bare.image (protected_seen p) };
+
+    fn room(&self) -> usize {
+        self.header.room()
+    }
+
+    /// Writes the header's map, whatever bytes were kept.
+    fn encode(&self, alloc: Global, out: &mut Vec<u8>) -> Result<()> {
+        self.header.encode(alloc, out)
     }
 }
 
 impl FromPull for ProtectedHeader {
     fn from_pull(alloc: Global, pull: Pull<'_>) -> Result<ProtectedHeader> {
-        Ok(unread(read_header(alloc, Source::Lent(pull), LAYERS)?))
+        Ok(unread(read_header(alloc, Source::Lent(pull))?))
     }
 }
 
@@ -165,5 +199,9 @@ impl CborSerializable for ProtectedHeader {
         ensures memory { AsksForItems s.now result }
     {
         read_slice(alloc, s)
+    }
+
+    fn to_vec(self, alloc: Global) -> Result<Vec<u8>> {
+        encode_to_vec(alloc, &self)
     }
 }

@@ -7,11 +7,12 @@ ghost use Rattle.coset_core.specs.Headers.{empty_header, signature};
 ghost use Rattle.coset_core.specs.Views.{signature_seen};
 
 use crate::header::Header;
-use crate::protected::ProtectedHeader;
-use crate::read::{LAYERS, read_signature};
-use crate::value::signature_value;
+use crate::protected::{Bstr, ProtectedHeader};
+use crate::read::read_signature;
+use crate::write::write_signature;
 use coset_cbor::de::Pull;
 use coset_cbor::value::Value;
+use coset_shape::encode::{Encode, encode_to_value, encode_to_vec};
 use coset_shape::traits::{FromPull, read_slice};
 use coset_shape::{AsCborValue, CborSerializable, Result, Source};
 use std::alloc::Global;
@@ -57,17 +58,32 @@ impl AsCborValue for CoseSignature {
     ghost sound = { signature_laws.sound };
 
     fn from_cbor_value(alloc: Global, value: Value) -> Result<CoseSignature> {
-        read_signature(alloc, Source::Tree(value), LAYERS)
+        read_signature(alloc, Source::Tree(value))
     }
 
     fn to_cbor_value(self, alloc: Global) -> Result<Value> {
-        signature_value(alloc, self)
+        encode_to_value(alloc, &self)
+    }
+}
+
+impl Encode for CoseSignature {
+    ghost image = { λ s. signature.image (signature_seen s) };
+
+    fn room(&self) -> usize {
+        Bstr(&self.protected)
+            .room()
+            .saturating_add(self.unprotected.room())
+            .saturating_add(self.signature.room())
+    }
+
+    fn encode(&self, alloc: Global, out: &mut Vec<u8>) -> Result<()> {
+        write_signature(alloc, self, out)
     }
 }
 
 impl FromPull for CoseSignature {
     fn from_pull(alloc: Global, pull: Pull<'_>) -> Result<CoseSignature> {
-        read_signature(alloc, Source::Lent(pull), LAYERS)
+        read_signature(alloc, Source::Lent(pull))
     }
 }
 
@@ -78,5 +94,9 @@ impl CborSerializable for CoseSignature {
         ensures memory { AsksForItems s.now result }
     {
         read_slice(alloc, s)
+    }
+
+    fn to_vec(self, alloc: Global) -> Result<Vec<u8>> {
+        encode_to_vec(alloc, &self)
     }
 }

@@ -2,10 +2,12 @@
 
 ghost use Rattle.std.specs.Prelude.{◌≡◌, ◌≢◌, ◌≤◌, ◌++◌, ℤ, pos, [], map, true, false, Some, None, option_map, OnOk, IfOk, IfErr};
 ghost use Rattle.std.specs.Map.{keys_of};
+ghost use Rattle.coset_value.specs.Item.{bytes};
 ghost use Rattle.coset_value.specs.View.{view};
 ghost use Rattle.coset_cbor.specs.Least.{least_head};
 ghost use Rattle.coset_shape.specs.declared.error.CoseError.TheVariants.{DuplicateMapKey};
 ghost use Rattle.coset_shape.specs.Errors.{Names};
+ghost use Rattle.coset_shape.specs.Encoding.{AppendsItem, Encodes};
 ghost use Rattle.coset_shape.specs.Maps.{put_field, are_distinct};
 ghost use Rattle.coset_shape.specs.Serialized.{fresh};
 ghost use Rattle.coset_label.specs.Names.{number, name_item};
@@ -13,7 +15,7 @@ ghost use Rattle.coset_label.specs.Views.{label_seen, registered_or_private_seen
 ghost use Rattle.coset_core.specs.Fields.{same_name};
 ghost use Rattle.coset_core.specs.Headers.{signatures_of, is_empty_header, counters_item, signatures_image, header_image, kept_bytes};
 ghost use Rattle.coset_core.specs.Views.{algorithm_seen, critical_seen, content_type_seen, entry_seen, header_seen, protected_seen, signature_seen};
-ghost use Rattle.coset_core.specs.Written.{AppendsItem, AppendsItems, AppendsPairs, AppendsHeader, AppendsCounters, AppendsSignatures, AppendsSignature, AppendsProtected, AreShortest};
+ghost use Rattle.coset_core.specs.Written.{AppendsItems, AppendsPairs, AppendsCounters, AppendsSignatures, AreShortest};
 ghost use Rattle.coset_core.specs.Written.{registered_item, critical_item, filled_item, plain_fields, one, count_pairs, signature_array};
 
 use crate::header::Header;
@@ -213,8 +215,7 @@ fn write_counters_head(count: usize, out: &mut Vec<u8>) -> Result<(), OutOfMemor
 /// appended before an error isn't taken back.
 #[cycle(write)]
 pub(crate) fn write_header(alloc: Global, header: &Header, out: &mut Vec<u8>) -> Result<()>
-    ensures ok { OnOk result (AppendsHeader out.old.items out.new.items (header_seen header.now)) }
-    ensures refused { IfErr result (λ e. Names e (λ f. (f ≡ DuplicateMapKey) × (header_image (header_seen header.now) ≡ None))) }
+    ensures { Encodes (header_image (header_seen header.now)) out.old.items out.new.items result }
 {
     ask_distinct(alloc, &header.rest)?;
     write_map_head(count(header), out)?;
@@ -253,9 +254,12 @@ fn write_signatures(alloc: Global, signatures: &[CoseSignature], out: &mut Vec<u
 
 /// Appends the array of the signature.
 #[cycle(write)]
-fn write_signature(alloc: Global, signature: &CoseSignature, out: &mut Vec<u8>) -> Result<()>
-    ensures ok { OnOk result (AppendsSignature out.old.items out.new.items (signature_seen signature.now)) }
-    ensures refused { IfErr result (λ e. Names e (λ f. (f ≡ DuplicateMapKey) × (signature_array (signature_seen signature.now) ≡ None))) }
+pub(crate) fn write_signature(
+    alloc: Global,
+    signature: &CoseSignature,
+    out: &mut Vec<u8>,
+) -> Result<()>
+    ensures { Encodes (signature_array (signature_seen signature.now)) out.old.items out.new.items result }
 {
     write_array_head(3, out)?;
     write_protected(alloc, &signature.protected, out)?;
@@ -266,9 +270,12 @@ fn write_signature(alloc: Global, signature: &CoseSignature, out: &mut Vec<u8>) 
 
 /// Appends the byte string that stands for the protected header. Bytes that were read aren't copied first.
 #[cycle(write)]
-fn write_protected(alloc: Global, protected: &ProtectedHeader, out: &mut Vec<u8>) -> Result<()>
-    ensures ok { OnOk result (AppendsProtected out.old.items out.new.items (protected_seen protected.now)) }
-    ensures refused { IfErr result (λ e. Names e (λ f. (f ≡ DuplicateMapKey) × (kept_bytes (protected_seen protected.now) ≡ None))) }
+pub(crate) fn write_protected(
+    alloc: Global,
+    protected: &ProtectedHeader,
+    out: &mut Vec<u8>,
+) -> Result<()>
+    ensures { Encodes (option_map bytes (kept_bytes (protected_seen protected.now))) out.old.items out.new.items result }
 {
     if let Some(bytes) = &protected.original_data {
         write_bytes(bytes, out)?;

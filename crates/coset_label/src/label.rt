@@ -11,6 +11,7 @@ ghost use Rattle.coset_shape.specs.Errors.{Names};
 
 use coset_cbor::de::Pull;
 use coset_cbor::value::Value;
+use coset_shape::encode::{Encode, encode_to_vec};
 use coset_shape::traits::{FromPull, read_slice};
 use coset_shape::{AsCborValue, CborSerializable, Result, Source};
 use std::alloc::Global;
@@ -65,6 +66,17 @@ impl AsCborValue for Label {
     }
 }
 
+impl Encode for Label {
+    ghost image = { λ l. label.image (label_seen l) };
+
+    fn encode(&self, alloc: Global, out: &mut Vec<u8>) -> Result<()> {
+        match self {
+            Label::Int(number) => number.encode(alloc, out),
+            Label::Text(text) => text.encode(alloc, out),
+        }
+    }
+}
+
 impl FromPull for Label {
     fn from_pull(alloc: Global, pull: Pull<'_>) -> Result<Label> {
         read_label(alloc, Source::Lent(pull))
@@ -78,6 +90,10 @@ impl CborSerializable for Label {
         ensures memory { AsksForItems s.now result }
     {
         read_slice(alloc, s)
+    }
+
+    fn to_vec(self, alloc: Global) -> Result<Vec<u8>> {
+        encode_to_vec(alloc, &self)
     }
 }
 

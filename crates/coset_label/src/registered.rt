@@ -12,6 +12,7 @@ ghost use Rattle.coset_shape.specs.Errors.{Names};
 use coset_cbor::de::Pull;
 use coset_cbor::value::Value;
 use coset_iana::{EnumI64, WithPrivateRange};
+use coset_shape::encode::{Encode, encode_to_vec};
 use coset_shape::traits::{FromPull, read_slice};
 use coset_shape::{AsCborValue, CborSerializable, CoseError, Result, Source};
 use std::alloc::Global;
@@ -106,6 +107,17 @@ impl<T: EnumI64 + Drop> AsCborValue for RegisteredLabel<T> {
     }
 }
 
+impl<T: EnumI64> Encode for RegisteredLabel<T> {
+    ghost image = { λ l. (registered (λ i. is_some (T.value_of i))).image (registered_seen T.number l) };
+
+    fn encode(&self, alloc: Global, out: &mut Vec<u8>) -> Result<()> {
+        match self {
+            RegisteredLabel::Assigned(value) => value.to_i64().encode(alloc, out),
+            RegisteredLabel::Text(text) => text.encode(alloc, out),
+        }
+    }
+}
+
 impl<T: EnumI64 + Drop> FromPull for RegisteredLabel<T> {
     fn from_pull(alloc: Global, pull: Pull<'_>) -> Result<RegisteredLabel<T>> {
         read_registered(alloc, Source::Lent(pull))
@@ -119,6 +131,10 @@ impl<T: EnumI64 + Drop> CborSerializable for RegisteredLabel<T> {
         ensures memory { AsksForItems s.now result }
     {
         read_slice(alloc, s)
+    }
+
+    fn to_vec(self, alloc: Global) -> Result<Vec<u8>> {
+        encode_to_vec(alloc, &self)
     }
 }
 
@@ -153,6 +169,18 @@ impl<T: EnumI64 + WithPrivateRange + Drop> AsCborValue for RegisteredLabelWithPr
     }
 }
 
+impl<T: EnumI64 + WithPrivateRange> Encode for RegisteredLabelWithPrivate<T> {
+    ghost image = { λ l. (registered_or_private (λ i. is_some (T.value_of i)) T.is_private).image (registered_or_private_seen T.number l) };
+
+    fn encode(&self, alloc: Global, out: &mut Vec<u8>) -> Result<()> {
+        match self {
+            RegisteredLabelWithPrivate::PrivateUse(number) => number.encode(alloc, out),
+            RegisteredLabelWithPrivate::Assigned(value) => value.to_i64().encode(alloc, out),
+            RegisteredLabelWithPrivate::Text(text) => text.encode(alloc, out),
+        }
+    }
+}
+
 impl<T: EnumI64 + WithPrivateRange + Drop> FromPull for RegisteredLabelWithPrivate<T> {
     fn from_pull(alloc: Global, pull: Pull<'_>) -> Result<RegisteredLabelWithPrivate<T>> {
         read_registered_or_private(alloc, Source::Lent(pull))
@@ -166,6 +194,10 @@ impl<T: EnumI64 + WithPrivateRange + Drop> CborSerializable for RegisteredLabelW
         ensures memory { AsksForItems s.now result }
     {
         read_slice(alloc, s)
+    }
+
+    fn to_vec(self, alloc: Global) -> Result<Vec<u8>> {
+        encode_to_vec(alloc, &self)
     }
 }
 

@@ -1,6 +1,6 @@
 //! Settings: a map of labels.
 
-ghost use Rattle.std.specs.Prelude.{◌≡◌, ℤ, not, IfOk, IfErr};
+ghost use Rattle.std.specs.Prelude.{◌≡◌, ℤ, not, IfOk, IfErr, ⊤};
 ghost use Rattle.std.specs.Map.{keys_of};
 ghost use Rattle.coset_shape.specs.declared.error.CoseError.TheVariants.{OutOfMemory};
 ghost use Rattle.coset_shape.specs.Maps.{are_distinct};
@@ -12,8 +12,9 @@ ghost use Rattle.coset_sample.specs.Settings.{name_seen, names, seen, settings, 
 
 use coset_cbor::de::Pull;
 use coset_cbor::value::Value;
-use coset_shape::list::optional_bytes;
-use coset_shape::map::{Gather, labelled_value, read_map};
+use coset_shape::encode::{Encode, encode_to_tagged_vec, encode_to_value, encode_to_vec};
+use coset_shape::encode_map::MapText;
+use coset_shape::map::{Gather, read_map};
 use coset_shape::traits::FromPull;
 use coset_shape::{
     AsCborValue, CborSerializable, CoseError, Result, Source, TaggedCborSerializable, has_repeats,
@@ -77,6 +78,10 @@ impl<'a> Gather<Source<'a>> for SoFar {
 
     ghost seen = { so_far_seen };
 
+    ghost bars = { λ m x e. ⊥ };
+
+    ghost holds = { λ s. ⊤ };
+
     ghost lawful_names = { names_laws };
 
     ghost lawful_fields = { fields_laws };
@@ -113,12 +118,13 @@ impl<'a> Gather<Source<'a>> for SoFar {
 fn read_settings(alloc: Global, source: Source<'_>) -> Result<Settings>
     ensures { Reads settings seen (source_item source.entry) result }
 {
-    let start = SoFar {
+    let mut so_far = SoFar {
         level: None,
         name: None,
         rest: Vec::new(alloc),
     };
-    let SoFar { level, name, rest } = read_map(alloc, source, start)?;
+    read_map(alloc, source, &mut so_far)?;
+    let SoFar { level, name, rest } = so_far;
     let Some(level) = level else {
         return Err(CoseError::UnexpectedItem("no level", "level"));
     };
@@ -143,15 +149,31 @@ impl AsCborValue for Settings {
     }
 
     fn to_cbor_value(self, alloc: Global) -> Result<Value> {
-        let Settings { level, name, rest } = self;
-        if has_repeats(alloc, &rest)? {
+        encode_to_value(alloc, &self)
+    }
+}
+
+impl Encode for Name {
+    ghost image = { λ n. int64.image (name_seen n) };
+
+    fn encode(&self, alloc: Global, out: &mut Vec<u8>) -> Result<()> {
+        self.0.encode(alloc, out)
+    }
+}
+
+impl Encode for Settings {
+    ghost image = { λ s. settings.image (seen s) };
+
+    fn encode(&self, alloc: Global, out: &mut Vec<u8>) -> Result<()> {
+        if has_repeats(alloc, &self.rest)? {
             return Err(CoseError::DuplicateMapKey);
         }
-        let fields = vec![in alloc;
-            (Name(1), Some(Value::from(level))),
-            (Name(2), optional_bytes(name)),
-        ]?;
-        labelled_value(alloc, fields, rest)
+        let mut pairs = MapText::new(alloc);
+        pairs.field(alloc, 1, &self.level)?;
+        pairs.optional(alloc, 2, &self.name)?;
+        pairs.rest(alloc, &self.rest)?;
+        pairs.finish(out)?;
+        Ok(())
     }
 }
 
@@ -161,10 +183,18 @@ impl FromPull for Settings {
     }
 }
 
-impl CborSerializable for Settings {}
+impl CborSerializable for Settings {
+    fn to_vec(self, alloc: Global) -> Result<Vec<u8>> {
+        encode_to_vec(alloc, &self)
+    }
+}
 
 impl TaggedCborSerializable for Settings {
     ghost TAG = { 1001 };
 
     const TAG: u64 = 1001;
+
+    fn to_tagged_vec(self, alloc: Global) -> Result<Vec<u8>> {
+        encode_to_tagged_vec(alloc, 1001, &self)
+    }
 }

@@ -4,3 +4,5 @@ pub mod Walking
 pub mod Vectors
 pub mod Pushing
 pub mod Distinct
+pub mod Encoding
+pub mod EncodingMaps

@@ -14,3 +14,4 @@ pub mod Kinds
 pub mod Sources
 pub mod OneOrMore
 pub mod Lists
+pub mod Encoding

@@ -568,7 +568,7 @@ module _ {N : Type 0} (n : Names N) (laws : LawfulNames N n) where
       }
 
   -- a label of the pairs is not new
-  not_new : (ps : Pairs) (es : List (N × Item)) (l : N) → Named n.shape.describes ps es → HasLabel n.shape.describes l ps → IsNew n l es → ⊥
+  pub not_new : (ps : Pairs) (es : List (N × Item)) (l : N) → Named n.shape.describes ps es → HasLabel n.shape.describes l ps → IsNew n l es → ⊥
   not_new no_pairs es l p h a = h
   not_new (pair k v ps) [] l p h a = p
   not_new (pair k v ps) (e ∷ es) l p (inl g) a = apart_of l e.0 a.0 (laws.shape.unique k l e.0 g p.0)
@@ -582,7 +582,7 @@ module _ {N : Type 0} (n : Names N) (laws : LawfulNames N n) where
   not_distinct (pair k v ps) (e ∷ es) p (inr g) d = not_distinct ps es p.2 g d.1
 
   -- and what is not new is a label of the pairs
-  has_label : (ps : Pairs) (es : List (N × Item)) (l : N) → Named n.shape.describes ps es → (IsNew n l es → ⊥) → HasLabel n.shape.describes l ps
+  pub has_label : (ps : Pairs) (es : List (N × Item)) (l : N) → Named n.shape.describes ps es → (IsNew n l es → ⊥) → HasLabel n.shape.describes l ps
   has_label no_pairs [] l p h = absurd (h tt)
   has_label no_pairs (e ∷ es) l p h = absurd p
   has_label (pair k v ps) [] l p h = absurd p
@@ -605,7 +605,7 @@ module _ {N : Type 0} (n : Names N) (laws : LawfulNames N n) where
       go false q ih = inl (e.0, p.0, has_label ps es e.0 p.2 (λ a. true≢false (sym (tested_new n e.0 (keys_of es) a) ∙ q)))
 
   -- what is found among some pairs is found among them and one with another label before them
-  lookup_later : (e : N × Item) (es : List (N × Item)) (m : N) (v : Item) → IsNew n e.0 es → lookup (n.same m) es ≡ Some v → lookup (n.same m) (e ∷ es) ≡ Some v
+  pub lookup_later : (e : N × Item) (es : List (N × Item)) (m : N) (v : Item) → IsNew n e.0 es → lookup (n.same m) es ≡ Some v → lookup (n.same m) (e ∷ es) ≡ Some v
   lookup_later e es m v a q = go (n.same m e.0) refl
     where
       go : (b : Bool) → n.same m e.0 ≡ b → cond b (Some e.1) (lookup (n.same m) es) ≡ Some v

@@ -220,6 +220,30 @@ TakesKey {N} n fs k v x y = (m : N) × n.shape.describes k m × Adds n fs m v x 
 abbrev pub RefusesKey : {N A : Type 0} → Names N → Fields N A → Item → Item → A × List (N × Item) → CoseError → Type 0
 RefusesKey {N} n fs k v x e = n.shape.faults k e ⊎ ((m : N) × n.shape.describes k m × Refuses n fs m v x e)
 
+-- why a label is refused for what was taken before it, whatever its value is
+abbrev pub Bars : Type 0 → Type 0 → Type 1
+Bars N A = N → A × List (N × Item) → CoseError → Type 0
+
+abbrev pub BarsKey : {N A : Type 0} → Names N → Bars N A → Item → A × List (N × Item) → CoseError → Type 0
+BarsKey {N} n bars k x e = (m : N) × n.shape.describes k m × bars m x e
+
+-- the first pairs make what bars the next one's label
+pub record Barred (N A : Type 0) (n : Names N) (fs : Fields N A) (bars : Bars N A) (ps : Pairs) (e : CoseError) : Type 0 where
+  pub key : Item
+  pub value : Item
+  pub left : Pairs
+  pub before : A × List (N × Item)
+  pub walked : Walks N A n fs ps before (pair key value left)
+  pub barred : BarsKey n bars key before e
+
+-- what is wrong with an item that is read pair by pair
+abbrev pub GatherFaults : {N A : Type 0} → Names N → Fields N A → Bars N A → Item → CoseError → Type 0
+GatherFaults {N} {A} n fs bars v e = (labelled n fs).faults v e ⊎ ((ps : Pairs) × (as_map v ≡ Some ps) × Barred N A n fs bars ps e)
+
+-- of an item's pairs some were taken, which made y of x; or it is no map, and none were
+abbrev pub Gathers : {N A : Type 0} → Names N → Fields N A → Item → A × List (N × Item) → A × List (N × Item) → Type 0
+Gathers {N} {A} n fs v x y = ((as_map v ≡ None) × (y ≡ x)) ⊎ ((ps : Pairs) × (left : Pairs) × (as_map v ≡ Some ps) × Walks N A n fs ps y left)
+
 -- the pairs with these labels and values came behind those that were there
 abbrev pub Appends : {N : Type 0} → (N → Option Item) → Pairs → Pairs → List (N × Item) → Type 0
 Appends f old new es = (ps : Pairs) × (named_image f es ≡ Some ps) × (new ≡ and_pairs old ps)

@@ -2,6 +2,8 @@
 //! which items stand for which values.
 #![tactic(auto)]
 
+pub mod encode;
+pub mod encode_map;
 pub mod error;
 pub mod laws;
 pub mod list;
@@ -14,6 +16,7 @@ pub mod traits;
 pub mod util;
 
 pub use coset_cbor::EndOfFile;
+pub use encode::Encode;
 pub use error::{CallError, CoseError, Result};
 pub use repeats::has_repeats;
 pub use source::Source;

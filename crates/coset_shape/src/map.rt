@@ -6,10 +6,10 @@ ghost use Rattle.coset_value.specs.Item.{Item, Pairs, no_pairs, pair, dict};
 ghost use Rattle.coset_value.specs.Parts.{as_map};
 ghost use Rattle.coset_value.specs.View.{view, pairs_view};
 ghost use Rattle.coset_shape.specs.declared.error.CoseError.TheVariants.{OutOfMemory, DuplicateMapKey};
-ghost use Rattle.coset_shape.specs.Answers.{Reads, Images};
+ghost use Rattle.coset_shape.specs.Answers.{Images};
 ghost use Rattle.coset_shape.specs.Errors.{Names as Tells};
 ghost use Rattle.coset_shape.specs.Kinds.{Asks, Says, kind};
-ghost use Rattle.coset_shape.specs.Maps.{Names, Fields, TakesKey, RefusesKey, are_distinct, labelled, named_image, put_fields, Appends};
+ghost use Rattle.coset_shape.specs.Maps.{Names, Fields, Bars, BarsKey, GatherFaults, Gathers, TakesKey, RefusesKey, are_distinct, labelled, named_image, put_fields, Appends};
 ghost use Rattle.coset_shape.specs.MapLaws.{LawfulNames, LawfulFields};
 ghost use Rattle.coset_shape.specs.Sources.{source_item, map_left};
 
@@ -74,15 +74,22 @@ pub trait Gather<S: Given>: Sized {
     /// The fields, and the rest by label.
     ghost seen: { Self → Got × List (Name × Item) };
 
+    /// Why a label is refused for what was gathered before it, and what holds of all that is gathered.
+    ghost bars: { Bars Name Got };
+
+    ghost holds: { Self → Type 0 };
+
     /// Takes one more pair. Whether a label of the rest repeats isn't asked.
     ///
     /// # Errors
-    /// Want of memory; a fault of the key; `DuplicateMapKey` where a field has a value already; or a fault of its
-    /// value. What was gathered is then as before.
+    /// Want of memory; a fault of the key; `DuplicateMapKey` where a field has a value already; a fault of its value; or
+    /// why what was gathered bars it. What was gathered is then as before.
     fn add(&mut self, alloc: Global, key: S, value: S) -> Result<()>
+        requires holds { holds self.old }
         ensures takes { OnOk result (TakesKey names fields (S.item key) (S.item value) (seen self.old) (seen self.new)) }
-        ensures refused { IfErr result (λ e. Tells e (RefusesKey names fields (S.item key) (S.item value) (seen self.old))) }
-        ensures kept { OnErr result (seen self.new ≡ seen self.old) };
+        ensures refused { IfErr result (λ e. Tells e (λ f. RefusesKey names fields (S.item key) (S.item value) (seen self.old) f ⊎ BarsKey names bars (S.item key) (seen self.old) f)) }
+        ensures kept { OnErr result (seen self.new ≡ seen self.old) }
+        ensures holds { holds self.new };
 
     /// Whether a label of the rest stands twice.
     ///
@@ -110,31 +117,34 @@ fn first_error<S: Given, G: Gather<S>>(alloc: Global, so_far: &G, error: CoseErr
     }
 }
 
-/// Reads a map, from the first pair on, onto an empty start.
+/// Reads a map into what gathers it, from the first pair on. Where a pair is at fault, those before it stay gathered.
 ///
 /// # Errors
 /// Want of memory; `UnexpectedItem` where the item is no map; or the fault of the first pair that has one: of its key,
-/// then a label that stood before, then of its value.
-pub fn read_map<S, G>(alloc: Global, source: S, start: G) -> Result<G>
+/// then a label that stood before, then of its value, then why those before bar it.
+pub fn read_map<S, G>(alloc: Global, source: S, so_far: &mut G) -> Result<()>
 where
     S: Given<Left: Drop> + Drop,
-    G: Gather<S> + Drop,
-    requires fields { G.fields.describes [] (G.seen start).0 }
-    requires rest { (G.seen start).1 ≡ [] }
-    ensures read { Reads (labelled G.names G.fields) G.seen (S.item source) result }
+    G: Gather<S>,
+    requires fields { G.fields.describes [] (G.seen so_far.old).0 }
+    requires rest { (G.seen so_far.old).1 ≡ [] }
+    requires holds { G.holds so_far.old }
+    ensures read { OnOk result ((labelled G.names G.fields).describes (S.item source) (G.seen so_far.new)) }
+    ensures refused { IfErr result (λ e. Tells e (GatherFaults G.names G.fields G.bars (S.item source))) }
     ensures says { IfErr result (λ e. as_map (S.item source) ≡ None → Says (kind (S.item source)) (codes "map") e) }
+    ensures gathers { Gathers G.names G.fields (S.item source) (G.seen so_far.old) (G.seen so_far.new) }
+    ensures holds { G.holds so_far.new }
 {
     let mut pairs = source.into_left()?;
-    let mut so_far = start;
     while let Some((key, value)) = S::next_pair(&mut pairs) {
         if let Err(error) = so_far.add(alloc, key, value) {
-            return Err(first_error(alloc, &so_far, error));
+            return Err(first_error(alloc, so_far, error));
         }
     }
     if so_far.repeats(alloc)? {
         return Err(CoseError::DuplicateMapKey);
     }
-    Ok(so_far)
+    Ok(())
 }
 
 /// A label with its value, as a pair.

@@ -96,6 +96,7 @@ impl<'a> Source<'a> {
     ///
     /// # Errors
     /// `UnexpectedItem`: the item is no array, or an empty one, or its first member is of another kind than these two.
+    #[inline(never)]
     pub fn into_one_or_more(self) -> Result<OneOrMore<'a>>
         ensures read { OnesOf (source_item self.entry) result }
         ensures says { IfErr result (SaysOnes (source_item self.entry)) }

@@ -116,8 +116,8 @@ impl<'a> Source<'a> {
     {
         match self {
             Source::Tree(value) => tree_bytes(value, want),
-            Source::Lent(pull) => match pull.bytes_chunks() {
-                Some(_) => tree_bytes(pull.to_value(alloc)?, want),
+            Source::Lent(pull) => match pull.to_bytes(alloc)? {
+                Some(bytes) => Ok(bytes),
                 None => Err(pull_type_error(pull, want)),
             },
         }
@@ -131,8 +131,8 @@ impl<'a> Source<'a> {
     {
         match self {
             Source::Tree(value) => tree_text(value, want),
-            Source::Lent(pull) => match pull.text_chunks() {
-                Some(_) => tree_text(pull.to_value(alloc)?, want),
+            Source::Lent(pull) => match pull.to_text(alloc)? {
+                Some(text) => Ok(text),
                 None => Err(pull_type_error(pull, want)),
             },
         }

@@ -13,8 +13,11 @@ ghost use Rattle.coset_shape.specs.Shape.{tagged};
 use crate::signature::{SignatureContext, signed_bytes};
 use coset_cbor::de::Pull;
 use coset_cbor::value::Value;
-use coset_core::{Header, ProtectedHeader};
-use coset_shape::list::{array_value, bytes_or_nil, read_source};
+use coset_core::{Bstr, Header, ProtectedHeader};
+use coset_shape::encode::{
+    Encode, encode_four, encode_to_tagged_vec, encode_to_value, encode_to_vec,
+};
+use coset_shape::list::read_source;
 use coset_shape::traits::{FromPull, read_slice, read_tagged_slice};
 use coset_shape::{AsCborValue, CborSerializable, Result, Source, TaggedCborSerializable};
 use std::alloc::Global;
@@ -108,21 +111,31 @@ impl AsCborValue for CoseSign1 {
     }
 
     fn to_cbor_value(self, alloc: Global) -> Result<Value> {
-        let CoseSign1 {
-            protected,
-            unprotected,
-            payload,
-            signature,
-        } = self;
-        let protected = protected.cbor_bstr(alloc)?;
-        let unprotected = unprotected.to_cbor_value(alloc)?;
-        let places = vec![in alloc;
-            protected,
-            unprotected,
-            bytes_or_nil(payload),
-            Value::Bytes(signature),
-        ]?;
-        Ok(array_value(places))
+        encode_to_value(alloc, &self)
+    }
+}
+
+impl Encode for CoseSign1 {
+    ghost image = { λ m. sign1.image (sign1_seen m) };
+
+    fn room(&self) -> usize {
+        Bstr(&self.protected)
+            .room()
+            .saturating_add(self.unprotected.room())
+            .saturating_add(self.payload.room())
+            .saturating_add(self.signature.room())
+    }
+
+    fn encode(&self, alloc: Global, out: &mut Vec<u8>) -> Result<()> {
+        let protected = Bstr(&self.protected);
+        encode_four(
+            alloc,
+            &protected,
+            &self.unprotected,
+            &self.payload,
+            &self.signature,
+            out,
+        )
     }
 }
 
@@ -140,6 +153,10 @@ impl CborSerializable for CoseSign1 {
     {
         read_slice(alloc, s)
     }
+
+    fn to_vec(self, alloc: Global) -> Result<Vec<u8>> {
+        encode_to_vec(alloc, &self)
+    }
 }
 
 impl TaggedCborSerializable for CoseSign1 {
@@ -153,5 +170,9 @@ impl TaggedCborSerializable for CoseSign1 {
         ensures memory { AsksForItems s.now result }
     {
         read_tagged_slice(alloc, 18, s)
+    }
+
+    fn to_tagged_vec(self, alloc: Global) -> Result<Vec<u8>> {
+        encode_to_tagged_vec(alloc, 18, &self)
     }
 }

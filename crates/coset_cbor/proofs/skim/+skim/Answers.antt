@@ -1,8 +1,8 @@
-use Rattle.std.proofs.Common.{ℕ, ◌+◌, length, sym, ap, ◌∙◌}
+use Rattle.std.proofs.Common.{ℕ, ◌+◌, length, sym, ap, ◌∙◌, arith}
 use Rattle.std.proofs.lemmas.Result.{err_from_is_err_and}
-use Rattle.coset_cbor.specs.Reading.{times_at, until_at, pair_at, item_at}
+use Rattle.coset_cbor.specs.Reading.{head_from, times_at, until_at, pair_at, item_at}
 use Rattle.coset_cbor.specs.Counting.{left_of, times_steps, until_steps, pair_steps, item_steps}
-use Rattle.coset_cbor.proofs.Passing.{rest_is, pair_fails, pair_steps_left, times_goes, times_fails, times_end, until_goes, until_fails, until_stops, until_ends}
+use Rattle.coset_cbor.proofs.Passing.{rest_is, pair_fails, pair_steps_left, times_goes, times_fails, times_end, until_goes, until_fails, until_stops, until_ends, array_passes, map_passes}
 use Rattle.coset_cbor.proofs.skim.+skim.Goals as goal
 
 pub items-returns-in_err-rest : goal.items-returns-in_err-rest
@@ -80,3 +80,11 @@ pair-returns-in_err-rest-clause-steps g t c = pair_fails (item_at c.args.depth) 
 
 pub pair-returns-clause-steps : goal.pair-returns-clause-steps
 pair-returns-clause-steps g t c = pair_steps_left (item_at c.args.depth) (item_steps c.args.depth) c.args.steps.now c.item.new.steps c.item-2.new.steps c.args.bytes.now c.in_ok-rest.rest.now c.in_ok-rest.ensures.left c.in_ok-rest.ensures.steps c.item-2.ensures.steps
+
+pub item-returns-else-depth-eq0-clause-left : goal.item-returns-else-depth-eq0-clause-left
+item-returns-else-depth-eq0-clause-left g t c =
+    array_passes c.array.result c.args.depth c.args.bytes.now (head_from c.in_ok-start.start, c.in_ok-start.rest.now) c.number-in-Array.result (omega arith) c.in_ok-start.ensures.head c.in-Array.is c.number-in-Array.ensures c.array.ensures.left
+
+pub item-returns-else-depth-eq0-2-clause-left : goal.item-returns-else-depth-eq0-2-clause-left
+item-returns-else-depth-eq0-2-clause-left g t c =
+    map_passes c.map.result c.args.depth c.args.bytes.now (head_from c.in_ok-start.start, c.in_ok-start.rest.now) c.number-in-Map.result (omega arith) c.in_ok-start.ensures.head c.in-Map.is c.number-in-Map.ensures c.map.ensures.left

@@ -5,28 +5,46 @@ use Rattle.coset_cbor.proofs.Passing.{InTimes, InUntil}
 use Rattle.coset_cbor.proofs.skim.+skim.Given as goal
 
 abbrev pub decreases-item : goal.decreases-item
-decreases-item g l = 4 * l.depth
+decreases-item g l = 6 * l.depth
 
 abbrev pub decreases-pair : goal.decreases-pair
-decreases-pair g l = 4 * l.depth + 1
+decreases-pair g l = 6 * l.depth + 1
+
+abbrev pub decreases-enclosed_apart : goal.decreases-enclosed_apart
+decreases-enclosed_apart g l = 6 * l.depth + 1
+
+abbrev pub decreases-enclosed : goal.decreases-enclosed
+decreases-enclosed g l = 6 * l.depth + 2
 
 abbrev pub decreases-items : goal.decreases-items
-decreases-items g l = 4 * l.depth + 2
+decreases-items g l = 6 * l.depth + 2
 
 abbrev pub decreases-items_until : goal.decreases-items_until
-decreases-items_until g l = 4 * l.depth + 2
+decreases-items_until g l = 6 * l.depth + 2
 
 abbrev pub decreases-pairs : goal.decreases-pairs
-decreases-pairs g l = 4 * l.depth + 2
+decreases-pairs g l = 6 * l.depth + 2
 
 abbrev pub decreases-pairs_until : goal.decreases-pairs_until
-decreases-pairs_until g l = 4 * l.depth + 2
+decreases-pairs_until g l = 6 * l.depth + 2
+
+abbrev pub decreases-array_here : goal.decreases-array_here
+decreases-array_here g l = 6 * l.depth + 3
+
+abbrev pub decreases-array_apart : goal.decreases-array_apart
+decreases-array_apart g l = 6 * l.depth + 4
 
 abbrev pub decreases-array : goal.decreases-array
-decreases-array g l = 4 * l.depth + 3
+decreases-array g l = 6 * l.depth + 5
+
+abbrev pub decreases-map_here : goal.decreases-map_here
+decreases-map_here g l = 6 * l.depth + 3
+
+abbrev pub decreases-map_apart : goal.decreases-map_apart
+decreases-map_apart g l = 6 * l.depth + 4
 
 abbrev pub decreases-map : goal.decreases-map
-decreases-map g l = 4 * l.depth + 3
+decreases-map g l = 6 * l.depth + 5
 
 abbrev pub invariant-items-loop : goal.invariant-items-loop
 invariant-items-loop g l =

@@ -7,26 +7,29 @@ use Rattle.coset_core.specs.Headers.{SignatureSeen, layered_signature}
 use Rattle.coset_core.specs.Views.{signature_seen}
 use Rattle.coset_core.proofs.read.+read.Given as goal
 
-abbrev pub decreases-read_header : goal.decreases-read_header
-decreases-read_header l = 2000 * l.layers + 4 * depth (source_item l.source)
+abbrev pub decreases-fill_header : goal.decreases-fill_header
+decreases-fill_header l = 2000 * l.layers + 4 * depth (source_item l.place.now)
 
-abbrev pub decreases-read_counters : goal.decreases-read_counters
-decreases-read_counters l = 2000 * l.layers + 4 * depth (source_item l.source) + 2
+abbrev pub decreases-fill_counters : goal.decreases-fill_counters
+decreases-fill_counters l = 2000 * l.layers + 4 * depth (source_item l.source) + 3
 
-abbrev pub decreases-read_signature : goal.decreases-read_signature
-decreases-read_signature l = 2000 * l.layers + 4 * depth (source_item l.source) + 1
+abbrev pub decreases-fill_each : goal.decreases-fill_each
+decreases-fill_each l = 2000 * l.layers + 4 * items_depth (ones_left l.signatures.now) + 2
 
-abbrev pub decreases-read_protected : goal.decreases-read_protected
-decreases-read_protected l = 2000 * l.layers + 4 * depth (source_item l.source)
+abbrev pub decreases-fill_signature : goal.decreases-fill_signature
+decreases-fill_signature l = 2000 * l.layers + 4 * depth (source_item l.place.now) + 1
 
-abbrev pub decreases-read_content : goal.decreases-read_content
-decreases-read_content l = 2000 * l.layers + 1100
+abbrev pub decreases-fill_protected : goal.decreases-fill_protected
+decreases-fill_protected l = 2000 * l.layers + 4 * depth (source_item l.source)
+
+abbrev pub decreases-fill_content : goal.decreases-fill_content
+decreases-fill_content l = 2000 * l.layers + 1100
 
 -- the signatures so far are those of the items so far, and the others are no deeper than all are
-abbrev pub invariant-read_counters-loop-signature : goal.invariant-read_counters-loop-signature
-invariant-read_counters-loop-signature l =
+abbrev pub invariant-fill_each-loop-all : goal.invariant-fill_each-loop-all
+invariant-fill_each-loop-all l =
     Continues SignatureSeen (layered_signature l.layers).describes (layered_signature l.layers).faults (ones_left l.initial.signatures) (map signature_seen l.all.items) (ones_left l.signatures)
     × (items_depth (ones_left l.signatures) ≤ items_depth (ones_left l.initial.signatures))
 
-abbrev pub decreases-read_counters-loop-signature : goal.decreases-read_counters-loop-signature
-decreases-read_counters-loop-signature l = items_count (ones_left l.signatures)
+abbrev pub decreases-fill_each-loop-all : goal.decreases-fill_each-loop-all
+decreases-fill_each-loop-all l = items_count (ones_left l.signatures)

@@ -1,7 +1,10 @@
 use Rattle.std.proofs.Common.{ap, arith}
 use Rattle.coset_value.specs.Item.{items_count}
-use Rattle.coset_cbor.proofs.Between.{first_item, no_first_item}
+use Rattle.coset_cbor.proofs.Between.{first_item, no_first_item, item_begins}
 use Rattle.coset_cbor.proofs.members.ItemsIterator.next.Goals as goal
+
+pub first-requires : goal.first-requires
+first-requires c = item_begins c.args.self.now.rest.now c.args.self.now.checked
 
 pub returns-in_err-member : goal.returns-in_err-member
 returns-in_err-member c =

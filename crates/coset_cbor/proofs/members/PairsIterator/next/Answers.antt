@@ -1,7 +1,13 @@
 use Rattle.std.proofs.Common.{ap, arith}
 use Rattle.coset_value.specs.Item.{pairs_count}
-use Rattle.coset_cbor.proofs.Between.{first_pair, no_first_key, has_value}
+use Rattle.coset_cbor.proofs.Between.{first_pair, no_first_key, has_value, key_begins, value_begins}
 use Rattle.coset_cbor.proofs.members.PairsIterator.next.Goals as goal
+
+pub first-requires : goal.first-requires
+first-requires c = key_begins c.args.self.now.rest.now c.args.self.now.checked
+
+pub first-requires-2 : goal.first-requires-2
+first-requires-2 c = λ _. value_begins c.args.self.now.rest.now c.in_ok-key.key.bytes.now c.in_ok-key.rest.now _ c.args.self.now.checked c.in_ok-key.ensures.0 c.in_ok-key.ensures.1
 
 pub returns-in_err-key : goal.returns-in_err-key
 returns-in_err-key c =
