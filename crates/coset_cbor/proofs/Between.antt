@@ -15,24 +15,12 @@ use Rattle.coset_cbor.specs.Grammar.{IsHeld, IsText, AreTexts, ArePairTexts, IsI
 use Rattle.coset_cbor.specs.Reading.{◌>>=◌, number_of, head_at, any_string_by, simple_at, Inside, nothing, things, item_by, item_from, item_at}
 use Rattle.coset_cbor.specs.Whole.{is_one_item, item_of}
 use Rattle.coset_cbor.specs.Between.{IsContent, array_around, map_around, items_in, pairs_in}
-use Rattle.coset_cbor.specs.Jumps.{BeginsItem}
+use Rattle.coset_cbor.specs.Jumps.{BeginsItem, item_kind}
 use Rattle.coset_cbor.proofs.Again.{head_of, IsHeaded-again, opening_again, IsText-begins, texts_differ}
 use Rattle.coset_cbor.proofs.Takes.{IsBytes, IsBytes-take, IsBytes-drop, IsBytes-rest, done, ok_is, bind_ok, some_ok, chosen, guard_else, head_takes}
 use Rattle.coset_cbor.proofs.Whole.{one_item_bytes, one_item_read, one_item_is, one_item_from, item_of_one}
 
 -- ---- the kind of head that an item begins with
-
-abbrev pub item_kind : Item → Kind
-item_kind (integer (pos n)) = kinds.Unsigned
-item_kind (integer (negsuc n)) = kinds.Negative
-item_kind (bytes s) = kinds.Bytes
-item_kind (float x) = kinds.Simple
-item_kind (text s) = kinds.Text
-item_kind (boolean b) = kinds.Simple
-item_kind null = kinds.Simple
-item_kind (tag t v) = kinds.Tag
-item_kind (array vs) = kinds.Array
-item_kind (dict ps) = kinds.Map
 
 kind_made : (y x : Item × List ℕ) → done y ≡ done x → item_kind x.0 ≡ item_kind y.0
 kind_made y x e = ap (λ (p : Item × List ℕ). item_kind p.0) (sym (ok_is y x e))
@@ -52,7 +40,7 @@ simple_kind left (places.Four n) s x e = kind_made (float (single n), s) x e
 simple_kind left (places.Eight n) s x e = kind_made (float (double n), s) x e
 simple_kind left places.Indefinite s x e = absurd cc
 
-kind_by : (inside : Inside) (left : ℕ) (a : Argument) (k : Kind) (s : List ℕ) (x : Item × List ℕ) → item_by inside left a k s ≡ Ok x → item_kind x.0 ≡ k
+pub kind_by : (inside : Inside) (left : ℕ) (a : Argument) (k : Kind) (s : List ℕ) (x : Item × List ℕ) → item_by inside left a k s ≡ Ok x → item_kind x.0 ≡ k
 kind_by inside left a kinds.Unsigned s x e =
     let n = some_ok left (number_of a) (λ n. Ok (integer (pos n), s)) x e in
     kind_made (integer (pos n.0), s) x n.2

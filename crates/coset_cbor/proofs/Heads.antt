@@ -18,7 +18,8 @@ use Rattle.coset_cbor.specs.Scalars.{as_scalar, read_of, scalar_by, integer_by, 
 use Rattle.coset_cbor.specs.Whole.{is_one_item, item_of}
 use Rattle.coset_cbor.proofs.Takes.{bind_ok, chosen, guard_else, ok_is, some_ok, head_takes, item_takes}
 use Rattle.coset_cbor.specs.StringChunks.{as_string}
-use Rattle.coset_cbor.proofs.Between.{item_kind, simple_kind}
+use Rattle.coset_cbor.proofs.Between.{simple_kind}
+use Rattle.coset_cbor.specs.Jumps.{item_kind}
 use Rattle.coset_cbor.proofs.Whole.{one_item_bytes, one_item_read, one_item_from, item_of_one}
 
 abbrev done : Item × List ℕ → Result (Item × List ℕ) Fault

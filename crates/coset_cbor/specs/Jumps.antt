@@ -1,6 +1,6 @@
 -- Passing over items that are known to stand there. Only contracts of private functions cite it.
-use Rattle.std.specs.Prelude.{◌≡◌, ℕ, zero, suc, ◌+◌, List, ◌++◌, Ok}
-use Rattle.coset_value.specs.Item.{Item}
+use Rattle.std.specs.Prelude.{◌≡◌, ℕ, zero, suc, ◌+◌, List, ◌++◌, Ok, pos, negsuc}
+use Rattle.coset_value.specs.Item.{Item, integer, bytes, float, text, boolean, null, tag, array, dict}
 use Rattle.coset_cbor.specs.declared.head.Kind.{Kind}
 use Rattle.coset_cbor.specs.declared.head.Kind.TheVariants as kinds
 use Rattle.coset_cbor.specs.Grammar.{IsItem}
@@ -40,3 +40,16 @@ pub record BeginsItem (b : List ℕ) : Type 0 where
   pub rest : List ℕ
   pub parts : b ≡ front ++ rest
   pub is_item : IsItem front item
+
+-- the kind of head that an item begins with
+abbrev pub item_kind : Item → Kind
+item_kind (integer (pos n)) = kinds.Unsigned
+item_kind (integer (negsuc n)) = kinds.Negative
+item_kind (bytes s) = kinds.Bytes
+item_kind (float x) = kinds.Simple
+item_kind (text s) = kinds.Text
+item_kind (boolean b) = kinds.Simple
+item_kind null = kinds.Simple
+item_kind (tag t v) = kinds.Tag
+item_kind (array vs) = kinds.Array
+item_kind (dict ps) = kinds.Map

@@ -20,3 +20,4 @@ pub mod Chunks
 pub mod Scalars
 pub mod Fronts
 pub mod Jumps
+pub mod Cursors

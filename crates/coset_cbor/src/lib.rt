@@ -2,6 +2,7 @@
 #![tactic(auto)]
 
 mod chunks;
+pub mod cursor;
 pub mod de;
 mod fault;
 mod head;

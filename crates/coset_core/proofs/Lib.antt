@@ -4,3 +4,5 @@ pub mod Reading
 pub mod Writing
 pub mod WritingHeaders
 pub mod Keeping
+pub mod Filling
+pub mod Forward

@@ -2,7 +2,7 @@
 use Rattle.std.proofs.Common.{◌≡◌, ◌≢◌, ◌==◌, ℕ, ℤ, Vec, Global, map, arith, not, length, List, [], ◌∷◌, ◌++◌, Option, Bool, ◌||◌, false, true, refl, sym, ap, ◌∙◌, subst, true≢false, ◌⊎◌, inl, inr, Result, Ok, Err}
 use Rattle.std.specs.Prelude.{pos, IfErr, OnOk, OnErr}
 use Rattle.coset_value.specs.Item.{Item}
-use Rattle.coset_shape.specs.Maps.{Fields, optional, listed, Where, is_core, Adds, Refuses, RefusesKey, BarsKey, GatherFaults, labelled}
+use Rattle.coset_shape.specs.Maps.{Fields, optional, listed, Where, is_core, Adds, Refuses}
 use Rattle.coset_shape.specs.Errors.{Names, IsUnexpected}
 use Rattle.coset_shape.specs.declared.error.CoseError.{CoseError}
 use Rattle.coset_shape.specs.Shape.{any, some_of, filled_bstr}
@@ -11,11 +11,9 @@ use Rattle.std.proofs.lemmas.Grind.{common_steps}
 use Rattle.coset_core.specs.Headers.{no_signatures, signatures_of}
 use Rattle.coset_core.specs.Views.{signature_seen}
 use Rattle.coset_core.specs.declared.signature.CoseSignature.{CoseSignature}
-use Rattle.coset_core.specs.Fields.{critical, content_type, FieldsSeen, Fielded, HasOneIv, fields, names, same_name, bars, parts_of, unread}
-use Rattle.coset_core.specs.Contents.{Fills}
+use Rattle.coset_core.specs.Fields.{algorithm, critical, content_type, FieldsSeen, Fielded, fields, names, same_name, bars, parts_of}
 use Rattle.coset_core.specs.Held.{TakesHeld, RefusesHeld}
-use Rattle.coset_label.specs.Labels.{label}
-use Rattle.coset_core.specs.FieldLaws.{names_laws, same_name-sym, barred_fault}
+use Rattle.coset_core.specs.FieldLaws.{names_laws, same_name-sym}
 
 pub is_label : (i : ℤ) (m : Name) → same_name (number i) m ≡ true → number i ≡ m
 is_label i m h = names_laws.same_is (number i) m h
@@ -39,29 +37,18 @@ adds_rest m v x y h1 h2 h3 h4 h5 h6 h7 same rest =
 
 -- ---- a map read whole
 
--- a key's label, and why it is refused
-pub key_refused :
-    (k v : Item) (m : Name) (x : Fielded (Option Item) × List (Name × Item)) (r : Result (Unit {0}) CoseError) → label.describes k m
-    → IfErr r (λ e. Names e (λ f. Refuses names (fields (optional any)) m v x f ⊎ bars m x f))
-    → IfErr r (λ e. Names e (λ f. RefusesKey names (fields (optional any)) k v x f ⊎ BarsKey names bars k x f))
-key_refused k v m x (Ok u) d h = h
-key_refused k v m x (Err e) d h = λ n. elim (h n) [ inl g ↦ inl (inr (m, d, g)) | inr g ↦ inr (m, d, g) ]
-
-pub map_fills :
-    (v : Item) (x : FieldsSeen × Option Item) (r : Result (Unit {0}) CoseError) → OnOk r ((labelled names (fields (optional any))).describes v (parts_of x))
-    → IfErr r (λ e. Names e (GatherFaults names (fields (optional any)) bars v)) → HasOneIv x.0 → Fills unread v x r
-unfolding unread
-map_fills v x (Ok u) a b h = (a, h)
-map_fills v x (Err e) a b h = λ n. fault (b n)
-  where
-    fault : GatherFaults names (fields (optional any)) bars v e → unread.faults v e
-    fault (inl g) = inl g
-    fault (inr g) = barred_fault v e g
-
 -- ---- a pair of a field's label
 
 abbrev F : Fields Name (Fielded (Option Item))
 F = fields (optional any)
+
+pub adds_alg :
+    (m : Name) (v : Item) (r : Result (Unit {0}) CoseError) (f g : FieldsSeen) (a : Option RegisteredName) (o : Option Item) → same_name (number (pos 1)) m ≡ true → OnOk r (TakesHeld (optional algorithm) v f.alg a)
+    → g ≡ record f { alg = a } → OnOk r (Adds names F m v (parts_of (f, o)) (parts_of (g, o)))
+adds_alg m v (Ok u) f g a o h t e =
+    subst (λ l. Adds names F l v (parts_of (f, o)) (parts_of (g, o))) (is_label (pos 1) m h)
+    (subst (λ k. Adds names F (number (pos 1)) v (parts_of (f, o)) (parts_of (k, o))) (sym e) ((t.0, t.1, refl), refl))
+adds_alg m v (Err x) f g a o h t e = t
 
 pub adds_crit :
     (m : Name) (v : Item) (r : Result (Unit {0}) CoseError) (f g : FieldsSeen) (a : List RegisteredName) (o : Option Item) → same_name (number (pos 2)) m ≡ true → OnOk r (TakesHeld (listed (some_of critical)) v f.crit a)
@@ -122,7 +109,7 @@ pub refuses_partial_iv :
     → (b ≡ true → x.0.1.1.1.1.0 ≢ []) → IfErr r (λ e. Names e (λ f. RefusesHeld (listed filled_bstr) v x.0.1.1.1.1.1.0 f ⊎ ((b ≡ true) × IsUnexpected f)))
     → IfErr r (λ e. Names e (λ f. Refuses names F m v x f ⊎ bars m x f))
 refuses_partial_iv m v (Ok u) x b h some t = t
-refuses_partial_iv m v (Err e) x b h some t = λ n. elim (t n) [ inl g ↦ inl (subst (λ l. Refuses names F l v x e) (is_label (pos 6) m h) g) | inr g ↦ inr (inr (inl (h, some g.0, g.1))) ]
+refuses_partial_iv m v (Err e) x b h some t = λ n. elim (t n) [ inl g ↦ inl (subst (λ l. Refuses names F l v x e) (is_label (pos 6) m h) g) | inr g ↦ inr (inr (h, some g.0, g.1)) ]
 
 -- one kind of initialization vector stays alone
 pub stays_alone :

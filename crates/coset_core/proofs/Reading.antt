@@ -1,23 +1,24 @@
 -- Headers, and the signatures in them, read from their parts.
-use Rattle.std.proofs.Common.{◌≡◌, ◌≤◌, ◌<◌, ℕ, zero, suc, pred, List, [], ◌∷◌, ◌++◌, length, map, slice_set, slice_index_or, ◌-◌, ◌∙◌, Option, Some, None, Result, Ok, Err, refl, sym, ap, subst, inl, inr, append-nil, arith}
+use Rattle.std.proofs.Common.{◌≡◌, ℕ, zero, suc, pred, List, [], ◌∷◌, ◌++◌, length, map, slice_set, ◌-◌, ◌∙◌, Option, Some, None, Result, Ok, Err, refl, sym, ap, subst, inl, inr, append-nil, arith}
 use Rattle.std.specs.Prelude.{IsErrAnd}
-use Rattle.coset_value.specs.Item.{Item, bytes, array, Items, no_items, item, depth, items_depth}
-use Rattle.coset_value.specs.Parts.{as_array, as_bytes}
+use Rattle.coset_value.specs.Item.{Item, Items, no_items}
+use Rattle.coset_value.specs.Parts.{as_bytes}
 use Rattle.coset_cbor.specs.declared.de.Error.TheVariants.{RecursionLimitExceeded}
 use Rattle.coset_shape.specs.declared.error.CoseError.{CoseError}
 use Rattle.coset_shape.specs.declared.error.CoseError.TheVariants.{DecodeFailed}
 use Rattle.coset_shape.specs.Answers.{Reads}
 use Rattle.coset_shape.specs.Errors.{Names, IsUnexpected}
+use Rattle.coset_shape.specs.declared.input.InputItems.{InputItems}
+use Rattle.coset_shape.specs.Inputs.{State, AreWithin}
 use Rattle.coset_shape.specs.Lists.{Continues}
 use Rattle.coset_shape.specs.Serialized.{ContentDescribes, ContentFaults}
-use Rattle.coset_shape.specs.Shape.{Shape, Each, EachFaults, any_number, one_or_more, one_or_many}
-use Rattle.coset_shape.specs.ShapeLaws.{some-one}
-use Rattle.coset_core.specs.Contents.{Fills, FillsEach, GetsEmpty}
+use Rattle.coset_shape.specs.Shape.{Shape, Each, any_number, one_or_many}
+use Rattle.coset_core.specs.Contents.{Fills, GetsEmpty}
 use Rattle.coset_core.specs.Views.{signature_seen}
 use Rattle.coset_core.specs.declared.signature.CoseSignature.{CoseSignature}
 use Rattle.std.proofs.lemmas.List.{map-append}
 use Rattle.coset_core.specs.Fields.{FieldsSeen, unread}
-use Rattle.coset_core.specs.HeaderReads.{counters_read, header_read, unread_fault}
+use Rattle.coset_core.specs.HeaderReads.{counters_read, header_read}
 use Rattle.coset_core.specs.Headers.{HeaderSeen, SignatureSeen, empty_header, layered_header, layered_protected, layered_signature, no_signatures, signatures_of, with_counters}
 
 -- an error that is passed on
@@ -27,28 +28,7 @@ passed_on s seen v (Err f) e h n = subst (λ g. Names g (s.faults v)) (sym h) n
 
 -- ---- how deep the parts are
 
-pub members_depth : (v : Item) (vs : Items) → as_array v ≡ Some vs → items_depth vs < depth v
-members_depth (array ws) vs e = let d : items_depth ws ≡ items_depth vs = ap items_depth (some-one refl e) in omega (arith, d)
-members_depth _ vs e = absurd (cc)
-
-pub ones_depth : (v : Item) (vs : Items) → one_or_more v ≡ Some vs → items_depth vs ≤ depth v
-ones_depth (array (item (bytes b) ws)) vs e =
-    let d : items_depth (item (array (item (bytes b) ws)) no_items) ≡ items_depth vs = ap items_depth (some-one refl e) in omega (arith, d)
-ones_depth (array (item w ws)) vs e = let d : items_depth (item w ws) ≡ items_depth vs = ap items_depth (some-one refl e) in omega (arith, d)
-ones_depth (array no_items) vs e = absurd (cc)
-ones_depth _ vs e = absurd (cc)
-
 -- ---- one, or several
-
-module _ {A : Type 0} (s : Shape A) where
-  pub all_read :
-      (v : Item) (all left : Items) (xs : List A) → one_or_more v ≡ Some all → Continues A s.describes s.faults all xs left → left ≡ no_items → (one_or_many (any_number s)).describes v xs
-  all_read v all left xs e c n = (all, e, subst (Each s.describes all) (append-nil xs) (c.ends [] (subst (λ vs. Each s.describes vs []) (sym n) tt)))
-
-  pub one_refused :
-      (v w : Item) (all old new : Items) (xs : List A) (f : CoseError) → one_or_more v ≡ Some all → Continues A s.describes s.faults all xs old → old ≡ item w new → s.faults w f
-      → (one_or_many (any_number s)).faults v f
-  one_refused v w all old new xs f e c q h = inr (all, e, inr (c.blames f (subst (λ vs. EachFaults s.faults vs f) (sym q) (inl h))))
 
 -- ---- the byte string of a protected header
 
@@ -78,11 +58,6 @@ content_described (suc k) j v b h z i d = (b, i, refl, subst (λ n. ContentDescr
 
 -- ---- a header's map, and then its counter signatures
 
--- no signature is seen in an empty list alone
-pub none_of : (xs : List SignatureSeen) → signatures_of xs ≡ no_signatures → xs ≡ []
-none_of [] e = refl
-none_of (x ∷ xs) e = absurd (cc)
-
 pub counters_there :
     (k : ℕ) (v : Item) (h : HeaderSeen) (o : Option Item) (w : Item) (f : FieldsSeen) (xs : List SignatureSeen) → unread.describes v (f, o) → o ≡ Some w → (one_or_many (any_number (layered_signature k))).describes w xs
     → h ≡ with_counters f (signatures_of xs) → (layered_header k).describes v h
@@ -99,18 +74,6 @@ pub not_filled : {A : Type 0} (s : Shape A) (x : A) (v : Item) (r : Result (Unit
 not_filled s x v (Ok u) e h n = absurd h
 not_filled s x v (Err f) e h n = subst (λ g. Names g (s.faults v)) (sym h) n
 
--- a header whose map was read, up to a fault in it
-pub header_filled :
-    (k : ℕ) (v : Item) (f : FieldsSeen) (o : Option Item) (w : Item) (xs : List SignatureSeen) (h : HeaderSeen) (r : Result (Unit {0}) CoseError) → Fills unread v (f, o) r → o ≡ Some w
-    → (one_or_many (any_number (layered_signature k))).describes w xs → h ≡ with_counters f (signatures_of xs) → Fills (layered_header k) v h r
-header_filled k v f o w xs h (Ok u) p e q same = counters_there k v h o w f xs p e q same
-header_filled k v f o w xs h (Err e) p _ q same = λ n. unread_fault k v e (p n)
-
-pub header_plain :
-    (k : ℕ) (v : Item) (h : HeaderSeen) (o : Option Item) (r : Result (Unit {0}) CoseError) → Fills unread v (h.fields, o) r → o ≡ None → h.counter_signatures ≡ no_signatures → Fills (layered_header k) v h r
-header_plain k v h o (Ok u) p e q = counters_missing k v h o p e q
-header_plain k v h o (Err e) p _ q = λ n. unread_fault k v e (p n)
-
 -- the last of a list that one more was pushed on
 last_set : {A : Type 0} (xs : List A) (x y : A) → slice_set (xs ++ x ∷ []) (length xs) y ≡ xs ++ y ∷ []
 last_set [] x y = refl
@@ -119,16 +82,6 @@ last_set (z ∷ xs) x y = ap (λ zs. z ∷ zs) (last_set xs x y)
 pub last_filled :
     (old new : List CoseSignature) (n : ℕ) (y : CoseSignature) → n ≡ length old → GetsEmpty old new → map signature_seen (slice_set new n y) ≡ map signature_seen old ++ signature_seen y ∷ []
 last_filled old new n y e g = rw (e, g.1) (ap (map signature_seen) (last_set old g.0 y) ∙ map-append signature_seen old (y ∷ []))
-
-last_is : (xs : List CoseSignature) (x y : CoseSignature) → slice_index_or (xs ++ x ∷ []) (length xs) y ≡ x
-last_is [] x y = refl
-last_is (z ∷ xs) x y = last_is xs x y
-
-pub last_empty :
-    (old new : List CoseSignature) (n : ℕ) (y : CoseSignature) → n ≡ length old → GetsEmpty old new → y ≡ slice_index_or new n y → (signature_seen y).protected.header ≡ empty_header
-last_empty old new n y e g i =
-    let same : y ≡ g.0 = i ∙ rw (e, g.1) (last_is old g.0 y) in
-    ap (λ s. (signature_seen s).protected.header) same ∙ ap (λ s. s.protected.header) g.2
 
 one_longer : (old : List CoseSignature) (s : CoseSignature) → length (old ++ s ∷ []) ≡ suc (length old)
 one_longer [] s = refl
@@ -142,9 +95,10 @@ pub none_more :
     {A : Type 0} (s : Shape A) (all left : Items) (xs : List A) → Continues A s.describes s.faults all xs left → left ≡ no_items → Each s.describes all xs
 none_more s all left xs c n = subst (Each s.describes all) (append-nil xs) (c.ends [] (subst (λ vs. Each s.describes vs []) (sym n) tt))
 
-pub not_each :
-    {A : Type 0} (s : Shape A) (all old left : Items) (w : Item) (xs ys : List A) (r : Result (Unit {0}) CoseError) (e : CoseError) → IsErrAnd r (λ f. f ≡ e) → Continues A s.describes s.faults all xs old
-    → old ≡ item w left → Names e (s.faults w) → FillsEach s all ys r
-not_each s all old left w xs ys (Ok u) e h c q n = absurd h
-not_each s all old left w xs ys (Err f) e h c q n =
-    subst (λ g. Names g (EachFaults s.faults all)) (sym h) (λ m. c.blames e (subst (λ vs. EachFaults s.faults vs e) (sym q) (inl (n m))))
+-- ---- members that stand where they are read
+
+-- of the items vs all those before the others were read as xs, and the others stand there
+pub record Filled (k : ℕ) (vs : Items) (z : State) (m : InputItems) (s : State) (xs : List SignatureSeen) : Type 0 where
+  pub others : Items
+  pub continues : Continues SignatureSeen (layered_signature k).describes (layered_signature k).faults vs xs others
+  pub within : AreWithin m others s z

@@ -1,14 +1,11 @@
 -- What reading an item into a place answers, and reading the content of a protected header's byte string.
-use Rattle.std.specs.Prelude.{◌≡◌, ℕ, Bool, true, false, List, [], ◌∷◌, ◌++◌, Some, None, Result, Ok, Err}
-use Rattle.coset_value.specs.Item.{Item, Items, no_items, item}
-use Rattle.coset_value.specs.Parts.{as_array, as_bytes}
+use Rattle.std.specs.Prelude.{◌≡◌, ℕ, Bool, true, false, List, [], ◌∷◌, ◌++◌, None, Result, Ok, Err}
+use Rattle.coset_value.specs.Item.{Item, Items}
 use Rattle.coset_shape.specs.declared.error.CoseError.{CoseError}
 use Rattle.coset_shape.specs.Errors.{Names}
 use Rattle.coset_shape.specs.Serialized.{ContentDescribes, ContentFaults}
 use Rattle.coset_shape.specs.Shape.{Shape, Each, EachFaults}
-use Rattle.coset_shape.specs.Sources.{source_item}
-use Rattle.coset_shape.specs.declared.source.Source.{Source}
-use Rattle.coset_core.specs.Headers.{HeaderSeen, SignatureSeen, empty_header, layered_header, layered_signature}
+use Rattle.coset_core.specs.Headers.{HeaderSeen, SignatureSeen, empty_header, layered_header}
 use Rattle.coset_core.specs.Views.{signature_seen}
 use Rattle.coset_core.specs.declared.signature.CoseSignature.{CoseSignature}
 
@@ -29,11 +26,6 @@ abbrev pub FillsEach : {A : Type 0} → Shape A → Items → List A → Result 
 FillsEach s vs xs (Ok u) = Each s.describes vs xs
 FillsEach s vs xs (Err e) = Names e (EachFaults s.faults vs)
 
--- an array of three: what is answered, u and the byte string b; or an error that tells of a fault in a signature
-abbrev pub Splits : Item → Item → List ℕ → Result Source CoseError → Type 0
-Splits v u b (Ok x) = (w : Item) × (as_array v ≡ Some (item (source_item x) (item u (item w no_items)))) × (as_bytes w ≡ Some b)
-Splits v u b (Err e) = (k : ℕ) → Names e ((layered_signature k).faults v)
-
 -- a signature that holds nothing
 abbrev pub empty_signature : SignatureSeen
 empty_signature = record { protected = record { original = None; header = empty_header }; unprotected = empty_header; signature = [] }
@@ -42,7 +34,7 @@ empty_signature = record { protected = record { original = None; header = empty_
 abbrev pub GetsEmpty : List CoseSignature → List CoseSignature → Type 0
 GetsEmpty old new = (s : CoseSignature) × (new ≡ old ++ s ∷ []) × (signature_seen s ≡ empty_signature)
 
--- the next of some items is w, and there is one more signature for it; or none is left
-abbrev pub BeginsNext : Items → Items → List CoseSignature → List CoseSignature → Item → Bool → Type 0
-BeginsNext vs left old new w true = (vs ≡ item w left) × GetsEmpty old new
-BeginsNext vs left old new w false = (vs ≡ no_items) × (new ≡ old)
+-- one more where there is one to be read, else none
+abbrev pub GetsPlace : List CoseSignature → List CoseSignature → Bool → Type 0
+GetsPlace old new true = GetsEmpty old new
+GetsPlace old new false = new ≡ old

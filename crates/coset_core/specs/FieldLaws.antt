@@ -1,21 +1,21 @@
 -- The laws of a header's fields, and of maps of them.
-use Rattle.std.proofs.Common.{◌≡◌, ◌≤◌, ◌<◌, ℕ, List, [], ◌∷◌, Option, Some, None, Bool, true, false, cond, inl, inr, ◌⊎◌, refl, ap, sym, ◌∙◌, subst, rules, arith}
+use Rattle.std.proofs.Common.{◌≡◌, ℕ, List, [], ◌∷◌, Option, Some, None, Bool, true, false, cond, inl, inr, ◌⊎◌, refl, ap, sym, ◌∙◌, subst, rules}
 use Rattle.std.specs.Prelude.{pos}
 use Rattle.std.specs.List.{IsDistinct}
 use Rattle.std.specs.Map.{keys_of, lookup}
-use Rattle.coset_value.specs.Item.{Item, integer, dict, depth, Pairs, no_pairs, pair, pairs_depth}
+use Rattle.coset_value.specs.Item.{Item, integer, Pairs, no_pairs, pair}
 use Rattle.coset_value.specs.Parts.{as_map}
 use Rattle.coset_shape.specs.Errors.{IsUnexpected}
 use Rattle.coset_shape.specs.Shape.{any, filled_bstr, some_of}
-use Rattle.coset_shape.specs.ShapeLaws.{Lawful, Again, some-one, some-none, along_laws, that_laws, any_laws, filled_bstr_laws, some_of_laws}
-use Rattle.coset_shape.specs.Maps.{Held, optional, listed, Named, HasLabel, SomePair, Twice, SoFar, Barred, Gathers, and_pairs}
+use Rattle.coset_shape.specs.ShapeLaws.{Lawful, Again, some-one, along_laws, that_laws, any_laws, filled_bstr_laws, some_of_laws}
+use Rattle.coset_shape.specs.Maps.{Held, optional, listed, Named, HasLabel, SomePair, SoFar, Barred, and_pairs}
 use Rattle.coset_shape.specs.declared.error.CoseError.{CoseError}
-use Rattle.coset_shape.specs.MapLaws.{LawfulNames, LawfulHeld, LawfulFields, Flat, field_laws, no_field_laws, optional_laws, listed_laws, labelled_laws, new_of, not_new, has_label, lookup_none, lookup_later, so_far_twice}
+use Rattle.coset_shape.specs.MapLaws.{LawfulNames, LawfulHeld, LawfulFields, Flat, field_laws, no_field_laws, optional_laws, listed_laws, labelled_laws, new_of, not_new, has_label, lookup_none, lookup_later}
 use Rattle.coset_label.specs.Names.{Name, number, RegisteredName}
 use Rattle.coset_label.specs.Labels.{label}
 use Rattle.coset_label.specs.LabelLaws.{label_laws, registered_laws, registered_or_private_laws}
 use Rattle.coset_label.specs.NameOrder.{name_cmp-apart}
-use Rattle.coset_core.specs.Fields.{FieldsSeen, algorithm, critical, content_type, IsContentType, same_name, names, Fielded, fields, fields_of, parts_of, HasOneIv, HasBothIvs, map_of, map_with, unread, SomeCounters, IsKept, bars}
+use Rattle.coset_core.specs.Fields.{FieldsSeen, algorithm, critical, content_type, IsContentType, same_name, names, Fielded, fields, fields_of, parts_of, HasOneIv, HasBothIvs, map_of, map_with, unread, SomeCounters, bars}
 
 pub names_laws : LawfulNames Name names
 names_laws = record {
@@ -244,17 +244,6 @@ label_after : (l : Name) (ps qs : Pairs) → HasLabel label.describes l qs → H
 label_after l no_pairs qs f = f
 label_after l (pair k v ps) qs f = inr (label_after l ps qs f)
 
--- the value of label 7 that was gathered stands there
-pub kept_there :
-    (v : Item) (x y : Fielded (Option Item) × List (Name × Item)) (o : Option Item) → (fields_of x).1 ≡ None → (fields_of y).1 ≡ o → Gathers names (fields (optional any)) v x y → IsKept v o
-kept_there v x y None n e g = tt
-kept_there v x y (Some w) n e (inl g) = absurd (some-none e (ap (λ z. (fields_of z).1) g.1 ∙ n))
-kept_there v x y (Some w) n e (inr g) =
-    let walk = g.3 in
-    let s = walk.so_far in
-    let found : lookup (same_name (number (pos 7))) s.entries ≡ Some w = is_itself _ (fields_of y).1 s.fields.1.1.1.1.1.1.0 ∙ e in
-    (g.0, g.2, subst (SomePair (λ k u. label.describes k (number (pos 7)) × (u ≡ w))) (sym walk.parts) (some_before _ walk.done g.1 (found_pair (number (pos 7)) w walk.done s.entries s.named found)))
-
 -- a vector that was gathered has its label
 iv_before : (l : Name) (ps : Pairs) (es : List (Name × Item)) (iv : List ℕ) → Named label.describes ps es → (listed filled_bstr).describes (lookup (same_name l) es) iv → (iv ≡ [] → ⊥) → HasLabel label.describes l ps
 iv_before l ps es iv n d some = has_label names names_laws ps es l n (λ a. some (subst (λ o. (listed filled_bstr).describes o iv) (lookup_none names l es a) d))
@@ -280,22 +269,4 @@ barred_fault v e f = go f.2.barred.2
 
     go : bars b.barred.0 b.before e → unread.faults v e
     go (inl h) = inr ((f.0, f.1, this (number (pos 5)) h.0, earlier (number (pos 6)) (iv_before (number (pos 6)) b.walked.done s.entries (fields_of b.before).0.partial_iv s.named s.fields.1.1.1.1.1.0 h.1)), h.2)
-    go (inr (inl h)) = inr ((f.0, f.1, earlier (number (pos 5)) (iv_before (number (pos 5)) b.walked.done s.entries (fields_of b.before).0.iv s.named s.fields.1.1.1.1.0 h.1), this (number (pos 6)) h.0), h.2)
-    go (inr (inr h)) =
-        inl (inr (f.0, f.1, inr (subst (Twice label.describes) (sym b.walked.parts) (so_far_twice names names_laws (fields (optional any)) unread_fields_laws b.walked.done b.before s h.0 (pair b.key b.value b.left)), h.1)))
-
--- a value that stands in a map is less deep than the map
-some_depth : (P : Item → Item → Type 0) (w : Item) (ps : Pairs) → ((k u : Item) → P k u → u ≡ w) → SomePair P ps → depth w ≤ pairs_depth ps
-some_depth P w no_pairs is f = absurd f
-some_depth P w (pair k v ps) is (inl f) = let same : depth v ≡ depth w = ap depth (is k v f) in omega (arith, same)
-some_depth P w (pair k v ps) is (inr f) = let inner : depth w ≤ pairs_depth ps = some_depth P w ps is f in omega (arith, inner)
-
-map-depth : (v : Item) (ps : Pairs) → as_map v ≡ Some ps → depth v ≡ depth (dict ps)
-map-depth (dict qs) ps p = ap (λ rs. depth (dict rs)) (some-one refl p)
-map-depth _ ps p = absurd (cc)
-
-pub shallower : (v : Item) (w : Item) → SomeCounters (λ u. u ≡ w) v → depth w < depth v
-shallower v w s =
-    let inner : depth w ≤ pairs_depth s.0 = some_depth _ w s.0 (λ k u h. h.1) s.2 in
-    let outer : depth v ≡ depth (dict s.0) = map-depth v s.0 s.1 in
-    omega (arith, inner, outer)
+    go (inr h) = inr ((f.0, f.1, earlier (number (pos 5)) (iv_before (number (pos 5)) b.walked.done s.entries (fields_of b.before).0.iv s.named s.fields.1.1.1.1.0 h.1), this (number (pos 6)) h.0), h.2)

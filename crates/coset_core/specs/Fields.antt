@@ -1,8 +1,7 @@
 -- What a header holds beside its counter signatures, and maps of that (RFC 8152, section 3.1).
-use Rattle.std.specs.Prelude.{◌≡◌, ◌≢◌, ◌⊎◌, ℕ, pos, ◌==◌, List, [], filter, length, Option, Some, None, Bool, true, false, is_some, ⊤}
+use Rattle.std.specs.Prelude.{◌≡◌, ◌≢◌, ◌⊎◌, ℕ, pos, ◌==◌, List, [], filter, length, Option, Some, None, Bool, true, is_some, ⊤}
 use Rattle.std.specs.Ordering.{is_eq}
 use Rattle.std.specs.Str.{trim}
-use Rattle.std.specs.Map.{keys_of}
 use Rattle.coset_value.specs.Item.{Item, Pairs}
 use Rattle.coset_value.specs.Parts.{as_map}
 use Rattle.coset_iana.specs.Algorithm as algorithms
@@ -15,8 +14,7 @@ use Rattle.coset_iana.specs.declared.content_formats.TheConstants.{COAP_CONTENT_
 use Rattle.coset_iana.specs.declared.headers.TheConstants.{HEADER_PARAMETERS}
 use Rattle.coset_shape.specs.Errors.{IsUnexpected}
 use Rattle.coset_shape.specs.Shape.{Shape, that, any, along, some_of, filled_bstr}
-use Rattle.coset_shape.specs.Maps.{Names, Fields, Held, HasLabel, SomePair, Bars, are_distinct, field, no_field, optional, listed, labelled}
-use Rattle.coset_shape.specs.declared.error.CoseError.TheVariants.{DuplicateMapKey}
+use Rattle.coset_shape.specs.Maps.{Names, Fields, Held, HasLabel, SomePair, Bars, field, no_field, optional, listed, labelled}
 use Rattle.coset_label.specs.Names.{Name, number, word, RegisteredName, name_cmp}
 use Rattle.coset_label.specs.Labels.{label, registered, registered_or_private}
 
@@ -120,14 +118,8 @@ unread = map_with (optional any)
 abbrev pub SomeCounters : (Item → Type 0) → Item → Type 0
 SomeCounters P v = (ps : Pairs) × (as_map v ≡ Some ps) × SomePair (λ k w. label.describes k (number (pos 7)) × P w) ps
 
--- what is kept of label 7 stands there
-abbrev pub IsKept : Item → Option Item → Type 0
-IsKept v None = ⊤
-IsKept v (Some w) = SomeCounters (λ u. u ≡ w) v
-
--- why a label is refused after others: one kind of initialization vector after the other; or labels of the rest repeat
+-- why a label is refused after others: one kind of initialization vector after the other
 abbrev pub bars : {C : Type 0} → Bars Name (Fielded C)
 bars m x e =
     ((same_name (number (pos 5)) m ≡ true) × ((fields_of x).0.partial_iv ≢ []) × IsUnexpected e)
     ⊎ ((same_name (number (pos 6)) m ≡ true) × ((fields_of x).0.iv ≢ []) × IsUnexpected e)
-    ⊎ ((are_distinct same_name (keys_of x.1) ≡ false) × (e ≡ DuplicateMapKey))

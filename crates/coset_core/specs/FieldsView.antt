@@ -1,10 +1,7 @@
 -- The fields of a header as contracts see them.
-use Rattle.std.specs.Prelude.{◌≡◌, [], Option, map, option_map}
-use Rattle.coset_value.specs.Item.{Item}
-use Rattle.coset_shape.specs.Sources.{source_item}
-use Rattle.coset_core.specs.Fields.{FieldsSeen, HasOneIv}
+use Rattle.std.specs.Prelude.{List, map, option_map}
+use Rattle.coset_core.specs.Fields.{FieldsSeen}
 use Rattle.coset_core.specs.Views.{algorithm_seen, critical_seen, content_type_seen, entry_seen}
-use Rattle.coset_core.specs.declared.fields.Unread.{Unread}
 use Rattle.coset_core.specs.declared.header.Header.{Header, Header-F, out-Header}
 use Rattle.coset_core.specs.declared.protected.ProtectedHeader.{ProtectedHeader}
 use Rattle.coset_core.specs.declared.signature.CoseSignature.{CoseSignature}
@@ -21,10 +18,9 @@ fields_level h = record {
   rest = map entry_seen h.rest.items;
 }
 
--- the fields, and the value of label 7 where there is one
-abbrev pub unread_seen : Unread → FieldsSeen × Option Item
-unread_seen u = (fields_level (out-Header u.header), option_map source_item u.counters)
+-- a header's fields but for its counter signatures, and these
+abbrev pub fields_seen : Header → FieldsSeen
+fields_seen h = fields_level (out-Header h)
 
--- not both kinds of initialization vector are there, and no counter signature was read
-abbrev pub Holds : Unread → Type 0
-Holds u = HasOneIv (unread_seen u).0 × ((out-Header u.header).counter_signatures.items ≡ [])
+abbrev pub counters_held : Header → List CoseSignature
+counters_held h = (out-Header h).counter_signatures.items

@@ -16,3 +16,4 @@ pub mod Views
 pub mod ViewLaws
 pub mod Same
 pub mod SameLaws
+pub mod Filling

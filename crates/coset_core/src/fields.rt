@@ -1,40 +1,32 @@
 //! What a header holds beside its counter signatures, and reading it pair by pair (RFC 8152, section 3.1).
 
-ghost use Rattle.std.specs.Prelude.{◌≡◌, pos, ◌⊎◌, [], List, None, Bool, true, false, not, map, option_map, IfOk, IfErr, OnOk, OnErr};
-ghost use Rattle.std.specs.Map.{keys_of};
-ghost use Rattle.coset_shape.specs.declared.error.CoseError.TheVariants.{OutOfMemory, DuplicateMapKey};
+ghost use Rattle.std.specs.Prelude.{◌≡◌, ◌≤◌, ◌<◌, pos, ◌⊎◌, [], Option, Bool, true, false, IsTrue, IsSome, map, option_map, IfOk, IfErr, IsErrAnd, OnOk, OnErr};
+ghost use Rattle.coset_value.specs.Item.{Item, Pairs};
+ghost use Rattle.coset_shape.specs.declared.error.CoseError.TheVariants.{DuplicateMapKey};
 ghost use Rattle.coset_shape.specs.Answers.{Reads};
 ghost use Rattle.coset_shape.specs.Errors.{IsUnexpected, Names};
-ghost use Rattle.coset_shape.specs.Maps.{optional, listed, are_distinct, Adds, Refuses};
+ghost use Rattle.coset_shape.specs.Inputs.{State, state, still, size, pairs_size, pairs_turns, PairsWithin};
+ghost use Rattle.coset_shape.specs.Maps.{optional, listed, Adds, Refuses};
 ghost use Rattle.coset_shape.specs.Shape.{any, some_of, filled_bstr};
 ghost use Rattle.coset_shape.specs.Sources.{source_item};
 ghost use Rattle.coset_label.specs.Names.{number};
 ghost use Rattle.coset_label.specs.Views.{label_seen};
-ghost use Rattle.coset_core.specs.Fields.{algorithm, critical, content_type, names, fields, parts_of, same_name, empty_fields, unread, IsKept, bars};
-ghost use Rattle.coset_core.specs.FieldsView.{unread_seen, Holds};
-ghost use Rattle.coset_core.specs.Views.{algorithm_seen, critical_seen, content_type_seen, header_seen};
-ghost use Rattle.coset_core.specs.Contents.{Fills};
-ghost use Rattle.coset_core.specs.Headers.{no_signatures};
+ghost use Rattle.coset_shape.specs.declared.input.InputPairs.{InputPairs};
+ghost use Rattle.coset_core.specs.Fields.{FieldsSeen, algorithm, critical, content_type, names, fields, parts_of, same_name, HasOneIv, bars};
+ghost use Rattle.coset_core.specs.FieldsView.{fields_seen, counters_held};
+ghost use Rattle.coset_core.specs.Views.{algorithm_seen, critical_seen, content_type_seen};
+ghost use Rattle.coset_core.specs.Filling.{WalksTo, NextsLabel, FillsSome, FillsFields};
 ghost use Rattle.coset_core.specs.Held.{TakesHeld, RefusesHeld};
 
 use crate::content_type::read_content_type;
 use crate::header::Header;
-use coset_cbor::value::Value;
+use crate::write::ask_distinct;
 use coset_iana::HeaderParameter;
 use coset_label::{Algorithm, ContentType, Label, RegisteredLabelWithPrivate};
+use coset_shape::input::{Input, InputPairs};
 use coset_shape::list::{read_filled_list, read_source};
-use coset_shape::map::{Gather, read_map};
-use coset_shape::{CoseError, Result, Source, has_repeats};
+use coset_shape::{CoseError, Result, Source};
 use std::alloc::Global;
-
-/// A header of which some pairs were read, and the value of label 7 as it was lent.
-#[derive(Drop)]
-struct Unread<'a> {
-    /// All but its counter signatures.
-    header: Header,
-    /// What stands for the counter signatures, where there is such a pair.
-    counters: Option<Source<'a>>,
-}
 
 /// Whether the label is this number.
 fn is_number(label: &Label, wanted: i64) -> bool
@@ -147,135 +139,140 @@ fn set_iv(alloc: Global, field: &mut Vec<u8>, barred: bool, value: Source<'_>) -
     Ok(())
 }
 
-/// Keeps the value of label 7, where there is none yet.
-fn set_counters<'a>(field: &mut Option<Source<'a>>, value: Source<'a>) -> Result<()>
-    ensures takes { OnOk result (TakesHeld (optional any) (source_item value.entry) (option_map source_item field.old) (option_map source_item field.new)) }
-    ensures refused { IfErr result (λ e. Names e (RefusesHeld (optional any) (source_item value.entry) (option_map source_item field.old))) }
-    ensures kept { OnErr result (field.new ≡ field.old) }
+/// Takes one more value of a header, by its label, which isn't 7. Whether labels of the rest repeat isn't asked.
+///
+/// # Errors
+/// `OutOfMemory`; `DuplicateMapKey` where a field has a value already; a fault of its value; or `UnexpectedItem` where it
+/// is the second kind of initialization vector. The header is then as before.
+fn put(header: &mut Header, alloc: Global, label: Label, value: Source<'_>) -> Result<()>
+    requires other { same_name (number (pos 7)) (label_seen label) ≡ false }
+    requires one_iv { HasOneIv (fields_seen header.old) }
+    ensures takes { (o : Option Item) → OnOk result (Adds names (fields (optional any)) (label_seen label) (source_item value.entry) (parts_of (fields_seen header.old, o)) (parts_of (fields_seen header.new, o))) }
+    ensures refused { (o : Option Item) → IfErr result (λ e. Names e (λ f. Refuses names (fields (optional any)) (label_seen label) (source_item value.entry) (parts_of (fields_seen header.old, o)) f ⊎ bars (label_seen label) (parts_of (fields_seen header.old, o)) f)) }
+    ensures kept { OnErr result (fields_seen header.new ≡ fields_seen header.old) }
+    ensures one_iv { HasOneIv (fields_seen header.new) }
+    ensures others { counters_held header.new ≡ counters_held header.old }
 {
-    if field.is_some() {
-        return Err(CoseError::DuplicateMapKey);
+    if is_number(&label, 1) {
+        return set_algorithm(alloc, &mut header.alg, value);
     }
-    *field = Some(value);
+    if is_number(&label, 2) {
+        return set_critical(alloc, &mut header.crit, value);
+    }
+    if is_number(&label, 3) {
+        return set_content_type(alloc, &mut header.content_type, value);
+    }
+    if is_number(&label, 4) {
+        return set_bytes(alloc, &mut header.key_id, value);
+    }
+    if is_number(&label, 5) {
+        let barred = !header.partial_iv.is_empty();
+        return set_iv(alloc, &mut header.iv, barred, value);
+    }
+    if is_number(&label, 6) {
+        let barred = !header.iv.is_empty();
+        return set_iv(alloc, &mut header.partial_iv, barred, value);
+    }
+    let value = value.into_value(alloc)?;
+    header.rest.push((label, value))?;
     Ok(())
 }
 
-impl<'a> Unread<'a> {
-    /// Nothing.
-    fn new(alloc: Global) -> Unread<'a>
-        ensures seen { unread_seen result ≡ (empty_fields, None) }
-        ensures holds { Holds result }
-    {
-        Unread {
-            header: Header::new(alloc),
-            counters: None,
-        }
-    }
-
-    /// Takes one more value, by its label. Whether a label of the rest repeats is asked before label 7 alone, whose
-    /// value is read when the map was.
-    ///
-    /// # Errors
-    /// Want of memory; `DuplicateMapKey` where a field has a value already; a fault of its value; or `UnexpectedItem`
-    /// where it is the second kind of initialization vector. What was gathered is then as before.
-    fn put(&mut self, alloc: Global, label: Label, value: Source<'a>) -> Result<()>
-        requires holds { Holds self.old }
-        ensures takes { OnOk result (Adds names (fields (optional any)) (label_seen label) (source_item value.entry) (parts_of (unread_seen self.old)) (parts_of (unread_seen self.new))) }
-        ensures refused { IfErr result (λ e. Names e (λ f. Refuses names (fields (optional any)) (label_seen label) (source_item value.entry) (parts_of (unread_seen self.old)) f ⊎ bars (label_seen label) (parts_of (unread_seen self.old)) f)) }
-        ensures kept { OnErr result (unread_seen self.new ≡ unread_seen self.old) }
-        ensures holds { Holds self.new }
-    {
-        if is_number(&label, 1) {
-            return set_algorithm(alloc, &mut self.header.alg, value);
-        }
-        if is_number(&label, 2) {
-            return set_critical(alloc, &mut self.header.crit, value);
-        }
-        if is_number(&label, 3) {
-            return set_content_type(alloc, &mut self.header.content_type, value);
-        }
-        if is_number(&label, 4) {
-            return set_bytes(alloc, &mut self.header.key_id, value);
-        }
-        if is_number(&label, 5) {
-            let barred = !self.header.partial_iv.is_empty();
-            return set_iv(alloc, &mut self.header.iv, barred, value);
-        }
-        if is_number(&label, 6) {
-            let barred = !self.header.iv.is_empty();
-            return set_iv(alloc, &mut self.header.partial_iv, barred, value);
-        }
-        if is_number(&label, 7) {
-            if has_repeats(alloc, &self.header.rest)? {
-                return Err(CoseError::DuplicateMapKey);
-            }
-            return set_counters(&mut self.counters, value);
-        }
-        let value = value.into_value(alloc)?;
-        self.header.rest.push((label, value))?;
-        Ok(())
-    }
-}
-
-impl<'a> Gather<Source<'a>> for Unread<'a> {
-    ghost use Rattle.std.specs.Prelude.{Option};
-    ghost use Rattle.coset_value.specs.Item.{Item};
-    ghost use Rattle.coset_label.specs.Names.{Name};
-    ghost use Rattle.coset_core.specs.Fields.{Fielded};
-    ghost use Rattle.coset_core.specs.FieldLaws.{names_laws, unread_fields_laws};
-
-    ghost Name = { Name };
-
-    ghost Got = { Fielded (Option Item) };
-
-    ghost names = { names };
-
-    ghost fields = { fields (optional any) };
-
-    ghost seen = { λ u. parts_of (unread_seen u) };
-
-    ghost bars = { bars };
-
-    ghost holds = { Holds };
-
-    ghost lawful_names = { names_laws };
-
-    ghost lawful_fields = { unread_fields_laws };
-
-    fn add(&mut self, alloc: Global, key: Source<'a>, value: Source<'a>) -> Result<()> {
-        let label = read_source::<Label>(alloc, key)?;
-        self.put(alloc, label, value)
-    }
-
-    fn repeats(&self, alloc: Global) -> Result<bool>
-        ensures repeats { IfOk result (λ b. b ≡ not (are_distinct names.same (keys_of (parts_of (unread_seen self.now)).1))) }
-        ensures memory { IfErr result (λ e. e ≡ OutOfMemory) }
-    {
-        has_repeats(alloc, &self.header.rest)
-    }
-}
-
-/// Reads a header but for its counter signatures, of which it has none then, from the first pair on. What stands for
-/// them is answered as it is, also where a later pair is at fault.
+/// The label of the next pair of a map, whose value then stands at the input; or `None` where no pair is left.
 ///
 /// # Errors
-/// As of the pairs.
-#[inline(never)]
-pub(crate) fn fill_fields<'a>(
+/// `OutOfMemory`, or a fault of the key, which is no label; its value is then passed.
+fn next_label(alloc: Global, pairs: &mut InputPairs, input: &mut Input<'_>) -> Result<Option<Label>>
+    ensures shrinks { still (state input.new) ≤ still (state input.old) }
+    ensures size { pairs_size pairs.new (state input.new) ≤ pairs_size pairs.old (state input.old) }
+    ensures value { IfOk result (λ o. IsSome o → size (state input.new) ≤ pairs_size pairs.old (state input.old)) }
+    ensures turns { IfOk result (λ o. IsSome o → pairs_turns pairs.new (state input.new) < pairs_turns pairs.old (state input.old)) }
+    ensures nexts { (ps : Pairs) (z : State) → PairsWithin pairs.old ps (state input.old) z → NextsLabel ps (state input.new) z pairs.new result }
+{
+    let Some(key) = pairs.next_key(input)? else {
+        return Ok(None);
+    };
+    match read_source::<Label>(alloc, key) {
+        Ok(label) => Ok(Some(label)),
+        Err(error) => {
+            input.pass();
+            Err(error)
+        }
+    }
+}
+
+/// Reads pairs into a header up to one of label 7, whose value then stands at the input; or all that are left. It says
+/// whether it is the former.
+///
+/// # Errors
+/// `OutOfMemory`, or the fault of a pair, which is passed.
+fn fill_some(
     header: &mut Header,
     alloc: Global,
-    source: Source<'a>,
-) -> (Result<()>, Option<Source<'a>>)
-    ensures read { Fills unread (source_item source.entry) ((header_seen header.new).fields, option_map source_item result.1) result.0 }
-    ensures none { (header_seen header.new).counter_signatures ≡ no_signatures }
-    ensures kept { IsKept (source_item source.entry) (option_map source_item result.1) }
+    pairs: &mut InputPairs,
+    input: &mut Input<'_>,
+) -> Result<bool>
+    requires one_iv { HasOneIv (fields_seen header.old) }
+    ensures one_iv { HasOneIv (fields_seen header.new) }
+    ensures others { counters_held header.new ≡ counters_held header.old }
+    ensures shrinks { still (state input.new) ≤ still (state input.old) }
+    ensures size { pairs_size pairs.new (state input.new) ≤ pairs_size pairs.old (state input.old) }
+    ensures value { IfOk result (λ b. IsTrue b → size (state input.new) ≤ pairs_size pairs.old (state input.old)) }
+    ensures fills { (all ps : Pairs) (o : Option Item) (z : State) → WalksTo all (fields_seen header.old) o ps → PairsWithin pairs.old ps (state input.old) z
+        → FillsSome all o z (fields_seen header.new) (state input.new) pairs.new result }
 {
-    let mut unread = Unread::new(alloc);
-    let read = read_map(alloc, source, &mut unread);
-    let Unread {
-        header: filled,
-        counters,
-    } = unread;
-    *header = filled;
-    (read, counters)
+    while let Some(label) = next_label(alloc, pairs, input)? {
+        if is_number(&label, 7) {
+            return Ok(true);
+        }
+        let value = input.take()?;
+        put(header, alloc, label, value)?;
+    }
+    Ok(false)
+}
+
+/// The error of labels of the rest that repeat, or that there was no memory to ask for them. A value of label 7 that
+/// stands at the input is passed.
+#[cold]
+fn refuse(filled: Result<bool>, input: &mut Input<'_>, error: CoseError) -> Result<bool>
+    ensures shrinks { still (state input.new) ≤ still (state input.old) }
+    ensures passes { (all : Pairs) (o : Option Item) (f : FieldsSeen) (z : State) (m : InputPairs) → FillsSome all o z f (state input.old) m filled
+        → (left : Pairs) × PairsWithin m left (state input.new) z }
+    ensures refused { IsErrAnd result (λ e. e ≡ error) }
+{
+    let Ok(at_value) = filled else {
+        return Err(error);
+    };
+    if at_value {
+        input.pass();
+    }
+    Err(error)
+}
+
+/// As many pairs as [`fill_some`] reads. That no label of the rest repeats is asked before a fault is answered, before the
+/// value of label 7 is read, and in the end.
+///
+/// # Errors
+/// `OutOfMemory`, or the first fault of the pairs.
+#[inline(never)]
+pub(crate) fn fill_fields(
+    header: &mut Header,
+    alloc: Global,
+    pairs: &mut InputPairs,
+    input: &mut Input<'_>,
+) -> Result<bool>
+    requires one_iv { HasOneIv (fields_seen header.old) }
+    ensures one_iv { HasOneIv (fields_seen header.new) }
+    ensures others { counters_held header.new ≡ counters_held header.old }
+    ensures shrinks { still (state input.new) ≤ still (state input.old) }
+    ensures size { pairs_size pairs.new (state input.new) ≤ pairs_size pairs.old (state input.old) }
+    ensures value { IfOk result (λ b. IsTrue b → size (state input.new) ≤ pairs_size pairs.old (state input.old)) }
+    ensures fills { (all ps : Pairs) (o : Option Item) (z : State) → WalksTo all (fields_seen header.old) o ps → PairsWithin pairs.old ps (state input.old) z
+        → FillsFields all o z (fields_seen header.new) (state input.new) pairs.new result }
+{
+    let filled = fill_some(header, alloc, pairs, input);
+    match ask_distinct(alloc, &header.rest) {
+        Ok(()) => filled,
+        Err(error) => refuse(filled, input, error),
+    }
 }

@@ -1,16 +1,19 @@
 //! Reading headers, and the counter signatures in them, which hold headers (RFC 8152, sections 3 and 4.5). Of `layers`
 //! each byte string of a protected header takes one. Each is filled where it stands, since a header that is answered by
-//! value costs its size in stack at each function that it passes.
+//! value costs its size in stack at each function that it passes; and each leaves the input just behind its item, whatever
+//! it answers, so that at whatever depth each byte is passed once.
 
-ghost use Rattle.std.specs.Prelude.{◌≡◌, [], map, Err, option_map, IfOk, IfErr, OnOk};
-ghost use Rattle.coset_shape.specs.declared.error.CoseError.TheVariants.{OutOfMemory};
+ghost use Rattle.std.specs.Prelude.{◌≡◌, ◌≤◌, ◌<◌, [], Err, OnOk, IfOk, IfErr, IsErrAnd, IsTrue, map};
+ghost use Rattle.coset_value.specs.Item.{Item, array, dict, Items, no_items, item, Pairs};
+ghost use Rattle.coset_shape.specs.declared.error.CoseError.TheVariants.{OutOfMemory, DuplicateMapKey};
 ghost use Rattle.coset_shape.specs.Answers.{Reads};
-ghost use Rattle.coset_shape.specs.OneOrMore.{ones_left};
+ghost use Rattle.coset_shape.specs.Errors.{IsUnexpected};
+ghost use Rattle.coset_shape.specs.Inputs.{State, state, still, size, items_size, items_turns, Stands, GoesBehind, AreWithin, PairsWithin};
 ghost use Rattle.coset_shape.specs.Shape.{any_number, one_or_many};
 ghost use Rattle.coset_shape.specs.Sources.{source_item};
-ghost use Rattle.coset_core.specs.Contents.{BeginsNext, Fills, FillsContent, FillsEach, GetsEmpty, Splits};
-ghost use Rattle.coset_core.specs.Fields.{unread, IsKept};
-ghost use Rattle.coset_core.specs.Headers.{empty_header, layered_header, layered_protected, layered_signature, no_signatures, header as header_shape, protected as protected_shape, signature as signature_shape};
+ghost use Rattle.coset_core.specs.Contents.{Fills, FillsContent, FillsEach, GetsEmpty, GetsPlace, empty_signature};
+ghost use Rattle.coset_core.specs.Filling.{BeginsNext, BeginsPlaces, EndsPlaces};
+ghost use Rattle.coset_core.specs.Headers.{empty_header, layered_header, layered_protected, layered_signature, header as header_shape, protected as protected_shape, signature as signature_shape};
 ghost use Rattle.coset_core.specs.Views.{header_seen, protected_seen, signature_seen};
 
 use crate::fields::fill_fields;
@@ -18,12 +21,10 @@ use crate::header::Header;
 use crate::protected::ProtectedHeader;
 use crate::signature::CoseSignature;
 use coset_cbor::de;
-use coset_cbor::value::Value;
-use coset_shape::one_or_more::OneOrMore;
+use coset_shape::input::{Input, InputItems, InputPairs};
 use coset_shape::traits::whole;
 use coset_shape::{CoseError, Result, Source};
 use std::alloc::Global;
-use std::mem;
 
 /// At most this many byte strings of protected headers stand within one another.
 pub(crate) const LAYERS: usize = 16;
@@ -40,174 +41,271 @@ fn push_empty(alloc: Global, all: &mut Vec<CoseSignature>) -> Result<()>
     Ok(())
 }
 
-/// A place for an item, which is null.
-fn no_item<'a>() -> Source<'a> {
-    Source::Tree(Value::Null)
-}
-
-/// Takes the item out of its place.
-fn taken<'a>(place: &mut Source<'a>) -> Source<'a>
-    ensures { result ≡ place.old }
-{
-    mem::replace(place, no_item())
-}
-
-/// As [`fill_fields`], of the item in the place.
+/// Whether one more signature stands at the input, for which one more that holds nothing is there then.
+///
+/// # Errors
+/// `OutOfMemory`; the signature is then passed.
 #[inline(never)]
-fn fill_most<'a>(
-    header: &mut Header,
-    alloc: Global,
-    place: &mut Source<'a>,
-) -> (Result<()>, Option<Source<'a>>)
-    ensures read { Fills unread (source_item place.old) ((header_seen header.new).fields, option_map source_item result.1) result.0 }
-    ensures none { (header_seen header.new).counter_signatures ≡ no_signatures }
-    ensures kept { IsKept (source_item place.old) (option_map source_item result.1) }
-{
-    fill_fields(header, alloc, taken(place))
-}
-
-/// Puts what stands for the next signature into the place, for which one more that holds nothing is there then; or says
-/// that none is left.
-#[inline(never)]
-fn next_signature<'a>(
+fn next_signature(
     alloc: Global,
     all: &mut Vec<CoseSignature>,
-    signatures: &mut OneOrMore<'a>,
-    place: &mut Source<'a>,
+    members: &mut InputItems,
+    input: &mut Input<'_>,
 ) -> Result<bool>
-    ensures next { IfOk result (λ b. BeginsNext (ones_left signatures.old) (ones_left signatures.new) all.old.items all.new.items (source_item place.new) b) }
-    ensures refused { IfErr result (λ e. e ≡ OutOfMemory) }
+    ensures shrinks { still (state input.new) ≤ still (state input.old) }
+    ensures size { items_size members.new (state input.new) ≤ items_size members.old (state input.old) }
+    ensures member { IfOk result (λ b. IsTrue b → size (state input.new) ≤ items_size members.old (state input.old)) }
+    ensures turns { IfOk result (λ b. IsTrue b → (t : State) → GoesBehind (state input.new) t → items_turns members.new t < items_turns members.old (state input.old)) }
+    ensures place { IfOk result (GetsPlace all.old.items all.new.items) }
+    ensures next { (vs : Items) (z : State) → AreWithin members.old vs (state input.old) z → BeginsNext vs (state input.new) z members.new result }
 {
-    let Some(signature) = signatures.next() else {
+    if !members.next(input) {
         return Ok(false);
-    };
-    push_empty(alloc, all)?;
-    *place = signature;
-    Ok(true)
+    }
+    match push_empty(alloc, all) {
+        Ok(()) => Ok(true),
+        Err(error) => {
+            input.pass();
+            Err(error)
+        }
+    }
 }
 
-/// Takes a signature's bytes, and leaves its two headers, the unprotected one in the signature's place.
-#[inline(never)]
-fn split_signature<'a>(
-    signature: &mut Vec<u8>,
-    alloc: Global,
-    place: &mut Source<'a>,
-) -> Result<Source<'a>>
-    ensures { Splits (source_item place.old) (source_item place.new) signature.new.items result }
+/// The error of an array that hasn't three places.
+#[cold]
+fn misfit<T>() -> Result<T>
+    ensures { IsErrAnd result IsUnexpected }
 {
-    let (protected, unprotected, bytes) = taken(place).into_three("array with 3 items")?;
-    *signature = bytes.into_bytes(alloc, "bstr")?;
-    *place = unprotected;
+    Err(CoseError::UnexpectedItem("array", "array with 3 items"))
+}
+
+/// The first place of a signature's array; the second then stands at the input.
+///
+/// # Errors
+/// `UnexpectedItem`: the array has fewer places.
+#[inline(never)]
+fn begin_places<'a>(members: &mut InputItems, input: &mut Input<'a>) -> Result<Source<'a>>
+    ensures shrinks { still (state input.new) ≤ still (state input.old) }
+    ensures size { items_size members.new (state input.new) ≤ items_size members.old (state input.old) }
+    ensures place { OnOk result (size (state input.new) ≤ items_size members.old (state input.old)) }
+    ensures begins { (vs : Items) (z : State) → AreWithin members.old vs (state input.old) z → BeginsPlaces vs (state input.new) z members.new result }
+{
+    let Some(protected) = members.take(input)? else {
+        return misfit();
+    };
+    if !members.next(input) {
+        return misfit();
+    }
     Ok(protected)
 }
 
-/// Lets go what is left of the items.
-#[inline(never)]
-fn let_go(_left: OneOrMore<'_>) {}
-
-/// The error that is passed on, where an item isn't read for it.
-#[cold]
-#[inline(never)]
-fn refuse(_left: Source<'_>, error: CoseError) -> Result<()>
-    ensures { result ≡ Err error }
-{
-    Err(error)
-}
-
-/// Reads a header into a place for one. Its counter signatures are read when its map was, up to a fault in it.
+/// Reads the third and last place of a signature's array.
 ///
 /// # Errors
-/// Want of memory, or the first fault found, from the first pair on.
+/// `OutOfMemory`, or `UnexpectedItem`: there is none, or it isn't the last, or it is no byte string.
+#[inline(never)]
+fn end_places(
+    signature: &mut Vec<u8>,
+    alloc: Global,
+    members: &mut InputItems,
+    input: &mut Input<'_>,
+) -> Result<()>
+    ensures shrinks { still (state input.new) ≤ still (state input.old) }
+    ensures ends { (vs : Items) (z : State) → AreWithin members.old vs (state input.old) z → EndsPlaces vs (state input.new) z members.new signature.new.items result }
+{
+    let Some(last) = members.take(input)? else {
+        return misfit();
+    };
+    if members.next(input) {
+        input.pass();
+        return misfit();
+    }
+    *signature = last.into_bytes(alloc, "bstr")?;
+    Ok(())
+}
+
+/// The error of a map with label 7 twice; the second value is passed.
+#[cold]
+#[inline(never)]
+fn refuse_second(input: &mut Input<'_>) -> Result<()>
+    ensures shrinks { still (state input.new) ≤ still (state input.old) }
+    ensures passes { (v : Item) (z : State) → Stands v (state input.old) z → (state input.new ≡ z) × (result ≡ Err DuplicateMapKey) }
+{
+    input.pass();
+    Err(CoseError::DuplicateMapKey)
+}
+
+/// Reads a header into an empty one.
+///
+/// # Errors
+/// `OutOfMemory`, or the first fault found, from the first pair on.
 #[cycle(read)]
 pub(crate) fn fill_header(
     header: &mut Header,
     alloc: Global,
-    place: &mut Source<'_>,
+    input: &mut Input<'_>,
     layers: usize,
 ) -> Result<()>
-    ensures { Fills (layered_header layers) (source_item place.old) (header_seen header.new) result }
+    requires empty { header_seen header.old ≡ empty_header }
+    ensures shrinks { still (state input.new) ≤ still (state input.old) }
+    ensures fills { (v : Item) (z : State) → Stands v (state input.old) z → (state input.new ≡ z) × Fills (layered_header layers) v (header_seen header.new) result }
 {
-    let (read, counters) = fill_most(header, alloc, place);
-    if let Some(counters) = counters {
-        fill_counters(
-            &mut header.counter_signatures,
-            alloc,
-            counters,
-            place,
-            layers,
-        )?;
+    let mut pairs = input.enter_map()?;
+    let filled = fill_pairs(header, alloc, &mut pairs, input, layers);
+    pairs.finish(input);
+    filled
+}
+
+/// Reads the pairs of a map into an empty header.
+///
+/// # Errors
+/// `OutOfMemory`, or the fault of the first pair that has one.
+#[cycle(read)]
+fn fill_pairs(
+    header: &mut Header,
+    alloc: Global,
+    pairs: &mut InputPairs,
+    input: &mut Input<'_>,
+    layers: usize,
+) -> Result<()>
+    requires empty { header_seen header.old ≡ empty_header }
+    ensures shrinks { still (state input.new) ≤ still (state input.old) }
+    ensures fills { (all : Pairs) (z : State) → PairsWithin pairs.old all (state input.old) z
+        → ((left : Pairs) × PairsWithin pairs.new left (state input.new) z) × Fills (layered_header layers) (dict all) (header_seen header.new) result }
+{
+    if !fill_fields(header, alloc, pairs, input)? {
+        return Ok(());
     }
-    read
+    fill_counters(&mut header.counter_signatures, alloc, input, layers)?;
+    if fill_fields(header, alloc, pairs, input)? {
+        return refuse_second(input);
+    }
+    Ok(())
 }
 
 /// Reads the value of label 7 into an empty list: one counter signature, or several.
 ///
 /// # Errors
-/// Want of memory; `UnexpectedItem` where the item holds none; or the fault of the first that has one.
+/// `OutOfMemory`; `UnexpectedItem` where the item holds none; or the fault of the first that has one.
 #[cycle(read)]
-fn fill_counters<'a>(
+fn fill_counters(
     all: &mut Vec<CoseSignature>,
     alloc: Global,
-    source: Source<'a>,
-    place: &mut Source<'a>,
+    input: &mut Input<'_>,
     layers: usize,
 ) -> Result<()>
     requires empty { map signature_seen all.old.items ≡ [] }
-    ensures { Fills (one_or_many (any_number (layered_signature layers))) (source_item source.entry) (map signature_seen all.new.items) result }
+    ensures shrinks { still (state input.new) ≤ still (state input.old) }
+    ensures fills { (v : Item) (z : State) → Stands v (state input.old) z
+        → (state input.new ≡ z) × Fills (one_or_many (any_number (layered_signature layers))) v (map signature_seen all.new.items) result }
 {
-    let mut signatures = source.into_one_or_more()?;
-    let read = fill_each(all, alloc, &mut signatures, place, layers);
-    let_go(signatures);
-    read
+    let (one, mut members) = input.enter_ones()?;
+    let filled = if one {
+        fill_one(all, alloc, &mut members, input, layers)
+    } else {
+        fill_each(all, alloc, &mut members, input, layers)
+    };
+    members.finish(input);
+    filled
+}
+
+/// Reads the array of one signature into an empty list.
+///
+/// # Errors
+/// The same as [`fill_places`].
+#[cycle(read)]
+fn fill_one(
+    all: &mut Vec<CoseSignature>,
+    alloc: Global,
+    members: &mut InputItems,
+    input: &mut Input<'_>,
+    layers: usize,
+) -> Result<()>
+    requires empty { map signature_seen all.old.items ≡ [] }
+    ensures shrinks { still (state input.new) ≤ still (state input.old) }
+    ensures fills { (vs : Items) (z : State) → AreWithin members.old vs (state input.old) z
+        → ((left : Items) × AreWithin members.new left (state input.new) z) × FillsEach (layered_signature layers) (item (array vs) no_items) (map signature_seen all.new.items) result }
+{
+    push_empty(alloc, all)?;
+    let last = all.len() - 1;
+    fill_places(&mut all[last], alloc, members, input, layers)
 }
 
 /// Reads each of some signatures into an empty list.
 ///
 /// # Errors
-/// Want of memory, or the fault of the first that has one.
+/// `OutOfMemory`, or the fault of the first that has one.
 #[cycle(read)]
-fn fill_each<'a>(
+fn fill_each(
     all: &mut Vec<CoseSignature>,
     alloc: Global,
-    signatures: &mut OneOrMore<'a>,
-    place: &mut Source<'a>,
+    members: &mut InputItems,
+    input: &mut Input<'_>,
     layers: usize,
 ) -> Result<()>
     requires empty { map signature_seen all.old.items ≡ [] }
-    ensures { FillsEach (layered_signature layers) (ones_left signatures.old) (map signature_seen all.new.items) result }
+    ensures shrinks { still (state input.new) ≤ still (state input.old) }
+    ensures fills { (vs : Items) (z : State) → AreWithin members.old vs (state input.old) z
+        → ((left : Items) × AreWithin members.new left (state input.new) z) × FillsEach (layered_signature layers) vs (map signature_seen all.new.items) result }
 {
-    while next_signature(alloc, all, signatures, place)? {
+    while next_signature(alloc, all, members, input)? {
         let last = all.len() - 1;
-        fill_signature(&mut all[last], alloc, place, layers)?;
+        fill_signature(&mut all[last], alloc, input, layers)?;
     }
     Ok(())
 }
 
-/// Reads a signature into one that holds nothing, its places from the last to the first.
+/// Reads a signature into one that holds nothing.
 ///
 /// # Errors
-/// Want of memory; `UnexpectedItem` where the item isn't an array of three; or the fault of the last place that has one.
+/// `UnexpectedItem`: the item is no array; or the same as [`fill_places`].
 #[cycle(read)]
 pub(crate) fn fill_signature(
     signed: &mut CoseSignature,
     alloc: Global,
-    place: &mut Source<'_>,
+    input: &mut Input<'_>,
     layers: usize,
 ) -> Result<()>
-    requires protected { (signature_seen signed.old).protected.header ≡ empty_header }
-    ensures { Fills (layered_signature layers) (source_item place.old) (signature_seen signed.new) result }
+    requires empty { signature_seen signed.old ≡ empty_signature }
+    ensures shrinks { still (state input.new) ≤ still (state input.old) }
+    ensures strictly { OnOk result (GoesBehind (state input.old) (state input.new)) }
+    ensures fills { (v : Item) (z : State) → Stands v (state input.old) z → (state input.new ≡ z) × Fills (layered_signature layers) v (signature_seen signed.new) result }
 {
-    let protected = split_signature(&mut signed.signature, alloc, place)?;
-    match fill_header(&mut signed.unprotected, alloc, place, layers) {
-        Ok(()) => fill_protected(&mut signed.protected, alloc, protected, layers),
-        Err(error) => refuse(protected, error),
-    }
+    let mut members = input.enter_array("array")?;
+    let filled = fill_places(signed, alloc, &mut members, input, layers);
+    members.finish(input);
+    filled
+}
+
+/// Reads the places of a signature's array into one that holds nothing. They are read from the first on, and judged from
+/// the last on.
+///
+/// # Errors
+/// `OutOfMemory`; `UnexpectedItem` where they are not three; or the fault of the last place that has one.
+#[cycle(read)]
+fn fill_places(
+    signed: &mut CoseSignature,
+    alloc: Global,
+    members: &mut InputItems,
+    input: &mut Input<'_>,
+    layers: usize,
+) -> Result<()>
+    requires empty { signature_seen signed.old ≡ empty_signature }
+    ensures shrinks { still (state input.new) ≤ still (state input.old) }
+    ensures fills { (vs : Items) (z : State) → AreWithin members.old vs (state input.old) z
+        → ((left : Items) × AreWithin members.new left (state input.new) z) × Fills (layered_signature layers) (array vs) (signature_seen signed.new) result }
+{
+    let protected = begin_places(members, input)?;
+    let unprotected = fill_header(&mut signed.unprotected, alloc, input, layers);
+    end_places(&mut signed.signature, alloc, members, input)?;
+    unprotected?;
+    fill_protected(&mut signed.protected, alloc, protected, layers)
 }
 
 /// Reads a protected header into an empty one, and keeps the bytes that held it.
 ///
 /// # Errors
-/// Want of memory, or the first fault found: the item is no byte string (`UnexpectedItem`); it is one layer too many
+/// `OutOfMemory`, or the first fault found: the item is no byte string (`UnexpectedItem`); it is one layer too many
 /// (`DecodeFailed`); or of what it holds.
 #[cycle(read)]
 #[inline(never)]
@@ -232,7 +330,7 @@ pub(crate) fn fill_protected(
 /// Reads the header that the content of a byte string is: none is the empty one.
 ///
 /// # Errors
-/// Want of memory, or the first fault found: the content isn't an item within 256 levels (`DecodeFailed`), others follow
+/// `OutOfMemory`, or the first fault found: the content isn't an item within 256 levels (`DecodeFailed`), others follow
 /// that (`ExtraneousData`), or it isn't a header.
 #[cycle(read)]
 fn fill_content(header: &mut Header, alloc: Global, content: &[u8], layers: usize) -> Result<()>
@@ -242,8 +340,9 @@ fn fill_content(header: &mut Header, alloc: Global, content: &[u8], layers: usiz
     if content.is_empty() {
         return Ok(());
     }
-    let mut source = Source::Lent(whole(content)?);
-    fill_header(header, alloc, &mut source, layers)
+    whole(content)?;
+    let mut input = Input::of_bytes(content);
+    fill_header(header, alloc, &mut input, layers)
 }
 
 /// A header.
@@ -251,8 +350,8 @@ pub(crate) fn read_header(alloc: Global, source: Source<'_>) -> Result<Header>
     ensures { Reads header_shape header_seen (source_item source.entry) result }
 {
     let mut header = Header::new(alloc);
-    let mut source = source;
-    fill_header(&mut header, alloc, &mut source, LAYERS)?;
+    let mut input = Input::new(source);
+    fill_header(&mut header, alloc, &mut input, LAYERS)?;
     Ok(header)
 }
 
@@ -261,8 +360,8 @@ pub(crate) fn read_signature(alloc: Global, source: Source<'_>) -> Result<CoseSi
     ensures { Reads signature_shape signature_seen (source_item source.entry) result }
 {
     let mut signed = CoseSignature::new(alloc);
-    let mut source = source;
-    fill_signature(&mut signed, alloc, &mut source, LAYERS)?;
+    let mut input = Input::new(source);
+    fill_signature(&mut signed, alloc, &mut input, LAYERS)?;
     Ok(signed)
 }
 

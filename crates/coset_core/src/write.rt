@@ -186,7 +186,7 @@ fn count(header: &Header) -> usize
 }
 
 /// Asks that no label of the rest stand twice.
-fn ask_distinct(alloc: Global, rest: &[(Label, Value)]) -> Result<()>
+pub(crate) fn ask_distinct(alloc: Global, rest: &[(Label, Value)]) -> Result<()>
     ensures ok { OnOk result (are_distinct same_name (keys_of (map entry_seen rest.now)) ≡ true) }
     ensures refused { IfErr result (λ e. Names e (λ f. (f ≡ DuplicateMapKey) × (are_distinct same_name (keys_of (map entry_seen rest.now)) ≡ false))) }
 {

@@ -1,6 +1,6 @@
 //! Settings: a map of labels.
 
-ghost use Rattle.std.specs.Prelude.{◌≡◌, ℤ, not, IfOk, IfErr, ⊤};
+ghost use Rattle.std.specs.Prelude.{◌≡◌, ℤ, not, IfOk, IfErr};
 ghost use Rattle.std.specs.Map.{keys_of};
 ghost use Rattle.coset_shape.specs.declared.error.CoseError.TheVariants.{OutOfMemory};
 ghost use Rattle.coset_shape.specs.Maps.{are_distinct};
@@ -64,7 +64,7 @@ struct SoFar {
     rest: Vec<(Name, Value)>,
 }
 
-impl<'a> Gather<Source<'a>> for SoFar {
+impl Gather for SoFar {
     ghost use Rattle.coset_sample.specs.Settings.{fields, names_laws, fields_laws};
     ghost use Rattle.std.specs.Prelude.{Option, List, ℕ};
 
@@ -78,15 +78,11 @@ impl<'a> Gather<Source<'a>> for SoFar {
 
     ghost seen = { so_far_seen };
 
-    ghost bars = { λ m x e. ⊥ };
-
-    ghost holds = { λ s. ⊤ };
-
     ghost lawful_names = { names_laws };
 
     ghost lawful_fields = { fields_laws };
 
-    fn add(&mut self, alloc: Global, key: Source<'a>, value: Source<'a>) -> Result<()> {
+    fn add(&mut self, alloc: Global, key: Source<'_>, value: Source<'_>) -> Result<()> {
         let label = key.into_int64("int")?;
         if label == 1 {
             if self.level.is_some() {

@@ -6,3 +6,4 @@ pub mod Pushing
 pub mod Distinct
 pub mod Encoding
 pub mod EncodingMaps
+pub mod Inputs

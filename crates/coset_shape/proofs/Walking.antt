@@ -5,7 +5,7 @@ use Rattle.coset_value.specs.Item.{Item, Pairs, no_pairs, pair}
 use Rattle.coset_value.specs.Parts.{as_map}
 use Rattle.coset_shape.specs.declared.error.CoseError.{CoseError}
 use Rattle.coset_shape.specs.declared.error.CoseError.TheVariants.{DuplicateMapKey, OutOfMemory}
-use Rattle.coset_shape.specs.Maps.{Names, Fields, Bars, BarsKey, GatherFaults, Entries, SoFar, Walks, TakesKey, RefusesKey, MapFaults, Twice, and_pairs, with_pair, are_distinct, labelled}
+use Rattle.coset_shape.specs.Maps.{Names, Fields, Entries, SoFar, Walks, TakesKey, RefusesKey, MapFaults, Twice, and_pairs, with_pair, are_distinct, labelled}
 use Rattle.coset_shape.specs.MapLaws.{LawfulNames, LawfulFields, so_far_none, so_far_more, so_far_all, so_far_twice, refuses_fault, key_fault, distinct_tested, and_pairs-with, and_pairs-none}
 
 module _ {N A : Type 0} (n : Names N) (laws : LawfulNames N n) (fs : Fields N A) (fl : LawfulFields N A n fs) where
@@ -43,16 +43,11 @@ module _ {N A : Type 0} (n : Names N) (laws : LawfulNames N n) (fs : Fields N A)
 
   -- the error that is answered where a pair is refused: of that pair, or of a label that repeats before it
   pub first_stands :
-      (bars : Bars N A) (v : Item) (all old new : Pairs) (k w : Item) (x y : A × List (N × Item)) (e f : CoseError) → as_map v ≡ Some all → Walks N A n fs all x old → old ≡ pair k w new
-      → ((e ≡ OutOfMemory → ⊥) → RefusesKey n fs k w x e ⊎ BarsKey n bars k x e) → y ≡ x
-      → ((f ≡ e) × (e ≡ OutOfMemory → ⊥)) ⊎ ((f ≡ DuplicateMapKey) × (are_distinct n.same (keys_of y.1) ≡ false)) → GatherFaults n fs bars v f
-  first_stands bars v all old new k w x y e f m walk q r same (inl h) = subst (GatherFaults n fs bars v) (sym h.0) (stands (r h.1))
-    where
-      stands : RefusesKey n fs k w x e ⊎ BarsKey n bars k x e → GatherFaults n fs bars v e
-      stands (inl g) = inl (refuses v all old new k w x e m walk q g)
-      stands (inr g) = inr (all, m, record { key = k; value = w; left = new; before = x; walked = subst (Walks N A n fs all x) q walk; barred = g })
-  first_stands bars v all old new k w x y e f m walk q r same (inr h) =
-      subst (GatherFaults n fs bars v) (sym h.0) (inl (stumbles v all old x m walk (subst (λ z. are_distinct n.same (keys_of z.1) ≡ false) same h.1)))
+      (v : Item) (all old new : Pairs) (k w : Item) (x y : A × List (N × Item)) (e f : CoseError) → as_map v ≡ Some all → Walks N A n fs all x old → old ≡ pair k w new
+      → ((e ≡ OutOfMemory → ⊥) → RefusesKey n fs k w x e) → y ≡ x → ((f ≡ e) × (e ≡ OutOfMemory → ⊥)) ⊎ ((f ≡ DuplicateMapKey) × (are_distinct n.same (keys_of y.1) ≡ false)) → (labelled n fs).faults v f
+  first_stands v all old new k w x y e f m walk q r same (inl h) = subst ((labelled n fs).faults v) (sym h.0) (refuses v all old new k w x e m walk q (r h.1))
+  first_stands v all old new k w x y e f m walk q r same (inr h) =
+      subst ((labelled n fs).faults v) (sym h.0) (stumbles v all old x m walk (subst (λ z. are_distinct n.same (keys_of z.1) ≡ false) same h.1))
 
 -- what a test says of its negation
 pub not_true : (b c : Bool) → b ≡ not c → b ≡ true → c ≡ false

@@ -15,3 +15,4 @@ pub mod Sources
 pub mod OneOrMore
 pub mod Lists
 pub mod Encoding
+pub mod Inputs

@@ -1,28 +1,10 @@
--- One item, or several, of which an array consists.
-use Rattle.std.specs.Prelude.{◌≡◌, ◌⊎◌, ⊤, ℕ, List, Bool, true, false, codes, Some, None, Result, Ok, Err}
+-- Arrays that hold one or several.
+use Rattle.std.specs.Prelude.{◌≡◌, ⊤, ℕ, List, Bool, true, false, codes, Some, None, Result, Ok, Err}
 use Rattle.coset_value.specs.Item.{Item, array, Items, no_items, item}
 use Rattle.coset_value.specs.Parts.{as_bytes, as_array}
 use Rattle.coset_shape.specs.declared.error.CoseError.{CoseError}
-use Rattle.coset_shape.specs.declared.one_or_more.OneOrMore.{OneOrMore}
-use Rattle.coset_shape.specs.declared.one_or_more.OneOrMore.TheVariants.{One, More}
 use Rattle.coset_shape.specs.Errors.{IsUnexpected}
 use Rattle.coset_shape.specs.Kinds.{kind, Says}
-use Rattle.coset_shape.specs.Shape.{one_or_more}
-use Rattle.coset_shape.specs.Sources.{members_left, put_last}
-
--- those that are still to come
-abbrev pub ones_left : OneOrMore → Items
-ones_left (One o) = put_last o
-ones_left (More ms) = members_left ms
-
--- the item holds none; or it holds several, and the first of them is no array
-abbrev pub HoldsNoOnes : Item → Type 0
-HoldsNoOnes v = (one_or_more v ≡ None) ⊎ ((w : Item) × (ws : Items) × (one_or_more v ≡ Some (item w ws)) × (as_array w ≡ None))
-
--- one or several, of an item that holds them
-abbrev pub OnesOf : Item → Result OneOrMore CoseError → Type 0
-OnesOf v (Ok x) = one_or_more v ≡ Some (ones_left x)
-OnesOf v (Err e) = IsUnexpected e × HoldsNoOnes v
 
 -- the error's two texts, of the members of an array that doesn't begin with a byte string or an array
 abbrev pub SaysFirst : Items → CoseError → Type 0

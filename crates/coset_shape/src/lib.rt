@@ -5,10 +5,11 @@
 pub mod encode;
 pub mod encode_map;
 pub mod error;
+pub mod input;
 pub mod laws;
 pub mod list;
 pub mod map;
-pub mod one_or_more;
+mod one_or_more;
 mod places;
 mod repeats;
 pub mod source;

@@ -1,66 +1,27 @@
 //! Maps of labels, read pair by pair (RFC 8152, section 1.4).
 
-ghost use Rattle.std.specs.Prelude.{◌≡◌, codes, ◌⊎◌, ◌++◌, List, [], Bool, false, not, map, Some, None, option_map, IfOk, IfErr, MatchOption, OnOk, OnErr};
+ghost use Rattle.std.specs.Prelude.{◌≡◌, codes, ◌⊎◌, ◌++◌, List, [], Bool, false, not, map, Some, None, option_map, IfOk, IfErr, OnOk, OnErr};
 ghost use Rattle.std.specs.Map.{keys_of};
-ghost use Rattle.coset_value.specs.Item.{Item, Pairs, no_pairs, pair, dict};
+ghost use Rattle.coset_value.specs.Item.{Item, dict};
 ghost use Rattle.coset_value.specs.Parts.{as_map};
 ghost use Rattle.coset_value.specs.View.{view, pairs_view};
 ghost use Rattle.coset_shape.specs.declared.error.CoseError.TheVariants.{OutOfMemory, DuplicateMapKey};
 ghost use Rattle.coset_shape.specs.Answers.{Images};
 ghost use Rattle.coset_shape.specs.Errors.{Names as Tells};
-ghost use Rattle.coset_shape.specs.Kinds.{Asks, Says, kind};
-ghost use Rattle.coset_shape.specs.Maps.{Names, Fields, Bars, BarsKey, GatherFaults, Gathers, TakesKey, RefusesKey, are_distinct, labelled, named_image, put_fields, Appends};
+ghost use Rattle.coset_shape.specs.Kinds.{Says, kind};
+ghost use Rattle.coset_shape.specs.Maps.{Names, Fields, TakesKey, RefusesKey, are_distinct, labelled, named_image, put_fields, Appends};
 ghost use Rattle.coset_shape.specs.MapLaws.{LawfulNames, LawfulFields};
-ghost use Rattle.coset_shape.specs.Sources.{source_item, map_left};
+ghost use Rattle.coset_shape.specs.Sources.{source_item};
 
 use crate::error::{CoseError, Result};
-use crate::source::{MapPairs, Source};
+use crate::source::Source;
 use crate::traits::AsCborValue;
 use coset_cbor::value::Value;
 use std::alloc::Global;
 
-/// An item that is read once, and that maps of such items are read from. `Source` is the one that this library reads.
-pub trait Given: Sized {
-    /// The pairs of a map that are still to come.
-    type Left;
-
-    /// The item, and those pairs.
-    ghost item: { Self → Item };
-
-    ghost left: { Self.Left → Pairs };
-
-    /// The pairs of a map. It takes no memory.
-    ///
-    /// # Errors
-    /// `UnexpectedItem`: the item is no map.
-    fn into_left(self) -> Result<Self::Left>
-        ensures { Asks as_map left (codes "map") (item self) result };
-
-    /// The next key and its value, or `None` where no pair is left. It takes no memory.
-    fn next_pair(pairs: &mut Self::Left) -> Option<(Self, Self)>
-        ensures { MatchOption result ((left pairs.old ≡ no_pairs) × (left pairs.new ≡ no_pairs))
-            (λ x. left pairs.old ≡ pair (item x.0) (item x.1) (left pairs.new)) };
-}
-
-impl<'a> Given for Source<'a> {
-    type Left = MapPairs<'a>;
-
-    ghost item = { source_item };
-
-    ghost left = { map_left };
-
-    fn into_left(self) -> Result<MapPairs<'a>> {
-        self.into_pairs()
-    }
-
-    fn next_pair(pairs: &mut MapPairs<'a>) -> Option<(Source<'a>, Source<'a>)> {
-        pairs.next()
-    }
-}
-
 /// What the pairs of a map make that were read so far: the fields that some labels stand for, and all other pairs in
 /// order.
-pub trait Gather<S: Given>: Sized {
+pub trait Gather: Sized {
     /// What contracts see of a label, and of the fields.
     ghost Name: { Type 0 };
 
@@ -74,22 +35,15 @@ pub trait Gather<S: Given>: Sized {
     /// The fields, and the rest by label.
     ghost seen: { Self → Got × List (Name × Item) };
 
-    /// Why a label is refused for what was gathered before it, and what holds of all that is gathered.
-    ghost bars: { Bars Name Got };
-
-    ghost holds: { Self → Type 0 };
-
     /// Takes one more pair. Whether a label of the rest repeats isn't asked.
     ///
     /// # Errors
-    /// Want of memory; a fault of the key; `DuplicateMapKey` where a field has a value already; a fault of its value; or
-    /// why what was gathered bars it. What was gathered is then as before.
-    fn add(&mut self, alloc: Global, key: S, value: S) -> Result<()>
-        requires holds { holds self.old }
-        ensures takes { OnOk result (TakesKey names fields (S.item key) (S.item value) (seen self.old) (seen self.new)) }
-        ensures refused { IfErr result (λ e. Tells e (λ f. RefusesKey names fields (S.item key) (S.item value) (seen self.old) f ⊎ BarsKey names bars (S.item key) (seen self.old) f)) }
-        ensures kept { OnErr result (seen self.new ≡ seen self.old) }
-        ensures holds { holds self.new };
+    /// `OutOfMemory`; a fault of the key; `DuplicateMapKey` where a field has a value already; or a fault of its value.
+    /// What was gathered is then as before.
+    fn add(&mut self, alloc: Global, key: Source<'_>, value: Source<'_>) -> Result<()>
+        ensures takes { OnOk result (TakesKey names fields (source_item key.entry) (source_item value.entry) (seen self.old) (seen self.new)) }
+        ensures refused { IfErr result (λ e. Tells e (RefusesKey names fields (source_item key.entry) (source_item value.entry) (seen self.old))) }
+        ensures kept { OnErr result (seen self.new ≡ seen self.old) };
 
     /// Whether a label of the rest stands twice.
     ///
@@ -106,7 +60,7 @@ pub trait Gather<S: Given>: Sized {
 
 /// The error to answer after some pairs were taken and the next one refused: a label that repeats among those taken
 /// comes first.
-fn first_error<S: Given, G: Gather<S>>(alloc: Global, so_far: &G, error: CoseError) -> CoseError
+fn first_error<G: Gather>(alloc: Global, so_far: &G, error: CoseError) -> CoseError
     ensures { Tells result (λ e. ((e ≡ error) × (error ≡ OutOfMemory → ⊥))
         ⊎ ((e ≡ DuplicateMapKey) × (are_distinct G.names.same (keys_of (G.seen so_far.now).1) ≡ false))) }
 {
@@ -120,23 +74,17 @@ fn first_error<S: Given, G: Gather<S>>(alloc: Global, so_far: &G, error: CoseErr
 /// Reads a map into what gathers it, from the first pair on. Where a pair is at fault, those before it stay gathered.
 ///
 /// # Errors
-/// Want of memory; `UnexpectedItem` where the item is no map; or the fault of the first pair that has one: of its key,
-/// then a label that stood before, then of its value, then why those before bar it.
-pub fn read_map<S, G>(alloc: Global, source: S, so_far: &mut G) -> Result<()>
-where
-    S: Given<Left: Drop> + Drop,
-    G: Gather<S>,
+/// `OutOfMemory`; `UnexpectedItem` where the item is no map; or the fault of the first pair that has one: of its key, then
+/// a label that stood before, then of its value.
+pub fn read_map<G: Gather>(alloc: Global, source: Source<'_>, so_far: &mut G) -> Result<()>
     requires fields { G.fields.describes [] (G.seen so_far.old).0 }
     requires rest { (G.seen so_far.old).1 ≡ [] }
-    requires holds { G.holds so_far.old }
-    ensures read { OnOk result ((labelled G.names G.fields).describes (S.item source) (G.seen so_far.new)) }
-    ensures refused { IfErr result (λ e. Tells e (GatherFaults G.names G.fields G.bars (S.item source))) }
-    ensures says { IfErr result (λ e. as_map (S.item source) ≡ None → Says (kind (S.item source)) (codes "map") e) }
-    ensures gathers { Gathers G.names G.fields (S.item source) (G.seen so_far.old) (G.seen so_far.new) }
-    ensures holds { G.holds so_far.new }
+    ensures read { OnOk result ((labelled G.names G.fields).describes (source_item source.entry) (G.seen so_far.new)) }
+    ensures refused { IfErr result (λ e. Tells e ((labelled G.names G.fields).faults (source_item source.entry))) }
+    ensures says { IfErr result (λ e. as_map (source_item source.entry) ≡ None → Says (kind (source_item source.entry)) (codes "map") e) }
 {
-    let mut pairs = source.into_left()?;
-    while let Some((key, value)) = S::next_pair(&mut pairs) {
+    let mut pairs = source.into_pairs()?;
+    while let Some((key, value)) = pairs.next() {
         if let Err(error) = so_far.add(alloc, key, value) {
             return Err(first_error(alloc, so_far, error));
         }

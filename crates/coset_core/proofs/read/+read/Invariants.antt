@@ -1,35 +1,48 @@
-use Rattle.std.proofs.Common.{map, ◌+◌, ◌*◌, ◌≤◌}
-use Rattle.coset_value.specs.Item.{depth, items_count, items_depth}
-use Rattle.coset_shape.specs.Lists.{Continues}
-use Rattle.coset_shape.specs.OneOrMore.{ones_left}
-use Rattle.coset_shape.specs.Sources.{source_item}
-use Rattle.coset_core.specs.Headers.{SignatureSeen, layered_signature}
+use Rattle.std.proofs.Common.{ℕ, map, length, ◌+◌, ◌*◌, ◌≤◌}
+use Rattle.coset_value.specs.Item.{Items}
+use Rattle.coset_shape.specs.Inputs.{State, state, still, size, items_size, pairs_size, items_turns, AreWithin}
 use Rattle.coset_core.specs.Views.{signature_seen}
+use Rattle.coset_core.proofs.Reading.{Filled}
 use Rattle.coset_core.proofs.read.+read.Given as goal
 
+-- a layer counts more than the bytes of any content
+abbrev layer : ℕ
+layer = 1180591620717411303424
+
 abbrev pub decreases-fill_header : goal.decreases-fill_header
-decreases-fill_header l = 2000 * l.layers + 4 * depth (source_item l.place.now)
+decreases-fill_header l = layer * l.layers + 8 * size (state l.input.now) + 2
+
+abbrev pub decreases-fill_pairs : goal.decreases-fill_pairs
+decreases-fill_pairs l = layer * l.layers + 8 * pairs_size l.pairs.now (state l.input.now) + 4
 
 abbrev pub decreases-fill_counters : goal.decreases-fill_counters
-decreases-fill_counters l = 2000 * l.layers + 4 * depth (source_item l.source) + 3
+decreases-fill_counters l = layer * l.layers + 8 * size (state l.input.now) + 3
+
+abbrev pub decreases-fill_one : goal.decreases-fill_one
+decreases-fill_one l = layer * l.layers + 8 * items_size l.members.now (state l.input.now) + 8
 
 abbrev pub decreases-fill_each : goal.decreases-fill_each
-decreases-fill_each l = 2000 * l.layers + 4 * items_depth (ones_left l.signatures.now) + 2
+decreases-fill_each l = layer * l.layers + 8 * items_size l.members.now (state l.input.now) + 8
 
 abbrev pub decreases-fill_signature : goal.decreases-fill_signature
-decreases-fill_signature l = 2000 * l.layers + 4 * depth (source_item l.place.now) + 1
+decreases-fill_signature l = layer * l.layers + 8 * size (state l.input.now) + 6
+
+abbrev pub decreases-fill_places : goal.decreases-fill_places
+decreases-fill_places l = layer * l.layers + 8 * items_size l.members.now (state l.input.now) + 7
 
 abbrev pub decreases-fill_protected : goal.decreases-fill_protected
-decreases-fill_protected l = 2000 * l.layers + 4 * depth (source_item l.source)
+decreases-fill_protected l = layer * l.layers + 1
 
 abbrev pub decreases-fill_content : goal.decreases-fill_content
-decreases-fill_content l = 2000 * l.layers + 1100
+decreases-fill_content l = layer * l.layers + 8 * length l.content.now + 10
 
--- the signatures so far are those of the items so far, and the others are no deeper than all are
+-- the signatures so far are those of the items so far, and the others stand there
 abbrev pub invariant-fill_each-loop-all : goal.invariant-fill_each-loop-all
-invariant-fill_each-loop-all l =
-    Continues SignatureSeen (layered_signature l.layers).describes (layered_signature l.layers).faults (ones_left l.initial.signatures) (map signature_seen l.all.items) (ones_left l.signatures)
-    × (items_depth (ones_left l.signatures) ≤ items_depth (ones_left l.initial.signatures))
+invariant-fill_each-loop-all l = record {
+  shrinks : still (state l.input) ≤ still (state l.fn.input);
+  size : items_size l.members (state l.input) ≤ items_size l.fn.members (state l.fn.input);
+  fills : (vs : Items) (z : State) → AreWithin l.fn.members vs (state l.fn.input) z → Filled l.layers vs z l.members (state l.input) (map signature_seen l.all.items);
+}
 
 abbrev pub decreases-fill_each-loop-all : goal.decreases-fill_each-loop-all
-decreases-fill_each-loop-all l = items_count (ones_left l.signatures)
+decreases-fill_each-loop-all l = items_turns l.members (state l.input)

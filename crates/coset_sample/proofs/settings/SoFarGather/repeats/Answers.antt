@@ -3,7 +3,7 @@ use Rattle.std.specs.Ordering.{int_eq}
 use Rattle.coset_value.specs.View.{view}
 use Rattle.coset_shape.specs.RestLaws.{if_ok, repeats-seen}
 use Rattle.coset_sample.specs.Settings.{name_seen}
-use Rattle.coset_sample.proofs.settings.SoFarGatherSource.repeats.Goals as goal
+use Rattle.coset_sample.proofs.settings.SoFarGather.repeats.Goals as goal
 
 pub returns-clause-repeats : goal.returns-clause-repeats
 returns-clause-repeats c =

@@ -1,0 +1,47 @@
+-- Reading forward over bytes of which items are known to stand at the front (RFC 8949, section 3).
+use Rattle.std.specs.Prelude.{◌≡◌, ℕ, ◌+◌, ◌^◌, ◌<◌, List, ◌∷◌, Bool, true, false, Option, Some, None, Ok, option_map}
+use Rattle.coset_value.specs.Item.{Item, Items, no_items, item, items_count, Pairs, no_pairs, pair}
+use Rattle.coset_value.specs.Parts.{as_map}
+use Rattle.coset_cbor.specs.declared.cursor.Cursor.{Cursor}
+use Rattle.coset_cbor.specs.declared.cursor.Places.{Places}
+use Rattle.coset_cbor.specs.Reading.{item_at}
+
+-- the bytes that are still to come
+abbrev pub left : Cursor → List ℕ
+left c = c.rest.now
+
+-- an item within 256 levels stands at the front of s: v, and a follows it
+unfoldable pub Stands : Item → List ℕ → List ℕ → Type 0
+Stands v s a = item_at 256 s ≡ Ok (v, a)
+
+-- these stand there one after the other, and a follows them
+unfoldable pub AreAt : Items → List ℕ → List ℕ → Type 0
+AreAt no_items s a = s ≡ a
+AreAt (item v vs) s a = (mid : List ℕ) × Stands v s mid × AreAt vs mid a
+
+-- each key of a map and then its value
+abbrev pub flat : Pairs → Items
+flat no_pairs = no_items
+flat (pair k v ps) = item k (item v (flat ps))
+
+abbrev pub map_items : Item → Option Items
+map_items v = option_map flat (as_map v)
+
+-- vs are the items that an array or a map has still to give at s, and a follows it
+pub record AreWithin (p : Places) (vs : Items) (s a : List ℕ) : Type 0 where
+  pub definite : (n : ℕ) → p.left ≡ Some n → (n ≡ items_count vs) × AreAt vs s a
+  pub indefinite : p.left ≡ None → AreAt vs s (255 ∷ a)
+
+-- at t stand the items that the array or the map v gives
+abbrev pub Enters : (Item → Option Items) → Item → List ℕ → List ℕ → Places → Type 0
+Enters parts v t a p = (vs : Items) × (parts v ≡ Some vs) × AreWithin p vs t a
+
+-- one more stands at the front, or none is left
+abbrev pub Nexts : Items → List ℕ → List ℕ → Places → Bool → Type 0
+Nexts vs s a p true = (v : Item) × (others : Items) × (mid : List ℕ) × (vs ≡ item v others) × Stands v s mid × AreWithin p others mid a
+Nexts vs s a p false = (vs ≡ no_items) × AreWithin p no_items s a
+
+-- how many items as many pairs are, where that number fits
+abbrev pub Doubles : Option ℕ → Option ℕ → Type 0
+Doubles pairs None = pairs ≡ None
+Doubles pairs (Some n) = (m : ℕ) × (pairs ≡ Some m) × (m + m < 2 ^ 64 → n ≡ m + m)

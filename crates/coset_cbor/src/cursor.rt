@@ -1,0 +1,237 @@
+//! Reading forward: a place in bytes of which an item is known to stand at the front. Whoever reads that item leaves the
+//! place just behind it, so that nobody has to pass over it to find its end.
+
+ghost use Rattle.std.specs.Prelude.{◌≡◌, ◌≤◌, ◌<◌, [], List, ℕ, is_some, Some, length, IfOk, IfSome, IsOkAnd, IsTrue, OnOk, MatchOption};
+ghost use Rattle.coset_value.specs.Item.{Item, Items, no_items};
+ghost use Rattle.coset_value.specs.Parts.{as_array, as_bytes};
+ghost use Rattle.coset_cbor.specs.Cursors.{left, map_items, Stands, AreWithin, Doubles, Enters, Nexts};
+ghost use Rattle.coset_cbor.specs.Grammar.{IsItem};
+ghost use Rattle.coset_cbor.specs.Jumps.{item_kind};
+ghost use Rattle.coset_cbor.specs.Pulls.{pull_item};
+
+use crate::de::{EndOfFile, Error};
+use crate::head::{Kind, start_of};
+use crate::jump::jump;
+use crate::pull::Pull;
+use crate::string::after_break;
+
+/// A place in bytes.
+#[derive(Clone, Copy, Debug)]
+pub struct Cursor<'a> {
+    rest: &'a [u8],
+}
+
+/// The items that an array or a map has still to give, of a map each key and then its value: how many, or those up to
+/// the break.
+#[derive(Clone, Copy, Debug)]
+pub struct Places {
+    left: Option<u64>,
+}
+
+/// What follows the item that is known to stand at the front.
+fn past(bytes: &[u8]) -> &[u8]
+    ensures { (v : Item) (a : List ℕ) → Stands v bytes.now a → (result.now ≡ a) × (length a < length bytes.now) }
+{
+    match jump(bytes) {
+        Some(rest) => rest,
+        None => match Pull::new(bytes) {
+            Ok((_, rest)) => rest,
+            Err(_) => bytes,
+        },
+    }
+}
+
+/// The item that is known to stand at the front, lent, and what follows it.
+fn front(bytes: &[u8]) -> Result<(Pull<'_>, &[u8]), Error<EndOfFile>>
+    ensures strictly { IfOk result (λ x. length x.1.now < length bytes.now) }
+    ensures stands { (v : Item) (a : List ℕ) → Stands v bytes.now a → IsOkAnd result (λ x. (pull_item x.0 ≡ v) × (x.1.now ≡ a)) }
+{
+    match Pull::new(bytes) {
+        Ok((pull, rest)) => Ok((pull, rest)),
+        Err(error) => Err(error),
+    }
+}
+
+/// Where the members of the array begin that stands at the front; `None` of another item.
+fn array_item(bytes: &[u8]) -> Option<(Places, &[u8])>
+    ensures strictly { IfSome result (λ x. length x.1.now < length bytes.now) }
+    ensures enters { (v : Item) (a : List ℕ) → Stands v bytes.now a → MatchOption result (as_array v ≡ None) (λ x. Enters as_array v x.1.now a x.0) }
+{
+    match start_of(bytes) {
+        Ok((start, rest)) => match start.kind {
+            Kind::Array => {
+                let left = start.number();
+                Some((Places { left }, rest))
+            }
+            _ => None,
+        },
+        Err(_) => None,
+    }
+}
+
+/// The major type of the item that is known to stand at the front.
+fn kind_of(bytes: &[u8]) -> Option<Kind>
+    ensures { (v : Item) (a : List ℕ) → Stands v bytes.now a → result ≡ Some (item_kind v) }
+{
+    match start_of(bytes) {
+        Ok((start, _)) => Some(start.kind),
+        Err(_) => None,
+    }
+}
+
+/// How many items as many pairs are.
+fn doubled(pairs: Option<u64>) -> Option<u64>
+    ensures { Doubles pairs result }
+{
+    match pairs {
+        Some(pairs) => Some(pairs.saturating_add(pairs)),
+        None => None,
+    }
+}
+
+/// Where the keys and values of the map begin that stands at the front; `None` of another item.
+fn map_item(bytes: &[u8]) -> Option<(Places, &[u8])>
+    ensures strictly { IfSome result (λ x. length x.1.now < length bytes.now) }
+    ensures enters { (v : Item) (a : List ℕ) → Stands v bytes.now a → MatchOption result (map_items v ≡ None) (λ x. Enters map_items v x.1.now a x.0) }
+{
+    match start_of(bytes) {
+        Ok((start, rest)) => match start.kind {
+            Kind::Map => {
+                let left = doubled(start.number());
+                Some((Places { left }, rest))
+            }
+            _ => None,
+        },
+        Err(_) => None,
+    }
+}
+
+impl<'a> Cursor<'a> {
+    /// The front of the bytes.
+    pub fn new(bytes: &'a [u8]) -> Cursor<'a>
+        ensures left { left result ≡ bytes.now }
+        ensures whole { (v : Item) → IsItem bytes.now v → Stands v (left result) [] }
+    {
+        Cursor { rest: bytes }
+    }
+
+    /// Whether the item is a byte string, by its head alone.
+    pub fn is_bytes(&self) -> bool
+        ensures { (v : Item) (a : List ℕ) → Stands v (left self.now) a → result ≡ is_some (as_bytes v) }
+    {
+        kind_of(self.rest) == Some(Kind::Bytes)
+    }
+
+    /// Whether the item is an array, by its head alone.
+    pub fn is_array(&self) -> bool
+        ensures { (v : Item) (a : List ℕ) → Stands v (left self.now) a → result ≡ is_some (as_array v) }
+    {
+        kind_of(self.rest) == Some(Kind::Array)
+    }
+
+    /// Goes there, if that is farther on.
+    fn go(&mut self, rest: &'a [u8])
+        ensures shrinks { length (left self.new) ≤ length (left self.old) }
+        ensures there { length rest.now < length (left self.old) → left self.new ≡ rest.now }
+    {
+        if rest.len() < self.rest.len() {
+            self.rest = rest;
+        }
+    }
+
+    /// Passes the item. It takes no memory.
+    pub fn pass(&mut self)
+        ensures shrinks { length (left self.new) ≤ length (left self.old) }
+        ensures passes { (v : Item) (a : List ℕ) → Stands v (left self.old) a → (left self.new ≡ a) × (length a < length (left self.old)) }
+    {
+        self.go(past(self.rest));
+    }
+
+    /// The item, lent, and goes behind it. It takes no memory.
+    ///
+    /// # Errors
+    /// The same as [`check`](crate::de::check), where no item stands there; the place is then as before.
+    pub fn take(&mut self) -> Result<Pull<'a>, Error<EndOfFile>>
+        ensures shrinks { length (left self.new) ≤ length (left self.old) }
+        ensures strictly { OnOk result (length (left self.new) < length (left self.old)) }
+        ensures passes { (v : Item) (a : List ℕ) → Stands v (left self.old) a → (left self.new ≡ a) × IsOkAnd result (λ p. pull_item p ≡ v) }
+    {
+        let (pull, rest) = front(self.rest)?;
+        self.rest = rest;
+        Ok(pull)
+    }
+
+    /// Goes to the first member of an array; at another item it stays.
+    pub fn array(&mut self) -> Option<Places>
+        ensures shrinks { length (left self.new) ≤ length (left self.old) }
+        ensures strictly { IfSome result (λ _. length (left self.new) < length (left self.old)) }
+        ensures enters { (v : Item) (a : List ℕ) → Stands v (left self.old) a
+            → MatchOption result ((left self.new ≡ left self.old) × (as_array v ≡ None)) (λ p. Enters as_array v (left self.new) a p) }
+    {
+        let (places, rest) = array_item(self.rest)?;
+        self.rest = rest;
+        Some(places)
+    }
+
+    /// Goes to the first key of a map; at another item it stays.
+    pub fn map(&mut self) -> Option<Places>
+        ensures shrinks { length (left self.new) ≤ length (left self.old) }
+        ensures strictly { IfSome result (λ _. length (left self.new) < length (left self.old)) }
+        ensures enters { (v : Item) (a : List ℕ) → Stands v (left self.old) a
+            → MatchOption result ((left self.new ≡ left self.old) × (map_items v ≡ None)) (λ p. Enters map_items v (left self.new) a p) }
+    {
+        let (places, rest) = map_item(self.rest)?;
+        self.rest = rest;
+        Some(places)
+    }
+
+    /// Passes the break, where no length was announced.
+    fn close(&mut self, places: Places)
+        ensures shrinks { length (left self.new) ≤ length (left self.old) }
+        ensures passes { (a : List ℕ) → AreWithin places no_items (left self.old) a → left self.new ≡ a }
+    {
+        match places.left {
+            Some(_) => {}
+            None => {
+                if let Some(rest) = after_break(self.rest) {
+                    self.rest = rest;
+                }
+            }
+        }
+    }
+}
+
+impl Places {
+    /// Whether one more item stands at the place, which is to be read next.
+    pub fn next(&mut self, cursor: &Cursor<'_>) -> bool
+        ensures { (vs : Items) (a : List ℕ) → AreWithin self.old vs (left cursor.now) a → Nexts vs (left cursor.now) a self.new result }
+    {
+        match self.left {
+            Some(0) => false,
+            Some(n) => {
+                self.left = Some(n - 1);
+                true
+            }
+            None => match after_break(cursor.rest) {
+                Some(_) => false,
+                None => true,
+            },
+        }
+    }
+
+    /// Passes the items that are left, and the break.
+    pub fn finish(self, cursor: &mut Cursor<'_>)
+        ensures shrinks { length (left cursor.new) ≤ length (left cursor.old) }
+        ensures passes { (vs : Items) (a : List ℕ) → AreWithin self vs (left cursor.old) a → left cursor.new ≡ a }
+    {
+        let mut places = self;
+        for _ in 0..cursor.rest.len() {
+            if !places.next(cursor) {
+                cursor.close(places);
+                return;
+            }
+            cursor.pass();
+        }
+        cursor.close(places);
+    }
+}

@@ -1,0 +1,254 @@
+-- Headers and signatures read forward, from what their parts answer.
+use Rattle.std.proofs.Common.{◌≡◌, ℕ, List, [], ◌∷◌, ◌++◌, map, true, false, Option, Some, None, Result, Ok, Err, refl, sym, ap, subst, ◌∙◌, inl, inr}
+use Rattle.std.specs.Prelude.{pos, IsErrAnd}
+use Rattle.coset_value.specs.Item.{Item, bytes, array, dict, Items, no_items, item, Pairs, no_pairs, pair}
+use Rattle.coset_value.specs.Parts.{as_array, as_bytes, as_map}
+use Rattle.coset_shape.specs.declared.error.CoseError.{CoseError}
+use Rattle.coset_shape.specs.declared.error.CoseError.TheVariants.{DuplicateMapKey}
+use Rattle.coset_shape.specs.declared.input.InputItems.{InputItems}
+use Rattle.coset_shape.specs.declared.input.InputPairs.{InputPairs}
+use Rattle.coset_shape.specs.declared.source.Source.{Source}
+use Rattle.coset_shape.specs.Errors.{Names, IsUnexpected}
+use Rattle.coset_shape.specs.Inputs.{State, Stands, AreWithin, PairsWithin, EntersMap}
+use Rattle.coset_shape.specs.Maps.{GatherFaults, labelled, SomePair, and_pairs, optional}
+use Rattle.coset_shape.specs.OneOrMore.{Begins}
+use Rattle.coset_shape.specs.Shape.{Shape, EachFaults, any, any_number, one_or_more, one_or_many}
+use Rattle.coset_shape.specs.Sources.{source_item}
+use Rattle.coset_shape.proofs.Lists.{goes_on as one_more}
+use Rattle.coset_shape.proofs.Walking.{sets_out, goes_on, arrives, refuses}
+use Rattle.coset_label.specs.Labels.{label}
+use Rattle.coset_label.specs.Names.{number}
+use Rattle.coset_core.specs.Contents.{Fills, FillsEach}
+use Rattle.coset_core.specs.Fields.{FieldsSeen, empty_fields, names, fields, parts_of, bars, HasOneIv, unread, SomeCounters}
+use Rattle.coset_core.specs.FieldLaws.{names_laws, unread_fields_laws, barred_fault}
+use Rattle.coset_core.specs.FieldsView.{fields_seen, counters_held}
+use Rattle.coset_core.specs.Filling.{WalksTo, AtSeven, AtEnd, FillsFields, IsDistinctRest, BeginsPlaces, EndsPlaces, BeginsNext}
+use Rattle.coset_core.specs.HeaderReads.{unread_fault, counters_fault}
+use Rattle.coset_core.specs.Headers.{HeaderSeen, SignatureSeen, empty_header, signatures_of, with_counters, layered_header, layered_protected, layered_signature}
+use Rattle.coset_core.specs.ViewLaws.{header-opened}
+use Rattle.coset_core.specs.Views.{header_seen, signature_seen}
+use Rattle.coset_core.specs.declared.header.Header.{Header}
+use Rattle.coset_core.specs.declared.signature.CoseSignature.{CoseSignature}
+use Rattle.coset_core.proofs.Putting.{none_held}
+use Rattle.coset_core.proofs.Reading.{Filled, not_filled, counters_there, counters_missing}
+
+-- ---- a header's map
+
+-- an item that is no map
+no_map : (v : Item) (e : CoseError) → as_map v ≡ None → IsUnexpected e → unread.faults v e
+unfolding unread
+no_map v e m u = inl (inl (m, u))
+
+pub not_entered :
+    (k : ℕ) (v : Item) (h : HeaderSeen) (t z : State) (r : Result (Unit {0}) CoseError) (e : CoseError) → IsErrAnd r (λ f. f ≡ e) → EntersMap v t z (Err e) → (t ≡ z) × Fills (layered_header k) v h r
+not_entered k v h t z r e is m = (m.0, not_filled (layered_header k) h v r e is (λ _. unread_fault k v e (no_map v e m.1 m.2)))
+
+-- an empty header, of whose pairs none was read
+fields_opened : (h : Header) → header_seen h ≡ empty_header → fields_seen h ≡ empty_fields
+fields_opened h e = sym (ap (λ x. x.fields) (header-opened h)) ∙ ap (λ x. x.fields) e
+
+pub none_held_yet : (h : Header) → header_seen h ≡ empty_header → counters_held h ≡ []
+none_held_yet h e = none_held (counters_held h) (sym (ap (λ x. x.counter_signatures) (header-opened h)) ∙ ap (λ x. x.counter_signatures) e)
+
+pub one_iv_yet : (h : Header) → header_seen h ≡ empty_header → HasOneIv (fields_seen h)
+one_iv_yet h e = inl (ap (λ f. f.iv) (fields_opened h e))
+
+pub set_out : (h : Header) (all : Pairs) → header_seen h ≡ empty_header → WalksTo all (fields_seen h) None all
+set_out h all e =
+    subst (λ f. WalksTo all f None all) (sym (fields_opened h e))
+    (sets_out names names_laws (fields (optional any)) unread_fields_laws all (parts_of (empty_fields, None)) (refl, (refl, (refl, (refl, (refl, (refl, (refl, tt))))))) refl)
+
+-- a fault of the pairs
+gather_fault : (v : Item) (e : CoseError) → GatherFaults names (fields (optional any)) bars v e → unread.faults v e
+unfolding unread
+gather_fault v e (inl g) = inl g
+gather_fault v e (inr g) = barred_fault v e g
+
+pub pairs_refused :
+    (k : ℕ) (all : Pairs) (o : Option Item) (z : State) (f : FieldsSeen) (t : State) (m : InputPairs) (h : HeaderSeen) (r : Result (Unit {0}) CoseError) (e : CoseError) → IsErrAnd r (λ i. i ≡ e)
+    → FillsFields all o z f t m (Err e) → ((left : Pairs) × PairsWithin m left t z) × Fills (layered_header k) (dict all) h r
+pairs_refused k all o z f t m h r e is p = ((p.0, p.1), not_filled (layered_header k) h (dict all) r e is (λ n. unread_fault k (dict all) e (gather_fault (dict all) e (p.2 n))))
+
+-- all pairs were read
+unread_all : (all : Pairs) (o : Option Item) (f : FieldsSeen) (t z : State) (m : InputPairs) → AtEnd all o f t z m → IsDistinctRest f → HasOneIv f → unread.describes (dict all) (f, o)
+unfolding unread
+unread_all all o f t z m p d one = (arrives names names_laws (fields (optional any)) unread_fields_laws (dict all) all no_pairs (parts_of (f, o)) refl p.walks refl d, one)
+
+abbrev pub Passed : InputPairs → State → State → Type 0
+Passed m t z = (left : Pairs) × PairsWithin m left t z
+
+pub ends_plain :
+    (k : ℕ) (all : Pairs) (z : State) (h : Header) (t : State) (m : InputPairs) → FillsFields all None z (fields_seen h) t m (Ok false) → HasOneIv (fields_seen h) → counters_held h ≡ []
+    → Passed m t z × (layered_header k).describes (dict all) (header_seen h)
+ends_plain k all z h t m p one none = (
+  (no_pairs, p.0.within),
+  counters_missing k (dict all) (header_seen h) None
+      (subst (λ f. unread.describes (dict all) (f, None)) (sym (ap (λ x. x.fields) (header-opened h))) (unread_all all None (fields_seen h) t z m p.0 p.1 one)) refl
+      (ap (λ x. x.counter_signatures) (header-opened h) ∙ ap (λ xs. signatures_of (map signature_seen xs)) none),
+)
+
+-- one of some pairs
+some_there : (P : Item → Item → Type 0) (done others : Pairs) (k v : Item) → P k v → SomePair P (and_pairs done (pair k v others))
+some_there P no_pairs others k v p = inl p
+some_there P (pair j w done) others k v p = inr (some_there P done others k v p)
+
+seven_there : (all : Pairs) (o : Option Item) (f : FieldsSeen) (t z : State) (m : InputPairs) → (s : AtSeven all o f t z m) → SomeCounters (λ u. u ≡ s.value) (dict all)
+seven_there all o f t z m s =
+    (all, refl, subst (SomePair (λ j w. label.describes j (number (pos 7)) × (w ≡ s.value))) (sym s.walks.parts) (some_there (λ j w. label.describes j (number (pos 7)) × (w ≡ s.value)) s.walks.done s.others s.key s.value (s.seven, refl)))
+
+-- the value of label 7 was refused
+pub counters_refused :
+    (k : ℕ) (all : Pairs) (o : Option Item) (f : FieldsSeen) (t u z : State) (m : InputPairs) (xs : List SignatureSeen) (h : HeaderSeen) (r : Result (Unit {0}) CoseError) (e : CoseError) → IsErrAnd r (λ i. i ≡ e)
+    → AtSeven all o f t z m → ((w : Item) (y : State) → Stands w t y → (u ≡ y) × Fills (one_or_many (any_number (layered_signature k))) w xs (Err e)) → Passed m u z × Fills (layered_header k) (dict all) h r
+counters_refused k all o f t u z m xs h r e is s read =
+    let here = read s.value s.mid s.stands in (
+      (s.others, subst (λ y. PairsWithin m s.others y z) (sym here.0) s.within),
+      not_filled (layered_header k) h (dict all) r e is (λ n. counters_fault k (dict all) s.value e (seven_there all o f t z m s) (here.1 n)),
+    )
+
+-- the value of label 7 was read
+pub record Goes (k : ℕ) (all : Pairs) (f : FieldsSeen) (u z : State) (m : InputPairs) (xs : List SignatureSeen) : Type 0 where
+  pub value : Item
+  pub others : Pairs
+  pub walks : WalksTo all f (Some value) others
+  pub within : PairsWithin m others u z
+  pub signatures : (one_or_many (any_number (layered_signature k))).describes value xs
+
+pub counters_filled :
+    (k : ℕ) (all : Pairs) (f g : FieldsSeen) (t u z : State) (m : InputPairs) (xs : List SignatureSeen) → g ≡ f → AtSeven all None f t z m
+    → ((w : Item) (y : State) → Stands w t y → (u ≡ y) × (one_or_many (any_number (layered_signature k))).describes w xs) → Goes k all g u z m xs
+counters_filled k all f g t u z m xs same s read =
+    let here = read s.value s.mid s.stands in
+    record {
+      value = s.value;
+      others = s.others;
+      walks = subst (λ x. WalksTo all x (Some s.value) s.others) (sym same)
+          (goes_on names names_laws (fields (optional any)) unread_fields_laws all (pair s.key s.value s.others) s.others s.key s.value (parts_of (f, None)) (parts_of (f, Some s.value)) s.walks refl
+          (number (pos 7), s.seven, ((refl, (refl, (refl, (refl, (refl, (refl, (refl, refl, refl))))))), refl)));
+      within = subst (λ y. PairsWithin m s.others y z) (sym here.0) s.within;
+      signatures = here.1;
+    }
+
+-- label 7 twice
+pub second_refused :
+    (k : ℕ) (all : Pairs) (w : Item) (f : FieldsSeen) (t u z : State) (m : InputPairs) (h : HeaderSeen) (r : Result (Unit {0}) CoseError) → AtSeven all (Some w) f t z m
+    → ((x : Item) (y : State) → Stands x t y → (u ≡ y) × (r ≡ Err DuplicateMapKey)) → Passed m u z × Fills (layered_header k) (dict all) h r
+second_refused k all w f t u z m h r s read =
+    let here = read s.value s.mid s.stands in (
+      (s.others, subst (λ y. PairsWithin m s.others y z) (sym here.0) s.within),
+      subst (Fills (layered_header k) (dict all) h) (sym here.1) (λ _. unread_fault k (dict all) DuplicateMapKey (gather_fault (dict all) DuplicateMapKey (inl fault))),
+    )
+  where
+    fault : (labelled names (fields (optional any))).faults (dict all) DuplicateMapKey
+    fault =
+        refuses names names_laws (fields (optional any)) unread_fields_laws (dict all) all (pair s.key s.value s.others) s.others s.key s.value (parts_of (f, Some w)) DuplicateMapKey refl s.walks refl
+        (inr (number (pos 7), s.seven, inl ((λ e. absurd cc), refl)))
+
+pub ends_with_counters :
+    (k : ℕ) (all : Pairs) (z : State) (h : Header) (t u : State) (m n : InputPairs) (f : FieldsSeen) (xs : List CoseSignature) → (g : Goes k all f u z m (map signature_seen xs)) → FillsFields all (Some g.value) z (fields_seen h) t n (Ok false)
+    → HasOneIv (fields_seen h) → counters_held h ≡ xs → Passed n t z × (layered_header k).describes (dict all) (header_seen h)
+ends_with_counters k all z h t u m n f xs g p one held = (
+  (no_pairs, p.0.within),
+  counters_there k (dict all) (header_seen h) (Some g.value) g.value (fields_seen h) (map signature_seen xs) (unread_all all (Some g.value) (fields_seen h) t z n p.0 p.1 one) refl g.signatures
+      (header-opened h ∙ ap (λ ys. with_counters (fields_seen h) (signatures_of (map signature_seen ys))) held),
+)
+
+-- ---- one, or several
+
+array_is : (v : Item) (vs : Items) → as_array v ≡ Some vs → v ≡ array vs
+array_is (array ws) vs e = ap array (some_is ws vs e)
+  where
+    some_is : (xs ys : Items) → ◌≡◌ {A = Option Items} (Some xs) (Some ys) → xs ≡ ys
+    some_is xs ys h = cc
+array_is _ vs e = absurd (cc)
+
+ones_of : {A : Type 0} (s : Shape A) (v : Item) (vs : Items) (xs : List A) (r : Result (Unit {0}) CoseError) → one_or_more v ≡ Some vs → FillsEach s vs xs r → Fills (one_or_many (any_number s)) v xs r
+ones_of s v vs xs (Ok u) e p = (vs, e, p)
+ones_of s v vs xs (Err i) e p = λ n. inr (vs, e, inr (p n))
+
+begins_one : (vs : Items) → Begins vs true → one_or_more (array vs) ≡ Some (item (array vs) no_items)
+begins_one no_items b = absurd b
+begins_one (item (bytes s) vs) b = refl
+begins_one (item _ vs) b = absurd (cc)
+
+begins_more : (vs : Items) → Begins vs false → one_or_more (array vs) ≡ Some vs
+begins_more no_items b = absurd b
+begins_more (item (array ws) vs) b = refl
+begins_more (item _ vs) b = absurd (cc)
+
+pub one_filled :
+    {A : Type 0} (s : Shape A) (v : Item) (vs : Items) (xs : List A) (r : Result (Unit {0}) CoseError) → as_array v ≡ Some vs → Begins vs true → FillsEach s (item (array vs) no_items) xs r
+    → Fills (one_or_many (any_number s)) v xs r
+one_filled s v vs xs r e b p = ones_of s v (item (array vs) no_items) xs r (ap one_or_more (array_is v vs e) ∙ begins_one vs b) p
+
+pub more_filled :
+    {A : Type 0} (s : Shape A) (v : Item) (vs : Items) (xs : List A) (r : Result (Unit {0}) CoseError) → as_array v ≡ Some vs → Begins vs false → FillsEach s vs xs r → Fills (one_or_many (any_number s)) v xs r
+more_filled s v vs xs r e b p = ones_of s v vs xs r (ap one_or_more (array_is v vs e) ∙ begins_more vs b) p
+
+-- ---- each of some signatures
+
+-- one more was read
+pub one_filled_more :
+    (k : ℕ) (vs : Items) (s t u z : State) (m n : InputItems) (xs ys : List SignatureSeen) (x : SignatureSeen) → (p : Filled k vs z m s xs) → BeginsNext p.others t z n (Ok true)
+    → ((v : Item) (y : State) → Stands v t y → (u ≡ y) × (layered_signature k).describes v x) → ys ≡ xs ++ x ∷ [] → Filled k vs z n u ys
+one_filled_more k vs s t u z m n xs ys x p b read e =
+    let here = read b.0 b.2 b.4 in
+    record {
+      others = b.1;
+      continues = one_more (layered_signature k) vs p.others b.1 b.0 x xs ys p.continues b.3 here.1 e;
+      within = subst (λ y. AreWithin n b.1 y z) (sym here.0) b.5;
+    }
+
+pub one_refused_more :
+    (k : ℕ) (vs : Items) (s t u z : State) (m n : InputItems) (xs ys : List SignatureSeen) (x : SignatureSeen) (r : Result (Unit {0}) CoseError) (e : CoseError) → IsErrAnd r (λ i. i ≡ e) → (p : Filled k vs z m s xs)
+    → BeginsNext p.others t z n (Ok true) → ((v : Item) (y : State) → Stands v t y → (u ≡ y) × Names e ((layered_signature k).faults v))
+    → ((left : Items) × AreWithin n left u z) × FillsEach (layered_signature k) vs ys r
+one_refused_more k vs s t u z m n xs ys x (Ok i) e is p b read = absurd is
+one_refused_more k vs s t u z m n xs ys x (Err i) e is p b read =
+    let here = read b.0 b.2 b.4 in (
+      (b.1, subst (λ y. AreWithin n b.1 y z) (sym here.0) b.5),
+      subst (λ g. Names g (EachFaults (layered_signature k).faults vs)) (sym is) (λ q. p.continues.blames e (subst (λ ws. EachFaults (layered_signature k).faults ws e) (sym b.3) (inl (here.1 q)))),
+    )
+
+-- ---- a signature's places
+
+pub places_refused :
+    (k : ℕ) (vs : Items) (t z : State) (m : InputItems) (x : SignatureSeen) (r : Result (Unit {0}) CoseError) (e : CoseError) → IsErrAnd r (λ i. i ≡ e) → BeginsPlaces vs t z m (Err e)
+    → ((left : Items) × AreWithin m left t z) × Fills (layered_signature k) (array vs) x r
+places_refused k vs t z m x r e is b = ((b.0, b.1), not_filled (layered_signature k) x (array vs) r e is (b.2 k))
+
+-- the second place was read, whatever was answered
+pub record Second (vs : Items) (q : Source) (u z : State) (m : InputItems) (P : Item → Type 0) : Type 0 where
+  pub second : Item
+  pub others : Items
+  pub is : vs ≡ item (source_item q) (item second others)
+  pub within : AreWithin m others u z
+  pub holds : P second
+
+pub second_read :
+    (vs : Items) (t u z : State) (m : InputItems) (q : Source) (P : Item → Type 0) → BeginsPlaces vs t z m (Ok q) → ((v : Item) (y : State) → Stands v t y → (u ≡ y) × P v) → Second vs q u z m P
+second_read vs t u z m q P b read =
+    let here = read b.0 b.2 b.4 in
+    record { second = b.0; others = b.1; is = b.3; within = subst (λ y. AreWithin m b.1 y z) (sym here.0) b.5; holds = here.1 }
+
+pub last_refused :
+    (k : ℕ) (vs : Items) (u w z : State) (m n : InputItems) (q : Source) (P : Item → Type 0) (b : List ℕ) (x : SignatureSeen) (r : Result (Unit {0}) CoseError) (e : CoseError) → IsErrAnd r (λ i. i ≡ e)
+    → (s : Second vs q u z m P) → EndsPlaces s.others w z n b (Err e) → ((left : Items) × AreWithin n left w z) × Fills (layered_signature k) (array vs) x r
+last_refused k vs u w z m n q P b x r e is s p = (
+  (p.0, p.1),
+  not_filled (layered_signature k) x (array vs) r e is (subst (λ ws. Names e ((layered_signature k).faults (array ws))) (sym s.is) (p.2 (source_item q) s.second k)),
+)
+
+signature_filled :
+    (k : ℕ) (a b c : Item) (x : SignatureSeen) (r : Result (Unit {0}) CoseError) → (layered_header k).describes b x.unprotected → as_bytes c ≡ Some x.signature → Fills (layered_protected k) a x.protected r
+    → Fills (layered_signature k) (array (item a (item b (item c no_items)))) x r
+signature_filled k a b c x (Ok u) h s p = (item a (item b (item c no_items)), refl, (p, (h, (s, tt))))
+signature_filled k a b c x (Err e) h s p = λ n. inr (item a (item b (item c no_items)), refl, inr (inl (p n)))
+
+pub places_filled :
+    (k : ℕ) (vs : Items) (u w z : State) (m n : InputItems) (q : Source) (x : SignatureSeen) (r : Result (Unit {0}) CoseError) → (s : Second vs q u z m (λ v. (layered_header k).describes v x.unprotected))
+    → EndsPlaces s.others w z n x.signature (Ok tt) → Fills (layered_protected k) (source_item q) x.protected r → ((left : Items) × AreWithin n left w z) × Fills (layered_signature k) (array vs) x r
+places_filled k vs u w z m n q x r s p f = (
+  (no_items, p.3),
+  subst (λ ws. Fills (layered_signature k) (array ws) x r) (sym (s.is ∙ ap (λ ws. item (source_item q) (item s.second ws)) p.1)) (signature_filled k (source_item q) s.second p.0 x r s.holds p.2 f),
+)

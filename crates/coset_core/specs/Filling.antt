@@ -1,0 +1,95 @@
+-- Reading a header and its signatures forward: what is read so far, and what is answered where reading stops.
+use Rattle.std.specs.Prelude.{◌≡◌, ◌⊎◌, ℕ, pos, List, Bool, true, false, Option, Some, None, Result, Ok, Err}
+use Rattle.std.specs.Map.{keys_of}
+use Rattle.coset_value.specs.Item.{Item, array, dict, Items, no_items, item, Pairs, no_pairs, pair}
+use Rattle.coset_value.specs.Parts.{as_bytes}
+use Rattle.coset_shape.specs.declared.error.CoseError.{CoseError}
+use Rattle.coset_shape.specs.declared.error.CoseError.TheVariants.{OutOfMemory}
+use Rattle.coset_shape.specs.declared.input.InputItems.{InputItems}
+use Rattle.coset_shape.specs.declared.input.InputPairs.{InputPairs}
+use Rattle.coset_shape.specs.declared.source.Source.{Source}
+use Rattle.coset_shape.specs.Errors.{Names}
+use Rattle.coset_shape.specs.Inputs.{State, Stands, AreWithin, PairsWithin}
+use Rattle.coset_shape.specs.Maps.{Walks, RefusesKey, BarsKey, GatherFaults, are_distinct, optional}
+use Rattle.coset_shape.specs.Shape.{any}
+use Rattle.coset_shape.specs.Sources.{source_item}
+use Rattle.coset_label.specs.Labels.{label}
+use Rattle.coset_label.specs.Names.{Name, number}
+use Rattle.coset_label.specs.Views.{label_seen}
+use Rattle.coset_label.specs.declared.label.Label.{Label}
+use Rattle.coset_core.specs.Fields.{FieldsSeen, Fielded, names, fields, parts_of, same_name, bars}
+use Rattle.coset_core.specs.Headers.{layered_signature}
+
+-- ---- a header's pairs
+
+-- of all the pairs of a map those before ps make the fields f, and o is the value of label 7
+abbrev pub WalksTo : Pairs → FieldsSeen → Option Item → Pairs → Type 0
+WalksTo all f o ps = Walks Name (Fielded (Option Item)) names (fields (optional any)) all (parts_of (f, o)) ps
+
+-- at t stands the value of the next pair, whose label this is; or none is left; or the next pair's key is at fault
+abbrev pub NextsLabel : Pairs → State → State → InputPairs → Result (Option Label) CoseError → Type 0
+NextsLabel ps t z m (Ok (Some l)) =
+    (k : Item) × (v : Item) × (others : Pairs) × (mid : State) × (ps ≡ pair k v others) × label.describes k (label_seen l) × Stands v t mid × PairsWithin m others mid z
+NextsLabel ps t z m (Ok None) = (ps ≡ no_pairs) × PairsWithin m no_pairs t z
+NextsLabel ps t z m (Err e) = (k : Item) × (v : Item) × (others : Pairs) × (ps ≡ pair k v others) × PairsWithin m others t z × Names e (label.faults k)
+
+-- at t stands the value of a pair of label 7
+pub record AtSeven (all : Pairs) (o : Option Item) (f : FieldsSeen) (t z : State) (m : InputPairs) : Type 0 where
+  pub key : Item
+  pub value : Item
+  pub others : Pairs
+  pub mid : State
+  pub walks : WalksTo all f o (pair key value others)
+  pub seven : label.describes key (number (pos 7))
+  pub stands : Stands value t mid
+  pub within : PairsWithin m others mid z
+
+-- all pairs were read
+pub record AtEnd (all : Pairs) (o : Option Item) (f : FieldsSeen) (t z : State) (m : InputPairs) : Type 0 where
+  pub walks : WalksTo all f o no_pairs
+  pub within : PairsWithin m no_pairs t z
+
+-- the pair was passed that is at fault
+pub record AtFault (all : Pairs) (o : Option Item) (f : FieldsSeen) (t z : State) (m : InputPairs) (e : CoseError) : Type 0 where
+  pub key : Item
+  pub value : Item
+  pub others : Pairs
+  pub walks : WalksTo all f o (pair key value others)
+  pub within : PairsWithin m others t z
+  pub faulty : Names e (λ g. RefusesKey names (fields (optional any)) key value (parts_of (f, o)) g ⊎ BarsKey names bars key (parts_of (f, o)) g)
+
+-- where reading pairs one after the other stops
+abbrev pub FillsSome : Pairs → Option Item → State → FieldsSeen → State → InputPairs → Result Bool CoseError → Type 0
+FillsSome all o z f t m (Ok true) = AtSeven all o f t z m
+FillsSome all o z f t m (Ok false) = AtEnd all o f t z m
+FillsSome all o z f t m (Err e) = AtFault all o f t z m e
+
+-- no label of the rest repeats
+abbrev pub IsDistinctRest : FieldsSeen → Type 0
+IsDistinctRest f = are_distinct same_name (keys_of f.rest) ≡ true
+
+-- the same, where labels of the rest that repeat are a fault
+abbrev pub FillsFields : Pairs → Option Item → State → FieldsSeen → State → InputPairs → Result Bool CoseError → Type 0
+FillsFields all o z f t m (Ok true) = AtSeven all o f t z m × IsDistinctRest f
+FillsFields all o z f t m (Ok false) = AtEnd all o f t z m × IsDistinctRest f
+FillsFields all o z f t m (Err e) = (left : Pairs) × PairsWithin m left t z × Names e (GatherFaults names (fields (optional any)) bars (dict all))
+
+-- ---- signatures
+
+-- the next of some members stands at t; or none is left; or it was passed, for which there was no memory
+abbrev pub BeginsNext : Items → State → State → InputItems → Result Bool CoseError → Type 0
+BeginsNext vs t z m (Ok true) = (v : Item) × (others : Items) × (mid : State) × (vs ≡ item v others) × Stands v t mid × AreWithin m others mid z
+BeginsNext vs t z m (Ok false) = (vs ≡ no_items) × AreWithin m no_items t z
+BeginsNext vs t z m (Err e) = (left : Items) × AreWithin m left t z × (e ≡ OutOfMemory)
+
+-- ---- a signature's places
+
+-- the first of them is this, and the second stands at t; or they are too few
+abbrev pub BeginsPlaces : Items → State → State → InputItems → Result Source CoseError → Type 0
+BeginsPlaces vs t z m (Ok s) = (u : Item) × (others : Items) × (mid : State) × (vs ≡ item (source_item s) (item u others)) × Stands u t mid × AreWithin m others mid z
+BeginsPlaces vs t z m (Err e) = (left : Items) × AreWithin m left t z × ((k : ℕ) → Names e ((layered_signature k).faults (array vs)))
+
+-- the third and last is a byte string, of these bytes; or it isn't, or they are too few or too many
+abbrev pub EndsPlaces : Items → State → State → InputItems → List ℕ → Result (Unit {0}) CoseError → Type 0
+EndsPlaces vs t z m b (Ok x) = (w : Item) × (vs ≡ item w no_items) × (as_bytes w ≡ Some b) × AreWithin m no_items t z
+EndsPlaces vs t z m b (Err e) = (left : Items) × AreWithin m left t z × ((p u : Item) (k : ℕ) → Names e ((layered_signature k).faults (array (item p (item u vs)))))

@@ -1,0 +1,324 @@
+//! Reading forward: an item is read where it stands, and who reads it goes just behind it, whatever is answered. So the
+//! bytes of what holds itself, as headers do, are passed once at whatever depth.
+
+ghost use Rattle.std.specs.Prelude.{◌≡◌, ◌≤◌, ◌<◌, List, ℕ, length, IfOk, IsOkAnd, IsSome, IsTrue, OnOk};
+ghost use Rattle.coset_value.specs.Item.{Item, null, Items, Pairs};
+ghost use Rattle.coset_value.specs.View.{view};
+ghost use Rattle.coset_cbor.specs.Cursors.{left, flat, AreWithin as lent_within};
+ghost use Rattle.coset_cbor.specs.Grammar.{IsItem};
+ghost use Rattle.coset_shape.specs.Inputs.{State, tree, state, Stands, GoesBehind, still, size, items_size, pairs_size, items_turns, pairs_turns, AreWithin, PairsWithin};
+ghost use Rattle.coset_shape.specs.Inputs.{EntersArray, EntersMap, EntersOnes, LentKey, Nexts, NextsKey, TakesNext};
+ghost use Rattle.coset_shape.specs.OneOrMore.{BeginsSo};
+ghost use Rattle.coset_shape.specs.Sources.{source_item};
+
+use crate::error::Result;
+use crate::one_or_more::{no_ones, tree_is_one};
+use crate::source::Source;
+use crate::util::{cbor_type_error, pull_type_error};
+use coset_cbor::cursor::{Cursor, Places};
+use coset_cbor::value::Value;
+use std::{mem, vec};
+
+/// An item that is read where it stands.
+#[derive(Drop)]
+pub enum Input<'a> {
+    /// A value, and null once it was read.
+    Tree(Value),
+    /// The place of a checked item in bytes.
+    Lent(Cursor<'a>),
+}
+
+/// The members of an array that are still to come.
+#[derive(Drop)]
+pub enum InputItems {
+    /// Those of a value.
+    Tree(vec::IntoIter<Value>),
+    /// Those of an array in bytes.
+    Lent(Places),
+}
+
+/// The pairs of a map that are still to come.
+#[derive(Drop)]
+pub enum InputPairs {
+    /// Those of a value.
+    Tree(vec::IntoIter<(Value, Value)>),
+    /// Those of a map in bytes.
+    Lent(Places),
+}
+
+/// The members of a value that is an array.
+fn tree_members(value: Value, want: &'static str) -> Result<InputItems>
+    ensures deeper { IfOk result (λ m. (s : State) → items_size m s < size (tree (view value))) }
+    ensures enters { EntersArray want.now (view value) (tree null) (tree null) result }
+{
+    match value {
+        Value::Array(members) => Ok(InputItems::Tree(members.into_iter())),
+        other => cbor_type_error(&other, want),
+    }
+}
+
+/// The pairs of a value that is a map.
+fn tree_pairs(value: Value) -> Result<InputPairs>
+    ensures deeper { IfOk result (λ m. (s : State) → pairs_size m s < size (tree (view value))) }
+    ensures enters { EntersMap (view value) (tree null) (tree null) result }
+{
+    match value {
+        Value::Map(pairs) => Ok(InputPairs::Tree(pairs.into_iter())),
+        other => cbor_type_error(&other, "map"),
+    }
+}
+
+/// The members of a value that is an array, and whether they begin with a byte string, or else with an array.
+fn tree_ones(value: Value) -> Result<(bool, InputItems)>
+    ensures deeper { IfOk result (λ x. (s : State) → items_size x.1 s < size (tree (view value))) }
+    ensures enters { EntersOnes (view value) (tree null) (tree null) result }
+{
+    match value {
+        Value::Array(members) => {
+            let one = tree_is_one(&members)?;
+            Ok((one, InputItems::Tree(members.into_iter())))
+        }
+        other => cbor_type_error(&other, "array"),
+    }
+}
+
+/// Whether the members that are still to come begin with a byte string, or else with an array.
+fn lent_is_one(places: Places, cursor: Cursor<'_>) -> Result<bool>
+    ensures { (vs : Items) (a : List ℕ) → lent_within places vs (left cursor.entry) a → BeginsSo vs result }
+{
+    let mut places = places;
+    let mut cursor = cursor;
+    if !places.next(&cursor) {
+        return Err(no_ones());
+    }
+    if cursor.is_bytes() {
+        return Ok(true);
+    }
+    if cursor.is_array() {
+        return Ok(false);
+    }
+    Err(pull_type_error(cursor.take()?, "array or bstr value"))
+}
+
+impl<'a> Input<'a> {
+    /// The item that is read.
+    pub fn new(source: Source<'a>) -> Input<'a>
+        ensures { (z : State) × Stands (source_item source.entry) (state result) z }
+    {
+        match source {
+            Source::Tree(value) => Input::Tree(value),
+            Source::Lent(pull) => Input::Lent(Cursor::new(pull.slice())),
+        }
+    }
+
+    /// The item that the bytes are.
+    pub fn of_bytes(bytes: &'a [u8]) -> Input<'a>
+        ensures stands { (v : Item) → IsItem bytes.now v → (z : State) × Stands v (state result) z }
+        ensures size { size (state result) ≡ length bytes.now }
+    {
+        Input::Lent(Cursor::new(bytes))
+    }
+
+    /// The item. It takes no memory.
+    ///
+    /// # Errors
+    /// None where an item stands there.
+    pub fn take(&mut self) -> Result<Source<'a>>
+        ensures shrinks { still (state self.new) ≤ still (state self.old) }
+        ensures passes { (v : Item) (z : State) → Stands v (state self.old) z → (state self.new ≡ z) × IsOkAnd result (λ s. source_item s ≡ v) }
+    {
+        match self {
+            Input::Tree(value) => Ok(Source::Tree(mem::replace(value, Value::Null))),
+            Input::Lent(cursor) => Ok(Source::Lent(cursor.take()?)),
+        }
+    }
+
+    /// Passes the item. It takes no memory.
+    pub fn pass(&mut self)
+        ensures shrinks { still (state self.new) ≤ still (state self.old) }
+        ensures passes { (v : Item) (z : State) → Stands v (state self.old) z → state self.new ≡ z }
+    {
+        match self {
+            Input::Tree(value) => {
+                *value = Value::Null;
+            }
+            Input::Lent(cursor) => cursor.pass(),
+        }
+    }
+
+    /// Goes to the first member of an array. It takes no memory.
+    ///
+    /// # Errors
+    /// `UnexpectedItem`: the item is no array; it is passed.
+    pub fn enter_array(&mut self, want: &'static str) -> Result<InputItems>
+        ensures shrinks { still (state self.new) ≤ still (state self.old) }
+        ensures strictly { OnOk result (GoesBehind (state self.old) (state self.new)) }
+        ensures deeper { IfOk result (λ m. items_size m (state self.new) < size (state self.old)) }
+        ensures enters { (v : Item) (z : State) → Stands v (state self.old) z → EntersArray want.now v (state self.new) z result }
+    {
+        match self {
+            Input::Tree(value) => tree_members(mem::replace(value, Value::Null), want),
+            Input::Lent(cursor) => match cursor.array() {
+                Some(places) => Ok(InputItems::Lent(places)),
+                None => Err(pull_type_error(cursor.take()?, want)),
+            },
+        }
+    }
+
+    /// Goes to the first member of an array that begins with a byte string, or else with an array, and says whether it is
+    /// the first of these. It takes no memory.
+    ///
+    /// # Errors
+    /// `UnexpectedItem`: the item is another; it is passed.
+    pub fn enter_ones(&mut self) -> Result<(bool, InputItems)>
+        ensures shrinks { still (state self.new) ≤ still (state self.old) }
+        ensures deeper { IfOk result (λ x. items_size x.1 (state self.new) < size (state self.old)) }
+        ensures enters { (v : Item) (z : State) → Stands v (state self.old) z → EntersOnes v (state self.new) z result }
+    {
+        match self {
+            Input::Tree(value) => tree_ones(mem::replace(value, Value::Null)),
+            Input::Lent(cursor) => {
+                let Some(places) = cursor.array() else {
+                    return Err(pull_type_error(cursor.take()?, "array"));
+                };
+                match lent_is_one(places, *cursor) {
+                    Ok(one) => Ok((one, InputItems::Lent(places))),
+                    Err(error) => {
+                        places.finish(cursor);
+                        Err(error)
+                    }
+                }
+            }
+        }
+    }
+
+    /// Goes to the first key of a map. It takes no memory.
+    ///
+    /// # Errors
+    /// `UnexpectedItem`: the item is no map; it is passed.
+    pub fn enter_map(&mut self) -> Result<InputPairs>
+        ensures shrinks { still (state self.new) ≤ still (state self.old) }
+        ensures strictly { OnOk result (GoesBehind (state self.old) (state self.new)) }
+        ensures deeper { IfOk result (λ m. pairs_size m (state self.new) < size (state self.old)) }
+        ensures enters { (v : Item) (z : State) → Stands v (state self.old) z → EntersMap v (state self.new) z result }
+    {
+        match self {
+            Input::Tree(value) => tree_pairs(mem::replace(value, Value::Null)),
+            Input::Lent(cursor) => match cursor.map() {
+                Some(places) => Ok(InputPairs::Lent(places)),
+                None => Err(pull_type_error(cursor.take()?, "map")),
+            },
+        }
+    }
+}
+
+impl InputItems {
+    /// Whether one more member stands at the input, which is to be read next. It takes no memory.
+    pub fn next(&mut self, input: &mut Input<'_>) -> bool
+        ensures shrinks { still (state input.new) ≤ still (state input.old) }
+        ensures size { items_size self.new (state input.new) ≤ items_size self.old (state input.old) }
+        ensures member { IsTrue result → size (state input.new) ≤ items_size self.old (state input.old) }
+        ensures turns { IsTrue result → (t : State) → GoesBehind (state input.new) t → items_turns self.new t < items_turns self.old (state input.old) }
+        ensures nexts { (vs : Items) (z : State) → AreWithin self.old vs (state input.old) z → Nexts vs (state input.new) z self.new result }
+    {
+        match self {
+            InputItems::Tree(members) => match members.next() {
+                Some(value) => {
+                    *input = Input::Tree(value);
+                    true
+                }
+                None => false,
+            },
+            InputItems::Lent(places) => match input {
+                Input::Lent(cursor) => places.next(cursor),
+                Input::Tree(_) => false,
+            },
+        }
+    }
+
+    /// The next member, or `None` where none is left. It takes no memory.
+    ///
+    /// # Errors
+    /// None where the members of an array stand there.
+    pub fn take<'a>(&mut self, input: &mut Input<'a>) -> Result<Option<Source<'a>>>
+        ensures shrinks { still (state input.new) ≤ still (state input.old) }
+        ensures size { items_size self.new (state input.new) ≤ items_size self.old (state input.old) }
+        ensures takes { (vs : Items) (z : State) → AreWithin self.old vs (state input.old) z → TakesNext vs (state input.new) z self.new result }
+    {
+        if !self.next(input) {
+            return Ok(None);
+        }
+        Ok(Some(input.take()?))
+    }
+
+    /// Passes the members that are left. It takes no memory.
+    pub fn finish(self, input: &mut Input<'_>)
+        ensures shrinks { still (state input.new) ≤ still (state input.old) }
+        ensures passes { (vs : Items) (z : State) → AreWithin self vs (state input.old) z → state input.new ≡ z }
+    {
+        match self {
+            InputItems::Tree(_) => {}
+            InputItems::Lent(places) => match input {
+                Input::Lent(cursor) => places.finish(cursor),
+                Input::Tree(_) => {}
+            },
+        }
+    }
+}
+
+/// The next key of a map in bytes, whose value is then at the place.
+fn lent_key<'a>(places: &mut Places, cursor: &mut Cursor<'a>) -> Result<Option<Source<'a>>>
+    ensures shrinks { length (left cursor.new) ≤ length (left cursor.old) }
+    ensures strictly { IfOk result (λ o. IsSome o → length (left cursor.new) < length (left cursor.old)) }
+    ensures nexts { (ps : Pairs) (a : List ℕ) → lent_within places.old (flat ps) (left cursor.old) a → LentKey ps (left cursor.new) a places.new result }
+{
+    if !places.next(cursor) {
+        return Ok(None);
+    }
+    let key = cursor.take()?;
+    places.next(cursor);
+    Ok(Some(Source::Lent(key)))
+}
+
+impl InputPairs {
+    /// The next key, whose value then stands at the input, which is to be read next; or `None` where no pair is left. It
+    /// takes no memory.
+    ///
+    /// # Errors
+    /// None where the pairs of a map stand there.
+    pub fn next_key<'a>(&mut self, input: &mut Input<'a>) -> Result<Option<Source<'a>>>
+        ensures shrinks { still (state input.new) ≤ still (state input.old) }
+        ensures size { pairs_size self.new (state input.new) ≤ pairs_size self.old (state input.old) }
+        ensures value { IfOk result (λ o. IsSome o → size (state input.new) ≤ pairs_size self.old (state input.old)) }
+        ensures turns { IfOk result (λ o. IsSome o → pairs_turns self.new (state input.new) < pairs_turns self.old (state input.old)) }
+        ensures nexts { (ps : Pairs) (z : State) → PairsWithin self.old ps (state input.old) z → NextsKey ps (state input.new) z self.new result }
+    {
+        match self {
+            InputPairs::Tree(pairs) => match pairs.next() {
+                Some((key, value)) => {
+                    *input = Input::Tree(value);
+                    Ok(Some(Source::Tree(key)))
+                }
+                None => Ok(None),
+            },
+            InputPairs::Lent(places) => match input {
+                Input::Lent(cursor) => lent_key(places, cursor),
+                Input::Tree(_) => Ok(None),
+            },
+        }
+    }
+
+    /// Passes the pairs that are left. It takes no memory.
+    pub fn finish(self, input: &mut Input<'_>)
+        ensures shrinks { still (state input.new) ≤ still (state input.old) }
+        ensures passes { (ps : Pairs) (z : State) → PairsWithin self ps (state input.old) z → state input.new ≡ z }
+    {
+        match self {
+            InputPairs::Tree(_) => {}
+            InputPairs::Lent(places) => match input {
+                Input::Lent(cursor) => places.finish(cursor),
+                Input::Tree(_) => {}
+            },
+        }
+    }
+}
