@@ -50,7 +50,7 @@ const READ: [(&[u8], &[u8]); 13] = [
 ];
 
 /// Maps that hold no header, and the text of each error.
-const REFUSED: [(&[u8], &str); 37] = [
+const REFUSED: [(&[u8], &str); 43] = [
     (b"\xa1\x01\x01\x01", "extraneous data in CBOR input"),
     (
         b"\xa1\x01\x08",
@@ -138,6 +138,32 @@ const REFUSED: [(&[u8], &str); 37] = [
     (
         b"\xa1\x07\x83\x40\xa1\x40\x00\x40",
         "got bstr, expected int/tstr",
+    ),
+    // the first fault in the order of the pairs is named, that of label 7 and of the two initialization vectors too
+    (
+        b"\xa2\x07\x81\x01\x01\x41\x01",
+        "got int, expected array or bstr value",
+    ),
+    (
+        b"\xa3\x05\x41\x01\x06\x41\x01\x01\x41\x01",
+        "got IV and partial-IV specified, expected only one of IV and partial IV",
+    ),
+    (
+        b"\xa4\x05\x41\x01\x06\x41\x01\x08\x00\x08\x00",
+        "got IV and partial-IV specified, expected only one of IV and partial IV",
+    ),
+    // so it is in a counter signature
+    (
+        b"\xa1\x07\x83\x40\xa2\x07\x81\x01\x01\x41\x01\x40",
+        "got int, expected array or bstr value",
+    ),
+    (
+        b"\xa1\x07\x83\x40\xa3\x05\x41\x01\x06\x41\x01\x01\x41\x01\x40",
+        "got IV and partial-IV specified, expected only one of IV and partial IV",
+    ),
+    (
+        b"\xa1\x07\x83\x40\xa4\x05\x41\x01\x06\x41\x01\x08\x00\x08\x00\x40",
+        "got IV and partial-IV specified, expected only one of IV and partial IV",
     ),
 ];
 
