@@ -1,0 +1,69 @@
+#!/usr/bin/env python3
+"""Writes the hostile messages whose times and stack docs/SPEED.md tells: `hostile.py FOLDER`."""
+
+import sys
+from pathlib import Path
+
+
+def head(major: int, number: int) -> bytes:
+    """The shortest head of that major type (RFC 8949, section 3)."""
+    if number < 24:
+        return bytes([major << 5 | number])
+    for info, width in ((24, 1), (25, 2), (26, 4), (27, 8)):
+        if number < 1 << 8 * width:
+            return bytes([major << 5 | info]) + number.to_bytes(width, "big")
+    raise ValueError(number)
+
+
+def byte_string(content: bytes) -> bytes:
+    return head(2, len(content)) + content
+
+
+def with_counter_signature(protected: bytes, unprotected: bytes) -> bytes:
+    """A header with one counter signature, of these headers (RFC 8152, section 4.5)."""
+    signature = head(4, 3) + byte_string(protected) + unprotected + byte_string(b"")
+    return head(5, 1) + head(0, 7) + signature
+
+
+def message(protected: bytes, unprotected: bytes) -> bytes:
+    """A message with one signature, without a payload (RFC 8152, section 4.2)."""
+    return head(4, 4) + byte_string(protected) + unprotected + b"\xf6" + byte_string(b"")
+
+
+def nested(headers: int, innermost: bytes) -> bytes:
+    """That many headers around the innermost one, each the unprotected one of a counter signature."""
+    header = innermost
+    for _ in range(headers):
+        header = with_counter_signature(b"", header)
+    return header
+
+
+def layers(count: int) -> bytes:
+    """What the outermost of that many protected headers inside one another holds, each in the innermost of 127 headers."""
+    content = b""
+    for _ in range(count - 1):
+        content = nested(126, with_counter_signature(content, head(5, 0)))
+    return content
+
+
+def main(folder: Path) -> None:
+    items = head(4, 200_000) + bytes(200_000)
+    pair = head(0, 70) + items
+    wide = head(5, 1) + pair
+    twice = head(5, 2) + pair + head(0, 70) + b"\x00"
+    # Its last item doesn't announce its length.
+    items_end = head(4, 200_001) + bytes(200_000) + b"\x9f\xff"
+    files = {
+        "nested.cbor": message(b"", nested(120, wide)),
+        "nested_end.cbor": message(b"", nested(120, head(5, 1) + head(0, 70) + items_end)),
+        "flat.cbor": message(b"", wide),
+        "nested_twice.cbor": message(b"", nested(120, twice)),
+        "flat_twice.cbor": message(b"", twice),
+        "deepest.cbor": message(layers(16), head(5, 0)),
+    }
+    for name, content in files.items():
+        (folder / name).write_bytes(content)
+
+
+if __name__ == "__main__":
+    main(Path(sys.argv[1]))

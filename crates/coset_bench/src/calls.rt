@@ -1,0 +1,154 @@
+//! The calls that are timed.
+//!
+//! A compiler might leave out a call whose answer nobody asks for, or make one call in place of many that are alike. So
+//! each call's answer is looked at: a refusal ends the round, what is written must be as long as at first, and each
+//! check goes over what the one before it found.
+
+ghost use Rattle.std.specs.Prelude.{◌≡◌, ◌≤◌, ◌<◌, length, IfOk};
+
+use crate::fault::Fault;
+use coset_cbor::de::{EndOfFile, Error, Steps, check};
+use coset_cbor::value::Value;
+use coset_core::Header;
+use coset_shape::{CborSerializable, CoseError};
+use coset_sign::CoseSign1;
+use std::alloc::Global;
+use std::marker::Brand;
+use std::rt::Clock;
+use std::sync::ledger::{Blank, Ledger};
+use std::time::{Duration, Instant};
+
+/// A type whose reading and writing are timed.
+pub trait Timed: CborSerializable + Drop {
+    /// A copy of the value.
+    ///
+    /// # Errors
+    /// Want of memory alone.
+    fn copy(&self) -> Result<Self, CoseError>
+        ensures { IfOk result (λ copy. Self.seen copy ≡ Self.seen self.now) };
+}
+
+impl Timed for Value {
+    fn copy(&self) -> Result<Value, CoseError> {
+        Ok(self.clone()?)
+    }
+}
+
+impl Timed for Header {
+    fn copy(&self) -> Result<Header, CoseError> {
+        self.clone()
+    }
+}
+
+impl Timed for CoseSign1 {
+    fn copy(&self) -> Result<CoseSign1, CoseError> {
+        self.clone()
+    }
+}
+
+/// Reads the value, and drops it.
+pub fn time_read<T: Timed, R: AllocGlobal + Clock>(
+    rt: &R,
+    bytes: &[u8],
+    calls: usize,
+) -> Result<Duration, Fault> {
+    let alloc = rt.alloc();
+    let start = Instant::now(rt)?;
+    for _ in 0..calls {
+        drop(T::from_slice(alloc, bytes)?);
+    }
+    Ok(start.elapsed(rt)?)
+}
+
+/// Refuses the bytes.
+pub fn time_refusal<T: Timed, R: AllocGlobal + Clock>(
+    rt: &R,
+    bytes: &[u8],
+    calls: usize,
+) -> Result<Duration, Fault> {
+    let alloc = rt.alloc();
+    let start = Instant::now(rt)?;
+    for _ in 0..calls {
+        if T::from_slice(alloc, bytes).is_ok() {
+            return Err(Fault::Unexpected);
+        }
+    }
+    Ok(start.elapsed(rt)?)
+}
+
+/// That many copies of the value.
+fn copies<T: Timed>(alloc: Global, value: &T, calls: usize) -> Result<Vec<T>, Fault> {
+    let mut copies = Vec::with_capacity(alloc, calls)?;
+    for _ in 0..calls {
+        copies.push(value.copy()?)?;
+    }
+    Ok(copies)
+}
+
+/// Writes a value that was read, and drops it and its text. The copies that are written are made before the time.
+pub fn time_write<T: Timed, R: AllocGlobal + Clock>(
+    rt: &R,
+    bytes: &[u8],
+    calls: usize,
+) -> Result<Duration, Fault> {
+    let alloc = rt.alloc();
+    let value = T::from_slice(alloc, bytes)?;
+    let copies = copies(alloc, &value, calls)?;
+    let length = value.to_vec(alloc)?.len();
+    let start = Instant::now(rt)?;
+    for copy in copies {
+        if copy.to_vec(alloc)?.len() != length {
+            return Err(Fault::Unexpected);
+        }
+    }
+    Ok(start.elapsed(rt)?)
+}
+
+/// Makes the bytes that a message's signature is over, without external data.
+pub fn time_tbs<R: AllocGlobal + Clock>(
+    rt: &R,
+    bytes: &[u8],
+    calls: usize,
+) -> Result<Duration, Fault> {
+    let alloc = rt.alloc();
+    let message = CoseSign1::from_slice(alloc, bytes)?;
+    let length = message.tbs_data(alloc, &[])?.len();
+    let start = Instant::now(rt)?;
+    for _ in 0..calls {
+        if message.tbs_data(alloc, &[])?.len() != length {
+            return Err(Fault::Unexpected);
+        }
+    }
+    Ok(start.elapsed(rt)?)
+}
+
+/// Checks the item at the front, each time the bytes that the check before found, and answers how many they are.
+fn check_each<L: Ledger>(
+    bytes: &[u8],
+    calls: usize,
+    blank: Blank,
+) -> Result<usize, Error<EndOfFile>>
+    requires name { blank.name ≡ L.name }
+    requires parts { blank.parts ≡ L.parts }
+    requires some { 0 < L.parts }
+    ensures { IfOk result (λ n. n ≤ length bytes.now) }
+{
+    let mut steps = Steps::<L>::new(blank);
+    let mut item = bytes;
+    for _ in 0..calls {
+        let length = check(item, &mut steps)?;
+        item = &item[..length];
+    }
+    Ok(item.len())
+}
+
+/// Checks the item that the bytes are.
+pub fn time_check<R: Clock>(rt: &R, bytes: &[u8], calls: usize) -> Result<Duration, Fault> {
+    let start = Instant::now(rt)?;
+    let length = check_each::<Brand>(bytes, calls, Blank::new(1))?;
+    let time = start.elapsed(rt)?;
+    if length != bytes.len() {
+        return Err(Fault::Unexpected);
+    }
+    Ok(time)
+}

@@ -1,0 +1,79 @@
+//! What can be timed.
+
+ghost use Rattle.std.specs.Prelude.{◌≡◌, MatchOption};
+ghost use Rattle.coset_bench.specs.Operation.{operation_name};
+
+use crate::calls::{time_check, time_read, time_refusal, time_tbs, time_write};
+use crate::fault::Fault;
+use coset_cbor::value::Value;
+use coset_core::Header;
+use coset_sign::CoseSign1;
+use std::rt::Clock;
+use std::time::Duration;
+
+/// An operation of the library.
+#[derive(Clone, Copy, Debug, PartialEq, Eq)]
+pub enum Operation {
+    /// An item's check, without a value.
+    Check,
+    /// Reading a value of CBOR.
+    Value,
+    /// Writing one.
+    ValueWrite,
+    /// Reading a header.
+    Header,
+    /// Writing one.
+    HeaderWrite,
+    /// Reading a message with one signature.
+    Sign1,
+    /// Refusing one.
+    Sign1Refused,
+    /// Writing one.
+    Sign1Write,
+    /// Making the bytes that its signature is over.
+    Sign1Tbs,
+}
+
+impl Operation {
+    /// The operation of that name.
+    pub fn of(name: &str) -> Option<Operation>
+        ensures { MatchOption result ((o : Operation) → name.now ≡ operation_name o → ⊥)
+            (λ o. name.now ≡ operation_name o) }
+    {
+        match name {
+            "check" => Some(Operation::Check),
+            "value" => Some(Operation::Value),
+            "value_write" => Some(Operation::ValueWrite),
+            "header" => Some(Operation::Header),
+            "header_write" => Some(Operation::HeaderWrite),
+            "sign1" => Some(Operation::Sign1),
+            "sign1_refused" => Some(Operation::Sign1Refused),
+            "sign1_write" => Some(Operation::Sign1Write),
+            "sign1_tbs" => Some(Operation::Sign1Tbs),
+            _ => None,
+        }
+    }
+
+    /// Makes the calls over the bytes, and answers how long they took.
+    ///
+    /// # Errors
+    /// Why a call failed.
+    pub fn time<R: AllocGlobal + Clock>(
+        self,
+        rt: &R,
+        bytes: &[u8],
+        calls: usize,
+    ) -> Result<Duration, Fault> {
+        match self {
+            Operation::Check => time_check(rt, bytes, calls),
+            Operation::Value => time_read::<Value, R>(rt, bytes, calls),
+            Operation::ValueWrite => time_write::<Value, R>(rt, bytes, calls),
+            Operation::Header => time_read::<Header, R>(rt, bytes, calls),
+            Operation::HeaderWrite => time_write::<Header, R>(rt, bytes, calls),
+            Operation::Sign1 => time_read::<CoseSign1, R>(rt, bytes, calls),
+            Operation::Sign1Refused => time_refusal::<CoseSign1, R>(rt, bytes, calls),
+            Operation::Sign1Write => time_write::<CoseSign1, R>(rt, bytes, calls),
+            Operation::Sign1Tbs => time_tbs(rt, bytes, calls),
+        }
+    }
+}
