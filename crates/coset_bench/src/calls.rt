@@ -23,7 +23,7 @@ pub trait Timed: CborSerializable + Drop {
     /// A copy of the value.
     ///
     /// # Errors
-    /// Want of memory alone.
+    /// `OutOfMemory` alone.
     fn copy(&self) -> Result<Self, CoseError>
         ensures { IfOk result (λ copy. Self.seen copy ≡ Self.seen self.now) };
 }
@@ -104,7 +104,7 @@ pub fn time_write<T: Timed, R: AllocGlobal + Clock>(
     Ok(start.elapsed(rt)?)
 }
 
-/// Makes the bytes that a message's signature is over, without external data.
+/// Makes the bytes that a message's signature is over, without `external_aad`.
 pub fn time_tbs<R: AllocGlobal + Clock>(
     rt: &R,
     bytes: &[u8],

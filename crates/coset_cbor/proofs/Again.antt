@@ -1,4 +1,4 @@
--- What is a text of a value is read as that value.
+-- What is an encoding of a value is read as that value.
 use Rattle.std.proofs.Common.{◌≡◌, ℕ, zero, suc, ◌+◌, ◌*◌, ◌/◌, ◌%◌, ◌^◌, ◌<◌, ◌≤◌, Bool, true, false, ltb, eqb, List, [], ◌∷◌, ◌++◌, length, Some, None, Result, Ok, refl, sym, ap, subst, ◌∙◌, append_assoc, arith, inl, inr}
 use Rattle.std.specs.Prelude.{pos, negsuc}
 use Rattle.std.specs.Int.{Width, w8, w16, w32, w64, byte_len, from_be_bytes, to_be_bytes}
@@ -12,8 +12,8 @@ use Rattle.coset_cbor.specs.declared.head.Argument.TheVariants as places
 use Rattle.coset_cbor.specs.declared.head.Head.{Head}
 use Rattle.coset_value.specs.Item.{half, single, double, Item, integer, bytes, float, text, boolean, null, tag, array, dict, Items, no_items, item, Pairs, no_pairs, pair, items_count, pairs_count, depth, items_depth, pairs_depth}
 use Rattle.coset_value.specs.View.{items_of, pairs_of}
-use Rattle.coset_cbor.specs.Grammar.{Place, within, one, two, four, eight, Holds, head_in, IsHead, IsHeaded, IsIndefinite, Each, IsSound, string_type, IsDefinite, IsStringText, IsHeld, IsText, AreTexts, ArePairTexts}
-use Rattle.coset_cbor.specs.Reading.{◌>>=◌, Parse, kind_of, number_of, argument_at, argument_by, head_at, is_sound, string_at, chunk_kind, chunk_at, begins_break, times_at, until_at, chunks_at, any_string_by, pair_at, array_by, map_by, Inside, nothing, things, item_from, item_at}
+use Rattle.coset_cbor.specs.Grammar.{Place, within, one, two, four, eight, Holds, head_in, IsHead, IsHeaded, IsIndefinite, EachInOrder, IsStringContent, string_type, IsDefinite, IsStringEncoding, IsHeld, IsEncoding, AreEncodings, ArePairEncodings}
+use Rattle.coset_cbor.specs.Reading.{◌>>=◌, Parse, major_type_of, number_of, argument_at, argument_by, head_at, is_string_content, string_at, begins_chunk, chunk_at, begins_break, times_at, until_at, chunks_at, any_string_by, pair_at, array_by, map_by, Inside, nothing, things, item_from, item_at}
 
 -- ---- heads
 
@@ -60,7 +60,7 @@ first_mod : (m k : ℕ) → k < 32 → (32 * m + k) % 32 ≡ k
 first_mod m k lt = omega arith
 
 abbrev pub head_of : ℕ → Argument → Head
-head_of m a = record { kind = kind_of m; argument = a }
+head_of m a = record { major_type = major_type_of m; argument = a }
 
 -- the first byte of type m with low bits k
 first_again : (m k : ℕ) (s : List ℕ) → k < 32 → head_at ((32 * m + k) ∷ s) ≡ (argument_by k (suc (length s)) s >>= λ a. Ok (head_of m a.0, a.1))
@@ -137,24 +137,24 @@ pub type_low : (is_text : Bool) → string_type is_text < 7
 type_low false = omega arith
 type_low true = omega arith
 
-IsStringText-begins : (is_text : Bool) (s b : List ℕ) → IsStringText is_text s b → Begins b
-IsStringText-begins is_text s b (inl h) = IsHeaded-begins (string_type is_text) (length s) s b (type_low is_text) h.1
-IsStringText-begins is_text s b (inr h) = IsIndefinite-begins (string_type is_text) h.1 b (type_low is_text) h.4
+IsStringEncoding-begins : (is_text : Bool) (s b : List ℕ) → IsStringEncoding is_text s b → Begins b
+IsStringEncoding-begins is_text s b (inl h) = IsHeaded-begins (string_type is_text) (length s) s b (type_low is_text) h.1
+IsStringEncoding-begins is_text s b (inr h) = IsIndefinite-begins (string_type is_text) h.1 b (type_low is_text) h.4
 
-pub IsText-begins : (v : Item) (b : List ℕ) → IsText v b → Begins b
-IsText-begins (integer (pos n)) b h = IsHead-begins 0 n b (omega arith) h
-IsText-begins (integer (negsuc n)) b h = IsHead-begins 1 n b (omega arith) h
-IsText-begins (bytes s) b h = IsStringText-begins false s b h
-IsText-begins (float (half n)) b h = record { first = 0xF9; more = to_be_bytes w16 n; parts = h.1; low = omega arith }
-IsText-begins (float (single n)) b h = record { first = 0xFA; more = to_be_bytes w32 n; parts = h.1; low = omega arith }
-IsText-begins (float (double n)) b h = record { first = 0xFB; more = to_be_bytes w64 n; parts = h.1; low = omega arith }
-IsText-begins (text s) b h = IsStringText-begins true s b h
-IsText-begins (boolean false) b h = record { first = 0xF4; more = []; parts = h; low = omega arith }
-IsText-begins (boolean true) b h = record { first = 0xF5; more = []; parts = h; low = omega arith }
-IsText-begins null b h = record { first = 0xF6; more = []; parts = h; low = omega arith }
-IsText-begins (tag t v) b h = IsHeaded-begins 6 t h.0 b (omega arith) h.2
-IsText-begins (array vs) b h = IsHeld-begins 4 (items_count vs) h.0 b (omega arith) h.2
-IsText-begins (dict ps) b h = IsHeld-begins 5 (pairs_count ps) h.0 b (omega arith) h.2
+pub IsEncoding-begins : (v : Item) (b : List ℕ) → IsEncoding v b → Begins b
+IsEncoding-begins (integer (pos n)) b h = IsHead-begins 0 n b (omega arith) h
+IsEncoding-begins (integer (negsuc n)) b h = IsHead-begins 1 n b (omega arith) h
+IsEncoding-begins (bytes s) b h = IsStringEncoding-begins false s b h
+IsEncoding-begins (float (half n)) b h = record { first = 0xF9; more = to_be_bytes w16 n; parts = h.1; low = omega arith }
+IsEncoding-begins (float (single n)) b h = record { first = 0xFA; more = to_be_bytes w32 n; parts = h.1; low = omega arith }
+IsEncoding-begins (float (double n)) b h = record { first = 0xFB; more = to_be_bytes w64 n; parts = h.1; low = omega arith }
+IsEncoding-begins (text s) b h = IsStringEncoding-begins true s b h
+IsEncoding-begins (boolean false) b h = record { first = 0xF4; more = []; parts = h; low = omega arith }
+IsEncoding-begins (boolean true) b h = record { first = 0xF5; more = []; parts = h; low = omega arith }
+IsEncoding-begins null b h = record { first = 0xF6; more = []; parts = h; low = omega arith }
+IsEncoding-begins (tag t v) b h = IsHeaded-begins 6 t h.0 b (omega arith) h.2
+IsEncoding-begins (array vs) b h = IsHeld-begins 4 (items_count vs) h.0 b (omega arith) h.2
+IsEncoding-begins (dict ps) b h = IsHeld-begins 5 (pairs_count ps) h.0 b (omega arith) h.2
 
 other_break : (n : ℕ) → n < 255 → eqb n 255 ≡ false
 other_break n lt = ne_eqb n 255 (λ e. absurd (omega arith))
@@ -164,29 +164,29 @@ no_break b rest g = ap (λ (x : List ℕ). begins_break (x ++ rest)) g.parts ∙
 
 -- ---- strings
 
-sound_again : (is_text : Bool) (s : List ℕ) → IsSound is_text s → is_sound is_text s ≡ true
+sound_again : (is_text : Bool) (s : List ℕ) → IsStringContent is_text s → is_string_content is_text s ≡ true
 sound_again false s h = refl
 sound_again true s h = is_utf8-from_IsUtf8 s h
 
-pub string_again : (is_text : Bool) (left : ℕ) (s rest : List ℕ) → IsSound is_text s → string_at is_text left (length s) (s ++ rest) ≡ Ok (s, rest)
+pub string_again : (is_text : Bool) (left : ℕ) (s rest : List ℕ) → IsStringContent is_text s → string_at is_text left (length s) (s ++ rest) ≡ Ok (s, rest)
 unfolding string_at
 string_again is_text left s rest sound =
     let long : ltb (length (s ++ rest)) (length s) ≡ false = le-ltb _ _ (omega (arith, length-append s rest)) in
     rw (long, take_at s rest (length s) refl, drop_at s rest (length s) refl, sound_again is_text s sound) refl
 
-pub chunk_kind-type : (is_text : Bool) → chunk_kind is_text (kind_of (string_type is_text)) ≡ true
-chunk_kind-type false = refl
-chunk_kind-type true = refl
+pub begins_chunk-type : (is_text : Bool) → begins_chunk is_text (major_type_of (string_type is_text)) ≡ true
+begins_chunk-type false = refl
+begins_chunk-type true = refl
 
 pub chunk_again : (is_text : Bool) (s c rest : List ℕ) → IsDefinite is_text s c → chunk_at is_text (c ++ rest) ≡ Ok (s, rest)
 unfolding chunk_at
 chunk_again is_text s c rest h =
     let r = IsHeaded-again (string_type is_text) (length s) s c rest h.1 in
-    rw (r.reads, chunk_kind-type is_text, r.number, string_again is_text (length (c ++ rest)) s rest h.0) refl
+    rw (r.reads, begins_chunk-type is_text, r.number, string_again is_text (length (c ++ rest)) s rest h.0) refl
 
 -- ---- one after the other
 
--- a reader of texts
+-- a reader of encodings
 pub record ReadsAgain {A : Type 0} (R : A → List ℕ → Type 0) (read : Parse A) : Type 0 where
   pub again : (x : A) (c rest : List ℕ) → R x c → read (c ++ rest) ≡ Ok (x, rest)
   pub begins : (x : A) (c : List ℕ) → R x c → Begins c
@@ -194,13 +194,13 @@ pub record ReadsAgain {A : Type 0} (R : A → List ℕ → Type 0) (read : Parse
 pub regroup : (c d b rest : List ℕ) → b ≡ c ++ d → b ++ rest ≡ c ++ (d ++ rest)
 regroup c d b rest e = ap (λ (x : List ℕ). x ++ rest) e ∙ append_assoc c d rest
 
-pub times_again : {A : Type 0} (R : A → List ℕ → Type 0) (read : Parse A) (reads : ReadsAgain R read) (xs : List A) (b rest : List ℕ) → Each R xs b → times_at read (length xs) (b ++ rest) ≡ Ok (xs, rest)
+pub times_again : {A : Type 0} (R : A → List ℕ → Type 0) (read : Parse A) (reads : ReadsAgain R read) (xs : List A) (b rest : List ℕ) → EachInOrder R xs b → times_at read (length xs) (b ++ rest) ≡ Ok (xs, rest)
 unfolding times_at
 times_again R read reads [] b rest h = ap (λ (x : List ℕ). Ok ([], x ++ rest)) h
 times_again R read reads (x ∷ xs) b rest h =
     ap (times_at read (suc (length xs))) (regroup h.0 h.1 b rest h.4) ∙ rw (reads.again x h.0 (h.1 ++ rest) h.2, times_again R read reads xs h.1 rest h.3) refl
 
-pub until_again : {A : Type 0} (R : A → List ℕ → Type 0) (read : Parse A) (reads : ReadsAgain R read) (turns : ℕ) (xs : List A) (b rest : List ℕ) → Each R xs b → length b < turns → until_at read turns (b ++ 255 ∷ rest) ≡ Ok (xs, rest)
+pub until_again : {A : Type 0} (R : A → List ℕ → Type 0) (read : Parse A) (reads : ReadsAgain R read) (turns : ℕ) (xs : List A) (b rest : List ℕ) → EachInOrder R xs b → length b < turns → until_at read turns (b ++ 255 ∷ rest) ≡ Ok (xs, rest)
 unfolding until_at
 until_again R read reads zero xs b rest h lt = absurd (omega arith)
 until_again R read reads (suc turns) [] b rest h lt = ap (λ (x : List ℕ). until_at read (suc turns) (x ++ 255 ∷ rest)) h
@@ -212,13 +212,13 @@ until_again R read reads (suc turns) (x ∷ xs) b rest h lt =
     ap (until_at read (suc turns)) (regroup h.0 h.1 b (255 ∷ rest) h.4) ∙ rw (goes, reads.again x h.0 (h.1 ++ 255 ∷ rest) h.2, until_again R read reads turns xs h.1 rest h.3 (omega arith)) refl
 
 -- each takes at least a byte
-pub Each-long : {A : Type 0} (R : A → List ℕ → Type 0) (begins : (x : A) (c : List ℕ) → R x c → Begins c) (xs : List A) (b : List ℕ) → Each R xs b → length xs ≤ length b
-Each-long R begins [] b h = omega arith
-Each-long R begins (x ∷ xs) b h =
+pub EachInOrder-long : {A : Type 0} (R : A → List ℕ → Type 0) (begins : (x : A) (c : List ℕ) → R x c → Begins c) (xs : List A) (b : List ℕ) → EachInOrder R xs b → length xs ≤ length b
+EachInOrder-long R begins [] b h = omega arith
+EachInOrder-long R begins (x ∷ xs) b h =
     let g = begins x h.0 h.2 in
     let size : length b ≡ length h.0 + length h.1 = ap length h.4 ∙ length-append h.0 h.1 in
     let some : length h.0 ≡ suc (length g.more) = ap length g.parts in
-    let others = Each-long R begins xs h.1 h.3 in
+    let others = EachInOrder-long R begins xs h.1 h.3 in
     omega arith
 
 -- ---- what nests
@@ -247,36 +247,36 @@ pub length-pair_list_of : (ps : Pairs) → length (pair_list_of ps) ≡ pairs_co
 length-pair_list_of no_pairs = refl
 length-pair_list_of (pair k v ps) = ap suc (length-pair_list_of ps)
 
--- texts of values less than d deep
-abbrev pub IsTextBelow : ℕ → Item → List ℕ → Type 0
-IsTextBelow d v b = IsText v b × (depth v < d)
+-- encodings of values less than d deep
+abbrev pub IsEncodingBelow : ℕ → Item → List ℕ → Type 0
+IsEncodingBelow d v b = IsEncoding v b × (depth v < d)
 
-abbrev pub IsPairTextBelow : ℕ → (Item × Item) → List ℕ → Type 0
-IsPairTextBelow d p b = (c : List ℕ) × (e : List ℕ) × IsTextBelow d p.0 c × IsTextBelow d p.1 e × (b ≡ c ++ e)
+abbrev pub IsPairEncodingBelow : ℕ → (Item × Item) → List ℕ → Type 0
+IsPairEncodingBelow d p b = (c : List ℕ) × (e : List ℕ) × IsEncodingBelow d p.0 c × IsEncodingBelow d p.1 e × (b ≡ c ++ e)
 
-AreTexts-Each : (d : ℕ) (vs : Items) (b : List ℕ) → AreTexts vs b → items_depth vs < d → Each (IsTextBelow d) (list_of vs) b
-AreTexts-Each d no_items b h lt = h
-AreTexts-Each d (item v vs) b h lt = (h.0, h.1, (h.2, omega arith), AreTexts-Each d vs h.1 h.3 (omega arith), h.4)
+AreEncodings-EachInOrder : (d : ℕ) (vs : Items) (b : List ℕ) → AreEncodings vs b → items_depth vs < d → EachInOrder (IsEncodingBelow d) (list_of vs) b
+AreEncodings-EachInOrder d no_items b h lt = h
+AreEncodings-EachInOrder d (item v vs) b h lt = (h.0, h.1, (h.2, omega arith), AreEncodings-EachInOrder d vs h.1 h.3 (omega arith), h.4)
 
-ArePairTexts-Each : (d : ℕ) (ps : Pairs) (b : List ℕ) → ArePairTexts ps b → pairs_depth ps < d → Each (IsPairTextBelow d) (pair_list_of ps) b
-ArePairTexts-Each d no_pairs b h lt = h
-ArePairTexts-Each d (pair k v ps) b h lt =
-    (h.0 ++ h.1, h.2, (h.0, h.1, (h.3, omega arith), (h.4, omega arith), refl), ArePairTexts-Each d ps h.2 h.5 (omega arith), h.6 ∙ sym (append_assoc h.0 h.1 h.2))
+ArePairEncodings-EachInOrder : (d : ℕ) (ps : Pairs) (b : List ℕ) → ArePairEncodings ps b → pairs_depth ps < d → EachInOrder (IsPairEncodingBelow d) (pair_list_of ps) b
+ArePairEncodings-EachInOrder d no_pairs b h lt = h
+ArePairEncodings-EachInOrder d (pair k v ps) b h lt =
+    (h.0 ++ h.1, h.2, (h.0, h.1, (h.3, omega arith), (h.4, omega arith), refl), ArePairEncodings-EachInOrder d ps h.2 h.5 (omega arith), h.6 ∙ sym (append_assoc h.0 h.1 h.2))
 
-pub pair_reads : (d : ℕ) (read : Parse Item) → ReadsAgain (IsTextBelow d) read → ReadsAgain (IsPairTextBelow d) (pair_at read)
+pub pair_reads : (d : ℕ) (read : Parse Item) → ReadsAgain (IsEncodingBelow d) read → ReadsAgain (IsPairEncodingBelow d) (pair_at read)
 pair_reads d read reads = record {
   again = λ p c rest h.
       ap (pair_at read) (ap (λ (x : List ℕ). x ++ rest) h.4 ∙ append_assoc h.0 h.1 rest) ∙ rw (reads.again p.0 h.0 (h.1 ++ rest) h.2, reads.again p.1 h.1 rest h.3) refl;
-  begins = λ p c h. begins_append h.0 h.1 c h.4 (IsText-begins p.0 h.0 h.2.0);
+  begins = λ p c h. begins_append h.0 h.1 c h.4 (IsEncoding-begins p.0 h.0 h.2.0);
 }
 
 -- what is read inside
 pub record InsideAgain (d : ℕ) (inside : Inside) : Type 0 where
-  pub one : (v : Item) (c rest : List ℕ) → IsText v c → depth v < d → inside.one (c ++ rest) ≡ Ok (v, rest)
-  pub items : (vs : Items) (c rest : List ℕ) → AreTexts vs c → items_depth vs < d → inside.items (Some (items_count vs)) (c ++ rest) ≡ Ok (list_of vs, rest)
-  pub items_until : (vs : Items) (c rest : List ℕ) → AreTexts vs c → items_depth vs < d → inside.items None (c ++ 255 ∷ rest) ≡ Ok (list_of vs, rest)
-  pub pairs : (ps : Pairs) (c rest : List ℕ) → ArePairTexts ps c → pairs_depth ps < d → inside.pairs (Some (pairs_count ps)) (c ++ rest) ≡ Ok (pair_list_of ps, rest)
-  pub pairs_until : (ps : Pairs) (c rest : List ℕ) → ArePairTexts ps c → pairs_depth ps < d → inside.pairs None (c ++ 255 ∷ rest) ≡ Ok (pair_list_of ps, rest)
+  pub one : (v : Item) (c rest : List ℕ) → IsEncoding v c → depth v < d → inside.one (c ++ rest) ≡ Ok (v, rest)
+  pub items : (vs : Items) (c rest : List ℕ) → AreEncodings vs c → items_depth vs < d → inside.items (Some (items_count vs)) (c ++ rest) ≡ Ok (list_of vs, rest)
+  pub items_until : (vs : Items) (c rest : List ℕ) → AreEncodings vs c → items_depth vs < d → inside.items None (c ++ 255 ∷ rest) ≡ Ok (list_of vs, rest)
+  pub pairs : (ps : Pairs) (c rest : List ℕ) → ArePairEncodings ps c → pairs_depth ps < d → inside.pairs (Some (pairs_count ps)) (c ++ rest) ≡ Ok (pair_list_of ps, rest)
+  pub pairs_until : (ps : Pairs) (c rest : List ℕ) → ArePairEncodings ps c → pairs_depth ps < d → inside.pairs None (c ++ 255 ∷ rest) ≡ Ok (pair_list_of ps, rest)
 
 nothing_again : InsideAgain 0 nothing
 nothing_again = record {
@@ -290,31 +290,31 @@ nothing_again = record {
 pub within_turns : (c rest : List ℕ) → length c < length (c ++ 255 ∷ rest)
 within_turns c rest = omega (arith, length-append c (255 ∷ rest))
 
-pub things_again : (d : ℕ) (read : Parse Item) → ReadsAgain (IsTextBelow d) read → InsideAgain d (things read)
+pub things_again : (d : ℕ) (read : Parse Item) → ReadsAgain (IsEncodingBelow d) read → InsideAgain d (things read)
 unfolding things
 things_again d read reads =
     let pair_readers = pair_reads d read reads in
     record {
       one = λ v c rest h lt. reads.again v c rest (h, lt);
       items = λ vs c rest h lt.
-          let each = AreTexts-Each d vs c h lt in
-          let long : length (list_of vs) ≤ length c = Each-long (IsTextBelow d) reads.begins (list_of vs) c each in
+          let each = AreEncodings-EachInOrder d vs c h lt in
+          let long : length (list_of vs) ≤ length c = EachInOrder-long (IsEncodingBelow d) reads.begins (list_of vs) c each in
           let enough : ltb (length (c ++ rest)) (length (list_of vs)) ≡ false = le-ltb _ _ (omega (arith, length-append c rest)) in
-          ap (λ (n : ℕ). array_by read (Some n) (c ++ rest)) (sym (length-list_of vs)) ∙ rw enough (times_again (IsTextBelow d) read reads (list_of vs) c rest each);
-      items_until = λ vs c rest h lt. until_again (IsTextBelow d) read reads (length (c ++ 255 ∷ rest)) (list_of vs) c rest (AreTexts-Each d vs c h lt) (within_turns c rest);
+          ap (λ (n : ℕ). array_by read (Some n) (c ++ rest)) (sym (length-list_of vs)) ∙ rw enough (times_again (IsEncodingBelow d) read reads (list_of vs) c rest each);
+      items_until = λ vs c rest h lt. until_again (IsEncodingBelow d) read reads (length (c ++ 255 ∷ rest)) (list_of vs) c rest (AreEncodings-EachInOrder d vs c h lt) (within_turns c rest);
       pairs = λ ps c rest h lt.
-          let each = ArePairTexts-Each d ps c h lt in
+          let each = ArePairEncodings-EachInOrder d ps c h lt in
           let long : length (pair_list_of ps) * 2 ≤ length c = pairs_long d (pair_list_of ps) c each in
           let enough : ltb (length (c ++ rest) / 2) (length (pair_list_of ps)) ≡ false = le-ltb _ _ (omega (arith, length-append c rest)) in
-          ap (λ (n : ℕ). map_by read (Some n) (c ++ rest)) (sym (length-pair_list_of ps)) ∙ rw enough (times_again (IsPairTextBelow d) (pair_at read) pair_readers (pair_list_of ps) c rest each);
-      pairs_until = λ ps c rest h lt. until_again (IsPairTextBelow d) (pair_at read) pair_readers (length (c ++ 255 ∷ rest)) (pair_list_of ps) c rest (ArePairTexts-Each d ps c h lt) (within_turns c rest);
+          ap (λ (n : ℕ). map_by read (Some n) (c ++ rest)) (sym (length-pair_list_of ps)) ∙ rw enough (times_again (IsPairEncodingBelow d) (pair_at read) pair_readers (pair_list_of ps) c rest each);
+      pairs_until = λ ps c rest h lt. until_again (IsPairEncodingBelow d) (pair_at read) pair_readers (length (c ++ 255 ∷ rest)) (pair_list_of ps) c rest (ArePairEncodings-EachInOrder d ps c h lt) (within_turns c rest);
     }
   where
-    pairs_long : (d : ℕ) (ps : List (Item × Item)) (b : List ℕ) → Each (IsPairTextBelow d) ps b → length ps * 2 ≤ length b
+    pairs_long : (d : ℕ) (ps : List (Item × Item)) (b : List ℕ) → EachInOrder (IsPairEncodingBelow d) ps b → length ps * 2 ≤ length b
     pairs_long d [] b h = omega arith
     pairs_long d (p ∷ ps) b h =
-        let k = IsText-begins p.0 h.2.0 h.2.2.0 in
-        let v = IsText-begins p.1 h.2.1 h.2.3.0 in
+        let k = IsEncoding-begins p.0 h.2.0 h.2.2.0 in
+        let v = IsEncoding-begins p.1 h.2.1 h.2.3.0 in
         let first : length h.2.0 ≡ suc (length k.more) = ap length k.parts in
         let second : length h.2.1 ≡ suc (length v.more) = ap length v.parts in
         let both : length h.0 ≡ length h.2.0 + length h.2.1 = ap length h.2.4 ∙ length-append h.2.0 h.2.1 in
@@ -338,12 +338,12 @@ chunk_reads is_text = record {
   begins = λ s c h. IsHeaded-begins (string_type is_text) (length s) s c (type_low is_text) h.1;
 }
 
-IsStringText-again : (is_text : Bool) (left : ℕ) (s b rest : List ℕ) → IsStringText is_text s b → StringAgain is_text left s (b ++ rest) rest
+IsStringEncoding-again : (is_text : Bool) (left : ℕ) (s b rest : List ℕ) → IsStringEncoding is_text s b → StringAgain is_text left s (b ++ rest) rest
 unfolding chunks_at
-IsStringText-again is_text left s b rest (inl h) =
+IsStringEncoding-again is_text left s b rest (inl h) =
     let r = IsHeaded-again (string_type is_text) (length s) s b rest h.1 in
     record { argument = r.argument; more = s ++ rest; reads = r.reads; string = rw r.number (string_again is_text left s rest h.0) }
-IsStringText-again is_text left s b rest (inr h) =
+IsStringEncoding-again is_text left s b rest (inr h) =
     let all = until_again (IsDefinite is_text) (chunk_at is_text) (chunk_reads is_text) (length (h.1 ++ 255 ∷ rest)) h.0 h.1 rest h.3 (within_turns h.1 rest) in
     record {
       argument = places.Indefinite;
@@ -352,14 +352,14 @@ IsStringText-again is_text left s b rest (inr h) =
       string = rw (all, h.2) refl;
     }
 
-from_again : (d : ℕ) (inside : Inside) → InsideAgain d inside → (v : Item) (b rest : List ℕ) → IsText v b → depth v ≤ d → item_from inside (b ++ rest) ≡ Ok (v, rest)
+from_again : (d : ℕ) (inside : Inside) → InsideAgain d inside → (v : Item) (b rest : List ℕ) → IsEncoding v b → depth v ≤ d → item_from inside (b ++ rest) ≡ Ok (v, rest)
 from_again d inside inner (integer (pos n)) b rest h le = let r = IsHead-again 0 n b rest h in rw (r.reads, r.number) refl
 from_again d inside inner (integer (negsuc n)) b rest h le = let r = IsHead-again 1 n b rest h in rw (r.reads, r.number) refl
-from_again d inside inner (bytes s) b rest h le = let r = IsStringText-again false (length (b ++ rest)) s b rest h in rw (r.reads, r.string) refl
+from_again d inside inner (bytes s) b rest h le = let r = IsStringEncoding-again false (length (b ++ rest)) s b rest h in rw (r.reads, r.string) refl
 from_again d inside inner (float (half n)) b rest h le = let r = head_again two 7 n rest h.0 in ap (λ (x : List ℕ). item_from inside (x ++ rest)) h.1 ∙ rw r refl
 from_again d inside inner (float (single n)) b rest h le = let r = head_again four 7 n rest h.0 in ap (λ (x : List ℕ). item_from inside (x ++ rest)) h.1 ∙ rw r refl
 from_again d inside inner (float (double n)) b rest h le = let r = head_again eight 7 n rest h.0 in ap (λ (x : List ℕ). item_from inside (x ++ rest)) h.1 ∙ rw r refl
-from_again d inside inner (text s) b rest h le = let r = IsStringText-again true (length (b ++ rest)) s b rest h in rw (r.reads, r.string) refl
+from_again d inside inner (text s) b rest h le = let r = IsStringEncoding-again true (length (b ++ rest)) s b rest h in rw (r.reads, r.string) refl
 from_again d inside inner (boolean false) b rest h le = let r = head_again within 7 20 rest (omega arith) in ap (λ (x : List ℕ). item_from inside (x ++ rest)) h ∙ rw r refl
 from_again d inside inner (boolean true) b rest h le = let r = head_again within 7 21 rest (omega arith) in ap (λ (x : List ℕ). item_from inside (x ++ rest)) h ∙ rw r refl
 from_again d inside inner null b rest h le = let r = head_again within 7 22 rest (omega arith) in ap (λ (x : List ℕ). item_from inside (x ++ rest)) h ∙ rw r refl
@@ -377,11 +377,11 @@ from_again d inside inner (dict ps) b rest (c, h, inl e) le =
 from_again d inside inner (dict ps) b rest (c, h, inr e) le =
     ap (item_from inside) (broken_is 5 c b rest e) ∙ rw (opening_again 5 (c ++ 255 ∷ rest), inner.pairs_until ps c rest h (omega arith), pairs_of-pair_list_of ps) refl
 
--- A text of a value that is at most d deep is read as that value, whatever follows.
-pub item_again : (d : ℕ) (v : Item) (b rest : List ℕ) → IsText v b → depth v ≤ d → item_at d (b ++ rest) ≡ Ok (v, rest)
+-- An encoding of a value that is at most d deep is read as that value, whatever follows.
+pub item_again : (d : ℕ) (v : Item) (b rest : List ℕ) → IsEncoding v b → depth v ≤ d → item_at d (b ++ rest) ≡ Ok (v, rest)
 unfolding item_at
 item_again zero v b rest h le = from_again 0 nothing nothing_again v b rest h le
-item_again (suc d) v b rest h le = from_again (suc d) (things (item_at d)) (things_again (suc d) (item_at d) (record { again = λ v c rest h. item_again d v c rest h.0 (omega arith); begins = λ v c h. IsText-begins v c h.0 })) v b rest h le
+item_again (suc d) v b rest h le = from_again (suc d) (things (item_at d)) (things_again (suc d) (item_at d) (record { again = λ v c rest h. item_again d v c rest h.0 (omega arith); begins = λ v c h. IsEncoding-begins v c h.0 })) v b rest h le
 
 abbrev done : Item × List ℕ → Result (Item × List ℕ) Fault
 done x = Ok x
@@ -390,9 +390,9 @@ done x = Ok x
 pub ok_is : (x y : Item × List ℕ) → done x ≡ done y → x ≡ y
 ok_is x y e = cc
 
--- No text of a value begins another.
-pub texts_differ : (v w : Item) (b c x y : List ℕ) → IsText v b → IsText w c → b ++ x ≡ c ++ y → (v ≡ w) × (b ≡ c)
-texts_differ v w b c x y h k e =
+-- No encoding of a value begins another.
+pub encodings_differ : (v w : Item) (b c x y : List ℕ) → IsEncoding v b → IsEncoding w c → b ++ x ≡ c ++ y → (v ≡ w) × (b ≡ c)
+encodings_differ v w b c x y h k e =
     let d = depth v + depth w in
     let both : done (v, x) ≡ done (w, y) = sym (item_again d v b x h (omega arith)) ∙ ap (item_at d) e ∙ item_again d w c y k (omega arith) in
     let same = ok_is (v, x) (w, y) both in

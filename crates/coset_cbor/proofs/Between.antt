@@ -3,78 +3,78 @@ use Rattle.std.proofs.Common.{◌≡◌, ℕ, zero, suc, ◌<◌, true, false, e
 use Rattle.std.specs.Prelude.{◌≢◌, pos, negsuc, unwrap_or}
 use Rattle.std.proofs.lemmas.List.{append-nil, take_at, drop_at, append_cancel_left, append_cancel_right}
 use Rattle.coset_cbor.specs.declared.fault.Fault.TheVariants.{Simple}
-use Rattle.coset_cbor.specs.declared.head.Kind.{Kind}
-use Rattle.coset_cbor.specs.declared.head.Kind.TheVariants as kinds
+use Rattle.coset_cbor.specs.declared.head.MajorType.{MajorType}
+use Rattle.coset_cbor.specs.declared.head.MajorType.TheVariants as major_types
 use Rattle.coset_cbor.specs.declared.head.Argument.{Argument}
 use Rattle.coset_cbor.specs.declared.head.Argument.TheVariants as places
 use Rattle.coset_cbor.specs.declared.head.Head.{Head}
 use Rattle.coset_value.specs.Item.{half, single, double, Item, integer, bytes, float, text, boolean, null, tag, array, dict, Items, no_items, item, Pairs, no_pairs, pair, items_count, pairs_count, items_depth, pairs_depth}
 use Rattle.coset_value.specs.View.{items_of, pairs_of}
 use Rattle.coset_value.specs.Parts.{as_array, as_map}
-use Rattle.coset_cbor.specs.Grammar.{IsHeld, IsText, AreTexts, ArePairTexts, IsItem}
+use Rattle.coset_cbor.specs.Grammar.{IsHeld, IsEncoding, AreEncodings, ArePairEncodings, IsItem}
 use Rattle.coset_cbor.specs.Reading.{◌>>=◌, number_of, head_at, any_string_by, simple_at, Inside, nothing, things, item_by, item_from, item_at}
 use Rattle.coset_cbor.specs.Whole.{is_one_item, item_of}
 use Rattle.coset_cbor.specs.Between.{IsContent, array_around, map_around, items_in, pairs_in}
-use Rattle.coset_cbor.specs.Jumps.{BeginsItem, item_kind}
-use Rattle.coset_cbor.proofs.Again.{head_of, IsHeaded-again, opening_again, IsText-begins, texts_differ}
+use Rattle.coset_cbor.specs.Jumps.{BeginsItem, item_major_type}
+use Rattle.coset_cbor.proofs.Again.{head_of, IsHeaded-again, opening_again, IsEncoding-begins, encodings_differ}
 use Rattle.coset_cbor.proofs.Takes.{IsBytes, IsBytes-take, IsBytes-drop, IsBytes-rest, done, ok_is, bind_ok, some_ok, chosen, guard_else, head_takes}
 use Rattle.coset_cbor.proofs.Whole.{one_item_bytes, one_item_read, one_item_is, one_item_from, item_of_one}
 
--- ---- the kind of head that an item begins with
+-- ---- the major type of the head that an item begins with
 
-kind_made : (y x : Item × List ℕ) → done y ≡ done x → item_kind x.0 ≡ item_kind y.0
-kind_made y x e = ap (λ (p : Item × List ℕ). item_kind p.0) (sym (ok_is y x e))
+major_type_made : (y x : Item × List ℕ) → done y ≡ done x → item_major_type x.0 ≡ item_major_type y.0
+major_type_made y x e = ap (λ (p : Item × List ℕ). item_major_type p.0) (sym (ok_is y x e))
 
-pub simple_kind : (left : ℕ) (a : Argument) (s : List ℕ) (x : Item × List ℕ) → simple_at left a s ≡ Ok x → item_kind x.0 ≡ kinds.Simple
-simple_kind left (places.Within n) s x e =
+pub simple_major_type : (left : ℕ) (a : Argument) (s : List ℕ) (x : Item × List ℕ) → simple_at left a s ≡ Ok x → item_major_type x.0 ≡ major_types.Simple
+simple_major_type left (places.Within n) s x e =
     elim (chosen (eqb n 20) _ _ _ e) [
-      | inl a ↦ kind_made (boolean false, s) x a.1
+      | inl a ↦ major_type_made (boolean false, s) x a.1
       | inr a ↦ elim (chosen (eqb n 21) _ _ _ a.1) [
-        | inl b ↦ kind_made (boolean true, s) x b.1
-        | inr b ↦ let g = guard_else (eqb n 22) (Simple left) (Ok (null, s)) x b.1 in kind_made (null, s) x g.1
+        | inl b ↦ major_type_made (boolean true, s) x b.1
+        | inr b ↦ let g = guard_else (eqb n 22) (Simple left) (Ok (null, s)) x b.1 in major_type_made (null, s) x g.1
       ]
     ]
-simple_kind left (places.One n) s x e = elim (chosen (ltb n 32) _ _ _ e) [ inl a ↦ absurd (cc (a.1)) | inr a ↦ absurd (cc (a.1)) ]
-simple_kind left (places.Two n) s x e = kind_made (float (half n), s) x e
-simple_kind left (places.Four n) s x e = kind_made (float (single n), s) x e
-simple_kind left (places.Eight n) s x e = kind_made (float (double n), s) x e
-simple_kind left places.Indefinite s x e = absurd cc
+simple_major_type left (places.One n) s x e = elim (chosen (ltb n 32) _ _ _ e) [ inl a ↦ absurd (cc (a.1)) | inr a ↦ absurd (cc (a.1)) ]
+simple_major_type left (places.Two n) s x e = major_type_made (float (half n), s) x e
+simple_major_type left (places.Four n) s x e = major_type_made (float (single n), s) x e
+simple_major_type left (places.Eight n) s x e = major_type_made (float (double n), s) x e
+simple_major_type left places.Indefinite s x e = absurd cc
 
-pub kind_by : (inside : Inside) (left : ℕ) (a : Argument) (k : Kind) (s : List ℕ) (x : Item × List ℕ) → item_by inside left a k s ≡ Ok x → item_kind x.0 ≡ k
-kind_by inside left a kinds.Unsigned s x e =
+pub major_type_by : (inside : Inside) (left : ℕ) (a : Argument) (k : MajorType) (s : List ℕ) (x : Item × List ℕ) → item_by inside left a k s ≡ Ok x → item_major_type x.0 ≡ k
+major_type_by inside left a major_types.Unsigned s x e =
     let n = some_ok left (number_of a) (λ n. Ok (integer (pos n), s)) x e in
-    kind_made (integer (pos n.0), s) x n.2
-kind_by inside left a kinds.Negative s x e =
+    major_type_made (integer (pos n.0), s) x n.2
+major_type_by inside left a major_types.Negative s x e =
     let n = some_ok left (number_of a) (λ n. Ok (integer (negsuc n), s)) x e in
-    kind_made (integer (negsuc n.0), s) x n.2
-kind_by inside left a kinds.Bytes s x e =
+    major_type_made (integer (negsuc n.0), s) x n.2
+major_type_by inside left a major_types.Bytes s x e =
     let r = bind_ok (any_string_by false left (number_of a) s) (λ y. Ok (bytes y.0, y.1)) x e in
-    kind_made (bytes r.0.0, r.0.1) x r.2
-kind_by inside left a kinds.Text s x e =
+    major_type_made (bytes r.0.0, r.0.1) x r.2
+major_type_by inside left a major_types.Text s x e =
     let r = bind_ok (any_string_by true left (number_of a) s) (λ y. Ok (Item.text y.0, y.1)) x e in
-    kind_made (Item.text r.0.0, r.0.1) x r.2
-kind_by inside left a kinds.Array s x e =
+    major_type_made (Item.text r.0.0, r.0.1) x r.2
+major_type_by inside left a major_types.Array s x e =
     let r = bind_ok (inside.items (number_of a) s) (λ y. Ok (array (items_of y.0), y.1)) x e in
-    kind_made (array (items_of r.0.0), r.0.1) x r.2
-kind_by inside left a kinds.Map s x e =
+    major_type_made (array (items_of r.0.0), r.0.1) x r.2
+major_type_by inside left a major_types.Map s x e =
     let r = bind_ok (inside.pairs (number_of a) s) (λ y. Ok (dict (pairs_of y.0), y.1)) x e in
-    kind_made (dict (pairs_of r.0.0), r.0.1) x r.2
-kind_by inside left a kinds.Tag s x e =
+    major_type_made (dict (pairs_of r.0.0), r.0.1) x r.2
+major_type_by inside left a major_types.Tag s x e =
     let n = some_ok left (number_of a) (λ n. inside.one s >>= λ y. Ok (tag n y.0, y.1)) x e in
     let r = bind_ok (inside.one s) (λ y. Ok (tag n.0 y.0, y.1)) x n.2 in
-    kind_made (tag n.0 r.0.0, r.0.1) x r.2
-kind_by inside left a kinds.Simple s x e = simple_kind left a s x e
+    major_type_made (tag n.0 r.0.0, r.0.1) x r.2
+major_type_by inside left a major_types.Simple s x e = simple_major_type left a s x e
 
 -- what is read begins with a head of its kind
 record HasHead (b : List ℕ) (v : Item) : Type 0 where
   head : Head × List ℕ
   reads : head_at b ≡ Ok head
-  kind : item_kind v ≡ head.0.kind
+  major_type : item_major_type v ≡ head.0.major_type
 
 head_from : (inside : Inside) (b : List ℕ) (x : Item × List ℕ) → item_from inside b ≡ Ok x → HasHead b x.0
 head_from inside b x e =
-    let r = bind_ok (head_at b) (λ h. item_by inside (length b) h.0.argument h.0.kind h.1) x e in
-    record { head = r.0; reads = r.1; kind = kind_by inside (length b) r.0.0.argument r.0.0.kind r.0.1 x r.2 }
+    let r = bind_ok (head_at b) (λ h. item_by inside (length b) h.0.argument h.0.major_type h.1) x e in
+    record { head = r.0; reads = r.1; major_type = major_type_by inside (length b) r.0.0.argument r.0.0.major_type r.0.1 x r.2 }
 
 has_head : (d : ℕ) (b : List ℕ) (x : Item × List ℕ) → item_at d b ≡ Ok x → HasHead b x.0
 unfolding item_at
@@ -84,12 +84,12 @@ has_head (suc d) b x e = head_from (things (item_at d)) b x e
 one_item_head : (b : List ℕ) → is_one_item b ≡ true → HasHead b (item_of b)
 one_item_head b one = has_head 256 b (item_of b, []) (one_item_read b one)
 
-pub one_item_kind : (b : List ℕ) (h : Head × List ℕ) → is_one_item b ≡ true → head_at b ≡ Ok h → item_kind (item_of b) ≡ h.0.kind
-one_item_kind b h one e =
+pub one_item_major_type : (b : List ℕ) (h : Head × List ℕ) → is_one_item b ≡ true → head_at b ≡ Ok h → item_major_type (item_of b) ≡ h.0.major_type
+one_item_major_type b h one e =
     let g = one_item_head b one in
-    g.kind ∙ ap (λ (x : Head × List ℕ). x.0.kind) (ok_is g.head h (sym g.reads ∙ e))
+    g.major_type ∙ ap (λ (x : Head × List ℕ). x.0.major_type) (ok_is g.head h (sym g.reads ∙ e))
 
-pub is_array : (v : Item) → ((vs : Items) × (v ≡ array vs)) ⊎ ((as_array v ≡ None) × (item_kind v ≢ kinds.Array))
+pub is_array : (v : Item) → ((vs : Items) × (v ≡ array vs)) ⊎ ((as_array v ≡ None) × (item_major_type v ≢ major_types.Array))
 is_array (integer (pos n)) = inr (refl, λ e. cc)
 is_array (integer (negsuc n)) = inr (refl, λ e. cc)
 is_array (bytes s) = inr (refl, λ e. cc)
@@ -101,7 +101,7 @@ is_array (tag t v) = inr (refl, λ e. cc)
 is_array (array vs) = inl (vs, refl)
 is_array (dict ps) = inr (refl, λ e. cc)
 
-pub is_map : (v : Item) → ((ps : Pairs) × (v ≡ dict ps)) ⊎ ((as_map v ≡ None) × (item_kind v ≢ kinds.Map))
+pub is_map : (v : Item) → ((ps : Pairs) × (v ≡ dict ps)) ⊎ ((as_map v ≡ None) × (item_major_type v ≢ major_types.Map))
 is_map (integer (pos n)) = inr (refl, λ e. cc)
 is_map (integer (negsuc n)) = inr (refl, λ e. cc)
 is_map (bytes s) = inr (refl, λ e. cc)
@@ -147,7 +147,7 @@ fits_inside : (x : ℕ) (s : List ℕ) → IsBytes (x ∷ (s ++ 255 ∷ [])) →
 fits_inside x s fits = fits_front s (255 ∷ []) (IsBytes-rest x (s ++ 255 ∷ []) fits)
 
 -- what stands behind the head is what it holds
-content_held : (m n : ℕ) (k : Kind) (c b s : List ℕ) → IsBytes b → IsHeld m n c b → IsContent k b s → (s ≡ c) × IsBytes c
+content_held : (m n : ℕ) (k : MajorType) (c b s : List ℕ) → IsBytes b → IsHeld m n c b → IsContent k b s → (s ≡ c) × IsBytes c
 content_held m n k c b s fits is content =
     let h = content.head in
     let rest = (head_takes b h fits content.reads).rest_fits in
@@ -161,7 +161,7 @@ content_held m n k c b s fits is content =
 -- bytes that are items, one after the other
 record AreItems (b : List ℕ) : Type 0 where
   items : Items
-  texts : AreTexts items b
+  encodings : AreEncodings items b
   low : items_depth items < 256
   fits : IsBytes b
   seen : items_in b ≡ items
@@ -170,9 +170,9 @@ items_seen : (b : List ℕ) (vs : Items) → item_of (array_around b) ≡ array 
 unfolding items_in
 items_seen b vs e = ap (λ (v : Item). unwrap_or (as_array v) no_items) e
 
-pub array_made : (b : List ℕ) (vs : Items) → AreTexts vs b → items_depth vs < 256 → IsBytes b → (is_one_item (array_around b) ≡ true) × (items_in b ≡ vs)
-array_made b vs texts low fits =
-    let is : IsItem (array_around b) (array vs) = ((b, texts, inr refl), omega arith) in
+pub array_made : (b : List ℕ) (vs : Items) → AreEncodings vs b → items_depth vs < 256 → IsBytes b → (is_one_item (array_around b) ≡ true) × (items_in b ≡ vs)
+array_made b vs encodings low fits =
+    let is : IsItem (array_around b) (array vs) = ((b, encodings, inr refl), omega arith) in
     (one_item_from (array_around b) (array vs) (fits_around 0x9F b (omega arith) fits) is, items_seen b vs (item_of_one (array_around b) (array vs) is))
 
 array_inside : (b : List ℕ) (vs : Items) → item_of (array_around b) ≡ array vs → is_one_item (array_around b) ≡ true → AreItems b
@@ -185,7 +185,7 @@ array_inside b vs e one =
     ] in
     record {
       items = vs;
-      texts = subst (λ (s : List ℕ). AreTexts vs s) (sym same) is.0.1;
+      encodings = subst (λ (s : List ℕ). AreEncodings vs s) (sym same) is.0.1;
       low = omega arith;
       fits = fits_inside 0x9F b (one_item_bytes (array_around b) one);
       seen = items_seen b vs e;
@@ -194,31 +194,31 @@ array_inside b vs e one =
 are_items : (b : List ℕ) → is_one_item (array_around b) ≡ true → AreItems b
 are_items b one = elim (is_array (item_of (array_around b))) [
   | inl a ↦ array_inside b a.0 a.1 one
-  | inr a ↦ absurd (a.1 (one_item_kind (array_around b) (head_of 4 places.Indefinite, b ++ 255 ∷ []) one (opening_again 4 (b ++ 255 ∷ []))))
+  | inr a ↦ absurd (a.1 (one_item_major_type (array_around b) (head_of 4 places.Indefinite, b ++ 255 ∷ []) one (opening_again 4 (b ++ 255 ∷ []))))
 ]
 
 -- the members of an array that is one item stand behind its head
-pub array_content : (b s : List ℕ) → is_one_item b ≡ true → IsContent kinds.Array b s → (is_one_item (array_around s) ≡ true) × (Some (items_in s) ≡ as_array (item_of b))
+pub array_content : (b s : List ℕ) → is_one_item b ≡ true → IsContent major_types.Array b s → (is_one_item (array_around s) ≡ true) × (Some (items_in s) ≡ as_array (item_of b))
 array_content b s one content = elim (is_array (item_of b)) [
   | inl a ↦
       let is : IsItem b (array a.0) = subst (λ (v : Item). IsItem b v) a.1 (one_item_is b one) in
       let low = is.1 in
-      let held = content_held 4 (items_count a.0) kinds.Array is.0.0 b s (one_item_bytes b one) is.0.2 content in
-      let made = array_made s a.0 (subst (λ (x : List ℕ). AreTexts a.0 x) (sym held.0) is.0.1) (omega arith) (subst (λ (x : List ℕ). IsBytes x) (sym held.0) held.1) in
+      let held = content_held 4 (items_count a.0) major_types.Array is.0.0 b s (one_item_bytes b one) is.0.2 content in
+      let made = array_made s a.0 (subst (λ (x : List ℕ). AreEncodings a.0 x) (sym held.0) is.0.1) (omega arith) (subst (λ (x : List ℕ). IsBytes x) (sym held.0) held.1) in
       (made.0, ap (λ (vs : Items). Some vs) made.1 ∙ ap as_array (sym a.1))
-  | inr a ↦ absurd (a.1 (one_item_kind b content.head one content.reads ∙ content.kind))
+  | inr a ↦ absurd (a.1 (one_item_major_type b content.head one content.reads ∙ content.major_type))
 ]
 
-pub no_array : (b : List ℕ) → is_one_item b ≡ true → ((h : Head × List ℕ) → head_at b ≡ Ok h → h.0.kind ≢ kinds.Array) → None ≡ as_array (item_of b)
+pub no_array : (b : List ℕ) → is_one_item b ≡ true → ((h : Head × List ℕ) → head_at b ≡ Ok h → h.0.major_type ≢ major_types.Array) → None ≡ as_array (item_of b)
 no_array b one other = elim (is_array (item_of b)) [
-  | inl a ↦ let h = one_item_head b one in absurd (other h.head h.reads (sym h.kind ∙ ap item_kind a.1))
+  | inl a ↦ let h = one_item_head b one in absurd (other h.head h.reads (sym h.major_type ∙ ap item_major_type a.1))
   | inr a ↦ sym a.0
 ]
 
 -- an item is some bytes
-no_empty : (v : Item) (f rest : List ℕ) → [] ≡ f ++ rest → IsText v f → ⊥
+no_empty : (v : Item) (f rest : List ℕ) → [] ≡ f ++ rest → IsEncoding v f → ⊥
 no_empty v f rest e is =
-    let g = IsText-begins v f is in
+    let g = IsEncoding-begins v f is in
     let parts : [] ≡ g.first ∷ (g.more ++ rest) = e ∙ ap (λ (s : List ℕ). s ++ rest) g.parts in
     absurd cc
 
@@ -231,31 +231,31 @@ pub record FirstItem (b rest : List ℕ) (v : Item) : Type 0 where
   pub others : is_one_item (array_around rest) ≡ true
   pub seen : items_in b ≡ item v (items_in rest)
 
-first_of : (b f rest : List ℕ) (v : Item) (vs : Items) → AreTexts vs b → items_depth vs < 256 → IsBytes b → items_in b ≡ vs → b ≡ f ++ rest → IsItem f v → FirstItem b rest v
-first_of b f rest v no_items texts low fits seen e is = absurd (no_empty v f rest (sym texts ∙ e) is.0)
-first_of b f rest v (item w ws) texts low fits seen e is =
-    let same = texts_differ v w f texts.0 rest texts.1 is.0 texts.2 (sym e ∙ texts.4) in
-    let after : texts.1 ≡ rest = append_cancel_left f texts.1 rest (ap (λ (s : List ℕ). s ++ texts.1) same.1 ∙ sym texts.4 ∙ e) in
-    let made = array_made rest ws (subst (λ (s : List ℕ). AreTexts ws s) after texts.3) (omega arith) (fits_back f rest (subst (λ (s : List ℕ). IsBytes s) e fits)) in
+first_of : (b f rest : List ℕ) (v : Item) (vs : Items) → AreEncodings vs b → items_depth vs < 256 → IsBytes b → items_in b ≡ vs → b ≡ f ++ rest → IsItem f v → FirstItem b rest v
+first_of b f rest v no_items encodings low fits seen e is = absurd (no_empty v f rest (sym encodings ∙ e) is.0)
+first_of b f rest v (item w ws) encodings low fits seen e is =
+    let same = encodings_differ v w f encodings.0 rest encodings.1 is.0 encodings.2 (sym e ∙ encodings.4) in
+    let after : encodings.1 ≡ rest = append_cancel_left f encodings.1 rest (ap (λ (s : List ℕ). s ++ encodings.1) same.1 ∙ sym encodings.4 ∙ e) in
+    let made = array_made rest ws (subst (λ (s : List ℕ). AreEncodings ws s) after encodings.3) (omega arith) (fits_back f rest (subst (λ (s : List ℕ). IsBytes s) e fits)) in
     record { others = made.0; seen = seen ∙ ap (λ (x : Item). item x ws) (sym same.0) ∙ ap (item v) (sym made.1) }
 
 pub first_item : (b f rest : List ℕ) (v : Item) → is_one_item (array_around b) ≡ true → b ≡ f ++ rest → IsItem f v → FirstItem b rest v
-first_item b f rest v one e is = let a = are_items b one in first_of b f rest v a.items a.texts a.low a.fits a.seen e is
+first_item b f rest v one e is = let a = are_items b one in first_of b f rest v a.items a.encodings a.low a.fits a.seen e is
 
-none_of : (b : List ℕ) (vs : Items) → AreTexts vs b → items_depth vs < 256 → ((v : Item) (f rest : List ℕ) → b ≡ f ++ rest → IsItem f v → ⊥) → vs ≡ no_items
-none_of b no_items texts low none = refl
-none_of b (item w ws) texts low none = absurd (none w texts.0 texts.1 texts.4 (texts.2, omega arith))
+none_of : (b : List ℕ) (vs : Items) → AreEncodings vs b → items_depth vs < 256 → ((v : Item) (f rest : List ℕ) → b ≡ f ++ rest → IsItem f v → ⊥) → vs ≡ no_items
+none_of b no_items encodings low none = refl
+none_of b (item w ws) encodings low none = absurd (none w encodings.0 encodings.1 encodings.4 (encodings.2, omega arith))
 
 -- where no item stands at the front, none is left
 pub no_first_item : (b : List ℕ) → is_one_item (array_around b) ≡ true → ((v : Item) (f rest : List ℕ) → b ≡ f ++ rest → IsItem f v → ⊥) → items_in b ≡ no_items
-no_first_item b one none = let a = are_items b one in a.seen ∙ none_of b a.items a.texts a.low none
+no_first_item b one none = let a = are_items b one in a.seen ∙ none_of b a.items a.encodings a.low none
 
 -- ---- maps
 
 -- bytes that are pairs, one after the other
 record ArePairs (b : List ℕ) : Type 0 where
   pairs : Pairs
-  texts : ArePairTexts pairs b
+  encodings : ArePairEncodings pairs b
   low : pairs_depth pairs < 256
   fits : IsBytes b
   seen : pairs_in b ≡ pairs
@@ -264,9 +264,9 @@ pairs_seen : (b : List ℕ) (ps : Pairs) → item_of (map_around b) ≡ dict ps 
 unfolding pairs_in
 pairs_seen b ps e = ap (λ (v : Item). unwrap_or (as_map v) no_pairs) e
 
-pub map_made : (b : List ℕ) (ps : Pairs) → ArePairTexts ps b → pairs_depth ps < 256 → IsBytes b → (is_one_item (map_around b) ≡ true) × (pairs_in b ≡ ps)
-map_made b ps texts low fits =
-    let is : IsItem (map_around b) (dict ps) = ((b, texts, inr refl), omega arith) in
+pub map_made : (b : List ℕ) (ps : Pairs) → ArePairEncodings ps b → pairs_depth ps < 256 → IsBytes b → (is_one_item (map_around b) ≡ true) × (pairs_in b ≡ ps)
+map_made b ps encodings low fits =
+    let is : IsItem (map_around b) (dict ps) = ((b, encodings, inr refl), omega arith) in
     (one_item_from (map_around b) (dict ps) (fits_around 0xBF b (omega arith) fits) is, pairs_seen b ps (item_of_one (map_around b) (dict ps) is))
 
 map_inside : (b : List ℕ) (ps : Pairs) → item_of (map_around b) ≡ dict ps → is_one_item (map_around b) ≡ true → ArePairs b
@@ -279,7 +279,7 @@ map_inside b ps e one =
     ] in
     record {
       pairs = ps;
-      texts = subst (λ (s : List ℕ). ArePairTexts ps s) (sym same) is.0.1;
+      encodings = subst (λ (s : List ℕ). ArePairEncodings ps s) (sym same) is.0.1;
       low = omega arith;
       fits = fits_inside 0xBF b (one_item_bytes (map_around b) one);
       seen = pairs_seen b ps e;
@@ -288,24 +288,24 @@ map_inside b ps e one =
 are_pairs : (b : List ℕ) → is_one_item (map_around b) ≡ true → ArePairs b
 are_pairs b one = elim (is_map (item_of (map_around b))) [
   | inl a ↦ map_inside b a.0 a.1 one
-  | inr a ↦ absurd (a.1 (one_item_kind (map_around b) (head_of 5 places.Indefinite, b ++ 255 ∷ []) one (opening_again 5 (b ++ 255 ∷ []))))
+  | inr a ↦ absurd (a.1 (one_item_major_type (map_around b) (head_of 5 places.Indefinite, b ++ 255 ∷ []) one (opening_again 5 (b ++ 255 ∷ []))))
 ]
 
 -- the pairs of a map that is one item stand behind its head
-pub map_content : (b s : List ℕ) → is_one_item b ≡ true → IsContent kinds.Map b s → (is_one_item (map_around s) ≡ true) × (Some (pairs_in s) ≡ as_map (item_of b))
+pub map_content : (b s : List ℕ) → is_one_item b ≡ true → IsContent major_types.Map b s → (is_one_item (map_around s) ≡ true) × (Some (pairs_in s) ≡ as_map (item_of b))
 map_content b s one content = elim (is_map (item_of b)) [
   | inl a ↦
       let is : IsItem b (dict a.0) = subst (λ (v : Item). IsItem b v) a.1 (one_item_is b one) in
       let low = is.1 in
-      let held = content_held 5 (pairs_count a.0) kinds.Map is.0.0 b s (one_item_bytes b one) is.0.2 content in
-      let made = map_made s a.0 (subst (λ (x : List ℕ). ArePairTexts a.0 x) (sym held.0) is.0.1) (omega arith) (subst (λ (x : List ℕ). IsBytes x) (sym held.0) held.1) in
+      let held = content_held 5 (pairs_count a.0) major_types.Map is.0.0 b s (one_item_bytes b one) is.0.2 content in
+      let made = map_made s a.0 (subst (λ (x : List ℕ). ArePairEncodings a.0 x) (sym held.0) is.0.1) (omega arith) (subst (λ (x : List ℕ). IsBytes x) (sym held.0) held.1) in
       (made.0, ap (λ (ps : Pairs). Some ps) made.1 ∙ ap as_map (sym a.1))
-  | inr a ↦ absurd (a.1 (one_item_kind b content.head one content.reads ∙ content.kind))
+  | inr a ↦ absurd (a.1 (one_item_major_type b content.head one content.reads ∙ content.major_type))
 ]
 
-pub no_map : (b : List ℕ) → is_one_item b ≡ true → ((h : Head × List ℕ) → head_at b ≡ Ok h → h.0.kind ≢ kinds.Map) → None ≡ as_map (item_of b)
+pub no_map : (b : List ℕ) → is_one_item b ≡ true → ((h : Head × List ℕ) → head_at b ≡ Ok h → h.0.major_type ≢ major_types.Map) → None ≡ as_map (item_of b)
 no_map b one other = elim (is_map (item_of b)) [
-  | inl a ↦ let h = one_item_head b one in absurd (other h.head h.reads (sym h.kind ∙ ap item_kind a.1))
+  | inl a ↦ let h = one_item_head b one in absurd (other h.head h.reads (sym h.major_type ∙ ap item_major_type a.1))
   | inr a ↦ sym a.0
 ]
 
@@ -314,61 +314,61 @@ pub record FirstPair (b rest : List ℕ) (k v : Item) : Type 0 where
   pub others : is_one_item (map_around rest) ≡ true
   pub seen : pairs_in b ≡ pair k v (pairs_in rest)
 
-first_pair_of : (b f mid g rest : List ℕ) (k v : Item) (ps : Pairs) → ArePairTexts ps b → pairs_depth ps < 256 → IsBytes b → pairs_in b ≡ ps → b ≡ f ++ mid → mid ≡ g ++ rest → IsItem f k → IsItem g v → FirstPair b rest k v
-first_pair_of b f mid g rest k v no_pairs texts low fits seen e d is and = absurd (no_empty k f mid (sym texts ∙ e) is.0)
+first_pair_of : (b f mid g rest : List ℕ) (k v : Item) (ps : Pairs) → ArePairEncodings ps b → pairs_depth ps < 256 → IsBytes b → pairs_in b ≡ ps → b ≡ f ++ mid → mid ≡ g ++ rest → IsItem f k → IsItem g v → FirstPair b rest k v
+first_pair_of b f mid g rest k v no_pairs encodings low fits seen e d is and = absurd (no_empty k f mid (sym encodings ∙ e) is.0)
 first_pair_of b f mid g rest k v (pair x y ps) (c, i, j, key, value, more, parts) low fits seen e d is and =
-    let first = texts_differ k x f c mid (i ++ j) is.0 key (sym e ∙ parts) in
+    let first = encodings_differ k x f c mid (i ++ j) is.0 key (sym e ∙ parts) in
     let after : i ++ j ≡ mid = append_cancel_left f (i ++ j) mid (ap (λ (s : List ℕ). s ++ (i ++ j)) first.1 ∙ sym parts ∙ e) in
-    let second = texts_differ v y g i rest j and.0 value (sym d ∙ sym after) in
+    let second = encodings_differ v y g i rest j and.0 value (sym d ∙ sym after) in
     let end : j ≡ rest = append_cancel_left g j rest (ap (λ (s : List ℕ). s ++ j) second.1 ∙ after ∙ d) in
     let left = fits_back g rest (subst (λ (s : List ℕ). IsBytes s) d (fits_back f mid (subst (λ (s : List ℕ). IsBytes s) e fits))) in
-    let made = map_made rest ps (subst (λ (s : List ℕ). ArePairTexts ps s) end more) (omega arith) left in
+    let made = map_made rest ps (subst (λ (s : List ℕ). ArePairEncodings ps s) end more) (omega arith) left in
     record { others = made.0; seen = seen ∙ ap (λ (z : Item). pair z y ps) (sym first.0) ∙ ap (λ (z : Item). pair k z ps) (sym second.0) ∙ ap (pair k v) (sym made.1) }
 
 pub first_pair : (b f mid g rest : List ℕ) (k v : Item) → is_one_item (map_around b) ≡ true → b ≡ f ++ mid → mid ≡ g ++ rest → IsItem f k → IsItem g v → FirstPair b rest k v
-first_pair b f mid g rest k v one e d is and = let a = are_pairs b one in first_pair_of b f mid g rest k v a.pairs a.texts a.low a.fits a.seen e d is and
+first_pair b f mid g rest k v one e d is and = let a = are_pairs b one in first_pair_of b f mid g rest k v a.pairs a.encodings a.low a.fits a.seen e d is and
 
-none_key : (b : List ℕ) (ps : Pairs) → ArePairTexts ps b → pairs_depth ps < 256 → ((v : Item) (f rest : List ℕ) → b ≡ f ++ rest → IsItem f v → ⊥) → ps ≡ no_pairs
-none_key b no_pairs texts low none = refl
+none_key : (b : List ℕ) (ps : Pairs) → ArePairEncodings ps b → pairs_depth ps < 256 → ((v : Item) (f rest : List ℕ) → b ≡ f ++ rest → IsItem f v → ⊥) → ps ≡ no_pairs
+none_key b no_pairs encodings low none = refl
 none_key b (pair x y ps) (c, i, j, key, value, more, parts) low none = absurd (none x c (i ++ j) parts (key, omega arith))
 
 -- where no key stands at the front, no pair is left
 pub no_first_key : (b : List ℕ) → is_one_item (map_around b) ≡ true → ((v : Item) (f rest : List ℕ) → b ≡ f ++ rest → IsItem f v → ⊥) → pairs_in b ≡ no_pairs
-no_first_key b one none = let a = are_pairs b one in a.seen ∙ none_key b a.pairs a.texts a.low none
+no_first_key b one none = let a = are_pairs b one in a.seen ∙ none_key b a.pairs a.encodings a.low none
 
-value_of : (b f mid : List ℕ) (k : Item) (ps : Pairs) → ArePairTexts ps b → pairs_depth ps < 256 → b ≡ f ++ mid → IsItem f k → ((v : Item) (g rest : List ℕ) → mid ≡ g ++ rest → IsItem g v → ⊥) → ⊥
-value_of b f mid k no_pairs texts low e is none = no_empty k f mid (sym texts ∙ e) is.0
+value_of : (b f mid : List ℕ) (k : Item) (ps : Pairs) → ArePairEncodings ps b → pairs_depth ps < 256 → b ≡ f ++ mid → IsItem f k → ((v : Item) (g rest : List ℕ) → mid ≡ g ++ rest → IsItem g v → ⊥) → ⊥
+value_of b f mid k no_pairs encodings low e is none = no_empty k f mid (sym encodings ∙ e) is.0
 value_of b f mid k (pair x y ps) (c, i, j, key, value, more, parts) low e is none =
-    let first = texts_differ k x f c mid (i ++ j) is.0 key (sym e ∙ parts) in
+    let first = encodings_differ k x f c mid (i ++ j) is.0 key (sym e ∙ parts) in
     let after : i ++ j ≡ mid = append_cancel_left f (i ++ j) mid (ap (λ (s : List ℕ). s ++ (i ++ j)) first.1 ∙ sym parts ∙ e) in
     none y i j (sym after) (value, omega arith)
 
 -- a value stands behind each key
 pub has_value : (b f mid : List ℕ) (k : Item) → is_one_item (map_around b) ≡ true → b ≡ f ++ mid → IsItem f k → ((v : Item) (g rest : List ℕ) → mid ≡ g ++ rest → IsItem g v → ⊥) → ⊥
-has_value b f mid k one e is none = let a = are_pairs b one in value_of b f mid k a.pairs a.texts a.low e is none
+has_value b f mid k one e is none = let a = are_pairs b one in value_of b f mid k a.pairs a.encodings a.low e is none
 
 -- ---- bytes that are left begin with an item
 
-items_begin : (b : List ℕ) (vs : Items) → AreTexts vs b → items_depth vs < 256 → 0 < length b → BeginsItem b
-items_begin b no_items texts low some = let none = ap length texts in absurd (omega arith)
-items_begin b (item w ws) texts low some = record { item = w; front = texts.0; rest = texts.1; parts = texts.4; is_item = (texts.2, omega arith) }
+items_begin : (b : List ℕ) (vs : Items) → AreEncodings vs b → items_depth vs < 256 → 0 < length b → BeginsItem b
+items_begin b no_items encodings low some = let none = ap length encodings in absurd (omega arith)
+items_begin b (item w ws) encodings low some = record { item = w; front = encodings.0; rest = encodings.1; parts = encodings.4; is_item = (encodings.2, omega arith) }
 
 pub item_begins : (b : List ℕ) → is_one_item (array_around b) ≡ true → 0 < length b → BeginsItem b
-item_begins b one some = let a = are_items b one in items_begin b a.items a.texts a.low some
+item_begins b one some = let a = are_items b one in items_begin b a.items a.encodings a.low some
 
-keys_begin : (b : List ℕ) (ps : Pairs) → ArePairTexts ps b → pairs_depth ps < 256 → 0 < length b → BeginsItem b
-keys_begin b no_pairs texts low some = let none = ap length texts in absurd (omega arith)
+keys_begin : (b : List ℕ) (ps : Pairs) → ArePairEncodings ps b → pairs_depth ps < 256 → 0 < length b → BeginsItem b
+keys_begin b no_pairs encodings low some = let none = ap length encodings in absurd (omega arith)
 keys_begin b (pair x y ps) (c, i, j, key, value, more, parts) low some = record { item = x; front = c; rest = i ++ j; parts = parts; is_item = (key, omega arith) }
 
 pub key_begins : (b : List ℕ) → is_one_item (map_around b) ≡ true → 0 < length b → BeginsItem b
-key_begins b one some = let a = are_pairs b one in keys_begin b a.pairs a.texts a.low some
+key_begins b one some = let a = are_pairs b one in keys_begin b a.pairs a.encodings a.low some
 
-value_behind : (b f mid : List ℕ) (k : Item) (ps : Pairs) → ArePairTexts ps b → pairs_depth ps < 256 → b ≡ f ++ mid → IsItem f k → BeginsItem mid
-value_behind b f mid k no_pairs texts low e is = absurd (no_empty k f mid (sym texts ∙ e) is.0)
+value_behind : (b f mid : List ℕ) (k : Item) (ps : Pairs) → ArePairEncodings ps b → pairs_depth ps < 256 → b ≡ f ++ mid → IsItem f k → BeginsItem mid
+value_behind b f mid k no_pairs encodings low e is = absurd (no_empty k f mid (sym encodings ∙ e) is.0)
 value_behind b f mid k (pair x y ps) (c, i, j, key, value, more, parts) low e is =
-    let first = texts_differ k x f c mid (i ++ j) is.0 key (sym e ∙ parts) in
+    let first = encodings_differ k x f c mid (i ++ j) is.0 key (sym e ∙ parts) in
     let after : i ++ j ≡ mid = append_cancel_left f (i ++ j) mid (ap (λ (s : List ℕ). s ++ (i ++ j)) first.1 ∙ sym parts ∙ e) in
     record { item = y; front = i; rest = j; parts = sym after; is_item = (value, omega arith) }
 
 pub value_begins : (b f mid : List ℕ) (k : Item) → is_one_item (map_around b) ≡ true → b ≡ f ++ mid → IsItem f k → BeginsItem mid
-value_begins b f mid k one e is = let a = are_pairs b one in value_behind b f mid k a.pairs a.texts a.low e is
+value_begins b f mid k one e is = let a = are_pairs b one in value_behind b f mid k a.pairs a.encodings a.low e is

@@ -6,18 +6,18 @@ use Rattle.coset_value.specs.Parts.{as_bytes, as_text}
 use Rattle.coset_value.specs.View.{items_of, pairs_of}
 use Rattle.coset_cbor.specs.declared.fault.Fault.{Fault}
 use Rattle.coset_cbor.specs.declared.fault.Fault.TheVariants.{End, Syntax, Simple}
-use Rattle.coset_cbor.specs.declared.head.Kind.{Kind}
-use Rattle.coset_cbor.specs.declared.head.Kind.TheVariants as kinds
+use Rattle.coset_cbor.specs.declared.head.MajorType.{MajorType}
+use Rattle.coset_cbor.specs.declared.head.MajorType.TheVariants as major_types
 use Rattle.coset_cbor.specs.declared.head.Argument.{Argument}
 use Rattle.coset_cbor.specs.declared.head.Argument.TheVariants as places
 use Rattle.coset_cbor.specs.declared.head.Head.{Head}
 use Rattle.std.specs.Prelude.{pos, negsuc}
-use Rattle.coset_cbor.specs.Grammar.{Each, joined, string_type, IsDefinite, IsIndefinite}
-use Rattle.coset_cbor.specs.Reading.{◌>>=◌, number_of, head_at, string_at, chunk_kind, chunk_at, until_at, chunks_at, any_string_by, simple_at, Inside, things, item_by, item_at}
+use Rattle.coset_cbor.specs.Grammar.{EachInOrder, joined_chunks, string_type, IsDefinite, IsIndefinite}
+use Rattle.coset_cbor.specs.Reading.{◌>>=◌, number_of, head_at, string_at, begins_chunk, chunk_at, until_at, chunks_at, any_string_by, simple_at, Inside, things, item_by, item_at}
 use Rattle.coset_cbor.specs.Whole.{are_bytes, is_one_item, item_of}
 use Rattle.coset_cbor.specs.StringChunks.{as_string, chunks_read, is_all_read, contents_or_none, are_chunks, chunk_contents, AreChunksOf}
-use Rattle.coset_cbor.proofs.Again.{Each-long, chunk_again, chunk_reads, until_again}
-use Rattle.coset_cbor.proofs.Takes.{IsBytes, IsBytes-take, IsBytes-rest, bind_ok, done, ok_is, chosen, some_ok, head_takes, none_head, type_of, chunk_type, chunk_takes, until_take}
+use Rattle.coset_cbor.proofs.Again.{EachInOrder-long, chunk_again, chunk_reads, until_again}
+use Rattle.coset_cbor.proofs.Takes.{IsBytes, IsBytes-take, IsBytes-rest, bind_ok, done, ok_is, chosen, some_ok, head_takes, none_head, major_type_number, chunk_type, chunk_takes, until_take}
 use Rattle.coset_cbor.proofs.Heads.{one_item_by}
 use Rattle.coset_cbor.proofs.Whole.{both, are_bytes_is, are_bytes_from, one_item_bytes}
 
@@ -40,7 +40,7 @@ break_fits (suc i) = omega arith
 -- bytes that are chunks, with these contents
 pub record Chunked (is_text : Bool) (b : List ℕ) : Type 0 where
   pub fits : IsBytes b
-  pub each : Each (IsDefinite is_text) (chunk_contents is_text b) b
+  pub each : EachInOrder (IsDefinite is_text) (chunk_contents is_text b) b
 
 pub chunks_are : (is_text : Bool) (b : List ℕ) → are_chunks is_text b ≡ true → Chunked is_text b
 unfolding are_chunks chunk_contents
@@ -51,24 +51,24 @@ chunks_are is_text b e =
     let t = until_take (IsDefinite is_text) (chunk_at is_text) (chunk_takes is_text) (suc (length b)) (b ++ 255 ∷ []) (contents, []) (IsBytes-append b (255 ∷ []) fits break_fits) (all_read (chunks_read is_text b) h.1) in
     record {
       fits = fits;
-      each = subst (λ (c : List ℕ). Each (IsDefinite is_text) contents c) (sym (append_cancel_right b t.front (255 ∷ []) t.parts)) t.text;
+      each = subst (λ (c : List ℕ). EachInOrder (IsDefinite is_text) contents c) (sym (append_cancel_right b t.front (255 ∷ []) t.parts)) t.encoding;
     }
 
-read_chunks : (is_text : Bool) (ss : List (List ℕ)) (b : List ℕ) → Each (IsDefinite is_text) ss b → chunks_read is_text b ≡ Ok (ss, [])
+read_chunks : (is_text : Bool) (ss : List (List ℕ)) (b : List ℕ) → EachInOrder (IsDefinite is_text) ss b → chunks_read is_text b ≡ Ok (ss, [])
 read_chunks is_text ss b h = until_again (IsDefinite is_text) (chunk_at is_text) (chunk_reads is_text) (suc (length b)) ss b [] h (omega arith)
 
-pub contents_are : (is_text : Bool) (ss : List (List ℕ)) (b : List ℕ) → Each (IsDefinite is_text) ss b → chunk_contents is_text b ≡ ss
+pub contents_are : (is_text : Bool) (ss : List (List ℕ)) (b : List ℕ) → EachInOrder (IsDefinite is_text) ss b → chunk_contents is_text b ≡ ss
 unfolding chunk_contents
 contents_are is_text ss b h = ap contents_or_none (read_chunks is_text ss b h)
 
-pub chunks_from : (is_text : Bool) (ss : List (List ℕ)) (b : List ℕ) → IsBytes b → Each (IsDefinite is_text) ss b → are_chunks is_text b ≡ true
+pub chunks_from : (is_text : Bool) (ss : List (List ℕ)) (b : List ℕ) → IsBytes b → EachInOrder (IsDefinite is_text) ss b → are_chunks is_text b ≡ true
 unfolding are_chunks
 chunks_from is_text ss b fits h = rw (are_bytes_from b fits) (ap is_all_read (read_chunks is_text ss b h))
 
 -- each takes at least a byte
-chunks_long : (is_text : Bool) (ss : List (List ℕ)) (b : List ℕ) → Each (IsDefinite is_text) ss b → length (chunk_contents is_text b) ≤ length b
+chunks_long : (is_text : Bool) (ss : List (List ℕ)) (b : List ℕ) → EachInOrder (IsDefinite is_text) ss b → length (chunk_contents is_text b) ≤ length b
 chunks_long is_text ss b h =
-    let long = Each-long (IsDefinite is_text) (chunk_reads is_text).begins ss b h in
+    let long = EachInOrder-long (IsDefinite is_text) (chunk_reads is_text).begins ss b h in
     let same = ap length (contents_are is_text ss b h) in
     omega arith
 
@@ -84,7 +84,7 @@ none_read : (is_text : Bool) → chunk_at is_text [] ≡ failed End
 unfolding chunk_at head_at
 none_read is_text = refl
 
-first_read : (is_text : Bool) (x : List ℕ) (xs : List (List ℕ)) (b : List ℕ) → (h : Each (IsDefinite is_text) (x ∷ xs) b) → chunk_at is_text b ≡ done (x, h.1)
+first_read : (is_text : Bool) (x : List ℕ) (xs : List (List ℕ)) (b : List ℕ) → (h : EachInOrder (IsDefinite is_text) (x ∷ xs) b) → chunk_at is_text b ≡ done (x, h.1)
 first_read is_text x xs b h = ap (chunk_at is_text) h.4 ∙ chunk_again is_text x h.0 h.1 h.2
 
 pub record NextChunk (is_text : Bool) (b s rest : List ℕ) : Type 0 where
@@ -92,12 +92,12 @@ pub record NextChunk (is_text : Bool) (b s rest : List ℕ) : Type 0 where
   pub counted : length (chunk_contents is_text rest) ≤ length rest
   pub contents : chunk_contents is_text b ≡ s ∷ chunk_contents is_text rest
 
-next_of : (is_text : Bool) (ss : List (List ℕ)) (b s rest : List ℕ) → IsBytes b → Each (IsDefinite is_text) ss b → chunk_at is_text b ≡ Ok (s, rest) → NextChunk is_text b s rest
+next_of : (is_text : Bool) (ss : List (List ℕ)) (b s rest : List ℕ) → IsBytes b → EachInOrder (IsDefinite is_text) ss b → chunk_at is_text b ≡ Ok (s, rest) → NextChunk is_text b s rest
 next_of is_text [] b s rest fits h e = absurd (apart (s, rest) End (sym e ∙ ap (chunk_at is_text) h ∙ none_read is_text))
 next_of is_text (x ∷ xs) b s rest fits h e =
     let same = ok_is (x, h.1) (s, rest) (sym (first_read is_text x xs b h) ∙ e) in
     let first : x ≡ s = ap (λ (p : List ℕ × List ℕ). p.0) same in
-    let others = subst (λ (c : List ℕ). Each (IsDefinite is_text) xs c) (ap (λ (p : List ℕ × List ℕ). p.1) same) h.3 in
+    let others = subst (λ (c : List ℕ). EachInOrder (IsDefinite is_text) xs c) (ap (λ (p : List ℕ × List ℕ). p.1) same) h.3 in
     let left = contents_are is_text xs rest others in
     let all = contents_are is_text (x ∷ xs) b h in
     record {
@@ -111,7 +111,7 @@ next_chunk is_text b s rest are e =
     let c = chunks_are is_text b are in
     next_of is_text (chunk_contents is_text b) b s rest c.fits c.each e
 
-end_of : (is_text : Bool) (ss : List (List ℕ)) (b : List ℕ) (f : Fault) → Each (IsDefinite is_text) ss b → chunk_at is_text b ≡ Err f → ss ≡ []
+end_of : (is_text : Bool) (ss : List (List ℕ)) (b : List ℕ) (f : Fault) → EachInOrder (IsDefinite is_text) ss b → chunk_at is_text b ≡ Err f → ss ≡ []
 end_of is_text [] b f h e = refl
 end_of is_text (x ∷ xs) b f h e = absurd (apart (x, h.1) f (sym (first_read is_text x xs b h) ∙ e))
 
@@ -154,17 +154,17 @@ string_read_of is_text left a s v e =
       is = ap (as_string is_text) (sym value) ∙ as_string-string_item is_text r.0.0;
     }
 
-string_read : (is_text : Bool) (inside : Inside) (left : ℕ) (a : Argument) (k : Kind) (s : List ℕ) (v : Item) → chunk_kind is_text k ≡ true → item_by inside left a k s ≡ Ok (v, []) → StringRead is_text left a s v
-string_read false inside left a kinds.Bytes s v is e = string_read_of false left a s v e
-string_read true inside left a kinds.Text s v is e = string_read_of true left a s v e
-string_read true inside left a kinds.Bytes s v is e = absurd cc
-string_read false inside left a kinds.Text s v is e = absurd cc
-string_read is_text inside left a kinds.Unsigned s v is e = absurd cc
-string_read is_text inside left a kinds.Negative s v is e = absurd cc
-string_read is_text inside left a kinds.Array s v is e = absurd cc
-string_read is_text inside left a kinds.Map s v is e = absurd cc
-string_read is_text inside left a kinds.Tag s v is e = absurd cc
-string_read is_text inside left a kinds.Simple s v is e = absurd cc
+string_read : (is_text : Bool) (inside : Inside) (left : ℕ) (a : Argument) (k : MajorType) (s : List ℕ) (v : Item) → begins_chunk is_text k ≡ true → item_by inside left a k s ≡ Ok (v, []) → StringRead is_text left a s v
+string_read false inside left a major_types.Bytes s v is e = string_read_of false left a s v e
+string_read true inside left a major_types.Text s v is e = string_read_of true left a s v e
+string_read true inside left a major_types.Bytes s v is e = absurd cc
+string_read false inside left a major_types.Text s v is e = absurd cc
+string_read is_text inside left a major_types.Unsigned s v is e = absurd cc
+string_read is_text inside left a major_types.Negative s v is e = absurd cc
+string_read is_text inside left a major_types.Array s v is e = absurd cc
+string_read is_text inside left a major_types.Map s v is e = absurd cc
+string_read is_text inside left a major_types.Tag s v is e = absurd cc
+string_read is_text inside left a major_types.Simple s v is e = absurd cc
 
 not_string : (is_text : Bool) (v : Item) → as_bytes v ≡ None → as_text v ≡ None → as_string is_text v ≡ None
 not_string false v e f = e
@@ -196,56 +196,56 @@ simple_read is_text left (places.Eight n) s v rest e = other_is is_text (float (
 simple_read is_text left places.Indefinite s v rest e = absurd (item_apart (v, rest) (Syntax left) (sym e))
 
 -- behind a head of another kind stands no string of this one
-other_read : (is_text : Bool) (inside : Inside) (left : ℕ) (a : Argument) (k : Kind) (s : List ℕ) (v : Item) (rest : List ℕ) → chunk_kind is_text k ≡ false → item_by inside left a k s ≡ Ok (v, rest) → as_string is_text v ≡ None
-other_read is_text inside left a kinds.Unsigned s v rest is e =
+other_read : (is_text : Bool) (inside : Inside) (left : ℕ) (a : Argument) (k : MajorType) (s : List ℕ) (v : Item) (rest : List ℕ) → begins_chunk is_text k ≡ false → item_by inside left a k s ≡ Ok (v, rest) → as_string is_text v ≡ None
+other_read is_text inside left a major_types.Unsigned s v rest is e =
     let n = some_ok left (number_of a) (λ n. Ok (integer (pos n), s)) (v, rest) e in
     other_is is_text (integer (pos n.0)) v s rest (not_string is_text (integer (pos n.0)) refl refl) n.2
-other_read is_text inside left a kinds.Negative s v rest is e =
+other_read is_text inside left a major_types.Negative s v rest is e =
     let n = some_ok left (number_of a) (λ n. Ok (integer (negsuc n), s)) (v, rest) e in
     other_is is_text (integer (negsuc n.0)) v s rest (not_string is_text (integer (negsuc n.0)) refl refl) n.2
-other_read false inside left a kinds.Bytes s v rest is e = absurd cc
-other_read true inside left a kinds.Bytes s v rest is e =
+other_read false inside left a major_types.Bytes s v rest is e = absurd cc
+other_read true inside left a major_types.Bytes s v rest is e =
     let r = bind_ok (any_string_by false left (number_of a) s) (λ x. Ok (bytes x.0, x.1)) (v, rest) e in
     other_is true (bytes r.0.0) v r.0.1 rest refl r.2
-other_read false inside left a kinds.Text s v rest is e =
+other_read false inside left a major_types.Text s v rest is e =
     let r = bind_ok (any_string_by true left (number_of a) s) (λ x. Ok (text x.0, x.1)) (v, rest) e in
     other_is false (text r.0.0) v r.0.1 rest refl r.2
-other_read true inside left a kinds.Text s v rest is e = absurd cc
-other_read is_text inside left a kinds.Array s v rest is e =
+other_read true inside left a major_types.Text s v rest is e = absurd cc
+other_read is_text inside left a major_types.Array s v rest is e =
     let r = bind_ok (inside.items (number_of a) s) (λ x. Ok (array (items_of x.0), x.1)) (v, rest) e in
     other_is is_text (array (items_of r.0.0)) v r.0.1 rest (not_string is_text (array (items_of r.0.0)) refl refl) r.2
-other_read is_text inside left a kinds.Map s v rest is e =
+other_read is_text inside left a major_types.Map s v rest is e =
     let r = bind_ok (inside.pairs (number_of a) s) (λ x. Ok (dict (pairs_of x.0), x.1)) (v, rest) e in
     other_is is_text (dict (pairs_of r.0.0)) v r.0.1 rest (not_string is_text (dict (pairs_of r.0.0)) refl refl) r.2
-other_read is_text inside left a kinds.Tag s v rest is e =
+other_read is_text inside left a major_types.Tag s v rest is e =
     let n = some_ok left (number_of a) (λ n. inside.one s >>= λ x. Ok (tag n x.0, x.1)) (v, rest) e in
     let r = bind_ok (inside.one s) (λ x. Ok (tag n.0 x.0, x.1)) (v, rest) n.2 in
     other_is is_text (tag n.0 r.0.0) v r.0.1 rest (not_string is_text (tag n.0 r.0.0) refl refl) r.2
-other_read is_text inside left a kinds.Simple s v rest is e = simple_read is_text left a s v rest e
+other_read is_text inside left a major_types.Simple s v rest is e = simple_read is_text left a s v rest e
 
-pub no_string : (is_text : Bool) (b : List ℕ) (h : Head × List ℕ) → is_one_item b ≡ true → head_at b ≡ Ok h → chunk_kind is_text h.0.kind ≡ false → as_string is_text (item_of b) ≡ None
-no_string is_text b h is e kind = other_read is_text (things (item_at 255)) (length b) h.0.argument h.0.kind h.1 (item_of b) [] kind (one_item_by b h is e)
+pub no_string : (is_text : Bool) (b : List ℕ) (h : Head × List ℕ) → is_one_item b ≡ true → head_at b ≡ Ok h → begins_chunk is_text h.0.major_type ≡ false → as_string is_text (item_of b) ≡ None
+no_string is_text b h is e major_type = other_read is_text (things (item_at 255)) (length b) h.0.argument h.0.major_type h.1 (item_of b) [] major_type (one_item_by b h is e)
 
 -- ---- the chunks of a string
 
 -- a string behind its length is its only chunk
-pub whole_chunk : (is_text : Bool) (b : List ℕ) (h : Head × List ℕ) (n : ℕ) → is_one_item b ≡ true → head_at b ≡ Ok h → chunk_kind is_text h.0.kind ≡ true → number_of h.0.argument ≡ Some n → AreChunksOf is_text b b
+pub whole_chunk : (is_text : Bool) (b : List ℕ) (h : Head × List ℕ) (n : ℕ) → is_one_item b ≡ true → head_at b ≡ Ok h → begins_chunk is_text h.0.major_type ≡ true → number_of h.0.argument ≡ Some n → AreChunksOf is_text b b
 unfolding chunk_at
-whole_chunk is_text b h n is e kind number =
+whole_chunk is_text b h n is e major_type number =
     let fits = one_item_bytes b is in
-    let r = string_read is_text (things (item_at 255)) (length b) h.0.argument h.0.kind h.1 (item_of b) kind (one_item_by b h is e) in
+    let r = string_read is_text (things (item_at 255)) (length b) h.0.argument h.0.major_type h.1 (item_of b) major_type (one_item_by b h is e) in
     let content : string_at is_text (length b) n h.1 ≡ Ok (r.content, []) = rw number at r.read in
-    let read : chunk_at is_text b ≡ Ok (r.content, []) = rw (e, kind, number) content in
+    let read : chunk_at is_text b ≡ Ok (r.content, []) = rw (e, major_type, number) content in
     let t = chunk_takes is_text b (r.content, []) fits read in
     let same : t.front ≡ b = sym (append-nil t.front) ∙ sym t.parts in
-    let definite = subst (λ (c : List ℕ). IsDefinite is_text r.content c) same t.text in
-    let each : Each (IsDefinite is_text) (r.content ∷ []) b = (b, [], definite, refl, sym (append-nil b)) in
+    let definite = subst (λ (c : List ℕ). IsDefinite is_text r.content c) same t.encoding in
+    let each : EachInOrder (IsDefinite is_text) (r.content ∷ []) b = (b, [], definite, refl, sym (append-nil b)) in
     let contents = contents_are is_text (r.content ∷ []) b each in
     record {
       chunks = chunks_from is_text (r.content ∷ []) b fits each;
       counted = chunks_long is_text (r.content ∷ []) b each;
       contents = inl (r.content, contents, definite);
-      whole = r.is ∙ ap Some (sym (append-nil r.content) ∙ ap joined (sym contents));
+      whole = r.is ∙ ap Some (sym (append-nil r.content) ∙ ap joined_chunks (sym contents));
     }
 
 -- without the last one
@@ -261,50 +261,50 @@ IsBytes-front s x fits = subst (λ (c : List ℕ). IsBytes c) (take_at s (x ∷ 
 record Between (is_text : Bool) (b s : List ℕ) : Type 0 where
   contents : List (List ℕ)
   chunks : List ℕ
-  each : Each (IsDefinite is_text) contents chunks
+  each : EachInOrder (IsDefinite is_text) contents chunks
   stops : s ≡ chunks ++ 255 ∷ []
   fits : IsBytes s
   broken : IsIndefinite (string_type is_text) chunks b
-  whole : as_string is_text (item_of b) ≡ Some (joined contents)
+  whole : as_string is_text (item_of b) ≡ Some (joined_chunks contents)
 
-between_of : (is_text : Bool) (b : List ℕ) (h : Head × List ℕ) → is_one_item b ≡ true → head_at b ≡ Ok h → chunk_kind is_text h.0.kind ≡ true → number_of h.0.argument ≡ None → Between is_text b h.1
+between_of : (is_text : Bool) (b : List ℕ) (h : Head × List ℕ) → is_one_item b ≡ true → head_at b ≡ Ok h → begins_chunk is_text h.0.major_type ≡ true → number_of h.0.argument ≡ None → Between is_text b h.1
 unfolding chunks_at
-between_of is_text b h is e kind number =
-    let r = string_read is_text (things (item_at 255)) (length b) h.0.argument h.0.kind h.1 (item_of b) kind (one_item_by b h is e) in
-    let read : (until_at (chunk_at is_text) (length h.1) h.1 >>= λ x. Ok (joined x.0, x.1)) ≡ Ok (r.content, []) = rw number at r.read in
-    let u = bind_ok (until_at (chunk_at is_text) (length h.1) h.1) (λ x. Ok (joined x.0, x.1)) (r.content, []) read in
-    let same = ok_is (joined u.0.0, u.0.1) (r.content, []) u.2 in
-    let content : joined u.0.0 ≡ r.content = ap (λ (p : List ℕ × List ℕ). p.0) same in
+between_of is_text b h is e major_type number =
+    let r = string_read is_text (things (item_at 255)) (length b) h.0.argument h.0.major_type h.1 (item_of b) major_type (one_item_by b h is e) in
+    let read : (until_at (chunk_at is_text) (length h.1) h.1 >>= λ x. Ok (joined_chunks x.0, x.1)) ≡ Ok (r.content, []) = rw number at r.read in
+    let u = bind_ok (until_at (chunk_at is_text) (length h.1) h.1) (λ x. Ok (joined_chunks x.0, x.1)) (r.content, []) read in
+    let same = ok_is (joined_chunks u.0.0, u.0.1) (r.content, []) u.2 in
+    let content : joined_chunks u.0.0 ≡ r.content = ap (λ (p : List ℕ × List ℕ). p.0) same in
     let ends : u.0.1 ≡ [] = ap (λ (p : List ℕ × List ℕ). p.1) same in
     let head = head_takes b h (one_item_bytes b is) e in
     let t = until_take (IsDefinite is_text) (chunk_at is_text) (chunk_takes is_text) (length h.1) h.1 u.0 head.rest_fits u.1 in
     let stops : h.1 ≡ t.front ++ 255 ∷ [] = t.parts ∙ ap (λ (c : List ℕ). t.front ++ 255 ∷ c) ends in
-    let opening : head.front ≡ (32 * string_type is_text + 31) ∷ [] = none_head (type_of h.0.kind) h.0.argument head.front head.text number ∙ ap (λ (m : ℕ). (32 * m + 31) ∷ []) (chunk_type is_text h.0.kind kind) in
+    let opening : head.front ≡ (32 * string_type is_text + 31) ∷ [] = none_head (major_type_number h.0.major_type) h.0.argument head.front head.encoding number ∙ ap (λ (m : ℕ). (32 * m + 31) ∷ []) (chunk_type is_text h.0.major_type major_type) in
     record {
       contents = u.0.0;
       chunks = t.front;
-      each = t.text;
+      each = t.encoding;
       stops = stops;
       fits = head.rest_fits;
       broken = head.parts ∙ ap₂ (λ (c d : List ℕ). c ++ d) opening stops;
       whole = r.is ∙ ap Some (sym content);
     }
 
-pub broken_chunks : (is_text : Bool) (b : List ℕ) (h : Head × List ℕ) (s : List ℕ) (last : ℕ) → is_one_item b ≡ true → head_at b ≡ Ok h → chunk_kind is_text h.0.kind ≡ true → number_of h.0.argument ≡ None → h.1 ≡ s ++ last ∷ [] → AreChunksOf is_text b s
-broken_chunks is_text b h s last is e kind number parts =
-    let t = between_of is_text b h is e kind number in
+pub broken_chunks : (is_text : Bool) (b : List ℕ) (h : Head × List ℕ) (s : List ℕ) (last : ℕ) → is_one_item b ≡ true → head_at b ≡ Ok h → begins_chunk is_text h.0.major_type ≡ true → number_of h.0.argument ≡ None → h.1 ≡ s ++ last ∷ [] → AreChunksOf is_text b s
+broken_chunks is_text b h s last is e major_type number parts =
+    let t = between_of is_text b h is e major_type number in
     let same : t.chunks ≡ s = fronts_same t.chunks s 255 last (sym t.stops ∙ parts) in
-    let each = subst (λ (c : List ℕ). Each (IsDefinite is_text) t.contents c) same t.each in
+    let each = subst (λ (c : List ℕ). EachInOrder (IsDefinite is_text) t.contents c) same t.each in
     let contents = contents_are is_text t.contents s each in
     record {
       chunks = chunks_from is_text t.contents s (IsBytes-front s last (subst (λ (c : List ℕ). IsBytes c) parts t.fits)) each;
       counted = chunks_long is_text t.contents s each;
-      contents = inr (s, subst (λ (ss : List (List ℕ)). Each (IsDefinite is_text) ss s) (sym contents) each, subst (λ (c : List ℕ). IsIndefinite (string_type is_text) c b) same t.broken);
-      whole = t.whole ∙ ap Some (ap joined (sym contents));
+      contents = inr (s, subst (λ (ss : List (List ℕ)). EachInOrder (IsDefinite is_text) ss s) (sym contents) each, subst (λ (c : List ℕ). IsIndefinite (string_type is_text) c b) same t.broken);
+      whole = t.whole ∙ ap Some (ap joined_chunks (sym contents));
     }
 
 -- a break follows
-pub has_break : (is_text : Bool) (b : List ℕ) (h : Head × List ℕ) → is_one_item b ≡ true → head_at b ≡ Ok h → chunk_kind is_text h.0.kind ≡ true → number_of h.0.argument ≡ None → length h.1 ≡ 0 → ⊥
-has_break is_text b h is e kind number none =
-    let t = between_of is_text b h is e kind number in
+pub has_break : (is_text : Bool) (b : List ℕ) (h : Head × List ℕ) → is_one_item b ≡ true → head_at b ≡ Ok h → begins_chunk is_text h.0.major_type ≡ true → number_of h.0.argument ≡ None → length h.1 ≡ 0 → ⊥
+has_break is_text b h is e major_type number none =
+    let t = between_of is_text b h is e major_type number in
     omega (arith, ap length t.stops, length-append t.chunks (255 ∷ []))

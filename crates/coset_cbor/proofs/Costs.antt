@@ -1,4 +1,4 @@
--- A check of a text takes the steps that the text costs.
+-- A check of an encoding takes the steps that it costs.
 use Rattle.std.proofs.Common.{◌≡◌, ℕ, zero, suc, ◌+◌, ◌*◌, ◌/◌, ◌<◌, ◌≤◌, Bool, true, false, ltb, List, [], ◌∷◌, ◌++◌, replicate, length, Some, None, Ok, refl, sym, ap, subst, ◌∙◌, append_assoc, arith, inl, inr}
 use Rattle.std.specs.Prelude.{pos, negsuc}
 use Rattle.std.proofs.lemmas.List.{length-append, append-nil}
@@ -7,16 +7,16 @@ use Rattle.coset_value.specs.Item.{half, single, double, Item, integer, bytes, f
 use Rattle.coset_cbor.specs.declared.fault.Fault.TheVariants.{End}
 use Rattle.coset_cbor.specs.declared.head.Argument.{Argument}
 use Rattle.coset_cbor.specs.declared.head.Argument.TheVariants as places
-use Rattle.coset_cbor.specs.Grammar.{within, two, four, eight, IsHeaded, Each, string_type, IsDefinite, IsStringText, IsHeld, IsText, AreTexts, ArePairTexts, IsItem}
+use Rattle.coset_cbor.specs.Grammar.{within, two, four, eight, IsHeaded, EachInOrder, string_type, IsDefinite, IsStringEncoding, IsHeld, IsEncoding, AreEncodings, ArePairEncodings, IsItem}
 use Rattle.coset_cbor.specs.Reading.{Parse, number_of, head_at, string_at, chunk_at, times_at, pair_at, things, item_at}
 use Rattle.coset_cbor.specs.Cost.{content_cost, chunks_cost, IsStringCost, IsHeldCost, IsCost, AreCosts, ArePairCosts}
 use Rattle.coset_cbor.specs.Counting.{after, content_steps, chunk_steps, times_steps, until_steps, string_steps, pair_steps, StepsInside, no_steps, steps_of, steps_from, item_steps}
-use Rattle.coset_cbor.proofs.Again.{head_of, IsHead-again, IsHeaded-again, head_again, opening_again, chunk_kind-type, string_again, chunk_again, chunk_reads, Begins, no_break, regroup, IsText-begins, ReadsAgain, within_turns, broken_is, list_of, length-list_of, pair_list_of, length-pair_list_of, IsTextBelow, IsPairTextBelow, texts_differ, pair_reads, things_again, item_again}
+use Rattle.coset_cbor.proofs.Again.{head_of, IsHead-again, IsHeaded-again, head_again, opening_again, begins_chunk-type, string_again, chunk_again, chunk_reads, Begins, no_break, regroup, IsEncoding-begins, ReadsAgain, within_turns, broken_is, list_of, length-list_of, pair_list_of, length-pair_list_of, IsEncodingBelow, IsPairEncodingBelow, encodings_differ, pair_reads, things_again, item_again}
 use Rattle.coset_cbor.proofs.Takes.{guard_ok}
 
--- ---- every text has a cost, and what has a cost is a text
+-- ---- every encoding has a cost, and what has a cost is an encoding
 
-string_has_cost : (is_text : Bool) (s b : List ℕ) → IsStringText is_text s b → (k : ℕ) × IsStringCost is_text s b k
+string_has_cost : (is_text : Bool) (s b : List ℕ) → IsStringEncoding is_text s b → (k : ℕ) × IsStringCost is_text s b k
 string_has_cost is_text s b (inl h) = (suc (content_cost is_text s), inl (h, refl))
 string_has_cost is_text s b (inr h) = (2 + chunks_cost is_text h.0, inr (h.0, h.1, h.2, h.3, h.4, refl))
 
@@ -25,7 +25,7 @@ held_has_cost m n s b j (inl h) = (suc j, inl (h, refl))
 held_has_cost m n s b j (inr h) = (2 + j, inr (h, refl))
 
 mutual
-  pub has_cost : (v : Item) (b : List ℕ) → IsText v b → (k : ℕ) × IsCost v b k
+  pub has_cost : (v : Item) (b : List ℕ) → IsEncoding v b → (k : ℕ) × IsCost v b k
   has_cost (integer n) b h = (1, (h, refl))
   has_cost (bytes s) b h = string_has_cost false s b h
   has_cost (float x) b h = (1, (h, refl))
@@ -36,11 +36,11 @@ mutual
   has_cost (array vs) b h = let i = have_costs vs h.0 h.1 in let k = held_has_cost 4 (items_count vs) h.0 b i.0 h.2 in (k.0, (h.0, i.0, i.1, k.1))
   has_cost (dict ps) b h = let i = pairs_have_costs ps h.0 h.1 in let k = held_has_cost 5 (pairs_count ps) h.0 b i.0 h.2 in (k.0, (h.0, i.0, i.1, k.1))
 
-  have_costs : (vs : Items) (b : List ℕ) → AreTexts vs b → (k : ℕ) × AreCosts vs b k
+  have_costs : (vs : Items) (b : List ℕ) → AreEncodings vs b → (k : ℕ) × AreCosts vs b k
   have_costs no_items b h = (0, (h, refl))
   have_costs (item v vs) b h = let i = has_cost v h.0 h.2 in let j = have_costs vs h.1 h.3 in (i.0 + j.0, (h.0, h.1, i.0, j.0, i.1, j.1, h.4, refl))
 
-  pairs_have_costs : (ps : Pairs) (b : List ℕ) → ArePairTexts ps b → (k : ℕ) × ArePairCosts ps b k
+  pairs_have_costs : (ps : Pairs) (b : List ℕ) → ArePairEncodings ps b → (k : ℕ) × ArePairCosts ps b k
   pairs_have_costs no_pairs b h = (0, (h, refl))
   pairs_have_costs (pair x v ps) b h =
       let g = has_cost x h.0 h.3 in
@@ -48,33 +48,33 @@ mutual
       let j = pairs_have_costs ps h.2 h.5 in
       (g.0 + (i.0 + j.0), (h.0, h.1, h.2, g.0, i.0, j.0, g.1, i.1, j.1, h.6, refl))
 
-string_cost_text : (is_text : Bool) (s b : List ℕ) (k : ℕ) → IsStringCost is_text s b k → IsStringText is_text s b
-string_cost_text is_text s b k (inl h) = inl h.0
-string_cost_text is_text s b k (inr h) = inr (h.0, h.1, h.2, h.3, h.4)
+string_cost_encoding : (is_text : Bool) (s b : List ℕ) (k : ℕ) → IsStringCost is_text s b k → IsStringEncoding is_text s b
+string_cost_encoding is_text s b k (inl h) = inl h.0
+string_cost_encoding is_text s b k (inr h) = inr (h.0, h.1, h.2, h.3, h.4)
 
 held_cost_held : (m n : ℕ) (s b : List ℕ) (j k : ℕ) → IsHeldCost m n s b j k → IsHeld m n s b
 held_cost_held m n s b j k (inl h) = inl h.0
 held_cost_held m n s b j k (inr h) = inr h.0
 
 mutual
-  pub cost_text : (v : Item) (b : List ℕ) (k : ℕ) → IsCost v b k → IsText v b
-  cost_text (integer n) b k h = h.0
-  cost_text (bytes s) b k h = string_cost_text false s b k h
-  cost_text (float x) b k h = h.0
-  cost_text (text s) b k h = string_cost_text true s b k h
-  cost_text (boolean x) b k h = h.0
-  cost_text null b k h = h.0
-  cost_text (tag t v) b k h = (h.0, cost_text v h.0 h.1 h.2, h.3)
-  cost_text (array vs) b k h = (h.0, costs_texts vs h.0 h.1 h.2, held_cost_held 4 (items_count vs) h.0 b h.1 k h.3)
-  cost_text (dict ps) b k h = (h.0, pair_costs_texts ps h.0 h.1 h.2, held_cost_held 5 (pairs_count ps) h.0 b h.1 k h.3)
+  pub cost_encoding : (v : Item) (b : List ℕ) (k : ℕ) → IsCost v b k → IsEncoding v b
+  cost_encoding (integer n) b k h = h.0
+  cost_encoding (bytes s) b k h = string_cost_encoding false s b k h
+  cost_encoding (float x) b k h = h.0
+  cost_encoding (text s) b k h = string_cost_encoding true s b k h
+  cost_encoding (boolean x) b k h = h.0
+  cost_encoding null b k h = h.0
+  cost_encoding (tag t v) b k h = (h.0, cost_encoding v h.0 h.1 h.2, h.3)
+  cost_encoding (array vs) b k h = (h.0, costs_encodings vs h.0 h.1 h.2, held_cost_held 4 (items_count vs) h.0 b h.1 k h.3)
+  cost_encoding (dict ps) b k h = (h.0, pair_costs_encodings ps h.0 h.1 h.2, held_cost_held 5 (pairs_count ps) h.0 b h.1 k h.3)
 
-  costs_texts : (vs : Items) (b : List ℕ) (k : ℕ) → AreCosts vs b k → AreTexts vs b
-  costs_texts no_items b k h = h.0
-  costs_texts (item v vs) b k h = (h.0, h.1, cost_text v h.0 h.2 h.4, costs_texts vs h.1 h.3 h.5, h.6)
+  costs_encodings : (vs : Items) (b : List ℕ) (k : ℕ) → AreCosts vs b k → AreEncodings vs b
+  costs_encodings no_items b k h = h.0
+  costs_encodings (item v vs) b k h = (h.0, h.1, cost_encoding v h.0 h.2 h.4, costs_encodings vs h.1 h.3 h.5, h.6)
 
-  pair_costs_texts : (ps : Pairs) (b : List ℕ) (k : ℕ) → ArePairCosts ps b k → ArePairTexts ps b
-  pair_costs_texts no_pairs b k h = h.0
-  pair_costs_texts (pair x v ps) b k h = (h.0, h.1, h.2, cost_text x h.0 h.3 h.6, cost_text v h.1 h.4 h.7, pair_costs_texts ps h.2 h.5 h.8, h.9)
+  pair_costs_encodings : (ps : Pairs) (b : List ℕ) (k : ℕ) → ArePairCosts ps b k → ArePairEncodings ps b
+  pair_costs_encodings no_pairs b k h = h.0
+  pair_costs_encodings (pair x v ps) b k h = (h.0, h.1, h.2, cost_encoding x h.0 h.3 h.6, cost_encoding v h.1 h.4 h.7, pair_costs_encodings ps h.2 h.5 h.8, h.9)
 
 -- ---- strings
 
@@ -86,11 +86,11 @@ chunk_exact : (is_text : Bool) (s c rest : List ℕ) → IsDefinite is_text s c 
 unfolding chunk_steps
 chunk_exact is_text s c rest h =
     let r = IsHeaded-again (string_type is_text) (length s) s c rest h.1 in
-    rw (r.reads, chunk_kind-type is_text, r.number, content_exact is_text (length (c ++ rest)) s rest (string_again is_text (length (c ++ rest)) s rest h.0)) refl
+    rw (r.reads, begins_chunk-type is_text, r.number, content_exact is_text (length (c ++ rest)) s rest (string_again is_text (length (c ++ rest)) s rest h.0)) refl
 
 -- ---- one after the other
 
--- R x c k: c is a text of x that takes k steps
+-- R x c k: c is an encoding of x that takes k steps
 abbrev pub EachCost : {A : Type 0} → (A → List ℕ → ℕ → Type 0) → List A → List ℕ → ℕ → Type 0
 EachCost R [] b k = (b ≡ []) × (k ≡ 0)
 EachCost R (x ∷ xs) b k = (c : List ℕ) × (d : List ℕ) × (i : ℕ) × (j : ℕ) × R x c i × EachCost R xs d j × (b ≡ c ++ d) × (k ≡ i + j)
@@ -134,7 +134,7 @@ chunk_is_exact is_text = record {
   begins = λ s c k h. (chunk_reads is_text).begins s c h.0;
 }
 
-chunks_each : (is_text : Bool) (ss : List (List ℕ)) (c : List ℕ) → Each (IsDefinite is_text) ss c → EachCost (ChunkCost is_text) ss c (chunks_cost is_text ss)
+chunks_each : (is_text : Bool) (ss : List (List ℕ)) (c : List ℕ) → EachInOrder (IsDefinite is_text) ss c → EachCost (ChunkCost is_text) ss c (chunks_cost is_text ss)
 chunks_each is_text [] c h = (h, refl)
 chunks_each is_text (s ∷ ss) c h = (h.0, h.1, suc (content_cost is_text s), chunks_cost is_text ss, (h.2, refl), chunks_each is_text ss h.1 h.3, h.4, omega arith)
 
@@ -200,44 +200,44 @@ nothing_exact = record {
   pairs_until = λ v c rest k h lt. absurd (omega arith);
 }
 
-text_reads : (d : ℕ) → ReadsAgain (IsTextBelow (suc d)) (item_at d)
-text_reads d = record { again = λ v c rest h. item_again d v c rest h.0 (let le = h.1 in omega arith); begins = λ v c h. IsText-begins v c h.0 }
+encoding_reads : (d : ℕ) → ReadsAgain (IsEncodingBelow (suc d)) (item_at d)
+encoding_reads d = record { again = λ v c rest h. item_again d v c rest h.0 (let le = h.1 in omega arith); begins = λ v c h. IsEncoding-begins v c h.0 }
 
-pair_text : (d : ℕ) (p : Item × Item) (b : List ℕ) (k : ℕ) → PairCostBelow d p b k → IsPairTextBelow d p b
-pair_text d p b k h = (h.0, h.1, (cost_text p.0 h.0 h.2 h.4.0, h.4.1), (cost_text p.1 h.1 h.3 h.5.0, h.5.1), h.6)
+pair_encoding : (d : ℕ) (p : Item × Item) (b : List ℕ) (k : ℕ) → PairCostBelow d p b k → IsPairEncodingBelow d p b
+pair_encoding d p b k h = (h.0, h.1, (cost_encoding p.0 h.0 h.2 h.4.0, h.4.1), (cost_encoding p.1 h.1 h.3 h.5.0, h.5.1), h.6)
 
 item_is_exact : (d : ℕ) (st : List ℕ → ℕ) → ((v : Item) (c rest : List ℕ) (k : ℕ) → IsCost v c k → depth v ≤ d → st (c ++ rest) ≡ k) → IsExact (CostBelow (suc d)) (item_at d) st
 item_is_exact d st h = record {
-  reads = λ v c rest k e. (text_reads d).again v c rest (cost_text v c k e.0, e.1);
+  reads = λ v c rest k e. (encoding_reads d).again v c rest (cost_encoding v c k e.0, e.1);
   exact = λ v c rest k e. h v c rest k e.0 (let le = e.1 in omega arith);
-  begins = λ v c k e. IsText-begins v c (cost_text v c k e.0);
+  begins = λ v c k e. IsEncoding-begins v c (cost_encoding v c k e.0);
 }
 
 pair_is_exact : (d : ℕ) (st : List ℕ → ℕ) → IsExact (CostBelow (suc d)) (item_at d) st → IsExact (PairCostBelow (suc d)) (pair_at (item_at d)) (pair_steps (item_at d) st)
 unfolding pair_steps
 pair_is_exact d st h =
-    let reads = pair_reads (suc d) (item_at d) (text_reads d) in
+    let reads = pair_reads (suc d) (item_at d) (encoding_reads d) in
     record {
-      reads = λ p b rest k e. reads.again p b rest (pair_text (suc d) p b k e);
+      reads = λ p b rest k e. reads.again p b rest (pair_encoding (suc d) p b k e);
       exact = λ p b rest k e.
           ap (λ (x : List ℕ). st x + after (item_at d x) (λ y. st y.1)) (regroup e.0 e.1 b rest e.6)
           ∙ rw (h.reads p.0 e.0 (e.1 ++ rest) e.2 e.4, h.exact p.0 e.0 (e.1 ++ rest) e.2 e.4, h.exact p.1 e.1 rest e.3 e.5) (sym e.7);
-      begins = λ p b k e. reads.begins p b (pair_text (suc d) p b k e);
+      begins = λ p b k e. reads.begins p b (pair_encoding (suc d) p b k e);
     }
 
 things_exact : (d : ℕ) (st : List ℕ → ℕ) → IsExact (CostBelow (suc d)) (item_at d) st → InsideExact (suc d) (steps_of (item_at d) st)
 unfolding steps_of things
 things_exact d st h =
-    let inner = things_again (suc d) (item_at d) (text_reads d) in
+    let inner = things_again (suc d) (item_at d) (encoding_reads d) in
     let pair_h = pair_is_exact d st h in
     record {
       one = λ v c rest k e lt. h.exact v c rest k (e, lt);
       items = λ vs c rest k e lt.
-          let g = guard_ok (ltb (length (c ++ rest)) (items_count vs)) End (times_at (item_at d) (items_count vs) (c ++ rest)) (list_of vs, rest) (inner.items vs c rest (costs_texts vs c k e) lt) in
+          let g = guard_ok (ltb (length (c ++ rest)) (items_count vs)) End (times_at (item_at d) (items_count vs) (c ++ rest)) (list_of vs, rest) (inner.items vs c rest (costs_encodings vs c k e) lt) in
           rw g.0 (ap (λ (n : ℕ). times_steps (item_at d) st n (c ++ rest)) (sym (length-list_of vs)) ∙ times_exact (CostBelow (suc d)) (item_at d) st h (list_of vs) c rest k (costs_each (suc d) vs c k e lt));
       items_until = λ vs c rest k e lt. until_exact (CostBelow (suc d)) (item_at d) st h (length (c ++ 255 ∷ rest)) (list_of vs) c rest k (costs_each (suc d) vs c k e lt) (within_turns c rest);
       pairs = λ ps c rest k e lt.
-          let g = guard_ok (ltb (length (c ++ rest) / 2) (pairs_count ps)) End (times_at (pair_at (item_at d)) (pairs_count ps) (c ++ rest)) (pair_list_of ps, rest) (inner.pairs ps c rest (pair_costs_texts ps c k e) lt) in
+          let g = guard_ok (ltb (length (c ++ rest) / 2) (pairs_count ps)) End (times_at (pair_at (item_at d)) (pairs_count ps) (c ++ rest)) (pair_list_of ps, rest) (inner.pairs ps c rest (pair_costs_encodings ps c k e) lt) in
           rw g.0 (ap (λ (n : ℕ). times_steps (pair_at (item_at d)) (pair_steps (item_at d) st) n (c ++ rest)) (sym (length-pair_list_of ps)) ∙ times_exact (PairCostBelow (suc d)) (pair_at (item_at d)) (pair_steps (item_at d) st) pair_h (pair_list_of ps) c rest k (pair_costs_each (suc d) ps c k e lt));
       pairs_until = λ ps c rest k e lt. until_exact (PairCostBelow (suc d)) (pair_at (item_at d)) (pair_steps (item_at d) st) pair_h (length (c ++ 255 ∷ rest)) (pair_list_of ps) c rest k (pair_costs_each (suc d) ps c k e lt) (within_turns c rest);
     }
@@ -270,7 +270,7 @@ from_exact d st inner (dict ps) b rest k (c, j, h, inl e) le =
 from_exact d st inner (dict ps) b rest k (c, j, h, inr e) le =
     ap (steps_from st) (broken_is 5 c b rest e.0) ∙ rw (opening_again 5 (c ++ 255 ∷ rest), inner.pairs_until ps c rest j h (omega arith)) (two_more j k e.1)
 
--- A check of a text of an item that is at most d deep takes the steps that the text costs, whatever follows.
+-- A check of an encoding of an item that is at most d deep takes the steps that it costs, whatever follows.
 pub item_exact : (d : ℕ) (v : Item) (b rest : List ℕ) (k : ℕ) → IsCost v b k → depth v ≤ d → item_steps d (b ++ rest) ≡ k
 unfolding item_steps
 item_exact zero v b rest k h le = from_exact 0 no_steps nothing_exact v b rest k h le
@@ -297,7 +297,7 @@ nested_cost (suc n) =
 pub nested_costs : (n k : ℕ) (v : Item) → IsCost v (replicate n 0x81 ++ 0x80 ∷ []) k → k ≡ n + 1
 nested_costs n k v h =
     let b = replicate n 0x81 ++ 0x80 ∷ [] in
-    let same = texts_differ v (nest n) b b [] [] (cost_text v b k h) (cost_text (nest n) b (suc n) (nested_cost n)) refl in
+    let same = encodings_differ v (nest n) b b [] [] (cost_encoding v b k h) (cost_encoding (nest n) b (suc n) (nested_cost n)) refl in
     let is = one_cost_lem (nest n) b k (suc n) (subst (λ (w : Item). IsCost w b k) same.0 h) (nested_cost n) in
     omega arith
 
@@ -308,4 +308,4 @@ nest_depth (suc n) = ap suc (max-zero (depth (nest n)) ∙ nest_depth n)
 pub nested_item : (n : ℕ) → n < 256 → (v : Item) × IsItem (replicate n 0x81 ++ 0x80 ∷ []) v
 nested_item n lt =
     let deep = nest_depth n in
-    (nest n, (cost_text (nest n) (replicate n 0x81 ++ 0x80 ∷ []) (suc n) (nested_cost n), omega arith))
+    (nest n, (cost_encoding (nest n) (replicate n 0x81 ++ 0x80 ∷ []) (suc n) (nested_cost n), omega arith))

@@ -6,8 +6,8 @@ use Rattle.std.specs.Prelude.{pos, negsuc, ◌/◌, ◌^◌, is_some}
 use Rattle.coset_cbor.specs.declared.cursor.Places.{Places}
 use Rattle.coset_cbor.specs.declared.fault.Fault.{Fault}
 use Rattle.coset_cbor.specs.declared.fault.Fault.TheVariants.{End}
-use Rattle.coset_cbor.specs.declared.head.Kind.{Kind}
-use Rattle.coset_cbor.specs.declared.head.Kind.TheVariants as kinds
+use Rattle.coset_cbor.specs.declared.head.MajorType.{MajorType}
+use Rattle.coset_cbor.specs.declared.head.MajorType.TheVariants as major_types
 use Rattle.coset_cbor.specs.declared.head.Argument.{Argument}
 use Rattle.coset_cbor.specs.declared.head.Argument.TheVariants as places
 use Rattle.coset_cbor.specs.declared.head.Head.{Head}
@@ -16,11 +16,11 @@ use Rattle.coset_value.specs.View.{items_of, pairs_of}
 use Rattle.coset_value.specs.Parts.{as_array, as_bytes}
 use Rattle.coset_cbor.specs.Grammar.{IsItem}
 use Rattle.coset_cbor.specs.Reading.{◌>>=◌, number_of, head_at, begins_break, times_at, until_at, pair_at, things, item_by, item_at}
-use Rattle.coset_cbor.specs.Jumps.{item_kind}
+use Rattle.coset_cbor.specs.Jumps.{item_major_type}
 use Rattle.coset_cbor.specs.Cursors.{Stands, AreAt, AreWithin, Doubles, flat, map_items}
-use Rattle.coset_cbor.proofs.Takes.{IsBytes, IsArgumentText, type_of, bind_ok, ok_is, guard_ok, chosen, break_is, head_takes, item_takes}
-use Rattle.coset_cbor.proofs.Again.{IsText-begins, item_again}
-use Rattle.coset_cbor.proofs.Between.{kind_by, is_array, is_map}
+use Rattle.coset_cbor.proofs.Takes.{IsBytes, IsArgumentEncoding, major_type_number, bind_ok, ok_is, guard_ok, chosen, break_is, head_takes, item_takes}
+use Rattle.coset_cbor.proofs.Again.{IsEncoding-begins, item_again}
+use Rattle.coset_cbor.proofs.Between.{major_type_by, is_array, is_map}
 
 abbrev done : Item × List ℕ → Result (Item × List ℕ) Fault
 done x = Ok x
@@ -55,7 +55,7 @@ pub stands_shorter : (v : Item) (s a : List ℕ) → IsBytes s → Stands v s a 
 unfolding Stands
 stands_shorter v s a fits e =
     let t = item_takes 256 s (v, a) fits e in
-    let g = IsText-begins v t.front t.text.0 in
+    let g = IsEncoding-begins v t.front t.encoding.0 in
     let some : length t.front ≡ suc (length g.more) = ap length g.parts in
     let size : length s ≡ length t.front + length a = ap length t.parts ∙ length-append t.front a in
     omega arith
@@ -64,7 +64,7 @@ pub stands_begins : (v : Item) (s a : List ℕ) → IsBytes s → Stands v s a �
 unfolding Stands
 stands_begins v s a fits e =
     let t = item_takes 256 s (v, a) fits e in
-    (t.front, t.parts, t.text)
+    (t.front, t.parts, t.encoding)
 
 err_ok : {A : Type 0} (f : Fault) (y : A) → ◌≡◌ {A = Result A Fault} (Err f) (Ok y) → ⊥
 err_ok f y e = cc
@@ -72,34 +72,34 @@ err_ok f y e = cc
 pub stands_head : (v : Item) (s a : List ℕ) (f : Fault) → Stands v s a → head_at s ≡ Err f → ⊥
 unfolding Stands item_at
 stands_head v s a f whole e =
-    err_ok f (v, a) (sym (ap (λ (r : Result (Head × List ℕ) Fault). r >>= λ x. item_by (things (item_at 255)) (length s) x.0.argument x.0.kind x.1) e) ∙ whole)
+    err_ok f (v, a) (sym (ap (λ (r : Result (Head × List ℕ) Fault). r >>= λ x. item_by (things (item_at 255)) (length s) x.0.argument x.0.major_type x.1) e) ∙ whole)
 
-pub stands_by : (v : Item) (s a : List ℕ) (h : Head × List ℕ) → Stands v s a → head_at s ≡ Ok h → item_by (things (item_at 255)) (length s) h.0.argument h.0.kind h.1 ≡ Ok (v, a)
+pub stands_by : (v : Item) (s a : List ℕ) (h : Head × List ℕ) → Stands v s a → head_at s ≡ Ok h → item_by (things (item_at 255)) (length s) h.0.argument h.0.major_type h.1 ≡ Ok (v, a)
 unfolding Stands item_at
 stands_by v s a h whole e =
-    sym (ap (λ (r : Result (Head × List ℕ) Fault). r >>= λ x. item_by (things (item_at 255)) (length s) x.0.argument x.0.kind x.1) e) ∙ whole
+    sym (ap (λ (r : Result (Head × List ℕ) Fault). r >>= λ x. item_by (things (item_at 255)) (length s) x.0.argument x.0.major_type x.1) e) ∙ whole
 
-pub stands_kind : (v : Item) (s a : List ℕ) (h : Head × List ℕ) → Stands v s a → head_at s ≡ Ok h → item_kind v ≡ h.0.kind
-stands_kind v s a h whole e = kind_by (things (item_at 255)) (length s) h.0.argument h.0.kind h.1 (v, a) (stands_by v s a h whole e)
+pub stands_major_type : (v : Item) (s a : List ℕ) (h : Head × List ℕ) → Stands v s a → head_at s ≡ Ok h → item_major_type v ≡ h.0.major_type
+stands_major_type v s a h whole e = major_type_by (things (item_at 255)) (length s) h.0.argument h.0.major_type h.1 (v, a) (stands_by v s a h whole e)
 
 -- ---- what kind of item stands there
 
 -- the test of a kind
-pub bytes_by_kind : (v : Item) → (item_kind v ≡ kinds.Bytes → is_some (as_bytes v) ≡ true) × (item_kind v ≢ kinds.Bytes → is_some (as_bytes v) ≡ false)
-bytes_by_kind (integer (pos n)) = ((λ e. absurd cc), (λ e. refl))
-bytes_by_kind (integer (negsuc n)) = ((λ e. absurd cc), (λ e. refl))
-bytes_by_kind (bytes s) = ((λ e. refl), (λ e. absurd (e refl)))
-bytes_by_kind (float x) = ((λ e. absurd cc), (λ e. refl))
-bytes_by_kind (text s) = ((λ e. absurd cc), (λ e. refl))
-bytes_by_kind (boolean b) = ((λ e. absurd cc), (λ e. refl))
-bytes_by_kind null = ((λ e. absurd cc), (λ e. refl))
-bytes_by_kind (tag t v) = ((λ e. absurd cc), (λ e. refl))
-bytes_by_kind (array vs) = ((λ e. absurd cc), (λ e. refl))
-bytes_by_kind (dict ps) = ((λ e. absurd cc), (λ e. refl))
+pub bytes_by_major_type : (v : Item) → (item_major_type v ≡ major_types.Bytes → is_some (as_bytes v) ≡ true) × (item_major_type v ≢ major_types.Bytes → is_some (as_bytes v) ≡ false)
+bytes_by_major_type (integer (pos n)) = ((λ e. absurd cc), (λ e. refl))
+bytes_by_major_type (integer (negsuc n)) = ((λ e. absurd cc), (λ e. refl))
+bytes_by_major_type (bytes s) = ((λ e. refl), (λ e. absurd (e refl)))
+bytes_by_major_type (float x) = ((λ e. absurd cc), (λ e. refl))
+bytes_by_major_type (text s) = ((λ e. absurd cc), (λ e. refl))
+bytes_by_major_type (boolean b) = ((λ e. absurd cc), (λ e. refl))
+bytes_by_major_type null = ((λ e. absurd cc), (λ e. refl))
+bytes_by_major_type (tag t v) = ((λ e. absurd cc), (λ e. refl))
+bytes_by_major_type (array vs) = ((λ e. absurd cc), (λ e. refl))
+bytes_by_major_type (dict ps) = ((λ e. absurd cc), (λ e. refl))
 
-pub array_by_kind_of : (v : Item) → (item_kind v ≡ kinds.Array → is_some (as_array v) ≡ true) × (item_kind v ≢ kinds.Array → is_some (as_array v) ≡ false)
-array_by_kind_of v = elim (is_array v) [
-  | inl x ↦ ((λ e. rw x.1 refl), (λ e. absurd (e (ap item_kind x.1))))
+pub array_by_major_type_of : (v : Item) → (item_major_type v ≡ major_types.Array → is_some (as_array v) ≡ true) × (item_major_type v ≢ major_types.Array → is_some (as_array v) ≡ false)
+array_by_major_type_of v = elim (is_array v) [
+  | inl x ↦ ((λ e. rw x.1 refl), (λ e. absurd (e (ap item_major_type x.1))))
   | inr x ↦ ((λ e. absurd (x.1 e)), (λ e. rw x.0 refl))
 ]
 
@@ -109,8 +109,8 @@ deeper : (s : List ℕ) (x : Item × List ℕ) → IsBytes s → item_at 255 s �
 unfolding Stands
 deeper s x fits e =
     let t = item_takes 255 s x fits e in
-    let low = t.text.1 in
-    ap (item_at 256) t.parts ∙ item_again 256 x.0 t.front x.1 t.text.0 (omega arith)
+    let low = t.encoding.1 in
+    ap (item_at 256) t.parts ∙ item_again 256 x.0 t.front x.1 t.encoding.0 (omega arith)
 
 members_times : (n : ℕ) (s : List ℕ) (x : List Item × List ℕ) → IsBytes s → times_at (item_at 255) n s ≡ Ok x → (n ≡ items_count (items_of x.0)) × AreAt (items_of x.0) s x.1
 unfolding times_at AreAt
@@ -167,8 +167,8 @@ pub record Entered (v : Item) (o : Option ℕ) (s a : List ℕ) : Type 0 where
   pub is_array : as_array v ≡ Some members
   pub within : AreWithin (record { left = o }) members s a
 
-array_by_kind : (left : ℕ) (g : Argument) (k : Kind) (s : List ℕ) (v : Item) (a : List ℕ) → IsBytes s → k ≡ kinds.Array → item_by (things (item_at 255)) left g k s ≡ Ok (v, a) → Entered v (number_of g) s a
-array_by_kind left g kinds.Array s v a fits k e =
+array_by_major_type : (left : ℕ) (g : Argument) (k : MajorType) (s : List ℕ) (v : Item) (a : List ℕ) → IsBytes s → k ≡ major_types.Array → item_by (things (item_at 255)) left g k s ≡ Ok (v, a) → Entered v (number_of g) s a
+array_by_major_type left g major_types.Array s v a fits k e =
     let r = bind_ok ((things (item_at 255)).items (number_of g) s) (λ y. Ok (array (items_of y.0), y.1)) (v, a) e in
     let same = ok_is (array (items_of r.0.0), r.0.1) (v, a) r.2 in
     record {
@@ -176,26 +176,26 @@ array_by_kind left g kinds.Array s v a fits k e =
       is_array = ap (λ (x : Item × List ℕ). as_array x.0) (sym same);
       within = subst (λ (b : List ℕ). AreWithin (record { left = number_of g }) (items_of r.0.0) s b) (ap rest_of same) (within_by (number_of g) s r.0 fits r.1);
     }
-array_by_kind left g kinds.Unsigned s v a fits k e = absurd cc
-array_by_kind left g kinds.Negative s v a fits k e = absurd cc
-array_by_kind left g kinds.Bytes s v a fits k e = absurd cc
-array_by_kind left g kinds.Text s v a fits k e = absurd cc
-array_by_kind left g kinds.Map s v a fits k e = absurd cc
-array_by_kind left g kinds.Tag s v a fits k e = absurd cc
-array_by_kind left g kinds.Simple s v a fits k e = absurd cc
+array_by_major_type left g major_types.Unsigned s v a fits k e = absurd cc
+array_by_major_type left g major_types.Negative s v a fits k e = absurd cc
+array_by_major_type left g major_types.Bytes s v a fits k e = absurd cc
+array_by_major_type left g major_types.Text s v a fits k e = absurd cc
+array_by_major_type left g major_types.Map s v a fits k e = absurd cc
+array_by_major_type left g major_types.Tag s v a fits k e = absurd cc
+array_by_major_type left g major_types.Simple s v a fits k e = absurd cc
 
-pub array_read : (v : Item) (s a : List ℕ) (h : Head × List ℕ) (o : Option ℕ) → IsBytes s → Stands v s a → head_at s ≡ Ok h → h.0.kind ≡ kinds.Array → o ≡ number_of h.0.argument → Entered v o h.1 a
+pub array_read : (v : Item) (s a : List ℕ) (h : Head × List ℕ) (o : Option ℕ) → IsBytes s → Stands v s a → head_at s ≡ Ok h → h.0.major_type ≡ major_types.Array → o ≡ number_of h.0.argument → Entered v o h.1 a
 array_read v s a h o fits whole e k number =
     subst (λ (p : Option ℕ). Entered v p h.1 a) (sym number)
-    (array_by_kind (length s) h.0.argument h.0.kind h.1 v a (head_takes s h fits e).rest_fits k (stands_by v s a h whole e))
+    (array_by_major_type (length s) h.0.argument h.0.major_type h.1 v a (head_takes s h fits e).rest_fits k (stands_by v s a h whole e))
 
-pub no_array : (v : Item) (s a : List ℕ) (h : Head × List ℕ) → Stands v s a → head_at s ≡ Ok h → h.0.kind ≢ kinds.Array → as_array v ≡ None
+pub no_array : (v : Item) (s a : List ℕ) (h : Head × List ℕ) → Stands v s a → head_at s ≡ Ok h → h.0.major_type ≢ major_types.Array → as_array v ≡ None
 no_array v s a h whole e k = elim (is_array v) [
-  | inl x ↦ absurd (k (sym (stands_kind v s a h whole e) ∙ ap item_kind x.1))
+  | inl x ↦ absurd (k (sym (stands_major_type v s a h whole e) ∙ ap item_major_type x.1))
   | inr x ↦ x.0
 ]
 
-head_some : (m : ℕ) (g : Argument) (f : List ℕ) → IsArgumentText m g f → 0 < length f
+head_some : (m : ℕ) (g : Argument) (f : List ℕ) → IsArgumentEncoding m g f → 0 < length f
 head_some m (places.Within n) f h = let l = ap length h.1 in omega (arith, l)
 head_some m (places.One n) f h = let l = ap length h.1 in omega (arith, l)
 head_some m (places.Two n) f h = let l = ap length h.1 in omega (arith, l)
@@ -206,7 +206,7 @@ head_some m places.Indefinite f h = let l = ap length h in omega (arith, l)
 pub head_shorter : (s : List ℕ) (h : Head × List ℕ) → IsBytes s → head_at s ≡ Ok h → length h.1 < length s
 head_shorter s h fits e =
     let t = head_takes s h fits e in
-    let some = head_some (type_of h.0.kind) h.0.argument t.front t.text in
+    let some = head_some (major_type_number h.0.major_type) h.0.argument t.front t.encoding in
     let size : length s ≡ length t.front + length h.1 = ap length t.parts ∙ length-append t.front h.1 in
     omega arith
 
@@ -277,19 +277,19 @@ pairs_within :
     (o d : Option ℕ) (s : List ℕ) (y : List Entry × List ℕ) → IsBytes s → length s < 2 ^ 64 → Doubles o d → (things (item_at 255)).pairs o s ≡ Ok y
     → AreWithin (record { left = d }) (flat (pairs_of y.0)) s y.1
 unfolding things
-pairs_within None None s y fits short twice e = record {
+pairs_within None None s y fits least_encoding twice e = record {
   definite = λ n is. absurd (none_some n is);
   indefinite = λ _. pairs_until (length s) s y fits e;
 }
-pairs_within None (Some n) s y fits short twice e = absurd (none_some twice.0 twice.1)
-pairs_within (Some n) None s y fits short twice e = absurd (none_some n (sym twice))
-pairs_within (Some n) (Some d) s y fits short twice e =
+pairs_within None (Some n) s y fits least_encoding twice e = absurd (none_some twice.0 twice.1)
+pairs_within (Some n) None s y fits least_encoding twice e = absurd (none_some n (sym twice))
+pairs_within (Some n) (Some d) s y fits least_encoding twice e =
     let g = guard_ok (ltb (length s / 2) n) End (times_at (pair_at (item_at 255)) n s) y e in
     let all = pairs_times n s y fits g.1 in
     let count = all.0 in
     let few = few_pairs (length s) n g.0 in
     let same : n ≡ twice.0 = some_is n twice.0 twice.1 in
-    let fits_in : twice.0 + twice.0 < 2 ^ 64 = omega (arith, few, same, short) in
+    let fits_in : twice.0 + twice.0 < 2 ^ 64 = omega (arith, few, same, least_encoding) in
     let is_twice : d ≡ twice.0 + twice.0 = twice.2 fits_in in
     record {
       definite = λ m is. (omega (arith, count, same, is_twice, some_is d m is), all.1);
@@ -302,34 +302,34 @@ pub record EnteredMap (v : Item) (o : Option ℕ) (s a : List ℕ) : Type 0 wher
   pub is_map : map_items v ≡ Some members
   pub within : AreWithin (record { left = o }) members s a
 
-map_by_kind :
-    (left : ℕ) (g : Argument) (d : Option ℕ) (k : Kind) (s : List ℕ) (v : Item) (a : List ℕ) → IsBytes s → length s < 2 ^ 64 → Doubles (number_of g) d → k ≡ kinds.Map
+map_by_major_type :
+    (left : ℕ) (g : Argument) (d : Option ℕ) (k : MajorType) (s : List ℕ) (v : Item) (a : List ℕ) → IsBytes s → length s < 2 ^ 64 → Doubles (number_of g) d → k ≡ major_types.Map
     → item_by (things (item_at 255)) left g k s ≡ Ok (v, a) → EnteredMap v d s a
-map_by_kind left g d kinds.Map s v a fits short twice k e =
+map_by_major_type left g d major_types.Map s v a fits least_encoding twice k e =
     let r = bind_ok ((things (item_at 255)).pairs (number_of g) s) (λ y. Ok (dict (pairs_of y.0), y.1)) (v, a) e in
     let same = ok_is (dict (pairs_of r.0.0), r.0.1) (v, a) r.2 in
     record {
       members = flat (pairs_of r.0.0);
       is_map = ap (λ (x : Item × List ℕ). map_items x.0) (sym same);
-      within = subst (λ (b : List ℕ). AreWithin (record { left = d }) (flat (pairs_of r.0.0)) s b) (ap rest_of same) (pairs_within (number_of g) d s r.0 fits short twice r.1);
+      within = subst (λ (b : List ℕ). AreWithin (record { left = d }) (flat (pairs_of r.0.0)) s b) (ap rest_of same) (pairs_within (number_of g) d s r.0 fits least_encoding twice r.1);
     }
-map_by_kind left g d kinds.Unsigned s v a fits short twice k e = absurd cc
-map_by_kind left g d kinds.Negative s v a fits short twice k e = absurd cc
-map_by_kind left g d kinds.Bytes s v a fits short twice k e = absurd cc
-map_by_kind left g d kinds.Text s v a fits short twice k e = absurd cc
-map_by_kind left g d kinds.Tag s v a fits short twice k e = absurd cc
-map_by_kind left g d kinds.Array s v a fits short twice k e = absurd cc
-map_by_kind left g d kinds.Simple s v a fits short twice k e = absurd cc
+map_by_major_type left g d major_types.Unsigned s v a fits least_encoding twice k e = absurd cc
+map_by_major_type left g d major_types.Negative s v a fits least_encoding twice k e = absurd cc
+map_by_major_type left g d major_types.Bytes s v a fits least_encoding twice k e = absurd cc
+map_by_major_type left g d major_types.Text s v a fits least_encoding twice k e = absurd cc
+map_by_major_type left g d major_types.Tag s v a fits least_encoding twice k e = absurd cc
+map_by_major_type left g d major_types.Array s v a fits least_encoding twice k e = absurd cc
+map_by_major_type left g d major_types.Simple s v a fits least_encoding twice k e = absurd cc
 
 pub map_read :
-    (v : Item) (s a : List ℕ) (h : Head × List ℕ) (d : Option ℕ) → IsBytes s → length s < 2 ^ 64 → Stands v s a → head_at s ≡ Ok h → h.0.kind ≡ kinds.Map → Doubles (number_of h.0.argument) d → EnteredMap v d h.1 a
-map_read v s a h d fits short whole e k twice =
+    (v : Item) (s a : List ℕ) (h : Head × List ℕ) (d : Option ℕ) → IsBytes s → length s < 2 ^ 64 → Stands v s a → head_at s ≡ Ok h → h.0.major_type ≡ major_types.Map → Doubles (number_of h.0.argument) d → EnteredMap v d h.1 a
+map_read v s a h d fits least_encoding whole e k twice =
     let shorter = head_shorter s h fits e in
-    map_by_kind (length s) h.0.argument d h.0.kind h.1 v a (head_takes s h fits e).rest_fits (omega (arith, short, shorter)) twice k (stands_by v s a h whole e)
+    map_by_major_type (length s) h.0.argument d h.0.major_type h.1 v a (head_takes s h fits e).rest_fits (omega (arith, least_encoding, shorter)) twice k (stands_by v s a h whole e)
 
-pub no_map : (v : Item) (s a : List ℕ) (h : Head × List ℕ) → Stands v s a → head_at s ≡ Ok h → h.0.kind ≢ kinds.Map → map_items v ≡ None
+pub no_map : (v : Item) (s a : List ℕ) (h : Head × List ℕ) → Stands v s a → head_at s ≡ Ok h → h.0.major_type ≢ major_types.Map → map_items v ≡ None
 no_map v s a h whole e k = elim (is_map v) [
-  | inl x ↦ absurd (k (sym (stands_kind v s a h whole e) ∙ ap item_kind x.1))
+  | inl x ↦ absurd (k (sym (stands_major_type v s a h whole e) ∙ ap item_major_type x.1))
   | inr x ↦ ap (option_map flat) x.0
 ]
 

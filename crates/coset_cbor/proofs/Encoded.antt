@@ -1,9 +1,9 @@
--- Bytes that are a text, whatever its item's depth.
+-- Bytes that are an encoding, whatever its item's depth.
 use Rattle.std.proofs.Common.{◌≡◌, ℕ, suc, ◌+◌, ◌<◌, ◌≤◌, List, [], ◌∷◌, ◌++◌, length, Result, Ok, Err, sym, ap, subst, ◌∙◌, inl, inr, arith}
 use Rattle.std.proofs.lemmas.List.{length-append, append-nil}
 use Rattle.coset_value.specs.Item.{Item, integer, bytes, float, text, boolean, null, tag, array, dict, Items, no_items, item, Pairs, no_pairs, pair, items_count, pairs_count, depth, items_depth, pairs_depth}
 use Rattle.coset_cbor.specs.declared.fault.Fault.{Fault}
-use Rattle.coset_cbor.specs.Grammar.{IsHeaded, IsHeld, IsText, AreTexts, ArePairTexts}
+use Rattle.coset_cbor.specs.Grammar.{IsHeaded, IsHeld, IsEncoding, AreEncodings, ArePairEncodings}
 use Rattle.coset_cbor.specs.Reading.{item_at}
 use Rattle.coset_cbor.proofs.Again.{IsHead-begins, item_again}
 use Rattle.coset_cbor.proofs.Takes.{ok_is}
@@ -22,9 +22,9 @@ held_longer m n s b low (inr h) =
     let all : length b ≡ suc (length s + 1) = ap length h ∙ ap suc (length-append s (255 ∷ [])) in
     omega arith
 
--- a text has as many bytes as its item has levels, at least
+-- an encoding has as many bytes as its item has levels, at least
 mutual
-  depth_within : (v : Item) (b : List ℕ) → IsText v b → depth v ≤ length b
+  depth_within : (v : Item) (b : List ℕ) → IsEncoding v b → depth v ≤ length b
   depth_within (integer n) b h = omega arith
   depth_within (bytes s) b h = omega arith
   depth_within (float x) b h = omega arith
@@ -35,7 +35,7 @@ mutual
   depth_within (array vs) b h = let inside = depths_within vs h.0 h.1 in let more = held_longer 4 (items_count vs) h.0 b (omega arith) h.2 in omega arith
   depth_within (dict ps) b h = let inside = pair_depths_within ps h.0 h.1 in let more = held_longer 5 (pairs_count ps) h.0 b (omega arith) h.2 in omega arith
 
-  depths_within : (vs : Items) (b : List ℕ) → AreTexts vs b → items_depth vs ≤ length b
+  depths_within : (vs : Items) (b : List ℕ) → AreEncodings vs b → items_depth vs ≤ length b
   depths_within no_items b h = omega arith
   depths_within (item v vs) b h =
       let here = depth_within v h.0 h.2 in
@@ -43,7 +43,7 @@ mutual
       let all : length b ≡ length h.0 + length h.1 = ap length h.4 ∙ length-append h.0 h.1 in
       omega arith
 
-  pair_depths_within : (ps : Pairs) (b : List ℕ) → ArePairTexts ps b → pairs_depth ps ≤ length b
+  pair_depths_within : (ps : Pairs) (b : List ℕ) → ArePairEncodings ps b → pairs_depth ps ≤ length b
   pair_depths_within no_pairs b h = omega arith
   pair_depths_within (pair k v ps) b h =
       let key = depth_within k h.0 h.3 in
@@ -54,7 +54,7 @@ mutual
       omega arith
 
 -- so it is read within that depth
-read_whole : (v : Item) (b : List ℕ) → IsText v b → item_at (length b) b ≡ Ok (v, [])
+read_whole : (v : Item) (b : List ℕ) → IsEncoding v b → item_at (length b) b ≡ Ok (v, [])
 read_whole v b h = ap (item_at (length b)) (sym (append-nil b)) ∙ item_again (length b) v b [] h (depth_within v b h)
 
 abbrev done : Item × List ℕ → Result (Item × List ℕ) Fault
@@ -66,10 +66,10 @@ failed f = Err f
 apart : (x : Item × List ℕ) (f : Fault) → done x ≡ failed f → ⊥
 apart x f e = cc
 
-pub text_no_fault : (b : List ℕ) (f : Fault) → ((v : Item) × IsText v b) → item_at (length b) b ≡ Err f → ⊥
-text_no_fault b f is e = apart (is.0, []) f (sym (read_whole is.0 b is.1) ∙ e)
+pub encoding_no_fault : (b : List ℕ) (f : Fault) → ((v : Item) × IsEncoding v b) → item_at (length b) b ≡ Err f → ⊥
+encoding_no_fault b f is e = apart (is.0, []) f (sym (read_whole is.0 b is.1) ∙ e)
 
-pub text_value : (b rest : List ℕ) (x : Item) → ((v : Item) × IsText v b) → item_at (length b) b ≡ Ok (x, rest) → IsText x b
-text_value b rest x is e =
+pub encoding_value : (b rest : List ℕ) (x : Item) → ((v : Item) × IsEncoding v b) → item_at (length b) b ≡ Ok (x, rest) → IsEncoding x b
+encoding_value b rest x is e =
     let same : is.0 ≡ x = ap (λ (y : Item × List ℕ). y.0) (ok_is (is.0, []) (x, rest) (sym (read_whole is.0 b is.1) ∙ e)) in
-    subst (λ (v : Item). IsText v b) same is.1
+    subst (λ (v : Item). IsEncoding v b) same is.1

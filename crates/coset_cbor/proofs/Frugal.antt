@@ -8,13 +8,13 @@ use Rattle.coset_value.specs.Item.{Item}
 use Rattle.coset_value.specs.View.{items_of, pairs_of}
 use Rattle.coset_cbor.specs.declared.fault.Fault.{Fault}
 use Rattle.coset_cbor.specs.declared.fault.Fault.TheVariants.{End, Syntax, Simple}
-use Rattle.coset_cbor.specs.declared.head.Kind.{Kind}
-use Rattle.coset_cbor.specs.declared.head.Kind.TheVariants as kinds
+use Rattle.coset_cbor.specs.declared.head.MajorType.{MajorType}
+use Rattle.coset_cbor.specs.declared.head.MajorType.TheVariants as major_types
 use Rattle.coset_cbor.specs.declared.head.Argument.{Argument}
 use Rattle.coset_cbor.specs.declared.head.Argument.TheVariants as places
 use Rattle.coset_cbor.specs.declared.head.Head.{Head}
-use Rattle.coset_cbor.specs.Grammar.{joined}
-use Rattle.coset_cbor.specs.Reading.{◌>>=◌, Parse, kind_of, number_of, argument_at, argument_by, head_at, unless_none, is_sound, string_at, chunk_kind, chunk_at, begins_break, times_at, until_at, chunks_at, any_string_by, pair_at, array_by, map_by, simple_at, Inside, nothing, things, item_by, item_from, item_at}
+use Rattle.coset_cbor.specs.Grammar.{joined_chunks}
+use Rattle.coset_cbor.specs.Reading.{◌>>=◌, Parse, major_type_of, number_of, argument_at, argument_by, head_at, unless_none, is_string_content, string_at, begins_chunk, chunk_at, begins_break, times_at, until_at, chunks_at, any_string_by, pair_at, array_by, map_by, simple_at, Inside, nothing, things, item_by, item_from, item_at}
 use Rattle.coset_cbor.specs.Cost.{content_cost}
 use Rattle.coset_cbor.specs.Counting.{after, where_some, content_steps, chunk_steps, times_steps, until_steps, string_steps, pair_steps, array_steps, map_steps, StepsInside, no_steps, steps_of, body_steps, steps_from, item_steps}
 use Rattle.coset_cbor.proofs.Takes.{break_is}
@@ -71,7 +71,7 @@ abbrev IsHeadShorter : List ℕ → Result (Head × List ℕ) Fault → Type 0
 IsHeadShorter s (Ok h) = suc (length h.1) ≤ length s
 IsHeadShorter s (Err f) = Unit {0}
 
-made_shorter : (x : ℕ) (s : List ℕ) (r : Result (Argument × List ℕ) Fault) → IsShorter s r → IsHeadShorter (x ∷ s) (r >>= λ a. Ok (record { kind = kind_of (x / 32); argument = a.0 }, a.1))
+made_shorter : (x : ℕ) (s : List ℕ) (r : Result (Argument × List ℕ) Fault) → IsShorter s r → IsHeadShorter (x ∷ s) (r >>= λ a. Ok (record { major_type = major_type_of (x / 32); argument = a.0 }, a.1))
 made_shorter x s (Ok a) h = omega arith
 made_shorter x s (Err f) h = tt
 
@@ -103,9 +103,9 @@ string_frugal is_text left n s = by_length (ltb (length s) n) refl
     sound false le = omega arith
 
     by_length : (b : Bool) → ltb (length s) n ≡ b
-        → IsWithin (after (cond b (Err End) (cond (is_sound is_text (take n s)) (Ok (take n s, drop n s)) (Err (Syntax left)))) (λ x. content_cost is_text x.0)) s (cond b (Err End) (cond (is_sound is_text (take n s)) (Ok (take n s, drop n s)) (Err (Syntax left))))
+        → IsWithin (after (cond b (Err End) (cond (is_string_content is_text (take n s)) (Ok (take n s, drop n s)) (Err (Syntax left)))) (λ x. content_cost is_text x.0)) s (cond b (Err End) (cond (is_string_content is_text (take n s)) (Ok (take n s, drop n s)) (Err (Syntax left))))
     by_length true e = omega arith
-    by_length false e = sound (is_sound is_text (take n s)) (ltb-false _ _ e)
+    by_length false e = sound (is_string_content is_text (take n s)) (ltb-false _ _ e)
 
 where_within : {A : Type 0} (left : ℕ) (o : Option ℕ) (f : ℕ → Result (A × List ℕ) Fault) (g : ℕ → ℕ) (s : List ℕ) → ((n : ℕ) → IsWithin (g n) s (f n)) → IsWithin (where_some o g) s (unless_none left o f)
 where_within left None f g s h = omega arith
@@ -114,9 +114,9 @@ where_within left (Some n) f g s h = h n
 chunk_frugal : (is_text : Bool) → IsFrugal (chunk_at is_text) (chunk_steps is_text)
 unfolding chunk_at chunk_steps
 chunk_frugal is_text s =
-    head_then s (head_at s) (λ h. cond (chunk_kind is_text h.0.kind) (unless_none (length s) (number_of h.0.argument) (λ n. string_at is_text (length s) n h.1)) (Err (Syntax (length s))))
-    (λ h. cond (chunk_kind is_text h.0.kind) (where_some (number_of h.0.argument) (λ n. content_steps is_text (length s) n h.1)) 0) (head_shorter s)
-    (λ h. within_choice (chunk_kind is_text h.0.kind) _ _ h.1 _ _ (λ e. where_within (length s) (number_of h.0.argument) _ _ h.1 (λ n. string_frugal is_text (length s) n h.1)) (λ e. omega arith))
+    head_then s (head_at s) (λ h. cond (begins_chunk is_text h.0.major_type) (unless_none (length s) (number_of h.0.argument) (λ n. string_at is_text (length s) n h.1)) (Err (Syntax (length s))))
+    (λ h. cond (begins_chunk is_text h.0.major_type) (where_some (number_of h.0.argument) (λ n. content_steps is_text (length s) n h.1)) 0) (head_shorter s)
+    (λ h. within_choice (begins_chunk is_text h.0.major_type) _ _ h.1 _ _ (λ e. where_within (length s) (number_of h.0.argument) _ _ h.1 (λ n. string_frugal is_text (length s) n h.1)) (λ e. omega arith))
 
 -- ---- one after the other
 
@@ -138,7 +138,7 @@ until_frugal {A} one st h (suc turns) s =
 
 any_string_frugal : (is_text : Bool) (left : ℕ) (o : Option ℕ) (s : List ℕ) → IsWithin (string_steps is_text left o s) s (any_string_by is_text left o s)
 unfolding chunks_at
-any_string_frugal is_text left None s = within_made _ s (until_at (chunk_at is_text) (length s) s) joined (until_frugal (chunk_at is_text) (chunk_steps is_text) (chunk_frugal is_text) (length s) s)
+any_string_frugal is_text left None s = within_made _ s (until_at (chunk_at is_text) (length s) s) joined_chunks (until_frugal (chunk_at is_text) (chunk_steps is_text) (chunk_frugal is_text) (length s) s)
 any_string_frugal is_text left (Some n) s = string_frugal is_text left n s
 
 pair_frugal : (one : Parse Item) (st : List ℕ → ℕ) → IsFrugal one st → IsFrugal (pair_at one) (pair_steps one st)
@@ -192,20 +192,20 @@ integer_frugal : (left : ℕ) (o : Option ℕ) (f : ℕ → Item) (s : List ℕ)
 integer_frugal left None f s = omega arith
 integer_frugal left (Some n) f s = omega arith
 
-body_frugal : (inside : Inside) (st : StepsInside) → IsInsideFrugal inside st → (left : ℕ) (a : Argument) (k : Kind) (s : List ℕ) → IsWithin (body_steps st left a k s) s (item_by inside left a k s)
-body_frugal inside st h left a kinds.Unsigned s = integer_frugal left (number_of a) (λ n. Item.integer (pos n)) s
-body_frugal inside st h left a kinds.Negative s = integer_frugal left (number_of a) (λ n. Item.integer (negsuc n)) s
-body_frugal inside st h left a kinds.Bytes s = within_made _ s (any_string_by false left (number_of a) s) Item.bytes (any_string_frugal false left (number_of a) s)
-body_frugal inside st h left a kinds.Text s = within_made _ s (any_string_by true left (number_of a) s) Item.text (any_string_frugal true left (number_of a) s)
-body_frugal inside st h left a kinds.Array s = within_made _ s (inside.items (number_of a) s) (λ vs. Item.array (items_of vs)) (h.items (number_of a) s)
-body_frugal inside st h left a kinds.Map s = within_made _ s (inside.pairs (number_of a) s) (λ ps. Item.dict (pairs_of ps)) (h.pairs (number_of a) s)
-body_frugal inside st h left a kinds.Tag s = where_within left (number_of a) (λ n. inside.one s >>= λ x. Ok (Item.tag n x.0, x.1)) (λ n. st.one s) s (λ n. within_made _ s (inside.one s) (Item.tag n) (h.one s))
-body_frugal inside st h left a kinds.Simple s = simple_frugal left a s
+body_frugal : (inside : Inside) (st : StepsInside) → IsInsideFrugal inside st → (left : ℕ) (a : Argument) (k : MajorType) (s : List ℕ) → IsWithin (body_steps st left a k s) s (item_by inside left a k s)
+body_frugal inside st h left a major_types.Unsigned s = integer_frugal left (number_of a) (λ n. Item.integer (pos n)) s
+body_frugal inside st h left a major_types.Negative s = integer_frugal left (number_of a) (λ n. Item.integer (negsuc n)) s
+body_frugal inside st h left a major_types.Bytes s = within_made _ s (any_string_by false left (number_of a) s) Item.bytes (any_string_frugal false left (number_of a) s)
+body_frugal inside st h left a major_types.Text s = within_made _ s (any_string_by true left (number_of a) s) Item.text (any_string_frugal true left (number_of a) s)
+body_frugal inside st h left a major_types.Array s = within_made _ s (inside.items (number_of a) s) (λ vs. Item.array (items_of vs)) (h.items (number_of a) s)
+body_frugal inside st h left a major_types.Map s = within_made _ s (inside.pairs (number_of a) s) (λ ps. Item.dict (pairs_of ps)) (h.pairs (number_of a) s)
+body_frugal inside st h left a major_types.Tag s = where_within left (number_of a) (λ n. inside.one s >>= λ x. Ok (Item.tag n x.0, x.1)) (λ n. st.one s) s (λ n. within_made _ s (inside.one s) (Item.tag n) (h.one s))
+body_frugal inside st h left a major_types.Simple s = simple_frugal left a s
 
 from_frugal : (inside : Inside) (st : StepsInside) → IsInsideFrugal inside st → IsFrugal (item_from inside) (steps_from st)
 from_frugal inside st h s =
-    head_then s (head_at s) (λ x. item_by inside (length s) x.0.argument x.0.kind x.1) (λ x. body_steps st (length s) x.0.argument x.0.kind x.1) (head_shorter s)
-    (λ x. body_frugal inside st h (length s) x.0.argument x.0.kind x.1)
+    head_then s (head_at s) (λ x. item_by inside (length s) x.0.argument x.0.major_type x.1) (λ x. body_steps st (length s) x.0.argument x.0.major_type x.1) (head_shorter s)
+    (λ x. body_frugal inside st h (length s) x.0.argument x.0.major_type x.1)
 
 -- A check of any bytes.
 pub item_frugal : (d : ℕ) → IsFrugal (item_at d) (item_steps d)

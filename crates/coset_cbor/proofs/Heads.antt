@@ -7,37 +7,37 @@ use Rattle.coset_value.specs.Parts.{as_integer, as_tag}
 use Rattle.coset_value.specs.View.{items_of, pairs_of}
 use Rattle.coset_cbor.specs.declared.fault.Fault.{Fault}
 use Rattle.coset_cbor.specs.declared.fault.Fault.TheVariants.{Simple}
-use Rattle.coset_cbor.specs.declared.head.Kind.{Kind}
-use Rattle.coset_cbor.specs.declared.head.Kind.TheVariants as kinds
+use Rattle.coset_cbor.specs.declared.head.MajorType.{MajorType}
+use Rattle.coset_cbor.specs.declared.head.MajorType.TheVariants as major_types
 use Rattle.coset_cbor.specs.declared.head.Argument.{Argument}
 use Rattle.coset_cbor.specs.declared.head.Argument.TheVariants as places
 use Rattle.coset_cbor.specs.declared.head.Head.{Head}
-use Rattle.coset_cbor.specs.Reading.{◌>>=◌, number_of, unless_none, head_at, chunk_kind, any_string_by, simple_at, Inside, things, item_by, item_from, item_at}
-use Rattle.coset_cbor.specs.Grammar.{IsText, IsItem}
+use Rattle.coset_cbor.specs.Reading.{◌>>=◌, number_of, unless_none, head_at, begins_chunk, any_string_by, simple_at, Inside, things, item_by, item_from, item_at}
+use Rattle.coset_cbor.specs.Grammar.{IsEncoding, IsItem}
 use Rattle.coset_cbor.specs.Scalars.{as_scalar, read_of, scalar_by, integer_by, tag_by}
 use Rattle.coset_cbor.specs.Whole.{is_one_item, item_of}
 use Rattle.coset_cbor.proofs.Takes.{bind_ok, chosen, guard_else, ok_is, some_ok, head_takes, item_takes}
 use Rattle.coset_cbor.specs.StringChunks.{as_string}
-use Rattle.coset_cbor.proofs.Between.{simple_kind}
-use Rattle.coset_cbor.specs.Jumps.{item_kind}
+use Rattle.coset_cbor.proofs.Between.{simple_major_type}
+use Rattle.coset_cbor.specs.Jumps.{item_major_type}
 use Rattle.coset_cbor.proofs.Whole.{one_item_bytes, one_item_read, one_item_from, item_of_one}
 
 abbrev done : Item × List ℕ → Result (Item × List ℕ) Fault
 done x = Ok x
 
 -- one item is what its head says
-pub one_item_by : (b : List ℕ) (h : Head × List ℕ) → is_one_item b ≡ true → head_at b ≡ Ok h → item_by (things (item_at 255)) (length b) h.0.argument h.0.kind h.1 ≡ Ok (item_of b, [])
+pub one_item_by : (b : List ℕ) (h : Head × List ℕ) → is_one_item b ≡ true → head_at b ≡ Ok h → item_by (things (item_at 255)) (length b) h.0.argument h.0.major_type h.1 ≡ Ok (item_of b, [])
 unfolding item_at
 one_item_by b h one e =
     let whole : item_from (things (item_at 255)) b ≡ Ok (item_of b, []) = one_item_read b one in
-    sym (ap (λ (r : Result (Head × List ℕ) Fault). r >>= λ x. item_by (things (item_at 255)) (length b) x.0.argument x.0.kind x.1) e) ∙ whole
+    sym (ap (λ (r : Result (Head × List ℕ) Fault). r >>= λ x. item_by (things (item_at 255)) (length b) x.0.argument x.0.major_type x.1) e) ∙ whole
 
 -- one item has a head
 pub one_item_head : (b : List ℕ) (f : Fault) → is_one_item b ≡ true → head_at b ≡ Err f → ⊥
 unfolding item_at
 one_item_head b f one e =
     let whole : item_from (things (item_at 255)) b ≡ Ok (item_of b, []) = one_item_read b one in
-    differ (sym (ap (λ (r : Result (Head × List ℕ) Fault). r >>= λ x. item_by (things (item_at 255)) (length b) x.0.argument x.0.kind x.1) e) ∙ whole)
+    differ (sym (ap (λ (r : Result (Head × List ℕ) Fault). r >>= λ x. item_by (things (item_at 255)) (length b) x.0.argument x.0.major_type x.1) e) ∙ whole)
   where
     differ : ◌≡◌ {A = Result (Item × List ℕ) Fault} (Err f) (Ok (item_of b, [])) → ⊥
     differ e = cc
@@ -76,37 +76,37 @@ made_is r f x e =
     let y = bind_ok r (λ y. Ok (f y.0, y.1)) x e in
     (y.0.0, ap (λ (z : Item × List ℕ). z.0) (sym (ok_is (f y.0.0, y.0.1) x y.2)))
 
-pub scalar_is : (inside : Inside) (left : ℕ) (a : Argument) (k : Kind) (s : List ℕ) (x : Item × List ℕ) → item_by inside left a k s ≡ Ok x → scalar_by left a k s ≡ as_scalar x.0
-scalar_is inside left a kinds.Unsigned s x e = number_scalar left (number_of a) (λ n. integer (pos n)) s x (λ n. refl) e
-scalar_is inside left a kinds.Negative s x e = number_scalar left (number_of a) (λ n. integer (negsuc n)) s x (λ n. refl) e
-scalar_is inside left a kinds.Bytes s x e = ap as_scalar (sym (made_is (any_string_by false left (number_of a) s) bytes x e).1)
-scalar_is inside left a kinds.Text s x e = ap as_scalar (sym (made_is (any_string_by true left (number_of a) s) Item.text x e).1)
-scalar_is inside left a kinds.Array s x e = ap as_scalar (sym (made_is (inside.items (number_of a) s) (λ vs. array (items_of vs)) x e).1)
-scalar_is inside left a kinds.Map s x e = ap as_scalar (sym (made_is (inside.pairs (number_of a) s) (λ ps. dict (pairs_of ps)) x e).1)
-scalar_is inside left a kinds.Tag s x e =
+pub scalar_is : (inside : Inside) (left : ℕ) (a : Argument) (k : MajorType) (s : List ℕ) (x : Item × List ℕ) → item_by inside left a k s ≡ Ok x → scalar_by left a k s ≡ as_scalar x.0
+scalar_is inside left a major_types.Unsigned s x e = number_scalar left (number_of a) (λ n. integer (pos n)) s x (λ n. refl) e
+scalar_is inside left a major_types.Negative s x e = number_scalar left (number_of a) (λ n. integer (negsuc n)) s x (λ n. refl) e
+scalar_is inside left a major_types.Bytes s x e = ap as_scalar (sym (made_is (any_string_by false left (number_of a) s) bytes x e).1)
+scalar_is inside left a major_types.Text s x e = ap as_scalar (sym (made_is (any_string_by true left (number_of a) s) Item.text x e).1)
+scalar_is inside left a major_types.Array s x e = ap as_scalar (sym (made_is (inside.items (number_of a) s) (λ vs. array (items_of vs)) x e).1)
+scalar_is inside left a major_types.Map s x e = ap as_scalar (sym (made_is (inside.pairs (number_of a) s) (λ ps. dict (pairs_of ps)) x e).1)
+scalar_is inside left a major_types.Tag s x e =
     let n = some_ok left (number_of a) (λ n. inside.one s >>= λ y. Ok (tag n y.0, y.1)) x e in
     ap as_scalar (sym (made_is (inside.one s) (tag n.0) x n.2).1)
-scalar_is inside left a kinds.Simple s x e = simple_scalar left a s x e
+scalar_is inside left a major_types.Simple s x e = simple_scalar left a s x e
 
 -- ---- integers
 
-pub integer_is : (inside : Inside) (left : ℕ) (a : Argument) (k : Kind) (s : List ℕ) (x : Item × List ℕ) → item_by inside left a k s ≡ Ok x → integer_by (number_of a) k ≡ as_integer x.0
-integer_is inside left a kinds.Unsigned s x e =
+pub integer_is : (inside : Inside) (left : ℕ) (a : Argument) (k : MajorType) (s : List ℕ) (x : Item × List ℕ) → item_by inside left a k s ≡ Ok x → integer_by (number_of a) k ≡ as_integer x.0
+integer_is inside left a major_types.Unsigned s x e =
     let n = some_ok left (number_of a) (λ n. Ok (integer (pos n), s)) x e in
     ap (option_map (λ (n : ℕ). pos n)) n.1 ∙ ap (λ (y : Item × List ℕ). as_integer y.0) (ok_is (integer (pos n.0), s) x n.2)
-integer_is inside left a kinds.Negative s x e =
+integer_is inside left a major_types.Negative s x e =
     let n = some_ok left (number_of a) (λ n. Ok (integer (negsuc n), s)) x e in
     ap (option_map (λ (n : ℕ). negsuc n)) n.1 ∙ ap (λ (y : Item × List ℕ). as_integer y.0) (ok_is (integer (negsuc n.0), s) x n.2)
-integer_is inside left a kinds.Bytes s x e = ap as_integer (sym (made_is (any_string_by false left (number_of a) s) bytes x e).1)
-integer_is inside left a kinds.Text s x e = ap as_integer (sym (made_is (any_string_by true left (number_of a) s) Item.text x e).1)
-integer_is inside left a kinds.Array s x e = ap as_integer (sym (made_is (inside.items (number_of a) s) (λ vs. array (items_of vs)) x e).1)
-integer_is inside left a kinds.Map s x e = ap as_integer (sym (made_is (inside.pairs (number_of a) s) (λ ps. dict (pairs_of ps)) x e).1)
-integer_is inside left a kinds.Tag s x e =
+integer_is inside left a major_types.Bytes s x e = ap as_integer (sym (made_is (any_string_by false left (number_of a) s) bytes x e).1)
+integer_is inside left a major_types.Text s x e = ap as_integer (sym (made_is (any_string_by true left (number_of a) s) Item.text x e).1)
+integer_is inside left a major_types.Array s x e = ap as_integer (sym (made_is (inside.items (number_of a) s) (λ vs. array (items_of vs)) x e).1)
+integer_is inside left a major_types.Map s x e = ap as_integer (sym (made_is (inside.pairs (number_of a) s) (λ ps. dict (pairs_of ps)) x e).1)
+integer_is inside left a major_types.Tag s x e =
     let n = some_ok left (number_of a) (λ n. inside.one s >>= λ y. Ok (tag n y.0, y.1)) x e in
     ap as_integer (sym (made_is (inside.one s) (tag n.0) x n.2).1)
-integer_is inside left a kinds.Simple s x e = no_integer x.0 (simple_kind left a s x e)
+integer_is inside left a major_types.Simple s x e = no_integer x.0 (simple_major_type left a s x e)
   where
-    no_integer : (v : Item) → item_kind v ≡ kinds.Simple → None ≡ as_integer v
+    no_integer : (v : Item) → item_major_type v ≡ major_types.Simple → None ≡ as_integer v
     no_integer (integer (pos n)) h = absurd cc
     no_integer (integer (negsuc n)) h = absurd cc
     no_integer (bytes s) h = refl
@@ -120,34 +120,34 @@ integer_is inside left a kinds.Simple s x e = no_integer x.0 (simple_kind left a
 
 -- ---- strings
 
-string_by : (is_text : Bool) (inside : Inside) (left : ℕ) (a : Argument) (k : Kind) (s : List ℕ) (x : Item × List ℕ) → chunk_kind is_text k ≡ true → item_by inside left a k s ≡ Ok x
+string_by : (is_text : Bool) (inside : Inside) (left : ℕ) (a : Argument) (k : MajorType) (s : List ℕ) (x : Item × List ℕ) → begins_chunk is_text k ≡ true → item_by inside left a k s ≡ Ok x
     → (y : List ℕ × List ℕ) × (any_string_by is_text left (number_of a) s ≡ Ok y) × (Some y.0 ≡ as_string is_text x.0)
-string_by false inside left a kinds.Bytes s x k e =
+string_by false inside left a major_types.Bytes s x k e =
     let r = bind_ok (any_string_by false left (number_of a) s) (λ y. Ok (bytes y.0, y.1)) x e in
     (r.0, r.1, ap (λ (z : Item × List ℕ). as_string false z.0) (ok_is (bytes r.0.0, r.0.1) x r.2))
-string_by true inside left a kinds.Text s x k e =
+string_by true inside left a major_types.Text s x k e =
     let r = bind_ok (any_string_by true left (number_of a) s) (λ y. Ok (Item.text y.0, y.1)) x e in
     (r.0, r.1, ap (λ (z : Item × List ℕ). as_string true z.0) (ok_is (Item.text r.0.0, r.0.1) x r.2))
-string_by true inside left a kinds.Bytes s x k e = absurd cc
-string_by false inside left a kinds.Text s x k e = absurd cc
-string_by is_text inside left a kinds.Unsigned s x k e = absurd cc
-string_by is_text inside left a kinds.Negative s x k e = absurd cc
-string_by is_text inside left a kinds.Array s x k e = absurd cc
-string_by is_text inside left a kinds.Map s x k e = absurd cc
-string_by is_text inside left a kinds.Tag s x k e = absurd cc
-string_by is_text inside left a kinds.Simple s x k e = absurd cc
+string_by true inside left a major_types.Bytes s x k e = absurd cc
+string_by false inside left a major_types.Text s x k e = absurd cc
+string_by is_text inside left a major_types.Unsigned s x k e = absurd cc
+string_by is_text inside left a major_types.Negative s x k e = absurd cc
+string_by is_text inside left a major_types.Array s x k e = absurd cc
+string_by is_text inside left a major_types.Map s x k e = absurd cc
+string_by is_text inside left a major_types.Tag s x k e = absurd cc
+string_by is_text inside left a major_types.Simple s x k e = absurd cc
 
 -- the string that a lent item is, read again, is its content
-pub string_read : (is_text : Bool) (b : List ℕ) (h : Head × List ℕ) (o : Option ℕ) (y : List ℕ × List ℕ) → is_one_item b ≡ true → head_at b ≡ Ok h → chunk_kind is_text h.0.kind ≡ true → o ≡ number_of h.0.argument
+pub string_read : (is_text : Bool) (b : List ℕ) (h : Head × List ℕ) (o : Option ℕ) (y : List ℕ × List ℕ) → is_one_item b ≡ true → head_at b ≡ Ok h → begins_chunk is_text h.0.major_type ≡ true → o ≡ number_of h.0.argument
     → any_string_by is_text (length b) o h.1 ≡ Ok y → Some y.0 ≡ as_string is_text (item_of b)
 string_read is_text b h o y one e k number is =
-    let r = string_by is_text (things (item_at 255)) (length b) h.0.argument h.0.kind h.1 (item_of b, []) k (one_item_by b h one e) in
+    let r = string_by is_text (things (item_at 255)) (length b) h.0.argument h.0.major_type h.1 (item_of b, []) k (one_item_by b h one e) in
     ap (λ (z : List ℕ × List ℕ). Some z.0) (ok_is y r.0 (sym is ∙ ap (λ (p : Option ℕ). any_string_by is_text (length b) p h.1) number ∙ r.1)) ∙ r.2
 
-pub string_no_fault : (is_text : Bool) (b : List ℕ) (h : Head × List ℕ) (o : Option ℕ) (f : Fault) → is_one_item b ≡ true → head_at b ≡ Ok h → chunk_kind is_text h.0.kind ≡ true → o ≡ number_of h.0.argument
+pub string_no_fault : (is_text : Bool) (b : List ℕ) (h : Head × List ℕ) (o : Option ℕ) (f : Fault) → is_one_item b ≡ true → head_at b ≡ Ok h → begins_chunk is_text h.0.major_type ≡ true → o ≡ number_of h.0.argument
     → any_string_by is_text (length b) o h.1 ≡ Err f → ⊥
 string_no_fault is_text b h o f one e k number is =
-    let r = string_by is_text (things (item_at 255)) (length b) h.0.argument h.0.kind h.1 (item_of b, []) k (one_item_by b h one e) in
+    let r = string_by is_text (things (item_at 255)) (length b) h.0.argument h.0.major_type h.1 (item_of b, []) k (one_item_by b h one e) in
     differ r.0 (sym is ∙ ap (λ (p : Option ℕ). any_string_by is_text (length b) p h.1) number ∙ r.1)
   where
     differ : (y : List ℕ × List ℕ) → ◌≡◌ {A = Result (List ℕ × List ℕ) Fault} (Err f) (Ok y) → ⊥
@@ -156,20 +156,20 @@ string_no_fault is_text b h o f one e k number is =
 -- ---- tags
 
 -- what a head that is no tag's says
-pub no_tag : (inside : Inside) (left : ℕ) (a : Argument) (k : Kind) (s : List ℕ) (x : Item × List ℕ) → tag_by a k ≡ None → item_by inside left a k s ≡ Ok x → None ≡ as_tag x.0
-no_tag inside left a kinds.Unsigned s x t e = let n = some_ok left (number_of a) (λ n. Ok (integer (pos n), s)) x e in ap (λ (y : Item × List ℕ). as_tag y.0) (ok_is (integer (pos n.0), s) x n.2)
-no_tag inside left a kinds.Negative s x t e = let n = some_ok left (number_of a) (λ n. Ok (integer (negsuc n), s)) x e in ap (λ (y : Item × List ℕ). as_tag y.0) (ok_is (integer (negsuc n.0), s) x n.2)
-no_tag inside left a kinds.Bytes s x t e = ap as_tag (sym (made_is (any_string_by false left (number_of a) s) bytes x e).1)
-no_tag inside left a kinds.Text s x t e = ap as_tag (sym (made_is (any_string_by true left (number_of a) s) Item.text x e).1)
-no_tag inside left a kinds.Array s x t e = ap as_tag (sym (made_is (inside.items (number_of a) s) (λ vs. array (items_of vs)) x e).1)
-no_tag inside left a kinds.Map s x t e = ap as_tag (sym (made_is (inside.pairs (number_of a) s) (λ ps. dict (pairs_of ps)) x e).1)
-no_tag inside left a kinds.Tag s x t e =
+pub no_tag : (inside : Inside) (left : ℕ) (a : Argument) (k : MajorType) (s : List ℕ) (x : Item × List ℕ) → tag_by a k ≡ None → item_by inside left a k s ≡ Ok x → None ≡ as_tag x.0
+no_tag inside left a major_types.Unsigned s x t e = let n = some_ok left (number_of a) (λ n. Ok (integer (pos n), s)) x e in ap (λ (y : Item × List ℕ). as_tag y.0) (ok_is (integer (pos n.0), s) x n.2)
+no_tag inside left a major_types.Negative s x t e = let n = some_ok left (number_of a) (λ n. Ok (integer (negsuc n), s)) x e in ap (λ (y : Item × List ℕ). as_tag y.0) (ok_is (integer (negsuc n.0), s) x n.2)
+no_tag inside left a major_types.Bytes s x t e = ap as_tag (sym (made_is (any_string_by false left (number_of a) s) bytes x e).1)
+no_tag inside left a major_types.Text s x t e = ap as_tag (sym (made_is (any_string_by true left (number_of a) s) Item.text x e).1)
+no_tag inside left a major_types.Array s x t e = ap as_tag (sym (made_is (inside.items (number_of a) s) (λ vs. array (items_of vs)) x e).1)
+no_tag inside left a major_types.Map s x t e = ap as_tag (sym (made_is (inside.pairs (number_of a) s) (λ ps. dict (pairs_of ps)) x e).1)
+no_tag inside left a major_types.Tag s x t e =
     let n = some_ok left (number_of a) (λ n. inside.one s >>= λ y. Ok (tag n y.0, y.1)) x e in
     absurd (differ n.0 (sym n.1 ∙ t))
   where
     differ : (n : ℕ) → ◌≡◌ {A = Option ℕ} (Some n) None → ⊥
     differ n e = cc
-no_tag inside left a kinds.Simple s x t e = as_scalar_tag x.0 (sym (simple_scalar left a s x e) ∙ ap read_of e)
+no_tag inside left a major_types.Simple s x t e = as_scalar_tag x.0 (sym (simple_scalar left a s x e) ∙ ap read_of e)
   where
     as_scalar_tag : (v : Item) → as_scalar v ≡ Some v → None ≡ as_tag v
     as_scalar_tag (integer n) h = refl
@@ -183,14 +183,14 @@ no_tag inside left a kinds.Simple s x t e = as_scalar_tag x.0 (sym (simple_scala
     as_scalar_tag (dict ps) h = refl
 
 -- what a tag's head says: what is read inside
-tag_inside : (inside : Inside) (left : ℕ) (a : Argument) (k : Kind) (s : List ℕ) (x : Item × List ℕ) (n : ℕ) → tag_by a k ≡ Some n → item_by inside left a k s ≡ Ok x → (w : Item × List ℕ) × (inside.one s ≡ Ok w) × (x ≡ (tag n w.0, w.1))
-tag_inside inside left a kinds.Unsigned s x n t e = absurd cc
-tag_inside inside left a kinds.Negative s x n t e = absurd cc
-tag_inside inside left a kinds.Bytes s x n t e = absurd cc
-tag_inside inside left a kinds.Text s x n t e = absurd cc
-tag_inside inside left a kinds.Array s x n t e = absurd cc
-tag_inside inside left a kinds.Map s x n t e = absurd cc
-tag_inside inside left a kinds.Tag s x n t e =
+tag_inside : (inside : Inside) (left : ℕ) (a : Argument) (k : MajorType) (s : List ℕ) (x : Item × List ℕ) (n : ℕ) → tag_by a k ≡ Some n → item_by inside left a k s ≡ Ok x → (w : Item × List ℕ) × (inside.one s ≡ Ok w) × (x ≡ (tag n w.0, w.1))
+tag_inside inside left a major_types.Unsigned s x n t e = absurd cc
+tag_inside inside left a major_types.Negative s x n t e = absurd cc
+tag_inside inside left a major_types.Bytes s x n t e = absurd cc
+tag_inside inside left a major_types.Text s x n t e = absurd cc
+tag_inside inside left a major_types.Array s x n t e = absurd cc
+tag_inside inside left a major_types.Map s x n t e = absurd cc
+tag_inside inside left a major_types.Tag s x n t e =
     let m = some_ok left (number_of a) (λ n. inside.one s >>= λ y. Ok (tag n y.0, y.1)) x e in
     let w = bind_ok (inside.one s) (λ y. Ok (tag m.0 y.0, y.1)) x m.2 in
     let same : m.0 ≡ n = some_same m.0 n (sym m.1 ∙ t) in
@@ -198,24 +198,24 @@ tag_inside inside left a kinds.Tag s x n t e =
   where
     some_same : (m n : ℕ) → ◌≡◌ {A = Option ℕ} (Some m) (Some n) → m ≡ n
     some_same m n e = cc
-tag_inside inside left a kinds.Simple s x n t e = absurd cc
+tag_inside inside left a major_types.Simple s x n t e = absurd cc
 
 -- the bytes after a tag's head are one item, which the tag encloses
 pub record IsEnclosed (n : ℕ) (b s : List ℕ) : Type 0 where
   pub one : is_one_item s ≡ true
   pub item : item_of b ≡ tag n (item_of s)
 
-pub enclosed : (b : List ℕ) (h : Head × List ℕ) (n : ℕ) → is_one_item b ≡ true → head_at b ≡ Ok h → tag_by h.0.argument h.0.kind ≡ Some n → IsEnclosed n b h.1
+pub enclosed_item : (b : List ℕ) (h : Head × List ℕ) (n : ℕ) → is_one_item b ≡ true → head_at b ≡ Ok h → tag_by h.0.argument h.0.major_type ≡ Some n → IsEnclosed n b h.1
 unfolding things
-enclosed b h n one e t =
-    let w = tag_inside (things (item_at 255)) (length b) h.0.argument h.0.kind h.1 (item_of b, []) n t (one_item_by b h one e) in
+enclosed_item b h n one e t =
+    let w = tag_inside (things (item_at 255)) (length b) h.0.argument h.0.major_type h.1 (item_of b, []) n t (one_item_by b h one e) in
     let fits = (head_takes b h (one_item_bytes b one) e).rest_fits in
     let inner = item_takes 255 h.1 w.0 fits w.1 in
     let rest : [] ≡ w.0.1 = ap (λ (x : Item × List ℕ). x.1) w.2 in
     let all : h.1 ≡ inner.front = inner.parts ∙ ap (λ (r : List ℕ). inner.front ++ r) (sym rest) ∙ append-nil inner.front in
-    let low : depth w.0.0 ≤ 255 = inner.text.1 in
-    let text : IsItem h.1 w.0.0 = (subst (λ (c : List ℕ). IsText w.0.0 c) (sym all) inner.text.0, omega arith) in
+    let low : depth w.0.0 ≤ 255 = inner.encoding.1 in
+    let encoding : IsItem h.1 w.0.0 = (subst (λ (c : List ℕ). IsEncoding w.0.0 c) (sym all) inner.encoding.0, omega arith) in
     record {
-      one = one_item_from h.1 w.0.0 fits text;
-      item = ap (λ (x : Item × List ℕ). x.0) w.2 ∙ ap (tag n) (sym (item_of_one h.1 w.0.0 text));
+      one = one_item_from h.1 w.0.0 fits encoding;
+      item = ap (λ (x : Item × List ℕ). x.0) w.2 ∙ ap (tag n) (sym (item_of_one h.1 w.0.0 encoding));
     }

@@ -3,14 +3,14 @@ use Rattle.std.proofs.Common.{◌≡◌, ℕ, zero, suc, ◌+◌, ◌-◌, ◌/�
 use Rattle.std.specs.Prelude.{pos, negsuc}
 use Rattle.coset_cbor.specs.declared.fault.Fault.{Fault}
 use Rattle.coset_cbor.specs.declared.fault.Fault.TheVariants.{End, Syntax, Simple}
-use Rattle.coset_cbor.specs.declared.head.Kind.{Kind}
-use Rattle.coset_cbor.specs.declared.head.Kind.TheVariants as kinds
+use Rattle.coset_cbor.specs.declared.head.MajorType.{MajorType}
+use Rattle.coset_cbor.specs.declared.head.MajorType.TheVariants as major_types
 use Rattle.coset_cbor.specs.declared.head.Argument.{Argument}
 use Rattle.coset_cbor.specs.declared.head.Argument.TheVariants as places
 use Rattle.coset_cbor.specs.declared.head.Head.{Head}
 use Rattle.coset_value.specs.Item.{half, single, double, Item, integer, bytes, float, boolean, null, tag, array, dict}
 use Rattle.coset_value.specs.View.{items_of, pairs_of}
-use Rattle.coset_cbor.specs.Reading.{◌>>=◌, number_of, unless_none, head_at, is_sound, string_at, any_string_by, times_at, pair_at, simple_at, things, item_by, item_at}
+use Rattle.coset_cbor.specs.Reading.{◌>>=◌, number_of, unless_none, head_at, is_string_content, string_at, any_string_by, times_at, pair_at, simple_at, things, item_by, item_at}
 use Rattle.coset_cbor.specs.Grammar.{IsItem}
 use Rattle.coset_cbor.specs.Whole.{is_one_item, item_of}
 use Rattle.coset_cbor.specs.Jumps.{IsPast, items_behind, bytes_behind, BeginsItem}
@@ -57,8 +57,8 @@ past_all (suc n) s a e p = absurd (omega arith)
 deeper : (s : List ℕ) (x : Item × List ℕ) → IsBytes s → item_at 255 s ≡ Ok x → item_at 256 s ≡ Ok x
 deeper s x fits e =
     let t = item_takes 255 s x fits e in
-    let low = t.text.1 in
-    ap (item_at 256) t.parts ∙ item_again 256 x.0 t.front x.1 t.text.0 (omega arith)
+    let low = t.encoding.1 in
+    ap (item_at 256) t.parts ∙ item_again 256 x.0 t.front x.1 t.encoding.0 (omega arith)
 
 past_times : (n : ℕ) (s : List ℕ) (x : List Item × List ℕ) → IsBytes s → times_at (item_at 255) n s ≡ Ok x → IsPast n s x.1
 unfolding times_at IsPast
@@ -97,8 +97,8 @@ number_rest left o f s x e = let n = some_ok left o (λ n. Ok (f n, s)) x e in a
 string_rest : (is_text : Bool) (left n : ℕ) (s : List ℕ) (x : List ℕ × List ℕ) → string_at is_text left n s ≡ Ok x → drop n s ≡ x.1
 unfolding string_at
 string_rest is_text left n s x e =
-    let g = guard_ok (ltb (length s) n) End (cond (is_sound is_text (take n s)) (Ok (take n s, drop n s)) (Err (Syntax left))) x e in
-    let h = guard_else (is_sound is_text (take n s)) (Syntax left) (Ok (take n s, drop n s)) x g.1 in
+    let g = guard_ok (ltb (length s) n) End (cond (is_string_content is_text (take n s)) (Ok (take n s, drop n s)) (Err (Syntax left))) x e in
+    let h = guard_else (is_string_content is_text (take n s)) (Syntax left) (Ok (take n s, drop n s)) x g.1 in
     ap rest_of (ok_is (take n s, drop n s) x h.1)
 
 simple_rest : (left : ℕ) (a : Argument) (s : List ℕ) (x : Item × List ℕ) → simple_at left a s ≡ Ok x → s ≡ x.1
@@ -122,39 +122,39 @@ made_rest r f x e =
     let y = bind_ok r (λ y. Ok (f y.0, y.1)) x e in
     (y.0, y.1, ap rest_of (ok_is (f y.0.0, y.0.1) x y.2))
 
-behind_by : (k : Kind) (left n : ℕ) (a : Argument) (s : List ℕ) (x : Item × List ℕ) → IsBytes s → number_of a ≡ Some n → item_by (things (item_at 255)) left a k s ≡ Ok x → IsPast (items_behind k n) (drop (bytes_behind k n) s) x.1
+behind_by : (k : MajorType) (left n : ℕ) (a : Argument) (s : List ℕ) (x : Item × List ℕ) → IsBytes s → number_of a ≡ Some n → item_by (things (item_at 255)) left a k s ≡ Ok x → IsPast (items_behind k n) (drop (bytes_behind k n) s) x.1
 unfolding IsPast things
-behind_by kinds.Unsigned left n a s x fits number e = number_rest left (number_of a) (λ n. integer (pos n)) s x e
-behind_by kinds.Negative left n a s x fits number e = number_rest left (number_of a) (λ n. integer (negsuc n)) s x e
-behind_by kinds.Bytes left n a s x fits number e =
+behind_by major_types.Unsigned left n a s x fits number e = number_rest left (number_of a) (λ n. integer (pos n)) s x e
+behind_by major_types.Negative left n a s x fits number e = number_rest left (number_of a) (λ n. integer (negsuc n)) s x e
+behind_by major_types.Bytes left n a s x fits number e =
     let y = made_rest (any_string_by false left (Some n) s) bytes x (ap (λ (o : Option ℕ). any_string_by false left o s >>= λ y. Ok (bytes y.0, y.1)) (sym number) ∙ e) in
     string_rest false left n s y.0 y.1 ∙ y.2
-behind_by kinds.Text left n a s x fits number e =
+behind_by major_types.Text left n a s x fits number e =
     let y = made_rest (any_string_by true left (Some n) s) Item.text x (ap (λ (o : Option ℕ). any_string_by true left o s >>= λ y. Ok (Item.text y.0, y.1)) (sym number) ∙ e) in
     string_rest true left n s y.0 y.1 ∙ y.2
-behind_by kinds.Array left n a s x fits number e =
+behind_by major_types.Array left n a s x fits number e =
     let y = made_rest (cond (ltb (length s) n) (Err End) (times_at (item_at 255) n s)) (λ vs. array (items_of vs)) x
     (ap (λ (o : Option ℕ). (things (item_at 255)).items o s >>= λ y. Ok (array (items_of y.0), y.1)) (sym number) ∙ e) in
     let g = guard_ok (ltb (length s) n) End (times_at (item_at 255) n s) y.0 y.1 in
     subst (λ (r : List ℕ). IsPast n s r) y.2 (past_times n s y.0 fits g.1)
-behind_by kinds.Map left n a s x fits number e =
+behind_by major_types.Map left n a s x fits number e =
     let y = made_rest (cond (ltb (length s / 2) n) (Err End) (times_at (pair_at (item_at 255)) n s)) (λ ps. dict (pairs_of ps)) x
     (ap (λ (o : Option ℕ). (things (item_at 255)).pairs o s >>= λ y. Ok (dict (pairs_of y.0), y.1)) (sym number) ∙ e) in
     let g = guard_ok (ltb (length s / 2) n) End (times_at (pair_at (item_at 255)) n s) y.0 y.1 in
     subst (λ (r : List ℕ). IsPast (n + n) s r) y.2 (past_pairs n (n + n) s y.0 refl fits g.1)
-behind_by kinds.Tag left n a s x fits number e =
+behind_by major_types.Tag left n a s x fits number e =
     let m = some_ok left (number_of a) (λ n. item_at 255 s >>= λ y. Ok (tag n y.0, y.1)) x e in
     let y = made_rest (item_at 255 s) (tag m.0) x m.2 in
     (y.0, deeper s y.0 fits y.1, y.2)
-behind_by kinds.Simple left n a s x fits number e = simple_rest left a s x e
+behind_by major_types.Simple left n a s x fits number e = simple_rest left a s x e
 
-pub behind_head : (s : List ℕ) (h : Head × List ℕ) (n : ℕ) (t : List ℕ) (x : Item × List ℕ) → IsBytes s → head_at s ≡ Ok h → number_of h.0.argument ≡ Some n → t ≡ drop (bytes_behind h.0.kind n) h.1 → item_at 256 s ≡ Ok x → IsPast (items_behind h.0.kind n) t x.1
+pub behind_head : (s : List ℕ) (h : Head × List ℕ) (n : ℕ) (t : List ℕ) (x : Item × List ℕ) → IsBytes s → head_at s ≡ Ok h → number_of h.0.argument ≡ Some n → t ≡ drop (bytes_behind h.0.major_type n) h.1 → item_at 256 s ≡ Ok x → IsPast (items_behind h.0.major_type n) t x.1
 unfolding item_at
 behind_head s h n t x fits e number rest whole =
-    let by : item_by (things (item_at 255)) (length s) h.0.argument h.0.kind h.1 ≡ Ok x =
-    sym (ap (λ (r : Result (Head × List ℕ) Fault). r >>= λ y. item_by (things (item_at 255)) (length s) y.0.argument y.0.kind y.1) e) ∙ whole in
-    subst (λ (r : List ℕ). IsPast (items_behind h.0.kind n) r x.1) (sym rest)
-    (behind_by h.0.kind (length s) n h.0.argument h.1 x (head_takes s h fits e).rest_fits number by)
+    let by : item_by (things (item_at 255)) (length s) h.0.argument h.0.major_type h.1 ≡ Ok x =
+    sym (ap (λ (r : Result (Head × List ℕ) Fault). r >>= λ y. item_by (things (item_at 255)) (length s) y.0.argument y.0.major_type y.1) e) ∙ whole in
+    subst (λ (r : List ℕ). IsPast (items_behind h.0.major_type n) r x.1) (sym rest)
+    (behind_by h.0.major_type (length s) n h.0.argument h.1 x (head_takes s h fits e).rest_fits number by)
 
 -- ---- the item that is known to stand at the front
 

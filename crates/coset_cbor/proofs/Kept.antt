@@ -7,7 +7,7 @@ use Rattle.coset_value.specs.Item.{Item, array, dict, items_count, pairs_count}
 use Rattle.coset_value.specs.Range.{IsInRange, AreInRange, ArePairsInRange}
 use Rattle.coset_value.specs.View.{items_of, pairs_of, view, pair_view, items_view, pairs_view}
 use Rattle.coset_value.specs.declared.value.Value.{Value, Tag, Array, Map, the_lemmas}
-use Rattle.coset_cbor.specs.Least.{Extends, least_head, short, shorts, pair_shorts}
+use Rattle.coset_cbor.specs.Least.{Extends, least_head, least_encoding, least_encodings, least_pair_encodings}
 
 pub extends_self : (old new : List ℕ) → new ≡ old → Extends old new
 extends_self old new e = ([], e ∙ sym (append-nil old))
@@ -18,31 +18,31 @@ extends_by old new more e = (more, e)
 pub extends_then : (old middle new : List ℕ) → Extends old middle → Extends middle new → Extends old new
 extends_then old middle new p q = (p.0 ++ q.0, q.1 ∙ ap (λ (x : List ℕ). x ++ q.0) p.1 ∙ append_assoc old p.0 q.0)
 
-pub shorts-push : (vs : List Item) (v : Item) → shorts (items_of (vs ++ v ∷ [])) ≡ shorts (items_of vs) ++ short v
-shorts-push [] v = append-nil (short v)
-shorts-push (w ∷ vs) v = ap (λ (x : List ℕ). short w ++ x) (shorts-push vs v) ∙ sym (append_assoc (short w) (shorts (items_of vs)) (short v))
+pub least_encodings-push : (vs : List Item) (v : Item) → least_encodings (items_of (vs ++ v ∷ [])) ≡ least_encodings (items_of vs) ++ least_encoding v
+least_encodings-push [] v = append-nil (least_encoding v)
+least_encodings-push (w ∷ vs) v = ap (λ (x : List ℕ). least_encoding w ++ x) (least_encodings-push vs v) ∙ sym (append_assoc (least_encoding w) (least_encodings (items_of vs)) (least_encoding v))
 
-pub pair_shorts-push : (ps : List (Item × Item)) (p : Item × Item) → pair_shorts (pairs_of (ps ++ p ∷ [])) ≡ pair_shorts (pairs_of ps) ++ (short p.0 ++ short p.1)
-pair_shorts-push [] p = ap (λ (x : List ℕ). short p.0 ++ x) (append-nil (short p.1))
-pair_shorts-push (q ∷ ps) p = ap (λ (x : List ℕ). short q.0 ++ (short q.1 ++ x)) (pair_shorts-push ps p) ∙ simp append_assoc
+pub least_pair_encodings-push : (ps : List (Item × Item)) (p : Item × Item) → least_pair_encodings (pairs_of (ps ++ p ∷ [])) ≡ least_pair_encodings (pairs_of ps) ++ (least_encoding p.0 ++ least_encoding p.1)
+least_pair_encodings-push [] p = ap (λ (x : List ℕ). least_encoding p.0 ++ x) (append-nil (least_encoding p.1))
+least_pair_encodings-push (q ∷ ps) p = ap (λ (x : List ℕ). least_encoding q.0 ++ (least_encoding q.1 ++ x)) (least_pair_encodings-push ps p) ∙ simp append_assoc
 
-pub item_put : (xs : List Value) (i : ℕ) (x : Value) (old middle new : List ℕ) → i < length xs → x ≡ get_or xs i x → middle ≡ old ++ shorts (items_view (take i xs)) → new ≡ middle ++ short (view x)
-    → new ≡ old ++ shorts (items_view (take (i + 1) xs))
+pub item_put : (xs : List Value) (i : ℕ) (x : Value) (old middle new : List ℕ) → i < length xs → x ≡ get_or xs i x → middle ≡ old ++ least_encodings (items_view (take i xs)) → new ≡ middle ++ least_encoding (view x)
+    → new ≡ old ++ least_encodings (items_view (take (i + 1) xs))
 item_put xs i x old middle new lt is so_far put =
     let more : take (i + 1) xs ≡ take i xs ++ x ∷ [] = take_more xs i x lt ∙ ap (λ (y : Value). take i xs ++ y ∷ []) (sym is) in
-    let total : shorts (items_view (take (i + 1) xs)) ≡ shorts (items_view (take i xs)) ++ short (view x) =
-    ap (λ (ys : List Value). shorts (items_view ys)) more ∙ ap (λ (zs : List Item). shorts (items_of zs)) (map_push view (take i xs) x) ∙ shorts-push (map view (take i xs)) (view x) in
-    put ∙ ap (λ (s : List ℕ). s ++ short (view x)) so_far ∙ append_assoc old (shorts (items_view (take i xs))) (short (view x)) ∙ ap (λ (s : List ℕ). old ++ s) (sym total)
+    let total : least_encodings (items_view (take (i + 1) xs)) ≡ least_encodings (items_view (take i xs)) ++ least_encoding (view x) =
+    ap (λ (ys : List Value). least_encodings (items_view ys)) more ∙ ap (λ (zs : List Item). least_encodings (items_of zs)) (map_push view (take i xs) x) ∙ least_encodings-push (map view (take i xs)) (view x) in
+    put ∙ ap (λ (s : List ℕ). s ++ least_encoding (view x)) so_far ∙ append_assoc old (least_encodings (items_view (take i xs))) (least_encoding (view x)) ∙ ap (λ (s : List ℕ). old ++ s) (sym total)
 
-pub pair_put : (xs : List (Value × Value)) (i : ℕ) (x : Value × Value) (old middle half new : List ℕ) → i < length xs → x ≡ get_or xs i x → middle ≡ old ++ pair_shorts (pairs_view (take i xs)) → half ≡ middle ++ short (view x.0) → new ≡ half ++ short (view x.1)
-    → new ≡ old ++ pair_shorts (pairs_view (take (i + 1) xs))
+pub pair_put : (xs : List (Value × Value)) (i : ℕ) (x : Value × Value) (old middle half new : List ℕ) → i < length xs → x ≡ get_or xs i x → middle ≡ old ++ least_pair_encodings (pairs_view (take i xs)) → half ≡ middle ++ least_encoding (view x.0) → new ≡ half ++ least_encoding (view x.1)
+    → new ≡ old ++ least_pair_encodings (pairs_view (take (i + 1) xs))
 pair_put xs i x old middle half new lt is so_far key put =
     let more : take (i + 1) xs ≡ take i xs ++ x ∷ [] = take_more xs i x lt ∙ ap (λ (y : Value × Value). take i xs ++ y ∷ []) (sym is) in
-    let both = short (view x.0) ++ short (view x.1) in
-    let total : pair_shorts (pairs_view (take (i + 1) xs)) ≡ pair_shorts (pairs_view (take i xs)) ++ both =
-    ap (λ (ys : List (Value × Value)). pair_shorts (pairs_view ys)) more ∙ ap (λ (zs : List (Item × Item)). pair_shorts (pairs_of zs)) (map_push pair_view (take i xs) x) ∙ pair_shorts-push (map pair_view (take i xs)) (pair_view x) in
-    let all : new ≡ middle ++ both = put ∙ ap (λ (s : List ℕ). s ++ short (view x.1)) key ∙ append_assoc middle (short (view x.0)) (short (view x.1)) in
-    all ∙ ap (λ (s : List ℕ). s ++ both) so_far ∙ append_assoc old (pair_shorts (pairs_view (take i xs))) both ∙ ap (λ (s : List ℕ). old ++ s) (sym total)
+    let both = least_encoding (view x.0) ++ least_encoding (view x.1) in
+    let total : least_pair_encodings (pairs_view (take (i + 1) xs)) ≡ least_pair_encodings (pairs_view (take i xs)) ++ both =
+    ap (λ (ys : List (Value × Value)). least_pair_encodings (pairs_view ys)) more ∙ ap (λ (zs : List (Item × Item)). least_pair_encodings (pairs_of zs)) (map_push pair_view (take i xs) x) ∙ least_pair_encodings-push (map pair_view (take i xs)) (pair_view x) in
+    let all : new ≡ middle ++ both = put ∙ ap (λ (s : List ℕ). s ++ least_encoding (view x.1)) key ∙ append_assoc middle (least_encoding (view x.0)) (least_encoding (view x.1)) in
+    all ∙ ap (λ (s : List ℕ). s ++ both) so_far ∙ append_assoc old (least_pair_encodings (pairs_view (take i xs))) both ∙ ap (λ (s : List ℕ). old ++ s) (sym total)
 
 in_range-push : (vs : List Item) (v : Item) → AreInRange (items_of vs) → IsInRange v → AreInRange (items_of (vs ++ v ∷ []))
 in_range-push [] v h k = (k, tt)

@@ -5,8 +5,8 @@ use Rattle.coset_cbor.specs.declared.fault.Fault.{Fault}
 use Rattle.coset_cbor.specs.declared.fault.Fault.TheVariants.{End}
 use Rattle.coset_cbor.specs.declared.fault.ReadError.{ReadError}
 use Rattle.coset_cbor.specs.declared.fault.ReadError.TheVariants as errors
-use Rattle.coset_cbor.specs.Reading.{◌>>=◌, Fails, Parse, begins_break, times_at, until_at}
-use Rattle.coset_cbor.specs.Grammar.{joined}
+use Rattle.coset_cbor.specs.Reading.{◌>>=◌, FailsAs, Parse, begins_break, times_at, until_at}
+use Rattle.coset_cbor.specs.Grammar.{joined_chunks}
 
 -- what was read before, and what is still read
 abbrev pub with_front : {A : Type 0} → List A → Result (List A × List ℕ) Fault → Result (List A × List ℕ) Fault
@@ -24,8 +24,8 @@ times_on one front count i s a after total lt h so_far =
     let step : with_front front (times_at one (count - i) s) ≡ with_front (front ++ a ∷ []) (times_at one (count - (i + 1)) after) = rw (k, h) (regroup front a (times_at one (count - (i + 1)) after)) in
     sym step ∙ so_far
 
-pub times_fails : {A : Type 0} (one : Parse A) (e : ReadError) (front : List A) (count i : ℕ) (s : List ℕ) (total : Result (List A × List ℕ) Fault) → i < count → Fails e (one s)
-    → with_front front (times_at one (count - i) s) ≡ total → Fails e total
+pub times_fails : {A : Type 0} (one : Parse A) (e : ReadError) (front : List A) (count i : ℕ) (s : List ℕ) (total : Result (List A × List ℕ) Fault) → i < count → FailsAs e (one s)
+    → with_front front (times_at one (count - i) s) ≡ total → FailsAs e total
 unfolding times_at
 times_fails one errors.Memory front count i s total lt h so_far = tt
 times_fails one (errors.Fault f) front count i s total lt h so_far =
@@ -48,8 +48,8 @@ until_on one front turns i s a after total lt goes h so_far =
     let step : with_front front (until_at one (turns - i) s) ≡ with_front (front ++ a ∷ []) (until_at one (turns - (i + 1)) after) = rw (k, goes, h) (regroup front a (until_at one (turns - (i + 1)) after)) in
     sym step ∙ so_far
 
-pub until_fails : {A : Type 0} (one : Parse A) (e : ReadError) (front : List A) (turns i : ℕ) (s : List ℕ) (total : Result (List A × List ℕ) Fault) → i < turns → begins_break s ≡ false → Fails e (one s)
-    → with_front front (until_at one (turns - i) s) ≡ total → Fails e total
+pub until_fails : {A : Type 0} (one : Parse A) (e : ReadError) (front : List A) (turns i : ℕ) (s : List ℕ) (total : Result (List A × List ℕ) Fault) → i < turns → begins_break s ≡ false → FailsAs e (one s)
+    → with_front front (until_at one (turns - i) s) ≡ total → FailsAs e total
 unfolding until_at
 until_fails one errors.Memory front turns i s total lt goes h so_far = tt
 until_fails one (errors.Fault f) front turns i s total lt goes h so_far =
@@ -79,17 +79,17 @@ no_front (Err e) = refl
 pub ok_rest : {A : Type 0} (x : A) {r s : List ℕ} → r ≡ s → ◌≡◌ {A = Result (A × List ℕ) Fault} (Ok (x, r)) (Ok (x, s))
 ok_rest {A} x e = ap (λ (r : List ℕ). Ok (x, r)) e
 
-pub joined-push : (parts : List (List ℕ)) (part : List ℕ) → joined (parts ++ part ∷ []) ≡ joined parts ++ part
-joined-push [] part = append-nil part
-joined-push (p ∷ parts) part = ap (λ (s : List ℕ). p ++ s) (joined-push parts part) ∙ sym (append_assoc p (joined parts) part)
+pub joined_chunks-push : (parts : List (List ℕ)) (part : List ℕ) → joined_chunks (parts ++ part ∷ []) ≡ joined_chunks parts ++ part
+joined_chunks-push [] part = append-nil part
+joined_chunks-push (p ∷ parts) part = ap (λ (s : List ℕ). p ++ s) (joined_chunks-push parts part) ∙ sym (append_assoc p (joined_chunks parts) part)
 
 abbrev pub join : List (List ℕ) × List ℕ → Result (List ℕ × List ℕ) Fault
-join x = Ok (joined x.0, x.1)
+join x = Ok (joined_chunks x.0, x.1)
 
-pub joins : (read : Result (List (List ℕ) × List ℕ) Fault) (parts : List (List ℕ)) (s whole after : List ℕ) → read ≡ Ok (parts, s) → joined parts ≡ whole → s ≡ after
+pub joins : (read : Result (List (List ℕ) × List ℕ) Fault) (parts : List (List ℕ)) (s whole after : List ℕ) → read ≡ Ok (parts, s) → joined_chunks parts ≡ whole → s ≡ after
     → (read >>= join) ≡ Ok (whole, after)
 joins read parts s whole after e f g = rw (e, f, g) refl
 
-pub fails_joined : (e : ReadError) (read : Result (List (List ℕ) × List ℕ) Fault) → Fails e read → Fails e (read >>= join)
+pub fails_joined : (e : ReadError) (read : Result (List (List ℕ) × List ℕ) Fault) → FailsAs e read → FailsAs e (read >>= join)
 fails_joined errors.Memory read h = tt
 fails_joined (errors.Fault f) read h = rw h refl

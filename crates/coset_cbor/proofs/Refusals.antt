@@ -7,19 +7,19 @@ use Rattle.std.proofs.lemmas.Str.{is_utf8-from_IsUtf8}
 use Rattle.std.proofs.lemmas.List.{length-append, append-nil}
 use Rattle.coset_cbor.specs.declared.fault.Fault.{Fault}
 use Rattle.coset_cbor.specs.declared.fault.Fault.TheVariants.{End, Syntax, Simple, Deep}
-use Rattle.coset_cbor.specs.declared.head.Kind.{Kind}
-use Rattle.coset_cbor.specs.declared.head.Kind.TheVariants as kinds
+use Rattle.coset_cbor.specs.declared.head.MajorType.{MajorType}
+use Rattle.coset_cbor.specs.declared.head.MajorType.TheVariants as major_types
 use Rattle.coset_cbor.specs.declared.head.Argument.{Argument}
 use Rattle.coset_cbor.specs.declared.head.Argument.TheVariants as places
 use Rattle.coset_cbor.specs.declared.head.Head.{Head}
 use Rattle.coset_value.specs.Item.{Item, integer, bytes, tag, array, dict, Items, no_items, item, items_count}
 use Rattle.coset_value.specs.View.{items_of, pairs_of}
-use Rattle.coset_cbor.specs.Grammar.{Place, within, one, two, four, eight, Holds, head_in, IsHead, IsHeaded, Each, joined, string_type, IsDefinite, AreTexts}
-use Rattle.coset_cbor.specs.Reading.{◌>>=◌, Parse, kind_of, number_of, argument_by, head_at, unless_none, is_sound, string_at, chunk_kind, chunk_at, begins_break, times_at, until_at, chunks_at, any_string_by, pair_at, simple_at, Inside, nothing, things, item_by, item_from, item_at}
+use Rattle.coset_cbor.specs.Grammar.{Place, within, one, two, four, eight, Holds, head_in, IsHead, IsHeaded, EachInOrder, joined_chunks, string_type, IsDefinite, AreEncodings}
+use Rattle.coset_cbor.specs.Reading.{◌>>=◌, Parse, major_type_of, number_of, argument_by, head_at, unless_none, is_string_content, string_at, begins_chunk, chunk_at, begins_break, times_at, until_at, chunks_at, any_string_by, pair_at, simple_at, Inside, nothing, things, item_by, item_from, item_at}
 use Rattle.std.proofs.lemmas.Bool.{ltb-true, false≢true}
-use Rattle.coset_cbor.specs.Faults.{is_even, Opens, in_array, in_map, in_tag, in_open_array, in_open_map, Due, at_start, innermost, outer, DueChunk, IsDue, LacksContent, Ends, HasBadInfo, HasNoLength, IsLowSimple, BeginsBreak, NoItem, NoChunk, IsBadText, IsNotSupported, Nests, Stands}
-use Rattle.coset_cbor.proofs.Again.{IsTextBelow, IsPairTextBelow, Begins, IsText-begins, begins_append, IsHeaded-begins, type_low}
-use Rattle.coset_cbor.proofs.Takes.{IsBytes, bind_ok, chosen, ok_is, type_of, chunk_type, option_cases, number_head, none_head, head_takes, IsSoundReader, item_takes, chunk_takes, pair_takes, IsArgumentText}
+use Rattle.coset_cbor.specs.Faults.{is_even, Opens, in_array, in_map, in_tag, in_open_array, in_open_map, Due, at_start, innermost, outer, DueChunk, IsDue, LacksContent, Ends, HasBadInfo, HasNoLength, IsLowSimple, BeginsBreak, NoItem, NoChunk, IsBadTextString, IsNotSupported, Nests, Stands}
+use Rattle.coset_cbor.proofs.Again.{IsEncodingBelow, IsPairEncodingBelow, Begins, IsEncoding-begins, begins_append, IsHeaded-begins, type_low}
+use Rattle.coset_cbor.proofs.Takes.{IsBytes, bind_ok, chosen, ok_is, major_type_number, chunk_type, option_cases, number_head, none_head, head_takes, IsSoundReader, item_takes, chunk_takes, pair_takes, IsArgumentEncoding}
 
 -- ---- steps that failed
 
@@ -47,7 +47,7 @@ abbrev HeadFault : List ℕ → Fault → Type 0
 HeadFault s f = ((f ≡ End) × Ends s) ⊎ ((f ≡ Syntax (length s)) × HasBadInfo s)
 
 lacks : (x k : ℕ) (s : List ℕ) (f : Fault) → k < 4 → x % 32 ≡ 24 + k → ltb (length s) (2 ^ k) ≡ true → End ≡ f → HeadFault (x ∷ s) f
-lacks x k s f lt is short e = inl (sym e, inr (inl (k, lt, is, ltb-true _ _ short)))
+lacks x k s f lt is least_encoding e = inl (sym e, inr (inl (k, lt, is, ltb-true _ _ least_encoding)))
 
 argument_fault : (x : ℕ) (s : List ℕ) (f : Fault) → argument_by (x % 32) (suc (length s)) s ≡ Err f → HeadFault (x ∷ s) f
 argument_fault x s f e =
@@ -81,7 +81,7 @@ argument_fault x s f e =
 head_fault : (s : List ℕ) (f : Fault) → head_at s ≡ Err f → HeadFault s f
 unfolding head_at
 head_fault [] f e = inl (sym (fault_is {A = Head × List ℕ} End f e), inl refl)
-head_fault (x ∷ s) f e = argument_fault x s f (bind_made (argument_by (x % 32) (suc (length s)) s) (λ a. (record { kind = kind_of (x / 32); argument = a.0 }, a.1)) f e)
+head_fault (x ∷ s) f e = argument_fault x s f (bind_made (argument_by (x % 32) (suc (length s)) s) (λ a. (record { major_type = major_type_of (x / 32); argument = a.0 }, a.1)) f e)
 
 -- ---- a fault inside what opens
 
@@ -104,9 +104,9 @@ chunk_nest o f p is_text c h =
       flag = n.flag;
       due = n.due;
       chunks = h.chunks;
-      texts = h.texts;
+      encodings = h.encodings;
       are_chunks = h.are_chunks;
-      parts = ap (λ (x : List ℕ). o ++ x) h.parts ∙ sym (append_assoc o h.before ((32 * string_type is_text + 31) ∷ h.texts));
+      parts = ap (λ (x : List ℕ). o ++ x) h.parts ∙ sym (append_assoc o h.before ((32 * string_type is_text + 31) ∷ h.encodings));
     }
 
 is_due_nest : (o : List ℕ) (f : Bool) → Opens o f → (c : List ℕ) → IsDue c → IsDue (o ++ c)
@@ -152,7 +152,7 @@ nest d o f p s nb Deep h = let n = due_nest o f p h.0 d h.3.0 h.3.1 in (o ++ h.0
 
 -- ---- strings
 
-not_sound : (is_text : Bool) (s : List ℕ) → is_sound is_text s ≡ false → (is_text ≡ true) × (IsUtf8 s → ⊥)
+not_sound : (is_text : Bool) (s : List ℕ) → is_string_content is_text s ≡ false → (is_text ≡ true) × (IsUtf8 s → ⊥)
 not_sound false s e = absurd cc
 not_sound true s e = (refl, λ u. false≢true (sym e ∙ is_utf8-from_IsUtf8 s u))
 
@@ -162,19 +162,19 @@ unfolding string_at
 string_fault d is_text s c t h r n f parts due split head e =
     elim (chosen (ltb (length r) n) _ _ _ e) [
       | inl a ↦
-          let short : length r < n = ltb-true _ _ a.0 in
-          let lack : LacksContent t = record { m = string_type is_text; n = n; rest = r; headed = record { head = h; is_head = head; parts = split }; lacks = inl (type_two is_text, type_four is_text, short) } in
+          let least_encoding : length r < n = ltb-true _ _ a.0 in
+          let lack : LacksContent t = record { m = string_type is_text; n = n; rest = r; headed = record { head = h; is_head = head; parts = split }; lacks = inl (type_two is_text, type_four is_text, least_encoding) } in
           let is : End ≡ f = fault_is {A = List ℕ × List ℕ} End f a.1 in
           subst (λ (g : Fault). Stands d s g) is (c, t, parts, (due, inr (inr lack)))
       | inr a ↦
           let long : n ≤ length r = ltb-false _ _ a.0 in
-          elim (chosen (is_sound is_text (take n r)) _ _ _ a.1) [
+          elim (chosen (is_string_content is_text (take n r)) _ _ _ a.1) [
             | inl b ↦ absurd (cc (b.1))
             | inr b ↦
                 let bad = not_sound is_text (take n r) b.0 in
                 let is : Syntax (length t) ≡ f = fault_is {A = List ℕ × List ℕ} (Syntax (length t)) f b.1 in
                 let head3 : IsHead 3 n h = subst (λ (x : Bool). IsHead (string_type x) n h) bad.0 head in
-                let bad_text : IsBadText t = record { n = n; rest = r; headed = record { head = h; is_head = head3; parts = split }; there = long; bad = bad.1 } in
+                let bad_text : IsBadTextString t = record { n = n; rest = r; headed = record { head = h; is_head = head3; parts = split }; there = long; bad = bad.1 } in
                 subst (λ (g : Fault). Stands d s g) is (c, t, parts, refl, inr (inr (due, bad_text)))
           ]
     ]
@@ -187,16 +187,16 @@ string_fault d is_text s c t h r n f parts due split head e =
     type_four false = omega arith
     type_four true = omega arith
 
-first_kind : (x : ℕ) (t : List ℕ) (h : Head × List ℕ) → head_at (x ∷ t) ≡ Ok h → h.0.kind ≡ kind_of (x / 32)
+first_major_type : (x : ℕ) (t : List ℕ) (h : Head × List ℕ) → head_at (x ∷ t) ≡ Ok h → h.0.major_type ≡ major_type_of (x / 32)
 unfolding head_at
-first_kind x t h e =
-    let r = bind_ok (argument_by (x % 32) (suc (length t)) t) (λ a. Ok (record { kind = kind_of (x / 32); argument = a.0 }, a.1)) h e in
-    let made : Head × List ℕ = (record { kind = kind_of (x / 32); argument = r.0.0 }, r.0.1) in
-    ap (λ (y : Head × List ℕ). y.0.kind) (sym (ok_is made h r.2))
+first_major_type x t h e =
+    let r = bind_ok (argument_by (x % 32) (suc (length t)) t) (λ a. Ok (record { major_type = major_type_of (x / 32); argument = a.0 }, a.1)) h e in
+    let made : Head × List ℕ = (record { major_type = major_type_of (x / 32); argument = r.0.0 }, r.0.1) in
+    ap (λ (y : Head × List ℕ). y.0.major_type) (sym (ok_is made h r.2))
 
-chunk_kind-type : (is_text : Bool) → chunk_kind is_text (kind_of (string_type is_text)) ≡ true
-chunk_kind-type false = refl
-chunk_kind-type true = refl
+begins_chunk-type : (is_text : Bool) → begins_chunk is_text (major_type_of (string_type is_text)) ≡ true
+begins_chunk-type false = refl
+begins_chunk-type true = refl
 
 bad_info_no_chunk : (is_text : Bool) (t : List ℕ) → HasBadInfo t → NoChunk is_text t
 bad_info_no_chunk is_text [] h = h
@@ -205,13 +205,13 @@ bad_info_no_chunk is_text (x ∷ t) h =
     let high = h.1 in
     (λ e. omega arith, λ k. let le = k.1 in omega arith)
 
-other_no_chunk : (is_text : Bool) (t : List ℕ) (h : Head × List ℕ) → begins_break t ≡ false → head_at t ≡ Ok h → chunk_kind is_text h.0.kind ≡ false → NoChunk is_text t
+other_no_chunk : (is_text : Bool) (t : List ℕ) (h : Head × List ℕ) → begins_break t ≡ false → head_at t ≡ Ok h → begins_chunk is_text h.0.major_type ≡ false → NoChunk is_text t
 unfolding head_at
 other_no_chunk is_text [] h goes e other = absurd cc
 other_no_chunk is_text (x ∷ t) h goes e other = (
   eqb-false x 255 goes,
   λ k.
-      false≢true (sym other ∙ ap (chunk_kind is_text) (first_kind x t h e ∙ ap kind_of k.0) ∙ chunk_kind-type is_text),
+      false≢true (sym other ∙ ap (begins_chunk is_text) (first_major_type x t h e ∙ ap major_type_of k.0) ∙ begins_chunk-type is_text),
 )
 
 none_no_chunk : (is_text : Bool) (t front more : List ℕ) (m : ℕ) → begins_break t ≡ false → t ≡ front ++ more → front ≡ (32 * m + 31) ∷ [] → NoChunk is_text t
@@ -225,7 +225,7 @@ none_no_chunk is_text t front more m goes parts is =
 chunk_fault : (d : ℕ) (is_text : Bool) (s c t : List ℕ) (f : Fault) → s ≡ c ++ t → DueChunk is_text c → IsBytes t → begins_break t ≡ false → chunk_at is_text t ≡ Err f → Stands d s f
 unfolding chunk_at
 chunk_fault d is_text s c t f parts due fits goes e =
-    elim (bind_err (head_at t) (λ h. cond (chunk_kind is_text h.0.kind) (unless_none (length t) (number_of h.0.argument) (λ n. string_at is_text (length t) n h.1)) (Err (Syntax (length t)))) f e) [
+    elim (bind_err (head_at t) (λ h. cond (begins_chunk is_text h.0.major_type) (unless_none (length t) (number_of h.0.argument) (λ n. string_at is_text (length t) n h.1)) (Err (Syntax (length t)))) f e) [
       | inl a ↦ elim (head_fault t f a) [
         | inl b ↦ subst (λ (g : Fault). Stands d s g) (sym b.0) (c, t, parts, (inr (is_text, due), b.1))
         | inr b ↦ subst (λ (g : Fault). Stands d s g) (sym b.0) (c, t, parts, refl, inr (inl (is_text, due, bad_info_no_chunk is_text t b.1)))
@@ -234,15 +234,15 @@ chunk_fault d is_text s c t f parts due fits goes e =
           let h = a.0 in
           let head = head_takes t h fits a.1 in
           let syntax = λ (bad : NoChunk is_text t) (is : Syntax (length t) ≡ f). subst (λ (g : Fault). Stands d s g) is (c, t, parts, refl, inr (inl (is_text, due, bad))) in
-          elim (chosen (chunk_kind is_text h.0.kind) _ _ _ a.2) [
+          elim (chosen (begins_chunk is_text h.0.major_type) _ _ _ a.2) [
             | inr b ↦ syntax (other_no_chunk is_text t h goes a.1 b.0) (fault_is {A = List ℕ × List ℕ} (Syntax (length t)) f b.1)
             | inl b ↦ elim (option_cases (number_of h.0.argument)) [
               | inl none ↦
-                  syntax (none_no_chunk is_text t head.front h.1 (type_of h.0.kind) goes head.parts (none_head (type_of h.0.kind) h.0.argument head.front head.text none))
+                  syntax (none_no_chunk is_text t head.front h.1 (major_type_number h.0.major_type) goes head.parts (none_head (major_type_number h.0.major_type) h.0.argument head.front head.encoding none))
                   (fault_is {A = List ℕ × List ℕ} (Syntax (length t)) f (ap (λ (o : Option ℕ). unless_none (length t) o (λ n. string_at is_text (length t) n h.1)) (sym none) ∙ b.1))
               | inr some ↦
-                  let is = number_head (type_of h.0.kind) some.0 h.0.argument head.front head.text some.1 in
-                  string_fault d is_text s c t head.front h.1 some.0 f parts (inr (is_text, due)) head.parts (subst (λ (m : ℕ). IsHead m some.0 head.front) (chunk_type is_text h.0.kind b.0) is)
+                  let is = number_head (major_type_number h.0.major_type) some.0 h.0.argument head.front head.encoding some.1 in
+                  string_fault d is_text s c t head.front h.1 some.0 f parts (inr (is_text, due)) head.parts (subst (λ (m : ℕ). IsHead m some.0 head.front) (chunk_type is_text h.0.major_type b.0) is)
                   (ap (λ (o : Option ℕ). unless_none (length t) o (λ n. string_at is_text (length t) n h.1)) (sym some.1) ∙ b.1)
             ]
           ]
@@ -254,7 +254,7 @@ chunk_fault d is_text s c t f parts due fits goes e =
 pub record Stopped {A : Type 0} (R : A → List ℕ → Type 0) (s : List ℕ) : Type 0 where
   pub passed : List A
   pub front : List ℕ
-  pub texts : Each R passed front
+  pub encodings : EachInOrder R passed front
   pub left : List ℕ
   pub parts : s ≡ front ++ left
   pub left_fits : IsBytes left
@@ -263,7 +263,7 @@ stopped_later : {A : Type 0} (R : A → List ℕ → Type 0) (s c t : List ℕ) 
 stopped_later R s c t x h parts p = record {
   passed = x ∷ p.passed;
   front = c ++ p.front;
-  texts = (c, p.front, h, p.texts, refl);
+  encodings = (c, p.front, h, p.encodings, refl);
   left = p.left;
   parts = parts ∙ ap (λ (y : List ℕ). c ++ y) p.parts ∙ sym (append_assoc c p.front p.left);
   left_fits = p.left_fits;
@@ -274,31 +274,31 @@ unfolding times_at stopped_later
 times_fault R read sound zero s f fits e = absurd cc
 times_fault R read sound (suc n) s f fits e =
     elim (bind_err (read s) (λ x. times_at read n x.1 >>= λ xs. Ok (x.0 ∷ xs.0, xs.1)) f e) [
-      | inl a ↦ (record { passed = []; front = []; texts = refl; left = s; parts = refl; left_fits = fits }, omega arith, a)
+      | inl a ↦ (record { passed = []; front = []; encodings = refl; left = s; parts = refl; left_fits = fits }, omega arith, a)
       | inr a ↦
           let t = sound s a.0 fits a.1 in
           let later = times_fault R read sound n a.0.1 f t.rest_fits (bind_made (times_at read n a.0.1) (λ xs. (a.0.0 ∷ xs.0, xs.1)) f a.2) in
           let less = later.1 in
-          (stopped_later R s t.front a.0.1 a.0.0 t.text t.parts later.0, omega arith, later.2)
+          (stopped_later R s t.front a.0.1 a.0.0 t.encoding t.parts later.0, omega arith, later.2)
     ]
 
 pub until_fault : {A : Type 0} (R : A → List ℕ → Type 0) (read : Parse A) → IsSoundReader R read → ((x : A) (c : List ℕ) → R x c → Begins c) → (turns : ℕ) (s : List ℕ) (f : Fault) → IsBytes s → length s ≤ turns → until_at read turns s ≡ Err f
     → (p : Stopped R s) × (((p.left ≡ []) × (f ≡ End)) ⊎ ((begins_break p.left ≡ false) × (read p.left ≡ Err f)))
 unfolding until_at stopped_later
-until_fault {A} R read sound begins zero [] f fits le e = (record { passed = []; front = []; texts = refl; left = []; parts = refl; left_fits = fits }, inl (refl, sym (fault_is {A = List A × List ℕ} End f e)))
+until_fault {A} R read sound begins zero [] f fits le e = (record { passed = []; front = []; encodings = refl; left = []; parts = refl; left_fits = fits }, inl (refl, sym (fault_is {A = List A × List ℕ} End f e)))
 until_fault R read sound begins zero (x ∷ s) f fits le e = absurd (omega arith)
 until_fault {A} R read sound begins (suc turns) s f fits le e =
     elim (chosen (begins_break s) _ _ _ e) [
       | inl c ↦ absurd (cc (c.1))
       | inr c ↦ elim (bind_err (read s) (λ x. until_at read turns x.1 >>= λ xs. Ok (x.0 ∷ xs.0, xs.1)) f c.1) [
-        | inl a ↦ (record { passed = []; front = []; texts = refl; left = s; parts = refl; left_fits = fits }, inr (c.0, a))
+        | inl a ↦ (record { passed = []; front = []; encodings = refl; left = s; parts = refl; left_fits = fits }, inr (c.0, a))
         | inr a ↦
             let t = sound s a.0 fits a.1 in
-            let g = begins a.0.0 t.front t.text in
+            let g = begins a.0.0 t.front t.encoding in
             let some : length t.front ≡ suc (length g.more) = ap length g.parts in
             let size : length s ≡ length t.front + length a.0.1 = ap length t.parts ∙ length-append t.front a.0.1 in
             let later = until_fault R read sound begins turns a.0.1 f t.rest_fits (omega arith) (bind_made (until_at read turns a.0.1) (λ xs. (a.0.0 ∷ xs.0, xs.1)) f a.2) in
-            (stopped_later R s t.front a.0.1 a.0.0 t.text t.parts later.0, later.1)
+            (stopped_later R s t.front a.0.1 a.0.0 t.encoding t.parts later.0, later.1)
       ]
     ]
 
@@ -337,9 +337,9 @@ nothing_faults = record {
   pairs_until = λ s f fits e. too_deep {A = List (Item × Item) × List ℕ} (0xBF ∷ s) f (omega arith, omega arith) e;
 }
 
-texts_of : (d : ℕ) (vs : List Item) (b : List ℕ) → Each (IsTextBelow d) vs b → AreTexts (items_of vs) b
-texts_of d [] b h = h
-texts_of d (v ∷ vs) b h = (h.0, h.1, h.2.0, texts_of d vs h.1 h.3, h.4)
+encodings_of : (d : ℕ) (vs : List Item) (b : List ℕ) → EachInOrder (IsEncodingBelow d) vs b → AreEncodings (items_of vs) b
+encodings_of d [] b h = h
+encodings_of d (v ∷ vs) b h = (h.0, h.1, h.2.0, encodings_of d vs h.1 h.3, h.4)
 
 count_of : (vs : List Item) → items_count (items_of vs) ≡ length vs
 count_of [] = refl
@@ -349,14 +349,14 @@ abbrev flat : List (Item × Item) → Items → Items
 flat [] tail = tail
 flat (p ∷ ps) tail = item p.0 (item p.1 (flat ps tail))
 
-flat_texts : (d : ℕ) (ps : List (Item × Item)) (tail : Items) (b c : List ℕ) → Each (IsPairTextBelow d) ps b → AreTexts tail c → AreTexts (flat ps tail) (b ++ c)
-flat_texts d [] tail b c h k = subst (λ (x : List ℕ). AreTexts tail (x ++ c)) (sym h) k
-flat_texts d (p ∷ ps) tail b c h k =
+flat_encodings : (d : ℕ) (ps : List (Item × Item)) (tail : Items) (b c : List ℕ) → EachInOrder (IsPairEncodingBelow d) ps b → AreEncodings tail c → AreEncodings (flat ps tail) (b ++ c)
+flat_encodings d [] tail b c h k = subst (λ (x : List ℕ). AreEncodings tail (x ++ c)) (sym h) k
+flat_encodings d (p ∷ ps) tail b c h k =
     let q = h.2 in (
       q.0,
       q.1 ++ (h.1 ++ c),
       q.2.0,
-      (q.1, h.1 ++ c, q.3.0, flat_texts d ps tail h.1 c h.3 k, refl),
+      (q.1, h.1 ++ c, q.3.0, flat_encodings d ps tail h.1 c h.3 k, refl),
       ap (λ (x : List ℕ). x ++ c) (h.4 ∙ ap (λ (y : List ℕ). y ++ h.1) q.4) ∙ simp append_assoc,
     )
 
@@ -386,28 +386,28 @@ lacking : (d m n : ℕ) (h s : List ℕ) (f : Fault) → IsHead m n h → ((2 �
 lacking d m n h s f is lack e = subst (λ (g : Fault). Stands d (h ++ s) g) e ([], h ++ s, refl, (inl (0, false, at_start), inr (inr (record { m = m; n = n; rest = s; headed = opened h s m n is; lacks = lack }))))
 
 -- a key or a value that isn't read, behind pairs
-pair_fault : (d : ℕ) (read : Parse Item) → IsSoundReader (IsTextBelow (suc d)) read → Faults d read → (h s : List ℕ) (f : Fault) (p : Stopped (IsPairTextBelow (suc d)) s) (e : Bool)
-    → ((vs : Items) (c : List ℕ) → AreTexts vs c → items_count vs ≡ 2 * length p.passed → Opens (h ++ c) e) → NoBreakAt e p.left
-    → ((vs : Items) (c : List ℕ) → AreTexts vs c → items_count vs ≡ 2 * length p.passed + 1 → is_even (items_count vs) ≡ false → Opens (h ++ c) false)
+pair_fault : (d : ℕ) (read : Parse Item) → IsSoundReader (IsEncodingBelow (suc d)) read → Faults d read → (h s : List ℕ) (f : Fault) (p : Stopped (IsPairEncodingBelow (suc d)) s) (e : Bool)
+    → ((vs : Items) (c : List ℕ) → AreEncodings vs c → items_count vs ≡ 2 * length p.passed → Opens (h ++ c) e) → NoBreakAt e p.left
+    → ((vs : Items) (c : List ℕ) → AreEncodings vs c → items_count vs ≡ 2 * length p.passed + 1 → is_even (items_count vs) ≡ false → Opens (h ++ c) false)
     → pair_at read p.left ≡ Err f → Stands (suc d) (h ++ s) f
 pair_fault d read sound faults h s f p e at_key nb at_value bad =
     elim (bind_err (read p.left) (λ k. read k.1 >>= λ v. Ok ((k.0, v.0), v.1)) f bad) [
       | inl a ↦
-          let texts : AreTexts (flat p.passed no_items) (p.front ++ []) = flat_texts (suc d) p.passed no_items p.front [] p.texts refl in
-          let texts' : AreTexts (flat p.passed no_items) p.front = subst (λ (x : List ℕ). AreTexts (flat p.passed no_items) x) (append-nil p.front) texts in
+          let encodings : AreEncodings (flat p.passed no_items) (p.front ++ []) = flat_encodings (suc d) p.passed no_items p.front [] p.encodings refl in
+          let encodings' : AreEncodings (flat p.passed no_items) p.front = subst (λ (x : List ℕ). AreEncodings (flat p.passed no_items) x) (append-nil p.front) encodings in
           let count : items_count (flat p.passed no_items) ≡ 2 * length p.passed = flat_count p.passed no_items ∙ omega arith in
-          behind d h s p.front p.left e f (at_key (flat p.passed no_items) p.front texts' count) p.parts nb (faults p.left f p.left_fits a)
+          behind d h s p.front p.left e f (at_key (flat p.passed no_items) p.front encodings' count) p.parts nb (faults p.left f p.left_fits a)
       | inr a ↦
           let k = sound p.left a.0 p.left_fits a.1 in
           let failed_value = bind_made (read a.0.1) (λ v. ((a.0.0, v.0), v.1)) f a.2 in
           let tail : Items = item a.0.0 no_items in
-          let tail_text : AreTexts tail k.front = (k.front, [], k.text.0, refl, sym (append-nil k.front)) in
-          let texts = flat_texts (suc d) p.passed tail p.front k.front p.texts tail_text in
+          let tail_encoding : AreEncodings tail k.front = (k.front, [], k.encoding.0, refl, sym (append-nil k.front)) in
+          let encodings = flat_encodings (suc d) p.passed tail p.front k.front p.encodings tail_encoding in
           let parts : s ≡ (p.front ++ k.front) ++ a.0.1 = p.parts ∙ ap (λ (x : List ℕ). p.front ++ x) k.parts ∙ sym (append_assoc p.front k.front a.0.1) in
-          behind d h s (p.front ++ k.front) a.0.1 false f (at_value (flat p.passed tail) (p.front ++ k.front) texts (flat_count p.passed tail) (flat_even p.passed tail)) parts (inl refl) (faults a.0.1 f k.rest_fits failed_value)
+          behind d h s (p.front ++ k.front) a.0.1 false f (at_value (flat p.passed tail) (p.front ++ k.front) encodings (flat_count p.passed tail) (flat_even p.passed tail)) parts (inl refl) (faults a.0.1 f k.rest_fits failed_value)
     ]
 
-things_fault : (d : ℕ) (read : Parse Item) → IsSoundReader (IsTextBelow (suc d)) read → Faults d read → InsideFaults (suc d) (things read)
+things_fault : (d : ℕ) (read : Parse Item) → IsSoundReader (IsEncodingBelow (suc d)) read → Faults d read → InsideFaults (suc d) (things read)
 unfolding things
 things_fault d read sound faults =
     let pairs_sound = pair_takes (suc d) read sound in
@@ -416,14 +416,14 @@ things_fault d read sound faults =
       items = λ n h s f is fits e. elim (chosen (ltb (length s) n) _ _ _ e) [
         | inl a ↦ lacking (suc d) 4 n h s f is (inl (omega arith, omega arith, ltb-true _ _ a.0)) (fault_is {A = List Item × List ℕ} End f a.1)
         | inr a ↦
-            let p = times_fault (IsTextBelow (suc d)) read sound n s f fits a.1 in
+            let p = times_fault (IsEncodingBelow (suc d)) read sound n s f fits a.1 in
             let less = p.1 in
             let count = count_of p.0.passed in
-            behind d h s p.0.front p.0.left false f (in_array n (items_of p.0.passed) p.0.front (h ++ p.0.front) (omega arith) (texts_of (suc d) p.0.passed p.0.front p.0.texts) (opened h p.0.front 4 n is)) p.0.parts (inl refl) (faults p.0.left f p.0.left_fits p.2)
+            behind d h s p.0.front p.0.left false f (in_array n (items_of p.0.passed) p.0.front (h ++ p.0.front) (omega arith) (encodings_of (suc d) p.0.passed p.0.front p.0.encodings) (opened h p.0.front 4 n is)) p.0.parts (inl refl) (faults p.0.left f p.0.left_fits p.2)
       ];
       items_until = λ s f fits e.
-          let p = until_fault (IsTextBelow (suc d)) read sound (λ v c h. IsText-begins v c h.0) (length s) s f fits (omega arith) e in
-          let opens : Opens (0x9F ∷ p.0.front) true = in_open_array (items_of p.0.passed) p.0.front (texts_of (suc d) p.0.passed p.0.front p.0.texts) in
+          let p = until_fault (IsEncodingBelow (suc d)) read sound (λ v c h. IsEncoding-begins v c h.0) (length s) s f fits (omega arith) e in
+          let opens : Opens (0x9F ∷ p.0.front) true = in_open_array (items_of p.0.passed) p.0.front (encodings_of (suc d) p.0.passed p.0.front p.0.encodings) in
           elim p.1 [
             | inl a ↦ ends_there d (0x9F ∷ []) s p.0.front p.0.left true f opens p.0.parts a.0 a.1
             | inr a ↦ behind d (0x9F ∷ []) s p.0.front p.0.left true f opens p.0.parts (inr a.0) (faults p.0.left f p.0.left_fits a.1)
@@ -431,16 +431,16 @@ things_fault d read sound faults =
       pairs = λ n h s f is fits e. elim (chosen (ltb (length s / 2) n) _ _ _ e) [
         | inl a ↦ let less = ltb-true _ _ a.0 in lacking (suc d) 5 n h s f is (inr (refl, omega arith)) (fault_is {A = List (Item × Item) × List ℕ} End f a.1)
         | inr a ↦
-            let p = times_fault (IsPairTextBelow (suc d)) (pair_at read) pairs_sound n s f fits a.1 in
+            let p = times_fault (IsPairEncodingBelow (suc d)) (pair_at read) pairs_sound n s f fits a.1 in
             let less = p.1 in
             pair_fault d read sound faults h s f p.0 false (λ vs c t k. in_map n vs c (h ++ c) (omega arith) t (opened h c 5 n is)) (inl refl) (λ vs c t k odd. in_map n vs c (h ++ c) (omega arith) t (opened h c 5 n is)) p.2
       ];
       pairs_until = λ s f fits e.
-          let p = until_fault (IsPairTextBelow (suc d)) (pair_at read) pairs_sound (λ v c h. begins_append h.0 h.1 c h.4 (IsText-begins v.0 h.0 h.2.0)) (length s) s f fits (omega arith) e in
-          let texts : AreTexts (flat p.0.passed no_items) (p.0.front ++ []) = flat_texts (suc d) p.0.passed no_items p.0.front [] p.0.texts refl in
-          let texts' : AreTexts (flat p.0.passed no_items) p.0.front = subst (λ (x : List ℕ). AreTexts (flat p.0.passed no_items) x) (append-nil p.0.front) texts in
+          let p = until_fault (IsPairEncodingBelow (suc d)) (pair_at read) pairs_sound (λ v c h. begins_append h.0 h.1 c h.4 (IsEncoding-begins v.0 h.0 h.2.0)) (length s) s f fits (omega arith) e in
+          let encodings : AreEncodings (flat p.0.passed no_items) (p.0.front ++ []) = flat_encodings (suc d) p.0.passed no_items p.0.front [] p.0.encodings refl in
+          let encodings' : AreEncodings (flat p.0.passed no_items) p.0.front = subst (λ (x : List ℕ). AreEncodings (flat p.0.passed no_items) x) (append-nil p.0.front) encodings in
           elim p.1 [
-            | inl a ↦ ends_there d (0xBF ∷ []) s p.0.front p.0.left _ f (in_open_map (flat p.0.passed no_items) p.0.front texts') p.0.parts a.0 a.1
+            | inl a ↦ ends_there d (0xBF ∷ []) s p.0.front p.0.left _ f (in_open_map (flat p.0.passed no_items) p.0.front encodings') p.0.parts a.0 a.1
             | inr a ↦ pair_fault d read sound faults (0xBF ∷ []) s f p.0 true (λ vs c t k. subst (λ (b : Bool). Opens (0xBF ∷ c) b) (ap is_even k ∙ even_double (length p.0.passed)) (in_open_map vs c t)) (inr a.0) (λ vs c t k odd. subst (λ (b : Bool). Opens (0xBF ∷ c) b) odd (in_open_map vs c t)) a.1
           ];
     }
@@ -452,20 +452,20 @@ things_fault d read sound faults =
 -- ---- items
 
 no_length : (d m : ℕ) (s front r : List ℕ) (f : Fault) → (m ≡ 0) ⊎ ((m ≡ 1) ⊎ (m ≡ 6)) → s ≡ front ++ r → front ≡ (32 * m + 31) ∷ [] → Syntax (length s) ≡ f → Stands d s f
-no_length d m s front r f kind parts is e =
+no_length d m s front r f major_type parts is e =
     let all : s ≡ (32 * m + 31) ∷ r = parts ∙ ap (λ (y : List ℕ). y ++ r) is in
     let q : (32 * m + 31) / 32 ≡ m = omega arith in
-    let bad : HasNoLength ((32 * m + 31) ∷ r) = (omega arith, subst (λ (k : ℕ). (k ≡ 0) ⊎ ((k ≡ 1) ⊎ (k ≡ 6))) (sym q) kind) in
+    let bad : HasNoLength ((32 * m + 31) ∷ r) = (omega arith, subst (λ (k : ℕ). (k ≡ 0) ⊎ ((k ≡ 1) ⊎ (k ≡ 6))) (sym q) major_type) in
     subst (λ (g : Fault). Stands d s g) e ([], s, refl, refl, inl (0, false, at_start, inr (inl (subst (λ (y : List ℕ). HasNoLength y) (sym all) bad))))
 
-number_fault : {A : Type 0} (d m : ℕ) (s front r : List ℕ) (f : Fault) (a : Argument) (read : ℕ → Result A Fault) → (m ≡ 0) ⊎ ((m ≡ 1) ⊎ (m ≡ 6)) → s ≡ front ++ r → IsArgumentText m a front
+number_fault : {A : Type 0} (d m : ℕ) (s front r : List ℕ) (f : Fault) (a : Argument) (read : ℕ → Result A Fault) → (m ≡ 0) ⊎ ((m ≡ 1) ⊎ (m ≡ 6)) → s ≡ front ++ r → IsArgumentEncoding m a front
     → unless_none (length s) (number_of a) read ≡ Err f → ((n : ℕ) → IsHead m n front → read n ≡ Err f → Stands d s f) → Stands d s f
-number_fault {A} d m s front r f a read kind parts shown e later = elim (option_cases (number_of a)) [
-  | inl none ↦ no_length d m s front r f kind parts (none_head m a front shown none) (fault_is {A = A} (Syntax (length s)) f (ap (λ (o : Option ℕ). unless_none (length s) o read) (sym none) ∙ e))
+number_fault {A} d m s front r f a read major_type parts shown e later = elim (option_cases (number_of a)) [
+  | inl none ↦ no_length d m s front r f major_type parts (none_head m a front shown none) (fault_is {A = A} (Syntax (length s)) f (ap (λ (o : Option ℕ). unless_none (length s) o read) (sym none) ∙ e))
   | inr some ↦ later some.0 (number_head m some.0 a front shown some.1) (ap (λ (o : Option ℕ). unless_none (length s) o read) (sym some.1) ∙ e)
 ]
 
-any_string_fault : (d : ℕ) (is_text : Bool) (s front r : List ℕ) (f : Fault) (a : Argument) → IsBytes r → s ≡ front ++ r → IsArgumentText (string_type is_text) a front → any_string_by is_text (length s) (number_of a) r ≡ Err f → Stands d s f
+any_string_fault : (d : ℕ) (is_text : Bool) (s front r : List ℕ) (f : Fault) (a : Argument) → IsBytes r → s ≡ front ++ r → IsArgumentEncoding (string_type is_text) a front → any_string_by is_text (length s) (number_of a) r ≡ Err f → Stands d s f
 unfolding chunks_at
 any_string_fault d is_text s front r f a fits parts shown e = elim (option_cases (number_of a)) [
   | inr some ↦
@@ -473,10 +473,10 @@ any_string_fault d is_text s front r f a fits parts shown e = elim (option_cases
       (ap (λ (o : Option ℕ). any_string_by is_text (length s) o r) (sym some.1) ∙ e)
   | inl none ↦
       let e' : chunks_at is_text r ≡ Err f = ap (λ (o : Option ℕ). any_string_by is_text (length s) o r) (sym none) ∙ e in
-      let p = until_fault (IsDefinite is_text) (chunk_at is_text) (chunk_takes is_text) (λ v c h. IsHeaded-begins (string_type is_text) (length v) v c (type_low is_text) h.1) (length r) r f fits (omega arith) (bind_made (until_at (chunk_at is_text) (length r) r) (λ y. (joined y.0, y.1)) f e') in
+      let p = until_fault (IsDefinite is_text) (chunk_at is_text) (chunk_takes is_text) (λ v c h. IsHeaded-begins (string_type is_text) (length v) v c (type_low is_text) h.1) (length r) r f fits (omega arith) (bind_made (until_at (chunk_at is_text) (length r) r) (λ y. (joined_chunks y.0, y.1)) f e') in
       let first = 32 * string_type is_text + 31 in
       let c = first ∷ p.0.front in
-      let due : DueChunk is_text c = record { before = []; level = 0; flag = false; due = at_start; chunks = p.0.passed; texts = p.0.front; are_chunks = p.0.texts; parts = refl } in
+      let due : DueChunk is_text c = record { before = []; level = 0; flag = false; due = at_start; chunks = p.0.passed; encodings = p.0.front; are_chunks = p.0.encodings; parts = refl } in
       let all : s ≡ c ++ p.0.left = parts ∙ ap (λ (y : List ℕ). y ++ r) (none_head (string_type is_text) a front shown none) ∙ ap (λ (y : List ℕ). first ∷ y) p.0.parts in
       elim p.1 [
         | inl b ↦ subst (λ (g : Fault). Stands d s g) (sym b.1) (c, p.0.left, all, (inr (is_text, due), inl b.0))
@@ -496,7 +496,7 @@ no_item d s f bad e = subst (λ (g : Fault). Stands d s g) e ([], s, refl, refl,
 abbrev wrong : Fault → Result (Item × List ℕ) Fault
 wrong f = Err f
 
-simple_fault : (d : ℕ) (s front r : List ℕ) (f : Fault) (a : Argument) → s ≡ front ++ r → IsArgumentText 7 a front → simple_at (length s) a r ≡ Err f → Stands d s f
+simple_fault : (d : ℕ) (s front r : List ℕ) (f : Fault) (a : Argument) → s ≡ front ++ r → IsArgumentEncoding 7 a front → simple_at (length s) a r ≡ Err f → Stands d s f
 simple_fault d s front r f (places.Within n) parts h e =
     elim (chosen (eqb n 20) _ _ _ e) [
       | inl a ↦ absurd (cc (a.1))
@@ -540,16 +540,16 @@ simple_fault d s front r f places.Indefinite parts h e =
     let bad : BeginsBreak (255 ∷ r) = refl in
     no_item d s f (inr (inr (inr (subst (λ (y : List ℕ). BeginsBreak y) (sym all) bad, refl)))) (fault_is {A = Item × List ℕ} (Syntax (length s)) f e)
 
-by_fault : (d : ℕ) (inside : Inside) → InsideFaults d inside → (s front r : List ℕ) (f : Fault) (a : Argument) (k : Kind) → IsBytes r → s ≡ front ++ r → IsArgumentText (type_of k) a front → item_by inside (length s) a k r ≡ Err f → Stands d s f
-by_fault d inside inner s front r f a kinds.Unsigned fits parts h e =
+by_fault : (d : ℕ) (inside : Inside) → InsideFaults d inside → (s front r : List ℕ) (f : Fault) (a : Argument) (k : MajorType) → IsBytes r → s ≡ front ++ r → IsArgumentEncoding (major_type_number k) a front → item_by inside (length s) a k r ≡ Err f → Stands d s f
+by_fault d inside inner s front r f a major_types.Unsigned fits parts h e =
     number_fault d 0 s front r f a (λ n. Ok (integer (pos n), r)) (inl refl) parts h e (λ n is bad. absurd cc)
-by_fault d inside inner s front r f a kinds.Negative fits parts h e =
+by_fault d inside inner s front r f a major_types.Negative fits parts h e =
     number_fault d 1 s front r f a (λ n. Ok (integer (negsuc n), r)) (inr (inl refl)) parts h e (λ n is bad. absurd cc)
-by_fault d inside inner s front r f a kinds.Bytes fits parts h e =
+by_fault d inside inner s front r f a major_types.Bytes fits parts h e =
     any_string_fault d false s front r f a fits parts h (bind_made (any_string_by false (length s) (number_of a) r) (λ y. (bytes y.0, y.1)) f e)
-by_fault d inside inner s front r f a kinds.Text fits parts h e =
+by_fault d inside inner s front r f a major_types.Text fits parts h e =
     any_string_fault d true s front r f a fits parts h (bind_made (any_string_by true (length s) (number_of a) r) (λ y. (Item.text y.0, y.1)) f e)
-by_fault d inside inner s front r f a kinds.Array fits parts h e =
+by_fault d inside inner s front r f a major_types.Array fits parts h e =
     let e' = bind_made (inside.items (number_of a) r) (λ y. (array (items_of y.0), y.1)) f e in
     elim (option_cases (number_of a)) [
       | inl none ↦
@@ -558,7 +558,7 @@ by_fault d inside inner s front r f a kinds.Array fits parts h e =
       | inr some ↦
           subst (λ (y : List ℕ). Stands d y f) (sym parts) (inner.items some.0 front r f (number_head 4 some.0 a front h some.1) fits (ap (λ (o : Option ℕ). inside.items o r) (sym some.1) ∙ e'))
     ]
-by_fault d inside inner s front r f a kinds.Map fits parts h e =
+by_fault d inside inner s front r f a major_types.Map fits parts h e =
     let e' = bind_made (inside.pairs (number_of a) r) (λ y. (dict (pairs_of y.0), y.1)) f e in
     elim (option_cases (number_of a)) [
       | inl none ↦
@@ -567,28 +567,28 @@ by_fault d inside inner s front r f a kinds.Map fits parts h e =
       | inr some ↦
           subst (λ (y : List ℕ). Stands d y f) (sym parts) (inner.pairs some.0 front r f (number_head 5 some.0 a front h some.1) fits (ap (λ (o : Option ℕ). inside.pairs o r) (sym some.1) ∙ e'))
     ]
-by_fault d inside inner s front r f a kinds.Tag fits parts h e =
+by_fault d inside inner s front r f a major_types.Tag fits parts h e =
     number_fault d 6 s front r f a (λ n. inside.one r >>= λ y. Ok (tag n y.0, y.1)) (inr (inr refl)) parts h e (λ n is bad.
     subst (λ (y : List ℕ). Stands d y f) (sym parts) (inner.one n front r f is fits (bind_made (inside.one r) (λ y. (tag n y.0, y.1)) f bad)))
-by_fault d inside inner s front r f a kinds.Simple fits parts h e = simple_fault d s front r f a parts h e
+by_fault d inside inner s front r f a major_types.Simple fits parts h e = simple_fault d s front r f a parts h e
 
 from_fault : (d : ℕ) (inside : Inside) → InsideFaults d inside → Faults d (item_from inside)
 from_fault d inside inner s f fits e =
-    elim (bind_err (head_at s) (λ h. item_by inside (length s) h.0.argument h.0.kind h.1) f e) [
+    elim (bind_err (head_at s) (λ h. item_by inside (length s) h.0.argument h.0.major_type h.1) f e) [
       | inl a ↦ elim (head_fault s f a) [
         | inl b ↦ subst (λ (g : Fault). Stands d s g) (sym b.0) ([], s, refl, (inl (0, false, at_start), b.1))
         | inr b ↦ no_item d s f (inl b.1) (sym b.0)
       ]
       | inr a ↦
           let h = head_takes s a.0 fits a.1 in
-          by_fault d inside inner s h.front a.0.1 f a.0.0.argument a.0.0.kind h.rest_fits h.parts h.text a.2
+          by_fault d inside inner s h.front a.0.1 f a.0.0.argument a.0.0.major_type h.rest_fits h.parts h.encoding a.2
     ]
 
-sound_below : (d : ℕ) → IsSoundReader (IsTextBelow (suc d)) (item_at d)
+sound_below : (d : ℕ) → IsSoundReader (IsEncodingBelow (suc d)) (item_at d)
 sound_below d s x fits e =
     let t = item_takes d s x fits e in
-    let le = t.text.1 in
-    record { front = t.front; text = (t.text.0, omega arith); parts = t.parts; rest_fits = t.rest_fits }
+    let le = t.encoding.1 in
+    record { front = t.front; encoding = (t.encoding.0, omega arith); parts = t.parts; rest_fits = t.rest_fits }
 
 -- Where nothing is read, the fault stands.
 pub item_fault : (d : ℕ) → Faults d (item_at d)

@@ -1,14 +1,14 @@
--- The text with the least heads is the one shortest definite text.
+-- The encoding with the least heads is the one shortest definite encoding.
 use Rattle.std.proofs.Common.{◌≡◌, ℕ, ◌^◌, ◌+◌, ◌<◌, ◌≤◌, true, false, ltb, List, [], ◌++◌, length, refl, sym, ap, ap₂, subst, ◌∙◌, arith, inl, inr, ◌⊎◌}
 use Rattle.std.specs.Prelude.{pos, negsuc}
 use Rattle.std.proofs.lemmas.Bool.{lt-ltb, le-ltb, cases_lt, ltb-true, cond_both}
 use Rattle.std.proofs.lemmas.List.{length-append}
 use Rattle.coset_value.specs.Item.{half, single, double, Item, integer, bytes, float, text, boolean, null, tag, array, dict, Items, no_items, item, Pairs, no_pairs, pair, items_count, pairs_count}
 use Rattle.coset_value.specs.Range.{IsInRange, AreInRange, ArePairsInRange}
-use Rattle.coset_cbor.specs.Grammar.{Place, within, one, two, four, eight, Holds, head_in, IsHead, IsHeaded, IsText, AreTexts, ArePairTexts}
-use Rattle.coset_cbor.specs.Definite.{IsDefiniteText, AreDefiniteTexts, AreDefinitePairs}
-use Rattle.coset_cbor.specs.Shortest.{IsShort}
-use Rattle.coset_cbor.specs.Least.{least_place, least_head, short, shorts, pair_shorts}
+use Rattle.coset_cbor.specs.Grammar.{Place, within, one, two, four, eight, Holds, head_in, IsHead, IsHeaded, IsEncoding, AreEncodings, ArePairEncodings}
+use Rattle.coset_cbor.specs.Definite.{IsDefiniteEncoding, AreDefiniteEncodings, AreDefinitePairs}
+use Rattle.coset_cbor.specs.Shortest.{IsShortest}
+use Rattle.coset_cbor.specs.Least.{least_place, least_head, least_encoding, least_encodings, least_pair_encodings}
 
 -- ---- which place is the least
 
@@ -91,7 +91,7 @@ least_of_place eight n h = elim (cases_lt n 24) [
   ]
 ]
 
--- ---- no text is shorter
+-- ---- no encoding is shorter
 
 -- s is no longer than c, and where c is no longer, it is s
 record IsLeast (s c : List ℕ) : Type 0 where
@@ -132,32 +132,32 @@ least_of_headed : (m n : ℕ) (t s b : List ℕ) → IsHeaded m n s b → IsLeas
 least_of_headed m n t s b is p = least_append (least_head m n) t is.head s b (least_of_head m n is.head is.is_head) p is.parts
 
 mutual
-  short_least : (v : Item) (b : List ℕ) → IsDefiniteText v b → IsLeast (short v) b
-  short_least (integer (pos n)) b h = least_of_head 0 n b h
-  short_least (integer (negsuc n)) b h = least_of_head 1 n b h
-  short_least (bytes s) b h = least_of_headed 2 (length s) s s b h.1 (least_self s)
-  short_least (float (half n)) b h = least_is _ b h.1
-  short_least (float (single n)) b h = least_is _ b h.1
-  short_least (float (double n)) b h = least_is _ b h.1
-  short_least (text s) b h = least_of_headed 3 (length s) s s b h.1 (least_self s)
-  short_least (boolean false) b h = least_is _ b h
-  short_least (boolean true) b h = least_is _ b h
-  short_least null b h = least_is _ b h
-  short_least (tag t v) b h = least_of_headed 6 t (short v) h.0 b h.2 (short_least v h.0 h.1)
-  short_least (array vs) b h = least_of_headed 4 (items_count vs) (shorts vs) h.0 b h.2 (shorts_least vs h.0 h.1)
-  short_least (dict ps) b h = least_of_headed 5 (pairs_count ps) (pair_shorts ps) h.0 b h.2 (pair_shorts_least ps h.0 h.1)
+  least_encoding_least : (v : Item) (b : List ℕ) → IsDefiniteEncoding v b → IsLeast (least_encoding v) b
+  least_encoding_least (integer (pos n)) b h = least_of_head 0 n b h
+  least_encoding_least (integer (negsuc n)) b h = least_of_head 1 n b h
+  least_encoding_least (bytes s) b h = least_of_headed 2 (length s) s s b h.1 (least_self s)
+  least_encoding_least (float (half n)) b h = least_is _ b h.1
+  least_encoding_least (float (single n)) b h = least_is _ b h.1
+  least_encoding_least (float (double n)) b h = least_is _ b h.1
+  least_encoding_least (text s) b h = least_of_headed 3 (length s) s s b h.1 (least_self s)
+  least_encoding_least (boolean false) b h = least_is _ b h
+  least_encoding_least (boolean true) b h = least_is _ b h
+  least_encoding_least null b h = least_is _ b h
+  least_encoding_least (tag t v) b h = least_of_headed 6 t (least_encoding v) h.0 b h.2 (least_encoding_least v h.0 h.1)
+  least_encoding_least (array vs) b h = least_of_headed 4 (items_count vs) (least_encodings vs) h.0 b h.2 (least_encodings_least vs h.0 h.1)
+  least_encoding_least (dict ps) b h = least_of_headed 5 (pairs_count ps) (least_pair_encodings ps) h.0 b h.2 (least_pair_encodings_least ps h.0 h.1)
 
-  shorts_least : (vs : Items) (b : List ℕ) → AreDefiniteTexts vs b → IsLeast (shorts vs) b
-  shorts_least no_items b h = least_is [] b h
-  shorts_least (item v vs) b h = least_append (short v) (shorts vs) h.0 h.1 b (short_least v h.0 h.2) (shorts_least vs h.1 h.3) h.4
+  least_encodings_least : (vs : Items) (b : List ℕ) → AreDefiniteEncodings vs b → IsLeast (least_encodings vs) b
+  least_encodings_least no_items b h = least_is [] b h
+  least_encodings_least (item v vs) b h = least_append (least_encoding v) (least_encodings vs) h.0 h.1 b (least_encoding_least v h.0 h.2) (least_encodings_least vs h.1 h.3) h.4
 
-  pair_shorts_least : (ps : Pairs) (b : List ℕ) → AreDefinitePairs ps b → IsLeast (pair_shorts ps) b
-  pair_shorts_least no_pairs b h = least_is [] b h
-  pair_shorts_least (pair k v ps) b h =
-      least_append (short k) (short v ++ pair_shorts ps) h.0 (h.1 ++ h.2) b (short_least k h.0 h.3)
-      (least_append (short v) (pair_shorts ps) h.1 h.2 (h.1 ++ h.2) (short_least v h.1 h.4) (pair_shorts_least ps h.2 h.5) refl) h.6
+  least_pair_encodings_least : (ps : Pairs) (b : List ℕ) → AreDefinitePairs ps b → IsLeast (least_pair_encodings ps) b
+  least_pair_encodings_least no_pairs b h = least_is [] b h
+  least_pair_encodings_least (pair k v ps) b h =
+      least_append (least_encoding k) (least_encoding v ++ least_pair_encodings ps) h.0 (h.1 ++ h.2) b (least_encoding_least k h.0 h.3)
+      (least_append (least_encoding v) (least_pair_encodings ps) h.1 h.2 (h.1 ++ h.2) (least_encoding_least v h.1 h.4) (least_pair_encodings_least ps h.2 h.5) refl) h.6
 
--- ---- it is a definite text
+-- ---- it is a definite encoding
 
 least_holds : (n : ℕ) → n < 2 ^ 64 → Holds (least_place n) n
 least_holds n lt =
@@ -174,57 +174,57 @@ least_headed : (m n : ℕ) (s : List ℕ) → n < 2 ^ 64 → IsHeaded m n s (lea
 least_headed m n s lt = record { head = least_head m n; is_head = least_is_head m n lt; parts = refl }
 
 mutual
-  short_definite : (v : Item) → IsInRange v → IsDefiniteText v (short v)
-  short_definite (integer (pos n)) h = least_is_head 0 n h
-  short_definite (integer (negsuc n)) h = least_is_head 1 n h
-  short_definite (bytes s) h = (tt, least_headed 2 (length s) s h)
-  short_definite (float (half n)) h = (h, refl)
-  short_definite (float (single n)) h = (h, refl)
-  short_definite (float (double n)) h = (h, refl)
-  short_definite (text s) h = (h.1, least_headed 3 (length s) s h.0)
-  short_definite (boolean false) h = refl
-  short_definite (boolean true) h = refl
-  short_definite null h = refl
-  short_definite (tag t v) h = (short v, short_definite v h.1, least_headed 6 t (short v) h.0)
-  short_definite (array vs) h = (shorts vs, shorts_definite vs h.1, least_headed 4 (items_count vs) (shorts vs) h.0)
-  short_definite (dict ps) h = (pair_shorts ps, pair_shorts_definite ps h.1, least_headed 5 (pairs_count ps) (pair_shorts ps) h.0)
+  least_encoding_definite : (v : Item) → IsInRange v → IsDefiniteEncoding v (least_encoding v)
+  least_encoding_definite (integer (pos n)) h = least_is_head 0 n h
+  least_encoding_definite (integer (negsuc n)) h = least_is_head 1 n h
+  least_encoding_definite (bytes s) h = (tt, least_headed 2 (length s) s h)
+  least_encoding_definite (float (half n)) h = (h, refl)
+  least_encoding_definite (float (single n)) h = (h, refl)
+  least_encoding_definite (float (double n)) h = (h, refl)
+  least_encoding_definite (text s) h = (h.1, least_headed 3 (length s) s h.0)
+  least_encoding_definite (boolean false) h = refl
+  least_encoding_definite (boolean true) h = refl
+  least_encoding_definite null h = refl
+  least_encoding_definite (tag t v) h = (least_encoding v, least_encoding_definite v h.1, least_headed 6 t (least_encoding v) h.0)
+  least_encoding_definite (array vs) h = (least_encodings vs, least_encodings_definite vs h.1, least_headed 4 (items_count vs) (least_encodings vs) h.0)
+  least_encoding_definite (dict ps) h = (least_pair_encodings ps, least_pair_encodings_definite ps h.1, least_headed 5 (pairs_count ps) (least_pair_encodings ps) h.0)
 
-  shorts_definite : (vs : Items) → AreInRange vs → AreDefiniteTexts vs (shorts vs)
-  shorts_definite no_items h = refl
-  shorts_definite (item v vs) h = (short v, shorts vs, short_definite v h.0, shorts_definite vs h.1, refl)
+  least_encodings_definite : (vs : Items) → AreInRange vs → AreDefiniteEncodings vs (least_encodings vs)
+  least_encodings_definite no_items h = refl
+  least_encodings_definite (item v vs) h = (least_encoding v, least_encodings vs, least_encoding_definite v h.0, least_encodings_definite vs h.1, refl)
 
-  pair_shorts_definite : (ps : Pairs) → ArePairsInRange ps → AreDefinitePairs ps (pair_shorts ps)
-  pair_shorts_definite no_pairs h = refl
-  pair_shorts_definite (pair k v ps) h = (short k, short v, pair_shorts ps, short_definite k h.0, short_definite v h.1, pair_shorts_definite ps h.2, refl)
+  least_pair_encodings_definite : (ps : Pairs) → ArePairsInRange ps → AreDefinitePairs ps (least_pair_encodings ps)
+  least_pair_encodings_definite no_pairs h = refl
+  least_pair_encodings_definite (pair k v ps) h = (least_encoding k, least_encoding v, least_pair_encodings ps, least_encoding_definite k h.0, least_encoding_definite v h.1, least_pair_encodings_definite ps h.2, refl)
 
--- The text with the least heads is the shortest text.
-pub short_is_short : (v : Item) → IsInRange v → IsShort (short v) v
-short_is_short v h = record { definite = short_definite v h; least = λ c d. (short_least v c d).shorter }
+-- The encoding with the least heads is the shortest encoding.
+pub least_is_shortest : (v : Item) → IsInRange v → IsShortest (least_encoding v) v
+least_is_shortest v h = record { definite = least_encoding_definite v h; least = λ c d. (least_encoding_least v c d).shorter }
 
--- The shortest text is the one with the least heads.
-pub only_short : (v : Item) → IsInRange v → (b : List ℕ) → IsShort b v → b ≡ short v
-only_short v h b is = (short_least v b is.definite).same (is.least (short v) (short_definite v h))
+-- The shortest encoding is the one with the least heads.
+pub only_least_encoding : (v : Item) → IsInRange v → (b : List ℕ) → IsShortest b v → b ≡ least_encoding v
+only_least_encoding v h b is = (least_encoding_least v b is.definite).same (is.least (least_encoding v) (least_encoding_definite v h))
 
 mutual
-  -- A definite text is a text.
-  pub definite_is_text : (v : Item) (b : List ℕ) → IsDefiniteText v b → IsText v b
-  definite_is_text (integer n) b h = h
-  definite_is_text (bytes s) b h = inl h
-  definite_is_text (float x) b h = h
-  definite_is_text (text s) b h = inl h
-  definite_is_text (boolean x) b h = h
-  definite_is_text null b h = h
-  definite_is_text (tag t v) b h = (h.0, definite_is_text v h.0 h.1, h.2)
-  definite_is_text (array vs) b h = (h.0, definites_are_texts vs h.0 h.1, inl h.2)
-  definite_is_text (dict ps) b h = (h.0, definite_pairs_are_texts ps h.0 h.1, inl h.2)
+  -- A definite encoding is an encoding.
+  pub definite_is_encoding : (v : Item) (b : List ℕ) → IsDefiniteEncoding v b → IsEncoding v b
+  definite_is_encoding (integer n) b h = h
+  definite_is_encoding (bytes s) b h = inl h
+  definite_is_encoding (float x) b h = h
+  definite_is_encoding (text s) b h = inl h
+  definite_is_encoding (boolean x) b h = h
+  definite_is_encoding null b h = h
+  definite_is_encoding (tag t v) b h = (h.0, definite_is_encoding v h.0 h.1, h.2)
+  definite_is_encoding (array vs) b h = (h.0, definites_are_encodings vs h.0 h.1, inl h.2)
+  definite_is_encoding (dict ps) b h = (h.0, definite_pairs_are_encodings ps h.0 h.1, inl h.2)
 
-  definites_are_texts : (vs : Items) (b : List ℕ) → AreDefiniteTexts vs b → AreTexts vs b
-  definites_are_texts no_items b h = h
-  definites_are_texts (item v vs) b h = (h.0, h.1, definite_is_text v h.0 h.2, definites_are_texts vs h.1 h.3, h.4)
+  definites_are_encodings : (vs : Items) (b : List ℕ) → AreDefiniteEncodings vs b → AreEncodings vs b
+  definites_are_encodings no_items b h = h
+  definites_are_encodings (item v vs) b h = (h.0, h.1, definite_is_encoding v h.0 h.2, definites_are_encodings vs h.1 h.3, h.4)
 
-  definite_pairs_are_texts : (ps : Pairs) (b : List ℕ) → AreDefinitePairs ps b → ArePairTexts ps b
-  definite_pairs_are_texts no_pairs b h = h
-  definite_pairs_are_texts (pair k v ps) b h = (h.0, h.1, h.2, definite_is_text k h.0 h.3, definite_is_text v h.1 h.4, definite_pairs_are_texts ps h.2 h.5, h.6)
+  definite_pairs_are_encodings : (ps : Pairs) (b : List ℕ) → AreDefinitePairs ps b → ArePairEncodings ps b
+  definite_pairs_are_encodings no_pairs b h = h
+  definite_pairs_are_encodings (pair k v ps) b h = (h.0, h.1, h.2, definite_is_encoding k h.0 h.3, definite_is_encoding v h.1 h.4, definite_pairs_are_encodings ps h.2 h.5, h.6)
 
 -- ---- it is of an item in range
 
@@ -239,8 +239,8 @@ headed_in_range : (m n : ℕ) (s b : List ℕ) → IsHeaded m n s b → n < 2 ^ 
 headed_in_range m n s b is = holds_in_range is.is_head.place n is.is_head.holds
 
 mutual
-  -- An item with a definite text is in range.
-  pub definite_in_range : (v : Item) (b : List ℕ) → IsDefiniteText v b → IsInRange v
+  -- An item with a definite encoding is in range.
+  pub definite_in_range : (v : Item) (b : List ℕ) → IsDefiniteEncoding v b → IsInRange v
   definite_in_range (integer (pos n)) b h = holds_in_range h.place n h.holds
   definite_in_range (integer (negsuc n)) b h = holds_in_range h.place n h.holds
   definite_in_range (bytes s) b h = headed_in_range 2 (length s) s b h.1
@@ -254,7 +254,7 @@ mutual
   definite_in_range (array vs) b h = (headed_in_range 4 (items_count vs) h.0 b h.2, definites_in_range vs h.0 h.1)
   definite_in_range (dict ps) b h = (headed_in_range 5 (pairs_count ps) h.0 b h.2, definite_pairs_in_range ps h.0 h.1)
 
-  definites_in_range : (vs : Items) (b : List ℕ) → AreDefiniteTexts vs b → AreInRange vs
+  definites_in_range : (vs : Items) (b : List ℕ) → AreDefiniteEncodings vs b → AreInRange vs
   definites_in_range no_items b h = tt
   definites_in_range (item v vs) b h = (definite_in_range v h.0 h.2, definites_in_range vs h.1 h.3)
 

@@ -11,15 +11,15 @@ use Rattle.coset_cbor.specs.declared.fault.Fault.TheVariants.{End, Syntax}
 use Rattle.coset_cbor.specs.declared.de.EndOfFile.{EndOfFile}
 use Rattle.coset_cbor.specs.declared.de.Error.{Error}
 use Rattle.coset_cbor.specs.declared.de.Error.TheVariants as errors
-use Rattle.coset_cbor.specs.declared.head.Kind.TheVariants as kinds
+use Rattle.coset_cbor.specs.declared.head.MajorType.TheVariants as major_types
 use Rattle.coset_cbor.specs.declared.head.Argument.{Argument}
 use Rattle.coset_cbor.specs.declared.head.Argument.TheVariants as places
 use Rattle.coset_cbor.specs.declared.head.Head.{Head}
-use Rattle.coset_cbor.specs.Grammar.{IsHeaded, Each, IsDefinite, joined, string_type, IsItem}
-use Rattle.coset_cbor.specs.Faults.{Due, DueChunk, LacksArgument, LacksContent, Ends, NoItem, NoChunk, IsBadText, IsNotSupported, Nests}
+use Rattle.coset_cbor.specs.Grammar.{IsHeaded, EachInOrder, IsDefinite, joined_chunks, string_type, IsItem}
+use Rattle.coset_cbor.specs.Faults.{Due, DueChunk, LacksArgument, LacksContent, Ends, NoItem, NoChunk, IsBadTextString, IsNotSupported, Nests}
 use Rattle.coset_cbor.specs.Refused.{IsMemory, StandsIn}
-use Rattle.coset_cbor.specs.Fronts.{HasNoItem, IsEnd}
-use Rattle.coset_cbor.specs.Reading.{◌>>=◌, kind_of, number_of, head_at, unless_none, is_sound, string_at, chunk_kind, chunk_at, begins_break, until_at, chunks_at, any_string_by, times_at, pair_at, Inside, nothing, things, item_by, item_at}
+use Rattle.coset_cbor.specs.Fronts.{HasNoItem, IsEndOfInput}
+use Rattle.coset_cbor.specs.Reading.{◌>>=◌, major_type_of, number_of, head_at, unless_none, is_string_content, string_at, begins_chunk, chunk_at, begins_break, until_at, chunks_at, any_string_by, times_at, pair_at, Inside, nothing, things, item_by, item_at}
 use Rattle.coset_cbor.proofs.Again.{IsHeaded-begins, IsHead-again, opening_again, head_of, no_break, regroup, chunk_again, chunk_reads, item_again}
 use Rattle.coset_cbor.proofs.Takes.{IsBytes, bind_ok, ok_is, guard_ok, guard_else, some_ok, chosen, chunk_takes}
 use Rattle.coset_cbor.proofs.Blocks.{NoRead, IsBlocked, IsBytes-append, due_blocked, no_read_below, read_starts, IsFirst, HeadStarts, headed_starts}
@@ -45,9 +45,9 @@ first_blocked e x t fits other bad d = (
   λ even. ne_eqb x 255 other,
 )
 
-kind_bad : (v : Item) (x : ℕ) (t : List ℕ) → IsFirst v x t
+major_type_bad : (v : Item) (x : ℕ) (t : List ℕ) → IsFirst v x t
     → ((x / 32 ≤ 6) × (x % 32 ≤ 27) → ⊥) → ((2 ≤ x / 32) × (x / 32 ≤ 5) × (x % 32 ≡ 31) → ⊥) → ((244 ≤ x) × (x ≤ 246) → ⊥) → ((249 ≤ x) × (x ≤ 251) → ⊥) → ⊥
-kind_bad v x t f a b c d = elim f.kind [
+major_type_bad v x t f a b c d = elim f.major_type [
   | inl h ↦ a h
   | inr (inl h) ↦ b h
   | inr (inr (inl h)) ↦ c h
@@ -59,24 +59,24 @@ no_item_blocked e [] fits (inl h) d = absurd h
 no_item_blocked e (x ∷ t) fits (inl h) d =
     let low = h.0 in
     let high = h.1 in
-    first_blocked e x t fits (λ is. omega arith) (λ d v f le. kind_bad v x t f (λ k. let a = k.1 in omega arith) (λ k. let a = k.2 in omega arith) (λ k. let a = k.0 in let b = k.1 in omega arith) (λ k. let a = k.0 in let b = k.1 in omega arith)) d
+    first_blocked e x t fits (λ is. omega arith) (λ d v f le. major_type_bad v x t f (λ k. let a = k.1 in omega arith) (λ k. let a = k.2 in omega arith) (λ k. let a = k.0 in let b = k.1 in omega arith) (λ k. let a = k.0 in let b = k.1 in omega arith)) d
 no_item_blocked e [] fits (inr (inl h)) d = absurd h
 no_item_blocked e (x ∷ t) fits (inr (inl h)) d =
     let info = h.0 in
     let types : (x / 32 ≤ 1) ⊎ (x / 32 ≡ 6) = elim h.1 [ inl a ↦ inl (omega arith) | inr (inl a) ↦ inl (omega arith) | inr (inr a) ↦ inr a ] in
     first_blocked e x t fits (λ is. elim types [ inl a ↦ omega arith | inr a ↦ omega arith ])
-    (λ d v f le. kind_bad v x t f (λ k. let a = k.1 in omega arith) (λ k. let a = k.0 in let b = k.1 in elim types [ inl c ↦ omega arith | inr c ↦ omega arith ]) (λ k. let a = k.0 in let b = k.1 in omega arith) (λ k. let a = k.0 in let b = k.1 in omega arith)) d
+    (λ d v f le. major_type_bad v x t f (λ k. let a = k.1 in omega arith) (λ k. let a = k.0 in let b = k.1 in elim types [ inl c ↦ omega arith | inr c ↦ omega arith ]) (λ k. let a = k.0 in let b = k.1 in omega arith) (λ k. let a = k.0 in let b = k.1 in omega arith)) d
 no_item_blocked e [] fits (inr (inr (inl h))) d = absurd h
 no_item_blocked e (x ∷ []) fits (inr (inr (inl h))) d = absurd h
 no_item_blocked e (x ∷ y ∷ t) fits (inr (inr (inl h))) d =
     let is = h.0 in
-    first_blocked e x (y ∷ t) fits (λ e. omega arith) (λ d v f le. kind_bad v x (y ∷ t) f (λ k. let a = k.0 in omega arith) (λ k. let a = k.1 in omega arith) (λ k. let a = k.1 in omega arith) (λ k. let a = k.0 in omega arith)) d
+    first_blocked e x (y ∷ t) fits (λ e. omega arith) (λ d v f le. major_type_bad v x (y ∷ t) f (λ k. let a = k.0 in omega arith) (λ k. let a = k.1 in omega arith) (λ k. let a = k.1 in omega arith) (λ k. let a = k.0 in omega arith)) d
 no_item_blocked e [] fits (inr (inr (inr h))) d = absurd h.0
 no_item_blocked e (x ∷ t) fits (inr (inr (inr h))) d = (
   λ y is.
       let s = read_starts d (x ∷ t) y fits is in
       let first : s.0 ≡ 255 = sym (ap first_of s.2) ∙ h.0 in
-      kind_bad y.0 s.0 s.1 s.3 (λ k. let a = k.0 in omega arith) (λ k. let a = k.1 in omega arith) (λ k. let a = k.1 in omega arith) (λ k. let a = k.1 in omega arith),
+      major_type_bad y.0 s.0 s.1 s.3 (λ k. let a = k.0 in omega arith) (λ k. let a = k.1 in omega arith) (λ k. let a = k.1 in omega arith) (λ k. let a = k.1 in omega arith),
   λ even. absurd (false≢true (sym h.1 ∙ even)),
 )
 
@@ -85,8 +85,8 @@ not_supported_blocked e [] fits h d = absurd h
 not_supported_blocked e (x ∷ t) fits h d =
     let range : ((224 ≤ x) × (x ≤ 243)) ⊎ ((247 ≤ x) × (x ≤ 248)) = elim h [ inl a ↦ inl a | inr (inl a) ↦ inr (omega arith, omega arith) | inr (inr a) ↦ let is = a.0 in inr (omega arith, omega arith) ] in
     elim range [
-      | inl r ↦ let lo = r.0 in let hi = r.1 in first_blocked e x t fits (λ e. omega arith) (λ d v f le. kind_bad v x t f (λ k. let a = k.0 in omega arith) (λ k. let a = k.1 in omega arith) (λ k. let a = k.0 in omega arith) (λ k. let a = k.0 in omega arith)) d
-      | inr r ↦ let lo = r.0 in let hi = r.1 in first_blocked e x t fits (λ e. omega arith) (λ d v f le. kind_bad v x t f (λ k. let a = k.0 in omega arith) (λ k. let a = k.1 in omega arith) (λ k. let a = k.1 in omega arith) (λ k. let a = k.0 in omega arith)) d
+      | inl r ↦ let lo = r.0 in let hi = r.1 in first_blocked e x t fits (λ e. omega arith) (λ d v f le. major_type_bad v x t f (λ k. let a = k.0 in omega arith) (λ k. let a = k.1 in omega arith) (λ k. let a = k.0 in omega arith) (λ k. let a = k.0 in omega arith)) d
+      | inr r ↦ let lo = r.0 in let hi = r.1 in first_blocked e x t fits (λ e. omega arith) (λ d v f le. major_type_bad v x t f (λ k. let a = k.0 in omega arith) (λ k. let a = k.1 in omega arith) (λ k. let a = k.1 in omega arith) (λ k. let a = k.0 in omega arith)) d
     ]
 
 nests_blocked : (e : Bool) (t : List ℕ) → IsBytes t → Nests t → IsBlocked e 0 t
@@ -113,7 +113,7 @@ argument_blocked e (x ∷ t) fits h d =
     let k = h.0 in
     let low = h.1 in
     let info = h.2 in
-    let short = h.3 in
+    let least_encoding = h.3 in
     first_blocked e x t fits (λ is. omega arith) (λ d v f le. let long = f.argument k low info in omega arith) d
 
 -- a definite string whose content isn't there, or isn't UTF-8
@@ -122,16 +122,16 @@ NoString is_text n r = (left : ℕ) (x : List ℕ × List ℕ) → string_at is_
 
 short_string : (is_text : Bool) (n : ℕ) (r : List ℕ) → length r < n → NoString is_text n r
 unfolding string_at
-short_string is_text n r short left x e =
-    let g = guard_ok (ltb (length r) n) End (cond (is_sound is_text (take n r)) (Ok (take n r, drop n r)) (Err (Syntax left))) x e in
+short_string is_text n r least_encoding left x e =
+    let g = guard_ok (ltb (length r) n) End (cond (is_string_content is_text (take n r)) (Ok (take n r, drop n r)) (Err (Syntax left))) x e in
     let long : n ≤ length r = ltb-false _ _ g.0 in
     omega arith
 
 bad_string : (n : ℕ) (r : List ℕ) → (IsUtf8 (take n r) → ⊥) → NoString true n r
 unfolding string_at
 bad_string n r bad left x e =
-    let g = guard_ok (ltb (length r) n) End (cond (is_sound true (take n r)) (Ok (take n r, drop n r)) (Err (Syntax left))) x e in
-    let h = guard_else (is_sound true (take n r)) (Syntax left) (Ok (take n r, drop n r)) x g.1 in
+    let g = guard_ok (ltb (length r) n) End (cond (is_string_content true (take n r)) (Ok (take n r, drop n r)) (Err (Syntax left))) x e in
+    let h = guard_else (is_string_content true (take n r)) (Syntax left) (Ok (take n r, drop n r)) x g.1 in
     bad (IsUtf8-from_is_utf8 (take n r) h.0)
 
 -- a head, and what it is read as
@@ -172,7 +172,7 @@ things_members n s d = record {
       omega arith;
 }
 
-lacks_by : (inside : Inside) (left m n : ℕ) (a : Argument) (s : List ℕ) (y : Item × List ℕ) → NoMembers n s inside → number_of a ≡ Some n → ((2 ≤ m) × (m ≤ 4) × (length s < n)) ⊎ ((m ≡ 5) × (length s < 2 * n)) → item_by inside left a (kind_of m) s ≡ Ok y → ⊥
+lacks_by : (inside : Inside) (left m n : ℕ) (a : Argument) (s : List ℕ) (y : Item × List ℕ) → NoMembers n s inside → number_of a ≡ Some n → ((2 ≤ m) × (m ≤ 4) × (length s < n)) ⊎ ((m ≡ 5) × (length s < 2 * n)) → item_by inside left a (major_type_of m) s ≡ Ok y → ⊥
 lacks_by inside left (suc (suc zero)) n a s y none num (inl h) e = string_by_blocked false left n (number_of a) s bytes y num (short_string false n s h.2) e
 lacks_by inside left (suc (suc (suc zero))) n a s y none num (inl h) e = string_by_blocked true left n (number_of a) s Item.text y num (short_string true n s h.2) e
 lacks_by inside left (suc (suc (suc (suc zero)))) n a s y none num (inl h) e =
@@ -182,16 +182,16 @@ lacks_by inside left zero n a s y none num (inl h) e = let lo = h.0 in omega ari
 lacks_by inside left (suc zero) n a s y none num (inl h) e = let lo = h.0 in omega arith
 lacks_by inside left (suc (suc (suc (suc (suc m))))) n a s y none num (inl h) e = let hi = h.1 in omega arith
 lacks_by inside left m n a s y none num (inr h) e =
-    let whole : item_by inside left a kinds.Map s ≡ Ok y = ap (λ (k : ℕ). item_by inside left a (kind_of k) s) (sym h.0) ∙ e in
+    let whole : item_by inside left a major_types.Map s ≡ Ok y = ap (λ (k : ℕ). item_by inside left a (major_type_of k) s) (sym h.0) ∙ e in
     let r = bind_ok (inside.pairs (number_of a) s) (λ x. Ok (dict (pairs_of x.0), x.1)) y whole in
     none.pairs h.1 r.0 (ap (λ (k : Option ℕ). inside.pairs k s) (sym num) ∙ r.1)
 
 -- what reading an item does with its head
 with_head : (d : ℕ) (t : List ℕ) (h : Head × List ℕ) (y : Item × List ℕ) → head_at t ≡ Ok h → item_at d t ≡ Ok y
-    → ((item_by nothing (length t) h.0.argument h.0.kind h.1 ≡ Ok y) ⊎ ((c : ℕ) × (item_by (things (item_at c)) (length t) h.0.argument h.0.kind h.1 ≡ Ok y)))
+    → ((item_by nothing (length t) h.0.argument h.0.major_type h.1 ≡ Ok y) ⊎ ((c : ℕ) × (item_by (things (item_at c)) (length t) h.0.argument h.0.major_type h.1 ≡ Ok y)))
 unfolding item_at
-with_head zero t h y e is = inl (sym (ap (λ (r : Result (Head × List ℕ) Fault). r >>= λ x. item_by nothing (length t) x.0.argument x.0.kind x.1) e) ∙ is)
-with_head (suc d) t h y e is = inr (d, sym (ap (λ (r : Result (Head × List ℕ) Fault). r >>= λ x. item_by (things (item_at d)) (length t) x.0.argument x.0.kind x.1) e) ∙ is)
+with_head zero t h y e is = inl (sym (ap (λ (r : Result (Head × List ℕ) Fault). r >>= λ x. item_by nothing (length t) x.0.argument x.0.major_type x.1) e) ∙ is)
+with_head (suc d) t h y e is = inr (d, sym (ap (λ (r : Result (Head × List ℕ) Fault). r >>= λ x. item_by (things (item_at d)) (length t) x.0.argument x.0.major_type x.1) e) ∙ is)
 
 content_blocked : (e : Bool) (t : List ℕ) → LacksContent t → (d : ℕ) → IsBlocked e d t
 content_blocked e t h d = (
@@ -211,10 +211,10 @@ content_blocked e t h d = (
     starts_no_break : (t : List ℕ) → LacksContent t → begins_break t ≡ false
     starts_no_break t h = ap begins_break (sym (append-nil t)) ∙ no_break t [] (IsHeaded-begins h.m h.n h.rest t (below h.m h.n h.rest h.lacks) h.headed)
 
-bad_text_break : (t : List ℕ) → IsBadText t → begins_break t ≡ false
+bad_text_break : (t : List ℕ) → IsBadTextString t → begins_break t ≡ false
 bad_text_break t h = ap begins_break (sym (append-nil t)) ∙ no_break t [] (IsHeaded-begins 3 h.n h.rest t (omega arith) h.headed)
 
-bad_text_blocked : (e : Bool) (t : List ℕ) → IsBadText t → (d : ℕ) → IsBlocked e d t
+bad_text_blocked : (e : Bool) (t : List ℕ) → IsBadTextString t → (d : ℕ) → IsBlocked e d t
 bad_text_blocked e t h d = (
   λ y is.
       let r = head_is 3 h.n h.rest t h.headed in
@@ -239,11 +239,11 @@ NoChunkRead is_text t = ((x : List ℕ × List ℕ) → chunk_at is_text t ≡ O
 
 -- what reading a chunk does with its head
 chunk_with : (is_text : Bool) (t : List ℕ) (h : Head × List ℕ) (x : List ℕ × List ℕ) → head_at t ≡ Ok h → chunk_at is_text t ≡ Ok x
-    → (chunk_kind is_text h.0.kind ≡ true) × (n : ℕ) × (number_of h.0.argument ≡ Some n) × (string_at is_text (length t) n h.1 ≡ Ok x)
+    → (begins_chunk is_text h.0.major_type ≡ true) × (n : ℕ) × (number_of h.0.argument ≡ Some n) × (string_at is_text (length t) n h.1 ≡ Ok x)
 unfolding chunk_at
 chunk_with is_text t h x e is =
-    let whole = sym (ap (λ (r : Result (Head × List ℕ) Fault). r >>= λ h. cond (chunk_kind is_text h.0.kind) (unless_none (length t) (number_of h.0.argument) (λ n. string_at is_text (length t) n h.1)) (Err (Syntax (length t)))) e) ∙ is in
-    let g = guard_else (chunk_kind is_text h.0.kind) (Syntax (length t)) _ x whole in
+    let whole = sym (ap (λ (r : Result (Head × List ℕ) Fault). r >>= λ h. cond (begins_chunk is_text h.0.major_type) (unless_none (length t) (number_of h.0.argument) (λ n. string_at is_text (length t) n h.1)) (Err (Syntax (length t)))) e) ∙ is in
+    let g = guard_else (begins_chunk is_text h.0.major_type) (Syntax (length t)) _ x whole in
     let n = some_ok (length t) (number_of h.0.argument) (λ n. string_at is_text (length t) n h.1) x g.1 in
     (g.0, n.0, n.1, n.2)
 
@@ -251,7 +251,7 @@ chunk_with is_text t h x e is =
 chunk_first : (is_text : Bool) (t : List ℕ) (x : List ℕ × List ℕ) → IsBytes t → chunk_at is_text t ≡ Ok x → HeadStarts (string_type is_text) t
 chunk_first is_text t x fits e =
     let k = chunk_takes is_text t x fits e in
-    let h = headed_starts (string_type is_text) (length x.0) x.0 k.front k.text.1 in
+    let h = headed_starts (string_type is_text) (length x.0) x.0 k.front k.encoding.1 in
     record {
       info = h.info;
       more = h.more ++ x.1;
@@ -280,7 +280,7 @@ argument_chunk is_text (x ∷ t) fits h =
     let k = h.0 in
     let lt = h.1 in
     let info = h.2 in
-    let short = h.3 in (
+    let least_encoding = h.3 in (
       λ y e.
           let p = first_parts (string_type is_text) x t (chunk_first is_text (x ∷ t) y fits e) in
           let is = p.1 in
@@ -296,7 +296,7 @@ nothing_chunk is_text = (λ y e. let h = chunk_first is_text [] y (λ i. omega a
     differ : (x : ℕ) (s : List ℕ) → ◌≡◌ {A = List ℕ} [] (x ∷ s) → ⊥
     differ x s e = cc
 
-map_no_chunk : (is_text : Bool) → chunk_kind is_text (kind_of 5) ≡ false
+map_no_chunk : (is_text : Bool) → begins_chunk is_text (major_type_of 5) ≡ false
 map_no_chunk false = refl
 map_no_chunk true = refl
 
@@ -312,10 +312,10 @@ content_chunk is_text t h = (λ x e. lacks x e h.lacks, (content_blocked true t 
         let w = chunk_with is_text t (head_of h.m r.argument, h.rest) x r.reads e in
         elim k [
           | inl k ↦ short_string is_text h.n h.rest k.2 (length t) x (ap (λ (n : ℕ). string_at is_text (length t) n h.rest) (same w.1 h.n (sym w.2 ∙ r.number)) ∙ w.3)
-          | inr k ↦ false≢true (sym (map_no_chunk is_text) ∙ ap (λ (m : ℕ). chunk_kind is_text (kind_of m)) (sym k.0) ∙ w.0)
+          | inr k ↦ false≢true (sym (map_no_chunk is_text) ∙ ap (λ (m : ℕ). begins_chunk is_text (major_type_of m)) (sym k.0) ∙ w.0)
         ]
 
-bad_text_chunk : (is_text : Bool) (t : List ℕ) → IsBadText t → NoChunkRead is_text t
+bad_text_chunk : (is_text : Bool) (t : List ℕ) → IsBadTextString t → NoChunkRead is_text t
 bad_text_chunk false t h = (
   λ x e. let r = head_is 3 h.n h.rest t h.headed in let w = chunk_with false t (head_of 3 r.argument, h.rest) x r.reads e in false≢true w.0,
   bad_text_break t h,
@@ -337,7 +337,7 @@ ends_chunk is_text t fits (inr (inl h)) = argument_chunk is_text t fits h
 ends_chunk is_text t fits (inr (inr h)) = content_chunk is_text t h
 
 -- chunks, and then no chunk
-chunks_blocked : (is_text : Bool) (turns : ℕ) (ss : List (List ℕ)) (c t : List ℕ) (x : List (List ℕ) × List ℕ) → Each (IsDefinite is_text) ss c → NoChunkRead is_text t → until_at (chunk_at is_text) turns (c ++ t) ≡ Ok x → ⊥
+chunks_blocked : (is_text : Bool) (turns : ℕ) (ss : List (List ℕ)) (c t : List ℕ) (x : List (List ℕ) × List ℕ) → EachInOrder (IsDefinite is_text) ss c → NoChunkRead is_text t → until_at (chunk_at is_text) turns (c ++ t) ≡ Ok x → ⊥
 unfolding until_at
 chunks_blocked is_text zero ss c t x h never e = cc
 chunks_blocked is_text (suc turns) [] c t x h never e =
@@ -363,7 +363,7 @@ abbrev made : (List ℕ → Item) → List ℕ × List ℕ → Result (Item × L
 made f x = Ok (f x.0, x.1)
 
 -- an indefinite string whose next chunk can't be there
-opening_blocked : (is_text : Bool) (e : Bool) (ss : List (List ℕ)) (c t : List ℕ) → Each (IsDefinite is_text) ss c → NoChunkRead is_text t → (d : ℕ) → IsBlocked e d ((32 * string_type is_text + 31) ∷ (c ++ t))
+opening_blocked : (is_text : Bool) (e : Bool) (ss : List (List ℕ)) (c t : List ℕ) → EachInOrder (IsDefinite is_text) ss c → NoChunkRead is_text t → (d : ℕ) → IsBlocked e d ((32 * string_type is_text + 31) ∷ (c ++ t))
 unfolding chunks_at
 opening_blocked is_text e ss c t h never d = (by_type is_text h never, λ even. other is_text)
   where
@@ -371,13 +371,13 @@ opening_blocked is_text e ss c t h never d = (by_type is_text h never, λ even. 
     other false = refl
     other true = refl
 
-    joins : (b : Bool) (f : List ℕ → Item) (y : Item × List ℕ) → Each (IsDefinite b) ss c → NoChunkRead b t → (chunks_at b (c ++ t) >>= made f) ≡ Ok y → ⊥
+    joins : (b : Bool) (f : List ℕ → Item) (y : Item × List ℕ) → EachInOrder (IsDefinite b) ss c → NoChunkRead b t → (chunks_at b (c ++ t) >>= made f) ≡ Ok y → ⊥
     joins b f y h never is =
         let r = bind_ok (chunks_at b (c ++ t)) (made f) y is in
-        let q = bind_ok (until_at (chunk_at b) (length (c ++ t)) (c ++ t)) (λ x. Ok (joined x.0, x.1)) r.0 r.1 in
+        let q = bind_ok (until_at (chunk_at b) (length (c ++ t)) (c ++ t)) (λ x. Ok (joined_chunks x.0, x.1)) r.0 r.1 in
         chunks_blocked b (length (c ++ t)) ss c t q.0 h never q.1
 
-    by_type : (b : Bool) → Each (IsDefinite b) ss c → NoChunkRead b t → NoRead d ((32 * string_type b + 31) ∷ (c ++ t))
+    by_type : (b : Bool) → EachInOrder (IsDefinite b) ss c → NoChunkRead b t → NoRead d ((32 * string_type b + 31) ∷ (c ++ t))
     by_type false h never y is = elim (with_head d ((32 * 2 + 31) ∷ (c ++ t)) (head_of 2 places.Indefinite, c ++ t) y (opening_again 2 (c ++ t)) is) [
       | inl w ↦ joins false bytes y h never w
       | inr w ↦ joins false bytes y h never w.1
@@ -395,9 +395,9 @@ stood_item s c t k e fits parts due h =
 
 stood_chunk : (s c t : List ℕ) (is_text : Bool) → IsBytes s → s ≡ c ++ t → DueChunk is_text c → NoChunkRead is_text t → NoRead 256 s
 stood_chunk s c t is_text fits parts due never =
-    let rest = (32 * string_type is_text + 31) ∷ (due.texts ++ t) in
-    let whole : s ≡ due.before ++ rest = parts ∙ ap (λ (z : List ℕ). z ++ t) due.parts ∙ append_assoc due.before ((32 * string_type is_text + 31) ∷ due.texts) t in
-    stood_item s due.before rest due.level due.flag fits whole due.due (opening_blocked is_text due.flag due.chunks due.texts t due.are_chunks never 256)
+    let rest = (32 * string_type is_text + 31) ∷ (due.encodings ++ t) in
+    let whole : s ≡ due.before ++ rest = parts ∙ ap (λ (z : List ℕ). z ++ t) due.parts ∙ append_assoc due.before ((32 * string_type is_text + 31) ∷ due.encodings) t in
+    stood_item s due.before rest due.level due.flag fits whole due.due (opening_blocked is_text due.flag due.chunks due.encodings t due.are_chunks never 256)
 
 tail_fits : (s c t : List ℕ) → IsBytes s → s ≡ c ++ t → IsBytes t
 tail_fits s c t fits parts = IsBytes-append c t (subst IsBytes parts fits)
@@ -436,7 +436,7 @@ no_chunk_on : (is_text : Bool) (t d : List ℕ) → NoChunk is_text t → NoChun
 no_chunk_on is_text [] d h = absurd h
 no_chunk_on is_text (x ∷ t) d h = h
 
-bad_text_on : (t d : List ℕ) → IsBadText t → IsBadText (t ++ d)
+bad_text_on : (t d : List ℕ) → IsBadTextString t → IsBadTextString (t ++ d)
 bad_text_on t d h = record {
   n = h.n;
   rest = h.rest ++ d;
@@ -459,7 +459,7 @@ on : (b s d c t : List ℕ) → b ≡ s ++ d → s ≡ c ++ t → b ≡ c ++ (t 
 on b s d c t whole parts = whole ∙ ap (λ (z : List ℕ). z ++ d) parts ∙ append_assoc c t d
 
 -- a fault other than the end still stands where more bytes follow
-stands_on : (b s d : List ℕ) (e : Error EndOfFile) → b ≡ s ++ d → StandsIn s e → IsEnd e ⊎ StandsIn b e
+stands_on : (b s d : List ℕ) (e : Error EndOfFile) → b ≡ s ++ d → StandsIn s e → IsEndOfInput e ⊎ StandsIn b e
 stands_on b s d (errors.Io x) whole h = inl tt
 stands_on b s d (errors.Syntax i) whole (c, t, parts, at, inl h) = inr (c, t ++ d, on b s d c t whole parts, at, inl (h.0, h.1, h.2, no_item_on h.1 t d h.3))
 stands_on b s d (errors.Syntax i) whole (c, t, parts, at, inr (inl h)) = inr (c, t ++ d, on b s d c t whole parts, at, inr (inl (h.0, h.1, no_chunk_on h.0 t d h.2)))
@@ -470,7 +470,7 @@ stands_on b s d errors.RecursionLimitExceeded whole (c, t, parts, h) = inr (c, t
 stands_on b s d errors.OutOfMemory whole h = inr tt
 
 -- In a front of an item only its end stands.
-pub end_in_front : (v : Item) (b s d : List ℕ) (e : Error EndOfFile) → IsBytes b → IsItem b v → b ≡ s ++ d → (IsMemory e → ⊥) → StandsIn s e → IsEnd e
+pub end_in_front : (v : Item) (b s d : List ℕ) (e : Error EndOfFile) → IsBytes b → IsItem b v → b ≡ s ++ d → (IsMemory e → ⊥) → StandsIn s e → IsEndOfInput e
 end_in_front v b s d e fits is whole other h = elim (stands_on b s d e whole h) [
   | inl end ↦ end
   | inr on ↦ absurd (no_item_stood b e fits other on v b [] (sym (append-nil b)) is)

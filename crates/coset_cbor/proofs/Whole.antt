@@ -26,7 +26,7 @@ front_is s x fits e =
     let t = item_takes 256 s x fits e in
     let len : length t.front ≡ length s - length x.1 = omega (arith, ap length t.parts ∙ length-append t.front x.1) in
     let is : take (length s - length x.1) s ≡ t.front = ap (take (length s - length x.1)) t.parts ∙ take_at t.front x.1 (length s - length x.1) len in
-    subst (λ (b : List ℕ). IsItem b x.0) (sym is) t.text
+    subst (λ (b : List ℕ). IsItem b x.0) (sym is) t.encoding
 
 abbrev done : Item × List ℕ → Result (Item × List ℕ) Fault
 done x = Ok x
@@ -87,8 +87,8 @@ checked s rest fits e =
     let t = item_takes 256 s (read.0, rest) fits read.1 in
     let len : length t.front ≡ length s - length rest = omega (arith, ap length t.parts ∙ length-append t.front rest) in
     let front : take (length s - length rest) s ≡ t.front = ap (take (length s - length rest)) t.parts ∙ take_at t.front rest (length s - length rest) len in
-    let cost = has_cost read.0 t.front t.text.0 in
-    let steps : item_steps 256 s ≡ cost.0 = ap (item_steps 256) t.parts ∙ item_exact 256 read.0 t.front rest cost.0 cost.1 t.text.1 in
+    let cost = has_cost read.0 t.front t.encoding.0 in
+    let steps : item_steps 256 s ≡ cost.0 = ap (item_steps 256) t.parts ∙ item_exact 256 read.0 t.front rest cost.0 cost.1 t.encoding.1 in
     let exact = subst (λ (k : ℕ). IsCost read.0 t.front k) (sym steps) cost.1 in
     record {
       within = omega arith;
@@ -130,7 +130,7 @@ pub one_item_is : (b : List ℕ) → is_one_item b ≡ true → IsItem b (item_o
 one_item_is b e =
     let t = item_takes 256 b (item_of b, []) (one_item_bytes b e) (one_item_read b e) in
     let is : t.front ≡ b = sym (append-nil t.front) ∙ sym t.parts in
-    subst (λ (c : List ℕ). IsItem c (item_of b)) is t.text
+    subst (λ (c : List ℕ). IsItem c (item_of b)) is t.encoding
 
 item_read : (b : List ℕ) (v : Item) → IsItem b v → item_at 256 b ≡ Ok (v, [])
 item_read b v is = ap (item_at 256) (sym (append-nil b)) ∙ item_again 256 v b [] is.0 is.1

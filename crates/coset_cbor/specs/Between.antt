@@ -3,7 +3,7 @@
 use Rattle.std.specs.Prelude.{◌≡◌, ℕ, List, [], ◌∷◌, ◌++◌, Some, None, Ok, unwrap_or}
 use Rattle.coset_value.specs.Item.{Items, no_items, Pairs, no_pairs}
 use Rattle.coset_value.specs.Parts.{as_array, as_map}
-use Rattle.coset_cbor.specs.declared.head.Kind.{Kind}
+use Rattle.coset_cbor.specs.declared.head.MajorType.{MajorType}
 use Rattle.coset_cbor.specs.declared.head.Head.{Head}
 use Rattle.coset_cbor.specs.Reading.{head_at, number_of}
 use Rattle.coset_cbor.specs.Whole.{item_of}
@@ -24,9 +24,9 @@ unfoldable pub pairs_in : List ℕ → Pairs
 pairs_in s = unwrap_or (as_map (item_of (map_around s))) no_pairs
 
 -- s is what follows a head of kind k in b, without the break where the head announces no number
-pub record IsContent (k : Kind) (b s : List ℕ) : Type 0 where
+pub record IsContent (k : MajorType) (b s : List ℕ) : Type 0 where
   pub head : Head × List ℕ
   pub reads : head_at b ≡ Ok head
-  pub kind : head.0.kind ≡ k
+  pub major_type : head.0.major_type ≡ k
   pub definite : (n : ℕ) → number_of head.0.argument ≡ Some n → s ≡ head.1
   pub indefinite : number_of head.0.argument ≡ None → (c : List ℕ) → head.1 ≡ c ++ 255 ∷ [] → s ≡ c

@@ -7,6 +7,6 @@ use Rattle.coset_cbor.specs.StringChunks.{chunk_contents}
 abbrev pub chunks_left : ByteChunks → List (List ℕ)
 chunks_left c = chunk_contents false c.bytes.now
 
--- of a text, as UTF-8
+-- those of a text string, as UTF-8
 abbrev pub text_chunks_left : TextChunks → List (List ℕ)
 text_chunks_left c = chunk_contents true c.bytes.now

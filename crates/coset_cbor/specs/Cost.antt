@@ -1,9 +1,9 @@
--- How many steps the reading of a text takes: 1 for each head of an item or a chunk and for each closing break, 1 for
--- each byte of the content of a text (which is walked, to see that it is UTF-8), and the sum over the parts. The bytes
--- of a byte string are passed over.
+-- How many steps the reading of an encoding takes: 1 for each head of an item or a chunk and for each closing break, 1
+-- for each byte of the content of a text string (which is walked, to see that it is UTF-8), and the sum over the parts.
+-- The bytes of a byte string are passed over.
 use Rattle.std.specs.Prelude.{◌≡◌, ℕ, suc, ◌+◌, ◌⊎◌, Bool, true, false, List, [], ◌∷◌, ◌++◌, length}
 use Rattle.coset_value.specs.Item.{Item, integer, bytes, float, text, boolean, null, tag, array, dict, Items, no_items, item, Pairs, no_pairs, pair, items_count, pairs_count}
-use Rattle.coset_cbor.specs.Grammar.{IsHeaded, IsIndefinite, Each, joined, string_type, IsDefinite, IsIntegerText, IsFloatText, IsBoolText}
+use Rattle.coset_cbor.specs.Grammar.{IsHeaded, IsIndefinite, EachInOrder, joined_chunks, string_type, IsDefinite, IsIntegerEncoding, IsFloatEncoding, IsBoolEncoding}
 
 -- the content of a string
 abbrev pub content_cost : Bool → List ℕ → ℕ
@@ -18,31 +18,31 @@ chunks_cost is_text (s ∷ ss) = suc (content_cost is_text s + chunks_cost is_te
 -- b is the string s whole, or in chunks between an opening and a break; and reading it takes k steps
 abbrev pub IsStringCost : Bool → List ℕ → List ℕ → ℕ → Type 0
 IsStringCost is_text s b k = (IsDefinite is_text s b × (k ≡ suc (content_cost is_text s)))
-    ⊎ ((ss : List (List ℕ)) × (c : List ℕ) × (joined ss ≡ s) × Each (IsDefinite is_text) ss c × IsIndefinite (string_type is_text) c b × (k ≡ 2 + chunks_cost is_text ss))
+    ⊎ ((ss : List (List ℕ)) × (c : List ℕ) × (joined_chunks ss ≡ s) × EachInOrder (IsDefinite is_text) ss c × IsIndefinite (string_type is_text) c b × (k ≡ 2 + chunks_cost is_text ss))
 
 -- b holds s, which takes j steps, behind a head, or between an opening and a break; and reading it takes k steps
 abbrev pub IsHeldCost : ℕ → ℕ → List ℕ → List ℕ → ℕ → ℕ → Type 0
 IsHeldCost m n s b j k = (IsHeaded m n s b × (k ≡ suc j)) ⊎ (IsIndefinite m s b × (k ≡ 2 + j))
 
 abbrev mutual
-  -- b is a text of the item, and reading it takes k steps
+  -- b is an encoding of the item, and reading it takes k steps
   pub IsCost : Item → List ℕ → ℕ → Type 0
-  IsCost (integer n) b k = IsIntegerText n b × (k ≡ 1)
+  IsCost (integer n) b k = IsIntegerEncoding n b × (k ≡ 1)
   IsCost (bytes s) b k = IsStringCost false s b k
-  IsCost (float x) b k = IsFloatText x b × (k ≡ 1)
+  IsCost (float x) b k = IsFloatEncoding x b × (k ≡ 1)
   IsCost (text s) b k = IsStringCost true s b k
-  IsCost (boolean x) b k = IsBoolText x b × (k ≡ 1)
+  IsCost (boolean x) b k = IsBoolEncoding x b × (k ≡ 1)
   IsCost null b k = (b ≡ 0xF6 ∷ []) × (k ≡ 1)
   IsCost (tag t v) b k = (c : List ℕ) × (j : ℕ) × IsCost v c j × IsHeaded 6 t c b × (k ≡ suc j)
   IsCost (array vs) b k = (c : List ℕ) × (j : ℕ) × AreCosts vs c j × IsHeldCost 4 (items_count vs) c b j k
   IsCost (dict ps) b k = (c : List ℕ) × (j : ℕ) × ArePairCosts ps c j × IsHeldCost 5 (pairs_count ps) c b j k
 
-  -- the same of items, one after the other
+  -- b are encodings of these items, one after the other, and reading them takes k steps
   pub AreCosts : Items → List ℕ → ℕ → Type 0
   AreCosts no_items b k = (b ≡ []) × (k ≡ 0)
   AreCosts (item v vs) b k = (c : List ℕ) × (d : List ℕ) × (i : ℕ) × (j : ℕ) × IsCost v c i × AreCosts vs d j × (b ≡ c ++ d) × (k ≡ i + j)
 
-  -- the same of keys and values, pair by pair
+  -- b are encodings of the keys and values, pair by pair, and reading them takes k steps
   pub ArePairCosts : Pairs → List ℕ → ℕ → Type 0
   ArePairCosts no_pairs b k = (b ≡ []) × (k ≡ 0)
   ArePairCosts (pair x v ps) b k = (c : List ℕ) × (d : List ℕ) × (e : List ℕ) × (h : ℕ) × (i : ℕ) × (j : ℕ)

@@ -1,13 +1,13 @@
 -- How many steps a check takes on any bytes, those that it refuses included, as a function beside that of reading.
--- Only contracts of private functions cite it. That it agrees with the cost of a text is proved in proofs/.
+-- Only contracts of private functions cite it. That it agrees with the cost of an encoding is proved in proofs/.
 use Rattle.std.specs.Prelude.{◌≡◌, ℕ, zero, suc, ◌+◌, ◌/◌, Bool, true, false, List, length, Option, Some, None, Result, Ok, Err, nat_lt, if◌then◌else◌}
 use Rattle.std.specs.Borrow.{Bor}
 use Rattle.coset_value.specs.Item.{Item}
 use Rattle.coset_cbor.specs.declared.fault.Fault.{Fault}
-use Rattle.coset_cbor.specs.declared.head.Kind.{Kind}
-use Rattle.coset_cbor.specs.declared.head.Kind.TheVariants as kinds
+use Rattle.coset_cbor.specs.declared.head.MajorType.{MajorType}
+use Rattle.coset_cbor.specs.declared.head.MajorType.TheVariants as major_types
 use Rattle.coset_cbor.specs.declared.head.Argument.{Argument}
-use Rattle.coset_cbor.specs.Reading.{Parse, number_of, head_at, string_at, chunk_kind, chunk_at, begins_break, pair_at, item_at}
+use Rattle.coset_cbor.specs.Reading.{Parse, number_of, head_at, string_at, begins_chunk, chunk_at, begins_break, pair_at, item_at}
 use Rattle.coset_cbor.specs.Cost.{content_cost}
 
 -- what is left after reading
@@ -31,7 +31,7 @@ content_steps is_text left n s = after (string_at is_text left n s) (λ x. conte
 
 unfoldable pub chunk_steps : Bool → List ℕ → ℕ
 chunk_steps is_text s = after (head_at s) (λ h.
-    suc (if chunk_kind is_text h.0.kind then where_some (number_of h.0.argument) (λ n. content_steps is_text (length s) n h.1) else 0))
+    suc (if begins_chunk is_text h.0.major_type then where_some (number_of h.0.argument) (λ n. content_steps is_text (length s) n h.1) else 0))
 
 -- n of them
 unfoldable pub times_steps : {A : Type 0} → Parse A → (List ℕ → ℕ) → ℕ → List ℕ → ℕ
@@ -70,19 +70,19 @@ no_steps = record { items = λ n s. 0; pairs = λ n s. 0; one = λ s. 0 }
 unfoldable pub steps_of : Parse Item → (List ℕ → ℕ) → StepsInside
 steps_of one steps = record { items = array_steps one steps; pairs = map_steps one steps; one = steps }
 
--- by the kind; left is what was left at the head
-abbrev pub body_steps : StepsInside → ℕ → Argument → Kind → List ℕ → ℕ
-body_steps inside left a kinds.Unsigned s = 0
-body_steps inside left a kinds.Negative s = 0
-body_steps inside left a kinds.Bytes s = string_steps false left (number_of a) s
-body_steps inside left a kinds.Text s = string_steps true left (number_of a) s
-body_steps inside left a kinds.Array s = inside.items (number_of a) s
-body_steps inside left a kinds.Map s = inside.pairs (number_of a) s
-body_steps inside left a kinds.Tag s = where_some (number_of a) (λ n. inside.one s)
-body_steps inside left a kinds.Simple s = 0
+-- by the major type; left is what was left at the head
+abbrev pub body_steps : StepsInside → ℕ → Argument → MajorType → List ℕ → ℕ
+body_steps inside left a major_types.Unsigned s = 0
+body_steps inside left a major_types.Negative s = 0
+body_steps inside left a major_types.Bytes s = string_steps false left (number_of a) s
+body_steps inside left a major_types.Text s = string_steps true left (number_of a) s
+body_steps inside left a major_types.Array s = inside.items (number_of a) s
+body_steps inside left a major_types.Map s = inside.pairs (number_of a) s
+body_steps inside left a major_types.Tag s = where_some (number_of a) (λ n. inside.one s)
+body_steps inside left a major_types.Simple s = 0
 
 abbrev pub steps_from : StepsInside → List ℕ → ℕ
-steps_from inside s = after (head_at s) (λ h. suc (body_steps inside (length s) h.0.argument h.0.kind h.1))
+steps_from inside s = after (head_at s) (λ h. suc (body_steps inside (length s) h.0.argument h.0.major_type h.1))
 
 -- an item in which arrays, maps and tags nest no deeper than the number
 unfoldable pub item_steps : ℕ → List ℕ → ℕ
@@ -94,7 +94,8 @@ abbrev pub Passes : {A : Type 0} → Result (Bor (List ℕ)) Fault → Result (A
 Passes (Ok rest) read = left_of read ≡ Ok rest.now
 Passes (Err f) read = left_of read ≡ Err f
 
--- The same of one that says by what it was lent whether it answers.
+-- What a function that passes over bytes returned is what reading leaves, where the fault that it was lent says whether
+-- it answers.
 abbrev pub PassesTo : {A : Type 0} → Option Fault → List ℕ → Result (A × List ℕ) Fault → Type 0
 PassesTo None rest read = left_of read ≡ Ok rest
 PassesTo (Some f) rest read = left_of read ≡ Err f

@@ -3,7 +3,7 @@
 use Rattle.std.specs.Prelude.{◌≡◌, ◌≢◌, ℕ, zero, suc, ◌+◌, ◌*◌, ◌/◌, ◌%◌, ◌^◌, ◌<◌, ◌≤◌, ◌⊎◌, Bool, true, false, not, List, [], ◌∷◌, ◌++◌, length, take}
 use Rattle.std.specs.Str.{IsUtf8}
 use Rattle.coset_value.specs.Item.{Items, items_count}
-use Rattle.coset_cbor.specs.Grammar.{IsHead, IsHeaded, Each, IsDefinite, string_type, AreTexts}
+use Rattle.coset_cbor.specs.Grammar.{IsHead, IsHeaded, EachInOrder, IsDefinite, string_type, AreEncodings}
 use Rattle.coset_cbor.specs.declared.fault.Fault.{Fault}
 use Rattle.coset_cbor.specs.declared.fault.Fault.TheVariants.{End, Syntax, Simple, Deep}
 
@@ -15,11 +15,11 @@ is_even (suc n) = not (is_even n)
 
 -- o opens an array, a map or a tag, and then has some of its members, not all. The flag: the break may stand after o.
 pub data Opens : List ℕ → Bool → Type 0 where
-  in_array : (n : ℕ) (vs : Items) (c o : List ℕ) → items_count vs < n → AreTexts vs c → IsHeaded 4 n c o → Opens o false
-  in_map : (n : ℕ) (vs : Items) (c o : List ℕ) → items_count vs < 2 * n → AreTexts vs c → IsHeaded 5 n c o → Opens o false
+  in_array : (n : ℕ) (vs : Items) (c o : List ℕ) → items_count vs < n → AreEncodings vs c → IsHeaded 4 n c o → Opens o false
+  in_map : (n : ℕ) (vs : Items) (c o : List ℕ) → items_count vs < 2 * n → AreEncodings vs c → IsHeaded 5 n c o → Opens o false
   in_tag : (t : ℕ) (o : List ℕ) → IsHead 6 t o → Opens o false
-  in_open_array : (vs : Items) (c : List ℕ) → AreTexts vs c → Opens (0x9F ∷ c) true
-  in_open_map : (vs : Items) (c : List ℕ) → AreTexts vs c → Opens (0xBF ∷ c) (is_even (items_count vs))
+  in_open_array : (vs : Items) (c : List ℕ) → AreEncodings vs c → Opens (0x9F ∷ c) true
+  in_open_map : (vs : Items) (c : List ℕ) → AreEncodings vs c → Opens (0xBF ∷ c) (is_even (items_count vs))
 
 -- An item is due after c, inside that many open arrays, maps and tags. The flag: the break may stand there instead.
 pub data Due : List ℕ → ℕ → Bool → Type 0 where
@@ -34,9 +34,9 @@ pub record DueChunk (is_text : Bool) (c : List ℕ) : Type 0 where
   pub flag : Bool
   pub due : Due before level flag
   pub chunks : List (List ℕ)
-  pub texts : List ℕ
-  pub are_chunks : Each (IsDefinite is_text) chunks texts
-  pub parts : c ≡ before ++ ((32 * string_type is_text + 31) ∷ texts)
+  pub encodings : List ℕ
+  pub are_chunks : EachInOrder (IsDefinite is_text) chunks encodings
+  pub parts : c ≡ before ++ ((32 * string_type is_text + 31) ∷ encodings)
 
 -- an item or a chunk is due after c
 abbrev pub IsDue : List ℕ → Type 0
@@ -91,8 +91,8 @@ abbrev pub NoChunk : Bool → List ℕ → Type 0
 NoChunk is_text [] = ⊥
 NoChunk is_text (x ∷ t) = (x ≢ 255) × ((x / 32 ≡ string_type is_text) × (x % 32 ≤ 27) → ⊥)
 
--- a text whose bytes are all there and aren't UTF-8
-pub record IsBadText (t : List ℕ) : Type 0 where
+-- a text string whose bytes are all there and aren't UTF-8
+pub record IsBadTextString (t : List ℕ) : Type 0 where
   pub n : ℕ
   pub rest : List ℕ
   pub headed : IsHeaded 3 n rest t
@@ -115,7 +115,7 @@ abbrev pub EndAt : List ℕ → List ℕ → Type 0
 EndAt c t = IsDue c × Ends t
 
 abbrev pub SyntaxAt : List ℕ → List ℕ → Type 0
-SyntaxAt c t = ((d : ℕ) × (e : Bool) × Due c d e × NoItem e t) ⊎ (((is_text : Bool) × DueChunk is_text c × NoChunk is_text t) ⊎ (IsDue c × IsBadText t))
+SyntaxAt c t = ((d : ℕ) × (e : Bool) × Due c d e × NoItem e t) ⊎ (((is_text : Bool) × DueChunk is_text c × NoChunk is_text t) ⊎ (IsDue c × IsBadTextString t))
 
 abbrev pub SimpleAt : List ℕ → List ℕ → Type 0
 SimpleAt c t = (d : ℕ) × (e : Bool) × Due c d e × IsNotSupported t

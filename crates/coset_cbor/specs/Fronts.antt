@@ -15,9 +15,9 @@ abbrev pub HasNoItem : List ℕ → Type 0
 HasNoItem s = (v : Item) (b rest : List ℕ) → s ≡ b ++ rest → IsItem b v → ⊥
 
 -- the input ends too early
-abbrev pub IsEnd : Error EndOfFile → Type 0
-IsEnd (errors.Io x) = ⊤
-IsEnd (errors.Syntax n) = ⊥
-IsEnd (errors.Semantic n t) = ⊥
-IsEnd errors.RecursionLimitExceeded = ⊥
-IsEnd errors.OutOfMemory = ⊥
+abbrev pub IsEndOfInput : Error EndOfFile → Type 0
+IsEndOfInput (errors.Io x) = ⊤
+IsEndOfInput (errors.Syntax n) = ⊥
+IsEndOfInput (errors.Semantic n t) = ⊥
+IsEndOfInput errors.RecursionLimitExceeded = ⊥
+IsEndOfInput errors.OutOfMemory = ⊥

@@ -1,5 +1,5 @@
--- Which bytes are a text of an item: every spelling that the standard allows (RFC 8949, section 3).
--- A text is a list of bytes; `IsText v b` reads 'b is a text of v'.
+-- Which bytes are an encoding of an item: every one that the standard allows (RFC 8949, section 3).
+-- An encoding is a list of bytes; `IsEncoding v b` reads 'b is an encoding of v'.
 use Rattle.std.specs.Prelude.{◌≡◌, ℕ, ◌+◌, ◌*◌, ◌^◌, ◌<◌, ◌≤◌, ◌⊎◌, ⊤, ℤ, pos, negsuc, Bool, true, false, List, [], ◌∷◌, ◌++◌, length}
 use Rattle.std.specs.Int.{w8, w16, w32, w64, to_be_bytes}
 use Rattle.std.specs.Str.{IsUtf8}
@@ -43,21 +43,21 @@ pub record IsHeaded (m n : ℕ) (s b : List ℕ) : Type 0 where
 abbrev pub IsIndefinite : ℕ → List ℕ → List ℕ → Type 0
 IsIndefinite m s b = b ≡ (32 * m + 31) ∷ (s ++ 255 ∷ [])
 
--- ---- strings (RFC 8949, sections 3.1 and 3.2.3); the flag tells texts, of type 3, from byte strings, of type 2
+-- ---- strings (RFC 8949, sections 3.1 and 3.2.3); the flag tells text strings, of type 3, from byte strings, of type 2
 
 -- b is what R makes of each of these, one after the other
-abbrev pub Each : {A : Type 0} → (A → List ℕ → Type 0) → List A → List ℕ → Type 0
-Each R [] b = b ≡ []
-Each R (x ∷ xs) b = (c : List ℕ) × (d : List ℕ) × R x c × Each R xs d × (b ≡ c ++ d)
+abbrev pub EachInOrder : {A : Type 0} → (A → List ℕ → Type 0) → List A → List ℕ → Type 0
+EachInOrder R [] b = b ≡ []
+EachInOrder R (x ∷ xs) b = (c : List ℕ) × (d : List ℕ) × R x c × EachInOrder R xs d × (b ≡ c ++ d)
 
-abbrev pub joined : List (List ℕ) → List ℕ
-joined [] = []
-joined (x ∷ xs) = x ++ joined xs
+abbrev pub joined_chunks : List (List ℕ) → List ℕ
+joined_chunks [] = []
+joined_chunks (x ∷ xs) = x ++ joined_chunks xs
 
--- a text is UTF-8; a byte string is any bytes
-abbrev pub IsSound : Bool → List ℕ → Type 0
-IsSound false s = ⊤
-IsSound true s = IsUtf8 s
+-- a text string is UTF-8; a byte string is any bytes
+abbrev pub IsStringContent : Bool → List ℕ → Type 0
+IsStringContent false s = ⊤
+IsStringContent true s = IsUtf8 s
 
 abbrev pub string_type : Bool → ℕ
 string_type false = 2
@@ -65,57 +65,58 @@ string_type true = 3
 
 -- b is s behind a head with its length
 abbrev pub IsDefinite : Bool → List ℕ → List ℕ → Type 0
-IsDefinite is_text s b = IsSound is_text s × IsHeaded (string_type is_text) (length s) s b
+IsDefinite is_text s b = IsStringContent is_text s × IsHeaded (string_type is_text) (length s) s b
 
--- b is s behind its length, or s in chunks, each behind its own length (and in a text each UTF-8 by itself), up to the break
-abbrev pub IsStringText : Bool → List ℕ → List ℕ → Type 0
-IsStringText is_text s b = IsDefinite is_text s b ⊎ ((ss : List (List ℕ)) × (c : List ℕ) × (joined ss ≡ s) × Each (IsDefinite is_text) ss c × IsIndefinite (string_type is_text) c b)
+-- b is s behind its length, or s in chunks, each behind its own length (and in a text string each UTF-8 by itself), up
+-- to the break
+abbrev pub IsStringEncoding : Bool → List ℕ → List ℕ → Type 0
+IsStringEncoding is_text s b = IsDefinite is_text s b ⊎ ((ss : List (List ℕ)) × (c : List ℕ) × (joined_chunks ss ≡ s) × EachInOrder (IsDefinite is_text) ss c × IsIndefinite (string_type is_text) c b)
 
 -- ---- items
 
 -- `pos n` is n, of type 0; `negsuc n` is -1 - n, of type 1 (RFC 8949, section 3.1)
-abbrev pub IsIntegerText : ℤ → List ℕ → Type 0
-IsIntegerText (pos n) b = IsHead 0 n b
-IsIntegerText (negsuc n) b = IsHead 1 n b
+abbrev pub IsIntegerEncoding : ℤ → List ℕ → Type 0
+IsIntegerEncoding (pos n) b = IsHead 0 n b
+IsIntegerEncoding (negsuc n) b = IsHead 1 n b
 
 -- a float in its own width (RFC 8949, section 3.3)
-abbrev pub IsFloatText : Bits → List ℕ → Type 0
-IsFloatText (half n) b = (n < 2 ^ 16) × (b ≡ 0xF9 ∷ to_be_bytes w16 n)
-IsFloatText (single n) b = (n < 2 ^ 32) × (b ≡ 0xFA ∷ to_be_bytes w32 n)
-IsFloatText (double n) b = (n < 2 ^ 64) × (b ≡ 0xFB ∷ to_be_bytes w64 n)
+abbrev pub IsFloatEncoding : Bits → List ℕ → Type 0
+IsFloatEncoding (half n) b = (n < 2 ^ 16) × (b ≡ 0xF9 ∷ to_be_bytes w16 n)
+IsFloatEncoding (single n) b = (n < 2 ^ 32) × (b ≡ 0xFA ∷ to_be_bytes w32 n)
+IsFloatEncoding (double n) b = (n < 2 ^ 64) × (b ≡ 0xFB ∷ to_be_bytes w64 n)
 
 -- false and true (RFC 8949, section 3.3)
-abbrev pub IsBoolText : Bool → List ℕ → Type 0
-IsBoolText false b = b ≡ 0xF4 ∷ []
-IsBoolText true b = b ≡ 0xF5 ∷ []
+abbrev pub IsBoolEncoding : Bool → List ℕ → Type 0
+IsBoolEncoding false b = b ≡ 0xF4 ∷ []
+IsBoolEncoding true b = b ≡ 0xF5 ∷ []
 
 -- b is s behind a head of type m with argument n, or s between the opening and the break
 abbrev pub IsHeld : ℕ → ℕ → List ℕ → List ℕ → Type 0
 IsHeld m n s b = IsHeaded m n s b ⊎ IsIndefinite m s b
 
 abbrev mutual
-  -- b is a text of the item
-  pub IsText : Item → List ℕ → Type 0
-  IsText (integer n) b = IsIntegerText n b
-  IsText (bytes s) b = IsStringText false s b
-  IsText (float x) b = IsFloatText x b
-  IsText (text s) b = IsStringText true s b
-  IsText (boolean x) b = IsBoolText x b
-  IsText null b = b ≡ 0xF6 ∷ []
-  IsText (tag t v) b = (c : List ℕ) × IsText v c × IsHeaded 6 t c b
-  IsText (array vs) b = (c : List ℕ) × AreTexts vs c × IsHeld 4 (items_count vs) c b
-  IsText (dict ps) b = (c : List ℕ) × ArePairTexts ps c × IsHeld 5 (pairs_count ps) c b
+  -- b is an encoding of the item
+  pub IsEncoding : Item → List ℕ → Type 0
+  IsEncoding (integer n) b = IsIntegerEncoding n b
+  IsEncoding (bytes s) b = IsStringEncoding false s b
+  IsEncoding (float x) b = IsFloatEncoding x b
+  IsEncoding (text s) b = IsStringEncoding true s b
+  IsEncoding (boolean x) b = IsBoolEncoding x b
+  IsEncoding null b = b ≡ 0xF6 ∷ []
+  IsEncoding (tag t v) b = (c : List ℕ) × IsEncoding v c × IsHeaded 6 t c b
+  IsEncoding (array vs) b = (c : List ℕ) × AreEncodings vs c × IsHeld 4 (items_count vs) c b
+  IsEncoding (dict ps) b = (c : List ℕ) × ArePairEncodings ps c × IsHeld 5 (pairs_count ps) c b
 
-  -- b are texts of these items, one after the other
-  pub AreTexts : Items → List ℕ → Type 0
-  AreTexts no_items b = b ≡ []
-  AreTexts (item v vs) b = (c : List ℕ) × (d : List ℕ) × IsText v c × AreTexts vs d × (b ≡ c ++ d)
+  -- b are encodings of these items, one after the other
+  pub AreEncodings : Items → List ℕ → Type 0
+  AreEncodings no_items b = b ≡ []
+  AreEncodings (item v vs) b = (c : List ℕ) × (d : List ℕ) × IsEncoding v c × AreEncodings vs d × (b ≡ c ++ d)
 
-  -- b are texts of the keys and values, pair by pair
-  pub ArePairTexts : Pairs → List ℕ → Type 0
-  ArePairTexts no_pairs b = b ≡ []
-  ArePairTexts (pair k v ps) b = (c : List ℕ) × (d : List ℕ) × (e : List ℕ) × IsText k c × IsText v d × ArePairTexts ps e × (b ≡ c ++ (d ++ e))
+  -- b are encodings of the keys and values, pair by pair
+  pub ArePairEncodings : Pairs → List ℕ → Type 0
+  ArePairEncodings no_pairs b = b ≡ []
+  ArePairEncodings (pair k v ps) b = (c : List ℕ) × (d : List ℕ) × (e : List ℕ) × IsEncoding k c × IsEncoding v d × ArePairEncodings ps e × (b ≡ c ++ (d ++ e))
 
--- b is a text of v, in which arrays, maps and tags nest at most 256 deep
+-- b is an encoding of v, in which arrays, maps and tags nest at most 256 deep
 abbrev pub IsItem : List ℕ → Item → Type 0
-IsItem b v = IsText v b × (depth v ≤ 256)
+IsItem b v = IsEncoding v b × (depth v ≤ 256)

@@ -1,8 +1,8 @@
 -- Passing over items that are known to stand there. Only contracts of private functions cite it.
 use Rattle.std.specs.Prelude.{◌≡◌, ℕ, zero, suc, ◌+◌, List, ◌++◌, Ok, pos, negsuc}
 use Rattle.coset_value.specs.Item.{Item, integer, bytes, float, text, boolean, null, tag, array, dict}
-use Rattle.coset_cbor.specs.declared.head.Kind.{Kind}
-use Rattle.coset_cbor.specs.declared.head.Kind.TheVariants as kinds
+use Rattle.coset_cbor.specs.declared.head.MajorType.{MajorType}
+use Rattle.coset_cbor.specs.declared.head.MajorType.TheVariants as major_types
 use Rattle.coset_cbor.specs.Grammar.{IsItem}
 use Rattle.coset_cbor.specs.Reading.{item_at}
 
@@ -11,27 +11,27 @@ unfoldable pub IsPast : ℕ → List ℕ → List ℕ → Type 0
 IsPast zero s a = s ≡ a
 IsPast (suc n) s a = (x : Item × List ℕ) × (item_at 256 s ≡ Ok x) × IsPast n x.1 a
 
--- how many items a head of the kind with that number announces
-abbrev pub items_behind : Kind → ℕ → ℕ
-items_behind kinds.Unsigned n = 0
-items_behind kinds.Negative n = 0
-items_behind kinds.Bytes n = 0
-items_behind kinds.Text n = 0
-items_behind kinds.Array n = n
-items_behind kinds.Map n = n + n
-items_behind kinds.Tag n = 1
-items_behind kinds.Simple n = 0
+-- how many items a head of that major type with that number announces
+abbrev pub items_behind : MajorType → ℕ → ℕ
+items_behind major_types.Unsigned n = 0
+items_behind major_types.Negative n = 0
+items_behind major_types.Bytes n = 0
+items_behind major_types.Text n = 0
+items_behind major_types.Array n = n
+items_behind major_types.Map n = n + n
+items_behind major_types.Tag n = 1
+items_behind major_types.Simple n = 0
 
 -- how many bytes of content
-abbrev pub bytes_behind : Kind → ℕ → ℕ
-bytes_behind kinds.Unsigned n = 0
-bytes_behind kinds.Negative n = 0
-bytes_behind kinds.Bytes n = n
-bytes_behind kinds.Text n = n
-bytes_behind kinds.Array n = 0
-bytes_behind kinds.Map n = 0
-bytes_behind kinds.Tag n = 0
-bytes_behind kinds.Simple n = 0
+abbrev pub bytes_behind : MajorType → ℕ → ℕ
+bytes_behind major_types.Unsigned n = 0
+bytes_behind major_types.Negative n = 0
+bytes_behind major_types.Bytes n = n
+bytes_behind major_types.Text n = n
+bytes_behind major_types.Array n = 0
+bytes_behind major_types.Map n = 0
+bytes_behind major_types.Tag n = 0
+bytes_behind major_types.Simple n = 0
 
 -- an item stands at the front
 pub record BeginsItem (b : List ℕ) : Type 0 where
@@ -42,14 +42,14 @@ pub record BeginsItem (b : List ℕ) : Type 0 where
   pub is_item : IsItem front item
 
 -- the kind of head that an item begins with
-abbrev pub item_kind : Item → Kind
-item_kind (integer (pos n)) = kinds.Unsigned
-item_kind (integer (negsuc n)) = kinds.Negative
-item_kind (bytes s) = kinds.Bytes
-item_kind (float x) = kinds.Simple
-item_kind (text s) = kinds.Text
-item_kind (boolean b) = kinds.Simple
-item_kind null = kinds.Simple
-item_kind (tag t v) = kinds.Tag
-item_kind (array vs) = kinds.Array
-item_kind (dict ps) = kinds.Map
+abbrev pub item_major_type : Item → MajorType
+item_major_type (integer (pos n)) = major_types.Unsigned
+item_major_type (integer (negsuc n)) = major_types.Negative
+item_major_type (bytes s) = major_types.Bytes
+item_major_type (float x) = major_types.Simple
+item_major_type (text s) = major_types.Text
+item_major_type (boolean b) = major_types.Simple
+item_major_type null = major_types.Simple
+item_major_type (tag t v) = major_types.Tag
+item_major_type (array vs) = major_types.Array
+item_major_type (dict ps) = major_types.Map

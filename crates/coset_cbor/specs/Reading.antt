@@ -7,15 +7,15 @@ use Rattle.coset_cbor.specs.declared.fault.Fault.{Fault}
 use Rattle.coset_cbor.specs.declared.fault.Fault.TheVariants.{End, Syntax, Simple, Deep}
 use Rattle.coset_cbor.specs.declared.fault.ReadError.{ReadError}
 use Rattle.coset_cbor.specs.declared.fault.ReadError.TheVariants as errors
-use Rattle.coset_cbor.specs.declared.head.Kind.{Kind}
-use Rattle.coset_cbor.specs.declared.head.Kind.TheVariants as kinds
+use Rattle.coset_cbor.specs.declared.head.MajorType.{MajorType}
+use Rattle.coset_cbor.specs.declared.head.MajorType.TheVariants as major_types
 use Rattle.coset_cbor.specs.declared.head.Argument.{Argument}
 use Rattle.coset_cbor.specs.declared.head.Argument.TheVariants as places
 use Rattle.coset_cbor.specs.declared.head.Head.{Head}
 use Rattle.coset_cbor.specs.declared.head.Start.{Start}
 use Rattle.coset_value.specs.Item.{half, single, double, Item, integer, bytes, float, text, boolean, null, tag, array, dict}
 use Rattle.coset_value.specs.View.{items_of, pairs_of}
-use Rattle.coset_cbor.specs.Grammar.{joined}
+use Rattle.coset_cbor.specs.Grammar.{joined_chunks}
 
 infixl 10 ◌>>=◌
 abbrev pub ◌>>=◌ : {A B : Type 0} → Result A Fault → (A → Result B Fault) → Result B Fault
@@ -23,15 +23,15 @@ abbrev pub ◌>>=◌ : {A B : Type 0} → Result A Fault → (A → Result B Fau
 (Err e) >>= f = Err e
 
 -- What a function returned, seen by view, is what reading gives, unless memory ran out.
-abbrev pub Fails : {Y : Type 0} → ReadError → Result Y Fault → Type 0
-Fails errors.Memory read = Unit {0}
-Fails (errors.Fault f) read = read ≡ Err f
+abbrev pub FailsAs : {Y : Type 0} → ReadError → Result Y Fault → Type 0
+FailsAs errors.Memory read = Unit {0}
+FailsAs (errors.Fault f) read = read ≡ Err f
 
 abbrev pub Gives : {X Y : Type 0} → (X → Y) → Result X ReadError → Result Y Fault → Type 0
 Gives view (Ok x) read = read ≡ Ok (view x)
-Gives view (Err e) read = Fails e read
+Gives view (Err e) read = FailsAs e read
 
--- The same of a function that takes no memory.
+-- What a function that takes no memory returned, seen by view, is what reading gives.
 abbrev pub Answers : {X Y : Type 0} → (X → Y) → Result X Fault → Result Y Fault → Type 0
 Answers view (Ok x) read = read ≡ Ok (view x)
 Answers view (Err f) read = read ≡ Err f
@@ -39,8 +39,8 @@ Answers view (Err f) read = read ≡ Err f
 abbrev pub Parse : Type 0 → Type 0
 Parse A = List ℕ → Result (A × List ℕ) Fault
 
-abbrev pub kind_of : ℕ → Kind
-kind_of n = if n == 0 then kinds.Unsigned else (if n == 1 then kinds.Negative else (if n == 2 then kinds.Bytes else (if n == 3 then kinds.Text else (if n == 4 then kinds.Array else (if n == 5 then kinds.Map else (if n == 6 then kinds.Tag else kinds.Simple))))))
+abbrev pub major_type_of : ℕ → MajorType
+major_type_of n = if n == 0 then major_types.Unsigned else (if n == 1 then major_types.Negative else (if n == 2 then major_types.Bytes else (if n == 3 then major_types.Text else (if n == 4 then major_types.Array else (if n == 5 then major_types.Map else (if n == 6 then major_types.Tag else major_types.Simple))))))
 
 -- the number of an argument, where there is one
 abbrev pub number_of : Argument → Option ℕ
@@ -62,7 +62,7 @@ argument_from info n =
     places.Indefinite))))
 
 abbrev pub head_from : Start → Head
-head_from s = record { kind = s.kind; argument = argument_from s.info s.number }
+head_from s = record { major_type = s.major_type; argument = argument_from s.info s.number }
 
 -- a number in k bytes
 abbrev pub argument_at : (ℕ → Argument) → Width → ℕ → Parse Argument
@@ -80,13 +80,13 @@ argument_by info left s =
 
 unfoldable pub head_at : Parse Head
 head_at [] = Err End
-head_at (x ∷ s) = argument_by (x % 32) (suc (length s)) s >>= λ a. Ok (record { kind = kind_of (x / 32); argument = a.0 }, a.1)
+head_at (x ∷ s) = argument_by (x % 32) (suc (length s)) s >>= λ a. Ok (record { major_type = major_type_of (x / 32); argument = a.0 }, a.1)
 
 -- ---- strings
 
-abbrev pub is_sound : Bool → List ℕ → Bool
-is_sound false s = true
-is_sound true s = is_utf8 s
+abbrev pub is_string_content : Bool → List ℕ → Bool
+is_string_content false s = true
+is_string_content true s = is_utf8 s
 
 abbrev pub unless_none : {A : Type 0} → ℕ → Option ℕ → (ℕ → Result A Fault) → Result A Fault
 unless_none left None read = Err (Syntax left)
@@ -94,25 +94,25 @@ unless_none left (Some n) read = read n
 
 -- n bytes, which are text where is_text says so; left is what was left at the head
 unfoldable pub string_at : Bool → ℕ → ℕ → Parse (List ℕ)
-string_at is_text left n s = if nat_lt (length s) n then Err End else (if is_sound is_text (take n s) then Ok (take n s, drop n s) else Err (Syntax left))
+string_at is_text left n s = if nat_lt (length s) n then Err End else (if is_string_content is_text (take n s) then Ok (take n s, drop n s) else Err (Syntax left))
 
-abbrev pub chunk_kind : Bool → Kind → Bool
-chunk_kind is_text kinds.Unsigned = false
-chunk_kind is_text kinds.Negative = false
-chunk_kind is_text kinds.Bytes = not is_text
-chunk_kind is_text kinds.Text = is_text
-chunk_kind is_text kinds.Array = false
-chunk_kind is_text kinds.Map = false
-chunk_kind is_text kinds.Tag = false
-chunk_kind is_text kinds.Simple = false
+abbrev pub begins_chunk : Bool → MajorType → Bool
+begins_chunk is_text major_types.Unsigned = false
+begins_chunk is_text major_types.Negative = false
+begins_chunk is_text major_types.Bytes = not is_text
+begins_chunk is_text major_types.Text = is_text
+begins_chunk is_text major_types.Array = false
+begins_chunk is_text major_types.Map = false
+begins_chunk is_text major_types.Tag = false
+begins_chunk is_text major_types.Simple = false
 
 abbrev pub unless_indefinite : {A : Type 0} → ℕ → Argument → (ℕ → Result A Fault) → Result A Fault
 unless_indefinite left a read = unless_none left (number_of a) read
 
--- a definite string of the kind
+-- a definite string of the type that the flag tells
 unfoldable pub chunk_at : Bool → Parse (List ℕ)
 chunk_at is_text s = head_at s >>= λ h.
-    if chunk_kind is_text h.0.kind then unless_indefinite (length s) h.0.argument (λ n. string_at is_text (length s) n h.1) else Err (Syntax (length s))
+    if begins_chunk is_text h.0.major_type then unless_indefinite (length s) h.0.argument (λ n. string_at is_text (length s) n h.1) else Err (Syntax (length s))
 
 -- ---- one after the other
 
@@ -133,7 +133,7 @@ until_at one (suc turns) s = if begins_break s then Ok ([], drop 1 s) else
     (one s >>= λ x. until_at one turns x.1 >>= λ xs. Ok (x.0 ∷ xs.0, xs.1))
 
 unfoldable pub chunks_at : Bool → Parse (List ℕ)
-chunks_at is_text s = until_at (chunk_at is_text) (length s) s >>= λ x. Ok (joined x.0, x.1)
+chunks_at is_text s = until_at (chunk_at is_text) (length s) s >>= λ x. Ok (joined_chunks x.0, x.1)
 
 abbrev pub any_string_by : Bool → ℕ → Option ℕ → Parse (List ℕ)
 any_string_by is_text left None s = chunks_at is_text s
@@ -174,19 +174,19 @@ nothing = record { items = λ n s. Err Deep; pairs = λ n s. Err Deep; one = λ 
 unfoldable pub things : Parse Item → Inside
 things one = record { items = array_by one; pairs = map_by one; one = one }
 
--- by the kind; left is what was left at the head
-abbrev pub item_by : Inside → ℕ → Argument → Kind → Parse Item
-item_by inside left a kinds.Unsigned s = unless_indefinite left a (λ n. Ok (integer (pos n), s))
-item_by inside left a kinds.Negative s = unless_indefinite left a (λ n. Ok (integer (negsuc n), s))
-item_by inside left a kinds.Bytes s = any_string_by false left (number_of a) s >>= λ x. Ok (bytes x.0, x.1)
-item_by inside left a kinds.Text s = any_string_by true left (number_of a) s >>= λ x. Ok (text x.0, x.1)
-item_by inside left a kinds.Array s = inside.items (number_of a) s >>= λ x. Ok (array (items_of x.0), x.1)
-item_by inside left a kinds.Map s = inside.pairs (number_of a) s >>= λ x. Ok (dict (pairs_of x.0), x.1)
-item_by inside left a kinds.Tag s = unless_indefinite left a (λ n. inside.one s >>= λ x. Ok (tag n x.0, x.1))
-item_by inside left a kinds.Simple s = simple_at left a s
+-- by the major type; left is what was left at the head
+abbrev pub item_by : Inside → ℕ → Argument → MajorType → Parse Item
+item_by inside left a major_types.Unsigned s = unless_indefinite left a (λ n. Ok (integer (pos n), s))
+item_by inside left a major_types.Negative s = unless_indefinite left a (λ n. Ok (integer (negsuc n), s))
+item_by inside left a major_types.Bytes s = any_string_by false left (number_of a) s >>= λ x. Ok (bytes x.0, x.1)
+item_by inside left a major_types.Text s = any_string_by true left (number_of a) s >>= λ x. Ok (text x.0, x.1)
+item_by inside left a major_types.Array s = inside.items (number_of a) s >>= λ x. Ok (array (items_of x.0), x.1)
+item_by inside left a major_types.Map s = inside.pairs (number_of a) s >>= λ x. Ok (dict (pairs_of x.0), x.1)
+item_by inside left a major_types.Tag s = unless_indefinite left a (λ n. inside.one s >>= λ x. Ok (tag n x.0, x.1))
+item_by inside left a major_types.Simple s = simple_at left a s
 
 abbrev pub item_from : Inside → Parse Item
-item_from inside s = head_at s >>= λ h. item_by inside (length s) h.0.argument h.0.kind h.1
+item_from inside s = head_at s >>= λ h. item_by inside (length s) h.0.argument h.0.major_type h.1
 
 -- an item in which arrays, maps and tags nest no deeper than the number
 unfoldable pub item_at : ℕ → Parse Item

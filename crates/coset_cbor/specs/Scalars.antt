@@ -2,8 +2,8 @@
 use Rattle.std.specs.Prelude.{ℕ, ℤ, List, Option, Some, None, Result, Ok, Err, option_map, pos, negsuc}
 use Rattle.coset_value.specs.Item.{Bits, Item, integer, bytes, float, text, boolean, null, tag, array, dict}
 use Rattle.coset_cbor.specs.declared.fault.Fault.{Fault}
-use Rattle.coset_cbor.specs.declared.head.Kind.{Kind}
-use Rattle.coset_cbor.specs.declared.head.Kind.TheVariants as kinds
+use Rattle.coset_cbor.specs.declared.head.MajorType.{MajorType}
+use Rattle.coset_cbor.specs.declared.head.MajorType.TheVariants as major_types
 use Rattle.coset_cbor.specs.declared.head.Argument.{Argument}
 use Rattle.coset_cbor.specs.Reading.{number_of, simple_at}
 
@@ -31,34 +31,34 @@ read_of (Ok x) = Some x.0
 read_of (Err f) = None
 
 -- what a head says of such an item
-abbrev pub scalar_by : ℕ → Argument → Kind → List ℕ → Option Item
-scalar_by left a kinds.Unsigned s = option_map (λ n. integer (pos n)) (number_of a)
-scalar_by left a kinds.Negative s = option_map (λ n. integer (negsuc n)) (number_of a)
-scalar_by left a kinds.Bytes s = None
-scalar_by left a kinds.Text s = None
-scalar_by left a kinds.Array s = None
-scalar_by left a kinds.Map s = None
-scalar_by left a kinds.Tag s = None
-scalar_by left a kinds.Simple s = read_of (simple_at left a s)
+abbrev pub scalar_by : ℕ → Argument → MajorType → List ℕ → Option Item
+scalar_by left a major_types.Unsigned s = option_map (λ n. integer (pos n)) (number_of a)
+scalar_by left a major_types.Negative s = option_map (λ n. integer (negsuc n)) (number_of a)
+scalar_by left a major_types.Bytes s = None
+scalar_by left a major_types.Text s = None
+scalar_by left a major_types.Array s = None
+scalar_by left a major_types.Map s = None
+scalar_by left a major_types.Tag s = None
+scalar_by left a major_types.Simple s = read_of (simple_at left a s)
 
 -- the number of an integer's head
-abbrev pub integer_by : Option ℕ → Kind → Option ℤ
-integer_by o kinds.Unsigned = option_map (λ n. pos n) o
-integer_by o kinds.Negative = option_map (λ n. negsuc n) o
-integer_by o kinds.Bytes = None
-integer_by o kinds.Text = None
-integer_by o kinds.Array = None
-integer_by o kinds.Map = None
-integer_by o kinds.Tag = None
-integer_by o kinds.Simple = None
+abbrev pub integer_by : Option ℕ → MajorType → Option ℤ
+integer_by o major_types.Unsigned = option_map (λ n. pos n) o
+integer_by o major_types.Negative = option_map (λ n. negsuc n) o
+integer_by o major_types.Bytes = None
+integer_by o major_types.Text = None
+integer_by o major_types.Array = None
+integer_by o major_types.Map = None
+integer_by o major_types.Tag = None
+integer_by o major_types.Simple = None
 
 -- the number of a tag's head
-abbrev pub tag_by : Argument → Kind → Option ℕ
-tag_by a kinds.Unsigned = None
-tag_by a kinds.Negative = None
-tag_by a kinds.Bytes = None
-tag_by a kinds.Text = None
-tag_by a kinds.Array = None
-tag_by a kinds.Map = None
-tag_by a kinds.Tag = number_of a
-tag_by a kinds.Simple = None
+abbrev pub tag_by : Argument → MajorType → Option ℕ
+tag_by a major_types.Unsigned = None
+tag_by a major_types.Negative = None
+tag_by a major_types.Bytes = None
+tag_by a major_types.Text = None
+tag_by a major_types.Array = None
+tag_by a major_types.Map = None
+tag_by a major_types.Tag = number_of a
+tag_by a major_types.Simple = None

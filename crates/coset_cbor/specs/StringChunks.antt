@@ -1,9 +1,9 @@
--- The chunks of a string (RFC 8949, section 3.2.3); the flag tells texts from byte strings.
+-- The chunks of a string (RFC 8949, section 3.2.3); the flag tells text strings from byte strings.
 use Rattle.std.specs.Prelude.{◌≡◌, ℕ, suc, ◌≤◌, ◌⊎◌, Bool, true, false, ◌&&◌, List, [], ◌∷◌, ◌++◌, length, Option, Some, Result, Ok, Err}
 use Rattle.coset_value.specs.Item.{Item}
 use Rattle.coset_value.specs.Parts.{as_bytes, as_text}
 use Rattle.coset_cbor.specs.declared.fault.Fault.{Fault}
-use Rattle.coset_cbor.specs.Grammar.{Each, joined, string_type, IsDefinite, IsIndefinite}
+use Rattle.coset_cbor.specs.Grammar.{EachInOrder, joined_chunks, string_type, IsDefinite, IsIndefinite}
 use Rattle.coset_cbor.specs.Reading.{chunk_at, until_at}
 use Rattle.coset_cbor.specs.Whole.{are_bytes, item_of}
 
@@ -12,9 +12,9 @@ use Rattle.coset_cbor.specs.Whole.{are_bytes, item_of}
 abbrev pub HasChunks : Bool → List ℕ → List (List ℕ) → Type 0
 HasChunks is_text b ss =
     ((s : List ℕ) × (ss ≡ s ∷ []) × IsDefinite is_text s b)
-    ⊎ ((c : List ℕ) × Each (IsDefinite is_text) ss c × IsIndefinite (string_type is_text) c b)
+    ⊎ ((c : List ℕ) × EachInOrder (IsDefinite is_text) ss c × IsIndefinite (string_type is_text) c b)
 
--- the content of a string of the kind
+-- the content of a string of the type that the flag tells
 abbrev pub as_string : Bool → Item → Option (List ℕ)
 as_string false v = as_bytes v
 as_string true v = as_text v
@@ -46,4 +46,4 @@ pub record AreChunksOf (is_text : Bool) (b c : List ℕ) : Type 0 where
   pub chunks : are_chunks is_text c ≡ true
   pub counted : length (chunk_contents is_text c) ≤ length c
   pub contents : HasChunks is_text b (chunk_contents is_text c)
-  pub whole : as_string is_text (item_of b) ≡ Some (joined (chunk_contents is_text c))
+  pub whole : as_string is_text (item_of b) ≡ Some (joined_chunks (chunk_contents is_text c))

@@ -1,13 +1,13 @@
 //! The chunks of a lent string (RFC 8949, section 3.2.3).
 
 ghost use Rattle.std.specs.Prelude.{◌≡◌, ◌≤◌, true, false, length, None, MatchOption};
-ghost use Rattle.coset_cbor.specs.Grammar.{joined};
+ghost use Rattle.coset_cbor.specs.Grammar.{joined_chunks};
 ghost use Rattle.coset_cbor.specs.Whole.{is_one_item, item_of};
 ghost use Rattle.coset_cbor.specs.StringChunks.{HasChunks, as_string, are_chunks, chunk_contents, AreChunksOf};
 
+use crate::check::begins_chunk;
 use crate::head::head_of;
 use crate::pull::Pull;
-use crate::skim::begins_chunk;
 use crate::string::{byte_chunk, text_chunk};
 
 /// The contents of the chunks of a lent byte string, in order (RFC 8949, section 3.2.3). It takes no memory.
@@ -18,7 +18,8 @@ pub struct ByteChunks<'a> {
     ghost counted: { length (chunk_contents false bytes.now) ≤ length bytes.now },
 }
 
-/// The same of a text: each chunk is UTF-8 by itself.
+/// The contents of the chunks of a lent text string, in order: each is UTF-8 by itself (RFC 8949, section 3.2.3). It
+/// takes no memory.
 #[derive(Clone, Copy, Debug)]
 pub struct TextChunks<'a> {
     bytes: &'a [u8],
@@ -26,8 +27,8 @@ pub struct TextChunks<'a> {
     ghost counted: { length (chunk_contents true bytes.now) ≤ length bytes.now },
 }
 
-/// The chunks of the string that these bytes are, if they are one of the kind. Where its length is announced, the
-/// string is itself a chunk.
+/// The chunks of the string that these bytes are, if they are one of the type that the flag tells. Where its length is
+/// announced, the string is itself a chunk.
 fn chunks_of(is_text: bool, bytes: &[u8]) -> Option<&[u8]>
     requires { is_one_item bytes.now ≡ true }
     ensures { MatchOption result (as_string is_text (item_of bytes.now) ≡ None)
@@ -36,7 +37,7 @@ fn chunks_of(is_text: bool, bytes: &[u8]) -> Option<&[u8]>
     let Ok((head, rest)) = head_of(bytes) else {
         return None;
     };
-    if !begins_chunk(is_text, head.kind) {
+    if !begins_chunk(is_text, head.major_type) {
         return None;
     }
     match head.argument.number() {
@@ -58,17 +59,17 @@ impl<'a> Pull<'a> {
     /// The chunks of a byte string; `None` of any other item. A string whose length is announced is one chunk, also
     /// an empty one.
     pub fn bytes_chunks(&self) -> Option<ByteChunks<'a>>
-        ensures whole { option_map (λ c. joined (chunks_left c)) result ≡ as_bytes (pull_item self.now) }
+        ensures whole { option_map (λ c. joined_chunks (chunks_left c)) result ≡ as_bytes (pull_item self.now) }
         ensures chunks { IfSome result (λ c. HasChunks false (pull_bytes self.now) (chunks_left c)) }
     {
         let bytes = chunks_of(false, self.bytes)?;
         Some(ByteChunks { bytes })
     }
 
-    /// The chunks of a text; `None` of any other item. A text whose length is announced is one chunk, also an empty
-    /// one.
+    /// The chunks of a text string; `None` of any other item. A text string whose length is announced is one chunk,
+    /// also an empty one.
     pub fn text_chunks(&self) -> Option<TextChunks<'a>>
-        ensures whole { option_map (λ c. joined (text_chunks_left c)) result ≡ as_text (pull_item self.now) }
+        ensures whole { option_map (λ c. joined_chunks (text_chunks_left c)) result ≡ as_text (pull_item self.now) }
         ensures chunks { IfSome result (λ c. HasChunks true (pull_bytes self.now) (text_chunks_left c)) }
     {
         let bytes = chunks_of(true, self.bytes)?;

@@ -6,11 +6,11 @@ ghost use Rattle.coset_value.specs.Item.{Item, Items, no_items};
 ghost use Rattle.coset_value.specs.Parts.{as_array, as_bytes};
 ghost use Rattle.coset_cbor.specs.Cursors.{left, map_items, Stands, AreWithin, Doubles, Enters, Nexts};
 ghost use Rattle.coset_cbor.specs.Grammar.{IsItem};
-ghost use Rattle.coset_cbor.specs.Jumps.{item_kind};
+ghost use Rattle.coset_cbor.specs.Jumps.{item_major_type};
 ghost use Rattle.coset_cbor.specs.Pulls.{pull_item};
 
 use crate::de::{EndOfFile, Error};
-use crate::head::{Kind, start_of};
+use crate::head::{MajorType, start_of};
 use crate::jump::jump;
 use crate::pull::Pull;
 use crate::string::after_break;
@@ -58,8 +58,8 @@ fn array_item(bytes: &[u8]) -> Option<(Places, &[u8])>
     ensures enters { (v : Item) (a : List ℕ) → Stands v bytes.now a → MatchOption result (as_array v ≡ None) (λ x. Enters as_array v x.1.now a x.0) }
 {
     match start_of(bytes) {
-        Ok((start, rest)) => match start.kind {
-            Kind::Array => {
+        Ok((start, rest)) => match start.major_type {
+            MajorType::Array => {
                 let left = start.number();
                 Some((Places { left }, rest))
             }
@@ -70,11 +70,11 @@ fn array_item(bytes: &[u8]) -> Option<(Places, &[u8])>
 }
 
 /// The major type of the item that is known to stand at the front.
-fn kind_of(bytes: &[u8]) -> Option<Kind>
-    ensures { (v : Item) (a : List ℕ) → Stands v bytes.now a → result ≡ Some (item_kind v) }
+fn major_type_of(bytes: &[u8]) -> Option<MajorType>
+    ensures { (v : Item) (a : List ℕ) → Stands v bytes.now a → result ≡ Some (item_major_type v) }
 {
     match start_of(bytes) {
-        Ok((start, _)) => Some(start.kind),
+        Ok((start, _)) => Some(start.major_type),
         Err(_) => None,
     }
 }
@@ -95,8 +95,8 @@ fn map_item(bytes: &[u8]) -> Option<(Places, &[u8])>
     ensures enters { (v : Item) (a : List ℕ) → Stands v bytes.now a → MatchOption result (map_items v ≡ None) (λ x. Enters map_items v x.1.now a x.0) }
 {
     match start_of(bytes) {
-        Ok((start, rest)) => match start.kind {
-            Kind::Map => {
+        Ok((start, rest)) => match start.major_type {
+            MajorType::Map => {
                 let left = doubled(start.number());
                 Some((Places { left }, rest))
             }
@@ -119,14 +119,14 @@ impl<'a> Cursor<'a> {
     pub fn is_bytes(&self) -> bool
         ensures { (v : Item) (a : List ℕ) → Stands v (left self.now) a → result ≡ is_some (as_bytes v) }
     {
-        kind_of(self.rest) == Some(Kind::Bytes)
+        major_type_of(self.rest) == Some(MajorType::Bytes)
     }
 
     /// Whether the item is an array, by its head alone.
     pub fn is_array(&self) -> bool
         ensures { (v : Item) (a : List ℕ) → Stands v (left self.now) a → result ≡ is_some (as_array v) }
     {
-        kind_of(self.rest) == Some(Kind::Array)
+        major_type_of(self.rest) == Some(MajorType::Array)
     }
 
     /// Goes there, if that is farther on.

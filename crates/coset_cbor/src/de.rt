@@ -3,18 +3,19 @@
 ghost use Rattle.std.specs.Prelude.{◌≡◌, ◌≤◌, ◌+◌, ◌++◌, List, ℕ, take, length, IfOk, IfErr};
 ghost use Rattle.coset_value.specs.Item.{Item};
 ghost use Rattle.coset_value.specs.View.{view};
-ghost use Rattle.coset_cbor.specs.Grammar.{IsItem, IsText};
+ghost use Rattle.coset_cbor.specs.Grammar.{IsItem, IsEncoding};
 ghost use Rattle.coset_cbor.specs.Cost.{IsCost};
 ghost use Rattle.coset_cbor.specs.Faults.{Stands};
 ghost use Rattle.coset_cbor.specs.Refused.{IsMemory, StandsIn};
 
+use crate::check::item as check_item;
 pub use crate::chunks::{ByteChunks, TextChunks};
 use crate::fault::{Fault, ReadError};
 pub use crate::members::{Items, Pairs};
 use crate::memory::OutOfMemory;
 pub use crate::pull::Pull;
+use crate::read;
 pub use crate::steps::Steps;
-use crate::{read, skim};
 use coset_value::Value;
 use std::alloc::Global;
 use std::fmt;
@@ -32,7 +33,7 @@ pub struct EndOfFile;
 pub enum Error<T> {
     /// The input ends too early, or a head announces more than is left.
     Io(T),
-    /// The bytes are not well-formed (RFC 8949, section 5.3), or a text is not UTF-8.
+    /// The bytes are not well-formed (RFC 8949, section 5.3), or a text string is not UTF-8.
     Syntax(usize),
     /// The item is well-formed and has no place in `Value`: a simple value other than false, true and null.
     Semantic(Option<usize>, &'static str),
@@ -77,7 +78,7 @@ fn error_of(fault: Fault, len: usize) -> Error<EndOfFile>
 /// memory, and goes over the bytes once; those of a byte string it passes over.
 ///
 /// The steps go up by what the item costs: one for each head of an item or a chunk and each closing break, and one
-/// for each byte of the content of a text. Refused or not, they go up by no more than there are bytes.
+/// for each byte of the content of a text string. Refused or not, they go up by no more than there are bytes.
 ///
 /// # Errors
 /// Bytes are refused only where no front of them is an item within 256 levels, and the error is a fault that stands
@@ -94,7 +95,7 @@ pub fn check<L: Ledger>(bytes: &[u8], steps: &mut Steps<L>) -> Result<usize, Err
     ensures stands { IfErr result (λ e. StandsIn bytes.now e) }
     ensures bound { steps.new ≤ steps.old + length bytes.now }
 {
-    match skim::item(bytes, MAX_DEPTH, steps) {
+    match check_item(bytes, MAX_DEPTH, steps) {
         Ok(rest) => Ok(bytes.len() - rest.len()),
         Err(fault) => Err(error_of(fault, bytes.len())),
     }
@@ -132,10 +133,10 @@ pub fn read_value(alloc: Global, bytes: &[u8]) -> Result<(Value, usize), Error<E
 /// The value of the item that the bytes are, however deep it is: for bytes that were written, and not received.
 ///
 /// # Errors
-/// Want of memory alone.
+/// `OutOfMemory` alone.
 pub fn decode_encoded(alloc: Global, bytes: &[u8]) -> Result<Value, OutOfMemory>
-    requires { (v : Item) × IsText v bytes.now }
-    ensures { IfOk result (λ x. IsText (view x) bytes.now) }
+    requires { (v : Item) × IsEncoding v bytes.now }
+    ensures { IfOk result (λ x. IsEncoding (view x) bytes.now) }
 {
     match read::item(alloc, bytes, bytes.len()) {
         Ok((value, _)) => Ok(value),

@@ -15,7 +15,7 @@ pub(crate) enum Fault {
     Deep,
 }
 
-/// The input ends, apart: few bytes do.
+/// The input ends, by a function apart: few bytes do.
 #[cold]
 #[inline(never)]
 pub(crate) fn end() -> Fault

@@ -2,13 +2,13 @@
 
 ghost use Rattle.std.specs.Prelude.{◌≡◌, ◌<◌, ◌/◌, length};
 ghost use Rattle.std.specs.Int.{w8, w16, w32, w64};
-ghost use Rattle.coset_cbor.specs.Reading.{Answers, kind_of, head_at, argument_at, argument_by, argument_from, head_from, number_of};
+ghost use Rattle.coset_cbor.specs.Reading.{Answers, major_type_of, head_at, argument_at, argument_by, argument_from, head_from, number_of};
 
 use crate::fault::{Fault, end, syntax};
 
 /// The eight major types.
 #[derive(Clone, Copy, Debug, PartialEq, Eq)]
-pub(crate) enum Kind {
+pub(crate) enum MajorType {
     Unsigned,
     Negative,
     Bytes,
@@ -32,14 +32,14 @@ pub(crate) enum Argument {
 
 #[derive(Clone, Copy, Debug)]
 pub(crate) struct Head {
-    pub(crate) kind: Kind,
+    pub(crate) major_type: MajorType,
     pub(crate) argument: Argument,
 }
 
 /// A head whose argument is a number beside the low five bits of the first byte, which say where it stands.
 #[derive(Clone, Copy, Debug)]
 pub(crate) struct Start {
-    pub(crate) kind: Kind,
+    pub(crate) major_type: MajorType,
     pub(crate) info: u8,
     pub(crate) number: u64,
 }
@@ -74,20 +74,20 @@ impl Argument {
     }
 }
 
-impl Kind {
+impl MajorType {
     #[inline(always)]
-    fn of(n: u8) -> Kind
-        ensures { result ≡ kind_of n }
+    fn of(n: u8) -> MajorType
+        ensures { result ≡ major_type_of n }
     {
         match n {
-            0 => Kind::Unsigned,
-            1 => Kind::Negative,
-            2 => Kind::Bytes,
-            3 => Kind::Text,
-            4 => Kind::Array,
-            5 => Kind::Map,
-            6 => Kind::Tag,
-            _ => Kind::Simple,
+            0 => MajorType::Unsigned,
+            1 => MajorType::Negative,
+            2 => MajorType::Bytes,
+            3 => MajorType::Text,
+            4 => MajorType::Array,
+            5 => MajorType::Map,
+            6 => MajorType::Tag,
+            _ => MajorType::Simple,
         }
     }
 }
@@ -205,9 +205,15 @@ pub(crate) fn head_of(bytes: &[u8]) -> Result<(Head, &[u8]), Fault>
     let Some((first, rest)) = bytes.split_first() else {
         return Err(end());
     };
-    let kind = Kind::of(*first / 32);
+    let major_type = MajorType::of(*first / 32);
     let (argument, rest) = argument_of(*first % 32, bytes.len(), rest)?;
-    Ok((Head { kind, argument }, rest))
+    Ok((
+        Head {
+            major_type,
+            argument,
+        },
+        rest,
+    ))
 }
 
 /// The head at the front, its argument as a number, and the bytes after it.
@@ -219,8 +225,15 @@ pub(crate) fn start_of(bytes: &[u8]) -> Result<(Start, &[u8]), Fault>
     let Some((first, rest)) = bytes.split_first() else {
         return Err(end());
     };
-    let kind = Kind::of(*first / 32);
+    let major_type = MajorType::of(*first / 32);
     let info = *first % 32;
     let (number, rest) = number_at(info, bytes.len(), rest)?;
-    Ok((Start { kind, info, number }, rest))
+    Ok((
+        Start {
+            major_type,
+            info,
+            number,
+        },
+        rest,
+    ))
 }

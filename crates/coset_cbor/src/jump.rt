@@ -1,33 +1,33 @@
-//! Passing over an item that is known to stand at the front: a text is not tested for UTF-8 again, and what nests
-//! needs no depth.
+//! Passing over an item that is known to stand at the front: a text string is not tested for UTF-8 again, and what
+//! nests needs no depth.
 
 ghost use Rattle.std.specs.Prelude.{◌≡◌, IfSome, List, ℕ};
 ghost use Rattle.coset_value.specs.Item.{Item};
 ghost use Rattle.coset_cbor.specs.Reading.{item_at};
 ghost use Rattle.coset_cbor.specs.Jumps.{IsPast, items_behind, bytes_behind};
 
-use crate::head::{Kind, start_of};
+use crate::head::{MajorType, start_of};
 
-/// How many items a head of the kind with that number announces; `None` where they are too many to count.
+/// How many items a head of that major type with that number announces; `None` where they are too many to count.
 #[inline(always)]
-fn items_behind(kind: Kind, number: u64) -> Option<u64>
-    ensures { IfSome result (λ n. n ≡ items_behind kind number) }
+fn items_behind(major_type: MajorType, number: u64) -> Option<u64>
+    ensures { IfSome result (λ n. n ≡ items_behind major_type number) }
 {
-    match kind {
-        Kind::Array => Some(number),
-        Kind::Map => number.checked_add(number),
-        Kind::Tag => Some(1),
+    match major_type {
+        MajorType::Array => Some(number),
+        MajorType::Map => number.checked_add(number),
+        MajorType::Tag => Some(1),
         _ => Some(0),
     }
 }
 
-/// How many bytes of content a head of the kind with that number announces.
+/// How many bytes of content a head of that major type with that number announces.
 #[inline(always)]
-fn bytes_behind(kind: Kind, number: u64) -> u64
-    ensures { result ≡ bytes_behind kind number }
+fn bytes_behind(major_type: MajorType, number: u64) -> u64
+    ensures { result ≡ bytes_behind major_type number }
 {
-    match kind {
-        Kind::Bytes | Kind::Text => number,
+    match major_type {
+        MajorType::Bytes | MajorType::Text => number,
         _ => 0,
     }
 }
@@ -42,8 +42,8 @@ fn behind(bytes: &[u8]) -> Option<(u64, &[u8])>
         return None;
     };
     let number = start.number()?;
-    let items = items_behind(start.kind, number)?;
-    let content = bytes_behind(start.kind, number);
+    let items = items_behind(start.major_type, number)?;
+    let content = bytes_behind(start.major_type, number);
     if (rest.len() as u64) < content {
         return None;
     }

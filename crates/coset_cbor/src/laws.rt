@@ -3,51 +3,51 @@
 ghost use Rattle.std.specs.Prelude.{◌≡◌, ◌<◌, ℕ, ◌+◌, List, [], ◌∷◌, ◌++◌, replicate};
 ghost use Rattle.coset_value.specs.Item.{Item};
 ghost use Rattle.coset_value.specs.Range.{IsInRange};
-ghost use Rattle.coset_cbor.specs.Grammar.{IsText, IsItem};
+ghost use Rattle.coset_cbor.specs.Grammar.{IsEncoding, IsItem};
 ghost use Rattle.coset_cbor.specs.Cost.{IsCost};
-ghost use Rattle.coset_cbor.specs.Fronts.{AreBytes, HasNoItem, IsEnd};
+ghost use Rattle.coset_cbor.specs.Fronts.{AreBytes, HasNoItem, IsEndOfInput};
 ghost use Rattle.coset_cbor.specs.Refused.{IsMemory, StandsIn};
 ghost use Rattle.coset_cbor.specs.declared.de.EndOfFile.{EndOfFile};
 ghost use Rattle.coset_cbor.specs.declared.de.Error.{Error};
-ghost use Rattle.coset_cbor.specs.Least.{short};
-ghost use Rattle.coset_cbor.specs.Shortest.{IsShort};
+ghost use Rattle.coset_cbor.specs.Least.{least_encoding};
+ghost use Rattle.coset_cbor.specs.Shortest.{IsShortest};
 
-/// Bytes are the text of at most one item, and no text is a proper front of another.
+/// Bytes are the encoding of at most one item, and no encoding is a proper front of another.
 pub fn one_item()
-    ensures { (v w : Item) (b c x y : List ℕ) → IsText v b → IsText w c → b ++ x ≡ c ++ y
+    ensures { (v w : Item) (b c x y : List ℕ) → IsEncoding v b → IsEncoding w c → b ++ x ≡ c ++ y
         → (v ≡ w) × (b ≡ c) }
 {}
 
-/// Every item within CBOR's ranges has exactly one shortest text.
+/// Every item within CBOR's ranges has exactly one shortest encoding.
 pub fn one_shortest()
-    ensures { (v : Item) → IsInRange v → (b : List ℕ) × IsShort b v × ((c : List ℕ) → IsShort c v → c ≡ b) }
+    ensures { (v : Item) → IsInRange v → (b : List ℕ) × IsShortest b v × ((c : List ℕ) → IsShortest c v → c ≡ b) }
 {}
 
-/// The shortest text of an item within CBOR's ranges is the one in which every head has the least width that holds its
-/// argument.
+/// The shortest encoding of an item within CBOR's ranges is the one in which every head has the least width that holds
+/// its argument.
 pub fn least_heads_are_shortest()
-    ensures { (v : Item) (b : List ℕ) → IsInRange v → IsShort b v → b ≡ short v }
+    ensures { (v : Item) (b : List ℕ) → IsInRange v → IsShortest b v → b ≡ least_encoding v }
 {}
 
-/// The text of least heads is the shortest text of an item within CBOR's ranges. So an array's or map's shortest text is
-/// its head of least width, and then the shortest texts of what it holds.
-pub fn short_is_shortest()
-    ensures { (v : Item) → IsInRange v → IsShort (short v) v }
+/// The encoding of least heads is the shortest encoding of an item within CBOR's ranges. So an array's or map's
+/// shortest encoding is its head of least width, and then the shortest encodings of what it holds.
+pub fn least_encoding_is_shortest()
+    ensures { (v : Item) → IsInRange v → IsShortest (least_encoding v) v }
 {}
 
-/// An item with a shortest text lies within CBOR's ranges.
+/// An item with a shortest encoding lies within CBOR's ranges.
 pub fn shortest_is_in_range()
-    ensures { (v : Item) (b : List ℕ) → IsShort b v → IsInRange v }
+    ensures { (v : Item) (b : List ℕ) → IsShortest b v → IsInRange v }
 {}
 
-/// The shortest text of an item is a text of it.
-pub fn shortest_is_text()
-    ensures { (v : Item) (b : List ℕ) → IsShort b v → IsText v b }
+/// The shortest encoding of an item is an encoding of it.
+pub fn shortest_is_encoding()
+    ensures { (v : Item) (b : List ℕ) → IsShortest b v → IsEncoding v b }
 {}
 
-/// A text has exactly one cost.
+/// An encoding has exactly one cost.
 pub fn one_cost()
-    ensures { (v : Item) (b : List ℕ) → IsText v b
+    ensures { (v : Item) (b : List ℕ) → IsEncoding v b
         → (k : ℕ) × IsCost v b k × ((j : ℕ) → IsCost v b j → j ≡ k) }
 {}
 
@@ -63,8 +63,8 @@ pub fn no_item_at_a_fault()
     ensures { (s : List ℕ) (e : Error EndOfFile) → AreBytes s → (IsMemory e → ⊥) → StandsIn s e → HasNoItem s }
 {}
 
-/// In a front of an item, of the faults other than want of memory only the end of the input stands.
+/// In a front of an item, of the faults other than out of memory only the end of the input stands.
 pub fn only_the_end_in_a_front()
     ensures { (v : Item) (b s more : List ℕ) (e : Error EndOfFile) → AreBytes b → IsItem b v → b ≡ s ++ more
-        → (IsMemory e → ⊥) → StandsIn s e → IsEnd e }
+        → (IsMemory e → ⊥) → StandsIn s e → IsEndOfInput e }
 {}

@@ -1,6 +1,7 @@
 //! CBOR: values read from bytes and written to them (RFC 8949).
 #![tactic(auto)]
 
+mod check;
 mod chunks;
 pub mod cursor;
 pub mod de;
@@ -8,13 +9,11 @@ mod fault;
 mod head;
 mod jump;
 pub mod laws;
-mod lent;
 mod members;
 mod memory;
 mod pull;
 mod read;
 pub mod ser;
-mod skim;
 mod steps;
 mod string;
 pub mod value;

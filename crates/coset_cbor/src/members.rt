@@ -10,7 +10,7 @@ ghost use Rattle.coset_cbor.specs.Pulls.{pull_bytes, pull_item};
 ghost use Rattle.coset_cbor.specs.Jumps.{BeginsItem};
 ghost use Rattle.coset_cbor.specs.Between.{array_around, map_around, IsContent};
 
-use crate::head::{Kind, head_of};
+use crate::head::{MajorType, head_of};
 use crate::jump::jump;
 use crate::pull::Pull;
 
@@ -39,13 +39,13 @@ fn without_break(number: Option<u64>, bytes: &[u8]) -> &[u8]
     }
 }
 
-/// The bytes of the members, where the head is of that kind.
-fn content(kind: Kind, bytes: &[u8]) -> Option<&[u8]>
-    ensures { MatchOption result ((h : Head × List ℕ) → head_at bytes.now ≡ Ok h → h.0.kind ≢ kind)
-        (λ s. IsContent kind bytes.now s.now) }
+/// The bytes of the members, where the head is of that major type.
+fn content(major_type: MajorType, bytes: &[u8]) -> Option<&[u8]>
+    ensures { MatchOption result ((h : Head × List ℕ) → head_at bytes.now ≡ Ok h → h.0.major_type ≢ major_type)
+        (λ s. IsContent major_type bytes.now s.now) }
 {
     match head_of(bytes) {
-        Ok((head, rest)) if head.kind == kind => {
+        Ok((head, rest)) if head.major_type == major_type => {
             Some(without_break(head.argument.number(), rest))
         }
         _ => None,
@@ -80,7 +80,7 @@ impl<'a> Pull<'a> {
     pub fn items(&self) -> Option<Items<'a>>
         ensures { option_map items_left result ≡ as_array (pull_item self.now) }
     {
-        let rest = content(Kind::Array, self.bytes)?;
+        let rest = content(MajorType::Array, self.bytes)?;
         Some(Items { rest })
     }
 
@@ -89,7 +89,7 @@ impl<'a> Pull<'a> {
     pub fn pairs(&self) -> Option<Pairs<'a>>
         ensures { option_map pairs_left result ≡ as_map (pull_item self.now) }
     {
-        let rest = content(Kind::Map, self.bytes)?;
+        let rest = content(MajorType::Map, self.bytes)?;
         Some(Pairs { rest })
     }
 }

@@ -1,4 +1,4 @@
-//! Want of memory.
+//! Out of memory.
 
 /// A request for memory was refused.
 #[derive(Clone, Copy, Debug, PartialEq, Eq)]

@@ -1,11 +1,239 @@
-//! One checked item, lent.
+//! One checked item, lent, and how it is taken apart.
 
-ghost use Rattle.std.specs.Prelude.{◌≡◌, true};
+ghost use Rattle.std.specs.Prelude.{◌≡◌, ◌≤◌, ◌++◌, ◌+◌, ◌↔◌, List, ℕ, true, take, length, IfOk, IfErr, IsTrue, option_map, string_bytes};
+ghost use Rattle.coset_value.specs.Item.{Item, null};
+ghost use Rattle.coset_value.specs.Parts.{as_integer, as_bytes, as_text, as_bool, as_tag};
+ghost use Rattle.coset_value.specs.View.{view, bits_of};
+ghost use Rattle.coset_cbor.specs.Grammar.{IsItem};
+ghost use Rattle.coset_cbor.specs.Reading.{argument_from, number_of};
+ghost use Rattle.coset_cbor.specs.Refused.{IsMemory, StandsIn};
+ghost use Rattle.coset_cbor.specs.Scalars.{as_scalar, as_float, scalar_by, integer_by, tag_by};
 ghost use Rattle.coset_cbor.specs.Whole.{is_one_item};
+
+use crate::check::begins_chunk;
+use crate::de::{EndOfFile, Error, MAX_DEPTH, check};
+use crate::fault::ReadError;
+use crate::head::{Head, MajorType, Start, head_of, start_of};
+use crate::memory::OutOfMemory;
+use crate::read;
+use crate::steps::Steps;
+use crate::string::{byte_string, text_string};
+use coset_value::{Float, Integer, Value};
+use std::alloc::Global;
+use std::marker::Brand;
+use std::sync::ledger::{Blank, Ledger};
 
 /// One item that was checked, as the bytes that spell it: a part of the input.
 #[derive(Clone, Copy, Debug)]
 pub struct Pull<'a> {
     pub(crate) bytes: &'a [u8],
     ghost checked: { is_one_item bytes.now ≡ true },
+}
+
+/// The length of the item at the front, by a check whose steps nobody counts.
+fn front_length<L: Ledger>(bytes: &[u8], blank: Blank) -> Result<usize, Error<EndOfFile>>
+    requires name { blank.name ≡ L.name }
+    requires parts { blank.parts ≡ L.parts }
+    requires some { L.parts ≡ 1 }
+    ensures length { IfOk result (λ n. n ≤ length bytes.now) }
+    ensures found { IfOk result (λ n. (v : Item) × IsItem (take n bytes.now) v) }
+    ensures refused { IfErr result (λ e. (v : Item) (b rest : List ℕ) → bytes.now ≡ b ++ rest → IsItem b v → ⊥) }
+    ensures memory { IfErr result (λ e. IsMemory e → ⊥) }
+    ensures stands { IfErr result (λ e. StandsIn bytes.now e) }
+{
+    let mut steps: Steps<L> = Steps::new(blank);
+    check(bytes, &mut steps)
+}
+
+/// The value of an integer, a float or a simple value, as its head says.
+fn scalar_of(head: Head, left: usize, bytes: &[u8]) -> Option<Value>
+    ensures { option_map view result ≡ scalar_by left head.argument head.major_type bytes.now }
+{
+    match head.major_type {
+        MajorType::Unsigned => match head.argument.number() {
+            Some(n) => Some(Value::Integer(Integer::from(n))),
+            None => None,
+        },
+        MajorType::Negative => match head.argument.number() {
+            Some(n) => Some(Value::Integer(read::negative_integer(n))),
+            None => None,
+        },
+        MajorType::Simple => match read::simple_value(left, head.argument, bytes) {
+            Ok((value, _)) => Some(value),
+            Err(_) => None,
+        },
+        _ => None,
+    }
+}
+
+/// The number of an integer, as its head says.
+fn integer_of(start: Start) -> Option<Integer>
+    ensures { result ≡ integer_by (number_of (argument_from start.info start.number)) start.major_type }
+{
+    match start.major_type {
+        MajorType::Unsigned => match start.number() {
+            Some(n) => Some(Integer::from(n)),
+            None => None,
+        },
+        MajorType::Negative => match start.number() {
+            Some(n) => Some(read::negative_integer(n)),
+            None => None,
+        },
+        _ => None,
+    }
+}
+
+/// The number of a tag's head.
+fn tag_number(head: Head) -> Option<u64>
+    ensures { result ≡ tag_by head.argument head.major_type }
+{
+    match head.major_type {
+        MajorType::Tag => head.argument.number(),
+        _ => None,
+    }
+}
+
+impl<'a> Pull<'a> {
+    ghost use Rattle.coset_cbor.specs.Pulls.{pull_bytes, pull_item};
+
+    /// Checks that an item stands at the front of the bytes, and lends it, with the bytes after it. It takes no
+    /// memory.
+    ///
+    /// # Errors
+    /// The same as [`check`].
+    pub fn new(bytes: &'a [u8]) -> Result<(Pull<'a>, &'a [u8]), Error<EndOfFile>>
+        ensures found { IfOk result (λ x. (bytes.now ≡ pull_bytes x.0 ++ x.1.now) × IsItem (pull_bytes x.0) (pull_item x.0)) }
+        ensures refused { IfErr result (λ e. (v : Item) (b rest : List ℕ) → bytes.now ≡ b ++ rest → IsItem b v → ⊥) }
+        ensures memory { IfErr result (λ e. IsMemory e → ⊥) }
+        ensures stands { IfErr result (λ e. StandsIn bytes.now e) }
+    {
+        let length = front_length::<Brand>(bytes, Blank::new(1))?;
+        let (front, rest) = bytes.split_at(length);
+        Ok((Pull { bytes: front }, rest))
+    }
+
+    /// The bytes that spell the item: a part of the input.
+    pub fn slice(&self) -> &'a [u8]
+        ensures bytes { result.now ≡ pull_bytes self.now }
+        ensures item { IsItem result.now (pull_item self.now) }
+    {
+        self.bytes
+    }
+
+    /// The item as a value, where it is an integer, a float or a simple value, which hold no other bytes.
+    fn scalar(&self) -> Option<Value>
+        ensures { option_map view result ≡ as_scalar (pull_item self.now) }
+    {
+        let Ok((head, rest)) = head_of(self.bytes) else {
+            return None;
+        };
+        scalar_of(head, self.bytes.len(), rest)
+    }
+
+    /// The number of an integer, and `None` of any other item (RFC 8949, section 3.1).
+    pub fn integer(&self) -> Option<Integer>
+        ensures { result ≡ as_integer (pull_item self.now) }
+    {
+        let Ok((start, _)) = start_of(self.bytes) else {
+            return None;
+        };
+        integer_of(start)
+    }
+
+    /// Which of `false` and `true` this is, and `None` of any other item (RFC 8949, section 3.3).
+    pub fn bool(&self) -> Option<bool>
+        ensures { result ≡ as_bool (pull_item self.now) }
+    {
+        match self.scalar() {
+            Some(value) => value.as_bool(),
+            None => None,
+        }
+    }
+
+    /// The width and the bits of a float, and `None` of any other item (RFC 8949, section 3.3).
+    pub fn float(&self) -> Option<Float>
+        ensures { option_map bits_of result ≡ as_float (pull_item self.now) }
+    {
+        match self.scalar() {
+            Some(Value::Float(x)) => Some(x),
+            _ => None,
+        }
+    }
+
+    /// Whether this is `null` (RFC 8949, section 3.3).
+    pub fn is_null(&self) -> bool
+        ensures { IsTrue result ↔ (pull_item self.now ≡ null) }
+    {
+        match self.scalar() {
+            Some(value) => value.is_null(),
+            None => false,
+        }
+    }
+
+    /// The number of a tag, with the item that it encloses, and `None` of any other item (RFC 8949, section 3.4).
+    pub fn tag(&self) -> Option<(u64, Pull<'a>)>
+        ensures { option_map (λ t. (t.0, pull_item t.1)) result ≡ as_tag (pull_item self.now) }
+    {
+        let Ok((head, rest)) = head_of(self.bytes) else {
+            return None;
+        };
+        match tag_number(head) {
+            Some(number) => Some((number, Pull { bytes: rest })),
+            None => None,
+        }
+    }
+
+    /// The content of a byte string, copied; its chunks are joined. `None` of any other item (RFC 8949, section 3.1).
+    ///
+    /// # Errors
+    /// `OutOfMemory` alone.
+    pub fn to_bytes(&self, alloc: Global) -> Result<Option<Vec<u8>>, OutOfMemory>
+        ensures { IfOk result (λ o. option_map (λ b. b.items) o ≡ as_bytes (pull_item self.now)) }
+    {
+        let Ok((start, rest)) = start_of(self.bytes) else {
+            return Ok(None);
+        };
+        if !begins_chunk(false, start.major_type) {
+            return Ok(None);
+        }
+        match byte_string(alloc, self.bytes.len(), start.number(), rest) {
+            Ok((found, _)) => Ok(Some(found)),
+            Err(ReadError::Memory) => Err(OutOfMemory),
+            Err(ReadError::Fault(_)) => unreachable!(),
+        }
+    }
+
+    /// The content of a text string, copied; its chunks are joined. `None` of any other item (RFC 8949, section 3.1).
+    ///
+    /// # Errors
+    /// `OutOfMemory` alone.
+    pub fn to_text(&self, alloc: Global) -> Result<Option<String>, OutOfMemory>
+        ensures { IfOk result (λ o. option_map string_bytes o ≡ as_text (pull_item self.now)) }
+    {
+        let Ok((start, rest)) = start_of(self.bytes) else {
+            return Ok(None);
+        };
+        if !begins_chunk(true, start.major_type) {
+            return Ok(None);
+        }
+        match text_string(alloc, self.bytes.len(), start.number(), rest) {
+            Ok((found, _)) => Ok(Some(found)),
+            Err(ReadError::Memory) => Err(OutOfMemory),
+            Err(ReadError::Fault(_)) => unreachable!(),
+        }
+    }
+
+    /// The item as a value of its own.
+    ///
+    /// # Errors
+    /// `OutOfMemory` alone.
+    pub fn to_value(&self, alloc: Global) -> Result<Value, OutOfMemory>
+        ensures { IfOk result (λ v. view v ≡ pull_item self.now) }
+    {
+        match read::item(alloc, self.bytes, MAX_DEPTH as usize) {
+            Ok((value, _)) => Ok(value),
+            Err(ReadError::Memory) => Err(OutOfMemory),
+            Err(ReadError::Fault(_)) => unreachable!(),
+        }
+    }
 }

@@ -5,7 +5,7 @@ ghost use Rattle.coset_value.specs.View.{view, pair_view};
 ghost use Rattle.coset_cbor.specs.Reading.{Answers, Gives, times_at, until_at, pair_at, array_by, map_by, simple_at, item_at};
 
 use crate::fault::{Fault, ReadError};
-use crate::head::{Argument, Kind, head_of, start_of};
+use crate::head::{Argument, MajorType, head_of, start_of};
 use crate::string::{after_break, byte_string, text_string};
 use coset_value::{Float, Integer, Value};
 use std::alloc::Global;
@@ -14,14 +14,18 @@ use std::alloc::Global;
 const PLACES: u64 = 16;
 
 /// The integer -1 - n.
-pub(crate) fn negative(n: u64) -> Integer
+pub(crate) fn negative_integer(n: u64) -> Integer
     ensures { result ≡ negsuc n }
 {
     Integer::try_from(-1 - i128::from(n)).unwrap()
 }
 
 /// A simple value or a float. `left` is what was left at the head.
-pub(crate) fn simple(left: usize, argument: Argument, bytes: &[u8]) -> Result<(Value, &[u8]), Fault>
+pub(crate) fn simple_value(
+    left: usize,
+    argument: Argument,
+    bytes: &[u8],
+) -> Result<(Value, &[u8]), Fault>
     ensures { Answers (λ x. (view x.0, x.1.now)) result (simple_at left argument bytes.now) }
 {
     match argument {
@@ -47,38 +51,38 @@ pub(crate) fn item(alloc: Global, bytes: &[u8], depth: usize) -> Result<(Value, 
     let left = bytes.len();
     let (start, rest) = start_of(bytes)?;
     let number = start.number();
-    match start.kind {
-        Kind::Unsigned => {
+    match start.major_type {
+        MajorType::Unsigned => {
             let n = number.ok_or(ReadError::Fault(Fault::Syntax(left)))?;
             Ok((Value::Integer(Integer::from(n)), rest))
         }
-        Kind::Negative => {
+        MajorType::Negative => {
             let n = number.ok_or(ReadError::Fault(Fault::Syntax(left)))?;
-            Ok((Value::Integer(negative(n)), rest))
+            Ok((Value::Integer(negative_integer(n)), rest))
         }
-        Kind::Bytes => {
+        MajorType::Bytes => {
             let (found, rest) = byte_string(alloc, left, number, rest)?;
             Ok((Value::Bytes(found), rest))
         }
-        Kind::Text => {
+        MajorType::Text => {
             let (found, rest) = text_string(alloc, left, number, rest)?;
             Ok((Value::Text(found), rest))
         }
-        Kind::Array => {
+        MajorType::Array => {
             if depth == 0 {
                 return Err(ReadError::Fault(Fault::Deep));
             }
             let (items, rest) = array(alloc, number, rest, depth - 1)?;
             Ok((Value::Array(items), rest))
         }
-        Kind::Map => {
+        MajorType::Map => {
             if depth == 0 {
                 return Err(ReadError::Fault(Fault::Deep));
             }
             let (pairs, rest) = map(alloc, number, rest, depth - 1)?;
             Ok((Value::Map(pairs), rest))
         }
-        Kind::Tag => {
+        MajorType::Tag => {
             let n = number.ok_or(ReadError::Fault(Fault::Syntax(left)))?;
             if depth == 0 {
                 return Err(ReadError::Fault(Fault::Deep));
@@ -86,9 +90,9 @@ pub(crate) fn item(alloc: Global, bytes: &[u8], depth: usize) -> Result<(Value, 
             let (inside, rest) = item(alloc, rest, depth - 1)?;
             Ok((Value::Tag(n, Box::new(alloc, inside)?), rest))
         }
-        Kind::Simple => {
+        MajorType::Simple => {
             let (head, rest) = head_of(bytes)?;
-            Ok(simple(left, head.argument, rest)?)
+            Ok(simple_value(left, head.argument, rest)?)
         }
     }
 }

@@ -4,10 +4,10 @@ ghost use Rattle.std.specs.Prelude.{◌≡◌, ◌++◌, take, IsOk, OnOk, OnErr
 ghost use Rattle.coset_value.specs.Item.{bytes, text, integer};
 ghost use Rattle.coset_value.specs.Range.{IsInRange};
 ghost use Rattle.coset_value.specs.View.{view};
-ghost use Rattle.coset_cbor.specs.Least.{least_head, short};
-ghost use Rattle.coset_cbor.specs.Shortest.{AppendsShort};
+ghost use Rattle.coset_cbor.specs.Least.{least_head, least_encoding};
+ghost use Rattle.coset_cbor.specs.Shortest.{AppendsShortest};
 
-use crate::head::Kind;
+use crate::head::MajorType;
 use crate::memory::OutOfMemory;
 use crate::write::{put, put_head, put_integer, put_string, put_text};
 use coset_value::{Integer, Value};
@@ -29,13 +29,13 @@ impl<T: fmt::Debug> fmt::Display for Error<T> {
     }
 }
 
-/// Appends the shortest text of the value to `out` (RFC 8949, section 4.2.1, with map keys in the value's own
+/// Appends the shortest encoding of the value to `out` (RFC 8949, section 4.2.1, with map keys in the value's own
 /// order and floats in their own width).
 ///
 /// # Errors
-/// Want of memory alone. The bytes of `out` are then as before; its capacity may have grown.
+/// `OutOfMemory` alone. The bytes of `out` are then as before; its capacity may have grown.
 pub fn write_value(value: &Value, out: &mut Vec<u8>) -> Result<(), OutOfMemory>
-    ensures ok { OnOk result (AppendsShort out.old.items out.new.items (view value.now)) }
+    ensures ok { OnOk result (AppendsShortest out.old.items out.new.items (view value.now)) }
     ensures refused { OnErr result (out.new.items ≡ out.old.items) }
 {
     let before = out.len();
@@ -46,62 +46,62 @@ pub fn write_value(value: &Value, out: &mut Vec<u8>) -> Result<(), OutOfMemory>
 /// Appends the shortest head of an array (RFC 8949, section 3.1, major type 4). So many items have to follow it.
 ///
 /// # Errors
-/// As of [`write_value`].
+/// The same as [`write_value`].
 pub fn write_array_head(count: usize, out: &mut Vec<u8>) -> Result<(), OutOfMemory>
     ensures ok { OnOk result (out.new.items ≡ out.old.items ++ least_head 4 count) }
     ensures refused { OnErr result (out.new.items ≡ out.old.items) }
 {
     let before = out.len();
-    let written = put_head(out, Kind::Array, count as u64);
+    let written = put_head(out, MajorType::Array, count as u64);
     settle(written, before, out)
 }
 
 /// Appends the shortest head of a map (RFC 8949, section 3.1, major type 5). So many pairs have to follow it.
 ///
 /// # Errors
-/// As of [`write_value`].
+/// The same as [`write_value`].
 pub fn write_map_head(count: usize, out: &mut Vec<u8>) -> Result<(), OutOfMemory>
     ensures ok { OnOk result (out.new.items ≡ out.old.items ++ least_head 5 count) }
     ensures refused { OnErr result (out.new.items ≡ out.old.items) }
 {
     let before = out.len();
-    let written = put_head(out, Kind::Map, count as u64);
+    let written = put_head(out, MajorType::Map, count as u64);
     settle(written, before, out)
 }
 
 /// Appends the shortest head of a tag (RFC 8949, section 3.1, major type 6). The item that it encloses has to follow it.
 ///
 /// # Errors
-/// As of [`write_value`].
+/// The same as [`write_value`].
 pub fn write_tag_head(number: u64, out: &mut Vec<u8>) -> Result<(), OutOfMemory>
     ensures ok { OnOk result (out.new.items ≡ out.old.items ++ least_head 6 number) }
     ensures refused { OnErr result (out.new.items ≡ out.old.items) }
 {
     let before = out.len();
-    let written = put_head(out, Kind::Tag, number);
+    let written = put_head(out, MajorType::Tag, number);
     settle(written, before, out)
 }
 
-/// Appends the shortest text of a byte string (RFC 8949, section 3.1, major type 2).
+/// Appends the shortest encoding of a byte string (RFC 8949, section 3.1, major type 2).
 ///
 /// # Errors
-/// As of [`write_value`].
+/// The same as [`write_value`].
 pub fn write_bytes(content: &[u8], out: &mut Vec<u8>) -> Result<(), OutOfMemory>
-    ensures ok { OnOk result (out.new.items ≡ out.old.items ++ short (bytes content.now)) }
+    ensures ok { OnOk result (out.new.items ≡ out.old.items ++ least_encoding (bytes content.now)) }
     ensures in_range { OnOk result (IsInRange (bytes content.now)) }
     ensures refused { OnErr result (out.new.items ≡ out.old.items) }
 {
     let before = out.len();
-    let written = put_string(out, Kind::Bytes, content);
+    let written = put_string(out, MajorType::Bytes, content);
     settle(written, before, out)
 }
 
-/// Appends the shortest text of a text string (RFC 8949, section 3.1, major type 3).
+/// Appends the shortest encoding of a text string (RFC 8949, section 3.1, major type 3).
 ///
 /// # Errors
-/// As of [`write_value`].
+/// The same as [`write_value`].
 pub fn write_text(content: &str, out: &mut Vec<u8>) -> Result<(), OutOfMemory>
-    ensures ok { OnOk result (out.new.items ≡ out.old.items ++ short (text content.now)) }
+    ensures ok { OnOk result (out.new.items ≡ out.old.items ++ least_encoding (text content.now)) }
     ensures in_range { OnOk result (IsInRange (text content.now)) }
     ensures refused { OnErr result (out.new.items ≡ out.old.items) }
 {
@@ -110,12 +110,12 @@ pub fn write_text(content: &str, out: &mut Vec<u8>) -> Result<(), OutOfMemory>
     settle(written, before, out)
 }
 
-/// Appends the shortest text of an integer (RFC 8949, section 3.1, major types 0 and 1).
+/// Appends the shortest encoding of an integer (RFC 8949, section 3.1, major types 0 and 1).
 ///
 /// # Errors
-/// As of [`write_value`].
+/// The same as [`write_value`].
 pub fn write_integer(n: Integer, out: &mut Vec<u8>) -> Result<(), OutOfMemory>
-    ensures ok { OnOk result (out.new.items ≡ out.old.items ++ short (integer n)) }
+    ensures ok { OnOk result (out.new.items ≡ out.old.items ++ least_encoding (integer n)) }
     ensures in_range { OnOk result (IsInRange (integer n)) }
     ensures refused { OnErr result (out.new.items ≡ out.old.items) }
 {
@@ -124,7 +124,7 @@ pub fn write_integer(n: Integer, out: &mut Vec<u8>) -> Result<(), OutOfMemory>
     settle(written, before, out)
 }
 
-/// The answer of a call that wrote. Where memory was wanting, what it left behind the first bytes is taken back.
+/// The answer of a call that wrote. Where memory ran out, what it left behind the first bytes is taken back.
 fn settle(
     written: Result<(), AllocError>,
     before: usize,

@@ -1,11 +1,11 @@
-//! Byte strings and texts (RFC 8949, sections 3.1 and 3.2.3).
+//! Byte strings and text strings (RFC 8949, sections 3.1 and 3.2.3).
 
 ghost use Rattle.std.specs.Prelude.{◌≡◌, true, false, drop, string_bytes, IsTrue, MatchOption};
 ghost use Rattle.std.specs.Str.{is_utf8, IsAscii};
 ghost use Rattle.coset_cbor.specs.Reading.{Answers, Gives, string_at, chunk_at, chunks_at, any_string_by, begins_break};
 
 use crate::fault::{Fault, ReadError, end};
-use crate::head::{Kind, head_of};
+use crate::head::{MajorType, head_of};
 use std::alloc::Global;
 
 /// What follows the break, where it is at the front.
@@ -109,7 +109,8 @@ pub(crate) fn bytes_at(left: usize, count: u64, bytes: &[u8]) -> Result<(&[u8], 
     Ok(bytes.split_at(count as usize))
 }
 
-/// The same, where the bytes are to be text. `left` is what was left at the head.
+/// That many bytes of a text string, which have to be UTF-8, and the bytes after them. `left` is
+/// what was left at the head.
 #[tactic(auto, unfolding(crate::specs::Reading::string_at))]
 #[inline(always)]
 pub(crate) fn text_at(left: usize, count: u64, bytes: &[u8]) -> Result<(&str, &[u8]), Fault>
@@ -129,20 +130,20 @@ pub(crate) fn byte_chunk(bytes: &[u8]) -> Result<(&[u8], &[u8]), Fault>
     ensures { Answers (λ x. (x.0.now, x.1.now)) result (chunk_at false bytes.now) }
 {
     let (head, rest) = head_of(bytes)?;
-    match (head.kind, head.argument.number()) {
-        (Kind::Bytes, Some(count)) => bytes_at(bytes.len(), count, rest),
+    match (head.major_type, head.argument.number()) {
+        (MajorType::Bytes, Some(count)) => bytes_at(bytes.len(), count, rest),
         _ => Err(Fault::Syntax(bytes.len())),
     }
 }
 
-/// A chunk of a text: a definite one, UTF-8 by itself.
+/// A chunk of a text string: a definite one, UTF-8 by itself.
 #[tactic(auto, unfolding(crate::specs::Reading::chunk_at))]
 pub(crate) fn text_chunk(bytes: &[u8]) -> Result<(&str, &[u8]), Fault>
     ensures { Answers (λ x. (x.0.now, x.1.now)) result (chunk_at true bytes.now) }
 {
     let (head, rest) = head_of(bytes)?;
-    match (head.kind, head.argument.number()) {
-        (Kind::Text, Some(count)) => text_at(bytes.len(), count, rest),
+    match (head.major_type, head.argument.number()) {
+        (MajorType::Text, Some(count)) => text_at(bytes.len(), count, rest),
         _ => Err(Fault::Syntax(bytes.len())),
     }
 }
@@ -164,7 +165,7 @@ fn byte_chunks(alloc: Global, bytes: &[u8]) -> Result<(Vec<u8>, &[u8]), ReadErro
     Err(ReadError::Fault(Fault::End))
 }
 
-/// The same of a text.
+/// The chunks of a text string up to the break, joined.
 fn text_chunks(alloc: Global, bytes: &[u8]) -> Result<(String, &[u8]), ReadError>
     ensures { Gives (λ x. (string_bytes x.0, x.1.now)) result (chunks_at true bytes.now) }
 {
@@ -198,7 +199,8 @@ pub(crate) fn byte_string(
     Ok((Vec::from_slice(alloc, found)?, rest))
 }
 
-/// The same of a text. `left` is what was left at the head.
+/// A text string of that many bytes, or in chunks where no length is announced. `left` is what was
+/// left at the head.
 #[inline]
 pub(crate) fn text_string(
     alloc: Global,

@@ -4,26 +4,26 @@ ghost use Rattle.std.specs.Prelude.{◌≡◌, ◌++◌, ◌∷◌, [], OnOk, le
 ghost use Rattle.std.specs.Str.{IsUtf8};
 ghost use Rattle.coset_value.specs.Range.{IsIntegerInRange, AreBitsInRange, IsInRange, AreInRange, ArePairsInRange};
 ghost use Rattle.coset_value.specs.View.{view, bits_of, items_view, pairs_view};
-ghost use Rattle.coset_cbor.specs.Least.{least_head, type_of, short, shorts, pair_shorts, short_integer, short_float, Extends};
+ghost use Rattle.coset_cbor.specs.Least.{least_head, major_type_number, least_encoding, least_encodings, least_pair_encodings, integer_encoding, float_encoding, Extends};
 
-use crate::head::Kind;
+use crate::head::MajorType;
 use coset_value::{Float, Integer, Value};
 use std::alloc::AllocError;
 
 /// The first byte of a head of this type, with these low bits.
-fn first_byte(kind: Kind, low: u8) -> u8
+fn first_byte(major_type: MajorType, low: u8) -> u8
     requires { low < 32 }
-    ensures { result ≡ 32 * type_of kind + low }
+    ensures { result ≡ 32 * major_type_number major_type + low }
 {
-    match kind {
-        Kind::Unsigned => low,
-        Kind::Negative => 32 + low,
-        Kind::Bytes => 64 + low,
-        Kind::Text => 96 + low,
-        Kind::Array => 128 + low,
-        Kind::Map => 160 + low,
-        Kind::Tag => 192 + low,
-        Kind::Simple => 224 + low,
+    match major_type {
+        MajorType::Unsigned => low,
+        MajorType::Negative => 32 + low,
+        MajorType::Bytes => 64 + low,
+        MajorType::Text => 96 + low,
+        MajorType::Array => 128 + low,
+        MajorType::Map => 160 + low,
+        MajorType::Tag => 192 + low,
+        MajorType::Simple => 224 + low,
     }
 }
 
@@ -39,25 +39,25 @@ fn put_two(out: &mut Vec<u8>, first: u8, more: &[u8]) -> Result<(), AllocError>
 
 /// Writes the shortest head of this type with argument `n`.
 #[tactic(auto, unfolding(crate::specs::Least::least_head))]
-pub(crate) fn put_head(out: &mut Vec<u8>, kind: Kind, n: u64) -> Result<(), AllocError>
-    ensures ok { OnOk result (out.new.items ≡ out.old.items ++ least_head (type_of kind) n) }
+pub(crate) fn put_head(out: &mut Vec<u8>, major_type: MajorType, n: u64) -> Result<(), AllocError>
+    ensures ok { OnOk result (out.new.items ≡ out.old.items ++ least_head (major_type_number major_type) n) }
     ensures kept { Extends out.old.items out.new.items }
 {
     if n < 24 {
-        put_two(out, first_byte(kind, n as u8), &[])
+        put_two(out, first_byte(major_type, n as u8), &[])
     } else if n < 0x100 {
-        put_two(out, first_byte(kind, 24), &[n as u8])
+        put_two(out, first_byte(major_type, 24), &[n as u8])
     } else if n < 0x1_0000 {
-        put_two(out, first_byte(kind, 25), &(n as u16).to_be_bytes())
+        put_two(out, first_byte(major_type, 25), &(n as u16).to_be_bytes())
     } else if n < 0x1_0000_0000 {
-        put_two(out, first_byte(kind, 26), &(n as u32).to_be_bytes())
+        put_two(out, first_byte(major_type, 26), &(n as u32).to_be_bytes())
     } else {
-        put_two(out, first_byte(kind, 27), &n.to_be_bytes())
+        put_two(out, first_byte(major_type, 27), &n.to_be_bytes())
     }
 }
 
 fn put_float(out: &mut Vec<u8>, float: Float) -> Result<(), AllocError>
-    ensures ok { OnOk result (out.new.items ≡ out.old.items ++ short_float (bits_of float)) }
+    ensures ok { OnOk result (out.new.items ≡ out.old.items ++ float_encoding (bits_of float)) }
     ensures in_range { OnOk result (AreBitsInRange (bits_of float)) }
     ensures kept { Extends out.old.items out.new.items }
 {
@@ -69,64 +69,68 @@ fn put_float(out: &mut Vec<u8>, float: Float) -> Result<(), AllocError>
 }
 
 pub(crate) fn put_integer(out: &mut Vec<u8>, n: Integer) -> Result<(), AllocError>
-    ensures ok { OnOk result (out.new.items ≡ out.old.items ++ short_integer n) }
+    ensures ok { OnOk result (out.new.items ≡ out.old.items ++ integer_encoding n) }
     ensures in_range { OnOk result (IsIntegerInRange n) }
     ensures kept { Extends out.old.items out.new.items }
 {
     let n = i128::from(n);
     if n >= 0 {
-        put_head(out, Kind::Unsigned, n as u64)
+        put_head(out, MajorType::Unsigned, n as u64)
     } else {
-        put_head(out, Kind::Negative, (-1 - n) as u64)
+        put_head(out, MajorType::Negative, (-1 - n) as u64)
     }
 }
 
 /// Writes a head with the length, and the bytes.
-pub(crate) fn put_string(out: &mut Vec<u8>, kind: Kind, bytes: &[u8]) -> Result<(), AllocError>
+pub(crate) fn put_string(
+    out: &mut Vec<u8>,
+    major_type: MajorType,
+    bytes: &[u8],
+) -> Result<(), AllocError>
     ensures ok { OnOk result (out.new.items ≡ out.old.items
-        ++ (least_head (type_of kind) (length bytes.now) ++ bytes.now)) }
+        ++ (least_head (major_type_number major_type) (length bytes.now) ++ bytes.now)) }
     ensures in_range { OnOk result (length bytes.now < 2 ^ 64) }
     ensures kept { Extends out.old.items out.new.items }
 {
-    put_head(out, kind, bytes.len() as u64)?;
+    put_head(out, major_type, bytes.len() as u64)?;
     out.extend_from_slice(bytes)?;
     Ok(())
 }
 
-/// Writes a text: a head with the length, and the bytes.
+/// Writes a text string: a head with the length, and the bytes.
 pub(crate) fn put_text(out: &mut Vec<u8>, text: &str) -> Result<(), AllocError>
     ensures ok { OnOk result (out.new.items ≡ out.old.items ++ (least_head 3 (length text.now) ++ text.now)) }
     ensures in_range { OnOk result ((length text.now < 2 ^ 64) × IsUtf8 text.now) }
     ensures kept { Extends out.old.items out.new.items }
 {
-    put_string(out, Kind::Text, text.as_bytes())
+    put_string(out, MajorType::Text, text.as_bytes())
 }
 
-/// Writes the shortest text of the value at the end. An `Err` may leave part of it there.
+/// Writes the shortest encoding of the value at the end. An `Err` may leave part of it there.
 #[cycle(put)]
 pub(crate) fn put(out: &mut Vec<u8>, value: &Value) -> Result<(), AllocError>
-    ensures ok { OnOk result (out.new.items ≡ out.old.items ++ short (view value.now)) }
+    ensures ok { OnOk result (out.new.items ≡ out.old.items ++ least_encoding (view value.now)) }
     ensures in_range { OnOk result (IsInRange (view value.now)) }
     ensures kept { Extends out.old.items out.new.items }
 {
     match value {
         Value::Integer(n) => put_integer(out, *n),
-        Value::Bytes(bytes) => put_string(out, Kind::Bytes, bytes),
+        Value::Bytes(bytes) => put_string(out, MajorType::Bytes, bytes),
         Value::Float(x) => put_float(out, *x),
         Value::Text(text) => put_text(out, text.as_str()),
         Value::Bool(false) => put_two(out, 0xF4, &[]),
         Value::Bool(true) => put_two(out, 0xF5, &[]),
         Value::Null => put_two(out, 0xF6, &[]),
         Value::Tag(number, inside) => {
-            put_head(out, Kind::Tag, *number)?;
+            put_head(out, MajorType::Tag, *number)?;
             put(out, inside)
         }
         Value::Array(items) => {
-            put_head(out, Kind::Array, items.len() as u64)?;
+            put_head(out, MajorType::Array, items.len() as u64)?;
             put_items(out, items)
         }
         Value::Map(pairs) => {
-            put_head(out, Kind::Map, pairs.len() as u64)?;
+            put_head(out, MajorType::Map, pairs.len() as u64)?;
             put_pairs(out, pairs)
         }
     }
@@ -134,7 +138,7 @@ pub(crate) fn put(out: &mut Vec<u8>, value: &Value) -> Result<(), AllocError>
 
 #[cycle(put)]
 fn put_items(out: &mut Vec<u8>, items: &Vec<Value>) -> Result<(), AllocError>
-    ensures ok { OnOk result (out.new.items ≡ out.old.items ++ shorts (items_view items.now.items)) }
+    ensures ok { OnOk result (out.new.items ≡ out.old.items ++ least_encodings (items_view items.now.items)) }
     ensures in_range { OnOk result (AreInRange (items_view items.now.items)) }
     ensures kept { Extends out.old.items out.new.items }
 {
@@ -146,7 +150,7 @@ fn put_items(out: &mut Vec<u8>, items: &Vec<Value>) -> Result<(), AllocError>
 
 #[cycle(put)]
 fn put_pairs(out: &mut Vec<u8>, pairs: &Vec<(Value, Value)>) -> Result<(), AllocError>
-    ensures ok { OnOk result (out.new.items ≡ out.old.items ++ pair_shorts (pairs_view pairs.now.items)) }
+    ensures ok { OnOk result (out.new.items ≡ out.old.items ++ least_pair_encodings (pairs_view pairs.now.items)) }
     ensures in_range { OnOk result (ArePairsInRange (pairs_view pairs.now.items)) }
     ensures kept { Extends out.old.items out.new.items }
 {

@@ -6,7 +6,7 @@ use Rattle.std.specs.Map.{keys_of}
 use Rattle.coset_shape.specs.declared.error.CoseError.{CoseError}
 use Rattle.coset_shape.specs.declared.error.CoseError.TheVariants.{DuplicateMapKey}
 use Rattle.coset_shape.specs.declared.input.InputPairs.{InputPairs}
-use Rattle.coset_shape.specs.Errors.{Names}
+use Rattle.coset_shape.specs.Errors.{UnlessMemory}
 use Rattle.coset_shape.specs.Inputs.{State, Stands, PairsWithin}
 use Rattle.coset_shape.specs.Maps.{Adds, Refuses, RefusesKey, BarsKey, GatherFaults, are_distinct, optional}
 use Rattle.coset_shape.specs.Shape.{any}
@@ -16,7 +16,7 @@ use Rattle.coset_label.specs.Names.{number}
 use Rattle.coset_label.specs.Views.{label_seen}
 use Rattle.coset_label.specs.declared.label.Label.{Label}
 use Rattle.coset_core.specs.Fields.{FieldsSeen, names, fields, parts_of, same_name, bars}
-use Rattle.coset_core.specs.FieldLaws.{names_laws, unread_fields_laws}
+use Rattle.coset_core.specs.FieldLaws.{names_laws, partial_fields_laws}
 use Rattle.coset_core.specs.Filling.{WalksTo, NextsLabel, AtSeven, AtEnd, AtFault, FillsSome, FillsFields, IsDistinctRest}
 
 -- some pairs were read, and others are left
@@ -61,14 +61,14 @@ on_value all o f g s t u z m n l v w h taken adds =
     let here = taken h.1 h.3 h.6 in
     record {
       left = h.2;
-      walks = goes_on names names_laws (fields (optional any)) unread_fields_laws all w.left h.2 h.0 v (parts_of (f, o)) (parts_of (g, o)) w.walks (h.4 ∙ ap (λ x. pair h.0 x h.2) (sym here.1)) (label_seen l, h.5, adds);
+      walks = goes_on names names_laws (fields (optional any)) partial_fields_laws all w.left h.2 h.0 v (parts_of (f, o)) (parts_of (g, o)) w.walks (h.4 ∙ ap (λ x. pair h.0 x h.2) (sym here.1)) (label_seen l, h.5, adds);
       within = subst (λ y. PairsWithin n h.2 y z) (sym here.0) h.7;
     }
 
 pub at_value :
     (all : Pairs) (o : Option Item) (f g : FieldsSeen) (s t u z : State) (m n : InputPairs) (l : Label) (v : Item) (e : CoseError) → (w : SoFar all o f s z m) → NextsLabel w.left t z n (Ok (Some l))
     → ((x : Item) (y : State) → Stands x t y → (u ≡ y) × (v ≡ x)) → g ≡ f
-    → Names e (λ i. Refuses names (fields (optional any)) (label_seen l) v (parts_of (f, o)) i ⊎ bars (label_seen l) (parts_of (f, o)) i) → AtFault all o g u z n e
+    → UnlessMemory e (λ i. Refuses names (fields (optional any)) (label_seen l) v (parts_of (f, o)) i ⊎ bars (label_seen l) (parts_of (f, o)) i) → AtFault all o g u z n e
 at_value all o f g s t u z m n l v e w h taken same refused =
     let here = taken h.1 h.3 h.6 in
     subst (λ x. AtFault all o x u z n e) (sym same) (record {
@@ -114,22 +114,22 @@ distinct all o f t z m (Err e) s d = (s.others, s.within, λ i. fault (s.faulty 
     fault :
         RefusesKey names (fields (optional any)) s.key s.value (parts_of (f, o)) e ⊎ BarsKey names bars s.key (parts_of (f, o)) e
         → GatherFaults names (fields (optional any)) bars (dict all) e
-    fault (inl g) = inl (refuses names names_laws (fields (optional any)) unread_fields_laws (dict all) all (pair s.key s.value s.others) s.others s.key s.value (parts_of (f, o)) e refl s.walks refl g)
+    fault (inl g) = inl (refuses names names_laws (fields (optional any)) partial_fields_laws (dict all) all (pair s.key s.value s.others) s.others s.key s.value (parts_of (f, o)) e refl s.walks refl g)
     fault (inr g) = inr (all, refl, record { key = s.key; value = s.value; left = s.others; before = parts_of (f, o); walked = s.walks; barred = g })
 
 -- they do, or there was no memory to ask
 pub repeats :
     (all : Pairs) (o : Option Item) (f : FieldsSeen) (s t z : State) (m : InputPairs) (r q : Result Bool CoseError) (e : CoseError) → FillsSome all o z f s m r
-    → Names e (λ i. (i ≡ DuplicateMapKey) × (are_distinct same_name (keys_of f.rest) ≡ false)) → ((left : Pairs) × PairsWithin m left t z) × IsErrAnd q (λ i. i ≡ e) → FillsFields all o z f t m q
+    → UnlessMemory e (λ i. (i ≡ DuplicateMapKey) × (are_distinct same_name (keys_of f.rest) ≡ false)) → ((left : Pairs) × PairsWithin m left t z) × IsErrAnd q (λ i. i ≡ e) → FillsFields all o z f t m q
 repeats all o f s t z m r (Ok b) e w named p = absurd p.1
 repeats all o f s t z m r (Err i) e w named p =
-    (p.0.0, p.0.1, subst (λ x. Names x (GatherFaults names (fields (optional any)) bars (dict all))) (sym p.1) (λ n. fault (named n)))
+    (p.0.0, p.0.1, subst (λ x. UnlessMemory x (GatherFaults names (fields (optional any)) bars (dict all))) (sym p.1) (λ n. fault (named n)))
   where
     fault : (e ≡ DuplicateMapKey) × (are_distinct same_name (keys_of f.rest) ≡ false) → GatherFaults names (fields (optional any)) bars (dict all) e
     fault h =
         let k = walked all o f s z m r w in
         subst (GatherFaults names (fields (optional any)) bars (dict all)) (sym h.0)
-        (inl (stumbles names names_laws (fields (optional any)) unread_fields_laws (dict all) all k.0 (parts_of (f, o)) refl k.1 h.1))
+        (inl (stumbles names names_laws (fields (optional any)) partial_fields_laws (dict all) all k.0 (parts_of (f, o)) refl k.1 h.1))
 
 -- a value that wasn't read is passed
 pub value_passed :

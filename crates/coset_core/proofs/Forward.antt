@@ -8,7 +8,7 @@ use Rattle.coset_shape.specs.declared.error.CoseError.TheVariants.{DuplicateMapK
 use Rattle.coset_shape.specs.declared.input.InputItems.{InputItems}
 use Rattle.coset_shape.specs.declared.input.InputPairs.{InputPairs}
 use Rattle.coset_shape.specs.declared.source.Source.{Source}
-use Rattle.coset_shape.specs.Errors.{Names, IsUnexpected}
+use Rattle.coset_shape.specs.Errors.{UnlessMemory, IsUnexpected}
 use Rattle.coset_shape.specs.Inputs.{State, Stands, AreWithin, PairsWithin, EntersMap}
 use Rattle.coset_shape.specs.Maps.{GatherFaults, labelled, SomePair, and_pairs, optional}
 use Rattle.coset_shape.specs.OneOrMore.{Begins}
@@ -19,36 +19,36 @@ use Rattle.coset_shape.proofs.Walking.{sets_out, goes_on, arrives, refuses}
 use Rattle.coset_label.specs.Labels.{label}
 use Rattle.coset_label.specs.Names.{number}
 use Rattle.coset_core.specs.Contents.{Fills, FillsEach}
-use Rattle.coset_core.specs.Fields.{FieldsSeen, empty_fields, names, fields, parts_of, bars, HasOneIv, unread, SomeCounters}
-use Rattle.coset_core.specs.FieldLaws.{names_laws, unread_fields_laws, barred_fault}
-use Rattle.coset_core.specs.FieldsView.{fields_seen, counters_held}
+use Rattle.coset_core.specs.Fields.{FieldsSeen, empty_fields, names, fields, parts_of, bars, HasOneIv, partial_header, SomeCounterSignatures}
+use Rattle.coset_core.specs.FieldLaws.{names_laws, partial_fields_laws, barred_fault}
+use Rattle.coset_core.specs.FieldsView.{fields_seen, counter_signatures_held}
 use Rattle.coset_core.specs.Filling.{WalksTo, AtSeven, AtEnd, FillsFields, IsDistinctRest, BeginsPlaces, EndsPlaces, BeginsNext}
-use Rattle.coset_core.specs.HeaderReads.{unread_fault, counters_fault}
-use Rattle.coset_core.specs.Headers.{HeaderSeen, SignatureSeen, empty_header, signatures_of, with_counters, layered_header, layered_protected, layered_signature}
+use Rattle.coset_core.specs.HeaderReads.{partial_header_fault, counter_signatures_fault}
+use Rattle.coset_core.specs.Headers.{HeaderSeen, SignatureSeen, empty_header, signatures_of, with_counter_signatures, layered_header, layered_protected, layered_signature}
 use Rattle.coset_core.specs.ViewLaws.{header-opened}
 use Rattle.coset_core.specs.Views.{header_seen, signature_seen}
 use Rattle.coset_core.specs.declared.header.Header.{Header}
 use Rattle.coset_core.specs.declared.signature.CoseSignature.{CoseSignature}
 use Rattle.coset_core.proofs.Putting.{none_held}
-use Rattle.coset_core.proofs.Reading.{Filled, not_filled, counters_there, counters_missing}
+use Rattle.coset_core.proofs.Reading.{Filled, not_filled, counter_signatures_there, counter_signatures_missing}
 
 -- ---- a header's map
 
 -- an item that is no map
-no_map : (v : Item) (e : CoseError) → as_map v ≡ None → IsUnexpected e → unread.faults v e
-unfolding unread
+no_map : (v : Item) (e : CoseError) → as_map v ≡ None → IsUnexpected e → partial_header.faults v e
+unfolding partial_header
 no_map v e m u = inl (inl (m, u))
 
 pub not_entered :
     (k : ℕ) (v : Item) (h : HeaderSeen) (t z : State) (r : Result (Unit {0}) CoseError) (e : CoseError) → IsErrAnd r (λ f. f ≡ e) → EntersMap v t z (Err e) → (t ≡ z) × Fills (layered_header k) v h r
-not_entered k v h t z r e is m = (m.0, not_filled (layered_header k) h v r e is (λ _. unread_fault k v e (no_map v e m.1 m.2)))
+not_entered k v h t z r e is m = (m.0, not_filled (layered_header k) h v r e is (λ _. partial_header_fault k v e (no_map v e m.1 m.2)))
 
 -- an empty header, of whose pairs none was read
 fields_opened : (h : Header) → header_seen h ≡ empty_header → fields_seen h ≡ empty_fields
 fields_opened h e = sym (ap (λ x. x.fields) (header-opened h)) ∙ ap (λ x. x.fields) e
 
-pub none_held_yet : (h : Header) → header_seen h ≡ empty_header → counters_held h ≡ []
-none_held_yet h e = none_held (counters_held h) (sym (ap (λ x. x.counter_signatures) (header-opened h)) ∙ ap (λ x. x.counter_signatures) e)
+pub none_held_yet : (h : Header) → header_seen h ≡ empty_header → counter_signatures_held h ≡ []
+none_held_yet h e = none_held (counter_signatures_held h) (sym (ap (λ x. x.counter_signatures) (header-opened h)) ∙ ap (λ x. x.counter_signatures) e)
 
 pub one_iv_yet : (h : Header) → header_seen h ≡ empty_header → HasOneIv (fields_seen h)
 one_iv_yet h e = inl (ap (λ f. f.iv) (fields_opened h e))
@@ -56,34 +56,34 @@ one_iv_yet h e = inl (ap (λ f. f.iv) (fields_opened h e))
 pub set_out : (h : Header) (all : Pairs) → header_seen h ≡ empty_header → WalksTo all (fields_seen h) None all
 set_out h all e =
     subst (λ f. WalksTo all f None all) (sym (fields_opened h e))
-    (sets_out names names_laws (fields (optional any)) unread_fields_laws all (parts_of (empty_fields, None)) (refl, (refl, (refl, (refl, (refl, (refl, (refl, tt))))))) refl)
+    (sets_out names names_laws (fields (optional any)) partial_fields_laws all (parts_of (empty_fields, None)) (refl, (refl, (refl, (refl, (refl, (refl, (refl, tt))))))) refl)
 
 -- a fault of the pairs
-gather_fault : (v : Item) (e : CoseError) → GatherFaults names (fields (optional any)) bars v e → unread.faults v e
-unfolding unread
+gather_fault : (v : Item) (e : CoseError) → GatherFaults names (fields (optional any)) bars v e → partial_header.faults v e
+unfolding partial_header
 gather_fault v e (inl g) = inl g
 gather_fault v e (inr g) = barred_fault v e g
 
 pub pairs_refused :
     (k : ℕ) (all : Pairs) (o : Option Item) (z : State) (f : FieldsSeen) (t : State) (m : InputPairs) (h : HeaderSeen) (r : Result (Unit {0}) CoseError) (e : CoseError) → IsErrAnd r (λ i. i ≡ e)
     → FillsFields all o z f t m (Err e) → ((left : Pairs) × PairsWithin m left t z) × Fills (layered_header k) (dict all) h r
-pairs_refused k all o z f t m h r e is p = ((p.0, p.1), not_filled (layered_header k) h (dict all) r e is (λ n. unread_fault k (dict all) e (gather_fault (dict all) e (p.2 n))))
+pairs_refused k all o z f t m h r e is p = ((p.0, p.1), not_filled (layered_header k) h (dict all) r e is (λ n. partial_header_fault k (dict all) e (gather_fault (dict all) e (p.2 n))))
 
 -- all pairs were read
-unread_all : (all : Pairs) (o : Option Item) (f : FieldsSeen) (t z : State) (m : InputPairs) → AtEnd all o f t z m → IsDistinctRest f → HasOneIv f → unread.describes (dict all) (f, o)
-unfolding unread
-unread_all all o f t z m p d one = (arrives names names_laws (fields (optional any)) unread_fields_laws (dict all) all no_pairs (parts_of (f, o)) refl p.walks refl d, one)
+unread_all : (all : Pairs) (o : Option Item) (f : FieldsSeen) (t z : State) (m : InputPairs) → AtEnd all o f t z m → IsDistinctRest f → HasOneIv f → partial_header.describes (dict all) (f, o)
+unfolding partial_header
+unread_all all o f t z m p d one = (arrives names names_laws (fields (optional any)) partial_fields_laws (dict all) all no_pairs (parts_of (f, o)) refl p.walks refl d, one)
 
 abbrev pub Passed : InputPairs → State → State → Type 0
 Passed m t z = (left : Pairs) × PairsWithin m left t z
 
 pub ends_plain :
-    (k : ℕ) (all : Pairs) (z : State) (h : Header) (t : State) (m : InputPairs) → FillsFields all None z (fields_seen h) t m (Ok false) → HasOneIv (fields_seen h) → counters_held h ≡ []
+    (k : ℕ) (all : Pairs) (z : State) (h : Header) (t : State) (m : InputPairs) → FillsFields all None z (fields_seen h) t m (Ok false) → HasOneIv (fields_seen h) → counter_signatures_held h ≡ []
     → Passed m t z × (layered_header k).describes (dict all) (header_seen h)
 ends_plain k all z h t m p one none = (
   (no_pairs, p.0.within),
-  counters_missing k (dict all) (header_seen h) None
-      (subst (λ f. unread.describes (dict all) (f, None)) (sym (ap (λ x. x.fields) (header-opened h))) (unread_all all None (fields_seen h) t z m p.0 p.1 one)) refl
+  counter_signatures_missing k (dict all) (header_seen h) None
+      (subst (λ f. partial_header.describes (dict all) (f, None)) (sym (ap (λ x. x.fields) (header-opened h))) (unread_all all None (fields_seen h) t z m p.0 p.1 one)) refl
       (ap (λ x. x.counter_signatures) (header-opened h) ∙ ap (λ xs. signatures_of (map signature_seen xs)) none),
 )
 
@@ -92,18 +92,18 @@ some_there : (P : Item → Item → Type 0) (done others : Pairs) (k v : Item) �
 some_there P no_pairs others k v p = inl p
 some_there P (pair j w done) others k v p = inr (some_there P done others k v p)
 
-seven_there : (all : Pairs) (o : Option Item) (f : FieldsSeen) (t z : State) (m : InputPairs) → (s : AtSeven all o f t z m) → SomeCounters (λ u. u ≡ s.value) (dict all)
+seven_there : (all : Pairs) (o : Option Item) (f : FieldsSeen) (t z : State) (m : InputPairs) → (s : AtSeven all o f t z m) → SomeCounterSignatures (λ u. u ≡ s.value) (dict all)
 seven_there all o f t z m s =
     (all, refl, subst (SomePair (λ j w. label.describes j (number (pos 7)) × (w ≡ s.value))) (sym s.walks.parts) (some_there (λ j w. label.describes j (number (pos 7)) × (w ≡ s.value)) s.walks.done s.others s.key s.value (s.seven, refl)))
 
 -- the value of label 7 was refused
-pub counters_refused :
+pub counter_signatures_refused :
     (k : ℕ) (all : Pairs) (o : Option Item) (f : FieldsSeen) (t u z : State) (m : InputPairs) (xs : List SignatureSeen) (h : HeaderSeen) (r : Result (Unit {0}) CoseError) (e : CoseError) → IsErrAnd r (λ i. i ≡ e)
     → AtSeven all o f t z m → ((w : Item) (y : State) → Stands w t y → (u ≡ y) × Fills (one_or_many (any_number (layered_signature k))) w xs (Err e)) → Passed m u z × Fills (layered_header k) (dict all) h r
-counters_refused k all o f t u z m xs h r e is s read =
+counter_signatures_refused k all o f t u z m xs h r e is s read =
     let here = read s.value s.mid s.stands in (
       (s.others, subst (λ y. PairsWithin m s.others y z) (sym here.0) s.within),
-      not_filled (layered_header k) h (dict all) r e is (λ n. counters_fault k (dict all) s.value e (seven_there all o f t z m s) (here.1 n)),
+      not_filled (layered_header k) h (dict all) r e is (λ n. counter_signatures_fault k (dict all) s.value e (seven_there all o f t z m s) (here.1 n)),
     )
 
 -- the value of label 7 was read
@@ -114,16 +114,16 @@ pub record Goes (k : ℕ) (all : Pairs) (f : FieldsSeen) (u z : State) (m : Inpu
   pub within : PairsWithin m others u z
   pub signatures : (one_or_many (any_number (layered_signature k))).describes value xs
 
-pub counters_filled :
+pub counter_signatures_filled :
     (k : ℕ) (all : Pairs) (f g : FieldsSeen) (t u z : State) (m : InputPairs) (xs : List SignatureSeen) → g ≡ f → AtSeven all None f t z m
     → ((w : Item) (y : State) → Stands w t y → (u ≡ y) × (one_or_many (any_number (layered_signature k))).describes w xs) → Goes k all g u z m xs
-counters_filled k all f g t u z m xs same s read =
+counter_signatures_filled k all f g t u z m xs same s read =
     let here = read s.value s.mid s.stands in
     record {
       value = s.value;
       others = s.others;
       walks = subst (λ x. WalksTo all x (Some s.value) s.others) (sym same)
-          (goes_on names names_laws (fields (optional any)) unread_fields_laws all (pair s.key s.value s.others) s.others s.key s.value (parts_of (f, None)) (parts_of (f, Some s.value)) s.walks refl
+          (goes_on names names_laws (fields (optional any)) partial_fields_laws all (pair s.key s.value s.others) s.others s.key s.value (parts_of (f, None)) (parts_of (f, Some s.value)) s.walks refl
           (number (pos 7), s.seven, ((refl, (refl, (refl, (refl, (refl, (refl, (refl, refl, refl))))))), refl)));
       within = subst (λ y. PairsWithin m s.others y z) (sym here.0) s.within;
       signatures = here.1;
@@ -136,21 +136,21 @@ pub second_refused :
 second_refused k all w f t u z m h r s read =
     let here = read s.value s.mid s.stands in (
       (s.others, subst (λ y. PairsWithin m s.others y z) (sym here.0) s.within),
-      subst (Fills (layered_header k) (dict all) h) (sym here.1) (λ _. unread_fault k (dict all) DuplicateMapKey (gather_fault (dict all) DuplicateMapKey (inl fault))),
+      subst (Fills (layered_header k) (dict all) h) (sym here.1) (λ _. partial_header_fault k (dict all) DuplicateMapKey (gather_fault (dict all) DuplicateMapKey (inl fault))),
     )
   where
     fault : (labelled names (fields (optional any))).faults (dict all) DuplicateMapKey
     fault =
-        refuses names names_laws (fields (optional any)) unread_fields_laws (dict all) all (pair s.key s.value s.others) s.others s.key s.value (parts_of (f, Some w)) DuplicateMapKey refl s.walks refl
+        refuses names names_laws (fields (optional any)) partial_fields_laws (dict all) all (pair s.key s.value s.others) s.others s.key s.value (parts_of (f, Some w)) DuplicateMapKey refl s.walks refl
         (inr (number (pos 7), s.seven, inl ((λ e. absurd cc), refl)))
 
-pub ends_with_counters :
+pub ends_with_counter_signatures :
     (k : ℕ) (all : Pairs) (z : State) (h : Header) (t u : State) (m n : InputPairs) (f : FieldsSeen) (xs : List CoseSignature) → (g : Goes k all f u z m (map signature_seen xs)) → FillsFields all (Some g.value) z (fields_seen h) t n (Ok false)
-    → HasOneIv (fields_seen h) → counters_held h ≡ xs → Passed n t z × (layered_header k).describes (dict all) (header_seen h)
-ends_with_counters k all z h t u m n f xs g p one held = (
+    → HasOneIv (fields_seen h) → counter_signatures_held h ≡ xs → Passed n t z × (layered_header k).describes (dict all) (header_seen h)
+ends_with_counter_signatures k all z h t u m n f xs g p one held = (
   (no_pairs, p.0.within),
-  counters_there k (dict all) (header_seen h) (Some g.value) g.value (fields_seen h) (map signature_seen xs) (unread_all all (Some g.value) (fields_seen h) t z n p.0 p.1 one) refl g.signatures
-      (header-opened h ∙ ap (λ ys. with_counters (fields_seen h) (signatures_of (map signature_seen ys))) held),
+  counter_signatures_there k (dict all) (header_seen h) (Some g.value) g.value (fields_seen h) (map signature_seen xs) (unread_all all (Some g.value) (fields_seen h) t z n p.0 p.1 one) refl g.signatures
+      (header-opened h ∙ ap (λ ys. with_counter_signatures (fields_seen h) (signatures_of (map signature_seen ys))) held),
 )
 
 -- ---- one, or several
@@ -201,13 +201,13 @@ one_filled_more k vs s t u z m n xs ys x p b read e =
 
 pub one_refused_more :
     (k : ℕ) (vs : Items) (s t u z : State) (m n : InputItems) (xs ys : List SignatureSeen) (x : SignatureSeen) (r : Result (Unit {0}) CoseError) (e : CoseError) → IsErrAnd r (λ i. i ≡ e) → (p : Filled k vs z m s xs)
-    → BeginsNext p.others t z n (Ok true) → ((v : Item) (y : State) → Stands v t y → (u ≡ y) × Names e ((layered_signature k).faults v))
+    → BeginsNext p.others t z n (Ok true) → ((v : Item) (y : State) → Stands v t y → (u ≡ y) × UnlessMemory e ((layered_signature k).faults v))
     → ((left : Items) × AreWithin n left u z) × FillsEach (layered_signature k) vs ys r
 one_refused_more k vs s t u z m n xs ys x (Ok i) e is p b read = absurd is
 one_refused_more k vs s t u z m n xs ys x (Err i) e is p b read =
     let here = read b.0 b.2 b.4 in (
       (b.1, subst (λ y. AreWithin n b.1 y z) (sym here.0) b.5),
-      subst (λ g. Names g (EachFaults (layered_signature k).faults vs)) (sym is) (λ q. p.continues.blames e (subst (λ ws. EachFaults (layered_signature k).faults ws e) (sym b.3) (inl (here.1 q)))),
+      subst (λ g. UnlessMemory g (EachFaults (layered_signature k).faults vs)) (sym is) (λ q. p.continues.blames e (subst (λ ws. EachFaults (layered_signature k).faults ws e) (sym b.3) (inl (here.1 q)))),
     )
 
 -- ---- a signature's places
@@ -236,7 +236,7 @@ pub last_refused :
     → (s : Second vs q u z m P) → EndsPlaces s.others w z n b (Err e) → ((left : Items) × AreWithin n left w z) × Fills (layered_signature k) (array vs) x r
 last_refused k vs u w z m n q P b x r e is s p = (
   (p.0, p.1),
-  not_filled (layered_signature k) x (array vs) r e is (subst (λ ws. Names e ((layered_signature k).faults (array ws))) (sym s.is) (p.2 (source_item q) s.second k)),
+  not_filled (layered_signature k) x (array vs) r e is (subst (λ ws. UnlessMemory e ((layered_signature k).faults (array ws))) (sym s.is) (p.2 (source_item q) s.second k)),
 )
 
 signature_filled :

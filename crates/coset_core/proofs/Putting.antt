@@ -3,7 +3,7 @@ use Rattle.std.proofs.Common.{◌≡◌, ◌≢◌, ◌==◌, ℕ, ℤ, Vec, Glo
 use Rattle.std.specs.Prelude.{pos, IfErr, OnOk, OnErr}
 use Rattle.coset_value.specs.Item.{Item}
 use Rattle.coset_shape.specs.Maps.{Fields, optional, listed, Where, is_core, Adds, Refuses}
-use Rattle.coset_shape.specs.Errors.{Names, IsUnexpected}
+use Rattle.coset_shape.specs.Errors.{UnlessMemory, IsUnexpected}
 use Rattle.coset_shape.specs.declared.error.CoseError.{CoseError}
 use Rattle.coset_shape.specs.Shape.{any, some_of, filled_bstr}
 use Rattle.coset_label.specs.Names.{Name, RegisteredName, number}
@@ -12,7 +12,7 @@ use Rattle.coset_core.specs.Headers.{no_signatures, signatures_of}
 use Rattle.coset_core.specs.Views.{signature_seen}
 use Rattle.coset_core.specs.declared.signature.CoseSignature.{CoseSignature}
 use Rattle.coset_core.specs.Fields.{algorithm, critical, content_type, FieldsSeen, Fielded, fields, names, same_name, bars, parts_of}
-use Rattle.coset_core.specs.Held.{TakesHeld, RefusesHeld}
+use Rattle.coset_core.specs.FieldValues.{TakesValue, RefusesValue}
 use Rattle.coset_core.specs.FieldLaws.{names_laws, same_name-sym}
 
 pub is_label : (i : ℤ) (m : Name) → same_name (number i) m ≡ true → number i ≡ m
@@ -43,7 +43,7 @@ abbrev F : Fields Name (Fielded (Option Item))
 F = fields (optional any)
 
 pub adds_alg :
-    (m : Name) (v : Item) (r : Result (Unit {0}) CoseError) (f g : FieldsSeen) (a : Option RegisteredName) (o : Option Item) → same_name (number (pos 1)) m ≡ true → OnOk r (TakesHeld (optional algorithm) v f.alg a)
+    (m : Name) (v : Item) (r : Result (Unit {0}) CoseError) (f g : FieldsSeen) (a : Option RegisteredName) (o : Option Item) → same_name (number (pos 1)) m ≡ true → OnOk r (TakesValue (optional algorithm) v f.alg a)
     → g ≡ record f { alg = a } → OnOk r (Adds names F m v (parts_of (f, o)) (parts_of (g, o)))
 adds_alg m v (Ok u) f g a o h t e =
     subst (λ l. Adds names F l v (parts_of (f, o)) (parts_of (g, o))) (is_label (pos 1) m h)
@@ -51,7 +51,7 @@ adds_alg m v (Ok u) f g a o h t e =
 adds_alg m v (Err x) f g a o h t e = t
 
 pub adds_crit :
-    (m : Name) (v : Item) (r : Result (Unit {0}) CoseError) (f g : FieldsSeen) (a : List RegisteredName) (o : Option Item) → same_name (number (pos 2)) m ≡ true → OnOk r (TakesHeld (listed (some_of critical)) v f.crit a)
+    (m : Name) (v : Item) (r : Result (Unit {0}) CoseError) (f g : FieldsSeen) (a : List RegisteredName) (o : Option Item) → same_name (number (pos 2)) m ≡ true → OnOk r (TakesValue (listed (some_of critical)) v f.crit a)
     → g ≡ record f { crit = a } → OnOk r (Adds names F m v (parts_of (f, o)) (parts_of (g, o)))
 adds_crit m v (Ok u) f g a o h t e =
     subst (λ l. Adds names F l v (parts_of (f, o)) (parts_of (g, o))) (is_label (pos 2) m h)
@@ -59,7 +59,7 @@ adds_crit m v (Ok u) f g a o h t e =
 adds_crit m v (Err x) f g a o h t e = t
 
 pub adds_content_type :
-    (m : Name) (v : Item) (r : Result (Unit {0}) CoseError) (f g : FieldsSeen) (a : Option Name) (o : Option Item) → same_name (number (pos 3)) m ≡ true → OnOk r (TakesHeld (optional content_type) v f.content_type a)
+    (m : Name) (v : Item) (r : Result (Unit {0}) CoseError) (f g : FieldsSeen) (a : Option Name) (o : Option Item) → same_name (number (pos 3)) m ≡ true → OnOk r (TakesValue (optional content_type) v f.content_type a)
     → g ≡ record f { content_type = a } → OnOk r (Adds names F m v (parts_of (f, o)) (parts_of (g, o)))
 adds_content_type m v (Ok u) f g a o h t e =
     subst (λ l. Adds names F l v (parts_of (f, o)) (parts_of (g, o))) (is_label (pos 3) m h)
@@ -67,7 +67,7 @@ adds_content_type m v (Ok u) f g a o h t e =
 adds_content_type m v (Err x) f g a o h t e = t
 
 pub adds_key_id :
-    (m : Name) (v : Item) (r : Result (Unit {0}) CoseError) (f g : FieldsSeen) (a : List ℕ) (o : Option Item) → same_name (number (pos 4)) m ≡ true → OnOk r (TakesHeld (listed filled_bstr) v f.key_id a)
+    (m : Name) (v : Item) (r : Result (Unit {0}) CoseError) (f g : FieldsSeen) (a : List ℕ) (o : Option Item) → same_name (number (pos 4)) m ≡ true → OnOk r (TakesValue (listed filled_bstr) v f.key_id a)
     → g ≡ record f { key_id = a } → OnOk r (Adds names F m v (parts_of (f, o)) (parts_of (g, o)))
 adds_key_id m v (Ok u) f g a o h t e =
     subst (λ l. Adds names F l v (parts_of (f, o)) (parts_of (g, o))) (is_label (pos 4) m h)
@@ -75,7 +75,7 @@ adds_key_id m v (Ok u) f g a o h t e =
 adds_key_id m v (Err x) f g a o h t e = t
 
 pub adds_iv :
-    (m : Name) (v : Item) (r : Result (Unit {0}) CoseError) (f g : FieldsSeen) (a : List ℕ) (o : Option Item) → same_name (number (pos 5)) m ≡ true → OnOk r (TakesHeld (listed filled_bstr) v f.iv a)
+    (m : Name) (v : Item) (r : Result (Unit {0}) CoseError) (f g : FieldsSeen) (a : List ℕ) (o : Option Item) → same_name (number (pos 5)) m ≡ true → OnOk r (TakesValue (listed filled_bstr) v f.iv a)
     → g ≡ record f { iv = a } → OnOk r (Adds names F m v (parts_of (f, o)) (parts_of (g, o)))
 adds_iv m v (Ok u) f g a o h t e =
     subst (λ l. Adds names F l v (parts_of (f, o)) (parts_of (g, o))) (is_label (pos 5) m h)
@@ -83,7 +83,7 @@ adds_iv m v (Ok u) f g a o h t e =
 adds_iv m v (Err x) f g a o h t e = t
 
 pub adds_partial_iv :
-    (m : Name) (v : Item) (r : Result (Unit {0}) CoseError) (f g : FieldsSeen) (a : List ℕ) (o : Option Item) → same_name (number (pos 6)) m ≡ true → OnOk r (TakesHeld (listed filled_bstr) v f.partial_iv a)
+    (m : Name) (v : Item) (r : Result (Unit {0}) CoseError) (f g : FieldsSeen) (a : List ℕ) (o : Option Item) → same_name (number (pos 6)) m ≡ true → OnOk r (TakesValue (listed filled_bstr) v f.partial_iv a)
     → g ≡ record f { partial_iv = a } → OnOk r (Adds names F m v (parts_of (f, o)) (parts_of (g, o)))
 adds_partial_iv m v (Ok u) f g a o h t e =
     subst (λ l. Adds names F l v (parts_of (f, o)) (parts_of (g, o))) (is_label (pos 6) m h)
@@ -93,25 +93,25 @@ adds_partial_iv m v (Err x) f g a o h t e = t
 -- why a field's label is refused
 pub refuses_crit :
     (m : Name) (v : Item) (r : Result (Unit {0}) CoseError) (x : Fielded (Option Item) × List (Name × Item)) → same_name (number (pos 2)) m ≡ true
-    → IfErr r (λ e. Names e (RefusesHeld (listed (some_of critical)) v x.0.1.0)) → IfErr r (λ e. Names e (λ f. Refuses names F m v x f ⊎ bars m x f))
+    → IfErr r (λ e. UnlessMemory e (RefusesValue (listed (some_of critical)) v x.0.1.0)) → IfErr r (λ e. UnlessMemory e (λ f. Refuses names F m v x f ⊎ bars m x f))
 refuses_crit m v (Ok u) x h t = t
 refuses_crit m v (Err e) x h t = λ n. inl (subst (λ l. Refuses names F l v x e) (is_label (pos 2) m h) (t n))
 
 pub refuses_iv :
     (m : Name) (v : Item) (r : Result (Unit {0}) CoseError) (x : Fielded (Option Item) × List (Name × Item)) (b : Bool) → same_name (number (pos 5)) m ≡ true
-    → (b ≡ true → x.0.1.1.1.1.1.0 ≢ []) → IfErr r (λ e. Names e (λ f. RefusesHeld (listed filled_bstr) v x.0.1.1.1.1.0 f ⊎ ((b ≡ true) × IsUnexpected f)))
-    → IfErr r (λ e. Names e (λ f. Refuses names F m v x f ⊎ bars m x f))
+    → (b ≡ true → x.0.1.1.1.1.1.0 ≢ []) → IfErr r (λ e. UnlessMemory e (λ f. RefusesValue (listed filled_bstr) v x.0.1.1.1.1.0 f ⊎ ((b ≡ true) × IsUnexpected f)))
+    → IfErr r (λ e. UnlessMemory e (λ f. Refuses names F m v x f ⊎ bars m x f))
 refuses_iv m v (Ok u) x b h some t = t
 refuses_iv m v (Err e) x b h some t = λ n. elim (t n) [ inl g ↦ inl (subst (λ l. Refuses names F l v x e) (is_label (pos 5) m h) g) | inr g ↦ inr (inl (h, some g.0, g.1)) ]
 
 pub refuses_partial_iv :
     (m : Name) (v : Item) (r : Result (Unit {0}) CoseError) (x : Fielded (Option Item) × List (Name × Item)) (b : Bool) → same_name (number (pos 6)) m ≡ true
-    → (b ≡ true → x.0.1.1.1.1.0 ≢ []) → IfErr r (λ e. Names e (λ f. RefusesHeld (listed filled_bstr) v x.0.1.1.1.1.1.0 f ⊎ ((b ≡ true) × IsUnexpected f)))
-    → IfErr r (λ e. Names e (λ f. Refuses names F m v x f ⊎ bars m x f))
+    → (b ≡ true → x.0.1.1.1.1.0 ≢ []) → IfErr r (λ e. UnlessMemory e (λ f. RefusesValue (listed filled_bstr) v x.0.1.1.1.1.1.0 f ⊎ ((b ≡ true) × IsUnexpected f)))
+    → IfErr r (λ e. UnlessMemory e (λ f. Refuses names F m v x f ⊎ bars m x f))
 refuses_partial_iv m v (Ok u) x b h some t = t
 refuses_partial_iv m v (Err e) x b h some t = λ n. elim (t n) [ inl g ↦ inl (subst (λ l. Refuses names F l v x e) (is_label (pos 6) m h) g) | inr g ↦ inr (inr (h, some g.0, g.1)) ]
 
--- one kind of initialization vector stays alone
+-- one of IV and Partial IV stays alone
 pub stays_alone :
     (r : Result (Unit {0}) CoseError) (old new : Vec ℕ Global) (other : List ℕ) (b : Bool) → OnOk r (b ≡ false) → OnErr r (new ≡ old) → (b ≡ false → other ≡ []) → (old.items ≡ []) ⊎ (other ≡ [])
     → (new.items ≡ []) ⊎ (other ≡ [])

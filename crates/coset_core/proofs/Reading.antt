@@ -7,7 +7,7 @@ use Rattle.coset_cbor.specs.declared.de.Error.TheVariants.{RecursionLimitExceede
 use Rattle.coset_shape.specs.declared.error.CoseError.{CoseError}
 use Rattle.coset_shape.specs.declared.error.CoseError.TheVariants.{DecodeFailed}
 use Rattle.coset_shape.specs.Answers.{Reads}
-use Rattle.coset_shape.specs.Errors.{Names, IsUnexpected}
+use Rattle.coset_shape.specs.Errors.{UnlessMemory, IsUnexpected}
 use Rattle.coset_shape.specs.declared.input.InputItems.{InputItems}
 use Rattle.coset_shape.specs.Inputs.{State, AreWithin}
 use Rattle.coset_shape.specs.Lists.{Continues}
@@ -17,14 +17,14 @@ use Rattle.coset_core.specs.Contents.{Fills, GetsEmpty}
 use Rattle.coset_core.specs.Views.{signature_seen}
 use Rattle.coset_core.specs.declared.signature.CoseSignature.{CoseSignature}
 use Rattle.std.proofs.lemmas.List.{map-append}
-use Rattle.coset_core.specs.Fields.{FieldsSeen, unread}
-use Rattle.coset_core.specs.HeaderReads.{counters_read, header_read}
-use Rattle.coset_core.specs.Headers.{HeaderSeen, SignatureSeen, empty_header, layered_header, layered_protected, layered_signature, no_signatures, signatures_of, with_counters}
+use Rattle.coset_core.specs.Fields.{FieldsSeen, partial_header}
+use Rattle.coset_core.specs.HeaderReads.{counter_signatures_read, header_read}
+use Rattle.coset_core.specs.Headers.{HeaderSeen, SignatureSeen, empty_header, layered_header, layered_protected, layered_signature, no_signatures, signatures_of, with_counter_signatures}
 
 -- an error that is passed on
-pub passed_on : {T A : Type 0} (s : Shape A) (seen : T → A) (v : Item) (r : Result T CoseError) (e : CoseError) → IsErrAnd r (λ f. f ≡ e) → Names e (s.faults v) → Reads s seen v r
+pub passed_on : {T A : Type 0} (s : Shape A) (seen : T → A) (v : Item) (r : Result T CoseError) (e : CoseError) → IsErrAnd r (λ f. f ≡ e) → UnlessMemory e (s.faults v) → Reads s seen v r
 passed_on s seen v (Ok x) e h n = absurd h
-passed_on s seen v (Err f) e h n = subst (λ g. Names g (s.faults v)) (sym h) n
+passed_on s seen v (Err f) e h n = subst (λ g. UnlessMemory g (s.faults v)) (sym h) n
 
 -- ---- how deep the parts are
 
@@ -58,21 +58,21 @@ content_described (suc k) j v b h z i d = (b, i, refl, subst (λ n. ContentDescr
 
 -- ---- a header's map, and then its counter signatures
 
-pub counters_there :
-    (k : ℕ) (v : Item) (h : HeaderSeen) (o : Option Item) (w : Item) (f : FieldsSeen) (xs : List SignatureSeen) → unread.describes v (f, o) → o ≡ Some w → (one_or_many (any_number (layered_signature k))).describes w xs
-    → h ≡ with_counters f (signatures_of xs) → (layered_header k).describes v h
-counters_there k v h o w f xs p e q same =
-    subst ((layered_header k).describes v) (sym same) (header_read k v f (Some w) (signatures_of xs) (subst (λ x. unread.describes v (f, x)) e p) (counters_read k w xs q))
+pub counter_signatures_there :
+    (k : ℕ) (v : Item) (h : HeaderSeen) (o : Option Item) (w : Item) (f : FieldsSeen) (xs : List SignatureSeen) → partial_header.describes v (f, o) → o ≡ Some w → (one_or_many (any_number (layered_signature k))).describes w xs
+    → h ≡ with_counter_signatures f (signatures_of xs) → (layered_header k).describes v h
+counter_signatures_there k v h o w f xs p e q same =
+    subst ((layered_header k).describes v) (sym same) (header_read k v f (Some w) (signatures_of xs) (subst (λ x. partial_header.describes v (f, x)) e p) (counter_signatures_read k w xs q))
 
-pub counters_missing : (k : ℕ) (v : Item) (h : HeaderSeen) (o : Option Item) → unread.describes v (h.fields, o) → o ≡ None → h.counter_signatures ≡ no_signatures → (layered_header k).describes v h
-counters_missing k v h o p e q = header_read k v h.fields None h.counter_signatures (subst (λ x. unread.describes v (h.fields, x)) e p) q
+pub counter_signatures_missing : (k : ℕ) (v : Item) (h : HeaderSeen) (o : Option Item) → partial_header.describes v (h.fields, o) → o ≡ None → h.counter_signatures ≡ no_signatures → (layered_header k).describes v h
+counter_signatures_missing k v h o p e q = header_read k v h.fields None h.counter_signatures (subst (λ x. partial_header.describes v (h.fields, x)) e p) q
 
 -- ---- places that are filled
 
 -- an error that is passed on
-pub not_filled : {A : Type 0} (s : Shape A) (x : A) (v : Item) (r : Result (Unit {0}) CoseError) (e : CoseError) → IsErrAnd r (λ f. f ≡ e) → Names e (s.faults v) → Fills s v x r
+pub not_filled : {A : Type 0} (s : Shape A) (x : A) (v : Item) (r : Result (Unit {0}) CoseError) (e : CoseError) → IsErrAnd r (λ f. f ≡ e) → UnlessMemory e (s.faults v) → Fills s v x r
 not_filled s x v (Ok u) e h n = absurd h
-not_filled s x v (Err f) e h n = subst (λ g. Names g (s.faults v)) (sym h) n
+not_filled s x v (Err f) e h n = subst (λ g. UnlessMemory g (s.faults v)) (sym h) n
 
 -- the last of a list that one more was pushed on
 last_set : {A : Type 0} (xs : List A) (x y : A) → slice_set (xs ++ x ∷ []) (length xs) y ≡ xs ++ y ∷ []

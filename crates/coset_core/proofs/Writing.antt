@@ -5,7 +5,7 @@ use Rattle.std.proofs.lemmas.List.{take_more, take-append-drop, map_push, map-ap
 use Rattle.coset_value.specs.Item.{Item, array, items_count, pairs_count}
 use Rattle.coset_value.specs.Range.{AreInRange, ArePairsInRange}
 use Rattle.coset_value.specs.View.{items_of}
-use Rattle.coset_cbor.specs.Least.{least_head, short, shorts, pair_shorts}
+use Rattle.coset_cbor.specs.Least.{least_head, least_encoding, least_encodings, least_pair_encodings}
 use Rattle.coset_shape.specs.Encoding.{AppendsItem}
 use Rattle.coset_shape.specs.Maps.{put_field, named_image}
 use Rattle.coset_label.specs.Labels.{label}
@@ -37,9 +37,9 @@ around see xs i x lt is =
 
 -- ---- items
 
-shorts-append : (vs ws : List Item) → shorts (items_of (vs ++ ws)) ≡ shorts (items_of vs) ++ shorts (items_of ws)
-shorts-append [] ws = refl
-shorts-append (v ∷ vs) ws = rw (shorts-append vs ws, append_assoc (short v) (shorts (items_of vs)) (shorts (items_of ws))) refl
+least_encodings-append : (vs ws : List Item) → least_encodings (items_of (vs ++ ws)) ≡ least_encodings (items_of vs) ++ least_encodings (items_of ws)
+least_encodings-append [] ws = refl
+least_encodings-append (v ∷ vs) ws = rw (least_encodings-append vs ws, append_assoc (least_encoding v) (least_encodings (items_of vs)) (least_encodings (items_of ws))) refl
 
 items_in_range-append : (vs ws : List Item) → AreInRange (items_of vs) → AreInRange (items_of ws) → AreInRange (items_of (vs ++ ws))
 items_in_range-append [] ws p q = q
@@ -53,7 +53,7 @@ items-none s = record { in_range = tt; parts = sym (append-nil s) }
 pub items-push : (old mid new : List ℕ) (vs : List Item) (v : Item) → AppendsItems old mid vs → AppendsItem mid new v → AppendsItems old new (vs ++ v ∷ [])
 items-push old mid new vs v p q = record {
   in_range = items_in_range-append vs (v ∷ []) p.in_range (q.in_range, tt);
-  parts = rw (q.parts, p.parts, shorts-append vs (v ∷ []), append-nil (short v)) (append_assoc old (shorts (items_of vs)) (short v));
+  parts = rw (q.parts, p.parts, least_encodings-append vs (v ∷ []), append-nil (least_encoding v)) (append_assoc old (least_encodings (items_of vs)) (least_encoding v));
 }
 
 -- one more of a row
@@ -75,15 +75,15 @@ array-put vs n old head new count small first p =
     let same : items_count (items_of vs) ≡ n = count-items vs ∙ sym count in
     record {
       in_range = (rw same small, p.in_range);
-      parts = rw (p.parts, first, same) (append_assoc old (least_head 4 n) (shorts (items_of vs)));
+      parts = rw (p.parts, first, same) (append_assoc old (least_head 4 n) (least_encodings (items_of vs)));
     }
 
 -- ---- pairs
 
-pair_shorts-append : (es fs : List (Name × Item)) → pair_shorts (entry_pairs (es ++ fs)) ≡ pair_shorts (entry_pairs es) ++ pair_shorts (entry_pairs fs)
-pair_shorts-append [] fs = refl
-pair_shorts-append (e ∷ es) fs =
-    rw (pair_shorts-append es fs, append_assoc (short (name_item e.0)) (short e.1 ++ pair_shorts (entry_pairs es)) (pair_shorts (entry_pairs fs)), append_assoc (short e.1) (pair_shorts (entry_pairs es)) (pair_shorts (entry_pairs fs))) refl
+least_pair_encodings-append : (es fs : List (Name × Item)) → least_pair_encodings (entry_pairs (es ++ fs)) ≡ least_pair_encodings (entry_pairs es) ++ least_pair_encodings (entry_pairs fs)
+least_pair_encodings-append [] fs = refl
+least_pair_encodings-append (e ∷ es) fs =
+    rw (least_pair_encodings-append es fs, append_assoc (least_encoding (name_item e.0)) (least_encoding e.1 ++ least_pair_encodings (entry_pairs es)) (least_pair_encodings (entry_pairs fs)), append_assoc (least_encoding e.1) (least_pair_encodings (entry_pairs es)) (least_pair_encodings (entry_pairs fs))) refl
 
 in_range-append : (es fs : List (Name × Item)) → ArePairsInRange (entry_pairs es) → ArePairsInRange (entry_pairs fs) → ArePairsInRange (entry_pairs (es ++ fs))
 in_range-append [] fs p q = q
@@ -97,14 +97,14 @@ pairs-none s = record { in_range = tt; parts = sym (append-nil s) }
 pub pairs-then : (old mid new : List ℕ) (es fs : List (Name × Item)) → AppendsPairs old mid es → AppendsPairs mid new fs → AppendsPairs old new (es ++ fs)
 pairs-then old mid new es fs p q = record {
   in_range = in_range-append es fs p.in_range q.in_range;
-  parts = rw (q.parts, p.parts, pair_shorts-append es fs) (append_assoc old (pair_shorts (entry_pairs es)) (pair_shorts (entry_pairs fs)));
+  parts = rw (q.parts, p.parts, least_pair_encodings-append es fs) (append_assoc old (least_pair_encodings (entry_pairs es)) (least_pair_encodings (entry_pairs fs)));
 }
 
 -- one pair
 pub pair-put : (old mid new : List ℕ) (n : Name) (v : Item) → AppendsItem old mid (name_item n) → AppendsItem mid new v → AppendsPairs old new ((n, v) ∷ [])
 pair-put old mid new n v p q = record {
   in_range = (p.in_range, q.in_range, tt);
-  parts = rw (q.parts, p.parts, append-nil (short v)) (append_assoc old (short (name_item n)) (short v));
+  parts = rw (q.parts, p.parts, append-nil (least_encoding v)) (append_assoc old (least_encoding (name_item n)) (least_encoding v));
 }
 
 -- as many pairs as there are labels

@@ -6,28 +6,28 @@ use Rattle.std.proofs.lemmas.List.{length-append}
 use Rattle.std.proofs.lemmas.Grind.{common_steps}
 use Rattle.coset_value.specs.Item.{Item, bytes, array, dict, Items, no_items, item, pairs_count}
 use Rattle.coset_value.specs.View.{items_of}
-use Rattle.coset_cbor.specs.Least.{least_head, short, pair_shorts}
+use Rattle.coset_cbor.specs.Least.{least_head, least_encoding, least_pair_encodings}
 use Rattle.coset_shape.specs.declared.error.CoseError.{CoseError}
 use Rattle.coset_shape.specs.declared.error.CoseError.TheVariants.{DuplicateMapKey}
 use Rattle.coset_shape.specs.Encoding.{AppendsItem, AppendsImage, Encodes}
-use Rattle.coset_shape.specs.Errors.{Names as Tells}
+use Rattle.coset_shape.specs.Errors.{UnlessMemory}
 use Rattle.coset_shape.specs.Maps.{put_field, are_distinct, optional, listed}
-use Rattle.coset_shape.specs.Shape.{both, images, bare, some_of, filled_bstr}
+use Rattle.coset_shape.specs.Shape.{both, images, one_or_array, some_of, filled_bstr}
 use Rattle.coset_label.specs.Names.{Name, number, name_item, RegisteredName}
 use Rattle.coset_shape.proofs.Encoding.{array-put as array-put-places, place-put, nothing-put}
 use Rattle.coset_core.specs.Fields.{FieldsSeen, same_name, algorithm, critical, content_type}
-use Rattle.coset_core.specs.Headers.{HeaderSeen, ProtectedSeen, SignatureSeen, Signatures, no_signatures, signature_and, signatures_of, are_none, counters_item, header_item, signature_item, signatures_image, header_image, kept_bytes}
+use Rattle.coset_core.specs.Headers.{HeaderSeen, ProtectedSeen, SignatureSeen, Signatures, no_signatures, signature_and, signatures_of, are_none, counter_signatures_item, header_item, signature_item, signatures_image, header_image, protected_bytes}
 use Rattle.coset_core.specs.HeaderWrites.{three, fields_put, images_signatures, signature_image_is, algorithm_image, critical_image, content_type_image, Puts, header_put, header_repeats}
-use Rattle.coset_core.specs.Written.{AppendsItems, AppendsPairs, AppendsCounters, AppendsSignatures, entry_pairs, registered_item, critical_item, filled_item, header_fields, plain_fields, one, count_pairs, signature_array}
+use Rattle.coset_core.specs.Written.{AppendsItems, AppendsPairs, AppendsCounterSignatures, AppendsSignatures, entry_pairs, registered_item, critical_item, filled_item, header_fields, plain_fields, one, count_pairs, signature_array}
 use Rattle.coset_core.proofs.Writing.{items-push, array-put, pairs-none, pairs-then, pair-put, count-entries, image-entries}
 
 -- an error passed on that says of P what another is asked to say of Q
-pub passes : {T : Type 0} (r : Result T CoseError) (f : CoseError) (P Q : Type 0) → IsErrAnd r (λ e. e ≡ f) → (P → Q) → Tells f (λ g. (g ≡ DuplicateMapKey) × P) → IfErr r (λ e. Tells e (λ g. (g ≡ DuplicateMapKey) × Q))
+pub passes : {T : Type 0} (r : Result T CoseError) (f : CoseError) (P Q : Type 0) → IsErrAnd r (λ e. e ≡ f) → (P → Q) → UnlessMemory f (λ g. (g ≡ DuplicateMapKey) × P) → IfErr r (λ e. UnlessMemory e (λ g. (g ≡ DuplicateMapKey) × Q))
 passes (Ok x) f P Q same h tells = tt
 passes (Err e) f P Q same h tells = λ other. let told = tells (λ m. other (same ∙ m)) in (same ∙ told.0, h told.1)
 
--- the same, where that is that an item is missing
-pub unencoded : {T : Type 0} (r : Result T CoseError) (f : CoseError) (P : Type 0) (o : Option Item) (old new : List ℕ) → IsErrAnd r (λ e. e ≡ f) → (P → o ≡ None) → Tells f (λ g. (g ≡ DuplicateMapKey) × P) → Encodes o old new r
+-- an error passed on that says that an item is missing
+pub unencoded : {T : Type 0} (r : Result T CoseError) (f : CoseError) (P : Type 0) (o : Option Item) (old new : List ℕ) → IsErrAnd r (λ e. e ≡ f) → (P → o ≡ None) → UnlessMemory f (λ g. (g ≡ DuplicateMapKey) × P) → Encodes o old new r
 unencoded {T} (Ok x) f P o old new same h tells = absurd same
 unencoded {T} (Err e) f P o old new same h tells = passes {T = T} (Err e) f P (o ≡ None) same h tells
 
@@ -35,25 +35,25 @@ unencoded {T} (Err e) f P o old new same h tells = passes {T = T} (Err e) f P (o
 
 -- a head, the byte string, the unprotected header and the bytes are the array of a signature
 pub signature-put :
-    (s : SignatureSeen) (old head mid half new : List ℕ) → head ≡ old ++ least_head 4 3 → AppendsImage (option_map bytes (kept_bytes s.protected)) head mid → AppendsImage (header_image s.unprotected) mid half → AppendsItem half new (bytes s.signature)
+    (s : SignatureSeen) (old head mid half new : List ℕ) → head ≡ old ++ least_head 4 3 → AppendsImage (option_map bytes (protected_bytes s.protected)) head mid → AppendsImage (header_image s.unprotected) mid half → AppendsItem half new (bytes s.signature)
     → AppendsImage (signature_array s) old new
 signature-put s old head mid half new first p u b =
-    subst (λ o. AppendsImage o old new) (three (kept_bytes s.protected) (header_image s.unprotected) s.signature) (array-put-places 3 (omega arith) first (place-put p (place-put u (place-put (bytes s.signature, refl, b) (nothing-put new)))))
+    subst (λ o. AppendsImage o old new) (three (protected_bytes s.protected) (header_image s.unprotected) s.signature) (array-put-places 3 (omega arith) first (place-put p (place-put u (place-put (bytes s.signature, refl, b) (nothing-put new)))))
 
 -- a byte string is that of a protected header
-pub string-put : (p : ProtectedSeen) (b old new : List ℕ) → kept_bytes p ≡ Some b → AppendsItem old new (bytes b) → AppendsImage (option_map bytes (kept_bytes p)) old new
+pub string-put : (p : ProtectedSeen) (b old new : List ℕ) → protected_bytes p ≡ Some b → AppendsItem old new (bytes b) → AppendsImage (option_map bytes (protected_bytes p)) old new
 string-put p b old new e put = (bytes b, ap (option_map bytes) e, put)
 
 -- none of its parts may be missing
 pub unsigned-unprotected : (s : SignatureSeen) → header_image s.unprotected ≡ None → signature_array s ≡ None
-unsigned-unprotected s e = ap (λ o. signature_item (kept_bytes s.protected) o s.signature) e ∙ last (kept_bytes s.protected)
+unsigned-unprotected s e = ap (λ o. signature_item (protected_bytes s.protected) o s.signature) e ∙ last (protected_bytes s.protected)
   where
     last : (o : Option (List ℕ)) → signature_item o None s.signature ≡ None
     last (Some b) = refl
     last None = refl
 
-pub unsigned-protected : (s : SignatureSeen) → option_map bytes (kept_bytes s.protected) ≡ None → signature_array s ≡ None
-unsigned-protected s e = sym (three (kept_bytes s.protected) (header_image s.unprotected) s.signature) ∙ ap (λ o. option_map array (both item o (both item (header_image s.unprotected) (Some (item (bytes s.signature) no_items))))) e
+pub unsigned-protected : (s : SignatureSeen) → option_map bytes (protected_bytes s.protected) ≡ None → signature_array s ≡ None
+unsigned-protected s e = sym (three (protected_bytes s.protected) (header_image s.unprotected) s.signature) ∙ ap (λ o. option_map array (both item o (both item (header_image s.unprotected) (Some (item (bytes s.signature) no_items))))) e
 
 -- ---- several
 
@@ -106,25 +106,25 @@ signatures-none ss more s e = each (ss ++ s ∷ more) ∙ (images-append signatu
 -- ---- label 7
 
 -- one alone, or a head and several
-bare-put :
+one_or_array-put :
     (vs : List Item) (n : ℕ) (old head new : List ℕ) → not (length vs == 0) ≡ true → n ≡ length vs → n < 2 ^ 64 → (n ≡ 1 → head ≡ old) → (n ≢ 1 → head ≡ old ++ least_head 4 n) → AppendsItems head new vs
-    → AppendsItem old new (bare (items_of vs))
-bare-put [] n old head new h count small alone several p = absurd (true≢false (sym h))
-bare-put (v ∷ []) n old head new h count small alone several p = record { in_range = p.in_range.0; parts = p.parts ∙ rw (alone count, append-nil (short v)) refl }
-bare-put (v ∷ w ∷ vs) n old head new h count small alone several p = array-put (v ∷ w ∷ vs) n old head new count small (several (λ e. absurd (omega (arith, e, count)))) p
+    → AppendsItem old new (one_or_array (items_of vs))
+one_or_array-put [] n old head new h count small alone several p = absurd (true≢false (sym h))
+one_or_array-put (v ∷ []) n old head new h count small alone several p = record { in_range = p.in_range.0; parts = p.parts ∙ rw (alone count, append-nil (least_encoding v)) refl }
+one_or_array-put (v ∷ w ∷ vs) n old head new h count small alone several p = array-put (v ∷ w ∷ vs) n old head new count small (several (λ e. absurd (omega (arith, e, count)))) p
 
-pub counters-put :
+pub counter_signatures-put :
     (ss : List SignatureSeen) (n : ℕ) (old mid head new : List ℕ) → not (length ss == 0) ≡ true → n ≡ length ss → n < 2 ^ 64 → AppendsItem old mid (name_item (number (pos 7))) → (n ≡ 1 → head ≡ mid)
-    → (n ≢ 1 → head ≡ mid ++ least_head 4 n) → AppendsSignatures head new ss → AppendsCounters old new (signatures_of ss)
-counters-put [] n old mid head new h count small name alone several p = absurd (true≢false (sym h))
-counters-put (s ∷ ss) n old mid head new h count small name alone several p = (
-  Some (bare (items_of p.0)),
-  ap (option_map (λ vs. Some (bare vs))) p.1,
-  pair-put old mid new (number (pos 7)) (bare (items_of p.0)) name (bare-put p.0 n mid head new (rw p.2 h) (count ∙ sym p.2) small alone several p.3),
+    → (n ≢ 1 → head ≡ mid ++ least_head 4 n) → AppendsSignatures head new ss → AppendsCounterSignatures old new (signatures_of ss)
+counter_signatures-put [] n old mid head new h count small name alone several p = absurd (true≢false (sym h))
+counter_signatures-put (s ∷ ss) n old mid head new h count small name alone several p = (
+  Some (one_or_array (items_of p.0)),
+  ap (option_map (λ vs. Some (one_or_array vs))) p.1,
+  pair-put old mid new (number (pos 7)) (one_or_array (items_of p.0)) name (one_or_array-put p.0 n mid head new (rw p.2 h) (count ∙ sym p.2) small alone several p.3),
 )
 
-pub counters-none : (s : List ℕ) → AppendsCounters s s no_signatures
-counters-none s = (None, refl, pairs-none s)
+pub counter_signatures-none : (s : List ℕ) → AppendsCounterSignatures s s no_signatures
+counter_signatures-none s = (None, refl, pairs-none s)
 
 -- ---- what the fields are written as
 
@@ -185,27 +185,27 @@ abbrev is_there : Option (Option Item) → Bool
 is_there (Some (Some v)) = true
 is_there o = false
 
-is_some-counters : (ss : Signatures) (o : Option Item) → counters_item ss (signatures_image ss) ≡ Some o → is_some o ≡ not (are_none ss)
-is_some-counters ss o e = there o ∙ (sym (ap is_there e) ∙ named ss o e)
+is_some-counter_signatures : (ss : Signatures) (o : Option Item) → counter_signatures_item ss (signatures_image ss) ≡ Some o → is_some o ≡ not (are_none ss)
+is_some-counter_signatures ss o e = there o ∙ (sym (ap is_there e) ∙ named ss o e)
   where
     there : (o : Option Item) → is_some o ≡ is_there (Some o)
     there (Some v) = refl
     there None = refl
 
-    some : (q : Option Items) (o : Option Item) → option_map (λ vs. Some (bare vs)) q ≡ Some o → is_there (option_map (λ vs. Some (bare vs)) q) ≡ true
+    some : (q : Option Items) (o : Option Item) → option_map (λ vs. Some (one_or_array vs)) q ≡ Some o → is_there (option_map (λ vs. Some (one_or_array vs)) q) ≡ true
     some (Some vs) o e = refl
     some None o e = absurd (true≢false (sym (ap is_some e)))
 
-    named : (ss : Signatures) (o : Option Item) → counters_item ss (signatures_image ss) ≡ Some o → is_there (counters_item ss (signatures_image ss)) ≡ not (are_none ss)
+    named : (ss : Signatures) (o : Option Item) → counter_signatures_item ss (signatures_image ss) ≡ Some o → is_there (counter_signatures_item ss (signatures_image ss)) ≡ not (are_none ss)
     named no_signatures o e = refl
     named (signature_and b p ps u us s more) o e = some (signatures_image (signature_and b p ps u us s more)) o e
 
-count-all : (h : HeaderSeen) (o : Option Item) → counters_item h.counter_signatures (signatures_image h.counter_signatures) ≡ Some o → length (header_fields h.fields o) + length h.fields.rest ≡ count_pairs h
+count-all : (h : HeaderSeen) (o : Option Item) → counter_signatures_item h.counter_signatures (signatures_image h.counter_signatures) ≡ Some o → length (header_fields h.fields o) + length h.fields.rest ≡ count_pairs h
 count-all h o e =
     let f = h.fields in
     let a : is_some (option_map registered_item f.alg) ≡ is_some f.alg = is_some-map registered_item f.alg in
     let t : is_some (option_map name_item f.content_type) ≡ is_some f.content_type = is_some-map name_item f.content_type in
-    rw (count-fields, a, t, is_some-critical f.crit, is_some-filled f.key_id, is_some-filled f.iv, is_some-filled f.partial_iv, is_some-counters h.counter_signatures o e) (omega arith)
+    rw (count-fields, a, t, is_some-critical f.crit, is_some-filled f.key_id, is_some-filled f.iv, is_some-filled f.partial_iv, is_some-counter_signatures h.counter_signatures o e) (omega arith)
 
 -- ---- headers
 
@@ -226,31 +226,31 @@ dict-put es n old head new count small first p =
     let same : pairs_count (entry_pairs es) ≡ n = count-entries es ∙ sym count in
     record {
       in_range = (rw same small, p.in_range);
-      parts = rw (p.parts, first, same) (append_assoc old (least_head 5 n) (pair_shorts (entry_pairs es)));
+      parts = rw (p.parts, first, same) (append_assoc old (least_head 5 n) (least_pair_encodings (entry_pairs es)));
     }
 
 -- a head, the first six fields, the pair of label 7 and the rest are the header's map
 pub map-put :
     (h : HeaderSeen) (n : ℕ) (old head mid half new : List ℕ) → are_distinct same_name (keys_of h.fields.rest) ≡ true → n ≡ count_pairs h → n < 2 ^ 64 → head ≡ old ++ least_head 5 n → AppendsPairs head mid (plain_fields h.fields)
-    → AppendsCounters mid half h.counter_signatures → AppendsPairs half new h.fields.rest → AppendsImage (header_image h) old new
-map-put h n old head mid half new distinct count small first plain counters rest =
+    → AppendsCounterSignatures mid half h.counter_signatures → AppendsPairs half new h.fields.rest → AppendsImage (header_image h) old new
+map-put h n old head mid half new distinct count small first plain counter_signatures rest =
     let f = h.fields in
-    let o = counters.0 in
-    let fields : AppendsPairs head half (header_fields f o) = subst (AppendsPairs head half) (last-field f o) (pairs-then head mid half (plain_fields f) (put_field (number (pos 7)) o []) plain counters.2) in
+    let o = counter_signatures.0 in
+    let fields : AppendsPairs head half (header_fields f o) = subst (AppendsPairs head half) (last-field f o) (pairs-then head mid half (plain_fields f) (put_field (number (pos 7)) o []) plain counter_signatures.2) in
     let all = pairs-then head half new (header_fields f o) f.rest fields rest in
-    let long : n ≡ length (header_fields f o ++ f.rest) = count ∙ (sym (count-all h o counters.1) ∙ sym (length-append (header_fields f o) f.rest)) in (
+    let long : n ≡ length (header_fields f o ++ f.rest) = count ∙ (sym (count-all h o counter_signatures.1) ∙ sym (length-append (header_fields f o) f.rest)) in (
       dict (entry_pairs (header_fields f o ++ f.rest)),
-      ap (header_item f) counters.1 ∙ (header_put f _ _ _ _ _ _ o (puts f) distinct ∙ ap (option_map dict) (image-entries (header_fields f o ++ f.rest))),
+      ap (header_item f) counter_signatures.1 ∙ (header_put f _ _ _ _ _ _ o (puts f) distinct ∙ ap (option_map dict) (image-entries (header_fields f o ++ f.rest))),
       dict-put (header_fields f o ++ f.rest) n old head new long small first all,
     )
 
 -- no map is written where a label of the rest repeats, or the signatures can't be written
 pub unwritten-rest : (h : HeaderSeen) → are_distinct same_name (keys_of h.fields.rest) ≡ false → header_image h ≡ None
-unwritten-rest h e = header_repeats h.fields (counters_item h.counter_signatures (signatures_image h.counter_signatures)) e
+unwritten-rest h e = header_repeats h.fields (counter_signatures_item h.counter_signatures (signatures_image h.counter_signatures)) e
 
-pub unwritten-counters : (h : HeaderSeen) → signatures_image h.counter_signatures ≡ None → header_image h ≡ None
-unwritten-counters h e = ap (header_item h.fields) (none h.counter_signatures e)
+pub unwritten-counter_signatures : (h : HeaderSeen) → signatures_image h.counter_signatures ≡ None → header_image h ≡ None
+unwritten-counter_signatures h e = ap (header_item h.fields) (none h.counter_signatures e)
   where
-    none : (ss : Signatures) → signatures_image ss ≡ None → counters_item ss (signatures_image ss) ≡ None
+    none : (ss : Signatures) → signatures_image ss ≡ None → counter_signatures_item ss (signatures_image ss) ≡ None
     none no_signatures e = absurd (true≢false (ap is_some e))
-    none (signature_and b p ps u us s more) e = ap (option_map (λ vs. Some (bare vs))) e
+    none (signature_and b p ps u us s more) e = ap (option_map (λ vs. Some (one_or_array vs))) e

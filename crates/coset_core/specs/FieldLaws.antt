@@ -8,14 +8,14 @@ use Rattle.coset_value.specs.Parts.{as_map}
 use Rattle.coset_shape.specs.Errors.{IsUnexpected}
 use Rattle.coset_shape.specs.Shape.{any, filled_bstr, some_of}
 use Rattle.coset_shape.specs.ShapeLaws.{Lawful, Again, some-one, along_laws, that_laws, any_laws, filled_bstr_laws, some_of_laws}
-use Rattle.coset_shape.specs.Maps.{Held, optional, listed, Named, HasLabel, SomePair, SoFar, Barred, and_pairs}
+use Rattle.coset_shape.specs.Maps.{FieldShape, optional, listed, Named, HasLabel, SomePair, SoFar, Barred, and_pairs}
 use Rattle.coset_shape.specs.declared.error.CoseError.{CoseError}
-use Rattle.coset_shape.specs.MapLaws.{LawfulNames, LawfulHeld, LawfulFields, Flat, field_laws, no_field_laws, optional_laws, listed_laws, labelled_laws, new_of, not_new, has_label, lookup_none, lookup_later}
+use Rattle.coset_shape.specs.MapLaws.{LawfulNames, LawfulFieldShape, LawfulFields, Flat, field_laws, no_field_laws, optional_laws, listed_laws, labelled_laws, new_of, not_new, has_label, lookup_none, lookup_later}
 use Rattle.coset_label.specs.Names.{Name, number, RegisteredName}
 use Rattle.coset_label.specs.Labels.{label}
 use Rattle.coset_label.specs.LabelLaws.{label_laws, registered_laws, registered_or_private_laws}
 use Rattle.coset_label.specs.NameOrder.{name_cmp-apart}
-use Rattle.coset_core.specs.Fields.{FieldsSeen, algorithm, critical, content_type, IsContentType, same_name, names, Fielded, fields, fields_of, parts_of, HasOneIv, HasBothIvs, map_of, map_with, unread, SomeCounters, bars}
+use Rattle.coset_core.specs.Fields.{FieldsSeen, algorithm, critical, content_type, IsContentType, same_name, names, Fielded, fields, fields_of, parts_of, HasOneIv, HasBothIvs, map_of, map_with, partial_header, SomeCounterSignatures, bars}
 
 pub names_laws : LawfulNames Name names
 names_laws = record {
@@ -73,26 +73,26 @@ flat_iv = record { key = integer (pos 5); is_image = refl; described = (refl, (r
 flat_partial_iv : Flat Name names (number (pos 6))
 flat_partial_iv = record { key = integer (pos 6); is_image = refl; described = (refl, (refl, search rules)); flat = refl }
 
-flat_counters : Flat Name names (number (pos 7))
-flat_counters = record { key = integer (pos 7); is_image = refl; described = (refl, (refl, search rules)); flat = refl }
+flat_counter_signatures : Flat Name names (number (pos 7))
+flat_counter_signatures = record { key = integer (pos 7); is_image = refl; described = (refl, (refl, search rules)); flat = refl }
 
-filled_held : LawfulHeld (List ℕ) (listed filled_bstr)
-filled_held = listed_laws filled_bstr (λ v p. p.1 refl) filled_bstr_laws
+filled_laws : LawfulFieldShape (List ℕ) (listed filled_bstr)
+filled_laws = listed_laws filled_bstr (λ v p. p.1 refl) filled_bstr_laws
 
-pub fields_laws : {C : Type 0} (c : Held C) → LawfulHeld C c → LawfulFields Name (Fielded C) names (fields c)
+pub fields_laws : {C : Type 0} (c : FieldShape C) → LawfulFieldShape C c → LawfulFields Name (Fielded C) names (fields c)
 fields_laws c l =
     field_laws names names_laws (number (pos 1)) flat_alg _ (optional_laws algorithm algorithm_laws) _
     (field_laws names names_laws (number (pos 2)) flat_crit _ (listed_laws (some_of critical) (λ v p. p.1 refl) criticals_laws) _
     (field_laws names names_laws (number (pos 3)) flat_content_type _ (optional_laws content_type content_type_laws) _
-    (field_laws names names_laws (number (pos 4)) flat_kid _ filled_held _
-    (field_laws names names_laws (number (pos 5)) flat_iv _ filled_held _
-    (field_laws names names_laws (number (pos 6)) flat_partial_iv _ filled_held _
-    (field_laws names names_laws (number (pos 7)) flat_counters c l _ (no_field_laws names names_laws) refl)
+    (field_laws names names_laws (number (pos 4)) flat_kid _ filled_laws _
+    (field_laws names names_laws (number (pos 5)) flat_iv _ filled_laws _
+    (field_laws names names_laws (number (pos 6)) flat_partial_iv _ filled_laws _
+    (field_laws names names_laws (number (pos 7)) flat_counter_signatures c l _ (no_field_laws names names_laws) refl)
     refl) refl) refl) refl) refl) refl
 
 -- ---- maps of them
 
-map_of_laws : {C : Type 0} (c : Held C) → LawfulHeld C c → Lawful (FieldsSeen × C) (map_of c)
+map_of_laws : {C : Type 0} (c : FieldShape C) → LawfulFieldShape C c → Lawful (FieldsSeen × C) (map_of c)
 map_of_laws c l = along_laws fields_of parts_of (λ x. refl) _ (labelled_laws names names_laws true (fields c) (fields_laws c l))
 
 -- a vector that some pair has is there
@@ -104,7 +104,7 @@ iv_there l ps es iv n h d none = go (lookup (same_name l) es) refl d
     go None e p = not_new names names_laws ps es l n h (new_of names l es e)
 
 -- so both are where both labels stand
-not_both : {C : Type 0} (c : Held C) (v : Item) (x : FieldsSeen × C) → (map_of c).describes v x → HasOneIv x.0 → HasBothIvs v → ⊥
+not_both : {C : Type 0} (c : FieldShape C) (v : Item) (x : FieldsSeen × C) → (map_of c).describes v x → HasOneIv x.0 → HasBothIvs v → ⊥
 not_both c v x p one both =
     let ps = p.0 in
     let m = p.2 in
@@ -114,7 +114,7 @@ not_both c v x p one both =
       | inr h ↦ iv_there (number (pos 6)) ps m.entries x.0.partial_iv m.named (subst (HasLabel label.describes (number (pos 6))) same both.3) m.fields.1.1.1.1.1.0 h
     ]
 
-pub map_with_laws : {C : Type 0} (c : Held C) → LawfulHeld C c → Lawful (FieldsSeen × C) (map_with c)
+pub map_with_laws : {C : Type 0} (c : FieldShape C) → LawfulFieldShape C c → Lawful (FieldsSeen × C) (map_with c)
 map_with_laws {C} c l =
     let m = map_of_laws c l in
     record {
@@ -126,12 +126,12 @@ map_with_laws {C} c l =
     }
 
 -- where the value of label 7 is left as it is
-pub unread_fields_laws : LawfulFields Name (Fielded (Option Item)) names (fields (optional any))
-unread_fields_laws = fields_laws (optional any) (optional_laws any any_laws)
+pub partial_fields_laws : LawfulFields Name (Fielded (Option Item)) names (fields (optional any))
+partial_fields_laws = fields_laws (optional any) (optional_laws any any_laws)
 
-pub unread_laws : Lawful (FieldsSeen × Option Item) unread
-unfolding unread
-unread_laws = map_with_laws (optional any) (optional_laws any any_laws)
+pub partial_header_laws : Lawful (FieldsSeen × Option Item) partial_header
+unfolding partial_header
+partial_header_laws = map_with_laws (optional any) (optional_laws any any_laws)
 
 -- ---- the value of label 7, read later
 
@@ -146,8 +146,8 @@ is_itself (Some v) None h = absurd h
 is_itself None p h = sym h
 
 -- a map is one whose value of label 7 is left as it is, and that value
-pub split : {C : Type 0} (c : Held C) (v : Item) (f : FieldsSeen) (x : C) → (map_with c).describes v (f, x) → (o : Option Item) × unread.describes v (f, o) × c.describes o x
-unfolding unread
+pub split : {C : Type 0} (c : FieldShape C) (v : Item) (f : FieldsSeen) (x : C) → (map_with c).describes v (f, x) → (o : Option Item) × partial_header.describes v (f, o) × c.describes o x
+unfolding partial_header
 split c v f x p =
     let m = p.0.2 in
     let fs = m.fields in
@@ -170,8 +170,8 @@ split c v f x p =
       fs.1.1.1.1.1.1.0,
     )
 
-pub join : {C : Type 0} (c : Held C) (v : Item) (f : FieldsSeen) (o : Option Item) (x : C) → unread.describes v (f, o) → c.describes o x → (map_with c).describes v (f, x)
-unfolding unread
+pub join : {C : Type 0} (c : FieldShape C) (v : Item) (f : FieldsSeen) (o : Option Item) (x : C) → partial_header.describes v (f, o) → c.describes o x → (map_with c).describes v (f, x)
+unfolding partial_header
 join c v f o x p q =
     let m = p.0.2 in
     let fs = m.fields in
@@ -191,8 +191,8 @@ join c v f o x p q =
     )
 
 -- and it is written as the other, where the value is what c writes
-pub image_with : {C : Type 0} (c : Held C) (f : FieldsSeen) (x : C) (o : Option Item) → c.image x ≡ Some o → unread.image (f, o) ≡ (map_with c).image (f, x)
-unfolding unread
+pub image_with : {C : Type 0} (c : FieldShape C) (f : FieldsSeen) (x : C) (o : Option Item) → c.image x ≡ Some o → partial_header.image (f, o) ≡ (map_with c).image (f, x)
+unfolding partial_header
 image_with c f x (Some v) h = rw h refl
 image_with c f x None h = rw h refl
 
@@ -221,9 +221,9 @@ pair_found P l (pair k v ps) (e ∷ es) p d (inl f) =
 pair_found P l (pair k v ps) (e ∷ es) p d (inr f) = let g = pair_found P l ps es p.2 d.1 f in (g.0, lookup_later names names_laws e es l g.0 d.0 g.1, g.2)
 
 -- so the value of label 7 is the one that is left as it is
-pub counters_found : (P : Item → Type 0) (v : Item) (f : FieldsSeen) (o : Option Item) → unread.describes v (f, o) → SomeCounters P v → (w : Item) × (o ≡ Some w) × P w
-unfolding unread
-counters_found P v f o p s =
+pub counter_signatures_found : (P : Item → Type 0) (v : Item) (f : FieldsSeen) (o : Option Item) → partial_header.describes v (f, o) → SomeCounterSignatures P v → (w : Item) × (o ≡ Some w) × P w
+unfolding partial_header
+counter_signatures_found P v f o p s =
     let m = p.0.2 in
     let same : lookup (same_name (number (pos 7))) m.entries ≡ o = is_itself _ o m.fields.1.1.1.1.1.1.0 in
     let g = pair_found P (number (pos 7)) p.0.0 m.entries m.named m.distinct (subst (SomePair (λ k u. label.describes k (number (pos 7)) × P u)) (some-one s.1 p.0.1) s.2) in
@@ -249,8 +249,8 @@ iv_before : (l : Name) (ps : Pairs) (es : List (Name × Item)) (iv : List ℕ) �
 iv_before l ps es iv n d some = has_label names names_laws ps es l n (λ a. some (subst (λ o. (listed filled_bstr).describes o iv) (lookup_none names l es a) d))
 
 -- what bars a label is a fault of the map
-pub barred_fault : (v : Item) (e : CoseError) → (ps : Pairs) × (as_map v ≡ Some ps) × Barred Name (Fielded (Option Item)) names (fields (optional any)) bars ps e → unread.faults v e
-unfolding unread
+pub barred_fault : (v : Item) (e : CoseError) → (ps : Pairs) × (as_map v ≡ Some ps) × Barred Name (Fielded (Option Item)) names (fields (optional any)) bars ps e → partial_header.faults v e
+unfolding partial_header
 barred_fault v e f = go f.2.barred.2
   where
     b : Barred Name (Fielded (Option Item)) names (fields (optional any)) bars f.0 e
@@ -267,6 +267,6 @@ barred_fault v e f = go f.2.barred.2
         subst (HasLabel label.describes l) (sym b.walked.parts)
         (label_after l b.walked.done (pair b.key b.value b.left) (inl (subst (label.describes b.key) (sym (names_laws.same_is l b.barred.0 h)) b.barred.1)))
 
-    go : bars b.barred.0 b.before e → unread.faults v e
+    go : bars b.barred.0 b.before e → partial_header.faults v e
     go (inl h) = inr ((f.0, f.1, this (number (pos 5)) h.0, earlier (number (pos 6)) (iv_before (number (pos 6)) b.walked.done s.entries (fields_of b.before).0.partial_iv s.named s.fields.1.1.1.1.1.0 h.1)), h.2)
     go (inr h) = inr ((f.0, f.1, earlier (number (pos 5)) (iv_before (number (pos 5)) b.walked.done s.entries (fields_of b.before).0.iv s.named s.fields.1.1.1.1.0 h.1), this (number (pos 6)) h.0), h.2)

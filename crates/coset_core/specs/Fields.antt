@@ -14,7 +14,7 @@ use Rattle.coset_iana.specs.declared.content_formats.TheConstants.{COAP_CONTENT_
 use Rattle.coset_iana.specs.declared.headers.TheConstants.{HEADER_PARAMETERS}
 use Rattle.coset_shape.specs.Errors.{IsUnexpected}
 use Rattle.coset_shape.specs.Shape.{Shape, that, any, along, some_of, filled_bstr}
-use Rattle.coset_shape.specs.Maps.{Names, Fields, Held, HasLabel, SomePair, Bars, field, no_field, optional, listed, labelled}
+use Rattle.coset_shape.specs.Maps.{Names, Fields, FieldShape, HasLabel, SomePair, Bars, field, no_field, optional, listed, labelled}
 use Rattle.coset_label.specs.Names.{Name, number, word, RegisteredName, name_cmp}
 use Rattle.coset_label.specs.Labels.{label, registered, registered_or_private}
 
@@ -38,7 +38,8 @@ empty_fields = record { alg = None; crit = []; content_type = None; key_id = [];
 unfoldable pub algorithm : Shape RegisteredName
 algorithm = registered_or_private (λ i. is_some (first_numbered algorithms.number ALGORITHMS i)) is_private_use
 
--- a label that must be understood: the same of header parameters
+-- a label that must be understood: the number of a header parameter that IANA assigned, else a number for private use,
+-- or a text
 unfoldable pub critical : Shape RegisteredName
 critical = registered_or_private (λ i. is_some (first_numbered parameters.number HEADER_PARAMETERS i)) is_private_use
 
@@ -69,15 +70,15 @@ names = record { shape = label; same = same_name }
 abbrev pub Fielded : Type 0 → Type 0
 Fielded C = Option RegisteredName × (List RegisteredName × (Option Name × (List ℕ × (List ℕ × (List ℕ × (C × Unit {0}))))))
 
-abbrev pub fields : {C : Type 0} → Held C → Fields Name (Fielded C)
-fields counters =
+abbrev pub fields : {C : Type 0} → FieldShape C → Fields Name (Fielded C)
+fields counter_signatures =
     field names (number (pos 1)) (optional algorithm)
     (field names (number (pos 2)) (listed (some_of critical))
     (field names (number (pos 3)) (optional content_type)
     (field names (number (pos 4)) (listed filled_bstr)
     (field names (number (pos 5)) (listed filled_bstr)
     (field names (number (pos 6)) (listed filled_bstr)
-    (field names (number (pos 7)) counters
+    (field names (number (pos 7)) counter_signatures
     no_field))))))
 
 abbrev pub fields_of : {C : Type 0} → Fielded C × List (Name × Item) → FieldsSeen × C
@@ -89,36 +90,36 @@ fields_of p = (
 abbrev pub parts_of : {C : Type 0} → FieldsSeen × C → Fielded C × List (Name × Item)
 parts_of x = ((x.0.alg, (x.0.crit, (x.0.content_type, (x.0.key_id, (x.0.iv, (x.0.partial_iv, (x.1, tt))))))), x.0.rest)
 
--- not both kinds of initialization vector
+-- not both IV and Partial IV
 abbrev pub HasOneIv : FieldsSeen → Type 0
 HasOneIv f = (f.iv ≡ []) ⊎ (f.partial_iv ≡ [])
 
 -- the fields by label, and the rest
-abbrev pub map_of : {C : Type 0} → Held C → Shape (FieldsSeen × C)
-map_of counters = along fields_of parts_of (labelled names (fields counters))
+abbrev pub map_of : {C : Type 0} → FieldShape C → Shape (FieldsSeen × C)
+map_of counter_signatures = along fields_of parts_of (labelled names (fields counter_signatures))
 
--- both kinds of initialization vector
+-- both IV and Partial IV
 abbrev pub HasBothIvs : Item → Type 0
 HasBothIvs v = (ps : Pairs) × (as_map v ≡ Some ps) × HasLabel label.describes (number (pos 5)) ps × HasLabel label.describes (number (pos 6)) ps
 
 -- {? 1 => algorithm, ? 2 => [+ critical], ? 3 => content_type, ? 4 => bstr .size (1..), ? 5 => bstr .size (1..) //
--- 6 => bstr .size (1..), ? 7 => counters, * label => any}
-abbrev pub map_with : {C : Type 0} → Held C → Shape (FieldsSeen × C)
-map_with counters = record {
-  describes = λ v x. (map_of counters).describes v x × HasOneIv x.0;
-  image = (map_of counters).image;
-  faults = λ v e. (map_of counters).faults v e ⊎ (HasBothIvs v × IsUnexpected e);
+-- 6 => bstr .size (1..), ? 7 => counter_signatures, * label => any}
+abbrev pub map_with : {C : Type 0} → FieldShape C → Shape (FieldsSeen × C)
+map_with counter_signatures = record {
+  describes = λ v x. (map_of counter_signatures).describes v x × HasOneIv x.0;
+  image = (map_of counter_signatures).image;
+  faults = λ v e. (map_of counter_signatures).faults v e ⊎ (HasBothIvs v × IsUnexpected e);
 }
 
--- the same, with the value of label 7 as it is
-unfoldable pub unread : Shape (FieldsSeen × Option Item)
-unread = map_with (optional any)
+-- such a map, with the value of label 7 as it is
+unfoldable pub partial_header : Shape (FieldsSeen × Option Item)
+partial_header = map_with (optional any)
 
 -- one of the pairs of a map has label 7, and a value of which P tells
-abbrev pub SomeCounters : (Item → Type 0) → Item → Type 0
-SomeCounters P v = (ps : Pairs) × (as_map v ≡ Some ps) × SomePair (λ k w. label.describes k (number (pos 7)) × P w) ps
+abbrev pub SomeCounterSignatures : (Item → Type 0) → Item → Type 0
+SomeCounterSignatures P v = (ps : Pairs) × (as_map v ≡ Some ps) × SomePair (λ k w. label.describes k (number (pos 7)) × P w) ps
 
--- why a label is refused after others: one kind of initialization vector after the other
+-- why a label is refused after others: Partial IV after IV, or IV after Partial IV
 abbrev pub bars : {C : Type 0} → Bars Name (Fielded C)
 bars m x e =
     ((same_name (number (pos 5)) m ≡ true) × ((fields_of x).0.partial_iv ≢ []) × IsUnexpected e)

@@ -22,5 +22,5 @@ fields_level h = record {
 abbrev pub fields_seen : Header → FieldsSeen
 fields_seen h = fields_level (out-Header h)
 
-abbrev pub counters_held : Header → List CoseSignature
-counters_held h = (out-Header h).counter_signatures.items
+abbrev pub counter_signatures_held : Header → List CoseSignature
+counter_signatures_held h = (out-Header h).counter_signatures.items

@@ -8,7 +8,7 @@ use Rattle.coset_shape.specs.declared.error.CoseError.TheVariants.{OutOfMemory}
 use Rattle.coset_shape.specs.declared.input.InputItems.{InputItems}
 use Rattle.coset_shape.specs.declared.input.InputPairs.{InputPairs}
 use Rattle.coset_shape.specs.declared.source.Source.{Source}
-use Rattle.coset_shape.specs.Errors.{Names}
+use Rattle.coset_shape.specs.Errors.{UnlessMemory}
 use Rattle.coset_shape.specs.Inputs.{State, Stands, AreWithin, PairsWithin}
 use Rattle.coset_shape.specs.Maps.{Walks, RefusesKey, BarsKey, GatherFaults, are_distinct, optional}
 use Rattle.coset_shape.specs.Shape.{any}
@@ -31,7 +31,7 @@ abbrev pub NextsLabel : Pairs → State → State → InputPairs → Result (Opt
 NextsLabel ps t z m (Ok (Some l)) =
     (k : Item) × (v : Item) × (others : Pairs) × (mid : State) × (ps ≡ pair k v others) × label.describes k (label_seen l) × Stands v t mid × PairsWithin m others mid z
 NextsLabel ps t z m (Ok None) = (ps ≡ no_pairs) × PairsWithin m no_pairs t z
-NextsLabel ps t z m (Err e) = (k : Item) × (v : Item) × (others : Pairs) × (ps ≡ pair k v others) × PairsWithin m others t z × Names e (label.faults k)
+NextsLabel ps t z m (Err e) = (k : Item) × (v : Item) × (others : Pairs) × (ps ≡ pair k v others) × PairsWithin m others t z × UnlessMemory e (label.faults k)
 
 -- at t stands the value of a pair of label 7
 pub record AtSeven (all : Pairs) (o : Option Item) (f : FieldsSeen) (t z : State) (m : InputPairs) : Type 0 where
@@ -56,7 +56,7 @@ pub record AtFault (all : Pairs) (o : Option Item) (f : FieldsSeen) (t z : State
   pub others : Pairs
   pub walks : WalksTo all f o (pair key value others)
   pub within : PairsWithin m others t z
-  pub faulty : Names e (λ g. RefusesKey names (fields (optional any)) key value (parts_of (f, o)) g ⊎ BarsKey names bars key (parts_of (f, o)) g)
+  pub faulty : UnlessMemory e (λ g. RefusesKey names (fields (optional any)) key value (parts_of (f, o)) g ⊎ BarsKey names bars key (parts_of (f, o)) g)
 
 -- where reading pairs one after the other stops
 abbrev pub FillsSome : Pairs → Option Item → State → FieldsSeen → State → InputPairs → Result Bool CoseError → Type 0
@@ -72,7 +72,7 @@ IsDistinctRest f = are_distinct same_name (keys_of f.rest) ≡ true
 abbrev pub FillsFields : Pairs → Option Item → State → FieldsSeen → State → InputPairs → Result Bool CoseError → Type 0
 FillsFields all o z f t m (Ok true) = AtSeven all o f t z m × IsDistinctRest f
 FillsFields all o z f t m (Ok false) = AtEnd all o f t z m × IsDistinctRest f
-FillsFields all o z f t m (Err e) = (left : Pairs) × PairsWithin m left t z × Names e (GatherFaults names (fields (optional any)) bars (dict all))
+FillsFields all o z f t m (Err e) = (left : Pairs) × PairsWithin m left t z × UnlessMemory e (GatherFaults names (fields (optional any)) bars (dict all))
 
 -- ---- signatures
 
@@ -87,9 +87,9 @@ BeginsNext vs t z m (Err e) = (left : Items) × AreWithin m left t z × (e ≡ O
 -- the first of them is this, and the second stands at t; or they are too few
 abbrev pub BeginsPlaces : Items → State → State → InputItems → Result Source CoseError → Type 0
 BeginsPlaces vs t z m (Ok s) = (u : Item) × (others : Items) × (mid : State) × (vs ≡ item (source_item s) (item u others)) × Stands u t mid × AreWithin m others mid z
-BeginsPlaces vs t z m (Err e) = (left : Items) × AreWithin m left t z × ((k : ℕ) → Names e ((layered_signature k).faults (array vs)))
+BeginsPlaces vs t z m (Err e) = (left : Items) × AreWithin m left t z × ((k : ℕ) → UnlessMemory e ((layered_signature k).faults (array vs)))
 
 -- the third and last is a byte string, of these bytes; or it isn't, or they are too few or too many
 abbrev pub EndsPlaces : Items → State → State → InputItems → List ℕ → Result (Unit {0}) CoseError → Type 0
 EndsPlaces vs t z m b (Ok x) = (w : Item) × (vs ≡ item w no_items) × (as_bytes w ≡ Some b) × AreWithin m no_items t z
-EndsPlaces vs t z m b (Err e) = (left : Items) × AreWithin m left t z × ((p u : Item) (k : ℕ) → Names e ((layered_signature k).faults (array (item p (item u vs)))))
+EndsPlaces vs t z m b (Err e) = (left : Items) × AreWithin m left t z × ((p u : Item) (k : ℕ) → UnlessMemory e ((layered_signature k).faults (array (item p (item u vs)))))

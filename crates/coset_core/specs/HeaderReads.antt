@@ -6,9 +6,9 @@ use Rattle.coset_shape.specs.Shape.{Shape, Each, EachFaults, fixed, bstr, ◌the
 use Rattle.coset_shape.specs.Serialized.{ContentDescribes, ContentFaults}
 use Rattle.coset_shape.specs.declared.error.CoseError.{CoseError}
 use Rattle.coset_shape.specs.Maps.{listed, SomePair}
-use Rattle.coset_core.specs.Fields.{FieldsSeen, map_with, unread, SomeCounters}
+use Rattle.coset_core.specs.Fields.{FieldsSeen, map_with, partial_header, SomeCounterSignatures}
 use Rattle.coset_core.specs.FieldLaws.{split}
-use Rattle.coset_core.specs.Headers.{Signatures, no_signatures, HeaderSeen, ProtectedSeen, SignatureSeen, signatures_of, empty_header, with_counters, CountersAre, ContentIs, ProtectedIs, IsEmpty, IsHeader, AreSignatures, signed_array, told_by, HeaderFaults, ProtectedFaults, counters_faults, layered_header, layered_protected, layered_signature}
+use Rattle.coset_core.specs.Headers.{Signatures, no_signatures, HeaderSeen, ProtectedSeen, SignatureSeen, signatures_of, empty_header, with_counter_signatures, CounterSignaturesAre, ContentIs, ProtectedIs, IsEmpty, IsHeader, AreSignatures, signed_array, told_by, HeaderFaults, ProtectedFaults, counter_signatures_faults, layered_header, layered_protected, layered_signature}
 
 -- ---- what stands for a value
 
@@ -31,7 +31,7 @@ content_read k h (c ∷ b) p = p
 
 -- the byte string stands for the header and its signatures, within k layers
 abbrev pub ProtectedOf : Option (List ℕ) → FieldsSeen → Signatures → ℕ → Item → Type 0
-ProtectedOf o p ps k v = ProtectedIs (λ j w. IsHeader (with_counters p ps) j w) (IsEmpty p ps) o k v
+ProtectedOf o p ps k v = ProtectedIs (λ j w. IsHeader (with_counter_signatures p ps) j w) (IsEmpty p ps) o k v
 
 protected_read : (k : ℕ) (p : ProtectedSeen) (v : Item) → (layered_protected k).describes v p → ProtectedOf p.original p.header.fields p.header.counter_signatures k v
 unfolding layered_protected
@@ -56,27 +56,27 @@ signatures_read k (item v vs) (x ∷ xs) h =
     )
 
 -- one, or several
-pub counters_read :
+pub counter_signatures_read :
     (k : ℕ) (w : Item) (xs : List SignatureSeen) → (one_or_many (any_number (layered_signature k))).describes w xs → (vs : Items) × (one_or_more w ≡ Some vs) × AreSignatures (signatures_of xs) k vs
-counters_read k w xs h = (h.0, h.1, signatures_read k h.0 xs h.2)
+counter_signatures_read k w xs h = (h.0, h.1, signatures_read k h.0 xs h.2)
 
 -- a header of which that is told
 pub header_read :
-    (k : ℕ) (v : Item) (f : FieldsSeen) (o : Option Item) (ss : Signatures) → unread.describes v (f, o) → CountersAre (λ vs. AreSignatures ss k vs) (ss ≡ no_signatures) o
-    → (layered_header k).describes v (with_counters f ss)
+    (k : ℕ) (v : Item) (f : FieldsSeen) (o : Option Item) (ss : Signatures) → partial_header.describes v (f, o) → CounterSignaturesAre (λ vs. AreSignatures ss k vs) (ss ≡ no_signatures) o
+    → (layered_header k).describes v (with_counter_signatures f ss)
 unfolding layered_header
 header_read k v f o ss p q = (o, p, q)
 
 -- a map with a list of signatures, which is left out where it is empty
 listed_read :
     (k : ℕ) (xs : List SignatureSeen) (o : Option Item) → (listed (one_or_many (any_number (layered_signature k)))).describes o xs
-    → CountersAre (λ vs. AreSignatures (signatures_of xs) k vs) (signatures_of xs ≡ no_signatures) o
-listed_read k xs (Some w) h = counters_read k w xs h
+    → CounterSignaturesAre (λ vs. AreSignatures (signatures_of xs) k vs) (signatures_of xs ≡ no_signatures) o
+listed_read k xs (Some w) h = counter_signatures_read k w xs h
 listed_read k xs None h = ap signatures_of h
 
 pub header_read_with :
     (k : ℕ) (v : Item) (f : FieldsSeen) (xs : List SignatureSeen) → (map_with (listed (one_or_many (any_number (layered_signature k))))).describes v (f, xs)
-    → (layered_header k).describes v (with_counters f (signatures_of xs))
+    → (layered_header k).describes v (with_counter_signatures f (signatures_of xs))
 header_read_with k v f xs h =
     let parts = split (listed (one_or_many (any_number (layered_signature k)))) v f xs h in
     header_read k v f parts.0 (signatures_of xs) parts.1 (listed_read k xs parts.0 parts.2)
@@ -85,15 +85,15 @@ header_read_with k v f xs h =
 
 -- faults of a signature, in whose label 7 they are found within n signatures
 abbrev pub protected_faults : ℕ → ℕ → Shape (Unit {0})
-protected_faults n k = fixed (λ v. ⊤) None (ProtectedFaults (λ j. HeaderFaults (counters_faults n j)) k)
+protected_faults n k = fixed (λ v. ⊤) None (ProtectedFaults (λ j. HeaderFaults (counter_signatures_faults n j)) k)
 
 abbrev pub unprotected_faults : ℕ → ℕ → Shape (Unit {0})
-unprotected_faults n k = fixed (λ v. ⊤) None (HeaderFaults (counters_faults n k))
+unprotected_faults n k = fixed (λ v. ⊤) None (HeaderFaults (counter_signatures_faults n k))
 
 -- the faults of a header, as they are found
-pub unread_fault : (k : ℕ) (v : Item) (e : CoseError) → unread.faults v e → (layered_header k).faults v e
+pub partial_header_fault : (k : ℕ) (v : Item) (e : CoseError) → partial_header.faults v e → (layered_header k).faults v e
 unfolding layered_header
-unread_fault k v e f = (0, inl f)
+partial_header_fault k v e f = (0, inl f)
 
 header_fault : (k : ℕ) (v : Item) (e : CoseError) → (layered_header k).faults v e → (n : ℕ) × (unprotected_faults n k).faults v e
 unfolding layered_header
@@ -132,7 +132,7 @@ signatures_fault k (item v vs) e (inl f) = let g = signature_fault k v e f in (g
 signatures_fault k (item v vs) e (inr f) = let g = signatures_fault k vs e f in (g.0, inr g.1)
 
 -- those of one signature, or of several
-pub faults_read : (k : ℕ) (w : Item) (e : CoseError) → (one_or_many (any_number (layered_signature k))).faults w e → (n : ℕ) × counters_faults n k w e
+pub faults_read : (k : ℕ) (w : Item) (e : CoseError) → (one_or_many (any_number (layered_signature k))).faults w e → (n : ℕ) × counter_signatures_faults n k w e
 faults_read k w e (inl f) = (1, inl f)
 faults_read k w e (inr f) = elim f.2 [ inl m ↦ absurd m.0 | inr m ↦ let g = signatures_fault k f.0 e m in (suc g.0, inr (f.0, f.1, inr g.1)) ]
 
@@ -142,8 +142,8 @@ some_as P Q no_pairs f s = s
 some_as P Q (pair k v ps) f (inl s) = inl (f k v s)
 some_as P Q (pair k v ps) f (inr s) = inr (some_as P Q ps f s)
 
-pub counters_fault : (k : ℕ) (v : Item) (w : Item) (e : CoseError) → SomeCounters (λ u. u ≡ w) v → (one_or_many (any_number (layered_signature k))).faults w e → (layered_header k).faults v e
+pub counter_signatures_fault : (k : ℕ) (v : Item) (w : Item) (e : CoseError) → SomeCounterSignatures (λ u. u ≡ w) v → (one_or_many (any_number (layered_signature k))).faults w e → (layered_header k).faults v e
 unfolding layered_header
-counters_fault k v w e p q =
+counter_signatures_fault k v w e p q =
     let g = faults_read k w e q in
-    (g.0, inr (p.0, p.1, some_as _ _ p.0 (λ j u h. (h.0, subst (λ t. counters_faults g.0 k t e) (sym h.1) g.1)) p.2))
+    (g.0, inr (p.0, p.1, some_as _ _ p.0 (λ j u h. (h.0, subst (λ t. counter_signatures_faults g.0 k t e) (sym h.1) g.1)) p.2))

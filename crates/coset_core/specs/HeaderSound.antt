@@ -2,39 +2,39 @@
 use Rattle.std.specs.Prelude.{⊤}
 use Rattle.std.proofs.Common.{◌≡◌, ℕ, zero, suc, List, [], ◌∷◌, Option, Some, None, refl, subst, inl, inr}
 use Rattle.coset_value.specs.Item.{Item, Items, no_items, item}
-use Rattle.coset_cbor.proofs.Again.{texts_differ}
+use Rattle.coset_cbor.proofs.Again.{encodings_differ}
 use Rattle.coset_shape.specs.declared.error.CoseError.{CoseError}
 use Rattle.coset_shape.specs.Serialized.{ContentFaults}
 use Rattle.coset_shape.specs.Shape.{EachFaults, fixed, bstr, ◌then◌, end, one_or_more}
 use Rattle.coset_shape.specs.ShapeLaws.{some-one, some-none}
 use Rattle.coset_core.specs.Fields.{FieldsSeen}
-use Rattle.coset_core.specs.FieldLaws.{unread_laws, counters_found}
-use Rattle.coset_core.specs.Headers.{Signatures, no_signatures, signature_and, HeaderSeen, with_counters, CountersAre, ContentIs, IsEmpty, IsHeader, AreSignatures, signed_array, told_by, HeaderFaults, ProtectedFaults, counters_faults}
+use Rattle.coset_core.specs.FieldLaws.{partial_header_laws, counter_signatures_found}
+use Rattle.coset_core.specs.Headers.{Signatures, no_signatures, signature_and, HeaderSeen, with_counter_signatures, CounterSignaturesAre, ContentIs, IsEmpty, IsHeader, AreSignatures, signed_array, told_by, HeaderFaults, ProtectedFaults, counter_signatures_faults}
 use Rattle.coset_core.specs.HeaderReads.{ProtectedOf, protected_faults, unprotected_faults}
 
 -- no fault within n signatures is found in a value that stands for signatures
 abbrev AreSound : ℕ → Type 0
-AreSound n = (k : ℕ) (w : Item) (e : CoseError) (ss : Signatures) (vs : Items) → one_or_more w ≡ Some vs → AreSignatures ss k vs → counters_faults n k w e → ⊥
+AreSound n = (k : ℕ) (w : Item) (e : CoseError) (ss : Signatures) (vs : Items) → one_or_more w ≡ Some vs → AreSignatures ss k vs → counter_signatures_faults n k w e → ⊥
 
 -- so none is in a map, in the content of a byte string, and in that string
-header_sound : (n : ℕ) → AreSound n → (k : ℕ) (e : CoseError) (f : FieldsSeen) (ss : Signatures) (v : Item) → IsHeader (with_counters f ss) k v → HeaderFaults (counters_faults n k) v e → ⊥
-header_sound n sound k e f ss v a (inl x) = unread_laws.sound v (f, a.0) e a.1 x
+header_sound : (n : ℕ) → AreSound n → (k : ℕ) (e : CoseError) (f : FieldsSeen) (ss : Signatures) (v : Item) → IsHeader (with_counter_signatures f ss) k v → HeaderFaults (counter_signatures_faults n k) v e → ⊥
+header_sound n sound k e f ss v a (inl x) = partial_header_laws.sound v (f, a.0) e a.1 x
 header_sound n sound k e f ss v a (inr x) =
-    let found = counters_found (λ w. counters_faults n k w e) v f a.0 a.1 x in
-    let are : CountersAre (λ vs. AreSignatures ss k vs) (ss ≡ no_signatures) (Some found.0) = subst (CountersAre (λ vs. AreSignatures ss k vs) (ss ≡ no_signatures)) found.1 a.2 in
+    let found = counter_signatures_found (λ w. counter_signatures_faults n k w e) v f a.0 a.1 x in
+    let are : CounterSignaturesAre (λ vs. AreSignatures ss k vs) (ss ≡ no_signatures) (Some found.0) = subst (CounterSignaturesAre (λ vs. AreSignatures ss k vs) (ss ≡ no_signatures)) found.1 a.2 in
     sound k found.0 e ss are.0 are.1 are.2 found.2
 
 content_sound :
-    (n : ℕ) → AreSound n → (k : ℕ) (e : CoseError) (f : FieldsSeen) (ss : Signatures) (b : List ℕ) → ContentIs (λ w. IsHeader (with_counters f ss) k w) (IsEmpty f ss) b
+    (n : ℕ) → AreSound n → (k : ℕ) (e : CoseError) (f : FieldsSeen) (ss : Signatures) (b : List ℕ) → ContentIs (λ w. IsHeader (with_counter_signatures f ss) k w) (IsEmpty f ss) b
     → ContentFaults (unprotected_faults n k) b e → ⊥
 content_sound n sound k e f ss [] p x = x
 content_sound n sound k e f ss (c ∷ b) p (inl x) = x.1 p.0 p.1
 content_sound n sound k e f ss (c ∷ b) p (inr x) =
-    header_sound n sound k e f ss p.0 p.2 (subst (λ w. HeaderFaults (counters_faults n k) w e) (texts_differ x.0 p.0 (c ∷ b) (c ∷ b) [] [] x.1.0 p.1.0 refl).0 x.2)
+    header_sound n sound k e f ss p.0 p.2 (subst (λ w. HeaderFaults (counter_signatures_faults n k) w e) (encodings_differ x.0 p.0 (c ∷ b) (c ∷ b) [] [] x.1.0 p.1.0 refl).0 x.2)
 
 protected_sound :
     (n : ℕ) → AreSound n → (k : ℕ) (e : CoseError) (o : Option (List ℕ)) (f : FieldsSeen) (ss : Signatures) (v : Item) → ProtectedOf o f ss k v
-    → ProtectedFaults (λ j. HeaderFaults (counters_faults n j)) k v e → ⊥
+    → ProtectedFaults (λ j. HeaderFaults (counter_signatures_faults n j)) k v e → ⊥
 protected_sound n sound zero e o f ss v a x = a
 protected_sound n sound (suc k) e o f ss v a (inl x) = some-none a.1 x.0
 protected_sound n sound (suc k) e o f ss v a (inr x) =
@@ -78,20 +78,20 @@ each_sound n sound k e no_signatures no_items a x = x
 each_sound n sound k e no_signatures (item v vs) a x = absurd (cc)
 each_sound n sound k e (signature_and o p ps u us s more) no_items a x = a
 each_sound n sound k e (signature_and o p ps u us s more) (item v vs) a (inl x) =
-    signed_sound (ProtectedOf o p ps k) (IsHeader (with_counters u us) k) (ProtectedFaults (λ j. HeaderFaults (counters_faults n j)) k) (HeaderFaults (counters_faults n k)) s e
+    signed_sound (ProtectedOf o p ps k) (IsHeader (with_counter_signatures u us) k) (ProtectedFaults (λ j. HeaderFaults (counter_signatures_faults n j)) k) (HeaderFaults (counter_signatures_faults n k)) s e
     (protected_sound n sound k e o p ps) (header_sound n sound k e u us) v a.0 x
 each_sound n sound k e (signature_and o p ps u us s more) (item v vs) a (inr x) = each_sound n sound k e more vs a.1 x
 
 -- within however many
-counters_sound : (n : ℕ) → AreSound n
-counters_sound zero k w e ss vs p a f = f
-counters_sound (suc n) k w e ss vs p a (inl f) = some-none p f.0
-counters_sound (suc n) k w e ss vs p a (inr f) =
+counter_signatures_sound : (n : ℕ) → AreSound n
+counter_signatures_sound zero k w e ss vs p a f = f
+counter_signatures_sound (suc n) k w e ss vs p a (inl f) = some-none p f.0
+counter_signatures_sound (suc n) k w e ss vs p a (inr f) =
     elim f.2 [
       | inl m ↦ m.0
-      | inr m ↦ each_sound n (counters_sound n) k e ss vs a (subst (λ us. EachFaults (signed_array (protected_faults n k) (unprotected_faults n k)).faults us e) (some-one f.1 p) m)
+      | inr m ↦ each_sound n (counter_signatures_sound n) k e ss vs a (subst (λ us. EachFaults (signed_array (protected_faults n k) (unprotected_faults n k)).faults us e) (some-one f.1 p) m)
     ]
 
 -- nor in a header
-pub header_faultless : (k : ℕ) (v : Item) (x : HeaderSeen) (e : CoseError) → IsHeader x k v → (n : ℕ) → HeaderFaults (counters_faults n k) v e → ⊥
-header_faultless k v x e a n f = header_sound n (counters_sound n) k e x.fields x.counter_signatures v a f
+pub header_faultless : (k : ℕ) (v : Item) (x : HeaderSeen) (e : CoseError) → IsHeader x k v → (n : ℕ) → HeaderFaults (counter_signatures_faults n k) v e → ⊥
+header_faultless k v x e a n f = header_sound n (counter_signatures_sound n) k e x.fields x.counter_signatures v a f

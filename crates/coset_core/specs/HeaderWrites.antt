@@ -3,15 +3,15 @@ use Rattle.std.specs.Prelude.{pos}
 use Rattle.std.specs.Map.{keys_of}
 use Rattle.std.proofs.Common.{◌≡◌, ◌++◌, ℕ, zero, suc, List, [], ◌∷◌, Option, Some, None, Bool, true, false, option_map, refl, sym, ap, ◌∙◌}
 use Rattle.coset_value.specs.Item.{Item, bytes, array, dict, Items, no_items, item}
-use Rattle.coset_shape.specs.Shape.{both, images, any, bare, filled_bstr, some_of, any_number, one_or_many}
-use Rattle.coset_shape.specs.Maps.{Held, optional, listed, put_field, put_fields, named_image, are_distinct, entries_image, may_write}
-use Rattle.coset_shape.specs.Serialized.{kept}
+use Rattle.coset_shape.specs.Shape.{both, images, any, one_or_array, filled_bstr, some_of, any_number, one_or_many}
+use Rattle.coset_shape.specs.Maps.{FieldShape, optional, listed, put_field, put_fields, named_image, are_distinct, entries_image, may_write}
+use Rattle.coset_shape.specs.Serialized.{content_bytes}
 use Rattle.coset_shape.specs.RestLaws.{some-entries, no-entries}
 use Rattle.coset_label.specs.Labels.{label}
 use Rattle.coset_label.specs.Names.{Name, number, word, name_item, RegisteredName, assigned, private_use, phrase, as_name}
-use Rattle.coset_core.specs.Fields.{FieldsSeen, algorithm, critical, content_type, same_name, names, fields, parts_of, map_with, unread}
+use Rattle.coset_core.specs.Fields.{FieldsSeen, algorithm, critical, content_type, same_name, names, fields, parts_of, map_with, partial_header}
 use Rattle.coset_core.specs.FieldLaws.{image_with}
-use Rattle.coset_core.specs.Headers.{HeaderSeen, ProtectedSeen, SignatureSeen, signatures_of, is_empty_header, with_counters, counters_item, header_item, signature_item, signatures_image, header_image, kept_bytes, layered_header, layered_protected, layered_signature}
+use Rattle.coset_core.specs.Headers.{HeaderSeen, ProtectedSeen, SignatureSeen, signatures_of, is_empty_header, with_counter_signatures, counter_signatures_item, header_item, signature_item, signatures_image, header_image, protected_bytes, layered_header, layered_protected, layered_signature}
 
 -- a header, however many layers are left
 pub header_image_is : (k : ℕ) (h : HeaderSeen) → (layered_header k).image h ≡ header_image h
@@ -19,7 +19,7 @@ unfolding layered_header
 header_image_is k h = refl
 
 -- a protected one: a string of the bytes that stand for it
-pub protected_image_is : (k : ℕ) (p : ProtectedSeen) → (layered_protected k).image p ≡ option_map bytes (kept_bytes p)
+pub protected_image_is : (k : ℕ) (p : ProtectedSeen) → (layered_protected k).image p ≡ option_map bytes (protected_bytes p)
 unfolding layered_protected layered_header
 protected_image_is zero p = refl
 protected_image_is (suc k) p = refl
@@ -30,13 +30,13 @@ three (Some b) (Some v) s = refl
 three (Some b) None s = refl
 three None i s = refl
 
-pub signature_image_is : (k : ℕ) (x : SignatureSeen) → (layered_signature k).image x ≡ signature_item (kept_bytes x.protected) (header_image x.unprotected) x.signature
-signature_image_is k x = rw (protected_image_is k x.protected, header_image_is k x.unprotected) (three (kept_bytes x.protected) (header_image x.unprotected) x.signature)
+pub signature_image_is : (k : ℕ) (x : SignatureSeen) → (layered_signature k).image x ≡ signature_item (protected_bytes x.protected) (header_image x.unprotected) x.signature
+signature_image_is k x = rw (protected_image_is k x.protected, header_image_is k x.unprotected) (three (protected_bytes x.protected) (header_image x.unprotected) x.signature)
 
 -- the bytes of a protected header are told by its fields and its signatures
 kept_parts :
     (o : Option (List ℕ)) (h : HeaderSeen)
-    → kept is_empty_header header_image o h ≡ kept is_empty_header (λ g. header_image (with_counters h.fields h.counter_signatures)) o (with_counters h.fields h.counter_signatures)
+    → content_bytes is_empty_header header_image o h ≡ content_bytes is_empty_header (λ g. header_image (with_counter_signatures h.fields h.counter_signatures)) o (with_counter_signatures h.fields h.counter_signatures)
 kept_parts (Some b) h = refl
 kept_parts None h = refl
 
@@ -49,24 +49,24 @@ images_signatures k (x ∷ xs) =
 
 -- ---- label 7
 
--- none is left out; one is written bare, and several as an array
-pub counters_none : counters_item (signatures_of []) (signatures_image (signatures_of [])) ≡ Some None
-counters_none = refl
+-- none is left out; one is written as itself, and several as an array
+pub counter_signatures_none : counter_signatures_item (signatures_of []) (signatures_image (signatures_of [])) ≡ Some None
+counter_signatures_none = refl
 
-some_bare : (o : Option Items) → option_map (λ vs. Some (bare vs)) o ≡ option_map Some (option_map bare o)
-some_bare (Some vs) = refl
-some_bare None = refl
+some_one_or_array : (o : Option Items) → option_map (λ vs. Some (one_or_array vs)) o ≡ option_map Some (option_map one_or_array o)
+some_one_or_array (Some vs) = refl
+some_one_or_array None = refl
 
-pub counters_some :
+pub counter_signatures_some :
     (k : ℕ) (x : SignatureSeen) (xs : List SignatureSeen)
-    → counters_item (signatures_of (x ∷ xs)) (signatures_image (signatures_of (x ∷ xs))) ≡ option_map Some ((one_or_many (any_number (layered_signature k))).image (x ∷ xs))
-counters_some k x xs =
-    ap (option_map (λ vs. Some (bare vs))) (sym (images_signatures k (x ∷ xs))) ∙ some_bare (images (layered_signature k).image (x ∷ xs))
+    → counter_signatures_item (signatures_of (x ∷ xs)) (signatures_image (signatures_of (x ∷ xs))) ≡ option_map Some ((one_or_many (any_number (layered_signature k))).image (x ∷ xs))
+counter_signatures_some k x xs =
+    ap (option_map (λ vs. Some (one_or_array vs))) (sym (images_signatures k (x ∷ xs))) ∙ some_one_or_array (images (layered_signature k).image (x ∷ xs))
 
-pub counters_image :
-    (k : ℕ) (xs : List SignatureSeen) → counters_item (signatures_of xs) (signatures_image (signatures_of xs)) ≡ (listed (one_or_many (any_number (layered_signature k)))).image xs
-counters_image k [] = counters_none
-counters_image k (x ∷ xs) = counters_some k x xs
+pub counter_signatures_image :
+    (k : ℕ) (xs : List SignatureSeen) → counter_signatures_item (signatures_of xs) (signatures_image (signatures_of xs)) ≡ (listed (one_or_many (any_number (layered_signature k)))).image xs
+counter_signatures_image k [] = counter_signatures_none
+counter_signatures_image k (x ∷ xs) = counter_signatures_some k x xs
 
 -- ---- maps
 
@@ -80,20 +80,20 @@ entries_none true rest o e = ap (entries_image names true rest) e
 entries_none false rest o e = refl
 
 -- nothing is written where the value of label 7 can't be
-pub unwritten_with : {C : Type 0} (c : Held C) (f : FieldsSeen) (x : C) → c.image x ≡ None → (map_with c).image (f, x) ≡ None
+pub unwritten_with : {C : Type 0} (c : FieldShape C) (f : FieldsSeen) (x : C) → c.image x ≡ None → (map_with c).image (f, x) ≡ None
 unwritten_with c f x e =
     let here : both (put_field (number (pos 7))) (c.image x) (Some []) ≡ None = ap (λ o. both (put_field (number (pos 7))) o (Some [])) e in
     entries_none (may_write names true f.rest) f.rest ((fields c).image (parts_of (f, x)).0)
     (both_none _ _ _ (both_none _ _ _ (both_none _ _ _ (both_none _ _ _ (both_none _ _ _ (both_none _ _ _ here))))))
 
 -- a map with signatures is written as a header
-header_item_with : {C : Type 0} (c : Held C) (f : FieldsSeen) (x : C) (o : Option (Option Item)) → c.image x ≡ o → header_item f o ≡ (map_with c).image (f, x)
+header_item_with : {C : Type 0} (c : FieldShape C) (f : FieldsSeen) (x : C) (o : Option (Option Item)) → c.image x ≡ o → header_item f o ≡ (map_with c).image (f, x)
 header_item_with c f x (Some o) e = image_with c f x o e
 header_item_with c f x None e = sym (unwritten_with c f x e)
 
 pub header_image_with :
-    (k : ℕ) (f : FieldsSeen) (xs : List SignatureSeen) → header_image (with_counters f (signatures_of xs)) ≡ (map_with (listed (one_or_many (any_number (layered_signature k))))).image (f, xs)
-header_image_with k f xs = header_item_with (listed (one_or_many (any_number (layered_signature k)))) f xs _ (sym (counters_image k xs))
+    (k : ℕ) (f : FieldsSeen) (xs : List SignatureSeen) → header_image (with_counter_signatures f (signatures_of xs)) ≡ (map_with (listed (one_or_many (any_number (layered_signature k))))).image (f, xs)
+header_image_with k f xs = header_item_with (listed (one_or_many (any_number (layered_signature k)))) f xs _ (sym (counter_signatures_image k xs))
 
 -- ---- fields
 
@@ -116,7 +116,7 @@ content_type_image (number i) = refl
 content_type_image (word s) = refl
 
 -- the fields that are there, in the order of their labels
-abbrev pub fields_put : (alg crit content_type key_id iv partial_iv counters : Option Item) → List (Name × Item)
+abbrev pub fields_put : (alg crit content_type key_id iv partial_iv counter_signatures : Option Item) → List (Name × Item)
 fields_put a b t k i p o =
     put_fields
     ((number (pos 1), a) ∷ (number (pos 2), b) ∷ (number (pos 3), t) ∷ (number (pos 4), k) ∷ (number (pos 5), i) ∷ (number (pos 6), p) ∷ (number (pos 7), o) ∷ [])
@@ -142,11 +142,11 @@ fields_image f a b t k i p o h = rw (h.alg, h.crit, h.content_type, h.key_id, h.
 pub header_put :
     (f : FieldsSeen) (a b t k i p o : Option Item) → Puts f a b t k i p → are_distinct same_name (keys_of f.rest) ≡ true
     → header_item f (Some o) ≡ option_map dict (named_image label.image (fields_put a b t k i p o ++ f.rest))
-unfolding unread
+unfolding partial_header
 header_put f a b t k i p o h d = sym (some-entries names f.rest (fields_put a b t k i p o) _ d (fields_image f a b t k i p o h))
 
 -- and another isn't
 pub header_repeats : (f : FieldsSeen) (o : Option (Option Item)) → are_distinct same_name (keys_of f.rest) ≡ false → header_item f o ≡ None
-unfolding unread
+unfolding partial_header
 header_repeats f (Some o) d = no-entries names f.rest _ d
 header_repeats f None d = refl

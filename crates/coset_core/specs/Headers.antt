@@ -7,11 +7,11 @@ use Rattle.coset_value.specs.Parts.{as_bytes}
 use Rattle.coset_cbor.specs.Grammar.{IsItem}
 use Rattle.coset_cbor.specs.declared.de.Error.TheVariants.{RecursionLimitExceeded}
 use Rattle.coset_shape.specs.Errors.{IsUnexpected}
-use Rattle.coset_shape.specs.Serialized.{ContentFaults, kept, serialized_or_empty}
-use Rattle.coset_shape.specs.Shape.{Shape, both, fixed, along, array_of, ◌then◌, end, any_number, bstr, one_or_more, bare, one_or_many}
+use Rattle.coset_shape.specs.Serialized.{ContentFaults, content_bytes, serialized_or_empty}
+use Rattle.coset_shape.specs.Shape.{Shape, both, fixed, along, array_of, ◌then◌, end, any_number, bstr, one_or_more, one_or_array, one_or_many}
 use Rattle.coset_shape.specs.declared.error.CoseError.{CoseError}
 use Rattle.coset_shape.specs.declared.error.CoseError.TheVariants.{DecodeFailed}
-use Rattle.coset_core.specs.Fields.{FieldsSeen, empty_fields, unread, SomeCounters}
+use Rattle.coset_core.specs.Fields.{FieldsSeen, empty_fields, partial_header, SomeCounterSignatures}
 
 -- ---- headers without their memory
 
@@ -63,13 +63,13 @@ is_empty_header h =
 
 -- the value of label 7 stands for signatures, where `Are` tells of the items of one or of several which stand for them,
 -- and `is_none` that there are none
-abbrev pub CountersAre : (Items → Type 0) → Type 0 → Option Item → Type 0
-CountersAre Are is_none None = is_none
-CountersAre Are is_none (Some w) = (vs : Items) × (one_or_more w ≡ Some vs) × Are vs
+abbrev pub CounterSignaturesAre : (Items → Type 0) → Type 0 → Option Item → Type 0
+CounterSignaturesAre Are is_none None = is_none
+CounterSignaturesAre Are is_none (Some w) = (vs : Items) × (one_or_more w ≡ Some vs) × Are vs
 
 -- a map of these fields, and the value of its label 7 stands for the signatures
 abbrev pub HeaderIs : (Items → Type 0) → Type 0 → FieldsSeen → Item → Type 0
-HeaderIs Are is_none f v = (o : Option Item) × unread.describes v (f, o) × CountersAre Are is_none o
+HeaderIs Are is_none f v = (o : Option Item) × partial_header.describes v (f, o) × CounterSignaturesAre Are is_none o
 
 -- what a byte string holds: nothing, where the header is empty; or one item, of which P tells
 abbrev pub ContentIs : (Item → Type 0) → Type 0 → List ℕ → Type 0
@@ -111,19 +111,19 @@ IsHeader h k v = HeaderIs (λ vs. AreSignatures h.counter_signatures k vs) (h.co
 -- ---- the items that they are written as
 
 -- the value of label 7, where the signatures are written as these
-abbrev pub counters_item : Signatures → Option Items → Option (Option Item)
-counters_item no_signatures o = Some None
-counters_item (signature_and b p ps u us s more) o = option_map (λ vs. Some (bare vs)) o
+abbrev pub counter_signatures_item : Signatures → Option Items → Option (Option Item)
+counter_signatures_item no_signatures o = Some None
+counter_signatures_item (signature_and b p ps u us s more) o = option_map (λ vs. Some (one_or_array vs)) o
 
 abbrev pub header_item : FieldsSeen → Option (Option Item) → Option Item
-header_item f (Some o) = unread.image (f, o)
+header_item f (Some o) = partial_header.image (f, o)
 header_item f None = None
 
 abbrev pub signature_item : Option (List ℕ) → Option Item → List ℕ → Option Item
 signature_item p u s = both (λ b v. array (item (bytes b) (item v (item (bytes s) no_items)))) p u
 
-abbrev pub with_counters : FieldsSeen → Signatures → HeaderSeen
-with_counters f ss = record { fields = f; counter_signatures = ss }
+abbrev pub with_counter_signatures : FieldsSeen → Signatures → HeaderSeen
+with_counter_signatures f ss = record { fields = f; counter_signatures = ss }
 
 -- the signatures' items
 abbrev pub signatures_image : Signatures → Option Items
@@ -131,19 +131,19 @@ signatures_image no_signatures = Some no_items
 signatures_image (signature_and o p ps u us s more) =
     both item
     (signature_item
-    (kept is_empty_header (λ h. header_item p (counters_item ps (signatures_image ps))) o (with_counters p ps))
-    (header_item u (counters_item us (signatures_image us)))
+    (content_bytes is_empty_header (λ h. header_item p (counter_signatures_item ps (signatures_image ps))) o (with_counter_signatures p ps))
+    (header_item u (counter_signatures_item us (signatures_image us)))
     s)
     (signatures_image more)
 
 abbrev pub header_image : HeaderSeen → Option Item
-header_image h = header_item h.fields (counters_item h.counter_signatures (signatures_image h.counter_signatures))
+header_image h = header_item h.fields (counter_signatures_item h.counter_signatures (signatures_image h.counter_signatures))
 
 -- ---- what is wrong with an item
 
 -- with a header: with its map; or with a value of label 7, of which C tells
 abbrev pub HeaderFaults : (Item → CoseError → Type 0) → Item → CoseError → Type 0
-HeaderFaults C v e = unread.faults v e ⊎ SomeCounters (λ w. C w e) v
+HeaderFaults C v e = partial_header.faults v e ⊎ SomeCounterSignatures (λ w. C w e) v
 
 -- with the byte string of a protected header: it is none; or it is one layer too many; or with what it holds
 abbrev pub ProtectedFaults : (ℕ → Item → CoseError → Type 0) → ℕ → Item → CoseError → Type 0
@@ -151,12 +151,12 @@ ProtectedFaults H zero v e = ((as_bytes v ≡ None) × IsUnexpected e) ⊎ ((b :
 ProtectedFaults H (suc k) v e = ((as_bytes v ≡ None) × IsUnexpected e) ⊎ ((b : List ℕ) × (as_bytes v ≡ Some b) × ContentFaults (fixed (λ w. ⊤) None (H k)) b e)
 
 -- with the value of label 7, found within n signatures, one inside another
-abbrev pub counters_faults : ℕ → ℕ → Item → CoseError → Type 0
-counters_faults zero k w e = ⊥
-counters_faults (suc n) k w e =
+abbrev pub counter_signatures_faults : ℕ → ℕ → Item → CoseError → Type 0
+counter_signatures_faults zero k w e = ⊥
+counter_signatures_faults (suc n) k w e =
     (one_or_many (any_number (signed_array
-    (fixed (λ v. ⊤) None (ProtectedFaults (λ j. HeaderFaults (counters_faults n j)) k))
-    (fixed (λ v. ⊤) None (HeaderFaults (counters_faults n k)))))).faults w e
+    (fixed (λ v. ⊤) None (ProtectedFaults (λ j. HeaderFaults (counter_signatures_faults n j)) k))
+    (fixed (λ v. ⊤) None (HeaderFaults (counter_signatures_faults n k)))))).faults w e
 
 -- ---- the shapes
 
@@ -165,7 +165,7 @@ unfoldable pub layered_header : ℕ → Shape HeaderSeen
 layered_header k = record {
   describes = λ v h. IsHeader h k v;
   image = header_image;
-  faults = λ v e. (n : ℕ) × HeaderFaults (counters_faults n k) v e;
+  faults = λ v e. (n : ℕ) × HeaderFaults (counter_signatures_faults n k) v e;
 }
 
 -- a byte string that may not be there
@@ -177,9 +177,9 @@ no_layer image = record {
 }
 
 -- the bytes that stand for a protected header in messages and under signatures: those that were read; else none where
--- the header is empty; else the shortest text of its map, where it has one
-abbrev pub kept_bytes : ProtectedSeen → Option (List ℕ)
-kept_bytes p = kept is_empty_header header_image p.original p.header
+-- the header is empty; else the shortest encoding of its map, where it has one
+abbrev pub protected_bytes : ProtectedSeen → Option (List ℕ)
+protected_bytes p = content_bytes is_empty_header header_image p.original p.header
 
 abbrev pub protected_of : Option (List ℕ) × HeaderSeen → ProtectedSeen
 protected_of p = record { original = p.0; header = p.1 }
@@ -188,7 +188,7 @@ abbrev pub both_of : ProtectedSeen → Option (List ℕ) × HeaderSeen
 both_of p = (p.original, p.header)
 
 abbrev protected_by : ℕ → Shape ProtectedSeen
-protected_by zero = no_layer kept_bytes
+protected_by zero = no_layer protected_bytes
 protected_by (suc k) = along protected_of both_of (serialized_or_empty empty_header is_empty_header (layered_header k))
 
 -- bstr .cbor header / bstr .size 0, with k layers left

@@ -1,9 +1,9 @@
 pub mod Fields
 pub mod FieldLaws
 pub mod FieldsView
-pub mod Held
+pub mod FieldValues
 pub mod Contents
-pub mod Bare
+pub mod ProtectedMap
 pub mod Headers
 pub mod HeaderReads
 pub mod HeaderUnique

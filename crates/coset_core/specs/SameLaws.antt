@@ -87,12 +87,12 @@ signatures-sound (signature_and o p ps u us s more) (signature_and a q qs v vs t
     let unprotected = and_parts (fields_eq u v) (signatures_eq us vs) last.0 in
     let kept = (kept-decides o a).0 protected.0 in
     let ps-fields = (fields_eq-decides p q).0 inner.0 in
-    let ps-counters = signatures-sound ps qs inner.1 in
+    let ps-counter_signatures = signatures-sound ps qs inner.1 in
     let us-fields = (fields_eq-decides u v).0 unprotected.0 in
-    let us-counters = signatures-sound us vs unprotected.1 in
+    let us-counter_signatures = signatures-sound us vs unprotected.1 in
     let bytes = (bytes_decides s t).0 last.1 in
     let more-same = signatures-sound more rest all.1 in
-    λ i. signature_and (kept i) (ps-fields i) (ps-counters i) (us-fields i) (us-counters i) (bytes i) (more-same i)
+    λ i. signature_and (kept i) (ps-fields i) (ps-counter_signatures i) (us-fields i) (us-counter_signatures i) (bytes i) (more-same i)
 signatures-sound ss ts h = absurd (true≢false (sym h))
 
 -- signatures pass the test against themselves

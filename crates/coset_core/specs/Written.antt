@@ -3,30 +3,30 @@ use Rattle.std.specs.Prelude.{◌≡◌, ℕ, ◌+◌, pos, List, [], ◌∷◌,
 use Rattle.coset_value.specs.Item.{Item, bytes, array, Pairs, no_pairs, pair}
 use Rattle.coset_value.specs.Range.{AreInRange, ArePairsInRange}
 use Rattle.coset_value.specs.View.{items_of}
-use Rattle.coset_cbor.specs.Least.{shorts, pair_shorts}
-use Rattle.coset_cbor.specs.Shortest.{IsShort}
+use Rattle.coset_cbor.specs.Least.{least_encodings, least_pair_encodings}
+use Rattle.coset_cbor.specs.Shortest.{IsShortest}
 use Rattle.coset_shape.specs.Maps.{put_field}
 use Rattle.coset_label.specs.Names.{Name, number, name_item, RegisteredName, as_name}
 use Rattle.coset_core.specs.Fields.{FieldsSeen}
-use Rattle.coset_core.specs.Headers.{HeaderSeen, SignatureSeen, Signatures, signatures_of, are_none, is_empty_header, counters_item, signature_item, signatures_image, header_image, kept_bytes}
+use Rattle.coset_core.specs.Headers.{HeaderSeen, SignatureSeen, Signatures, signatures_of, are_none, is_empty_header, counter_signatures_item, signature_item, signatures_image, header_image, protected_bytes}
 use Rattle.coset_core.specs.HeaderWrites.{fields_put}
 
 -- ---- items, one after the other
 
--- new is old, and then the shortest texts of these items
+-- new is old, and then the shortest encodings of these items
 pub record AppendsItems (old new : List ℕ) (vs : List Item) : Type 0 where
   pub in_range : AreInRange (items_of vs)
-  pub parts : new ≡ old ++ shorts (items_of vs)
+  pub parts : new ≡ old ++ least_encodings (items_of vs)
 
 -- the pairs of a map, by label
 abbrev pub entry_pairs : List (Name × Item) → Pairs
 entry_pairs [] = no_pairs
 entry_pairs (e ∷ es) = pair (name_item e.0) e.1 (entry_pairs es)
 
--- new is old, and then the shortest texts of these pairs
+-- new is old, and then the shortest encodings of these pairs
 pub record AppendsPairs (old new : List ℕ) (es : List (Name × Item)) : Type 0 where
   pub in_range : ArePairsInRange (entry_pairs es)
-  pub parts : new ≡ old ++ pair_shorts (entry_pairs es)
+  pub parts : new ≡ old ++ least_pair_encodings (entry_pairs es)
 
 -- ---- fields
 
@@ -72,26 +72,26 @@ count_pairs h =
 
 -- ---- headers and signatures
 
--- new is old, and then the shortest texts of the arrays of these signatures
+-- new is old, and then the shortest encodings of the arrays of these signatures
 abbrev pub AppendsSignatures : List ℕ → List ℕ → List SignatureSeen → Type 0
 AppendsSignatures old new ss = (vs : List Item) × (signatures_image (signatures_of ss) ≡ Some (items_of vs)) × (length vs ≡ length ss) × AppendsItems old new vs
 
 -- new is old, and then the pair of label 7, where there are signatures
-abbrev pub AppendsCounters : List ℕ → List ℕ → Signatures → Type 0
-AppendsCounters old new ss = (o : Option Item) × (counters_item ss (signatures_image ss) ≡ Some o) × AppendsPairs old new (put_field (number (pos 7)) o [])
+abbrev pub AppendsCounterSignatures : List ℕ → List ℕ → Signatures → Type 0
+AppendsCounterSignatures old new ss = (o : Option Item) × (counter_signatures_item ss (signatures_image ss) ≡ Some o) × AppendsPairs old new (put_field (number (pos 7)) o [])
 
 -- the array of a signature
 abbrev pub signature_array : SignatureSeen → Option Item
-signature_array s = signature_item (kept_bytes s.protected) (header_image s.unprotected) s.signature
+signature_array s = signature_item (protected_bytes s.protected) (header_image s.unprotected) s.signature
 
 -- ---- the bytes of protected headers
 
--- of a header that isn't empty and wasn't read, the bytes are the shortest text of its map
+-- of a header that isn't empty and wasn't read, the bytes are the shortest encoding of its map
 abbrev pub AreShortest : Option (List ℕ) → HeaderSeen → List ℕ → Type 0
 AreShortest (Some read) h b = ⊤
-AreShortest None h b = is_empty_header h ≡ false → (v : Item) → header_image h ≡ Some v → IsShort b v
+AreShortest None h b = is_empty_header h ≡ false → (v : Item) → header_image h ≡ Some v → IsShortest b v
 
--- the same of a byte string with these bytes
+-- of a header that isn't empty and wasn't read, a byte string holds the shortest encoding of its map
 abbrev pub HoldsShortest : Option (List ℕ) → HeaderSeen → Item → Type 0
 HoldsShortest original h (bytes b) = AreShortest original h b
 HoldsShortest original h v = ⊥

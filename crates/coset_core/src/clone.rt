@@ -17,7 +17,7 @@ impl Header {
     /// A header that equals this one.
     ///
     /// # Errors
-    /// Want of memory alone.
+    /// `OutOfMemory` alone.
     #[cycle(copy)]
     pub fn clone(&self) -> Result<Header>
         ensures copy { IfOk result (λ h. header_seen h ≡ header_seen self.now) }
@@ -40,7 +40,7 @@ impl ProtectedHeader {
     /// A protected header that equals this one, with the same bytes kept.
     ///
     /// # Errors
-    /// Want of memory alone.
+    /// `OutOfMemory` alone.
     #[cycle(copy)]
     pub fn clone(&self) -> Result<ProtectedHeader>
         ensures copy { IfOk result (λ p. protected_seen p ≡ protected_seen self.now) }
@@ -57,7 +57,7 @@ impl CoseSignature {
     /// A signature that equals this one.
     ///
     /// # Errors
-    /// Want of memory alone.
+    /// `OutOfMemory` alone.
     #[cycle(copy)]
     pub fn clone(&self) -> Result<CoseSignature>
         ensures copy { IfOk result (λ s. signature_seen s ≡ signature_seen self.now) }
@@ -73,7 +73,8 @@ impl CoseSignature {
 
 #[cycle(copy)]
 fn copy_signatures(signatures: &Vec<CoseSignature>) -> Result<Vec<CoseSignature>>
-    ensures copy { IfOk result (λ copies. map signature_seen copies.items ≡ map signature_seen signatures.now.items) }
+    ensures copy { IfOk result (λ copies. map signature_seen copies.items
+        ≡ map signature_seen signatures.now.items) }
     ensures memory { IfErr result (λ e. e ≡ OutOfMemory) }
 {
     let mut copies = Vec::with_capacity(*signatures.allocator(), signatures.len())?;
@@ -84,7 +85,8 @@ fn copy_signatures(signatures: &Vec<CoseSignature>) -> Result<Vec<CoseSignature>
 }
 
 fn copy_algorithm(alg: &Option<Algorithm>) -> Result<Option<Algorithm>>
-    ensures copy { IfOk result (λ copy. option_map algorithm_seen copy ≡ option_map algorithm_seen alg.now) }
+    ensures copy { IfOk result (λ copy. option_map algorithm_seen copy
+        ≡ option_map algorithm_seen alg.now) }
     ensures memory { IfErr result (λ e. e ≡ OutOfMemory) }
 {
     match alg {
@@ -94,7 +96,8 @@ fn copy_algorithm(alg: &Option<Algorithm>) -> Result<Option<Algorithm>>
 }
 
 fn copy_content_type(content_type: &Option<ContentType>) -> Result<Option<ContentType>>
-    ensures copy { IfOk result (λ copy. option_map content_type_seen copy ≡ option_map content_type_seen content_type.now) }
+    ensures copy { IfOk result (λ copy. option_map content_type_seen copy
+        ≡ option_map content_type_seen content_type.now) }
     ensures memory { IfErr result (λ e. e ≡ OutOfMemory) }
 {
     match content_type {
@@ -104,7 +107,8 @@ fn copy_content_type(content_type: &Option<ContentType>) -> Result<Option<Conten
 }
 
 fn copy_kept(kept: &Option<Vec<u8>>) -> Result<Option<Vec<u8>>>
-    ensures copy { IfOk result (λ copy. option_map (λ v. v.items) copy ≡ option_map (λ v. v.items) kept.now) }
+    ensures copy { IfOk result (λ copy. option_map (λ v. v.items) copy
+        ≡ option_map (λ v. v.items) kept.now) }
     ensures memory { IfErr result (λ e. e ≡ OutOfMemory) }
 {
     match kept {
@@ -116,7 +120,8 @@ fn copy_kept(kept: &Option<Vec<u8>>) -> Result<Option<Vec<u8>>>
 fn copy_critical(
     crit: &Vec<RegisteredLabelWithPrivate<HeaderParameter>>,
 ) -> Result<Vec<RegisteredLabelWithPrivate<HeaderParameter>>>
-    ensures copy { IfOk result (λ copies. map critical_seen copies.items ≡ map critical_seen crit.now.items) }
+    ensures copy { IfOk result (λ copies. map critical_seen copies.items
+        ≡ map critical_seen crit.now.items) }
     ensures memory { IfErr result (λ e. e ≡ OutOfMemory) }
 {
     let mut copies = Vec::with_capacity(*crit.allocator(), crit.len())?;
@@ -127,7 +132,8 @@ fn copy_critical(
 }
 
 fn copy_rest(rest: &Vec<(Label, Value)>) -> Result<Vec<(Label, Value)>>
-    ensures copy { IfOk result (λ copies. map entry_seen copies.items ≡ map entry_seen rest.now.items) }
+    ensures copy { IfOk result (λ copies. map entry_seen copies.items
+        ≡ map entry_seen rest.now.items) }
     ensures memory { IfErr result (λ e. e ≡ OutOfMemory) }
 {
     let mut copies = Vec::with_capacity(*rest.allocator(), rest.len())?;

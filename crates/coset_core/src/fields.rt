@@ -4,7 +4,7 @@ ghost use Rattle.std.specs.Prelude.{◌≡◌, ◌≤◌, ◌<◌, pos, ◌⊎�
 ghost use Rattle.coset_value.specs.Item.{Item, Pairs};
 ghost use Rattle.coset_shape.specs.declared.error.CoseError.TheVariants.{DuplicateMapKey};
 ghost use Rattle.coset_shape.specs.Answers.{Reads};
-ghost use Rattle.coset_shape.specs.Errors.{IsUnexpected, Names};
+ghost use Rattle.coset_shape.specs.Errors.{IsUnexpected, UnlessMemory};
 ghost use Rattle.coset_shape.specs.Inputs.{State, state, still, size, pairs_size, pairs_turns, PairsWithin};
 ghost use Rattle.coset_shape.specs.Maps.{optional, listed, Adds, Refuses};
 ghost use Rattle.coset_shape.specs.Shape.{any, some_of, filled_bstr};
@@ -13,10 +13,10 @@ ghost use Rattle.coset_label.specs.Names.{number};
 ghost use Rattle.coset_label.specs.Views.{label_seen};
 ghost use Rattle.coset_shape.specs.declared.input.InputPairs.{InputPairs};
 ghost use Rattle.coset_core.specs.Fields.{FieldsSeen, algorithm, critical, content_type, names, fields, parts_of, same_name, HasOneIv, bars};
-ghost use Rattle.coset_core.specs.FieldsView.{fields_seen, counters_held};
+ghost use Rattle.coset_core.specs.FieldsView.{fields_seen, counter_signatures_held};
 ghost use Rattle.coset_core.specs.Views.{algorithm_seen, critical_seen, content_type_seen};
 ghost use Rattle.coset_core.specs.Filling.{WalksTo, NextsLabel, FillsSome, FillsFields};
-ghost use Rattle.coset_core.specs.Held.{TakesHeld, RefusesHeld};
+ghost use Rattle.coset_core.specs.FieldValues.{TakesValue, RefusesValue};
 
 use crate::content_type::read_content_type;
 use crate::header::Header;
@@ -52,7 +52,8 @@ fn read_critical(
     alloc: Global,
     source: Source<'_>,
 ) -> Result<Vec<RegisteredLabelWithPrivate<HeaderParameter>>>
-    ensures { Reads (some_of critical) (λ all. map critical_seen all.items) (source_item source.entry) result }
+    ensures { Reads (some_of critical) (λ all. map critical_seen all.items)
+        (source_item source.entry) result }
 {
     read_filled_list(
         alloc,
@@ -64,8 +65,10 @@ fn read_critical(
 
 /// Sets the algorithm, where there is none yet.
 fn set_algorithm(alloc: Global, field: &mut Option<Algorithm>, value: Source<'_>) -> Result<()>
-    ensures takes { OnOk result (TakesHeld (optional algorithm) (source_item value.entry) (option_map algorithm_seen field.old) (option_map algorithm_seen field.new)) }
-    ensures refused { IfErr result (λ e. Names e (RefusesHeld (optional algorithm) (source_item value.entry) (option_map algorithm_seen field.old))) }
+    ensures takes { OnOk result (TakesValue (optional algorithm) (source_item value.entry)
+        (option_map algorithm_seen field.old) (option_map algorithm_seen field.new)) }
+    ensures refused { IfErr result (λ e. UnlessMemory e (RefusesValue (optional algorithm)
+        (source_item value.entry) (option_map algorithm_seen field.old))) }
     ensures kept { OnErr result (field.new ≡ field.old) }
 {
     if field.is_some() {
@@ -81,8 +84,10 @@ fn set_critical(
     field: &mut Vec<RegisteredLabelWithPrivate<HeaderParameter>>,
     value: Source<'_>,
 ) -> Result<()>
-    ensures takes { OnOk result (TakesHeld (listed (some_of critical)) (source_item value.entry) (map critical_seen field.old.items) (map critical_seen field.new.items)) }
-    ensures refused { IfErr result (λ e. Names e (RefusesHeld (listed (some_of critical)) (source_item value.entry) (map critical_seen field.old.items))) }
+    ensures takes { OnOk result (TakesValue (listed (some_of critical)) (source_item value.entry)
+        (map critical_seen field.old.items) (map critical_seen field.new.items)) }
+    ensures refused { IfErr result (λ e. UnlessMemory e (RefusesValue (listed (some_of critical))
+        (source_item value.entry) (map critical_seen field.old.items))) }
     ensures kept { OnErr result (field.new ≡ field.old) }
 {
     if !field.is_empty() {
@@ -94,8 +99,10 @@ fn set_critical(
 
 /// Sets the content type, where there is none yet.
 fn set_content_type(alloc: Global, field: &mut Option<ContentType>, value: Source<'_>) -> Result<()>
-    ensures takes { OnOk result (TakesHeld (optional content_type) (source_item value.entry) (option_map content_type_seen field.old) (option_map content_type_seen field.new)) }
-    ensures refused { IfErr result (λ e. Names e (RefusesHeld (optional content_type) (source_item value.entry) (option_map content_type_seen field.old))) }
+    ensures takes { OnOk result (TakesValue (optional content_type) (source_item value.entry)
+        (option_map content_type_seen field.old) (option_map content_type_seen field.new)) }
+    ensures refused { IfErr result (λ e. UnlessMemory e (RefusesValue (optional content_type)
+        (source_item value.entry) (option_map content_type_seen field.old))) }
     ensures kept { OnErr result (field.new ≡ field.old) }
 {
     if field.is_some() {
@@ -107,8 +114,10 @@ fn set_content_type(alloc: Global, field: &mut Option<ContentType>, value: Sourc
 
 /// Sets the bytes of a field, where there are none yet.
 fn set_bytes(alloc: Global, field: &mut Vec<u8>, value: Source<'_>) -> Result<()>
-    ensures takes { OnOk result (TakesHeld (listed filled_bstr) (source_item value.entry) field.old.items field.new.items) }
-    ensures refused { IfErr result (λ e. Names e (RefusesHeld (listed filled_bstr) (source_item value.entry) field.old.items)) }
+    ensures takes { OnOk result (TakesValue (listed filled_bstr) (source_item value.entry)
+        field.old.items field.new.items) }
+    ensures refused { IfErr result (λ e. UnlessMemory e
+        (RefusesValue (listed filled_bstr) (source_item value.entry) field.old.items)) }
     ensures kept { OnErr result (field.new ≡ field.old) }
 {
     if !field.is_empty() {
@@ -118,11 +127,13 @@ fn set_bytes(alloc: Global, field: &mut Vec<u8>, value: Source<'_>) -> Result<()
     Ok(())
 }
 
-/// Sets one kind of initialization vector, where there is none yet; `barred` tells whether the other is there.
+/// Sets IV or Partial IV, where it isn't there yet; `barred` tells whether the other is.
 fn set_iv(alloc: Global, field: &mut Vec<u8>, barred: bool, value: Source<'_>) -> Result<()>
-    ensures takes { OnOk result (TakesHeld (listed filled_bstr) (source_item value.entry) field.old.items field.new.items) }
+    ensures takes { OnOk result (TakesValue (listed filled_bstr) (source_item value.entry)
+        field.old.items field.new.items) }
     ensures alone { OnOk result (barred ≡ false) }
-    ensures refused { IfErr result (λ e. Names e (λ f. RefusesHeld (listed filled_bstr) (source_item value.entry) field.old.items f ⊎ ((barred ≡ true) × IsUnexpected f))) }
+    ensures refused { IfErr result (λ e. UnlessMemory e (λ f. RefusesValue (listed filled_bstr)
+        (source_item value.entry) field.old.items f ⊎ ((barred ≡ true) × IsUnexpected f))) }
     ensures kept { OnErr result (field.new ≡ field.old) }
 {
     if !field.is_empty() {
@@ -142,16 +153,22 @@ fn set_iv(alloc: Global, field: &mut Vec<u8>, barred: bool, value: Source<'_>) -
 /// Takes one more value of a header, by its label, which isn't 7. Whether labels of the rest repeat isn't asked.
 ///
 /// # Errors
-/// `OutOfMemory`; `DuplicateMapKey` where a field has a value already; a fault of its value; or `UnexpectedItem` where it
-/// is the second kind of initialization vector. The header is then as before.
+/// `OutOfMemory`; `DuplicateMapKey` where a field has a value already; a fault of its value; or `UnexpectedItem` where
+/// it is the second of IV and Partial IV. The header is then as before.
 fn put(header: &mut Header, alloc: Global, label: Label, value: Source<'_>) -> Result<()>
     requires other { same_name (number (pos 7)) (label_seen label) ≡ false }
     requires one_iv { HasOneIv (fields_seen header.old) }
-    ensures takes { (o : Option Item) → OnOk result (Adds names (fields (optional any)) (label_seen label) (source_item value.entry) (parts_of (fields_seen header.old, o)) (parts_of (fields_seen header.new, o))) }
-    ensures refused { (o : Option Item) → IfErr result (λ e. Names e (λ f. Refuses names (fields (optional any)) (label_seen label) (source_item value.entry) (parts_of (fields_seen header.old, o)) f ⊎ bars (label_seen label) (parts_of (fields_seen header.old, o)) f)) }
+    ensures takes { (o : Option Item)
+        → OnOk result
+        (Adds names (fields (optional any)) (label_seen label) (source_item value.entry)
+        (parts_of (fields_seen header.old, o)) (parts_of (fields_seen header.new, o))) }
+    ensures refused { (o : Option Item)
+        → IfErr result (λ e. UnlessMemory e (λ f. Refuses names (fields (optional any))
+        (label_seen label) (source_item value.entry) (parts_of (fields_seen header.old, o)) f
+        ⊎ bars (label_seen label) (parts_of (fields_seen header.old, o)) f)) }
     ensures kept { OnErr result (fields_seen header.new ≡ fields_seen header.old) }
     ensures one_iv { HasOneIv (fields_seen header.new) }
-    ensures others { counters_held header.new ≡ counters_held header.old }
+    ensures others { counter_signatures_held header.new ≡ counter_signatures_held header.old }
 {
     if is_number(&label, 1) {
         return set_algorithm(alloc, &mut header.alg, value);
@@ -185,9 +202,12 @@ fn put(header: &mut Header, alloc: Global, label: Label, value: Source<'_>) -> R
 fn next_label(alloc: Global, pairs: &mut InputPairs, input: &mut Input<'_>) -> Result<Option<Label>>
     ensures shrinks { still (state input.new) ≤ still (state input.old) }
     ensures size { pairs_size pairs.new (state input.new) ≤ pairs_size pairs.old (state input.old) }
-    ensures value { IfOk result (λ o. IsSome o → size (state input.new) ≤ pairs_size pairs.old (state input.old)) }
-    ensures turns { IfOk result (λ o. IsSome o → pairs_turns pairs.new (state input.new) < pairs_turns pairs.old (state input.old)) }
-    ensures nexts { (ps : Pairs) (z : State) → PairsWithin pairs.old ps (state input.old) z → NextsLabel ps (state input.new) z pairs.new result }
+    ensures value { IfOk result (λ o. IsSome o → size (state input.new) ≤ pairs_size pairs.old
+        (state input.old)) }
+    ensures turns { IfOk result (λ o. IsSome o → pairs_turns pairs.new (state input.new) <
+        pairs_turns pairs.old (state input.old)) }
+    ensures nexts { (ps : Pairs) (z : State) → PairsWithin pairs.old ps (state input.old) z
+        → NextsLabel ps (state input.new) z pairs.new result }
 {
     let Some(key) = pairs.next_key(input)? else {
         return Ok(None);
@@ -214,11 +234,13 @@ fn fill_some(
 ) -> Result<bool>
     requires one_iv { HasOneIv (fields_seen header.old) }
     ensures one_iv { HasOneIv (fields_seen header.new) }
-    ensures others { counters_held header.new ≡ counters_held header.old }
+    ensures others { counter_signatures_held header.new ≡ counter_signatures_held header.old }
     ensures shrinks { still (state input.new) ≤ still (state input.old) }
     ensures size { pairs_size pairs.new (state input.new) ≤ pairs_size pairs.old (state input.old) }
-    ensures value { IfOk result (λ b. IsTrue b → size (state input.new) ≤ pairs_size pairs.old (state input.old)) }
-    ensures fills { (all ps : Pairs) (o : Option Item) (z : State) → WalksTo all (fields_seen header.old) o ps → PairsWithin pairs.old ps (state input.old) z
+    ensures value { IfOk result (λ b. IsTrue b → size (state input.new) ≤ pairs_size pairs.old
+        (state input.old)) }
+    ensures fills { (all ps : Pairs) (o : Option Item) (z : State)
+        → WalksTo all (fields_seen header.old) o ps → PairsWithin pairs.old ps (state input.old) z
         → FillsSome all o z (fields_seen header.new) (state input.new) pairs.new result }
 {
     while let Some(label) = next_label(alloc, pairs, input)? {
@@ -236,7 +258,8 @@ fn fill_some(
 #[cold]
 fn refuse(filled: Result<bool>, input: &mut Input<'_>, error: CoseError) -> Result<bool>
     ensures shrinks { still (state input.new) ≤ still (state input.old) }
-    ensures passes { (all : Pairs) (o : Option Item) (f : FieldsSeen) (z : State) (m : InputPairs) → FillsSome all o z f (state input.old) m filled
+    ensures passes { (all : Pairs) (o : Option Item) (f : FieldsSeen) (z : State) (m : InputPairs)
+        → FillsSome all o z f (state input.old) m filled
         → (left : Pairs) × PairsWithin m left (state input.new) z }
     ensures refused { IsErrAnd result (λ e. e ≡ error) }
 {
@@ -263,11 +286,13 @@ pub(crate) fn fill_fields(
 ) -> Result<bool>
     requires one_iv { HasOneIv (fields_seen header.old) }
     ensures one_iv { HasOneIv (fields_seen header.new) }
-    ensures others { counters_held header.new ≡ counters_held header.old }
+    ensures others { counter_signatures_held header.new ≡ counter_signatures_held header.old }
     ensures shrinks { still (state input.new) ≤ still (state input.old) }
     ensures size { pairs_size pairs.new (state input.new) ≤ pairs_size pairs.old (state input.old) }
-    ensures value { IfOk result (λ b. IsTrue b → size (state input.new) ≤ pairs_size pairs.old (state input.old)) }
-    ensures fills { (all ps : Pairs) (o : Option Item) (z : State) → WalksTo all (fields_seen header.old) o ps → PairsWithin pairs.old ps (state input.old) z
+    ensures value { IfOk result (λ b. IsTrue b → size (state input.new) ≤ pairs_size pairs.old
+        (state input.old)) }
+    ensures fills { (all ps : Pairs) (o : Option Item) (z : State)
+        → WalksTo all (fields_seen header.old) o ps → PairsWithin pairs.old ps (state input.old) z
         → FillsFields all o z (fields_seen header.new) (state input.new) pairs.new result }
 {
     let filled = fill_some(header, alloc, pairs, input);

@@ -1,8 +1,7 @@
 //! Headers: what is said of a message's content beside it.
 
-ghost use Rattle.std.specs.Prelude.{◌≡◌, IfErr};
-ghost use Rattle.coset_shape.specs.Answers.{ReadsSlice, DescribesNothing, AsksForItems};
-ghost use Rattle.coset_shape.specs.Errors.{Names};
+ghost use Rattle.std.specs.Prelude.{◌≡◌};
+ghost use Rattle.coset_shape.specs.Answers.{ReadsSlice, AllocatesForItems, RefusesSlice};
 ghost use Rattle.coset_core.specs.Headers.{empty_header, is_empty_header, header};
 ghost use Rattle.coset_core.specs.Views.{header_seen};
 
@@ -33,9 +32,9 @@ pub struct Header {
     pub content_type: Option<ContentType>,
     /// The key's identifier (label 4); none where it is empty.
     pub key_id: Vec<u8>,
-    /// The initialization vector (label 5); none where it is empty.
+    /// The IV (label 5); none where it is empty.
     pub iv: Vec<u8>,
-    /// A part of the initialization vector (label 6); none where it is empty.
+    /// The Partial IV (label 6); none where it is empty.
     pub partial_iv: Vec<u8>,
     /// The counter signatures (label 7); none where it is empty.
     pub counter_signatures: Vec<CoseSignature>,
@@ -124,8 +123,8 @@ impl FromPull for Header {
 impl CborSerializable for Header {
     fn from_slice(alloc: Global, s: &[u8]) -> Result<Header>
         ensures read { ReadsSlice header header_seen s.now result }
-        ensures refused { IfErr result (λ e. Names e (λ _. DescribesNothing header s.now)) }
-        ensures memory { AsksForItems s.now result }
+        ensures refused { RefusesSlice header s.now result }
+        ensures memory { AllocatesForItems s.now result }
     {
         read_slice(alloc, s)
     }

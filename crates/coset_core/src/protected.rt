@@ -5,13 +5,13 @@ ghost use Rattle.std.specs.Cow.{cow_slice_items};
 ghost use Rattle.coset_value.specs.View.{view};
 ghost use Rattle.coset_cbor.specs.Pulls.{pull_item};
 ghost use Rattle.coset_shape.specs.declared.error.CoseError.TheVariants.{DuplicateMapKey};
-ghost use Rattle.coset_shape.specs.Answers.{Reads, Images, ReadsSlice, DescribesNothing, AsksForItems};
-ghost use Rattle.coset_shape.specs.Errors.{Names};
+ghost use Rattle.coset_shape.specs.Answers.{Reads, Images, ReadsSlice, AllocatesForItems, RefusesSlice};
 ghost use Rattle.coset_shape.specs.Sources.{source_item};
-ghost use Rattle.coset_core.specs.Bare.{bare, bare_laws};
-ghost use Rattle.coset_core.specs.Headers.{empty_header, is_empty_header, kept_bytes, protected as protected_shape};
+ghost use Rattle.coset_core.specs.ProtectedMap.{protected_map, protected_map_laws};
+ghost use Rattle.coset_core.specs.Headers.{empty_header, is_empty_header, protected_bytes, protected as protected_shape};
 ghost use Rattle.coset_core.specs.Views.{header_seen, protected_seen};
 ghost use Rattle.coset_core.specs.Written.{AreShortest, HoldsShortest};
+ghost use Rattle.coset_shape.specs.Encoding.{HasNoImage};
 
 use crate::header::Header;
 use crate::read::{read_header, read_protected};
@@ -55,7 +55,7 @@ impl ProtectedHeader {
     /// Reads a protected header from the byte string that holds it, and keeps its bytes.
     ///
     /// # Errors
-    /// Want of memory, or the first fault found: the value is no byte string (`UnexpectedItem`), what it holds isn't an
+    /// `OutOfMemory`, or the first fault found: the value is no byte string (`UnexpectedItem`), what it holds isn't an
     /// item within 256 levels (`DecodeFailed`), others follow that (`ExtraneousData`), or it isn't a header.
     pub fn from_cbor_bstr(alloc: Global, value: Value) -> Result<ProtectedHeader>
         ensures { Reads protected_shape protected_seen (view value) result }
@@ -63,20 +63,20 @@ impl ProtectedHeader {
         ProtectedHeader::from_source_bstr(alloc, Source::Tree(value))
     }
 
-    /// The same from a lent item.
+    /// Reads a protected header from the lent byte string that holds it, and keeps its bytes.
     ///
     /// # Errors
-    /// As of [`ProtectedHeader::from_cbor_bstr`].
+    /// The same as [`ProtectedHeader::from_cbor_bstr`].
     pub fn from_pull_bstr(alloc: Global, pull: Pull<'_>) -> Result<ProtectedHeader>
         ensures { Reads protected_shape protected_seen (pull_item pull.entry) result }
     {
         ProtectedHeader::from_source_bstr(alloc, Source::Lent(pull))
     }
 
-    /// The same, whichever way the item is given.
+    /// Reads a protected header from the byte string that holds it, whichever way that is given, and keeps its bytes.
     ///
     /// # Errors
-    /// As of [`ProtectedHeader::from_cbor_bstr`].
+    /// The same as [`ProtectedHeader::from_cbor_bstr`].
     pub fn from_source_bstr(alloc: Global, source: Source<'_>) -> Result<ProtectedHeader>
         ensures { Reads protected_shape protected_seen (source_item source.entry) result }
     {
@@ -84,15 +84,17 @@ impl ProtectedHeader {
     }
 
     /// The bytes that stand for the header in messages and under signatures (RFC 8152, sections 3 and 4.4): those that
-    /// were read; else none where the header is empty; else the shortest text of its map.
+    /// were read; else none where the header is empty; else the shortest encoding of its map.
     ///
     /// # Errors
-    /// Want of memory, or `DuplicateMapKey` where no bytes were read, and a label stands twice in the rest of the
+    /// `OutOfMemory`, or `DuplicateMapKey` where no bytes were read, and a label stands twice in the rest of the
     /// header, or in that of one inside it whose bytes weren't read either.
-    pub fn kept_bytes(&self, alloc: Global) -> Result<CowSlice<'_, u8, Global>>
-        ensures ok { IfOk result (λ b. kept_bytes (protected_seen self.now) ≡ Some (cow_slice_items b)) }
-        ensures shortest { IfOk result (λ b. AreShortest (protected_seen self.now).original (protected_seen self.now).header (cow_slice_items b)) }
-        ensures refused { IfErr result (λ e. Names e (λ f. (f ≡ DuplicateMapKey) × (kept_bytes (protected_seen self.now) ≡ None))) }
+    pub fn protected_bytes(&self, alloc: Global) -> Result<CowSlice<'_, u8, Global>>
+        ensures ok { IfOk result (λ b. protected_bytes (protected_seen self.now)
+            ≡ Some (cow_slice_items b)) }
+        ensures shortest { IfOk result (λ b. AreShortest (protected_seen self.now).original
+            (protected_seen self.now).header (cow_slice_items b)) }
+        ensures refused { IfErr result (HasNoImage (protected_bytes (protected_seen self.now))) }
     {
         if let Some(bytes) = &self.original_data {
             return Ok(CowSlice::Borrowed(bytes));
@@ -103,10 +105,11 @@ impl ProtectedHeader {
     /// The byte string that stands for the header in messages.
     ///
     /// # Errors
-    /// As of [`ProtectedHeader::kept_bytes`].
+    /// The same as [`ProtectedHeader::protected_bytes`].
     pub fn cbor_bstr(self, alloc: Global) -> Result<Value>
         ensures image { Images (protected_shape.image (protected_seen self)) view result }
-        ensures shortest { IfOk result (λ v. HoldsShortest (protected_seen self).original (protected_seen self).header (view v)) }
+        ensures shortest { IfOk result (λ v. HoldsShortest (protected_seen self).original
+            (protected_seen self).header (view v)) }
     {
         let ProtectedHeader {
             original_data,
@@ -133,14 +136,14 @@ impl Encode for Bstr<'_> {
         }
     }
 
-    /// As of [`ProtectedHeader::kept_bytes`].
+    /// The same as [`ProtectedHeader::protected_bytes`].
     fn encode(&self, alloc: Global, out: &mut Vec<u8>) -> Result<()> {
         write_protected(alloc, self.0, out)
     }
 }
 
 /// A protected header that wasn't read from a byte string.
-fn unread(header: Header) -> ProtectedHeader
+fn protected_from_header(header: Header) -> ProtectedHeader
     ensures { protected_seen result ≡ record { original = None; header = header_seen header } }
 {
     ProtectedHeader {
@@ -156,15 +159,15 @@ impl AsCborValue for ProtectedHeader {
 
     ghost seen = { protected_seen };
 
-    ghost shape = { bare };
+    ghost shape = { protected_map };
 
-    ghost unique = { bare_laws.unique };
+    ghost unique = { protected_map_laws.unique };
 
-    ghost sound = { bare_laws.sound };
+    ghost sound = { protected_map_laws.sound };
 
     /// Reads the header from its map. No bytes are kept.
     fn from_cbor_value(alloc: Global, value: Value) -> Result<ProtectedHeader> {
-        Ok(unread(read_header(alloc, Source::Tree(value))?))
+        Ok(protected_from_header(read_header(alloc, Source::Tree(value))?))
     }
 
     /// Writes the header's map, whatever bytes were kept.
@@ -174,7 +177,7 @@ impl AsCborValue for ProtectedHeader {
 }
 
 impl Encode for ProtectedHeader {
-    ghost image = { λ p. bare.image (protected_seen p) };
+    ghost image = { λ p. protected_map.image (protected_seen p) };
 
     fn room(&self) -> usize {
         self.header.room()
@@ -188,15 +191,15 @@ impl Encode for ProtectedHeader {
 
 impl FromPull for ProtectedHeader {
     fn from_pull(alloc: Global, pull: Pull<'_>) -> Result<ProtectedHeader> {
-        Ok(unread(read_header(alloc, Source::Lent(pull))?))
+        Ok(protected_from_header(read_header(alloc, Source::Lent(pull))?))
     }
 }
 
 impl CborSerializable for ProtectedHeader {
     fn from_slice(alloc: Global, s: &[u8]) -> Result<ProtectedHeader>
-        ensures read { ReadsSlice bare protected_seen s.now result }
-        ensures refused { IfErr result (λ e. Names e (λ _. DescribesNothing bare s.now)) }
-        ensures memory { AsksForItems s.now result }
+        ensures read { ReadsSlice protected_map protected_seen s.now result }
+        ensures refused { RefusesSlice protected_map s.now result }
+        ensures memory { AllocatesForItems s.now result }
     {
         read_slice(alloc, s)
     }

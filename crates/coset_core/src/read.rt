@@ -22,7 +22,7 @@ use crate::protected::ProtectedHeader;
 use crate::signature::CoseSignature;
 use coset_cbor::de;
 use coset_shape::input::{Input, InputItems, InputPairs};
-use coset_shape::traits::whole;
+use coset_shape::traits::whole_item;
 use coset_shape::{CoseError, Result, Source};
 use std::alloc::Global;
 
@@ -53,11 +53,15 @@ fn next_signature(
     input: &mut Input<'_>,
 ) -> Result<bool>
     ensures shrinks { still (state input.new) ≤ still (state input.old) }
-    ensures size { items_size members.new (state input.new) ≤ items_size members.old (state input.old) }
-    ensures member { IfOk result (λ b. IsTrue b → size (state input.new) ≤ items_size members.old (state input.old)) }
-    ensures turns { IfOk result (λ b. IsTrue b → (t : State) → GoesBehind (state input.new) t → items_turns members.new t < items_turns members.old (state input.old)) }
+    ensures size { items_size members.new (state input.new) ≤ items_size members.old
+        (state input.old) }
+    ensures member { IfOk result (λ b. IsTrue b → size (state input.new) ≤ items_size members.old
+        (state input.old)) }
+    ensures turns { IfOk result (λ b. IsTrue b → (t : State) → GoesBehind (state input.new) t
+        → items_turns members.new t < items_turns members.old (state input.old)) }
     ensures place { IfOk result (GetsPlace all.old.items all.new.items) }
-    ensures next { (vs : Items) (z : State) → AreWithin members.old vs (state input.old) z → BeginsNext vs (state input.new) z members.new result }
+    ensures next { (vs : Items) (z : State) → AreWithin members.old vs (state input.old) z
+        → BeginsNext vs (state input.new) z members.new result }
 {
     if !members.next(input) {
         return Ok(false);
@@ -86,9 +90,12 @@ fn misfit<T>() -> Result<T>
 #[inline(never)]
 fn begin_places<'a>(members: &mut InputItems, input: &mut Input<'a>) -> Result<Source<'a>>
     ensures shrinks { still (state input.new) ≤ still (state input.old) }
-    ensures size { items_size members.new (state input.new) ≤ items_size members.old (state input.old) }
-    ensures place { OnOk result (size (state input.new) ≤ items_size members.old (state input.old)) }
-    ensures begins { (vs : Items) (z : State) → AreWithin members.old vs (state input.old) z → BeginsPlaces vs (state input.new) z members.new result }
+    ensures size { items_size members.new (state input.new) ≤ items_size members.old
+        (state input.old) }
+    ensures place { OnOk result
+        (size (state input.new) ≤ items_size members.old (state input.old)) }
+    ensures begins { (vs : Items) (z : State) → AreWithin members.old vs (state input.old) z
+        → BeginsPlaces vs (state input.new) z members.new result }
 {
     let Some(protected) = members.take(input)? else {
         return misfit();
@@ -111,7 +118,8 @@ fn end_places(
     input: &mut Input<'_>,
 ) -> Result<()>
     ensures shrinks { still (state input.new) ≤ still (state input.old) }
-    ensures ends { (vs : Items) (z : State) → AreWithin members.old vs (state input.old) z → EndsPlaces vs (state input.new) z members.new signature.new.items result }
+    ensures ends { (vs : Items) (z : State) → AreWithin members.old vs (state input.old) z
+        → EndsPlaces vs (state input.new) z members.new signature.new.items result }
 {
     let Some(last) = members.take(input)? else {
         return misfit();
@@ -129,7 +137,8 @@ fn end_places(
 #[inline(never)]
 fn refuse_second(input: &mut Input<'_>) -> Result<()>
     ensures shrinks { still (state input.new) ≤ still (state input.old) }
-    ensures passes { (v : Item) (z : State) → Stands v (state input.old) z → (state input.new ≡ z) × (result ≡ Err DuplicateMapKey) }
+    ensures passes { (v : Item) (z : State) → Stands v (state input.old) z → (state input.new ≡ z)
+        × (result ≡ Err DuplicateMapKey) }
 {
     input.pass();
     Err(CoseError::DuplicateMapKey)
@@ -148,7 +157,8 @@ pub(crate) fn fill_header(
 ) -> Result<()>
     requires empty { header_seen header.old ≡ empty_header }
     ensures shrinks { still (state input.new) ≤ still (state input.old) }
-    ensures fills { (v : Item) (z : State) → Stands v (state input.old) z → (state input.new ≡ z) × Fills (layered_header layers) v (header_seen header.new) result }
+    ensures fills { (v : Item) (z : State) → Stands v (state input.old) z → (state input.new ≡ z)
+        × Fills (layered_header layers) v (header_seen header.new) result }
 {
     let mut pairs = input.enter_map()?;
     let filled = fill_pairs(header, alloc, &mut pairs, input, layers);
@@ -176,7 +186,7 @@ fn fill_pairs(
     if !fill_fields(header, alloc, pairs, input)? {
         return Ok(());
     }
-    fill_counters(&mut header.counter_signatures, alloc, input, layers)?;
+    fill_counter_signatures(&mut header.counter_signatures, alloc, input, layers)?;
     if fill_fields(header, alloc, pairs, input)? {
         return refuse_second(input);
     }
@@ -188,7 +198,7 @@ fn fill_pairs(
 /// # Errors
 /// `OutOfMemory`; `UnexpectedItem` where the item holds none; or the fault of the first that has one.
 #[cycle(read)]
-fn fill_counters(
+fn fill_counter_signatures(
     all: &mut Vec<CoseSignature>,
     alloc: Global,
     input: &mut Input<'_>,
@@ -269,7 +279,8 @@ pub(crate) fn fill_signature(
     requires empty { signature_seen signed.old ≡ empty_signature }
     ensures shrinks { still (state input.new) ≤ still (state input.old) }
     ensures strictly { OnOk result (GoesBehind (state input.old) (state input.new)) }
-    ensures fills { (v : Item) (z : State) → Stands v (state input.old) z → (state input.new ≡ z) × Fills (layered_signature layers) v (signature_seen signed.new) result }
+    ensures fills { (v : Item) (z : State) → Stands v (state input.old) z → (state input.new ≡ z)
+        × Fills (layered_signature layers) v (signature_seen signed.new) result }
 {
     let mut members = input.enter_array("array")?;
     let filled = fill_places(signed, alloc, &mut members, input, layers);
@@ -316,7 +327,8 @@ pub(crate) fn fill_protected(
     layers: usize,
 ) -> Result<()>
     requires empty { (protected_seen protected.old).header ≡ empty_header }
-    ensures { Fills (layered_protected layers) (source_item source.entry) (protected_seen protected.new) result }
+    ensures { Fills (layered_protected layers) (source_item source.entry)
+        (protected_seen protected.new) result }
 {
     let content = source.into_bytes(alloc, "bstr")?;
     if layers == 0 {
@@ -340,7 +352,7 @@ fn fill_content(header: &mut Header, alloc: Global, content: &[u8], layers: usiz
     if content.is_empty() {
         return Ok(());
     }
-    whole(content)?;
+    whole_item(content)?;
     let mut input = Input::of_bytes(content);
     fill_header(header, alloc, &mut input, layers)
 }

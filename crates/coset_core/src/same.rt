@@ -42,7 +42,8 @@ impl PartialEq for ProtectedHeader {
     ghost laws = { on_per protected_seen (partial_equiv_from_equiv protected_eq_equiv) };
 
     fn eq(&self, other: &ProtectedHeader) -> bool
-        ensures answers { result ≡ protected_eq (protected_seen self.now) (protected_seen other.now) }
+        ensures answers { result ≡ protected_eq (protected_seen self.now)
+            (protected_seen other.now) }
         ensures equal { IsTrue result ↔ (protected_seen self.now ≡ protected_seen other.now) }
     {
         same_protected(self, other)
@@ -60,7 +61,8 @@ impl PartialEq for CoseSignature {
     ghost laws = { on_per signature_seen (partial_equiv_from_equiv signature_eq_equiv) };
 
     fn eq(&self, other: &CoseSignature) -> bool
-        ensures answers { result ≡ signature_eq (signature_seen self.now) (signature_seen other.now) }
+        ensures answers { result ≡ signature_eq (signature_seen self.now)
+            (signature_seen other.now) }
         ensures equal { IsTrue result ↔ (signature_seen self.now ≡ signature_seen other.now) }
     {
         same_signature(self, other)
@@ -96,7 +98,8 @@ fn same_signature(a: &CoseSignature, b: &CoseSignature) -> bool
 
 #[cycle(same)]
 fn same_signatures(all: &[CoseSignature], others: &[CoseSignature]) -> bool
-    ensures { result ≡ signatures_eq (signatures_of (map signature_seen all.now)) (signatures_of (map signature_seen others.now)) }
+    ensures { result ≡ signatures_eq (signatures_of (map signature_seen all.now))
+        (signatures_of (map signature_seen others.now)) }
 {
     if all.len() != others.len() {
         return false;
@@ -123,7 +126,8 @@ fn same_fields(a: &Header, b: &Header) -> bool
 }
 
 fn same_algorithm(a: &Option<Algorithm>, b: &Option<Algorithm>) -> bool
-    ensures { result ≡ option_eq algorithm_eq (option_map algorithm_seen a.now) (option_map algorithm_seen b.now) }
+    ensures { result ≡ option_eq algorithm_eq (option_map algorithm_seen a.now)
+        (option_map algorithm_seen b.now) }
 {
     *a == *b
 }
@@ -132,19 +136,22 @@ fn same_critical(
     a: &Vec<RegisteredLabelWithPrivate<HeaderParameter>>,
     b: &Vec<RegisteredLabelWithPrivate<HeaderParameter>>,
 ) -> bool
-    ensures { result ≡ pointwise critical_eq (map critical_seen a.now.items) (map critical_seen b.now.items) }
+    ensures { result ≡ pointwise critical_eq (map critical_seen a.now.items)
+        (map critical_seen b.now.items) }
 {
     *a == *b
 }
 
 fn same_content_type(a: &Option<ContentType>, b: &Option<ContentType>) -> bool
-    ensures { result ≡ option_eq content_type_eq (option_map content_type_seen a.now) (option_map content_type_seen b.now) }
+    ensures { result ≡ option_eq content_type_eq (option_map content_type_seen a.now)
+        (option_map content_type_seen b.now) }
 {
     *a == *b
 }
 
 fn same_rest(a: &Vec<(Label, Value)>, b: &Vec<(Label, Value)>) -> bool
-    ensures { result ≡ pointwise entry_eq (map entry_seen a.now.items) (map entry_seen b.now.items) }
+    ensures { result ≡ pointwise entry_eq (map entry_seen a.now.items)
+        (map entry_seen b.now.items) }
 {
     *a == *b
 }

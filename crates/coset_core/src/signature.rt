@@ -1,8 +1,7 @@
 //! Signatures: those of a message, and those that countersign.
 
-ghost use Rattle.std.specs.Prelude.{◌≡◌, None, [], IfErr};
-ghost use Rattle.coset_shape.specs.Answers.{ReadsSlice, DescribesNothing, AsksForItems};
-ghost use Rattle.coset_shape.specs.Errors.{Names};
+ghost use Rattle.std.specs.Prelude.{◌≡◌, None, []};
+ghost use Rattle.coset_shape.specs.Answers.{ReadsSlice, AllocatesForItems, RefusesSlice};
 ghost use Rattle.coset_core.specs.Headers.{empty_header, signature};
 ghost use Rattle.coset_core.specs.Views.{signature_seen};
 
@@ -33,7 +32,12 @@ pub struct CoseSignature {
 impl CoseSignature {
     /// A signature of no bytes with empty headers. It takes no memory.
     pub fn new(alloc: Global) -> CoseSignature
-        ensures { signature_seen result ≡ record { protected = record { original = None; header = empty_header }; unprotected = empty_header; signature = [] } }
+        ensures { signature_seen result
+            ≡ record {
+              protected = record { original = None; header = empty_header };
+              unprotected = empty_header;
+              signature = [];
+            } }
     {
         CoseSignature {
             protected: ProtectedHeader::new(alloc),
@@ -90,8 +94,8 @@ impl FromPull for CoseSignature {
 impl CborSerializable for CoseSignature {
     fn from_slice(alloc: Global, s: &[u8]) -> Result<CoseSignature>
         ensures read { ReadsSlice signature signature_seen s.now result }
-        ensures refused { IfErr result (λ e. Names e (λ _. DescribesNothing signature s.now)) }
-        ensures memory { AsksForItems s.now result }
+        ensures refused { RefusesSlice signature s.now result }
+        ensures memory { AllocatesForItems s.now result }
     {
         read_slice(alloc, s)
     }

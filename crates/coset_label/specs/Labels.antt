@@ -54,3 +54,10 @@ of_registered_name (phrase s) = inr s
 abbrev pub registered_or_private : (ℤ → Bool) → (ℤ → Bool) → Shape RegisteredName
 registered_or_private known private =
     along registered_name_of of_registered_name (either is_integer (either (is_known known) int64 (that IsNotPrivate (λ i. private i ≡ true) int64)) tstr)
+
+-- the labels of the registry whose values `value_of` gives
+abbrev pub registered_in : {T : Type 0} → (ℤ → Option T) → Shape Name
+registered_in value_of = registered (λ i. is_some (value_of i))
+
+abbrev pub registered_or_private_in : {T : Type 0} → (ℤ → Option T) → (ℤ → Bool) → Shape RegisteredName
+registered_or_private_in value_of private = registered_or_private (λ i. is_some (value_of i)) private

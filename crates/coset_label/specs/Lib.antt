@@ -3,5 +3,5 @@ pub mod NameOrder
 pub mod Labels
 pub mod LabelLaws
 pub mod Views
-pub mod Lent
+pub mod LentLabels
 pub mod Orderings

@@ -12,8 +12,8 @@ use Rattle.std.specs.Cmp.{IsTotalOrder, Equal-is, tied_itself}
 use Rattle.std.specs.Cmp.Lexicographic.{slice_cmp}
 use Rattle.std.specs.Cmp.Rules.{comparing}
 use Rattle.coset_cbor.specs.Grammar.{Place, within, one, two, four, eight, head_in}
-use Rattle.coset_cbor.specs.Least.{least_place, least_head, short}
-use Rattle.coset_label.specs.Names.{Name, number, word, RegisteredName, assigned, private_use, phrase, as_name, tie, name_item, major, argument, content, name_cmp, registered_cmp, canonical_cmp, length_first_cmp, TellsApart, IsNamed, head_length, encoded_length}
+use Rattle.coset_cbor.specs.Least.{least_place, least_head, least_encoding}
+use Rattle.coset_label.specs.Names.{Name, number, word, RegisteredName, assigned, private_use, phrase, as_name, tie, name_item, major_type, argument, content, name_cmp, registered_cmp, canonical_cmp, length_first_cmp, TellsApart, IsNamed, head_length, encoded_length}
 
 -- ---- orderings
 
@@ -155,19 +155,19 @@ heads-compare m n k l s t _ _ hn hl =
 -- ---- labels
 
 -- a label's encoding is its head and its content
-short-parts : (a : Name) → short (name_item a) ≡ least_head (major a) (argument a) ++ content a
-short-parts (number (pos n)) = sym (append-nil (least_head 0 n))
-short-parts (number (negsuc n)) = sym (append-nil (least_head 1 n))
-short-parts (word s) = refl
+least_encoding-parts : (a : Name) → least_encoding (name_item a) ≡ least_head (major_type a) (argument a) ++ content a
+least_encoding-parts (number (pos n)) = sym (append-nil (least_head 0 n))
+least_encoding-parts (number (negsuc n)) = sym (append-nil (least_head 1 n))
+least_encoding-parts (word s) = refl
 
 -- a label's major type is one of the eight
-major-small : (a : Name) → major a < 8
-major-small a = grind arith
+major_type-small : (a : Name) → major_type a < 8
+major_type-small a = grind arith
 
 -- the encodings of two labels compare as the labels do
-pub names-compare : (a b : Name) → IsNamed a → IsNamed b → slice_cmp nat_cmp (short (name_item a)) (short (name_item b)) ≡ name_cmp a b
+pub names-compare : (a b : Name) → IsNamed a → IsNamed b → slice_cmp nat_cmp (least_encoding (name_item a)) (least_encoding (name_item b)) ≡ name_cmp a b
 names-compare a b ha hb =
-    rw (short-parts a, short-parts b) (heads-compare (major a) (argument a) (major b) (argument b) (content a) (content b) (major-small a) (major-small b) ha hb)
+    rw (least_encoding-parts a, least_encoding-parts b) (heads-compare (major_type a) (argument a) (major_type b) (argument b) (content a) (content b) (major_type-small a) (major_type-small b) ha hb)
 
 -- the shortest head is as long as `head_length` says
 length-least_head : (m n : ℕ) → length (least_head m n) ≡ head_length n
@@ -175,13 +175,13 @@ unfolding least_head
 length-least_head m n = grind arith
 
 -- a label's encoding is as long as `encoded_length` says
-pub short-length : (a : Name) → length (short (name_item a)) ≡ encoded_length a
-short-length a = rw (short-parts a, length-append, length-least_head)
+pub least_encoding-length : (a : Name) → length (least_encoding (name_item a)) ≡ encoded_length a
+least_encoding-length a = rw (least_encoding-parts a, length-append, length-least_head)
 
 -- the encodings in the order of RFC 7049, section 3.9: the shorter first, and those of one length by their bytes
 pub names-compare-canonical : (a b : Name) → IsNamed a → IsNamed b
-    → length_first_cmp (short (name_item a)) (short (name_item b)) ≡ canonical_cmp a b
-names-compare-canonical a b ha hb = rw (names-compare a b ha hb, short-length a, short-length b)
+    → length_first_cmp (least_encoding (name_item a)) (least_encoding (name_item b)) ≡ canonical_cmp a b
+names-compare-canonical a b ha hb = rw (names-compare a b ha hb, least_encoding-length a, least_encoding-length b)
 
 -- ---- the laws of labels' orders
 

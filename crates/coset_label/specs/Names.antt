@@ -5,7 +5,7 @@ use Rattle.std.specs.declared.cmp.Ordering.{Ordering}
 use Rattle.std.specs.Ordering.{nat_cmp, on, ordering_then, then_cmp, is_eq}
 use Rattle.std.specs.Cmp.Lexicographic.{slice_cmp}
 use Rattle.coset_value.specs.Item.{Item, integer, text}
-use Rattle.coset_cbor.specs.Shortest.{IsShort}
+use Rattle.coset_cbor.specs.Shortest.{IsShortest}
 
 -- a label without its memory: a number, or a text as its UTF-8 bytes
 pub data Name : Type 0 where
@@ -35,10 +35,10 @@ name_item (number i) = integer i
 name_item (word s) = text s
 
 -- the major type of a label's head (RFC 8949, section 3)
-abbrev pub major : Name → ℕ
-major (number (pos n)) = 0
-major (number (negsuc n)) = 1
-major (word s) = 3
+abbrev pub major_type : Name → ℕ
+major_type (number (pos n)) = 0
+major_type (number (negsuc n)) = 1
+major_type (word s) = 3
 
 -- the head's argument
 abbrev pub argument : Name → ℕ
@@ -53,7 +53,7 @@ content (word s) = s
 
 -- the order of the three parts, one after the other
 abbrev pub name_cmp : Name → Name → Ordering
-name_cmp = then_cmp (on major nat_cmp) (then_cmp (on argument nat_cmp) (on content (slice_cmp nat_cmp)))
+name_cmp = then_cmp (on major_type nat_cmp) (then_cmp (on argument nat_cmp) (on content (slice_cmp nat_cmp)))
 
 -- a label of a registry: the label as such, and then a value of the registry before private use of its number
 abbrev pub registered_cmp : RegisteredName → RegisteredName → Ordering
@@ -75,17 +75,18 @@ encoded_length a = head_length (argument a) + length (content a)
 abbrev pub canonical_cmp : Name → Name → Ordering
 canonical_cmp = then_cmp (on encoded_length nat_cmp) name_cmp
 
--- texts by their lengths first, and those of one length by their bytes
+-- encodings by their lengths first, and those of one length by their bytes
 abbrev pub length_first_cmp : List ℕ → List ℕ → Ordering
 length_first_cmp = then_cmp (on length nat_cmp) (slice_cmp nat_cmp)
 
--- r is what R answers of the shortest texts of the two labels; a label has exactly one
-abbrev pub ComparesTexts : (List ℕ → List ℕ → Ordering) → Name → Name → Ordering → Type 0
-ComparesTexts R a b r = (s t : List ℕ) → IsShort s (name_item a) → IsShort t (name_item b) → r ≡ R s t
+-- r is what R answers of the shortest encodings of the two labels; a label has exactly one
+abbrev pub ComparesEncodings : (List ℕ → List ℕ → Ordering) → Name → Name → Ordering → Type 0
+ComparesEncodings R a b r = (s t : List ℕ) → IsShortest s (name_item a) → IsShortest t (name_item b) → r ≡ R s t
 
--- the same of labels of a registry: of one text, a value of the registry comes before private use
+-- r is the byte order of the shortest encodings of two labels of a registry; where these are equal, a value of the
+-- registry comes before private use
 abbrev pub ComparesRegistered : RegisteredName → RegisteredName → Ordering → Type 0
-ComparesRegistered a b = ComparesTexts (λ s t. ordering_then (slice_cmp nat_cmp s t) (nat_cmp (tie a) (tie b))) (as_name a) (as_name b)
+ComparesRegistered a b = ComparesEncodings (λ s t. ordering_then (slice_cmp nat_cmp s t) (nat_cmp (tie a) (tie b))) (as_name a) (as_name b)
 
 -- R answers that two are level exactly where they are equal
 abbrev pub TellsApart : {A : Type 0} → (A → A → Ordering) → Type 0

@@ -11,6 +11,6 @@ abbrev pub name_cmp_by : CborOrdering → Name → Name → Ordering
 name_cmp_by Lexicographic = name_cmp
 name_cmp_by LengthFirstLexicographic = canonical_cmp
 
-abbrev pub text_cmp_by : CborOrdering → List ℕ → List ℕ → Ordering
-text_cmp_by Lexicographic = slice_cmp nat_cmp
-text_cmp_by LengthFirstLexicographic = length_first_cmp
+abbrev pub encoding_cmp_by : CborOrdering → List ℕ → List ℕ → Ordering
+encoding_cmp_by Lexicographic = slice_cmp nat_cmp
+encoding_cmp_by LengthFirstLexicographic = length_first_cmp

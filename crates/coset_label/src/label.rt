@@ -3,11 +3,10 @@
 ghost use Rattle.std.specs.Prelude.{◌≡◌, IfOk, IfErr};
 ghost use Rattle.coset_value.specs.View.{view};
 ghost use Rattle.coset_shape.specs.declared.error.CoseError.TheVariants.{OutOfMemory};
-ghost use Rattle.coset_shape.specs.Answers.{Reads, ReadsSlice, DescribesNothing, AsksForItems};
+ghost use Rattle.coset_shape.specs.Answers.{Reads, ReadsSlice, AllocatesForItems, RefusesSlice};
 ghost use Rattle.coset_shape.specs.Sources.{source_item, MayCopy};
 ghost use Rattle.coset_label.specs.Labels.{label};
 ghost use Rattle.coset_label.specs.Views.{label_seen};
-ghost use Rattle.coset_shape.specs.Errors.{Names};
 
 use coset_cbor::de::Pull;
 use coset_cbor::value::Value;
@@ -86,8 +85,8 @@ impl FromPull for Label {
 impl CborSerializable for Label {
     fn from_slice(alloc: Global, s: &[u8]) -> Result<Label>
         ensures read { ReadsSlice label label_seen s.now result }
-        ensures refused { IfErr result (λ e. Names e (λ _. DescribesNothing label s.now)) }
-        ensures memory { AsksForItems s.now result }
+        ensures refused { RefusesSlice label s.now result }
+        ensures memory { AllocatesForItems s.now result }
     {
         read_slice(alloc, s)
     }
@@ -101,7 +100,7 @@ impl Label {
     /// A label that equals this one.
     ///
     /// # Errors
-    /// Want of memory alone.
+    /// `OutOfMemory` alone.
     pub fn clone(&self) -> Result<Label>
         ensures copy { IfOk result (λ x. label_seen x ≡ label_seen self.now) }
         ensures memory { IfErr result (λ e. e ≡ OutOfMemory) }

@@ -3,15 +3,15 @@
 ghost use Rattle.std.specs.Cmp.{IsTotalOrder};
 ghost use Rattle.std.specs.Cmp.Lexicographic.{slice_cmp};
 ghost use Rattle.std.specs.Ordering.{nat_cmp};
-ghost use Rattle.coset_label.specs.Names.{ComparesTexts, Name, TellsApart, canonical_cmp, length_first_cmp, name_cmp, registered_cmp};
+ghost use Rattle.coset_label.specs.Names.{ComparesEncodings, Name, TellsApart, canonical_cmp, length_first_cmp, name_cmp, registered_cmp};
 
 use coset_cbor::laws;
 
-/// Labels compare as their shortest texts do: byte by byte (RFC 8949, section 4.2.1), or by their lengths first
+/// Labels compare as their shortest encodings do: byte by byte (RFC 8949, section 4.2.1), or by their lengths first
 /// (RFC 7049, section 3.9).
-pub fn orders_are_of_texts()
-    ensures bytes { (a b : Name) → ComparesTexts (slice_cmp nat_cmp) a b (name_cmp a b) }
-    ensures lengths { (a b : Name) → ComparesTexts length_first_cmp a b (canonical_cmp a b) }
+pub fn orders_are_of_encodings()
+    ensures bytes { (a b : Name) → ComparesEncodings (slice_cmp nat_cmp) a b (name_cmp a b) }
+    ensures lengths { (a b : Name) → ComparesEncodings length_first_cmp a b (canonical_cmp a b) }
 {
     laws::least_heads_are_shortest();
 }

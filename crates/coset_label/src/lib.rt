@@ -3,7 +3,7 @@
 
 mod label;
 pub mod laws;
-mod lent;
+mod lent_label;
 mod names;
 mod order;
 mod ordering;

@@ -6,14 +6,14 @@ ghost use Rattle.std.specs.Cmp.{eq_by_cmp_equiv, on_total, partial_equiv_from_eq
 ghost use Rattle.std.specs.Cmp.Lexicographic.{slice_cmp};
 ghost use Rattle.std.specs.Cmp.Rules.{comparing};
 ghost use Rattle.std.proofs.Common.{rules};
-ghost use Rattle.coset_label.specs.Lent.{lent_seen};
+ghost use Rattle.coset_label.specs.LentLabels.{lent_seen};
 ghost use Rattle.coset_label.specs.NameOrder.{registered_cmp_total};
-ghost use Rattle.coset_label.specs.Names.{ComparesRegistered, ComparesTexts, as_name, canonical_cmp, length_first_cmp, name_cmp, registered_cmp, tie};
+ghost use Rattle.coset_label.specs.Names.{ComparesRegistered, ComparesEncodings, as_name, canonical_cmp, length_first_cmp, name_cmp, registered_cmp, tie};
 ghost use Rattle.coset_label.specs.Views.{label_seen, registered_seen, registered_or_private_seen};
 
 use crate::label::Label;
 use crate::laws;
-use crate::lent::LentLabel;
+use crate::lent_label::LentLabel;
 use crate::registered::{RegisteredLabel, RegisteredLabelWithPrivate};
 use coset_iana::EnumI64;
 use std::cmp::Ordering;
@@ -32,9 +32,10 @@ impl Label {
     /// The order of the labels' encodings by their lengths first, and then by their bytes (RFC 7049, section 3.9).
     pub fn cmp_canonical(&self, other: &Label) -> Ordering
         ensures order { result ≡ canonical_cmp (label_seen self.now) (label_seen other.now) }
-        ensures texts { ComparesTexts length_first_cmp (label_seen self.now) (label_seen other.now) result }
+        ensures encodings { ComparesEncodings length_first_cmp (label_seen self.now)
+            (label_seen other.now) result }
     {
-        laws::orders_are_of_texts();
+        laws::orders_are_of_encodings();
         self.lend().canonical_order(&other.lend())
     }
 }
@@ -51,9 +52,10 @@ impl Ord for Label {
     /// The byte order of the labels' encodings (RFC 8949, section 4.2.1).
     fn cmp(&self, other: &Label) -> Ordering
         ensures order { result ≡ name_cmp (label_seen self.now) (label_seen other.now) }
-        ensures texts { ComparesTexts (slice_cmp nat_cmp) (label_seen self.now) (label_seen other.now) result }
+        ensures encodings { ComparesEncodings (slice_cmp nat_cmp) (label_seen self.now)
+            (label_seen other.now) result }
     {
-        laws::orders_are_of_texts();
+        laws::orders_are_of_encodings();
         self.lend().order(&other.lend())
     }
 }
@@ -110,10 +112,12 @@ impl<T: EnumI64> Ord for RegisteredLabel<T> {
 
     /// The byte order of the labels' encodings (RFC 8949, section 4.2.1).
     fn cmp(&self, other: &RegisteredLabel<T>) -> Ordering
-        ensures order { result ≡ name_cmp (registered_seen T.number self.now) (registered_seen T.number other.now) }
-        ensures texts { ComparesTexts (slice_cmp nat_cmp) (registered_seen T.number self.now) (registered_seen T.number other.now) result }
+        ensures order { result ≡ name_cmp (registered_seen T.number self.now)
+            (registered_seen T.number other.now) }
+        ensures encodings { ComparesEncodings (slice_cmp nat_cmp)
+            (registered_seen T.number self.now) (registered_seen T.number other.now) result }
     {
-        laws::orders_are_of_texts();
+        laws::orders_are_of_encodings();
         self.lend().order(&other.lend())
     }
 }
@@ -135,8 +139,10 @@ impl<T: EnumI64> PartialEq for RegisteredLabel<T> {
 
     /// Whether the two are one number, or one text.
     fn eq(&self, other: &RegisteredLabel<T>) -> bool
-        ensures level { result ≡ is_eq (name_cmp (registered_seen T.number self.now) (registered_seen T.number other.now)) }
-        ensures equal { IsTrue result ↔ (registered_seen T.number self.now ≡ registered_seen T.number other.now) }
+        ensures level { result ≡ is_eq
+            (name_cmp (registered_seen T.number self.now) (registered_seen T.number other.now)) }
+        ensures equal { IsTrue result
+            ↔ (registered_seen T.number self.now ≡ registered_seen T.number other.now) }
     {
         laws::orders_tell_apart();
         self.cmp(other).is_eq()
@@ -182,10 +188,12 @@ impl<T: EnumI64> Ord for RegisteredLabelWithPrivate<T> {
     /// The byte order of the labels' encodings (RFC 8949, section 4.2.1); of one number a value of the registry stands
     /// before private use.
     fn cmp(&self, other: &RegisteredLabelWithPrivate<T>) -> Ordering
-        ensures order { result ≡ registered_cmp (registered_or_private_seen T.number self.now) (registered_or_private_seen T.number other.now) }
-        ensures texts { ComparesRegistered (registered_or_private_seen T.number self.now) (registered_or_private_seen T.number other.now) result }
+        ensures order { result ≡ registered_cmp (registered_or_private_seen T.number self.now)
+            (registered_or_private_seen T.number other.now) }
+        ensures encodings { ComparesRegistered (registered_or_private_seen T.number self.now)
+            (registered_or_private_seen T.number other.now) result }
     {
-        laws::orders_are_of_texts();
+        laws::orders_are_of_encodings();
         self.lend()
             .order(&other.lend())
             .then(self.tie().cmp(&other.tie()))
@@ -209,8 +217,11 @@ impl<T: EnumI64> PartialEq for RegisteredLabelWithPrivate<T> {
 
     /// Whether the two are one number, both of the registry or both for private use, or one text.
     fn eq(&self, other: &RegisteredLabelWithPrivate<T>) -> bool
-        ensures level { result ≡ is_eq (registered_cmp (registered_or_private_seen T.number self.now) (registered_or_private_seen T.number other.now)) }
-        ensures equal { IsTrue result ↔ (registered_or_private_seen T.number self.now ≡ registered_or_private_seen T.number other.now) }
+        ensures level { result
+            ≡ is_eq (registered_cmp (registered_or_private_seen T.number self.now)
+            (registered_or_private_seen T.number other.now)) }
+        ensures equal { IsTrue result ↔ (registered_or_private_seen T.number self.now
+            ≡ registered_or_private_seen T.number other.now) }
     {
         laws::orders_tell_apart();
         self.cmp(other).is_eq()

@@ -1,8 +1,8 @@
 //! The two orders of labels by name.
 
 ghost use Rattle.std.specs.Prelude.{◌≡◌};
-ghost use Rattle.coset_label.specs.Names.{ComparesTexts};
-ghost use Rattle.coset_label.specs.Orderings.{name_cmp_by, text_cmp_by};
+ghost use Rattle.coset_label.specs.Names.{ComparesEncodings};
+ghost use Rattle.coset_label.specs.Orderings.{name_cmp_by, encoding_cmp_by};
 ghost use Rattle.coset_label.specs.Views.{label_seen};
 
 use crate::label::Label;
@@ -21,7 +21,8 @@ impl CborOrdering {
     /// Compares two labels in this order. It takes no memory.
     pub fn compare(&self, a: &Label, b: &Label) -> Ordering
         ensures order { result ≡ name_cmp_by self.now (label_seen a.now) (label_seen b.now) }
-        ensures texts { ComparesTexts (text_cmp_by self.now) (label_seen a.now) (label_seen b.now) result }
+        ensures encodings { ComparesEncodings (encoding_cmp_by self.now) (label_seen a.now)
+            (label_seen b.now) result }
     {
         match self {
             CborOrdering::Lexicographic => a.cmp(b),

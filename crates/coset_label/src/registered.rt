@@ -3,11 +3,10 @@
 ghost use Rattle.std.specs.Prelude.{◌≡◌, IfErr, IfOk, is_some};
 ghost use Rattle.coset_value.specs.View.{view};
 ghost use Rattle.coset_shape.specs.declared.error.CoseError.TheVariants.{OutOfMemory};
-ghost use Rattle.coset_shape.specs.Answers.{Reads, ReadsSlice, DescribesNothing, AsksForItems};
+ghost use Rattle.coset_shape.specs.Answers.{Reads, ReadsSlice, AllocatesForItems, RefusesSlice};
 ghost use Rattle.coset_shape.specs.Sources.{source_item, MayCopy};
-ghost use Rattle.coset_label.specs.Labels.{registered, registered_or_private};
+ghost use Rattle.coset_label.specs.Labels.{registered_in, registered_or_private_in};
 ghost use Rattle.coset_label.specs.Views.{registered_seen, registered_or_private_seen};
-ghost use Rattle.coset_shape.specs.Errors.{Names};
 
 use coset_cbor::de::Pull;
 use coset_cbor::value::Value;
@@ -43,7 +42,8 @@ pub(crate) fn read_registered<T: EnumI64 + Drop>(
     alloc: Global,
     source: Source<'_>,
 ) -> Result<RegisteredLabel<T>>
-    ensures read { Reads (registered (λ i. is_some (T.value_of i))) (registered_seen T.number) (source_item source.entry) result }
+    ensures read { Reads (registered_in T.value_of) (registered_seen T.number)
+        (source_item source.entry) result }
     ensures memory { IfErr result (λ e. e ≡ OutOfMemory → MayCopy source.entry) }
 {
     match source.integer() {
@@ -60,7 +60,8 @@ pub(crate) fn read_registered_or_private<T: EnumI64 + WithPrivateRange + Drop>(
     alloc: Global,
     source: Source<'_>,
 ) -> Result<RegisteredLabelWithPrivate<T>>
-    ensures read { Reads (registered_or_private (λ i. is_some (T.value_of i)) T.is_private) (registered_or_private_seen T.number) (source_item source.entry) result }
+    ensures read { Reads (registered_or_private_in T.value_of T.is_private)
+        (registered_or_private_seen T.number) (source_item source.entry) result }
     ensures memory { IfErr result (λ e. e ≡ OutOfMemory → MayCopy source.entry) }
 {
     let Some(number) = source.integer() else {
@@ -85,7 +86,7 @@ impl<T: EnumI64 + Drop> AsCborValue for RegisteredLabel<T> {
 
     ghost seen = { registered_seen T.number };
 
-    ghost shape = { registered (λ i. is_some (T.value_of i)) };
+    ghost shape = { registered_in T.value_of };
 
     ghost unique = { (registered_laws (λ i. is_some (T.value_of i))).unique };
 
@@ -93,7 +94,8 @@ impl<T: EnumI64 + Drop> AsCborValue for RegisteredLabel<T> {
 
     /// It takes no memory.
     fn from_cbor_value(alloc: Global, value: Value) -> Result<RegisteredLabel<T>>
-        ensures read { Reads (registered (λ i. is_some (T.value_of i))) (registered_seen T.number) (view value) result }
+        ensures read { Reads (registered_in T.value_of) (registered_seen T.number)
+            (view value) result }
         ensures memory { IfErr result (λ e. e ≡ OutOfMemory → ⊥) }
     {
         read_registered(alloc, Source::Tree(value))
@@ -108,7 +110,7 @@ impl<T: EnumI64 + Drop> AsCborValue for RegisteredLabel<T> {
 }
 
 impl<T: EnumI64> Encode for RegisteredLabel<T> {
-    ghost image = { λ l. (registered (λ i. is_some (T.value_of i))).image (registered_seen T.number l) };
+    ghost image = { λ l. (registered_in T.value_of).image (registered_seen T.number l) };
 
     fn encode(&self, alloc: Global, out: &mut Vec<u8>) -> Result<()> {
         match self {
@@ -126,9 +128,10 @@ impl<T: EnumI64 + Drop> FromPull for RegisteredLabel<T> {
 
 impl<T: EnumI64 + Drop> CborSerializable for RegisteredLabel<T> {
     fn from_slice(alloc: Global, s: &[u8]) -> Result<RegisteredLabel<T>>
-        ensures read { ReadsSlice (registered (λ i. is_some (T.value_of i))) (registered_seen T.number) s.now result }
-        ensures refused { IfErr result (λ e. Names e (λ _. DescribesNothing (registered (λ i. is_some (T.value_of i))) s.now)) }
-        ensures memory { AsksForItems s.now result }
+        ensures read { ReadsSlice (registered_in T.value_of) (registered_seen T.number)
+            s.now result }
+        ensures refused { RefusesSlice (registered_in T.value_of) s.now result }
+        ensures memory { AllocatesForItems s.now result }
     {
         read_slice(alloc, s)
     }
@@ -146,7 +149,7 @@ impl<T: EnumI64 + WithPrivateRange + Drop> AsCborValue for RegisteredLabelWithPr
 
     ghost seen = { registered_or_private_seen T.number };
 
-    ghost shape = { registered_or_private (λ i. is_some (T.value_of i)) T.is_private };
+    ghost shape = { registered_or_private_in T.value_of T.is_private };
 
     ghost unique = { (registered_or_private_laws (λ i. is_some (T.value_of i)) T.is_private).unique };
 
@@ -154,7 +157,8 @@ impl<T: EnumI64 + WithPrivateRange + Drop> AsCborValue for RegisteredLabelWithPr
 
     /// It takes no memory.
     fn from_cbor_value(alloc: Global, value: Value) -> Result<RegisteredLabelWithPrivate<T>>
-        ensures read { Reads (registered_or_private (λ i. is_some (T.value_of i)) T.is_private) (registered_or_private_seen T.number) (view value) result }
+        ensures read { Reads (registered_or_private_in T.value_of T.is_private)
+            (registered_or_private_seen T.number) (view value) result }
         ensures memory { IfErr result (λ e. e ≡ OutOfMemory → ⊥) }
     {
         read_registered_or_private(alloc, Source::Tree(value))
@@ -170,7 +174,7 @@ impl<T: EnumI64 + WithPrivateRange + Drop> AsCborValue for RegisteredLabelWithPr
 }
 
 impl<T: EnumI64 + WithPrivateRange> Encode for RegisteredLabelWithPrivate<T> {
-    ghost image = { λ l. (registered_or_private (λ i. is_some (T.value_of i)) T.is_private).image (registered_or_private_seen T.number l) };
+    ghost image = { λ l. (registered_or_private_in T.value_of T.is_private).image (registered_or_private_seen T.number l) };
 
     fn encode(&self, alloc: Global, out: &mut Vec<u8>) -> Result<()> {
         match self {
@@ -189,9 +193,11 @@ impl<T: EnumI64 + WithPrivateRange + Drop> FromPull for RegisteredLabelWithPriva
 
 impl<T: EnumI64 + WithPrivateRange + Drop> CborSerializable for RegisteredLabelWithPrivate<T> {
     fn from_slice(alloc: Global, s: &[u8]) -> Result<RegisteredLabelWithPrivate<T>>
-        ensures read { ReadsSlice (registered_or_private (λ i. is_some (T.value_of i)) T.is_private) (registered_or_private_seen T.number) s.now result }
-        ensures refused { IfErr result (λ e. Names e (λ _. DescribesNothing (registered_or_private (λ i. is_some (T.value_of i)) T.is_private) s.now)) }
-        ensures memory { AsksForItems s.now result }
+        ensures read { ReadsSlice (registered_or_private_in T.value_of T.is_private)
+            (registered_or_private_seen T.number) s.now result }
+        ensures refused { RefusesSlice (registered_or_private_in T.value_of T.is_private)
+            s.now result }
+        ensures memory { AllocatesForItems s.now result }
     {
         read_slice(alloc, s)
     }
@@ -205,10 +211,11 @@ impl<T: EnumI64 + Clone> RegisteredLabel<T> {
     /// A label that equals this one. A clone of the registry's value has to equal it.
     ///
     /// # Errors
-    /// Want of memory alone.
+    /// `OutOfMemory` alone.
     pub fn clone(&self) -> Result<RegisteredLabel<T>>
         requires { (x y : T) → T.is_clone x y → y ≡ x }
-        ensures copy { IfOk result (λ x. registered_seen T.number x ≡ registered_seen T.number self.now) }
+        ensures copy { IfOk result (λ x. registered_seen T.number x
+            ≡ registered_seen T.number self.now) }
         ensures memory { IfErr result (λ e. e ≡ OutOfMemory) }
     {
         match self {
@@ -222,10 +229,11 @@ impl<T: EnumI64 + Clone> RegisteredLabelWithPrivate<T> {
     /// A label that equals this one. A clone of the registry's value has to equal it.
     ///
     /// # Errors
-    /// Want of memory alone.
+    /// `OutOfMemory` alone.
     pub fn clone(&self) -> Result<RegisteredLabelWithPrivate<T>>
         requires { (x y : T) → T.is_clone x y → y ≡ x }
-        ensures copy { IfOk result (λ x. registered_or_private_seen T.number x ≡ registered_or_private_seen T.number self.now) }
+        ensures copy { IfOk result (λ x. registered_or_private_seen T.number x
+            ≡ registered_or_private_seen T.number self.now) }
         ensures memory { IfErr result (λ e. e ≡ OutOfMemory) }
     {
         match self {

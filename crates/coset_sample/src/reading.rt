@@ -1,13 +1,11 @@
 //! A reading: an array of fixed places.
 
-ghost use Rattle.std.specs.Prelude.{IfErr, ℤ};
-ghost use Rattle.coset_value.specs.View.{view};
-ghost use Rattle.coset_shape.specs.Answers.{Reads, ReadsSlice, DescribesNothing, AsksForItems};
+ghost use Rattle.std.specs.Prelude.{ℤ};
+ghost use Rattle.coset_shape.specs.Answers.{Reads, ReadsSlice, AllocatesForItems, RefusesSlice};
 ghost use Rattle.coset_shape.specs.Shape.{int64, tagged};
 ghost use Rattle.coset_shape.specs.ShapeLaws.{int64_laws};
 ghost use Rattle.coset_shape.specs.Sources.{source_item};
 ghost use Rattle.coset_sample.specs.Reading.{mark_seen, seen, reading};
-ghost use Rattle.coset_shape.specs.Errors.{Names};
 
 use coset_cbor::de::Pull;
 use coset_cbor::value::{Integer, Value};
@@ -118,8 +116,8 @@ impl FromPull for Reading {
 impl CborSerializable for Reading {
     fn from_slice(alloc: Global, s: &[u8]) -> Result<Reading>
         ensures read { ReadsSlice reading seen s.now result }
-        ensures refused { IfErr result (λ e. Names e (λ _. DescribesNothing reading s.now)) }
-        ensures memory { AsksForItems s.now result }
+        ensures refused { RefusesSlice reading s.now result }
+        ensures memory { AllocatesForItems s.now result }
     {
         read_slice(alloc, s)
     }
@@ -132,8 +130,8 @@ impl TaggedCborSerializable for Reading {
 
     fn from_tagged_slice(alloc: Global, s: &[u8]) -> Result<Reading>
         ensures read { ReadsSlice (tagged 1000 reading) seen s.now result }
-        ensures refused { IfErr result (λ e. Names e (λ _. DescribesNothing (tagged 1000 reading) s.now)) }
-        ensures memory { AsksForItems s.now result }
+        ensures refused { RefusesSlice (tagged 1000 reading) s.now result }
+        ensures memory { AllocatesForItems s.now result }
     {
         read_tagged_slice(alloc, 1000, s)
     }

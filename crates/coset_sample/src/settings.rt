@@ -13,7 +13,7 @@ ghost use Rattle.coset_sample.specs.Settings.{name_seen, names, seen, settings, 
 use coset_cbor::de::Pull;
 use coset_cbor::value::Value;
 use coset_shape::encode::{Encode, encode_to_tagged_vec, encode_to_value, encode_to_vec};
-use coset_shape::encode_map::MapText;
+use coset_shape::encode_map::MapEncoder;
 use coset_shape::map::{Gather, read_map};
 use coset_shape::traits::FromPull;
 use coset_shape::{
@@ -164,7 +164,7 @@ impl Encode for Settings {
         if has_repeats(alloc, &self.rest)? {
             return Err(CoseError::DuplicateMapKey);
         }
-        let mut pairs = MapText::new(alloc);
+        let mut pairs = MapEncoder::new(alloc);
         pairs.field(alloc, 1, &self.level)?;
         pairs.optional(alloc, 2, &self.name)?;
         pairs.rest(alloc, &self.rest)?;

@@ -5,20 +5,20 @@ use Rattle.std.proofs.lemmas.List.{take_more, map_push, map-append, take-append-
 use Rattle.std.specs.Map.{keys_of}
 use Rattle.coset_value.specs.Item.{Item, integer, dict, Pairs, no_pairs, pair, pairs_count}
 use Rattle.coset_value.specs.Range.{ArePairsInRange}
-use Rattle.coset_cbor.specs.Least.{short, pair_shorts}
+use Rattle.coset_cbor.specs.Least.{least_encoding, least_pair_encodings}
 use Rattle.coset_shape.specs.Encoding.{AppendsItem, AppendsImage, HoldsPairs, AddsPairs, AddsAll, AddsField}
 use Rattle.coset_shape.specs.MapLaws.{and_pairs-none}
-use Rattle.coset_shape.specs.Maps.{Names, held_image, named_image, and_pairs, put_field, are_distinct, entries_image, may_write}
+use Rattle.coset_shape.specs.Maps.{Names, field_shape_image, named_image, and_pairs, put_field, are_distinct, entries_image, may_write}
 use Rattle.coset_shape.specs.RestLaws.{some-entries}
 use Rattle.coset_shape.specs.Shape.{both, present_image}
-use Rattle.coset_shape.specs.declared.encode_map.MapText.{MapText}
+use Rattle.coset_shape.specs.declared.encode_map.MapEncoder.{MapEncoder}
 use Rattle.coset_shape.proofs.Pushing.{and_pairs-assoc, named_image-append, named_image-none}
 
 -- ---- pairs behind others
 
-pair_shorts-and : (ps qs : Pairs) → pair_shorts (and_pairs ps qs) ≡ pair_shorts ps ++ pair_shorts qs
-pair_shorts-and no_pairs qs = refl
-pair_shorts-and (pair k v ps) qs = rw (pair_shorts-and ps qs) (sym (append_assoc (short k) (short v ++ pair_shorts ps) (pair_shorts qs) ∙ ap (λ s. short k ++ s) (append_assoc (short v) (pair_shorts ps) (pair_shorts qs))))
+least_pair_encodings-and : (ps qs : Pairs) → least_pair_encodings (and_pairs ps qs) ≡ least_pair_encodings ps ++ least_pair_encodings qs
+least_pair_encodings-and no_pairs qs = refl
+least_pair_encodings-and (pair k v ps) qs = rw (least_pair_encodings-and ps qs) (sym (append_assoc (least_encoding k) (least_encoding v ++ least_pair_encodings ps) (least_pair_encodings qs) ∙ ap (λ s. least_encoding k ++ s) (append_assoc (least_encoding v) (least_pair_encodings ps) (least_pair_encodings qs))))
 
 pairs_count-and : (ps qs : Pairs) → pairs_count (and_pairs ps qs) ≡ pairs_count ps + pairs_count qs
 pairs_count-and no_pairs qs = omega arith
@@ -33,7 +33,7 @@ pub item-is : {v : Item} {old new : List ℕ} → AppendsImage (Some v) old new 
 item-is {v} {old} {new} p = let same : p.0 ≡ v = cc in subst (AppendsItem old new) same p.2
 
 -- one more pair
-pub pair-added : (old new : MapText) (k v : Item) (mid : List ℕ) → new.count ≡ old.count + 1 → AppendsItem old.text.items mid k → AppendsItem mid new.text.items v → AddsPairs old new (pair k v no_pairs)
+pub pair-added : (old new : MapEncoder) (k v : Item) (mid : List ℕ) → new.count ≡ old.count + 1 → AppendsItem old.encoded.items mid k → AppendsItem mid new.encoded.items v → AddsPairs old new (pair k v no_pairs)
 pair-added old new k v mid count key value qs h =
     let all = pairs_count-and qs (pair k v no_pairs) in
     let so_far = h.count in
@@ -41,26 +41,26 @@ pair-added old new k v mid count key value qs h =
       count = omega (arith, count, so_far, all);
       in_range = in_range-and qs (pair k v no_pairs) h.in_range (key.in_range, value.in_range, tt);
       parts =
-          value.parts ∙ (ap (λ s. s ++ short v) (key.parts ∙ ap (λ s. s ++ short k) h.parts)
-          ∙ (append_assoc (pair_shorts qs) (short k) (short v) ∙ (ap (λ s. pair_shorts qs ++ (short k ++ s)) (sym (append-nil (short v))) ∙ sym (pair_shorts-and qs (pair k v no_pairs)))));
+          value.parts ∙ (ap (λ s. s ++ least_encoding v) (key.parts ∙ ap (λ s. s ++ least_encoding k) h.parts)
+          ∙ (append_assoc (least_pair_encodings qs) (least_encoding k) (least_encoding v) ∙ (ap (λ s. least_pair_encodings qs ++ (least_encoding k ++ s)) (sym (append-nil (least_encoding v))) ∙ sym (least_pair_encodings-and qs (pair k v no_pairs)))));
     }
 
-pub nothing-added : (t : MapText) → AddsPairs t t no_pairs
+pub nothing-added : (t : MapEncoder) → AddsPairs t t no_pairs
 nothing-added t qs h = subst (HoldsPairs t) (sym (and_pairs-none qs)) h
 
-then-added : (old mid new : MapText) (ps qs : Pairs) → AddsPairs old mid ps → AddsPairs mid new qs → AddsPairs old new (and_pairs ps qs)
+then-added : (old mid new : MapEncoder) (ps qs : Pairs) → AddsPairs old mid ps → AddsPairs mid new qs → AddsPairs old new (and_pairs ps qs)
 then-added old mid new ps qs p q rs h = subst (HoldsPairs new) (and_pairs-assoc rs ps qs) (q (and_pairs rs ps) (p rs h))
 
 -- ---- the fields of a map, and the rest
 
-abbrev pub AddsFields : {N : Type 0} → (N → Option Item) → Option (List (N × Item)) → MapText → MapText → Type 0
+abbrev pub AddsFields : {N : Type 0} → (N → Option Item) → Option (List (N × Item)) → MapEncoder → MapEncoder → Type 0
 AddsFields {N} f o old new = (es : List (N × Item)) × (o ≡ Some es) × AddsAll (named_image f es) old new
 
-pub no-field : {N : Type 0} (f : N → Option Item) (t : MapText) → AddsFields f (Some []) t t
+pub no-field : {N : Type 0} (f : N → Option Item) (t : MapEncoder) → AddsFields f (Some []) t t
 no-field f t = ([], refl, (no_pairs, refl, nothing-added t))
 
 pub field-put :
-    {N : Type 0} (f : N → Option Item) {l : N} {i : ℤ} {o : Option (Option Item)} {os : Option (List (N × Item))} {old mid new : MapText} → f l ≡ Some (integer i) → AddsField i o old mid → AddsFields f os mid new
+    {N : Type 0} (f : N → Option Item) {l : N} {i : ℤ} {o : Option (Option Item)} {os : Option (List (N × Item))} {old mid new : MapEncoder} → f l ≡ Some (integer i) → AddsField i o old mid → AddsFields f os mid new
     → AddsFields f (both (put_field l) o os) old new
 field-put {N} f {l} {i} {o} {os} {old} {mid} {new} label (None, e, p) (es, d, (ps, c, q)) = (es, (λ j. both (put_field l) (e j) (d j)), (ps, c, then-added old mid new no_pairs ps p q))
 field-put {N} f {l} {i} {o} {os} {old} {mid} {new} label (Some v, e, p) (es, d, (ps, c, q)) =
@@ -74,7 +74,7 @@ rest-seen see view f (x ∷ xs) = ap (λ o. both (λ k ps. pair k (view x.1) ps)
 
 -- no pairs at first, the fields, the rest: the map is written
 pub map-written :
-    {N : Type 0} (n : Names N) (rest : List (N × Item)) {o : Option (List (N × Item))} {start mid last : MapText} (old new : List ℕ) → are_distinct n.same (keys_of rest) ≡ true → HoldsPairs start no_pairs → AddsFields n.shape.image o start mid
+    {N : Type 0} (n : Names N) (rest : List (N × Item)) {o : Option (List (N × Item))} {start mid last : MapEncoder} (old new : List ℕ) → are_distinct n.same (keys_of rest) ≡ true → HoldsPairs start no_pairs → AddsFields n.shape.image o start mid
     → AddsAll (named_image n.shape.image rest) mid last → ((ps : Pairs) → HoldsPairs last ps → AppendsItem old new (dict ps)) → AppendsImage (entries_image n (may_write n true rest) rest o) old new
 map-written n rest {o} {start} {mid} {last} old new distinct first fields more written =
     let all = then-added start mid last fields.2.0 more.0 fields.2.2 more.2 in (
@@ -89,7 +89,7 @@ pub taken : {X Y : Type 0} (see : X → Y) (xs : List X) (i : ℕ) (x : X) → i
 taken see xs i x lt is = ap (map see) (take_more xs i x lt) ∙ (map_push see (take i xs) (get_or xs i x) ∙ ap (λ y. map see (take i xs) ++ see y ∷ []) (sym is))
 
 pub row-added :
-    {L V : Type 0} (f : L → Option Item) (see : L × V → L × Item) (xs : List (L × V)) (i : ℕ) (x : L × V) (old mid new : MapText) → i < length xs → x ≡ get_or xs i x → AddsAll (named_image f (map see (take i xs))) old mid
+    {L V : Type 0} (f : L → Option Item) (see : L × V → L × Item) (xs : List (L × V)) (i : ℕ) (x : L × V) (old mid new : MapEncoder) → i < length xs → x ≡ get_or xs i x → AddsAll (named_image f (map see (take i xs))) old mid
     → AddsAll (named_image f (see x ∷ [])) mid new → AddsAll (named_image f (map see (take (i + 1) xs))) old new
 row-added f see xs i x old mid new lt is p q = (
   and_pairs p.0 q.0,
@@ -109,12 +109,12 @@ pub row-none :
 row-none f view xs i x lt is e =
     ap (named_image f) (around (λ e. (e.0, view e.1)) xs i x lt is) ∙ named_image-none f (map (λ e. (e.0, view e.1)) (take i xs)) (map (λ e. (e.0, view e.1)) (drop (i + 1) xs)) x.0 (view x.1) e
 
-pub label-added : {o : Option Item} {v : Item} {old new : MapText} → ((k : Item) × (o ≡ Some k) × AddsPairs old new (pair k v no_pairs)) → AddsAll (both (λ k ps. pair k v ps) o (Some no_pairs)) old new
+pub label-added : {o : Option Item} {v : Item} {old new : MapEncoder} → ((k : Item) × (o ≡ Some k) × AddsPairs old new (pair k v no_pairs)) → AddsAll (both (λ k ps. pair k v ps) o (Some no_pairs)) old new
 label-added {o} {v} {old} {new} p = (pair p.0 v no_pairs, ap (λ q. both (λ k ps. pair k v ps) q (Some no_pairs)) p.1, p.2)
 
 -- a field that may be left out, as it is seen
 pub optional-seen :
-    {X Y : Type 0} (see : X → Y) (f : Y → Option Item) (o : Option X) → held_image (is_some o) (present_image (λ x. f (see x)) o) ≡ held_image (is_some (option_map see o)) (present_image f (option_map see o))
+    {X Y : Type 0} (see : X → Y) (f : Y → Option Item) (o : Option X) → field_shape_image (is_some o) (present_image (λ x. f (see x)) o) ≡ field_shape_image (is_some (option_map see o)) (present_image f (option_map see o))
 optional-seen see f (Some x) = refl
 optional-seen see f None = refl
 

@@ -7,7 +7,7 @@ use Rattle.coset_value.specs.declared.value.Value.{Value}
 use Rattle.std.specs.Prelude.{Result, Ok, Err, IsErrAnd}
 use Rattle.coset_shape.specs.declared.error.CoseError.{CoseError}
 use Rattle.coset_shape.specs.declared.error.CoseError.TheVariants.{DuplicateMapKey}
-use Rattle.coset_shape.specs.Errors.{Names}
+use Rattle.coset_shape.specs.Errors.{UnlessMemory}
 use Rattle.coset_shape.specs.Answers.{Images}
 use Rattle.coset_shape.specs.Shape.{both}
 use Rattle.coset_shape.specs.MapLaws.{and_pairs-none}
@@ -91,7 +91,7 @@ module _ {N : Type 0} (f : N → Option Item) where
       a.1 ∙ ap Some (sym (a.2 ∙ ap (λ ps. and_pairs ps a.0) e))
 
 -- the answer for a map whose pairs have no items
-pub no-map : (image : Option Pairs) (r : Result Value CoseError) (e : CoseError) → IsErrAnd r (λ f. f ≡ e) → Names e (λ f. (f ≡ DuplicateMapKey) × (image ≡ None)) → Images (option_map dict image) view r
+pub no-map : (image : Option Pairs) (r : Result Value CoseError) (e : CoseError) → IsErrAnd r (λ f. f ≡ e) → UnlessMemory e (λ f. (f ≡ DuplicateMapKey) × (image ≡ None)) → Images (option_map dict image) view r
 no-map image (Ok v) e h k = absurd h
 no-map image (Err f) e h k = λ n. let g = k (λ m. n (h ∙ m)) in (h ∙ g.0, ap (option_map dict) g.1)
 

@@ -10,7 +10,7 @@ use Rattle.coset_value.specs.View.{view}
 use Rattle.coset_value.specs.declared.value.Value.{Value}
 use Rattle.coset_shape.specs.declared.error.CoseError.{CoseError}
 use Rattle.coset_shape.specs.declared.error.CoseError.TheVariants.{DuplicateMapKey}
-use Rattle.coset_shape.specs.Errors.{Names}
+use Rattle.coset_shape.specs.Errors.{UnlessMemory}
 use Rattle.coset_shape.specs.Answers.{Images}
 use Rattle.coset_shape.specs.Shape.{images, both}
 use Rattle.coset_shape.specs.Lists.{LastHasNoImage}
@@ -59,7 +59,7 @@ module _ {X A : Type 0} (seen : X → A) (image : A → Option Item) (values : V
   pub made_of :
       (r : Result Value CoseError) → length values.items ≡ vec_len values
       → IfOk r (λ v. (s : IntoIter X Global) × (xs : List X) × Starts s × Drains into_iter_steps s xs × (option_map array (images (λ x. image (seen x)) xs) ≡ Some (view v)))
-      → IfErr r (λ e. Names e (λ f. (f ≡ DuplicateMapKey) × (s : IntoIter X Global) × (xs : List X) × (t : IntoIter X Global) × Starts s × Yields into_iter_steps s xs t × LastHasNoImage X (λ x. image (seen x)) xs))
+      → IfErr r (λ e. UnlessMemory e (λ f. (f ≡ DuplicateMapKey) × (s : IntoIter X Global) × (xs : List X) × (t : IntoIter X Global) × Starts s × Yields into_iter_steps s xs t × LastHasNoImage X (λ x. image (seen x)) xs))
       → Images (option_map array (images image (map seen values.items))) view r
   made_of (Ok v) c h k =
       let at = starts h.0 h.2 in

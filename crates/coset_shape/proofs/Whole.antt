@@ -3,7 +3,7 @@ use Rattle.std.specs.Prelude.{IsErrAnd}
 use Rattle.std.proofs.Common.{◌≡◌, ◌⊎◌, ℕ, List, [], ◌∷◌, ◌++◌, ◌+◌, suc, Result, Ok, Err, length, take, refl, sym, ap, subst, ◌∙◌, inr, append-nil, arith, length-append}
 use Rattle.std.proofs.Math.Seq.{take-append_seam}
 use Rattle.coset_value.specs.Item.{Item}
-use Rattle.coset_cbor.specs.Grammar.{IsText, IsItem}
+use Rattle.coset_cbor.specs.Grammar.{IsEncoding, IsItem}
 use Rattle.coset_cbor.specs.Refused.{IsMemory, StandsIn}
 use Rattle.coset_cbor.specs.declared.de.EndOfFile.{EndOfFile}
 use Rattle.coset_cbor.specs.declared.de.Error.{Error}
@@ -29,9 +29,9 @@ byte_fault s (errors.Semantic i t) n h = (errors.Semantic i t, refl, n, h)
 byte_fault s errors.RecursionLimitExceeded n h = (errors.RecursionLimitExceeded, refl, n, h)
 byte_fault s errors.OutOfMemory n h = absurd (n tt)
 
--- bytes are the text of at most one item, and no text is a proper front of another
+-- bytes are the encoding of at most one item, and no encoding is a proper front of another
 abbrev pub OneItem : Type 0
-OneItem = (v w : Item) (b c x y : List ℕ) → IsText v b → IsText w c → b ++ x ≡ c ++ y → (v ≡ w) × (b ≡ c)
+OneItem = (v w : Item) (b c x y : List ℕ) → IsEncoding v b → IsEncoding w c → b ++ x ≡ c ++ y → (v ≡ w) × (b ≡ c)
 
 pub extraneous : OneItem → (s b rest : List ℕ) (v : Item) → (length rest ≡ 0 → ⊥) → s ≡ b ++ rest → IsItem b v → (IsByteFault s ExtraneousData ⊎ IsExtraneous s ExtraneousData) × IsNoItem s
 extraneous one s b [] v t e is = absurd (t refl)

@@ -1,31 +1,31 @@
 -- What the calls answer that read and write: by the shape of the type, and by how its values are seen.
-use Rattle.std.specs.Prelude.{◌≡◌, ◌≢◌, ◌⊎◌, ◌<◌, ℕ, List, Option, Some, None, Result, Ok, Err, length, take, ⊤}
+use Rattle.std.specs.Prelude.{◌≡◌, ◌≢◌, ◌⊎◌, ◌<◌, ℕ, List, Option, Some, None, Result, Ok, Err, length, take, ⊤, IfErr}
 use Rattle.coset_cbor.specs.Item.{Item}
 use Rattle.coset_cbor.specs.Parts.{as_tag}
 use Rattle.coset_cbor.specs.Grammar.{IsItem}
 use Rattle.coset_cbor.specs.Refused.{IsMemory, StandsIn}
-use Rattle.coset_cbor.specs.Shortest.{IsShort}
+use Rattle.coset_cbor.specs.Shortest.{IsShortest}
 use Rattle.coset_cbor.specs.declared.de.EndOfFile.{EndOfFile}
 use Rattle.coset_cbor.specs.declared.de.Error.{Error}
 use Rattle.coset_shape.specs.declared.error.CoseError.{CoseError}
 use Rattle.coset_shape.specs.declared.error.CoseError.TheVariants.{DecodeFailed, DuplicateMapKey, ExtraneousData, OutOfMemory}
-use Rattle.coset_shape.specs.Errors.{IsUnexpected, Names}
+use Rattle.coset_shape.specs.Errors.{IsUnexpected, UnlessMemory}
 use Rattle.coset_shape.specs.Shape.{Shape}
 
--- Reading the item v: a value that v stands for, or, want of memory aside, an error that tells of a fault in v
+-- Reading the item v: a value that v stands for, or, out of memory aside, an error that tells of a fault in v
 abbrev pub Reads : {T A : Type 0} → Shape A → (T → A) → Item → Result T CoseError → Type 0
 Reads s seen v (Ok x) = s.describes v (seen x)
-Reads s seen v (Err e) = Names e (s.faults v)
+Reads s seen v (Err e) = UnlessMemory e (s.faults v)
 
--- Making the item that a value is written as: that item, or, want of memory aside, that there is none
+-- Making the item that a value is written as: that item, or, out of memory aside, that there is none
 abbrev pub Images : {V : Type 0} → Option Item → (V → Item) → Result V CoseError → Type 0
 Images image it (Ok v) = image ≡ Some (it v)
-Images image it (Err e) = Names e (λ f. (f ≡ DuplicateMapKey) × (image ≡ None))
+Images image it (Err e) = UnlessMemory e (λ f. (f ≡ DuplicateMapKey) × (image ≡ None))
 
--- The same as bytes: the shortest text of that item
+-- Writing a value as bytes: the shortest encoding of that item, or, out of memory aside, that there is none
 abbrev pub Writes : {V : Type 0} → Option Item → (V → List ℕ) → Result V CoseError → Type 0
-Writes image bytes_of (Ok b) = (v : Item) × (image ≡ Some v) × IsShort (bytes_of b) v
-Writes image bytes_of (Err e) = Names e (λ f. (f ≡ DuplicateMapKey) × (image ≡ None))
+Writes image bytes_of (Ok b) = (v : Item) × (image ≡ Some v) × IsShortest (bytes_of b) v
+Writes image bytes_of (Err e) = UnlessMemory e (λ f. (f ≡ DuplicateMapKey) × (image ≡ None))
 
 -- the bytes are no item, for a fault that stands in them
 abbrev pub IsByteFault : List ℕ → CoseError → Type 0
@@ -50,7 +50,7 @@ IsWholeFault s e = (IsByteFault s e ⊎ IsExtraneous s e) × IsNoItem s
 -- Reading the bytes s as one item, whatever it stands for
 abbrev pub ReadsWhole : {T : Type 0} → (T → Item) → List ℕ → Result T CoseError → Type 0
 ReadsWhole item_of s (Ok x) = IsOnlyItem s (item_of x)
-ReadsWhole item_of s (Err e) = Names e (IsWholeFault s)
+ReadsWhole item_of s (Err e) = UnlessMemory e (IsWholeFault s)
 
 -- What is wrong with bytes that should be one item which the shape describes
 abbrev pub SliceFaults : {A : Type 0} → Shape A → List ℕ → CoseError → Type 0
@@ -60,21 +60,25 @@ SliceFaults shape s e = IsByteFault s e ⊎ IsExtraneous s e ⊎ ((v : Item) × 
 abbrev pub Describes : {A : Type 0} → Shape A → List ℕ → A → Type 0
 Describes shape s x = (v : Item) × IsItem s v × shape.describes v x
 
--- Reading the bytes s: a value that they describe, or, want of memory aside, an error that tells of a fault in them
+-- Reading the bytes s: a value that they describe, or, out of memory aside, an error that tells of a fault in them
 abbrev pub ReadsSlice : {T A : Type 0} → Shape A → (T → A) → List ℕ → Result T CoseError → Type 0
 ReadsSlice shape seen s (Ok x) = Describes shape s (seen x)
-ReadsSlice shape seen s (Err e) = Names e (SliceFaults shape s)
+ReadsSlice shape seen s (Err e) = UnlessMemory e (SliceFaults shape s)
 
 -- the bytes describe no value
 abbrev pub DescribesNothing : {A : Type 0} → Shape A → List ℕ → Type 0
 DescribesNothing {A} shape s = (x : A) → Describes shape s x → ⊥
+
+-- Reading the bytes s is refused, out of memory aside, only where they describe no value
+abbrev pub RefusesSlice : {T A : Type 0} → Shape A → List ℕ → Result T CoseError → Type 0
+RefusesSlice shape s r = IfErr r (λ e. UnlessMemory e (λ _. DescribesNothing shape s))
 
 -- the item under the tag of that number; or another tag, or none
 abbrev pub Untags : {T : Type 0} → ℕ → Item → (T → Item) → Result T CoseError → Type 0
 Untags number v item_of (Ok x) = as_tag v ≡ Some (number, item_of x)
 Untags number v item_of (Err e) = IsUnexpected e × ((as_tag v ≡ None) ⊎ ((t : ℕ) × (w : Item) × (as_tag v ≡ Some (t, w)) × (t ≢ number)))
 
--- memory is wanting only where the bytes are one item: none is asked for before that is known
-abbrev pub AsksForItems : {T : Type 0} → List ℕ → Result T CoseError → Type 0
-AsksForItems s (Ok x) = ⊤
-AsksForItems s (Err e) = e ≡ OutOfMemory → (v : Item) × IsItem s v
+-- memory runs out only where the bytes are one item: none is asked for before that is known
+abbrev pub AllocatesForItems : {T : Type 0} → List ℕ → Result T CoseError → Type 0
+AllocatesForItems s (Ok x) = ⊤
+AllocatesForItems s (Err e) = e ≡ OutOfMemory → (v : Item) × IsItem s v

@@ -21,7 +21,7 @@ abbrev pub IsUnexpected : CoseError → Type 0
 IsUnexpected (UnexpectedItem got want) = ⊤
 IsUnexpected e = ⊥
 
--- the error of a failed decoding: the end of the input whatever the reader's own error is, and want of memory as such
+-- the error of a failed decoding: the end of the input whatever the reader's own error is, and `OutOfMemory` as such
 abbrev pub decode_failure : {T : Type 0} → decoding.Error T → CoseError
 decode_failure (decoding.TheVariants.Io x) = DecodeFailed (decoding.TheVariants.Io (record {}))
 decode_failure (decoding.TheVariants.Syntax n) = DecodeFailed (decoding.TheVariants.Syntax n)
@@ -29,6 +29,6 @@ decode_failure (decoding.TheVariants.Semantic n s) = DecodeFailed (decoding.TheV
 decode_failure decoding.TheVariants.RecursionLimitExceeded = DecodeFailed decoding.TheVariants.RecursionLimitExceeded
 decode_failure decoding.TheVariants.OutOfMemory = OutOfMemory
 
--- what the error tells of stands; of want of memory nothing is said
-abbrev pub Names : CoseError → (CoseError → Type 0) → Type 0
-Names e stands = (e ≡ OutOfMemory → ⊥) → stands e
+-- what the error tells of stands, unless it is `OutOfMemory`
+abbrev pub UnlessMemory : CoseError → (CoseError → Type 0) → Type 0
+UnlessMemory e stands = (e ≡ OutOfMemory → ⊥) → stands e

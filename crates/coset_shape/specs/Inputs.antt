@@ -51,7 +51,7 @@ abbrev pub EntersArray : List ℕ → Item → State → State → Result InputI
 EntersArray want v t z (Ok m) = (vs : Items) × (as_array v ≡ Some vs) × AreWithin m vs t z
 EntersArray want v t z (Err e) = (t ≡ z) × (as_array v ≡ None) × IsUnexpected e × Says (kind v) want e
 
--- the same of a map
+-- the pairs of the map v stand at t; or v is no map and was passed
 abbrev pub EntersMap : Item → State → State → Result InputPairs CoseError → Type 0
 EntersMap v t z (Ok m) = (ps : Pairs) × (as_map v ≡ Some ps) × PairsWithin m ps t z
 EntersMap v t z (Err e) = (t ≡ z) × (as_map v ≡ None) × IsUnexpected e × Says (kind v) (codes "map") e

@@ -24,14 +24,14 @@ Says got want (UnexpectedItem g w) = (g.now ≡ got) × (w.now ≡ want)
 Says got want e = ⊥
 
 -- What the item holds, where `part` says that it is of the kind; else the error that names the kind that it has, and `want`
-abbrev pub Asks : {T A : Type 0} → (Item → Option A) → (T → A) → List ℕ → Item → Result T CoseError → Type 0
-Asks part seen want v (Ok x) = part v ≡ Some (seen x)
-Asks part seen want v (Err e) = (part v ≡ None) × IsUnexpected e × Says (kind v) want e
+abbrev pub TriesAs : {T A : Type 0} → (Item → Option A) → (T → A) → List ℕ → Item → Result T CoseError → Type 0
+TriesAs part seen want v (Ok x) = part v ≡ Some (seen x)
+TriesAs part seen want v (Err e) = (part v ≡ None) × IsUnexpected e × Says (kind v) want e
 
--- The same of a byte string that isn't empty, with an error of its own for an empty one
-abbrev pub AsksFilled : {T : Type 0} → (T → List ℕ) → Item → Result T CoseError → Type 0
-AsksFilled seen v (Ok x) = (as_bytes v ≡ Some (seen x)) × (seen x ≢ [])
-AsksFilled seen v (Err e) =
+-- What a byte string that isn't empty holds; else the error that names the item's kind, or an empty byte string
+abbrev pub TriesAsFilled : {T : Type 0} → (T → List ℕ) → Item → Result T CoseError → Type 0
+TriesAsFilled seen v (Ok x) = (as_bytes v ≡ Some (seen x)) × (seen x ≢ [])
+TriesAsFilled seen v (Err e) =
     ((as_bytes v ≡ None) × IsUnexpected e × Says (kind v) (codes "bstr") e)
     ⊎ ((as_bytes v ≡ Some []) × IsUnexpected e × Says (codes "empty bstr") (codes "non-empty bstr") e)
 

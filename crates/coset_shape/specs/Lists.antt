@@ -37,7 +37,7 @@ EachWith R xs ys = ⊥
 abbrev pub FirstRefused : {A B : Type 0} → (A → B → Type 0) → (A → Type 0) → List A → Type 0
 FirstRefused {A} {B} R P xs = (before : List A) × (made : List B) × (x : A) × (after : List A) × (xs ≡ before ++ x ∷ after) × EachWith R before made × P x
 
--- memory was wanting, or one of the values is refused with this error, and those before it aren't
+-- memory ran out, or one of the values is refused with this error, and those before it aren't
 abbrev pub RefusesMember : {A B E : Type 0} → (A → B → Type 0) → (A → E → Type 0) → List A → CallError E → Type 0
 RefusesMember R P xs (Coset e) = e ≡ OutOfMemory
 RefusesMember R P xs (Caller e) = FirstRefused R (λ x. P x e) xs

@@ -12,7 +12,7 @@ use Rattle.coset_shape.specs.declared.error.CoseError.{CoseError}
 use Rattle.coset_shape.specs.declared.error.CoseError.TheVariants.{DuplicateMapKey}
 use Rattle.coset_shape.specs.Shape.{Shape, present}
 use Rattle.coset_shape.specs.ShapeLaws.{Again, Lawful, some-one, some-none, both-some, present_laws}
-use Rattle.coset_shape.specs.Maps.{Names, Named, named_image, HasLabel, Twice, SomePair, Held, held, optional, is_filled, listed, Where, Fields, no_field, put_field, field, is_core, rest_of, are_distinct, Entries, PairFaults, MapFaults, may_write, labelled_by, with_pair, and_pairs, SoFar, Adds, Refuses}
+use Rattle.coset_shape.specs.Maps.{Names, Named, named_image, HasLabel, Twice, SomePair, FieldShape, field_shape, optional, is_filled, listed, Where, Fields, no_field, put_field, field, is_core, rest_of, are_distinct, Entries, PairFaults, MapFaults, may_write, labelled_by, with_pair, and_pairs, SoFar, Adds, Refuses}
 
 -- ---- lists and tests
 
@@ -97,55 +97,55 @@ Within d (Some v) = depth v ≤ d
 Within d None = Unit {0}
 
 -- x is written as a value that stands for x and is no deeper than d, or is left out
-pub record AgainHeld (A : Type 0) (h : Held A) (d : ℕ) (x : A) : Type 0 where
+pub record AgainFieldShape (A : Type 0) (h : FieldShape A) (d : ℕ) (x : A) : Type 0 where
   pub value : Option Item
   pub is_image : h.image x ≡ Some value
   pub described : h.describes value x
   pub shallow : Within d value
 
 -- `told`: what a value makes is told from what none makes
-pub record LawfulHeld (A : Type 0) (h : Held A) : Type 0 where
+pub record LawfulFieldShape (A : Type 0) (h : FieldShape A) : Type 0 where
   pub unique : (o : Option Item) (x y : A) → h.describes o x → h.describes o y → x ≡ y
-  pub again : (d : ℕ) (o : Option Item) (x : A) → Within d o → h.describes o x → AgainHeld A h d x
+  pub again : (d : ℕ) (o : Option Item) (x : A) → Within d o → h.describes o x → AgainFieldShape A h d x
   pub sound : (v : Item) (x : A) (e : CoseError) → h.describes (Some v) x → h.faults v e → ⊥
   pub told : (v : Item) (x : A) → h.describes (Some v) x → h.describes None x → ⊥
 
 module _ {A : Type 0} (absent : A) (shows : A → Bool) (hidden : shows absent ≡ false) (shown : (x : A) → shows x ≡ false → x ≡ absent) (s : Shape A) (never : (v : Item) → s.describes v absent → ⊥) (l : Lawful A s) where
   -- a value, or `absent`
-  held_unique : (o : Option Item) (x y : A) → (held absent shows s).describes o x → (held absent shows s).describes o y → x ≡ y
-  held_unique (Some v) x y p q = l.unique v x y p q
-  held_unique None x y p q = p ∙ sym q
+  field_shape_unique : (o : Option Item) (x y : A) → (field_shape absent shows s).describes o x → (field_shape absent shows s).describes o y → x ≡ y
+  field_shape_unique (Some v) x y p q = l.unique v x y p q
+  field_shape_unique None x y p q = p ∙ sym q
 
-  held_told : (v : Item) (x : A) → s.describes v x → x ≡ absent → ⊥
-  held_told v x p q = never v (subst (s.describes v) q p)
+  field_shape_told : (v : Item) (x : A) → s.describes v x → x ≡ absent → ⊥
+  field_shape_told v x p q = never v (subst (s.describes v) q p)
 
-  held_again : (d : ℕ) (o : Option Item) (x : A) → Within d o → (held absent shows s).describes o x → AgainHeld A (held absent shows s) d x
-  held_again d (Some v) x w p = go (shows x) refl
+  field_shape_again : (d : ℕ) (o : Option Item) (x : A) → Within d o → (field_shape absent shows s).describes o x → AgainFieldShape A (field_shape absent shows s) d x
+  field_shape_again d (Some v) x w p = go (shows x) refl
     where
-      go : (b : Bool) → shows x ≡ b → AgainHeld A (held absent shows s) d x
+      go : (b : Bool) → shows x ≡ b → AgainFieldShape A (field_shape absent shows s) d x
       go true h =
           let a : Again A s v x = l.again v x p in
           record { value = Some a.image; is_image = rw (h, a.is_image) refl; described = a.described; shallow = omega (arith, a.shallow, w) }
-      go false h = absurd (held_told v x p (shown x h))
-  held_again d None x w p = record { value = None; is_image = rw (p, hidden) refl; described = p; shallow = tt }
+      go false h = absurd (field_shape_told v x p (shown x h))
+  field_shape_again d None x w p = record { value = None; is_image = rw (p, hidden) refl; described = p; shallow = tt }
 
-  pub held_laws : LawfulHeld A (held absent shows s)
-  held_laws = record { unique = held_unique; again = held_again; sound = l.sound; told = held_told }
+  pub field_shape_laws : LawfulFieldShape A (field_shape absent shows s)
+  field_shape_laws = record { unique = field_shape_unique; again = field_shape_again; sound = l.sound; told = field_shape_told }
 
 -- what is left out
 none_hidden : {A : Type 0} (x : Option A) → is_some x ≡ false → x ≡ None
 none_hidden (Some x) h = absurd (true≢false h)
 none_hidden None h = refl
 
-pub optional_laws : {A : Type 0} (s : Shape A) → Lawful A s → LawfulHeld (Option A) (optional s)
-optional_laws s l = held_laws None is_some refl none_hidden (present s) (λ v p. p) (present_laws s l)
+pub optional_laws : {A : Type 0} (s : Shape A) → Lawful A s → LawfulFieldShape (Option A) (optional s)
+optional_laws s l = field_shape_laws None is_some refl none_hidden (present s) (λ v p. p) (present_laws s l)
 
 empty_hidden : {A : Type 0} (x : List A) → is_filled x ≡ false → x ≡ []
 empty_hidden [] h = refl
 empty_hidden (x ∷ xs) h = absurd (true≢false h)
 
-pub listed_laws : {A : Type 0} (s : Shape (List A)) → ((v : Item) → s.describes v [] → ⊥) → Lawful (List A) s → LawfulHeld (List A) (listed s)
-listed_laws s never l = held_laws [] is_filled refl empty_hidden s never l
+pub listed_laws : {A : Type 0} (s : Shape (List A)) → ((v : Item) → s.describes v [] → ⊥) → Lawful (List A) s → LawfulFieldShape (List A) (listed s)
+listed_laws s never l = field_shape_laws [] is_filled refl empty_hidden s never l
 
 -- ---- fields
 
@@ -374,7 +374,7 @@ module _ {N : Type 0} (n : Names N) (laws : LawfulNames N n) where
         repeated = λ es x m p r h. r;
       }
 
-  module _ {A B : Type 0} (l : N) (flat : Flat N n l) (h : Held A) (hl : LawfulHeld A h) (fs : Fields N B) (fl : LawfulFields N B n fs) (new : is_core n fs.labels l ≡ false) where
+  module _ {A B : Type 0} (l : N) (flat : Flat N n l) (h : FieldShape A) (hl : LawfulFieldShape A h) (fs : Fields N B) (fl : LawfulFields N B n fs) (new : is_core n fs.labels l ≡ false) where
     -- a label that is no field's is not l, and none of the other fields'
     others : (m : N) → is_core n (l ∷ fs.labels) m ≡ false → (n.same l m ≡ false) × (is_core n fs.labels m ≡ false)
     others m c = let k : (n.same m l ≡ false) × (is_core n fs.labels m ≡ false) = or_parts (n.same m l) (is_core n fs.labels m) c in (flip m l k.0, k.1)
@@ -420,7 +420,7 @@ module _ {N : Type 0} (n : Names N) (laws : LawfulNames N n) where
 
     field_again : (d : ℕ) (es : List (N × Item)) (x : A × B) → AllByRecursion (λ e. depth e.1 ≤ d) es → (field n l h fs).describes es x → AgainFields N (A × B) n (field n l h fs) d x
     field_again d es x w p =
-        let a : AgainHeld A h d x.0 = hl.again d (lookup (n.same l) es) x.0 (lookup_within n d l es w) p.0 in
+        let a : AgainFieldShape A h d x.0 = hl.again d (lookup (n.same l) es) x.0 (lookup_within n d l es w) p.0 in
         let b : AgainFields N B n fs d x.1 = fl.again d es x.1 w p.1 in
         record {
           entries = put_field l a.value b.entries;

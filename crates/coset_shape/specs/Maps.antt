@@ -46,38 +46,38 @@ SomePair P (pair k v ps) = P k v ⊎ SomePair P ps
 -- ---- fields
 
 -- what a field makes of its value, or of there being none
-pub record Held (A : Type 0) : Type 1 where
+pub record FieldShape (A : Type 0) : Type 1 where
   pub describes : Option Item → A → Type 0
   pub image : A → Option (Option Item)
   pub faults : Item → CoseError → Type 0
 
-abbrev pub HeldDescribes : {A : Type 0} → A → (Item → A → Type 0) → Option Item → A → Type 0
-HeldDescribes absent r (Some v) x = r v x
-HeldDescribes absent r None x = x ≡ absent
+abbrev pub FieldShapeDescribes : {A : Type 0} → A → (Item → A → Type 0) → Option Item → A → Type 0
+FieldShapeDescribes absent r (Some v) x = r v x
+FieldShapeDescribes absent r None x = x ≡ absent
 
-abbrev pub held_image : Bool → Option Item → Option (Option Item)
-held_image true o = option_map Some o
-held_image false o = Some None
+abbrev pub field_shape_image : Bool → Option Item → Option (Option Item)
+field_shape_image true o = option_map Some o
+field_shape_image false o = Some None
 
 -- Where there is no value, x is `absent`; `shows x` tells whether x is written
-abbrev pub held : {A : Type 0} → A → (A → Bool) → Shape A → Held A
-held absent shows s = record {
-  describes = HeldDescribes absent s.describes;
-  image = λ x. held_image (shows x) (s.image x);
+abbrev pub field_shape : {A : Type 0} → A → (A → Bool) → Shape A → FieldShape A
+field_shape absent shows s = record {
+  describes = FieldShapeDescribes absent s.describes;
+  image = λ x. field_shape_image (shows x) (s.image x);
   faults = s.faults;
 }
 
 -- a value that may be left out
-abbrev pub optional : {A : Type 0} → Shape A → Held (Option A)
-optional s = held None is_some (present s)
+abbrev pub optional : {A : Type 0} → Shape A → FieldShape (Option A)
+optional s = field_shape None is_some (present s)
 
 abbrev pub is_filled : {A : Type 0} → List A → Bool
 is_filled [] = false
 is_filled (x ∷ xs) = true
 
 -- a list that is left out where it is empty, and only there
-abbrev pub listed : {A : Type 0} → Shape (List A) → Held (List A)
-listed s = held [] is_filled s
+abbrev pub listed : {A : Type 0} → Shape (List A) → FieldShape (List A)
+listed s = field_shape [] is_filled s
 
 -- P where the test holds, else Q
 abbrev pub Where : Bool → Type 0 → Type 0 → Type 0
@@ -114,7 +114,7 @@ put_fields [] = []
 put_fields (f ∷ fs) = put_field f.0 f.1 (put_fields fs)
 
 -- ? l => h, and then the others
-abbrev pub field : {N A B : Type 0} → Names N → N → Held A → Fields N B → Fields N (A × B)
+abbrev pub field : {N A B : Type 0} → Names N → N → FieldShape A → Fields N B → Fields N (A × B)
 field n l h fs = record {
   labels = l ∷ fs.labels;
   describes = λ es x. h.describes (lookup (n.same l) es) x.0 × fs.describes es x.1;
@@ -174,7 +174,7 @@ labelled_by {N} {A} checks n fs = record {
 abbrev pub labelled : {N A : Type 0} → Names N → Fields N A → Shape (A × List (N × Item))
 labelled n fs = labelled_by true n fs
 
--- the same, written whatever labels the rest has
+-- {fields, * label => any}, written whatever labels the rest has
 abbrev pub labelled_freely : {N A : Type 0} → Names N → Fields N A → Shape (A × List (N × Item))
 labelled_freely n fs = labelled_by false n fs
 

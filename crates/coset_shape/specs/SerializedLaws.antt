@@ -2,15 +2,15 @@
 use Rattle.std.proofs.Common.{◌≡◌, ℕ, List, [], ◌∷◌, Option, Some, Bool, option_map, refl, sym, ◌∙◌, ap, subst, inl, inr, arith}
 use Rattle.coset_value.specs.Item.{Item, bytes}
 use Rattle.coset_cbor.specs.Grammar.{IsItem}
-use Rattle.coset_cbor.proofs.Again.{texts_differ}
+use Rattle.coset_cbor.proofs.Again.{encodings_differ}
 use Rattle.coset_shape.specs.declared.error.CoseError.{CoseError}
 use Rattle.coset_shape.specs.Shape.{Shape}
 use Rattle.coset_shape.specs.ShapeLaws.{Again, Lawful, some-one, some-none}
-use Rattle.coset_shape.specs.Serialized.{ContentDescribes, ContentFaults, kept, serialized_or_empty}
+use Rattle.coset_shape.specs.Serialized.{ContentDescribes, ContentFaults, content_bytes, serialized_or_empty}
 
 -- bytes are one item at most
 same_item : (s : List ℕ) (v w : Item) → IsItem s v → IsItem s w → v ≡ w
-same_item s v w p q = (texts_differ v w s s [] [] p.0 q.0 refl).0
+same_item s v w p q = (encodings_differ v w s s [] [] p.0 q.0 refl).0
 
 module _ {A : Type 0} (empty : A) (s : Shape A) (l : Lawful A s) where
   content_unique : (b : List ℕ) (x y : A) → ContentDescribes empty s b x → ContentDescribes empty s b y → x ≡ y
@@ -37,7 +37,7 @@ module _ {A : Type 0} (empty : A) (is_empty : A → Bool) (s : Shape A) (l : Law
   serialized_again v x p =
       record {
         image = bytes p.0;
-        is_image = ap (λ o. option_map bytes (kept is_empty s.image o x.1)) p.2;
+        is_image = ap (λ o. option_map bytes (content_bytes is_empty s.image o x.1)) p.2;
         described = (p.0, refl, p.2, p.3);
         shallow = omega arith;
       }

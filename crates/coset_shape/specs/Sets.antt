@@ -37,6 +37,6 @@ distinct_of cmp s = record {
   faults = λ v e. (some_of s).faults v e ⊎ (IsUnexpected e × ((vs : Items) × (as_array v ≡ Some vs) × Repeats s.describes vs));
 }
 
--- the same, seen and written as the set of the members, in the order of cmp
+-- [+ s], no two members the same, seen and written as the set of the members, in the order of cmp
 abbrev pub set_of : {A : Type 0} → (A → A → Ordering) → Shape A → Shape (List A)
 set_of cmp s = arranged (IsSetOf cmp) (distinct_of cmp s)

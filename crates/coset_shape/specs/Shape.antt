@@ -1,5 +1,5 @@
--- Which items of CBOR stand for which values of a type. A type's shape is put together from those of its parts, in
--- the manner of CDDL (RFC 8610); the CDDL of each is in its comment. A value is seen without its memory: a text as its
+-- Which items of CBOR stand for which values of a type. A type's shape is put together from those of its parts, in the
+-- manner of CDDL (RFC 8610); the CDDL of each is in its comment. A value is seen without its memory: a `String` as its
 -- UTF-8 bytes, a struct as a record.
 use Rattle.std.specs.Prelude.{◌≡◌, ◌≢◌, ◌⊎◌, ℕ, ℤ, List, [], ◌∷◌, Option, Some, None, Bool, true, false, option_map, FitsSigned, ⊤}
 use Rattle.std.proofs.Common.{inl, inr}
@@ -18,7 +18,7 @@ pub record Shape (A : Type 0) : Type 1 where
   pub image : A → Option Item
   pub faults : Item → CoseError → Type 0
 
--- The same of the members of an array. `misfits vs`: there are too few members, or too many
+-- Which members of an array stand for which values. `misfits vs`: there are too few members, or too many
 pub record Places (A : Type 0) : Type 1 where
   pub describes : Items → A → Type 0
   pub image : A → Option Items
@@ -86,7 +86,8 @@ IsFilled xs = xs ≢ []
 abbrev pub filled_bstr : Shape (List ℕ)
 filled_bstr = that IsUnexpected IsFilled bstr
 
--- another view of the same: `to` makes it of what the shape describes, and `from` is its inverse
+-- what the shape describes, seen as another type: `to` makes that of what the shape describes, and `from` is its
+-- inverse
 abbrev pub along : {A B : Type 0} → (A → B) → (B → A) → Shape A → Shape B
 along to from s = record { describes = λ v x. s.describes v (from x); image = λ x. s.image (from x); faults = s.faults }
 
@@ -253,7 +254,8 @@ perhaps absent shows s = record {
   faults = LastFaults s.faults;
 }
 
--- The same, seen as what R relates it to, and written as that: a list that stands for a set is seen in order
+-- What the shape describes, seen as what R relates it to, and written as that: a list that stands for a set is seen in
+-- order
 abbrev pub arranged : {A : Type 0} → (A → A → Type 0) → Shape A → Shape A
 arranged {A} R s = record {
   describes = λ v y. (x : A) × s.describes v x × R x y;
@@ -269,15 +271,15 @@ one_or_more (array (item (bytes b) vs)) = Some (item (array (item (bytes b) vs))
 one_or_more (array (item v vs)) = Some (item v vs)
 one_or_more v = None
 
--- one is written bare, more as an array
-abbrev pub bare : Items → Item
-bare (item v no_items) = v
-bare vs = array vs
+-- one is written as itself, more as an array
+abbrev pub one_or_array : Items → Item
+one_or_array (item v no_items) = v
+one_or_array vs = array vs
 
 -- s / [+ s], where s describes arrays that begin with a byte string
 abbrev pub one_or_many : {A : Type 0} → Places A → Shape A
 one_or_many {A} ps = record {
   describes = λ v x. (vs : Items) × (one_or_more v ≡ Some vs) × ps.describes vs x;
-  image = λ x. option_map bare (ps.image x);
+  image = λ x. option_map one_or_array (ps.image x);
   faults = λ v e. ((one_or_more v ≡ None) × IsUnexpected e) ⊎ ((vs : Items) × (one_or_more v ≡ Some vs) × ((ps.misfits vs × IsUnexpected e) ⊎ ps.faults vs e));
 }

@@ -4,7 +4,7 @@ use Rattle.std.proofs.Common.{◌≡◌, ◌⊎◌, ◌≤◌, ℕ, suc, max, �
 use Rattle.coset_cbor.specs.Item.{Item, integer, bytes, float, text, boolean, null, tag, array, dict, Items, no_items, item, depth, items_depth, items_count}
 use Rattle.coset_cbor.specs.Parts.{as_array, as_tag}
 use Rattle.coset_shape.specs.declared.error.CoseError.{CoseError}
-use Rattle.coset_shape.specs.Shape.{Shape, Places, both, kind_of, int, bstr, tstr, floating, any, that, int64, filled_bstr, along, blamed, either, is_nil, nil, option_of, sum_of, or_nil, present, fixed, tagged, array_of, end, ◌then◌, Each, images, EachFaults, any_number, list_of, some_of, perhaps, LastDescribes, LastMisfits, LastFaults, last_image, arranged, one_or_more, bare, one_or_many}
+use Rattle.coset_shape.specs.Shape.{Shape, Places, both, kind_of, int, bstr, tstr, floating, any, that, int64, filled_bstr, along, blamed, either, is_nil, nil, option_of, sum_of, or_nil, present, fixed, tagged, array_of, end, ◌then◌, Each, images, EachFaults, any_number, list_of, some_of, perhaps, LastDescribes, LastMisfits, LastFaults, last_image, arranged, one_or_more, one_or_array, one_or_many}
 
 -- x is written as an item that stands for x and is no deeper than v
 pub record Again (A : Type 0) (s : Shape A) (v : Item) (x : A) : Type 0 where
@@ -18,7 +18,7 @@ pub record Lawful (A : Type 0) (s : Shape A) : Type 0 where
   pub again : (v : Item) (x : A) → s.describes v x → Again A s v x
   pub sound : (v : Item) (x : A) (e : CoseError) → s.describes v x → s.faults v e → ⊥
 
--- the same of the members of an array
+-- x is written as members that stand for x and are no deeper than vs
 pub record AgainPlaces (A : Type 0) (s : Places A) (vs : Items) (x : A) : Type 0 where
   pub image : Items
   pub is_image : s.image x ≡ Some image
@@ -370,46 +370,46 @@ arranged_laws {A} R s one itself again l =
 
 -- ---- one, or a list of them
 
-bare-depth : (v : Item) (vs ws : Items) → one_or_more v ≡ Some vs → items_depth ws ≤ items_depth vs → items_count ws ≡ items_count vs → depth (bare ws) ≤ depth v
-bare-depth (array (item (bytes b) us)) vs no_items p d c =
+one_or_array-depth : (v : Item) (vs ws : Items) → one_or_more v ≡ Some vs → items_depth ws ≤ items_depth vs → items_count ws ≡ items_count vs → depth (one_or_array ws) ≤ depth v
+one_or_array-depth (array (item (bytes b) us)) vs no_items p d c =
     let h : item (array (item (bytes b) us)) no_items ≡ vs = cc in
     let one : items_count vs ≡ 1 = ap items_count (sym h) in
     absurd (omega (arith, c, one))
-bare-depth (array (item (bytes b) us)) vs (item w no_items) p d c =
+one_or_array-depth (array (item (bytes b) us)) vs (item w no_items) p d c =
     let h : item (array (item (bytes b) us)) no_items ≡ vs = cc in
     let deep : items_depth vs ≡ max (suc (max 0 (items_depth us))) 0 = ap items_depth (sym h) in
     omega (arith, d, deep)
-bare-depth (array (item (bytes b) us)) vs (item w (item u ws)) p d c =
+one_or_array-depth (array (item (bytes b) us)) vs (item w (item u ws)) p d c =
     let h : item (array (item (bytes b) us)) no_items ≡ vs = cc in
     let one : items_count vs ≡ 1 = ap items_count (sym h) in
     absurd (omega (arith, c, one))
-bare-depth (array (item v us)) vs no_items p d c = omega arith
-bare-depth (array (item v us)) vs (item w no_items) p d c =
+one_or_array-depth (array (item v us)) vs no_items p d c = omega arith
+one_or_array-depth (array (item v us)) vs (item w no_items) p d c =
     let h : item v us ≡ vs = cc in
     let deep : items_depth vs ≡ max (depth v) (items_depth us) = ap items_depth (sym h) in
     omega (arith, d, deep)
-bare-depth (array (item v us)) vs (item w (item u ws)) p d c =
+one_or_array-depth (array (item v us)) vs (item w (item u ws)) p d c =
     let h : item v us ≡ vs = cc in
     let deep : items_depth vs ≡ max (depth v) (items_depth us) = ap items_depth (sym h) in
     omega (arith, d, deep)
-bare-depth _ vs ws p d c = absurd (cc)
+one_or_array-depth _ vs ws p d c = absurd (cc)
 
--- what is written bare is told from an array of more, and as many are written as were read
+-- one that is written as itself is told from an array of more, and as many are written as were read
 pub one_or_many_laws :
     {A : Type 0} (ps : Places A)
-    → ((vs ws : Items) (x : A) → ps.describes vs x → ps.describes ws x → ps.image x ≡ Some ws → (one_or_more (bare ws) ≡ Some ws) × (items_count ws ≡ items_count vs))
+    → ((vs ws : Items) (x : A) → ps.describes vs x → ps.describes ws x → ps.image x ≡ Some ws → (one_or_more (one_or_array ws) ≡ Some ws) × (items_count ws ≡ items_count vs))
     → LawfulPlaces A ps → Lawful A (one_or_many ps)
 one_or_many_laws {A} ps told l =
     record {
       unique = λ v x y p q. l.unique p.0 x y p.2 (subst (λ vs. ps.describes vs y) (some-one q.1 p.1) q.2);
       again = λ v x p.
           let a : AgainPlaces A ps p.0 x = l.again p.0 x p.2 in
-          let t : (one_or_more (bare a.image) ≡ Some a.image) × (items_count a.image ≡ items_count p.0) = told p.0 a.image x p.2 a.described a.is_image in
+          let t : (one_or_more (one_or_array a.image) ≡ Some a.image) × (items_count a.image ≡ items_count p.0) = told p.0 a.image x p.2 a.described a.is_image in
           record {
-            image = bare a.image;
-            is_image = mapped-some bare (ps.image x) a.image a.is_image;
+            image = one_or_array a.image;
+            is_image = mapped-some one_or_array (ps.image x) a.image a.is_image;
             described = (a.image, t.0, a.described);
-            shallow = bare-depth v p.0 a.image p.1 a.shallow t.1;
+            shallow = one_or_array-depth v p.0 a.image p.1 a.shallow t.1;
           };
       sound = λ v x e p f.
           elim f [

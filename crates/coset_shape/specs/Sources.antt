@@ -38,7 +38,7 @@ abbrev pub MayCopy : Source → Type 0
 MayCopy (Tree v) = ⊥
 MayCopy (Lent p) = ⊤
 
--- a value of the item, or want of memory
+-- a value of the item, or `OutOfMemory`
 abbrev pub Copies : {T : Type 0} → (T → Item) → Item → Result T CoseError → Type 0
 Copies item_of v (Ok x) = item_of x ≡ v
 Copies item_of v (Err e) = e ≡ OutOfMemory
@@ -47,7 +47,7 @@ Copies item_of v (Err e) = e ≡ OutOfMemory
 abbrev pub Takes : Items → Option Source → Items → Type 0
 Takes old r new = MatchOption r ((old ≡ no_items) × (new ≡ no_items)) (λ x. old ≡ item (source_item x) new)
 
--- the same of pairs
+-- one step along a map: the first of the pairs that were left, and the others are left; or none were, and none are
 abbrev pub TakesPair : Pairs → Option (Source × Source) → Pairs → Type 0
 TakesPair old r new = MatchOption r ((old ≡ no_pairs) × (new ≡ no_pairs)) (λ x. old ≡ pair (source_item x.0) (source_item x.1) new)
 
@@ -74,9 +74,9 @@ IsMisfit want e = IsUnexpected e × Says (codes "array") want e
 
 -- the places of an array: `places` makes the members again; or it is no array, or they are too few or too many, where
 -- m tells which may follow the first n, and `want` is what the error asks for
-abbrev pub Places : {T : Type 0} → ℕ → (Items → Type 0) → List ℕ → (T → Items) → Item → Result T CoseError → Type 0
-Places n m want places v (Ok x) = as_array v ≡ Some (places x)
-Places n m want places v (Err e) =
+abbrev pub TakesPlaces : {T : Type 0} → ℕ → (Items → Type 0) → List ℕ → (T → Items) → Item → Result T CoseError → Type 0
+TakesPlaces n m want places v (Ok x) = as_array v ≡ Some (places x)
+TakesPlaces n m want places v (Err e) =
     ((as_array v ≡ None) × IsUnexpected e × Says (kind v) (codes "array") e) ⊎ (IsMisfit want e × ((vs : Items) × (as_array v ≡ Some vs) × misfits_after n m vs))
 
 abbrev pub put_two : Source × Source → Items → Items
@@ -97,11 +97,11 @@ put_last None = no_items
 put_last (Some x) = item (source_item x) no_items
 
 -- no place is left; or one is
-abbrev pub Ends : List ℕ → Items → Result (Unit {0}) CoseError → Type 0
-Ends want vs (Ok x) = vs ≡ no_items
-Ends want vs (Err e) = IsMisfit want e × IsMore vs
+abbrev pub TakesEnd : List ℕ → Items → Result (Unit {0}) CoseError → Type 0
+TakesEnd want vs (Ok x) = vs ≡ no_items
+TakesEnd want vs (Err e) = IsMisfit want e × IsMore vs
 
 -- at most one place is left; or more are
-abbrev pub Lasts : List ℕ → Items → Result (Option Source) CoseError → Type 0
-Lasts want vs (Ok x) = vs ≡ put_last x
-Lasts want vs (Err e) = IsMisfit want e × LastMisfits vs
+abbrev pub TakesLast : List ℕ → Items → Result (Option Source) CoseError → Type 0
+TakesLast want vs (Ok x) = vs ≡ put_last x
+TakesLast want vs (Err e) = IsMisfit want e × LastMisfits vs

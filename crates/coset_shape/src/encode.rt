@@ -1,11 +1,10 @@
 //! Values written straight into bytes: each type's one writer.
 
 ghost use Rattle.std.specs.Prelude.{Option, Some, option_map};
-ghost use Rattle.coset_value.specs.Item.{Item, array, item, no_items, bytes, tag};
+ghost use Rattle.coset_value.specs.Item.{Item, array, item, bytes, tag};
 ghost use Rattle.coset_value.specs.View.{view};
 ghost use Rattle.coset_shape.specs.Answers.{Images, Writes};
-ghost use Rattle.coset_shape.specs.Encoding.{Encodes};
-ghost use Rattle.coset_shape.specs.Shape.{both};
+ghost use Rattle.coset_shape.specs.Encoding.{Encodes, three_places, four_places};
 
 use crate::error::Result;
 use coset_cbor::de::decode_encoded;
@@ -25,15 +24,16 @@ pub trait Encode {
     /// The item that a value is written as, where there is one.
     ghost image: { Self → Option Item };
 
-    /// About as many bytes as the text takes: so many are reserved at once.
+    /// About as many bytes as the encoding takes: so many are reserved at once.
     fn room(&self) -> usize {
         0
     }
 
-    /// Appends the shortest text of the value's item (RFC 8949, section 4.2.1).
+    /// Appends the shortest encoding of the value's item (RFC 8949, section 4.2.1).
     ///
     /// # Errors
-    /// Want of memory, or `DuplicateMapKey`, only where the value has no item. What was appended before isn't taken back.
+    /// `OutOfMemory`, or `DuplicateMapKey`, only where the value has no item. What was appended before isn't taken
+    /// back.
     fn encode(&self, alloc: Global, out: &mut Vec<u8>) -> Result<()>
         ensures { Encodes (image self.now) out.old.items out.new.items result };
 }
@@ -63,7 +63,7 @@ impl Encode for i64 {
     }
 }
 
-/// Texts are text strings.
+/// A `String` is a text string.
 impl Encode for String {
     ghost use Rattle.coset_value.specs.Item.{text};
     ghost use Rattle.std.specs.Prelude.{string_bytes};
@@ -124,7 +124,8 @@ pub fn encode_three<A: Encode, B: Encode, C: Encode>(
     c: &C,
     out: &mut Vec<u8>,
 ) -> Result<()>
-    ensures { Encodes (option_map array (both item (A.image a.now) (both item (B.image b.now) (both item (C.image c.now) (Some no_items))))) out.old.items out.new.items result }
+    ensures { Encodes (three_places (A.image a.now) (B.image b.now) (C.image c.now)) out.old.items
+        out.new.items result }
 {
     write_array_head(3, out)?;
     a.encode(alloc, out)?;
@@ -145,7 +146,8 @@ pub fn encode_four<A: Encode, B: Encode, C: Encode, D: Encode>(
     d: &D,
     out: &mut Vec<u8>,
 ) -> Result<()>
-    ensures { Encodes (option_map array (both item (A.image a.now) (both item (B.image b.now) (both item (C.image c.now) (both item (D.image d.now) (Some no_items)))))) out.old.items out.new.items result }
+    ensures { Encodes (four_places (A.image a.now) (B.image b.now) (C.image c.now) (D.image d.now))
+        out.old.items out.new.items result }
 {
     write_array_head(4, out)?;
     a.encode(alloc, out)?;
@@ -158,11 +160,11 @@ pub fn encode_four<A: Encode, B: Encode, C: Encode, D: Encode>(
 /// What `to_vec` is made of. The answers are those of [`CborSerializable::to_vec`](crate::CborSerializable::to_vec).
 ///
 /// # Errors
-/// As of [`Encode::encode`].
+/// The same as [`Encode::encode`].
 pub fn encode_to_vec<T: Encode>(alloc: Global, value: &T) -> Result<Vec<u8>>
     ensures { Writes (T.image value.now) (λ b. b.items) result }
 {
-    laws::short_is_shortest();
+    laws::least_encoding_is_shortest();
     let mut out = Vec::with_capacity(alloc, value.room())?;
     value.encode(alloc, &mut out)?;
     Ok(out)
@@ -171,11 +173,11 @@ pub fn encode_to_vec<T: Encode>(alloc: Global, value: &T) -> Result<Vec<u8>>
 /// What `to_tagged_vec` is made of, under the tag of that number.
 ///
 /// # Errors
-/// As of [`Encode::encode`].
+/// The same as [`Encode::encode`].
 pub fn encode_to_tagged_vec<T: Encode>(alloc: Global, number: u64, value: &T) -> Result<Vec<u8>>
     ensures { Writes (option_map (tag number) (T.image value.now)) (λ b. b.items) result }
 {
-    laws::short_is_shortest();
+    laws::least_encoding_is_shortest();
     let mut out = Vec::with_capacity(alloc, value.room().saturating_add(LONGEST_HEAD))?;
     write_tag_head(number, &mut out)?;
     value.encode(alloc, &mut out)?;
@@ -185,12 +187,12 @@ pub fn encode_to_tagged_vec<T: Encode>(alloc: Global, number: u64, value: &T) ->
 /// What `to_cbor_value` is made of: the value is written, and what was written is read.
 ///
 /// # Errors
-/// As of [`Encode::encode`].
+/// The same as [`Encode::encode`].
 pub fn encode_to_value<T: Encode>(alloc: Global, value: &T) -> Result<Value>
     ensures { Images (T.image value.now) view result }
 {
-    laws::shortest_is_text();
+    laws::shortest_is_encoding();
     laws::one_item();
-    let text = encode_to_vec(alloc, value)?;
-    Ok(decode_encoded(alloc, &text)?)
+    let encoded = encode_to_vec(alloc, value)?;
+    Ok(decode_encoded(alloc, &encoded)?)
 }

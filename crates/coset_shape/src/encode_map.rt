@@ -1,12 +1,11 @@
 //! Maps written straight into bytes, pair by pair, before it is known how many there are.
 
-ghost use Rattle.coset_shape.specs.declared.error.CoseError.TheVariants.{DuplicateMapKey, OutOfMemory};
+ghost use Rattle.coset_shape.specs.declared.error.CoseError.TheVariants.{OutOfMemory};
 ghost use Rattle.std.specs.Prelude.{◌≡◌, OnOk, IfErr, [], ◌∷◌, Some, None, option_map, is_some, map};
 ghost use Rattle.coset_value.specs.Item.{Pairs, no_pairs, dict};
 ghost use Rattle.coset_value.specs.View.{view};
 ghost use Rattle.coset_shape.specs.Encoding.{AppendsItem, HasNoImage, HoldsPairs, AddsField, AddsAll};
-ghost use Rattle.coset_shape.specs.Errors.{Names};
-ghost use Rattle.coset_shape.specs.Maps.{held_image, named_image};
+ghost use Rattle.coset_shape.specs.Maps.{field_shape_image, named_image};
 ghost use Rattle.coset_shape.specs.Shape.{present_image};
 
 use crate::encode::Encode;
@@ -17,33 +16,34 @@ use std::alloc::Global;
 
 /// The pairs of a map so far.
 #[derive(Drop)]
-pub struct MapText {
+pub struct MapEncoder {
     count: usize,
-    text: Vec<u8>,
+    encoded: Vec<u8>,
 }
 
-impl MapText {
+impl MapEncoder {
     /// No pairs. It takes no memory.
-    pub fn new(alloc: Global) -> MapText
+    pub fn new(alloc: Global) -> MapEncoder
         ensures { HoldsPairs result no_pairs }
     {
-        MapText {
+        MapEncoder {
             count: 0,
-            text: Vec::new(alloc),
+            encoded: Vec::new(alloc),
         }
     }
 
     /// Appends the pair of this number and value.
     pub fn field<T: Encode>(&mut self, alloc: Global, label: i64, value: &T) -> Result<()>
-        ensures ok { OnOk result (AddsField label (option_map Some (T.image value.now)) self.old self.new) }
+        ensures ok { OnOk result
+            (AddsField label (option_map Some (T.image value.now)) self.old self.new) }
         ensures refused { IfErr result (HasNoImage (T.image value.now)) }
     {
         let count = match self.count.checked_add(1) {
             Some(count) => count,
             None => return Err(CoseError::OutOfMemory),
         };
-        label.encode(alloc, &mut self.text)?;
-        value.encode(alloc, &mut self.text)?;
+        label.encode(alloc, &mut self.encoded)?;
+        value.encode(alloc, &mut self.encoded)?;
         self.count = count;
         Ok(())
     }
@@ -55,8 +55,11 @@ impl MapText {
         label: i64,
         value: &Option<T>,
     ) -> Result<()>
-        ensures ok { OnOk result (AddsField label (held_image (is_some value.now) (present_image T.image value.now)) self.old self.new) }
-        ensures refused { IfErr result (λ e. Names e (λ f. (f ≡ DuplicateMapKey) × (held_image (is_some value.now) (present_image T.image value.now) ≡ None))) }
+        ensures ok { OnOk result
+            (AddsField label (field_shape_image (is_some value.now)
+            (present_image T.image value.now)) self.old self.new) }
+        ensures refused { IfErr result
+            (HasNoImage (field_shape_image (is_some value.now) (present_image T.image value.now))) }
     {
         match value {
             Some(value) => self.field(alloc, label, value),
@@ -66,23 +69,27 @@ impl MapText {
 
     /// Appends one more pair.
     fn pair<L: Encode>(&mut self, alloc: Global, label: &L, value: &Value) -> Result<()>
-        ensures ok { OnOk result (AddsAll (named_image L.image ((label.now, view value.now) ∷ [])) self.old self.new) }
+        ensures ok { OnOk result
+            (AddsAll (named_image L.image ((label.now, view value.now) ∷ [])) self.old self.new) }
         ensures refused { IfErr result (HasNoImage (L.image label.now)) }
     {
         let count = match self.count.checked_add(1) {
             Some(count) => count,
             None => return Err(CoseError::OutOfMemory),
         };
-        label.encode(alloc, &mut self.text)?;
-        value.encode(alloc, &mut self.text)?;
+        label.encode(alloc, &mut self.encoded)?;
+        value.encode(alloc, &mut self.encoded)?;
         self.count = count;
         Ok(())
     }
 
     /// Appends the pairs of the rest.
     pub fn rest<L: Encode>(&mut self, alloc: Global, rest: &[(L, Value)]) -> Result<()>
-        ensures ok { OnOk result (AddsAll (named_image L.image (map (λ e. (e.0, view e.1)) rest.now)) self.old self.new) }
-        ensures refused { IfErr result (λ e. Names e (λ f. (f ≡ DuplicateMapKey) × (named_image L.image (map (λ e. (e.0, view e.1)) rest.now) ≡ None))) }
+        ensures ok { OnOk result
+            (AddsAll (named_image L.image (map (λ e. (e.0, view e.1)) rest.now)) self.old
+            self.new) }
+        ensures refused { IfErr result
+            (HasNoImage (named_image L.image (map (λ e. (e.0, view e.1)) rest.now))) }
     {
         for (label, value) in rest {
             self.pair(alloc, label, value)?;
@@ -92,11 +99,12 @@ impl MapText {
 
     /// Appends the map of these pairs.
     pub fn finish(self, out: &mut Vec<u8>) -> Result<()>
-        ensures ok { OnOk result ((ps : Pairs) → HoldsPairs self ps → AppendsItem out.old.items out.new.items (dict ps)) }
+        ensures ok { OnOk result ((ps : Pairs) → HoldsPairs self ps
+            → AppendsItem out.old.items out.new.items (dict ps)) }
         ensures refused { IfErr result (λ e. e ≡ OutOfMemory) }
     {
         write_map_head(self.count, out)?;
-        out.extend_from_slice(&self.text)?;
+        out.extend_from_slice(&self.encoded)?;
         Ok(())
     }
 }

@@ -84,7 +84,8 @@ fn tree_ones(value: Value) -> Result<(bool, InputItems)>
 
 /// Whether the members that are still to come begin with a byte string, or else with an array.
 fn lent_is_one(places: Places, cursor: Cursor<'_>) -> Result<bool>
-    ensures { (vs : Items) (a : List ℕ) → lent_within places vs (left cursor.entry) a → BeginsSo vs result }
+    ensures { (vs : Items) (a : List ℕ) → lent_within places vs (left cursor.entry) a
+        → BeginsSo vs result }
 {
     let mut places = places;
     let mut cursor = cursor;
@@ -125,7 +126,8 @@ impl<'a> Input<'a> {
     /// None where an item stands there.
     pub fn take(&mut self) -> Result<Source<'a>>
         ensures shrinks { still (state self.new) ≤ still (state self.old) }
-        ensures passes { (v : Item) (z : State) → Stands v (state self.old) z → (state self.new ≡ z) × IsOkAnd result (λ s. source_item s ≡ v) }
+        ensures passes { (v : Item) (z : State) → Stands v (state self.old) z → (state self.new ≡ z)
+            × IsOkAnd result (λ s. source_item s ≡ v) }
     {
         match self {
             Input::Tree(value) => Ok(Source::Tree(mem::replace(value, Value::Null))),
@@ -154,7 +156,8 @@ impl<'a> Input<'a> {
         ensures shrinks { still (state self.new) ≤ still (state self.old) }
         ensures strictly { OnOk result (GoesBehind (state self.old) (state self.new)) }
         ensures deeper { IfOk result (λ m. items_size m (state self.new) < size (state self.old)) }
-        ensures enters { (v : Item) (z : State) → Stands v (state self.old) z → EntersArray want.now v (state self.new) z result }
+        ensures enters { (v : Item) (z : State) → Stands v (state self.old) z
+            → EntersArray want.now v (state self.new) z result }
     {
         match self {
             Input::Tree(value) => tree_members(mem::replace(value, Value::Null), want),
@@ -172,8 +175,10 @@ impl<'a> Input<'a> {
     /// `UnexpectedItem`: the item is another; it is passed.
     pub fn enter_ones(&mut self) -> Result<(bool, InputItems)>
         ensures shrinks { still (state self.new) ≤ still (state self.old) }
-        ensures deeper { IfOk result (λ x. items_size x.1 (state self.new) < size (state self.old)) }
-        ensures enters { (v : Item) (z : State) → Stands v (state self.old) z → EntersOnes v (state self.new) z result }
+        ensures deeper { IfOk result (λ x. items_size x.1 (state self.new) < size
+            (state self.old)) }
+        ensures enters { (v : Item) (z : State) → Stands v (state self.old) z
+            → EntersOnes v (state self.new) z result }
     {
         match self {
             Input::Tree(value) => tree_ones(mem::replace(value, Value::Null)),
@@ -200,7 +205,8 @@ impl<'a> Input<'a> {
         ensures shrinks { still (state self.new) ≤ still (state self.old) }
         ensures strictly { OnOk result (GoesBehind (state self.old) (state self.new)) }
         ensures deeper { IfOk result (λ m. pairs_size m (state self.new) < size (state self.old)) }
-        ensures enters { (v : Item) (z : State) → Stands v (state self.old) z → EntersMap v (state self.new) z result }
+        ensures enters { (v : Item) (z : State) → Stands v (state self.old) z
+            → EntersMap v (state self.new) z result }
     {
         match self {
             Input::Tree(value) => tree_pairs(mem::replace(value, Value::Null)),
@@ -216,10 +222,14 @@ impl InputItems {
     /// Whether one more member stands at the input, which is to be read next. It takes no memory.
     pub fn next(&mut self, input: &mut Input<'_>) -> bool
         ensures shrinks { still (state input.new) ≤ still (state input.old) }
-        ensures size { items_size self.new (state input.new) ≤ items_size self.old (state input.old) }
-        ensures member { IsTrue result → size (state input.new) ≤ items_size self.old (state input.old) }
-        ensures turns { IsTrue result → (t : State) → GoesBehind (state input.new) t → items_turns self.new t < items_turns self.old (state input.old) }
-        ensures nexts { (vs : Items) (z : State) → AreWithin self.old vs (state input.old) z → Nexts vs (state input.new) z self.new result }
+        ensures size { items_size self.new (state input.new) ≤ items_size self.old
+            (state input.old) }
+        ensures member { IsTrue result → size (state input.new) ≤ items_size self.old
+            (state input.old) }
+        ensures turns { IsTrue result → (t : State) → GoesBehind (state input.new) t
+            → items_turns self.new t < items_turns self.old (state input.old) }
+        ensures nexts { (vs : Items) (z : State) → AreWithin self.old vs (state input.old) z
+            → Nexts vs (state input.new) z self.new result }
     {
         match self {
             InputItems::Tree(members) => match members.next() {
@@ -242,8 +252,10 @@ impl InputItems {
     /// None where the members of an array stand there.
     pub fn take<'a>(&mut self, input: &mut Input<'a>) -> Result<Option<Source<'a>>>
         ensures shrinks { still (state input.new) ≤ still (state input.old) }
-        ensures size { items_size self.new (state input.new) ≤ items_size self.old (state input.old) }
-        ensures takes { (vs : Items) (z : State) → AreWithin self.old vs (state input.old) z → TakesNext vs (state input.new) z self.new result }
+        ensures size { items_size self.new (state input.new) ≤ items_size self.old
+            (state input.old) }
+        ensures takes { (vs : Items) (z : State) → AreWithin self.old vs (state input.old) z
+            → TakesNext vs (state input.new) z self.new result }
     {
         if !self.next(input) {
             return Ok(None);
@@ -254,7 +266,8 @@ impl InputItems {
     /// Passes the members that are left. It takes no memory.
     pub fn finish(self, input: &mut Input<'_>)
         ensures shrinks { still (state input.new) ≤ still (state input.old) }
-        ensures passes { (vs : Items) (z : State) → AreWithin self vs (state input.old) z → state input.new ≡ z }
+        ensures passes { (vs : Items) (z : State) → AreWithin self vs (state input.old) z
+            → state input.new ≡ z }
     {
         match self {
             InputItems::Tree(_) => {}
@@ -269,8 +282,10 @@ impl InputItems {
 /// The next key of a map in bytes, whose value is then at the place.
 fn lent_key<'a>(places: &mut Places, cursor: &mut Cursor<'a>) -> Result<Option<Source<'a>>>
     ensures shrinks { length (left cursor.new) ≤ length (left cursor.old) }
-    ensures strictly { IfOk result (λ o. IsSome o → length (left cursor.new) < length (left cursor.old)) }
-    ensures nexts { (ps : Pairs) (a : List ℕ) → lent_within places.old (flat ps) (left cursor.old) a → LentKey ps (left cursor.new) a places.new result }
+    ensures strictly { IfOk result (λ o. IsSome o → length (left cursor.new) < length
+        (left cursor.old)) }
+    ensures nexts { (ps : Pairs) (a : List ℕ) → lent_within places.old (flat ps) (left cursor.old) a
+        → LentKey ps (left cursor.new) a places.new result }
 {
     if !places.next(cursor) {
         return Ok(None);
@@ -288,10 +303,14 @@ impl InputPairs {
     /// None where the pairs of a map stand there.
     pub fn next_key<'a>(&mut self, input: &mut Input<'a>) -> Result<Option<Source<'a>>>
         ensures shrinks { still (state input.new) ≤ still (state input.old) }
-        ensures size { pairs_size self.new (state input.new) ≤ pairs_size self.old (state input.old) }
-        ensures value { IfOk result (λ o. IsSome o → size (state input.new) ≤ pairs_size self.old (state input.old)) }
-        ensures turns { IfOk result (λ o. IsSome o → pairs_turns self.new (state input.new) < pairs_turns self.old (state input.old)) }
-        ensures nexts { (ps : Pairs) (z : State) → PairsWithin self.old ps (state input.old) z → NextsKey ps (state input.new) z self.new result }
+        ensures size { pairs_size self.new (state input.new) ≤ pairs_size self.old
+            (state input.old) }
+        ensures value { IfOk result (λ o. IsSome o → size (state input.new) ≤ pairs_size self.old
+            (state input.old)) }
+        ensures turns { IfOk result (λ o. IsSome o → pairs_turns self.new (state input.new) <
+            pairs_turns self.old (state input.old)) }
+        ensures nexts { (ps : Pairs) (z : State) → PairsWithin self.old ps (state input.old) z
+            → NextsKey ps (state input.new) z self.new result }
     {
         match self {
             InputPairs::Tree(pairs) => match pairs.next() {
@@ -311,7 +330,8 @@ impl InputPairs {
     /// Passes the pairs that are left. It takes no memory.
     pub fn finish(self, input: &mut Input<'_>)
         ensures shrinks { still (state input.new) ≤ still (state input.old) }
-        ensures passes { (ps : Pairs) (z : State) → PairsWithin self ps (state input.old) z → state input.new ≡ z }
+        ensures passes { (ps : Pairs) (z : State) → PairsWithin self ps (state input.old) z
+            → state input.new ≡ z }
     {
         match self {
             InputPairs::Tree(_) => {}

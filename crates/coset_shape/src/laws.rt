@@ -17,7 +17,8 @@ pub fn one_value<T: AsCborValue>()
 
 /// Two spellings of one item describe the same value, or neither describes any.
 pub fn spellings_agree<T: AsCborValue>()
-    ensures { (s t : List ℕ) (v : Item) (x : T.Seen) → IsItem s v → IsItem t v → Describes T.shape s x → Describes T.shape t x }
+    ensures { (s t : List ℕ) (v : Item) (x : T.Seen) → IsItem s v → IsItem t v
+        → Describes T.shape s x → Describes T.shape t x }
 {
     one_item();
 }

@@ -7,12 +7,13 @@ ghost use Rattle.coset_value.specs.Parts.{as_array};
 ghost use Rattle.coset_value.specs.View.{view, items_view};
 ghost use Rattle.coset_shape.specs.declared.error.CoseError.TheVariants.{DuplicateMapKey};
 ghost use Rattle.coset_shape.specs.Answers.{Reads, Images};
-ghost use Rattle.coset_shape.specs.Errors.{Names};
+ghost use Rattle.coset_shape.specs.Errors.{UnlessMemory};
 ghost use Rattle.coset_shape.specs.Kinds.{Says, kind};
 ghost use Rattle.coset_shape.specs.Lists.{LastHasNoImage};
 ghost use Rattle.coset_shape.specs.Maps.{optional, listed};
 ghost use Rattle.coset_shape.specs.Shape.{images, list_of, some_of, bstr, filled_bstr, or_nil};
 ghost use Rattle.coset_shape.specs.Sources.{source_item};
+ghost use Rattle.coset_shape.specs.Encoding.{HasNoImage};
 
 use crate::error::{CoseError, Result};
 use crate::source::Source;
@@ -23,7 +24,7 @@ use std::alloc::Global;
 /// Reads an item by its type, whichever way it is given.
 ///
 /// # Errors
-/// As of [`AsCborValue::from_cbor_value`].
+/// The same as [`AsCborValue::from_cbor_value`].
 pub fn read_source<T: FromPull>(alloc: Global, source: Source<'_>) -> Result<T>
     ensures { Reads T.shape T.seen (source_item source.entry) result }
 {
@@ -36,15 +37,17 @@ pub fn read_source<T: FromPull>(alloc: Global, source: Source<'_>) -> Result<T>
 /// Reads an array whose members are of one type, from the first on.
 ///
 /// # Errors
-/// Want of memory; `UnexpectedItem` with `want` where the item is no array; or the fault of the first member that has
+/// `OutOfMemory`; `UnexpectedItem` with `want` where the item is no array; or the fault of the first member that has
 /// one.
 pub fn read_list<T: FromPull + Drop>(
     alloc: Global,
     source: Source<'_>,
     want: &'static str,
 ) -> Result<Vec<T>>
-    ensures read { Reads (list_of T.shape) (λ all. map T.seen all.items) (source_item source.entry) result }
-    ensures says { IfErr result (λ e. as_array (source_item source.entry) ≡ None → Says (kind (source_item source.entry)) want.now e) }
+    ensures read { Reads (list_of T.shape) (λ all. map T.seen all.items)
+        (source_item source.entry) result }
+    ensures says { IfErr result (λ e. as_array (source_item source.entry) ≡ None
+        → Says (kind (source_item source.entry)) want.now e) }
 {
     let mut members = source.into_members(want)?;
     let mut all = Vec::new(alloc);
@@ -57,16 +60,19 @@ pub fn read_list<T: FromPull + Drop>(
 /// Reads such an array that isn't empty. An empty one is `UnexpectedItem` with these two texts.
 ///
 /// # Errors
-/// As of [`read_list`].
+/// The same as [`read_list`].
 pub fn read_filled_list<T: FromPull + Drop>(
     alloc: Global,
     source: Source<'_>,
     want: &'static str,
     empty: (&'static str, &'static str),
 ) -> Result<Vec<T>>
-    ensures read { Reads (some_of T.shape) (λ all. map T.seen all.items) (source_item source.entry) result }
-    ensures says { IfErr result (λ e. as_array (source_item source.entry) ≡ None → Says (kind (source_item source.entry)) want.now e) }
-    ensures empty { IfErr result (λ e. as_array (source_item source.entry) ≡ Some no_items → Names e (Says empty.entry.0.now empty.entry.1.now)) }
+    ensures read { Reads (some_of T.shape) (λ all. map T.seen all.items)
+        (source_item source.entry) result }
+    ensures says { IfErr result (λ e. as_array (source_item source.entry) ≡ None
+        → Says (kind (source_item source.entry)) want.now e) }
+    ensures empty { IfErr result (λ e. as_array (source_item source.entry) ≡ Some no_items
+        → UnlessMemory e (Says empty.entry.0.now empty.entry.1.now)) }
 {
     let all = read_list(alloc, source, want)?;
     if all.is_empty() {
@@ -78,17 +84,19 @@ pub fn read_filled_list<T: FromPull + Drop>(
 /// The array of the items that these are written as, in order.
 ///
 /// # Errors
-/// Want of memory, or `DuplicateMapKey` of the first that has no item.
+/// `OutOfMemory`, or `DuplicateMapKey` of the first that has no item.
 pub fn to_cbor_array<C: IntoIterator<Item: AsCborValue + Drop>>(
     alloc: Global,
     values: C,
 ) -> Result<Value>
 where
     C::IntoIter: Drop,
-    requires { (it : C.IntoIter) → C.into_iter_gives values it → C.IntoIter.can_next it × IsFinite (C.IntoIter.remaining it) }
-    ensures images { IfOk result (λ v. (it : C.IntoIter) × (xs : List C.Item) × C.into_iter_gives values it
+    requires { (it : C.IntoIter) → C.into_iter_gives values it → C.IntoIter.can_next it
+        × IsFinite (C.IntoIter.remaining it) }
+    ensures images { IfOk result (λ v. (it : C.IntoIter) × (xs : List C.Item)
+        × C.into_iter_gives values it
         × Drains C.IntoIter.next_gives it xs × (option_map array (images (λ x. C.Item.shape.image (C.Item.seen x)) xs) ≡ Some (view v))) }
-    ensures refused { IfErr result (λ e. Names e (λ f. (f ≡ DuplicateMapKey)
+    ensures refused { IfErr result (λ e. UnlessMemory e (λ f. (f ≡ DuplicateMapKey)
         × (it : C.IntoIter) × (xs : List C.Item) × (t : C.IntoIter) × C.into_iter_gives values it
         × Yields C.IntoIter.next_gives it xs t × LastHasNoImage C.Item (λ x. C.Item.shape.image (C.Item.seen x)) xs)) }
 {
@@ -102,7 +110,7 @@ where
 /// The array of the items that these are written as, in order.
 ///
 /// # Errors
-/// Want of memory, or `DuplicateMapKey` where one has no item.
+/// `OutOfMemory`, or `DuplicateMapKey` where one has no item.
 pub fn list_value<T: AsCborValue + Drop>(alloc: Global, values: Vec<T>) -> Result<Value>
     ensures { Images ((list_of T.shape).image (map T.seen values.items)) view result }
 {
@@ -128,7 +136,8 @@ pub fn bytes_or_nil(bytes: Option<Vec<u8>>) -> Value
 
 /// The value of a field, where these bytes are there.
 pub fn optional_bytes(bytes: Option<Vec<u8>>) -> Option<Value>
-    ensures { (optional bstr).image (option_map (λ b. b.items) bytes) ≡ Some (option_map view result) }
+    ensures { (optional bstr).image (option_map (λ b. b.items) bytes)
+        ≡ Some (option_map view result) }
 {
     match bytes {
         Some(bytes) => Some(Value::Bytes(bytes)),
@@ -150,10 +159,12 @@ pub fn filled_bytes(bytes: Vec<u8>) -> Option<Value>
 /// The value of a field, where there is something for it.
 ///
 /// # Errors
-/// As of [`AsCborValue::to_cbor_value`].
+/// The same as [`AsCborValue::to_cbor_value`].
 pub fn optional_value<T: AsCborValue>(alloc: Global, field: Option<T>) -> Result<Option<Value>>
-    ensures ok { IfOk result (λ o. (optional T.shape).image (option_map T.seen field) ≡ Some (option_map view o)) }
-    ensures refused { IfErr result (λ e. Names e (λ f. (f ≡ DuplicateMapKey) × ((optional T.shape).image (option_map T.seen field) ≡ None))) }
+    ensures ok { IfOk result (λ o. (optional T.shape).image (option_map T.seen field)
+        ≡ Some (option_map view o)) }
+    ensures refused { IfErr result
+        (HasNoImage ((optional T.shape).image (option_map T.seen field))) }
 {
     match field {
         Some(field) => Ok(Some(field.to_cbor_value(alloc)?)),

@@ -1,17 +1,18 @@
 //! Maps of labels, read pair by pair (RFC 8152, section 1.4).
 
-ghost use Rattle.std.specs.Prelude.{◌≡◌, codes, ◌⊎◌, ◌++◌, List, [], Bool, false, not, map, Some, None, option_map, IfOk, IfErr, OnOk, OnErr};
+ghost use Rattle.std.specs.Prelude.{◌≡◌, codes, ◌⊎◌, ◌++◌, List, [], false, not, map, Some, None, option_map, IfOk, IfErr, OnOk, OnErr};
 ghost use Rattle.std.specs.Map.{keys_of};
 ghost use Rattle.coset_value.specs.Item.{Item, dict};
 ghost use Rattle.coset_value.specs.Parts.{as_map};
 ghost use Rattle.coset_value.specs.View.{view, pairs_view};
 ghost use Rattle.coset_shape.specs.declared.error.CoseError.TheVariants.{OutOfMemory, DuplicateMapKey};
 ghost use Rattle.coset_shape.specs.Answers.{Images};
-ghost use Rattle.coset_shape.specs.Errors.{Names as Tells};
+ghost use Rattle.coset_shape.specs.Errors.{UnlessMemory};
 ghost use Rattle.coset_shape.specs.Kinds.{Says, kind};
 ghost use Rattle.coset_shape.specs.Maps.{Names, Fields, TakesKey, RefusesKey, are_distinct, labelled, named_image, put_fields, Appends};
 ghost use Rattle.coset_shape.specs.MapLaws.{LawfulNames, LawfulFields};
 ghost use Rattle.coset_shape.specs.Sources.{source_item};
+ghost use Rattle.coset_shape.specs.Encoding.{HasNoImage};
 
 use crate::error::{CoseError, Result};
 use crate::source::Source;
@@ -41,16 +42,20 @@ pub trait Gather: Sized {
     /// `OutOfMemory`; a fault of the key; `DuplicateMapKey` where a field has a value already; or a fault of its value.
     /// What was gathered is then as before.
     fn add(&mut self, alloc: Global, key: Source<'_>, value: Source<'_>) -> Result<()>
-        ensures takes { OnOk result (TakesKey names fields (source_item key.entry) (source_item value.entry) (seen self.old) (seen self.new)) }
-        ensures refused { IfErr result (λ e. Tells e (RefusesKey names fields (source_item key.entry) (source_item value.entry) (seen self.old))) }
+        ensures takes { OnOk result (TakesKey names fields (source_item key.entry)
+            (source_item value.entry) (seen self.old) (seen self.new)) }
+        ensures refused { IfErr result (λ e. UnlessMemory e
+            (RefusesKey names fields (source_item key.entry) (source_item value.entry)
+            (seen self.old))) }
         ensures kept { OnErr result (seen self.new ≡ seen self.old) };
 
     /// Whether a label of the rest stands twice.
     ///
     /// # Errors
-    /// Want of memory alone.
+    /// `OutOfMemory` alone.
     fn repeats(&self, alloc: Global) -> Result<bool>
-        ensures repeats { IfOk result (λ b. b ≡ not (are_distinct names.same (keys_of (seen self.now).1))) }
+        ensures repeats { IfOk result (λ b. b
+            ≡ not (are_distinct names.same (keys_of (seen self.now).1))) }
         ensures memory { IfErr result (λ e. e ≡ OutOfMemory) };
 
     ghost lawful_names: { LawfulNames Name names };
@@ -61,7 +66,7 @@ pub trait Gather: Sized {
 /// The error to answer after some pairs were taken and the next one refused: a label that repeats among those taken
 /// comes first.
 fn first_error<G: Gather>(alloc: Global, so_far: &G, error: CoseError) -> CoseError
-    ensures { Tells result (λ e. ((e ≡ error) × (error ≡ OutOfMemory → ⊥))
+    ensures { UnlessMemory result (λ e. ((e ≡ error) × (error ≡ OutOfMemory → ⊥))
         ⊎ ((e ≡ DuplicateMapKey) × (are_distinct G.names.same (keys_of (G.seen so_far.now).1) ≡ false))) }
 {
     match so_far.repeats(alloc) {
@@ -79,9 +84,12 @@ fn first_error<G: Gather>(alloc: Global, so_far: &G, error: CoseError) -> CoseEr
 pub fn read_map<G: Gather>(alloc: Global, source: Source<'_>, so_far: &mut G) -> Result<()>
     requires fields { G.fields.describes [] (G.seen so_far.old).0 }
     requires rest { (G.seen so_far.old).1 ≡ [] }
-    ensures read { OnOk result ((labelled G.names G.fields).describes (source_item source.entry) (G.seen so_far.new)) }
-    ensures refused { IfErr result (λ e. Tells e ((labelled G.names G.fields).faults (source_item source.entry))) }
-    ensures says { IfErr result (λ e. as_map (source_item source.entry) ≡ None → Says (kind (source_item source.entry)) (codes "map") e) }
+    ensures read { OnOk result ((labelled G.names G.fields).describes (source_item source.entry)
+        (G.seen so_far.new)) }
+    ensures refused { IfErr result (λ e. UnlessMemory e
+        ((labelled G.names G.fields).faults (source_item source.entry))) }
+    ensures says { IfErr result (λ e. as_map (source_item source.entry) ≡ None
+        → Says (kind (source_item source.entry)) (codes "map") e) }
 {
     let mut pairs = source.into_pairs()?;
     while let Some((key, value)) = pairs.next() {
@@ -97,8 +105,9 @@ pub fn read_map<G: Gather>(alloc: Global, source: Source<'_>, so_far: &mut G) ->
 
 /// A label with its value, as a pair.
 fn pair_value<L: AsCborValue>(alloc: Global, label: L, value: Value) -> Result<(Value, Value)>
-    ensures ok { IfOk result (λ p. (L.shape.image (L.seen label) ≡ Some (view p.0)) × (p.1 ≡ value)) }
-    ensures refused { IfErr result (λ e. Tells e (λ f. (f ≡ DuplicateMapKey) × (L.shape.image (L.seen label) ≡ None))) }
+    ensures ok { IfOk result (λ p. (L.shape.image (L.seen label) ≡ Some (view p.0))
+        × (p.1 ≡ value)) }
+    ensures refused { IfErr result (HasNoImage (L.shape.image (L.seen label))) }
 {
     Ok((label.to_cbor_value(alloc)?, value))
 }
@@ -109,9 +118,10 @@ fn push_fields<L: AsCborValue + Drop>(
     pairs: &mut Vec<(Value, Value)>,
     fields: Vec<(L, Option<Value>)>,
 ) -> Result<()>
-    ensures ok { OnOk result (Appends L.shape.image (pairs_view pairs.old.items) (pairs_view pairs.new.items)
+    ensures ok { OnOk result
+        (Appends L.shape.image (pairs_view pairs.old.items) (pairs_view pairs.new.items)
         (put_fields (map (λ f. (L.seen f.0, option_map view f.1)) fields.items))) }
-    ensures refused { IfErr result (λ e. Tells e (λ f. (f ≡ DuplicateMapKey)
+    ensures refused { IfErr result (λ e. UnlessMemory e (λ f. (f ≡ DuplicateMapKey)
         × (named_image L.shape.image (put_fields (map (λ f. (L.seen f.0, option_map view f.1)) fields.items)) ≡ None))) }
 {
     for (label, value) in fields {
@@ -128,9 +138,10 @@ fn push_rest<L: AsCborValue + Drop>(
     pairs: &mut Vec<(Value, Value)>,
     rest: Vec<(L, Value)>,
 ) -> Result<()>
-    ensures ok { OnOk result (Appends L.shape.image (pairs_view pairs.old.items) (pairs_view pairs.new.items)
+    ensures ok { OnOk result
+        (Appends L.shape.image (pairs_view pairs.old.items) (pairs_view pairs.new.items)
         (map (λ e. (L.seen e.0, view e.1)) rest.items)) }
-    ensures refused { IfErr result (λ e. Tells e (λ f. (f ≡ DuplicateMapKey)
+    ensures refused { IfErr result (λ e. UnlessMemory e (λ f. (f ≡ DuplicateMapKey)
         × (named_image L.shape.image (map (λ e. (L.seen e.0, view e.1)) rest.items) ≡ None))) }
 {
     for (label, value) in rest {
@@ -142,7 +153,7 @@ fn push_rest<L: AsCborValue + Drop>(
 /// The map of the fields that are there, in this order, and the rest behind them. Whether labels repeat isn't asked.
 ///
 /// # Errors
-/// Want of memory, or `DuplicateMapKey` where a label has no item.
+/// `OutOfMemory`, or `DuplicateMapKey` where a label has no item.
 pub fn labelled_value<L: AsCborValue + Drop>(
     alloc: Global,
     fields: Vec<(L, Option<Value>)>,

@@ -2,7 +2,7 @@
 
 ghost use Rattle.coset_value.specs.Item.{no_items};
 ghost use Rattle.coset_shape.specs.Shape.{LastMisfits};
-ghost use Rattle.coset_shape.specs.Sources.{IsMisfit, Ends, Lasts, source_item, members_left, Never, IsMore, Places, TakesSome, put_two, put_three, put_four, put_five, put_last};
+ghost use Rattle.coset_shape.specs.Sources.{IsMisfit, TakesEnd, TakesLast, source_item, members_left, Never, IsMore, TakesPlaces, TakesSome, put_two, put_three, put_four, put_five, put_last};
 
 use crate::error::{CoseError, Result};
 use crate::source::{Members, Source};
@@ -45,7 +45,7 @@ fn misfit(want: &'static str) -> CoseError
 
 /// Asks that no place is left.
 fn end(mut members: Members<'_>, want: &'static str) -> Result<()>
-    ensures { Ends want.now (members_left members.entry) result }
+    ensures { TakesEnd want.now (members_left members.entry) result }
 {
     match members.next() {
         None => Ok(()),
@@ -55,7 +55,7 @@ fn end(mut members: Members<'_>, want: &'static str) -> Result<()>
 
 /// The last place, if one is left, and asks that no other follows it.
 fn last<'a>(mut members: Members<'a>, want: &'static str) -> Result<Option<Source<'a>>>
-    ensures { Lasts want.now (members_left members.entry) result }
+    ensures { TakesLast want.now (members_left members.entry) result }
 {
     let place = members.next();
     end(members, want)?;
@@ -69,7 +69,8 @@ fn last<'a>(mut members: Members<'a>, want: &'static str) -> Result<Option<Sourc
 impl<'a> Source<'a> {
     /// Two places.
     pub fn into_two(self, want: &'static str) -> Result<(Source<'a>, Source<'a>)>
-        ensures { Places 2 IsMore want.now (λ x. put_two x no_items) (source_item self.entry) result }
+        ensures { TakesPlaces 2 IsMore want.now (λ x. put_two x no_items)
+            (source_item self.entry) result }
     {
         let mut members = self.into_members("array")?;
         let places = members.take_two().ok_or(misfit(want))?;
@@ -79,7 +80,8 @@ impl<'a> Source<'a> {
 
     /// Three places.
     pub fn into_three(self, want: &'static str) -> Result<(Source<'a>, Source<'a>, Source<'a>)>
-        ensures { Places 3 IsMore want.now (λ x. put_three x no_items) (source_item self.entry) result }
+        ensures { TakesPlaces 3 IsMore want.now (λ x. put_three x no_items)
+            (source_item self.entry) result }
     {
         let mut members = self.into_members("array")?;
         let places = members.take_three().ok_or(misfit(want))?;
@@ -92,7 +94,8 @@ impl<'a> Source<'a> {
         self,
         want: &'static str,
     ) -> Result<(Source<'a>, Source<'a>, Source<'a>, Source<'a>)>
-        ensures { Places 4 IsMore want.now (λ x. put_four x no_items) (source_item self.entry) result }
+        ensures { TakesPlaces 4 IsMore want.now (λ x. put_four x no_items)
+            (source_item self.entry) result }
     {
         let mut members = self.into_members("array")?;
         let places = members.take_four().ok_or(misfit(want))?;
@@ -105,7 +108,8 @@ impl<'a> Source<'a> {
         self,
         want: &'static str,
     ) -> Result<(Source<'a>, Source<'a>, Source<'a>, Source<'a>, Source<'a>)>
-        ensures { Places 5 IsMore want.now (λ x. put_five x no_items) (source_item self.entry) result }
+        ensures { TakesPlaces 5 IsMore want.now (λ x. put_five x no_items)
+            (source_item self.entry) result }
     {
         let mut members = self.into_members("array")?;
         let (first, second, third, fourth) = members.take_four().ok_or(misfit(want))?;
@@ -119,7 +123,8 @@ impl<'a> Source<'a> {
         self,
         want: &'static str,
     ) -> Result<(Source<'a>, Source<'a>, Option<Source<'a>>)>
-        ensures { Places 2 LastMisfits want.now (λ x. put_two (x.0, x.1) (put_last x.2)) (source_item self.entry) result }
+        ensures { TakesPlaces 2 LastMisfits want.now (λ x. put_two (x.0, x.1) (put_last x.2))
+            (source_item self.entry) result }
     {
         let mut members = self.into_members("array")?;
         let (first, second) = members.take_two().ok_or(misfit(want))?;
@@ -132,7 +137,8 @@ impl<'a> Source<'a> {
         self,
         want: &'static str,
     ) -> Result<(Source<'a>, Source<'a>, Source<'a>, Option<Source<'a>>)>
-        ensures { Places 3 LastMisfits want.now (λ x. put_three (x.0, x.1, x.2) (put_last x.3)) (source_item self.entry) result }
+        ensures { TakesPlaces 3 LastMisfits want.now (λ x. put_three (x.0, x.1, x.2) (put_last x.3))
+            (source_item self.entry) result }
     {
         let mut members = self.into_members("array")?;
         let (first, second, third) = members.take_three().ok_or(misfit(want))?;
@@ -145,7 +151,8 @@ impl<'a> Source<'a> {
         self,
         want: &'static str,
     ) -> Result<(Source<'a>, Source<'a>, Source<'a>, Source<'a>, Members<'a>)>
-        ensures { Places 4 Never want.now (λ x. put_four (x.0, x.1, x.2, x.3) (members_left x.4)) (source_item self.entry) result }
+        ensures { TakesPlaces 4 Never want.now (λ x. put_four (x.0, x.1, x.2, x.3)
+            (members_left x.4)) (source_item self.entry) result }
     {
         let mut members = self.into_members("array")?;
         let (first, second, third, fourth) = members.take_four().ok_or(misfit(want))?;

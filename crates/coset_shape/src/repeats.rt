@@ -15,7 +15,7 @@ const MAX_PAIRWISE: usize = 16;
 /// reference, so that the work grows with n log n.
 ///
 /// # Errors
-/// Want of memory alone, and only of more than 16 pairs.
+/// `OutOfMemory` alone, and only of more than 16 pairs.
 pub fn has_repeats<K: Ord, V>(alloc: Global, pairs: &[(K, V)]) -> Result<bool>
     ensures answer { IfOk result (λ b. b ≡ not (are_distinct K.eq (keys_of pairs.now))) }
     ensures memory { IfErr result (λ e. (e ≡ OutOfMemory) × (16 < length pairs.now)) }
@@ -29,7 +29,7 @@ pub fn has_repeats<K: Ord, V>(alloc: Global, pairs: &[(K, V)]) -> Result<bool>
     Ok(!keys.is_sorted_by(|a, b| a < b))
 }
 
-/// The same, where each key is compared with those after it.
+/// Whether two of the keys are equal, where each is compared with those after it.
 fn has_repeats_pairwise<K: PartialEq, V>(pairs: &[(K, V)]) -> bool
     ensures { result ≡ not (are_distinct K.eq (keys_of pairs.now)) }
 {

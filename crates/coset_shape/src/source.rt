@@ -7,8 +7,8 @@ ghost use Rattle.coset_value.specs.View.{view, items_view, pairs_view};
 ghost use Rattle.coset_cbor.specs.Pulls.{pull_item};
 ghost use Rattle.coset_shape.specs.declared.error.CoseError.TheVariants.{OutOfMemory, OutOfRangeIntegerValue};
 ghost use Rattle.coset_shape.specs.Answers.{Reads};
-ghost use Rattle.coset_shape.specs.Errors.{IsUnexpected, Names};
-ghost use Rattle.coset_shape.specs.Kinds.{Asks, Says, kind, SaysFilled};
+ghost use Rattle.coset_shape.specs.Errors.{IsUnexpected, UnlessMemory};
+ghost use Rattle.coset_shape.specs.Kinds.{TriesAs, Says, kind, SaysFilled};
 ghost use Rattle.coset_shape.specs.Shape.{bstr, filled_bstr, tstr, int64, or_nil, is_nil};
 ghost use Rattle.coset_shape.specs.Sources.{source_item, members_left, map_left, MayCopy, Copies, Takes, TakesPair};
 
@@ -49,7 +49,7 @@ pub enum MapPairs<'a> {
 
 /// The bytes of a value that is a byte string.
 fn tree_bytes(value: Value, want: &'static str) -> Result<Vec<u8>>
-    ensures { Asks as_bytes (λ b. b.items) want.now (view value) result }
+    ensures { TriesAs as_bytes (λ b. b.items) want.now (view value) result }
 {
     match value {
         Value::Bytes(bytes) => Ok(bytes),
@@ -59,7 +59,7 @@ fn tree_bytes(value: Value, want: &'static str) -> Result<Vec<u8>>
 
 /// The text of a value that is a text string.
 fn tree_text(value: Value, want: &'static str) -> Result<String>
-    ensures { Asks as_text string_bytes want.now (view value) result }
+    ensures { TriesAs as_text string_bytes want.now (view value) result }
 {
     match value {
         Value::Text(text) => Ok(text),
@@ -98,7 +98,7 @@ impl<'a> Source<'a> {
         }
     }
 
-    /// The item as a value. Want of memory is its one refusal.
+    /// The item as a value. `OutOfMemory` is its one refusal.
     pub fn into_value(self, alloc: Global) -> Result<Value>
         ensures { Copies view (source_item self.entry) result }
     {
@@ -111,7 +111,8 @@ impl<'a> Source<'a> {
     /// The bytes of a byte string.
     pub fn into_bytes(self, alloc: Global, want: &'static str) -> Result<Vec<u8>>
         ensures read { Reads bstr (λ b. b.items) (source_item self.entry) result }
-        ensures says { IfErr result (λ e. Names e (Says (kind (source_item self.entry)) want.now)) }
+        ensures says { IfErr result (λ e. UnlessMemory e
+            (Says (kind (source_item self.entry)) want.now)) }
         ensures memory { IfErr result (λ e. e ≡ OutOfMemory → MayCopy self.entry) }
     {
         match self {
@@ -126,7 +127,8 @@ impl<'a> Source<'a> {
     /// The text of a text string.
     pub fn into_text(self, alloc: Global, want: &'static str) -> Result<String>
         ensures read { Reads tstr string_bytes (source_item self.entry) result }
-        ensures says { IfErr result (λ e. Names e (Says (kind (source_item self.entry)) want.now)) }
+        ensures says { IfErr result (λ e. UnlessMemory e
+            (Says (kind (source_item self.entry)) want.now)) }
         ensures memory { IfErr result (λ e. e ≡ OutOfMemory → MayCopy self.entry) }
     {
         match self {
@@ -140,7 +142,7 @@ impl<'a> Source<'a> {
 
     /// The members of an array. It takes no memory.
     pub fn into_members(self, want: &'static str) -> Result<Members<'a>>
-        ensures { Asks as_array members_left want.now (source_item self.entry) result }
+        ensures { TriesAs as_array members_left want.now (source_item self.entry) result }
     {
         match self {
             Source::Tree(value) => match value {
@@ -156,7 +158,7 @@ impl<'a> Source<'a> {
 
     /// The pairs of a map. It takes no memory.
     pub fn into_pairs(self) -> Result<MapPairs<'a>>
-        ensures { Asks as_map map_left (codes "map") (source_item self.entry) result }
+        ensures { TriesAs as_map map_left (codes "map") (source_item self.entry) result }
     {
         match self {
             Source::Tree(value) => Ok(MapPairs::Tree(value.try_as_map()?.into_iter())),
@@ -170,7 +172,8 @@ impl<'a> Source<'a> {
     /// An integer of 64 bits with a sign; another is `OutOfRangeIntegerValue`. It takes no memory.
     pub fn into_int64(self, want: &'static str) -> Result<i64>
         ensures read { Reads int64 (λ n. n) (source_item self.entry) result }
-        ensures says { IfErr result (λ e. (e ≡ OutOfRangeIntegerValue) ⊎ Says (kind (source_item self.entry)) want.now e) }
+        ensures says { IfErr result (λ e. (e ≡ OutOfRangeIntegerValue)
+            ⊎ Says (kind (source_item self.entry)) want.now e) }
         ensures memory { IfErr result (λ e. e ≡ OutOfMemory → ⊥) }
     {
         match self.integer() {
@@ -181,8 +184,10 @@ impl<'a> Source<'a> {
 
     /// The bytes of a byte string, or `None` of null.
     pub fn into_bytes_or_nil(self, alloc: Global, want: &'static str) -> Result<Option<Vec<u8>>>
-        ensures read { Reads (or_nil bstr) (λ o. option_map (λ b. b.items) o) (source_item self.entry) result }
-        ensures says { IfErr result (λ e. Names e (Says (kind (source_item self.entry)) want.now)) }
+        ensures read { Reads (or_nil bstr) (λ o. option_map (λ b. b.items) o)
+            (source_item self.entry) result }
+        ensures says { IfErr result (λ e. UnlessMemory e
+            (Says (kind (source_item self.entry)) want.now)) }
     {
         if self.is_null() {
             return Ok(None);
@@ -193,7 +198,7 @@ impl<'a> Source<'a> {
     /// The bytes of a byte string that isn't empty.
     pub fn into_filled_bytes(self, alloc: Global) -> Result<Vec<u8>>
         ensures read { Reads filled_bstr (λ b. b.items) (source_item self.entry) result }
-        ensures says { IfErr result (λ e. Names e (SaysFilled (source_item self.entry))) }
+        ensures says { IfErr result (λ e. UnlessMemory e (SaysFilled (source_item self.entry))) }
     {
         let bytes = self.into_bytes(alloc, "bstr")?;
         if bytes.is_empty() {

@@ -4,11 +4,9 @@ ghost use Rattle.std.specs.Prelude.{◌≡◌, ℕ, IfErr};
 ghost use Rattle.coset_cbor.specs.Item.{Item};
 ghost use Rattle.coset_cbor.specs.View.{view};
 ghost use Rattle.coset_cbor.specs.Pulls.{pull_item};
-ghost use Rattle.coset_cbor.specs.Grammar.{IsItem};
 ghost use Rattle.coset_shape.specs.declared.error.CoseError.{CoseError};
 ghost use Rattle.coset_shape.specs.declared.error.CoseError.TheVariants.{OutOfMemory};
-ghost use Rattle.coset_shape.specs.Answers.{Reads, Images, Writes, ReadsSlice, ReadsWhole, Untags, DescribesNothing, AsksForItems};
-ghost use Rattle.coset_shape.specs.Errors.{Names};
+ghost use Rattle.coset_shape.specs.Answers.{Reads, Images, Writes, ReadsSlice, ReadsWhole, Untags, AllocatesForItems, RefusesSlice};
 ghost use Rattle.coset_shape.specs.Shape.{Shape, any, tagged};
 
 use crate::error::{CoseError, Result};
@@ -36,14 +34,14 @@ pub trait AsCborValue: Sized {
     /// Reads a value from an item.
     ///
     /// # Errors
-    /// Want of memory, or a fault that stands in the item; the item then describes no value.
+    /// `OutOfMemory`, or a fault that stands in the item; the item then describes no value.
     fn from_cbor_value(alloc: Global, value: Value) -> Result<Self>
         ensures { Reads shape seen (view value) result };
 
     /// Makes the item that the value is written as.
     ///
     /// # Errors
-    /// Want of memory, or `DuplicateMapKey`, only where the value has no such item.
+    /// `OutOfMemory`, or `DuplicateMapKey`, only where the value has no such item.
     fn to_cbor_value(self, alloc: Global) -> Result<Value>
         ensures { Images (shape.image (seen self)) view result };
 
@@ -58,7 +56,7 @@ pub trait AsCborValue: Sized {
 ///
 /// # Errors
 /// Why they aren't one item within 256 levels (`DecodeFailed`), or that others follow it (`ExtraneousData`).
-pub fn whole(s: &[u8]) -> Result<Pull<'_>>
+pub fn whole_item(s: &[u8]) -> Result<Pull<'_>>
     ensures whole { ReadsWhole pull_item s.now result }
     ensures memory { IfErr result (λ e. e ≡ OutOfMemory → ⊥) }
 {
@@ -73,18 +71,18 @@ pub fn whole(s: &[u8]) -> Result<Pull<'_>>
 /// The one item that the bytes are.
 fn whole_value(alloc: Global, s: &[u8]) -> Result<Value>
     ensures whole { ReadsWhole view s.now result }
-    ensures memory { AsksForItems s.now result }
+    ensures memory { AllocatesForItems s.now result }
 {
-    Ok(whole(s)?.to_value(alloc)?)
+    Ok(whole_item(s)?.to_value(alloc)?)
 }
 
-/// The shortest text of an item (RFC 8949, section 4.2.1).
-fn text_of(alloc: Global, value: &Value) -> Result<Vec<u8>>
+/// The shortest encoding of an item (RFC 8949, section 4.2.1).
+fn encoding_of(alloc: Global, value: &Value) -> Result<Vec<u8>>
     ensures { Writes (Some (view value.now)) (λ b. b.items) result }
 {
-    let mut text = Vec::new(alloc);
-    write_value(value, &mut text)?;
-    Ok(text)
+    let mut encoded = Vec::new(alloc);
+    write_value(value, &mut encoded)?;
+    Ok(encoded)
 }
 
 /// Reading from bytes, and writing to them.
@@ -92,24 +90,24 @@ pub trait CborSerializable: AsCborValue {
     /// Reads a value from the one item that the bytes are.
     ///
     /// # Errors
-    /// Want of memory, or the first fault found: the bytes aren't an item within 256 levels (`DecodeFailed`), others
+    /// `OutOfMemory`, or the first fault found: the bytes aren't an item within 256 levels (`DecodeFailed`), others
     /// follow it (`ExtraneousData`), or a fault of the type stands in it. The bytes then describe no value.
     fn from_slice(alloc: Global, s: &[u8]) -> Result<Self>
         ensures read { ReadsSlice Self.shape Self.seen s.now result }
-        ensures refused { IfErr result (λ e. Names e (λ _. DescribesNothing Self.shape s.now)) }
+        ensures refused { RefusesSlice Self.shape s.now result }
     {
         Self::from_cbor_value(alloc, whole_value(alloc, s)?)
     }
 
-    /// Writes the value as the shortest text of its item (RFC 8949, section 4.2.1).
+    /// Writes the value as the shortest encoding of its item (RFC 8949, section 4.2.1).
     ///
     /// # Errors
-    /// Want of memory, or `DuplicateMapKey`, only where the value has no item.
+    /// `OutOfMemory`, or `DuplicateMapKey`, only where the value has no item.
     fn to_vec(self, alloc: Global) -> Result<Vec<u8>>
         ensures { Writes (Self.shape.image (Self.seen self)) (λ b. b.items) result }
     {
         let value = self.to_cbor_value(alloc)?;
-        text_of(alloc, &value)
+        encoding_of(alloc, &value)
     }
 }
 
@@ -123,10 +121,10 @@ pub trait TaggedCborSerializable: AsCborValue {
     /// Reads a value from the one item that the bytes are, a tag of this number on the item of the value.
     ///
     /// # Errors
-    /// As of [`CborSerializable::from_slice`]; an item without a tag, or with another, is `UnexpectedItem`.
+    /// The same as [`CborSerializable::from_slice`]; an item without a tag, or with another, is `UnexpectedItem`.
     fn from_tagged_slice(alloc: Global, s: &[u8]) -> Result<Self>
         ensures read { ReadsSlice (tagged TAG Self.shape) Self.seen s.now result }
-        ensures refused { IfErr result (λ e. Names e (λ _. DescribesNothing (tagged TAG Self.shape) s.now)) }
+        ensures refused { RefusesSlice (tagged TAG Self.shape) s.now result }
     {
         let (number, value) = whole_value(alloc, s)?.try_as_tag()?;
         if number != Self::TAG {
@@ -135,15 +133,15 @@ pub trait TaggedCborSerializable: AsCborValue {
         Self::from_cbor_value(alloc, Box::into_inner(value))
     }
 
-    /// Writes the value as the shortest text of its item under the tag (RFC 8949, section 4.2.1).
+    /// Writes the value as the shortest encoding of its item under the tag (RFC 8949, section 4.2.1).
     ///
     /// # Errors
-    /// As of [`CborSerializable::to_vec`].
+    /// The same as [`CborSerializable::to_vec`].
     fn to_tagged_vec(self, alloc: Global) -> Result<Vec<u8>>
         ensures { Writes ((tagged TAG Self.shape).image (Self.seen self)) (λ b. b.items) result }
     {
         let value = self.to_cbor_value(alloc)?;
-        text_of(alloc, &Value::Tag(Self::TAG, Box::new(alloc, value)?))
+        encoding_of(alloc, &Value::Tag(Self::TAG, Box::new(alloc, value)?))
     }
 }
 
@@ -177,7 +175,7 @@ pub trait FromPull: AsCborValue {
     /// Reads a value from a lent item.
     ///
     /// # Errors
-    /// As of [`AsCborValue::from_cbor_value`].
+    /// The same as [`AsCborValue::from_cbor_value`].
     fn from_pull(alloc: Global, pull: Pull<'_>) -> Result<Self>
         ensures { Reads Self.shape Self.seen (pull_item pull.entry) result };
 }
@@ -192,17 +190,17 @@ impl FromPull for Value {
 /// [`CborSerializable::from_slice`].
 ///
 /// # Errors
-/// As of [`CborSerializable::from_slice`]; and bytes that aren't one item are refused without asking for memory.
+/// The same as [`CborSerializable::from_slice`]; and bytes that aren't one item are refused without asking for memory.
 pub fn read_slice<T: FromPull>(alloc: Global, s: &[u8]) -> Result<T>
     ensures read { ReadsSlice T.shape T.seen s.now result }
-    ensures refused { IfErr result (λ e. Names e (λ _. DescribesNothing T.shape s.now)) }
-    ensures memory { AsksForItems s.now result }
+    ensures refused { RefusesSlice T.shape s.now result }
+    ensures memory { AllocatesForItems s.now result }
 {
-    T::from_pull(alloc, whole(s)?)
+    T::from_pull(alloc, whole_item(s)?)
 }
 
 /// The item under the tag of that number.
-fn untagged(number: u64, pull: Pull<'_>) -> Result<Pull<'_>>
+fn item_under_tag(number: u64, pull: Pull<'_>) -> Result<Pull<'_>>
     ensures { Untags number (pull_item pull.entry) (λ p. pull_item p) result }
 {
     match pull.tag() {
@@ -216,12 +214,12 @@ fn untagged(number: u64, pull: Pull<'_>) -> Result<Pull<'_>>
 /// answers are those of [`TaggedCborSerializable::from_tagged_slice`].
 ///
 /// # Errors
-/// As of [`TaggedCborSerializable::from_tagged_slice`]; and bytes that aren't one item are refused without asking for
-/// memory.
+/// The same as [`TaggedCborSerializable::from_tagged_slice`]; and bytes that aren't one item are refused without asking
+/// for memory.
 pub fn read_tagged_slice<T: FromPull>(alloc: Global, number: u64, s: &[u8]) -> Result<T>
     ensures read { ReadsSlice (tagged number T.shape) T.seen s.now result }
-    ensures refused { IfErr result (λ e. Names e (λ _. DescribesNothing (tagged number T.shape) s.now)) }
-    ensures memory { AsksForItems s.now result }
+    ensures refused { RefusesSlice (tagged number T.shape) s.now result }
+    ensures memory { AllocatesForItems s.now result }
 {
-    T::from_pull(alloc, untagged(number, whole(s)?)?)
+    T::from_pull(alloc, item_under_tag(number, whole_item(s)?)?)
 }

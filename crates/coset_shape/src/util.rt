@@ -10,7 +10,7 @@ ghost use Rattle.coset_shape.specs.declared.error.CoseError.{CoseError};
 ghost use Rattle.coset_shape.specs.declared.error.CoseError.TheVariants.{OutOfMemory};
 ghost use Rattle.coset_shape.specs.Errors.{IsUnexpected};
 ghost use Rattle.coset_shape.specs.Lists.{EachWith, RefusesMember, RefusesArray};
-ghost use Rattle.coset_shape.specs.Kinds.{kind, Says, Asks, AsksFilled};
+ghost use Rattle.coset_shape.specs.Kinds.{kind, Says, TriesAs, TriesAsFilled};
 
 use crate::error::{CallError, CoseError, Result};
 use coset_cbor::de::Pull;
@@ -43,7 +43,8 @@ pub(crate) fn type_error(value: &Value, want: &'static str) -> CoseError
 
 /// The refusal of a value of another kind than was asked for: `UnexpectedItem` with the name of its kind, and `want`.
 pub fn cbor_type_error<T>(value: &Value, want: &'static str) -> Result<T>
-    ensures { MatchResult result (λ _. ⊥) (λ e. IsUnexpected e × Says (kind (view value.now)) want.now e) }
+    ensures { MatchResult result (λ _. ⊥) (λ e. IsUnexpected e
+        × Says (kind (view value.now)) want.now e) }
 {
     Err(type_error(value, want))
 }
@@ -73,7 +74,7 @@ fn pull_kind_name(pull: Pull<'_>) -> &'static str
     }
 }
 
-/// The same error of a lent item.
+/// The error that tells of a lent item of another kind than `want`.
 pub(crate) fn pull_type_error(pull: Pull<'_>, want: &'static str) -> CoseError
     ensures { IsUnexpected result × Says (kind (pull_item pull.entry)) want.now result }
 {
@@ -91,45 +92,47 @@ pub trait ValueTryAs: Sized {
 
     /// The integer.
     fn try_as_integer(self) -> Result<Integer>
-        ensures { Asks as_integer (λ n. n) (codes "int") (item self) result };
+        ensures { TriesAs as_integer (λ n. n) (codes "int") (item self) result };
 
     /// The bytes of a byte string.
     fn try_as_bytes(self) -> Result<Vec<u8>>
-        ensures { Asks as_bytes (λ b. b.items) (codes "bstr") (item self) result };
+        ensures { TriesAs as_bytes (λ b. b.items) (codes "bstr") (item self) result };
 
     /// The bytes of a byte string that isn't empty; an empty one is `UnexpectedItem` too.
     fn try_as_nonempty_bytes(self) -> Result<Vec<u8>>
-        ensures { AsksFilled (λ b. b.items) (item self) result };
+        ensures { TriesAsFilled (λ b. b.items) (item self) result };
 
     /// The members of an array.
     fn try_as_array(self) -> Result<Vec<Value>>
-        ensures { Asks as_array (λ a. items_view a.items) (codes "array") (item self) result };
+        ensures { TriesAs as_array (λ a. items_view a.items) (codes "array") (item self) result };
 
     /// The pairs of a map.
     fn try_as_map(self) -> Result<Vec<(Value, Value)>>
-        ensures { Asks as_map (λ m. pairs_view m.items) (codes "map") (item self) result };
+        ensures { TriesAs as_map (λ m. pairs_view m.items) (codes "map") (item self) result };
 
     /// The number of a tag, and the value that it encloses.
     fn try_as_tag(self) -> Result<(u64, Box<Value>)>
-        ensures { Asks as_tag (λ t. (t.0, view t.1.value)) (codes "tag") (item self) result };
+        ensures { TriesAs as_tag (λ t. (t.0, view t.1.value)) (codes "tag") (item self) result };
 
     /// The text of a text string.
     fn try_as_string(self) -> Result<String>
-        ensures { Asks as_text string_bytes (codes "tstr") (item self) result };
+        ensures { TriesAs as_text string_bytes (codes "tstr") (item self) result };
 
     /// What `f` makes of the members of an array, in order.
     ///
     /// # Errors
-    /// `Coset`: as of the others, or want of memory. `Caller`: the first error that `f` answers.
+    /// `Coset`: the same as of the other calls, or `OutOfMemory`. `Caller`: the first error that `f` answers.
     fn try_as_array_then_convert<F, T, E>(self, alloc: Global, f: F) -> Result<Vec<T>, CallError<E>>
     where
         F: Fn(Value) -> Result<T, E> + Drop,
         T: Drop,
         E: Drop,
         requires { F.IsAlwaysCallable f }
-        ensures converted { IfOk result (λ all. (vs : List Value) × (as_array (item self) ≡ Some (items_view vs))
+        ensures converted { IfOk result (λ all. (vs : List Value)
+            × (as_array (item self) ≡ Some (items_view vs))
             × EachWith (λ v t. F.post f v (Ok t)) vs all.items) }
-        ensures refused { IfErr result (RefusesArray (λ v t. F.post f v (Ok t)) (λ v e. F.post f v (Err e)) (item self)) };
+        ensures refused { IfErr result
+            (RefusesArray (λ v t. F.post f v (Ok t)) (λ v e. F.post f v (Err e)) (item self)) };
 }
 
 /// What `f` makes of each of the values, in order.
@@ -139,8 +142,10 @@ where
     T: Drop,
     E: Drop,
     requires { F.IsAlwaysCallable f }
-    ensures converted { IfOk result (λ all. EachWith (λ v t. F.post f v (Ok t)) values.items all.items) }
-    ensures refused { IfErr result (RefusesMember (λ v t. F.post f v (Ok t)) (λ v e. F.post f v (Err e)) values.items) }
+    ensures converted { IfOk result (λ all. EachWith (λ v t. F.post f v (Ok t)) values.items
+        all.items) }
+    ensures refused { IfErr result
+        (RefusesMember (λ v t. F.post f v (Ok t)) (λ v e. F.post f v (Err e)) values.items) }
 {
     let mut all = Vec::new(alloc);
     for value in values {
@@ -224,7 +229,7 @@ impl ValueTryAs for Value {
 /// A copy of bytes.
 ///
 /// # Errors
-/// Want of memory alone.
+/// `OutOfMemory` alone.
 pub fn copy_bytes(bytes: &Vec<u8>) -> Result<Vec<u8>>
     ensures copy { IfOk result (λ b. b.items ≡ bytes.now.items) }
     ensures memory { IfErr result (λ e. e ≡ OutOfMemory) }

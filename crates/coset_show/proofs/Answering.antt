@@ -7,7 +7,7 @@ use Rattle.coset_show.specs.declared.kind.Kind.TheVariants.{Value, Sign1}
 use Rattle.coset_show.specs.declared.refusal.Refusal.{Refusal}
 use Rattle.coset_show.specs.Refusal.{no_memory}
 use Rattle.coset_show.specs.Kind.{kind_name}
-use Rattle.coset_show.specs.Answer.{RefusesInput, Answers, refusal_line}
+use Rattle.coset_show.specs.Answer.{RefusesInput, AnswersInput, refusal_line}
 
 -- names are told apart by their sums
 abbrev named : List ℕ → Kind
@@ -23,12 +23,12 @@ kind_of_name k j e = sym (named_again k) ∙ ap named e ∙ named_again j
 
 -- the line of a true refusal answers the input
 pub refusal_answers : (known before after : Option (List ℕ)) (k j : Kind) (refusal : Refusal) (lines : List ℕ) (status : ℕ) → k ≡ j → lines ≡ refusal_line refusal → Appends before after lines × (status ≡ 1)
-    → IfSome known (λ input. RefusesInput j input refusal) → IfSome known (λ input. (x : List ℕ) × Appends before after x × Answers k input x status)
+    → IfSome known (λ input. RefusesInput j input refusal) → IfSome known (λ input. (x : List ℕ) × Appends before after x × AnswersInput k input x status)
 refusal_answers None before after k j refusal lines status same is put refused = tt
 refusal_answers (Some input) before after k j refusal lines status same is put refused =
     (lines, put.0, inr (refusal, subst (λ i. RefusesInput i input refusal) (sym same) refused, is, put.1))
 
--- want of memory refuses any input
+-- out of memory refuses any input
 pub memory_refuses : (known : Option (List ℕ)) (k : Kind) → IfSome known (λ input. RefusesInput k input no_memory)
 memory_refuses None k = tt
 memory_refuses (Some input) k = inl refl

@@ -4,18 +4,18 @@ use Rattle.std.specs.Prelude.{MatchResult, IsErrAnd, option_map}
 use Rattle.coset_value.specs.Item.{Item, Items, no_items, item}
 use Rattle.coset_shape.specs.declared.error.CoseError.{CoseError}
 use Rattle.coset_shape.specs.declared.error.CoseError.TheVariants.{OutOfMemory}
-use Rattle.coset_shape.specs.Errors.{Names}
+use Rattle.coset_shape.specs.Errors.{UnlessMemory}
 use Rattle.coset_shape.specs.Shape.{Shape, FirstDescribes}
 use Rattle.coset_shape.specs.Answers.{Describes, SliceFaults, DescribesNothing}
-use Rattle.coset_core.specs.Headers.{ProtectedSeen, is_empty_header, header_image, layered_protected, protected, kept_bytes}
-use Rattle.coset_shape.specs.Serialized.{kept}
+use Rattle.coset_core.specs.Headers.{ProtectedSeen, is_empty_header, header_image, layered_protected, protected, protected_bytes}
+use Rattle.coset_shape.specs.Serialized.{content_bytes}
 use Rattle.coset_sign.specs.SignatureStructure.{signature_structure}
 use Rattle.coset_sign.specs.declared.signature.SignatureContext.TheVariants.{CoseSign1}
-use Rattle.coset_sign.specs.Sign1.{Sign1Seen, sign1, fields_of}
+use Rattle.coset_sign.specs.Sign1.{Sign1Seen, sign1, sign1_fields}
 use Rattle.coset_sign.specs.Signed.{or_empty}
 use Rattle.coset_show.specs.declared.refusal.Refusal.{Refusal}
 use Rattle.coset_show.specs.declared.refusal.Refusal.TheVariants.{Cose}
-use Rattle.coset_show.specs.Show.{RefusesType, tagged_if, sign1_signed}
+use Rattle.coset_show.specs.Show.{RefusesType, tagged_if, sign1_signed_item}
 
 -- ---- refusals
 
@@ -25,10 +25,10 @@ passed_on shape b e (Ok x) P h f = absurd h
 passed_on shape b e (Err x) P h f = subst (RefusesType shape b) (sym h) f
 
 -- an error that tells of a fault in bytes that describe nothing
-pub refuses_read : {A : Type 0} (shape : Shape A) (b : List ℕ) (e : CoseError) → Names e (SliceFaults shape b) → Names e (λ _. DescribesNothing shape b) → RefusesType shape b (Cose e)
+pub refuses_read : {A : Type 0} (shape : Shape A) (b : List ℕ) (e : CoseError) → UnlessMemory e (SliceFaults shape b) → UnlessMemory e (λ _. DescribesNothing shape b) → RefusesType shape b (Cose e)
 refuses_read shape b e faults none = λ n. (faults n, none n)
 
--- want of memory
+-- out of memory
 pub refuses_memory : {A : Type 0} (shape : Shape A) (b : List ℕ) (e : CoseError) → e ≡ OutOfMemory → RefusesType shape b (Cose e)
 refuses_memory shape b e is = λ n. absurd (n is)
 
@@ -44,14 +44,14 @@ first_of r rs no_items x p = absurd p
 first_of r rs (item v vs) x p = (v, p.0)
 
 -- a protected header that was read has kept its bytes
-read_keeps : (v : Item) (p : ProtectedSeen) → protected.describes v p → (b : List ℕ) × (kept_bytes p ≡ Some b)
+read_keeps : (v : Item) (p : ProtectedSeen) → protected.describes v p → (b : List ℕ) × (protected_bytes p ≡ Some b)
 unfolding layered_protected
-read_keeps v p d = (d.0, ap (λ o. kept is_empty_header header_image o p.header) d.2)
+read_keeps v p d = (d.0, ap (λ o. content_bytes is_empty_header header_image o p.header) d.2)
 
 -- so there is something to sign of a message that was read
-pub read_is_signed : (v : Item) (m : Sign1Seen) → sign1.describes v m → (i : Item) × (sign1_signed m ≡ Some i)
+pub read_is_signed : (v : Item) (m : Sign1Seen) → sign1.describes v m → (i : Item) × (sign1_signed_item m ≡ Some i)
 read_is_signed v m d =
-    let header = first_of protected.describes _ d.0 (fields_of m) d.2 in
+    let header = first_of protected.describes _ d.0 (sign1_fields m) d.2 in
     let bytes = read_keeps header.0 m.protected header.1 in
     let structure_of : List ℕ → Item = λ b. signature_structure CoseSign1 b None [] (or_empty m.payload) in
     (structure_of bytes.0, ap (option_map structure_of) bytes.1)

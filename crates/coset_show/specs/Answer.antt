@@ -7,7 +7,7 @@ use Rattle.coset_show.specs.declared.refusal.Refusal.{Refusal}
 use Rattle.coset_show.specs.declared.refusal.Refusal.TheVariants.{Unreadable, NotHexadecimal, Cose}
 use Rattle.coset_show.specs.Refusal.{refusal_text}
 use Rattle.coset_show.specs.Show.{line}
-use Rattle.coset_show.specs.Kind.{Shows, Refuses}
+use Rattle.coset_show.specs.Kind.{ShowsBytes, RefusesBytes}
 
 -- tab, line feed, carriage return and space
 abbrev pub is_space : ℕ → Bool
@@ -21,26 +21,26 @@ abbrev pub Spells : List ℕ → List ℕ → Type 0
 Spells input b = decode_of (without_space input) ≡ Ok b
 
 -- the input isn't hexadecimal, or memory ran out
-abbrev pub RefusesText : List ℕ → Refusal → Type 0
-RefusesText input NotHexadecimal = (b : List ℕ) → Spells input b → ⊥
-RefusesText input (Cose error) = error ≡ OutOfMemory
-RefusesText input Unreadable = ⊥
+abbrev pub RefusesHexadecimal : List ℕ → Refusal → Type 0
+RefusesHexadecimal input NotHexadecimal = (b : List ℕ) → Spells input b → ⊥
+RefusesHexadecimal input (Cose error) = error ≡ OutOfMemory
+RefusesHexadecimal input Unreadable = ⊥
 
 -- the refusal is true of the input
 abbrev pub RefusesInput : Kind → List ℕ → Refusal → Type 0
-RefusesInput kind input refusal = RefusesText input refusal ⊎ ((b : List ℕ) × Spells input b × Refuses kind b refusal)
+RefusesInput kind input refusal = RefusesHexadecimal input refusal ⊎ ((b : List ℕ) × Spells input b × RefusesBytes kind b refusal)
 
 -- the lines show what the input spells
 abbrev pub ShowsInput : Kind → List ℕ → List ℕ → Type 0
-ShowsInput kind input lines = (b : List ℕ) × Spells input b × Shows kind b lines
+ShowsInput kind input lines = (b : List ℕ) × Spells input b × ShowsBytes kind b lines
 
 -- the line that tells of a refusal
 abbrev pub refusal_line : Refusal → List ℕ
 refusal_line refusal = line (codes "error: " ++ refusal_text refusal)
 
 -- what is written for an input that was read to its end, and the status
-abbrev pub Answers : Kind → List ℕ → List ℕ → ℕ → Type 0
-Answers kind input lines status =
+abbrev pub AnswersInput : Kind → List ℕ → List ℕ → ℕ → Type 0
+AnswersInput kind input lines status =
     (ShowsInput kind input lines × (status ≡ 0))
     ⊎ ((refusal : Refusal) × RefusesInput kind input refusal × (lines ≡ refusal_line refusal) × (status ≡ 1))
 

@@ -11,10 +11,10 @@ abbrev pub kind_name : Kind → List ℕ
 kind_name Value = codes "value"
 kind_name Sign1 = codes "sign1"
 
-abbrev pub Shows : Kind → List ℕ → List ℕ → Type 0
-Shows Value = ShowsType any
-Shows Sign1 = ShowsSign1
+abbrev pub ShowsBytes : Kind → List ℕ → List ℕ → Type 0
+ShowsBytes Value = ShowsType any
+ShowsBytes Sign1 = ShowsSign1
 
-abbrev pub Refuses : Kind → List ℕ → Refusal → Type 0
-Refuses Value b = RefusesType any b
-Refuses Sign1 b = RefusesType (sign1_in b) b
+abbrev pub RefusesBytes : Kind → List ℕ → Refusal → Type 0
+RefusesBytes Value b = RefusesType any b
+RefusesBytes Sign1 b = RefusesType (sign1_in b) b

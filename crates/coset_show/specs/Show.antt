@@ -2,14 +2,14 @@
 use Rattle.std.specs.Prelude.{◌≡◌, Bool, true, false, ℕ, List, [], ◌∷◌, ◌++◌, ◌/◌, ◌==◌, Option, Some, None, Result, MatchResult, codes}
 use Rattle.hex.specs.Hex.{encode_lower}
 use Rattle.coset_cbor.specs.Item.{Item}
-use Rattle.coset_cbor.specs.Shortest.{IsShort}
+use Rattle.coset_cbor.specs.Shortest.{IsShortest}
 use Rattle.coset_shape.specs.declared.error.CoseError.{CoseError}
 use Rattle.coset_shape.specs.declared.error.CoseError.TheVariants.{OutOfMemory}
 use Rattle.coset_shape.specs.Answers.{Describes, SliceFaults, DescribesNothing}
-use Rattle.coset_shape.specs.Errors.{Names}
+use Rattle.coset_shape.specs.Errors.{UnlessMemory}
 use Rattle.coset_shape.specs.Shape.{Shape, tagged}
 use Rattle.coset_sign.specs.Sign1.{Sign1Seen, sign1}
-use Rattle.coset_sign.specs.Signed.{signed, or_empty}
+use Rattle.coset_sign.specs.Signed.{signed_item, or_empty}
 use Rattle.coset_sign.specs.declared.signature.SignatureContext.TheVariants.{CoseSign1}
 use Rattle.coset_show.specs.declared.refusal.Refusal.{Refusal}
 use Rattle.coset_show.specs.declared.refusal.Refusal.TheVariants.{Unreadable, NotHexadecimal, Cose}
@@ -18,13 +18,13 @@ use Rattle.coset_show.specs.declared.refusal.Refusal.TheVariants.{Unreadable, No
 abbrev pub line : List ℕ → List ℕ
 line text = text ++ 10 ∷ []
 
--- there is an item, and the line is its shortest text in lower-case hexadecimal
+-- there is an item, and the line is its shortest encoding in lower-case hexadecimal
 pub record IsLineOf (image : Option Item) (shown : List ℕ) : Type 0 where
   pub item : Item
-  pub text : List ℕ
+  pub encoding : List ℕ
   pub is_image : image ≡ Some item
-  pub is_short : IsShort text item
-  pub is_line : shown ≡ line (encode_lower text)
+  pub is_shortest : IsShortest encoding item
+  pub is_line : shown ≡ line (encode_lower encoding)
 
 -- b describes a value, and the line is that of the value's item
 pub record ShowsType {A : Type 0} (shape : Shape A) (b lines : List ℕ) : Type 0 where
@@ -34,7 +34,7 @@ pub record ShowsType {A : Type 0} (shape : Shape A) (b lines : List ℕ) : Type 
 
 -- the error tells of a fault that stands in b, and b describes no value; or memory ran out
 abbrev pub RefusesType : {A : Type 0} → Shape A → List ℕ → Refusal → Type 0
-RefusesType shape b (Cose error) = Names error (λ e. SliceFaults shape b e × DescribesNothing shape b)
+RefusesType shape b (Cose error) = UnlessMemory error (λ e. SliceFaults shape b e × DescribesNothing shape b)
 RefusesType shape b Unreadable = ⊥
 RefusesType shape b NotHexadecimal = ⊥
 
@@ -56,9 +56,9 @@ message_in b number s = tagged_if (is_tagged b) number s
 abbrev pub sign1_in : List ℕ → Shape Sign1Seen
 sign1_in b = message_in b 18 sign1
 
--- the structure that is signed where there is no external data, over the message's kept header
-abbrev pub sign1_signed : Sign1Seen → Option Item
-sign1_signed m = signed CoseSign1 m.protected None [] (or_empty m.payload)
+-- the structure that is signed where `external_aad` is empty, over the message's protected bytes
+abbrev pub sign1_signed_item : Sign1Seen → Option Item
+sign1_signed_item m = signed_item CoseSign1 m.protected None [] (or_empty m.payload)
 
 -- b describes a message; the first line is that of its item, and the second that of what is signed, behind `tbs `
 pub record ShowsSign1 (b lines : List ℕ) : Type 0 where
@@ -67,11 +67,11 @@ pub record ShowsSign1 (b lines : List ℕ) : Type 0 where
   pub first : List ℕ
   pub second : List ℕ
   pub is_message : IsLineOf ((sign1_in b).image message) first
-  pub is_signed : IsLineOf (sign1_signed message) second
+  pub is_signed : IsLineOf (sign1_signed_item message) second
   pub are_lines : lines ≡ first ++ codes "tbs " ++ second
 
 -- ---- what was read, written
 
--- where bytes described x, the answer is the line of its item, and only memory can be wanting
+-- where bytes described x, the answer is the line of its item, and only memory can run out
 abbrev pub WritesRead : {S A : Type 0} → Shape A → A → (S → List ℕ) → Result S CoseError → Type 0
 WritesRead shape x text_of result = (b : List ℕ) → Describes shape b x → MatchResult result (λ s. IsLineOf (shape.image x) (text_of s)) (λ e. e ≡ OutOfMemory)

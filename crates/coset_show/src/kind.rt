@@ -2,7 +2,7 @@
 
 ghost use Rattle.std.specs.Prelude.{◌≡◌, MatchOption, MatchResult};
 ghost use Rattle.std.specs.String.{string_bytes};
-ghost use Rattle.coset_show.specs.Kind.{kind_name, Shows, Refuses};
+ghost use Rattle.coset_show.specs.Kind.{kind_name, ShowsBytes, RefusesBytes};
 
 use crate::refusal::Refusal;
 use crate::show::{sign1_lines, type_line};
@@ -34,10 +34,10 @@ impl Kind {
     /// The lines that show the bytes.
     ///
     /// # Errors
-    /// Why the bytes aren't of the kind, or want of memory.
+    /// Why the bytes aren't of the kind, or that memory ran out.
     pub fn lines(self, alloc: Global, bytes: &[u8]) -> Result<String, Refusal>
-        ensures { MatchResult result (λ lines. Shows self bytes.now (string_bytes lines))
-            (λ refusal. Refuses self bytes.now refusal) }
+        ensures { MatchResult result (λ lines. ShowsBytes self bytes.now (string_bytes lines))
+            (λ refusal. RefusesBytes self bytes.now refusal) }
     {
         match self {
             Kind::Value => type_line::<Value>(alloc, bytes),

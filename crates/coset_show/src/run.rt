@@ -6,7 +6,7 @@ ghost use Rattle.std.specs.Io.KnownBytes.{Appends};
 ghost use Rattle.coset_show.specs.declared.kind.Kind.{Kind};
 ghost use Rattle.coset_show.specs.Kind.{kind_name};
 ghost use Rattle.coset_show.specs.Stream.{inside, has_failed, IsSound, Fails};
-ghost use Rattle.coset_show.specs.Answer.{without_space, Spells, ShowsInput, RefusesText, RefusesInput, refusal_line, usage_line, Answers};
+ghost use Rattle.coset_show.specs.Answer.{without_space, Spells, ShowsInput, RefusesHexadecimal, RefusesInput, refusal_line, usage_line, AnswersInput};
 ghost use Rattle.coset_show.specs.Refusal.{no_memory};
 ghost use Rattle.coset_show.specs.Answer.{is_space as is_space_spec};
 
@@ -47,8 +47,8 @@ pub fn run<R: Read, W: Write>(
     ensures known { (k : Kind) → kind.now ≡ kind_name k → IsSound reader.new → IsSound writer.new
         → IfSome (R.remaining (inside reader.old)) (λ input. (lines : List ℕ)
         × Appends (W.contents (inside writer.old)) (W.contents (inside writer.new)) lines
-        × Answers k input lines result) }
-    // A read fails: the line that tells of it, or of want of memory, and 1.
+        × AnswersInput k input lines result) }
+    // A read fails: the line that tells of it, or of memory that ran out, and 1.
     ensures unreadable { (k : Kind) → kind.now ≡ kind_name k → Fails reader.old reader.new
         → IsSound writer.new → (lines : List ℕ)
         × Appends (W.contents (inside writer.old)) (W.contents (inside writer.new)) lines
@@ -80,7 +80,7 @@ fn answer<R: Read>(alloc: Global, kind: Kind, reader: &mut Stream<R>) -> Result<
     ensures unreadable { Fails reader.old reader.new → result ≡ Err Refusal.Unreadable }
 {
     let input = read_to_end(alloc, reader)?;
-    let bytes = spelled(alloc, input)?;
+    let bytes = spelled_bytes(alloc, input)?;
     kind.lines(alloc, bytes.as_slice())
 }
 
@@ -111,9 +111,9 @@ fn read_to_end<R: Read>(alloc: Global, reader: &mut Stream<R>) -> Result<Vec<u8>
 }
 
 /// The bytes that the input spells in hexadecimal, white space aside.
-fn spelled(alloc: Global, mut input: Vec<u8>) -> Result<Vec<u8>, Refusal>
+fn spelled_bytes(alloc: Global, mut input: Vec<u8>) -> Result<Vec<u8>, Refusal>
     ensures { MatchResult result (λ bytes. Spells input.items bytes.items)
-        (λ refusal. RefusesText input.items refusal) }
+        (λ refusal. RefusesHexadecimal input.items refusal) }
 {
     drop_space(&mut input);
     Ok(hex::decode(alloc, input.as_slice())?)

@@ -1,15 +1,14 @@
 //! How values of the types of COSE are shown.
 
-ghost use Rattle.std.specs.Prelude.{◌≡◌, IfOk, IfErr, MatchResult};
+ghost use Rattle.std.specs.Prelude.{◌≡◌, IfOk, MatchResult};
 ghost use Rattle.hex.specs.Hex.{encode_lower};
 ghost use Rattle.std.specs.String.{string_bytes};
 ghost use Rattle.coset_value.specs.Item.{Item};
 ghost use Rattle.coset_shape.specs.declared.error.CoseError.TheVariants.{OutOfMemory};
-ghost use Rattle.coset_shape.specs.Answers.{ReadsSlice, DescribesNothing};
-ghost use Rattle.coset_shape.specs.Errors.{Names};
+ghost use Rattle.coset_shape.specs.Answers.{ReadsSlice, RefusesSlice};
 ghost use Rattle.coset_shape.specs.ShapeLaws.{Lawful};
 ghost use Rattle.coset_sign.specs.Sign1.{sign1, sign1_seen};
-ghost use Rattle.coset_show.specs.Show.{line, ShowsType, RefusesType, ShowsSign1, IsLineOf, WritesRead, tagged_if, sign1_in, sign1_signed};
+ghost use Rattle.coset_show.specs.Show.{line, ShowsType, RefusesType, ShowsSign1, IsLineOf, WritesRead, tagged_if, sign1_in, sign1_signed_item};
 ghost use Rattle.coset_show.specs.Show.{is_tagged as is_tagged_spec};
 
 use crate::refusal::Refusal;
@@ -49,14 +48,14 @@ fn hexadecimal_line(alloc: Global, bytes: &[u8]) -> Result<String, AllocError>
 fn line_of<T: Shown>(alloc: Global, value: T) -> Result<String, CoseError>
     ensures { WritesRead T.shape (T.seen value) (λ s. string_bytes s) result }
 {
-    let text = value.to_vec(alloc)?;
-    Ok(hexadecimal_line(alloc, &text)?)
+    let encoded = value.to_vec(alloc)?;
+    Ok(hexadecimal_line(alloc, &encoded)?)
 }
 
 /// The line of the value that the bytes describe.
 ///
 /// # Errors
-/// Why they describe none, or want of memory.
+/// Why they describe none, or that memory ran out.
 pub fn type_line<T: Shown>(alloc: Global, bytes: &[u8]) -> Result<String, Refusal>
     ensures { MatchResult result (λ lines. ShowsType T.shape bytes.now (string_bytes lines))
         (λ refusal. RefusesType T.shape bytes.now refusal) }
@@ -79,7 +78,7 @@ fn read_message<T: Shown + TaggedCborSerializable>(
     bytes: &[u8],
 ) -> Result<T, CoseError>
     ensures read { ReadsSlice (tagged_if tagged T.TAG T.shape) T.seen bytes.now result }
-    ensures refused { IfErr result (λ e. Names e (λ _. DescribesNothing (tagged_if tagged T.TAG T.shape) bytes.now)) }
+    ensures refused { RefusesSlice (tagged_if tagged T.TAG T.shape) bytes.now result }
 {
     if tagged {
         T::from_tagged_slice(alloc, bytes)
@@ -97,17 +96,17 @@ fn message_line<T: Shown + TaggedCborSerializable>(
     ensures { WritesRead (tagged_if tagged T.TAG T.shape) (T.seen message) (λ s. string_bytes s) result }
 {
     if tagged {
-        let text = message.to_tagged_vec(alloc)?;
-        Ok(hexadecimal_line(alloc, &text)?)
+        let encoded = message.to_tagged_vec(alloc)?;
+        Ok(hexadecimal_line(alloc, &encoded)?)
     } else {
         line_of(alloc, message)
     }
 }
 
-/// The line of what is signed where there is no external data, of a message that was read.
+/// The line of what is signed where `external_aad` is empty, of a message that was read.
 fn signed_line(alloc: Global, message: &CoseSign1) -> Result<String, CoseError>
     ensures { (v : Item) → sign1.describes v (sign1_seen message.now)
-        → MatchResult result (λ l. IsLineOf (sign1_signed (sign1_seen message.now)) (string_bytes l)) (λ e. e ≡ OutOfMemory) }
+        → MatchResult result (λ l. IsLineOf (sign1_signed_item (sign1_seen message.now)) (string_bytes l)) (λ e. e ≡ OutOfMemory) }
 {
     let signed = message.tbs_data(alloc, &[])?;
     Ok(hexadecimal_line(alloc, &signed)?)
@@ -116,7 +115,7 @@ fn signed_line(alloc: Global, message: &CoseSign1) -> Result<String, CoseError>
 /// The line of the message that the bytes describe, and behind `tbs ` that of what is signed.
 ///
 /// # Errors
-/// As of [`type_line`].
+/// The same as [`type_line`].
 pub fn sign1_lines(alloc: Global, bytes: &[u8]) -> Result<String, Refusal>
     ensures { MatchResult result (λ lines. ShowsSign1 bytes.now (string_bytes lines))
         (λ refusal. RefusesType (sign1_in bytes.now) bytes.now refusal) }

@@ -220,7 +220,7 @@ fn nests_256_deep(rt: HostRuntime) -> Result<(), Fail> {
     Ok(())
 }
 
-/// The byte string of bytes, both as digits: its shortest text where there are less than 256.
+/// The byte string of bytes, both as digits: its shortest encoding where there are less than 256.
 fn byte_string(alloc: Global, content: &str) -> Result<String, AllocError> {
     let length = content.len() / 2;
     if length < 24 {
@@ -257,7 +257,7 @@ fn counts_16_protected_headers_within_one_another(rt: HostRuntime) -> Result<(),
     Ok(())
 }
 
-/// A string of that many letters: its shortest text where the first byte of its major type is `short`.
+/// A string of that many letters: its shortest encoding where the first byte of its major type is `short`.
 fn string(alloc: Global, major: u8, length: usize) -> Result<(String, String), AllocError> {
     let body = repeated(alloc, &[("61", length)])?;
     let body = String::from_utf8_lossy(alloc, body.as_slice())?;
@@ -484,7 +484,7 @@ fn fill(alloc: Global) -> Result<Vec<Vec<u8>>, AllocError> {
     Ok(held)
 }
 
-/// What `run` wrote in little memory: how often the line of want of memory, the given line, and anything else.
+/// What `run` wrote in little memory: how often the line `error: out of memory`, the given line, and anything else.
 #[derive(Clone, Copy, Debug)]
 struct Tally {
     refused: u32,

@@ -1,6 +1,6 @@
 -- What is signed tells its parts.
 use Rattle.std.proofs.Common.{◌≡◌, ℕ, List, length, cond, eqb, Option, Some, None, refl, sym, ap, ◌∙◌, arith}
-use Rattle.coset_cbor.specs.Shortest.{IsShort}
+use Rattle.coset_cbor.specs.Shortest.{IsShortest}
 use Rattle.coset_sign.specs.declared.signature.SignatureContext.{SignatureContext}
 use Rattle.coset_sign.specs.declared.signature.SignatureContext.TheVariants.{CoseSignature, CoseSign1, CounterSignature}
 use Rattle.coset_sign.specs.Structure.{structure}
@@ -29,9 +29,9 @@ same_parts p q (Some s) (Some t) a x l m e = (cc, cc, cc, cc)
 
 -- bytes are the structure of at most one context and one list of parts
 abbrev OneStructure : Type 0
-OneStructure = (c d b : List ℕ) (p q : List (List ℕ)) → IsShort b (structure c p) → IsShort b (structure d q) → (c ≡ d) × (p ≡ q)
+OneStructure = (c d b : List ℕ) (p q : List (List ℕ)) → IsShortest b (structure c p) → IsShortest b (structure d q) → (c ≡ d) × (p ≡ q)
 
-pub same_signed : OneStructure → (c d : SignatureContext) (p q : List ℕ) (s t : Option (List ℕ)) (a x l m b : List ℕ) → IsShort b (signature_structure c p s a l) → IsShort b (signature_structure d q t x m)
+pub same_signed : OneStructure → (c d : SignatureContext) (p q : List ℕ) (s t : Option (List ℕ)) (a x l m b : List ℕ) → IsShortest b (signature_structure c p s a l) → IsShortest b (signature_structure d q t x m)
     → (c ≡ d) × (p ≡ q) × (s ≡ t) × (a ≡ x) × (l ≡ m)
 same_signed one c d p q s t a x l m b h k =
     let both = one (context_text c) (context_text d) b (signed_parts p s a l) (signed_parts q t x m) h k in

@@ -1,10 +1,10 @@
--- Structures, and the text of one that is written part by part.
+-- Structures, and the encoding of one that is written part by part.
 use Rattle.std.proofs.Common.{◌≡◌, ℕ, suc, ◌+◌, ◌<◌, ◌^◌, List, [], ◌∷◌, ◌++◌, Bor, map, take, length, get_or, refl, sym, ap, subst, ◌∙◌, append_assoc, arith}
 use Rattle.std.proofs.lemmas.List.{append-nil, take_more, map_push}
 use Rattle.coset_value.specs.Item.{Item, bytes, text, array, Items, no_items, item, items_count}
 use Rattle.coset_value.specs.Range.{IsInRange, AreInRange}
-use Rattle.coset_cbor.specs.Least.{least_head, short, shorts}
-use Rattle.coset_cbor.specs.Shortest.{IsShort}
+use Rattle.coset_cbor.specs.Least.{least_head, least_encoding, least_encodings}
+use Rattle.coset_cbor.specs.Shortest.{IsShortest}
 use Rattle.coset_sign.specs.Structure.{byte_strings, structure}
 
 -- ---- what a structure is of
@@ -42,22 +42,22 @@ first_parts-suc parts i d lt =
     ap (λ (xs : List (Bor (List ℕ))). byte_strings (map (λ part. part.now) xs)) (take_more parts i d lt)
     ∙ ap byte_strings (map_push (λ (part : Bor (List ℕ)). part.now) (take i parts) (get_or parts i d))
 
-shorts-push : (ss : List (List ℕ)) (s : List ℕ) → shorts (byte_strings (ss ++ s ∷ [])) ≡ shorts (byte_strings ss) ++ short (bytes s)
-shorts-push [] s = append-nil (short (bytes s))
-shorts-push (t ∷ ss) s = ap (λ (x : List ℕ). short (bytes t) ++ x) (shorts-push ss s) ∙ sym (append_assoc (short (bytes t)) (shorts (byte_strings ss)) (short (bytes s)))
+least_encodings-push : (ss : List (List ℕ)) (s : List ℕ) → least_encodings (byte_strings (ss ++ s ∷ [])) ≡ least_encodings (byte_strings ss) ++ least_encoding (bytes s)
+least_encodings-push [] s = append-nil (least_encoding (bytes s))
+least_encodings-push (t ∷ ss) s = ap (λ (x : List ℕ). least_encoding (bytes t) ++ x) (least_encodings-push ss s) ∙ sym (append_assoc (least_encoding (bytes t)) (least_encodings (byte_strings ss)) (least_encoding (bytes s)))
 
 in_range-push : (ss : List (List ℕ)) (s : List ℕ) → AreInRange (byte_strings ss) → IsInRange (bytes s) → AreInRange (byte_strings (ss ++ s ∷ []))
 in_range-push [] s h k = (k, tt)
 in_range-push (t ∷ ss) s h k = (h.0, in_range-push ss s h.1 k)
 
 pub part_written : (parts : List (Bor (List ℕ))) (i : ℕ) (d : Bor (List ℕ)) (old middle new : List ℕ) → i < length parts
-    → middle ≡ old ++ shorts (first_parts parts i) → new ≡ middle ++ short (bytes (get_or parts i d).now)
-    → new ≡ old ++ shorts (first_parts parts (i + 1))
+    → middle ≡ old ++ least_encodings (first_parts parts i) → new ≡ middle ++ least_encoding (bytes (get_or parts i d).now)
+    → new ≡ old ++ least_encodings (first_parts parts (i + 1))
 part_written parts i d old middle new lt so_far put =
     let s = (get_or parts i d).now in
     let ss = map (λ (part : Bor (List ℕ)). part.now) (take i parts) in
-    let total : shorts (first_parts parts (i + 1)) ≡ shorts (byte_strings ss) ++ short (bytes s) = ap shorts (first_parts-suc parts i d lt) ∙ shorts-push ss s in
-    put ∙ ap (λ (x : List ℕ). x ++ short (bytes s)) so_far ∙ append_assoc old (shorts (byte_strings ss)) (short (bytes s)) ∙ ap (λ (x : List ℕ). old ++ x) (sym total)
+    let total : least_encodings (first_parts parts (i + 1)) ≡ least_encodings (byte_strings ss) ++ least_encoding (bytes s) = ap least_encodings (first_parts-suc parts i d lt) ∙ least_encodings-push ss s in
+    put ∙ ap (λ (x : List ℕ). x ++ least_encoding (bytes s)) so_far ∙ append_assoc old (least_encodings (byte_strings ss)) (least_encoding (bytes s)) ∙ ap (λ (x : List ℕ). old ++ x) (sym total)
 
 pub part_in_range : (parts : List (Bor (List ℕ))) (i : ℕ) (d : Bor (List ℕ)) → i < length parts
     → AreInRange (first_parts parts i) → IsInRange (bytes (get_or parts i d).now) → AreInRange (first_parts parts (i + 1))
@@ -70,13 +70,13 @@ items_count-byte_strings : (ss : List (List ℕ)) → items_count (byte_strings 
 items_count-byte_strings [] = refl
 items_count-byte_strings (s ∷ ss) = ap suc (items_count-byte_strings ss)
 
--- A head, the context and the parts, one after the other, are the shortest text.
-pub whole_written : ((v : Item) → IsInRange v → IsShort (short v) v) → (context : List ℕ) (ss : List (List ℕ)) (n : ℕ) (b : List ℕ) → n ≡ length ss + 1 → n < 2 ^ 64
-    → IsInRange (text context) → AreInRange (byte_strings ss) → b ≡ (least_head 4 n ++ short (text context)) ++ shorts (byte_strings ss)
-    → IsShort b (structure context ss)
+-- A head, the context and the parts, one after the other, are the shortest encoding.
+pub whole_written : ((v : Item) → IsInRange v → IsShortest (least_encoding v) v) → (context : List ℕ) (ss : List (List ℕ)) (n : ℕ) (b : List ℕ) → n ≡ length ss + 1 → n < 2 ^ 64
+    → IsInRange (text context) → AreInRange (byte_strings ss) → b ≡ (least_head 4 n ++ least_encoding (text context)) ++ least_encodings (byte_strings ss)
+    → IsShortest b (structure context ss)
 whole_written is_shortest context ss n b count small context_in_range in_range written =
     let counted : n ≡ items_count (item (text context) (byte_strings ss)) = omega (arith, items_count-byte_strings ss) in
-    let spelled : b ≡ short (structure context ss) =
-    written ∙ append_assoc (least_head 4 n) (short (text context)) (shorts (byte_strings ss)) ∙ ap (λ (k : ℕ). least_head 4 k ++ (short (text context) ++ shorts (byte_strings ss))) counted in
-    subst (λ (x : List ℕ). IsShort x (structure context ss)) (sym spelled)
+    let spelled : b ≡ least_encoding (structure context ss) =
+    written ∙ append_assoc (least_head 4 n) (least_encoding (text context)) (least_encodings (byte_strings ss)) ∙ ap (λ (k : ℕ). least_head 4 k ++ (least_encoding (text context) ++ least_encodings (byte_strings ss))) counted in
+    subst (λ (x : List ℕ). IsShortest x (structure context ss)) (sym spelled)
     (is_shortest (structure context ss) (subst (λ (k : ℕ). k < 2 ^ 64) counted small, (context_in_range, in_range)))

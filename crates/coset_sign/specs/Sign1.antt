@@ -28,15 +28,15 @@ Fields = ProtectedSeen × (HeaderSeen × (Option (List ℕ) × (List ℕ × Unit
 abbrev pub sign1_of : Fields → Sign1Seen
 sign1_of p = record { protected = p.0; unprotected = p.1.0; payload = p.1.1.0; signature = p.1.1.1.0 }
 
-abbrev pub fields_of : Sign1Seen → Fields
-fields_of m = (m.protected, (m.unprotected, (m.payload, (m.signature, tt))))
+abbrev pub sign1_fields : Sign1Seen → Fields
+sign1_fields m = (m.protected, (m.unprotected, (m.payload, (m.signature, tt))))
 
 -- [protected, unprotected : header, payload : bstr / nil, signature : bstr]
 abbrev pub sign1 : Shape Sign1Seen
-sign1 = along sign1_of fields_of (array_of (protected then header then or_nil bstr then bstr then end))
+sign1 = along sign1_of sign1_fields (array_of (protected then header then or_nil bstr then bstr then end))
 
 pub sign1_laws : Lawful Sign1Seen sign1
 sign1_laws =
-    along_laws sign1_of fields_of (λ x. refl) _
+    along_laws sign1_of sign1_fields (λ x. refl) _
     (array_of_laws _
     (then_laws _ _ protected_laws (then_laws _ _ header_laws (then_laws _ _ (or_nil_laws bstr bytes_no_nil bstr_laws) (then_laws _ _ bstr_laws end_laws)))))

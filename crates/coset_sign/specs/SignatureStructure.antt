@@ -13,9 +13,9 @@ context_text CounterSignature = codes "CounterSignature"
 
 -- body_protected : bstr, ? sign_protected : bstr, external_aad : bstr, payload : bstr
 abbrev pub signed_parts : List ℕ → Option (List ℕ) → List ℕ → List ℕ → List (List ℕ)
-signed_parts body None aad payload = body ∷ aad ∷ payload ∷ []
-signed_parts body (Some signer) aad payload = body ∷ signer ∷ aad ∷ payload ∷ []
+signed_parts body None external_aad payload = body ∷ external_aad ∷ payload ∷ []
+signed_parts body (Some signer) external_aad payload = body ∷ signer ∷ external_aad ∷ payload ∷ []
 
 -- Sig_structure: the context, and then these
 abbrev pub signature_structure : SignatureContext → List ℕ → Option (List ℕ) → List ℕ → List ℕ → Item
-signature_structure context body signer aad payload = structure (context_text context) (signed_parts body signer aad payload)
+signature_structure context body signer external_aad payload = structure (context_text context) (signed_parts body signer external_aad payload)

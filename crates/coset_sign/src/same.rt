@@ -15,7 +15,7 @@ impl CoseSign1 {
     /// A message that equals this one, with the same bytes kept.
     ///
     /// # Errors
-    /// Want of memory alone.
+    /// `OutOfMemory` alone.
     pub fn clone(&self) -> Result<CoseSign1>
         ensures copy { IfOk result (λ m. sign1_seen m ≡ sign1_seen self.now) }
         ensures memory { IfErr result (λ e. e ≡ OutOfMemory) }

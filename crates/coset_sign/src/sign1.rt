@@ -1,13 +1,12 @@
 //! Messages with one signature (RFC 8152, section 4.2).
 
-ghost use Rattle.std.specs.Prelude.{IfErr, ◌≡◌, [], Some, None};
-ghost use Rattle.coset_shape.specs.Answers.{Reads, Writes, ReadsSlice, DescribesNothing, AsksForItems};
+ghost use Rattle.std.specs.Prelude.{◌≡◌, [], Some, None};
+ghost use Rattle.coset_shape.specs.Answers.{Reads, Writes, ReadsSlice, AllocatesForItems, RefusesSlice};
 ghost use Rattle.coset_shape.specs.Sources.{source_item};
 ghost use Rattle.coset_core.specs.Headers.{empty_header};
 ghost use Rattle.coset_sign.specs.Sign1.{sign1, sign1_seen};
-ghost use Rattle.coset_sign.specs.Signed.{signed, or_empty};
+ghost use Rattle.coset_sign.specs.Signed.{signed_item, or_empty};
 ghost use Rattle.coset_sign.specs.declared.signature.SignatureContext.TheVariants as contexts;
-ghost use Rattle.coset_shape.specs.Errors.{Names};
 ghost use Rattle.coset_shape.specs.Shape.{tagged};
 
 use crate::signature::{SignatureContext, signed_bytes};
@@ -74,9 +73,10 @@ impl CoseSign1 {
     /// payload counts as empty.
     ///
     /// # Errors
-    /// Want of memory, or `DuplicateMapKey` where the protected header wasn't read and repeats a label of its rest.
-    pub fn tbs_data(&self, alloc: Global, aad: &[u8]) -> Result<Vec<u8>>
-        ensures { Writes (signed contexts.CoseSign1 (sign1_seen self.now).protected None aad.now (or_empty (sign1_seen self.now).payload)) (λ b. b.items) result }
+    /// `OutOfMemory`, or `DuplicateMapKey` where the protected header wasn't read and repeats a label of its rest.
+    pub fn tbs_data(&self, alloc: Global, external_aad: &[u8]) -> Result<Vec<u8>>
+        ensures { Writes (signed_item contexts.CoseSign1 (sign1_seen self.now).protected None
+            external_aad.now (or_empty (sign1_seen self.now).payload)) (λ b. b.items) result }
     {
         let payload: &[u8] = match &self.payload {
             Some(payload) => payload,
@@ -87,7 +87,7 @@ impl CoseSign1 {
             SignatureContext::CoseSign1,
             &self.protected,
             None,
-            aad,
+            external_aad,
             payload,
         )
     }
@@ -148,8 +148,8 @@ impl FromPull for CoseSign1 {
 impl CborSerializable for CoseSign1 {
     fn from_slice(alloc: Global, s: &[u8]) -> Result<CoseSign1>
         ensures read { ReadsSlice sign1 sign1_seen s.now result }
-        ensures refused { IfErr result (λ e. Names e (λ _. DescribesNothing sign1 s.now)) }
-        ensures memory { AsksForItems s.now result }
+        ensures refused { RefusesSlice sign1 s.now result }
+        ensures memory { AllocatesForItems s.now result }
     {
         read_slice(alloc, s)
     }
@@ -166,8 +166,8 @@ impl TaggedCborSerializable for CoseSign1 {
 
     fn from_tagged_slice(alloc: Global, s: &[u8]) -> Result<CoseSign1>
         ensures read { ReadsSlice (tagged 18 sign1) sign1_seen s.now result }
-        ensures refused { IfErr result (λ e. Names e (λ _. DescribesNothing (tagged 18 sign1) s.now)) }
-        ensures memory { AsksForItems s.now result }
+        ensures refused { RefusesSlice (tagged 18 sign1) s.now result }
+        ensures memory { AllocatesForItems s.now result }
     {
         read_tagged_slice(alloc, 18, s)
     }

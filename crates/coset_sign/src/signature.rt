@@ -2,12 +2,12 @@
 
 ghost use Rattle.std.specs.Prelude.{◌≡◌, option_map, IfOk, IfErr};
 ghost use Rattle.std.specs.Option.{option_copied};
-ghost use Rattle.coset_cbor.specs.Shortest.{IsShort};
+ghost use Rattle.coset_cbor.specs.Shortest.{IsShortest};
 ghost use Rattle.coset_shape.specs.declared.error.CoseError.TheVariants.{OutOfMemory};
 ghost use Rattle.coset_shape.specs.Answers.{Writes};
 ghost use Rattle.coset_core.specs.Views.{protected_seen};
 ghost use Rattle.coset_sign.specs.SignatureStructure.{signature_structure};
-ghost use Rattle.coset_sign.specs.Signed.{signed};
+ghost use Rattle.coset_sign.specs.Signed.{signed_item};
 
 use crate::structure::structure_bytes;
 use coset_core::ProtectedHeader;
@@ -41,7 +41,7 @@ impl SignatureContext {
     }
 }
 
-/// The bytes that are signed: the shortest text of
+/// The bytes that are signed: the shortest encoding of
 ///
 /// ```text
 /// Sig_structure = [
@@ -56,63 +56,71 @@ impl SignatureContext {
 /// `body` and `signer` are the contents of the protected headers. A `COSE_Sign1` message has no `signer`.
 ///
 /// # Errors
-/// Want of memory alone.
+/// `OutOfMemory` alone.
 pub(crate) fn signature_structure_bytes(
     alloc: Global,
     context: SignatureContext,
     body: &[u8],
     signer: Option<&[u8]>,
-    aad: &[u8],
+    external_aad: &[u8],
     payload: &[u8],
 ) -> Result<Vec<u8>>
-    ensures text { IfOk result (λ b. IsShort b.items
-        (signature_structure context body.now (option_copied signer.entry) aad.now payload.now)) }
+    ensures encoding { IfOk result (λ b. IsShortest b.items
+        (signature_structure context body.now (option_copied signer.entry) external_aad.now payload.now)) }
     ensures memory { IfErr result (λ e. e ≡ OutOfMemory) }
 {
     match signer {
-        Some(signer) => structure_bytes(alloc, context.text(), &[body, signer, aad, payload]),
-        None => structure_bytes(alloc, context.text(), &[body, aad, payload]),
+        Some(signer) => structure_bytes(
+            alloc,
+            context.text(),
+            &[body, signer, external_aad, payload],
+        ),
+        None => structure_bytes(alloc, context.text(), &[body, external_aad, payload]),
     }
 }
 
-/// The structure over the kept bytes of the headers. Nothing of them is cloned, but a header that wasn't read is written.
+/// The structure over the protected bytes of the headers. Nothing of them is cloned, but a header that wasn't read is
+/// written.
 ///
 /// # Errors
-/// Want of memory, or `DuplicateMapKey` where a header wasn't read and repeats a label of its rest.
+/// `OutOfMemory`, or `DuplicateMapKey` where a header wasn't read and repeats a label of its rest.
 pub(crate) fn signed_bytes(
     alloc: Global,
     context: SignatureContext,
     body: &ProtectedHeader,
     signer: Option<&ProtectedHeader>,
-    aad: &[u8],
+    external_aad: &[u8],
     payload: &[u8],
 ) -> Result<Vec<u8>>
-    ensures { Writes (signed context (protected_seen body.now) (option_map (λ s. protected_seen s.now) signer.entry) aad.now payload.now) (λ b. b.items) result }
+    ensures { Writes (signed_item context (protected_seen body.now)
+        (option_map (λ s. protected_seen s.now) signer.entry) external_aad.now payload.now) (λ b.
+        b.items) result }
 {
-    let body = body.kept_bytes(alloc)?;
+    let body = body.protected_bytes(alloc)?;
     match signer {
         Some(signer) => {
-            let signer = signer.kept_bytes(alloc)?;
-            signature_structure_bytes(alloc, context, &body, Some(&signer), aad, payload)
+            let signer = signer.protected_bytes(alloc)?;
+            signature_structure_bytes(alloc, context, &body, Some(&signer), external_aad, payload)
         }
-        None => signature_structure_bytes(alloc, context, &body, None, aad, payload),
+        None => signature_structure_bytes(alloc, context, &body, None, external_aad, payload),
     }
 }
 
-/// The bytes that are signed (RFC 8152, section 4.4): the shortest text of the structure of this context, the kept bytes
-/// of the body's header and, where there is one, of the signer's, the external data and the payload.
+/// The bytes that are signed (RFC 8152, section 4.4): the shortest encoding of the structure of this context, the
+/// protected bytes of the body's header and, where there is one, of the signer's, `external_aad` and the payload.
 ///
 /// # Errors
-/// Want of memory, or `DuplicateMapKey` where a header wasn't read and repeats a label of its rest.
+/// `OutOfMemory`, or `DuplicateMapKey` where a header wasn't read and repeats a label of its rest.
 pub fn sig_structure_data(
     alloc: Global,
     context: SignatureContext,
     body: ProtectedHeader,
     sign: Option<ProtectedHeader>,
-    aad: &[u8],
+    external_aad: &[u8],
     payload: &[u8],
 ) -> Result<Vec<u8>>
-    ensures { Writes (signed context (protected_seen body) (option_map protected_seen sign) aad.now payload.now) (λ b. b.items) result }
+    ensures { Writes (signed_item context (protected_seen body) (option_map protected_seen sign)
+        external_aad.now payload.now) (λ b. b.items) result }
 {
-    signed_bytes(alloc, context, &body, sign.as_ref(), aad, payload)
+    signed_bytes(alloc, context, &body, sign.as_ref(), external_aad, payload)
 }

@@ -1,11 +1,11 @@
 //! The structures whose bytes are signed or authenticated, or go with a ciphertext (RFC 8152, sections 4.4, 5.3 and 6.3).
 
 ghost use Rattle.std.specs.Prelude.{◌≡◌, map, IfOk, IfErr};
-ghost use Rattle.coset_cbor.specs.Shortest.{IsShort};
+ghost use Rattle.coset_cbor.specs.Shortest.{IsShortest};
 ghost use Rattle.coset_shape.specs.declared.error.CoseError.TheVariants.{OutOfMemory};
 ghost use Rattle.coset_sign.specs.Structure.{structure};
 
-use coset_cbor::laws::short_is_shortest;
+use coset_cbor::laws::least_encoding_is_shortest;
 use coset_cbor::ser::{write_array_head, write_bytes, write_text};
 use coset_shape::Result;
 use std::alloc::Global;
@@ -13,13 +13,14 @@ use std::alloc::Global;
 /// No head is longer (RFC 8949, section 3).
 const LONGEST_HEAD: usize = 9;
 
-/// The shortest text of an array of a context and byte strings. It is written straight from these, into a vector that is
-/// made large enough at once.
+/// The shortest encoding of an array of a context and byte strings. It is written straight from these, into a vector
+/// that is made large enough at once.
 ///
 /// # Errors
-/// Want of memory alone.
+/// `OutOfMemory` alone.
 pub fn structure_bytes(alloc: Global, context: &str, parts: &[&[u8]]) -> Result<Vec<u8>>
-    ensures text { IfOk result (λ b. IsShort b.items (structure context.now (map (λ part. part.now) parts.now))) }
+    ensures encoding { IfOk result (λ b. IsShortest b.items
+        (structure context.now (map (λ part. part.now) parts.now))) }
     ensures memory { IfErr result (λ e. e ≡ OutOfMemory) }
 {
     let mut out = Vec::with_capacity(alloc, room_for(context, parts))?;
@@ -28,7 +29,7 @@ pub fn structure_bytes(alloc: Global, context: &str, parts: &[&[u8]]) -> Result<
     for part in parts {
         write_bytes(part, &mut out)?;
     }
-    short_is_shortest();
+    least_encoding_is_shortest();
     Ok(out)
 }
 

@@ -7,7 +7,7 @@ use std::test::*;
 #[test]
 fn signs_worked_rows(rt: HostRuntime) -> Result<(), Fail> {
     let alloc = rt.alloc();
-    for (context, signer, aad, payload, expected) in [
+    for (context, signer, external_aad, payload, expected) in [
         (
             SignatureContext::CoseSign1,
             None,
@@ -44,7 +44,7 @@ fn signs_worked_rows(rt: HostRuntime) -> Result<(), Fail> {
             b"\x85\x70CounterSignature\x40\x40\x40\x40",
         ),
     ] {
-        let bytes = signature_structure_bytes(alloc, context, b"", signer, aad, payload)
+        let bytes = signature_structure_bytes(alloc, context, b"", signer, external_aad, payload)
             .ok()
             .ok_or("memory")?;
         assert_eq!(rt; bytes.as_slice(), expected);

@@ -7,8 +7,8 @@ pub data Bits : Type 0 where
   single : ℕ → Bits
   double : ℕ → Bits
 
--- an item by its major type (section 3.1), with `dict` for the RFC's map. A text is its UTF-8 bytes, and simple values
--- are `false`, `true` and `null` alone
+-- an item by its major type (section 3.1), with `dict` for the RFC's map. A text string is its UTF-8 bytes, and simple
+-- values are `false`, `true` and `null` alone
 mutual
   pub data Item : Type 0 where
     integer : ℤ → Item

@@ -1,4 +1,5 @@
--- The ranges of CBOR's numbers and lengths (RFC 8949, section 3): every argument is below 2 ^ 64, and text is UTF-8.
+-- The ranges of CBOR's numbers and lengths (RFC 8949, section 3): every argument is below 2 ^ 64, and text strings are
+-- UTF-8.
 use Rattle.std.specs.Prelude.{◌^◌, ◌<◌, ⊤, ℤ, pos, negsuc, length}
 use Rattle.std.specs.Str.{IsUtf8}
 use Rattle.coset_value.specs.Item.{Bits, half, single, double, Item, integer, bytes, float, text, boolean, null, tag, array, dict, Items, no_items, item, Pairs, no_pairs, pair, items_count, pairs_count}
@@ -15,7 +16,7 @@ AreBitsInRange (single n) = n < 2 ^ 32
 AreBitsInRange (double n) = n < 2 ^ 64
 
 abbrev mutual
-  -- every number and every length within is in CBOR's range, and every text is UTF-8
+  -- every number and every length within is in CBOR's range, and every text string is UTF-8
   pub IsInRange : Item → Type 0
   IsInRange (integer n) = IsIntegerInRange n
   IsInRange (bytes s) = length s < 2 ^ 64

@@ -1,7 +1,7 @@
 //! The chunks of lent strings.
 
 ghost use Rattle.std.specs.Prelude.{◌≡◌, IfOk, string_bytes};
-ghost use Rattle.coset_cbor.specs.Grammar.{joined};
+ghost use Rattle.coset_cbor.specs.Grammar.{joined_chunks};
 ghost use Rattle.coset_cbor.specs.Chunks.{chunks_left, text_chunks_left};
 
 use coset_cbor::de::{ByteChunks, Pull, TextChunks};
@@ -16,7 +16,7 @@ fn pull(input: &[u8]) -> Result<Pull<'_>, Fail> {
 
 /// The chunks, joined: a loop sees each of them once, in order, to the end.
 pub(crate) fn bytes_of(alloc: Global, chunks: ByteChunks<'_>) -> Result<Vec<u8>, AllocError>
-    ensures { IfOk result (λ bytes. bytes.items ≡ joined (chunks_left chunks.entry)) }
+    ensures { IfOk result (λ bytes. bytes.items ≡ joined_chunks (chunks_left chunks.entry)) }
 {
     let mut all = Vec::new(alloc);
     for chunk in chunks {
@@ -25,9 +25,9 @@ pub(crate) fn bytes_of(alloc: Global, chunks: ByteChunks<'_>) -> Result<Vec<u8>,
     Ok(all)
 }
 
-/// The same of a text.
+/// The chunks of a text string, joined: a loop sees each of them once, in order, to the end.
 pub(crate) fn text_of(alloc: Global, chunks: TextChunks<'_>) -> Result<String, AllocError>
-    ensures { IfOk result (λ text. string_bytes text ≡ joined (text_chunks_left chunks.entry)) }
+    ensures { IfOk result (λ text. string_bytes text ≡ joined_chunks (text_chunks_left chunks.entry)) }
 {
     let mut all = String::new(alloc);
     for chunk in chunks {
@@ -47,7 +47,7 @@ fn gives_bytes(rt: &impl Abort, input: &[u8], expected: &[&[u8]]) -> Result<(), 
     Ok(())
 }
 
-/// The same of a text.
+/// Each expected chunk of a text string comes, and nothing after the last.
 fn gives_text(rt: &impl Abort, input: &[u8], expected: &[&str]) -> Result<(), Fail> {
     let mut chunks = pull(input)?.text_chunks().ok_or("a text")?;
     for chunk in expected {

@@ -21,7 +21,7 @@ fn members_of<'a>(alloc: Global, items: Items<'a>) -> Result<Vec<Pull<'a>>, Allo
     Ok(all)
 }
 
-/// The same of pairs.
+/// The pairs: a loop sees each of them once, in order, to the end.
 fn pairs_of<'a>(alloc: Global, pairs: Pairs<'a>) -> Result<Vec<(Pull<'a>, Pull<'a>)>, AllocError>
     ensures { IfOk result (λ v. map pull_pair v.items ≡ pair_list (pairs_left pairs.entry)) }
 {

@@ -38,7 +38,7 @@ const ROWS: [(&[u8], Expected); 13] = [
 
 /// Whether these are the bytes that stand for the header.
 fn keeps(alloc: Global, protected: &ProtectedHeader, bytes: &[u8]) -> bool {
-    match protected.kept_bytes(alloc) {
+    match protected.protected_bytes(alloc) {
         Ok(kept) => {
             let kept: &[u8] = &kept;
             kept == bytes
@@ -97,7 +97,7 @@ fn protected_headers(rt: HostRuntime) -> std::result::Result<(), Fail> {
 }
 
 /// A protected header that wasn't read, with this one.
-fn unread(header: Header) -> ProtectedHeader {
+fn protected_from_header(header: Header) -> ProtectedHeader {
     ProtectedHeader {
         original_data: None,
         header,
@@ -110,12 +110,23 @@ fn unread_headers(rt: HostRuntime) -> std::result::Result<(), Fail> {
     assert!(rt; is_kept(alloc, Ok(ProtectedHeader::new(alloc)), Written(b""))?);
     let mut header = Header::new(alloc);
     header.alg = Some(RegisteredLabelWithPrivate::Assigned(coset_iana::Algorithm::ES256));
-    assert!(rt; is_kept(alloc, Ok(unread(header)), Written(b"\xa1\x01\x26"))?);
+    assert!(rt;
+        is_kept(
+            alloc,
+            Ok(protected_from_header(header)),
+            Written(b"\xa1\x01\x26")
+        )?
+    );
     let mut repeats = Header::new(alloc);
     repeats.rest.push((Label::Int(70), Value::Null))?;
     repeats.rest.push((Label::Int(70), Value::Null))?;
-    let repeats = unread(repeats);
-    assert!(rt; matches!(repeats.kept_bytes(alloc), Err(CoseError::DuplicateMapKey)));
+    let repeats = protected_from_header(repeats);
+    assert!(rt;
+        matches!(
+            repeats.protected_bytes(alloc),
+            Err(CoseError::DuplicateMapKey)
+        )
+    );
     assert!(rt; matches!(repeats.cbor_bstr(alloc), Err(CoseError::DuplicateMapKey)));
     Ok(())
 }

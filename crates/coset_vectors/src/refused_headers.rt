@@ -31,7 +31,7 @@ fn protected_tree(alloc: Global) -> Result<ProtectedHeader> {
 
 /// Whether the bytes that stand for the header are these.
 fn kept(alloc: Global, protected: &ProtectedHeader) -> Answer {
-    match protected.kept_bytes(alloc) {
+    match protected.protected_bytes(alloc) {
         Ok(bytes) => {
             let bytes: &[u8] = &bytes;
             if bytes == HEADER {

@@ -56,7 +56,7 @@ pub(crate) fn reads<T: CborSerializable + Drop>(
     Ok(is_expected(alloc, lent, expected)? && is_expected(alloc, tree, expected)?)
 }
 
-/// The texts, one after the other.
+/// The parts, one after the other.
 pub(crate) fn joined(alloc: Global, parts: &[&[u8]]) -> std::result::Result<Vec<u8>, AllocError> {
     let mut all = Vec::new(alloc);
     for part in parts {
@@ -65,7 +65,7 @@ pub(crate) fn joined(alloc: Global, parts: &[&[u8]]) -> std::result::Result<Vec<
     Ok(all)
 }
 
-/// The shortest text of the byte string of these, of which there are less than 65536 (RFC 8949, section 3).
+/// The shortest encoding of the byte string of these, of which there are less than 65536 (RFC 8949, section 3).
 pub(crate) fn byte_string(alloc: Global, bytes: &[u8]) -> std::result::Result<Vec<u8>, AllocError> {
     let length = bytes.len();
     let [.., high, low] = length.to_be_bytes();

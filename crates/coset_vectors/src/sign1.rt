@@ -115,7 +115,7 @@ fn tagged_messages(rt: HostRuntime) -> std::result::Result<(), Fail> {
     Ok(())
 }
 
-/// Messages, external data, and the bytes that are signed.
+/// Messages, `external_aad`, and the bytes that are signed.
 const SIGNED: [(&[u8], &[u8], &[u8]); 7] = [
     (EMPTY, b"", b"\x84\x6aSignature1\x40\x40\x40"),
     (
@@ -149,12 +149,12 @@ const SIGNED: [(&[u8], &[u8], &[u8]); 7] = [
 #[test]
 fn signed_bytes(rt: HostRuntime) -> std::result::Result<(), Fail> {
     let alloc = rt.alloc();
-    for (input, aad, expected) in &SIGNED {
+    for (input, external_aad, expected) in &SIGNED {
         let message: Result<CoseSign1> = CoseSign1::from_slice(alloc, input);
         let tbs = message
             .ok()
             .ok_or("read")?
-            .tbs_data(alloc, aad)
+            .tbs_data(alloc, external_aad)
             .ok()
             .ok_or("memory")?;
         assert_eq!(rt; tbs.as_slice(), *expected);
@@ -171,7 +171,7 @@ fn readme(alloc: Global) -> std::result::Result<CoseSign1, AllocError> {
     Ok(message)
 }
 
-const README_AAD: &[u8] = b"this is additional data";
+const README_EXTERNAL_AAD: &[u8] = b"this is additional data";
 
 const README_TBS: &[u8] =
     b"\x84\x6aSignature1\x47\xa2\x01\x26\x04\x42\x31\x31\x57this is additional data\x53This is the content";
@@ -182,7 +182,7 @@ const README: &[u8] = b"\x84\x47\xa2\x01\x26\x04\x42\x31\x31\xa0\x53This is the 
 fn built_messages(rt: HostRuntime) -> std::result::Result<(), Fail> {
     let alloc = rt.alloc();
     let tbs = readme(alloc)?
-        .tbs_data(alloc, README_AAD)
+        .tbs_data(alloc, README_EXTERNAL_AAD)
         .ok()
         .ok_or("memory")?;
     assert_eq!(rt; tbs.as_slice(), README_TBS);
@@ -193,7 +193,7 @@ fn built_messages(rt: HostRuntime) -> std::result::Result<(), Fail> {
     other.payload = None;
     assert!(rt;
         other
-            .tbs_data(alloc, README_AAD)
+            .tbs_data(alloc, README_EXTERNAL_AAD)
             .ok()
             .ok_or("memory")?
             .as_slice()
@@ -203,7 +203,7 @@ fn built_messages(rt: HostRuntime) -> std::result::Result<(), Fail> {
     other.protected.header.key_id = Vec::new(alloc);
     assert!(rt;
         other
-            .tbs_data(alloc, README_AAD)
+            .tbs_data(alloc, README_EXTERNAL_AAD)
             .ok()
             .ok_or("memory")?
             .as_slice()
@@ -222,7 +222,7 @@ fn built_messages(rt: HostRuntime) -> std::result::Result<(), Fail> {
     other.unprotected.key_id = Vec::from_slice(alloc, b"22")?;
     assert_eq!(rt;
         other
-            .tbs_data(alloc, README_AAD)
+            .tbs_data(alloc, README_EXTERNAL_AAD)
             .ok()
             .ok_or("memory")?
             .as_slice(),
@@ -261,17 +261,17 @@ fn verify(signature: &[u8], tbs: &[u8]) -> bool {
 
 /// The README's first example.
 fn example(alloc: Global) -> Result<bool> {
-    let aad = b"this is additional data";
+    let external_aad = b"this is additional data";
 
     let mut message = CoseSign1::new(alloc);
     message.protected.header.alg = Some(iana::Algorithm::ES256.into());
     message.protected.header.key_id = Vec::from_slice(alloc, b"11")?;
     message.payload = Some(Vec::from_slice(alloc, b"This is the content")?);
-    message.signature = sign(&message.tbs_data(alloc, aad)?)?;
+    message.signature = sign(&message.tbs_data(alloc, external_aad)?)?;
     let bytes = message.to_vec(alloc)?;
 
     let received = CoseSign1::from_slice(alloc, &bytes)?;
-    let tbs = received.tbs_data(alloc, aad)?;
+    let tbs = received.tbs_data(alloc, external_aad)?;
     Ok(verify(&received.signature, &tbs))
 }
 
@@ -364,7 +364,7 @@ fn structures(rt: HostRuntime) -> std::result::Result<(), Fail> {
 }
 
 fn signed(alloc: Global, message: &CoseSign1) -> Answer {
-    match message.tbs_data(alloc, README_AAD) {
+    match message.tbs_data(alloc, README_EXTERNAL_AAD) {
         Ok(bytes) if bytes.as_slice() == README_TBS => Answer::Same,
         Err(CoseError::OutOfMemory) => Answer::Refused,
         _ => Answer::Other,

@@ -18,7 +18,7 @@ fn check_nested<L: Ledger>(bytes: &[u8], steps: &mut Steps<L>) -> Result<usize, 
     check(bytes, steps)
 }
 
-/// The same with a counter of its own.
+/// A check of such arrays, with a counter of its own.
 fn check_counted<L: Ledger>(bytes: &[u8], blank: Blank) -> Result<usize, Error<EndOfFile>>
     requires name { blank.name ≡ L.name }
     requires parts { blank.parts ≡ L.parts }

@@ -1,5 +1,5 @@
 //! Calls with too little memory. The address space is filled, and then calls are made with ever more of it left: each
-//! answers the want of memory, or what it answers with ample memory, and each does both at some turn.
+//! answers that memory is out, or what it answers with ample memory, and each does both at some turn.
 
 use coset_shape::{CborSerializable, CoseError};
 use std::alloc::{AllocError, Global};

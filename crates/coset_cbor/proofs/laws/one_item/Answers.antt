@@ -1,5 +1,5 @@
-use Rattle.coset_cbor.proofs.Again.{texts_differ}
+use Rattle.coset_cbor.proofs.Again.{encodings_differ}
 use Rattle.coset_cbor.proofs.laws.one_item.Goals as goal
 
 pub returns : goal.returns
-returns c = texts_differ
+returns c = encodings_differ

@@ -3,7 +3,7 @@ use Rattle.std.proofs.Common.{ℕ, List, ◌++◌, ◌∷◌, [], length, drop, 
 use Rattle.std.specs.Prelude.{false}
 use Rattle.std.proofs.lemmas.Result.{err_from_is_err_and}
 use Rattle.coset_cbor.specs.Reading.{until_at, chunk_at, chunks_at}
-use Rattle.coset_cbor.proofs.Loops.{until_on, until_fails, until_stops, until_ends, joined-push, joins, fails_joined}
+use Rattle.coset_cbor.proofs.Loops.{until_on, until_fails, until_stops, until_ends, joined_chunks-push, joins, fails_joined}
 use Rattle.coset_cbor.proofs.string.byte_chunks.Goals as goal
 
 pub returns-in-Some : goal.returns-in-Some
@@ -25,7 +25,7 @@ loop-preserved c =
     let i = c.loop.invariant in
     let part = c.in_ok-chunk.chunk.now in (
       i.0 ++ part ∷ [],
-      joined-push i.0 part ∙ ap (λ (s : List ℕ). s ++ part) i.1 ∙ sym c.in_ok-extend_from_slice.ensures.items,
+      joined_chunks-push i.0 part ∙ ap (λ (s : List ℕ). s ++ part) i.1 ∙ sym c.in_ok-extend_from_slice.ensures.items,
       until_on (chunk_at false) i.0 (length c.args.bytes.now) c.loop.counter c.loop.rest.now part c.in_ok-chunk.after.now (until_at (chunk_at false) (length c.args.bytes.now) c.args.bytes.now) c.loop-test.true c.in_default.ensures c.in_ok-chunk.ensures i.2,
     )
 

@@ -1,6 +1,6 @@
 use Rattle.std.proofs.Common.{◌≡◌, ◌<◌, ◌^◌, refl, ◌++◌, length, arith, rules, sym, ap, ◌∙◌}
 use Rattle.coset_value.specs.Item.{array, dict, items_count, pairs_count}
-use Rattle.coset_cbor.specs.Least.{short, shorts, pair_shorts, least_head}
+use Rattle.coset_cbor.specs.Least.{least_encoding, least_encodings, least_pair_encodings, least_head}
 use Rattle.coset_value.specs.View.{view, items_view, pairs_view}
 use Rattle.coset_cbor.proofs.Kept.{item_put, pair_put, item_in_range, pair_in_range, headed_put, items_count-items_view, pairs_count-pairs_view, view-Array, view-Map, view-Tag, in_range_of}
 use Rattle.coset_cbor.proofs.write.+put.Goals as goal
@@ -9,15 +9,15 @@ pub put-returns-in_ok-put_head-in-Array-clause-ok : goal.put-returns-in_ok-put_h
 put-returns-in_ok-put_head-in-Array-clause-ok t c =
     let v = c.in-Array.items in
     let len : c.len.result ≡ length v.items = search rules in
-    headed_put c.put_items.result 4 c.len.result (items_count (items_view v.items)) (shorts (items_view v.items)) c.args.out.now.items c.put_head-in-Array.new.out.items c.put_items.new.out.items (short (view c.args.value.now))
-    (ap (λ x. short (view x)) c.in-Array.is ∙ ap short (view-Array v)) (len ∙ sym (items_count-items_view v.items)) c.in_ok-put_head-in-Array.ensures.ok c.put_items.ensures.ok
+    headed_put c.put_items.result 4 c.len.result (items_count (items_view v.items)) (least_encodings (items_view v.items)) c.args.out.now.items c.put_head-in-Array.new.out.items c.put_items.new.out.items (least_encoding (view c.args.value.now))
+    (ap (λ x. least_encoding (view x)) c.in-Array.is ∙ ap least_encoding (view-Array v)) (len ∙ sym (items_count-items_view v.items)) c.in_ok-put_head-in-Array.ensures.ok c.put_items.ensures.ok
 
 pub put-returns-in_ok-put_head-in-Map-clause-ok : goal.put-returns-in_ok-put_head-in-Map-clause-ok
 put-returns-in_ok-put_head-in-Map-clause-ok t c =
     let v = c.in-Map.pairs in
     let len : c.len-in-Map.result ≡ length v.items = search rules in
-    headed_put c.put_pairs.result 5 c.len-in-Map.result (pairs_count (pairs_view v.items)) (pair_shorts (pairs_view v.items)) c.args.out.now.items c.put_head-in-Map.new.out.items c.put_pairs.new.out.items (short (view c.args.value.now))
-    (ap (λ x. short (view x)) c.in-Map.is ∙ ap short (view-Map v)) (len ∙ sym (pairs_count-pairs_view v.items)) c.in_ok-put_head-in-Map.ensures.ok c.put_pairs.ensures.ok
+    headed_put c.put_pairs.result 5 c.len-in-Map.result (pairs_count (pairs_view v.items)) (least_pair_encodings (pairs_view v.items)) c.args.out.now.items c.put_head-in-Map.new.out.items c.put_pairs.new.out.items (least_encoding (view c.args.value.now))
+    (ap (λ x. least_encoding (view x)) c.in-Map.is ∙ ap least_encoding (view-Map v)) (len ∙ sym (pairs_count-pairs_view v.items)) c.in_ok-put_head-in-Map.ensures.ok c.put_pairs.ensures.ok
 
 pub put_items-loop-item-preserved : goal.put_items-loop-item-preserved
 put_items-loop-item-preserved t c = record {
@@ -34,10 +34,10 @@ put_pairs-loop-key-preserved t c = record {
 pub put-returns-in_ok-put_head-in-Tag-clause-ok : goal.put-returns-in_ok-put_head-in-Tag-clause-ok
 put-returns-in_ok-put_head-in-Tag-clause-ok t c =
     let n = c.in-Tag.number in
-    let inner = short (view c.in-Tag.inside.value) in
+    let inner = least_encoding (view c.in-Tag.inside.value) in
     let same : view c.deref-in-Tag.result.now ≡ view c.in-Tag.inside.value = ap view c.deref-in-Tag.ensures in
-    headed_put c.put.result 6 n n (short (view c.deref-in-Tag.result.now)) c.args.out.now.items c.put_head.new.out.items c.put.new.out.items (short (view c.args.value.now))
-    (ap (λ x. short (view x)) c.in-Tag.is ∙ ap short (view-Tag n c.in-Tag.inside) ∙ ap (λ v. least_head 6 n ++ short v) (sym same)) refl c.in_ok-put_head-in-Tag.ensures.ok c.put.ensures.ok
+    headed_put c.put.result 6 n n (least_encoding (view c.deref-in-Tag.result.now)) c.args.out.now.items c.put_head.new.out.items c.put.new.out.items (least_encoding (view c.args.value.now))
+    (ap (λ x. least_encoding (view x)) c.in-Tag.is ∙ ap least_encoding (view-Tag n c.in-Tag.inside) ∙ ap (λ v. least_head 6 n ++ least_encoding v) (sym same)) refl c.in_ok-put_head-in-Tag.ensures.ok c.put.ensures.ok
 
 pub put-returns-in_ok-put_head-in-Array-clause-in_range : goal.put-returns-in_ok-put_head-in-Array-clause-in_range
 put-returns-in_ok-put_head-in-Array-clause-in_range t c =

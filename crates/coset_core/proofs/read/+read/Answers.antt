@@ -14,9 +14,9 @@ use Rattle.coset_core.specs.declared.header.Header.{out-roll-Header}
 use Rattle.coset_core.specs.declared.protected.ProtectedHeader.{out-roll-ProtectedHeader}
 use Rattle.coset_core.specs.declared.signature.CoseSignature.{out-roll-CoseSignature}
 use Rattle.coset_core.proofs.Reading.{not_filled, no_string, no_layer_left, content_faulty, content_described, last_at, last_filled, none_more}
-use Rattle.coset_core.proofs.Forward.{not_entered, none_held_yet, set_out, pairs_refused, ends_plain, counters_refused, counters_filled, second_refused, ends_with_counters, one_filled, more_filled, one_filled_more, one_refused_more, places_refused, second_read, last_refused, places_filled}
+use Rattle.coset_core.proofs.Forward.{not_entered, none_held_yet, set_out, pairs_refused, ends_plain, counter_signatures_refused, counter_signatures_filled, second_refused, ends_with_counter_signatures, one_filled, more_filled, one_filled_more, one_refused_more, places_refused, second_read, last_refused, places_filled}
 use Rattle.coset_core.proofs.read.+read.Goals as goal
-use Rattle.coset_core.proofs.read.+read.Goals.{fill_counters-then-one, fill_counters-else-one}
+use Rattle.coset_core.proofs.read.+read.Goals.{fill_counter_signatures-then-one, fill_counter_signatures-else-one}
 
 pub fill_protected-returns-in_err-content : goal.fill_protected-returns-in_err-content
 fill_protected-returns-in_err-content t c =
@@ -44,13 +44,13 @@ fill_protected-returns t c =
     (content_described k (k - 1) (source_item c.args.source) b h (omega (arith, c.if-layers-eq0.false)) c.in_ok-content.ensures.read
     (subst (λ s. ContentDescribes empty_header (layered_header (k - 1)) s h) c.deref.ensures.value c.in_ok-fill_content.ensures))
 
-pub fill_counters-returns-clause-fills : goal.fill_counters-returns-clause-fills
-fill_counters-returns-clause-fills t c = elim c.if-one.branch [
-  | fill_counters-then-one w ↦ λ v z stands.
+pub fill_counter_signatures-returns-clause-fills : goal.fill_counter_signatures-returns-clause-fills
+fill_counter_signatures-returns-clause-fills t c = elim c.if-one.branch [
+  | fill_counter_signatures-then-one w ↦ λ v z stands.
       let here = c.in_ok-one.ensures.enters v z stands in
       let read = w.fill_one-filled.ensures.fills here.0 z here.2 in
       (c.finish.ensures.passes read.0.0 z (rw (w.members-is, w.input-is) read.0.1), rw (w.all-is, w.filled-is) (one_filled (layered_signature c.args.layers) v here.0 _ _ here.1 (rw w.if-one.true at here.3) read.1))
-  | fill_counters-else-one w ↦ λ v z stands.
+  | fill_counter_signatures-else-one w ↦ λ v z stands.
       let here = c.in_ok-one.ensures.enters v z stands in
       let read = w.fill_each-filled.ensures.fills here.0 z here.2 in
       (c.finish.ensures.passes read.0.0 z (rw (w.members-is, w.input-is) read.0.1), rw (w.all-is, w.filled-is) (more_filled (layered_signature c.args.layers) v here.0 _ _ here.1 (rw w.if-one.false at here.3) read.1))
@@ -109,25 +109,25 @@ fill_pairs-returns-then-not-branch-clause-fills t c = λ all z within.
     ends_plain c.args.layers all z c.fill_fields.new.header (state c.fill_fields.new.input) c.fill_fields.new.pairs (read.fills all all None z (set_out c.args.header.now all c.requires.empty) within) read.one_iv
     (read.others ∙ none_held_yet c.args.header.now c.requires.empty)
 
-pub fill_pairs-fill_counters-requires : goal.fill_pairs-fill_counters-requires
-fill_pairs-fill_counters-requires t c =
+pub fill_pairs-fill_counter_signatures-requires : goal.fill_pairs-fill_counter_signatures-requires
+fill_pairs-fill_counter_signatures-requires t c =
     let read = rw c.if-not-branch.false at c.in_ok-fill_fields.ensures in
     let inner = read.value refl in
     (omega (arith, inner, c.decreases), ap (map signature_seen) (read.others ∙ none_held_yet c.args.header.now c.requires.empty))
 
-pub fill_pairs-returns-in_err-fill_counters-clause-fills : goal.fill_pairs-returns-in_err-fill_counters-clause-fills
-fill_pairs-returns-in_err-fill_counters-clause-fills t c = λ all z within.
+pub fill_pairs-returns-in_err-fill_counter_signatures-clause-fills : goal.fill_pairs-returns-in_err-fill_counter_signatures-clause-fills
+fill_pairs-returns-in_err-fill_counter_signatures-clause-fills t c = λ all z within.
     let read = rw c.if-not-branch.false at c.in_ok-fill_fields.ensures in
     let seven = (read.fills all all None z (set_out c.args.header.now all c.requires.empty) within).0 in
-    counters_refused c.args.layers all None (fields_seen c.fill_fields.new.header) (state c.fill_fields.new.input) (state c.fill_counters.new.input) z c.fill_fields.new.pairs (map signature_seen c.fill_counters.new.all.items) _
-    c.from_residual-in_err-fill_counters.result c.in_err-fill_counters.field-0.0 c.from_residual-in_err-fill_counters.ensures.1 seven c.in_err-fill_counters.ensures.fills
+    counter_signatures_refused c.args.layers all None (fields_seen c.fill_fields.new.header) (state c.fill_fields.new.input) (state c.fill_counter_signatures.new.input) z c.fill_fields.new.pairs (map signature_seen c.fill_counter_signatures.new.all.items) _
+    c.from_residual-in_err-fill_counter_signatures.result c.in_err-fill_counter_signatures.field-0.0 c.from_residual-in_err-fill_counter_signatures.ensures.1 seven c.in_err-fill_counter_signatures.ensures.fills
 
 pub fill_pairs-returns-in_err-fill_fields-2-clause-fills : goal.fill_pairs-returns-in_err-fill_fields-2-clause-fills
 fill_pairs-returns-in_err-fill_fields-2-clause-fills t c = λ all z within.
     let read = rw c.if-not-branch.false at c.in_ok-fill_fields.ensures in
     let seven = (read.fills all all None z (set_out c.args.header.now all c.requires.empty) within).0 in
-    let g = counters_filled c.args.layers all (fields_seen c.fill_fields.new.header) _ (state c.fill_fields.new.input) (state c.fill_counters.new.input) z c.fill_fields.new.pairs (map signature_seen c.fill_counters.new.all.items)
-    (ap fields_level (out-roll-Header _)) seven c.in_ok-fill_counters.ensures.fills in
+    let g = counter_signatures_filled c.args.layers all (fields_seen c.fill_fields.new.header) _ (state c.fill_fields.new.input) (state c.fill_counter_signatures.new.input) z c.fill_fields.new.pairs (map signature_seen c.fill_counter_signatures.new.all.items)
+    (ap fields_level (out-roll-Header _)) seven c.in_ok-fill_counter_signatures.ensures.fills in
     pairs_refused c.args.layers all (Some g.value) z (fields_seen c.fill_fields-2.new.header) (state c.fill_fields-2.new.input) c.fill_fields-2.new.pairs _ c.from_residual-in_err-fill_fields-2.result c.in_err-fill_fields-2.field-0.0
     c.from_residual-in_err-fill_fields-2.ensures.1 (c.in_err-fill_fields-2.ensures.fills all g.others (Some g.value) z g.walks g.within)
 
@@ -135,8 +135,8 @@ pub fill_pairs-returns-then-branch-clause-fills : goal.fill_pairs-returns-then-b
 fill_pairs-returns-then-branch-clause-fills t c = λ all z within.
     let read = rw c.if-not-branch.false at c.in_ok-fill_fields.ensures in
     let seven = (read.fills all all None z (set_out c.args.header.now all c.requires.empty) within).0 in
-    let g = counters_filled c.args.layers all (fields_seen c.fill_fields.new.header) _ (state c.fill_fields.new.input) (state c.fill_counters.new.input) z c.fill_fields.new.pairs (map signature_seen c.fill_counters.new.all.items)
-    (ap fields_level (out-roll-Header _)) seven c.in_ok-fill_counters.ensures.fills in
+    let g = counter_signatures_filled c.args.layers all (fields_seen c.fill_fields.new.header) _ (state c.fill_fields.new.input) (state c.fill_counter_signatures.new.input) z c.fill_fields.new.pairs (map signature_seen c.fill_counter_signatures.new.all.items)
+    (ap fields_level (out-roll-Header _)) seven c.in_ok-fill_counter_signatures.ensures.fills in
     let again = rw c.if-branch.true at c.in_ok-fill_fields-2.ensures in
     second_refused c.args.layers all g.value (fields_seen c.fill_fields-2.new.header) (state c.fill_fields-2.new.input) (state c.refuse_second.new.input) z c.fill_fields-2.new.pairs _ c.refuse_second.result
     (again.fills all g.others (Some g.value) z g.walks g.within).0 c.refuse_second.ensures.passes
@@ -145,10 +145,10 @@ pub fill_pairs-returns-clause-fills : goal.fill_pairs-returns-clause-fills
 fill_pairs-returns-clause-fills t c = λ all z within.
     let read = rw c.if-not-branch.false at c.in_ok-fill_fields.ensures in
     let seven = (read.fills all all None z (set_out c.args.header.now all c.requires.empty) within).0 in
-    let g = counters_filled c.args.layers all (fields_seen c.fill_fields.new.header) _ (state c.fill_fields.new.input) (state c.fill_counters.new.input) z c.fill_fields.new.pairs (map signature_seen c.fill_counters.new.all.items)
-    (ap fields_level (out-roll-Header _)) seven c.in_ok-fill_counters.ensures.fills in
+    let g = counter_signatures_filled c.args.layers all (fields_seen c.fill_fields.new.header) _ (state c.fill_fields.new.input) (state c.fill_counter_signatures.new.input) z c.fill_fields.new.pairs (map signature_seen c.fill_counter_signatures.new.all.items)
+    (ap fields_level (out-roll-Header _)) seven c.in_ok-fill_counter_signatures.ensures.fills in
     let again = rw c.if-branch.false at c.in_ok-fill_fields-2.ensures in
-    ends_with_counters c.args.layers all z c.fill_fields-2.new.header (state c.fill_fields-2.new.input) (state c.fill_counters.new.input) c.fill_fields.new.pairs c.fill_fields-2.new.pairs _ c.fill_counters.new.all.items g
+    ends_with_counter_signatures c.args.layers all z c.fill_fields-2.new.header (state c.fill_fields-2.new.input) (state c.fill_counter_signatures.new.input) c.fill_fields.new.pairs c.fill_fields-2.new.pairs _ c.fill_counter_signatures.new.all.items g
     (again.fills all g.others (Some g.value) z g.walks g.within) again.one_iv (again.others ∙ ap (λ h. h.counter_signatures.items) (out-roll-Header _))
 
 pub fill_places-returns-in_err-protected-clause-fills : goal.fill_places-returns-in_err-protected-clause-fills

@@ -15,8 +15,8 @@ decreases-fill_header l = layer * l.layers + 8 * size (state l.input.now) + 2
 abbrev pub decreases-fill_pairs : goal.decreases-fill_pairs
 decreases-fill_pairs l = layer * l.layers + 8 * pairs_size l.pairs.now (state l.input.now) + 4
 
-abbrev pub decreases-fill_counters : goal.decreases-fill_counters
-decreases-fill_counters l = layer * l.layers + 8 * size (state l.input.now) + 3
+abbrev pub decreases-fill_counter_signatures : goal.decreases-fill_counter_signatures
+decreases-fill_counter_signatures l = layer * l.layers + 8 * size (state l.input.now) + 3
 
 abbrev pub decreases-fill_one : goal.decreases-fill_one
 decreases-fill_one l = layer * l.layers + 8 * items_size l.members.now (state l.input.now) + 8

@@ -8,16 +8,16 @@ use Rattle.coset_core.specs.Views.{header_seen, protected_seen, signature_seen}
 use Rattle.coset_core.specs.Written.{AppendsSignatures, signature_array, count_pairs}
 use Rattle.coset_core.specs.declared.header.Header.{out-Header}
 use Rattle.coset_core.specs.declared.signature.CoseSignature.{out-CoseSignature}
-use Rattle.coset_core.proofs.Keeping.{kept-read, kept-fresh}
+use Rattle.coset_core.proofs.Keeping.{protected_bytes-read, protected_bytes-fresh}
 use Rattle.coset_core.proofs.Writing.{taken, around}
-use Rattle.coset_core.proofs.WritingHeaders.{passes, unencoded, string-put, signature-put, counters-put, map-put, unwritten-rest, unwritten-counters, signatures-push, signatures-none}
+use Rattle.coset_core.proofs.WritingHeaders.{passes, unencoded, string-put, signature-put, counter_signatures-put, map-put, unwritten-rest, unwritten-counter_signatures, signatures-push, signatures-none}
 use Rattle.coset_core.proofs.write.+write.Goals as goal
 
-pub write_counters-returns-clause-ok : goal.write_counters-returns-clause-ok
-write_counters-returns-clause-ok t c =
+pub write_counter_signatures-returns-clause-ok : goal.write_counter_signatures-returns-clause-ok
+write_counter_signatures-returns-clause-ok t c =
     let ss = c.args.signatures.now in
-    counters-put (map signature_seen ss) _ _ _ _ _ (rw (length-map ss signature_seen) (search rules)) (sym (length-map ss signature_seen)) (omega arith)
-    c.in_ok-write_number.ensures c.in_ok-write_counters_head.ensures.bare c.in_ok-write_counters_head.ensures.array c.in_ok-write_signatures.ensures.ok
+    counter_signatures-put (map signature_seen ss) _ _ _ _ _ (rw (length-map ss signature_seen) (search rules)) (sym (length-map ss signature_seen)) (omega arith)
+    c.in_ok-write_number.ensures c.in_ok-write_counter_signatures_head.ensures.one c.in_ok-write_counter_signatures_head.ensures.array c.in_ok-write_signatures.ensures.ok
 
 pub write_header-returns-in_err-ask_distinct : goal.write_header-returns-in_err-ask_distinct
 write_header-returns-in_err-ask_distinct t c =
@@ -25,11 +25,11 @@ write_header-returns-in_err-ask_distinct t c =
     unencoded c.from_residual.result c.in_err-ask_distinct.field-0.0 _ (header_image (header_seen c.args.header.now)) _ _ c.from_residual.ensures.1
     (λ e. ap header_image (header-opened c.args.header.now) ∙ unwritten-rest x e) (rw c.deref.ensures.value at c.in_err-ask_distinct.ensures.refused)
 
-pub write_header-returns-in_err-write_counters : goal.write_header-returns-in_err-write_counters
-write_header-returns-in_err-write_counters t c =
+pub write_header-returns-in_err-write_counter_signatures : goal.write_header-returns-in_err-write_counter_signatures
+write_header-returns-in_err-write_counter_signatures t c =
     let x = header_level (out-Header c.args.header.now) in
-    unencoded c.from_residual-in_err-write_counters.result c.in_err-write_counters.field-0.0 _ (header_image (header_seen c.args.header.now)) _ _ c.from_residual-in_err-write_counters.ensures.1
-    (λ e. ap header_image (header-opened c.args.header.now) ∙ unwritten-counters x e) (rw c.deref-2.ensures.value at c.in_err-write_counters.ensures.refused)
+    unencoded c.from_residual-in_err-write_counter_signatures.result c.in_err-write_counter_signatures.field-0.0 _ (header_image (header_seen c.args.header.now)) _ _ c.from_residual-in_err-write_counter_signatures.ensures.1
+    (λ e. ap header_image (header-opened c.args.header.now) ∙ unwritten-counter_signatures x e) (rw c.deref-2.ensures.value at c.in_err-write_counter_signatures.ensures.refused)
 
 pub write_header-returns : goal.write_header-returns
 write_header-returns t c =
@@ -38,7 +38,7 @@ write_header-returns t c =
     (map-put (header_level (out-Header c.args.header.now)) c.count.result _ _ _ _ _
     (rw c.deref.ensures.value at c.in_ok-ask_distinct.ensures.ok) (c.count.ensures ∙ ap count_pairs opened) (omega arith) c.in_ok-write_map_head.ensures.ok
     (rw opened at c.in_ok-write_fields.ensures)
-    (rw c.deref-2.ensures.value at c.in_ok-write_counters.ensures.ok)
+    (rw c.deref-2.ensures.value at c.in_ok-write_counter_signatures.ensures.ok)
     (rw c.deref-3.ensures.value at c.in_ok-write_rest.ensures))
 
 pub write_signature-returns : goal.write_signature-returns
@@ -72,7 +72,7 @@ write_protected-returns-in-Some t c =
     let b = c.in-Some.bytes.items in
     let read = ap (λ p. p.original) (protected-opened c.args.protected.now) ∙ ap (option_map (λ v. v.items)) c.in-Some.is in
     let put : AppendsItem c.args.out.now.items c.write_bytes.new.out.items (bytes c.deref.result.now) = record { in_range = c.in_ok-write_bytes.ensures.in_range; parts = c.in_ok-write_bytes.ensures.ok } in
-    string-put p b _ _ (kept-read p b read) (rw c.deref.ensures.value at put)
+    string-put p b _ _ (protected_bytes-read p b read) (rw c.deref.ensures.value at put)
 
 pub write_protected-returns : goal.write_protected-returns
 write_protected-returns t c =
@@ -80,4 +80,4 @@ write_protected-returns t c =
     let opened = protected-opened c.args.protected.now in
     let unread = ap (λ p. p.original) opened ∙ ap (option_map (λ v. v.items)) c.in_default.is in
     let put : AppendsItem c.args.out.now.items c.write_bytes-2.new.out.items (bytes c.deref-2.result.now) = record { in_range = c.in_ok-write_bytes-2.ensures.in_range; parts = c.in_ok-write_bytes-2.ensures.ok } in
-    string-put p c.in_ok-bytes.bytes.items _ _ (kept-fresh p _ unread (ap (λ p. p.header) opened) ∙ c.in_ok-bytes.ensures.ok) (rw c.deref-2.ensures.value at put)
+    string-put p c.in_ok-bytes.bytes.items _ _ (protected_bytes-fresh p _ unread (ap (λ p. p.header) opened) ∙ c.in_ok-bytes.ensures.ok) (rw c.deref-2.ensures.value at put)

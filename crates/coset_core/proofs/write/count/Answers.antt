@@ -22,5 +22,5 @@ returns c =
     let key : c.one-4.result ≡ one (not (length x.key_id.items == 0)) = search rules in
     let iv : c.one-5.result ≡ one (not (length x.iv.items == 0)) = search rules in
     let part : c.one-6.result ≡ one (not (length x.partial_iv.items == 0)) = search rules in
-    let counters : c.one-7.result ≡ one (not (length x.counter_signatures.items == 0)) = search rules in
-    (λ i. rest i + alg i + crit i + kind i + key i + iv i + part i + counters i) ∙ (counted x ∙ sym (ap count_pairs (header-opened c.args.header.now)))
+    let counter_signatures : c.one-7.result ≡ one (not (length x.counter_signatures.items == 0)) = search rules in
+    (λ i. rest i + alg i + crit i + kind i + key i + iv i + part i + counter_signatures i) ∙ (counted x ∙ sym (ap count_pairs (header-opened c.args.header.now)))

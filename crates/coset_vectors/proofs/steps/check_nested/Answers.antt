@@ -2,12 +2,12 @@ use Rattle.std.proofs.Common.{◌≡◌, ℕ, ◌+◌, ◌≤◌, List, [], ◌�
 use Rattle.std.specs.Prelude.{IfOk, IfErr}
 use Rattle.std.proofs.lemmas.List.{length-take, length-append, length-replicate}
 use Rattle.coset_cbor.specs.Item.{Item}
-use Rattle.coset_cbor.specs.Grammar.{IsText, IsItem}
+use Rattle.coset_cbor.specs.Grammar.{IsEncoding, IsItem}
 use Rattle.coset_cbor.specs.Cost.{IsCost}
 use Rattle.coset_vectors.proofs.steps.check_nested.Goals as goal
 
 abbrev OneItem : Type 0
-OneItem = (v w : Item) (b c x y : List ℕ) → IsText v b → IsText w c → b ++ x ≡ c ++ y → (v ≡ w) × (b ≡ c)
+OneItem = (v w : Item) (b c x y : List ℕ) → IsEncoding v b → IsEncoding w c → b ++ x ≡ c ++ y → (v ≡ w) × (b ≡ c)
 
 abbrev Costs : Type 0
 Costs = (n k : ℕ) (v : Item) → IsCost v (replicate n 0x81 ++ 0x80 ∷ []) k → k ≡ n + 1

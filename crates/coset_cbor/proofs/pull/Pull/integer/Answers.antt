@@ -11,5 +11,5 @@ pub returns : goal.returns
 returns c =
     let b = c.args.self.now.bytes.now in
     let start = c.in-Ok.start in
-    c.integer_of.ensures ∙ integer_is (things (item_at 255)) (length b) (argument_from start.info start.number) start.kind c.in-Ok.field-0-1.now (item_of b, [])
+    c.integer_of.ensures ∙ integer_is (things (item_at 255)) (length b) (argument_from start.info start.number) start.major_type c.in-Ok.field-0-1.now (item_of b, [])
     (one_item_by b (head_from start, c.in-Ok.field-0-1.now) c.args.self.now.checked c.in-Ok.ensures)

@@ -56,10 +56,10 @@ returns-else-is_empty-5 c =
       | then-is_empty-3 w ↦ search rules
       | else-is_empty-3 w ↦ search rules
     ] in
-    let counters : c.if-is_empty-4.value ≡ c.if-is_empty-3.value && length x.counter_signatures.items == 0 = elim c.if-is_empty-4.branch [
+    let counter_signatures : c.if-is_empty-4.value ≡ c.if-is_empty-3.value && length x.counter_signatures.items == 0 = elim c.if-is_empty-4.branch [
       | then-is_empty-4 w ↦ search rules
       | else-is_empty-4 w ↦ search rules
     ] in
-    let all = rw (part, iv, key, kind, crit) at counters in
+    let all = rw (part, iv, key, kind, crit) at counter_signatures in
     let tested : c.if-is_empty-4.value ≡ Tests x = stays _ _ (length x.rest.items == 0) all c.if-is_empty-5.false ∙ simp and_assoc in
     tested ∙ sym (ap is_empty_header (header-opened c.args.self.now) ∙ tests x)

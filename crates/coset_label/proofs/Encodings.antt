@@ -1,0 +1,39 @@
+-- Labels by their shortest encodings.
+use Rattle.std.proofs.Common.{◌≡◌, ◌<◌, ◌^◌, ℕ, List, Ordering, sym, ◌∙◌, ap, arith}
+use Rattle.std.specs.Prelude.{pos, negsuc, length}
+use Rattle.coset_value.specs.Item.{Item}
+use Rattle.coset_value.specs.Range.{IsInRange}
+use Rattle.coset_cbor.specs.Grammar.{Place, within, one, two, four, eight, Holds}
+use Rattle.coset_cbor.specs.Least.{least_encoding}
+use Rattle.coset_cbor.specs.Shortest.{IsShortest}
+use Rattle.coset_label.specs.Names.{Name, number, word, name_item, IsNamed, ComparesEncodings}
+
+-- what a head holds is below 2 ^ 64
+holds-below : (p : Place) (n : ℕ) → Holds p n → n < 2 ^ 64
+holds-below within n h = omega (arith, h)
+holds-below one n h = omega (arith, h)
+holds-below two n h = omega (arith, h)
+holds-below four n h = omega (arith, h)
+holds-below eight n h = h
+
+-- what has an encoding is within CBOR's ranges
+in-range : (a : Name) (s : List ℕ) → IsShortest s (name_item a) → IsInRange (name_item a)
+in-range (number (pos n)) s h = holds-below h.definite.place n h.definite.holds
+in-range (number (negsuc n)) s h = holds-below h.definite.place n h.definite.holds
+in-range (word b) s h = (holds-below h.definite.1.is_head.place (length b) h.definite.1.is_head.holds, h.definite.0)
+
+named : (a : Name) → IsInRange (name_item a) → IsNamed a
+named (number (pos n)) h = h
+named (number (negsuc n)) h = h
+named (word b) h = h.0
+
+abbrev pub OneShortest : Type 0
+OneShortest = (v : Item) (b : List ℕ) → IsInRange v → IsShortest b v → b ≡ least_encoding v
+
+-- an order R of encodings orders labels by their shortest ones where it agrees with C on those that `least_encoding` makes
+pub by-encodings : OneShortest → (R : List ℕ → List ℕ → Ordering) (C : Name → Name → Ordering)
+    → ((a b : Name) → IsNamed a → IsNamed b → R (least_encoding (name_item a)) (least_encoding (name_item b)) ≡ C a b) → (a b : Name) → ComparesEncodings R a b (C a b)
+by-encodings law R C agree a b s t p q =
+    let r = in-range a s p in
+    let w = in-range b t q in
+    sym (agree a b (named a r) (named b w)) ∙ (ap (λ x. R x (least_encoding (name_item b))) (sym (law (name_item a) s r p)) ∙ ap (R s) (sym (law (name_item b) t w q)))
