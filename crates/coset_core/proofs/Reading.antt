@@ -6,7 +6,8 @@ use Rattle.coset_value.specs.Parts.{as_bytes}
 use Rattle.coset_cbor.specs.declared.de.Error.TheVariants.{RecursionLimitExceeded}
 use Rattle.coset_shape.specs.declared.error.CoseError.{CoseError}
 use Rattle.coset_shape.specs.declared.error.CoseError.TheVariants.{DecodeFailed}
-use Rattle.coset_shape.specs.Answers.{Reads}
+use Rattle.coset_shape.specs.Answers.{Reads, RefusesItem}
+use Rattle.coset_shape.specs.ShapeLaws.{Lawful}
 use Rattle.coset_shape.specs.Errors.{UnlessMemory, IsUnexpected}
 use Rattle.coset_shape.specs.declared.input.InputItems.{InputItems}
 use Rattle.coset_shape.specs.Inputs.{State, AreWithin}
@@ -20,6 +21,11 @@ use Rattle.std.proofs.lemmas.List.{map-append}
 use Rattle.coset_core.specs.Fields.{FieldsSeen, partial_header}
 use Rattle.coset_core.specs.HeaderReads.{counter_signatures_read, header_read}
 use Rattle.coset_core.specs.Headers.{HeaderSeen, SignatureSeen, empty_header, layered_header, layered_protected, layered_signature, no_signatures, signatures_of, with_counter_signatures}
+
+-- what is refused describes nothing
+pub refuses_item : {T A : Type 0} (s : Shape A) → Lawful A s → (seen : T → A) (v : Item) (r : Result T CoseError) → Reads s seen v r → RefusesItem s v r
+refuses_item s l seen v (Ok x) p = tt
+refuses_item s l seen v (Err e) p = λ n x d. l.sound v x e d (p n)
 
 -- an error that is passed on
 pub passed_on : {T A : Type 0} (s : Shape A) (seen : T → A) (v : Item) (r : Result T CoseError) (e : CoseError) → IsErrAnd r (λ f. f ≡ e) → UnlessMemory e (s.faults v) → Reads s seen v r

@@ -5,7 +5,7 @@ ghost use Rattle.std.specs.Cow.{cow_slice_items};
 ghost use Rattle.coset_value.specs.View.{view};
 ghost use Rattle.coset_cbor.specs.Pulls.{pull_item};
 ghost use Rattle.coset_shape.specs.declared.error.CoseError.TheVariants.{DuplicateMapKey};
-ghost use Rattle.coset_shape.specs.Answers.{Reads, Images, ReadsSlice, AllocatesForItems, RefusesSlice};
+ghost use Rattle.coset_shape.specs.Answers.{Reads, Images, ReadsSlice, AllocatesForItems, RefusesSlice, RefusesItem};
 ghost use Rattle.coset_shape.specs.Sources.{source_item};
 ghost use Rattle.coset_core.specs.ProtectedMap.{protected_map, protected_map_laws};
 ghost use Rattle.coset_core.specs.Headers.{empty_header, is_empty_header, protected_bytes, protected as protected_shape};
@@ -58,7 +58,8 @@ impl ProtectedHeader {
     /// `OutOfMemory`, or the first fault found: the value is no byte string (`UnexpectedItem`), what it holds isn't an
     /// item within 256 levels (`DecodeFailed`), others follow that (`ExtraneousData`), or it isn't a header.
     pub fn from_cbor_bstr(alloc: Global, value: Value) -> Result<ProtectedHeader>
-        ensures { Reads protected_shape protected_seen (view value) result }
+        ensures read { Reads protected_shape protected_seen (view value) result }
+        ensures refused { RefusesItem protected_shape (view value) result }
     {
         ProtectedHeader::from_source_bstr(alloc, Source::Tree(value))
     }
@@ -68,7 +69,8 @@ impl ProtectedHeader {
     /// # Errors
     /// The same as [`ProtectedHeader::from_cbor_bstr`].
     pub fn from_pull_bstr(alloc: Global, pull: Pull<'_>) -> Result<ProtectedHeader>
-        ensures { Reads protected_shape protected_seen (pull_item pull.entry) result }
+        ensures read { Reads protected_shape protected_seen (pull_item pull.entry) result }
+        ensures refused { RefusesItem protected_shape (pull_item pull.entry) result }
     {
         ProtectedHeader::from_source_bstr(alloc, Source::Lent(pull))
     }
@@ -78,7 +80,8 @@ impl ProtectedHeader {
     /// # Errors
     /// The same as [`ProtectedHeader::from_cbor_bstr`].
     pub fn from_source_bstr(alloc: Global, source: Source<'_>) -> Result<ProtectedHeader>
-        ensures { Reads protected_shape protected_seen (source_item source.entry) result }
+        ensures read { Reads protected_shape protected_seen (source_item source.entry) result }
+        ensures refused { RefusesItem protected_shape (source_item source.entry) result }
     {
         read_protected(alloc, source)
     }

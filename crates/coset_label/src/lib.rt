@@ -10,6 +10,6 @@ mod ordering;
 mod registered;
 
 pub use label::Label;
-pub use names::{Algorithm, ContentType, KeyOperation, KeyType};
+pub use names::{Algorithm, ClaimName, ContentType, KeyOperation, KeyType};
 pub use ordering::CborOrdering;
 pub use registered::{RegisteredLabel, RegisteredLabelWithPrivate};

@@ -3,7 +3,7 @@
 ghost use Rattle.std.specs.Prelude.{◌≡◌};
 
 use crate::registered::{RegisteredLabel, RegisteredLabelWithPrivate};
-use coset_iana::{CoapContentFormat, EnumI64, KeyOperation as Operation, KeyType as Kind};
+use coset_iana::{CoapContentFormat, CwtClaimName, EnumI64, KeyOperation as Operation, KeyType as Kind};
 
 /// A content type: a format of CoAP, or a text (RFC 8152, section 3.1).
 pub type ContentType = RegisteredLabel<CoapContentFormat>;
@@ -16,6 +16,9 @@ pub type KeyOperation = RegisteredLabel<Operation>;
 
 /// An algorithm (RFC 8152, section 16.4).
 pub type Algorithm = RegisteredLabelWithPrivate<coset_iana::Algorithm>;
+
+/// A claim's name in a CBOR web token (RFC 8392, section 4), with its range for private use.
+pub type ClaimName = RegisteredLabelWithPrivate<CwtClaimName>;
 
 impl Default for Algorithm {
     ghost use Rattle.coset_iana.specs.declared.algorithms.Algorithm.TheVariants.{Reserved};

@@ -73,6 +73,10 @@ DescribesNothing {A} shape s = (x : A) → Describes shape s x → ⊥
 abbrev pub RefusesSlice : {T A : Type 0} → Shape A → List ℕ → Result T CoseError → Type 0
 RefusesSlice shape s r = IfErr r (λ e. UnlessMemory e (λ _. DescribesNothing shape s))
 
+-- Reading the item v is refused, out of memory aside, only where it describes no value
+abbrev pub RefusesItem : {T A : Type 0} → Shape A → Item → Result T CoseError → Type 0
+RefusesItem {T} {A} s v r = IfErr r (λ e. UnlessMemory e (λ _. (x : A) → s.describes v x → ⊥))
+
 -- the item under the tag of that number; or another tag, or none
 abbrev pub Untags : {T : Type 0} → ℕ → Item → (T → Item) → Result T CoseError → Type 0
 Untags number v item_of (Ok x) = as_tag v ≡ Some (number, item_of x)

@@ -159,7 +159,7 @@ abbrev pub tagged : {A : Type 0} → ℕ → Shape A → Shape A
 tagged number s = record {
   describes = λ v x. (w : Item) × (as_tag v ≡ Some (number, w)) × s.describes w x;
   image = λ x. option_map (tag number) (s.image x);
-  faults = λ v e. ((as_tag v ≡ None) × IsUnexpected e) ⊎ ((t : ℕ) × (w : Item) × (as_tag v ≡ Some (t, w)) × (((t ≢ number) × IsUnexpected e) ⊎ s.faults w e));
+  faults = λ v e. ((as_tag v ≡ None) × IsUnexpected e) ⊎ ((t : ℕ) × (w : Item) × (as_tag v ≡ Some (t, w)) × (((t ≢ number) × IsUnexpected e) ⊎ ((t ≡ number) × s.faults w e)));
 }
 
 -- ---- arrays

@@ -210,7 +210,7 @@ tagged_laws {A} number s l =
             | inl g ↦ some-none p.1 g.0
             | inr g ↦
                 let same : (g.0, g.1) ≡ (number, p.0) = some-one g.2 p.1 in
-                elim g.3 [ inl m ↦ m.0 (ap (λ y. y.0) same) | inr m ↦ l.sound p.0 x e p.2 (subst (λ w. s.faults w e) (ap (λ y. y.1) same) m) ]
+                elim g.3 [ inl m ↦ m.0 (ap (λ y. y.0) same) | inr m ↦ l.sound p.0 x e p.2 (subst (λ w. s.faults w e) (ap (λ y. y.1) same) m.1) ]
           ];
     }
 

@@ -21,4 +21,4 @@ pub use encode::Encode;
 pub use error::{CallError, CoseError, Result};
 pub use repeats::has_repeats;
 pub use source::Source;
-pub use traits::{AsCborValue, CborSerializable, TaggedCborSerializable};
+pub use traits::{AsCborValue, CborSerializable, FromPull, TaggedCborSerializable};
