@@ -3,7 +3,9 @@
 ghost use Rattle.std.specs.Prelude.{◌≡◌};
 
 use crate::registered::{RegisteredLabel, RegisteredLabelWithPrivate};
-use coset_iana::{CoapContentFormat, CwtClaimName, EnumI64, KeyOperation as Operation, KeyType as Kind};
+use coset_iana::{
+    CoapContentFormat, CwtClaimName, EnumI64, KeyOperation as Operation, KeyType as Kind,
+};
 
 /// A content type: a format of CoAP, or a text (RFC 8152, section 3.1).
 pub type ContentType = RegisteredLabel<CoapContentFormat>;
