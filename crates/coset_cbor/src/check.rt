@@ -139,7 +139,8 @@ fn chunks_here<'a, L: Ledger>(
     Err(Fault::End)
 }
 
-/// Passes chunks up to the break, by a function apart: it answers in registers, and says by `fault` whether what it answers is to be used.
+/// Passes chunks up to the break, by a function apart: it answers in registers, and says by `fault` whether what it
+/// answers is to be used.
 #[inline(never)]
 fn chunks_apart<'a, L: Ledger>(
     is_text: bool,
@@ -266,7 +267,8 @@ pub(crate) fn item<'a, L: Ledger>(
     }
 }
 
-/// Passes the item that a tag encloses, by a function apart: it answers in registers, and says by `fault` whether what it answers is to be used.
+/// Passes the item that a tag encloses, by a function apart: it answers in registers, and says by `fault` whether
+/// what it answers is to be used.
 #[cycle(check)]
 #[inline(never)]
 fn enclosed_item_apart<'a, L: Ledger>(
@@ -309,7 +311,8 @@ fn enclosed_item<'a, L: Ledger>(
     }
 }
 
-/// Passes the members of an array of that many, or up to the break where no number is announced, by a function apart: it answers in registers, and says by `fault` whether what it answers is to be used.
+/// Passes the members of an array of that many, or up to the break where no number is announced, by a function
+/// apart: it answers in registers, and says by `fault` whether what it answers is to be used.
 #[cycle(check)]
 #[inline(never)]
 fn array_apart<'a, L: Ledger>(
@@ -354,7 +357,8 @@ fn array<'a, L: Ledger>(
     }
 }
 
-/// Passes the pairs of a map of that many, or up to the break where no number is announced, by a function apart: it answers in registers, and says by `fault` whether what it answers is to be used.
+/// Passes the pairs of a map of that many, or up to the break where no number is announced, by a function apart: it
+/// answers in registers, and says by `fault` whether what it answers is to be used.
 #[cycle(check)]
 #[inline(never)]
 fn map_apart<'a, L: Ledger>(

@@ -1,4 +1,5 @@
-//! Reading forward: a place in bytes of which an item is known to stand at the front. Whoever reads that item leaves the
+//! Reading forward: a place in bytes of which an item is known to stand at the front. Whoever reads that item
+//! leaves the
 //! place just behind it, so that nobody has to pass over it to find its end.
 
 ghost use Rattle.std.specs.Prelude.{◌≡◌, ◌≤◌, ◌<◌, [], List, ℕ, is_some, Some, length, IfOk, IfSome, IsOkAnd, IsTrue, OnOk, MatchOption};
@@ -30,7 +31,8 @@ pub struct Places {
 
 /// What follows the item that is known to stand at the front.
 fn past(bytes: &[u8]) -> &[u8]
-    ensures { (v : Item) (a : List ℕ) → Stands v bytes.now a → (result.now ≡ a) × (length a < length bytes.now) }
+    ensures { (v : Item) (a : List ℕ) → Stands v bytes.now a
+        → (result.now ≡ a) × (length a < length bytes.now) }
 {
     match jump(bytes) {
         Some(rest) => rest,
@@ -44,7 +46,8 @@ fn past(bytes: &[u8]) -> &[u8]
 /// The item that is known to stand at the front, lent, and what follows it.
 fn front(bytes: &[u8]) -> Result<(Pull<'_>, &[u8]), Error<EndOfFile>>
     ensures strictly { IfOk result (λ x. length x.1.now < length bytes.now) }
-    ensures stands { (v : Item) (a : List ℕ) → Stands v bytes.now a → IsOkAnd result (λ x. (pull_item x.0 ≡ v) × (x.1.now ≡ a)) }
+    ensures stands { (v : Item) (a : List ℕ) → Stands v bytes.now a
+        → IsOkAnd result (λ x. (pull_item x.0 ≡ v) × (x.1.now ≡ a)) }
 {
     match Pull::new(bytes) {
         Ok((pull, rest)) => Ok((pull, rest)),
@@ -55,7 +58,8 @@ fn front(bytes: &[u8]) -> Result<(Pull<'_>, &[u8]), Error<EndOfFile>>
 /// Where the members of the array begin that stands at the front; `None` of another item.
 fn array_item(bytes: &[u8]) -> Option<(Places, &[u8])>
     ensures strictly { IfSome result (λ x. length x.1.now < length bytes.now) }
-    ensures enters { (v : Item) (a : List ℕ) → Stands v bytes.now a → MatchOption result (as_array v ≡ None) (λ x. Enters as_array v x.1.now a x.0) }
+    ensures enters { (v : Item) (a : List ℕ) → Stands v bytes.now a
+        → MatchOption result (as_array v ≡ None) (λ x. Enters as_array v x.1.now a x.0) }
 {
     match start_of(bytes) {
         Ok((start, rest)) => match start.major_type {
@@ -92,7 +96,8 @@ fn doubled(pairs: Option<u64>) -> Option<u64>
 /// Where the keys and values of the map begin that stands at the front; `None` of another item.
 fn map_item(bytes: &[u8]) -> Option<(Places, &[u8])>
     ensures strictly { IfSome result (λ x. length x.1.now < length bytes.now) }
-    ensures enters { (v : Item) (a : List ℕ) → Stands v bytes.now a → MatchOption result (map_items v ≡ None) (λ x. Enters map_items v x.1.now a x.0) }
+    ensures enters { (v : Item) (a : List ℕ) → Stands v bytes.now a
+        → MatchOption result (map_items v ≡ None) (λ x. Enters map_items v x.1.now a x.0) }
 {
     match start_of(bytes) {
         Ok((start, rest)) => match start.major_type {
@@ -117,14 +122,16 @@ impl<'a> Cursor<'a> {
 
     /// Whether the item is a byte string, by its head alone.
     pub fn is_bytes(&self) -> bool
-        ensures { (v : Item) (a : List ℕ) → Stands v (left self.now) a → result ≡ is_some (as_bytes v) }
+        ensures { (v : Item) (a : List ℕ) → Stands v (left self.now) a
+            → result ≡ is_some (as_bytes v) }
     {
         major_type_of(self.rest) == Some(MajorType::Bytes)
     }
 
     /// Whether the item is an array, by its head alone.
     pub fn is_array(&self) -> bool
-        ensures { (v : Item) (a : List ℕ) → Stands v (left self.now) a → result ≡ is_some (as_array v) }
+        ensures { (v : Item) (a : List ℕ) → Stands v (left self.now) a
+            → result ≡ is_some (as_array v) }
     {
         major_type_of(self.rest) == Some(MajorType::Array)
     }
@@ -142,7 +149,8 @@ impl<'a> Cursor<'a> {
     /// Passes the item. It takes no memory.
     pub fn pass(&mut self)
         ensures shrinks { length (left self.new) ≤ length (left self.old) }
-        ensures passes { (v : Item) (a : List ℕ) → Stands v (left self.old) a → (left self.new ≡ a) × (length a < length (left self.old)) }
+        ensures passes { (v : Item) (a : List ℕ) → Stands v (left self.old) a
+            → (left self.new ≡ a) × (length a < length (left self.old)) }
     {
         self.go(past(self.rest));
     }
@@ -154,7 +162,8 @@ impl<'a> Cursor<'a> {
     pub fn take(&mut self) -> Result<Pull<'a>, Error<EndOfFile>>
         ensures shrinks { length (left self.new) ≤ length (left self.old) }
         ensures strictly { OnOk result (length (left self.new) < length (left self.old)) }
-        ensures passes { (v : Item) (a : List ℕ) → Stands v (left self.old) a → (left self.new ≡ a) × IsOkAnd result (λ p. pull_item p ≡ v) }
+        ensures passes { (v : Item) (a : List ℕ) → Stands v (left self.old) a
+            → (left self.new ≡ a) × IsOkAnd result (λ p. pull_item p ≡ v) }
     {
         let (pull, rest) = front(self.rest)?;
         self.rest = rest;
@@ -166,7 +175,8 @@ impl<'a> Cursor<'a> {
         ensures shrinks { length (left self.new) ≤ length (left self.old) }
         ensures strictly { IfSome result (λ _. length (left self.new) < length (left self.old)) }
         ensures enters { (v : Item) (a : List ℕ) → Stands v (left self.old) a
-            → MatchOption result ((left self.new ≡ left self.old) × (as_array v ≡ None)) (λ p. Enters as_array v (left self.new) a p) }
+            → MatchOption result ((left self.new ≡ left self.old) × (as_array v ≡ None))
+            (λ p. Enters as_array v (left self.new) a p) }
     {
         let (places, rest) = array_item(self.rest)?;
         self.rest = rest;
@@ -178,7 +188,8 @@ impl<'a> Cursor<'a> {
         ensures shrinks { length (left self.new) ≤ length (left self.old) }
         ensures strictly { IfSome result (λ _. length (left self.new) < length (left self.old)) }
         ensures enters { (v : Item) (a : List ℕ) → Stands v (left self.old) a
-            → MatchOption result ((left self.new ≡ left self.old) × (map_items v ≡ None)) (λ p. Enters map_items v (left self.new) a p) }
+            → MatchOption result ((left self.new ≡ left self.old) × (map_items v ≡ None))
+            (λ p. Enters map_items v (left self.new) a p) }
     {
         let (places, rest) = map_item(self.rest)?;
         self.rest = rest;
@@ -188,7 +199,8 @@ impl<'a> Cursor<'a> {
     /// Passes the break, where no length was announced.
     fn close(&mut self, places: Places)
         ensures shrinks { length (left self.new) ≤ length (left self.old) }
-        ensures passes { (a : List ℕ) → AreWithin places no_items (left self.old) a → left self.new ≡ a }
+        ensures passes { (a : List ℕ) → AreWithin places no_items (left self.old) a
+            → left self.new ≡ a }
     {
         match places.left {
             Some(_) => {}
@@ -204,7 +216,8 @@ impl<'a> Cursor<'a> {
 impl Places {
     /// Whether one more item stands at the place, which is to be read next.
     pub fn next(&mut self, cursor: &Cursor<'_>) -> bool
-        ensures { (vs : Items) (a : List ℕ) → AreWithin self.old vs (left cursor.now) a → Nexts vs (left cursor.now) a self.new result }
+        ensures { (vs : Items) (a : List ℕ) → AreWithin self.old vs (left cursor.now) a
+            → Nexts vs (left cursor.now) a self.new result }
     {
         match self.left {
             Some(0) => false,
@@ -222,7 +235,8 @@ impl Places {
     /// Passes the items that are left, and the break.
     pub fn finish(self, cursor: &mut Cursor<'_>)
         ensures shrinks { length (left cursor.new) ≤ length (left cursor.old) }
-        ensures passes { (vs : Items) (a : List ℕ) → AreWithin self vs (left cursor.old) a → left cursor.new ≡ a }
+        ensures passes { (vs : Items) (a : List ℕ) → AreWithin self vs (left cursor.old) a
+            → left cursor.new ≡ a }
     {
         let mut places = self;
         for _ in 0..cursor.rest.len() {

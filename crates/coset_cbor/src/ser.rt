@@ -69,7 +69,8 @@ pub fn write_map_head(count: usize, out: &mut Vec<u8>) -> Result<(), OutOfMemory
     settle(written, before, out)
 }
 
-/// Appends the shortest head of a tag (RFC 8949, section 3.1, major type 6). The item that it encloses has to follow it.
+/// Appends the shortest head of a tag (RFC 8949, section 3.1, major type 6). The item that it encloses has to
+/// follow it.
 ///
 /// # Errors
 /// The same as [`write_value`].

@@ -272,7 +272,8 @@ fn refuse(filled: Result<bool>, input: &mut Input<'_>, error: CoseError) -> Resu
     Err(error)
 }
 
-/// As many pairs as [`fill_some`] reads. That no label of the rest repeats is asked before a fault is answered, before the
+/// As many pairs as [`fill_some`] reads. That no label of the rest repeats is asked before a fault is answered,
+/// before the
 /// value of label 7 is read, and in the end.
 ///
 /// # Errors

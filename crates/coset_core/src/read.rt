@@ -1,6 +1,7 @@
 //! Reading headers, and the counter signatures in them, which hold headers (RFC 8152, sections 3 and 4.5). Of `layers`
 //! each byte string of a protected header takes one. Each is filled where it stands, since a header that is answered by
-//! value costs its size in stack at each function that it passes; and each leaves the input just behind its item, whatever
+//! value costs its size in stack at each function that it passes; and each leaves the input just behind its item,
+//! whatever
 //! it answers, so that at whatever depth each byte is passed once.
 
 ghost use Rattle.std.specs.Prelude.{◌≡◌, ◌≤◌, ◌<◌, [], Err, OnOk, IfOk, IfErr, IsErrAnd, IsTrue, map};
@@ -288,7 +289,8 @@ pub(crate) fn fill_signature(
     filled
 }
 
-/// Reads the places of a signature's array into one that holds nothing. They are read from the first on, and judged from
+/// Reads the places of a signature's array into one that holds nothing. They are read from the first on, and judged
+/// from
 /// the last on.
 ///
 /// # Errors

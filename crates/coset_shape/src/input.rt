@@ -168,7 +168,8 @@ impl<'a> Input<'a> {
         }
     }
 
-    /// Goes to the first member of an array that begins with a byte string, or else with an array, and says whether it is
+    /// Goes to the first member of an array that begins with a byte string, or else with an array, and says
+    /// whether it is
     /// the first of these. It takes no memory.
     ///
     /// # Errors
@@ -296,7 +297,8 @@ fn lent_key<'a>(places: &mut Places, cursor: &mut Cursor<'a>) -> Result<Option<S
 }
 
 impl InputPairs {
-    /// The next key, whose value then stands at the input, which is to be read next; or `None` where no pair is left. It
+    /// The next key, whose value then stands at the input, which is to be read next; or `None` where no pair is
+    /// left. It
     /// takes no memory.
     ///
     /// # Errors

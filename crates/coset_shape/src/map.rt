@@ -79,7 +79,8 @@ fn first_error<G: Gather>(alloc: Global, so_far: &G, error: CoseError) -> CoseEr
 /// Reads a map into what gathers it, from the first pair on. Where a pair is at fault, those before it stay gathered.
 ///
 /// # Errors
-/// `OutOfMemory`; `UnexpectedItem` where the item is no map; or the fault of the first pair that has one: of its key, then
+/// `OutOfMemory`; `UnexpectedItem` where the item is no map; or the fault of the first pair that has one: of its
+/// key, then
 /// a label that stood before, then of its value.
 pub fn read_map<G: Gather>(alloc: Global, source: Source<'_>, so_far: &mut G) -> Result<()>
     requires fields { G.fields.describes [] (G.seen so_far.old).0 }

@@ -230,7 +230,8 @@ fn byte_string(alloc: Global, content: &str) -> Result<String, AllocError> {
     }
 }
 
-/// What the byte string of a protected header holds that is the first of `strings` within one another, each but the last
+/// What the byte string of a protected header holds that is the first of `strings` within one another, each but the
+/// last
 /// with a counter signature.
 fn nested(alloc: Global, strings: usize) -> Result<String, AllocError> {
     let mut content = String::new(alloc);

@@ -69,7 +69,8 @@ impl CoseSign1 {
         }
     }
 
-    /// The bytes that the signature is over (RFC 8152, section 4.4), with the protected header as it was read. A missing
+    /// The bytes that the signature is over (RFC 8152, section 4.4), with the protected header as it was read.
+    /// A missing
     /// payload counts as empty.
     ///
     /// # Errors

@@ -1,4 +1,5 @@
-//! The structures whose bytes are signed or authenticated, or go with a ciphertext (RFC 8152, sections 4.4, 5.3 and 6.3).
+//! The structures whose bytes are signed or authenticated, or go with a ciphertext (RFC 8152, sections 4.4, 5.3 and
+//! 6.3).
 
 ghost use Rattle.std.specs.Prelude.{◌≡◌, map, IfOk, IfErr};
 ghost use Rattle.coset_cbor.specs.Shortest.{IsShortest};
