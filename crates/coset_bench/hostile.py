@@ -38,9 +38,9 @@ def nested(headers: int, innermost: bytes) -> bytes:
     return header
 
 
-def layers(count: int) -> bytes:
+def layers(count: int, innermost: bytes) -> bytes:
     """What the outermost of that many protected headers inside one another holds, each in the innermost of 127 headers."""
-    content = b""
+    content = innermost
     for _ in range(count - 1):
         content = nested(126, with_counter_signature(content, head(5, 0)))
     return content
@@ -59,7 +59,11 @@ def main(folder: Path) -> None:
         "flat.cbor": message(b"", wide),
         "nested_twice.cbor": message(b"", nested(120, twice)),
         "flat_twice.cbor": message(b"", twice),
-        "deepest.cbor": message(layers(16), head(5, 0)),
+        "deepest.cbor": message(layers(16, b""), head(5, 0)),
+        # Its innermost protected header has the same label twice.
+        "deepest_twice.cbor": message(layers(16, b"\xa2\x18\x46\x00\x18\x46\x00"), head(5, 0)),
+        # 256 items inside one another, as deep as an item may be.
+        "levels.cbor": head(4, 1) * 255 + head(4, 0),
     }
     for name, content in files.items():
         (folder / name).write_bytes(content)

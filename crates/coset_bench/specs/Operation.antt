@@ -1,7 +1,7 @@
 -- The names of operations.
 use Rattle.std.specs.Prelude.{ℕ, List, codes}
 use Rattle.coset_bench.specs.declared.operation.Operation.{Operation}
-use Rattle.coset_bench.specs.declared.operation.Operation.TheVariants.{Check, Value, ValueWrite, Header, HeaderWrite, Sign1, Sign1Refused, Sign1Write, Sign1Tbs}
+use Rattle.coset_bench.specs.declared.operation.Operation.TheVariants.{Check, Value, ValueWrite, Header, HeaderWrite, Sign1, Sign1Refused, Sign1Write, Sign1Copy, Sign1Compare, Sign1Tbs}
 
 -- the name of an operation, as the program is told it
 abbrev pub operation_name : Operation → List ℕ
@@ -13,4 +13,6 @@ operation_name HeaderWrite = codes "header_write"
 operation_name Sign1 = codes "sign1"
 operation_name Sign1Refused = codes "sign1_refused"
 operation_name Sign1Write = codes "sign1_write"
+operation_name Sign1Copy = codes "sign1_copy"
+operation_name Sign1Compare = codes "sign1_compare"
 operation_name Sign1Tbs = codes "sign1_tbs"

@@ -19,7 +19,7 @@ use std::sync::ledger::{Blank, Ledger};
 use std::time::{Duration, Instant};
 
 /// A type whose reading and writing are timed.
-pub trait Timed: CborSerializable + Drop {
+pub trait Timed: CborSerializable + PartialEq + Drop {
     /// A copy of the value.
     ///
     /// # Errors
@@ -98,6 +98,37 @@ pub fn time_write<T: Timed, R: AllocGlobal + Clock>(
     let start = Instant::now(rt)?;
     for copy in copies {
         if copy.to_vec(alloc)?.len() != length {
+            return Err(Fault::Unexpected);
+        }
+    }
+    Ok(start.elapsed(rt)?)
+}
+
+/// Copies a value that was read, and drops the copy.
+pub fn time_copy<T: Timed, R: AllocGlobal + Clock>(
+    rt: &R,
+    bytes: &[u8],
+    calls: usize,
+) -> Result<Duration, Fault> {
+    let value = T::from_slice(rt.alloc(), bytes)?;
+    let start = Instant::now(rt)?;
+    for _ in 0..calls {
+        drop(value.copy()?);
+    }
+    Ok(start.elapsed(rt)?)
+}
+
+/// Compares a value that was read with its copy.
+pub fn time_compare<T: Timed, R: AllocGlobal + Clock>(
+    rt: &R,
+    bytes: &[u8],
+    calls: usize,
+) -> Result<Duration, Fault> {
+    let value = T::from_slice(rt.alloc(), bytes)?;
+    let copy = value.copy()?;
+    let start = Instant::now(rt)?;
+    for _ in 0..calls {
+        if value != copy {
             return Err(Fault::Unexpected);
         }
     }

@@ -3,7 +3,9 @@
 ghost use Rattle.std.specs.Prelude.{◌≡◌, MatchOption};
 ghost use Rattle.coset_bench.specs.Operation.{operation_name};
 
-use crate::calls::{time_check, time_read, time_refusal, time_tbs, time_write};
+use crate::calls::{
+    time_check, time_compare, time_copy, time_read, time_refusal, time_tbs, time_write,
+};
 use crate::fault::Fault;
 use coset_cbor::value::Value;
 use coset_core::Header;
@@ -30,6 +32,10 @@ pub enum Operation {
     Sign1Refused,
     /// Writing one.
     Sign1Write,
+    /// Copying one.
+    Sign1Copy,
+    /// Comparing one with its copy.
+    Sign1Compare,
     /// Making the bytes that its signature is over.
     Sign1Tbs,
 }
@@ -49,6 +55,8 @@ impl Operation {
             "sign1" => Some(Operation::Sign1),
             "sign1_refused" => Some(Operation::Sign1Refused),
             "sign1_write" => Some(Operation::Sign1Write),
+            "sign1_copy" => Some(Operation::Sign1Copy),
+            "sign1_compare" => Some(Operation::Sign1Compare),
             "sign1_tbs" => Some(Operation::Sign1Tbs),
             _ => None,
         }
@@ -73,6 +81,8 @@ impl Operation {
             Operation::Sign1 => time_read::<CoseSign1, R>(rt, bytes, calls),
             Operation::Sign1Refused => time_refusal::<CoseSign1, R>(rt, bytes, calls),
             Operation::Sign1Write => time_write::<CoseSign1, R>(rt, bytes, calls),
+            Operation::Sign1Copy => time_copy::<CoseSign1, R>(rt, bytes, calls),
+            Operation::Sign1Compare => time_compare::<CoseSign1, R>(rt, bytes, calls),
             Operation::Sign1Tbs => time_tbs(rt, bytes, calls),
         }
     }

@@ -198,14 +198,23 @@ are_items b one = elim (is_array (item_of (array_around b))) [
 ]
 
 -- the members of an array that is one item stand behind its head
-pub array_content : (b s : List ℕ) → is_one_item b ≡ true → IsContent major_types.Array b s → (is_one_item (array_around s) ≡ true) × (Some (items_in s) ≡ as_array (item_of b))
+pub record HoldsItems (b s : List ℕ) : Type 0 where
+  pub one : is_one_item (array_around s) ≡ true
+  pub seen : Some (items_in s) ≡ as_array (item_of b)
+  pub held : IsHeld 4 (items_count (items_in s)) s b
+
+pub array_content : (b s : List ℕ) → is_one_item b ≡ true → IsContent major_types.Array b s → HoldsItems b s
 array_content b s one content = elim (is_array (item_of b)) [
   | inl a ↦
       let is : IsItem b (array a.0) = subst (λ (v : Item). IsItem b v) a.1 (one_item_is b one) in
       let low = is.1 in
       let held = content_held 4 (items_count a.0) major_types.Array is.0.0 b s (one_item_bytes b one) is.0.2 content in
       let made = array_made s a.0 (subst (λ (x : List ℕ). AreEncodings a.0 x) (sym held.0) is.0.1) (omega arith) (subst (λ (x : List ℕ). IsBytes x) (sym held.0) held.1) in
-      (made.0, ap (λ (vs : Items). Some vs) made.1 ∙ ap as_array (sym a.1))
+      record {
+        one = made.0;
+        seen = ap (λ (vs : Items). Some vs) made.1 ∙ ap as_array (sym a.1);
+        held = subst (λ (vs : Items). IsHeld 4 (items_count vs) s b) (sym made.1) (subst (λ (x : List ℕ). IsHeld 4 (items_count a.0) x b) (sym held.0) is.0.2);
+      }
   | inr a ↦ absurd (a.1 (one_item_major_type b content.head one content.reads ∙ content.major_type))
 ]
 
@@ -292,14 +301,23 @@ are_pairs b one = elim (is_map (item_of (map_around b))) [
 ]
 
 -- the pairs of a map that is one item stand behind its head
-pub map_content : (b s : List ℕ) → is_one_item b ≡ true → IsContent major_types.Map b s → (is_one_item (map_around s) ≡ true) × (Some (pairs_in s) ≡ as_map (item_of b))
+pub record HoldsPairs (b s : List ℕ) : Type 0 where
+  pub one : is_one_item (map_around s) ≡ true
+  pub seen : Some (pairs_in s) ≡ as_map (item_of b)
+  pub held : IsHeld 5 (pairs_count (pairs_in s)) s b
+
+pub map_content : (b s : List ℕ) → is_one_item b ≡ true → IsContent major_types.Map b s → HoldsPairs b s
 map_content b s one content = elim (is_map (item_of b)) [
   | inl a ↦
       let is : IsItem b (dict a.0) = subst (λ (v : Item). IsItem b v) a.1 (one_item_is b one) in
       let low = is.1 in
       let held = content_held 5 (pairs_count a.0) major_types.Map is.0.0 b s (one_item_bytes b one) is.0.2 content in
       let made = map_made s a.0 (subst (λ (x : List ℕ). ArePairEncodings a.0 x) (sym held.0) is.0.1) (omega arith) (subst (λ (x : List ℕ). IsBytes x) (sym held.0) held.1) in
-      (made.0, ap (λ (ps : Pairs). Some ps) made.1 ∙ ap as_map (sym a.1))
+      record {
+        one = made.0;
+        seen = ap (λ (ps : Pairs). Some ps) made.1 ∙ ap as_map (sym a.1);
+        held = subst (λ (ps : Pairs). IsHeld 5 (pairs_count ps) s b) (sym made.1) (subst (λ (x : List ℕ). IsHeld 5 (pairs_count a.0) x b) (sym held.0) is.0.2);
+      }
   | inr a ↦ absurd (a.1 (one_item_major_type b content.head one content.reads ∙ content.major_type))
 ]
 
@@ -346,6 +364,40 @@ value_of b f mid k (pair x y ps) (c, i, j, key, value, more, parts) low e is non
 -- a value stands behind each key
 pub has_value : (b f mid : List ℕ) (k : Item) → is_one_item (map_around b) ≡ true → b ≡ f ++ mid → IsItem f k → ((v : Item) (g rest : List ℕ) → mid ≡ g ++ rest → IsItem g v → ⊥) → ⊥
 has_value b f mid k one e is none = let a = are_pairs b one in value_of b f mid k a.pairs a.encodings a.low e is none
+
+-- ---- bytes are encodings of these members alone
+
+only_items : (vs ws : Items) (b : List ℕ) → AreEncodings vs b → AreEncodings ws b → vs ≡ ws
+only_items no_items no_items b h k = refl
+only_items no_items (item w ws) b h k = absurd (no_empty w k.0 k.1 (sym h ∙ k.4) k.2)
+only_items (item v vs) no_items b h k = absurd (no_empty v h.0 h.1 (sym k ∙ h.4) h.2)
+only_items (item v vs) (item w ws) b h k =
+    let first = encodings_differ v w h.0 k.0 h.1 k.1 h.2 k.2 (sym h.4 ∙ k.4) in
+    let after : h.1 ≡ k.1 = append_cancel_left k.0 h.1 k.1 (ap (λ (s : List ℕ). s ++ h.1) (sym first.1) ∙ sym h.4 ∙ k.4) in
+    ap (λ (x : Item). item x vs) first.0 ∙ ap (item w) (only_items vs ws k.1 (subst (λ (s : List ℕ). AreEncodings vs s) after h.3) k.3)
+
+only_pairs : (ps qs : Pairs) (b : List ℕ) → ArePairEncodings ps b → ArePairEncodings qs b → ps ≡ qs
+only_pairs no_pairs no_pairs b h k = refl
+only_pairs no_pairs (pair x y qs) b h k = absurd (no_empty x k.0 (k.1 ++ k.2) (sym h ∙ k.6) k.3)
+only_pairs (pair x y ps) no_pairs b h k = absurd (no_empty x h.0 (h.1 ++ h.2) (sym k ∙ h.6) h.3)
+only_pairs (pair x y ps) (pair z w qs) b h k =
+    let first = encodings_differ x z h.0 k.0 (h.1 ++ h.2) (k.1 ++ k.2) h.3 k.3 (sym h.6 ∙ k.6) in
+    let after : h.1 ++ h.2 ≡ k.1 ++ k.2 = append_cancel_left k.0 (h.1 ++ h.2) (k.1 ++ k.2) (ap (λ (s : List ℕ). s ++ (h.1 ++ h.2)) (sym first.1) ∙ sym h.6 ∙ k.6) in
+    let second = encodings_differ y w h.1 k.1 h.2 k.2 h.4 k.4 after in
+    let end : h.2 ≡ k.2 = append_cancel_left k.1 h.2 k.2 (ap (λ (s : List ℕ). s ++ h.2) (sym second.1) ∙ after) in
+    ap (λ (v : Item). pair v y ps) first.0 ∙ ap (λ (v : Item). pair z v ps) second.0 ∙ ap (pair z w) (only_pairs ps qs k.2 (subst (λ (s : List ℕ). ArePairEncodings ps s) end h.5) k.5)
+
+pub items_alone : (b : List ℕ) → is_one_item (array_around b) ≡ true → AreEncodings (items_in b) b × ((vs : Items) → AreEncodings vs b → vs ≡ items_in b)
+items_alone b one =
+    let a = are_items b one in
+    let here = subst (λ (vs : Items). AreEncodings vs b) (sym a.seen) a.encodings in
+    (here, λ vs h. only_items vs (items_in b) b h here)
+
+pub pairs_alone : (b : List ℕ) → is_one_item (map_around b) ≡ true → ArePairEncodings (pairs_in b) b × ((ps : Pairs) → ArePairEncodings ps b → ps ≡ pairs_in b)
+pairs_alone b one =
+    let a = are_pairs b one in
+    let here = subst (λ (ps : Pairs). ArePairEncodings ps b) (sym a.seen) a.encodings in
+    (here, λ ps h. only_pairs ps (pairs_in b) b h here)
 
 -- ---- bytes that are left begin with an item
 

@@ -1,5 +1,5 @@
 -- Chunks of a string, one after the other.
-use Rattle.std.proofs.Common.{◌≡◌, ℕ, zero, suc, ◌+◌, ◌*◌, ◌≤◌, Bool, true, false, List, [], ◌∷◌, ◌++◌, length, take, Some, None, Result, Ok, Err, refl, sym, ap, ap₂, subst, ◌∙◌, eqb, ltb, arith, inl, inr}
+use Rattle.std.proofs.Common.{◌≡◌, ℕ, zero, suc, ◌+◌, ◌*◌, ◌≤◌, Bool, true, false, List, [], ◌∷◌, ◌++◌, length, take, Some, None, Result, Ok, Err, refl, sym, ap, ap₂, subst, ◌∙◌, append_assoc, eqb, ltb, arith, inl, inr}
 use Rattle.std.proofs.lemmas.List.{append-nil, append_cancel_right, length-append, take_at}
 use Rattle.coset_value.specs.Item.{half, single, double, Item, integer, bytes, float, text, boolean, null, tag, array, dict}
 use Rattle.coset_value.specs.Parts.{as_bytes, as_text}
@@ -12,7 +12,7 @@ use Rattle.coset_cbor.specs.declared.head.Argument.{Argument}
 use Rattle.coset_cbor.specs.declared.head.Argument.TheVariants as places
 use Rattle.coset_cbor.specs.declared.head.Head.{Head}
 use Rattle.std.specs.Prelude.{pos, negsuc}
-use Rattle.coset_cbor.specs.Grammar.{EachInOrder, joined_chunks, string_type, IsDefinite, IsIndefinite}
+use Rattle.coset_cbor.specs.Grammar.{IsHeaded, EachInOrder, joined_chunks, string_type, IsDefinite, IsIndefinite}
 use Rattle.coset_cbor.specs.Reading.{◌>>=◌, number_of, head_at, string_at, begins_chunk, chunk_at, until_at, chunks_at, any_string_by, simple_at, Inside, things, item_by, item_at}
 use Rattle.coset_cbor.specs.Whole.{are_bytes, is_one_item, item_of}
 use Rattle.coset_cbor.specs.StringChunks.{as_string, chunks_read, is_all_read, contents_or_none, are_chunks, chunk_contents, AreChunksOf}
@@ -91,19 +91,31 @@ pub record NextChunk (is_text : Bool) (b s rest : List ℕ) : Type 0 where
   pub chunks : are_chunks is_text rest ≡ true
   pub counted : length (chunk_contents is_text rest) ≤ length rest
   pub contents : chunk_contents is_text b ≡ s ∷ chunk_contents is_text rest
+  pub headed : IsHeaded (string_type is_text) (length s) (s ++ rest) b
+
+-- the chunk behind its head, and the bytes that follow it
+headed_on : (m n : ℕ) (x s c d b : List ℕ) → b ≡ c ++ d → x ≡ s → IsHeaded m n x c → IsHeaded m n (s ++ d) b
+headed_on m n x s c d b parts same h = record {
+  head = h.head;
+  is_head = h.is_head;
+  parts = parts ∙ ap (λ (y : List ℕ). y ++ d) (h.parts ∙ ap (λ (y : List ℕ). h.head ++ y) same) ∙ append_assoc h.head s d;
+}
 
 next_of : (is_text : Bool) (ss : List (List ℕ)) (b s rest : List ℕ) → IsBytes b → EachInOrder (IsDefinite is_text) ss b → chunk_at is_text b ≡ Ok (s, rest) → NextChunk is_text b s rest
 next_of is_text [] b s rest fits h e = absurd (apart (s, rest) End (sym e ∙ ap (chunk_at is_text) h ∙ none_read is_text))
 next_of is_text (x ∷ xs) b s rest fits h e =
     let same = ok_is (x, h.1) (s, rest) (sym (first_read is_text x xs b h) ∙ e) in
     let first : x ≡ s = ap (λ (p : List ℕ × List ℕ). p.0) same in
-    let others = subst (λ (c : List ℕ). EachInOrder (IsDefinite is_text) xs c) (ap (λ (p : List ℕ × List ℕ). p.1) same) h.3 in
+    let after : h.1 ≡ rest = ap (λ (p : List ℕ × List ℕ). p.1) same in
+    let others = subst (λ (c : List ℕ). EachInOrder (IsDefinite is_text) xs c) after h.3 in
+    let head = headed_on (string_type is_text) (length x) x s h.0 h.1 b h.4 first h.2.1 in
     let left = contents_are is_text xs rest others in
     let all = contents_are is_text (x ∷ xs) b h in
     record {
       chunks = chunks_from is_text xs rest (chunk_takes is_text b (s, rest) fits e).rest_fits others;
       counted = chunks_long is_text xs rest others;
       contents = cc;
+      headed = subst (λ (y : List ℕ). IsHeaded (string_type is_text) (length y) (s ++ rest) b) first (subst (λ (c : List ℕ). IsHeaded (string_type is_text) (length x) (s ++ c) b) after head);
     }
 
 pub next_chunk : (is_text : Bool) (b s rest : List ℕ) → are_chunks is_text b ≡ true → chunk_at is_text b ≡ Ok (s, rest) → NextChunk is_text b s rest
@@ -118,6 +130,11 @@ end_of is_text (x ∷ xs) b f h e = absurd (apart (x, h.1) f (sym (first_read is
 -- it is read unless nothing is left
 pub no_chunk : (is_text : Bool) (b : List ℕ) (f : Fault) → are_chunks is_text b ≡ true → chunk_at is_text b ≡ Err f → chunk_contents is_text b ≡ []
 no_chunk is_text b f are e = end_of is_text (chunk_contents is_text b) b f (chunks_are is_text b are).each e
+
+-- bytes are these chunks alone
+pub chunks_alone : (is_text : Bool) (b : List ℕ) → are_chunks is_text b ≡ true
+    → EachInOrder (IsDefinite is_text) (chunk_contents is_text b) b × ((ss : List (List ℕ)) → EachInOrder (IsDefinite is_text) ss b → ss ≡ chunk_contents is_text b)
+chunks_alone is_text b are = ((chunks_are is_text b are).each, λ ss h. sym (contents_are is_text ss b h))
 
 -- ---- the item that stands behind a head
 
@@ -245,6 +262,7 @@ whole_chunk is_text b h n is e major_type number =
       chunks = chunks_from is_text (r.content ∷ []) b fits each;
       counted = chunks_long is_text (r.content ∷ []) b each;
       contents = inl (r.content, contents, definite);
+      held = inl refl;
       whole = r.is ∙ ap Some (sym (append-nil r.content) ∙ ap joined_chunks (sym contents));
     }
 
@@ -299,6 +317,7 @@ broken_chunks is_text b h s last is e major_type number parts =
     record {
       chunks = chunks_from is_text t.contents s (IsBytes-front s last (subst (λ (c : List ℕ). IsBytes c) parts t.fits)) each;
       counted = chunks_long is_text t.contents s each;
+      held = inr (subst (λ (c : List ℕ). IsIndefinite (string_type is_text) c b) same t.broken);
       contents = inr (s, subst (λ (ss : List (List ℕ)). EachInOrder (IsDefinite is_text) ss s) (sym contents) each, subst (λ (c : List ℕ). IsIndefinite (string_type is_text) c b) same t.broken);
       whole = t.whole ∙ ap Some (ap joined_chunks (sym contents));
     }

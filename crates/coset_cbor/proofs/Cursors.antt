@@ -35,49 +35,44 @@ rest_of x = x.1
 
 pub stands_read : (v : Item) (s a : List ℕ) → Stands v s a → item_at 256 s ≡ Ok (v, a)
 unfolding Stands
-stands_read v s a e = e
+stands_read v s a (f, e, is) = ap (item_at 256) e ∙ item_again 256 v f a is.0 is.1
 
 pub stands_item : (v : Item) (f s a : List ℕ) → IsItem f v → s ≡ f ++ a → Stands v s a
 unfolding Stands
-stands_item v f s a is e = ap (item_at 256) e ∙ item_again 256 v f a is.0 is.1
+stands_item v f s a is e = (f, e, is)
 
 pub stands_same : (v w : Item) (s a b : List ℕ) → Stands v s a → Stands w s b → a ≡ b
-unfolding Stands
-stands_same v w s a b e f = ap rest_of (ok_is (v, a) (w, b) (sym e ∙ f))
+stands_same v w s a b e f = ap rest_of (ok_is (v, a) (w, b) (sym (stands_read v s a e) ∙ stands_read w s b f))
 
 -- one item stands at the front
 pub stands_is : (v w : Item) (s a b : List ℕ) → Stands v s a → Stands w s b → v ≡ w
-unfolding Stands
-stands_is v w s a b e f = ap one_of (ok_is (v, a) (w, b) (sym e ∙ f))
+stands_is v w s a b e f = ap one_of (ok_is (v, a) (w, b) (sym (stands_read v s a e) ∙ stands_read w s b f))
 
 -- an item takes bytes
-pub stands_shorter : (v : Item) (s a : List ℕ) → IsBytes s → Stands v s a → length a < length s
+pub stands_shorter : (v : Item) (s a : List ℕ) → Stands v s a → length a < length s
 unfolding Stands
-stands_shorter v s a fits e =
-    let t = item_takes 256 s (v, a) fits e in
-    let g = IsEncoding-begins v t.front t.encoding.0 in
-    let some : length t.front ≡ suc (length g.more) = ap length g.parts in
-    let size : length s ≡ length t.front + length a = ap length t.parts ∙ length-append t.front a in
+stands_shorter v s a (f, parts, is) =
+    let g = IsEncoding-begins v f is.0 in
+    let some : length f ≡ suc (length g.more) = ap length g.parts in
+    let size : length s ≡ length f + length a = ap length parts ∙ length-append f a in
     omega arith
 
-pub stands_begins : (v : Item) (s a : List ℕ) → IsBytes s → Stands v s a → (f : List ℕ) × (s ≡ f ++ a) × IsItem f v
+pub stands_begins : (v : Item) (s a : List ℕ) → Stands v s a → (f : List ℕ) × (s ≡ f ++ a) × IsItem f v
 unfolding Stands
-stands_begins v s a fits e =
-    let t = item_takes 256 s (v, a) fits e in
-    (t.front, t.parts, t.encoding)
+stands_begins v s a stands = stands
 
 err_ok : {A : Type 0} (f : Fault) (y : A) → ◌≡◌ {A = Result A Fault} (Err f) (Ok y) → ⊥
 err_ok f y e = cc
 
 pub stands_head : (v : Item) (s a : List ℕ) (f : Fault) → Stands v s a → head_at s ≡ Err f → ⊥
-unfolding Stands item_at
+unfolding item_at
 stands_head v s a f whole e =
-    err_ok f (v, a) (sym (ap (λ (r : Result (Head × List ℕ) Fault). r >>= λ x. item_by (things (item_at 255)) (length s) x.0.argument x.0.major_type x.1) e) ∙ whole)
+    err_ok f (v, a) (sym (ap (λ (r : Result (Head × List ℕ) Fault). r >>= λ x. item_by (things (item_at 255)) (length s) x.0.argument x.0.major_type x.1) e) ∙ stands_read v s a whole)
 
 pub stands_by : (v : Item) (s a : List ℕ) (h : Head × List ℕ) → Stands v s a → head_at s ≡ Ok h → item_by (things (item_at 255)) (length s) h.0.argument h.0.major_type h.1 ≡ Ok (v, a)
-unfolding Stands item_at
+unfolding item_at
 stands_by v s a h whole e =
-    sym (ap (λ (r : Result (Head × List ℕ) Fault). r >>= λ x. item_by (things (item_at 255)) (length s) x.0.argument x.0.major_type x.1) e) ∙ whole
+    sym (ap (λ (r : Result (Head × List ℕ) Fault). r >>= λ x. item_by (things (item_at 255)) (length s) x.0.argument x.0.major_type x.1) e) ∙ stands_read v s a whole
 
 pub stands_major_type : (v : Item) (s a : List ℕ) (h : Head × List ℕ) → Stands v s a → head_at s ≡ Ok h → item_major_type v ≡ h.0.major_type
 stands_major_type v s a h whole e = major_type_by (things (item_at 255)) (length s) h.0.argument h.0.major_type h.1 (v, a) (stands_by v s a h whole e)
@@ -110,7 +105,7 @@ unfolding Stands
 deeper s x fits e =
     let t = item_takes 255 s x fits e in
     let low = t.encoding.1 in
-    ap (item_at 256) t.parts ∙ item_again 256 x.0 t.front x.1 t.encoding.0 (omega arith)
+    (t.front, t.parts, (t.encoding.0, omega arith))
 
 members_times : (n : ℕ) (s : List ℕ) (x : List Item × List ℕ) → IsBytes s → times_at (item_at 255) n s ≡ Ok x → (n ≡ items_count (items_of x.0)) × AreAt (items_of x.0) s x.1
 unfolding times_at AreAt
@@ -337,9 +332,9 @@ no_map v s a h whole e k = elim (is_map v) [
 
 -- no item begins with a break
 pub no_item_at_break : (v : Item) (s a : List ℕ) → Stands v s a → begins_break s ≡ true → ⊥
-unfolding Stands item_at head_at
+unfolding item_at head_at
 no_item_at_break v s a whole e =
-    let here : item_at 256 (255 ∷ drop 1 s) ≡ Ok (v, a) = ap (item_at 256) (sym (break_is s e)) ∙ whole in
+    let here : item_at 256 (255 ∷ drop 1 s) ≡ Ok (v, a) = ap (item_at 256) (sym (break_is s e)) ∙ stands_read v s a whole in
     err_ok _ (v, a) here
 
 none_left : (vs : Items) → 0 ≡ items_count vs → vs ≡ no_items
@@ -418,9 +413,7 @@ close_no_break p s a is e w = true≢false (sym (ap begins_break (close_broken p
 
 -- nothing stands in no bytes
 nothing_there : (v : Item) (t b : List ℕ) → length t ≡ 0 → Stands v t b → ⊥
-unfolding Stands item_at head_at
-nothing_there v [] b e h = err_ok End (v, b) h
-nothing_there v (x ∷ t) b e h = absurd cc
+nothing_there v t b e stands = let some = stands_shorter v t b stands in omega (arith, e, some)
 
 no_member_there : (vs : Items) (s b : List ℕ) → length s ≡ 0 → AreAt vs s b → vs ≡ no_items
 unfolding AreAt
@@ -436,3 +429,11 @@ close_empty vs p s a e w = elim (left_by p.left) [
   | inl is ↦ no_member_there vs s (255 ∷ a) e (w.indefinite is)
   | inr is ↦ no_member_there vs s a e (w.definite is.0 is.1).1
 ]
+
+-- no items are within no places
+pub none_within : (s : List ℕ) → AreWithin (record { left = Some 0 }) no_items s s
+unfolding AreAt
+none_within s = record { definite = λ n e. (sym (one_of e), refl); indefinite = λ e. absurd (cc) }
+  where
+    one_of : {n : ℕ} → ◌≡◌ {A = Option ℕ} (Some 0) (Some n) → 0 ≡ n
+    one_of e = cc

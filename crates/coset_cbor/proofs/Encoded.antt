@@ -1,12 +1,12 @@
 -- Bytes that are an encoding, whatever its item's depth.
-use Rattle.std.proofs.Common.{◌≡◌, ℕ, suc, ◌+◌, ◌<◌, ◌≤◌, List, [], ◌∷◌, ◌++◌, length, Result, Ok, Err, sym, ap, subst, ◌∙◌, inl, inr, arith}
+use Rattle.std.proofs.Common.{◌≡◌, ℕ, suc, ◌+◌, ◌<◌, ◌≤◌, List, [], ◌∷◌, ◌++◌, length, Result, Ok, Err, refl, sym, ap, subst, ◌∙◌, inl, inr, arith}
 use Rattle.std.proofs.lemmas.List.{length-append, append-nil}
 use Rattle.coset_value.specs.Item.{Item, integer, bytes, float, text, boolean, null, tag, array, dict, Items, no_items, item, Pairs, no_pairs, pair, items_count, pairs_count, depth, items_depth, pairs_depth}
 use Rattle.coset_cbor.specs.declared.fault.Fault.{Fault}
 use Rattle.coset_cbor.specs.Grammar.{IsHeaded, IsHeld, IsEncoding, AreEncodings, ArePairEncodings}
 use Rattle.coset_cbor.specs.Reading.{item_at}
 use Rattle.coset_cbor.proofs.Again.{IsHead-begins, item_again}
-use Rattle.coset_cbor.proofs.Takes.{ok_is}
+use Rattle.coset_cbor.proofs.Takes.{IsBytes, ok_is, item_takes}
 
 -- what stands behind a head is shorter
 headed_longer : (m n : ℕ) (s b : List ℕ) → m < 7 → IsHeaded m n s b → length s < length b
@@ -66,10 +66,20 @@ failed f = Err f
 apart : (x : Item × List ℕ) (f : Fault) → done x ≡ failed f → ⊥
 apart x f e = cc
 
-pub encoding_no_fault : (b : List ℕ) (f : Fault) → ((v : Item) × IsEncoding v b) → item_at (length b) b ≡ Err f → ⊥
-encoding_no_fault b f is e = apart (is.0, []) f (sym (read_whole is.0 b is.1) ∙ e)
+-- what isn't read is no encoding
+pub no_encoding : (b : List ℕ) (f : Fault) → item_at (length b) b ≡ Err f → (v : Item) → IsEncoding v b → ⊥
+no_encoding b f e v is = apart (v, []) f (sym (read_whole v b is) ∙ e)
 
-pub encoding_value : (b rest : List ℕ) (x : Item) → ((v : Item) × IsEncoding v b) → item_at (length b) b ≡ Ok (x, rest) → IsEncoding x b
-encoding_value b rest x is e =
-    let same : is.0 ≡ x = ap (λ (y : Item × List ℕ). y.0) (ok_is (is.0, []) (x, rest) (sym (read_whole is.0 b is.1) ∙ e)) in
-    subst (λ (v : Item). IsEncoding v b) same is.1
+-- nor is what is read with bytes behind it
+pub no_whole_encoding : (b rest : List ℕ) (x : Item) → item_at (length b) b ≡ Ok (x, rest) → (length rest ≡ 0 → ⊥) → (v : Item) → IsEncoding v b → ⊥
+no_whole_encoding b rest x e some v is = some (ap (λ (y : Item × List ℕ). length y.1) (sym (ok_is (v, []) (x, rest) (sym (read_whole v b is) ∙ e))))
+
+-- what is read to the end is an encoding of what was read
+pub encoding_read : (b rest : List ℕ) (x : Item) → IsBytes b → item_at (length b) b ≡ Ok (x, rest) → length rest ≡ 0 → IsEncoding x b
+encoding_read b rest x fits e none =
+    let t = item_takes (length b) b (x, rest) fits e in
+    subst (λ (c : List ℕ). IsEncoding x c) (sym (t.parts ∙ ap (λ (r : List ℕ). t.front ++ r) (empty rest none) ∙ append-nil t.front)) t.encoding.0
+  where
+    empty : (s : List ℕ) → length s ≡ 0 → s ≡ []
+    empty [] h = refl
+    empty (y ∷ s) h = absurd cc

@@ -13,10 +13,10 @@ use Rattle.coset_cbor.specs.declared.head.Argument.{Argument}
 use Rattle.coset_cbor.specs.declared.head.Argument.TheVariants as places
 use Rattle.coset_cbor.specs.declared.head.Head.{Head}
 use Rattle.coset_cbor.specs.Reading.{◌>>=◌, number_of, unless_none, head_at, begins_chunk, any_string_by, simple_at, Inside, things, item_by, item_from, item_at}
-use Rattle.coset_cbor.specs.Grammar.{IsEncoding, IsItem}
+use Rattle.coset_cbor.specs.Grammar.{IsHead, IsHeaded, IsEncoding, IsItem}
 use Rattle.coset_cbor.specs.Scalars.{as_scalar, read_of, scalar_by, integer_by, tag_by}
 use Rattle.coset_cbor.specs.Whole.{is_one_item, item_of}
-use Rattle.coset_cbor.proofs.Takes.{bind_ok, chosen, guard_else, ok_is, some_ok, head_takes, item_takes}
+use Rattle.coset_cbor.proofs.Takes.{bind_ok, chosen, guard_else, ok_is, some_ok, major_type_number, IsArgumentEncoding, number_head, head_takes, item_takes}
 use Rattle.coset_cbor.specs.StringChunks.{as_string}
 use Rattle.coset_cbor.proofs.Between.{simple_major_type}
 use Rattle.coset_cbor.specs.Jumps.{item_major_type}
@@ -200,8 +200,20 @@ tag_inside inside left a major_types.Tag s x n t e =
     some_same m n e = cc
 tag_inside inside left a major_types.Simple s x n t e = absurd cc
 
+-- the head of a tag
+tag_head : (a : Argument) (k : MajorType) (f : List ℕ) (n : ℕ) → IsArgumentEncoding (major_type_number k) a f → tag_by a k ≡ Some n → IsHead 6 n f
+tag_head a major_types.Unsigned f n h e = absurd cc
+tag_head a major_types.Negative f n h e = absurd cc
+tag_head a major_types.Bytes f n h e = absurd cc
+tag_head a major_types.Text f n h e = absurd cc
+tag_head a major_types.Array f n h e = absurd cc
+tag_head a major_types.Map f n h e = absurd cc
+tag_head a major_types.Tag f n h e = number_head 6 n a f h e
+tag_head a major_types.Simple f n h e = absurd cc
+
 -- the bytes after a tag's head are one item, which the tag encloses
 pub record IsEnclosed (n : ℕ) (b s : List ℕ) : Type 0 where
+  pub headed : IsHeaded 6 n s b
   pub one : is_one_item s ≡ true
   pub item : item_of b ≡ tag n (item_of s)
 
@@ -209,13 +221,15 @@ pub enclosed_item : (b : List ℕ) (h : Head × List ℕ) (n : ℕ) → is_one_i
 unfolding things
 enclosed_item b h n one e t =
     let w = tag_inside (things (item_at 255)) (length b) h.0.argument h.0.major_type h.1 (item_of b, []) n t (one_item_by b h one e) in
-    let fits = (head_takes b h (one_item_bytes b one) e).rest_fits in
+    let head = head_takes b h (one_item_bytes b one) e in
+    let fits = head.rest_fits in
     let inner = item_takes 255 h.1 w.0 fits w.1 in
     let rest : [] ≡ w.0.1 = ap (λ (x : Item × List ℕ). x.1) w.2 in
     let all : h.1 ≡ inner.front = inner.parts ∙ ap (λ (r : List ℕ). inner.front ++ r) (sym rest) ∙ append-nil inner.front in
     let low : depth w.0.0 ≤ 255 = inner.encoding.1 in
     let encoding : IsItem h.1 w.0.0 = (subst (λ (c : List ℕ). IsEncoding w.0.0 c) (sym all) inner.encoding.0, omega arith) in
     record {
+      headed = record { head = head.front; is_head = tag_head h.0.argument h.0.major_type head.front n head.encoding t; parts = head.parts };
       one = one_item_from h.1 w.0.0 fits encoding;
       item = ap (λ (x : Item × List ℕ). x.0) w.2 ∙ ap (tag n) (sym (item_of_one h.1 w.0.0 encoding));
     }

@@ -5,11 +5,11 @@ use Rattle.std.proofs.lemmas.Bool.{ltb-true, lt-ltb}
 use Rattle.std.proofs.lemmas.List.{length-append, take_at, append-nil}
 use Rattle.coset_cbor.specs.declared.fault.Fault.{Fault}
 use Rattle.coset_value.specs.Item.{Item}
-use Rattle.coset_cbor.specs.Grammar.{IsItem}
+use Rattle.coset_cbor.specs.Grammar.{IsEncoding, IsItem}
 use Rattle.coset_cbor.specs.Reading.{item_at}
 use Rattle.coset_cbor.specs.Faults.{Stands}
 use Rattle.coset_cbor.proofs.Refusals.{item_fault}
-use Rattle.coset_cbor.proofs.Again.{item_again}
+use Rattle.coset_cbor.proofs.Again.{item_again, encodings_differ}
 use Rattle.coset_cbor.specs.Cost.{IsCost}
 use Rattle.coset_cbor.specs.Whole.{are_bytes, is_all, item_or_null, is_one_item, item_of}
 use Rattle.coset_cbor.specs.Counting.{left_of, item_steps}
@@ -131,6 +131,12 @@ one_item_is b e =
     let t = item_takes 256 b (item_of b, []) (one_item_bytes b e) (one_item_read b e) in
     let is : t.front ≡ b = sym (append-nil t.front) ∙ sym t.parts in
     subst (λ (c : List ℕ). IsItem c (item_of b)) is t.encoding
+
+-- and of no other item, however deep
+pub item_alone : (b : List ℕ) → is_one_item b ≡ true → IsItem b (item_of b) × ((v : Item) → IsEncoding v b → v ≡ item_of b)
+item_alone b one =
+    let is = one_item_is b one in
+    (is, λ v h. (encodings_differ v (item_of b) b b [] [] h is.0 refl).0)
 
 item_read : (b : List ℕ) (v : Item) → IsItem b v → item_at 256 b ≡ Ok (v, [])
 item_read b v is = ap (item_at 256) (sym (append-nil b)) ∙ item_again 256 v b [] is.0 is.1

@@ -1,10 +1,10 @@
 -- Reading forward over bytes of which items are known to stand at the front (RFC 8949, section 3).
-use Rattle.std.specs.Prelude.{◌≡◌, ℕ, ◌+◌, ◌^◌, ◌<◌, List, ◌∷◌, Bool, true, false, Option, Some, None, Ok, option_map}
+use Rattle.std.specs.Prelude.{◌≡◌, ℕ, ◌+◌, ◌^◌, ◌<◌, List, ◌∷◌, ◌++◌, Bool, true, false, Option, Some, None, option_map}
 use Rattle.coset_value.specs.Item.{Item, Items, no_items, item, items_count, Pairs, no_pairs, pair}
 use Rattle.coset_value.specs.Parts.{as_map}
 use Rattle.coset_cbor.specs.declared.cursor.Cursor.{Cursor}
 use Rattle.coset_cbor.specs.declared.cursor.Places.{Places}
-use Rattle.coset_cbor.specs.Reading.{item_at}
+use Rattle.coset_cbor.specs.Grammar.{IsItem}
 
 -- the bytes that are still to come
 abbrev pub left : Cursor → List ℕ
@@ -12,7 +12,7 @@ left c = c.rest.now
 
 -- an item within 256 levels stands at the front of s: v, and a follows it
 unfoldable pub Stands : Item → List ℕ → List ℕ → Type 0
-Stands v s a = item_at 256 s ≡ Ok (v, a)
+Stands v s a = (b : List ℕ) × (s ≡ b ++ a) × IsItem b v
 
 -- these stand there one after the other, and a follows them
 unfoldable pub AreAt : Items → List ℕ → List ℕ → Type 0

@@ -14,6 +14,10 @@ HasChunks is_text b ss =
     ((s : List ℕ) × (ss ≡ s ∷ []) × IsDefinite is_text s b)
     ⊎ ((c : List ℕ) × EachInOrder (IsDefinite is_text) ss c × IsIndefinite (string_type is_text) c b)
 
+-- c are the bytes of the chunks of the string b: where its length is announced, b itself; else those up to the break
+abbrev pub HoldsChunks : Bool → List ℕ → List ℕ → Type 0
+HoldsChunks is_text b c = (c ≡ b) ⊎ IsIndefinite (string_type is_text) c b
+
 -- the content of a string of the type that the flag tells
 abbrev pub as_string : Bool → Item → Option (List ℕ)
 as_string false v = as_bytes v
@@ -46,4 +50,5 @@ pub record AreChunksOf (is_text : Bool) (b c : List ℕ) : Type 0 where
   pub chunks : are_chunks is_text c ≡ true
   pub counted : length (chunk_contents is_text c) ≤ length c
   pub contents : HasChunks is_text b (chunk_contents is_text c)
+  pub held : HoldsChunks is_text b c
   pub whole : as_string is_text (item_of b) ≡ Some (joined_chunks (chunk_contents is_text c))

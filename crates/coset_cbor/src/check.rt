@@ -25,7 +25,8 @@ fn start<'a, L: Ledger>(bytes: &'a [u8], steps: &mut Steps<L>) -> Result<(Start,
 #[inline(always)]
 fn past_break<'a, L: Ledger>(bytes: &'a [u8], steps: &mut Steps<L>) -> Option<&'a [u8]>
     ensures { MatchOption result ((begins_break bytes.now ≡ false) × (steps.new ≡ steps.old))
-        (λ rest. (begins_break bytes.now ≡ true) × (rest.now ≡ drop 1 bytes.now) × (steps.new ≡ steps.old + 1)) }
+        (λ rest. (begins_break bytes.now ≡ true) × (rest.now ≡ drop 1 bytes.now)
+        × (steps.new ≡ steps.old + 1)) }
 {
     let rest = after_break(bytes)?;
     steps.tick();
@@ -148,8 +149,10 @@ fn chunks_apart<'a, L: Ledger>(
     steps: &mut Steps<L>,
     fault: &mut Option<Fault>,
 ) -> &'a [u8]
-    ensures left { PassesTo fault.new result.now (until_at (chunk_at is_text) (length bytes.now) bytes.now) }
-    ensures steps { steps.new ≡ steps.old + until_steps (chunk_at is_text) (chunk_steps is_text) (length bytes.now) bytes.now }
+    ensures left { PassesTo fault.new result.now
+        (until_at (chunk_at is_text) (length bytes.now) bytes.now) }
+    ensures steps { steps.new ≡ steps.old
+        + until_steps (chunk_at is_text) (chunk_steps is_text) (length bytes.now) bytes.now }
 {
     match chunks_here(is_text, bytes, steps) {
         Ok(rest) => {
@@ -171,7 +174,8 @@ fn chunks<'a, L: Ledger>(
     steps: &mut Steps<L>,
 ) -> Result<&'a [u8], Fault>
     ensures left { Passes result (until_at (chunk_at is_text) (length bytes.now) bytes.now) }
-    ensures steps { steps.new ≡ steps.old + until_steps (chunk_at is_text) (chunk_steps is_text) (length bytes.now) bytes.now }
+    ensures steps { steps.new ≡ steps.old
+        + until_steps (chunk_at is_text) (chunk_steps is_text) (length bytes.now) bytes.now }
 {
     let mut fault = None;
     let rest = chunks_apart(is_text, bytes, steps, &mut fault);
@@ -323,7 +327,8 @@ fn array_apart<'a, L: Ledger>(
     fault: &mut Option<Fault>,
 ) -> &'a [u8]
     ensures left { PassesTo fault.new result.now (array_by (item_at depth) count bytes.now) }
-    ensures steps { steps.new ≡ steps.old + array_steps (item_at depth) (item_steps depth) count bytes.now }
+    ensures steps { steps.new ≡ steps.old
+        + array_steps (item_at depth) (item_steps depth) count bytes.now }
 {
     match array_here(count, bytes, depth, steps) {
         Ok(rest) => {
@@ -347,7 +352,8 @@ fn array<'a, L: Ledger>(
     steps: &mut Steps<L>,
 ) -> Result<&'a [u8], Fault>
     ensures left { Passes result (array_by (item_at depth) count bytes.now) }
-    ensures steps { steps.new ≡ steps.old + array_steps (item_at depth) (item_steps depth) count bytes.now }
+    ensures steps { steps.new ≡ steps.old
+        + array_steps (item_at depth) (item_steps depth) count bytes.now }
 {
     let mut fault = None;
     let rest = array_apart(count, bytes, depth, steps, &mut fault);
@@ -369,7 +375,8 @@ fn map_apart<'a, L: Ledger>(
     fault: &mut Option<Fault>,
 ) -> &'a [u8]
     ensures left { PassesTo fault.new result.now (map_by (item_at depth) count bytes.now) }
-    ensures steps { steps.new ≡ steps.old + map_steps (item_at depth) (item_steps depth) count bytes.now }
+    ensures steps { steps.new ≡ steps.old
+        + map_steps (item_at depth) (item_steps depth) count bytes.now }
 {
     match map_here(count, bytes, depth, steps) {
         Ok(rest) => {
@@ -393,7 +400,8 @@ fn map<'a, L: Ledger>(
     steps: &mut Steps<L>,
 ) -> Result<&'a [u8], Fault>
     ensures left { Passes result (map_by (item_at depth) count bytes.now) }
-    ensures steps { steps.new ≡ steps.old + map_steps (item_at depth) (item_steps depth) count bytes.now }
+    ensures steps { steps.new ≡ steps.old
+        + map_steps (item_at depth) (item_steps depth) count bytes.now }
 {
     let mut fault = None;
     let rest = map_apart(count, bytes, depth, steps, &mut fault);
@@ -413,7 +421,8 @@ fn array_here<'a, L: Ledger>(
     steps: &mut Steps<L>,
 ) -> Result<&'a [u8], Fault>
     ensures left { Passes result (array_by (item_at depth) count bytes.now) }
-    ensures steps { steps.new ≡ steps.old + array_steps (item_at depth) (item_steps depth) count bytes.now }
+    ensures steps { steps.new ≡ steps.old
+        + array_steps (item_at depth) (item_steps depth) count bytes.now }
 {
     match count {
         Some(count) if (bytes.len() as u64) < count => Err(Fault::End),
@@ -432,7 +441,8 @@ fn map_here<'a, L: Ledger>(
     steps: &mut Steps<L>,
 ) -> Result<&'a [u8], Fault>
     ensures left { Passes result (map_by (item_at depth) count bytes.now) }
-    ensures steps { steps.new ≡ steps.old + map_steps (item_at depth) (item_steps depth) count bytes.now }
+    ensures steps { steps.new ≡ steps.old
+        + map_steps (item_at depth) (item_steps depth) count bytes.now }
 {
     match count {
         Some(count) if (bytes.len() as u64) / 2 < count => Err(Fault::End),
@@ -451,7 +461,8 @@ fn items<'a, L: Ledger>(
     steps: &mut Steps<L>,
 ) -> Result<&'a [u8], Fault>
     ensures left { Passes result (times_at (item_at depth) count bytes.now) }
-    ensures steps { steps.new ≡ steps.old + times_steps (item_at depth) (item_steps depth) count bytes.now }
+    ensures steps { steps.new ≡ steps.old
+        + times_steps (item_at depth) (item_steps depth) count bytes.now }
 {
     let mut rest = bytes;
     for _ in 0..count {
@@ -487,7 +498,8 @@ fn items_until<'a, L: Ledger>(
 #[inline(always)]
 fn pair<'a, L: Ledger>(bytes: &'a [u8], depth: u32, steps: &mut Steps<L>) -> Result<&'a [u8], Fault>
     ensures left { Passes result (pair_at (item_at depth) bytes.now) }
-    ensures steps { steps.new ≡ steps.old + pair_steps (item_at depth) (item_steps depth) bytes.now }
+    ensures steps { steps.new ≡ steps.old
+        + pair_steps (item_at depth) (item_steps depth) bytes.now }
 {
     let rest = item(bytes, depth, steps)?;
     item(rest, depth, steps)
@@ -504,7 +516,8 @@ fn pairs<'a, L: Ledger>(
 ) -> Result<&'a [u8], Fault>
     ensures left { Passes result (times_at (pair_at (item_at depth)) count bytes.now) }
     ensures steps { steps.new ≡ steps.old
-        + times_steps (pair_at (item_at depth)) (pair_steps (item_at depth) (item_steps depth)) count bytes.now }
+        + times_steps (pair_at (item_at depth)) (pair_steps (item_at depth) (item_steps depth))
+        count bytes.now }
 {
     let mut rest = bytes;
     for _ in 0..count {
@@ -523,7 +536,8 @@ fn pairs_until<'a, L: Ledger>(
 ) -> Result<&'a [u8], Fault>
     ensures left { Passes result (until_at (pair_at (item_at depth)) (length bytes.now) bytes.now) }
     ensures steps { steps.new ≡ steps.old
-        + until_steps (pair_at (item_at depth)) (pair_steps (item_at depth) (item_steps depth)) (length bytes.now) bytes.now }
+        + until_steps (pair_at (item_at depth)) (pair_steps (item_at depth) (item_steps depth))
+        (length bytes.now) bytes.now }
 {
     let mut rest = bytes;
     for _ in 0..bytes.len() {

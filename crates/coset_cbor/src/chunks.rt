@@ -3,7 +3,7 @@
 ghost use Rattle.std.specs.Prelude.{◌≡◌, ◌≤◌, true, false, length, None, MatchOption};
 ghost use Rattle.coset_cbor.specs.Grammar.{joined_chunks};
 ghost use Rattle.coset_cbor.specs.Whole.{is_one_item, item_of};
-ghost use Rattle.coset_cbor.specs.StringChunks.{HasChunks, as_string, are_chunks, chunk_contents, AreChunksOf};
+ghost use Rattle.coset_cbor.specs.StringChunks.{HasChunks, HoldsChunks, as_string, are_chunks, chunk_contents, AreChunksOf};
 
 use crate::check::begins_chunk;
 use crate::head::head_of;
@@ -54,13 +54,17 @@ impl<'a> Pull<'a> {
     ghost use Rattle.std.specs.Option.{option_map};
     ghost use Rattle.coset_value.specs.Parts.{as_bytes, as_text};
     ghost use Rattle.coset_cbor.specs.Pulls.{pull_bytes, pull_item};
-    ghost use Rattle.coset_cbor.specs.Chunks.{chunks_left, text_chunks_left};
+    ghost use Rattle.coset_cbor.specs.Chunks.{chunks_bytes, chunks_left, text_chunks_bytes, text_chunks_left};
 
     /// The chunks of a byte string; `None` of any other item. A string whose length is announced is one chunk, also
     /// an empty one.
     pub fn bytes_chunks(&self) -> Option<ByteChunks<'a>>
-        ensures whole { option_map (λ c. joined_chunks (chunks_left c)) result ≡ as_bytes (pull_item self.now) }
-        ensures chunks { IfSome result (λ c. HasChunks false (pull_bytes self.now) (chunks_left c)) }
+        ensures whole { option_map (λ c. joined_chunks (chunks_left c)) result
+            ≡ as_bytes (pull_item self.now) }
+        ensures chunks { IfSome result
+            (λ c. HasChunks false (pull_bytes self.now) (chunks_left c)) }
+        ensures bytes { IfSome result
+            (λ c. HoldsChunks false (pull_bytes self.now) (chunks_bytes c)) }
     {
         let bytes = chunks_of(false, self.bytes)?;
         Some(ByteChunks { bytes })
@@ -69,8 +73,12 @@ impl<'a> Pull<'a> {
     /// The chunks of a text string; `None` of any other item. A text string whose length is announced is one chunk,
     /// also an empty one.
     pub fn text_chunks(&self) -> Option<TextChunks<'a>>
-        ensures whole { option_map (λ c. joined_chunks (text_chunks_left c)) result ≡ as_text (pull_item self.now) }
-        ensures chunks { IfSome result (λ c. HasChunks true (pull_bytes self.now) (text_chunks_left c)) }
+        ensures whole { option_map (λ c. joined_chunks (text_chunks_left c)) result
+            ≡ as_text (pull_item self.now) }
+        ensures chunks { IfSome result
+            (λ c. HasChunks true (pull_bytes self.now) (text_chunks_left c)) }
+        ensures bytes { IfSome result
+            (λ c. HoldsChunks true (pull_bytes self.now) (text_chunks_bytes c)) }
     {
         let bytes = chunks_of(true, self.bytes)?;
         Some(TextChunks { bytes })
@@ -78,12 +86,12 @@ impl<'a> Pull<'a> {
 }
 
 impl<'a> Iterator for ByteChunks<'a> {
-    ghost use Rattle.std.specs.Iterator.{YieldsFirstRef, item_count};
-    ghost use Rattle.coset_cbor.specs.Chunks.{chunks_left};
+    ghost use Rattle.std.specs.Iterator.{item_count};
+    ghost use Rattle.coset_cbor.specs.Chunks.{chunks_left, YieldsChunk};
 
     type Item = &'a [u8];
 
-    ghost next_gives = { YieldsFirstRef chunks_left };
+    ghost next_gives = { YieldsChunk };
 
     ghost remaining = { item_count chunks_left };
 
@@ -98,12 +106,12 @@ impl<'a> Iterator for ByteChunks<'a> {
 }
 
 impl<'a> Iterator for TextChunks<'a> {
-    ghost use Rattle.std.specs.Iterator.{YieldsFirstRef, item_count};
-    ghost use Rattle.coset_cbor.specs.Chunks.{text_chunks_left};
+    ghost use Rattle.std.specs.Iterator.{item_count};
+    ghost use Rattle.coset_cbor.specs.Chunks.{text_chunks_left, YieldsTextChunk};
 
     type Item = &'a str;
 
-    ghost next_gives = { YieldsFirstRef text_chunks_left };
+    ghost next_gives = { YieldsTextChunk };
 
     ghost remaining = { item_count text_chunks_left };
 

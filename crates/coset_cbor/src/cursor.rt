@@ -2,13 +2,15 @@
 //! leaves the
 //! place just behind it, so that nobody has to pass over it to find its end.
 
-ghost use Rattle.std.specs.Prelude.{◌≡◌, ◌≤◌, ◌<◌, [], List, ℕ, is_some, Some, length, IfOk, IfSome, IsOkAnd, IsTrue, OnOk, MatchOption};
+ghost use Rattle.std.specs.Prelude.{◌≡◌, ◌≤◌, ◌<◌, [], List, ℕ, is_some, Some, length, IfErr, IfOk, IfSome, IsOkAnd, IsTrue, OnErr, OnOk, MatchOption};
 ghost use Rattle.coset_value.specs.Item.{Item, Items, no_items};
 ghost use Rattle.coset_value.specs.Parts.{as_array, as_bytes};
 ghost use Rattle.coset_cbor.specs.Cursors.{left, map_items, Stands, AreWithin, Doubles, Enters, Nexts};
+ghost use Rattle.coset_cbor.specs.Fronts.{HasNoItem};
 ghost use Rattle.coset_cbor.specs.Grammar.{IsItem};
 ghost use Rattle.coset_cbor.specs.Jumps.{item_major_type};
-ghost use Rattle.coset_cbor.specs.Pulls.{pull_item};
+ghost use Rattle.coset_cbor.specs.Pulls.{pull_item, BeginsWith};
+ghost use Rattle.coset_cbor.specs.Refused.{IsMemory, StandsIn};
 
 use crate::de::{EndOfFile, Error};
 use crate::head::{MajorType, start_of};
@@ -46,6 +48,10 @@ fn past(bytes: &[u8]) -> &[u8]
 /// The item that is known to stand at the front, lent, and what follows it.
 fn front(bytes: &[u8]) -> Result<(Pull<'_>, &[u8]), Error<EndOfFile>>
     ensures strictly { IfOk result (λ x. length x.1.now < length bytes.now) }
+    ensures lends { IfOk result (λ x. BeginsWith bytes.now x.0 x.1.now) }
+    ensures refused { IfErr result (λ e. HasNoItem bytes.now) }
+    ensures memory { IfErr result (λ e. IsMemory e → ⊥) }
+    ensures fault { IfErr result (λ e. StandsIn bytes.now e) }
     ensures stands { (v : Item) (a : List ℕ) → Stands v bytes.now a
         → IsOkAnd result (λ x. (pull_item x.0 ≡ v) × (x.1.now ≡ a)) }
 {
@@ -162,6 +168,13 @@ impl<'a> Cursor<'a> {
     pub fn take(&mut self) -> Result<Pull<'a>, Error<EndOfFile>>
         ensures shrinks { length (left self.new) ≤ length (left self.old) }
         ensures strictly { OnOk result (length (left self.new) < length (left self.old)) }
+        // What is lent are the bytes up to the new place.
+        ensures lends { IfOk result (λ p. BeginsWith (left self.old) p (left self.new)) }
+        ensures stays { OnErr result (left self.new ≡ left self.old) }
+        ensures refused { IfErr result (λ e. HasNoItem (left self.old)) }
+        ensures memory { IfErr result (λ e. IsMemory e → ⊥) }
+        // The fault stands in the bytes from the place on, at the offset that it carries.
+        ensures fault { IfErr result (λ e. StandsIn (left self.old) e) }
         ensures passes { (v : Item) (a : List ℕ) → Stands v (left self.old) a
             → (left self.new ≡ a) × IsOkAnd result (λ p. pull_item p ≡ v) }
     {
@@ -230,6 +243,13 @@ impl Places {
                 None => true,
             },
         }
+    }
+
+    /// No places.
+    pub fn none() -> Places
+        ensures { (s : List ℕ) → AreWithin result no_items s s }
+    {
+        Places { left: Some(0) }
     }
 
     /// Passes the items that are left, and the break.

@@ -1,8 +1,9 @@
 //! Reading a value from bytes (RFC 8949, section 3 and appendix C).
 
-ghost use Rattle.std.specs.Prelude.{◌≡◌, ◌≤◌, ◌+◌, ◌++◌, List, ℕ, take, length, IfOk, IfErr};
+ghost use Rattle.std.specs.Prelude.{◌≡◌, ◌≤◌, ◌+◌, ◌++◌, List, ℕ, take, length, IfOk, IfErr, MatchOption};
 ghost use Rattle.coset_value.specs.Item.{Item};
 ghost use Rattle.coset_value.specs.View.{view};
+ghost use Rattle.coset_cbor.specs.Fronts.{HasNoItem};
 ghost use Rattle.coset_cbor.specs.Grammar.{IsItem, IsEncoding};
 ghost use Rattle.coset_cbor.specs.Cost.{IsCost};
 ghost use Rattle.coset_cbor.specs.Faults.{Stands};
@@ -89,7 +90,7 @@ pub fn check<L: Ledger>(bytes: &[u8], steps: &mut Steps<L>) -> Result<usize, Err
     ensures found { IfOk result (λ n. (v : Item) × (k : ℕ) × IsItem (take n bytes.now) v
         × IsCost v (take n bytes.now) k × (steps.new ≡ steps.old + k)) }
     // No front of what is refused is an item.
-    ensures refused { IfErr result (λ e. (v : Item) (b rest : List ℕ) → bytes.now ≡ b ++ rest → IsItem b v → ⊥) }
+    ensures refused { IfErr result (λ e. HasNoItem bytes.now) }
     ensures memory { IfErr result (λ e. IsMemory e → ⊥) }
     // The fault stands in the bytes, at the offset that it carries.
     ensures stands { IfErr result (λ e. StandsIn bytes.now e) }
@@ -117,8 +118,7 @@ pub fn read_value(alloc: Global, bytes: &[u8]) -> Result<(Value, usize), Error<E
     // What is read is the item at the front.
     ensures found { IfOk result (λ x. IsItem (take x.1 bytes.now) (view x.0)) }
     // No front of what is refused is an item, unless memory ran out.
-    ensures refused { IfErr result (λ e. (IsMemory e → ⊥)
-        → (v : Item) (b rest : List ℕ) → bytes.now ≡ b ++ rest → IsItem b v → ⊥) }
+    ensures refused { IfErr result (λ e. (IsMemory e → ⊥) → HasNoItem bytes.now) }
     // Memory runs out only where a front is an item.
     ensures memory { IfErr result (λ e. IsMemory e
         → (v : Item) × (b : List ℕ) × (rest : List ℕ) × (bytes.now ≡ b ++ rest) × IsItem b v) }
@@ -130,17 +130,23 @@ pub fn read_value(alloc: Global, bytes: &[u8]) -> Result<(Value, usize), Error<E
     Ok((value, pull.slice().len()))
 }
 
-/// The value of the item that the bytes are, however deep it is: for bytes that were written, and not received.
+/// The value of the item that the bytes are, however deep it is, and `None` where they are no item. It is for bytes that
+/// were written: of bytes that were received, the sender chooses how deep they nest, and so how much stack this takes.
 ///
 /// # Errors
 /// `OutOfMemory` alone.
-pub fn decode_encoded(alloc: Global, bytes: &[u8]) -> Result<Value, OutOfMemory>
-    requires { (v : Item) × IsEncoding v bytes.now }
-    ensures { IfOk result (λ x. IsEncoding (view x) bytes.now) }
+pub fn decode_encoded(alloc: Global, bytes: &[u8]) -> Result<Option<Value>, OutOfMemory>
+    ensures { IfOk result (λ o. MatchOption o ((v : Item) → IsEncoding v bytes.now → ⊥)
+        (λ x. IsEncoding (view x) bytes.now)) }
 {
     match read::item(alloc, bytes, bytes.len()) {
-        Ok((value, _)) => Ok(value),
+        Ok((value, rest)) => {
+            if !rest.is_empty() {
+                return Ok(None);
+            }
+            Ok(Some(value))
+        }
         Err(ReadError::Memory) => Err(OutOfMemory),
-        Err(ReadError::Fault(_)) => unreachable!(),
+        Err(ReadError::Fault(_)) => Ok(None),
     }
 }

@@ -94,7 +94,8 @@ impl MajorType {
 
 #[inline(always)]
 fn one_at(bytes: &[u8]) -> Result<(u8, &[u8]), Fault>
-    ensures { Answers (λ x. (Argument.One x.0, x.1.now)) result (argument_at Argument.One w8 1 bytes.now) }
+    ensures { Answers (λ x. (Argument.One x.0, x.1.now)) result
+        (argument_at Argument.One w8 1 bytes.now) }
 {
     let Some((first, rest)) = bytes.split_first() else {
         return Err(end());
@@ -104,7 +105,8 @@ fn one_at(bytes: &[u8]) -> Result<(u8, &[u8]), Fault>
 
 #[inline(always)]
 fn two_at(bytes: &[u8]) -> Result<(u16, &[u8]), Fault>
-    ensures { Answers (λ x. (Argument.Two x.0, x.1.now)) result (argument_at Argument.Two w16 2 bytes.now) }
+    ensures { Answers (λ x. (Argument.Two x.0, x.1.now)) result
+        (argument_at Argument.Two w16 2 bytes.now) }
 {
     if bytes.len() < 2 {
         return Err(end());
@@ -116,7 +118,8 @@ fn two_at(bytes: &[u8]) -> Result<(u16, &[u8]), Fault>
 
 #[inline(always)]
 fn four_at(bytes: &[u8]) -> Result<(u32, &[u8]), Fault>
-    ensures { Answers (λ x. (Argument.Four x.0, x.1.now)) result (argument_at Argument.Four w32 4 bytes.now) }
+    ensures { Answers (λ x. (Argument.Four x.0, x.1.now)) result
+        (argument_at Argument.Four w32 4 bytes.now) }
 {
     if bytes.len() < 4 {
         return Err(end());
@@ -128,7 +131,8 @@ fn four_at(bytes: &[u8]) -> Result<(u32, &[u8]), Fault>
 
 #[inline(always)]
 fn eight_at(bytes: &[u8]) -> Result<(u64, &[u8]), Fault>
-    ensures { Answers (λ x. (Argument.Eight x.0, x.1.now)) result (argument_at Argument.Eight w64 8 bytes.now) }
+    ensures { Answers (λ x. (Argument.Eight x.0, x.1.now)) result
+        (argument_at Argument.Eight w64 8 bytes.now) }
 {
     if bytes.len() < 8 {
         return Err(end());
@@ -172,7 +176,8 @@ fn argument_of(info: u8, left: usize, bytes: &[u8]) -> Result<(Argument, &[u8]),
 /// head.
 #[inline(always)]
 fn number_at(info: u8, left: usize, bytes: &[u8]) -> Result<(u64, &[u8]), Fault>
-    ensures { Answers (λ x. (argument_from info x.0, x.1.now)) result (argument_by info left bytes.now) }
+    ensures { Answers (λ x. (argument_from info x.0, x.1.now)) result
+        (argument_by info left bytes.now) }
 {
     if info < 24 {
         return Ok((u64::from(info), bytes));

@@ -36,7 +36,8 @@ fn bytes_behind(major_type: MajorType, number: u64) -> u64
 /// from there on. `None` where no length is announced.
 #[inline(always)]
 fn behind(bytes: &[u8]) -> Option<(u64, &[u8])>
-    ensures { IfSome result (λ x. (v : Item × List ℕ) → item_at 256 bytes.now ≡ Ok v → IsPast x.0 x.1.now v.1) }
+    ensures { IfSome result (λ x. (v : Item × List ℕ) → item_at 256 bytes.now ≡ Ok v
+        → IsPast x.0 x.1.now v.1) }
 {
     let Ok((start, rest)) = start_of(bytes) else {
         return None;
@@ -54,7 +55,8 @@ fn behind(bytes: &[u8]) -> Option<(u64, &[u8])>
 /// What follows the item at the front, where that is one. `None` says nothing: it comes of an item in which a length
 /// is not announced.
 pub(crate) fn jump(bytes: &[u8]) -> Option<&[u8]>
-    ensures { IfSome result (λ rest. (v : Item × List ℕ) → item_at 256 bytes.now ≡ Ok v → rest.now ≡ v.1) }
+    ensures { IfSome result (λ rest. (v : Item × List ℕ) → item_at 256 bytes.now ≡ Ok v
+        → rest.now ≡ v.1) }
 {
     let mut left: u64 = 1;
     let mut rest = bytes;

@@ -1,9 +1,18 @@
 //! Laws of the definitions, which callers may cite. Each is the contract of a function that does nothing.
 
-ghost use Rattle.std.specs.Prelude.{◌≡◌, ◌<◌, ℕ, ◌+◌, List, [], ◌∷◌, ◌++◌, replicate};
+ghost use Rattle.std.specs.Prelude.{◌≡◌, ◌<◌, ℕ, ◌+◌, List, [], ◌∷◌, ◌++◌, replicate, true, false};
 ghost use Rattle.coset_value.specs.Item.{Item};
 ghost use Rattle.coset_value.specs.Range.{IsInRange};
-ghost use Rattle.coset_cbor.specs.Grammar.{IsEncoding, IsItem};
+ghost use Rattle.coset_value.specs.Item as model;
+ghost use Rattle.coset_cbor.specs.Chunks.{chunks_bytes, chunks_left, text_chunks_bytes, text_chunks_left};
+ghost use Rattle.coset_cbor.specs.Grammar.{IsEncoding, AreEncodings, ArePairEncodings, EachInOrder, IsDefinite, IsItem};
+ghost use Rattle.coset_cbor.specs.Members.{items_bytes, items_left, pairs_bytes, pairs_left};
+ghost use Rattle.coset_cbor.specs.Pulls.{pull_bytes, pull_item};
+ghost use Rattle.coset_cbor.specs.declared.chunks.ByteChunks.{ByteChunks};
+ghost use Rattle.coset_cbor.specs.declared.chunks.TextChunks.{TextChunks};
+ghost use Rattle.coset_cbor.specs.declared.members.Items.{Items};
+ghost use Rattle.coset_cbor.specs.declared.members.Pairs.{Pairs};
+ghost use Rattle.coset_cbor.specs.declared.pull.Pull.{Pull};
 ghost use Rattle.coset_cbor.specs.Cost.{IsCost};
 ghost use Rattle.coset_cbor.specs.Fronts.{AreBytes, HasNoItem, IsEndOfInput};
 ghost use Rattle.coset_cbor.specs.Refused.{IsMemory, StandsIn};
@@ -18,9 +27,38 @@ pub fn one_item()
         → (v ≡ w) × (b ≡ c) }
 {}
 
+/// The bytes of a lent item are an encoding of the item that it is seen as, within 256 levels, and of no other.
+pub fn lent_item()
+    ensures { (p : Pull) → IsItem (pull_bytes p) (pull_item p)
+        × ((v : Item) → IsEncoding v (pull_bytes p) → v ≡ pull_item p) }
+{}
+
+/// The bytes that are left of a lent array are encodings of the items that are left, one after the other, and of no
+/// others; those of a lent map are encodings of the keys and values.
+pub fn lent_members()
+    ensures items { (it : Items) → AreEncodings (items_left it) (items_bytes it)
+        × ((vs : model.Items) → AreEncodings vs (items_bytes it) → vs ≡ items_left it) }
+    ensures pairs { (it : Pairs) → ArePairEncodings (pairs_left it) (pairs_bytes it)
+        × ((ps : model.Pairs) → ArePairEncodings ps (pairs_bytes it) → ps ≡ pairs_left it) }
+{}
+
+/// The bytes that are left of a lent string are definite strings, one after the other, which hold the contents that are
+/// left, and no others (RFC 8949, section 3.2.3).
+pub fn lent_chunks()
+    ensures bytes { (c : ByteChunks)
+        → EachInOrder (IsDefinite false) (chunks_left c) (chunks_bytes c)
+        × ((ss : List (List ℕ)) → EachInOrder (IsDefinite false) ss (chunks_bytes c)
+        → ss ≡ chunks_left c) }
+    ensures text { (c : TextChunks)
+        → EachInOrder (IsDefinite true) (text_chunks_left c) (text_chunks_bytes c)
+        × ((ss : List (List ℕ)) → EachInOrder (IsDefinite true) ss (text_chunks_bytes c)
+        → ss ≡ text_chunks_left c) }
+{}
+
 /// Every item within CBOR's ranges has exactly one shortest encoding.
 pub fn one_shortest()
-    ensures { (v : Item) → IsInRange v → (b : List ℕ) × IsShortest b v × ((c : List ℕ) → IsShortest c v → c ≡ b) }
+    ensures { (v : Item) → IsInRange v
+        → (b : List ℕ) × IsShortest b v × ((c : List ℕ) → IsShortest c v → c ≡ b) }
 {}
 
 /// The shortest encoding of an item within CBOR's ranges is the one in which every head has the least width that holds
@@ -60,11 +98,12 @@ pub fn nested_arrays_cost()
 
 /// Where a fault stands in bytes, no front of them is an item.
 pub fn no_item_at_a_fault()
-    ensures { (s : List ℕ) (e : Error EndOfFile) → AreBytes s → (IsMemory e → ⊥) → StandsIn s e → HasNoItem s }
+    ensures { (s : List ℕ) (e : Error EndOfFile) → AreBytes s → (IsMemory e → ⊥) → StandsIn s e
+        → HasNoItem s }
 {}
 
 /// In a front of an item, of the faults other than out of memory only the end of the input stands.
 pub fn only_the_end_in_a_front()
-    ensures { (v : Item) (b s more : List ℕ) (e : Error EndOfFile) → AreBytes b → IsItem b v → b ≡ s ++ more
-        → (IsMemory e → ⊥) → StandsIn s e → IsEndOfInput e }
+    ensures { (v : Item) (b s more : List ℕ) (e : Error EndOfFile) → AreBytes b → IsItem b v
+        → b ≡ s ++ more → (IsMemory e → ⊥) → StandsIn s e → IsEndOfInput e }
 {}

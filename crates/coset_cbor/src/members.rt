@@ -1,12 +1,12 @@
 //! The members of a lent array or map, one after the other (RFC 8949, section 3.2.2).
 
 ghost use Rattle.std.specs.Prelude.{◌≡◌, ◌≢◌, ◌<◌, ◌++◌, ◌∷◌, [], List, ℕ, true, length, MatchOption};
-ghost use Rattle.coset_value.specs.Item.{Item};
 ghost use Rattle.coset_cbor.specs.declared.head.Head.{Head};
-ghost use Rattle.coset_cbor.specs.Grammar.{IsItem};
+ghost use Rattle.coset_cbor.specs.Fronts.{HasNoItem};
+ghost use Rattle.coset_cbor.specs.Grammar.{IsHeld};
 ghost use Rattle.coset_cbor.specs.Reading.{head_at};
 ghost use Rattle.coset_cbor.specs.Whole.{is_one_item};
-ghost use Rattle.coset_cbor.specs.Pulls.{pull_bytes, pull_item};
+ghost use Rattle.coset_cbor.specs.Pulls.{pull_bytes, pull_item, BeginsWith};
 ghost use Rattle.coset_cbor.specs.Jumps.{BeginsItem};
 ghost use Rattle.coset_cbor.specs.Between.{array_around, map_around, IsContent};
 
@@ -41,7 +41,8 @@ fn without_break(number: Option<u64>, bytes: &[u8]) -> &[u8]
 
 /// The bytes of the members, where the head is of that major type.
 fn content(major_type: MajorType, bytes: &[u8]) -> Option<&[u8]>
-    ensures { MatchOption result ((h : Head × List ℕ) → head_at bytes.now ≡ Ok h → h.0.major_type ≢ major_type)
+    ensures { MatchOption result
+        ((h : Head × List ℕ) → head_at bytes.now ≡ Ok h → h.0.major_type ≢ major_type)
         (λ s. IsContent major_type bytes.now s.now) }
 {
     match head_of(bytes) {
@@ -55,8 +56,7 @@ fn content(major_type: MajorType, bytes: &[u8]) -> Option<&[u8]>
 /// The item that is known to stand at the front, and what follows it; `None` where nothing is left.
 fn first(bytes: &[u8]) -> Option<(Pull<'_>, &[u8])>
     requires { 0 < length bytes.now → BeginsItem bytes.now }
-    ensures { MatchOption result ((v : Item) (b rest : List ℕ) → bytes.now ≡ b ++ rest → IsItem b v → ⊥)
-        (λ x. (bytes.now ≡ pull_bytes x.0 ++ x.1.now) × IsItem (pull_bytes x.0) (pull_item x.0)) }
+    ensures { MatchOption result (HasNoItem bytes.now) (λ x. BeginsWith bytes.now x.0 x.1.now) }
 {
     if bytes.is_empty() {
         return None;
@@ -71,14 +71,18 @@ fn first(bytes: &[u8]) -> Option<(Pull<'_>, &[u8])>
 }
 
 impl<'a> Pull<'a> {
-    ghost use Rattle.std.specs.Prelude.{option_map};
+    ghost use Rattle.std.specs.Prelude.{option_map, IfSome};
+    ghost use Rattle.coset_value.specs.Item.{items_count, pairs_count};
     ghost use Rattle.coset_value.specs.Parts.{as_array, as_map};
-    ghost use Rattle.coset_cbor.specs.Members.{items_left, pairs_left};
+    ghost use Rattle.coset_cbor.specs.Members.{items_bytes, items_left, pairs_bytes, pairs_left};
 
     /// The members of an array, of definite or indefinite length, in order; `None` of any other item. It takes no
     /// memory (RFC 8949, sections 3.1 and 3.2.2).
     pub fn items(&self) -> Option<Items<'a>>
-        ensures { option_map items_left result ≡ as_array (pull_item self.now) }
+        ensures items { option_map items_left result ≡ as_array (pull_item self.now) }
+        // Their bytes follow the array's head, or stand between its opening and the break.
+        ensures bytes { IfSome result
+            (λ it. IsHeld 4 (items_count (items_left it)) (items_bytes it) (pull_bytes self.now)) }
     {
         let rest = content(MajorType::Array, self.bytes)?;
         Some(Items { rest })
@@ -87,7 +91,10 @@ impl<'a> Pull<'a> {
     /// The pairs of a map, of definite or indefinite length, in order; `None` of any other item. It takes no memory
     /// (RFC 8949, sections 3.1 and 3.2.2).
     pub fn pairs(&self) -> Option<Pairs<'a>>
-        ensures { option_map pairs_left result ≡ as_map (pull_item self.now) }
+        ensures pairs { option_map pairs_left result ≡ as_map (pull_item self.now) }
+        // Their bytes follow the map's head, or stand between its opening and the break.
+        ensures bytes { IfSome result
+            (λ it. IsHeld 5 (pairs_count (pairs_left it)) (pairs_bytes it) (pull_bytes self.now)) }
     {
         let rest = content(MajorType::Map, self.bytes)?;
         Some(Pairs { rest })

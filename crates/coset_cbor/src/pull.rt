@@ -1,10 +1,11 @@
 //! One checked item, lent, and how it is taken apart.
 
-ghost use Rattle.std.specs.Prelude.{◌≡◌, ◌≤◌, ◌++◌, ◌+◌, ◌↔◌, List, ℕ, true, take, length, IfOk, IfErr, IsTrue, option_map, string_bytes};
+ghost use Rattle.std.specs.Prelude.{◌≡◌, ◌≤◌, ◌↔◌, true, take, length, IfOk, IfErr, IfSome, IsTrue, option_map, string_bytes};
 ghost use Rattle.coset_value.specs.Item.{Item, null};
 ghost use Rattle.coset_value.specs.Parts.{as_integer, as_bytes, as_text, as_bool, as_tag};
 ghost use Rattle.coset_value.specs.View.{view, bits_of};
-ghost use Rattle.coset_cbor.specs.Grammar.{IsItem};
+ghost use Rattle.coset_cbor.specs.Fronts.{HasNoItem};
+ghost use Rattle.coset_cbor.specs.Grammar.{IsHeaded, IsItem};
 ghost use Rattle.coset_cbor.specs.Reading.{argument_from, number_of};
 ghost use Rattle.coset_cbor.specs.Refused.{IsMemory, StandsIn};
 ghost use Rattle.coset_cbor.specs.Scalars.{as_scalar, as_float, scalar_by, integer_by, tag_by};
@@ -37,7 +38,7 @@ fn front_length<L: Ledger>(bytes: &[u8], blank: Blank) -> Result<usize, Error<En
     requires some { L.parts ≡ 1 }
     ensures length { IfOk result (λ n. n ≤ length bytes.now) }
     ensures found { IfOk result (λ n. (v : Item) × IsItem (take n bytes.now) v) }
-    ensures refused { IfErr result (λ e. (v : Item) (b rest : List ℕ) → bytes.now ≡ b ++ rest → IsItem b v → ⊥) }
+    ensures refused { IfErr result (λ e. HasNoItem bytes.now) }
     ensures memory { IfErr result (λ e. IsMemory e → ⊥) }
     ensures stands { IfErr result (λ e. StandsIn bytes.now e) }
 {
@@ -68,7 +69,8 @@ fn scalar_of(head: Head, left: usize, bytes: &[u8]) -> Option<Value>
 
 /// The number of an integer, as its head says.
 fn integer_of(start: Start) -> Option<Integer>
-    ensures { result ≡ integer_by (number_of (argument_from start.info start.number)) start.major_type }
+    ensures { result
+        ≡ integer_by (number_of (argument_from start.info start.number)) start.major_type }
 {
     match start.major_type {
         MajorType::Unsigned => match start.number() {
@@ -94,7 +96,7 @@ fn tag_number(head: Head) -> Option<u64>
 }
 
 impl<'a> Pull<'a> {
-    ghost use Rattle.coset_cbor.specs.Pulls.{pull_bytes, pull_item};
+    ghost use Rattle.coset_cbor.specs.Pulls.{pull_bytes, pull_item, BeginsWith};
 
     /// Checks that an item stands at the front of the bytes, and lends it, with the bytes after it. It takes no
     /// memory.
@@ -102,8 +104,8 @@ impl<'a> Pull<'a> {
     /// # Errors
     /// The same as [`check`].
     pub fn new(bytes: &'a [u8]) -> Result<(Pull<'a>, &'a [u8]), Error<EndOfFile>>
-        ensures found { IfOk result (λ x. (bytes.now ≡ pull_bytes x.0 ++ x.1.now) × IsItem (pull_bytes x.0) (pull_item x.0)) }
-        ensures refused { IfErr result (λ e. (v : Item) (b rest : List ℕ) → bytes.now ≡ b ++ rest → IsItem b v → ⊥) }
+        ensures found { IfOk result (λ x. BeginsWith bytes.now x.0 x.1.now) }
+        ensures refused { IfErr result (λ e. HasNoItem bytes.now) }
         ensures memory { IfErr result (λ e. IsMemory e → ⊥) }
         ensures stands { IfErr result (λ e. StandsIn bytes.now e) }
     {
@@ -172,7 +174,9 @@ impl<'a> Pull<'a> {
 
     /// The number of a tag, with the item that it encloses, and `None` of any other item (RFC 8949, section 3.4).
     pub fn tag(&self) -> Option<(u64, Pull<'a>)>
-        ensures { option_map (λ t. (t.0, pull_item t.1)) result ≡ as_tag (pull_item self.now) }
+        ensures item { option_map (λ t. (t.0, pull_item t.1)) result ≡ as_tag (pull_item self.now) }
+        // The bytes are the tag's head, and then those of the item that it encloses.
+        ensures bytes { IfSome result (λ t. IsHeaded 6 t.0 (pull_bytes t.1) (pull_bytes self.now)) }
     {
         let Ok((head, rest)) = head_of(self.bytes) else {
             return None;

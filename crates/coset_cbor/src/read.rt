@@ -105,7 +105,8 @@ fn array(
     bytes: &[u8],
     depth: usize,
 ) -> Result<(Vec<Value>, &[u8]), ReadError>
-    ensures { Gives (λ x. (map view x.0.items, x.1.now)) result (array_by (item_at depth) count bytes.now) }
+    ensures { Gives (λ x. (map view x.0.items, x.1.now)) result
+        (array_by (item_at depth) count bytes.now) }
 {
     match count {
         Some(count) if (bytes.len() as u64) < count => Err(ReadError::Fault(Fault::End)),
@@ -122,7 +123,8 @@ fn map(
     bytes: &[u8],
     depth: usize,
 ) -> Result<(Vec<(Value, Value)>, &[u8]), ReadError>
-    ensures { Gives (λ x. (map pair_view x.0.items, x.1.now)) result (map_by (item_at depth) count bytes.now) }
+    ensures { Gives (λ x. (map pair_view x.0.items, x.1.now)) result
+        (map_by (item_at depth) count bytes.now) }
 {
     match count {
         Some(count) if (bytes.len() as u64) / 2 < count => Err(ReadError::Fault(Fault::End)),
@@ -139,7 +141,8 @@ fn items(
     bytes: &[u8],
     depth: usize,
 ) -> Result<(Vec<Value>, &[u8]), ReadError>
-    ensures { Gives (λ x. (map view x.0.items, x.1.now)) result (times_at (item_at depth) count bytes.now) }
+    ensures { Gives (λ x. (map view x.0.items, x.1.now)) result
+        (times_at (item_at depth) count bytes.now) }
 {
     let mut found = Vec::with_capacity(alloc, count.min(PLACES) as usize)?;
     let mut rest = bytes;
@@ -154,7 +157,8 @@ fn items(
 /// The items up to the break. Each takes at least a byte, so the bytes are turns enough.
 #[cycle(item)]
 fn items_until(alloc: Global, bytes: &[u8], depth: usize) -> Result<(Vec<Value>, &[u8]), ReadError>
-    ensures { Gives (λ x. (map view x.0.items, x.1.now)) result (until_at (item_at depth) (length bytes.now) bytes.now) }
+    ensures { Gives (λ x. (map view x.0.items, x.1.now)) result
+        (until_at (item_at depth) (length bytes.now) bytes.now) }
 {
     let mut found = Vec::new(alloc);
     let mut rest = bytes;
@@ -187,7 +191,8 @@ fn pairs(
     bytes: &[u8],
     depth: usize,
 ) -> Result<(Vec<(Value, Value)>, &[u8]), ReadError>
-    ensures { Gives (λ x. (map pair_view x.0.items, x.1.now)) result (times_at (pair_at (item_at depth)) count bytes.now) }
+    ensures { Gives (λ x. (map pair_view x.0.items, x.1.now)) result
+        (times_at (pair_at (item_at depth)) count bytes.now) }
 {
     let mut found = Vec::with_capacity(alloc, count.min(PLACES) as usize)?;
     let mut rest = bytes;
@@ -206,7 +211,8 @@ fn pairs_until(
     bytes: &[u8],
     depth: usize,
 ) -> Result<(Vec<(Value, Value)>, &[u8]), ReadError>
-    ensures { Gives (λ x. (map pair_view x.0.items, x.1.now)) result (until_at (pair_at (item_at depth)) (length bytes.now) bytes.now) }
+    ensures { Gives (λ x. (map pair_view x.0.items, x.1.now)) result
+        (until_at (pair_at (item_at depth)) (length bytes.now) bytes.now) }
 {
     let mut found = Vec::new(alloc);
     let mut rest = bytes;

@@ -11,7 +11,8 @@ use std::alloc::Global;
 /// What follows the break, where it is at the front.
 #[inline(always)]
 pub(crate) fn after_break(bytes: &[u8]) -> Option<&[u8]>
-    ensures { MatchOption result (begins_break bytes.now ≡ false) (λ after. (begins_break bytes.now ≡ true) × (after.now ≡ drop 1 bytes.now)) }
+    ensures { MatchOption result (begins_break bytes.now ≡ false)
+        (λ after. (begins_break bytes.now ≡ true) × (after.now ≡ drop 1 bytes.now)) }
 {
     match bytes {
         [255, rest @ ..] => Some(rest),
@@ -21,7 +22,8 @@ pub(crate) fn after_break(bytes: &[u8]) -> Option<&[u8]>
 
 /// The bytes as text, where they are UTF-8.
 fn text_of(bytes: &[u8]) -> Option<&str>
-    ensures { MatchOption result (is_utf8 bytes.now ≡ false) (λ s. (s.now ≡ bytes.now) × (is_utf8 bytes.now ≡ true)) }
+    ensures { MatchOption result (is_utf8 bytes.now ≡ false)
+        (λ s. (s.now ≡ bytes.now) × (is_utf8 bytes.now ≡ true)) }
 {
     match std::str::from_utf8(bytes) {
         Ok(text) => Some(text),
@@ -208,7 +210,8 @@ pub(crate) fn text_string(
     count: Option<u64>,
     bytes: &[u8],
 ) -> Result<(String, &[u8]), ReadError>
-    ensures { Gives (λ x. (string_bytes x.0, x.1.now)) result (any_string_by true left count bytes.now) }
+    ensures { Gives (λ x. (string_bytes x.0, x.1.now)) result
+        (any_string_by true left count bytes.now) }
 {
     let Some(count) = count else {
         return text_chunks(alloc, bytes);

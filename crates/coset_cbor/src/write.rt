@@ -40,7 +40,8 @@ fn put_two(out: &mut Vec<u8>, first: u8, more: &[u8]) -> Result<(), AllocError>
 /// Writes the shortest head of this type with argument `n`.
 #[tactic(auto, unfolding(crate::specs::Least::least_head))]
 pub(crate) fn put_head(out: &mut Vec<u8>, major_type: MajorType, n: u64) -> Result<(), AllocError>
-    ensures ok { OnOk result (out.new.items ≡ out.old.items ++ least_head (major_type_number major_type) n) }
+    ensures ok { OnOk result (out.new.items ≡ out.old.items
+        ++ least_head (major_type_number major_type) n) }
     ensures kept { Extends out.old.items out.new.items }
 {
     if n < 24 {
@@ -99,7 +100,8 @@ pub(crate) fn put_string(
 
 /// Writes a text string: a head with the length, and the bytes.
 pub(crate) fn put_text(out: &mut Vec<u8>, text: &str) -> Result<(), AllocError>
-    ensures ok { OnOk result (out.new.items ≡ out.old.items ++ (least_head 3 (length text.now) ++ text.now)) }
+    ensures ok { OnOk result (out.new.items ≡ out.old.items
+        ++ (least_head 3 (length text.now) ++ text.now)) }
     ensures in_range { OnOk result ((length text.now < 2 ^ 64) × IsUtf8 text.now) }
     ensures kept { Extends out.old.items out.new.items }
 {
@@ -138,7 +140,8 @@ pub(crate) fn put(out: &mut Vec<u8>, value: &Value) -> Result<(), AllocError>
 
 #[cycle(put)]
 fn put_items(out: &mut Vec<u8>, items: &Vec<Value>) -> Result<(), AllocError>
-    ensures ok { OnOk result (out.new.items ≡ out.old.items ++ least_encodings (items_view items.now.items)) }
+    ensures ok { OnOk result (out.new.items ≡ out.old.items
+        ++ least_encodings (items_view items.now.items)) }
     ensures in_range { OnOk result (AreInRange (items_view items.now.items)) }
     ensures kept { Extends out.old.items out.new.items }
 {
@@ -150,7 +153,8 @@ fn put_items(out: &mut Vec<u8>, items: &Vec<Value>) -> Result<(), AllocError>
 
 #[cycle(put)]
 fn put_pairs(out: &mut Vec<u8>, pairs: &Vec<(Value, Value)>) -> Result<(), AllocError>
-    ensures ok { OnOk result (out.new.items ≡ out.old.items ++ least_pair_encodings (pairs_view pairs.now.items)) }
+    ensures ok { OnOk result (out.new.items ≡ out.old.items
+        ++ least_pair_encodings (pairs_view pairs.now.items)) }
     ensures in_range { OnOk result (ArePairsInRange (pairs_view pairs.now.items)) }
     ensures kept { Extends out.old.items out.new.items }
 {

@@ -1,6 +1,6 @@
 -- A header's pairs, read one after the other.
 use Rattle.std.proofs.Common.{◌≡◌, ◌⊎◌, Bool, true, false, Option, Some, None, Result, Ok, Err, refl, sym, ap, subst, ◌∙◌, inl, inr}
-use Rattle.std.specs.Prelude.{pos, IsErrAnd}
+use Rattle.std.specs.Prelude.{IsErrAnd}
 use Rattle.coset_value.specs.Item.{Item, dict, Pairs, no_pairs, pair}
 use Rattle.std.specs.Map.{keys_of}
 use Rattle.coset_shape.specs.declared.error.CoseError.{CoseError}
@@ -12,9 +12,9 @@ use Rattle.coset_shape.specs.Maps.{Adds, Refuses, RefusesKey, BarsKey, GatherFau
 use Rattle.coset_shape.specs.Shape.{any}
 use Rattle.coset_shape.proofs.Walking.{goes_on, refuses, stumbles}
 use Rattle.coset_label.specs.Labels.{label}
-use Rattle.coset_label.specs.Names.{number}
 use Rattle.coset_label.specs.Views.{label_seen}
 use Rattle.coset_label.specs.declared.label.Label.{Label}
+use Rattle.coset_core.specs.FieldLabels as labels
 use Rattle.coset_core.specs.Fields.{FieldsSeen, names, fields, parts_of, same_name, bars}
 use Rattle.coset_core.specs.FieldLaws.{names_laws, partial_fields_laws}
 use Rattle.coset_core.specs.Filling.{WalksTo, NextsLabel, AtSeven, AtEnd, AtFault, FillsSome, FillsFields, IsDistinctRest}
@@ -26,7 +26,7 @@ pub record SoFar (all : Pairs) (o : Option Item) (f : FieldsSeen) (t z : State) 
   pub within : PairsWithin m left t z
 
 pub at_seven :
-    (all : Pairs) (o : Option Item) (f : FieldsSeen) (s t z : State) (m n : InputPairs) (l : Label) → (w : SoFar all o f s z m) → NextsLabel w.left t z n (Ok (Some l)) → same_name (number (pos 7)) (label_seen l) ≡ true
+    (all : Pairs) (o : Option Item) (f : FieldsSeen) (s t z : State) (m n : InputPairs) (l : Label) → (w : SoFar all o f s z m) → NextsLabel w.left t z n (Ok (Some l)) → same_name labels.counter_signature (label_seen l) ≡ true
     → AtSeven all o f t z n
 at_seven all o f s t z m n l w h seven = record {
   key = h.0;
@@ -34,7 +34,7 @@ at_seven all o f s t z m n l w h seven = record {
   others = h.2;
   mid = h.3;
   walks = subst (WalksTo all f o) h.4 w.walks;
-  seven = subst (label.describes h.0) (sym (names_laws.same_is (number (pos 7)) (label_seen l) seven)) h.5;
+  seven = subst (label.describes h.0) (sym (names_laws.same_is labels.counter_signature (label_seen l) seven)) h.5;
   stands = h.6;
   within = h.7;
 }

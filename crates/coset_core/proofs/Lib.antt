@@ -4,5 +4,7 @@ pub mod Reading
 pub mod Writing
 pub mod WritingHeaders
 pub mod Keeping
+pub mod Kept
+pub mod Room
 pub mod Filling
 pub mod Forward

@@ -1,12 +1,13 @@
 -- A pair of a header, by its label.
-use Rattle.std.proofs.Common.{◌≡◌, ◌≢◌, ◌==◌, ℕ, ℤ, Vec, Global, map, arith, not, length, List, [], ◌∷◌, ◌++◌, Option, Bool, ◌||◌, false, true, refl, sym, ap, ◌∙◌, subst, true≢false, ◌⊎◌, inl, inr, Result, Ok, Err}
-use Rattle.std.specs.Prelude.{pos, IfErr, OnOk, OnErr}
+use Rattle.std.proofs.Common.{◌≡◌, ◌≢◌, ◌==◌, ℕ, Vec, Global, map, arith, not, length, List, [], ◌∷◌, ◌++◌, Option, Bool, ◌||◌, false, true, refl, sym, ap, ◌∙◌, subst, true≢false, ◌⊎◌, inl, inr, Result, Ok, Err}
+use Rattle.std.specs.Prelude.{IfErr, OnOk, OnErr}
 use Rattle.coset_value.specs.Item.{Item}
 use Rattle.coset_shape.specs.Maps.{Fields, optional, listed, Where, is_core, Adds, Refuses}
 use Rattle.coset_shape.specs.Errors.{UnlessMemory, IsUnexpected}
 use Rattle.coset_shape.specs.declared.error.CoseError.{CoseError}
 use Rattle.coset_shape.specs.Shape.{any, some_of, filled_bstr}
-use Rattle.coset_label.specs.Names.{Name, RegisteredName, number}
+use Rattle.coset_label.specs.Names.{Name, RegisteredName}
+use Rattle.coset_core.specs.FieldLabels as labels
 use Rattle.std.proofs.lemmas.Grind.{common_steps}
 use Rattle.coset_core.specs.Headers.{no_signatures, signatures_of}
 use Rattle.coset_core.specs.Views.{signature_seen}
@@ -15,9 +16,6 @@ use Rattle.coset_core.specs.Fields.{algorithm, critical, content_type, FieldsSee
 use Rattle.coset_core.specs.FieldValues.{TakesValue, RefusesValue}
 use Rattle.coset_core.specs.FieldLaws.{names_laws, same_name-sym}
 
-pub is_label : (i : ℤ) (m : Name) → same_name (number i) m ≡ true → number i ≡ m
-is_label i m h = names_laws.same_is (number i) m h
-
 -- none of seven tests passes
 none :
     (a b c d e f g : Bool) → a ≡ false → b ≡ false → c ≡ false → d ≡ false → e ≡ false → f ≡ false → g ≡ false → (a || (b || (c || (d || (e || (f || (g || false))))))) ≡ false
@@ -25,91 +23,79 @@ none a b c d e f g h1 h2 h3 h4 h5 h6 h7 = rw (h1, h2, h3, h4, h5, h6, h7) refl
 
 -- a pair whose label is none of the fields' goes to the rest
 pub adds_rest :
-    (m : Name) (v : Item) (x y : Fielded (Option Item) × List (Name × Item)) → same_name (number (pos 1)) m ≡ false → same_name (number (pos 2)) m ≡ false → same_name (number (pos 3)) m ≡ false → same_name (number (pos 4)) m ≡ false
-    → same_name (number (pos 5)) m ≡ false → same_name (number (pos 6)) m ≡ false → same_name (number (pos 7)) m ≡ false → x.0 ≡ y.0 → y.1 ≡ x.1 ++ (m, v) ∷ []
+    (m : Name) (v : Item) (x y : Fielded (Option Item) × List (Name × Item)) → same_name labels.alg m ≡ false → same_name labels.crit m ≡ false → same_name labels.content_type m ≡ false → same_name labels.kid m ≡ false
+    → same_name labels.iv m ≡ false → same_name labels.partial_iv m ≡ false → same_name labels.counter_signature m ≡ false → x.0 ≡ y.0 → y.1 ≡ x.1 ++ (m, v) ∷ []
     → Adds names (fields (optional any)) m v x y
 adds_rest m v x y h1 h2 h3 h4 h5 h6 h7 same rest =
-    let other : is_core names (fields (optional any)).labels m ≡ false = none _ _ _ _ _ _ _ (turn (pos 1) h1) (turn (pos 2) h2) (turn (pos 3) h3) (turn (pos 4) h4) (turn (pos 5) h5) (turn (pos 6) h6) (turn (pos 7) h7) in
+    let other : is_core names (fields (optional any)).labels m ≡ false = none _ _ _ _ _ _ _ (turn labels.alg h1) (turn labels.crit h2) (turn labels.content_type h3) (turn labels.kid h4) (turn labels.iv h5) (turn labels.partial_iv h6) (turn labels.counter_signature h7) in
     subst (λ b. Where b ((fields (optional any)).takes m v x.0 y.0 × (y.1 ≡ x.1)) ((x.0 ≡ y.0) × (y.1 ≡ x.1 ++ (m, v) ∷ []))) (sym other) (same, rest)
   where
-    turn : (i : ℤ) → same_name (number i) m ≡ false → same_name m (number i) ≡ false
-    turn i h = same_name-sym m (number i) ∙ h
-
--- ---- a map read whole
+    turn : (l : Name) → same_name l m ≡ false → same_name m l ≡ false
+    turn l h = same_name-sym m l ∙ h
 
 -- ---- a pair of a field's label
 
 abbrev F : Fields Name (Fielded (Option Item))
 F = fields (optional any)
 
+-- the field of this label is put, where what was asked of its value makes the others what they were
+adds_at :
+    (l m : Name) (v : Item) (r : Result (Unit {0}) CoseError) (f g k : FieldsSeen) (o : Option Item) (P : Type 0) → same_name l m ≡ true → OnOk r P → g ≡ k
+    → (P → Adds names F l v (parts_of (f, o)) (parts_of (k, o))) → OnOk r (Adds names F m v (parts_of (f, o)) (parts_of (g, o)))
+adds_at l m v (Ok u) f g k o P h t e put =
+    subst (λ n. Adds names F n v (parts_of (f, o)) (parts_of (g, o))) (names_laws.same_is l m h) (subst (λ x. Adds names F l v (parts_of (f, o)) (parts_of (x, o))) (sym e) (put t))
+adds_at l m v (Err x) f g k o P h t e put = t
+
 pub adds_alg :
-    (m : Name) (v : Item) (r : Result (Unit {0}) CoseError) (f g : FieldsSeen) (a : Option RegisteredName) (o : Option Item) → same_name (number (pos 1)) m ≡ true → OnOk r (TakesValue (optional algorithm) v f.alg a)
+    (m : Name) (v : Item) (r : Result (Unit {0}) CoseError) (f g : FieldsSeen) (a : Option RegisteredName) (o : Option Item) → same_name labels.alg m ≡ true → OnOk r (TakesValue (optional algorithm) v f.alg a)
     → g ≡ record f { alg = a } → OnOk r (Adds names F m v (parts_of (f, o)) (parts_of (g, o)))
-adds_alg m v (Ok u) f g a o h t e =
-    subst (λ l. Adds names F l v (parts_of (f, o)) (parts_of (g, o))) (is_label (pos 1) m h)
-    (subst (λ k. Adds names F (number (pos 1)) v (parts_of (f, o)) (parts_of (k, o))) (sym e) ((t.0, t.1, refl), refl))
-adds_alg m v (Err x) f g a o h t e = t
+adds_alg m v r f g a o h t e = adds_at labels.alg m v r f g (record f { alg = a }) o (TakesValue (optional algorithm) v f.alg a) h t e (λ p. ((p.0, p.1, refl), refl))
 
 pub adds_crit :
-    (m : Name) (v : Item) (r : Result (Unit {0}) CoseError) (f g : FieldsSeen) (a : List RegisteredName) (o : Option Item) → same_name (number (pos 2)) m ≡ true → OnOk r (TakesValue (listed (some_of critical)) v f.crit a)
+    (m : Name) (v : Item) (r : Result (Unit {0}) CoseError) (f g : FieldsSeen) (a : List RegisteredName) (o : Option Item) → same_name labels.crit m ≡ true → OnOk r (TakesValue (listed (some_of critical)) v f.crit a)
     → g ≡ record f { crit = a } → OnOk r (Adds names F m v (parts_of (f, o)) (parts_of (g, o)))
-adds_crit m v (Ok u) f g a o h t e =
-    subst (λ l. Adds names F l v (parts_of (f, o)) (parts_of (g, o))) (is_label (pos 2) m h)
-    (subst (λ k. Adds names F (number (pos 2)) v (parts_of (f, o)) (parts_of (k, o))) (sym e) ((refl, (t.0, t.1, refl)), refl))
-adds_crit m v (Err x) f g a o h t e = t
+adds_crit m v r f g a o h t e = adds_at labels.crit m v r f g (record f { crit = a }) o (TakesValue (listed (some_of critical)) v f.crit a) h t e (λ p. ((refl, (p.0, p.1, refl)), refl))
 
 pub adds_content_type :
-    (m : Name) (v : Item) (r : Result (Unit {0}) CoseError) (f g : FieldsSeen) (a : Option Name) (o : Option Item) → same_name (number (pos 3)) m ≡ true → OnOk r (TakesValue (optional content_type) v f.content_type a)
+    (m : Name) (v : Item) (r : Result (Unit {0}) CoseError) (f g : FieldsSeen) (a : Option Name) (o : Option Item) → same_name labels.content_type m ≡ true → OnOk r (TakesValue (optional content_type) v f.content_type a)
     → g ≡ record f { content_type = a } → OnOk r (Adds names F m v (parts_of (f, o)) (parts_of (g, o)))
-adds_content_type m v (Ok u) f g a o h t e =
-    subst (λ l. Adds names F l v (parts_of (f, o)) (parts_of (g, o))) (is_label (pos 3) m h)
-    (subst (λ k. Adds names F (number (pos 3)) v (parts_of (f, o)) (parts_of (k, o))) (sym e) ((refl, (refl, (t.0, t.1, refl))), refl))
-adds_content_type m v (Err x) f g a o h t e = t
+adds_content_type m v r f g a o h t e = adds_at labels.content_type m v r f g (record f { content_type = a }) o (TakesValue (optional content_type) v f.content_type a) h t e (λ p. ((refl, (refl, (p.0, p.1, refl))), refl))
 
 pub adds_key_id :
-    (m : Name) (v : Item) (r : Result (Unit {0}) CoseError) (f g : FieldsSeen) (a : List ℕ) (o : Option Item) → same_name (number (pos 4)) m ≡ true → OnOk r (TakesValue (listed filled_bstr) v f.key_id a)
+    (m : Name) (v : Item) (r : Result (Unit {0}) CoseError) (f g : FieldsSeen) (a : List ℕ) (o : Option Item) → same_name labels.kid m ≡ true → OnOk r (TakesValue (listed filled_bstr) v f.key_id a)
     → g ≡ record f { key_id = a } → OnOk r (Adds names F m v (parts_of (f, o)) (parts_of (g, o)))
-adds_key_id m v (Ok u) f g a o h t e =
-    subst (λ l. Adds names F l v (parts_of (f, o)) (parts_of (g, o))) (is_label (pos 4) m h)
-    (subst (λ k. Adds names F (number (pos 4)) v (parts_of (f, o)) (parts_of (k, o))) (sym e) ((refl, (refl, (refl, (t.0, t.1, refl)))), refl))
-adds_key_id m v (Err x) f g a o h t e = t
+adds_key_id m v r f g a o h t e = adds_at labels.kid m v r f g (record f { key_id = a }) o (TakesValue (listed filled_bstr) v f.key_id a) h t e (λ p. ((refl, (refl, (refl, (p.0, p.1, refl)))), refl))
 
 pub adds_iv :
-    (m : Name) (v : Item) (r : Result (Unit {0}) CoseError) (f g : FieldsSeen) (a : List ℕ) (o : Option Item) → same_name (number (pos 5)) m ≡ true → OnOk r (TakesValue (listed filled_bstr) v f.iv a)
+    (m : Name) (v : Item) (r : Result (Unit {0}) CoseError) (f g : FieldsSeen) (a : List ℕ) (o : Option Item) → same_name labels.iv m ≡ true → OnOk r (TakesValue (listed filled_bstr) v f.iv a)
     → g ≡ record f { iv = a } → OnOk r (Adds names F m v (parts_of (f, o)) (parts_of (g, o)))
-adds_iv m v (Ok u) f g a o h t e =
-    subst (λ l. Adds names F l v (parts_of (f, o)) (parts_of (g, o))) (is_label (pos 5) m h)
-    (subst (λ k. Adds names F (number (pos 5)) v (parts_of (f, o)) (parts_of (k, o))) (sym e) ((refl, (refl, (refl, (refl, (t.0, t.1, refl))))), refl))
-adds_iv m v (Err x) f g a o h t e = t
+adds_iv m v r f g a o h t e = adds_at labels.iv m v r f g (record f { iv = a }) o (TakesValue (listed filled_bstr) v f.iv a) h t e (λ p. ((refl, (refl, (refl, (refl, (p.0, p.1, refl))))), refl))
 
 pub adds_partial_iv :
-    (m : Name) (v : Item) (r : Result (Unit {0}) CoseError) (f g : FieldsSeen) (a : List ℕ) (o : Option Item) → same_name (number (pos 6)) m ≡ true → OnOk r (TakesValue (listed filled_bstr) v f.partial_iv a)
+    (m : Name) (v : Item) (r : Result (Unit {0}) CoseError) (f g : FieldsSeen) (a : List ℕ) (o : Option Item) → same_name labels.partial_iv m ≡ true → OnOk r (TakesValue (listed filled_bstr) v f.partial_iv a)
     → g ≡ record f { partial_iv = a } → OnOk r (Adds names F m v (parts_of (f, o)) (parts_of (g, o)))
-adds_partial_iv m v (Ok u) f g a o h t e =
-    subst (λ l. Adds names F l v (parts_of (f, o)) (parts_of (g, o))) (is_label (pos 6) m h)
-    (subst (λ k. Adds names F (number (pos 6)) v (parts_of (f, o)) (parts_of (k, o))) (sym e) ((refl, (refl, (refl, (refl, (refl, (t.0, t.1, refl)))))), refl))
-adds_partial_iv m v (Err x) f g a o h t e = t
+adds_partial_iv m v r f g a o h t e = adds_at labels.partial_iv m v r f g (record f { partial_iv = a }) o (TakesValue (listed filled_bstr) v f.partial_iv a) h t e (λ p. ((refl, (refl, (refl, (refl, (refl, (p.0, p.1, refl)))))), refl))
 
 -- why a field's label is refused
 pub refuses_crit :
-    (m : Name) (v : Item) (r : Result (Unit {0}) CoseError) (x : Fielded (Option Item) × List (Name × Item)) → same_name (number (pos 2)) m ≡ true
+    (m : Name) (v : Item) (r : Result (Unit {0}) CoseError) (x : Fielded (Option Item) × List (Name × Item)) → same_name labels.crit m ≡ true
     → IfErr r (λ e. UnlessMemory e (RefusesValue (listed (some_of critical)) v x.0.1.0)) → IfErr r (λ e. UnlessMemory e (λ f. Refuses names F m v x f ⊎ bars m x f))
 refuses_crit m v (Ok u) x h t = t
-refuses_crit m v (Err e) x h t = λ n. inl (subst (λ l. Refuses names F l v x e) (is_label (pos 2) m h) (t n))
+refuses_crit m v (Err e) x h t = λ n. inl (subst (λ l. Refuses names F l v x e) (names_laws.same_is labels.crit m h) (t n))
 
 pub refuses_iv :
-    (m : Name) (v : Item) (r : Result (Unit {0}) CoseError) (x : Fielded (Option Item) × List (Name × Item)) (b : Bool) → same_name (number (pos 5)) m ≡ true
+    (m : Name) (v : Item) (r : Result (Unit {0}) CoseError) (x : Fielded (Option Item) × List (Name × Item)) (b : Bool) → same_name labels.iv m ≡ true
     → (b ≡ true → x.0.1.1.1.1.1.0 ≢ []) → IfErr r (λ e. UnlessMemory e (λ f. RefusesValue (listed filled_bstr) v x.0.1.1.1.1.0 f ⊎ ((b ≡ true) × IsUnexpected f)))
     → IfErr r (λ e. UnlessMemory e (λ f. Refuses names F m v x f ⊎ bars m x f))
 refuses_iv m v (Ok u) x b h some t = t
-refuses_iv m v (Err e) x b h some t = λ n. elim (t n) [ inl g ↦ inl (subst (λ l. Refuses names F l v x e) (is_label (pos 5) m h) g) | inr g ↦ inr (inl (h, some g.0, g.1)) ]
+refuses_iv m v (Err e) x b h some t = λ n. elim (t n) [ inl g ↦ inl (subst (λ l. Refuses names F l v x e) (names_laws.same_is labels.iv m h) g) | inr g ↦ inr (inl (h, some g.0, g.1)) ]
 
 pub refuses_partial_iv :
-    (m : Name) (v : Item) (r : Result (Unit {0}) CoseError) (x : Fielded (Option Item) × List (Name × Item)) (b : Bool) → same_name (number (pos 6)) m ≡ true
+    (m : Name) (v : Item) (r : Result (Unit {0}) CoseError) (x : Fielded (Option Item) × List (Name × Item)) (b : Bool) → same_name labels.partial_iv m ≡ true
     → (b ≡ true → x.0.1.1.1.1.0 ≢ []) → IfErr r (λ e. UnlessMemory e (λ f. RefusesValue (listed filled_bstr) v x.0.1.1.1.1.1.0 f ⊎ ((b ≡ true) × IsUnexpected f)))
     → IfErr r (λ e. UnlessMemory e (λ f. Refuses names F m v x f ⊎ bars m x f))
 refuses_partial_iv m v (Ok u) x b h some t = t
-refuses_partial_iv m v (Err e) x b h some t = λ n. elim (t n) [ inl g ↦ inl (subst (λ l. Refuses names F l v x e) (is_label (pos 6) m h) g) | inr g ↦ inr (inr (h, some g.0, g.1)) ]
+refuses_partial_iv m v (Err e) x b h some t = λ n. elim (t n) [ inl g ↦ inl (subst (λ l. Refuses names F l v x e) (names_laws.same_is labels.partial_iv m h) g) | inr g ↦ inr (inr (h, some g.0, g.1)) ]
 
 -- one of IV and Partial IV stays alone
 pub stays_alone :

@@ -1,40 +1,32 @@
 -- Headers, and the signatures in them, read from their parts.
 use Rattle.std.proofs.Common.{◌≡◌, ℕ, zero, suc, pred, List, [], ◌∷◌, ◌++◌, length, map, slice_set, ◌-◌, ◌∙◌, Option, Some, None, Result, Ok, Err, refl, sym, ap, subst, inl, inr, append-nil, arith}
 use Rattle.std.specs.Prelude.{IsErrAnd}
-use Rattle.coset_value.specs.Item.{Item, Items, no_items}
+use Rattle.coset_value.specs.Item.{Item, bytes, Items, no_items}
 use Rattle.coset_value.specs.Parts.{as_bytes}
 use Rattle.coset_cbor.specs.declared.de.Error.TheVariants.{RecursionLimitExceeded}
 use Rattle.coset_shape.specs.declared.error.CoseError.{CoseError}
 use Rattle.coset_shape.specs.declared.error.CoseError.TheVariants.{DecodeFailed}
 use Rattle.coset_shape.specs.Answers.{Reads, RefusesItem}
 use Rattle.coset_shape.specs.ShapeLaws.{Lawful}
-use Rattle.coset_shape.specs.Errors.{UnlessMemory, IsUnexpected}
+use Rattle.coset_shape.specs.declared.error.Refused.{Refused}
+use Rattle.coset_shape.specs.Errors.{UnlessMemory, IsUnexpected, answer}
 use Rattle.coset_shape.specs.declared.input.InputItems.{InputItems}
 use Rattle.coset_shape.specs.Inputs.{State, AreWithin}
 use Rattle.coset_shape.specs.Lists.{Continues}
 use Rattle.coset_shape.specs.Serialized.{ContentDescribes, ContentFaults}
 use Rattle.coset_shape.specs.Shape.{Shape, Each, any_number, one_or_many}
-use Rattle.coset_core.specs.Contents.{Fills, GetsEmpty}
+use Rattle.coset_core.specs.Contents.{Fills, FillsContent, GetsEmpty}
 use Rattle.coset_core.specs.Views.{signature_seen}
 use Rattle.coset_core.specs.declared.signature.CoseSignature.{CoseSignature}
 use Rattle.std.proofs.lemmas.List.{map-append}
 use Rattle.coset_core.specs.Fields.{FieldsSeen, partial_header}
 use Rattle.coset_core.specs.HeaderReads.{counter_signatures_read, header_read}
-use Rattle.coset_core.specs.Headers.{HeaderSeen, SignatureSeen, empty_header, layered_header, layered_protected, layered_signature, no_signatures, signatures_of, with_counter_signatures}
+use Rattle.coset_core.specs.Headers.{HeaderSeen, header_of, SignatureSeen, empty_header, layered_header, layered_protected, layered_signature, no_signatures, signatures_of}
 
 -- what is refused describes nothing
 pub refuses_item : {T A : Type 0} (s : Shape A) → Lawful A s → (seen : T → A) (v : Item) (r : Result T CoseError) → Reads s seen v r → RefusesItem s v r
 refuses_item s l seen v (Ok x) p = tt
 refuses_item s l seen v (Err e) p = λ n x d. l.sound v x e d (p n)
-
--- an error that is passed on
-pub passed_on : {T A : Type 0} (s : Shape A) (seen : T → A) (v : Item) (r : Result T CoseError) (e : CoseError) → IsErrAnd r (λ f. f ≡ e) → UnlessMemory e (s.faults v) → Reads s seen v r
-passed_on s seen v (Ok x) e h n = absurd h
-passed_on s seen v (Err f) e h n = subst (λ g. UnlessMemory g (s.faults v)) (sym h) n
-
--- ---- how deep the parts are
-
--- ---- one, or several
 
 -- ---- the byte string of a protected header
 
@@ -62,23 +54,33 @@ unfolding layered_protected
 content_described zero j v b h z i d = absurd (cc)
 content_described (suc k) j v b h z i d = (b, i, refl, subst (λ n. ContentDescribes empty_header (layered_header n) b h) (ap pred (sym z)) d)
 
+-- the header that bytes which are kept hold
+pub protected_filled :
+    (k j : ℕ) (b c : List ℕ) (o : Option (List ℕ)) (h : HeaderSeen) (r : Result (Unit {0}) CoseError) → k ≡ suc j → o ≡ Some b → c ≡ b → FillsContent j c h r → Fills (layered_protected k) (bytes b) (record { original = o; header = h }) r
+protected_filled k j b c o h (Ok u) z kept same d =
+    subst (λ p. (layered_protected k).describes (bytes b) (record { original = p; header = h })) (sym kept)
+    (content_described k j (bytes b) b h z refl (subst (λ s. ContentDescribes empty_header (layered_header j) s h) same d))
+protected_filled k j b c o h (Err e) z kept same d = λ n. content_faulty k j (bytes b) b e z refl (subst (λ s. ContentFaults (layered_header j) s e) same (d n))
+
 -- ---- a header's map, and then its counter signatures
 
 pub counter_signatures_there :
     (k : ℕ) (v : Item) (h : HeaderSeen) (o : Option Item) (w : Item) (f : FieldsSeen) (xs : List SignatureSeen) → partial_header.describes v (f, o) → o ≡ Some w → (one_or_many (any_number (layered_signature k))).describes w xs
-    → h ≡ with_counter_signatures f (signatures_of xs) → (layered_header k).describes v h
+    → h ≡ header_of f (signatures_of xs) → (layered_header k).describes v h
 counter_signatures_there k v h o w f xs p e q same =
     subst ((layered_header k).describes v) (sym same) (header_read k v f (Some w) (signatures_of xs) (subst (λ x. partial_header.describes v (f, x)) e p) (counter_signatures_read k w xs q))
 
-pub counter_signatures_missing : (k : ℕ) (v : Item) (h : HeaderSeen) (o : Option Item) → partial_header.describes v (h.fields, o) → o ≡ None → h.counter_signatures ≡ no_signatures → (layered_header k).describes v h
-counter_signatures_missing k v h o p e q = header_read k v h.fields None h.counter_signatures (subst (λ x. partial_header.describes v (h.fields, x)) e p) q
+pub counter_signatures_missing :
+    (k : ℕ) (v : Item) (h : HeaderSeen) (f : FieldsSeen) → partial_header.describes v (f, None) → h ≡ header_of f no_signatures → (layered_header k).describes v h
+counter_signatures_missing k v h f p same = subst ((layered_header k).describes v) (sym same) (header_read k v f None no_signatures p refl)
 
 -- ---- places that are filled
 
 -- an error that is passed on
-pub not_filled : {A : Type 0} (s : Shape A) (x : A) (v : Item) (r : Result (Unit {0}) CoseError) (e : CoseError) → IsErrAnd r (λ f. f ≡ e) → UnlessMemory e (s.faults v) → Fills s v x r
-not_filled s x v (Ok u) e h n = absurd h
-not_filled s x v (Err f) e h n = subst (λ g. UnlessMemory g (s.faults v)) (sym h) n
+pub not_filled :
+    {A : Type 0} (s : Shape A) (x : A) (v : Item) (r : Result (Unit {0}) Refused) (e : CoseError) (w : Refused) → IsErrAnd r (λ f. f ≡ w) → UnlessMemory e (s.faults v) → Fills s v x (answer e r)
+not_filled s x v (Ok u) e w h n = absurd h
+not_filled s x v (Err f) e w h n = n
 
 -- the last of a list that one more was pushed on
 last_set : {A : Type 0} (xs : List A) (x y : A) → slice_set (xs ++ x ∷ []) (length xs) y ≡ xs ++ y ∷ []

@@ -1,5 +1,5 @@
 -- Items and pairs, written one after the other.
-use Rattle.std.specs.Prelude.{pos, ◌==◌, not, true, is_some}
+use Rattle.std.specs.Prelude.{◌==◌, not, true, is_some}
 use Rattle.std.proofs.Common.{◌≡◌, ℕ, suc, Option, Some, None, option_map, true≢false, ◌+◌, ◌<◌, ◌^◌, List, [], ◌∷◌, ◌++◌, map, length, take, drop, refl, sym, ◌∙◌, ap, subst, get_or, append-nil, append_assoc}
 use Rattle.std.proofs.lemmas.List.{take_more, take-append-drop, map_push, map-append, length-map}
 use Rattle.coset_value.specs.Item.{Item, array, items_count, pairs_count}
@@ -10,6 +10,7 @@ use Rattle.coset_shape.specs.Encoding.{AppendsItem}
 use Rattle.coset_shape.specs.Maps.{put_field, named_image}
 use Rattle.coset_label.specs.Labels.{label}
 use Rattle.coset_label.specs.Names.{Name, number, word, name_item, RegisteredName}
+use Rattle.coset_core.specs.FieldLabels as labels
 use Rattle.coset_core.specs.Fields.{FieldsSeen}
 use Rattle.coset_core.specs.HeaderWrites.{fields_put}
 use Rattle.coset_core.specs.Written.{AppendsItems, AppendsPairs, entry_pairs, registered_item, critical_item, filled_item, plain_fields, one, count_pairs}
@@ -129,11 +130,11 @@ rest-put see xs i x old mid half new lt is so_far key value =
 
 -- a head and labels are the pair of label 2, where they are any
 pub critical-put :
-    (xs : List RegisteredName) (n : ℕ) (old mid head new : List ℕ) → not (length xs == 0) ≡ true → n ≡ length xs → n < 2 ^ 64 → AppendsItem old mid (name_item (number (pos 2))) → head ≡ mid ++ least_head 4 n
-    → AppendsItems head new (map registered_item xs) → AppendsPairs old new (put_field (number (pos 2)) (critical_item xs) [])
+    (xs : List RegisteredName) (n : ℕ) (old mid head new : List ℕ) → not (length xs == 0) ≡ true → n ≡ length xs → n < 2 ^ 64 → AppendsItem old mid (name_item labels.crit) → head ≡ mid ++ least_head 4 n
+    → AppendsItems head new (map registered_item xs) → AppendsPairs old new (put_field labels.crit (critical_item xs) [])
 critical-put [] n old mid head new h count small key first p = absurd (true≢false (sym h))
 critical-put (x ∷ xs) n old mid head new h count small key first p =
-    pair-put old mid new (number (pos 2)) (array (items_of (map registered_item (x ∷ xs)))) key
+    pair-put old mid new labels.crit (array (items_of (map registered_item (x ∷ xs)))) key
     (array-put (map registered_item (x ∷ xs)) n mid head new (count ∙ sym (length-map (x ∷ xs) registered_item)) small first p)
 
 -- a field in front of others
@@ -145,22 +146,22 @@ front n (Some v) es = refl
 pub fields-parts :
     (a b t k i p : Option Item)
     → fields_put a b t k i p None
-    ≡ put_field (number (pos 1)) a []
-    ++ (put_field (number (pos 2)) b [] ++ (put_field (number (pos 3)) t [] ++ (put_field (number (pos 4)) k [] ++ (put_field (number (pos 5)) i [] ++ put_field (number (pos 6)) p []))))
+    ≡ put_field labels.alg a []
+    ++ (put_field labels.crit b [] ++ (put_field labels.content_type t [] ++ (put_field labels.kid k [] ++ (put_field labels.iv i [] ++ put_field labels.partial_iv p []))))
 fields-parts a b t k i p =
-    front _ a _ ∙ ap (λ es. put_field (number (pos 1)) a [] ++ es)
-    (front _ b _ ∙ ap (λ es. put_field (number (pos 2)) b [] ++ es)
-    (front _ t _ ∙ ap (λ es. put_field (number (pos 3)) t [] ++ es)
-    (front _ k _ ∙ ap (λ es. put_field (number (pos 4)) k [] ++ es) (front _ i _))))
+    front _ a _ ∙ ap (λ es. put_field labels.alg a [] ++ es)
+    (front _ b _ ∙ ap (λ es. put_field labels.crit b [] ++ es)
+    (front _ t _ ∙ ap (λ es. put_field labels.content_type t [] ++ es)
+    (front _ k _ ∙ ap (λ es. put_field labels.kid k [] ++ es) (front _ i _))))
 
 pub plain-put :
     (f : FieldsSeen) (s0 s1 s2 s3 s4 s5 s6 : List ℕ)
-    → AppendsPairs s0 s1 (put_field (number (pos 1)) (option_map registered_item f.alg) [])
-    → AppendsPairs s1 s2 (put_field (number (pos 2)) (critical_item f.crit) [])
-    → AppendsPairs s2 s3 (put_field (number (pos 3)) (option_map name_item f.content_type) [])
-    → AppendsPairs s3 s4 (put_field (number (pos 4)) (filled_item f.key_id) [])
-    → AppendsPairs s4 s5 (put_field (number (pos 5)) (filled_item f.iv) [])
-    → AppendsPairs s5 s6 (put_field (number (pos 6)) (filled_item f.partial_iv) [])
+    → AppendsPairs s0 s1 (put_field labels.alg (option_map registered_item f.alg) [])
+    → AppendsPairs s1 s2 (put_field labels.crit (critical_item f.crit) [])
+    → AppendsPairs s2 s3 (put_field labels.content_type (option_map name_item f.content_type) [])
+    → AppendsPairs s3 s4 (put_field labels.kid (filled_item f.key_id) [])
+    → AppendsPairs s4 s5 (put_field labels.iv (filled_item f.iv) [])
+    → AppendsPairs s5 s6 (put_field labels.partial_iv (filled_item f.partial_iv) [])
     → AppendsPairs s0 s6 (plain_fields f)
 plain-put f s0 s1 s2 s3 s4 s5 s6 p1 p2 p3 p4 p5 p6 =
     subst (AppendsPairs s0 s6)
@@ -169,7 +170,7 @@ plain-put f s0 s1 s2 s3 s4 s5 s6 p1 p2 p3 p4 p5 p6 =
 
 -- ---- how many pairs there are
 
-some_mapped : {A B : Type 0} (f : A → B) (o : Option A) → is_some (option_map f o) ≡ is_some o
+pub some_mapped : {A B : Type 0} (f : A → B) (o : Option A) → is_some (option_map f o) ≡ is_some o
 some_mapped f None = refl
 some_mapped f (Some x) = refl
 

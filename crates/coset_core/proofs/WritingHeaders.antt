@@ -1,5 +1,5 @@
 -- Headers and signatures, part by part.
-use Rattle.std.specs.Prelude.{pos, ◌==◌, ◌≢◌, not, Bool, true, false, is_some, Result, Ok, Err, IfErr, IsErrAnd}
+use Rattle.std.specs.Prelude.{◌==◌, ◌≢◌, not, Bool, true, false, is_some, Result, Ok, Err, IfErr, IsErrAnd}
 use Rattle.std.specs.Map.{keys_of}
 use Rattle.std.proofs.Common.{◌≡◌, ℕ, Option, Some, None, option_map, true≢false, ◌+◌, ◌<◌, ◌^◌, List, [], ◌∷◌, ◌++◌, map, length, refl, sym, ◌∙◌, ap, subst, append-nil, append_assoc, arith}
 use Rattle.std.proofs.lemmas.List.{length-append}
@@ -13,13 +13,14 @@ use Rattle.coset_shape.specs.Encoding.{AppendsItem, AppendsImage, Encodes}
 use Rattle.coset_shape.specs.Errors.{UnlessMemory}
 use Rattle.coset_shape.specs.Maps.{put_field, are_distinct, optional, listed}
 use Rattle.coset_shape.specs.Shape.{both, images, one_or_array, some_of, filled_bstr}
-use Rattle.coset_label.specs.Names.{Name, number, name_item, RegisteredName}
+use Rattle.coset_label.specs.Names.{Name, name_item, RegisteredName}
+use Rattle.coset_core.specs.FieldLabels as labels
 use Rattle.coset_shape.proofs.Encoding.{array-put as array-put-places, place-put, nothing-put}
 use Rattle.coset_core.specs.Fields.{FieldsSeen, same_name, algorithm, critical, content_type}
-use Rattle.coset_core.specs.Headers.{HeaderSeen, ProtectedSeen, SignatureSeen, Signatures, no_signatures, signature_and, signatures_of, are_none, counter_signatures_item, header_item, signature_item, signatures_image, header_image, protected_bytes}
-use Rattle.coset_core.specs.HeaderWrites.{three, fields_put, images_signatures, signature_image_is, algorithm_image, critical_image, content_type_image, Puts, header_put, header_repeats}
+use Rattle.coset_core.specs.Headers.{HeaderSeen, header_of, fields_in, counter_signatures_in, ProtectedSeen, SignatureSeen, Signatures, no_signatures, signature_and, signatures_of, are_none, counter_signatures_item, header_item, signature_item, signatures_image, header_image, protected_bytes}
+use Rattle.coset_core.specs.HeaderWrites.{fields_put, images_signatures, signature_image_is, algorithm_image, critical_image, content_type_image, Puts, header_put, header_repeats}
 use Rattle.coset_core.specs.Written.{AppendsItems, AppendsPairs, AppendsCounterSignatures, AppendsSignatures, entry_pairs, registered_item, critical_item, filled_item, header_fields, plain_fields, one, count_pairs, signature_array}
-use Rattle.coset_core.proofs.Writing.{items-push, array-put, pairs-none, pairs-then, pair-put, count-entries, image-entries}
+use Rattle.coset_core.proofs.Writing.{some_mapped, items-push, array-put, pairs-none, pairs-then, pair-put, count-entries, image-entries}
 
 -- an error passed on that says of P what another is asked to say of Q
 pub passes : {T : Type 0} (r : Result T CoseError) (f : CoseError) (P Q : Type 0) → IsErrAnd r (λ e. e ≡ f) → (P → Q) → UnlessMemory f (λ g. (g ≡ DuplicateMapKey) × P) → IfErr r (λ e. UnlessMemory e (λ g. (g ≡ DuplicateMapKey) × Q))
@@ -38,7 +39,7 @@ pub signature-put :
     (s : SignatureSeen) (old head mid half new : List ℕ) → head ≡ old ++ least_head 4 3 → AppendsImage (option_map bytes (protected_bytes s.protected)) head mid → AppendsImage (header_image s.unprotected) mid half → AppendsItem half new (bytes s.signature)
     → AppendsImage (signature_array s) old new
 signature-put s old head mid half new first p u b =
-    subst (λ o. AppendsImage o old new) (three (protected_bytes s.protected) (header_image s.unprotected) s.signature) (array-put-places 3 (omega arith) first (place-put p (place-put u (place-put (bytes s.signature, refl, b) (nothing-put new)))))
+    array-put-places 3 (omega arith) first (place-put p (place-put u (place-put (bytes s.signature, refl, b) (nothing-put new))))
 
 -- a byte string is that of a protected header
 pub string-put : (p : ProtectedSeen) (b old new : List ℕ) → protected_bytes p ≡ Some b → AppendsItem old new (bytes b) → AppendsImage (option_map bytes (protected_bytes p)) old new
@@ -46,14 +47,14 @@ string-put p b old new e put = (bytes b, ap (option_map bytes) e, put)
 
 -- none of its parts may be missing
 pub unsigned-unprotected : (s : SignatureSeen) → header_image s.unprotected ≡ None → signature_array s ≡ None
-unsigned-unprotected s e = ap (λ o. signature_item (protected_bytes s.protected) o s.signature) e ∙ last (protected_bytes s.protected)
+unsigned-unprotected s e = ap (λ o. signature_item (option_map bytes (protected_bytes s.protected)) o s.signature) e ∙ last (option_map bytes (protected_bytes s.protected))
   where
-    last : (o : Option (List ℕ)) → signature_item o None s.signature ≡ None
+    last : (o : Option Item) → signature_item o None s.signature ≡ None
     last (Some b) = refl
     last None = refl
 
 pub unsigned-protected : (s : SignatureSeen) → option_map bytes (protected_bytes s.protected) ≡ None → signature_array s ≡ None
-unsigned-protected s e = sym (three (protected_bytes s.protected) (header_image s.unprotected) s.signature) ∙ ap (λ o. option_map array (both item o (both item (header_image s.unprotected) (Some (item (bytes s.signature) no_items))))) e
+unsigned-protected s e = ap (λ o. signature_item o (header_image s.unprotected) s.signature) e
 
 -- ---- several
 
@@ -114,13 +115,13 @@ one_or_array-put (v ∷ []) n old head new h count small alone several p = recor
 one_or_array-put (v ∷ w ∷ vs) n old head new h count small alone several p = array-put (v ∷ w ∷ vs) n old head new count small (several (λ e. absurd (omega (arith, e, count)))) p
 
 pub counter_signatures-put :
-    (ss : List SignatureSeen) (n : ℕ) (old mid head new : List ℕ) → not (length ss == 0) ≡ true → n ≡ length ss → n < 2 ^ 64 → AppendsItem old mid (name_item (number (pos 7))) → (n ≡ 1 → head ≡ mid)
+    (ss : List SignatureSeen) (n : ℕ) (old mid head new : List ℕ) → not (length ss == 0) ≡ true → n ≡ length ss → n < 2 ^ 64 → AppendsItem old mid (name_item labels.counter_signature) → (n ≡ 1 → head ≡ mid)
     → (n ≢ 1 → head ≡ mid ++ least_head 4 n) → AppendsSignatures head new ss → AppendsCounterSignatures old new (signatures_of ss)
 counter_signatures-put [] n old mid head new h count small name alone several p = absurd (true≢false (sym h))
 counter_signatures-put (s ∷ ss) n old mid head new h count small name alone several p = (
   Some (one_or_array (items_of p.0)),
   ap (option_map (λ vs. Some (one_or_array vs))) p.1,
-  pair-put old mid new (number (pos 7)) (one_or_array (items_of p.0)) name (one_or_array-put p.0 n mid head new (rw p.2 h) (count ∙ sym p.2) small alone several p.3),
+  pair-put old mid new labels.counter_signature (one_or_array (items_of p.0)) name (one_or_array-put p.0 n mid head new (rw p.2 h) (count ∙ sym p.2) small alone several p.3),
 )
 
 pub counter_signatures-none : (s : List ℕ) → AppendsCounterSignatures s s no_signatures
@@ -148,7 +149,7 @@ filled-put : (b : List ℕ) → (listed filled_bstr).image b ≡ Some (filled_it
 filled-put [] = refl
 filled-put (c ∷ b) = refl
 
-puts : (f : FieldsSeen) → Puts f (option_map registered_item f.alg) (critical_item f.crit) (option_map name_item f.content_type) (filled_item f.key_id) (filled_item f.iv) (filled_item f.partial_iv)
+pub puts : (f : FieldsSeen) → Puts f (option_map registered_item f.alg) (critical_item f.crit) (option_map name_item f.content_type) (filled_item f.key_id) (filled_item f.iv) (filled_item f.partial_iv)
 puts f = record {
   alg = algorithm-put f.alg;
   crit = critical-put f.crit;
@@ -168,10 +169,6 @@ count-fields :
     (a b t k i p o : Option Item)
     → length (fields_put a b t k i p o) ≡ one (is_some a) + (one (is_some b) + (one (is_some t) + (one (is_some k) + (one (is_some i) + (one (is_some p) + (one (is_some o) + 0))))))
 count-fields a b t k i p o = simp put-count
-
-is_some-map : {A B : Type 0} (f : A → B) (o : Option A) → is_some (option_map f o) ≡ is_some o
-is_some-map f None = refl
-is_some-map f (Some x) = refl
 
 is_some-critical : (xs : List RegisteredName) → is_some (critical_item xs) ≡ not (length xs == 0)
 is_some-critical [] = refl
@@ -198,24 +195,23 @@ is_some-counter_signatures ss o e = there o ∙ (sym (ap is_there e) ∙ named s
 
     named : (ss : Signatures) (o : Option Item) → counter_signatures_item ss (signatures_image ss) ≡ Some o → is_there (counter_signatures_item ss (signatures_image ss)) ≡ not (are_none ss)
     named no_signatures o e = refl
-    named (signature_and b p ps u us s more) o e = some (signatures_image (signature_and b p ps u us s more)) o e
+    named (signature_and b p u s more) o e = some (signatures_image (signature_and b p u s more)) o e
 
-count-all : (h : HeaderSeen) (o : Option Item) → counter_signatures_item h.counter_signatures (signatures_image h.counter_signatures) ≡ Some o → length (header_fields h.fields o) + length h.fields.rest ≡ count_pairs h
-count-all h o e =
-    let f = h.fields in
-    let a : is_some (option_map registered_item f.alg) ≡ is_some f.alg = is_some-map registered_item f.alg in
-    let t : is_some (option_map name_item f.content_type) ≡ is_some f.content_type = is_some-map name_item f.content_type in
-    rw (count-fields, a, t, is_some-critical f.crit, is_some-filled f.key_id, is_some-filled f.iv, is_some-filled f.partial_iv, is_some-counter_signatures h.counter_signatures o e) (omega arith)
+count-all : (f : FieldsSeen) (ss : Signatures) (o : Option Item) → counter_signatures_item ss (signatures_image ss) ≡ Some o → length (header_fields f o) + length f.rest ≡ count_pairs (header_of f ss)
+count-all f ss o e =
+    let a : is_some (option_map registered_item f.alg) ≡ is_some f.alg = some_mapped registered_item f.alg in
+    let t : is_some (option_map name_item f.content_type) ≡ is_some f.content_type = some_mapped name_item f.content_type in
+    rw (count-fields, a, t, is_some-critical f.crit, is_some-filled f.key_id, is_some-filled f.iv, is_some-filled f.partial_iv, is_some-counter_signatures ss o e) (omega arith)
 
 -- ---- headers
 
 -- the pair of label 7 comes behind the other fields
-last-field : (f : FieldsSeen) (o : Option Item) → plain_fields f ++ put_field (number (pos 7)) o [] ≡ header_fields f o
+last-field : (f : FieldsSeen) (o : Option Item) → plain_fields f ++ put_field labels.counter_signature o [] ≡ header_fields f o
 last-field f o =
-    front (number (pos 1)) (option_map registered_item f.alg) _ _ (front (number (pos 2)) (critical_item f.crit) _ _ (front (number (pos 3)) (option_map name_item f.content_type) _ _
-    (front (number (pos 4)) (filled_item f.key_id) _ _ (front (number (pos 5)) (filled_item f.iv) _ _ (front (number (pos 6)) (filled_item f.partial_iv) _ _ refl)))))
+    front labels.alg (option_map registered_item f.alg) _ _ (front labels.crit (critical_item f.crit) _ _ (front labels.content_type (option_map name_item f.content_type) _ _
+    (front labels.kid (filled_item f.key_id) _ _ (front labels.iv (filled_item f.iv) _ _ (front labels.partial_iv (filled_item f.partial_iv) _ _ refl)))))
   where
-    front : (n : Name) (v : Option Item) (es gs : List (Name × Item)) → es ++ put_field (number (pos 7)) o [] ≡ gs → put_field n v es ++ put_field (number (pos 7)) o [] ≡ put_field n v gs
+    front : (n : Name) (v : Option Item) (es gs : List (Name × Item)) → es ++ put_field labels.counter_signature o [] ≡ gs → put_field n v es ++ put_field labels.counter_signature o [] ≡ put_field n v gs
     front n None es gs e = e
     front n (Some w) es gs e = ap (λ ds. (n, w) ∷ ds) e
 
@@ -231,26 +227,25 @@ dict-put es n old head new count small first p =
 
 -- a head, the first six fields, the pair of label 7 and the rest are the header's map
 pub map-put :
-    (h : HeaderSeen) (n : ℕ) (old head mid half new : List ℕ) → are_distinct same_name (keys_of h.fields.rest) ≡ true → n ≡ count_pairs h → n < 2 ^ 64 → head ≡ old ++ least_head 5 n → AppendsPairs head mid (plain_fields h.fields)
-    → AppendsCounterSignatures mid half h.counter_signatures → AppendsPairs half new h.fields.rest → AppendsImage (header_image h) old new
-map-put h n old head mid half new distinct count small first plain counter_signatures rest =
-    let f = h.fields in
+    (h : HeaderSeen) (n : ℕ) (old head mid half new : List ℕ) → are_distinct same_name (keys_of (fields_in h).rest) ≡ true → n ≡ count_pairs h → n < 2 ^ 64 → head ≡ old ++ least_head 5 n
+    → AppendsPairs head mid (plain_fields (fields_in h)) → AppendsCounterSignatures mid half (counter_signatures_in h) → AppendsPairs half new (fields_in h).rest → AppendsImage (header_image h) old new
+map-put (header_of f ss) n old head mid half new distinct count small first plain counter_signatures rest =
     let o = counter_signatures.0 in
-    let fields : AppendsPairs head half (header_fields f o) = subst (AppendsPairs head half) (last-field f o) (pairs-then head mid half (plain_fields f) (put_field (number (pos 7)) o []) plain counter_signatures.2) in
+    let fields : AppendsPairs head half (header_fields f o) = subst (AppendsPairs head half) (last-field f o) (pairs-then head mid half (plain_fields f) (put_field labels.counter_signature o []) plain counter_signatures.2) in
     let all = pairs-then head half new (header_fields f o) f.rest fields rest in
-    let long : n ≡ length (header_fields f o ++ f.rest) = count ∙ (sym (count-all h o counter_signatures.1) ∙ sym (length-append (header_fields f o) f.rest)) in (
+    let long : n ≡ length (header_fields f o ++ f.rest) = count ∙ (sym (count-all f ss o counter_signatures.1) ∙ sym (length-append (header_fields f o) f.rest)) in (
       dict (entry_pairs (header_fields f o ++ f.rest)),
       ap (header_item f) counter_signatures.1 ∙ (header_put f _ _ _ _ _ _ o (puts f) distinct ∙ ap (option_map dict) (image-entries (header_fields f o ++ f.rest))),
       dict-put (header_fields f o ++ f.rest) n old head new long small first all,
     )
 
 -- no map is written where a label of the rest repeats, or the signatures can't be written
-pub unwritten-rest : (h : HeaderSeen) → are_distinct same_name (keys_of h.fields.rest) ≡ false → header_image h ≡ None
-unwritten-rest h e = header_repeats h.fields (counter_signatures_item h.counter_signatures (signatures_image h.counter_signatures)) e
+pub unwritten-rest : (h : HeaderSeen) → are_distinct same_name (keys_of (fields_in h).rest) ≡ false → header_image h ≡ None
+unwritten-rest (header_of f ss) e = header_repeats f (counter_signatures_item ss (signatures_image ss)) e
 
-pub unwritten-counter_signatures : (h : HeaderSeen) → signatures_image h.counter_signatures ≡ None → header_image h ≡ None
-unwritten-counter_signatures h e = ap (header_item h.fields) (none h.counter_signatures e)
+pub unwritten-counter_signatures : (h : HeaderSeen) → signatures_image (counter_signatures_in h) ≡ None → header_image h ≡ None
+unwritten-counter_signatures (header_of f ss) e = ap (header_item f) (none ss e)
   where
     none : (ss : Signatures) → signatures_image ss ≡ None → counter_signatures_item ss (signatures_image ss) ≡ None
     none no_signatures e = absurd (true≢false (ap is_some e))
-    none (signature_and b p ps u us s more) e = ap (option_map (λ vs. Some (one_or_array vs))) e
+    none (signature_and b p u s more) e = ap (option_map (λ vs. Some (one_or_array vs))) e

@@ -1,11 +1,11 @@
 -- What reading an item into a place answers, and reading the content of a protected header's byte string.
-use Rattle.std.specs.Prelude.{◌≡◌, ℕ, Bool, true, false, List, [], ◌∷◌, ◌++◌, None, Result, Ok, Err}
+use Rattle.std.specs.Prelude.{◌≡◌, ◌⊎◌, ℕ, Bool, true, false, List, [], ◌∷◌, ◌++◌, None, Result, Ok, Err}
 use Rattle.coset_value.specs.Item.{Item, Items}
 use Rattle.coset_shape.specs.declared.error.CoseError.{CoseError}
 use Rattle.coset_shape.specs.Errors.{UnlessMemory}
 use Rattle.coset_shape.specs.Serialized.{ContentDescribes, ContentFaults}
 use Rattle.coset_shape.specs.Shape.{Shape, Each, EachFaults}
-use Rattle.coset_core.specs.Headers.{HeaderSeen, SignatureSeen, empty_header, layered_header}
+use Rattle.coset_core.specs.Headers.{HeaderSeen, ProtectedSeen, SignatureSeen, empty_header, layered_header, header, protected}
 use Rattle.coset_core.specs.Views.{signature_seen}
 use Rattle.coset_core.specs.declared.signature.CoseSignature.{CoseSignature}
 
@@ -39,3 +39,9 @@ GetsEmpty old new = (s : CoseSignature) × (new ≡ old ++ s ∷ []) × (signatu
 abbrev pub GetsPlace : List CoseSignature → List CoseSignature → Bool → Type 0
 GetsPlace old new true = GetsEmpty old new
 GetsPlace old new false = new ≡ old
+
+-- Reading the two headers that messages begin with: the items stand for these; or, out of memory aside, an error tells of
+-- a fault in one of them
+abbrev pub FillsHeaders : Item → Item → ProtectedSeen → HeaderSeen → Result (Unit {0}) CoseError → Type 0
+FillsHeaders v w p u (Ok x) = protected.describes v p × header.describes w u
+FillsHeaders v w p u (Err e) = UnlessMemory e (λ f. protected.faults v f ⊎ header.faults w f)

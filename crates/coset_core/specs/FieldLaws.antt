@@ -1,6 +1,6 @@
 -- The laws of a header's fields, and of maps of them.
 use Rattle.std.proofs.Common.{◌≡◌, ℕ, List, [], ◌∷◌, Option, Some, None, Bool, true, false, cond, inl, inr, ◌⊎◌, refl, ap, sym, ◌∙◌, subst, rules}
-use Rattle.std.specs.Prelude.{pos}
+use Rattle.std.specs.Prelude.{ℤ}
 use Rattle.std.specs.List.{IsDistinct}
 use Rattle.std.specs.Map.{keys_of, lookup}
 use Rattle.coset_value.specs.Item.{Item, integer, Pairs, no_pairs, pair}
@@ -15,6 +15,7 @@ use Rattle.coset_label.specs.Names.{Name, number, RegisteredName}
 use Rattle.coset_label.specs.Labels.{label}
 use Rattle.coset_label.specs.LabelLaws.{label_laws, registered_laws, registered_or_private_laws}
 use Rattle.coset_label.specs.NameOrder.{name_cmp-apart}
+use Rattle.coset_core.specs.FieldLabels as labels
 use Rattle.coset_core.specs.Fields.{FieldsSeen, algorithm, critical, content_type, IsContentType, same_name, names, Fielded, fields, fields_of, parts_of, HasOneIv, HasBothIvs, map_of, map_with, partial_header, SomeCounterSignatures, bars}
 
 pub names_laws : LawfulNames Name names
@@ -55,39 +56,21 @@ content_type_laws = that_laws IsUnexpected IsContentType _ (registered_laws _)
 
 -- ---- the fields
 
-flat_alg : Flat Name names (number (pos 1))
-flat_alg = record { key = integer (pos 1); is_image = refl; described = (refl, (refl, search rules)); flat = refl }
-
-flat_crit : Flat Name names (number (pos 2))
-flat_crit = record { key = integer (pos 2); is_image = refl; described = (refl, (refl, search rules)); flat = refl }
-
-flat_content_type : Flat Name names (number (pos 3))
-flat_content_type = record { key = integer (pos 3); is_image = refl; described = (refl, (refl, search rules)); flat = refl }
-
-flat_kid : Flat Name names (number (pos 4))
-flat_kid = record { key = integer (pos 4); is_image = refl; described = (refl, (refl, search rules)); flat = refl }
-
-flat_iv : Flat Name names (number (pos 5))
-flat_iv = record { key = integer (pos 5); is_image = refl; described = (refl, (refl, search rules)); flat = refl }
-
-flat_partial_iv : Flat Name names (number (pos 6))
-flat_partial_iv = record { key = integer (pos 6); is_image = refl; described = (refl, (refl, search rules)); flat = refl }
-
-flat_counter_signatures : Flat Name names (number (pos 7))
-flat_counter_signatures = record { key = integer (pos 7); is_image = refl; described = (refl, (refl, search rules)); flat = refl }
+flat_number : (i : ℤ) → label.describes (integer i) (number i) → Flat Name names (number i)
+flat_number i d = record { key = integer i; is_image = refl; described = d; flat = refl }
 
 filled_laws : LawfulFieldShape (List ℕ) (listed filled_bstr)
 filled_laws = listed_laws filled_bstr (λ v p. p.1 refl) filled_bstr_laws
 
 pub fields_laws : {C : Type 0} (c : FieldShape C) → LawfulFieldShape C c → LawfulFields Name (Fielded C) names (fields c)
 fields_laws c l =
-    field_laws names names_laws (number (pos 1)) flat_alg _ (optional_laws algorithm algorithm_laws) _
-    (field_laws names names_laws (number (pos 2)) flat_crit _ (listed_laws (some_of critical) (λ v p. p.1 refl) criticals_laws) _
-    (field_laws names names_laws (number (pos 3)) flat_content_type _ (optional_laws content_type content_type_laws) _
-    (field_laws names names_laws (number (pos 4)) flat_kid _ filled_laws _
-    (field_laws names names_laws (number (pos 5)) flat_iv _ filled_laws _
-    (field_laws names names_laws (number (pos 6)) flat_partial_iv _ filled_laws _
-    (field_laws names names_laws (number (pos 7)) flat_counter_signatures c l _ (no_field_laws names names_laws) refl)
+    field_laws names names_laws labels.alg (flat_number _ (refl, (refl, search rules))) _ (optional_laws algorithm algorithm_laws) _
+    (field_laws names names_laws labels.crit (flat_number _ (refl, (refl, search rules))) _ (listed_laws (some_of critical) (λ v p. p.1 refl) criticals_laws) _
+    (field_laws names names_laws labels.content_type (flat_number _ (refl, (refl, search rules))) _ (optional_laws content_type content_type_laws) _
+    (field_laws names names_laws labels.kid (flat_number _ (refl, (refl, search rules))) _ filled_laws _
+    (field_laws names names_laws labels.iv (flat_number _ (refl, (refl, search rules))) _ filled_laws _
+    (field_laws names names_laws labels.partial_iv (flat_number _ (refl, (refl, search rules))) _ filled_laws _
+    (field_laws names names_laws labels.counter_signature (flat_number _ (refl, (refl, search rules))) c l _ (no_field_laws names names_laws) refl)
     refl) refl) refl) refl) refl) refl
 
 -- ---- maps of them
@@ -110,8 +93,8 @@ not_both c v x p one both =
     let m = p.2 in
     let same : both.0 ≡ ps = some-one both.1 p.1 in
     elim one [
-      | inl h ↦ iv_there (number (pos 5)) ps m.entries x.0.iv m.named (subst (HasLabel label.describes (number (pos 5))) same both.2) m.fields.1.1.1.1.0 h
-      | inr h ↦ iv_there (number (pos 6)) ps m.entries x.0.partial_iv m.named (subst (HasLabel label.describes (number (pos 6))) same both.3) m.fields.1.1.1.1.1.0 h
+      | inl h ↦ iv_there labels.iv ps m.entries x.0.iv m.named (subst (HasLabel label.describes labels.iv) same both.2) m.fields.1.1.1.1.0 h
+      | inr h ↦ iv_there labels.partial_iv ps m.entries x.0.partial_iv m.named (subst (HasLabel label.describes labels.partial_iv) same both.3) m.fields.1.1.1.1.1.0 h
     ]
 
 pub map_with_laws : {C : Type 0} (c : FieldShape C) → LawfulFieldShape C c → Lawful (FieldsSeen × C) (map_with c)
@@ -151,7 +134,7 @@ unfolding partial_header
 split c v f x p =
     let m = p.0.2 in
     let fs = m.fields in
-    let o : Option Item = lookup (names.same (number (pos 7))) m.entries in (
+    let o : Option Item = lookup (names.same labels.counter_signature) m.entries in (
       o,
       (
         (
@@ -175,7 +158,7 @@ unfolding partial_header
 join c v f o x p q =
     let m = p.0.2 in
     let fs = m.fields in
-    let same : lookup (names.same (number (pos 7))) m.entries ≡ o = is_itself _ o fs.1.1.1.1.1.1.0 in (
+    let same : lookup (names.same labels.counter_signature) m.entries ≡ o = is_itself _ o fs.1.1.1.1.1.1.0 in (
       (
         p.0.0,
         p.0.1,
@@ -225,8 +208,8 @@ pub counter_signatures_found : (P : Item → Type 0) (v : Item) (f : FieldsSeen)
 unfolding partial_header
 counter_signatures_found P v f o p s =
     let m = p.0.2 in
-    let same : lookup (same_name (number (pos 7))) m.entries ≡ o = is_itself _ o m.fields.1.1.1.1.1.1.0 in
-    let g = pair_found P (number (pos 7)) p.0.0 m.entries m.named m.distinct (subst (SomePair (λ k u. label.describes k (number (pos 7)) × P u)) (some-one s.1 p.0.1) s.2) in
+    let same : lookup (same_name labels.counter_signature) m.entries ≡ o = is_itself _ o m.fields.1.1.1.1.1.1.0 in
+    let g = pair_found P labels.counter_signature p.0.0 m.entries m.named m.distinct (subst (SomePair (λ k u. label.describes k labels.counter_signature × P u)) (some-one s.1 p.0.1) s.2) in
     (g.0, sym same ∙ g.1, g.2)
 
 -- what stands among some pairs stands among them and others
@@ -268,5 +251,5 @@ barred_fault v e f = go f.2.barred.2
         (label_after l b.walked.done (pair b.key b.value b.left) (inl (subst (label.describes b.key) (sym (names_laws.same_is l b.barred.0 h)) b.barred.1)))
 
     go : bars b.barred.0 b.before e → partial_header.faults v e
-    go (inl h) = inr ((f.0, f.1, this (number (pos 5)) h.0, earlier (number (pos 6)) (iv_before (number (pos 6)) b.walked.done s.entries (fields_of b.before).0.partial_iv s.named s.fields.1.1.1.1.1.0 h.1)), h.2)
-    go (inr h) = inr ((f.0, f.1, earlier (number (pos 5)) (iv_before (number (pos 5)) b.walked.done s.entries (fields_of b.before).0.iv s.named s.fields.1.1.1.1.0 h.1), this (number (pos 6)) h.0), h.2)
+    go (inl h) = inr ((f.0, f.1, this labels.iv h.0, earlier labels.partial_iv (iv_before labels.partial_iv b.walked.done s.entries (fields_of b.before).0.partial_iv s.named s.fields.1.1.1.1.1.0 h.1)), h.2)
+    go (inr h) = inr ((f.0, f.1, earlier labels.iv (iv_before labels.iv b.walked.done s.entries (fields_of b.before).0.iv s.named s.fields.1.1.1.1.0 h.1), this labels.partial_iv h.0), h.2)

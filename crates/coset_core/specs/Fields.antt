@@ -1,5 +1,5 @@
 -- What a header holds beside its counter signatures, and maps of that (RFC 8152, section 3.1).
-use Rattle.std.specs.Prelude.{◌≡◌, ◌≢◌, ◌⊎◌, ℕ, pos, ◌==◌, List, [], filter, length, Option, Some, None, Bool, true, is_some, ⊤}
+use Rattle.std.specs.Prelude.{◌≡◌, ◌≢◌, ◌⊎◌, ℕ, ◌==◌, List, [], filter, length, Option, Some, None, Bool, true, is_some, ⊤}
 use Rattle.std.specs.Ordering.{is_eq}
 use Rattle.std.specs.Str.{trim}
 use Rattle.coset_value.specs.Item.{Item, Pairs}
@@ -17,6 +17,7 @@ use Rattle.coset_shape.specs.Shape.{Shape, that, any, along, some_of, filled_bst
 use Rattle.coset_shape.specs.Maps.{Names, Fields, FieldShape, HasLabel, SomePair, Bars, field, no_field, optional, listed, labelled}
 use Rattle.coset_label.specs.Names.{Name, number, word, RegisteredName, name_cmp}
 use Rattle.coset_label.specs.Labels.{label, registered, registered_or_private}
+use Rattle.coset_core.specs.FieldLabels as labels
 
 -- a header without its memory and its counter signatures
 pub record FieldsSeen : Type 0 where
@@ -72,13 +73,13 @@ Fielded C = Option RegisteredName × (List RegisteredName × (Option Name × (Li
 
 abbrev pub fields : {C : Type 0} → FieldShape C → Fields Name (Fielded C)
 fields counter_signatures =
-    field names (number (pos 1)) (optional algorithm)
-    (field names (number (pos 2)) (listed (some_of critical))
-    (field names (number (pos 3)) (optional content_type)
-    (field names (number (pos 4)) (listed filled_bstr)
-    (field names (number (pos 5)) (listed filled_bstr)
-    (field names (number (pos 6)) (listed filled_bstr)
-    (field names (number (pos 7)) counter_signatures
+    field names labels.alg (optional algorithm)
+    (field names labels.crit (listed (some_of critical))
+    (field names labels.content_type (optional content_type)
+    (field names labels.kid (listed filled_bstr)
+    (field names labels.iv (listed filled_bstr)
+    (field names labels.partial_iv (listed filled_bstr)
+    (field names labels.counter_signature counter_signatures
     no_field))))))
 
 abbrev pub fields_of : {C : Type 0} → Fielded C × List (Name × Item) → FieldsSeen × C
@@ -100,7 +101,7 @@ map_of counter_signatures = along fields_of parts_of (labelled names (fields cou
 
 -- both IV and Partial IV
 abbrev pub HasBothIvs : Item → Type 0
-HasBothIvs v = (ps : Pairs) × (as_map v ≡ Some ps) × HasLabel label.describes (number (pos 5)) ps × HasLabel label.describes (number (pos 6)) ps
+HasBothIvs v = (ps : Pairs) × (as_map v ≡ Some ps) × HasLabel label.describes labels.iv ps × HasLabel label.describes labels.partial_iv ps
 
 -- {? 1 => algorithm, ? 2 => [+ critical], ? 3 => content_type, ? 4 => bstr .size (1..), ? 5 => bstr .size (1..) //
 -- 6 => bstr .size (1..), ? 7 => counter_signatures, * label => any}
@@ -117,10 +118,10 @@ partial_header = map_with (optional any)
 
 -- one of the pairs of a map has label 7, and a value of which P tells
 abbrev pub SomeCounterSignatures : (Item → Type 0) → Item → Type 0
-SomeCounterSignatures P v = (ps : Pairs) × (as_map v ≡ Some ps) × SomePair (λ k w. label.describes k (number (pos 7)) × P w) ps
+SomeCounterSignatures P v = (ps : Pairs) × (as_map v ≡ Some ps) × SomePair (λ k w. label.describes k labels.counter_signature × P w) ps
 
 -- why a label is refused after others: Partial IV after IV, or IV after Partial IV
 abbrev pub bars : {C : Type 0} → Bars Name (Fielded C)
 bars m x e =
-    ((same_name (number (pos 5)) m ≡ true) × ((fields_of x).0.partial_iv ≢ []) × IsUnexpected e)
-    ⊎ ((same_name (number (pos 6)) m ≡ true) × ((fields_of x).0.iv ≢ []) × IsUnexpected e)
+    ((same_name labels.iv m ≡ true) × ((fields_of x).0.partial_iv ≢ []) × IsUnexpected e)
+    ⊎ ((same_name labels.partial_iv m ≡ true) × ((fields_of x).0.iv ≢ []) × IsUnexpected e)

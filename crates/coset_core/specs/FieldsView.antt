@@ -1,22 +1,14 @@
 -- The fields of a header as contracts see them.
-use Rattle.std.specs.Prelude.{List, map, option_map}
+use Rattle.std.specs.Prelude.{List}
 use Rattle.coset_core.specs.Fields.{FieldsSeen}
-use Rattle.coset_core.specs.Views.{algorithm_seen, critical_seen, content_type_seen, entry_seen}
+use Rattle.coset_core.specs.Views.{fields_step}
 use Rattle.coset_core.specs.declared.header.Header.{Header, Header-F, out-Header}
 use Rattle.coset_core.specs.declared.protected.ProtectedHeader.{ProtectedHeader}
 use Rattle.coset_core.specs.declared.signature.CoseSignature.{CoseSignature}
 
 -- one level of a header, but for its counter signatures
 abbrev pub fields_level : Header-F Header ProtectedHeader CoseSignature → FieldsSeen
-fields_level h = record {
-  alg = option_map algorithm_seen h.alg;
-  crit = map critical_seen h.crit.items;
-  content_type = option_map content_type_seen h.content_type;
-  key_id = h.key_id.items;
-  iv = h.iv.items;
-  partial_iv = h.partial_iv.items;
-  rest = map entry_seen h.rest.items;
-}
+fields_level = fields_step
 
 -- a header's fields but for its counter signatures, and these
 abbrev pub fields_seen : Header → FieldsSeen

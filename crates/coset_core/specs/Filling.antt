@@ -1,5 +1,5 @@
 -- Reading a header and its signatures forward: what is read so far, and what is answered where reading stops.
-use Rattle.std.specs.Prelude.{◌≡◌, ◌⊎◌, ℕ, pos, List, Bool, true, false, Option, Some, None, Result, Ok, Err}
+use Rattle.std.specs.Prelude.{◌≡◌, ◌⊎◌, ℕ, List, Bool, true, false, Option, Some, None, Result, Ok, Err}
 use Rattle.std.specs.Map.{keys_of}
 use Rattle.coset_value.specs.Item.{Item, array, dict, Items, no_items, item, Pairs, no_pairs, pair}
 use Rattle.coset_value.specs.Parts.{as_bytes}
@@ -14,11 +14,12 @@ use Rattle.coset_shape.specs.Maps.{Walks, RefusesKey, BarsKey, GatherFaults, are
 use Rattle.coset_shape.specs.Shape.{any}
 use Rattle.coset_shape.specs.Sources.{source_item}
 use Rattle.coset_label.specs.Labels.{label}
-use Rattle.coset_label.specs.Names.{Name, number}
+use Rattle.coset_label.specs.Names.{Name}
 use Rattle.coset_label.specs.Views.{label_seen}
 use Rattle.coset_label.specs.declared.label.Label.{Label}
+use Rattle.coset_core.specs.FieldLabels as labels
 use Rattle.coset_core.specs.Fields.{FieldsSeen, Fielded, names, fields, parts_of, same_name, bars}
-use Rattle.coset_core.specs.Headers.{layered_signature}
+use Rattle.coset_core.specs.Headers.{layered_protected, layered_signature}
 
 -- ---- a header's pairs
 
@@ -40,7 +41,7 @@ pub record AtSeven (all : Pairs) (o : Option Item) (f : FieldsSeen) (t z : State
   pub others : Pairs
   pub mid : State
   pub walks : WalksTo all f o (pair key value others)
-  pub seven : label.describes key (number (pos 7))
+  pub seven : label.describes key labels.counter_signature
   pub stands : Stands value t mid
   pub within : PairsWithin m others mid z
 
@@ -84,10 +85,16 @@ BeginsNext vs t z m (Err e) = (left : Items) × AreWithin m left t z × (e ≡ O
 
 -- ---- a signature's places
 
--- the first of them is this, and the second stands at t; or they are too few
-abbrev pub BeginsPlaces : Items → State → State → InputItems → Result Source CoseError → Type 0
-BeginsPlaces vs t z m (Ok s) = (u : Item) × (others : Items) × (mid : State) × (vs ≡ item (source_item s) (item u others)) × Stands u t mid × AreWithin m others mid z
-BeginsPlaces vs t z m (Err e) = (left : Items) × AreWithin m left t z × ((k : ℕ) → UnlessMemory e ((layered_signature k).faults (array vs)))
+abbrev pub FirstPlace : Item → Option (List ℕ) → CoseError → Bool → Type 0
+FirstPlace w o f true = (b : List ℕ) × (as_bytes w ≡ Some b) × (o ≡ Some b)
+FirstPlace w o f false = (k : ℕ) → UnlessMemory f ((layered_protected k).faults w)
+
+-- the second of them stands at t, and the first is a byte string, of the bytes o, or it isn't, as the error f tells; or they
+-- are too few
+abbrev pub BeginsPlaces : Items → State → State → InputItems → Option (List ℕ) → CoseError → Result Bool CoseError → Type 0
+BeginsPlaces vs t z m o f (Ok is) =
+    (w : Item) × (u : Item) × (others : Items) × (mid : State) × (vs ≡ item w (item u others)) × Stands u t mid × AreWithin m others mid z × FirstPlace w o f is
+BeginsPlaces vs t z m o f (Err e) = (left : Items) × AreWithin m left t z × ((k : ℕ) → UnlessMemory e ((layered_signature k).faults (array vs)))
 
 -- the third and last is a byte string, of these bytes; or it isn't, or they are too few or too many
 abbrev pub EndsPlaces : Items → State → State → InputItems → List ℕ → Result (Unit {0}) CoseError → Type 0

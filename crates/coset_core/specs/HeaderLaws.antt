@@ -1,19 +1,18 @@
 -- The laws of the shapes of headers, protected headers and signatures, within however many layers.
 use Rattle.std.proofs.Common.{ℕ, zero, suc, refl}
-use Rattle.coset_shape.specs.Shape.{bstr, end}
-use Rattle.coset_shape.specs.ShapeLaws.{Lawful, along_laws, array_of_laws, then_laws, end_laws, bstr_laws}
+use Rattle.coset_shape.specs.ShapeLaws.{Lawful, along_laws}
 use Rattle.coset_shape.specs.SerializedLaws.{serialized_laws}
 use Rattle.coset_core.specs.Headers.{HeaderSeen, ProtectedSeen, SignatureSeen, empty_header, is_empty_header, layered_header, protected_of, both_of, layered_protected, signature_of, places_of, layered_signature, LAYERS, header, protected, signature}
-use Rattle.coset_core.specs.HeaderUnique.{header_unique}
+use Rattle.coset_core.specs.HeaderUnique.{header_same}
 use Rattle.coset_core.specs.HeaderSound.{header_faultless}
-use Rattle.coset_core.specs.HeaderAgain.{header_written}
+use Rattle.coset_core.specs.HeaderAgain.{header_again, signed_laws}
 
 pub layered_header_laws : (k : ℕ) → Lawful HeaderSeen (layered_header k)
 unfolding layered_header
 layered_header_laws k =
     record {
-      unique = header_unique k;
-      again = λ v x p. let a = header_written k v x p in record { image = a.0; is_image = a.1; described = a.2; shallow = a.3 };
+      unique = λ v x y p q. header_same x y k v p q;
+      again = λ v x p. let a = header_again x k v p in record { image = a.image; is_image = a.is_image; described = a.described; shallow = a.shallow };
       sound = λ v x e p f. header_faultless k v x e p f.0 f.1;
     }
 
@@ -25,7 +24,7 @@ layered_protected_laws (suc k) = along_laws protected_of both_of (λ x. refl) _ 
 pub layered_signature_laws : (k : ℕ) → Lawful SignatureSeen (layered_signature k)
 layered_signature_laws k =
     along_laws signature_of places_of (λ x. refl) _
-    (array_of_laws _ (then_laws (layered_protected k) _ (layered_protected_laws k) (then_laws (layered_header k) _ (layered_header_laws k) (then_laws bstr end bstr_laws end_laws))))
+    (signed_laws (layered_protected k) (layered_header k) (layered_protected_laws k) (layered_header_laws k))
 
 -- within as many as are read
 pub header_laws : Lawful HeaderSeen header

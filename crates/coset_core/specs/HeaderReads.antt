@@ -8,7 +8,7 @@ use Rattle.coset_shape.specs.declared.error.CoseError.{CoseError}
 use Rattle.coset_shape.specs.Maps.{listed, SomePair}
 use Rattle.coset_core.specs.Fields.{FieldsSeen, map_with, partial_header, SomeCounterSignatures}
 use Rattle.coset_core.specs.FieldLaws.{split}
-use Rattle.coset_core.specs.Headers.{Signatures, no_signatures, HeaderSeen, ProtectedSeen, SignatureSeen, signatures_of, empty_header, with_counter_signatures, CounterSignaturesAre, ContentIs, ProtectedIs, IsEmpty, IsHeader, AreSignatures, signed_array, told_by, HeaderFaults, ProtectedFaults, counter_signatures_faults, layered_header, layered_protected, layered_signature}
+use Rattle.coset_core.specs.Headers.{HeaderSeen, header_of, Signatures, no_signatures, ProtectedSeen, SignatureSeen, signatures_of, empty_header, CounterSignaturesAre, ContentIs, ProtectedIs, IsHeader, AreSignatures, signed_array, told_by, HeaderFaults, ProtectedFaults, counter_signatures_faults, layered_header, layered_protected, layered_signature}
 
 -- ---- what stands for a value
 
@@ -24,16 +24,16 @@ signed_as p u q t a b c d s f g v h = (h.0, h.1, go h.0 h.2)
     go (item x (item y vs)) k = (f x k.0, (g y k.1.0, k.1.1))
 
 -- a protected header
-content_read : (k : ℕ) (h : HeaderSeen) (b : List ℕ) → ContentDescribes empty_header (layered_header k) b h → ContentIs (λ w. IsHeader h k w) (IsEmpty h.fields h.counter_signatures) b
+content_read : (k : ℕ) (h : HeaderSeen) (b : List ℕ) → ContentDescribes empty_header (layered_header k) b h → ContentIs (IsHeader h k) (h ≡ empty_header) b
 unfolding layered_header
-content_read k h [] p = (ap (λ g. g.fields) p, ap (λ g. g.counter_signatures) p)
+content_read k h [] p = p
 content_read k h (c ∷ b) p = p
 
--- the byte string stands for the header and its signatures, within k layers
-abbrev pub ProtectedOf : Option (List ℕ) → FieldsSeen → Signatures → ℕ → Item → Type 0
-ProtectedOf o p ps k v = ProtectedIs (λ j w. IsHeader (with_counter_signatures p ps) j w) (IsEmpty p ps) o k v
+-- the byte string stands for the header, within k layers
+abbrev pub ProtectedOf : Option (List ℕ) → HeaderSeen → ℕ → Item → Type 0
+ProtectedOf o h k v = ProtectedIs (IsHeader h) (h ≡ empty_header) o k v
 
-protected_read : (k : ℕ) (p : ProtectedSeen) (v : Item) → (layered_protected k).describes v p → ProtectedOf p.original p.header.fields p.header.counter_signatures k v
+protected_read : (k : ℕ) (p : ProtectedSeen) (v : Item) → (layered_protected k).describes v p → ProtectedOf p.original p.header k v
 unfolding layered_protected
 protected_read zero p v h = h
 protected_read (suc k) p v h = (h.0, h.1, h.2, content_read k p.header h.0 h.3)
@@ -49,8 +49,8 @@ signatures_read k no_items [] h = refl
 signatures_read k no_items (x ∷ xs) h = h
 signatures_read k (item v vs) [] h = absurd h
 signatures_read k (item v vs) (x ∷ xs) h =
-    let p : Shape (Unit {0}) = told_by (ProtectedOf x.protected.original x.protected.header.fields x.protected.header.counter_signatures k) in
-    let u : Shape (Unit {0}) = told_by (λ w. IsHeader x.unprotected k w) in (
+    let p : Shape (Unit {0}) = told_by (ProtectedOf x.protected.original x.protected.header k) in
+    let u : Shape (Unit {0}) = told_by (IsHeader x.unprotected k) in (
       signed_as (layered_protected k) (layered_header k) p u x.protected x.unprotected tt tt x.signature (protected_read k x.protected) (unprotected_read k x.unprotected) v h.0,
       signatures_read k vs xs h.1,
     )
@@ -62,21 +62,21 @@ counter_signatures_read k w xs h = (h.0, h.1, signatures_read k h.0 xs h.2)
 
 -- a header of which that is told
 pub header_read :
-    (k : ℕ) (v : Item) (f : FieldsSeen) (o : Option Item) (ss : Signatures) → partial_header.describes v (f, o) → CounterSignaturesAre (λ vs. AreSignatures ss k vs) (ss ≡ no_signatures) o
-    → (layered_header k).describes v (with_counter_signatures f ss)
+    (k : ℕ) (v : Item) (f : FieldsSeen) (o : Option Item) (ss : Signatures) → partial_header.describes v (f, o) → CounterSignaturesAre (AreSignatures ss k) (ss ≡ no_signatures) o
+    → (layered_header k).describes v (header_of f ss)
 unfolding layered_header
 header_read k v f o ss p q = (o, p, q)
 
 -- a map with a list of signatures, which is left out where it is empty
 listed_read :
     (k : ℕ) (xs : List SignatureSeen) (o : Option Item) → (listed (one_or_many (any_number (layered_signature k)))).describes o xs
-    → CounterSignaturesAre (λ vs. AreSignatures (signatures_of xs) k vs) (signatures_of xs ≡ no_signatures) o
+    → CounterSignaturesAre (AreSignatures (signatures_of xs) k) (signatures_of xs ≡ no_signatures) o
 listed_read k xs (Some w) h = counter_signatures_read k w xs h
 listed_read k xs None h = ap signatures_of h
 
 pub header_read_with :
     (k : ℕ) (v : Item) (f : FieldsSeen) (xs : List SignatureSeen) → (map_with (listed (one_or_many (any_number (layered_signature k))))).describes v (f, xs)
-    → (layered_header k).describes v (with_counter_signatures f (signatures_of xs))
+    → (layered_header k).describes v (header_of f (signatures_of xs))
 header_read_with k v f xs h =
     let parts = split (listed (one_or_many (any_number (layered_signature k)))) v f xs h in
     header_read k v f parts.0 (signatures_of xs) parts.1 (listed_read k xs parts.0 parts.2)
@@ -123,7 +123,7 @@ places_fault k (item v (item w vs)) e (inr (inr f)) = (0, inr (inr f))
 signature_fault : (k : ℕ) (v : Item) (e : CoseError) → (layered_signature k).faults v e → (n : ℕ) × (signed_array (protected_faults n k) (unprotected_faults n k)).faults v e
 signature_fault k v e (inl f) = (0, inl f)
 signature_fault k v e (inr f) =
-    elim f.2 [ inl m ↦ (0, inr (f.0, f.1, inl m)) | inr m ↦ let g = places_fault k f.0 e m in (g.0, inr (f.0, f.1, inr g.1)) ]
+    elim f.2 [ inl m ↦ (0, inr (f.0, f.1, inl m)) | inr m ↦ let g = places_fault k f.0 e m.1 in (g.0, inr (f.0, f.1, inr (m.0, g.1))) ]
 
 signatures_fault :
     (k : ℕ) (vs : Items) (e : CoseError) → EachFaults (layered_signature k).faults vs e → (n : ℕ) × EachFaults (signed_array (protected_faults n k) (unprotected_faults n k)).faults vs e
@@ -134,7 +134,7 @@ signatures_fault k (item v vs) e (inr f) = let g = signatures_fault k vs e f in 
 -- those of one signature, or of several
 pub faults_read : (k : ℕ) (w : Item) (e : CoseError) → (one_or_many (any_number (layered_signature k))).faults w e → (n : ℕ) × counter_signatures_faults n k w e
 faults_read k w e (inl f) = (1, inl f)
-faults_read k w e (inr f) = elim f.2 [ inl m ↦ absurd m.0 | inr m ↦ let g = signatures_fault k f.0 e m in (suc g.0, inr (f.0, f.1, inr g.1)) ]
+faults_read k w e (inr f) = elim f.2 [ inl m ↦ absurd m.0 | inr m ↦ let g = signatures_fault k f.0 e m.1 in (suc g.0, inr (f.0, f.1, inr (m.0, g.1))) ]
 
 -- and of the header that they stand in
 some_as : (P Q : Item → Item → Type 0) (ps : Pairs) → ((k u : Item) → P k u → Q k u) → SomePair P ps → SomePair Q ps

@@ -1,17 +1,17 @@
 -- What headers are written as, by the shapes of their parts.
-use Rattle.std.specs.Prelude.{pos}
 use Rattle.std.specs.Map.{keys_of}
 use Rattle.std.proofs.Common.{◌≡◌, ◌++◌, ℕ, zero, suc, List, [], ◌∷◌, Option, Some, None, Bool, true, false, option_map, refl, sym, ap, ◌∙◌}
-use Rattle.coset_value.specs.Item.{Item, bytes, array, dict, Items, no_items, item}
+use Rattle.coset_value.specs.Item.{Item, bytes, dict, Items, item}
 use Rattle.coset_shape.specs.Shape.{both, images, any, one_or_array, filled_bstr, some_of, any_number, one_or_many}
 use Rattle.coset_shape.specs.Maps.{FieldShape, optional, listed, put_field, put_fields, named_image, are_distinct, entries_image, may_write}
 use Rattle.coset_shape.specs.Serialized.{content_bytes}
 use Rattle.coset_shape.specs.RestLaws.{some-entries, no-entries}
 use Rattle.coset_label.specs.Labels.{label}
 use Rattle.coset_label.specs.Names.{Name, number, word, name_item, RegisteredName, assigned, private_use, phrase, as_name}
+use Rattle.coset_core.specs.FieldLabels as labels
 use Rattle.coset_core.specs.Fields.{FieldsSeen, algorithm, critical, content_type, same_name, names, fields, parts_of, map_with, partial_header}
 use Rattle.coset_core.specs.FieldLaws.{image_with}
-use Rattle.coset_core.specs.Headers.{HeaderSeen, ProtectedSeen, SignatureSeen, signatures_of, is_empty_header, with_counter_signatures, counter_signatures_item, header_item, signature_item, signatures_image, header_image, protected_bytes, layered_header, layered_protected, layered_signature}
+use Rattle.coset_core.specs.Headers.{HeaderSeen, header_of, ProtectedSeen, SignatureSeen, signatures_of, is_empty_header, counter_signatures_item, header_item, signature_item, signatures_image, header_image, protected_bytes, layered_header, layered_protected, layered_signature}
 
 -- a header, however many layers are left
 pub header_image_is : (k : ℕ) (h : HeaderSeen) → (layered_header k).image h ≡ header_image h
@@ -25,18 +25,11 @@ protected_image_is zero p = refl
 protected_image_is (suc k) p = refl
 
 -- a signature
-pub three : (o : Option (List ℕ)) (i : Option Item) (s : List ℕ) → option_map array (both item (option_map bytes o) (both item i (Some (item (bytes s) no_items)))) ≡ signature_item o i s
-three (Some b) (Some v) s = refl
-three (Some b) None s = refl
-three None i s = refl
+pub signature_image_is : (k : ℕ) (x : SignatureSeen) → (layered_signature k).image x ≡ signature_item (option_map bytes (protected_bytes x.protected)) (header_image x.unprotected) x.signature
+signature_image_is k x = rw (protected_image_is k x.protected, header_image_is k x.unprotected) refl
 
-pub signature_image_is : (k : ℕ) (x : SignatureSeen) → (layered_signature k).image x ≡ signature_item (protected_bytes x.protected) (header_image x.unprotected) x.signature
-signature_image_is k x = rw (protected_image_is k x.protected, header_image_is k x.unprotected) (three (protected_bytes x.protected) (header_image x.unprotected) x.signature)
-
--- the bytes of a protected header are told by its fields and its signatures
-kept_parts :
-    (o : Option (List ℕ)) (h : HeaderSeen)
-    → content_bytes is_empty_header header_image o h ≡ content_bytes is_empty_header (λ g. header_image (with_counter_signatures h.fields h.counter_signatures)) o (with_counter_signatures h.fields h.counter_signatures)
+-- the bytes of a protected header are told by its item
+kept_parts : (o : Option (List ℕ)) (h : HeaderSeen) → content_bytes is_empty_header header_image o h ≡ content_bytes is_empty_header (λ g. header_image h) o h
 kept_parts (Some b) h = refl
 kept_parts None h = refl
 
@@ -44,7 +37,7 @@ kept_parts None h = refl
 pub images_signatures : (k : ℕ) (xs : List SignatureSeen) → images (layered_signature k).image xs ≡ signatures_image (signatures_of xs)
 images_signatures k [] = refl
 images_signatures k (x ∷ xs) =
-    let first = signature_image_is k x ∙ ap (λ o. signature_item o (header_image x.unprotected) x.signature) (kept_parts x.protected.original x.protected.header) in
+    let first = signature_image_is k x ∙ ap (λ o. signature_item (option_map bytes o) (header_image x.unprotected) x.signature) (kept_parts x.protected.original x.protected.header) in
     λ i. both item (first i) (images_signatures k xs i)
 
 -- ---- label 7
@@ -82,7 +75,7 @@ entries_none false rest o e = refl
 -- nothing is written where the value of label 7 can't be
 pub unwritten_with : {C : Type 0} (c : FieldShape C) (f : FieldsSeen) (x : C) → c.image x ≡ None → (map_with c).image (f, x) ≡ None
 unwritten_with c f x e =
-    let here : both (put_field (number (pos 7))) (c.image x) (Some []) ≡ None = ap (λ o. both (put_field (number (pos 7))) o (Some [])) e in
+    let here : both (put_field labels.counter_signature) (c.image x) (Some []) ≡ None = ap (λ o. both (put_field labels.counter_signature) o (Some [])) e in
     entries_none (may_write names true f.rest) f.rest ((fields c).image (parts_of (f, x)).0)
     (both_none _ _ _ (both_none _ _ _ (both_none _ _ _ (both_none _ _ _ (both_none _ _ _ (both_none _ _ _ here))))))
 
@@ -92,7 +85,7 @@ header_item_with c f x (Some o) e = image_with c f x o e
 header_item_with c f x None e = sym (unwritten_with c f x e)
 
 pub header_image_with :
-    (k : ℕ) (f : FieldsSeen) (xs : List SignatureSeen) → header_image (with_counter_signatures f (signatures_of xs)) ≡ (map_with (listed (one_or_many (any_number (layered_signature k))))).image (f, xs)
+    (k : ℕ) (f : FieldsSeen) (xs : List SignatureSeen) → header_image (header_of f (signatures_of xs)) ≡ (map_with (listed (one_or_many (any_number (layered_signature k))))).image (f, xs)
 header_image_with k f xs = header_item_with (listed (one_or_many (any_number (layered_signature k)))) f xs _ (sym (counter_signatures_image k xs))
 
 -- ---- fields
@@ -119,7 +112,7 @@ content_type_image (word s) = refl
 abbrev pub fields_put : (alg crit content_type key_id iv partial_iv counter_signatures : Option Item) → List (Name × Item)
 fields_put a b t k i p o =
     put_fields
-    ((number (pos 1), a) ∷ (number (pos 2), b) ∷ (number (pos 3), t) ∷ (number (pos 4), k) ∷ (number (pos 5), i) ∷ (number (pos 6), p) ∷ (number (pos 7), o) ∷ [])
+    ((labels.alg, a) ∷ (labels.crit, b) ∷ (labels.content_type, t) ∷ (labels.kid, k) ∷ (labels.iv, i) ∷ (labels.partial_iv, p) ∷ (labels.counter_signature, o) ∷ [])
 
 -- what the fields of a header are written as
 pub record Puts (f : FieldsSeen) (a b t k i p : Option Item) : Type 0 where

@@ -15,15 +15,21 @@ use Rattle.coset_core.specs.Fields.{FieldsSeen, empty_fields, partial_header, So
 
 -- ---- headers without their memory
 
--- Counter signatures, one after the other. Of each: the bytes that its protected header was read from, where it was
--- read; that header; the unprotected one; and the signature
-pub data Signatures : Type 0 where
-  no_signatures : Signatures
-  signature_and : Option (List ℕ) → FieldsSeen → Signatures → FieldsSeen → Signatures → List ℕ → Signatures → Signatures
+-- A header: its fields, and its counter signatures. Of each of these, one after the other: the bytes that its protected
+-- header was read from, where it was read; that header; the unprotected one; and the signature
+mutual
+  pub data HeaderSeen : Type 0 where
+    header_of : FieldsSeen → Signatures → HeaderSeen
 
-pub record HeaderSeen : Type 0 where
-  pub fields : FieldsSeen
-  pub counter_signatures : Signatures
+  pub data Signatures : Type 0 where
+    no_signatures : Signatures
+    signature_and : Option (List ℕ) → HeaderSeen → HeaderSeen → List ℕ → Signatures → Signatures
+
+abbrev pub fields_in : HeaderSeen → FieldsSeen
+fields_in (header_of f ss) = f
+
+abbrev pub counter_signatures_in : HeaderSeen → Signatures
+counter_signatures_in (header_of f ss) = ss
 
 -- a protected header: the bytes that it was read from, where it was read, and the header
 pub record ProtectedSeen : Type 0 where
@@ -36,8 +42,7 @@ pub record SignatureSeen : Type 0 where
   pub signature : List ℕ
 
 abbrev pub and_signatures : SignatureSeen → Signatures → Signatures
-and_signatures s more =
-    signature_and s.protected.original s.protected.header.fields s.protected.header.counter_signatures s.unprotected.fields s.unprotected.counter_signatures s.signature more
+and_signatures s more = signature_and s.protected.original s.protected.header s.unprotected s.signature more
 
 abbrev pub signatures_of : List SignatureSeen → Signatures
 signatures_of [] = no_signatures
@@ -45,19 +50,17 @@ signatures_of (s ∷ ss) = and_signatures s (signatures_of ss)
 
 -- the header that holds nothing, and whether a header is that
 abbrev pub empty_header : HeaderSeen
-empty_header = record { fields = empty_fields; counter_signatures = no_signatures }
+empty_header = header_of empty_fields no_signatures
 
 abbrev pub are_none : Signatures → Bool
 are_none no_signatures = true
-are_none (signature_and o p ps u us s more) = false
+are_none (signature_and o p u s more) = false
 
 abbrev pub is_empty_header : HeaderSeen → Bool
-is_empty_header h =
-    is_none h.fields.alg
-    && (length h.fields.crit == 0
-    && (is_none h.fields.content_type
-    && (length h.fields.key_id == 0
-    && (length h.fields.iv == 0 && (length h.fields.partial_iv == 0 && (are_none h.counter_signatures && length h.fields.rest == 0))))))
+is_empty_header (header_of f ss) =
+    is_none f.alg
+    && (length f.crit == 0
+    && (is_none f.content_type && (length f.key_id == 0 && (length f.iv == 0 && (length f.partial_iv == 0 && (are_none ss && length f.rest == 0))))))
 
 -- ---- which items stand for them, with so many layers left
 
@@ -85,9 +88,6 @@ ProtectedIs P is_empty o (suc k) v = (b : List ℕ) × (as_bytes v ≡ Some b) �
 abbrev pub signed_array : {A B : Type 0} → Shape A → Shape B → Shape (A × (B × (List ℕ × Unit {0})))
 signed_array p u = array_of (p then u then bstr then end)
 
-abbrev pub IsEmpty : FieldsSeen → Signatures → Type 0
-IsEmpty f ss = (f ≡ empty_fields) × (ss ≡ no_signatures)
-
 abbrev nothing_wrong : Item → CoseError → Type 0
 nothing_wrong v e = ⊥
 
@@ -95,49 +95,45 @@ nothing_wrong v e = ⊥
 abbrev pub told_by : (Item → Type 0) → Shape (Unit {0})
 told_by P = fixed P None nothing_wrong
 
--- the items stand for these signatures, in order
-abbrev pub AreSignatures : Signatures → ℕ → Items → Type 0
-AreSignatures no_signatures k vs = vs ≡ no_items
-AreSignatures (signature_and o p ps u us s more) k no_items = ⊥
-AreSignatures (signature_and o p ps u us s more) k (item v vs) =
-    (signed_array
-    (told_by (ProtectedIs (λ j w. HeaderIs (λ ws. AreSignatures ps j ws) (ps ≡ no_signatures) p w) (IsEmpty p ps) o k))
-    (told_by (HeaderIs (λ ws. AreSignatures us k ws) (us ≡ no_signatures) u))).describes v (tt, (tt, (s, tt)))
-    × AreSignatures more k vs
+-- the item stands for this header; and the items for these signatures, in order
+abbrev mutual
+  pub IsHeader : HeaderSeen → ℕ → Item → Type 0
+  IsHeader (header_of f ss) k v = HeaderIs (AreSignatures ss k) (ss ≡ no_signatures) f v
 
-abbrev pub IsHeader : HeaderSeen → ℕ → Item → Type 0
-IsHeader h k v = HeaderIs (λ vs. AreSignatures h.counter_signatures k vs) (h.counter_signatures ≡ no_signatures) h.fields v
+  pub AreSignatures : Signatures → ℕ → Items → Type 0
+  AreSignatures no_signatures k vs = vs ≡ no_items
+  AreSignatures (signature_and o p u s more) k no_items = ⊥
+  AreSignatures (signature_and o p u s more) k (item v vs) =
+      (signed_array (told_by (ProtectedIs (IsHeader p) (p ≡ empty_header) o k)) (told_by (IsHeader u k))).describes v (tt, (tt, (s, tt)))
+      × AreSignatures more k vs
 
 -- ---- the items that they are written as
 
 -- the value of label 7, where the signatures are written as these
 abbrev pub counter_signatures_item : Signatures → Option Items → Option (Option Item)
 counter_signatures_item no_signatures o = Some None
-counter_signatures_item (signature_and b p ps u us s more) o = option_map (λ vs. Some (one_or_array vs)) o
+counter_signatures_item (signature_and b p u s more) o = option_map (λ vs. Some (one_or_array vs)) o
 
 abbrev pub header_item : FieldsSeen → Option (Option Item) → Option Item
 header_item f (Some o) = partial_header.image (f, o)
 header_item f None = None
 
-abbrev pub signature_item : Option (List ℕ) → Option Item → List ℕ → Option Item
-signature_item p u s = both (λ b v. array (item (bytes b) (item v (item (bytes s) no_items)))) p u
+-- the byte string of a protected header, whose map is written so; and the array of a signature, whose headers are
+abbrev pub protected_item : Option (List ℕ) → HeaderSeen → Option Item → Option Item
+protected_item o h i = option_map bytes (content_bytes is_empty_header (λ g. i) o h)
 
-abbrev pub with_counter_signatures : FieldsSeen → Signatures → HeaderSeen
-with_counter_signatures f ss = record { fields = f; counter_signatures = ss }
+abbrev pub signature_item : Option Item → Option Item → List ℕ → Option Item
+signature_item p u s = option_map array (both item p (both item u (Some (item (bytes s) no_items))))
 
--- the signatures' items
-abbrev pub signatures_image : Signatures → Option Items
-signatures_image no_signatures = Some no_items
-signatures_image (signature_and o p ps u us s more) =
-    both item
-    (signature_item
-    (content_bytes is_empty_header (λ h. header_item p (counter_signatures_item ps (signatures_image ps))) o (with_counter_signatures p ps))
-    (header_item u (counter_signatures_item us (signatures_image us)))
-    s)
-    (signatures_image more)
+-- the header's item, and the signatures' items
+abbrev mutual
+  pub header_image : HeaderSeen → Option Item
+  header_image (header_of f ss) = header_item f (counter_signatures_item ss (signatures_image ss))
 
-abbrev pub header_image : HeaderSeen → Option Item
-header_image h = header_item h.fields (counter_signatures_item h.counter_signatures (signatures_image h.counter_signatures))
+  pub signatures_image : Signatures → Option Items
+  signatures_image no_signatures = Some no_items
+  signatures_image (signature_and o p u s more) =
+      both item (signature_item (protected_item o p (header_image p)) (header_image u) s) (signatures_image more)
 
 -- ---- what is wrong with an item
 

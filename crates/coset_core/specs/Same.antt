@@ -7,7 +7,7 @@ use Rattle.coset_value.specs.Item.{Item}
 use Rattle.coset_value.specs.Same.{item_eq}
 use Rattle.coset_label.specs.Names.{Name, RegisteredName, registered_cmp}
 use Rattle.coset_core.specs.Fields.{FieldsSeen, same_name}
-use Rattle.coset_core.specs.Headers.{Signatures, no_signatures, signature_and, HeaderSeen, ProtectedSeen, SignatureSeen}
+use Rattle.coset_core.specs.Headers.{HeaderSeen, header_of, Signatures, no_signatures, signature_and, ProtectedSeen, SignatureSeen}
 
 -- the same algorithm
 abbrev pub algorithm_eq : RegisteredName → RegisteredName → Bool
@@ -33,16 +33,17 @@ fields_eq f g =
     && (option_eq content_type_eq f.content_type g.content_type
     && (pointwise ◌==◌ f.key_id g.key_id && (pointwise ◌==◌ f.iv g.iv && (pointwise ◌==◌ f.partial_iv g.partial_iv && pointwise entry_eq f.rest g.rest)))))
 
--- as many signatures, each the same as its counterpart: in the protected header, the unprotected one, and the signature
-abbrev pub signatures_eq : Signatures → Signatures → Bool
-signatures_eq no_signatures no_signatures = true
-signatures_eq (signature_and o p ps u us s more) (signature_and a q qs v vs t rest) =
-    ((option_eq (pointwise ◌==◌) o a && (fields_eq p q && signatures_eq ps qs)) && ((fields_eq u v && signatures_eq us vs) && pointwise ◌==◌ s t)) && signatures_eq more rest
-signatures_eq ss ts = false
+-- the same fields, and the same counter signatures: as many, each the same as its counterpart, in the bytes that were
+-- kept, the protected header, the unprotected one, and the signature
+abbrev mutual
+  pub header_eq : HeaderSeen → HeaderSeen → Bool
+  header_eq (header_of f ss) (header_of g ts) = fields_eq f g && signatures_eq ss ts
 
--- the same fields, and the same counter signatures
-abbrev pub header_eq : HeaderSeen → HeaderSeen → Bool
-header_eq h k = fields_eq h.fields k.fields && signatures_eq h.counter_signatures k.counter_signatures
+  pub signatures_eq : Signatures → Signatures → Bool
+  signatures_eq no_signatures no_signatures = true
+  signatures_eq (signature_and o p u s more) (signature_and a q v t rest) =
+      ((option_eq (pointwise ◌==◌) o a && header_eq p q) && (header_eq u v && pointwise ◌==◌ s t)) && signatures_eq more rest
+  signatures_eq ss ts = false
 
 -- the same bytes kept, or none of either, and the same header
 abbrev pub protected_eq : ProtectedSeen → ProtectedSeen → Bool

@@ -11,7 +11,7 @@ use Rattle.coset_value.specs.Same.{item_eq}
 use Rattle.coset_value.specs.SameLaws.{item_eq-decides}
 use Rattle.coset_label.specs.NameOrder.{name_cmp-apart, registered_cmp-apart}
 use Rattle.coset_core.specs.Fields.{same_name}
-use Rattle.coset_core.specs.Headers.{Signatures, no_signatures, signature_and}
+use Rattle.coset_core.specs.Headers.{HeaderSeen, header_of, Signatures, no_signatures, signature_and}
 use Rattle.coset_core.specs.Same.{algorithm_eq, critical_eq, content_type_eq, entry_eq, fields_eq, signatures_eq, header_eq, protected_eq, signature_eq}
 
 -- a test that tells equal from unequal
@@ -73,48 +73,48 @@ fields_eq-decides f g =
     (Decides-and (pointwise ◌==◌ f.partial_iv g.partial_iv) (pointwise entry_eq f.rest g.rest)
     (bytes_decides f.partial_iv g.partial_iv) (pointwise_decides entry_eq-decides f.rest g.rest)))))))
 
--- signatures that pass the test are equal
-signatures-sound : (ss ts : Signatures) → signatures_eq ss ts ≡ true → ss ≡ ts
-signatures-sound no_signatures no_signatures h = refl
-signatures-sound (signature_and o p ps u us s more) (signature_and a q qs v vs t rest) h =
-    let covered = option_eq (pointwise ◌==◌) o a && (fields_eq p q && signatures_eq ps qs) in
-    let others = (fields_eq u v && signatures_eq us vs) && pointwise ◌==◌ s t in
-    let all = and_parts (covered && others) (signatures_eq more rest) h in
-    let first = and_parts covered others all.0 in
-    let protected = and_parts (option_eq (pointwise ◌==◌) o a) (fields_eq p q && signatures_eq ps qs) first.0 in
-    let inner = and_parts (fields_eq p q) (signatures_eq ps qs) protected.1 in
-    let last = and_parts (fields_eq u v && signatures_eq us vs) (pointwise ◌==◌ s t) first.1 in
-    let unprotected = and_parts (fields_eq u v) (signatures_eq us vs) last.0 in
-    let kept = (kept-decides o a).0 protected.0 in
-    let ps-fields = (fields_eq-decides p q).0 inner.0 in
-    let ps-counter_signatures = signatures-sound ps qs inner.1 in
-    let us-fields = (fields_eq-decides u v).0 unprotected.0 in
-    let us-counter_signatures = signatures-sound us vs unprotected.1 in
-    let bytes = (bytes_decides s t).0 last.1 in
-    let more-same = signatures-sound more rest all.1 in
-    λ i. signature_and (kept i) (ps-fields i) (ps-counter_signatures i) (us-fields i) (us-counter_signatures i) (bytes i) (more-same i)
-signatures-sound ss ts h = absurd (true≢false (sym h))
+-- headers and signatures that pass the test are equal
+mutual
+  header-sound : (h g : HeaderSeen) → header_eq h g ≡ true → h ≡ g
+  header-sound (header_of f ss) (header_of g ts) h =
+      let both = and_parts (fields_eq f g) (signatures_eq ss ts) h in
+      let fields = (fields_eq-decides f g).0 both.0 in
+      let counter_signatures = signatures-sound ss ts both.1 in
+      λ i. header_of (fields i) (counter_signatures i)
 
--- signatures pass the test against themselves
-signatures-itself : (ss : Signatures) → signatures_eq ss ss ≡ true
-signatures-itself no_signatures = refl
-signatures-itself (signature_and o p ps u us s more) =
-    let kept = (kept-decides o o).1 refl in
-    let covered = (fields_eq-decides p p).1 refl in
-    let others = (fields_eq-decides u u).1 refl in
-    let bytes = (bytes_decides s s).1 refl in
-    rw (kept, covered, signatures-itself ps, others, signatures-itself us, bytes, signatures-itself more) refl
+  signatures-sound : (ss ts : Signatures) → signatures_eq ss ts ≡ true → ss ≡ ts
+  signatures-sound no_signatures no_signatures h = refl
+  signatures-sound (signature_and o p u s more) (signature_and a q v t rest) h =
+      let covered = option_eq (pointwise ◌==◌) o a && header_eq p q in
+      let others = header_eq u v && pointwise ◌==◌ s t in
+      let all = and_parts (covered && others) (signatures_eq more rest) h in
+      let first = and_parts covered others all.0 in
+      let protected = and_parts (option_eq (pointwise ◌==◌) o a) (header_eq p q) first.0 in
+      let last = and_parts (header_eq u v) (pointwise ◌==◌ s t) first.1 in
+      let kept = (kept-decides o a).0 protected.0 in
+      let inner = header-sound p q protected.1 in
+      let outer = header-sound u v last.0 in
+      let bytes = (bytes_decides s t).0 last.1 in
+      let after = signatures-sound more rest all.1 in
+      λ i. signature_and (kept i) (inner i) (outer i) (bytes i) (after i)
+  signatures-sound ss ts h = absurd (true≢false (sym h))
 
-pub signatures_eq-decides : IsEquality signatures_eq
-signatures_eq-decides = told signatures_eq signatures-sound signatures-itself
+-- and they pass the test against themselves
+mutual
+  header-itself : (h : HeaderSeen) → header_eq h h ≡ true
+  header-itself (header_of f ss) =
+      let fields = (fields_eq-decides f f).1 refl in
+      rw (fields, signatures-itself ss) refl
+
+  signatures-itself : (ss : Signatures) → signatures_eq ss ss ≡ true
+  signatures-itself no_signatures = refl
+  signatures-itself (signature_and o p u s more) =
+      let kept = (kept-decides o o).1 refl in
+      let bytes = (bytes_decides s s).1 refl in
+      rw (kept, header-itself p, header-itself u, bytes, signatures-itself more) refl
 
 pub header_eq-decides : IsEquality header_eq
-header_eq-decides h k =
-    Decides-like (header_eq h k)
-    (λ e i. record { fields = e.0 i; counter_signatures = e.1 i })
-    (λ e. (ap (λ x. x.fields) e, ap (λ x. x.counter_signatures) e))
-    (Decides-and (fields_eq h.fields k.fields) (signatures_eq h.counter_signatures k.counter_signatures)
-    (fields_eq-decides h.fields k.fields) (signatures_eq-decides h.counter_signatures k.counter_signatures))
+header_eq-decides = told header_eq header-sound header-itself
 
 pub protected_eq-decides : IsEquality protected_eq
 protected_eq-decides p q =

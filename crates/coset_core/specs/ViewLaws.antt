@@ -1,7 +1,8 @@
 -- What a header is seen as that was made, and one that is opened.
 use Rattle.std.specs.Prelude.{◌≡◌, map, option_map}
-use Rattle.coset_core.specs.Headers.{HeaderSeen, ProtectedSeen, SignatureSeen, signatures_of}
-use Rattle.coset_core.specs.Views.{algorithm_seen, critical_seen, content_type_seen, entry_seen, header_step, protected_step, signature_step, header_seen, protected_seen, signature_seen}
+use Rattle.coset_core.specs.Headers.{HeaderSeen, header_of, ProtectedSeen, SignatureSeen, signatures_of}
+use Rattle.coset_core.specs.FieldsView.{fields_level}
+use Rattle.coset_core.specs.Views.{header_step, protected_step, signature_step, header_seen, protected_seen, signature_seen}
 use Rattle.coset_core.specs.declared.header.Header.{Header, Header-F, out-Header, roll-Header, fold-roll-Header, fold_out-Header}
 use Rattle.coset_core.specs.declared.protected.ProtectedHeader.{ProtectedHeader, ProtectedHeader-F, out-ProtectedHeader, roll-ProtectedHeader, fold-roll-ProtectedHeader, fold_out-ProtectedHeader}
 use Rattle.coset_core.specs.declared.signature.CoseSignature.{CoseSignature, CoseSignature-F, out-CoseSignature, roll-CoseSignature, fold-roll-CoseSignature, fold_out-CoseSignature}
@@ -18,18 +19,7 @@ SignatureLevel = CoseSignature-F Header ProtectedHeader CoseSignature
 
 -- what each level is seen as
 abbrev pub header_level : HeaderLevel → HeaderSeen
-header_level h = record {
-  fields = record {
-    alg = option_map algorithm_seen h.alg;
-    crit = map critical_seen h.crit.items;
-    content_type = option_map content_type_seen h.content_type;
-    key_id = h.key_id.items;
-    iv = h.iv.items;
-    partial_iv = h.partial_iv.items;
-    rest = map entry_seen h.rest.items;
-  };
-  counter_signatures = signatures_of (map signature_seen h.counter_signatures.items);
-}
+header_level h = header_of (fields_level h) (signatures_of (map signature_seen h.counter_signatures.items))
 
 abbrev pub protected_level : ProtectedLevel → ProtectedSeen
 protected_level p = record { original = option_map (λ v. v.items) p.original_data; header = header_seen p.header }

@@ -14,7 +14,8 @@ use Rattle.coset_label.specs.Views.{label_seen, registered_seen, registered_or_p
 use Rattle.coset_label.specs.declared.label.Label.{Label}
 use Rattle.coset_label.specs.declared.registered.RegisteredLabel.{RegisteredLabel}
 use Rattle.coset_label.specs.declared.registered.RegisteredLabelWithPrivate.{RegisteredLabelWithPrivate}
-use Rattle.coset_core.specs.Headers.{HeaderSeen, ProtectedSeen, SignatureSeen, signatures_of}
+use Rattle.coset_core.specs.Fields.{FieldsSeen}
+use Rattle.coset_core.specs.Headers.{HeaderSeen, header_of, ProtectedSeen, SignatureSeen, signatures_of}
 use Rattle.coset_core.specs.declared.header.Header.{Header, Header-F, fold-Header}
 use Rattle.coset_core.specs.declared.protected.ProtectedHeader.{ProtectedHeader, ProtectedHeader-F, fold-ProtectedHeader}
 use Rattle.coset_core.specs.declared.signature.CoseSignature.{CoseSignature, CoseSignature-F, fold-CoseSignature}
@@ -31,20 +32,21 @@ content_type_seen = registered_seen content_formats.number
 abbrev pub entry_seen : Label × Value → Name × Item
 entry_seen e = (label_seen e.0, view e.1)
 
+-- what one level of a header holds beside its counter signatures
+abbrev pub fields_step : {H P S : Type 0} → Header-F H P S → FieldsSeen
+fields_step h = record {
+  alg = option_map algorithm_seen h.alg;
+  crit = map critical_seen h.crit.items;
+  content_type = option_map content_type_seen h.content_type;
+  key_id = h.key_id.items;
+  iv = h.iv.items;
+  partial_iv = h.partial_iv.items;
+  rest = map entry_seen h.rest.items;
+}
+
 -- one level of each, where what it holds is seen already
 abbrev pub header_step : Header-F HeaderSeen ProtectedSeen SignatureSeen → HeaderSeen
-header_step h = record {
-  fields = record {
-    alg = option_map algorithm_seen h.alg;
-    crit = map critical_seen h.crit.items;
-    content_type = option_map content_type_seen h.content_type;
-    key_id = h.key_id.items;
-    iv = h.iv.items;
-    partial_iv = h.partial_iv.items;
-    rest = map entry_seen h.rest.items;
-  };
-  counter_signatures = signatures_of h.counter_signatures.items;
-}
+header_step h = header_of (fields_step h) (signatures_of h.counter_signatures.items)
 
 abbrev pub protected_step : ProtectedHeader-F HeaderSeen ProtectedSeen SignatureSeen → ProtectedSeen
 protected_step p = record { original = option_map (λ v. v.items) p.original_data; header = p.header }

@@ -1,14 +1,15 @@
 -- Headers and signatures as bytes, without an item in between.
-use Rattle.std.specs.Prelude.{◌≡◌, ℕ, ◌+◌, pos, List, [], ◌∷◌, ◌++◌, ◌==◌, map, length, Bool, true, false, not, Option, Some, None, option_map, is_some, ⊤}
+use Rattle.std.specs.Prelude.{◌≡◌, ℕ, ◌+◌, List, [], ◌∷◌, ◌++◌, ◌==◌, map, length, Bool, true, false, not, Option, Some, None, option_map, is_some, ⊤}
 use Rattle.coset_value.specs.Item.{Item, bytes, array, Pairs, no_pairs, pair}
 use Rattle.coset_value.specs.Range.{AreInRange, ArePairsInRange}
 use Rattle.coset_value.specs.View.{items_of}
 use Rattle.coset_cbor.specs.Least.{least_encodings, least_pair_encodings}
 use Rattle.coset_cbor.specs.Shortest.{IsShortest}
 use Rattle.coset_shape.specs.Maps.{put_field}
-use Rattle.coset_label.specs.Names.{Name, number, name_item, RegisteredName, as_name}
+use Rattle.coset_label.specs.Names.{Name, name_item, RegisteredName, as_name}
+use Rattle.coset_core.specs.FieldLabels as labels
 use Rattle.coset_core.specs.Fields.{FieldsSeen}
-use Rattle.coset_core.specs.Headers.{HeaderSeen, SignatureSeen, Signatures, signatures_of, are_none, is_empty_header, counter_signatures_item, signature_item, signatures_image, header_image, protected_bytes}
+use Rattle.coset_core.specs.Headers.{HeaderSeen, header_of, SignatureSeen, Signatures, signatures_of, are_none, is_empty_header, counter_signatures_item, signature_item, signatures_image, header_image, protected_bytes}
 use Rattle.coset_core.specs.HeaderWrites.{fields_put}
 
 -- ---- items, one after the other
@@ -60,15 +61,15 @@ one false = 0
 
 -- how many pairs a header's map has
 abbrev pub count_pairs : HeaderSeen → ℕ
-count_pairs h =
-    length h.fields.rest
-    + one (is_some h.fields.alg)
-    + one (not (length h.fields.crit == 0))
-    + one (is_some h.fields.content_type)
-    + one (not (length h.fields.key_id == 0))
-    + one (not (length h.fields.iv == 0))
-    + one (not (length h.fields.partial_iv == 0))
-    + one (not (are_none h.counter_signatures))
+count_pairs (header_of f ss) =
+    length f.rest
+    + one (is_some f.alg)
+    + one (not (length f.crit == 0))
+    + one (is_some f.content_type)
+    + one (not (length f.key_id == 0))
+    + one (not (length f.iv == 0))
+    + one (not (length f.partial_iv == 0))
+    + one (not (are_none ss))
 
 -- ---- headers and signatures
 
@@ -78,11 +79,11 @@ AppendsSignatures old new ss = (vs : List Item) × (signatures_image (signatures
 
 -- new is old, and then the pair of label 7, where there are signatures
 abbrev pub AppendsCounterSignatures : List ℕ → List ℕ → Signatures → Type 0
-AppendsCounterSignatures old new ss = (o : Option Item) × (counter_signatures_item ss (signatures_image ss) ≡ Some o) × AppendsPairs old new (put_field (number (pos 7)) o [])
+AppendsCounterSignatures old new ss = (o : Option Item) × (counter_signatures_item ss (signatures_image ss) ≡ Some o) × AppendsPairs old new (put_field labels.counter_signature o [])
 
 -- the array of a signature
 abbrev pub signature_array : SignatureSeen → Option Item
-signature_array s = signature_item (protected_bytes s.protected) (header_image s.unprotected) s.signature
+signature_array s = signature_item (option_map bytes (protected_bytes s.protected)) (header_image s.unprotected) s.signature
 
 -- ---- the bytes of protected headers
 

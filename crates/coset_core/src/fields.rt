@@ -1,10 +1,10 @@
 //! What a header holds beside its counter signatures, and reading it pair by pair (RFC 8152, section 3.1).
 
-ghost use Rattle.std.specs.Prelude.{◌≡◌, ◌≤◌, ◌<◌, pos, ◌⊎◌, [], Option, Bool, true, false, IsTrue, IsSome, map, option_map, IfOk, IfErr, IsErrAnd, OnOk, OnErr};
+ghost use Rattle.std.specs.Prelude.{◌≡◌, ◌≤◌, ◌<◌, ◌⊎◌, [], Option, Bool, true, false, IsTrue, IsSome, map, option_map, IfOk, IfErr, IsErrAnd, OnOk, OnErr};
 ghost use Rattle.coset_value.specs.Item.{Item, Pairs};
 ghost use Rattle.coset_shape.specs.declared.error.CoseError.TheVariants.{DuplicateMapKey};
 ghost use Rattle.coset_shape.specs.Answers.{Reads};
-ghost use Rattle.coset_shape.specs.Errors.{IsUnexpected, UnlessMemory};
+ghost use Rattle.coset_shape.specs.Errors.{IsUnexpected, UnlessMemory, answer};
 ghost use Rattle.coset_shape.specs.Inputs.{State, state, still, size, pairs_size, pairs_turns, PairsWithin};
 ghost use Rattle.coset_shape.specs.Maps.{optional, listed, Adds, Refuses};
 ghost use Rattle.coset_shape.specs.Shape.{any, some_of, filled_bstr};
@@ -12,6 +12,7 @@ ghost use Rattle.coset_shape.specs.Sources.{source_item};
 ghost use Rattle.coset_label.specs.Names.{number};
 ghost use Rattle.coset_label.specs.Views.{label_seen};
 ghost use Rattle.coset_shape.specs.declared.input.InputPairs.{InputPairs};
+ghost use Rattle.coset_core.specs.FieldLabels as labels;
 ghost use Rattle.coset_core.specs.Fields.{FieldsSeen, algorithm, critical, content_type, names, fields, parts_of, same_name, HasOneIv, bars};
 ghost use Rattle.coset_core.specs.FieldsView.{fields_seen, counter_signatures_held};
 ghost use Rattle.coset_core.specs.Views.{algorithm_seen, critical_seen, content_type_seen};
@@ -23,6 +24,7 @@ use crate::header::Header;
 use crate::write::ask_distinct;
 use coset_iana::HeaderParameter;
 use coset_label::{Algorithm, ContentType, Label, RegisteredLabelWithPrivate};
+use coset_shape::error::{Refused, keep_error};
 use coset_shape::input::{Input, InputPairs};
 use coset_shape::list::{read_filled_list, read_source};
 use coset_shape::{CoseError, Result, Source};
@@ -156,7 +158,7 @@ fn set_iv(alloc: Global, field: &mut Vec<u8>, barred: bool, value: Source<'_>) -
 /// `OutOfMemory`; `DuplicateMapKey` where a field has a value already; a fault of its value; or `UnexpectedItem` where
 /// it is the second of IV and Partial IV. The header is then as before.
 fn put(header: &mut Header, alloc: Global, label: Label, value: Source<'_>) -> Result<()>
-    requires other { same_name (number (pos 7)) (label_seen label) ≡ false }
+    requires other { same_name labels.counter_signature (label_seen label) ≡ false }
     requires one_iv { HasOneIv (fields_seen header.old) }
     ensures takes { (o : Option Item)
         → OnOk result
@@ -272,9 +274,8 @@ fn refuse(filled: Result<bool>, input: &mut Input<'_>, error: CoseError) -> Resu
     Err(error)
 }
 
-/// As many pairs as [`fill_some`] reads. That no label of the rest repeats is asked before a fault is answered,
-/// before the
-/// value of label 7 is read, and in the end.
+/// As many pairs as [`fill_some`] reads. That no label of the rest repeats is asked before a fault is answered, before
+/// the value of label 7 is read, and in the end.
 ///
 /// # Errors
 /// `OutOfMemory`, or the first fault of the pairs.
@@ -284,7 +285,8 @@ pub(crate) fn fill_fields(
     alloc: Global,
     pairs: &mut InputPairs,
     input: &mut Input<'_>,
-) -> Result<bool>
+    error: &mut CoseError,
+) -> Result<bool, Refused>
     requires one_iv { HasOneIv (fields_seen header.old) }
     ensures one_iv { HasOneIv (fields_seen header.new) }
     ensures others { counter_signatures_held header.new ≡ counter_signatures_held header.old }
@@ -294,11 +296,13 @@ pub(crate) fn fill_fields(
         (state input.old)) }
     ensures fills { (all ps : Pairs) (o : Option Item) (z : State)
         → WalksTo all (fields_seen header.old) o ps → PairsWithin pairs.old ps (state input.old) z
-        → FillsFields all o z (fields_seen header.new) (state input.new) pairs.new result }
+        → FillsFields all o z (fields_seen header.new) (state input.new) pairs.new
+        (answer error.new result) }
 {
     let filled = fill_some(header, alloc, pairs, input);
-    match ask_distinct(alloc, &header.rest) {
+    let distinct = match ask_distinct(alloc, &header.rest) {
         Ok(()) => filled,
-        Err(error) => refuse(filled, input, error),
-    }
+        Err(repeated) => refuse(filled, input, repeated),
+    };
+    keep_error(distinct, error)
 }

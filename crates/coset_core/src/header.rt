@@ -1,12 +1,12 @@
 //! Headers: what is said of a message's content beside it.
 
 ghost use Rattle.std.specs.Prelude.{◌≡◌};
-ghost use Rattle.coset_shape.specs.Answers.{ReadsSlice, AllocatesForItems, RefusesSlice};
+ghost use Rattle.coset_core.specs.FieldsView.{counter_signatures_held};
 ghost use Rattle.coset_core.specs.Headers.{empty_header, is_empty_header, header};
 ghost use Rattle.coset_core.specs.Views.{header_seen};
 
 use crate::read::read_header;
-use crate::signature::CoseSignature;
+use crate::signature::{CoseSignature, let_go};
 use crate::write::write_header;
 use coset_cbor::de::Pull;
 use coset_cbor::value::Value;
@@ -14,7 +14,7 @@ use coset_iana::HeaderParameter;
 use coset_label::{Algorithm, ContentType, Label, RegisteredLabelWithPrivate};
 use coset_shape::encode::{Encode, encode_to_value, encode_to_vec};
 use coset_shape::traits::{FromPull, read_slice};
-use coset_shape::{AsCborValue, CborSerializable, Result, Source};
+use coset_shape::{AsCborValue, CborSerializable, Lawful, Result, Source};
 use std::alloc::Global;
 
 /// About what a header takes beside its byte strings.
@@ -22,7 +22,7 @@ const HEADS: usize = 24;
 
 /// A header (RFC 8152, section 3.1).
 #[cycle(header)]
-#[derive(Debug, Drop)]
+#[derive(Debug)]
 pub struct Header {
     /// The algorithm (label 1).
     pub alg: Option<Algorithm>,
@@ -42,7 +42,41 @@ pub struct Header {
     pub rest: Vec<(Label, Value)>,
 }
 
+/// The counter signatures are let go in a function of their own, since headers in them are as deep as the input asked.
+impl Drop for Header {
+    fn drop(self) {
+        let Header {
+            alg: _,
+            crit: _,
+            content_type: _,
+            key_id: _,
+            iv: _,
+            partial_iv: _,
+            counter_signatures,
+            rest: _,
+        } = self;
+        let_go(counter_signatures);
+    }
+}
+
 impl Header {
+    /// The counter signatures alone.
+    pub(crate) fn into_counter_signatures(self) -> Vec<CoseSignature>
+        ensures { result.items ≡ counter_signatures_held self }
+    {
+        let Header {
+            alg: _,
+            crit: _,
+            content_type: _,
+            key_id: _,
+            iv: _,
+            partial_iv: _,
+            counter_signatures,
+            rest: _,
+        } = self;
+        counter_signatures
+    }
+
     /// An empty header. It takes no memory.
     pub fn new(alloc: Global) -> Header
         ensures { header_seen result ≡ empty_header }
@@ -97,8 +131,16 @@ impl AsCborValue for Header {
     }
 }
 
+impl Lawful for Header {
+    ghost use Rattle.coset_core.specs.HeaderLaws.{header_laws};
+
+    ghost laws = { header_laws };
+}
+
 impl Encode for Header {
     ghost image = { λ h. header.image (header_seen h) };
+
+    ghost spare = { 24 };
 
     /// Enough for all but the rest and the counter signatures.
     fn room(&self) -> usize {
@@ -121,11 +163,7 @@ impl FromPull for Header {
 }
 
 impl CborSerializable for Header {
-    fn from_slice(alloc: Global, s: &[u8]) -> Result<Header>
-        ensures read { ReadsSlice header header_seen s.now result }
-        ensures refused { RefusesSlice header s.now result }
-        ensures memory { AllocatesForItems s.now result }
-    {
+    fn from_slice(alloc: Global, s: &[u8]) -> Result<Header> {
         read_slice(alloc, s)
     }
 

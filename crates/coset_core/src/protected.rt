@@ -5,7 +5,7 @@ ghost use Rattle.std.specs.Cow.{cow_slice_items};
 ghost use Rattle.coset_value.specs.View.{view};
 ghost use Rattle.coset_cbor.specs.Pulls.{pull_item};
 ghost use Rattle.coset_shape.specs.declared.error.CoseError.TheVariants.{DuplicateMapKey};
-ghost use Rattle.coset_shape.specs.Answers.{Reads, Images, ReadsSlice, AllocatesForItems, RefusesSlice, RefusesItem};
+ghost use Rattle.coset_shape.specs.Answers.{Reads, Images, RefusesItem};
 ghost use Rattle.coset_shape.specs.Sources.{source_item};
 ghost use Rattle.coset_core.specs.ProtectedMap.{protected_map, protected_map_laws};
 ghost use Rattle.coset_core.specs.Headers.{empty_header, is_empty_header, protected_bytes, protected as protected_shape};
@@ -20,7 +20,7 @@ use coset_cbor::de::Pull;
 use coset_cbor::value::Value;
 use coset_shape::encode::{Encode, encode_to_value, encode_to_vec};
 use coset_shape::traits::{FromPull, read_slice};
-use coset_shape::{AsCborValue, CborSerializable, Result, Source};
+use coset_shape::{AsCborValue, CborSerializable, Lawful, Result, Source};
 use std::alloc::Global;
 use std::borrow::CowSlice;
 
@@ -132,6 +132,8 @@ pub struct Bstr<'a>(pub &'a ProtectedHeader);
 impl Encode for Bstr<'_> {
     ghost image = { λ p. protected_shape.image (protected_seen p.0.now) };
 
+    ghost spare = { 24 };
+
     fn room(&self) -> usize {
         match &self.0.original_data {
             Some(bytes) => bytes.room(),
@@ -179,8 +181,14 @@ impl AsCborValue for ProtectedHeader {
     }
 }
 
+impl Lawful for ProtectedHeader {
+    ghost laws = { protected_map_laws };
+}
+
 impl Encode for ProtectedHeader {
     ghost image = { λ p. protected_map.image (protected_seen p) };
+
+    ghost spare = { 24 };
 
     fn room(&self) -> usize {
         self.header.room()
@@ -199,11 +207,7 @@ impl FromPull for ProtectedHeader {
 }
 
 impl CborSerializable for ProtectedHeader {
-    fn from_slice(alloc: Global, s: &[u8]) -> Result<ProtectedHeader>
-        ensures read { ReadsSlice protected_map protected_seen s.now result }
-        ensures refused { RefusesSlice protected_map s.now result }
-        ensures memory { AllocatesForItems s.now result }
-    {
+    fn from_slice(alloc: Global, s: &[u8]) -> Result<ProtectedHeader> {
         read_slice(alloc, s)
     }
 

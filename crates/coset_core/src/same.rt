@@ -5,6 +5,7 @@ ghost use Rattle.std.specs.Option.{option_eq};
 ghost use Rattle.std.specs.Ordering.{on};
 ghost use Rattle.std.specs.Cmp.{on_equiv, on_per, partial_equiv_from_equiv};
 ghost use Rattle.std.specs.Cmp.Lexicographic.{pointwise};
+ghost use Rattle.coset_core.specs.FieldsView.{fields_seen};
 ghost use Rattle.coset_core.specs.Headers.{signatures_of};
 ghost use Rattle.coset_core.specs.Same.{algorithm_eq, critical_eq, content_type_eq, entry_eq, fields_eq, header_eq, protected_eq, signature_eq, signatures_eq};
 ghost use Rattle.coset_core.specs.SameLaws.{header_eq_equiv, protected_eq_equiv, signature_eq_equiv};
@@ -114,7 +115,7 @@ fn same_signatures(all: &[CoseSignature], others: &[CoseSignature]) -> bool
 
 /// Whether two headers are the same but for their counter signatures.
 fn same_fields(a: &Header, b: &Header) -> bool
-    ensures { result ≡ fields_eq (header_seen a.now).fields (header_seen b.now).fields }
+    ensures { result ≡ fields_eq (fields_seen a.now) (fields_seen b.now) }
 {
     same_algorithm(&a.alg, &b.alg)
         && same_critical(&a.crit, &b.crit)

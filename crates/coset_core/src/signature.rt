@@ -1,8 +1,8 @@
 //! Signatures: those of a message, and those that countersign.
 
-ghost use Rattle.std.specs.Prelude.{◌≡◌, None, []};
-ghost use Rattle.coset_shape.specs.Answers.{ReadsSlice, AllocatesForItems, RefusesSlice};
+ghost use Rattle.std.specs.Prelude.{◌≡◌, ◌<◌, ◌+◌, None, IfSome, []};
 ghost use Rattle.coset_core.specs.Headers.{empty_header, signature};
+ghost use Rattle.coset_core.specs.Held.{signatures_in};
 ghost use Rattle.coset_core.specs.Views.{signature_seen};
 
 use crate::header::Header;
@@ -13,7 +13,7 @@ use coset_cbor::de::Pull;
 use coset_cbor::value::Value;
 use coset_shape::encode::{Encode, encode_to_value, encode_to_vec};
 use coset_shape::traits::{FromPull, read_slice};
-use coset_shape::{AsCborValue, CborSerializable, Result, Source};
+use coset_shape::{AsCborValue, CborSerializable, Lawful, Result, Source};
 use std::alloc::Global;
 
 /// One signature (RFC 8152, section 4.1), which has its own headers: of a `COSE_Sign` message, or a counter signature
@@ -47,6 +47,39 @@ impl CoseSignature {
     }
 }
 
+/// Of the last signature the counter signatures of its two headers. The rest of it is let go.
+#[inline(never)]
+fn take_last(all: &mut Vec<CoseSignature>) -> Option<(Vec<CoseSignature>, Vec<CoseSignature>)>
+    ensures none { result ≡ None → all.new.items ≡ [] }
+    ensures fewer { IfSome result (λ x. signatures_in x.0.items + signatures_in x.1.items
+        + signatures_in all.new.items < signatures_in all.old.items) }
+{
+    let CoseSignature {
+        protected,
+        unprotected,
+        signature: _,
+    } = all.pop()?;
+    let ProtectedHeader {
+        original_data: _,
+        header,
+    } = protected;
+    Some((
+        header.into_counter_signatures(),
+        unprotected.into_counter_signatures(),
+    ))
+}
+
+/// Lets signatures go, and those in their headers.
+#[inline(never)]
+pub(crate) fn let_go(all: Vec<CoseSignature>) {
+    let mut all = all;
+    while let Some((protected, unprotected)) = take_last(&mut all) {
+        let_go(protected);
+        let_go(unprotected);
+    }
+    all.destroy_empty();
+}
+
 impl AsCborValue for CoseSignature {
     ghost use Rattle.coset_core.specs.Headers.{SignatureSeen};
     ghost use Rattle.coset_core.specs.HeaderLaws.{signature_laws};
@@ -70,8 +103,16 @@ impl AsCborValue for CoseSignature {
     }
 }
 
+impl Lawful for CoseSignature {
+    ghost use Rattle.coset_core.specs.HeaderLaws.{signature_laws};
+
+    ghost laws = { signature_laws };
+}
+
 impl Encode for CoseSignature {
     ghost image = { λ s. signature.image (signature_seen s) };
+
+    ghost spare = { 57 };
 
     fn room(&self) -> usize {
         Bstr(&self.protected)
@@ -92,11 +133,7 @@ impl FromPull for CoseSignature {
 }
 
 impl CborSerializable for CoseSignature {
-    fn from_slice(alloc: Global, s: &[u8]) -> Result<CoseSignature>
-        ensures read { ReadsSlice signature signature_seen s.now result }
-        ensures refused { RefusesSlice signature s.now result }
-        ensures memory { AllocatesForItems s.now result }
-    {
+    fn from_slice(alloc: Global, s: &[u8]) -> Result<CoseSignature> {
         read_slice(alloc, s)
     }
 

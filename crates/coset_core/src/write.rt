@@ -1,6 +1,6 @@
 //! Writing headers and signatures as bytes, straight from where they lie.
 
-ghost use Rattle.std.specs.Prelude.{◌≡◌, ◌≢◌, ◌≤◌, ◌++◌, pos, [], map, true, false, Some, None, option_map, OnOk, IfOk, IfErr};
+ghost use Rattle.std.specs.Prelude.{◌≡◌, ◌≢◌, ◌≤◌, ◌++◌, [], map, true, false, Some, None, option_map, OnOk, IfOk, IfErr};
 ghost use Rattle.std.specs.Map.{keys_of};
 ghost use Rattle.coset_value.specs.Item.{bytes};
 ghost use Rattle.coset_value.specs.View.{view};
@@ -12,7 +12,9 @@ ghost use Rattle.coset_shape.specs.Maps.{put_field, are_distinct};
 ghost use Rattle.coset_shape.specs.Serialized.{fresh_bytes};
 ghost use Rattle.coset_label.specs.Names.{number, name_item};
 ghost use Rattle.coset_label.specs.Views.{label_seen, registered_or_private_seen};
+ghost use Rattle.coset_core.specs.FieldLabels as labels;
 ghost use Rattle.coset_core.specs.Fields.{same_name};
+ghost use Rattle.coset_core.specs.FieldsView.{fields_seen};
 ghost use Rattle.coset_core.specs.Headers.{signatures_of, is_empty_header, signatures_image, header_image, protected_bytes};
 ghost use Rattle.coset_core.specs.Views.{algorithm_seen, critical_seen, content_type_seen, entry_seen, header_seen, protected_seen, signature_seen};
 ghost use Rattle.coset_core.specs.Written.{AppendsItems, AppendsPairs, AppendsCounterSignatures, AppendsSignatures, AreShortest};
@@ -83,7 +85,7 @@ fn write_content_type(content_type: &ContentType, out: &mut Vec<u8>) -> Result<(
 fn write_algorithm_field(alg: &Option<Algorithm>, out: &mut Vec<u8>) -> Result<(), OutOfMemory>
     ensures { OnOk result
         (AppendsPairs out.old.items out.new.items
-        (put_field (number (pos 1)) (option_map registered_item (option_map algorithm_seen alg.now))
+        (put_field labels.alg (option_map registered_item (option_map algorithm_seen alg.now))
         [])) }
 {
     if let Some(alg) = alg {
@@ -113,7 +115,7 @@ fn write_critical_field(
     out: &mut Vec<u8>,
 ) -> Result<(), OutOfMemory>
     ensures { OnOk result (AppendsPairs out.old.items out.new.items
-        (put_field (number (pos 2)) (critical_item (map critical_seen crit.now)) [])) }
+        (put_field labels.crit (critical_item (map critical_seen crit.now)) [])) }
 {
     if !crit.is_empty() {
         write_number(2, out)?;
@@ -130,7 +132,7 @@ fn write_content_type_field(
 ) -> Result<(), OutOfMemory>
     ensures { OnOk result
         (AppendsPairs out.old.items out.new.items
-        (put_field (number (pos 3))
+        (put_field labels.content_type
         (option_map name_item (option_map content_type_seen content_type.now)) [])) }
 {
     if let Some(content_type) = content_type {
@@ -155,7 +157,7 @@ fn write_bytes_field(label: i64, bytes: &[u8], out: &mut Vec<u8>) -> Result<(), 
 /// Appends the pairs of the first six labels.
 fn write_fields(header: &Header, out: &mut Vec<u8>) -> Result<(), OutOfMemory>
     ensures { OnOk result
-        (AppendsPairs out.old.items out.new.items (plain_fields (header_seen header.now).fields)) }
+        (AppendsPairs out.old.items out.new.items (plain_fields (fields_seen header.now))) }
 {
     write_algorithm_field(&header.alg, out)?;
     write_critical_field(&header.crit, out)?;

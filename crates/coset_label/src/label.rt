@@ -3,7 +3,7 @@
 ghost use Rattle.std.specs.Prelude.{◌≡◌, IfOk, IfErr};
 ghost use Rattle.coset_value.specs.View.{view};
 ghost use Rattle.coset_shape.specs.declared.error.CoseError.TheVariants.{OutOfMemory};
-ghost use Rattle.coset_shape.specs.Answers.{Reads, ReadsSlice, AllocatesForItems, RefusesSlice};
+ghost use Rattle.coset_shape.specs.Answers.{Reads};
 ghost use Rattle.coset_shape.specs.Sources.{source_item, MayCopy};
 ghost use Rattle.coset_label.specs.Labels.{label};
 ghost use Rattle.coset_label.specs.Views.{label_seen};
@@ -12,7 +12,7 @@ use coset_cbor::de::Pull;
 use coset_cbor::value::Value;
 use coset_shape::encode::{Encode, encode_to_vec};
 use coset_shape::traits::{FromPull, read_slice};
-use coset_shape::{AsCborValue, CborSerializable, Result, Source};
+use coset_shape::{AsCborValue, CborSerializable, Lawful, Result, Source};
 use std::alloc::Global;
 
 /// A label: an integer within 64 bits with a sign, or a text (RFC 8152, section 1.4).
@@ -65,8 +65,16 @@ impl AsCborValue for Label {
     }
 }
 
+impl Lawful for Label {
+    ghost use Rattle.coset_label.specs.LabelLaws.{label_laws};
+
+    ghost laws = { label_laws };
+}
+
 impl Encode for Label {
     ghost image = { λ l. label.image (label_seen l) };
+
+    ghost spare = { 0 };
 
     fn encode(&self, alloc: Global, out: &mut Vec<u8>) -> Result<()> {
         match self {
@@ -83,11 +91,7 @@ impl FromPull for Label {
 }
 
 impl CborSerializable for Label {
-    fn from_slice(alloc: Global, s: &[u8]) -> Result<Label>
-        ensures read { ReadsSlice label label_seen s.now result }
-        ensures refused { RefusesSlice label s.now result }
-        ensures memory { AllocatesForItems s.now result }
-    {
+    fn from_slice(alloc: Global, s: &[u8]) -> Result<Label> {
         read_slice(alloc, s)
     }
 

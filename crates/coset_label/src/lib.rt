@@ -9,6 +9,13 @@ mod order;
 mod ordering;
 mod registered;
 
+pub use coset_cbor as cbor;
+pub use coset_iana as iana;
+pub use coset_shape as shape;
+pub use coset_shape::{
+    AsCborValue, CallError, CborSerializable, CoseError, Encode, EndOfFile, FromPull, Lawful,
+    Result, Source, TaggedCborSerializable, has_repeats, util,
+};
 pub use label::Label;
 pub use names::{Algorithm, ClaimName, ContentType, KeyOperation, KeyType};
 pub use ordering::CborOrdering;

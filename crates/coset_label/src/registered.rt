@@ -3,7 +3,7 @@
 ghost use Rattle.std.specs.Prelude.{◌≡◌, IfErr, IfOk, is_some};
 ghost use Rattle.coset_value.specs.View.{view};
 ghost use Rattle.coset_shape.specs.declared.error.CoseError.TheVariants.{OutOfMemory};
-ghost use Rattle.coset_shape.specs.Answers.{Reads, ReadsSlice, AllocatesForItems, RefusesSlice};
+ghost use Rattle.coset_shape.specs.Answers.{Reads};
 ghost use Rattle.coset_shape.specs.Sources.{source_item, MayCopy};
 ghost use Rattle.coset_label.specs.Labels.{registered_in, registered_or_private_in};
 ghost use Rattle.coset_label.specs.Views.{registered_seen, registered_or_private_seen};
@@ -13,7 +13,7 @@ use coset_cbor::value::Value;
 use coset_iana::{EnumI64, WithPrivateRange};
 use coset_shape::encode::{Encode, encode_to_vec};
 use coset_shape::traits::{FromPull, read_slice};
-use coset_shape::{AsCborValue, CborSerializable, CoseError, Result, Source};
+use coset_shape::{AsCborValue, CborSerializable, CoseError, Lawful, Result, Source};
 use std::alloc::Global;
 
 /// A label of a registry without a private range: one of its values, or a text (RFC 8152, section 16).
@@ -109,8 +109,16 @@ impl<T: EnumI64 + Drop> AsCborValue for RegisteredLabel<T> {
     }
 }
 
+impl<T: EnumI64 + Drop> Lawful for RegisteredLabel<T> {
+    ghost use Rattle.coset_label.specs.LabelLaws.{registered_laws};
+
+    ghost laws = { registered_laws (λ i. is_some (T.value_of i)) };
+}
+
 impl<T: EnumI64> Encode for RegisteredLabel<T> {
     ghost image = { λ l. (registered_in T.value_of).image (registered_seen T.number l) };
+
+    ghost spare = { 0 };
 
     fn encode(&self, alloc: Global, out: &mut Vec<u8>) -> Result<()> {
         match self {
@@ -127,12 +135,7 @@ impl<T: EnumI64 + Drop> FromPull for RegisteredLabel<T> {
 }
 
 impl<T: EnumI64 + Drop> CborSerializable for RegisteredLabel<T> {
-    fn from_slice(alloc: Global, s: &[u8]) -> Result<RegisteredLabel<T>>
-        ensures read { ReadsSlice (registered_in T.value_of) (registered_seen T.number)
-            s.now result }
-        ensures refused { RefusesSlice (registered_in T.value_of) s.now result }
-        ensures memory { AllocatesForItems s.now result }
-    {
+    fn from_slice(alloc: Global, s: &[u8]) -> Result<RegisteredLabel<T>> {
         read_slice(alloc, s)
     }
 
@@ -173,8 +176,16 @@ impl<T: EnumI64 + WithPrivateRange + Drop> AsCborValue for RegisteredLabelWithPr
     }
 }
 
+impl<T: EnumI64 + WithPrivateRange + Drop> Lawful for RegisteredLabelWithPrivate<T> {
+    ghost use Rattle.coset_label.specs.LabelLaws.{registered_or_private_laws};
+
+    ghost laws = { registered_or_private_laws (λ i. is_some (T.value_of i)) T.is_private };
+}
+
 impl<T: EnumI64 + WithPrivateRange> Encode for RegisteredLabelWithPrivate<T> {
     ghost image = { λ l. (registered_or_private_in T.value_of T.is_private).image (registered_or_private_seen T.number l) };
+
+    ghost spare = { 0 };
 
     fn encode(&self, alloc: Global, out: &mut Vec<u8>) -> Result<()> {
         match self {
@@ -192,13 +203,7 @@ impl<T: EnumI64 + WithPrivateRange + Drop> FromPull for RegisteredLabelWithPriva
 }
 
 impl<T: EnumI64 + WithPrivateRange + Drop> CborSerializable for RegisteredLabelWithPrivate<T> {
-    fn from_slice(alloc: Global, s: &[u8]) -> Result<RegisteredLabelWithPrivate<T>>
-        ensures read { ReadsSlice (registered_or_private_in T.value_of T.is_private)
-            (registered_or_private_seen T.number) s.now result }
-        ensures refused { RefusesSlice (registered_or_private_in T.value_of T.is_private)
-            s.now result }
-        ensures memory { AllocatesForItems s.now result }
-    {
+    fn from_slice(alloc: Global, s: &[u8]) -> Result<RegisteredLabelWithPrivate<T>> {
         read_slice(alloc, s)
     }
 

@@ -1,8 +1,8 @@
 //! A reading: an array of fixed places.
 
 ghost use Rattle.std.specs.Prelude.{ℤ};
-ghost use Rattle.coset_shape.specs.Answers.{Reads, ReadsSlice, AllocatesForItems, RefusesSlice};
-ghost use Rattle.coset_shape.specs.Shape.{int64, tagged};
+ghost use Rattle.coset_shape.specs.Answers.{Reads};
+ghost use Rattle.coset_shape.specs.Shape.{int64};
 ghost use Rattle.coset_shape.specs.ShapeLaws.{int64_laws};
 ghost use Rattle.coset_shape.specs.Sources.{source_item};
 ghost use Rattle.coset_sample.specs.Reading.{mark_seen, seen, reading};
@@ -12,7 +12,7 @@ use coset_cbor::value::{Integer, Value};
 use coset_shape::list::{array_value, bytes_or_nil, list_value, read_list};
 use coset_shape::traits::{FromPull, read_slice, read_tagged_slice};
 use coset_shape::{
-    AsCborValue, CborSerializable, CoseError, Result, Source, TaggedCborSerializable,
+    AsCborValue, CborSerializable, CoseError, Lawful, Result, Source, TaggedCborSerializable,
 };
 use std::alloc::Global;
 
@@ -44,6 +44,10 @@ impl AsCborValue for Mark {
     fn to_cbor_value(self, _alloc: Global) -> Result<Value> {
         Ok(Value::from(self.0))
     }
+}
+
+impl Lawful for Mark {
+    ghost laws = { int64_laws };
 }
 
 impl FromPull for Mark {
@@ -107,6 +111,12 @@ impl AsCborValue for Reading {
     }
 }
 
+impl Lawful for Reading {
+    ghost use Rattle.coset_sample.specs.Reading.{reading_laws};
+
+    ghost laws = { reading_laws };
+}
+
 impl FromPull for Reading {
     fn from_pull(alloc: Global, pull: Pull<'_>) -> Result<Reading> {
         read_reading(alloc, Source::Lent(pull))
@@ -114,11 +124,7 @@ impl FromPull for Reading {
 }
 
 impl CborSerializable for Reading {
-    fn from_slice(alloc: Global, s: &[u8]) -> Result<Reading>
-        ensures read { ReadsSlice reading seen s.now result }
-        ensures refused { RefusesSlice reading s.now result }
-        ensures memory { AllocatesForItems s.now result }
-    {
+    fn from_slice(alloc: Global, s: &[u8]) -> Result<Reading> {
         read_slice(alloc, s)
     }
 }
@@ -128,11 +134,7 @@ impl TaggedCborSerializable for Reading {
 
     const TAG: u64 = 1000;
 
-    fn from_tagged_slice(alloc: Global, s: &[u8]) -> Result<Reading>
-        ensures read { ReadsSlice (tagged 1000 reading) seen s.now result }
-        ensures refused { RefusesSlice (tagged 1000 reading) s.now result }
-        ensures memory { AllocatesForItems s.now result }
-    {
+    fn from_tagged_slice(alloc: Global, s: &[u8]) -> Result<Reading> {
         read_tagged_slice(alloc, 1000, s)
     }
 }

@@ -17,7 +17,8 @@ use coset_shape::encode_map::MapEncoder;
 use coset_shape::map::{Gather, read_map};
 use coset_shape::traits::FromPull;
 use coset_shape::{
-    AsCborValue, CborSerializable, CoseError, Result, Source, TaggedCborSerializable, has_repeats,
+    AsCborValue, CborSerializable, CoseError, Lawful, Result, Source, TaggedCborSerializable,
+    has_repeats,
 };
 use std::alloc::Global;
 
@@ -149,8 +150,20 @@ impl AsCborValue for Settings {
     }
 }
 
+impl Lawful for Name {
+    ghost laws = { int64_laws };
+}
+
+impl Lawful for Settings {
+    ghost use Rattle.coset_sample.specs.Settings.{settings_laws};
+
+    ghost laws = { settings_laws };
+}
+
 impl Encode for Name {
     ghost image = { λ n. int64.image (name_seen n) };
+
+    ghost spare = { 0 };
 
     fn encode(&self, alloc: Global, out: &mut Vec<u8>) -> Result<()> {
         self.0.encode(alloc, out)
@@ -159,6 +172,8 @@ impl Encode for Name {
 
 impl Encode for Settings {
     ghost image = { λ s. settings.image (seen s) };
+
+    ghost spare = { 0 };
 
     fn encode(&self, alloc: Global, out: &mut Vec<u8>) -> Result<()> {
         if has_repeats(alloc, &self.rest)? {

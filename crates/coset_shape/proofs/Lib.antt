@@ -7,3 +7,5 @@ pub mod Distinct
 pub mod Encoding
 pub mod EncodingMaps
 pub mod Inputs
+pub mod Apart
+pub mod Room

@@ -9,6 +9,8 @@ use Rattle.coset_value.specs.Parts.{as_array}
 use Rattle.coset_value.specs.View.{view, items_view}
 use Rattle.coset_value.specs.declared.value.Value.{Value, Array, the_lemmas}
 use Rattle.coset_shape.specs.declared.error.CoseError.{CoseError}
+use Rattle.coset_shape.specs.Answers.{Reads}
+use Rattle.coset_shape.specs.Errors.{UnlessMemory}
 use Rattle.coset_shape.specs.Shape.{Shape, Each, EachFaults, images, list_of}
 use Rattle.coset_shape.specs.ShapeLaws.{both-some}
 use Rattle.coset_shape.specs.Lists.{Continues, EachWith}
@@ -32,7 +34,14 @@ module _ {A : Type 0} (s : Shape A) where
 
   pub refused :
       (v w : Item) (all old new : Items) (xs : List A) (f : CoseError) → as_array v ≡ Some all → Continues A s.describes s.faults all xs old → old ≡ item w new → s.faults w f → (list_of s).faults v f
-  refused v w all old new xs f e c q h = inr (all, e, inr (c.blames f (subst (λ vs. EachFaults s.faults vs f) (sym q) (inl h))))
+  refused v w all old new xs f e c q h = inr (all, e, inr (λ m. m, c.blames f (subst (λ vs. EachFaults s.faults vs f) (sym q) (inl h))))
+
+  -- the fault of a member is the list's
+  pub refused_at :
+      {T : Type 0} (see : T → List A) (v w : Item) (all old new : Items) (xs : List A) (r : Result T CoseError) (e : CoseError) → IsErrAnd r (λ f. f ≡ e) → as_array v ≡ Some all
+      → Continues A s.describes s.faults all xs old → old ≡ item w new → UnlessMemory e (s.faults w) → Reads (list_of s) see v r
+  refused_at see v w all old new xs (Ok x) e is a c q h = absurd is
+  refused_at see v w all old new xs (Err f) e is a c q h = subst (λ g. UnlessMemory g ((list_of s).faults v)) (sym is) (λ n. refused v w all old new xs e a c q (h n))
 
 -- one more of each
 pub with-more : {A B : Type 0} (R : A → B → Type 0) (xs : List A) (ys : List B) (x : A) (y : B) → EachWith R xs ys → R x y → EachWith R (xs ++ x ∷ []) (ys ++ y ∷ [])

@@ -1,7 +1,8 @@
 -- What the errors say, and which tell of a fault in what is read.
-use Rattle.std.specs.Prelude.{◌≡◌, ℕ, List, ◌++◌, codes, Option, Some, None, ⊤}
+use Rattle.std.specs.Prelude.{◌≡◌, ℕ, List, ◌++◌, codes, Option, Some, None, Result, Ok, Err, ⊤}
 use Rattle.coset_cbor.specs.declared.de.Error as decoding
 use Rattle.coset_shape.specs.declared.error.CoseError.{CoseError}
+use Rattle.coset_shape.specs.declared.error.Refused.{Refused}
 use Rattle.coset_shape.specs.declared.error.CoseError.TheVariants.{DecodeFailed, DuplicateMapKey, EncodeFailed, ExtraneousData, OutOfRangeIntegerValue, UnexpectedItem, UnregisteredIanaValue, UnregisteredIanaNonPrivateValue, OutOfMemory}
 
 -- the text of an error; of a failed decoding tests show it
@@ -32,3 +33,13 @@ decode_failure decoding.TheVariants.OutOfMemory = OutOfMemory
 -- what the error tells of stands, unless it is `OutOfMemory`
 abbrev pub UnlessMemory : CoseError → (CoseError → Type 0) → Type 0
 UnlessMemory e stands = (e ≡ OutOfMemory → ⊥) → stands e
+
+-- an answer whose parts stand in places: what is made of it, and the error e where it is one
+abbrev pub filled : {T A : Type 0} → (A → T) → CoseError → Result A Refused → Result T CoseError
+filled made e (Ok x) = Ok (made x)
+filled made e (Err r) = Err e
+
+-- an answer whose error, where it is one, stands in a place that holds e
+abbrev pub answer : {T : Type 0} → CoseError → Result T Refused → Result T CoseError
+answer e (Ok x) = Ok x
+answer e (Err r) = Err e

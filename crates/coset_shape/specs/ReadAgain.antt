@@ -1,4 +1,5 @@
--- What was read is written, and read again as itself.
+-- What was read is written, read again as itself, and told by what is written from all else that was read.
+use Rattle.std.specs.Prelude.{◌↔◌}
 use Rattle.std.proofs.Common.{◌≡◌, ℕ, List, Some, arith}
 use Rattle.coset_value.specs.Item.{Item}
 use Rattle.coset_cbor.specs.Shortest.{IsShortest}
@@ -16,3 +17,16 @@ pub reads_again : {A : Type 0} (s : Shape A) → Lawful A s → (b : List ℕ) (
 reads_again {A} s l b x p =
     let a : Again A s p.0 x = l.again p.0 x p.2 in
     (a.image, a.is_image, λ c least_encoding. (a.image, (definite_is_encoding a.image c least_encoding.definite, omega (arith, a.shallow, p.1.1)), a.described))
+
+-- b is the shortest encoding of the item that x is written as
+abbrev pub IsWritten : {A : Type 0} → Shape A → A → List ℕ → Type 0
+IsWritten s x b = (v : Item) × (s.image x ≡ Some v) × IsShortest b v
+
+-- values that bytes describe are written as equal bytes exactly where they are equal
+abbrev pub EncodesApart : {A : Type 0} → Shape A → Type 0
+EncodesApart {A} s =
+    (a b c d : List ℕ) (x y : A) → Describes s a x → Describes s b y → IsWritten s x c → IsWritten s y d → (c ≡ d) ↔ (x ≡ y)
+
+-- values that items describe are written as equal items exactly where they are equal
+abbrev pub ImagesApart : {A : Type 0} → Shape A → Type 0
+ImagesApart {A} s = (v w : Item) (x y : A) → s.describes v x → s.describes w y → (s.image x ≡ s.image y) ↔ (x ≡ y)

@@ -164,12 +164,17 @@ tagged number s = record {
 
 -- ---- arrays
 
+-- what is wrong with an array's members: that there are too few or too many; or, where there are as many as there have to
+-- be, what is wrong with one of them
+abbrev pub PlacesFaults : {A : Type 0} → Places A → Items → CoseError → Type 0
+PlacesFaults ps vs e = (ps.misfits vs × IsUnexpected e) ⊎ ((ps.misfits vs → ⊥) × ps.faults vs e)
+
 -- [places]
 abbrev pub array_of : {A : Type 0} → Places A → Shape A
 array_of ps = record {
   describes = λ v x. (vs : Items) × (as_array v ≡ Some vs) × ps.describes vs x;
   image = λ x. option_map array (ps.image x);
-  faults = λ v e. ((as_array v ≡ None) × IsUnexpected e) ⊎ ((vs : Items) × (as_array v ≡ Some vs) × ((ps.misfits vs × IsUnexpected e) ⊎ ps.faults vs e));
+  faults = λ v e. ((as_array v ≡ None) × IsUnexpected e) ⊎ ((vs : Items) × (as_array v ≡ Some vs) × PlacesFaults ps vs e);
 }
 
 -- no place
@@ -265,10 +270,10 @@ arranged {A} R s = record {
 
 -- ---- one, or a list of them
 
--- Of an array that begins with a byte string, it alone; of another that isn't empty, its members
+-- Of an array that begins with a byte string, it alone; of one that begins with an array, its members
 abbrev pub one_or_more : Item → Option Items
 one_or_more (array (item (bytes b) vs)) = Some (item (array (item (bytes b) vs)) no_items)
-one_or_more (array (item v vs)) = Some (item v vs)
+one_or_more (array (item (array ws) vs)) = Some (item (array ws) vs)
 one_or_more v = None
 
 -- one is written as itself, more as an array
@@ -281,5 +286,5 @@ abbrev pub one_or_many : {A : Type 0} → Places A → Shape A
 one_or_many {A} ps = record {
   describes = λ v x. (vs : Items) × (one_or_more v ≡ Some vs) × ps.describes vs x;
   image = λ x. option_map one_or_array (ps.image x);
-  faults = λ v e. ((one_or_more v ≡ None) × IsUnexpected e) ⊎ ((vs : Items) × (one_or_more v ≡ Some vs) × ((ps.misfits vs × IsUnexpected e) ⊎ ps.faults vs e));
+  faults = λ v e. ((one_or_more v ≡ None) × IsUnexpected e) ⊎ ((vs : Items) × (one_or_more v ≡ Some vs) × PlacesFaults ps vs e);
 }

@@ -4,7 +4,7 @@ use Rattle.std.proofs.Common.{◌≡◌, ◌⊎◌, ◌≤◌, ℕ, suc, max, �
 use Rattle.coset_cbor.specs.Item.{Item, integer, bytes, float, text, boolean, null, tag, array, dict, Items, no_items, item, depth, items_depth, items_count}
 use Rattle.coset_cbor.specs.Parts.{as_array, as_tag}
 use Rattle.coset_shape.specs.declared.error.CoseError.{CoseError}
-use Rattle.coset_shape.specs.Shape.{Shape, Places, both, kind_of, int, bstr, tstr, floating, any, that, int64, filled_bstr, along, blamed, either, is_nil, nil, option_of, sum_of, or_nil, present, fixed, tagged, array_of, end, ◌then◌, Each, images, EachFaults, any_number, list_of, some_of, perhaps, LastDescribes, LastMisfits, LastFaults, last_image, arranged, one_or_more, one_or_array, one_or_many}
+use Rattle.coset_shape.specs.Shape.{Shape, Places, PlacesFaults, both, kind_of, int, bstr, tstr, floating, any, that, int64, filled_bstr, along, blamed, either, is_nil, nil, option_of, sum_of, or_nil, present, fixed, tagged, array_of, end, ◌then◌, Each, images, EachFaults, any_number, list_of, some_of, perhaps, LastDescribes, LastMisfits, LastFaults, last_image, arranged, one_or_more, one_or_array, one_or_many}
 
 -- x is written as an item that stands for x and is no deeper than v
 pub record Again (A : Type 0) (s : Shape A) (v : Item) (x : A) : Type 0 where
@@ -236,11 +236,14 @@ array_of_again {A} ps l v x p =
     let d : suc (items_depth p.0) ≡ depth v = as_array-depth v p.0 p.1 in
     record { image = array a.image; is_image = mapped-some array (ps.image x) a.image a.is_image; described = (a.image, refl, a.described); shallow = omega (arith, a.shallow, d) }
 
+-- no fault stands in members that stand for a value
+places_sound : {A : Type 0} (ps : Places A) → LawfulPlaces A ps → (vs : Items) (x : A) (e : CoseError) → ps.describes vs x → PlacesFaults ps vs e → ⊥
+places_sound ps l vs x e d (inl m) = l.fits vs x d m.0
+places_sound ps l vs x e d (inr f) = l.sound vs x e d f.1
+
 array_of_sound : {A : Type 0} (ps : Places A) → LawfulPlaces A ps → (v : Item) (x : A) (e : CoseError) → (array_of ps).describes v x → (array_of ps).faults v e → ⊥
 array_of_sound ps l v x e p (inl f) = some-none p.1 f.0
-array_of_sound ps l v x e p (inr f) =
-    let d : ps.describes f.0 x = subst (λ vs. ps.describes vs x) (some-one p.1 f.1) p.2 in
-    elim f.2 [ inl m ↦ l.fits f.0 x d m.0 | inr m ↦ l.sound f.0 x e d m ]
+array_of_sound ps l v x e p (inr f) = places_sound ps l f.0 x e (subst (λ vs. ps.describes vs x) (some-one p.1 f.1) p.2) f.2
 
 pub array_of_laws : {A : Type 0} (ps : Places A) → LawfulPlaces A ps → Lawful A (array_of ps)
 array_of_laws ps l = record { unique = array_of_unique ps l; again = array_of_again ps l; sound = array_of_sound ps l }
@@ -383,14 +386,14 @@ one_or_array-depth (array (item (bytes b) us)) vs (item w (item u ws)) p d c =
     let h : item (array (item (bytes b) us)) no_items ≡ vs = cc in
     let one : items_count vs ≡ 1 = ap items_count (sym h) in
     absurd (omega (arith, c, one))
-one_or_array-depth (array (item v us)) vs no_items p d c = omega arith
-one_or_array-depth (array (item v us)) vs (item w no_items) p d c =
-    let h : item v us ≡ vs = cc in
-    let deep : items_depth vs ≡ max (depth v) (items_depth us) = ap items_depth (sym h) in
+one_or_array-depth (array (item (array ts) us)) vs no_items p d c = omega arith
+one_or_array-depth (array (item (array ts) us)) vs (item w no_items) p d c =
+    let h : item (array ts) us ≡ vs = cc in
+    let deep : items_depth vs ≡ max (depth (array ts)) (items_depth us) = ap items_depth (sym h) in
     omega (arith, d, deep)
-one_or_array-depth (array (item v us)) vs (item w (item u ws)) p d c =
-    let h : item v us ≡ vs = cc in
-    let deep : items_depth vs ≡ max (depth v) (items_depth us) = ap items_depth (sym h) in
+one_or_array-depth (array (item (array ts) us)) vs (item w (item u ws)) p d c =
+    let h : item (array ts) us ≡ vs = cc in
+    let deep : items_depth vs ≡ max (depth (array ts)) (items_depth us) = ap items_depth (sym h) in
     omega (arith, d, deep)
 one_or_array-depth _ vs ws p d c = absurd (cc)
 
@@ -412,10 +415,5 @@ one_or_many_laws {A} ps told l =
             shallow = one_or_array-depth v p.0 a.image p.1 a.shallow t.1;
           };
       sound = λ v x e p f.
-          elim f [
-            | inl g ↦ some-none p.1 g.0
-            | inr g ↦
-                let d : ps.describes g.0 x = subst (λ vs. ps.describes vs x) (some-one p.1 g.1) p.2 in
-                elim g.2 [ inl m ↦ l.fits g.0 x d m.0 | inr m ↦ l.sound g.0 x e d m ]
-          ];
+          elim f [ inl g ↦ some-none p.1 g.0 | inr g ↦ places_sound ps l g.0 x e (subst (λ vs. ps.describes vs x) (some-one p.1 g.1) p.2) g.2 ];
     }

@@ -1,10 +1,11 @@
 //! Values written straight into bytes: each type's one writer.
 
-ghost use Rattle.std.specs.Prelude.{Option, Some, option_map};
+ghost use Rattle.std.specs.Prelude.{ℕ, Option, Some, option_map};
 ghost use Rattle.coset_value.specs.Item.{Item, array, item, bytes, tag};
 ghost use Rattle.coset_value.specs.View.{view};
 ghost use Rattle.coset_shape.specs.Answers.{Images, Writes};
 ghost use Rattle.coset_shape.specs.Encoding.{Encodes, three_places, four_places};
+ghost use Rattle.coset_shape.specs.Room.{IsRoomFor};
 
 use crate::error::Result;
 use coset_cbor::de::decode_encoded;
@@ -24,8 +25,13 @@ pub trait Encode {
     /// The item that a value is written as, where there is one.
     ghost image: { Self → Option Item };
 
+    /// How many bytes more than the encoding takes may be reserved.
+    ghost spare: { ℕ };
+
     /// About as many bytes as the encoding takes: so many are reserved at once.
-    fn room(&self) -> usize {
+    fn room(&self) -> usize
+        ensures { IsRoomFor (image self.now) spare result }
+    {
         0
     }
 
@@ -41,6 +47,8 @@ pub trait Encode {
 impl Encode for Value {
     ghost image = { λ v. Some (view v) };
 
+    ghost spare = { 0 };
+
     fn encode(&self, _alloc: Global, out: &mut Vec<u8>) -> Result<()> {
         laws::shortest_is_in_range();
         laws::least_heads_are_shortest();
@@ -53,6 +61,8 @@ impl Encode for i64 {
     ghost use Rattle.coset_value.specs.Item.{integer};
 
     ghost image = { λ n. Some (integer n) };
+
+    ghost spare = { 9 };
 
     fn room(&self) -> usize {
         LONGEST_HEAD
@@ -70,6 +80,8 @@ impl Encode for String {
 
     ghost image = { λ s. Some (text (string_bytes s)) };
 
+    ghost spare = { 9 };
+
     fn room(&self) -> usize {
         self.len().saturating_add(LONGEST_HEAD)
     }
@@ -82,6 +94,8 @@ impl Encode for String {
 /// Bytes are a byte string.
 impl Encode for Vec<u8> {
     ghost image = { λ b. Some (bytes b.items) };
+
+    ghost spare = { 9 };
 
     fn room(&self) -> usize {
         self.len().saturating_add(LONGEST_HEAD)
@@ -97,6 +111,8 @@ impl Encode for Option<Vec<u8>> {
     ghost use Rattle.coset_shape.specs.Shape.{bstr, or_nil};
 
     ghost image = { λ o. (or_nil bstr).image (option_map (λ b. b.items) o) };
+
+    ghost spare = { 9 };
 
     fn room(&self) -> usize {
         match self {
@@ -194,5 +210,8 @@ pub fn encode_to_value<T: Encode>(alloc: Global, value: &T) -> Result<Value>
     laws::shortest_is_encoding();
     laws::one_item();
     let encoded = encode_to_vec(alloc, value)?;
-    Ok(decode_encoded(alloc, &encoded)?)
+    match decode_encoded(alloc, &encoded)? {
+        Some(read) => Ok(read),
+        None => unreachable!(),
+    }
 }

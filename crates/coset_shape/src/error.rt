@@ -1,7 +1,7 @@
 //! Why a call was refused.
 
-ghost use Rattle.std.specs.Prelude.{◌≡◌};
-ghost use Rattle.coset_shape.specs.Errors.{error_text, decode_failure};
+ghost use Rattle.std.specs.Prelude.{◌≡◌, OnOk};
+ghost use Rattle.coset_shape.specs.Errors.{answer, error_text, decode_failure};
 ghost use Rattle.coset_shape.specs.declared.error.CoseError.TheVariants.{EncodeFailed, OutOfMemory, OutOfRangeIntegerValue};
 
 use coset_cbor::{EndOfFile, de, ser};
@@ -35,6 +35,25 @@ pub enum CoseError {
 
 /// A result whose error is a `CoseError` where none is named.
 pub type Result<T, E = CoseError> = std::result::Result<T, E>;
+
+/// That a call was refused: why stands in the place for an error that the call was given. So in functions that call each
+/// other, as deep as the input asks, an answer takes a byte of stack.
+#[derive(Clone, Copy, Debug)]
+pub struct Refused;
+
+/// The same answer, with its error in the place.
+pub fn keep_error<T: Drop>(given: Result<T>, error: &mut CoseError) -> Result<T, Refused>
+    ensures answers { answer error.new result ≡ given }
+    ensures kept { OnOk result (error.new ≡ error.old) }
+{
+    match given {
+        Ok(value) => Ok(value),
+        Err(why) => {
+            *error = why;
+            Err(Refused)
+        }
+    }
+}
 
 /// Why a call that takes a closure was refused.
 #[derive(Debug, Drop)]

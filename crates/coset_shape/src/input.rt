@@ -2,11 +2,11 @@
 //! bytes of what holds itself, as headers do, are passed once at whatever depth.
 
 ghost use Rattle.std.specs.Prelude.{◌≡◌, ◌≤◌, ◌<◌, List, ℕ, length, IfOk, IsOkAnd, IsSome, IsTrue, OnOk};
-ghost use Rattle.coset_value.specs.Item.{Item, null, Items, Pairs};
+ghost use Rattle.coset_value.specs.Item.{Item, null, Items, no_items, Pairs, no_pairs};
 ghost use Rattle.coset_value.specs.View.{view};
 ghost use Rattle.coset_cbor.specs.Cursors.{left, flat, AreWithin as lent_within};
 ghost use Rattle.coset_cbor.specs.Grammar.{IsItem};
-ghost use Rattle.coset_shape.specs.Inputs.{State, tree, state, Stands, GoesBehind, still, size, items_size, pairs_size, items_turns, pairs_turns, AreWithin, PairsWithin};
+ghost use Rattle.coset_shape.specs.Inputs.{State, tree, lent, state, Stands, GoesBehind, still, size, items_size, pairs_size, items_turns, pairs_turns, AreWithin, PairsWithin};
 ghost use Rattle.coset_shape.specs.Inputs.{EntersArray, EntersMap, EntersOnes, LentKey, Nexts, NextsKey, TakesNext};
 ghost use Rattle.coset_shape.specs.OneOrMore.{BeginsSo};
 ghost use Rattle.coset_shape.specs.Sources.{source_item};
@@ -264,10 +264,17 @@ impl InputItems {
         Ok(Some(input.take()?))
     }
 
+    /// No members.
+    pub fn none() -> InputItems
+        ensures { (s : List ℕ) → AreWithin result no_items (lent s) (lent s) }
+    {
+        InputItems::Lent(Places::none())
+    }
+
     /// Passes the members that are left. It takes no memory.
-    pub fn finish(self, input: &mut Input<'_>)
+    pub fn finish(&mut self, input: &mut Input<'_>)
         ensures shrinks { still (state input.new) ≤ still (state input.old) }
-        ensures passes { (vs : Items) (z : State) → AreWithin self vs (state input.old) z
+        ensures passes { (vs : Items) (z : State) → AreWithin self.old vs (state input.old) z
             → state input.new ≡ z }
     {
         match self {
@@ -329,10 +336,17 @@ impl InputPairs {
         }
     }
 
+    /// No pairs.
+    pub fn none() -> InputPairs
+        ensures { (s : List ℕ) → PairsWithin result no_pairs (lent s) (lent s) }
+    {
+        InputPairs::Lent(Places::none())
+    }
+
     /// Passes the pairs that are left. It takes no memory.
-    pub fn finish(self, input: &mut Input<'_>)
+    pub fn finish(&mut self, input: &mut Input<'_>)
         ensures shrinks { still (state input.new) ≤ still (state input.old) }
-        ensures passes { (ps : Pairs) (z : State) → PairsWithin self ps (state input.old) z
+        ensures passes { (ps : Pairs) (z : State) → PairsWithin self.old ps (state input.old) z
             → state input.new ≡ z }
     {
         match self {

@@ -4,9 +4,12 @@ ghost use Rattle.std.specs.Prelude.{◌≡◌, List, ℕ};
 ghost use Rattle.coset_value.specs.Item.{Item};
 ghost use Rattle.coset_cbor.specs.Grammar.{IsItem};
 ghost use Rattle.coset_shape.specs.Answers.{Describes};
+ghost use Rattle.coset_shape.specs.ReadAgain.{EncodesApart, ImagesApart, ReadsAgain};
+ghost use Rattle.coset_shape.specs.Shape.{tagged};
+ghost use Rattle.coset_shape.specs.ShapeLaws.{Again};
 
-use crate::traits::AsCborValue;
-use coset_cbor::laws::one_item;
+use crate::traits::{AsCborValue, Lawful};
+use coset_cbor::laws::{least_heads_are_shortest, one_item, shortest_is_in_range};
 
 /// Bytes describe at most one value.
 pub fn one_value<T: AsCborValue>()
@@ -21,4 +24,29 @@ pub fn spellings_agree<T: AsCborValue>()
         → Describes T.shape s x → Describes T.shape t x }
 {
     one_item();
+}
+
+/// A value that an item describes is written as an item that describes the same value and is no deeper. So what
+/// `from_cbor_value` read `to_cbor_value` writes, and `from_cbor_value` reads that again as the same value.
+pub fn image_is_described<T: Lawful>()
+    ensures { (v : Item) (x : T.Seen) → T.shape.describes v x → Again T.Seen T.shape v x }
+{}
+
+/// What was read from bytes, plain or under a tag, is written, and then read again as itself.
+pub fn reads_again<T: Lawful>()
+    ensures plain { (s : List ℕ) (x : T.Seen) → Describes T.shape s x → ReadsAgain T.shape x }
+    ensures tagged { (n : ℕ) (s : List ℕ) (x : T.Seen) → Describes (tagged n T.shape) s x
+        → ReadsAgain (tagged n T.shape) x }
+{}
+
+/// Values that were read, both plain or both under one tag, are written as equal bytes, or as equal items, exactly where
+/// they are equal.
+pub fn written_apart<T: Lawful>()
+    ensures plain { EncodesApart T.shape }
+    ensures tagged { (n : ℕ) → EncodesApart (tagged n T.shape) }
+    ensures items { ImagesApart T.shape }
+{
+    one_item();
+    shortest_is_in_range();
+    least_heads_are_shortest();
 }

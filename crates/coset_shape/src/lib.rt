@@ -16,9 +16,10 @@ pub mod source;
 pub mod traits;
 pub mod util;
 
+pub use coset_cbor as cbor;
 pub use coset_cbor::EndOfFile;
 pub use encode::Encode;
-pub use error::{CallError, CoseError, Result};
+pub use error::{CallError, CoseError, Refused, Result};
 pub use repeats::has_repeats;
 pub use source::Source;
-pub use traits::{AsCborValue, CborSerializable, FromPull, TaggedCborSerializable};
+pub use traits::{AsCborValue, CborSerializable, FromPull, Lawful, TaggedCborSerializable};

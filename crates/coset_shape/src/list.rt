@@ -1,23 +1,21 @@
 //! Lists, read and written member by member.
 
-ghost use Rattle.std.specs.Prelude.{◌≡◌, List, Some, None, map, option_map, IfOk, IfErr};
-ghost use Rattle.std.specs.Iterator.{IsFinite, Drains, Yields};
+ghost use Rattle.std.specs.Prelude.{◌≡◌, Some, None, map, option_map, IfOk, IfErr};
 ghost use Rattle.coset_value.specs.Item.{array, no_items};
 ghost use Rattle.coset_value.specs.Parts.{as_array};
 ghost use Rattle.coset_value.specs.View.{view, items_view};
-ghost use Rattle.coset_shape.specs.declared.error.CoseError.TheVariants.{DuplicateMapKey};
 ghost use Rattle.coset_shape.specs.Answers.{Reads, Images};
 ghost use Rattle.coset_shape.specs.Errors.{UnlessMemory};
 ghost use Rattle.coset_shape.specs.Kinds.{Says, kind};
-ghost use Rattle.coset_shape.specs.Lists.{LastHasNoImage};
 ghost use Rattle.coset_shape.specs.Maps.{optional, listed};
-ghost use Rattle.coset_shape.specs.Shape.{images, list_of, some_of, bstr, filled_bstr, or_nil};
+ghost use Rattle.coset_shape.specs.Shape.{list_of, some_of, bstr, filled_bstr, or_nil};
 ghost use Rattle.coset_shape.specs.Sources.{source_item};
 ghost use Rattle.coset_shape.specs.Encoding.{HasNoImage};
 
 use crate::error::{CoseError, Result};
 use crate::source::Source;
 use crate::traits::{AsCborValue, FromPull};
+use crate::util::to_cbor_array;
 use coset_cbor::value::Value;
 use std::alloc::Global;
 
@@ -79,32 +77,6 @@ pub fn read_filled_list<T: FromPull + Drop>(
         return Err(CoseError::UnexpectedItem(empty.0, empty.1));
     }
     Ok(all)
-}
-
-/// The array of the items that these are written as, in order.
-///
-/// # Errors
-/// `OutOfMemory`, or `DuplicateMapKey` of the first that has no item.
-pub fn to_cbor_array<C: IntoIterator<Item: AsCborValue + Drop>>(
-    alloc: Global,
-    values: C,
-) -> Result<Value>
-where
-    C::IntoIter: Drop,
-    requires { (it : C.IntoIter) → C.into_iter_gives values it → C.IntoIter.can_next it
-        × IsFinite (C.IntoIter.remaining it) }
-    ensures images { IfOk result (λ v. (it : C.IntoIter) × (xs : List C.Item)
-        × C.into_iter_gives values it
-        × Drains C.IntoIter.next_gives it xs × (option_map array (images (λ x. C.Item.shape.image (C.Item.seen x)) xs) ≡ Some (view v))) }
-    ensures refused { IfErr result (λ e. UnlessMemory e (λ f. (f ≡ DuplicateMapKey)
-        × (it : C.IntoIter) × (xs : List C.Item) × (t : C.IntoIter) × C.into_iter_gives values it
-        × Yields C.IntoIter.next_gives it xs t × LastHasNoImage C.Item (λ x. C.Item.shape.image (C.Item.seen x)) xs)) }
-{
-    let mut places = Vec::new(alloc);
-    for x in values {
-        places.push(x.to_cbor_value(alloc)?)?;
-    }
-    Ok(Value::Array(places))
 }
 
 /// The array of the items that these are written as, in order.

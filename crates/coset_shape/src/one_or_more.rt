@@ -1,4 +1,5 @@
-//! Arrays that hold one or several: one that begins with a byte string is one, and another holds several.
+//! Arrays that hold one or several: one that begins with a byte string is one, and one that begins with an array holds
+//! several.
 
 ghost use Rattle.coset_value.specs.Item.{no_items};
 ghost use Rattle.coset_value.specs.View.{items_view};

@@ -8,6 +8,7 @@ ghost use Rattle.coset_shape.specs.declared.error.CoseError.{CoseError};
 ghost use Rattle.coset_shape.specs.declared.error.CoseError.TheVariants.{OutOfMemory};
 ghost use Rattle.coset_shape.specs.Answers.{Reads, Images, Writes, ReadsSlice, ReadsWhole, Untags, AllocatesForItems, RefusesSlice};
 ghost use Rattle.coset_shape.specs.Shape.{Shape, any, tagged};
+ghost use Rattle.coset_shape.specs.ShapeLaws.{Lawful as LawfulShape};
 
 use crate::error::{CoseError, Result};
 use crate::util::{ValueTryAs, pull_type_error};
@@ -90,11 +91,13 @@ pub trait CborSerializable: AsCborValue {
     /// Reads a value from the one item that the bytes are.
     ///
     /// # Errors
-    /// `OutOfMemory`, or the first fault found: the bytes aren't an item within 256 levels (`DecodeFailed`), others
-    /// follow it (`ExtraneousData`), or a fault of the type stands in it. The bytes then describe no value.
+    /// The first fault found: the bytes aren't an item within 256 levels (`DecodeFailed`), others follow it
+    /// (`ExtraneousData`), or a fault of the type stands in it; the bytes then describe no value. Or `OutOfMemory`, only
+    /// where the bytes are one item: others are refused without asking for memory.
     fn from_slice(alloc: Global, s: &[u8]) -> Result<Self>
         ensures read { ReadsSlice Self.shape Self.seen s.now result }
         ensures refused { RefusesSlice Self.shape s.now result }
+        ensures memory { AllocatesForItems s.now result }
     {
         Self::from_cbor_value(alloc, whole_value(alloc, s)?)
     }
@@ -111,6 +114,16 @@ pub trait CborSerializable: AsCborValue {
     }
 }
 
+/// A type whose shape keeps the three laws: an item describes at most one value; what an item describes is written as an
+/// item that describes the same value and is no deeper; and where a fault stands in an item, it describes no value.
+///
+/// An implementer proves them in one line, from the laws of the parts that its shape is made of. What follows of each
+/// such type is said by the functions of [`laws`](crate::laws) over this trait.
+pub trait Lawful: AsCborValue {
+    /// The laws of its shape.
+    ghost laws: { LawfulShape Self.Seen Self.shape };
+}
+
 /// Reading and writing under a tag of the type's own (RFC 8949, section 3.4).
 pub trait TaggedCborSerializable: AsCborValue {
     ghost TAG: { ℕ };
@@ -125,6 +138,7 @@ pub trait TaggedCborSerializable: AsCborValue {
     fn from_tagged_slice(alloc: Global, s: &[u8]) -> Result<Self>
         ensures read { ReadsSlice (tagged TAG Self.shape) Self.seen s.now result }
         ensures refused { RefusesSlice (tagged TAG Self.shape) s.now result }
+        ensures memory { AllocatesForItems s.now result }
     {
         let (number, value) = whole_value(alloc, s)?.try_as_tag()?;
         if number != Self::TAG {
@@ -170,6 +184,12 @@ impl AsCborValue for Value {
 
 impl CborSerializable for Value {}
 
+impl Lawful for Value {
+    ghost use Rattle.coset_shape.specs.ShapeLaws.{any_laws};
+
+    ghost laws = { any_laws };
+}
+
 /// A type that is read straight from lent bytes, without a value in between.
 pub trait FromPull: AsCborValue {
     /// Reads a value from a lent item.
@@ -190,7 +210,7 @@ impl FromPull for Value {
 /// [`CborSerializable::from_slice`].
 ///
 /// # Errors
-/// The same as [`CborSerializable::from_slice`]; and bytes that aren't one item are refused without asking for memory.
+/// The same as [`CborSerializable::from_slice`].
 pub fn read_slice<T: FromPull>(alloc: Global, s: &[u8]) -> Result<T>
     ensures read { ReadsSlice T.shape T.seen s.now result }
     ensures refused { RefusesSlice T.shape s.now result }
@@ -214,8 +234,7 @@ fn item_under_tag(number: u64, pull: Pull<'_>) -> Result<Pull<'_>>
 /// answers are those of [`TaggedCborSerializable::from_tagged_slice`].
 ///
 /// # Errors
-/// The same as [`TaggedCborSerializable::from_tagged_slice`]; and bytes that aren't one item are refused without asking
-/// for memory.
+/// The same as [`TaggedCborSerializable::from_tagged_slice`].
 pub fn read_tagged_slice<T: FromPull>(alloc: Global, number: u64, s: &[u8]) -> Result<T>
     ensures read { ReadsSlice (tagged number T.shape) T.seen s.now result }
     ensures refused { RefusesSlice (tagged number T.shape) s.now result }

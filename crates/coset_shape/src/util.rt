@@ -1,18 +1,21 @@
-//! Values of one kind, or the error that tells which kind was asked for.
+//! Values of one kind, or the error that tells which kind was asked for; and arrays of what values are written as.
 
-ghost use Rattle.std.specs.Prelude.{◌≡◌, ◌⊎◌, ℕ, List, Ok, Err, None, Some, IfOk, IfErr, codes, string_bytes, MatchResult};
-ghost use Rattle.coset_value.specs.Item.{Item};
+ghost use Rattle.std.specs.Prelude.{◌≡◌, ◌⊎◌, ℕ, List, Ok, Err, None, Some, option_map, IfOk, IfErr, codes, string_bytes, MatchResult};
+ghost use Rattle.std.specs.Iterator.{IsFinite, Drains, Yields};
+ghost use Rattle.coset_value.specs.Item.{Item, array};
 ghost use Rattle.coset_value.specs.Parts.{as_integer, as_bytes, as_text, as_array, as_map, as_tag};
 ghost use Rattle.coset_value.specs.View.{view, items_view, pairs_view};
 ghost use Rattle.coset_value.specs.declared.value.Value.{Value};
 ghost use Rattle.coset_cbor.specs.Pulls.{pull_item};
 ghost use Rattle.coset_shape.specs.declared.error.CoseError.{CoseError};
-ghost use Rattle.coset_shape.specs.declared.error.CoseError.TheVariants.{OutOfMemory};
-ghost use Rattle.coset_shape.specs.Errors.{IsUnexpected};
-ghost use Rattle.coset_shape.specs.Lists.{EachWith, RefusesMember, RefusesArray};
+ghost use Rattle.coset_shape.specs.declared.error.CoseError.TheVariants.{DuplicateMapKey, OutOfMemory};
+ghost use Rattle.coset_shape.specs.Errors.{IsUnexpected, UnlessMemory};
+ghost use Rattle.coset_shape.specs.Lists.{EachWith, LastHasNoImage, RefusesMember, RefusesArray};
 ghost use Rattle.coset_shape.specs.Kinds.{kind, Says, TriesAs, TriesAsFilled};
+ghost use Rattle.coset_shape.specs.Shape.{images};
 
 use crate::error::{CallError, CoseError, Result};
+use crate::traits::AsCborValue;
 use coset_cbor::de::Pull;
 use coset_cbor::value::{Integer, Value};
 use std::alloc::Global;
@@ -224,6 +227,32 @@ impl ValueTryAs for Value {
             Err(error) => Err(CallError::Coset(error)),
         }
     }
+}
+
+/// The array of the items that these are written as, in order.
+///
+/// # Errors
+/// `OutOfMemory`, or `DuplicateMapKey` of the first that has no item.
+pub fn to_cbor_array<C: IntoIterator<Item: AsCborValue + Drop>>(
+    alloc: Global,
+    values: C,
+) -> Result<Value>
+where
+    C::IntoIter: Drop,
+    requires { (it : C.IntoIter) → C.into_iter_gives values it → C.IntoIter.can_next it
+        × IsFinite (C.IntoIter.remaining it) }
+    ensures images { IfOk result (λ v. (it : C.IntoIter) × (xs : List C.Item)
+        × C.into_iter_gives values it
+        × Drains C.IntoIter.next_gives it xs × (option_map array (images (λ x. C.Item.shape.image (C.Item.seen x)) xs) ≡ Some (view v))) }
+    ensures refused { IfErr result (λ e. UnlessMemory e (λ f. (f ≡ DuplicateMapKey)
+        × (it : C.IntoIter) × (xs : List C.Item) × (t : C.IntoIter) × C.into_iter_gives values it
+        × Yields C.IntoIter.next_gives it xs t × LastHasNoImage C.Item (λ x. C.Item.shape.image (C.Item.seen x)) xs)) }
+{
+    let mut places = Vec::new(alloc);
+    for x in values {
+        places.push(x.to_cbor_value(alloc)?)?;
+    }
+    Ok(Value::Array(places))
 }
 
 /// A copy of bytes.

@@ -1,3 +1,4 @@
 mod Gathering
 mod Answering
 mod Showing
+mod Arguments

@@ -3,3 +3,4 @@ pub mod Show
 pub mod Kind
 pub mod Stream
 pub mod Answer
+pub mod Arguments

@@ -6,7 +6,7 @@ ghost use Rattle.coset_show.specs.Kind.{kind_name, ShowsBytes, RefusesBytes};
 
 use crate::refusal::Refusal;
 use crate::show::{sign1_lines, type_line};
-use coset_cbor::value::Value;
+use coset_sign::cbor::value::Value;
 use std::alloc::Global;
 
 /// What the input spells.

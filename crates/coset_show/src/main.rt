@@ -1,6 +1,10 @@
 //! `coset_show KIND`: shows what standard input spells in hexadecimal, written anew in its shortest form.
 #![tactic(auto)]
 
+ghost use Rattle.std.specs.Prelude.{MatchOption};
+ghost use Rattle.std.specs.Vec.Iter.{into_iter_items};
+ghost use Rattle.coset_show.specs.Arguments.{AreNameAnd, AreNoNameAndOne};
+
 mod kind;
 mod refusal;
 mod run;
@@ -10,12 +14,16 @@ mod stream;
 mod tests;
 
 use std::env;
+use std::env::Args;
 use std::process::ExitCode;
 use stream::Stream;
 
-/// The program's one argument, or nothing where there isn't exactly one or it can't be read.
-fn only_argument(rt: &HostRuntime) -> Option<String> {
-    let mut arguments = env::args(rt).ok()?.skip(1);
+/// The one argument behind the program's name, or nothing where there isn't exactly one.
+fn only_argument(mut arguments: Args) -> Option<String>
+    ensures { MatchOption result (AreNoNameAndOne (into_iter_items arguments))
+        (λ only. AreNameAnd (into_iter_items arguments) only) }
+{
+    let _name = arguments.next()?;
     let first = arguments.next()?;
     match arguments.next() {
         None => Some(first),
@@ -25,7 +33,12 @@ fn only_argument(rt: &HostRuntime) -> Option<String> {
 
 fn main(rt: HostRuntime) -> ExitCode {
     let alloc = rt.alloc();
-    let kind = only_argument(&rt).unwrap_or(String::new(alloc));
+    // Arguments that can't be read name no kind.
+    let kind = match env::args(&rt) {
+        Ok(arguments) => only_argument(arguments),
+        Err(_) => None,
+    };
+    let kind = kind.unwrap_or(String::new(alloc));
     let mut reader = Stream::new(rt.stdin());
     let mut writer = Stream::new(rt.stdout());
     ExitCode::from(run::run(alloc, kind.as_str(), &mut reader, &mut writer))

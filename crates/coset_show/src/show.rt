@@ -6,34 +6,13 @@ ghost use Rattle.std.specs.String.{string_bytes};
 ghost use Rattle.coset_value.specs.Item.{Item};
 ghost use Rattle.coset_shape.specs.declared.error.CoseError.TheVariants.{OutOfMemory};
 ghost use Rattle.coset_shape.specs.Answers.{ReadsSlice, RefusesSlice};
-ghost use Rattle.coset_shape.specs.ShapeLaws.{Lawful};
 ghost use Rattle.coset_sign.specs.Sign1.{sign1, sign1_seen};
 ghost use Rattle.coset_show.specs.Show.{line, ShowsType, RefusesType, ShowsSign1, IsLineOf, WritesRead, tagged_if, sign1_in, sign1_signed_item};
 ghost use Rattle.coset_show.specs.Show.{is_tagged as is_tagged_spec};
 
 use crate::refusal::Refusal;
-use coset_cbor::value::Value;
-use coset_shape::{CborSerializable, CoseError, TaggedCborSerializable};
-use coset_sign::CoseSign1;
+use coset_sign::{CborSerializable, CoseError, CoseSign1, Lawful, TaggedCborSerializable};
 use std::alloc::{AllocError, Global};
-
-/// A type that is shown: what was read of it is written again.
-pub trait Shown: CborSerializable {
-    /// The laws of its shape.
-    ghost laws: { Lawful Self.Seen Self.shape };
-}
-
-impl Shown for Value {
-    ghost use Rattle.coset_shape.specs.ShapeLaws.{any_laws};
-
-    ghost laws = { any_laws };
-}
-
-impl Shown for CoseSign1 {
-    ghost use Rattle.coset_sign.specs.Sign1.{sign1_laws};
-
-    ghost laws = { sign1_laws };
-}
 
 /// The bytes as a line of lower-case hexadecimal.
 fn hexadecimal_line(alloc: Global, bytes: &[u8]) -> Result<String, AllocError>
@@ -45,7 +24,7 @@ fn hexadecimal_line(alloc: Global, bytes: &[u8]) -> Result<String, AllocError>
 }
 
 /// The line of a value that was read.
-fn line_of<T: Shown>(alloc: Global, value: T) -> Result<String, CoseError>
+fn line_of<T: Lawful + CborSerializable>(alloc: Global, value: T) -> Result<String, CoseError>
     ensures { WritesRead T.shape (T.seen value) (λ s. string_bytes s) result }
 {
     let encoded = value.to_vec(alloc)?;
@@ -56,7 +35,10 @@ fn line_of<T: Shown>(alloc: Global, value: T) -> Result<String, CoseError>
 ///
 /// # Errors
 /// Why they describe none, or that memory ran out.
-pub fn type_line<T: Shown>(alloc: Global, bytes: &[u8]) -> Result<String, Refusal>
+pub fn type_line<T: Lawful + CborSerializable>(
+    alloc: Global,
+    bytes: &[u8],
+) -> Result<String, Refusal>
     ensures { MatchResult result (λ lines. ShowsType T.shape bytes.now (string_bytes lines))
         (λ refusal. RefusesType T.shape bytes.now refusal) }
 {
@@ -72,7 +54,7 @@ fn is_tagged(bytes: &[u8]) -> bool
 }
 
 /// Reads a message, under its tag or plain.
-fn read_message<T: Shown + TaggedCborSerializable>(
+fn read_message<T: CborSerializable + TaggedCborSerializable>(
     alloc: Global,
     tagged: bool,
     bytes: &[u8],
@@ -88,7 +70,7 @@ fn read_message<T: Shown + TaggedCborSerializable>(
 }
 
 /// The line of a message that was read, under its tag or plain.
-fn message_line<T: Shown + TaggedCborSerializable>(
+fn message_line<T: Lawful + CborSerializable + TaggedCborSerializable>(
     alloc: Global,
     tagged: bool,
     message: T,

@@ -1,2 +1,4 @@
 pub mod Structures
 pub mod Signatures
+mod Written
+pub mod Reading

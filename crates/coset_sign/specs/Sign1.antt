@@ -1,8 +1,8 @@
 -- COSE_Sign1 messages (RFC 8152, section 4.2).
-use Rattle.std.specs.Prelude.{ℕ, List, Option, option_map, refl}
+use Rattle.std.specs.Prelude.{ℕ, List, [], Option, None, option_map, refl}
 use Rattle.coset_shape.specs.Shape.{Shape, along, array_of, ◌then◌, end, bstr, or_nil}
 use Rattle.coset_shape.specs.ShapeLaws.{Lawful, bytes_no_nil, along_laws, array_of_laws, then_laws, end_laws, bstr_laws, or_nil_laws}
-use Rattle.coset_core.specs.Headers.{HeaderSeen, ProtectedSeen, header, protected}
+use Rattle.coset_core.specs.Headers.{HeaderSeen, ProtectedSeen, empty_header, header, protected}
 use Rattle.coset_core.specs.HeaderLaws.{header_laws, protected_laws}
 use Rattle.coset_core.specs.Views.{header_seen, protected_seen}
 use Rattle.coset_sign.specs.declared.sign1.CoseSign1.{CoseSign1}
@@ -21,6 +21,10 @@ sign1_seen m = record {
   payload = option_map (λ b. b.items) m.payload;
   signature = m.signature.items;
 }
+
+-- one that holds nothing
+abbrev pub empty_sign1 : Sign1Seen
+empty_sign1 = record { protected = record { original = None; header = empty_header }; unprotected = empty_header; payload = None; signature = [] }
 
 abbrev Fields : Type 0
 Fields = ProtectedSeen × (HeaderSeen × (Option (List ℕ) × (List ℕ × Unit {0})))

@@ -1,5 +1,5 @@
 -- What is signed of headers that are kept as they were read (RFC 8152, section 4.4).
-use Rattle.std.specs.Prelude.{ℕ, List, [], Option, Some, None, option_map}
+use Rattle.std.specs.Prelude.{◌≡◌, ℕ, List, [], Option, Some, None, option_map}
 use Rattle.coset_value.specs.Item.{Item}
 use Rattle.coset_shape.specs.Shape.{both}
 use Rattle.coset_core.specs.Headers.{ProtectedSeen, protected_bytes}
@@ -16,3 +16,7 @@ signed_item context body (Some signer) external_aad payload = both (λ p q. sign
 abbrev pub or_empty : Option (List ℕ) → List ℕ
 or_empty None = []
 or_empty (Some s) = s
+
+-- of the two headers the same is signed, whatever goes with it
+abbrev pub SignsSame : ProtectedSeen → ProtectedSeen → Type 0
+SignsSame p q = (context : SignatureContext) (signer : Option ProtectedSeen) (external_aad payload : List ℕ) → signed_item context p signer external_aad payload ≡ signed_item context q signer external_aad payload

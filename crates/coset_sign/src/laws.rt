@@ -1,16 +1,17 @@
-//! Laws of the structures, which callers may cite. Each is the contract of a function that does nothing.
+//! Laws of the structures and of what is signed, which callers may cite. Each is the contract of a function that does nothing.
 
-ghost use Rattle.std.specs.Prelude.{◌≡◌, ℕ, List, Option};
+ghost use Rattle.std.specs.Prelude.{◌≡◌, ℕ, List, Option, Some};
+ghost use Rattle.coset_value.specs.Item.{Item};
 ghost use Rattle.coset_cbor.specs.Shortest.{IsShortest};
-ghost use Rattle.coset_shape.specs.Answers.{Describes};
-ghost use Rattle.coset_shape.specs.ReadAgain.{ReadsAgain};
 ghost use Rattle.coset_shape.specs.Shape.{tagged};
 ghost use Rattle.coset_sign.specs.Structure.{structure};
 ghost use Rattle.coset_sign.specs.SignatureStructure.{signature_structure};
 ghost use Rattle.coset_sign.specs.Sign1.{Sign1Seen, sign1};
+ghost use Rattle.coset_sign.specs.Signed.{SignsSame};
 ghost use Rattle.coset_sign.specs.declared.signature.SignatureContext.{SignatureContext};
 
 use coset_cbor::laws::{one_item, shortest_is_encoding};
+use coset_core::laws::kept_as_written;
 
 /// Bytes are the structure of at most one context and one list of parts.
 pub fn one_structure()
@@ -31,9 +32,13 @@ pub fn one_signature_structure()
     one_structure();
 }
 
-/// A message with one signature that was read, plain or tagged, is written, and then read again as itself.
-pub fn sign1_reads_again()
-    ensures plain { (s : List ℕ) (m : Sign1Seen) → Describes sign1 s m → ReadsAgain sign1 m }
-    ensures tagged { (s : List ℕ) (m : Sign1Seen) → Describes (tagged 18 sign1) s m
-        → ReadsAgain (tagged 18 sign1) m }
-{}
+/// What is signed of a message with one signature that was read from what another is written as, plain or under its tag,
+/// is what is signed of that one, however the item was spelled.
+pub fn signed_as_written()
+    ensures plain { (v : Item) (m n : Sign1Seen) → sign1.image m ≡ Some v → sign1.describes v n
+        → SignsSame n.protected m.protected }
+    ensures tagged { (v : Item) (m n : Sign1Seen) → (tagged 18 sign1).image m ≡ Some v
+        → (tagged 18 sign1).describes v n → SignsSame n.protected m.protected }
+{
+    kept_as_written();
+}

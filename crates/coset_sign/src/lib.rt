@@ -9,5 +9,12 @@ pub mod structure;
 #[cfg(test)]
 mod tests;
 
+pub use coset_core::{
+    Algorithm, AsCborValue, Bstr, CallError, CborOrdering, CborSerializable, ClaimName,
+    ContentType, CoseError, CoseSignature, Encode, EndOfFile, FromPull, Header, KeyOperation,
+    KeyType, Label, Lawful, ProtectedBstr, ProtectedHeader, RegisteredLabel,
+    RegisteredLabelWithPrivate, Result, Source, TaggedCborSerializable, cbor, has_repeats, iana,
+    shape, util,
+};
 pub use sign1::CoseSign1;
 pub use signature::{SignatureContext, sig_structure_data};

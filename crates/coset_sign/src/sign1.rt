@@ -1,24 +1,22 @@
 //! Messages with one signature (RFC 8152, section 4.2).
 
-ghost use Rattle.std.specs.Prelude.{◌≡◌, [], Some, None};
-ghost use Rattle.coset_shape.specs.Answers.{Reads, Writes, ReadsSlice, AllocatesForItems, RefusesSlice};
+ghost use Rattle.std.specs.Prelude.{◌≡◌, Some, None};
+ghost use Rattle.coset_shape.specs.Answers.{Reads, Writes};
 ghost use Rattle.coset_shape.specs.Sources.{source_item};
-ghost use Rattle.coset_core.specs.Headers.{empty_header};
-ghost use Rattle.coset_sign.specs.Sign1.{sign1, sign1_seen};
+ghost use Rattle.coset_core.specs.Contents.{Fills};
+ghost use Rattle.coset_sign.specs.Sign1.{empty_sign1, sign1, sign1_seen};
 ghost use Rattle.coset_sign.specs.Signed.{signed_item, or_empty};
 ghost use Rattle.coset_sign.specs.declared.signature.SignatureContext.TheVariants as contexts;
-ghost use Rattle.coset_shape.specs.Shape.{tagged};
 
 use crate::signature::{SignatureContext, signed_bytes};
 use coset_cbor::de::Pull;
 use coset_cbor::value::Value;
-use coset_core::{Bstr, Header, ProtectedHeader};
+use coset_core::{Bstr, Header, ProtectedHeader, fill_headers};
 use coset_shape::encode::{
     Encode, encode_four, encode_to_tagged_vec, encode_to_value, encode_to_vec,
 };
-use coset_shape::list::read_source;
 use coset_shape::traits::{FromPull, read_slice, read_tagged_slice};
-use coset_shape::{AsCborValue, CborSerializable, Result, Source, TaggedCborSerializable};
+use coset_shape::{AsCborValue, CborSerializable, Lawful, Result, Source, TaggedCborSerializable};
 use std::alloc::Global;
 
 /// A message with one signature: `COSE_Sign1` (RFC 8152, section 4.2).
@@ -34,32 +32,38 @@ pub struct CoseSign1 {
     pub signature: Vec<u8>,
 }
 
-/// Reads the places from the last to the first.
+/// Reads the places into an empty message, from the last to the first.
+fn fill_sign1(message: &mut CoseSign1, alloc: Global, source: Source<'_>) -> Result<()>
+    requires empty { sign1_seen message.old ≡ empty_sign1 }
+    ensures { Fills sign1 (source_item source.entry) (sign1_seen message.new) result }
+{
+    let (protected, unprotected, payload, signature) = source.into_four("array with 4 items")?;
+    message.signature = signature.into_bytes(alloc, "bstr")?;
+    message.payload = payload.into_bytes_or_nil(alloc, "bstr or nil")?;
+    fill_headers(
+        &mut message.protected,
+        &mut message.unprotected,
+        alloc,
+        protected,
+        unprotected,
+    )
+}
+
+/// Reads a message.
 fn read_sign1(alloc: Global, source: Source<'_>) -> Result<CoseSign1>
     ensures { Reads sign1 sign1_seen (source_item source.entry) result }
 {
-    let (protected, unprotected, payload, signature) = source.into_four("array with 4 items")?;
-    let signature = signature.into_bytes(alloc, "bstr")?;
-    let payload = payload.into_bytes_or_nil(alloc, "bstr or nil")?;
-    let unprotected = read_source(alloc, unprotected)?;
-    let protected = ProtectedHeader::from_source_bstr(alloc, protected)?;
-    Ok(CoseSign1 {
-        protected,
-        unprotected,
-        payload,
-        signature,
-    })
+    let mut message = CoseSign1::new(alloc);
+    match fill_sign1(&mut message, alloc, source) {
+        Ok(()) => Ok(message),
+        Err(error) => Err(error),
+    }
 }
 
 impl CoseSign1 {
     /// An empty message: empty headers, no payload, an empty signature. It takes no memory.
     pub fn new(alloc: Global) -> CoseSign1
-        ensures { sign1_seen result ≡ record {
-          protected = record { original = None; header = empty_header };
-          unprotected = empty_header;
-          payload = None;
-          signature = [];
-        } }
+        ensures { sign1_seen result ≡ empty_sign1 }
     {
         CoseSign1 {
             protected: ProtectedHeader::new(alloc),
@@ -116,8 +120,16 @@ impl AsCborValue for CoseSign1 {
     }
 }
 
+impl Lawful for CoseSign1 {
+    ghost use Rattle.coset_sign.specs.Sign1.{sign1_laws};
+
+    ghost laws = { sign1_laws };
+}
+
 impl Encode for CoseSign1 {
     ghost image = { λ m. sign1.image (sign1_seen m) };
+
+    ghost spare = { 66 };
 
     fn room(&self) -> usize {
         Bstr(&self.protected)
@@ -147,11 +159,7 @@ impl FromPull for CoseSign1 {
 }
 
 impl CborSerializable for CoseSign1 {
-    fn from_slice(alloc: Global, s: &[u8]) -> Result<CoseSign1>
-        ensures read { ReadsSlice sign1 sign1_seen s.now result }
-        ensures refused { RefusesSlice sign1 s.now result }
-        ensures memory { AllocatesForItems s.now result }
-    {
+    fn from_slice(alloc: Global, s: &[u8]) -> Result<CoseSign1> {
         read_slice(alloc, s)
     }
 
@@ -165,11 +173,7 @@ impl TaggedCborSerializable for CoseSign1 {
 
     const TAG: u64 = 18;
 
-    fn from_tagged_slice(alloc: Global, s: &[u8]) -> Result<CoseSign1>
-        ensures read { ReadsSlice (tagged 18 sign1) sign1_seen s.now result }
-        ensures refused { RefusesSlice (tagged 18 sign1) s.now result }
-        ensures memory { AllocatesForItems s.now result }
-    {
+    fn from_tagged_slice(alloc: Global, s: &[u8]) -> Result<CoseSign1> {
         read_tagged_slice(alloc, 18, s)
     }
 

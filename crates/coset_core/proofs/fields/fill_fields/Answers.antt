@@ -1,15 +1,20 @@
+use Rattle.std.proofs.Common.{sym, subst}
 use Rattle.coset_shape.specs.Inputs.{state}
 use Rattle.coset_core.specs.FieldsView.{fields_seen}
+use Rattle.coset_core.specs.Filling.{FillsFields}
 use Rattle.coset_core.proofs.Filling.{distinct, repeats}
 use Rattle.coset_core.proofs.fields.fill_fields.Goals as goal
+use Rattle.coset_core.proofs.fields.fill_fields.Goals.{in-Ok, in-Err}
 
-pub returns-in-Ok-clause-fills : goal.returns-in-Ok-clause-fills
-returns-in-Ok-clause-fills c = λ all ps o z walks within.
-    distinct all o (fields_seen c.fill_some-filled.new.header) (state c.fill_some-filled.new.input) z c.fill_some-filled.new.pairs c.fill_some-filled.result
-    (c.fill_some-filled.ensures.fills all ps o z walks within) (rw c.deref.ensures.value at c.in-Ok.ensures.ok)
-
-pub returns-in-Err-clause-fills : goal.returns-in-Err-clause-fills
-returns-in-Err-clause-fills c = λ all ps o z walks within.
+pub returns-clause-fills : goal.returns-clause-fills
+returns-clause-fills c = λ all ps o z walks within.
+    let f = fields_seen c.fill_some-filled.new.header in
+    let m = c.fill_some-filled.new.pairs in
     let some = c.fill_some-filled.ensures.fills all ps o z walks within in
-    repeats all o (fields_seen c.fill_some-filled.new.header) (state c.fill_some-filled.new.input) (state c.refuse.new.input) z c.fill_some-filled.new.pairs c.fill_some-filled.result c.refuse.result c.in-Err.error
-    some (rw c.deref.ensures.value at c.in-Err.ensures.refused) (c.refuse.ensures.passes all o (fields_seen c.fill_some-filled.new.header) z c.fill_some-filled.new.pairs some, c.refuse.ensures.refused)
+    subst (FillsFields all o z f (state c.match-ask_distinct.input) m) (sym c.keep_error.ensures.answers)
+    (elim c.match-ask_distinct.branch [
+      | in-Ok w ↦ rw (w.input-is, w.distinct-is) (distinct all o f (state c.fill_some-filled.new.input) z m c.fill_some-filled.result some (rw c.deref.ensures.value at w.in-Ok.ensures.ok))
+      | in-Err w ↦ rw (w.input-is, w.distinct-is)
+          (repeats all o f (state c.fill_some-filled.new.input) (state w.refuse-distinct.new.input) z m c.fill_some-filled.result w.refuse-distinct.result w.in-Err.repeated some
+          (rw c.deref.ensures.value at w.in-Err.ensures.refused) (w.refuse-distinct.ensures.passes all o f z m some, w.refuse-distinct.ensures.refused))
+    ])

@@ -37,7 +37,7 @@ write_header-returns t c =
     subst (λ h. AppendsImage (header_image h) c.args.out.now.items c.write_rest.new.out.items) (sym opened)
     (map-put (header_level (out-Header c.args.header.now)) c.count.result _ _ _ _ _
     (rw c.deref.ensures.value at c.in_ok-ask_distinct.ensures.ok) (c.count.ensures ∙ ap count_pairs opened) (omega arith) c.in_ok-write_map_head.ensures.ok
-    (rw opened at c.in_ok-write_fields.ensures)
+    c.in_ok-write_fields.ensures
     (rw c.deref-2.ensures.value at c.in_ok-write_counter_signatures.ensures.ok)
     (rw c.deref-3.ensures.value at c.in_ok-write_rest.ensures))
 

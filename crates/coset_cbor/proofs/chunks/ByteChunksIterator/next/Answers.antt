@@ -12,7 +12,9 @@ invariant_of-self c =
     record { checked = next.chunks; counted = next.counted }
 
 pub returns-clause-steps : goal.returns-clause-steps
-returns-clause-steps c = (next_chunk false c.args.self.now.bytes.now c.in-Ok.chunk.now c.in-Ok.rest.now c.args.self.now.checked c.in-Ok.ensures).contents
+returns-clause-steps c =
+    let next = next_chunk false c.args.self.now.bytes.now c.in-Ok.chunk.now c.in-Ok.rest.now c.args.self.now.checked c.in-Ok.ensures in
+    (next.contents, next.headed)
 
 pub returns-clause-goes : goal.returns-clause-goes
 returns-clause-goes c =

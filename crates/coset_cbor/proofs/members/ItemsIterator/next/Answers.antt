@@ -24,6 +24,6 @@ returns c =
     let found = first_item c.args.self.now.rest.now c.in_ok-member.member.bytes.now c.in_ok-member.rest.now _ c.args.self.now.checked c.in_ok-member.ensures.0 c.in_ok-member.ensures.1 in
     let fewer = ap items_count found.seen in
     record {
-      steps = found.seen;
+      steps = (found.seen, c.in_ok-member.ensures.0);
       goes = record { on = λ _. (tt, tt, omega arith); keeps = tt; rests = λ _. tt };
     }

@@ -1,4 +1,4 @@
-use Rattle.std.proofs.Common.{ap, arith}
+use Rattle.std.proofs.Common.{◌++◌, ap, ◌∙◌, arith}
 use Rattle.coset_value.specs.Item.{pairs_count}
 use Rattle.coset_cbor.proofs.Between.{first_pair, no_first_key, has_value, key_begins, value_begins}
 use Rattle.coset_cbor.proofs.members.PairsIterator.next.Goals as goal
@@ -30,6 +30,6 @@ returns c =
     let found = first_pair c.args.self.now.rest.now c.in_ok-key.key.bytes.now c.in_ok-key.rest.now c.in_ok-value.value.bytes.now c.in_ok-value.rest.now _ _ c.args.self.now.checked c.in_ok-key.ensures.0 c.in_ok-value.ensures.0 c.in_ok-key.ensures.1 c.in_ok-value.ensures.1 in
     let fewer = ap pairs_count found.seen in
     record {
-      steps = found.seen;
+      steps = (found.seen, c.in_ok-key.ensures.0 ∙ ap (λ s. c.in_ok-key.key.bytes.now ++ s) c.in_ok-value.ensures.0);
       goes = record { on = λ _. (tt, tt, omega arith); keeps = tt; rests = λ _. tt };
     }

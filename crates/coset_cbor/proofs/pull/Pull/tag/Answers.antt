@@ -16,10 +16,10 @@ invariant_of-result c =
 pub returns-in-Some : goal.returns-in-Some
 returns-in-Some c =
     let is = enclosed_item c.args.self.now.bytes.now (c.in-Ok.head, c.in-Ok.rest.now) c.in-Some.number c.args.self.now.checked c.in-Ok.ensures (sym c.in-Some.ensures) in
-    sym (ap as_tag is.item)
+    record { item = sym (ap as_tag is.item); bytes = is.headed }
 
-pub returns-in-None : goal.returns-in-None
-returns-in-None c =
+pub returns-in-None-clause-item : goal.returns-in-None-clause-item
+returns-in-None-clause-item c =
     let b = c.args.self.now.bytes.now in
     no_tag (things (item_at 255)) (length b) c.in-Ok.head.argument c.in-Ok.head.major_type c.in-Ok.rest.now (item_of b, []) (sym c.in-None.ensures)
     (one_item_by b (c.in-Ok.head, c.in-Ok.rest.now) c.args.self.now.checked c.in-Ok.ensures)

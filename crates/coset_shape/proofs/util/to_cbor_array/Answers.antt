@@ -2,7 +2,7 @@ use Rattle.std.proofs.Common.{◌++◌, ◌∷◌, [], ◌∙◌, Some, option_m
 use Rattle.coset_value.specs.Item.{array}
 use Rattle.coset_value.specs.View.{items_view}
 use Rattle.coset_shape.proofs.Lists.{with-more, images-all, on_err, yields-more, view-Array}
-use Rattle.coset_shape.proofs.list.to_cbor_array.Goals as goal
+use Rattle.coset_shape.proofs.util.to_cbor_array.Goals as goal
 
 pub returns-in_err-to_cbor_value-clause-refused : goal.returns-in_err-to_cbor_value-clause-refused
 returns-in_err-to_cbor_value-clause-refused g c =

@@ -1,0 +1,25 @@
+-- The labels of a header's fields (RFC 8152, section 3.1), by the names that IANA gives them.
+use Rattle.coset_iana.specs.HeaderParameter as parameters
+use Rattle.coset_iana.specs.declared.headers.HeaderParameter.TheVariants.{Alg, Crit, ContentType, Kid, Iv, PartialIv, CounterSignature}
+use Rattle.coset_label.specs.Names.{Name, number}
+
+abbrev pub alg : Name
+alg = number (parameters.number Alg)
+
+abbrev pub crit : Name
+crit = number (parameters.number Crit)
+
+abbrev pub content_type : Name
+content_type = number (parameters.number ContentType)
+
+abbrev pub kid : Name
+kid = number (parameters.number Kid)
+
+abbrev pub iv : Name
+iv = number (parameters.number Iv)
+
+abbrev pub partial_iv : Name
+partial_iv = number (parameters.number PartialIv)
+
+abbrev pub counter_signature : Name
+counter_signature = number (parameters.number CounterSignature)

@@ -1,0 +1,17 @@
+-- How many signatures are held, one inside another.
+use Rattle.std.specs.Prelude.{ℕ, zero, suc, ◌+◌, List, map}
+use Rattle.coset_core.specs.Headers.{HeaderSeen, header_of, Signatures, no_signatures, signature_and, signatures_of}
+use Rattle.coset_core.specs.Views.{signature_seen}
+use Rattle.coset_core.specs.declared.signature.CoseSignature.{CoseSignature}
+
+-- those in a header, and signatures with those in their headers
+abbrev mutual
+  pub header_count : HeaderSeen → ℕ
+  header_count (header_of f ss) = signatures_count ss
+
+  pub signatures_count : Signatures → ℕ
+  signatures_count no_signatures = 0
+  signatures_count (signature_and o p u s more) = suc (header_count p + header_count u + signatures_count more)
+
+abbrev pub signatures_in : List CoseSignature → ℕ
+signatures_in all = signatures_count (signatures_of (map signature_seen all))
