@@ -4,6 +4,7 @@ pub mod Reading
 pub mod Writing
 pub mod WritingHeaders
 pub mod Keeping
+pub mod Copies
 pub mod Kept
 pub mod Room
 pub mod Filling

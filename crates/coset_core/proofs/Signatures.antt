@@ -3,10 +3,10 @@ use Rattle.std.proofs.Common.{◌≡◌, ◌≢◌, ◌==◌, ◌&&◌, ◌<◌,
 use Rattle.std.proofs.lemmas.Bool.{and_right}
 use Rattle.std.proofs.lemmas.Grind.{common_steps}
 use Rattle.std.specs.Prelude.{OnOk, Result, Ok, Err}
-use Rattle.coset_cbor.specs.declared.memory.OutOfMemory.{OutOfMemory}
+use Rattle.std.specs.declared.alloc.AllocError.{AllocError}
 use Rattle.coset_core.specs.FieldsView.{counter_signatures_held, fields_level, fields_seen}
 use Rattle.coset_core.specs.Headers.{are_none, signatures_of, header_of}
-use Rattle.coset_core.specs.Held.{header_count, signatures_count, signatures_in}
+use Rattle.coset_core.specs.Held.{header_count, signatures_in}
 use Rattle.coset_core.specs.Same.{fields_eq, header_eq, signatures_eq}
 use Rattle.coset_core.specs.ViewLaws.{HeaderLevel, header-made, header-opened, protected-opened, signature-opened}
 use Rattle.coset_core.specs.Views.{header_seen, signature_seen}
@@ -39,7 +39,7 @@ header_eq-opened h g = λ i. header_eq (header-opened h i) (header-opened g i)
 
 -- a header that has the fields and the counter signatures of another
 pub header_copied :
-    (x : HeaderLevel) (h : Header) (r : Result (Unit {0}) OutOfMemory) → fields_level x ≡ fields_seen h → OnOk r (map signature_seen x.counter_signatures.items ≡ map signature_seen (counter_signatures_held h))
+    (x : HeaderLevel) (h : Header) (r : Result (Unit {0}) AllocError) → fields_level x ≡ fields_seen h → OnOk r (map signature_seen x.counter_signatures.items ≡ map signature_seen (counter_signatures_held h))
     → OnOk r (header_seen (roll-Header x) ≡ header_seen h)
 header_copied x h (Ok u) f s = header-made x ∙ ((λ i. header_of (f i) (signatures_of (s i))) ∙ sym (header-opened h))
 header_copied x h (Err e) f s = tt

@@ -7,12 +7,10 @@ use Rattle.coset_shape.specs.declared.error.CoseError.{CoseError}
 use Rattle.coset_shape.specs.declared.error.CoseError.TheVariants.{OutOfMemory}
 use Rattle.coset_shape.specs.declared.input.InputItems.{InputItems}
 use Rattle.coset_shape.specs.declared.input.InputPairs.{InputPairs}
-use Rattle.coset_shape.specs.declared.source.Source.{Source}
 use Rattle.coset_shape.specs.Errors.{UnlessMemory}
 use Rattle.coset_shape.specs.Inputs.{State, Stands, AreWithin, PairsWithin}
 use Rattle.coset_shape.specs.Maps.{Walks, RefusesKey, BarsKey, GatherFaults, are_distinct, optional}
 use Rattle.coset_shape.specs.Shape.{any}
-use Rattle.coset_shape.specs.Sources.{source_item}
 use Rattle.coset_label.specs.Labels.{label}
 use Rattle.coset_label.specs.Names.{Name}
 use Rattle.coset_label.specs.Views.{label_seen}

@@ -1,5 +1,5 @@
 -- How many signatures are held, one inside another.
-use Rattle.std.specs.Prelude.{ℕ, zero, suc, ◌+◌, List, map}
+use Rattle.std.specs.Prelude.{ℕ, suc, ◌+◌, List, map}
 use Rattle.coset_core.specs.Headers.{HeaderSeen, header_of, Signatures, no_signatures, signature_and, signatures_of}
 use Rattle.coset_core.specs.Views.{signature_seen}
 use Rattle.coset_core.specs.declared.signature.CoseSignature.{CoseSignature}

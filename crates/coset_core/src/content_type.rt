@@ -1,14 +1,24 @@
 //! Content types of headers: formats of CoAP, or media types (RFC 8152, section 3.1).
 
-ghost use Rattle.std.specs.Prelude.{◌≡◌, ◌⊎◌, [], codes, filter, length, ◌==◌, IfOk, IfErr};
-ghost use Rattle.std.specs.Str.{trim};
+ghost use Rattle.std.specs.Prelude.{◌≡◌, [], option_map, OnOk, IfOk, IfErr, filter, length, ◌==◌, OnErr};
+ghost use Rattle.coset_core.specs.Views.{content_type_seen};
 ghost use Rattle.coset_shape.specs.Answers.{Reads};
-ghost use Rattle.coset_shape.specs.Errors.{IsUnexpected};
-ghost use Rattle.coset_shape.specs.Kinds.{Says};
+ghost use Rattle.coset_shape.specs.Errors.{IsUnexpected, UnlessMemory};
 ghost use Rattle.coset_shape.specs.Sources.{source_item};
 ghost use Rattle.coset_core.specs.Fields.{IsMediaType, content_type};
-ghost use Rattle.coset_core.specs.Views.{content_type_seen};
+ghost use Rattle.coset_shape.specs.Maps.{optional, put_field};
+ghost use Rattle.coset_label.specs.Names.{name_item};
+ghost use Rattle.coset_core.specs.FieldLabels as labels;
+ghost use Rattle.coset_core.specs.FieldValues.{TakesValue, RefusesValue};
+ghost use Rattle.coset_core.specs.Written.{AppendsPairs};
+ghost use Rattle.coset_shape.specs.Encoding.{AppendsItem};
+ghost use Rattle.std.specs.Option.{option_eq};
+ghost use Rattle.coset_core.specs.Same.{content_type_eq};
 
+use crate::header::{write_number, write_parameter};
+use coset_cbor::OutOfMemory;
+use coset_cbor::ser::write_text;
+use coset_iana::{EnumI64, HeaderParameter};
 use coset_label::{ContentType, RegisteredLabel};
 use coset_shape::list::read_source;
 use coset_shape::{CoseError, Result, Source};
@@ -46,7 +56,7 @@ fn ask_media_type(text: &str) -> Result<()>
 
 /// Reads a content type.
 #[tactic(auto, unfolding(crate::specs::Fields::content_type))]
-pub(crate) fn read_content_type(alloc: Global, source: Source<'_>) -> Result<ContentType>
+fn read_content_type(alloc: Global, source: Source<'_>) -> Result<ContentType>
     ensures { Reads content_type content_type_seen (source_item source.entry) result }
 {
     let content_type = read_source(alloc, source)?;
@@ -54,4 +64,57 @@ pub(crate) fn read_content_type(alloc: Global, source: Source<'_>) -> Result<Con
         ask_media_type(text)?;
     }
     Ok(content_type)
+}
+
+/// Sets the content type, where there is none yet.
+pub(crate) fn set_content_type(
+    alloc: Global,
+    field: &mut Option<ContentType>,
+    value: Source<'_>,
+) -> Result<()>
+    ensures takes { OnOk result (TakesValue (optional content_type) (source_item value.entry)
+        (option_map content_type_seen field.old) (option_map content_type_seen field.new)) }
+    ensures refused { IfErr result (λ e. UnlessMemory e (RefusesValue (optional content_type)
+        (source_item value.entry) (option_map content_type_seen field.old))) }
+    ensures kept { OnErr result (field.new ≡ field.old) }
+{
+    if field.is_some() {
+        return Err(CoseError::DuplicateMapKey);
+    }
+    *field = Some(read_content_type(alloc, value)?);
+    Ok(())
+}
+
+fn write_content_type(content_type: &ContentType, out: &mut Vec<u8>) -> Result<(), OutOfMemory>
+    ensures { OnOk result
+        (AppendsItem out.old.items out.new.items (name_item (content_type_seen content_type.now))) }
+{
+    match content_type {
+        RegisteredLabel::Assigned(value) => write_number(value.to_i64(), out),
+        RegisteredLabel::Text(text) => write_text(text, out),
+    }
+}
+
+/// Appends the pair of the content type, where there is one.
+pub(crate) fn write_content_type_field(
+    content_type: &Option<ContentType>,
+    out: &mut Vec<u8>,
+) -> Result<(), OutOfMemory>
+    ensures { OnOk result
+        (AppendsPairs out.old.items out.new.items
+        (put_field labels.content_type
+        (option_map name_item (option_map content_type_seen content_type.now)) [])) }
+{
+    if let Some(content_type) = content_type {
+        write_parameter(HeaderParameter::ContentType, out)?;
+        write_content_type(content_type, out)?;
+    }
+    Ok(())
+}
+
+pub(crate) fn same_content_type(a: &Option<ContentType>, b: &Option<ContentType>) -> bool
+    ensures { result ≡ option_eq content_type_eq (option_map content_type_seen a.now)
+        (option_map content_type_seen b.now) }
+{
+    *a == *b
 }

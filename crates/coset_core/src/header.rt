@@ -1,24 +1,84 @@
-//! Headers: what is said of a message's content beside it.
+//! Headers: what is said of a message's content beside it (RFC 8152, sections 3 and 3.1).
+//!
+//! ```cddl
+//! header_map = { Generic_Headers, * label => values }
+//!
+//! Generic_Headers = (
+//!     ? 1 => int / tstr,                             ; algorithm
+//!     ? 2 => [+label],                               ; labels that must be understood
+//!     ? 3 => tstr / int,                             ; content type
+//!     ? 4 => bstr,                                   ; key identifier
+//!     ? 5 => bstr,                                   ; IV
+//!     ? 6 => bstr,                                   ; Partial IV
+//!     ? 7 => COSE_Signature / [+ COSE_Signature]     ; counter signatures
+//! )
+//! ```
+//!
+//! A header is filled where it stands, and an error is kept in one place for all that reads it, since what is answered by
+//! value takes its size in stack at each function that it passes, and input chooses how deep headers lie within one another.
+//! Each reader leaves the input just behind its item, whatever it answers, so that each byte is passed once at any depth. Of
+//! `layers` each byte string of a protected header takes one.
 
-ghost use Rattle.std.specs.Prelude.{◌≡◌};
-ghost use Rattle.coset_core.specs.FieldsView.{counter_signatures_held};
-ghost use Rattle.coset_core.specs.Headers.{empty_header, is_empty_header, header};
-ghost use Rattle.coset_core.specs.Views.{header_seen};
+ghost use Rattle.std.specs.Prelude.{◌≡◌, [], map, option_map, OnOk, IfOk, IfErr, ◌⊎◌, ◌≤◌, ◌<◌, Option, true, false, IsTrue, IsSome, IsErrAnd, OnErr, Err, ◌↔◌, ◌+◌, ◌≢◌, ◌++◌};
+ghost use Rattle.coset_shape.specs.declared.error.CoseError.TheVariants as errors;
+ghost use Rattle.coset_shape.specs.declared.error.CoseError.TheVariants.{DuplicateMapKey};
+ghost use Rattle.coset_core.specs.Contents.{Fills};
+ghost use Rattle.coset_core.specs.FieldsView.{fields_seen, counter_signatures_held};
+ghost use Rattle.coset_core.specs.Views.{algorithm_seen, entry_seen, header_seen, signature_seen};
+ghost use Rattle.coset_shape.specs.Answers.{Reads};
+ghost use Rattle.coset_shape.specs.Errors.{IsUnexpected, UnlessMemory, answer, filled};
+ghost use Rattle.coset_shape.specs.Sources.{source_item};
+ghost use Rattle.coset_core.specs.Fields.{FieldsSeen, algorithm, names, fields, parts_of, same_name, HasOneIv, bars};
+ghost use Rattle.coset_value.specs.Item.{Item, Pairs, dict};
+ghost use Rattle.coset_shape.specs.Inputs.{State, state, still, size, pairs_size, pairs_turns, PairsWithin, items_size, Stands, EntersMap, EntersOnes};
+ghost use Rattle.coset_shape.specs.Maps.{optional, listed, Adds, Refuses, put_field, are_distinct};
+ghost use Rattle.coset_shape.specs.Shape.{any, filled_bstr, any_number, one_or_many};
+ghost use Rattle.coset_label.specs.Names.{number, name_item};
+ghost use Rattle.coset_label.specs.Views.{label_seen};
+ghost use Rattle.coset_shape.specs.declared.input.InputPairs.{InputPairs};
+ghost use Rattle.coset_iana.specs.HeaderParameter as parameters;
+ghost use Rattle.coset_core.specs.FieldLabels as labels;
+ghost use Rattle.coset_core.specs.Filling.{WalksTo, NextsLabel, FillsSome, FillsFields};
+ghost use Rattle.coset_core.specs.FieldValues.{TakesValue, RefusesValue};
+ghost use Rattle.coset_core.specs.Headers.{empty_header, is_empty_header, layered_header, layered_signature, header as header_shape, signatures_of, signatures_image, header_image};
+ghost use Rattle.coset_value.specs.View.{view};
+ghost use Rattle.coset_core.specs.Written.{AppendsPairs, AppendsCounterSignatures, registered_item, filled_item, plain_fields, one, count_pairs};
+ghost use Rattle.coset_shape.specs.Encoding.{HasNoImage, AppendsItem, Encodes};
+ghost use Rattle.std.specs.Option.{option_eq};
+ghost use Rattle.std.specs.Ordering.{on};
+ghost use Rattle.std.specs.Cmp.{on_equiv, on_per, partial_equiv_from_equiv};
+ghost use Rattle.std.specs.Cmp.Lexicographic.{pointwise};
+ghost use Rattle.coset_core.specs.Same.{algorithm_eq, entry_eq, fields_eq, header_eq};
+ghost use Rattle.coset_core.specs.SameLaws.{header_eq_equiv};
+ghost use Rattle.std.specs.Map.{keys_of};
+ghost use Rattle.coset_cbor.specs.Least.{least_head};
 
-use crate::read::read_header;
-use crate::signature::{CoseSignature, let_go};
-use crate::write::write_header;
+use crate::content_type::{same_content_type, set_content_type, write_content_type_field};
+use crate::critical::{same_critical, set_critical, write_critical_field, write_registered};
+use crate::signature::{
+    CoseSignature, copy_signatures, fill_each, fill_one, let_go, same_signatures, write_signatures,
+};
 use coset_cbor::de::Pull;
-use coset_cbor::value::Value;
-use coset_iana::HeaderParameter;
+use coset_cbor::ser::{
+    write_array_head, write_bytes, write_integer, write_map_head, write_text, write_value,
+};
+use coset_cbor::value::{Integer, Value};
+use coset_cbor::{OutOfMemory, laws};
+use coset_iana::{EnumI64, HeaderParameter};
 use coset_label::{Algorithm, ContentType, Label, RegisteredLabelWithPrivate};
 use coset_shape::encode::{Encode, encode_to_value, encode_to_vec};
+use coset_shape::error::{Refused, keep_error};
+use coset_shape::input::{Input, InputItems, InputPairs};
+use coset_shape::list::read_source;
 use coset_shape::traits::{FromPull, read_slice};
-use coset_shape::{AsCborValue, CborSerializable, Lawful, Result, Source};
-use std::alloc::Global;
+use coset_shape::{AsCborValue, CborSerializable, CoseError, Lawful, Result, Source, has_repeats};
+use std::alloc::{AllocError, Global};
 
 /// About what a header takes beside its byte strings.
 const HEADS: usize = 24;
+
+/// At most this many byte strings of protected headers stand within one another.
+pub(crate) const LAYERS: usize = 16;
 
 /// A header (RFC 8152, section 3.1).
 #[cycle(header)]
@@ -45,17 +105,7 @@ pub struct Header {
 /// The counter signatures are let go in a function of their own, since headers in them are as deep as the input asked.
 impl Drop for Header {
     fn drop(self) {
-        let Header {
-            alg: _,
-            crit: _,
-            content_type: _,
-            key_id: _,
-            iv: _,
-            partial_iv: _,
-            counter_signatures,
-            rest: _,
-        } = self;
-        let_go(counter_signatures);
+        let_go(self.into_counter_signatures());
     }
 }
 
@@ -108,6 +158,48 @@ impl Header {
     }
 }
 
+/// Equality of every field; the rest is compared pair by pair, in order.
+impl PartialEq for Header {
+    ghost eq = { on header_seen header_eq };
+
+    ghost laws = { on_per header_seen (partial_equiv_from_equiv header_eq_equiv) };
+
+    fn eq(&self, other: &Header) -> bool
+        ensures answers { result ≡ header_eq (header_seen self.now) (header_seen other.now) }
+        ensures equal { IsTrue result ↔ (header_seen self.now ≡ header_seen other.now) }
+    {
+        same_header(self, other)
+    }
+}
+
+impl Eq for Header {
+    ghost laws = { on_equiv header_seen header_eq_equiv };
+}
+
+/// The same as [`Header::clone`], for generic code.
+impl Clone for Header {
+    ghost is_clone = { λ header copy. header_seen copy ≡ header_seen header };
+
+    fn clone(&self) -> Result<Header, AllocError> {
+        let mut copy = Header::new(*self.rest.allocator());
+        copy_header(self, &mut copy)?;
+        Ok(copy)
+    }
+}
+
+impl Header {
+    /// A header that equals this one.
+    ///
+    /// # Errors
+    /// `OutOfMemory` alone.
+    pub fn clone(&self) -> Result<Header>
+        ensures copy { IfOk result (λ h. header_seen h ≡ header_seen self.now) }
+        ensures memory { IfErr result (λ e. e ≡ errors.OutOfMemory) }
+    {
+        Ok(Clone::clone(self)?)
+    }
+}
+
 impl AsCborValue for Header {
     ghost use Rattle.coset_core.specs.Headers.{HeaderSeen};
     ghost use Rattle.coset_core.specs.HeaderLaws.{header_laws};
@@ -116,7 +208,7 @@ impl AsCborValue for Header {
 
     ghost seen = { header_seen };
 
-    ghost shape = { header };
+    ghost shape = { header_shape };
 
     ghost unique = { header_laws.unique };
 
@@ -138,7 +230,7 @@ impl Lawful for Header {
 }
 
 impl Encode for Header {
-    ghost image = { λ h. header.image (header_seen h) };
+    ghost image = { λ h. header_shape.image (header_seen h) };
 
     ghost spare = { 24 };
 
@@ -170,4 +262,611 @@ impl CborSerializable for Header {
     fn to_vec(self, alloc: Global) -> Result<Vec<u8>> {
         encode_to_vec(alloc, &self)
     }
+}
+
+/// Whether the label is that of this parameter.
+fn is_parameter(label: &Label, parameter: HeaderParameter) -> bool
+    ensures { result ≡ same_name (number (parameters.number parameter)) (label_seen label.now) }
+{
+    match label {
+        Label::Int(number) => *number == parameter.to_i64(),
+        Label::Text(_) => false,
+    }
+}
+
+/// Sets the algorithm, where there is none yet.
+fn set_algorithm(alloc: Global, field: &mut Option<Algorithm>, value: Source<'_>) -> Result<()>
+    ensures takes { OnOk result (TakesValue (optional algorithm) (source_item value.entry)
+        (option_map algorithm_seen field.old) (option_map algorithm_seen field.new)) }
+    ensures refused { IfErr result (λ e. UnlessMemory e (RefusesValue (optional algorithm)
+        (source_item value.entry) (option_map algorithm_seen field.old))) }
+    ensures kept { OnErr result (field.new ≡ field.old) }
+{
+    if field.is_some() {
+        return Err(CoseError::DuplicateMapKey);
+    }
+    *field = Some(read_algorithm(alloc, value)?);
+    Ok(())
+}
+
+/// Reads an algorithm.
+#[tactic(auto, unfolding(crate::specs::Fields::algorithm))]
+fn read_algorithm(alloc: Global, source: Source<'_>) -> Result<Algorithm>
+    ensures { Reads algorithm algorithm_seen (source_item source.entry) result }
+{
+    read_source(alloc, source)
+}
+
+/// Sets the bytes of a field, where there are none yet.
+fn set_bytes(alloc: Global, field: &mut Vec<u8>, value: Source<'_>) -> Result<()>
+    ensures takes { OnOk result (TakesValue (listed filled_bstr) (source_item value.entry)
+        field.old.items field.new.items) }
+    ensures refused { IfErr result (λ e. UnlessMemory e
+        (RefusesValue (listed filled_bstr) (source_item value.entry) field.old.items)) }
+    ensures kept { OnErr result (field.new ≡ field.old) }
+{
+    if !field.is_empty() {
+        return Err(CoseError::DuplicateMapKey);
+    }
+    *field = value.into_filled_bytes(alloc)?;
+    Ok(())
+}
+
+/// Sets IV or Partial IV, where it isn't there yet; `barred` tells whether the other is.
+fn set_iv(alloc: Global, field: &mut Vec<u8>, barred: bool, value: Source<'_>) -> Result<()>
+    ensures takes { OnOk result (TakesValue (listed filled_bstr) (source_item value.entry)
+        field.old.items field.new.items) }
+    ensures alone { OnOk result (barred ≡ false) }
+    ensures refused { IfErr result (λ e. UnlessMemory e (λ f. RefusesValue (listed filled_bstr)
+        (source_item value.entry) field.old.items f ⊎ ((barred ≡ true) × IsUnexpected f))) }
+    ensures kept { OnErr result (field.new ≡ field.old) }
+{
+    if !field.is_empty() {
+        return Err(CoseError::DuplicateMapKey);
+    }
+    let bytes = value.into_filled_bytes(alloc)?;
+    if barred {
+        return Err(CoseError::UnexpectedItem(
+            "IV and partial-IV specified",
+            "only one of IV and partial IV",
+        ));
+    }
+    *field = bytes;
+    Ok(())
+}
+
+/// Takes one more value of a header, by its label, which isn't 7. Whether labels of the rest repeat isn't asked.
+///
+/// # Errors
+/// `OutOfMemory`; `DuplicateMapKey` where a field has a value already; a fault of its value; or `UnexpectedItem` where
+/// it is the second of IV and Partial IV. The header is then as before.
+fn put(header: &mut Header, alloc: Global, label: Label, value: Source<'_>) -> Result<()>
+    requires other { same_name labels.counter_signature (label_seen label) ≡ false }
+    requires one_iv { HasOneIv (fields_seen header.old) }
+    ensures takes { (o : Option Item)
+        → OnOk result
+        (Adds names (fields (optional any)) (label_seen label) (source_item value.entry)
+        (parts_of (fields_seen header.old, o)) (parts_of (fields_seen header.new, o))) }
+    ensures refused { (o : Option Item)
+        → IfErr result (λ e. UnlessMemory e (λ f. Refuses names (fields (optional any))
+        (label_seen label) (source_item value.entry) (parts_of (fields_seen header.old, o)) f
+        ⊎ bars (label_seen label) (parts_of (fields_seen header.old, o)) f)) }
+    ensures kept { OnErr result (fields_seen header.new ≡ fields_seen header.old) }
+    ensures one_iv { HasOneIv (fields_seen header.new) }
+    ensures others { counter_signatures_held header.new ≡ counter_signatures_held header.old }
+{
+    if is_parameter(&label, HeaderParameter::Alg) {
+        return set_algorithm(alloc, &mut header.alg, value);
+    }
+    if is_parameter(&label, HeaderParameter::Crit) {
+        return set_critical(alloc, &mut header.crit, value);
+    }
+    if is_parameter(&label, HeaderParameter::ContentType) {
+        return set_content_type(alloc, &mut header.content_type, value);
+    }
+    if is_parameter(&label, HeaderParameter::Kid) {
+        return set_bytes(alloc, &mut header.key_id, value);
+    }
+    if is_parameter(&label, HeaderParameter::Iv) {
+        let barred = !header.partial_iv.is_empty();
+        return set_iv(alloc, &mut header.iv, barred, value);
+    }
+    if is_parameter(&label, HeaderParameter::PartialIv) {
+        let barred = !header.iv.is_empty();
+        return set_iv(alloc, &mut header.partial_iv, barred, value);
+    }
+    let value = value.into_value(alloc)?;
+    header.rest.push((label, value))?;
+    Ok(())
+}
+
+/// The label of the next pair of a map, whose value then stands at the input; or `None` where no pair is left.
+///
+/// # Errors
+/// `OutOfMemory`, or a fault of the key, which is no label; its value is then passed.
+fn next_label(alloc: Global, pairs: &mut InputPairs, input: &mut Input<'_>) -> Result<Option<Label>>
+    ensures shrinks { still (state input.new) ≤ still (state input.old) }
+    ensures size { pairs_size pairs.new (state input.new) ≤ pairs_size pairs.old (state input.old) }
+    ensures value { IfOk result (λ o. IsSome o → size (state input.new) ≤ pairs_size pairs.old
+        (state input.old)) }
+    ensures turns { IfOk result (λ o. IsSome o → pairs_turns pairs.new (state input.new) <
+        pairs_turns pairs.old (state input.old)) }
+    ensures nexts { (ps : Pairs) (z : State) → PairsWithin pairs.old ps (state input.old) z
+        → NextsLabel ps (state input.new) z pairs.new result }
+{
+    let Some(key) = pairs.next_key(input)? else {
+        return Ok(None);
+    };
+    match read_source::<Label>(alloc, key) {
+        Ok(label) => Ok(Some(label)),
+        Err(error) => {
+            input.pass();
+            Err(error)
+        }
+    }
+}
+
+/// Reads pairs into a header up to one of label 7, whose value then stands at the input; or all that are left. It says
+/// whether it is the former.
+///
+/// # Errors
+/// `OutOfMemory`, or the fault of a pair, which is passed.
+fn fill_some(
+    header: &mut Header,
+    alloc: Global,
+    pairs: &mut InputPairs,
+    input: &mut Input<'_>,
+) -> Result<bool>
+    requires one_iv { HasOneIv (fields_seen header.old) }
+    ensures one_iv { HasOneIv (fields_seen header.new) }
+    ensures others { counter_signatures_held header.new ≡ counter_signatures_held header.old }
+    ensures shrinks { still (state input.new) ≤ still (state input.old) }
+    ensures size { pairs_size pairs.new (state input.new) ≤ pairs_size pairs.old (state input.old) }
+    ensures value { IfOk result (λ b. IsTrue b → size (state input.new) ≤ pairs_size pairs.old
+        (state input.old)) }
+    ensures fills { (all ps : Pairs) (o : Option Item) (z : State)
+        → WalksTo all (fields_seen header.old) o ps → PairsWithin pairs.old ps (state input.old) z
+        → FillsSome all o z (fields_seen header.new) (state input.new) pairs.new result }
+{
+    while let Some(label) = next_label(alloc, pairs, input)? {
+        if is_parameter(&label, HeaderParameter::CounterSignature) {
+            return Ok(true);
+        }
+        let value = input.take()?;
+        put(header, alloc, label, value)?;
+    }
+    Ok(false)
+}
+
+/// The error of labels of the rest that repeat, or that there was no memory to ask for them. A value of label 7 that
+/// stands at the input is passed.
+#[cold]
+fn refuse(filled: Result<bool>, input: &mut Input<'_>, error: CoseError) -> Result<bool>
+    ensures shrinks { still (state input.new) ≤ still (state input.old) }
+    ensures passes { (all : Pairs) (o : Option Item) (f : FieldsSeen) (z : State) (m : InputPairs)
+        → FillsSome all o z f (state input.old) m filled
+        → (left : Pairs) × PairsWithin m left (state input.new) z }
+    ensures refused { IsErrAnd result (λ e. e ≡ error) }
+{
+    let Ok(at_value) = filled else {
+        return Err(error);
+    };
+    if at_value {
+        input.pass();
+    }
+    Err(error)
+}
+
+/// As many pairs as [`fill_some`] reads. That no label of the rest repeats is asked before a fault is answered, before
+/// the value of label 7 is read, and in the end.
+///
+/// # Errors
+/// `OutOfMemory`, or the first fault of the pairs.
+#[inline(never)]
+fn fill_fields(
+    header: &mut Header,
+    alloc: Global,
+    pairs: &mut InputPairs,
+    input: &mut Input<'_>,
+    error: &mut CoseError,
+) -> Result<bool, Refused>
+    requires one_iv { HasOneIv (fields_seen header.old) }
+    ensures one_iv { HasOneIv (fields_seen header.new) }
+    ensures others { counter_signatures_held header.new ≡ counter_signatures_held header.old }
+    ensures shrinks { still (state input.new) ≤ still (state input.old) }
+    ensures size { pairs_size pairs.new (state input.new) ≤ pairs_size pairs.old (state input.old) }
+    ensures value { IfOk result (λ b. IsTrue b → size (state input.new) ≤ pairs_size pairs.old
+        (state input.old)) }
+    ensures fills { (all ps : Pairs) (o : Option Item) (z : State)
+        → WalksTo all (fields_seen header.old) o ps → PairsWithin pairs.old ps (state input.old) z
+        → FillsFields all o z (fields_seen header.new) (state input.new) pairs.new
+        (answer error.new result) }
+{
+    let filled = fill_some(header, alloc, pairs, input);
+    let distinct = match ask_distinct(alloc, &header.rest) {
+        Ok(()) => filled,
+        Err(repeated) => refuse(filled, input, repeated),
+    };
+    keep_error(distinct, error)
+}
+
+/// The pairs of a map.
+///
+/// # Errors
+/// `UnexpectedItem`: the item is no map; it is passed.
+#[inline(never)]
+fn begin_pairs(
+    pairs: &mut InputPairs,
+    input: &mut Input<'_>,
+    error: &mut CoseError,
+) -> Result<(), Refused>
+    ensures shrinks { still (state input.new) ≤ still (state input.old) }
+    ensures deeper { OnOk result (pairs_size pairs.new (state input.new) < size (state input.old)) }
+    ensures enters { (v : Item) (z : State) → Stands v (state input.old) z
+        → EntersMap v (state input.new) z (filled (λ _. pairs.new) error.new result) }
+{
+    *pairs = keep_error(input.enter_map(), error)?;
+    Ok(())
+}
+
+/// Reads a header into an empty one.
+///
+/// # Errors
+/// `OutOfMemory`, or the first fault found, from the first pair on.
+#[cycle(read)]
+pub(crate) fn fill_header(
+    header: &mut Header,
+    alloc: Global,
+    input: &mut Input<'_>,
+    layers: usize,
+    error: &mut CoseError,
+) -> Result<(), Refused>
+    requires empty { header_seen header.old ≡ empty_header }
+    ensures shrinks { still (state input.new) ≤ still (state input.old) }
+    ensures fills { (v : Item) (z : State) → Stands v (state input.old) z → (state input.new ≡ z)
+        × Fills (layered_header layers) v (header_seen header.new)
+        (answer error.new result) }
+{
+    let mut pairs = InputPairs::none();
+    begin_pairs(&mut pairs, input, error)?;
+    let filled = fill_pairs(header, alloc, &mut pairs, input, layers, error);
+    pairs.finish(input);
+    filled
+}
+
+/// Reads the pairs of a map into an empty header.
+///
+/// # Errors
+/// `OutOfMemory`, or the fault of the first pair that has one.
+#[cycle(read)]
+fn fill_pairs(
+    header: &mut Header,
+    alloc: Global,
+    pairs: &mut InputPairs,
+    input: &mut Input<'_>,
+    layers: usize,
+    error: &mut CoseError,
+) -> Result<(), Refused>
+    requires empty { header_seen header.old ≡ empty_header }
+    ensures shrinks { still (state input.new) ≤ still (state input.old) }
+    ensures fills { (all : Pairs) (z : State) → PairsWithin pairs.old all (state input.old) z
+        → ((left : Pairs) × PairsWithin pairs.new left (state input.new) z) × Fills (layered_header layers) (dict all) (header_seen header.new)
+        (answer error.new result) }
+{
+    if !fill_fields(header, alloc, pairs, input, error)? {
+        return Ok(());
+    }
+    fill_counter_signatures(&mut header.counter_signatures, alloc, input, layers, error)?;
+    if fill_fields(header, alloc, pairs, input, error)? {
+        return refuse_second(input, error);
+    }
+    Ok(())
+}
+
+/// The error of a map with label 7 twice; the second value is passed.
+#[cold]
+#[inline(never)]
+fn refuse_second(input: &mut Input<'_>, error: &mut CoseError) -> Result<(), Refused>
+    ensures shrinks { still (state input.new) ≤ still (state input.old) }
+    ensures passes { (v : Item) (z : State) → Stands v (state input.old) z → (state input.new ≡ z)
+        × (answer error.new result ≡ Err DuplicateMapKey) }
+{
+    input.pass();
+    *error = CoseError::DuplicateMapKey;
+    Err(Refused)
+}
+
+/// The members of an array of one signature or of several, and whether it is the former.
+///
+/// # Errors
+/// `UnexpectedItem`: the item is neither; it is passed.
+#[inline(never)]
+fn begin_ones(
+    members: &mut InputItems,
+    input: &mut Input<'_>,
+    error: &mut CoseError,
+) -> Result<bool, Refused>
+    ensures shrinks { still (state input.new) ≤ still (state input.old) }
+    ensures deeper { OnOk result
+        (items_size members.new (state input.new) < size (state input.old)) }
+    ensures enters { (v : Item) (z : State) → Stands v (state input.old) z
+        → EntersOnes v (state input.new) z (filled (λ one. (one, members.new)) error.new result) }
+{
+    let (one, found) = keep_error(input.enter_ones(), error)?;
+    *members = found;
+    Ok(one)
+}
+
+/// Reads the value of label 7 into an empty list: one counter signature, or several.
+///
+/// # Errors
+/// `OutOfMemory`; `UnexpectedItem` where the item holds none; or the fault of the first that has one.
+#[cycle(read)]
+fn fill_counter_signatures(
+    all: &mut Vec<CoseSignature>,
+    alloc: Global,
+    input: &mut Input<'_>,
+    layers: usize,
+    error: &mut CoseError,
+) -> Result<(), Refused>
+    requires empty { map signature_seen all.old.items ≡ [] }
+    ensures shrinks { still (state input.new) ≤ still (state input.old) }
+    ensures fills { (v : Item) (z : State) → Stands v (state input.old) z
+        → (state input.new ≡ z) × Fills (one_or_many (any_number (layered_signature layers))) v (map signature_seen all.new.items)
+        (answer error.new result) }
+{
+    let mut members = InputItems::none();
+    let one = begin_ones(&mut members, input, error)?;
+    let filled = if one {
+        fill_one(all, alloc, &mut members, input, layers, error)
+    } else {
+        fill_each(all, alloc, &mut members, input, layers, error)
+    };
+    members.finish(input);
+    filled
+}
+
+/// A header.
+pub(crate) fn read_header(alloc: Global, source: Source<'_>) -> Result<Header>
+    ensures { Reads header_shape header_seen (source_item source.entry) result }
+{
+    let mut header = Header::new(alloc);
+    let mut input = Input::new(source);
+    let mut error = CoseError::OutOfMemory;
+    match fill_header(&mut header, alloc, &mut input, LAYERS, &mut error) {
+        Ok(()) => Ok(header),
+        Err(Refused) => Err(error),
+    }
+}
+
+pub(crate) fn write_number(n: i64, out: &mut Vec<u8>) -> Result<(), OutOfMemory>
+    ensures { OnOk result (AppendsItem out.old.items out.new.items (name_item (number n))) }
+{
+    write_integer(Integer::from(n), out)
+}
+
+/// Appends the label of a parameter.
+pub(crate) fn write_parameter(
+    parameter: HeaderParameter,
+    out: &mut Vec<u8>,
+) -> Result<(), OutOfMemory>
+    ensures { OnOk result (AppendsItem out.old.items out.new.items
+        (name_item (number (parameters.number parameter)))) }
+{
+    write_number(parameter.to_i64(), out)
+}
+
+fn write_item(value: &Value, out: &mut Vec<u8>) -> Result<(), OutOfMemory>
+    ensures { OnOk result (AppendsItem out.old.items out.new.items (view value.now)) }
+{
+    laws::shortest_is_in_range();
+    laws::least_heads_are_shortest();
+    write_value(value, out)
+}
+
+fn write_label(label: &Label, out: &mut Vec<u8>) -> Result<(), OutOfMemory>
+    ensures { OnOk result
+        (AppendsItem out.old.items out.new.items (name_item (label_seen label.now))) }
+{
+    match label {
+        Label::Int(n) => write_number(*n, out),
+        Label::Text(text) => write_text(text, out),
+    }
+}
+
+/// Appends the pair of the algorithm, where there is one.
+fn write_algorithm_field(alg: &Option<Algorithm>, out: &mut Vec<u8>) -> Result<(), OutOfMemory>
+    ensures { OnOk result
+        (AppendsPairs out.old.items out.new.items
+        (put_field labels.alg (option_map registered_item (option_map algorithm_seen alg.now))
+        [])) }
+{
+    if let Some(alg) = alg {
+        write_parameter(HeaderParameter::Alg, out)?;
+        write_registered(alg, out)?;
+    }
+    Ok(())
+}
+
+/// Appends the pair of this parameter's label and these bytes, where there are any.
+fn write_bytes_field(
+    parameter: HeaderParameter,
+    bytes: &[u8],
+    out: &mut Vec<u8>,
+) -> Result<(), OutOfMemory>
+    ensures { OnOk result (AppendsPairs out.old.items out.new.items
+        (put_field (number (parameters.number parameter)) (filled_item bytes.now) [])) }
+{
+    if !bytes.is_empty() {
+        write_parameter(parameter, out)?;
+        write_bytes(bytes, out)?;
+    }
+    Ok(())
+}
+
+/// Appends the pairs of the first six labels.
+fn write_fields(header: &Header, out: &mut Vec<u8>) -> Result<(), OutOfMemory>
+    ensures { OnOk result
+        (AppendsPairs out.old.items out.new.items (plain_fields (fields_seen header.now))) }
+{
+    write_algorithm_field(&header.alg, out)?;
+    write_critical_field(&header.crit, out)?;
+    write_content_type_field(&header.content_type, out)?;
+    write_bytes_field(HeaderParameter::Kid, &header.key_id, out)?;
+    write_bytes_field(HeaderParameter::Iv, &header.iv, out)?;
+    write_bytes_field(HeaderParameter::PartialIv, &header.partial_iv, out)?;
+    Ok(())
+}
+
+/// Appends the pairs of the rest.
+fn write_rest(rest: &[(Label, Value)], out: &mut Vec<u8>) -> Result<(), OutOfMemory>
+    ensures { OnOk result (AppendsPairs out.old.items out.new.items (map entry_seen rest.now)) }
+{
+    for (label, value) in rest {
+        write_label(label, out)?;
+        write_item(value, out)?;
+    }
+    Ok(())
+}
+
+fn one(there: bool) -> usize
+    ensures value { result ≡ one there }
+    ensures small { result ≤ 1 }
+{
+    if there { 1 } else { 0 }
+}
+
+/// How many pairs the header's map has.
+fn count(header: &Header) -> usize
+    ensures { result ≡ count_pairs (header_seen header.now) }
+{
+    header.rest.len()
+        + one(header.alg.is_some())
+        + one(!header.crit.is_empty())
+        + one(header.content_type.is_some())
+        + one(!header.key_id.is_empty())
+        + one(!header.iv.is_empty())
+        + one(!header.partial_iv.is_empty())
+        + one(!header.counter_signatures.is_empty())
+}
+
+/// Asks that no label of the rest stand twice.
+fn ask_distinct(alloc: Global, rest: &[(Label, Value)]) -> Result<()>
+    ensures ok { OnOk result (are_distinct same_name (keys_of (map entry_seen rest.now)) ≡ true) }
+    ensures refused { IfErr result (λ e. UnlessMemory e (λ f. (f ≡ DuplicateMapKey)
+        × (are_distinct same_name (keys_of (map entry_seen rest.now)) ≡ false))) }
+{
+    if has_repeats(alloc, rest)? {
+        return Err(CoseError::DuplicateMapKey);
+    }
+    Ok(())
+}
+
+/// Appends the head of the array of label 7. One signature alone has none.
+fn write_counter_signatures_head(count: usize, out: &mut Vec<u8>) -> Result<(), OutOfMemory>
+    ensures one { OnOk result (count ≡ 1 → out.new.items ≡ out.old.items) }
+    ensures array { OnOk result (count ≢ 1 → out.new.items ≡ out.old.items ++ least_head 4 count) }
+{
+    if count == 1 {
+        return Ok(());
+    }
+    write_array_head(count, out)
+}
+
+/// Appends the shortest encoding of the header's map.
+///
+/// # Errors
+/// `OutOfMemory`, or `DuplicateMapKey` where a label stands twice in the rest of the header, or in that of one inside
+/// it. A protected header inside that was read doesn't count, nor what it holds: its bytes are written as they are.
+/// What was appended before an error isn't taken back.
+#[cycle(write)]
+pub(crate) fn write_header(alloc: Global, header: &Header, out: &mut Vec<u8>) -> Result<()>
+    ensures { Encodes (header_image (header_seen header.now)) out.old.items out.new.items result }
+{
+    ask_distinct(alloc, &header.rest)?;
+    write_map_head(count(header), out)?;
+    write_fields(header, out)?;
+    write_counter_signatures(alloc, &header.counter_signatures, out)?;
+    write_rest(&header.rest, out)?;
+    Ok(())
+}
+
+/// Appends the pair of the signatures, where there are any: one as itself, and several as an array.
+#[cycle(write)]
+fn write_counter_signatures(
+    alloc: Global,
+    signatures: &[CoseSignature],
+    out: &mut Vec<u8>,
+) -> Result<()>
+    ensures ok { OnOk result (AppendsCounterSignatures out.old.items out.new.items
+        (signatures_of (map signature_seen signatures.now))) }
+    ensures refused { IfErr result
+        (HasNoImage (signatures_image (signatures_of (map signature_seen signatures.now)))) }
+{
+    if signatures.is_empty() {
+        return Ok(());
+    }
+    write_parameter(HeaderParameter::CounterSignature, out)?;
+    write_counter_signatures_head(signatures.len(), out)?;
+    write_signatures(alloc, signatures, out)?;
+    Ok(())
+}
+
+/// Copies what a header holds beside its counter signatures.
+#[inline(never)]
+fn copy_fields(header: &Header, copy: &mut Header) -> Result<(), AllocError>
+    ensures copy { OnOk result (fields_seen copy.new ≡ fields_seen header.now) }
+    ensures others { counter_signatures_held copy.new ≡ counter_signatures_held copy.old }
+{
+    copy.alg = header.alg.clone()?;
+    copy.crit = header.crit.clone()?;
+    copy.content_type = header.content_type.clone()?;
+    copy.key_id = Vec::from_slice(*header.key_id.allocator(), &header.key_id)?;
+    copy.iv = Vec::from_slice(*header.iv.allocator(), &header.iv)?;
+    copy.partial_iv = Vec::from_slice(*header.partial_iv.allocator(), &header.partial_iv)?;
+    copy.rest = header.rest.clone()?;
+    Ok(())
+}
+
+/// Copies a header into another.
+#[cycle(copy)]
+pub(crate) fn copy_header(header: &Header, copy: &mut Header) -> Result<(), AllocError>
+    ensures { OnOk result (header_seen copy.new ≡ header_seen header.now) }
+{
+    copy_fields(header, copy)?;
+    copy_signatures(&header.counter_signatures, &mut copy.counter_signatures)
+}
+
+#[cycle(same)]
+pub(crate) fn same_header(a: &Header, b: &Header) -> bool
+    ensures { result ≡ header_eq (header_seen a.now) (header_seen b.now) }
+{
+    same_fields(a, b) && same_signatures(&a.counter_signatures, &b.counter_signatures)
+}
+
+/// Whether two headers are the same but for their counter signatures.
+fn same_fields(a: &Header, b: &Header) -> bool
+    ensures { result ≡ fields_eq (fields_seen a.now) (fields_seen b.now) }
+{
+    same_algorithm(&a.alg, &b.alg)
+        && same_critical(&a.crit, &b.crit)
+        && same_content_type(&a.content_type, &b.content_type)
+        && a.key_id == b.key_id
+        && a.iv == b.iv
+        && a.partial_iv == b.partial_iv
+        && same_rest(&a.rest, &b.rest)
+}
+
+fn same_algorithm(a: &Option<Algorithm>, b: &Option<Algorithm>) -> bool
+    ensures { result ≡ option_eq algorithm_eq (option_map algorithm_seen a.now)
+        (option_map algorithm_seen b.now) }
+{
+    *a == *b
+}
+
+fn same_rest(a: &Vec<(Label, Value)>, b: &Vec<(Label, Value)>) -> bool
+    ensures { result ≡ pointwise entry_eq (map entry_seen a.now.items)
+        (map entry_seen b.now.items) }
+{
+    *a == *b
 }

@@ -1,17 +1,14 @@
 //! Headers of COSE messages (RFC 8152, section 3).
 #![tactic(auto)]
 
-mod clone;
 mod content_type;
-mod fields;
+mod critical;
 mod header;
+mod headers;
 pub mod laws;
 mod protected;
 mod protected_bstr;
-mod read;
-mod same;
 mod signature;
-mod write;
 
 pub use coset_label::{
     Algorithm, AsCborValue, CallError, CborOrdering, CborSerializable, ClaimName, ContentType,
@@ -20,7 +17,7 @@ pub use coset_label::{
     shape, util,
 };
 pub use header::Header;
+pub use headers::fill_headers;
 pub use protected::{Bstr, ProtectedHeader};
 pub use protected_bstr::ProtectedBstr;
-pub use read::fill_headers;
 pub use signature::CoseSignature;

@@ -1,27 +1,44 @@
-//! Protected headers: those that a signature covers, kept as they were read.
+//! Protected headers: those that a signature covers, kept as they were read (RFC 8152, section 3).
+//!
+//! ```cddl
+//! empty_or_serialized_map = bstr .cbor header_map / bstr .size 0
+//! ```
 
-ghost use Rattle.std.specs.Prelude.{◌≡◌, Some, None, IfOk, IfErr};
+ghost use Rattle.std.specs.Prelude.{◌≡◌, option_map, OnOk, IfOk, IfErr, IsTrue, Some, None, ℕ, List, ◌↔◌};
+ghost use Rattle.coset_shape.specs.declared.error.CoseError.TheVariants.{OutOfMemory};
+ghost use Rattle.coset_core.specs.Contents.{Fills, FillsContent};
+ghost use Rattle.coset_core.specs.Views.{header_seen, protected_seen};
+ghost use Rattle.coset_shape.specs.Answers.{Reads, Images, RefusesItem};
+ghost use Rattle.coset_shape.specs.Errors.{answer};
+ghost use Rattle.coset_shape.specs.Sources.{source_item};
+ghost use Rattle.coset_value.specs.Item.{bytes};
+ghost use Rattle.coset_shape.specs.Shape.{bstr};
+ghost use Rattle.coset_core.specs.Headers.{empty_header, is_empty_header, protected_bytes, protected as protected_shape, layered_protected, header_image};
 ghost use Rattle.std.specs.Cow.{cow_slice_items};
 ghost use Rattle.coset_value.specs.View.{view};
 ghost use Rattle.coset_cbor.specs.Pulls.{pull_item};
-ghost use Rattle.coset_shape.specs.declared.error.CoseError.TheVariants.{DuplicateMapKey};
-ghost use Rattle.coset_shape.specs.Answers.{Reads, Images, RefusesItem};
-ghost use Rattle.coset_shape.specs.Sources.{source_item};
 ghost use Rattle.coset_core.specs.ProtectedMap.{protected_map, protected_map_laws};
-ghost use Rattle.coset_core.specs.Headers.{empty_header, is_empty_header, protected_bytes, protected as protected_shape};
-ghost use Rattle.coset_core.specs.Views.{header_seen, protected_seen};
 ghost use Rattle.coset_core.specs.Written.{AreShortest, HoldsShortest};
-ghost use Rattle.coset_shape.specs.Encoding.{HasNoImage};
+ghost use Rattle.coset_shape.specs.Encoding.{HasNoImage, Encodes};
+ghost use Rattle.std.specs.Ordering.{on};
+ghost use Rattle.std.specs.Cmp.{on_equiv, on_per, partial_equiv_from_equiv};
+ghost use Rattle.coset_core.specs.Same.{protected_eq};
+ghost use Rattle.coset_core.specs.SameLaws.{protected_eq_equiv};
+ghost use Rattle.coset_shape.specs.Serialized.{fresh_bytes};
 
-use crate::header::Header;
-use crate::read::{read_header, read_protected};
-use crate::write::{fresh_bytes, write_protected};
+use crate::header::{
+    Header, LAYERS, copy_header, fill_header, read_header, same_header, write_header,
+};
 use coset_cbor::de::Pull;
+use coset_cbor::ser::write_bytes;
 use coset_cbor::value::Value;
+use coset_cbor::{de, laws};
 use coset_shape::encode::{Encode, encode_to_value, encode_to_vec};
-use coset_shape::traits::{FromPull, read_slice};
-use coset_shape::{AsCborValue, CborSerializable, Lawful, Result, Source};
-use std::alloc::Global;
+use coset_shape::error::{Refused, keep_error};
+use coset_shape::input::Input;
+use coset_shape::traits::{FromPull, read_slice, whole_item};
+use coset_shape::{AsCborValue, CborSerializable, CoseError, Lawful, Result, Source};
+use std::alloc::{AllocError, Global};
 use std::borrow::CowSlice;
 
 /// A protected header (RFC 8152, section 3).
@@ -125,25 +142,46 @@ impl ProtectedHeader {
     }
 }
 
-/// A protected header as the byte string that stands for it in messages.
-#[derive(Clone, Copy)]
-pub struct Bstr<'a>(pub &'a ProtectedHeader);
+/// Equality of the header and of the bytes that were kept, if any.
+impl PartialEq for ProtectedHeader {
+    ghost eq = { on protected_seen protected_eq };
 
-impl Encode for Bstr<'_> {
-    ghost image = { λ p. protected_shape.image (protected_seen p.0.now) };
+    ghost laws = { on_per protected_seen (partial_equiv_from_equiv protected_eq_equiv) };
 
-    ghost spare = { 24 };
-
-    fn room(&self) -> usize {
-        match &self.0.original_data {
-            Some(bytes) => bytes.room(),
-            None => self.0.header.room(),
-        }
+    fn eq(&self, other: &ProtectedHeader) -> bool
+        ensures answers { result ≡ protected_eq (protected_seen self.now)
+            (protected_seen other.now) }
+        ensures equal { IsTrue result ↔ (protected_seen self.now ≡ protected_seen other.now) }
+    {
+        same_protected(self, other)
     }
+}
 
-    /// The same as [`ProtectedHeader::protected_bytes`].
-    fn encode(&self, alloc: Global, out: &mut Vec<u8>) -> Result<()> {
-        write_protected(alloc, self.0, out)
+impl Eq for ProtectedHeader {
+    ghost laws = { on_equiv protected_seen protected_eq_equiv };
+}
+
+/// The same as [`ProtectedHeader::clone`], for generic code.
+impl Clone for ProtectedHeader {
+    ghost is_clone = { λ protected copy. protected_seen copy ≡ protected_seen protected };
+
+    fn clone(&self) -> Result<ProtectedHeader, AllocError> {
+        let mut copy = ProtectedHeader::new(*self.header.rest.allocator());
+        copy_protected(self, &mut copy)?;
+        Ok(copy)
+    }
+}
+
+impl ProtectedHeader {
+    /// A protected header that equals this one, with the same bytes kept.
+    ///
+    /// # Errors
+    /// `OutOfMemory` alone.
+    pub fn clone(&self) -> Result<ProtectedHeader>
+        ensures copy { IfOk result (λ p. protected_seen p ≡ protected_seen self.now) }
+        ensures memory { IfErr result (λ e. e ≡ OutOfMemory) }
+    {
+        Ok(Clone::clone(self)?)
     }
 }
 
@@ -214,4 +252,193 @@ impl CborSerializable for ProtectedHeader {
     fn to_vec(self, alloc: Global) -> Result<Vec<u8>> {
         encode_to_vec(alloc, &self)
     }
+}
+
+/// A protected header as the byte string that stands for it in messages.
+#[derive(Clone, Copy)]
+pub struct Bstr<'a>(pub &'a ProtectedHeader);
+
+impl Encode for Bstr<'_> {
+    ghost image = { λ p. protected_shape.image (protected_seen p.0.now) };
+
+    ghost spare = { 24 };
+
+    fn room(&self) -> usize {
+        match &self.0.original_data {
+            Some(bytes) => bytes.room(),
+            None => self.0.header.room(),
+        }
+    }
+
+    /// The same as [`ProtectedHeader::protected_bytes`].
+    fn encode(&self, alloc: Global, out: &mut Vec<u8>) -> Result<()> {
+        write_protected(alloc, self.0, out)
+    }
+}
+
+/// The bytes of a byte string.
+///
+/// # Errors
+/// `OutOfMemory`, or `UnexpectedItem`: the item is no byte string.
+pub(crate) fn string_bytes(
+    alloc: Global,
+    source: Source<'_>,
+    error: &mut CoseError,
+) -> Result<Vec<u8>, Refused>
+    ensures read { Reads bstr (λ b. b.items) (source_item source.entry)
+        (answer error.new result) }
+    ensures kept { OnOk result (error.new ≡ error.old) }
+{
+    keep_error(source.into_bytes(alloc, "bstr"), error)
+}
+
+/// Reads the header that the bytes hold which an empty protected header keeps.
+///
+/// # Errors
+/// `OutOfMemory`, or the first fault found: the bytes are one layer too many (`DecodeFailed`); or of what they hold.
+#[cycle(read)]
+#[inline(never)]
+pub(crate) fn fill_protected(
+    protected: &mut ProtectedHeader,
+    alloc: Global,
+    layers: usize,
+    error: &mut CoseError,
+) -> Result<(), Refused>
+    requires empty { (protected_seen protected.old).header ≡ empty_header }
+    ensures { (b : List ℕ) → (protected_seen protected.old).original ≡ Some b
+        → Fills (layered_protected layers) (bytes b) (protected_seen protected.new)
+        (answer error.new result) }
+{
+    let Some(content) = &protected.original_data else {
+        return Ok(());
+    };
+    if layers == 0 {
+        *error = CoseError::DecodeFailed(de::Error::RecursionLimitExceeded);
+        return Err(Refused);
+    }
+    fill_content(&mut protected.header, alloc, content, layers - 1, error)
+}
+
+/// Reads the header that the content of a byte string is: none is the empty one.
+///
+/// # Errors
+/// `OutOfMemory`, or the first fault found: the content isn't an item within 256 levels (`DecodeFailed`), others follow
+/// that (`ExtraneousData`), or it isn't a header.
+#[cycle(read)]
+fn fill_content(
+    header: &mut Header,
+    alloc: Global,
+    content: &[u8],
+    layers: usize,
+    error: &mut CoseError,
+) -> Result<(), Refused>
+    requires empty { header_seen header.old ≡ empty_header }
+    ensures { FillsContent layers content.now (header_seen header.new)
+        (answer error.new result) }
+{
+    if content.is_empty() {
+        return Ok(());
+    }
+    keep_error(whole_item(content), error)?;
+    let mut input = Input::of_bytes(content);
+    fill_header(header, alloc, &mut input, layers, error)
+}
+
+/// Reads a protected header from its byte string into an empty one.
+pub(crate) fn fill_bstr(
+    protected: &mut ProtectedHeader,
+    alloc: Global,
+    source: Source<'_>,
+    error: &mut CoseError,
+) -> Result<(), Refused>
+    requires empty { (protected_seen protected.old).header ≡ empty_header }
+    ensures { Fills protected_shape (source_item source.entry) (protected_seen protected.new)
+        (answer error.new result) }
+{
+    let bytes = string_bytes(alloc, source, error)?;
+    protected.original_data = Some(bytes);
+    fill_protected(protected, alloc, LAYERS, error)
+}
+
+/// A protected header.
+fn read_protected(alloc: Global, source: Source<'_>) -> Result<ProtectedHeader>
+    ensures { Reads protected_shape protected_seen (source_item source.entry) result }
+{
+    let mut protected = ProtectedHeader::new(alloc);
+    let mut error = CoseError::OutOfMemory;
+    match fill_bstr(&mut protected, alloc, source, &mut error) {
+        Ok(()) => Ok(protected),
+        Err(Refused) => Err(error),
+    }
+}
+
+/// Appends the byte string that stands for the protected header. Bytes that were read aren't copied first.
+#[cycle(write)]
+pub(crate) fn write_protected(
+    alloc: Global,
+    protected: &ProtectedHeader,
+    out: &mut Vec<u8>,
+) -> Result<()>
+    ensures { Encodes (option_map bytes (protected_bytes (protected_seen protected.now)))
+        out.old.items out.new.items result }
+{
+    if let Some(bytes) = &protected.original_data {
+        write_bytes(bytes, out)?;
+        return Ok(());
+    }
+    let bytes = fresh_bytes(alloc, &protected.header)?;
+    write_bytes(&bytes, out)?;
+    Ok(())
+}
+
+/// The bytes of a header that wasn't read: none where it is empty, else the shortest encoding of its map.
+///
+/// # Errors
+/// The same as [`write_header`].
+#[cycle(write)]
+fn fresh_bytes(alloc: Global, header: &Header) -> Result<Vec<u8>>
+    ensures ok { IfOk result (λ b. fresh_bytes (is_empty_header (header_seen header.now))
+        (header_image (header_seen header.now)) ≡ Some b.items) }
+    ensures shortest { IfOk result (λ b. AreShortest None (header_seen header.now) b.items) }
+    ensures refused { IfErr result
+        (HasNoImage (fresh_bytes (is_empty_header (header_seen header.now))
+        (header_image (header_seen header.now)))) }
+{
+    laws::least_encoding_is_shortest();
+    let mut bytes = Vec::new(alloc);
+    if !header.is_empty() {
+        write_header(alloc, header, &mut bytes)?;
+    }
+    Ok(bytes)
+}
+
+/// Copies bytes that were kept, if any.
+#[inline(never)]
+fn copy_kept(kept: &Option<Vec<u8>>, copy: &mut Option<Vec<u8>>) -> Result<(), AllocError>
+    ensures { OnOk result (option_map (λ v. v.items) copy.new ≡ option_map (λ v. v.items) kept.now) }
+{
+    *copy = match kept {
+        Some(bytes) => Some(Vec::from_slice(*bytes.allocator(), bytes)?),
+        None => None,
+    };
+    Ok(())
+}
+
+/// Copies a protected header into another, with the bytes that it keeps.
+#[cycle(copy)]
+pub(crate) fn copy_protected(
+    protected: &ProtectedHeader,
+    copy: &mut ProtectedHeader,
+) -> Result<(), AllocError>
+    ensures { OnOk result (protected_seen copy.new ≡ protected_seen protected.now) }
+{
+    copy_kept(&protected.original_data, &mut copy.original_data)?;
+    copy_header(&protected.header, &mut copy.header)
+}
+
+#[cycle(same)]
+pub(crate) fn same_protected(a: &ProtectedHeader, b: &ProtectedHeader) -> bool
+    ensures { result ≡ protected_eq (protected_seen a.now) (protected_seen b.now) }
+{
+    a.original_data == b.original_data && same_header(&a.header, &b.header)
 }

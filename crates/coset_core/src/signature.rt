@@ -1,20 +1,42 @@
-//! Signatures: those of a message, and those that countersign.
+//! Signatures: those of a message, and those that countersign (RFC 8152, sections 4.1 and 4.5).
+//!
+//! ```cddl
+//! COSE_Signature = [ Headers, signature : bstr ]
+//! ```
 
-ghost use Rattle.std.specs.Prelude.{◌≡◌, ◌<◌, ◌+◌, None, IfSome, []};
-ghost use Rattle.coset_core.specs.Headers.{empty_header, signature};
-ghost use Rattle.coset_core.specs.Held.{signatures_in};
+ghost use Rattle.std.specs.Prelude.{◌≡◌, [], map, option_map, OnOk, IfOk, IfErr, codes, ◌≤◌, ◌<◌, IsTrue, OnErr, None, ◌↔◌, ◌+◌, IfSome};
+ghost use Rattle.coset_shape.specs.declared.error.CoseError.TheVariants.{OutOfMemory};
+ghost use Rattle.coset_core.specs.Contents.{GetsEmpty, Fills, FillsEach, GetsPlace, empty_signature};
 ghost use Rattle.coset_core.specs.Views.{signature_seen};
+ghost use Rattle.coset_shape.specs.Answers.{Reads};
+ghost use Rattle.coset_shape.specs.Errors.{IsUnexpected, answer, filled};
+ghost use Rattle.coset_shape.specs.Sources.{source_item};
+ghost use Rattle.coset_value.specs.Item.{Item, array, Items, no_items, item};
+ghost use Rattle.coset_shape.specs.Inputs.{State, state, still, size, items_size, items_turns, Stands, GoesBehind, AreWithin, EntersArray, TakesNext};
+ghost use Rattle.coset_core.specs.Filling.{BeginsNext, BeginsPlaces, EndsPlaces};
+ghost use Rattle.coset_core.specs.Headers.{empty_header, layered_signature, signature as signature_shape, signatures_of, signatures_image};
+ghost use Rattle.coset_core.specs.Written.{AppendsSignatures, signature_array};
+ghost use Rattle.coset_shape.specs.Encoding.{HasNoImage, Encodes};
+ghost use Rattle.std.specs.Ordering.{on};
+ghost use Rattle.std.specs.Cmp.{on_equiv, on_per, partial_equiv_from_equiv};
+ghost use Rattle.coset_core.specs.Same.{signature_eq, signatures_eq};
+ghost use Rattle.coset_core.specs.SameLaws.{signature_eq_equiv};
+ghost use Rattle.coset_core.specs.Held.{signatures_in};
 
-use crate::header::Header;
-use crate::protected::{Bstr, ProtectedHeader};
-use crate::read::read_signature;
-use crate::write::write_signature;
+use crate::header::{Header, LAYERS, copy_header, fill_header, same_header, write_header};
+use crate::protected::{
+    Bstr, ProtectedHeader, copy_protected, fill_protected, same_protected, string_bytes,
+    write_protected,
+};
 use coset_cbor::de::Pull;
+use coset_cbor::ser::{write_array_head, write_bytes};
 use coset_cbor::value::Value;
 use coset_shape::encode::{Encode, encode_to_value, encode_to_vec};
+use coset_shape::error::{Refused, keep_error};
+use coset_shape::input::{Input, InputItems};
 use coset_shape::traits::{FromPull, read_slice};
-use coset_shape::{AsCborValue, CborSerializable, Lawful, Result, Source};
-use std::alloc::Global;
+use coset_shape::{AsCborValue, CborSerializable, CoseError, Lawful, Result, Source};
+use std::alloc::{AllocError, Global};
 
 /// One signature (RFC 8152, section 4.1), which has its own headers: of a `COSE_Sign` message, or a counter signature
 /// (section 4.5).
@@ -45,6 +67,513 @@ impl CoseSignature {
             signature: Vec::new(alloc),
         }
     }
+}
+
+/// Equality of the headers and of the signature's bytes.
+impl PartialEq for CoseSignature {
+    ghost eq = { on signature_seen signature_eq };
+
+    ghost laws = { on_per signature_seen (partial_equiv_from_equiv signature_eq_equiv) };
+
+    fn eq(&self, other: &CoseSignature) -> bool
+        ensures answers { result ≡ signature_eq (signature_seen self.now)
+            (signature_seen other.now) }
+        ensures equal { IsTrue result ↔ (signature_seen self.now ≡ signature_seen other.now) }
+    {
+        same_signature(self, other)
+    }
+}
+
+impl Eq for CoseSignature {
+    ghost laws = { on_equiv signature_seen signature_eq_equiv };
+}
+
+/// The same as [`CoseSignature::clone`], for generic code.
+impl Clone for CoseSignature {
+    ghost is_clone = { λ signed copy. signature_seen copy ≡ signature_seen signed };
+
+    fn clone(&self) -> Result<CoseSignature, AllocError> {
+        let mut copy = CoseSignature::new(*self.signature.allocator());
+        copy_signature(self, &mut copy)?;
+        Ok(copy)
+    }
+}
+
+impl CoseSignature {
+    /// A signature that equals this one.
+    ///
+    /// # Errors
+    /// `OutOfMemory` alone.
+    pub fn clone(&self) -> Result<CoseSignature>
+        ensures copy { IfOk result (λ s. signature_seen s ≡ signature_seen self.now) }
+        ensures memory { IfErr result (λ e. e ≡ OutOfMemory) }
+    {
+        Ok(Clone::clone(self)?)
+    }
+}
+
+impl AsCborValue for CoseSignature {
+    ghost use Rattle.coset_core.specs.Headers.{SignatureSeen};
+    ghost use Rattle.coset_core.specs.HeaderLaws.{signature_laws};
+
+    ghost Seen = { SignatureSeen };
+
+    ghost seen = { signature_seen };
+
+    ghost shape = { signature_shape };
+
+    ghost unique = { signature_laws.unique };
+
+    ghost sound = { signature_laws.sound };
+
+    fn from_cbor_value(alloc: Global, value: Value) -> Result<CoseSignature> {
+        read_signature(alloc, Source::Tree(value))
+    }
+
+    fn to_cbor_value(self, alloc: Global) -> Result<Value> {
+        encode_to_value(alloc, &self)
+    }
+}
+
+impl Lawful for CoseSignature {
+    ghost use Rattle.coset_core.specs.HeaderLaws.{signature_laws};
+
+    ghost laws = { signature_laws };
+}
+
+impl Encode for CoseSignature {
+    ghost image = { λ s. signature_shape.image (signature_seen s) };
+
+    ghost spare = { 57 };
+
+    fn room(&self) -> usize {
+        Bstr(&self.protected)
+            .room()
+            .saturating_add(self.unprotected.room())
+            .saturating_add(self.signature.room())
+    }
+
+    fn encode(&self, alloc: Global, out: &mut Vec<u8>) -> Result<()> {
+        write_signature(alloc, self, out)
+    }
+}
+
+impl FromPull for CoseSignature {
+    fn from_pull(alloc: Global, pull: Pull<'_>) -> Result<CoseSignature> {
+        read_signature(alloc, Source::Lent(pull))
+    }
+}
+
+impl CborSerializable for CoseSignature {
+    fn from_slice(alloc: Global, s: &[u8]) -> Result<CoseSignature> {
+        read_slice(alloc, s)
+    }
+
+    fn to_vec(self, alloc: Global) -> Result<Vec<u8>> {
+        encode_to_vec(alloc, &self)
+    }
+}
+
+/// One more signature, which holds nothing.
+#[inline(never)]
+fn push_empty(alloc: Global, all: &mut Vec<CoseSignature>) -> Result<(), AllocError>
+    ensures { OnOk result (GetsEmpty all.old.items all.new.items) }
+{
+    all.push(CoseSignature::new(alloc))?;
+    Ok(())
+}
+
+/// One more signature, which holds nothing. The first takes room for itself alone.
+fn add_signature(
+    alloc: Global,
+    all: &mut Vec<CoseSignature>,
+    error: &mut CoseError,
+) -> Result<(), Refused>
+    ensures ok { OnOk result (GetsEmpty all.old.items all.new.items) }
+    ensures refused { OnErr result (error.new ≡ OutOfMemory) }
+{
+    let is_first = all.is_empty();
+    if is_first && all.reserve_exact(1).is_err() || push_empty(alloc, all).is_err() {
+        *error = CoseError::OutOfMemory;
+        return Err(Refused);
+    }
+    Ok(())
+}
+
+/// Whether one more signature stands at the input, for which one more that holds nothing is there then.
+///
+/// # Errors
+/// `OutOfMemory`; the signature is then passed.
+#[inline(never)]
+fn next_signature(
+    alloc: Global,
+    all: &mut Vec<CoseSignature>,
+    members: &mut InputItems,
+    input: &mut Input<'_>,
+    error: &mut CoseError,
+) -> Result<bool, Refused>
+    ensures shrinks { still (state input.new) ≤ still (state input.old) }
+    ensures size { items_size members.new (state input.new) ≤ items_size members.old
+        (state input.old) }
+    ensures member { IfOk result (λ b. IsTrue b → size (state input.new) ≤ items_size members.old
+        (state input.old)) }
+    ensures turns { IfOk result (λ b. IsTrue b → (t : State) → GoesBehind (state input.new) t
+        → items_turns members.new t < items_turns members.old (state input.old)) }
+    ensures place { IfOk result (GetsPlace all.old.items all.new.items) }
+    ensures next { (vs : Items) (z : State) → AreWithin members.old vs (state input.old) z
+        → BeginsNext vs (state input.new) z members.new (answer error.new result) }
+{
+    if !members.next(input) {
+        return Ok(false);
+    }
+    match add_signature(alloc, all, error) {
+        Ok(()) => Ok(true),
+        Err(Refused) => {
+            input.pass();
+            Err(Refused)
+        }
+    }
+}
+
+/// The error of an array that hasn't three places.
+#[cold]
+fn misfit() -> CoseError
+    ensures { IsUnexpected result }
+{
+    CoseError::UnexpectedItem("array", "array with 3 items")
+}
+
+/// The next place of an array, or `None` where none is left.
+fn next_place<'a>(
+    members: &mut InputItems,
+    input: &mut Input<'a>,
+    error: &mut CoseError,
+) -> Result<Option<Source<'a>>, Refused>
+    ensures shrinks { still (state input.new) ≤ still (state input.old) }
+    ensures size { items_size members.new (state input.new) ≤ items_size members.old
+        (state input.old) }
+    ensures takes { (vs : Items) (z : State) → AreWithin members.old vs (state input.old) z
+        → TakesNext vs (state input.new) z members.new (answer error.new result) }
+    ensures kept { OnOk result (error.new ≡ error.old) }
+{
+    keep_error(members.take(input), error)
+}
+
+/// Reads the first place of a signature's array, a byte string that is kept; the second then stands at the input. It says
+/// whether the first is one, and why not in a place of its own, since the later places are judged before it.
+///
+/// # Errors
+/// `UnexpectedItem`: the array has fewer places.
+#[inline(never)]
+fn begin_places(
+    kept: &mut Option<Vec<u8>>,
+    why: &mut CoseError,
+    alloc: Global,
+    members: &mut InputItems,
+    input: &mut Input<'_>,
+    error: &mut CoseError,
+) -> Result<bool, Refused>
+    ensures shrinks { still (state input.new) ≤ still (state input.old) }
+    ensures size { items_size members.new (state input.new) ≤ items_size members.old
+        (state input.old) }
+    ensures place { OnOk result
+        (size (state input.new) ≤ items_size members.old (state input.old)) }
+    ensures begins { (vs : Items) (z : State) → AreWithin members.old vs (state input.old) z
+        → BeginsPlaces vs (state input.new) z members.new (option_map (λ b. b.items) kept.new)
+        why.new (answer error.new result) }
+{
+    let Some(first) = next_place(members, input, error)? else {
+        *error = misfit();
+        return Err(Refused);
+    };
+    if !members.next(input) {
+        *error = misfit();
+        return Err(Refused);
+    }
+    match string_bytes(alloc, first, why) {
+        Ok(bytes) => {
+            *kept = Some(bytes);
+            Ok(true)
+        }
+        Err(Refused) => Ok(false),
+    }
+}
+
+/// Reads the third and last place of a signature's array.
+///
+/// # Errors
+/// `OutOfMemory`, or `UnexpectedItem`: there is none, or it isn't the last, or it is no byte string.
+#[inline(never)]
+fn end_places(
+    signature: &mut Vec<u8>,
+    alloc: Global,
+    members: &mut InputItems,
+    input: &mut Input<'_>,
+    error: &mut CoseError,
+) -> Result<(), Refused>
+    ensures shrinks { still (state input.new) ≤ still (state input.old) }
+    ensures ends { (vs : Items) (z : State) → AreWithin members.old vs (state input.old) z
+        → EndsPlaces vs (state input.new) z members.new signature.new.items
+        (answer error.new result) }
+    ensures kept { OnOk result (error.new ≡ error.old) }
+{
+    let Some(last) = next_place(members, input, error)? else {
+        *error = misfit();
+        return Err(Refused);
+    };
+    if members.next(input) {
+        input.pass();
+        *error = misfit();
+        return Err(Refused);
+    }
+    *signature = string_bytes(alloc, last, error)?;
+    Ok(())
+}
+
+/// Reads the array of one signature into an empty list.
+///
+/// # Errors
+/// The same as [`fill_places`].
+#[cycle(read)]
+pub(crate) fn fill_one(
+    all: &mut Vec<CoseSignature>,
+    alloc: Global,
+    members: &mut InputItems,
+    input: &mut Input<'_>,
+    layers: usize,
+    error: &mut CoseError,
+) -> Result<(), Refused>
+    requires empty { map signature_seen all.old.items ≡ [] }
+    ensures shrinks { still (state input.new) ≤ still (state input.old) }
+    ensures fills { (vs : Items) (z : State) → AreWithin members.old vs (state input.old) z
+        → ((left : Items) × AreWithin members.new left (state input.new) z) × FillsEach (layered_signature layers) (item (array vs) no_items) (map signature_seen all.new.items)
+        (answer error.new result) }
+{
+    add_signature(alloc, all, error)?;
+    let last = all.len() - 1;
+    fill_places(&mut all[last], alloc, members, input, layers, error)
+}
+
+/// Reads each of some signatures into an empty list.
+///
+/// # Errors
+/// `OutOfMemory`, or the fault of the first that has one.
+#[cycle(read)]
+pub(crate) fn fill_each(
+    all: &mut Vec<CoseSignature>,
+    alloc: Global,
+    members: &mut InputItems,
+    input: &mut Input<'_>,
+    layers: usize,
+    error: &mut CoseError,
+) -> Result<(), Refused>
+    requires empty { map signature_seen all.old.items ≡ [] }
+    ensures shrinks { still (state input.new) ≤ still (state input.old) }
+    ensures fills { (vs : Items) (z : State) → AreWithin members.old vs (state input.old) z
+        → ((left : Items) × AreWithin members.new left (state input.new) z) × FillsEach (layered_signature layers) vs (map signature_seen all.new.items)
+        (answer error.new result) }
+{
+    while next_signature(alloc, all, members, input, error)? {
+        let last = all.len() - 1;
+        fill_signature(&mut all[last], alloc, input, layers, error)?;
+    }
+    Ok(())
+}
+
+/// The members of an array.
+///
+/// # Errors
+/// `UnexpectedItem`: the item is no array; it is passed.
+#[inline(never)]
+fn begin_items(
+    members: &mut InputItems,
+    input: &mut Input<'_>,
+    error: &mut CoseError,
+) -> Result<(), Refused>
+    ensures shrinks { still (state input.new) ≤ still (state input.old) }
+    ensures strictly { OnOk result (GoesBehind (state input.old) (state input.new)) }
+    ensures deeper { OnOk result
+        (items_size members.new (state input.new) < size (state input.old)) }
+    ensures enters { (v : Item) (z : State) → Stands v (state input.old) z
+        → EntersArray (codes "array") v (state input.new) z
+        (filled (λ _. members.new) error.new result) }
+{
+    *members = keep_error(input.enter_array("array"), error)?;
+    Ok(())
+}
+
+/// Reads a signature into one that holds nothing.
+///
+/// # Errors
+/// `UnexpectedItem`: the item is no array; or the same as [`fill_places`].
+#[cycle(read)]
+fn fill_signature(
+    signed: &mut CoseSignature,
+    alloc: Global,
+    input: &mut Input<'_>,
+    layers: usize,
+    error: &mut CoseError,
+) -> Result<(), Refused>
+    requires empty { signature_seen signed.old ≡ empty_signature }
+    ensures shrinks { still (state input.new) ≤ still (state input.old) }
+    ensures strictly { OnOk result (GoesBehind (state input.old) (state input.new)) }
+    ensures fills { (v : Item) (z : State) → Stands v (state input.old) z → (state input.new ≡ z)
+        × Fills (layered_signature layers) v (signature_seen signed.new)
+        (answer error.new result) }
+{
+    let mut members = InputItems::none();
+    begin_items(&mut members, input, error)?;
+    let filled = fill_places(signed, alloc, &mut members, input, layers, error);
+    members.finish(input);
+    filled
+}
+
+/// Reads the places of a signature's array into one that holds nothing. They are read from the first on, and judged
+/// from
+/// the last on.
+///
+/// # Errors
+/// `OutOfMemory`; `UnexpectedItem` where they are not three; or the fault of the last place that has one.
+#[cycle(read)]
+fn fill_places(
+    signed: &mut CoseSignature,
+    alloc: Global,
+    members: &mut InputItems,
+    input: &mut Input<'_>,
+    layers: usize,
+    error: &mut CoseError,
+) -> Result<(), Refused>
+    requires empty { signature_seen signed.old ≡ empty_signature }
+    ensures shrinks { still (state input.new) ≤ still (state input.old) }
+    ensures fills { (vs : Items) (z : State) → AreWithin members.old vs (state input.old) z
+        → ((left : Items) × AreWithin members.new left (state input.new) z) × Fills (layered_signature layers) (array vs) (signature_seen signed.new)
+        (answer error.new result) }
+{
+    let mut why = CoseError::OutOfMemory;
+    let kept = &mut signed.protected.original_data;
+    let is_string = begin_places(kept, &mut why, alloc, members, input, error)?;
+    let unprotected = fill_header(&mut signed.unprotected, alloc, input, layers, error);
+    end_places(&mut signed.signature, alloc, members, input, error)?;
+    unprotected?;
+    if !is_string {
+        *error = why;
+        return Err(Refused);
+    }
+    fill_protected(&mut signed.protected, alloc, layers, error)
+}
+
+/// A signature.
+fn read_signature(alloc: Global, source: Source<'_>) -> Result<CoseSignature>
+    ensures { Reads signature_shape signature_seen (source_item source.entry) result }
+{
+    let mut signed = CoseSignature::new(alloc);
+    let mut input = Input::new(source);
+    let mut error = CoseError::OutOfMemory;
+    match fill_signature(&mut signed, alloc, &mut input, LAYERS, &mut error) {
+        Ok(()) => Ok(signed),
+        Err(Refused) => Err(error),
+    }
+}
+
+/// Appends the signatures, one after the other.
+#[cycle(write)]
+pub(crate) fn write_signatures(
+    alloc: Global,
+    signatures: &[CoseSignature],
+    out: &mut Vec<u8>,
+) -> Result<()>
+    ensures ok { OnOk result
+        (AppendsSignatures out.old.items out.new.items (map signature_seen signatures.now)) }
+    ensures refused { IfErr result
+        (HasNoImage (signatures_image (signatures_of (map signature_seen signatures.now)))) }
+{
+    for signature in signatures {
+        write_signature(alloc, signature, out)?;
+    }
+    Ok(())
+}
+
+/// Appends the array of the signature.
+#[cycle(write)]
+fn write_signature(alloc: Global, signature: &CoseSignature, out: &mut Vec<u8>) -> Result<()>
+    ensures { Encodes (signature_array (signature_seen signature.now)) out.old.items
+        out.new.items result }
+{
+    write_array_head(3, out)?;
+    write_protected(alloc, &signature.protected, out)?;
+    write_header(alloc, &signature.unprotected, out)?;
+    write_bytes(&signature.signature, out)?;
+    Ok(())
+}
+
+/// Empties a list, and makes room for that many.
+#[inline(never)]
+fn make_room(copies: &mut Vec<CoseSignature>, count: usize) -> Result<(), AllocError>
+    ensures { copies.new.items ≡ [] }
+{
+    copies.clear();
+    copies.reserve_exact(count)
+}
+
+/// Copies bytes.
+#[inline(never)]
+fn copy_into(bytes: &Vec<u8>, copy: &mut Vec<u8>) -> Result<(), AllocError>
+    ensures { OnOk result (copy.new.items ≡ bytes.now.items) }
+{
+    *copy = Vec::from_slice(*bytes.allocator(), bytes)?;
+    Ok(())
+}
+
+/// Copies signatures into a list, in place of those that it holds.
+#[cycle(copy)]
+pub(crate) fn copy_signatures(
+    all: &[CoseSignature],
+    copies: &mut Vec<CoseSignature>,
+) -> Result<(), AllocError>
+    ensures { OnOk result (map signature_seen copies.new.items ≡ map signature_seen all.now) }
+{
+    make_room(copies, all.len())?;
+    for signature in all {
+        push_empty(*copies.allocator(), copies)?;
+        let last = copies.len() - 1;
+        copy_signature(signature, &mut copies[last])?;
+    }
+    Ok(())
+}
+
+/// Copies a signature into another.
+#[cycle(copy)]
+fn copy_signature(signature: &CoseSignature, copy: &mut CoseSignature) -> Result<(), AllocError>
+    ensures { OnOk result (signature_seen copy.new ≡ signature_seen signature.now) }
+{
+    copy_protected(&signature.protected, &mut copy.protected)?;
+    copy_header(&signature.unprotected, &mut copy.unprotected)?;
+    copy_into(&signature.signature, &mut copy.signature)
+}
+
+#[cycle(same)]
+pub(crate) fn same_signatures(all: &[CoseSignature], others: &[CoseSignature]) -> bool
+    ensures { result ≡ signatures_eq (signatures_of (map signature_seen all.now))
+        (signatures_of (map signature_seen others.now)) }
+{
+    if all.len() != others.len() {
+        return false;
+    }
+    for (a, b) in all.iter().zip(others) {
+        if !same_signature(a, b) {
+            return false;
+        }
+    }
+    true
+}
+
+#[cycle(same)]
+fn same_signature(a: &CoseSignature, b: &CoseSignature) -> bool
+    ensures { result ≡ signature_eq (signature_seen a.now) (signature_seen b.now) }
+{
+    same_protected(&a.protected, &b.protected)
+        && same_header(&a.unprotected, &b.unprotected)
+        && a.signature == b.signature
 }
 
 /// Of the last signature the counter signatures of its two headers. The rest of it is let go.
@@ -78,66 +607,4 @@ pub(crate) fn let_go(all: Vec<CoseSignature>) {
         let_go(unprotected);
     }
     all.destroy_empty();
-}
-
-impl AsCborValue for CoseSignature {
-    ghost use Rattle.coset_core.specs.Headers.{SignatureSeen};
-    ghost use Rattle.coset_core.specs.HeaderLaws.{signature_laws};
-
-    ghost Seen = { SignatureSeen };
-
-    ghost seen = { signature_seen };
-
-    ghost shape = { signature };
-
-    ghost unique = { signature_laws.unique };
-
-    ghost sound = { signature_laws.sound };
-
-    fn from_cbor_value(alloc: Global, value: Value) -> Result<CoseSignature> {
-        read_signature(alloc, Source::Tree(value))
-    }
-
-    fn to_cbor_value(self, alloc: Global) -> Result<Value> {
-        encode_to_value(alloc, &self)
-    }
-}
-
-impl Lawful for CoseSignature {
-    ghost use Rattle.coset_core.specs.HeaderLaws.{signature_laws};
-
-    ghost laws = { signature_laws };
-}
-
-impl Encode for CoseSignature {
-    ghost image = { λ s. signature.image (signature_seen s) };
-
-    ghost spare = { 57 };
-
-    fn room(&self) -> usize {
-        Bstr(&self.protected)
-            .room()
-            .saturating_add(self.unprotected.room())
-            .saturating_add(self.signature.room())
-    }
-
-    fn encode(&self, alloc: Global, out: &mut Vec<u8>) -> Result<()> {
-        write_signature(alloc, self, out)
-    }
-}
-
-impl FromPull for CoseSignature {
-    fn from_pull(alloc: Global, pull: Pull<'_>) -> Result<CoseSignature> {
-        read_signature(alloc, Source::Lent(pull))
-    }
-}
-
-impl CborSerializable for CoseSignature {
-    fn from_slice(alloc: Global, s: &[u8]) -> Result<CoseSignature> {
-        read_slice(alloc, s)
-    }
-
-    fn to_vec(self, alloc: Global) -> Result<Vec<u8>> {
-        encode_to_vec(alloc, &self)
-    }
 }

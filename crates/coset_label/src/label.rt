@@ -13,7 +13,7 @@ use coset_cbor::value::Value;
 use coset_shape::encode::{Encode, encode_to_vec};
 use coset_shape::traits::{FromPull, read_slice};
 use coset_shape::{AsCborValue, CborSerializable, Lawful, Result, Source};
-use std::alloc::Global;
+use std::alloc::{AllocError, Global};
 
 /// A label: an integer within 64 bits with a sign, or a text (RFC 8152, section 1.4).
 #[derive(Debug, Drop)]
@@ -100,6 +100,17 @@ impl CborSerializable for Label {
     }
 }
 
+impl Clone for Label {
+    ghost is_clone = { λ label copy. label_seen copy ≡ label_seen label };
+
+    fn clone(&self) -> Result<Label, AllocError> {
+        match self {
+            Label::Int(number) => Ok(Label::Int(*number)),
+            Label::Text(text) => Ok(Label::Text(text.clone()?)),
+        }
+    }
+}
+
 impl Label {
     /// A label that equals this one.
     ///
@@ -109,9 +120,6 @@ impl Label {
         ensures copy { IfOk result (λ x. label_seen x ≡ label_seen self.now) }
         ensures memory { IfErr result (λ e. e ≡ OutOfMemory) }
     {
-        match self {
-            Label::Int(number) => Ok(Label::Int(*number)),
-            Label::Text(text) => Ok(Label::Text(text.clone()?)),
-        }
+        Ok(Clone::clone(self)?)
     }
 }

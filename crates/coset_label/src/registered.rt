@@ -14,7 +14,7 @@ use coset_iana::{EnumI64, WithPrivateRange};
 use coset_shape::encode::{Encode, encode_to_vec};
 use coset_shape::traits::{FromPull, read_slice};
 use coset_shape::{AsCborValue, CborSerializable, CoseError, Lawful, Result, Source};
-use std::alloc::Global;
+use std::alloc::{AllocError, Global};
 
 /// A label of a registry without a private range: one of its values, or a text (RFC 8152, section 16).
 #[derive(Debug, Drop)]
@@ -212,6 +212,18 @@ impl<T: EnumI64 + WithPrivateRange + Drop> CborSerializable for RegisteredLabelW
     }
 }
 
+impl<T: EnumI64 + Clone> Clone for RegisteredLabel<T> {
+    ghost is_clone = { λ label copy. ((x y : T) → T.is_clone x y → y ≡ x)
+        → registered_seen T.number copy ≡ registered_seen T.number label };
+
+    fn clone(&self) -> Result<RegisteredLabel<T>, AllocError> {
+        match self {
+            RegisteredLabel::Assigned(value) => Ok(RegisteredLabel::Assigned(value.clone()?)),
+            RegisteredLabel::Text(text) => Ok(RegisteredLabel::Text(text.clone()?)),
+        }
+    }
+}
+
 impl<T: EnumI64 + Clone> RegisteredLabel<T> {
     /// A label that equals this one. A clone of the registry's value has to equal it.
     ///
@@ -223,9 +235,25 @@ impl<T: EnumI64 + Clone> RegisteredLabel<T> {
             ≡ registered_seen T.number self.now) }
         ensures memory { IfErr result (λ e. e ≡ OutOfMemory) }
     {
+        Ok(Clone::clone(self)?)
+    }
+}
+
+impl<T: EnumI64 + Clone> Clone for RegisteredLabelWithPrivate<T> {
+    ghost is_clone = { λ label copy. ((x y : T) → T.is_clone x y → y ≡ x)
+        → registered_or_private_seen T.number copy ≡ registered_or_private_seen T.number label };
+
+    fn clone(&self) -> Result<RegisteredLabelWithPrivate<T>, AllocError> {
         match self {
-            RegisteredLabel::Assigned(value) => Ok(RegisteredLabel::Assigned(value.clone()?)),
-            RegisteredLabel::Text(text) => Ok(RegisteredLabel::Text(text.clone()?)),
+            RegisteredLabelWithPrivate::PrivateUse(number) => {
+                Ok(RegisteredLabelWithPrivate::PrivateUse(*number))
+            }
+            RegisteredLabelWithPrivate::Assigned(value) => {
+                Ok(RegisteredLabelWithPrivate::Assigned(value.clone()?))
+            }
+            RegisteredLabelWithPrivate::Text(text) => {
+                Ok(RegisteredLabelWithPrivate::Text(text.clone()?))
+            }
         }
     }
 }
@@ -241,16 +269,6 @@ impl<T: EnumI64 + Clone> RegisteredLabelWithPrivate<T> {
             ≡ registered_or_private_seen T.number self.now) }
         ensures memory { IfErr result (λ e. e ≡ OutOfMemory) }
     {
-        match self {
-            RegisteredLabelWithPrivate::PrivateUse(number) => {
-                Ok(RegisteredLabelWithPrivate::PrivateUse(*number))
-            }
-            RegisteredLabelWithPrivate::Assigned(value) => {
-                Ok(RegisteredLabelWithPrivate::Assigned(value.clone()?))
-            }
-            RegisteredLabelWithPrivate::Text(text) => {
-                Ok(RegisteredLabelWithPrivate::Text(text.clone()?))
-            }
-        }
+        Ok(Clone::clone(self)?)
     }
 }

@@ -1,0 +1,187 @@
+use Rattle.std.proofs.Common.{◌≡◌, Some, None, true, false, option_map, map, ap, sym, subst, refl, ◌∙◌, ◌-◌, arith, rules}
+use Rattle.coset_value.specs.Item.{Item, Items, array, bytes}
+use Rattle.coset_shape.specs.Inputs.{state, AreWithin}
+use Rattle.coset_shape.proofs.Inputs.{items_smaller}
+use Rattle.coset_shape.specs.Shape.{Each}
+use Rattle.coset_shape.specs.ShapeLaws.{some-one}
+use Rattle.coset_shape.specs.Errors.{answer, UnlessMemory}
+use Rattle.coset_core.specs.Contents.{Fills}
+use Rattle.coset_core.specs.FieldsView.{fields_level, fields_seen}
+use Rattle.coset_core.specs.HeaderAgain.{array-is}
+use Rattle.coset_core.specs.Headers.{SignatureSeen, layered_header, layered_protected, layered_signature}
+use Rattle.coset_core.specs.Views.{header_seen, protected_seen, signature_seen}
+use Rattle.coset_core.specs.ViewLaws.{protected-made, protected-opened, signature-made}
+use Rattle.coset_core.specs.declared.header.Header.{out-roll-Header}
+use Rattle.coset_core.specs.declared.protected.ProtectedHeader.{out-ProtectedHeader}
+use Rattle.coset_core.specs.declared.signature.CoseSignature.{out-roll-CoseSignature}
+use Rattle.coset_core.proofs.Reading.{no_layer_left, protected_filled, last_at, last_filled, none_more}
+use Rattle.coset_core.proofs.Forward.{not_entered, none_held_yet, set_out, pairs_refused, ends_plain, counter_signatures_refused, counter_signatures_filled, second_refused, ends_with_counter_signatures, one_filled, more_filled, one_filled_more, one_refused_more, places_refused, second_read, last_refused, places_filled, unprotected_refused, protected_refused}
+use Rattle.coset_core.proofs.+read.Goals as goal
+use Rattle.coset_core.proofs.+read.Goals.{header::fill_counter_signatures-then-one, header::fill_counter_signatures-else-one}
+
+pub protected::fill_protected-returns-then-layers-eq0 : goal.protected::fill_protected-returns-then-layers-eq0
+protected::fill_protected-returns-then-layers-eq0 t c = λ b kept n. no_layer_left c.args.layers (bytes b) b c.if-layers-eq0.true refl
+
+pub protected::fill_protected-returns : goal.protected::fill_protected-returns
+protected::fill_protected-returns t c = λ b kept.
+    let o = option_map (λ v. v.items) (out-ProtectedHeader c.args.protected.now).original_data in
+    let is : o ≡ Some b = sym (ap (λ p. p.original) (protected-opened c.args.protected.now)) ∙ kept in
+    let held : o ≡ Some c.in-Some.content.items = ap (option_map (λ v. v.items)) c.in-Some.is in
+    subst (λ y. Fills (layered_protected c.args.layers) (bytes b) y (answer c.fill_content.new.error c.fill_content.result)) (sym (protected-made _))
+    (protected_filled c.args.layers (c.args.layers - 1) b c.deref.result.now o (header_seen c.fill_content.new.header) (answer c.fill_content.new.error c.fill_content.result) (omega (arith, c.if-layers-eq0.false)) is
+    (c.deref.ensures.value ∙ some-one held is) c.fill_content.ensures)
+
+pub header::fill_counter_signatures-returns-clause-fills : goal.header::fill_counter_signatures-returns-clause-fills
+header::fill_counter_signatures-returns-clause-fills t c = elim c.if-one.branch [
+  | header::fill_counter_signatures-then-one w ↦ λ v z stands.
+      let here = c.in_ok-one.ensures.enters v z stands in
+      let read = w.fill_one-filled.ensures.fills here.0 z here.2 in
+      (c.finish.ensures.passes read.0.0 z (rw (w.members-is, w.input-is) read.0.1), rw (w.all-is, w.filled-is, w.error-is) (one_filled (layered_signature c.args.layers) v here.0 _ _ here.1 (rw w.if-one.true at here.3) read.1))
+  | header::fill_counter_signatures-else-one w ↦ λ v z stands.
+      let here = c.in_ok-one.ensures.enters v z stands in
+      let read = w.fill_each-filled.ensures.fills here.0 z here.2 in
+      (c.finish.ensures.passes read.0.0 z (rw (w.members-is, w.input-is) read.0.1), rw (w.all-is, w.filled-is, w.error-is) (more_filled (layered_signature c.args.layers) v here.0 _ _ here.1 (rw w.if-one.false at here.3) read.1))
+]
+
+pub signature::fill_each-loop-all-preserved : goal.signature::fill_each-loop-all-preserved
+signature::fill_each-loop-all-preserved t c =
+    let next = rw c.if-branch.true at c.in_ok-next_signature.ensures in
+    let at = last_at c.loop-all.all.items c.next_signature.new.all.items c.len-last.result (search rules) next.place in
+    let read = c.in_ok-fill_signature.ensures.shrinks in
+    record {
+      shrinks =
+          let one = next.shrinks in
+          let before = c.loop-all.invariant.shrinks in
+          omega (arith, read, one, before);
+      size =
+          let behind = items_smaller c.next_signature.new.members (state c.next_signature.new.input) (state c.fill_signature.new.input) read in
+          let one = next.size in
+          let before = c.loop-all.invariant.size in
+          omega (arith, behind, one, before);
+      fills = λ vs z within.
+          let p = c.loop-all.invariant.fills vs z within in
+          one_filled_more c.args.layers vs (state c.loop-all.input) (state c.next_signature.new.input) (state c.fill_signature.new.input) z c.loop-all.members c.next_signature.new.members (map signature_seen c.loop-all.all.items) _
+          (signature_seen c.fill_signature.new.signed) p (next.next p.others z p.within) c.in_ok-fill_signature.ensures.fills
+          (last_filled c.loop-all.all.items c.next_signature.new.all.items (c.len-last.result - 1) c.fill_signature.new.signed at next.place);
+    }
+
+pub signature::fill_each-returns-in_err-fill_signature-clause-fills : goal.signature::fill_each-returns-in_err-fill_signature-clause-fills
+signature::fill_each-returns-in_err-fill_signature-clause-fills t c = λ vs z within.
+    let next = rw c.if-branch.true at c.in_ok-next_signature.ensures in
+    let p = c.loop-all.invariant.fills vs z within in
+    one_refused_more c.args.layers vs (state c.loop-all.input) (state c.next_signature.new.input) (state c.fill_signature.new.input) z c.loop-all.members c.next_signature.new.members (map signature_seen c.loop-all.all.items) _
+    (signature_seen c.fill_signature.new.signed) c.from_residual-in_err-fill_signature.result c.fill_signature.new.error c.in_err-fill_signature.field-0.0 c.from_residual-in_err-fill_signature.ensures.1 p (next.next p.others z p.within) c.in_err-fill_signature.ensures.fills
+
+pub signature::fill_each-returns-clause-fills : goal.signature::fill_each-returns-clause-fills
+signature::fill_each-returns-clause-fills t c = λ vs z within.
+    let next = rw c.if-branch.false at c.in_ok-next_signature.ensures in
+    let p = c.loop-all.invariant.fills vs z within in
+    let none = next.next p.others z p.within in (
+      (_, none.1),
+      subst (λ xs. Each (layered_signature c.args.layers).describes vs (map signature_seen xs)) (sym next.place) (none_more (layered_signature c.args.layers) vs p.others (map signature_seen c.loop-all.all.items) p.continues none.0),
+    )
+
+pub header::fill_header-returns-in_err-begin_pairs-clause-fills : goal.header::fill_header-returns-in_err-begin_pairs-clause-fills
+header::fill_header-returns-in_err-begin_pairs-clause-fills t c = λ v z stands.
+    not_entered c.args.layers v _ (state c.begin_pairs.new.input) z c.from_residual.result c.begin_pairs.new.error c.in_err-begin_pairs.field-0.0 c.from_residual.ensures.1 (c.in_err-begin_pairs.ensures.enters v z stands)
+
+pub header::fill_pairs-returns-in_err-fill_fields-clause-fills : goal.header::fill_pairs-returns-in_err-fill_fields-clause-fills
+header::fill_pairs-returns-in_err-fill_fields-clause-fills t c = λ all z within.
+    pairs_refused c.args.layers all None z (fields_seen c.fill_fields.new.header) (state c.fill_fields.new.input) c.fill_fields.new.pairs _ c.from_residual.result c.fill_fields.new.error c.in_err-fill_fields.field-0.0 c.from_residual.ensures.1
+    (c.in_err-fill_fields.ensures.fills all all None z (set_out c.args.header.now all c.requires.empty) within)
+
+pub header::fill_pairs-returns-then-not-branch-clause-fills : goal.header::fill_pairs-returns-then-not-branch-clause-fills
+header::fill_pairs-returns-then-not-branch-clause-fills t c = λ all z within.
+    let read = rw c.if-not-branch.true at c.in_ok-fill_fields.ensures in
+    ends_plain c.args.layers all z c.fill_fields.new.header (state c.fill_fields.new.input) c.fill_fields.new.pairs (read.fills all all None z (set_out c.args.header.now all c.requires.empty) within) read.one_iv
+    (read.others ∙ none_held_yet c.args.header.now c.requires.empty)
+
+pub header::fill_pairs-fill_counter_signatures-requires : goal.header::fill_pairs-fill_counter_signatures-requires
+header::fill_pairs-fill_counter_signatures-requires t c =
+    let read = rw c.if-not-branch.false at c.in_ok-fill_fields.ensures in
+    let inner = read.value refl in
+    (omega (arith, inner, c.decreases), ap (map signature_seen) (read.others ∙ none_held_yet c.args.header.now c.requires.empty))
+
+pub header::fill_pairs-returns-in_err-fill_counter_signatures-clause-fills : goal.header::fill_pairs-returns-in_err-fill_counter_signatures-clause-fills
+header::fill_pairs-returns-in_err-fill_counter_signatures-clause-fills t c = λ all z within.
+    let read = rw c.if-not-branch.false at c.in_ok-fill_fields.ensures in
+    let seven = (read.fills all all None z (set_out c.args.header.now all c.requires.empty) within).0 in
+    counter_signatures_refused c.args.layers all None (fields_seen c.fill_fields.new.header) (state c.fill_fields.new.input) (state c.fill_counter_signatures.new.input) z c.fill_fields.new.pairs (map signature_seen c.fill_counter_signatures.new.all.items) _
+    c.from_residual-in_err-fill_counter_signatures.result c.fill_counter_signatures.new.error c.in_err-fill_counter_signatures.field-0.0 c.from_residual-in_err-fill_counter_signatures.ensures.1 seven c.in_err-fill_counter_signatures.ensures.fills
+
+pub header::fill_pairs-returns-in_err-fill_fields-2-clause-fills : goal.header::fill_pairs-returns-in_err-fill_fields-2-clause-fills
+header::fill_pairs-returns-in_err-fill_fields-2-clause-fills t c = λ all z within.
+    let read = rw c.if-not-branch.false at c.in_ok-fill_fields.ensures in
+    let seven = (read.fills all all None z (set_out c.args.header.now all c.requires.empty) within).0 in
+    let g = counter_signatures_filled c.args.layers all (fields_seen c.fill_fields.new.header) _ (state c.fill_fields.new.input) (state c.fill_counter_signatures.new.input) z c.fill_fields.new.pairs (map signature_seen c.fill_counter_signatures.new.all.items)
+    (ap fields_level (out-roll-Header _)) seven c.in_ok-fill_counter_signatures.ensures.fills in
+    pairs_refused c.args.layers all (Some g.value) z (fields_seen c.fill_fields-2.new.header) (state c.fill_fields-2.new.input) c.fill_fields-2.new.pairs _ c.from_residual-in_err-fill_fields-2.result c.fill_fields-2.new.error c.in_err-fill_fields-2.field-0.0
+    c.from_residual-in_err-fill_fields-2.ensures.1 (c.in_err-fill_fields-2.ensures.fills all g.others (Some g.value) z g.walks g.within)
+
+pub header::fill_pairs-returns-then-branch-clause-fills : goal.header::fill_pairs-returns-then-branch-clause-fills
+header::fill_pairs-returns-then-branch-clause-fills t c = λ all z within.
+    let read = rw c.if-not-branch.false at c.in_ok-fill_fields.ensures in
+    let seven = (read.fills all all None z (set_out c.args.header.now all c.requires.empty) within).0 in
+    let g = counter_signatures_filled c.args.layers all (fields_seen c.fill_fields.new.header) _ (state c.fill_fields.new.input) (state c.fill_counter_signatures.new.input) z c.fill_fields.new.pairs (map signature_seen c.fill_counter_signatures.new.all.items)
+    (ap fields_level (out-roll-Header _)) seven c.in_ok-fill_counter_signatures.ensures.fills in
+    let again = rw c.if-branch.true at c.in_ok-fill_fields-2.ensures in
+    second_refused c.args.layers all g.value (fields_seen c.fill_fields-2.new.header) (state c.fill_fields-2.new.input) (state c.refuse_second.new.input) z c.fill_fields-2.new.pairs _ (answer c.refuse_second.new.error c.refuse_second.result)
+    (again.fills all g.others (Some g.value) z g.walks g.within).0 c.refuse_second.ensures.passes
+
+pub header::fill_pairs-returns-clause-fills : goal.header::fill_pairs-returns-clause-fills
+header::fill_pairs-returns-clause-fills t c = λ all z within.
+    let read = rw c.if-not-branch.false at c.in_ok-fill_fields.ensures in
+    let seven = (read.fills all all None z (set_out c.args.header.now all c.requires.empty) within).0 in
+    let g = counter_signatures_filled c.args.layers all (fields_seen c.fill_fields.new.header) _ (state c.fill_fields.new.input) (state c.fill_counter_signatures.new.input) z c.fill_fields.new.pairs (map signature_seen c.fill_counter_signatures.new.all.items)
+    (ap fields_level (out-roll-Header _)) seven c.in_ok-fill_counter_signatures.ensures.fills in
+    let again = rw c.if-branch.false at c.in_ok-fill_fields-2.ensures in
+    ends_with_counter_signatures c.args.layers all z c.fill_fields-2.new.header (state c.fill_fields-2.new.input) (state c.fill_counter_signatures.new.input) c.fill_fields.new.pairs c.fill_fields-2.new.pairs _ c.fill_counter_signatures.new.all.items g
+    (again.fills all g.others (Some g.value) z g.walks g.within) again.one_iv (again.others ∙ ap (λ h. h.counter_signatures.items) (out-roll-Header _))
+
+pub signature::fill_signature-returns-clause-fills : goal.signature::fill_signature-returns-clause-fills
+signature::fill_signature-returns-clause-fills t c = λ v z stands.
+    let here = c.in_ok-begin_items.ensures.enters v z stands in
+    let read = c.fill_places-filled.ensures.fills here.0 z here.2 in
+    (c.finish.ensures.passes read.0.0 z read.0.1, subst (λ w. Fills (layered_signature c.args.layers) w (signature_seen c.fill_places-filled.new.signed) (answer c.fill_places-filled.new.error c.fill_places-filled.result)) (sym (array-is v here.0 here.1)) read.1)
+
+pub signature::fill_places-returns-in_err-is_string-clause-fills : goal.signature::fill_places-returns-in_err-is_string-clause-fills
+signature::fill_places-returns-in_err-is_string-clause-fills t c = λ vs z within.
+    places_refused c.args.layers vs (state c.begin_places.new.input) z c.begin_places.new.members (option_map (λ b. b.items) c.begin_places.new.kept) c.begin_places.new.why _ c.from_residual.result c.begin_places.new.error c.in_err-is_string.field-0.0 c.from_residual.ensures.1 (c.in_err-is_string.ensures.begins vs z within)
+
+pub signature::fill_places-returns-in_err-end_places-clause-fills : goal.signature::fill_places-returns-in_err-end_places-clause-fills
+signature::fill_places-returns-in_err-end_places-clause-fills t c = λ vs z within.
+    let s = second_read vs (state c.begin_places.new.input) (state c.fill_header-unprotected.new.input) z c.begin_places.new.members _ _ _ _ (c.in_ok-is_string.ensures.begins vs z within) c.fill_header-unprotected.ensures.fills in
+    last_refused c.args.layers vs (state c.fill_header-unprotected.new.input) (state c.end_places.new.input) z c.begin_places.new.members c.end_places.new.members _ _ _ _ c.end_places.new.signature.items _
+    c.from_residual-in_err-end_places.result c.end_places.new.error c.in_err-end_places.field-0.0 c.from_residual-in_err-end_places.ensures.1 s (c.in_err-end_places.ensures.ends s.others z s.within)
+
+pub signature::fill_places-returns-in_err-unprotected-clause-fills : goal.signature::fill_places-returns-in_err-unprotected-clause-fills
+signature::fill_places-returns-in_err-unprotected-clause-fills t c = λ vs z within.
+    let e = c.fill_header-unprotected.new.error in
+    let s = second_read vs (state c.begin_places.new.input) (state c.fill_header-unprotected.new.input) z c.begin_places.new.members _ _ _ (λ v. UnlessMemory e ((layered_header c.args.layers).faults v))
+    (c.in_ok-is_string.ensures.begins vs z within) c.in_err-unprotected.ensures.fills in
+    unprotected_refused c.args.layers vs (state c.fill_header-unprotected.new.input) (state c.end_places.new.input) z c.begin_places.new.members c.end_places.new.members _ _ _ c.end_places.new.signature.items _
+    c.from_residual-in_err-unprotected.result e c.end_places.new.error c.in_err-unprotected.field-0.0 c.from_residual-in_err-unprotected.ensures.1 c.in_ok-end_places.ensures.kept s (c.in_ok-end_places.ensures.ends s.others z s.within)
+
+pub signature::fill_places-returns-then-not-is_string-clause-fills : goal.signature::fill_places-returns-then-not-is_string-clause-fills
+signature::fill_places-returns-then-not-is_string-clause-fills t c = λ vs z within.
+    let read = rw c.if-not-is_string.true at c.in_ok-is_string.ensures in
+    let o = option_map (λ b. b.items) c.begin_places.new.kept in
+    let P : Item → Type 0 = λ v. (layered_header c.args.layers).describes v (header_seen c.fill_header-unprotected.new.header) in
+    let s = second_read vs (state c.begin_places.new.input) (state c.fill_header-unprotected.new.input) z c.begin_places.new.members o c.begin_places.new.why false P (read.begins vs z within) c.in_ok-unprotected.ensures.fills in
+    protected_refused c.args.layers vs (state c.fill_header-unprotected.new.input) (state c.end_places.new.input) z c.begin_places.new.members c.end_places.new.members o c.begin_places.new.why P c.end_places.new.signature.items (signature_seen c.args.signed.now) s
+    (c.in_ok-end_places.ensures.ends s.others z s.within)
+
+pub signature::fill_places-returns-clause-fills : goal.signature::fill_places-returns-clause-fills
+signature::fill_places-returns-clause-fills t c = λ vs z within.
+    let read = rw c.if-not-is_string.false at c.in_ok-is_string.ensures in
+    let o = option_map (λ b. b.items) c.begin_places.new.kept in
+    let p = protected_seen c.fill_protected.new.protected in
+    let b = c.end_places.new.signature.items in
+    let r = answer c.fill_protected.new.error c.fill_protected.result in
+    let seen = signature-made _ ∙ (ap (λ g. record { protected = p; unprotected = header_seen g.unprotected; signature = g.signature.items }) (out-roll-CoseSignature _) ∙ ap (λ g. record { protected = p; unprotected = header_seen g.unprotected; signature = b }) (out-roll-CoseSignature _)) in
+    let x : SignatureSeen = record { protected = p; unprotected = header_seen c.fill_header-unprotected.new.header; signature = b } in
+    let s = second_read vs (state c.begin_places.new.input) (state c.fill_header-unprotected.new.input) z c.begin_places.new.members o c.begin_places.new.why true (λ v. (layered_header c.args.layers).describes v x.unprotected)
+    (read.begins vs z within) c.in_ok-unprotected.ensures.fills in
+    subst (λ y. ((left : Items) × AreWithin c.end_places.new.members left (state c.end_places.new.input) z) × Fills (layered_signature c.args.layers) (array vs) y r) (sym seen)
+    (places_filled c.args.layers vs (state c.fill_header-unprotected.new.input) (state c.end_places.new.input) z c.begin_places.new.members c.end_places.new.members o c.begin_places.new.why x r s
+    (c.in_ok-end_places.ensures.ends s.others z s.within) (λ d is. c.fill_protected.ensures d (ap (λ g. (protected_seen g.protected).original) (out-roll-CoseSignature _) ∙ (ap (λ g. (protected_seen g.protected).original) (out-roll-CoseSignature _) ∙ (ap (λ g. (protected_seen g.protected).original) (out-roll-CoseSignature _) ∙ (ap (λ g. g.original) (protected-made _) ∙ is))))))

@@ -1,0 +1,18 @@
+use Rattle.std.proofs.Common.{◌≡◌, List, length, map, Bool}
+use Rattle.std.specs.Iterator.Adapters.{zip_first, zip_second}
+use Rattle.std.specs.Slice.Iter.{iter_rest}
+use Rattle.coset_core.specs.Headers.{signatures_of}
+use Rattle.coset_core.specs.Same.{signatures_eq}
+use Rattle.coset_core.specs.Views.{signature_seen}
+use Rattle.coset_core.specs.declared.signature.CoseSignature.{CoseSignature}
+use Rattle.coset_core.proofs.+same.Given as goal
+
+abbrev same : List CoseSignature → List CoseSignature → Bool
+same ss ts = signatures_eq (signatures_of (map signature_seen ss)) (signatures_of (map signature_seen ts))
+
+-- what is left of the lists is as long, and is the same where the lists are
+abbrev pub invariant-signature::same_signatures-loop-a : goal.invariant-signature::same_signatures-loop-a
+invariant-signature::same_signatures-loop-a l =
+    let ss = iter_rest (zip_first l.a-iterator) in
+    let ts = iter_rest (zip_second l.a-iterator) in
+    (length ss ≡ length ts) × (same ss ts ≡ same l.all l.others)

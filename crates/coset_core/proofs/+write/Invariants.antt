@@ -1,0 +1,7 @@
+use Rattle.std.proofs.Common.{map, take}
+use Rattle.coset_core.specs.Views.{signature_seen}
+use Rattle.coset_core.specs.Written.{AppendsSignatures}
+use Rattle.coset_core.proofs.+write.Given as goal
+
+abbrev pub invariant-signature::write_signatures-loop-signature : goal.invariant-signature::write_signatures-loop-signature
+invariant-signature::write_signatures-loop-signature l = AppendsSignatures l.initial.out.items l.out.items (map signature_seen (take l.signature-index l.signatures))

@@ -1,7 +1,0 @@
-use Rattle.std.proofs.Common.{map, take}
-use Rattle.coset_core.specs.Views.{signature_seen}
-use Rattle.coset_core.specs.Written.{AppendsSignatures}
-use Rattle.coset_core.proofs.write.+write.Given as goal
-
-abbrev pub invariant-write_signatures-loop-signature : goal.invariant-write_signatures-loop-signature
-invariant-write_signatures-loop-signature l = AppendsSignatures l.initial.out.items l.out.items (map signature_seen (take l.signature-index l.signatures))
