@@ -17,7 +17,7 @@ use Rattle.coset_value.specs.Parts.{as_array, as_bytes}
 use Rattle.coset_cbor.specs.Grammar.{IsItem}
 use Rattle.coset_cbor.specs.Reading.{◌>>=◌, number_of, head_at, begins_break, times_at, until_at, pair_at, things, item_by, item_at}
 use Rattle.coset_cbor.specs.Jumps.{item_major_type}
-use Rattle.coset_cbor.specs.Cursors.{Stands, AreAt, AreWithin, Doubles, flat, map_items}
+use Rattle.coset_cbor.specs.Cursors.{Stands, AreAt, AreWithin, Doubles, keys_and_values, map_items}
 use Rattle.coset_cbor.proofs.Takes.{IsBytes, IsArgumentEncoding, major_type_number, bind_ok, ok_is, guard_ok, chosen, break_is, head_takes, item_takes}
 use Rattle.coset_cbor.proofs.Again.{IsEncoding-begins, item_again}
 use Rattle.coset_cbor.proofs.Between.{major_type_by, is_array, is_map}
@@ -235,11 +235,11 @@ unfolding AreAt
 pair_stands s y vs a fits p h =
     (p.mid, deeper s (y.0.0, p.mid) fits p.key, (y.1, deeper p.mid (y.0.1, y.1) (rest_fits s (y.0.0, p.mid) fits p.key) p.value, h))
 
-pairs_times : (n : ℕ) (s : List ℕ) (x : List Entry × List ℕ) → IsBytes s → times_at (pair_at (item_at 255)) n s ≡ Ok x → (n + n ≡ items_count (flat (pairs_of x.0))) × AreAt (flat (pairs_of x.0)) s x.1
+pairs_times : (n : ℕ) (s : List ℕ) (x : List Entry × List ℕ) → IsBytes s → times_at (pair_at (item_at 255)) n s ≡ Ok x → (n + n ≡ items_count (keys_and_values (pairs_of x.0))) × AreAt (keys_and_values (pairs_of x.0)) s x.1
 unfolding times_at AreAt
 pairs_times zero s x fits e =
     let same = ok_is ([], s) x e in
-    subst (λ (y : List Entry × List ℕ). (0 ≡ items_count (flat (pairs_of y.0))) × AreAt (flat (pairs_of y.0)) s y.1) same (refl, refl)
+    subst (λ (y : List Entry × List ℕ). (0 ≡ items_count (keys_and_values (pairs_of y.0))) × AreAt (keys_and_values (pairs_of y.0)) s y.1) same (refl, refl)
 pairs_times (suc n) s x fits e =
     let a = bind_ok (pair_at (item_at 255) s) (λ x. times_at (pair_at (item_at 255)) n x.1 >>= λ xs. Ok (x.0 ∷ xs.0, xs.1)) x e in
     let b = bind_ok (times_at (pair_at (item_at 255)) n a.0.1) (λ xs. Ok (a.0.0 ∷ xs.0, xs.1)) x a.2 in
@@ -247,21 +247,21 @@ pairs_times (suc n) s x fits e =
     let others = pairs_times n a.0.1 b.0 (pair_fits s a.0 fits p) b.1 in
     let made : List Entry × List ℕ = (a.0.0 ∷ b.0.0, b.0.1) in
     let count = others.0 in
-    subst (λ (y : List Entry × List ℕ). (suc n + suc n ≡ items_count (flat (pairs_of y.0))) × AreAt (flat (pairs_of y.0)) s y.1) (ok_is made x b.2)
-    (omega (arith, count), pair_stands s a.0 (flat (pairs_of b.0.0)) b.0.1 fits p others.1)
+    subst (λ (y : List Entry × List ℕ). (suc n + suc n ≡ items_count (keys_and_values (pairs_of y.0))) × AreAt (keys_and_values (pairs_of y.0)) s y.1) (ok_is made x b.2)
+    (omega (arith, count), pair_stands s a.0 (keys_and_values (pairs_of b.0.0)) b.0.1 fits p others.1)
 
-pairs_until : (turns : ℕ) (s : List ℕ) (x : List Entry × List ℕ) → IsBytes s → until_at (pair_at (item_at 255)) turns s ≡ Ok x → AreAt (flat (pairs_of x.0)) s (255 ∷ x.1)
+pairs_until : (turns : ℕ) (s : List ℕ) (x : List Entry × List ℕ) → IsBytes s → until_at (pair_at (item_at 255)) turns s ≡ Ok x → AreAt (keys_and_values (pairs_of x.0)) s (255 ∷ x.1)
 unfolding until_at AreAt
 pairs_until zero s x fits e = absurd cc
 pairs_until (suc turns) s x fits e = elim (chosen (begins_break s) _ _ _ e) [
-  | inl c ↦ subst (λ (y : List Entry × List ℕ). AreAt (flat (pairs_of y.0)) s (255 ∷ y.1)) (ok_is ([], drop 1 s) x c.1) (break_is s c.0)
+  | inl c ↦ subst (λ (y : List Entry × List ℕ). AreAt (keys_and_values (pairs_of y.0)) s (255 ∷ y.1)) (ok_is ([], drop 1 s) x c.1) (break_is s c.0)
   | inr c ↦
       let a = bind_ok (pair_at (item_at 255) s) (λ x. until_at (pair_at (item_at 255)) turns x.1 >>= λ xs. Ok (x.0 ∷ xs.0, xs.1)) x c.1 in
       let b = bind_ok (until_at (pair_at (item_at 255)) turns a.0.1) (λ xs. Ok (a.0.0 ∷ xs.0, xs.1)) x a.2 in
       let p = pair_parts s a.0 a.1 in
       let made : List Entry × List ℕ = (a.0.0 ∷ b.0.0, b.0.1) in
-      subst (λ (y : List Entry × List ℕ). AreAt (flat (pairs_of y.0)) s (255 ∷ y.1)) (ok_is made x b.2)
-      (pair_stands s a.0 (flat (pairs_of b.0.0)) (255 ∷ b.0.1) fits p (pairs_until turns a.0.1 b.0 (pair_fits s a.0 fits p) b.1))
+      subst (λ (y : List Entry × List ℕ). AreAt (keys_and_values (pairs_of y.0)) s (255 ∷ y.1)) (ok_is made x b.2)
+      (pair_stands s a.0 (keys_and_values (pairs_of b.0.0)) (255 ∷ b.0.1) fits p (pairs_until turns a.0.1 b.0 (pair_fits s a.0 fits p) b.1))
 ]
 
 -- as many pairs as half the bytes that are left are no more items than bytes
@@ -270,7 +270,7 @@ few_pairs n m e = let h = ltb-false (n / 2) m e in omega (arith, h)
 
 pairs_within :
     (o d : Option ℕ) (s : List ℕ) (y : List Entry × List ℕ) → IsBytes s → length s < 2 ^ 64 → Doubles o d → (things (item_at 255)).pairs o s ≡ Ok y
-    → AreWithin (record { left = d }) (flat (pairs_of y.0)) s y.1
+    → AreWithin (record { left = d }) (keys_and_values (pairs_of y.0)) s y.1
 unfolding things
 pairs_within None None s y fits least_encoding twice e = record {
   definite = λ n is. absurd (none_some n is);
@@ -304,9 +304,9 @@ map_by_major_type left g d major_types.Map s v a fits least_encoding twice k e =
     let r = bind_ok ((things (item_at 255)).pairs (number_of g) s) (λ y. Ok (dict (pairs_of y.0), y.1)) (v, a) e in
     let same = ok_is (dict (pairs_of r.0.0), r.0.1) (v, a) r.2 in
     record {
-      members = flat (pairs_of r.0.0);
+      members = keys_and_values (pairs_of r.0.0);
       is_map = ap (λ (x : Item × List ℕ). map_items x.0) (sym same);
-      within = subst (λ (b : List ℕ). AreWithin (record { left = d }) (flat (pairs_of r.0.0)) s b) (ap rest_of same) (pairs_within (number_of g) d s r.0 fits least_encoding twice r.1);
+      within = subst (λ (b : List ℕ). AreWithin (record { left = d }) (keys_and_values (pairs_of r.0.0)) s b) (ap rest_of same) (pairs_within (number_of g) d s r.0 fits least_encoding twice r.1);
     }
 map_by_major_type left g d major_types.Unsigned s v a fits least_encoding twice k e = absurd cc
 map_by_major_type left g d major_types.Negative s v a fits least_encoding twice k e = absurd cc
@@ -325,7 +325,7 @@ map_read v s a h d fits least_encoding whole e k twice =
 pub no_map : (v : Item) (s a : List ℕ) (h : Head × List ℕ) → Stands v s a → head_at s ≡ Ok h → h.0.major_type ≢ major_types.Map → map_items v ≡ None
 no_map v s a h whole e k = elim (is_map v) [
   | inl x ↦ absurd (k (sym (stands_major_type v s a h whole e) ∙ ap item_major_type x.1))
-  | inr x ↦ ap (option_map flat) x.0
+  | inr x ↦ ap (option_map keys_and_values) x.0
 ]
 
 -- ---- the next member

@@ -7,8 +7,8 @@ use Rattle.coset_cbor.specs.declared.cursor.Places.{Places}
 use Rattle.coset_cbor.specs.Grammar.{IsItem}
 
 -- the bytes that are still to come
-abbrev pub left : Cursor → List ℕ
-left c = c.rest.now
+abbrev pub bytes_left : Cursor → List ℕ
+bytes_left c = c.rest.now
 
 -- an item within 256 levels stands at the front of s: v, and a follows it
 unfoldable pub Stands : Item → List ℕ → List ℕ → Type 0
@@ -20,12 +20,12 @@ AreAt no_items s a = s ≡ a
 AreAt (item v vs) s a = (mid : List ℕ) × Stands v s mid × AreAt vs mid a
 
 -- each key of a map and then its value
-abbrev pub flat : Pairs → Items
-flat no_pairs = no_items
-flat (pair k v ps) = item k (item v (flat ps))
+abbrev pub keys_and_values : Pairs → Items
+keys_and_values no_pairs = no_items
+keys_and_values (pair k v ps) = item k (item v (keys_and_values ps))
 
 abbrev pub map_items : Item → Option Items
-map_items v = option_map flat (as_map v)
+map_items v = option_map keys_and_values (as_map v)
 
 -- vs are the items that an array or a map has still to give at s, and a follows it
 pub record AreWithin (p : Places) (vs : Items) (s a : List ℕ) : Type 0 where

@@ -5,7 +5,7 @@
 ghost use Rattle.std.specs.Prelude.{◌≡◌, ◌≤◌, ◌<◌, [], List, ℕ, is_some, Some, length, IfErr, IfOk, IfSome, IsOkAnd, IsTrue, OnErr, OnOk, MatchOption};
 ghost use Rattle.coset_value.specs.Item.{Item, Items, no_items};
 ghost use Rattle.coset_value.specs.Parts.{as_array, as_bytes};
-ghost use Rattle.coset_cbor.specs.Cursors.{left, map_items, Stands, AreWithin, Doubles, Enters, Nexts};
+ghost use Rattle.coset_cbor.specs.Cursors.{bytes_left, map_items, Stands, AreWithin, Doubles, Enters, Nexts};
 ghost use Rattle.coset_cbor.specs.Fronts.{HasNoItem};
 ghost use Rattle.coset_cbor.specs.Grammar.{IsItem};
 ghost use Rattle.coset_cbor.specs.Jumps.{item_major_type};
@@ -120,15 +120,15 @@ fn map_item(bytes: &[u8]) -> Option<(Places, &[u8])>
 impl<'a> Cursor<'a> {
     /// The front of the bytes.
     pub fn new(bytes: &'a [u8]) -> Cursor<'a>
-        ensures left { left result ≡ bytes.now }
-        ensures whole { (v : Item) → IsItem bytes.now v → Stands v (left result) [] }
+        ensures left { bytes_left result ≡ bytes.now }
+        ensures whole { (v : Item) → IsItem bytes.now v → Stands v (bytes_left result) [] }
     {
         Cursor { rest: bytes }
     }
 
     /// Whether the item is a byte string, by its head alone.
     pub fn is_bytes(&self) -> bool
-        ensures { (v : Item) (a : List ℕ) → Stands v (left self.now) a
+        ensures { (v : Item) (a : List ℕ) → Stands v (bytes_left self.now) a
             → result ≡ is_some (as_bytes v) }
     {
         major_type_of(self.rest) == Some(MajorType::Bytes)
@@ -136,7 +136,7 @@ impl<'a> Cursor<'a> {
 
     /// Whether the item is an array, by its head alone.
     pub fn is_array(&self) -> bool
-        ensures { (v : Item) (a : List ℕ) → Stands v (left self.now) a
+        ensures { (v : Item) (a : List ℕ) → Stands v (bytes_left self.now) a
             → result ≡ is_some (as_array v) }
     {
         major_type_of(self.rest) == Some(MajorType::Array)
@@ -144,8 +144,9 @@ impl<'a> Cursor<'a> {
 
     /// Goes there, if that is farther on.
     fn go(&mut self, rest: &'a [u8])
-        ensures shrinks { length (left self.new) ≤ length (left self.old) }
-        ensures there { length rest.now < length (left self.old) → left self.new ≡ rest.now }
+        ensures shrinks { length (bytes_left self.new) ≤ length (bytes_left self.old) }
+        ensures there { length rest.now < length (bytes_left self.old)
+            → bytes_left self.new ≡ rest.now }
     {
         if rest.len() < self.rest.len() {
             self.rest = rest;
@@ -154,9 +155,9 @@ impl<'a> Cursor<'a> {
 
     /// Passes the item. It takes no memory.
     pub fn pass(&mut self)
-        ensures shrinks { length (left self.new) ≤ length (left self.old) }
-        ensures passes { (v : Item) (a : List ℕ) → Stands v (left self.old) a
-            → (left self.new ≡ a) × (length a < length (left self.old)) }
+        ensures shrinks { length (bytes_left self.new) ≤ length (bytes_left self.old) }
+        ensures passes { (v : Item) (a : List ℕ) → Stands v (bytes_left self.old) a
+            → (bytes_left self.new ≡ a) × (length a < length (bytes_left self.old)) }
     {
         self.go(past(self.rest));
     }
@@ -166,17 +167,19 @@ impl<'a> Cursor<'a> {
     /// # Errors
     /// The same as [`check`](crate::de::check), where no item stands there; the place is then as before.
     pub fn take(&mut self) -> Result<Pull<'a>, Error<EndOfFile>>
-        ensures shrinks { length (left self.new) ≤ length (left self.old) }
-        ensures strictly { OnOk result (length (left self.new) < length (left self.old)) }
+        ensures shrinks { length (bytes_left self.new) ≤ length (bytes_left self.old) }
+        ensures strictly { OnOk result (length (bytes_left self.new)
+            < length (bytes_left self.old)) }
         // What is lent are the bytes up to the new place.
-        ensures lends { IfOk result (λ p. BeginsWith (left self.old) p (left self.new)) }
-        ensures stays { OnErr result (left self.new ≡ left self.old) }
-        ensures refused { IfErr result (λ e. HasNoItem (left self.old)) }
+        ensures lends { IfOk result (λ p. BeginsWith (bytes_left self.old) p
+            (bytes_left self.new)) }
+        ensures stays { OnErr result (bytes_left self.new ≡ bytes_left self.old) }
+        ensures refused { IfErr result (λ e. HasNoItem (bytes_left self.old)) }
         ensures memory { IfErr result (λ e. IsMemory e → ⊥) }
         // The fault stands in the bytes from the place on, at the offset that it carries.
-        ensures fault { IfErr result (λ e. StandsIn (left self.old) e) }
-        ensures passes { (v : Item) (a : List ℕ) → Stands v (left self.old) a
-            → (left self.new ≡ a) × IsOkAnd result (λ p. pull_item p ≡ v) }
+        ensures fault { IfErr result (λ e. StandsIn (bytes_left self.old) e) }
+        ensures passes { (v : Item) (a : List ℕ) → Stands v (bytes_left self.old) a
+            → (bytes_left self.new ≡ a) × IsOkAnd result (λ p. pull_item p ≡ v) }
     {
         let (pull, rest) = front(self.rest)?;
         self.rest = rest;
@@ -185,11 +188,12 @@ impl<'a> Cursor<'a> {
 
     /// Goes to the first member of an array; at another item it stays.
     pub fn array(&mut self) -> Option<Places>
-        ensures shrinks { length (left self.new) ≤ length (left self.old) }
-        ensures strictly { IfSome result (λ _. length (left self.new) < length (left self.old)) }
-        ensures enters { (v : Item) (a : List ℕ) → Stands v (left self.old) a
-            → MatchOption result ((left self.new ≡ left self.old) × (as_array v ≡ None))
-            (λ p. Enters as_array v (left self.new) a p) }
+        ensures shrinks { length (bytes_left self.new) ≤ length (bytes_left self.old) }
+        ensures strictly { IfSome result (λ _. length (bytes_left self.new)
+            < length (bytes_left self.old)) }
+        ensures enters { (v : Item) (a : List ℕ) → Stands v (bytes_left self.old) a
+            → MatchOption result ((bytes_left self.new ≡ bytes_left self.old) × (as_array v ≡ None))
+            (λ p. Enters as_array v (bytes_left self.new) a p) }
     {
         let (places, rest) = array_item(self.rest)?;
         self.rest = rest;
@@ -198,11 +202,13 @@ impl<'a> Cursor<'a> {
 
     /// Goes to the first key of a map; at another item it stays.
     pub fn map(&mut self) -> Option<Places>
-        ensures shrinks { length (left self.new) ≤ length (left self.old) }
-        ensures strictly { IfSome result (λ _. length (left self.new) < length (left self.old)) }
-        ensures enters { (v : Item) (a : List ℕ) → Stands v (left self.old) a
-            → MatchOption result ((left self.new ≡ left self.old) × (map_items v ≡ None))
-            (λ p. Enters map_items v (left self.new) a p) }
+        ensures shrinks { length (bytes_left self.new) ≤ length (bytes_left self.old) }
+        ensures strictly { IfSome result (λ _. length (bytes_left self.new)
+            < length (bytes_left self.old)) }
+        ensures enters { (v : Item) (a : List ℕ) → Stands v (bytes_left self.old) a
+            → MatchOption result ((bytes_left self.new ≡ bytes_left self.old)
+            × (map_items v ≡ None))
+            (λ p. Enters map_items v (bytes_left self.new) a p) }
     {
         let (places, rest) = map_item(self.rest)?;
         self.rest = rest;
@@ -211,9 +217,9 @@ impl<'a> Cursor<'a> {
 
     /// Passes the break, where no length was announced.
     fn close(&mut self, places: Places)
-        ensures shrinks { length (left self.new) ≤ length (left self.old) }
-        ensures passes { (a : List ℕ) → AreWithin places no_items (left self.old) a
-            → left self.new ≡ a }
+        ensures shrinks { length (bytes_left self.new) ≤ length (bytes_left self.old) }
+        ensures passes { (a : List ℕ) → AreWithin places no_items (bytes_left self.old) a
+            → bytes_left self.new ≡ a }
     {
         match places.left {
             Some(_) => {}
@@ -229,8 +235,8 @@ impl<'a> Cursor<'a> {
 impl Places {
     /// Whether one more item stands at the place, which is to be read next.
     pub fn next(&mut self, cursor: &Cursor<'_>) -> bool
-        ensures { (vs : Items) (a : List ℕ) → AreWithin self.old vs (left cursor.now) a
-            → Nexts vs (left cursor.now) a self.new result }
+        ensures { (vs : Items) (a : List ℕ) → AreWithin self.old vs (bytes_left cursor.now) a
+            → Nexts vs (bytes_left cursor.now) a self.new result }
     {
         match self.left {
             Some(0) => false,
@@ -254,9 +260,9 @@ impl Places {
 
     /// Passes the items that are left, and the break.
     pub fn finish(self, cursor: &mut Cursor<'_>)
-        ensures shrinks { length (left cursor.new) ≤ length (left cursor.old) }
-        ensures passes { (vs : Items) (a : List ℕ) → AreWithin self vs (left cursor.old) a
-            → left cursor.new ≡ a }
+        ensures shrinks { length (bytes_left cursor.new) ≤ length (bytes_left cursor.old) }
+        ensures passes { (vs : Items) (a : List ℕ) → AreWithin self vs (bytes_left cursor.old) a
+            → bytes_left cursor.new ≡ a }
     {
         let mut places = self;
         for _ in 0..cursor.rest.len() {

@@ -57,7 +57,7 @@ content_type_laws = that_laws IsUnexpected IsContentType _ (registered_laws _)
 -- ---- the fields
 
 flat_number : (i : ℤ) → label.describes (integer i) (number i) → Flat Name names (number i)
-flat_number i d = record { key = integer i; is_image = refl; described = d; flat = refl }
+flat_number i d = record { key = integer i; is_image = refl; described = d; is_flat = refl }
 
 filled_laws : LawfulFieldShape (List ℕ) (listed filled_bstr)
 filled_laws = listed_laws filled_bstr (λ v p. p.1 refl) filled_bstr_laws

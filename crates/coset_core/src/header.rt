@@ -30,7 +30,7 @@ ghost use Rattle.coset_shape.specs.Errors.{IsUnexpected, UnlessMemory, answer, f
 ghost use Rattle.coset_shape.specs.Sources.{source_item};
 ghost use Rattle.coset_core.specs.Fields.{FieldsSeen, algorithm, names, fields, parts_of, same_name, HasOneIv, bars};
 ghost use Rattle.coset_value.specs.Item.{Item, Pairs, dict};
-ghost use Rattle.coset_shape.specs.Inputs.{State, state, still, size, pairs_size, pairs_turns, PairsWithin, items_size, Stands, EntersMap, EntersOnes};
+ghost use Rattle.coset_shape.specs.Inputs.{State, state, length_left, input_size, pairs_size, pairs_turns, PairsWithin, items_size, Stands, EntersMap, EntersOnes};
 ghost use Rattle.coset_shape.specs.Maps.{optional, listed, Adds, Refuses, put_field, are_distinct};
 ghost use Rattle.coset_shape.specs.Shape.{any, filled_bstr, any_number, one_or_many};
 ghost use Rattle.coset_label.specs.Names.{number, name_item};
@@ -385,9 +385,9 @@ fn put(header: &mut Header, alloc: Global, label: Label, value: Source<'_>) -> R
 /// # Errors
 /// `OutOfMemory`, or a fault of the key, which is no label; its value is then passed.
 fn next_label(alloc: Global, pairs: &mut InputPairs, input: &mut Input<'_>) -> Result<Option<Label>>
-    ensures shrinks { still (state input.new) ≤ still (state input.old) }
+    ensures shrinks { length_left (state input.new) ≤ length_left (state input.old) }
     ensures size { pairs_size pairs.new (state input.new) ≤ pairs_size pairs.old (state input.old) }
-    ensures value { IfOk result (λ o. IsSome o → size (state input.new) ≤ pairs_size pairs.old
+    ensures value { IfOk result (λ o. IsSome o → input_size (state input.new) ≤ pairs_size pairs.old
         (state input.old)) }
     ensures turns { IfOk result (λ o. IsSome o → pairs_turns pairs.new (state input.new) <
         pairs_turns pairs.old (state input.old)) }
@@ -420,9 +420,9 @@ fn fill_some(
     requires one_iv { HasOneIv (fields_seen header.old) }
     ensures one_iv { HasOneIv (fields_seen header.new) }
     ensures others { counter_signatures_held header.new ≡ counter_signatures_held header.old }
-    ensures shrinks { still (state input.new) ≤ still (state input.old) }
+    ensures shrinks { length_left (state input.new) ≤ length_left (state input.old) }
     ensures size { pairs_size pairs.new (state input.new) ≤ pairs_size pairs.old (state input.old) }
-    ensures value { IfOk result (λ b. IsTrue b → size (state input.new) ≤ pairs_size pairs.old
+    ensures value { IfOk result (λ b. IsTrue b → input_size (state input.new) ≤ pairs_size pairs.old
         (state input.old)) }
     ensures fills { (all ps : Pairs) (o : Option Item) (z : State)
         → WalksTo all (fields_seen header.old) o ps → PairsWithin pairs.old ps (state input.old) z
@@ -442,7 +442,7 @@ fn fill_some(
 /// stands at the input is passed.
 #[cold]
 fn refuse(filled: Result<bool>, input: &mut Input<'_>, error: CoseError) -> Result<bool>
-    ensures shrinks { still (state input.new) ≤ still (state input.old) }
+    ensures shrinks { length_left (state input.new) ≤ length_left (state input.old) }
     ensures passes { (all : Pairs) (o : Option Item) (f : FieldsSeen) (z : State) (m : InputPairs)
         → FillsSome all o z f (state input.old) m filled
         → (left : Pairs) × PairsWithin m left (state input.new) z }
@@ -473,9 +473,9 @@ fn fill_fields(
     requires one_iv { HasOneIv (fields_seen header.old) }
     ensures one_iv { HasOneIv (fields_seen header.new) }
     ensures others { counter_signatures_held header.new ≡ counter_signatures_held header.old }
-    ensures shrinks { still (state input.new) ≤ still (state input.old) }
+    ensures shrinks { length_left (state input.new) ≤ length_left (state input.old) }
     ensures size { pairs_size pairs.new (state input.new) ≤ pairs_size pairs.old (state input.old) }
-    ensures value { IfOk result (λ b. IsTrue b → size (state input.new) ≤ pairs_size pairs.old
+    ensures value { IfOk result (λ b. IsTrue b → input_size (state input.new) ≤ pairs_size pairs.old
         (state input.old)) }
     ensures fills { (all ps : Pairs) (o : Option Item) (z : State)
         → WalksTo all (fields_seen header.old) o ps → PairsWithin pairs.old ps (state input.old) z
@@ -500,8 +500,9 @@ fn begin_pairs(
     input: &mut Input<'_>,
     error: &mut CoseError,
 ) -> Result<(), Refused>
-    ensures shrinks { still (state input.new) ≤ still (state input.old) }
-    ensures deeper { OnOk result (pairs_size pairs.new (state input.new) < size (state input.old)) }
+    ensures shrinks { length_left (state input.new) ≤ length_left (state input.old) }
+    ensures deeper { OnOk result (pairs_size pairs.new (state input.new)
+        < input_size (state input.old)) }
     ensures enters { (v : Item) (z : State) → Stands v (state input.old) z
         → EntersMap v (state input.new) z (filled (λ _. pairs.new) error.new result) }
 {
@@ -522,7 +523,7 @@ pub(crate) fn fill_header(
     error: &mut CoseError,
 ) -> Result<(), Refused>
     requires empty { header_seen header.old ≡ empty_header }
-    ensures shrinks { still (state input.new) ≤ still (state input.old) }
+    ensures shrinks { length_left (state input.new) ≤ length_left (state input.old) }
     ensures fills { (v : Item) (z : State) → Stands v (state input.old) z → (state input.new ≡ z)
         × Fills (layered_header layers) v (header_seen header.new)
         (answer error.new result) }
@@ -548,9 +549,10 @@ fn fill_pairs(
     error: &mut CoseError,
 ) -> Result<(), Refused>
     requires empty { header_seen header.old ≡ empty_header }
-    ensures shrinks { still (state input.new) ≤ still (state input.old) }
+    ensures shrinks { length_left (state input.new) ≤ length_left (state input.old) }
     ensures fills { (all : Pairs) (z : State) → PairsWithin pairs.old all (state input.old) z
-        → ((left : Pairs) × PairsWithin pairs.new left (state input.new) z) × Fills (layered_header layers) (dict all) (header_seen header.new)
+        → ((left : Pairs) × PairsWithin pairs.new left (state input.new) z)
+        × Fills (layered_header layers) (dict all) (header_seen header.new)
         (answer error.new result) }
 {
     if !fill_fields(header, alloc, pairs, input, error)? {
@@ -567,7 +569,7 @@ fn fill_pairs(
 #[cold]
 #[inline(never)]
 fn refuse_second(input: &mut Input<'_>, error: &mut CoseError) -> Result<(), Refused>
-    ensures shrinks { still (state input.new) ≤ still (state input.old) }
+    ensures shrinks { length_left (state input.new) ≤ length_left (state input.old) }
     ensures passes { (v : Item) (z : State) → Stands v (state input.old) z → (state input.new ≡ z)
         × (answer error.new result ≡ Err DuplicateMapKey) }
 {
@@ -586,9 +588,9 @@ fn begin_ones(
     input: &mut Input<'_>,
     error: &mut CoseError,
 ) -> Result<bool, Refused>
-    ensures shrinks { still (state input.new) ≤ still (state input.old) }
+    ensures shrinks { length_left (state input.new) ≤ length_left (state input.old) }
     ensures deeper { OnOk result
-        (items_size members.new (state input.new) < size (state input.old)) }
+        (items_size members.new (state input.new) < input_size (state input.old)) }
     ensures enters { (v : Item) (z : State) → Stands v (state input.old) z
         → EntersOnes v (state input.new) z (filled (λ one. (one, members.new)) error.new result) }
 {
@@ -610,9 +612,10 @@ fn fill_counter_signatures(
     error: &mut CoseError,
 ) -> Result<(), Refused>
     requires empty { map signature_seen all.old.items ≡ [] }
-    ensures shrinks { still (state input.new) ≤ still (state input.old) }
+    ensures shrinks { length_left (state input.new) ≤ length_left (state input.old) }
     ensures fills { (v : Item) (z : State) → Stands v (state input.old) z
-        → (state input.new ≡ z) × Fills (one_or_many (any_number (layered_signature layers))) v (map signature_seen all.new.items)
+        → (state input.new ≡ z) × Fills (one_or_many (any_number (layered_signature layers))) v
+        (map signature_seen all.new.items)
         (answer error.new result) }
 {
     let mut members = InputItems::none();

@@ -14,6 +14,7 @@ pub fn kept_as_received()
 /// The bytes that stand for a protected header that was read from what another is written as are that one's, however the
 /// item was spelled.
 pub fn kept_as_written()
-    ensures { (v : Item) (p q : ProtectedSeen) → protected.image p ≡ Some v → protected.describes v q
+    ensures { (v : Item) (p q : ProtectedSeen) → protected.image p ≡ Some v
+        → protected.describes v q
         → protected_bytes q ≡ protected_bytes p }
 {}

@@ -415,7 +415,8 @@ fn fresh_bytes(alloc: Global, header: &Header) -> Result<Vec<u8>>
 /// Copies bytes that were kept, if any.
 #[inline(never)]
 fn copy_kept(kept: &Option<Vec<u8>>, copy: &mut Option<Vec<u8>>) -> Result<(), AllocError>
-    ensures { OnOk result (option_map (λ v. v.items) copy.new ≡ option_map (λ v. v.items) kept.now) }
+    ensures { OnOk result (option_map (λ v. v.items) copy.new
+        ≡ option_map (λ v. v.items) kept.now) }
 {
     *copy = match kept {
         Some(bytes) => Some(Vec::from_slice(*bytes.allocator(), bytes)?),

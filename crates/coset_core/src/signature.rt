@@ -12,7 +12,7 @@ ghost use Rattle.coset_shape.specs.Answers.{Reads};
 ghost use Rattle.coset_shape.specs.Errors.{IsUnexpected, answer, filled};
 ghost use Rattle.coset_shape.specs.Sources.{source_item};
 ghost use Rattle.coset_value.specs.Item.{Item, array, Items, no_items, item};
-ghost use Rattle.coset_shape.specs.Inputs.{State, state, still, size, items_size, items_turns, Stands, GoesBehind, AreWithin, EntersArray, TakesNext};
+ghost use Rattle.coset_shape.specs.Inputs.{State, state, length_left, input_size, items_size, items_turns, Stands, GoesBehind, AreWithin, EntersArray, TakesNext};
 ghost use Rattle.coset_core.specs.Filling.{BeginsNext, BeginsPlaces, EndsPlaces};
 ghost use Rattle.coset_core.specs.Headers.{empty_header, layered_signature, signature as signature_shape, signatures_of, signatures_image};
 ghost use Rattle.coset_core.specs.Written.{AppendsSignatures, signature_array};
@@ -212,10 +212,11 @@ fn next_signature(
     input: &mut Input<'_>,
     error: &mut CoseError,
 ) -> Result<bool, Refused>
-    ensures shrinks { still (state input.new) ≤ still (state input.old) }
+    ensures shrinks { length_left (state input.new) ≤ length_left (state input.old) }
     ensures size { items_size members.new (state input.new) ≤ items_size members.old
         (state input.old) }
-    ensures member { IfOk result (λ b. IsTrue b → size (state input.new) ≤ items_size members.old
+    ensures member { IfOk result (λ b. IsTrue b
+        → input_size (state input.new) ≤ items_size members.old
         (state input.old)) }
     ensures turns { IfOk result (λ b. IsTrue b → (t : State) → GoesBehind (state input.new) t
         → items_turns members.new t < items_turns members.old (state input.old)) }
@@ -249,7 +250,7 @@ fn next_place<'a>(
     input: &mut Input<'a>,
     error: &mut CoseError,
 ) -> Result<Option<Source<'a>>, Refused>
-    ensures shrinks { still (state input.new) ≤ still (state input.old) }
+    ensures shrinks { length_left (state input.new) ≤ length_left (state input.old) }
     ensures size { items_size members.new (state input.new) ≤ items_size members.old
         (state input.old) }
     ensures takes { (vs : Items) (z : State) → AreWithin members.old vs (state input.old) z
@@ -273,11 +274,11 @@ fn begin_places(
     input: &mut Input<'_>,
     error: &mut CoseError,
 ) -> Result<bool, Refused>
-    ensures shrinks { still (state input.new) ≤ still (state input.old) }
+    ensures shrinks { length_left (state input.new) ≤ length_left (state input.old) }
     ensures size { items_size members.new (state input.new) ≤ items_size members.old
         (state input.old) }
     ensures place { OnOk result
-        (size (state input.new) ≤ items_size members.old (state input.old)) }
+        (input_size (state input.new) ≤ items_size members.old (state input.old)) }
     ensures begins { (vs : Items) (z : State) → AreWithin members.old vs (state input.old) z
         → BeginsPlaces vs (state input.new) z members.new (option_map (λ b. b.items) kept.new)
         why.new (answer error.new result) }
@@ -311,7 +312,7 @@ fn end_places(
     input: &mut Input<'_>,
     error: &mut CoseError,
 ) -> Result<(), Refused>
-    ensures shrinks { still (state input.new) ≤ still (state input.old) }
+    ensures shrinks { length_left (state input.new) ≤ length_left (state input.old) }
     ensures ends { (vs : Items) (z : State) → AreWithin members.old vs (state input.old) z
         → EndsPlaces vs (state input.new) z members.new signature.new.items
         (answer error.new result) }
@@ -344,9 +345,11 @@ pub(crate) fn fill_one(
     error: &mut CoseError,
 ) -> Result<(), Refused>
     requires empty { map signature_seen all.old.items ≡ [] }
-    ensures shrinks { still (state input.new) ≤ still (state input.old) }
+    ensures shrinks { length_left (state input.new) ≤ length_left (state input.old) }
     ensures fills { (vs : Items) (z : State) → AreWithin members.old vs (state input.old) z
-        → ((left : Items) × AreWithin members.new left (state input.new) z) × FillsEach (layered_signature layers) (item (array vs) no_items) (map signature_seen all.new.items)
+        → ((left : Items) × AreWithin members.new left (state input.new) z)
+        × FillsEach (layered_signature layers) (item (array vs) no_items)
+        (map signature_seen all.new.items)
         (answer error.new result) }
 {
     add_signature(alloc, all, error)?;
@@ -368,9 +371,10 @@ pub(crate) fn fill_each(
     error: &mut CoseError,
 ) -> Result<(), Refused>
     requires empty { map signature_seen all.old.items ≡ [] }
-    ensures shrinks { still (state input.new) ≤ still (state input.old) }
+    ensures shrinks { length_left (state input.new) ≤ length_left (state input.old) }
     ensures fills { (vs : Items) (z : State) → AreWithin members.old vs (state input.old) z
-        → ((left : Items) × AreWithin members.new left (state input.new) z) × FillsEach (layered_signature layers) vs (map signature_seen all.new.items)
+        → ((left : Items) × AreWithin members.new left (state input.new) z)
+        × FillsEach (layered_signature layers) vs (map signature_seen all.new.items)
         (answer error.new result) }
 {
     while next_signature(alloc, all, members, input, error)? {
@@ -390,10 +394,10 @@ fn begin_items(
     input: &mut Input<'_>,
     error: &mut CoseError,
 ) -> Result<(), Refused>
-    ensures shrinks { still (state input.new) ≤ still (state input.old) }
+    ensures shrinks { length_left (state input.new) ≤ length_left (state input.old) }
     ensures strictly { OnOk result (GoesBehind (state input.old) (state input.new)) }
     ensures deeper { OnOk result
-        (items_size members.new (state input.new) < size (state input.old)) }
+        (items_size members.new (state input.new) < input_size (state input.old)) }
     ensures enters { (v : Item) (z : State) → Stands v (state input.old) z
         → EntersArray (codes "array") v (state input.new) z
         (filled (λ _. members.new) error.new result) }
@@ -415,7 +419,7 @@ fn fill_signature(
     error: &mut CoseError,
 ) -> Result<(), Refused>
     requires empty { signature_seen signed.old ≡ empty_signature }
-    ensures shrinks { still (state input.new) ≤ still (state input.old) }
+    ensures shrinks { length_left (state input.new) ≤ length_left (state input.old) }
     ensures strictly { OnOk result (GoesBehind (state input.old) (state input.new)) }
     ensures fills { (v : Item) (z : State) → Stands v (state input.old) z → (state input.new ≡ z)
         × Fills (layered_signature layers) v (signature_seen signed.new)
@@ -429,8 +433,7 @@ fn fill_signature(
 }
 
 /// Reads the places of a signature's array into one that holds nothing. They are read from the first on, and judged
-/// from
-/// the last on.
+/// from the last on.
 ///
 /// # Errors
 /// `OutOfMemory`; `UnexpectedItem` where they are not three; or the fault of the last place that has one.
@@ -444,9 +447,10 @@ fn fill_places(
     error: &mut CoseError,
 ) -> Result<(), Refused>
     requires empty { signature_seen signed.old ≡ empty_signature }
-    ensures shrinks { still (state input.new) ≤ still (state input.old) }
+    ensures shrinks { length_left (state input.new) ≤ length_left (state input.old) }
     ensures fills { (vs : Items) (z : State) → AreWithin members.old vs (state input.old) z
-        → ((left : Items) × AreWithin members.new left (state input.new) z) × Fills (layered_signature layers) (array vs) (signature_seen signed.new)
+        → ((left : Items) × AreWithin members.new left (state input.new) z)
+        × Fills (layered_signature layers) (array vs) (signature_seen signed.new)
         (answer error.new result) }
 {
     let mut why = CoseError::OutOfMemory;

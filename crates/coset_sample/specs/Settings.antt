@@ -64,10 +64,10 @@ pub names_laws : LawfulNames ℤ names
 names_laws = record { shape = int64_laws; same_is = λ l m h. (signed_Decides l m).0 h; same_self = λ l. (signed_Decides l l).1 refl }
 
 flat_one : Flat ℤ names (pos 1)
-flat_one = record { key = integer (pos 1); is_image = refl; described = (refl, search rules); flat = refl }
+flat_one = record { key = integer (pos 1); is_image = refl; described = (refl, search rules); is_flat = refl }
 
 flat_two : Flat ℤ names (pos 2)
-flat_two = record { key = integer (pos 2); is_image = refl; described = (refl, search rules); flat = refl }
+flat_two = record { key = integer (pos 2); is_image = refl; described = (refl, search rules); is_flat = refl }
 
 pub fields_laws : LawfulFields ℤ (Option ℤ × (Option (List ℕ) × Unit {0})) names fields
 fields_laws =

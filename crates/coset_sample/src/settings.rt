@@ -105,7 +105,8 @@ impl Gather for SoFar {
     }
 
     fn repeats(&self, alloc: Global) -> Result<bool>
-        ensures repeats { IfOk result (λ b. b ≡ not (are_distinct names.same (keys_of (so_far_seen self.now).1))) }
+        ensures repeats { IfOk result (λ b. b ≡ not
+            (are_distinct names.same (keys_of (so_far_seen self.now).1))) }
         ensures memory { IfErr result (λ e. e ≡ OutOfMemory) }
     {
         has_repeats(alloc, &self.rest)

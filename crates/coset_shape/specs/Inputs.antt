@@ -5,7 +5,7 @@ use Rattle.coset_value.specs.Item.{Item, null, Items, no_items, item, items_coun
 use Rattle.coset_value.specs.Parts.{as_array, as_map}
 use Rattle.coset_value.specs.View.{view, items_view, pairs_view}
 use Rattle.coset_cbor.specs.Cursors as bytes
-use Rattle.coset_cbor.specs.Cursors.{left, flat}
+use Rattle.coset_cbor.specs.Cursors.{bytes_left, keys_and_values}
 use Rattle.coset_cbor.specs.declared.cursor.Places.{Places}
 use Rattle.coset_shape.specs.declared.error.CoseError.{CoseError}
 use Rattle.coset_shape.specs.declared.source.Source.{Source}
@@ -27,7 +27,7 @@ pub data State : Type 0 where
 
 abbrev pub state : Input → State
 state (Tree v) = tree (view v)
-state (Lent c) = lent (left c)
+state (Lent c) = lent (bytes_left c)
 
 -- the item v stands at s, and z is what follows it; a tree leaves null
 abbrev pub Stands : Item → State → State → Type 0
@@ -42,7 +42,7 @@ AreWithin (items.Lent p) vs s z = (b : List ℕ) × (a : List ℕ) × (s ≡ len
 -- the pairs ps of a map are
 abbrev pub PairsWithin : InputPairs → Pairs → State → State → Type 0
 PairsWithin (pairs.Tree it) ps s z = (pairs_view (into_iter_items it) ≡ ps) × (s ≡ tree null) × (z ≡ tree null)
-PairsWithin (pairs.Lent p) ps s z = (b : List ℕ) × (a : List ℕ) × (s ≡ lent b) × (z ≡ lent a) × bytes.AreWithin p (flat ps) b a
+PairsWithin (pairs.Lent p) ps s z = (b : List ℕ) × (a : List ℕ) × (s ≡ lent b) × (z ≡ lent a) × bytes.AreWithin p (keys_and_values ps) b a
 
 -- ---- what reading answers
 
@@ -83,40 +83,40 @@ NextsKey ps t z m (Err e) = ⊥
 -- the same in bytes
 abbrev pub LentKey : Pairs → List ℕ → List ℕ → Places → Result (Option Source) CoseError → Type 0
 LentKey ps t a p (Ok (Some key)) =
-    (k : Item) × (v : Item) × (others : Pairs) × (mid : List ℕ) × (ps ≡ pair k v others) × (source_item key ≡ k) × bytes.Stands v t mid × bytes.AreWithin p (flat others) mid a
-LentKey ps t a p (Ok None) = (ps ≡ no_pairs) × bytes.AreWithin p (flat no_pairs) t a
+    (k : Item) × (v : Item) × (others : Pairs) × (mid : List ℕ) × (ps ≡ pair k v others) × (source_item key ≡ k) × bytes.Stands v t mid × bytes.AreWithin p (keys_and_values others) mid a
+LentKey ps t a p (Ok None) = (ps ≡ no_pairs) × bytes.AreWithin p (keys_and_values no_pairs) t a
 LentKey ps t a p (Err e) = ⊥
 
 -- ---- how far reading still goes
 
 -- the bytes that are left
-abbrev pub still : State → ℕ
-still (tree w) = 0
-still (lent s) = length s
+abbrev pub length_left : State → ℕ
+length_left (tree w) = 0
+length_left (lent s) = length s
 
 -- how deep a tree is, or how many bytes are left
-abbrev pub size : State → ℕ
-size (tree w) = depth w
-size (lent s) = length s
+abbrev pub input_size : State → ℕ
+input_size (tree w) = depth w
+input_size (lent s) = length s
 
 abbrev pub items_size : InputItems → State → ℕ
 items_size (items.Tree it) s = items_depth (items_view (into_iter_items it))
-items_size (items.Lent p) s = still s
+items_size (items.Lent p) s = length_left s
 
 abbrev pub pairs_size : InputPairs → State → ℕ
 pairs_size (pairs.Tree it) s = pairs_depth (pairs_view (into_iter_items it))
-pairs_size (pairs.Lent p) s = still s
+pairs_size (pairs.Lent p) s = length_left s
 
 -- how many turns there are at the most
 abbrev pub items_turns : InputItems → State → ℕ
 items_turns (items.Tree it) s = items_count (items_view (into_iter_items it))
-items_turns (items.Lent p) s = still s
+items_turns (items.Lent p) s = length_left s
 
 abbrev pub pairs_turns : InputPairs → State → ℕ
 pairs_turns (pairs.Tree it) s = pairs_count (pairs_view (into_iter_items it))
-pairs_turns (pairs.Lent p) s = still s
+pairs_turns (pairs.Lent p) s = length_left s
 
 -- of bytes some were passed
 abbrev pub GoesBehind : State → State → Type 0
 GoesBehind (tree w) t = ⊤
-GoesBehind (lent s) t = still t < length s
+GoesBehind (lent s) t = length_left t < length s

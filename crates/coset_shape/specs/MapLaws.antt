@@ -89,7 +89,7 @@ pub record Flat (N : Type 0) (n : Names N) (l : N) : Type 0 where
   pub key : Item
   pub is_image : n.shape.image l ≡ Some key
   pub described : n.shape.describes key l
-  pub flat : depth key ≡ 0
+  pub is_flat : depth key ≡ 0
 
 -- a value, where there is one, is no deeper than d
 abbrev pub Within : ℕ → Option Item → Type 0
@@ -415,7 +415,7 @@ module _ {N : Type 0} (n : Names N) (laws : LawfulNames N n) where
 
     put_writable : (d : ℕ) (o : Option Item) (cs : List (N × Item)) → Within d o → AllByRecursion (Writable N n d) cs → AllByRecursion (Writable N n d) (put_field l o cs)
     put_writable d (Some v) cs w k =
-        (record { key = flat.key; is_image = flat.is_image; described = flat.described; shallow_key = omega (arith, flat.flat); shallow = w }, k)
+        (record { key = flat.key; is_image = flat.is_image; described = flat.described; shallow_key = omega (arith, flat.is_flat); shallow = w }, k)
     put_writable d None cs w k = k
 
     field_again : (d : ℕ) (es : List (N × Item)) (x : A × B) → AllByRecursion (λ e. depth e.1 ≤ d) es → (field n l h fs).describes es x → AgainFields N (A × B) n (field n l h fs) d x

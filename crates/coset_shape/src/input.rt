@@ -4,9 +4,9 @@
 ghost use Rattle.std.specs.Prelude.{◌≡◌, ◌≤◌, ◌<◌, List, ℕ, length, IfOk, IsOkAnd, IsSome, IsTrue, OnOk};
 ghost use Rattle.coset_value.specs.Item.{Item, null, Items, no_items, Pairs, no_pairs};
 ghost use Rattle.coset_value.specs.View.{view};
-ghost use Rattle.coset_cbor.specs.Cursors.{left, flat, AreWithin as lent_within};
+ghost use Rattle.coset_cbor.specs.Cursors.{bytes_left, keys_and_values, AreWithin as lent_within};
 ghost use Rattle.coset_cbor.specs.Grammar.{IsItem};
-ghost use Rattle.coset_shape.specs.Inputs.{State, tree, lent, state, Stands, GoesBehind, still, size, items_size, pairs_size, items_turns, pairs_turns, AreWithin, PairsWithin};
+ghost use Rattle.coset_shape.specs.Inputs.{State, tree, lent, state, Stands, GoesBehind, length_left, input_size, items_size, pairs_size, items_turns, pairs_turns, AreWithin, PairsWithin};
 ghost use Rattle.coset_shape.specs.Inputs.{EntersArray, EntersMap, EntersOnes, LentKey, Nexts, NextsKey, TakesNext};
 ghost use Rattle.coset_shape.specs.OneOrMore.{BeginsSo};
 ghost use Rattle.coset_shape.specs.Sources.{source_item};
@@ -48,7 +48,8 @@ pub enum InputPairs {
 
 /// The members of a value that is an array.
 fn tree_members(value: Value, want: &'static str) -> Result<InputItems>
-    ensures deeper { IfOk result (λ m. (s : State) → items_size m s < size (tree (view value))) }
+    ensures deeper { IfOk result (λ m. (s : State)
+        → items_size m s < input_size (tree (view value))) }
     ensures enters { EntersArray want.now (view value) (tree null) (tree null) result }
 {
     match value {
@@ -59,7 +60,8 @@ fn tree_members(value: Value, want: &'static str) -> Result<InputItems>
 
 /// The pairs of a value that is a map.
 fn tree_pairs(value: Value) -> Result<InputPairs>
-    ensures deeper { IfOk result (λ m. (s : State) → pairs_size m s < size (tree (view value))) }
+    ensures deeper { IfOk result (λ m. (s : State)
+        → pairs_size m s < input_size (tree (view value))) }
     ensures enters { EntersMap (view value) (tree null) (tree null) result }
 {
     match value {
@@ -70,7 +72,8 @@ fn tree_pairs(value: Value) -> Result<InputPairs>
 
 /// The members of a value that is an array, and whether they begin with a byte string, or else with an array.
 fn tree_ones(value: Value) -> Result<(bool, InputItems)>
-    ensures deeper { IfOk result (λ x. (s : State) → items_size x.1 s < size (tree (view value))) }
+    ensures deeper { IfOk result (λ x. (s : State)
+        → items_size x.1 s < input_size (tree (view value))) }
     ensures enters { EntersOnes (view value) (tree null) (tree null) result }
 {
     match value {
@@ -84,7 +87,7 @@ fn tree_ones(value: Value) -> Result<(bool, InputItems)>
 
 /// Whether the members that are still to come begin with a byte string, or else with an array.
 fn lent_is_one(places: Places, cursor: Cursor<'_>) -> Result<bool>
-    ensures { (vs : Items) (a : List ℕ) → lent_within places vs (left cursor.entry) a
+    ensures { (vs : Items) (a : List ℕ) → lent_within places vs (bytes_left cursor.entry) a
         → BeginsSo vs result }
 {
     let mut places = places;
@@ -115,7 +118,7 @@ impl<'a> Input<'a> {
     /// The item that the bytes are.
     pub fn of_bytes(bytes: &'a [u8]) -> Input<'a>
         ensures stands { (v : Item) → IsItem bytes.now v → (z : State) × Stands v (state result) z }
-        ensures size { size (state result) ≡ length bytes.now }
+        ensures size { input_size (state result) ≡ length bytes.now }
     {
         Input::Lent(Cursor::new(bytes))
     }
@@ -125,7 +128,7 @@ impl<'a> Input<'a> {
     /// # Errors
     /// None where an item stands there.
     pub fn take(&mut self) -> Result<Source<'a>>
-        ensures shrinks { still (state self.new) ≤ still (state self.old) }
+        ensures shrinks { length_left (state self.new) ≤ length_left (state self.old) }
         ensures passes { (v : Item) (z : State) → Stands v (state self.old) z → (state self.new ≡ z)
             × IsOkAnd result (λ s. source_item s ≡ v) }
     {
@@ -137,7 +140,7 @@ impl<'a> Input<'a> {
 
     /// Passes the item. It takes no memory.
     pub fn pass(&mut self)
-        ensures shrinks { still (state self.new) ≤ still (state self.old) }
+        ensures shrinks { length_left (state self.new) ≤ length_left (state self.old) }
         ensures passes { (v : Item) (z : State) → Stands v (state self.old) z → state self.new ≡ z }
     {
         match self {
@@ -153,9 +156,10 @@ impl<'a> Input<'a> {
     /// # Errors
     /// `UnexpectedItem`: the item is no array; it is passed.
     pub fn enter_array(&mut self, want: &'static str) -> Result<InputItems>
-        ensures shrinks { still (state self.new) ≤ still (state self.old) }
+        ensures shrinks { length_left (state self.new) ≤ length_left (state self.old) }
         ensures strictly { OnOk result (GoesBehind (state self.old) (state self.new)) }
-        ensures deeper { IfOk result (λ m. items_size m (state self.new) < size (state self.old)) }
+        ensures deeper { IfOk result (λ m. items_size m (state self.new)
+            < input_size (state self.old)) }
         ensures enters { (v : Item) (z : State) → Stands v (state self.old) z
             → EntersArray want.now v (state self.new) z result }
     {
@@ -175,8 +179,8 @@ impl<'a> Input<'a> {
     /// # Errors
     /// `UnexpectedItem`: the item is another; it is passed.
     pub fn enter_ones(&mut self) -> Result<(bool, InputItems)>
-        ensures shrinks { still (state self.new) ≤ still (state self.old) }
-        ensures deeper { IfOk result (λ x. items_size x.1 (state self.new) < size
+        ensures shrinks { length_left (state self.new) ≤ length_left (state self.old) }
+        ensures deeper { IfOk result (λ x. items_size x.1 (state self.new) < input_size
             (state self.old)) }
         ensures enters { (v : Item) (z : State) → Stands v (state self.old) z
             → EntersOnes v (state self.new) z result }
@@ -203,9 +207,10 @@ impl<'a> Input<'a> {
     /// # Errors
     /// `UnexpectedItem`: the item is no map; it is passed.
     pub fn enter_map(&mut self) -> Result<InputPairs>
-        ensures shrinks { still (state self.new) ≤ still (state self.old) }
+        ensures shrinks { length_left (state self.new) ≤ length_left (state self.old) }
         ensures strictly { OnOk result (GoesBehind (state self.old) (state self.new)) }
-        ensures deeper { IfOk result (λ m. pairs_size m (state self.new) < size (state self.old)) }
+        ensures deeper { IfOk result (λ m. pairs_size m (state self.new)
+            < input_size (state self.old)) }
         ensures enters { (v : Item) (z : State) → Stands v (state self.old) z
             → EntersMap v (state self.new) z result }
     {
@@ -222,10 +227,10 @@ impl<'a> Input<'a> {
 impl InputItems {
     /// Whether one more member stands at the input, which is to be read next. It takes no memory.
     pub fn next(&mut self, input: &mut Input<'_>) -> bool
-        ensures shrinks { still (state input.new) ≤ still (state input.old) }
+        ensures shrinks { length_left (state input.new) ≤ length_left (state input.old) }
         ensures size { items_size self.new (state input.new) ≤ items_size self.old
             (state input.old) }
-        ensures member { IsTrue result → size (state input.new) ≤ items_size self.old
+        ensures member { IsTrue result → input_size (state input.new) ≤ items_size self.old
             (state input.old) }
         ensures turns { IsTrue result → (t : State) → GoesBehind (state input.new) t
             → items_turns self.new t < items_turns self.old (state input.old) }
@@ -252,7 +257,7 @@ impl InputItems {
     /// # Errors
     /// None where the members of an array stand there.
     pub fn take<'a>(&mut self, input: &mut Input<'a>) -> Result<Option<Source<'a>>>
-        ensures shrinks { still (state input.new) ≤ still (state input.old) }
+        ensures shrinks { length_left (state input.new) ≤ length_left (state input.old) }
         ensures size { items_size self.new (state input.new) ≤ items_size self.old
             (state input.old) }
         ensures takes { (vs : Items) (z : State) → AreWithin self.old vs (state input.old) z
@@ -273,7 +278,7 @@ impl InputItems {
 
     /// Passes the members that are left. It takes no memory.
     pub fn finish(&mut self, input: &mut Input<'_>)
-        ensures shrinks { still (state input.new) ≤ still (state input.old) }
+        ensures shrinks { length_left (state input.new) ≤ length_left (state input.old) }
         ensures passes { (vs : Items) (z : State) → AreWithin self.old vs (state input.old) z
             → state input.new ≡ z }
     {
@@ -289,11 +294,12 @@ impl InputItems {
 
 /// The next key of a map in bytes, whose value is then at the place.
 fn lent_key<'a>(places: &mut Places, cursor: &mut Cursor<'a>) -> Result<Option<Source<'a>>>
-    ensures shrinks { length (left cursor.new) ≤ length (left cursor.old) }
-    ensures strictly { IfOk result (λ o. IsSome o → length (left cursor.new) < length
-        (left cursor.old)) }
-    ensures nexts { (ps : Pairs) (a : List ℕ) → lent_within places.old (flat ps) (left cursor.old) a
-        → LentKey ps (left cursor.new) a places.new result }
+    ensures shrinks { length (bytes_left cursor.new) ≤ length (bytes_left cursor.old) }
+    ensures strictly { IfOk result (λ o. IsSome o → length (bytes_left cursor.new) < length
+        (bytes_left cursor.old)) }
+    ensures nexts { (ps : Pairs) (a : List ℕ) → lent_within places.old (keys_and_values ps)
+        (bytes_left cursor.old) a
+        → LentKey ps (bytes_left cursor.new) a places.new result }
 {
     if !places.next(cursor) {
         return Ok(None);
@@ -311,10 +317,11 @@ impl InputPairs {
     /// # Errors
     /// None where the pairs of a map stand there.
     pub fn next_key<'a>(&mut self, input: &mut Input<'a>) -> Result<Option<Source<'a>>>
-        ensures shrinks { still (state input.new) ≤ still (state input.old) }
+        ensures shrinks { length_left (state input.new) ≤ length_left (state input.old) }
         ensures size { pairs_size self.new (state input.new) ≤ pairs_size self.old
             (state input.old) }
-        ensures value { IfOk result (λ o. IsSome o → size (state input.new) ≤ pairs_size self.old
+        ensures value { IfOk result (λ o. IsSome o
+            → input_size (state input.new) ≤ pairs_size self.old
             (state input.old)) }
         ensures turns { IfOk result (λ o. IsSome o → pairs_turns self.new (state input.new) <
             pairs_turns self.old (state input.old)) }
@@ -345,7 +352,7 @@ impl InputPairs {
 
     /// Passes the pairs that are left. It takes no memory.
     pub fn finish(&mut self, input: &mut Input<'_>)
-        ensures shrinks { still (state input.new) ≤ still (state input.old) }
+        ensures shrinks { length_left (state input.new) ≤ length_left (state input.old) }
         ensures passes { (ps : Pairs) (z : State) → PairsWithin self.old ps (state input.old) z
             → state input.new ≡ z }
     {

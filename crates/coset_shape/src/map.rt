@@ -67,7 +67,8 @@ pub trait Gather: Sized {
 /// comes first.
 fn first_error<G: Gather>(alloc: Global, so_far: &G, error: CoseError) -> CoseError
     ensures { UnlessMemory result (λ e. ((e ≡ error) × (error ≡ OutOfMemory → ⊥))
-        ⊎ ((e ≡ DuplicateMapKey) × (are_distinct G.names.same (keys_of (G.seen so_far.now).1) ≡ false))) }
+        ⊎ ((e ≡ DuplicateMapKey) × (are_distinct G.names.same (keys_of (G.seen so_far.now).1)
+        ≡ false))) }
 {
     match so_far.repeats(alloc) {
         Ok(true) => CoseError::DuplicateMapKey,
@@ -123,7 +124,8 @@ fn push_fields<L: AsCborValue + Drop>(
         (Appends L.shape.image (pairs_view pairs.old.items) (pairs_view pairs.new.items)
         (put_fields (map (λ f. (L.seen f.0, option_map view f.1)) fields.items))) }
     ensures refused { IfErr result (λ e. UnlessMemory e (λ f. (f ≡ DuplicateMapKey)
-        × (named_image L.shape.image (put_fields (map (λ f. (L.seen f.0, option_map view f.1)) fields.items)) ≡ None))) }
+        × (named_image L.shape.image (put_fields
+        (map (λ f. (L.seen f.0, option_map view f.1)) fields.items)) ≡ None))) }
 {
     for (label, value) in fields {
         if let Some(value) = value {
@@ -161,7 +163,8 @@ pub fn labelled_value<L: AsCborValue + Drop>(
     rest: Vec<(L, Value)>,
 ) -> Result<Value>
     ensures { Images (option_map dict (named_image L.shape.image
-        (put_fields (map (λ f. (L.seen f.0, option_map view f.1)) fields.items) ++ map (λ e. (L.seen e.0, view e.1)) rest.items))) view result }
+        (put_fields (map (λ f. (L.seen f.0, option_map view f.1)) fields.items) ++ map
+        (λ e. (L.seen e.0, view e.1)) rest.items))) view result }
 {
     let mut pairs = Vec::new(alloc);
     push_fields(alloc, &mut pairs, fields)?;

@@ -50,7 +50,8 @@ pub trait AsCborValue: Sized {
     ghost unique: { (v : Item) (x y : Seen) → shape.describes v x → shape.describes v y → x ≡ y };
 
     /// Where a fault stands in an item, it describes no value.
-    ghost sound: { (v : Item) (x : Seen) (e : CoseError) → shape.describes v x → shape.faults v e → ⊥ };
+    ghost sound: { (v : Item) (x : Seen) (e : CoseError) → shape.describes v x → shape.faults v e
+        → ⊥ };
 }
 
 /// The one item that the bytes are, lent. It takes no memory.

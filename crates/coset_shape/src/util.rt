@@ -243,10 +243,13 @@ where
         × IsFinite (C.IntoIter.remaining it) }
     ensures images { IfOk result (λ v. (it : C.IntoIter) × (xs : List C.Item)
         × C.into_iter_gives values it
-        × Drains C.IntoIter.next_gives it xs × (option_map array (images (λ x. C.Item.shape.image (C.Item.seen x)) xs) ≡ Some (view v))) }
+        × Drains C.IntoIter.next_gives it xs
+        × (option_map array (images (λ x. C.Item.shape.image (C.Item.seen x)) xs)
+        ≡ Some (view v))) }
     ensures refused { IfErr result (λ e. UnlessMemory e (λ f. (f ≡ DuplicateMapKey)
         × (it : C.IntoIter) × (xs : List C.Item) × (t : C.IntoIter) × C.into_iter_gives values it
-        × Yields C.IntoIter.next_gives it xs t × LastHasNoImage C.Item (λ x. C.Item.shape.image (C.Item.seen x)) xs)) }
+        × Yields C.IntoIter.next_gives it xs t
+        × LastHasNoImage C.Item (λ x. C.Item.shape.image (C.Item.seen x)) xs)) }
 {
     let mut places = Vec::new(alloc);
     for x in values {

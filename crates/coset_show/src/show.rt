@@ -75,7 +75,8 @@ fn message_line<T: Lawful + CborSerializable + TaggedCborSerializable>(
     tagged: bool,
     message: T,
 ) -> Result<String, CoseError>
-    ensures { WritesRead (tagged_if tagged T.TAG T.shape) (T.seen message) (λ s. string_bytes s) result }
+    ensures { WritesRead (tagged_if tagged T.TAG T.shape) (T.seen message)
+        (λ s. string_bytes s) result }
 {
     if tagged {
         let encoded = message.to_tagged_vec(alloc)?;
@@ -88,7 +89,8 @@ fn message_line<T: Lawful + CborSerializable + TaggedCborSerializable>(
 /// The line of what is signed where `external_aad` is empty, of a message that was read.
 fn signed_line(alloc: Global, message: &CoseSign1) -> Result<String, CoseError>
     ensures { (v : Item) → sign1.describes v (sign1_seen message.now)
-        → MatchResult result (λ l. IsLineOf (sign1_signed_item (sign1_seen message.now)) (string_bytes l)) (λ e. e ≡ OutOfMemory) }
+        → MatchResult result (λ l. IsLineOf (sign1_signed_item (sign1_seen message.now))
+        (string_bytes l)) (λ e. e ≡ OutOfMemory) }
 {
     let signed = message.tbs_data(alloc, &[])?;
     Ok(hexadecimal_line(alloc, &signed)?)

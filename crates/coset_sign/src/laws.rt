@@ -26,7 +26,8 @@ pub fn one_structure()
 /// What is signed is of one context, one body, one signer or none, one `external_aad` and one payload alone.
 pub fn one_signature_structure()
     ensures { (c d : SignatureContext) (p q : List ℕ) (s t : Option (List ℕ)) (a x l m b : List ℕ)
-        → IsShortest b (signature_structure c p s a l) → IsShortest b (signature_structure d q t x m)
+        → IsShortest b (signature_structure c p s a l)
+        → IsShortest b (signature_structure d q t x m)
         → (c ≡ d) × (p ≡ q) × (s ≡ t) × (a ≡ x) × (l ≡ m) }
 {
     one_structure();

@@ -66,7 +66,8 @@ pub(crate) fn signature_structure_bytes(
     payload: &[u8],
 ) -> Result<Vec<u8>>
     ensures encoding { IfOk result (λ b. IsShortest b.items
-        (signature_structure context body.now (option_copied signer.entry) external_aad.now payload.now)) }
+        (signature_structure context body.now (option_copied signer.entry) external_aad.now
+        payload.now)) }
     ensures memory { IfErr result (λ e. e ≡ OutOfMemory) }
 {
     match signer {

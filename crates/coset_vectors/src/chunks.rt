@@ -27,7 +27,8 @@ pub(crate) fn bytes_of(alloc: Global, chunks: ByteChunks<'_>) -> Result<Vec<u8>,
 
 /// The chunks of a text string, joined: a loop sees each of them once, in order, to the end.
 pub(crate) fn text_of(alloc: Global, chunks: TextChunks<'_>) -> Result<String, AllocError>
-    ensures { IfOk result (λ text. string_bytes text ≡ joined_chunks (text_chunks_left chunks.entry)) }
+    ensures { IfOk result (λ text. string_bytes text
+        ≡ joined_chunks (text_chunks_left chunks.entry)) }
 {
     let mut all = String::new(alloc);
     for chunk in chunks {

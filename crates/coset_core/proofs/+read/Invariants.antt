@@ -1,6 +1,6 @@
 use Rattle.std.proofs.Common.{ℕ, map, length, ◌+◌, ◌*◌, ◌≤◌}
 use Rattle.coset_value.specs.Item.{Items}
-use Rattle.coset_shape.specs.Inputs.{State, state, still, size, items_size, pairs_size, items_turns, AreWithin}
+use Rattle.coset_shape.specs.Inputs.{State, state, length_left, input_size, items_size, pairs_size, items_turns, AreWithin}
 use Rattle.coset_core.specs.Views.{signature_seen}
 use Rattle.coset_core.proofs.Reading.{Filled}
 use Rattle.coset_core.proofs.+read.Given as goal
@@ -10,13 +10,13 @@ abbrev layer : ℕ
 layer = 1180591620717411303424
 
 abbrev pub decreases-header::fill_header : goal.decreases-header::fill_header
-decreases-header::fill_header l = layer * l.layers + 8 * size (state l.input.now) + 2
+decreases-header::fill_header l = layer * l.layers + 8 * input_size (state l.input.now) + 2
 
 abbrev pub decreases-header::fill_pairs : goal.decreases-header::fill_pairs
 decreases-header::fill_pairs l = layer * l.layers + 8 * pairs_size l.pairs.now (state l.input.now) + 4
 
 abbrev pub decreases-header::fill_counter_signatures : goal.decreases-header::fill_counter_signatures
-decreases-header::fill_counter_signatures l = layer * l.layers + 8 * size (state l.input.now) + 3
+decreases-header::fill_counter_signatures l = layer * l.layers + 8 * input_size (state l.input.now) + 3
 
 abbrev pub decreases-signature::fill_one : goal.decreases-signature::fill_one
 decreases-signature::fill_one l = layer * l.layers + 8 * items_size l.members.now (state l.input.now) + 8
@@ -25,7 +25,7 @@ abbrev pub decreases-signature::fill_each : goal.decreases-signature::fill_each
 decreases-signature::fill_each l = layer * l.layers + 8 * items_size l.members.now (state l.input.now) + 8
 
 abbrev pub decreases-signature::fill_signature : goal.decreases-signature::fill_signature
-decreases-signature::fill_signature l = layer * l.layers + 8 * size (state l.input.now) + 6
+decreases-signature::fill_signature l = layer * l.layers + 8 * input_size (state l.input.now) + 6
 
 abbrev pub decreases-signature::fill_places : goal.decreases-signature::fill_places
 decreases-signature::fill_places l = layer * l.layers + 8 * items_size l.members.now (state l.input.now) + 7
@@ -39,8 +39,8 @@ decreases-protected::fill_content l = layer * l.layers + 8 * length l.content.no
 -- the signatures so far are those of the items so far, and the others stand there
 abbrev pub invariant-signature::fill_each-loop-all : goal.invariant-signature::fill_each-loop-all
 invariant-signature::fill_each-loop-all l = record {
-  shrinks : still (state l.input) ≤ still (state l.fn.input);
-  size : items_size l.members (state l.input) ≤ items_size l.fn.members (state l.fn.input);
+  shrinks : length_left (state l.input) ≤ length_left (state l.fn.input);
+  input_size : items_size l.members (state l.input) ≤ items_size l.fn.members (state l.fn.input);
   fills : (vs : Items) (z : State) → AreWithin l.fn.members vs (state l.fn.input) z → Filled l.layers vs z l.members (state l.input) (map signature_seen l.all.items);
 }
 
