@@ -2,7 +2,6 @@
 #![tactic(auto)]
 
 pub mod laws;
-mod same;
 mod sign1;
 mod signature;
 pub mod structure;

@@ -1,10 +1,14 @@
 //! Messages with one signature (RFC 8152, section 4.2).
 
-ghost use Rattle.std.specs.Prelude.{◌≡◌, Some, None};
+ghost use Rattle.std.specs.Prelude.{◌≡◌, ◌↔◌, IsTrue, IfOk, IfErr, Some, None};
+ghost use Rattle.std.specs.Ordering.{on};
+ghost use Rattle.std.specs.Cmp.{on_equiv, on_per, partial_equiv_from_equiv};
+ghost use Rattle.coset_shape.specs.declared.error.CoseError.TheVariants.{OutOfMemory};
 ghost use Rattle.coset_shape.specs.Answers.{Reads, Writes};
 ghost use Rattle.coset_shape.specs.Sources.{source_item};
 ghost use Rattle.coset_core.specs.Contents.{Fills};
 ghost use Rattle.coset_sign.specs.Sign1.{empty_sign1, sign1, sign1_seen};
+ghost use Rattle.coset_sign.specs.Same.{sign1_eq, sign1_eq_equiv};
 ghost use Rattle.coset_sign.specs.Signed.{signed_item, or_empty};
 ghost use Rattle.coset_sign.specs.declared.signature.SignatureContext.TheVariants as contexts;
 
@@ -16,6 +20,7 @@ use coset_shape::encode::{
     Encode, encode_four, encode_to_tagged_vec, encode_to_value, encode_to_vec,
 };
 use coset_shape::traits::{FromPull, read_slice, read_tagged_slice};
+use coset_shape::util::copy_bytes;
 use coset_shape::{AsCborValue, CborSerializable, Lawful, Result, Source, TaggedCborSerializable};
 use std::alloc::Global;
 
@@ -96,6 +101,54 @@ impl CoseSign1 {
             payload,
         )
     }
+
+    /// A message that equals this one, with the same bytes kept.
+    ///
+    /// # Errors
+    /// `OutOfMemory` alone.
+    pub fn clone(&self) -> Result<CoseSign1>
+        ensures copy { IfOk result (λ m. sign1_seen m ≡ sign1_seen self.now) }
+        ensures memory { IfErr result (λ e. e ≡ OutOfMemory) }
+    {
+        let payload = match &self.payload {
+            Some(payload) => Some(copy_bytes(payload)?),
+            None => None,
+        };
+        Ok(CoseSign1 {
+            protected: self.protected.clone()?,
+            unprotected: self.unprotected.clone()?,
+            payload,
+            signature: copy_bytes(&self.signature)?,
+        })
+    }
+}
+
+/// Equality of every field, the bytes that were kept of the protected header included.
+impl PartialEq for CoseSign1 {
+    ghost eq = { on sign1_seen sign1_eq };
+
+    ghost laws = { on_per sign1_seen (partial_equiv_from_equiv sign1_eq_equiv) };
+
+    fn eq(&self, other: &CoseSign1) -> bool
+        ensures answers { result ≡ sign1_eq (sign1_seen self.now) (sign1_seen other.now) }
+        ensures equal { IsTrue result ↔ (sign1_seen self.now ≡ sign1_seen other.now) }
+    {
+        same(self, other)
+    }
+}
+
+impl Eq for CoseSign1 {
+    ghost laws = { on_equiv sign1_seen sign1_eq_equiv };
+}
+
+/// Whether two messages are the same, the bytes that were kept included.
+fn same(a: &CoseSign1, b: &CoseSign1) -> bool
+    ensures { result ≡ sign1_eq (sign1_seen a.now) (sign1_seen b.now) }
+{
+    a.protected == b.protected
+        && a.unprotected == b.unprotected
+        && a.payload == b.payload
+        && a.signature == b.signature
 }
 
 impl AsCborValue for CoseSign1 {

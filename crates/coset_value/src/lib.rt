@@ -4,11 +4,9 @@
 //! and an [`Integer`] as a number.
 #![tactic(auto)]
 
-mod clone;
 mod float;
 mod integer;
 pub mod laws;
-mod same;
 #[cfg(test)]
 mod tests;
 mod value;

@@ -1,12 +1,17 @@
 //! CBOR's values (RFC 8949, section 2).
 
 ghost use Rattle.std.specs.Prelude.{◌≡◌, ◌↔◌, IsTrue, IfOk, option_map, pos};
+ghost use Rattle.std.specs.Ordering.{on};
+ghost use Rattle.std.specs.Cmp.{on_equiv, on_per, partial_equiv_from_equiv};
 ghost use Rattle.coset_value.specs.Item.{integer, null};
 ghost use Rattle.coset_value.specs.Parts.{as_integer, as_bytes, as_text, as_bool, as_array, as_map, as_tag};
+ghost use Rattle.coset_value.specs.Same.{item_eq, items_eq, pairs_eq};
+ghost use Rattle.coset_value.specs.SameLaws.{item_eq_equiv};
 ghost use Rattle.coset_value.specs.View.{view, items_view, pairs_view};
 
 use crate::float::Float;
 use crate::integer::Integer;
+use std::alloc::AllocError;
 
 /// A CBOR value (RFC 8949, sections 2 and 3.1).
 ///
@@ -116,6 +121,13 @@ impl Value {
     {
         matches!(self, Value::Null)
     }
+
+    /// An equal value in memory of its own, or an error where that memory is refused.
+    pub fn clone(&self) -> Result<Value, AllocError>
+        ensures { IfOk result (λ copy. view copy ≡ view self.now) }
+    {
+        copy(self)
+    }
 }
 
 impl From<u8> for Value {
@@ -180,4 +192,123 @@ impl From<i64> for Value {
     fn from(n: i64) -> Value {
         Value::Integer(Integer::from(n))
     }
+}
+
+impl Clone for Value {
+    ghost is_clone = { λ value copy. view copy ≡ view value };
+
+    fn clone(&self) -> Result<Value, AllocError> {
+        copy(self)
+    }
+}
+
+#[cycle(copy)]
+fn copy(value: &Value) -> Result<Value, AllocError>
+    ensures { IfOk result (λ copy. view copy ≡ view value.now) }
+{
+    match value {
+        Value::Integer(n) => Ok(Value::Integer(*n)),
+        Value::Bytes(bytes) => Ok(Value::Bytes(Vec::from_slice(*bytes.allocator(), bytes)?)),
+        Value::Float(x) => Ok(Value::Float(*x)),
+        Value::Text(text) => Ok(Value::Text(text.clone()?)),
+        Value::Bool(b) => Ok(Value::Bool(*b)),
+        Value::Null => Ok(Value::Null),
+        Value::Tag(number, value) => {
+            let inside = copy(value)?;
+            Ok(Value::Tag(*number, Box::new(*Box::allocator(value), inside)?))
+        }
+        Value::Array(items) => Ok(Value::Array(copy_items(items)?)),
+        Value::Map(pairs) => Ok(Value::Map(copy_pairs(pairs)?)),
+    }
+}
+
+#[cycle(copy)]
+fn copy_items(items: &Vec<Value>) -> Result<Vec<Value>, AllocError>
+    ensures { IfOk result (λ copies. items_view copies.items ≡ items_view items.now.items) }
+{
+    let mut copies = Vec::with_capacity(*items.allocator(), items.len())?;
+    for item in items {
+        copies.push(copy(item)?)?;
+    }
+    Ok(copies)
+}
+
+#[cycle(copy)]
+fn copy_pairs(pairs: &Vec<(Value, Value)>) -> Result<Vec<(Value, Value)>, AllocError>
+    ensures { IfOk result (λ copies. pairs_view copies.items ≡ pairs_view pairs.now.items) }
+{
+    let mut copies = Vec::with_capacity(*pairs.allocator(), pairs.len())?;
+    for (key, value) in pairs {
+        let key = copy(key)?;
+        let value = copy(value)?;
+        copies.push((key, value))?;
+    }
+    Ok(copies)
+}
+
+/// Equality of every field: two floats are equal where their widths and bits are, and two maps
+/// where they hold equal pairs in the same order.
+impl PartialEq for Value {
+    ghost eq = { on view item_eq };
+
+    ghost laws = { on_per view (partial_equiv_from_equiv item_eq_equiv) };
+
+    fn eq(&self, other: &Value) -> bool
+        ensures answers { result ≡ item_eq (view self.now) (view other.now) }
+        ensures equal { IsTrue result ↔ (view self.now ≡ view other.now) }
+    {
+        same(self, other)
+    }
+}
+
+impl Eq for Value {
+    ghost laws = { on_equiv view item_eq_equiv };
+}
+
+#[cycle(same)]
+fn same(a: &Value, b: &Value) -> bool
+    ensures { result ≡ item_eq (view a.now) (view b.now) }
+{
+    match (a, b) {
+        (Value::Integer(m), Value::Integer(n)) => *m == *n,
+        (Value::Bytes(s), Value::Bytes(t)) => s.as_slice() == t.as_slice(),
+        (Value::Float(x), Value::Float(y)) => *x == *y,
+        (Value::Text(s), Value::Text(t)) => s.as_str() == t.as_str(),
+        (Value::Bool(x), Value::Bool(y)) => *x == *y,
+        (Value::Null, Value::Null) => true,
+        (Value::Tag(t, v), Value::Tag(u, w)) => *t == *u && same(v, w),
+        (Value::Array(vs), Value::Array(ws)) => same_items(vs, ws),
+        (Value::Map(ps), Value::Map(qs)) => same_pairs(ps, qs),
+        _ => false,
+    }
+}
+
+#[cycle(same)]
+fn same_items(vs: &[Value], ws: &[Value]) -> bool
+    ensures { result ≡ items_eq (items_view vs.now) (items_view ws.now) }
+{
+    if vs.len() != ws.len() {
+        return false;
+    }
+    for (v, w) in vs.iter().zip(ws) {
+        if !same(v, w) {
+            return false;
+        }
+    }
+    true
+}
+
+#[cycle(same)]
+fn same_pairs(ps: &[(Value, Value)], qs: &[(Value, Value)]) -> bool
+    ensures { result ≡ pairs_eq (pairs_view ps.now) (pairs_view qs.now) }
+{
+    if ps.len() != qs.len() {
+        return false;
+    }
+    for ((j, v), (k, w)) in ps.iter().zip(qs) {
+        if !(same(j, k) && same(v, w)) {
+            return false;
+        }
+    }
+    true
 }

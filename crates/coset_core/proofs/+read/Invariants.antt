@@ -40,7 +40,7 @@ decreases-protected::fill_content l = layer * l.layers + 8 * length l.content.no
 abbrev pub invariant-signature::fill_each-loop-all : goal.invariant-signature::fill_each-loop-all
 invariant-signature::fill_each-loop-all l = record {
   shrinks : length_left (state l.input) ≤ length_left (state l.fn.input);
-  input_size : items_size l.members (state l.input) ≤ items_size l.fn.members (state l.fn.input);
+  size : items_size l.members (state l.input) ≤ items_size l.fn.members (state l.fn.input);
   fills : (vs : Items) (z : State) → AreWithin l.fn.members vs (state l.fn.input) z → Filled l.layers vs z l.members (state l.input) (map signature_seen l.all.items);
 }
 

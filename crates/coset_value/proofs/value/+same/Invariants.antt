@@ -3,7 +3,7 @@ use Rattle.std.specs.Iterator.Adapters.{zip_first, zip_second}
 use Rattle.std.specs.Slice.Iter.{iter_rest}
 use Rattle.coset_value.specs.Same.{items_eq, pairs_eq}
 use Rattle.coset_value.specs.View.{items_view, pairs_view}
-use Rattle.coset_value.proofs.same.+same.Given as goal
+use Rattle.coset_value.proofs.value.+same.Given as goal
 
 -- what is left of the lists is as long, and is the same where the lists are
 abbrev pub invariant-same_items-loop-v : goal.invariant-same_items-loop-v

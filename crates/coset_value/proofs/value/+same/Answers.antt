@@ -1,6 +1,6 @@
 use Rattle.coset_value.specs.ViewLaws.{view-Map}
 use Rattle.coset_value.proofs.Lengths.{items_eq-unequal, pairs_eq-unequal}
-use Rattle.coset_value.proofs.same.+same.Goals as goal
+use Rattle.coset_value.proofs.value.+same.Goals as goal
 
 pub same-returns-in-Map-Map : goal.same-returns-in-Map-Map
 same-returns-in-Map-Map t c =
