@@ -5,6 +5,7 @@ pub mod Writing
 pub mod WritingHeaders
 pub mod Keeping
 pub mod Copies
+pub mod Building
 pub mod Kept
 pub mod Room
 pub mod Filling

@@ -23,6 +23,7 @@ pub mod Fields
 pub mod FieldLaws
 pub mod FieldsView
 pub mod FieldValues
+pub mod Built
 pub mod Contents
 pub mod ProtectedMap
 pub mod Headers

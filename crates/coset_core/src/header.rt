@@ -19,12 +19,12 @@
 //! Each reader leaves the input just behind its item, whatever it answers, so that each byte is passed once at any depth. Of
 //! `layers` each byte string of a protected header takes one.
 
-ghost use Rattle.std.specs.Prelude.{◌≡◌, [], map, option_map, OnOk, IfOk, IfErr, ◌⊎◌, ◌≤◌, ◌<◌, Option, true, false, IsTrue, IsSome, IsErrAnd, OnErr, Err, ◌↔◌, ◌+◌, ◌≢◌, ◌++◌};
+ghost use Rattle.std.specs.Prelude.{◌≡◌, [], map, option_map, OnOk, IfOk, IfErr, ◌⊎◌, ◌≤◌, ◌<◌, Option, true, false, IsTrue, IsSome, IsErrAnd, OnErr, Err, ◌↔◌, ◌+◌, ◌≢◌, ◌++◌, ◌∷◌, Some, string_bytes};
 ghost use Rattle.coset_shape.specs.declared.error.CoseError.TheVariants as errors;
 ghost use Rattle.coset_shape.specs.declared.error.CoseError.TheVariants.{DuplicateMapKey};
 ghost use Rattle.coset_core.specs.Contents.{Fills};
 ghost use Rattle.coset_core.specs.FieldsView.{fields_seen, counter_signatures_held};
-ghost use Rattle.coset_core.specs.Views.{algorithm_seen, entry_seen, header_seen, signature_seen};
+ghost use Rattle.coset_core.specs.Views.{algorithm_seen, entry_seen, header_seen, signature_seen, critical_seen};
 ghost use Rattle.coset_shape.specs.Answers.{Reads};
 ghost use Rattle.coset_shape.specs.Errors.{IsUnexpected, UnlessMemory, answer, filled};
 ghost use Rattle.coset_shape.specs.Sources.{source_item};
@@ -33,9 +33,11 @@ ghost use Rattle.coset_value.specs.Item.{Item, Pairs, dict};
 ghost use Rattle.coset_shape.specs.Inputs.{State, state, length_left, input_size, pairs_size, pairs_turns, PairsWithin, items_size, Stands, EntersMap, EntersOnes};
 ghost use Rattle.coset_shape.specs.Maps.{optional, listed, Adds, Refuses, put_field, are_distinct};
 ghost use Rattle.coset_shape.specs.Shape.{any, filled_bstr, any_number, one_or_many};
-ghost use Rattle.coset_label.specs.Names.{number, name_item};
+ghost use Rattle.coset_label.specs.Names.{number, name_item, word, assigned};
 ghost use Rattle.coset_label.specs.Views.{label_seen};
 ghost use Rattle.coset_shape.specs.declared.input.InputPairs.{InputPairs};
+ghost use Rattle.coset_iana.specs.Algorithm as algorithms;
+ghost use Rattle.coset_iana.specs.CoapContentFormat as content_formats;
 ghost use Rattle.coset_iana.specs.HeaderParameter as parameters;
 ghost use Rattle.coset_core.specs.FieldLabels as labels;
 ghost use Rattle.coset_core.specs.Filling.{WalksTo, NextsLabel, FillsSome, FillsFields};
@@ -52,6 +54,7 @@ ghost use Rattle.coset_core.specs.Same.{algorithm_eq, entry_eq, fields_eq, heade
 ghost use Rattle.coset_core.specs.SameLaws.{header_eq_equiv};
 ghost use Rattle.std.specs.Map.{keys_of};
 ghost use Rattle.coset_cbor.specs.Least.{least_head};
+ghost use Rattle.coset_core.specs.Built.{with_algorithm, and_critical, with_content_type, with_key_id, with_iv, with_partial_iv, and_counter_signature, and_pair, IsOtherLabel};
 
 use crate::content_type::{same_content_type, set_content_type, write_content_type_field};
 use crate::critical::{same_critical, set_critical, write_critical_field, write_registered};
@@ -64,8 +67,10 @@ use coset_cbor::ser::{
 };
 use coset_cbor::value::{Integer, Value};
 use coset_cbor::{OutOfMemory, laws};
-use coset_iana::{EnumI64, HeaderParameter};
-use coset_label::{Algorithm, ContentType, Label, RegisteredLabelWithPrivate};
+use coset_iana::{CoapContentFormat, EnumI64, HeaderParameter};
+use coset_label::{
+    Algorithm, ContentType, Label, RegisteredLabel, RegisteredLabelWithPrivate, iana,
+};
 use coset_shape::encode::{Encode, encode_to_value, encode_to_vec};
 use coset_shape::error::{Refused, keep_error};
 use coset_shape::input::{Input, InputItems, InputPairs};
@@ -73,6 +78,7 @@ use coset_shape::list::read_source;
 use coset_shape::traits::{FromPull, read_slice};
 use coset_shape::{AsCborValue, CborSerializable, CoseError, Lawful, Result, Source, has_repeats};
 use std::alloc::{AllocError, Global};
+use std::marker::Model;
 
 /// About what a header takes beside its byte strings.
 const HEADS: usize = 24;
@@ -872,4 +878,167 @@ fn same_rest(a: &Vec<(Label, Value)>, b: &Vec<(Label, Value)>) -> bool
         (map entry_seen b.now.items) }
 {
     *a == *b
+}
+
+/// Makes a [`Header`], field by field. Contracts see it as the header that [`build`](HeaderBuilder::build) gives.
+#[derive(Debug, Drop)]
+pub struct HeaderBuilder(Header);
+
+impl Model for HeaderBuilder {
+    ghost use Rattle.std.specs.Coded.{codes};
+    ghost use Rattle.coset_core.specs.contracts.header.Header as contracts;
+    ghost use Rattle.coset_core.specs.declared.header.Header.{Header};
+
+    ghost Value = { Header };
+
+    ghost coded = { Prim.hlevel (codes, contracts.the_row.coded) };
+
+    ghost view = { λ b. b.0 };
+
+    ghost inverse = { λ v. record { 0 = v } };
+}
+
+impl HeaderBuilder {
+    /// An empty header. It takes no memory.
+    pub fn new(alloc: Global) -> HeaderBuilder
+        ensures { header_seen result ≡ empty_header }
+    {
+        HeaderBuilder(Header::new(alloc))
+    }
+
+    /// The header that was made.
+    pub fn build(self) -> Header
+        ensures { result ≡ self }
+    {
+        self.0
+    }
+
+    /// Sets the algorithm (label 1).
+    pub fn algorithm(self, algorithm: iana::Algorithm) -> HeaderBuilder
+        ensures { header_seen result
+            ≡ with_algorithm (assigned (algorithms.number algorithm)) (header_seen self) }
+    {
+        self.algorithm_label(RegisteredLabelWithPrivate::Assigned(algorithm))
+    }
+
+    /// Sets the algorithm (label 1) to a label, which may be for private use, or a text.
+    pub fn algorithm_label(mut self, label: Algorithm) -> HeaderBuilder
+        ensures { header_seen result ≡ with_algorithm (algorithm_seen label) (header_seen self) }
+    {
+        self.0.alg = Some(label);
+        self
+    }
+
+    /// Adds a label that must be understood (label 2).
+    ///
+    /// # Errors
+    /// `OutOfMemory` alone.
+    pub fn add_critical(self, parameter: HeaderParameter) -> Result<HeaderBuilder>
+        ensures ok { IfOk result (λ b. header_seen b
+            ≡ and_critical (assigned (parameters.number parameter)) (header_seen self)) }
+        ensures memory { IfErr result (λ e. e ≡ errors.OutOfMemory) }
+    {
+        self.add_critical_label(RegisteredLabelWithPrivate::Assigned(parameter))
+    }
+
+    /// Adds a label that must be understood (label 2), which may be for private use, or a text.
+    ///
+    /// # Errors
+    /// `OutOfMemory` alone.
+    pub fn add_critical_label(
+        mut self,
+        label: RegisteredLabelWithPrivate<HeaderParameter>,
+    ) -> Result<HeaderBuilder>
+        ensures ok { IfOk result (λ b. header_seen b
+            ≡ and_critical (critical_seen label) (header_seen self)) }
+        ensures memory { IfErr result (λ e. e ≡ errors.OutOfMemory) }
+    {
+        self.0.crit.push(label)?;
+        Ok(self)
+    }
+
+    /// Sets the content type (label 3) to a format of CoAP.
+    pub fn content_format(mut self, format: CoapContentFormat) -> HeaderBuilder
+        ensures { header_seen result
+            ≡ with_content_type (number (content_formats.number format)) (header_seen self) }
+    {
+        self.0.content_type = Some(RegisteredLabel::Assigned(format));
+        self
+    }
+
+    /// Sets the content type (label 3) to a text. That it names a media type is asked where a header is read.
+    pub fn content_type(mut self, content_type: String) -> HeaderBuilder
+        ensures { header_seen result ≡ with_content_type (word (string_bytes content_type))
+            (header_seen self) }
+    {
+        self.0.content_type = Some(RegisteredLabel::Text(content_type));
+        self
+    }
+
+    /// Sets the key's identifier (label 4).
+    pub fn key_id(mut self, key_id: Vec<u8>) -> HeaderBuilder
+        ensures { header_seen result ≡ with_key_id key_id.items (header_seen self) }
+    {
+        self.0.key_id = key_id;
+        self
+    }
+
+    /// Sets the IV (label 5), and empties the Partial IV.
+    pub fn iv(mut self, iv: Vec<u8>) -> HeaderBuilder
+        ensures { header_seen result ≡ with_iv iv.items (header_seen self) }
+    {
+        self.0.iv = iv;
+        self.0.partial_iv.clear();
+        self
+    }
+
+    /// Sets the Partial IV (label 6), and empties the IV.
+    pub fn partial_iv(mut self, partial_iv: Vec<u8>) -> HeaderBuilder
+        ensures { header_seen result ≡ with_partial_iv partial_iv.items (header_seen self) }
+    {
+        self.0.partial_iv = partial_iv;
+        self.0.iv.clear();
+        self
+    }
+
+    /// Adds a counter signature (label 7).
+    ///
+    /// # Errors
+    /// `OutOfMemory` alone.
+    pub fn add_counter_signature(mut self, signature: CoseSignature) -> Result<HeaderBuilder>
+        ensures ok { IfOk result (λ b. header_seen b
+            ≡ and_counter_signature (signature_seen signature) (header_seen self)) }
+        ensures memory { IfErr result (λ e. e ≡ errors.OutOfMemory) }
+    {
+        self.0.counter_signatures.push(signature)?;
+        Ok(self)
+    }
+
+    /// Adds a pair with a number as its label, which is none of 1 to 7: those have calls of their own. A header with a
+    /// label twice isn't written (`DuplicateMapKey`).
+    ///
+    /// # Errors
+    /// `OutOfMemory` alone.
+    pub fn value(mut self, label: i64, value: Value) -> Result<HeaderBuilder>
+        requires { IsOtherLabel label }
+        ensures ok { IfOk result (λ b. header_seen b
+            ≡ and_pair (number label) (view value) (header_seen self)) }
+        ensures memory { IfErr result (λ e. e ≡ errors.OutOfMemory) }
+    {
+        self.0.rest.push((Label::Int(label), value))?;
+        Ok(self)
+    }
+
+    /// Adds a pair with a text as its label. A header with a label twice isn't written (`DuplicateMapKey`).
+    ///
+    /// # Errors
+    /// `OutOfMemory` alone.
+    pub fn text_value(mut self, label: String, value: Value) -> Result<HeaderBuilder>
+        ensures ok { IfOk result (λ b. header_seen b
+            ≡ and_pair (word (string_bytes label)) (view value) (header_seen self)) }
+        ensures memory { IfErr result (λ e. e ≡ errors.OutOfMemory) }
+    {
+        self.0.rest.push((Label::Text(label), value))?;
+        Ok(self)
+    }
 }

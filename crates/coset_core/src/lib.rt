@@ -16,8 +16,8 @@ pub use coset_label::{
     RegisteredLabelWithPrivate, Result, Source, TaggedCborSerializable, cbor, has_repeats, iana,
     shape, util,
 };
-pub use header::Header;
+pub use header::{Header, HeaderBuilder};
 pub use headers::fill_headers;
 pub use protected::{Bstr, ProtectedHeader};
 pub use protected_bstr::ProtectedBstr;
-pub use signature::CoseSignature;
+pub use signature::{CoseSignature, CoseSignatureBuilder};

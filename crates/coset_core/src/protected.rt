@@ -186,7 +186,7 @@ impl ProtectedHeader {
 }
 
 /// A protected header that wasn't read from a byte string.
-fn protected_from_header(header: Header) -> ProtectedHeader
+pub(crate) fn protected_from_header(header: Header) -> ProtectedHeader
     ensures { protected_seen result ≡ record { original = None; header = header_seen header } }
 {
     ProtectedHeader {

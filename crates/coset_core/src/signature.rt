@@ -7,7 +7,7 @@
 ghost use Rattle.std.specs.Prelude.{◌≡◌, [], map, option_map, OnOk, IfOk, IfErr, codes, ◌≤◌, ◌<◌, IsTrue, OnErr, None, ◌↔◌, ◌+◌, IfSome};
 ghost use Rattle.coset_shape.specs.declared.error.CoseError.TheVariants.{OutOfMemory};
 ghost use Rattle.coset_core.specs.Contents.{GetsEmpty, Fills, FillsEach, GetsPlace, empty_signature};
-ghost use Rattle.coset_core.specs.Views.{signature_seen};
+ghost use Rattle.coset_core.specs.Views.{header_seen, signature_seen};
 ghost use Rattle.coset_shape.specs.Answers.{Reads};
 ghost use Rattle.coset_shape.specs.Errors.{IsUnexpected, answer, filled};
 ghost use Rattle.coset_shape.specs.Sources.{source_item};
@@ -25,8 +25,8 @@ ghost use Rattle.coset_core.specs.Held.{signatures_in};
 
 use crate::header::{Header, LAYERS, copy_header, fill_header, same_header, write_header};
 use crate::protected::{
-    Bstr, ProtectedHeader, copy_protected, fill_protected, same_protected, string_bytes,
-    write_protected,
+    Bstr, ProtectedHeader, copy_protected, fill_protected, protected_from_header, same_protected,
+    string_bytes, write_protected,
 };
 use coset_cbor::de::Pull;
 use coset_cbor::ser::{write_array_head, write_bytes};
@@ -37,6 +37,7 @@ use coset_shape::input::{Input, InputItems};
 use coset_shape::traits::{FromPull, read_slice};
 use coset_shape::{AsCborValue, CborSerializable, CoseError, Lawful, Result, Source};
 use std::alloc::{AllocError, Global};
+use std::marker::Model;
 
 /// One signature (RFC 8152, section 4.1), which has its own headers: of a `COSE_Sign` message, or a counter signature
 /// (section 4.5).
@@ -611,4 +612,67 @@ pub(crate) fn let_go(all: Vec<CoseSignature>) {
         let_go(unprotected);
     }
     all.destroy_empty();
+}
+
+/// Makes a [`CoseSignature`], field by field. Contracts see it as the signature that
+/// [`build`](CoseSignatureBuilder::build) gives.
+#[derive(Debug, Drop)]
+pub struct CoseSignatureBuilder(CoseSignature);
+
+impl Model for CoseSignatureBuilder {
+    ghost use Rattle.std.specs.Coded.{codes};
+    ghost use Rattle.coset_core.specs.contracts.signature.CoseSignature as contracts;
+    ghost use Rattle.coset_core.specs.declared.signature.CoseSignature.{CoseSignature};
+
+    ghost Value = { CoseSignature };
+
+    ghost coded = { Prim.hlevel (codes, contracts.the_row.coded) };
+
+    ghost view = { λ b. b.0 };
+
+    ghost inverse = { λ v. record { 0 = v } };
+}
+
+impl CoseSignatureBuilder {
+    /// A signature of no bytes with empty headers. It takes no memory.
+    pub fn new(alloc: Global) -> CoseSignatureBuilder
+        ensures { signature_seen result ≡ empty_signature }
+    {
+        CoseSignatureBuilder(CoseSignature::new(alloc))
+    }
+
+    /// The signature that was made.
+    pub fn build(self) -> CoseSignature
+        ensures { result ≡ self }
+    {
+        self.0
+    }
+
+    /// Sets the protected header: one that was made, and not read, so that it has no bytes of its own yet.
+    pub fn protected(mut self, header: Header) -> CoseSignatureBuilder
+        ensures { signature_seen result ≡ record (signature_seen self) {
+          protected = record { original = None; header = header_seen header };
+        } }
+    {
+        self.0.protected = protected_from_header(header);
+        self
+    }
+
+    /// Sets the unprotected header.
+    pub fn unprotected(mut self, header: Header) -> CoseSignatureBuilder
+        ensures { signature_seen result ≡ record
+            (signature_seen self) { unprotected = header_seen header } }
+    {
+        self.0.unprotected = header;
+        self
+    }
+
+    /// Sets the signature's bytes.
+    pub fn signature(mut self, signature: Vec<u8>) -> CoseSignatureBuilder
+        ensures { signature_seen result ≡ record
+            (signature_seen self) { signature = signature.items } }
+    {
+        self.0.signature = signature;
+        self
+    }
 }

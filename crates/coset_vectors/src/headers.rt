@@ -137,7 +137,7 @@ fn built(
 }
 
 /// Whether the header is written as this.
-fn is_written(alloc: Global, header: Header, bytes: &[u8]) -> bool {
+pub(crate) fn is_written(alloc: Global, header: Header, bytes: &[u8]) -> bool {
     match header.to_vec(alloc) {
         Ok(text) => text.as_slice() == bytes,
         Err(_) => false,

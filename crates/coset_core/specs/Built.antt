@@ -1,0 +1,48 @@
+-- What the calls of a header's builder make of a header (RFC 8152, section 3.1): each sets what it is named for, and
+-- leaves the rest as it was.
+use Rattle.std.specs.Prelude.{◌≡◌, ◌⊎◌, ℕ, ℤ, pos, int_lt, true, List, [], ◌∷◌, ◌++◌, Some}
+use Rattle.coset_value.specs.Item.{Item}
+use Rattle.coset_label.specs.Names.{Name, RegisteredName}
+use Rattle.coset_core.specs.Fields.{FieldsSeen}
+use Rattle.coset_core.specs.Headers.{HeaderSeen, header_of, Signatures, no_signatures, signature_and, SignatureSeen, and_signatures}
+
+-- with other fields, and the same counter signatures
+abbrev pub with_fields : (FieldsSeen → FieldsSeen) → HeaderSeen → HeaderSeen
+with_fields g (header_of f ss) = header_of (g f) ss
+
+abbrev pub with_algorithm : RegisteredName → HeaderSeen → HeaderSeen
+with_algorithm a = with_fields (λ f. record f { alg = Some a })
+
+-- one more label that must be understood, behind the others
+abbrev pub and_critical : RegisteredName → HeaderSeen → HeaderSeen
+and_critical l = with_fields (λ f. record f { crit = f.crit ++ l ∷ [] })
+
+abbrev pub with_content_type : Name → HeaderSeen → HeaderSeen
+with_content_type t = with_fields (λ f. record f { content_type = Some t })
+
+abbrev pub with_key_id : List ℕ → HeaderSeen → HeaderSeen
+with_key_id b = with_fields (λ f. record f { key_id = b })
+
+-- one of the two initialization vectors, and not the other
+abbrev pub with_iv : List ℕ → HeaderSeen → HeaderSeen
+with_iv b = with_fields (λ f. record f { iv = b; partial_iv = [] })
+
+abbrev pub with_partial_iv : List ℕ → HeaderSeen → HeaderSeen
+with_partial_iv b = with_fields (λ f. record f { iv = []; partial_iv = b })
+
+-- one more pair of another label, behind the others
+abbrev pub and_pair : Name → Item → HeaderSeen → HeaderSeen
+and_pair l v = with_fields (λ f. record f { rest = f.rest ++ (l, v) ∷ [] })
+
+-- one more signature, behind the others
+abbrev pub and_last : SignatureSeen → Signatures → Signatures
+and_last s no_signatures = and_signatures s no_signatures
+and_last s (signature_and o p u b more) = signature_and o p u b (and_last s more)
+
+-- one more counter signature, behind the others, and the same fields
+abbrev pub and_counter_signature : SignatureSeen → HeaderSeen → HeaderSeen
+and_counter_signature s (header_of f ss) = header_of f (and_last s ss)
+
+-- no field has this label: it is none of 1 to 7
+abbrev pub IsOtherLabel : ℤ → Type 0
+IsOtherLabel n = (int_lt n (pos 1) ≡ true) ⊎ (int_lt (pos 7) n ≡ true)
