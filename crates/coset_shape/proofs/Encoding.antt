@@ -1,13 +1,14 @@
 -- Encodings that are written part by part.
-use Rattle.std.specs.Prelude.{Result, Ok, Err, IsErrAnd}
-use Rattle.std.proofs.Common.{◌≡◌, ℕ, suc, ◌<◌, ◌^◌, List, [], ◌++◌, Option, Some, None, option_map, refl, sym, ◌∙◌, ap, subst, append-nil, append_assoc}
-use Rattle.coset_value.specs.Item.{Item, Items, no_items, item, array, tag}
-use Rattle.coset_value.specs.Range.{IsInRange}
+use Rattle.std.specs.Prelude.{Result, Ok, Err, IsErrAnd, IfErr, OnOk}
+use Rattle.std.proofs.Common.{◌≡◌, ℕ, suc, ◌+◌, ◌<◌, ◌^◌, List, [], ◌∷◌, ◌++◌, length, map, take, drop, get_or, Option, Some, None, option_map, refl, sym, ◌∙◌, ap, subst, append-nil, append_assoc, arith}
+use Rattle.std.proofs.lemmas.List.{take_more, take-append-drop}
+use Rattle.coset_value.specs.Item.{Item, Items, no_items, item, array, tag, items_count}
+use Rattle.coset_value.specs.Range.{IsInRange, AreInRange}
 use Rattle.coset_cbor.specs.Grammar.{IsEncoding}
 use Rattle.coset_cbor.specs.Least.{least_head, least_encoding, least_encodings}
 use Rattle.coset_cbor.specs.Shortest.{IsShortest}
-use Rattle.coset_shape.specs.Shape.{both}
-use Rattle.coset_shape.specs.Encoding.{AppendsImage, AppendsPlaces, Encodes}
+use Rattle.coset_shape.specs.Shape.{both, images}
+use Rattle.coset_shape.specs.Encoding.{AppendsImage, AppendsPlaces, Encodes, HasNoImage}
 use Rattle.coset_shape.specs.Errors.{UnlessMemory}
 use Rattle.coset_shape.specs.declared.error.CoseError.{CoseError}
 use Rattle.coset_shape.specs.declared.error.CoseError.TheVariants.{DuplicateMapKey}
@@ -38,6 +39,80 @@ array-put {os} n {old} {head} {new} small first p = (
     parts = p.2.parts ∙ (ap (λ s. s ++ least_encodings p.0) first ∙ (append_assoc old (least_head 4 n) (least_encodings p.0) ∙ ap (λ k. old ++ (least_head 4 k ++ least_encodings p.0)) (sym p.2.count)));
   },
 )
+
+-- ---- lists
+
+abbrev pub and_items : Items → Items → Items
+and_items no_items ws = ws
+and_items (item v vs) ws = item v (and_items vs ws)
+
+both-and : (o : Option Item) (p q : Option Items) → both item o (both and_items p q) ≡ both and_items (both item o p) q
+both-and (Some v) (Some vs) (Some ws) = refl
+both-and (Some v) (Some vs) None = refl
+both-and (Some v) None q = refl
+both-and None p q = refl
+
+both-nothing : (q : Option Items) → both and_items (Some no_items) q ≡ q
+both-nothing (Some vs) = refl
+both-nothing None = refl
+
+both-none : (p : Option Items) → both and_items p None ≡ None
+both-none (Some vs) = refl
+both-none None = refl
+
+module _ {A : Type 0} (f : A → Option Item) where
+  -- the images of some, and of others behind them
+  pub images-append : (xs ys : List A) → images f (xs ++ ys) ≡ both and_items (images f xs) (images f ys)
+  images-append [] ys = sym (both-nothing (images f ys))
+  images-append (x ∷ xs) ys = ap (both item (f x)) (images-append xs ys) ∙ both-and (f x) (images f xs) (images f ys)
+
+  -- the images of what others are seen as
+  pub images-mapped : {B : Type 0} (see : B → A) (xs : List B) → images (λ x. f (see x)) xs ≡ images f (map see xs)
+  images-mapped see [] = refl
+  images-mapped see (x ∷ xs) = ap (both item (f (see x))) (images-mapped see xs)
+
+  -- one without an image
+  pub images-missing : (xs ys : List A) (x : A) → f x ≡ None → images f (xs ++ x ∷ ys) ≡ None
+  images-missing xs ys x e = images-append xs (x ∷ ys) ∙ rw e (both-none (images f xs))
+
+  -- one more member
+  pub member-put : {n : ℕ} {old mid new : List ℕ} (xs : List A) (x : A) → AppendsPlaces (images f xs) n old mid → AppendsImage (f x) mid new → AppendsPlaces (images f (xs ++ x ∷ [])) (n + 1) old new
+  member-put {n} {old} {mid} {new} xs x p q = (
+    and_items p.0 (item q.0 no_items),
+    images-append xs (x ∷ []) ∙ (λ i. both and_items (p.1 i) (both item (q.1 i) (Some no_items))),
+    record {
+      count = counted p.0 ∙ ap (λ k. k + 1) p.2.count;
+      in_range = in_range p.0 p.2.in_range;
+      parts = q.2.parts ∙ (ap (λ s. s ++ least_encoding q.0) p.2.parts ∙ (append_assoc old (least_encodings p.0) (least_encoding q.0) ∙ ap (λ s. old ++ s) (sym (encoded p.0))));
+    },
+  )
+    where
+      counted : (vs : Items) → items_count (and_items vs (item q.0 no_items)) ≡ items_count vs + 1
+      counted no_items = refl
+      counted (item v vs) = let h = counted vs in omega (arith, h)
+
+      in_range : (vs : Items) → AreInRange vs → AreInRange (and_items vs (item q.0 no_items))
+      in_range no_items h = (q.2.in_range, tt)
+      in_range (item v vs) h = (h.0, in_range vs h.1)
+
+      encoded : (vs : Items) → least_encodings (and_items vs (item q.0 no_items)) ≡ least_encodings vs ++ least_encoding q.0
+      encoded no_items = append-nil (least_encoding q.0)
+      encoded (item v vs) = ap (λ s. least_encoding v ++ s) (encoded vs) ∙ sym (append_assoc (least_encoding v) (least_encodings vs) (least_encoding q.0))
+
+module _ {A : Type 0} (xs : List A) (i : ℕ) (x : A) (lt : i < length xs) (is : x ≡ get_or xs i x) where
+  -- one more of a list, and the members before one, it and those after it
+  pub one_taken : take (i + 1) xs ≡ take i xs ++ x ∷ []
+  one_taken = take_more xs i x lt ∙ ap (λ y. take i xs ++ y ∷ []) (sym is)
+
+  pub one_between : xs ≡ take i xs ++ x ∷ drop (i + 1) xs
+  one_between = sym (take-append-drop (i + 1) xs) ∙ (ap (λ ys. ys ++ drop (i + 1) xs) one_taken ∙ append_assoc (take i xs) (x ∷ []) (drop (i + 1) xs))
+
+-- a head, and the members behind it
+pub array-encoded : {T : Type 0} (os : Option Items) (n : ℕ) (old head new : List ℕ) (r : Result T CoseError) → n < 2 ^ 64 → head ≡ old ++ least_head 4 n → OnOk r (AppendsPlaces os n head new) → IfErr r (HasNoImage os) → Encodes (option_map array os) old new r
+array-encoded os n old head new (Ok x) small first ok refused = array-put n small first ok
+array-encoded os n old head new (Err e) small first ok refused = λ m. let none = refused m in (none.0, ap (option_map array) none.1)
+
+-- ---- errors
 
 -- an error passed on, of a part without which there is no item
 pub passes :

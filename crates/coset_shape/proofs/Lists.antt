@@ -1,5 +1,5 @@
 -- A list read member by member.
-use Rattle.std.proofs.Common.{◌≡◌, ◌++◌, List, [], ◌∷◌, Option, Some, Result, Ok, Err, refl, sym, ◌∙◌, ap, subst, inr, inl, append_assoc, append-nil, slice_get, rules}
+use Rattle.std.proofs.Common.{◌≡◌, ◌++◌, List, [], ◌∷◌, map, Option, Some, Result, Ok, Err, refl, sym, ◌∙◌, ap, subst, inr, inl, append_assoc, append-nil, slice_get, rules}
 use Rattle.std.proofs.lemmas.Option.{none-some}
 use Rattle.std.specs.Prelude.{IsErrAnd, IfErr, Vec}
 use Rattle.std.specs.Global.{Global}
@@ -11,9 +11,9 @@ use Rattle.coset_value.specs.declared.value.Value.{Value, Array, the_lemmas}
 use Rattle.coset_shape.specs.declared.error.CoseError.{CoseError}
 use Rattle.coset_shape.specs.Answers.{Reads}
 use Rattle.coset_shape.specs.Errors.{UnlessMemory}
-use Rattle.coset_shape.specs.Shape.{Shape, Each, EachFaults, images, list_of}
+use Rattle.coset_shape.specs.Shape.{Shape, Each, EachFaults, blamed, images, list_of}
 use Rattle.coset_shape.specs.ShapeLaws.{both-some}
-use Rattle.coset_shape.specs.Lists.{Continues, EachWith}
+use Rattle.coset_shape.specs.Lists.{Continues, EachWith, ReadsEach}
 
 module _ {A : Type 0} (s : Shape A) where
   pub begins : (all : Items) (so_far : List A) → so_far ≡ [] → Continues A s.describes s.faults all so_far all
@@ -28,20 +28,27 @@ module _ {A : Type 0} (s : Shape A) where
         blames = λ f p. c.blames f (subst (λ vs. EachFaults s.faults vs f) (sym e) (inr p));
       }
 
-  pub finished : (v : Item) (all left : Items) (xs : List A) → as_array v ≡ Some all → Continues A s.describes s.faults all xs left → left ≡ no_items → (list_of s).describes v xs
-  finished v all left xs e c n =
-      (all, e, subst (Each s.describes all) (append-nil xs) (c.ends [] (subst (λ vs. Each s.describes vs []) (sym n) tt)))
+  -- none is left
+  pub all_read : (all left : Items) (xs : List A) → Continues A s.describes s.faults all xs left → left ≡ no_items → Each s.describes all xs
+  all_read all left xs c n = subst (Each s.describes all) (append-nil xs) (c.ends [] (subst (λ vs. Each s.describes vs []) (sym n) tt))
 
-  pub refused :
-      (v w : Item) (all old new : Items) (xs : List A) (f : CoseError) → as_array v ≡ Some all → Continues A s.describes s.faults all xs old → old ≡ item w new → s.faults w f → (list_of s).faults v f
-  refused v w all old new xs f e c q h = inr (all, e, inr (λ m. m, c.blames f (subst (λ vs. EachFaults s.faults vs f) (sym q) (inl h))))
+  -- the fault of a member is one of theirs
+  pub member_refused :
+      {T : Type 0} (seen : T → A) (w : Item) (all old new : Items) (xs : List A) (r : Result (Vec T Global) CoseError) (e : CoseError) → IsErrAnd r (λ f. f ≡ e) → Continues A s.describes s.faults all xs old
+      → old ≡ item w new → UnlessMemory e (s.faults w) → ReadsEach s seen all r
+  member_refused seen w all old new xs (Ok x) e is c q h = absurd is
+  member_refused seen w all old new xs (Err f) e is c q h = λ n. c.blames f (subst (λ vs. EachFaults s.faults vs f) (sym q) (inl (subst (s.faults w) (sym is) (h (λ m. n (is ∙ m))))))
 
-  -- the fault of a member is the list's
-  pub refused_at :
-      {T : Type 0} (see : T → List A) (v w : Item) (all old new : Items) (xs : List A) (r : Result T CoseError) (e : CoseError) → IsErrAnd r (λ f. f ≡ e) → as_array v ≡ Some all
-      → Continues A s.describes s.faults all xs old → old ≡ item w new → UnlessMemory e (s.faults w) → Reads (list_of s) see v r
-  refused_at see v w all old new xs (Ok x) e is a c q h = absurd is
-  refused_at see v w all old new xs (Err f) e is a c q h = subst (λ g. UnlessMemory g ((list_of s).faults v)) (sym is) (λ n. refused v w all old new xs e a c q (h n))
+  -- the members of an array
+  pub list_read : {T : Type 0} (seen : T → A) (v : Item) (all : Items) (r : Result (Vec T Global) CoseError) → as_array v ≡ Some all → ReadsEach s seen all r → Reads (list_of s) (λ xs. map seen xs.items) v r
+  list_read seen v all (Ok x) e h = (all, e, h)
+  list_read seen v all (Err f) e h = λ n. inr (all, e, inr (λ m. m, h n))
+
+  -- whatever their faults are
+  pub each_blamed : (blames : CoseError → Type 0) (all : Items) (e f : CoseError) → blames f → EachFaults s.faults all e → EachFaults (blamed blames s).faults all f
+  each_blamed blames no_items e f b h = h
+  each_blamed blames (item v vs) e f b (inl h) = inl (b, (e, h))
+  each_blamed blames (item v vs) e f b (inr h) = inr (each_blamed blames vs e f b h)
 
 -- one more of each
 pub with-more : {A B : Type 0} (R : A → B → Type 0) (xs : List A) (ys : List B) (x : A) (y : B) → EachWith R xs ys → R x y → EachWith R (xs ++ x ∷ []) (ys ++ y ∷ [])

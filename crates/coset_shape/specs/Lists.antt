@@ -1,22 +1,29 @@
 -- Lists read and written member by member.
-use Rattle.std.specs.Prelude.{◌≡◌, ◌++◌, ◌⊎◌, ⊤, codes, List, [], ◌∷◌, Option, Some, None}
+use Rattle.std.specs.Prelude.{◌≡◌, ◌++◌, ◌⊎◌, ⊤, codes, List, [], ◌∷◌, map, Option, Some, None, Result, Ok, Err, Vec}
+use Rattle.std.specs.Global.{Global}
 use Rattle.coset_value.specs.Item.{Item, Items}
 use Rattle.coset_value.specs.Parts.{as_array}
 use Rattle.coset_value.specs.View.{items_view}
 use Rattle.coset_value.specs.declared.value.Value.{Value}
-use Rattle.coset_shape.specs.Errors.{IsUnexpected}
+use Rattle.coset_shape.specs.Errors.{IsUnexpected, UnlessMemory}
 use Rattle.coset_shape.specs.Kinds.{kind, Says}
 use Rattle.coset_shape.specs.declared.error.CoseError.{CoseError}
 use Rattle.coset_shape.specs.declared.error.CoseError.TheVariants.{OutOfMemory}
 use Rattle.coset_shape.specs.declared.error.CallError.{CallError}
 use Rattle.coset_shape.specs.declared.error.CallError.TheVariants.{Coset, Caller}
-use Rattle.coset_shape.specs.Shape.{Each, EachFaults, images}
+use Rattle.coset_shape.specs.Shape.{Shape, Each, EachFaults, images}
 
 -- Of all the members of a list, so_far was read, and left are still to come: whatever these are read as ends what was
 -- read, and what is wrong with them is wrong with the list
 pub record Continues (A : Type 0) (r : Item → A → Type 0) (f : Item → CoseError → Type 0) (all : Items) (so_far : List A) (left : Items) : Type 0 where
   pub ends : (zs : List A) → Each r left zs → Each r all (so_far ++ zs)
   pub blames : (e : CoseError) → EachFaults f left e → EachFaults f all e
+
+-- Reading items one after the other: the values that they stand for, or, out of memory aside, an error that tells of a
+-- fault in one of them
+abbrev pub ReadsEach : {T A : Type 0} → Shape A → (T → A) → Items → Result (Vec T Global) CoseError → Type 0
+ReadsEach s seen vs (Ok all) = Each s.describes vs (map seen all.items)
+ReadsEach s seen vs (Err e) = UnlessMemory e (EachFaults s.faults vs)
 
 -- the last of these has no image, and those before it have one each
 pub record LastHasNoImage (A : Type 0) (image : A → Option Item) (xs : List A) : Type 0 where

@@ -1,10 +1,11 @@
 //! Values written straight into bytes: each type's one writer.
 
-ghost use Rattle.std.specs.Prelude.{ℕ, Option, Some, option_map};
+ghost use Rattle.std.specs.Prelude.{ℕ, length, Option, Some, option_map, OnOk, IfErr};
 ghost use Rattle.coset_value.specs.Item.{Item, array, item, bytes, tag};
 ghost use Rattle.coset_value.specs.View.{view};
 ghost use Rattle.coset_shape.specs.Answers.{Images, Writes};
-ghost use Rattle.coset_shape.specs.Encoding.{Encodes, three_places, four_places};
+ghost use Rattle.coset_shape.specs.Encoding.{AppendsPlaces, Encodes, HasNoImage, three_places, four_places};
+ghost use Rattle.coset_shape.specs.Shape.{images};
 ghost use Rattle.coset_shape.specs.Room.{IsRoomFor};
 
 use crate::error::Result;
@@ -127,6 +128,33 @@ impl Encode for Option<Vec<u8>> {
             None => Value::Null.encode(alloc, out),
         }
     }
+}
+
+/// The array of these, in order.
+#[derive(Clone, Copy)]
+pub struct Array<'a, T>(pub &'a [T]);
+
+impl<T: Encode> Encode for Array<'_, T> {
+    ghost image = { λ l. option_map array (images T.image l.0.now) };
+
+    ghost spare = { 0 };
+
+    fn encode(&self, alloc: Global, out: &mut Vec<u8>) -> Result<()> {
+        write_array_head(self.0.len(), out)?;
+        encode_members(alloc, self.0, out)
+    }
+}
+
+/// Appends these, one after the other.
+fn encode_members<T: Encode>(alloc: Global, members: &[T], out: &mut Vec<u8>) -> Result<()>
+    ensures ok { OnOk result (AppendsPlaces (images T.image members.now) (length members.now)
+        out.old.items out.new.items) }
+    ensures refused { IfErr result (HasNoImage (images T.image members.now)) }
+{
+    for member in members {
+        member.encode(alloc, out)?;
+    }
+    Ok(())
 }
 
 /// Appends the array of three places.

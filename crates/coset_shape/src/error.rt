@@ -3,6 +3,7 @@
 ghost use Rattle.std.specs.Prelude.{◌≡◌, OnOk};
 ghost use Rattle.coset_shape.specs.Errors.{answer, error_text, decode_failure};
 ghost use Rattle.coset_shape.specs.declared.error.CoseError.TheVariants.{EncodeFailed, OutOfMemory, OutOfRangeIntegerValue};
+ghost use Rattle.coset_shape.specs.declared.error.CallError.TheVariants.{Coset};
 
 use coset_cbor::{EndOfFile, de, ser};
 use std::alloc::{AllocError, AllocFailed};
@@ -149,5 +150,13 @@ impl<T: Drop> From<AllocFailed<T>> for CoseError {
 
     fn from(_e: AllocFailed<T>) -> CoseError {
         CoseError::OutOfMemory
+    }
+}
+
+impl<E: Drop> From<CoseError> for CallError<E> {
+    ghost from_gives = { λ x e. e ≡ Coset x };
+
+    fn from(e: CoseError) -> CallError<E> {
+        CallError::Coset(e)
     }
 }

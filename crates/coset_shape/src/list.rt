@@ -1,19 +1,21 @@
 //! Lists, read and written member by member.
 
-ghost use Rattle.std.specs.Prelude.{◌≡◌, Some, None, map, option_map, IfOk, IfErr};
+ghost use Rattle.std.specs.Prelude.{◌≡◌, ◌≢◌, Some, None, map, option_map, IfOk, IfErr};
 ghost use Rattle.coset_value.specs.Item.{array, no_items};
 ghost use Rattle.coset_value.specs.Parts.{as_array};
 ghost use Rattle.coset_value.specs.View.{view, items_view};
+ghost use Rattle.coset_shape.specs.declared.error.CoseError.TheVariants.{OutOfMemory};
 ghost use Rattle.coset_shape.specs.Answers.{Reads, Images};
-ghost use Rattle.coset_shape.specs.Errors.{UnlessMemory};
+ghost use Rattle.coset_shape.specs.Lists.{ReadsEach};
+ghost use Rattle.coset_shape.specs.Errors.{IsUnexpected, UnlessMemory};
 ghost use Rattle.coset_shape.specs.Kinds.{Says, kind};
 ghost use Rattle.coset_shape.specs.Maps.{optional, listed};
-ghost use Rattle.coset_shape.specs.Shape.{list_of, some_of, bstr, filled_bstr, or_nil};
-ghost use Rattle.coset_shape.specs.Sources.{source_item};
+ghost use Rattle.coset_shape.specs.Shape.{blamed, list_of, some_of, bstr, filled_bstr, or_nil};
+ghost use Rattle.coset_shape.specs.Sources.{source_item, members_left};
 ghost use Rattle.coset_shape.specs.Encoding.{HasNoImage};
 
 use crate::error::{CoseError, Result};
-use crate::source::Source;
+use crate::source::{Members, Source};
 use crate::traits::{AsCborValue, FromPull};
 use crate::util::to_cbor_array;
 use coset_cbor::value::Value;
@@ -47,12 +49,57 @@ pub fn read_list<T: FromPull + Drop>(
     ensures says { IfErr result (λ e. as_array (source_item source.entry) ≡ None
         → Says (kind (source_item source.entry)) want.now e) }
 {
-    let mut members = source.into_members(want)?;
+    let members = source.into_members(want)?;
+    read_members(alloc, members)
+}
+
+/// Reads the members that are left, from the first on.
+fn read_members<T: FromPull + Drop>(alloc: Global, members: Members<'_>) -> Result<Vec<T>>
+    ensures { ReadsEach T.shape T.seen (members_left members.entry) result }
+{
+    let mut members = members;
     let mut all = Vec::new(alloc);
     while let Some(member) = members.next() {
         all.push(read_source(alloc, member)?)?;
     }
     Ok(all)
+}
+
+/// Reads an array whose members are of one type, from the first on. Whatever is at fault with a member, it is
+/// `UnexpectedItem` with the two texts of `blame`.
+///
+/// # Errors
+/// `OutOfMemory`; or `UnexpectedItem`, with `want` where the item is no array.
+pub fn read_blamed_list<T: FromPull + Drop>(
+    alloc: Global,
+    source: Source<'_>,
+    want: &'static str,
+    blame: (&'static str, &'static str),
+) -> Result<Vec<T>>
+    ensures read { Reads (list_of (blamed IsUnexpected T.shape)) (λ all. map T.seen all.items)
+        (source_item source.entry) result }
+    ensures says { IfErr result (λ e. as_array (source_item source.entry) ≡ None
+        → Says (kind (source_item source.entry)) want.now e) }
+    ensures blames { IfErr result (λ e. as_array (source_item source.entry) ≢ None
+        → UnlessMemory e (Says blame.entry.0.now blame.entry.1.now)) }
+{
+    let members = source.into_members(want)?;
+    match read_members(alloc, members) {
+        Ok(all) => Ok(all),
+        Err(error) => Err(blamed_error(error, blame)),
+    }
+}
+
+/// The error with these two texts, in place of one that tells of another fault.
+fn blamed_error(error: CoseError, blame: (&'static str, &'static str)) -> CoseError
+    ensures memory { error ≡ OutOfMemory → result ≡ OutOfMemory }
+    ensures blames { UnlessMemory error (λ e. IsUnexpected result
+        × Says blame.entry.0.now blame.entry.1.now result) }
+{
+    match error {
+        CoseError::OutOfMemory => CoseError::OutOfMemory,
+        _ => CoseError::UnexpectedItem(blame.0, blame.1),
+    }
 }
 
 /// Reads such an array that isn't empty. An empty one is `UnexpectedItem` with these two texts.

@@ -2,7 +2,7 @@ use Rattle.std.proofs.Common.{map}
 use Rattle.coset_value.specs.Item.{items_count}
 use Rattle.coset_shape.specs.Sources.{members_left}
 use Rattle.coset_shape.specs.Lists.{Continues}
-use Rattle.coset_shape.proofs.list.read_list.Given as goal
+use Rattle.coset_shape.proofs.list.read_members.Given as goal
 
 abbrev pub invariant-loop-member : goal.invariant-loop-member
 invariant-loop-member g l =
