@@ -10,3 +10,4 @@ pub mod Kept
 pub mod Room
 pub mod Filling
 pub mod Forward
+pub mod Messages

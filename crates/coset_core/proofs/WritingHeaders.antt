@@ -12,10 +12,10 @@ use Rattle.coset_shape.specs.declared.error.CoseError.TheVariants.{DuplicateMapK
 use Rattle.coset_shape.specs.Encoding.{AppendsItem, AppendsImage, Encodes}
 use Rattle.coset_shape.specs.Errors.{UnlessMemory}
 use Rattle.coset_shape.specs.Maps.{put_field, are_distinct, optional, listed}
-use Rattle.coset_shape.specs.Shape.{both, images, one_or_array, some_of, filled_bstr}
+use Rattle.coset_shape.specs.Shape.{images, one_or_array, some_of, filled_bstr}
 use Rattle.coset_label.specs.Names.{Name, name_item, RegisteredName}
 use Rattle.coset_core.specs.FieldLabels as labels
-use Rattle.coset_shape.proofs.Encoding.{array-put as array-put-places, place-put, nothing-put}
+use Rattle.coset_shape.proofs.Encoding.{array-put as array-put-places, place-put, nothing-put, and_items, images-append, images-missing}
 use Rattle.coset_core.specs.Fields.{FieldsSeen, same_name, algorithm, critical, content_type}
 use Rattle.coset_core.specs.Headers.{HeaderSeen, header_of, fields_in, counter_signatures_in, ProtectedSeen, SignatureSeen, Signatures, no_signatures, signature_and, signatures_of, are_none, counter_signatures_item, header_item, signature_item, signatures_image, header_image, protected_bytes}
 use Rattle.coset_core.specs.HeaderWrites.{fields_put, images_signatures, signature_image_is, algorithm_image, critical_image, content_type_image, Puts, header_put, header_repeats}
@@ -62,31 +62,9 @@ unsigned-protected s e = ap (λ o. signature_item o (header_image s.unprotected)
 each : (ss : List SignatureSeen) → signatures_image (signatures_of ss) ≡ images signature_array ss
 each ss = sym (images_signatures 0 ss) ∙ (λ i. images (λ x. signature_image_is 0 x i) ss)
 
-abbrev and_items : Items → Items → Items
-and_items no_items ws = ws
-and_items (item v vs) ws = item v (and_items vs ws)
-
 and_items-of : (vs : List Item) (v : Item) → and_items (items_of vs) (item v no_items) ≡ items_of (vs ++ v ∷ [])
 and_items-of [] v = refl
 and_items-of (w ∷ vs) v = ap (item w) (and_items-of vs v)
-
-both-and : (o : Option Item) (p q : Option Items) → both item o (both and_items p q) ≡ both and_items (both item o p) q
-both-and (Some v) (Some vs) (Some ws) = refl
-both-and (Some v) (Some vs) None = refl
-both-and (Some v) None q = refl
-both-and None p q = refl
-
-both-nothing : (q : Option Items) → both and_items (Some no_items) q ≡ q
-both-nothing (Some vs) = refl
-both-nothing None = refl
-
-both-none : (p : Option Items) → both and_items p None ≡ None
-both-none (Some vs) = refl
-both-none None = refl
-
-images-append : (f : SignatureSeen → Option Item) (xs ys : List SignatureSeen) → images f (xs ++ ys) ≡ both and_items (images f xs) (images f ys)
-images-append f [] ys = sym (both-nothing (images f ys))
-images-append f (x ∷ xs) ys = ap (both item (f x)) (images-append f xs ys) ∙ both-and (f x) (images f xs) (images f ys)
 
 -- one more signature
 pub signatures-push :
@@ -102,7 +80,7 @@ signatures-push ss s old mid new p q =
 
 -- one that can't be written
 pub signatures-none : (ss more : List SignatureSeen) (s : SignatureSeen) → signature_array s ≡ None → signatures_image (signatures_of (ss ++ s ∷ more)) ≡ None
-signatures-none ss more s e = each (ss ++ s ∷ more) ∙ (images-append signature_array ss (s ∷ more) ∙ rw e (both-none (images signature_array ss)))
+signatures-none ss more s e = each (ss ++ s ∷ more) ∙ images-missing signature_array ss more s e
 
 -- ---- label 7
 

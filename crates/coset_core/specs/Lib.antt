@@ -36,6 +36,7 @@ pub mod HeaderLaws
 pub mod HeaderWrites
 pub mod Written
 pub mod Views
+pub mod Messages
 pub mod ViewLaws
 pub mod Same
 pub mod SameLaws
