@@ -1,4 +1,5 @@
 pub mod Structures
 pub mod Signatures
 mod Written
-pub mod Reading
+mod Copied
+mod Calling

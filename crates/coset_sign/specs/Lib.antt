@@ -23,8 +23,12 @@ pub use Rattle.coset_core.specs.Headers
 pub use Rattle.coset_core.specs.HeaderLaws
 pub use Rattle.coset_core.specs.ProtectedMap
 pub use Rattle.coset_core.specs.Views
+pub use Rattle.coset_core.specs.Messages
+pub use Rattle.coset_core.specs.Built
 pub mod Structure
 pub mod SignatureStructure
 pub mod Signed
+pub mod Calls
 pub mod Sign1
+pub mod Sign
 pub mod Same

@@ -1,11 +1,14 @@
 -- COSE_Sign1 messages (RFC 8152, section 4.2).
 use Rattle.std.specs.Prelude.{ℕ, List, [], Option, None, option_map, refl}
-use Rattle.coset_shape.specs.Shape.{Shape, along, array_of, ◌then◌, end, bstr, or_nil}
-use Rattle.coset_shape.specs.ShapeLaws.{Lawful, bytes_no_nil, along_laws, array_of_laws, then_laws, end_laws, bstr_laws, or_nil_laws}
-use Rattle.coset_core.specs.Headers.{HeaderSeen, ProtectedSeen, empty_header, header, protected}
-use Rattle.coset_core.specs.HeaderLaws.{header_laws, protected_laws}
+use Rattle.coset_value.specs.Item.{Item}
+use Rattle.coset_shape.specs.Shape.{Shape, Places, along, ◌then◌, end, bstr, or_nil}
+use Rattle.coset_shape.specs.ShapeLaws.{Lawful, LawfulPlaces, bytes_no_nil, along_laws, then_laws, end_laws, bstr_laws, or_nil_laws}
+use Rattle.coset_core.specs.Headers.{HeaderSeen, ProtectedSeen, empty_header}
+use Rattle.coset_core.specs.Messages.{Headed, headed, headed_laws, empty_protected}
 use Rattle.coset_core.specs.Views.{header_seen, protected_seen}
-use Rattle.coset_sign.specs.declared.sign1.CoseSign1.{CoseSign1}
+use Rattle.coset_sign.specs.Signed.{signed_item, or_empty}
+use Rattle.coset_sign.specs.declared.sign1.CoseSign1 as declared
+use Rattle.coset_sign.specs.declared.signature.SignatureContext.TheVariants.{CoseSign1}
 
 -- a message without its memory
 pub record Sign1Seen : Type 0 where
@@ -14,7 +17,7 @@ pub record Sign1Seen : Type 0 where
   pub payload : Option (List ℕ)
   pub signature : List ℕ
 
-abbrev pub sign1_seen : CoseSign1 → Sign1Seen
+abbrev pub sign1_seen : declared.CoseSign1 → Sign1Seen
 sign1_seen m = record {
   protected = protected_seen m.protected;
   unprotected = header_seen m.unprotected;
@@ -24,23 +27,39 @@ sign1_seen m = record {
 
 -- one that holds nothing
 abbrev pub empty_sign1 : Sign1Seen
-empty_sign1 = record { protected = record { original = None; header = empty_header }; unprotected = empty_header; payload = None; signature = [] }
+empty_sign1 = record { protected = empty_protected; unprotected = empty_header; payload = None; signature = [] }
 
-abbrev Fields : Type 0
-Fields = ProtectedSeen × (HeaderSeen × (Option (List ℕ) × (List ℕ × Unit {0})))
-
-abbrev pub sign1_of : Fields → Sign1Seen
+abbrev pub sign1_of : Headed (Option (List ℕ) × (List ℕ × Unit {0})) → Sign1Seen
 sign1_of p = record { protected = p.0; unprotected = p.1.0; payload = p.1.1.0; signature = p.1.1.1.0 }
 
-abbrev pub sign1_fields : Sign1Seen → Fields
+abbrev pub sign1_fields : Sign1Seen → Headed (Option (List ℕ) × (List ℕ × Unit {0}))
 sign1_fields m = (m.protected, (m.unprotected, (m.payload, (m.signature, tt))))
 
--- [protected, unprotected : header, payload : bstr / nil, signature : bstr]
+-- payload : bstr / nil, signature : bstr
+abbrev pub sign1_places : Places (Option (List ℕ) × (List ℕ × Unit {0}))
+sign1_places = or_nil bstr then bstr then end
+
+pub sign1_places_laws : LawfulPlaces _ sign1_places
+sign1_places_laws = then_laws _ _ (or_nil_laws bstr bytes_no_nil bstr_laws) (then_laws _ _ bstr_laws end_laws)
+
+-- [Headers, payload : bstr / nil, signature : bstr]
 abbrev pub sign1 : Shape Sign1Seen
-sign1 = along sign1_of sign1_fields (array_of (protected then header then or_nil bstr then bstr then end))
+sign1 = along sign1_of sign1_fields (headed sign1_places)
 
 pub sign1_laws : Lawful Sign1Seen sign1
-sign1_laws =
-    along_laws sign1_of sign1_fields (λ x. refl) _
-    (array_of_laws _
-    (then_laws _ _ protected_laws (then_laws _ _ header_laws (then_laws _ _ (or_nil_laws bstr bytes_no_nil bstr_laws) (then_laws _ _ bstr_laws end_laws)))))
+sign1_laws = along_laws sign1_of sign1_fields (λ x. refl) _ (headed_laws sign1_places sign1_places_laws)
+
+-- ---- what is signed
+
+-- the structure of the message over `external_aad` and a payload, where its protected header has bytes
+abbrev pub sign1_structure : Sign1Seen → List ℕ → List ℕ → Option Item
+sign1_structure m external_aad payload = signed_item CoseSign1 m.protected None external_aad payload
+
+-- over the payload that the message carries, which counts as empty where it is missing
+abbrev pub sign1_carried : Sign1Seen → List ℕ → Option Item
+sign1_carried m external_aad = sign1_structure m external_aad (or_empty m.payload)
+
+-- ---- with one field set
+
+abbrev pub with_signature : List ℕ → Sign1Seen → Sign1Seen
+with_signature s m = record m { signature = s }

@@ -7,6 +7,7 @@ ghost use Rattle.coset_shape.specs.Shape.{tagged};
 ghost use Rattle.coset_sign.specs.Structure.{structure};
 ghost use Rattle.coset_sign.specs.SignatureStructure.{signature_structure};
 ghost use Rattle.coset_sign.specs.Sign1.{Sign1Seen, sign1};
+ghost use Rattle.coset_sign.specs.Sign.{SignSeen, sign, EachSignsSame};
 ghost use Rattle.coset_sign.specs.Signed.{SignsSame};
 ghost use Rattle.coset_sign.specs.declared.signature.SignatureContext.{SignatureContext};
 
@@ -40,6 +41,17 @@ pub fn signed_as_written()
         → SignsSame n.protected m.protected }
     ensures tagged { (v : Item) (m n : Sign1Seen) → (tagged 18 sign1).image m ≡ Some v
         → (tagged 18 sign1).describes v n → SignsSame n.protected m.protected }
+{
+    kept_as_written();
+}
+
+/// What each signature of a message signs that was read from what another is written as, plain or under its tag, is what
+/// that one's signs, however the item was spelled; and there are as many of them.
+pub fn each_signed_as_written()
+    ensures plain { (v : Item) (m n : SignSeen) → sign.image m ≡ Some v → sign.describes v n
+        → EachSignsSame n m }
+    ensures tagged { (v : Item) (m n : SignSeen) → (tagged 98 sign).image m ≡ Some v
+        → (tagged 98 sign).describes v n → EachSignsSame n m }
 {
     kept_as_written();
 }

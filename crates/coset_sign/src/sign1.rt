@@ -7,11 +7,13 @@ ghost use Rattle.coset_shape.specs.declared.error.CoseError.TheVariants.{OutOfMe
 ghost use Rattle.coset_shape.specs.Answers.{Reads, Writes};
 ghost use Rattle.coset_shape.specs.Sources.{source_item};
 ghost use Rattle.coset_core.specs.Contents.{Fills};
-ghost use Rattle.coset_sign.specs.Sign1.{empty_sign1, sign1, sign1_seen};
+ghost use Rattle.coset_core.specs.Messages.{unread};
+ghost use Rattle.coset_core.specs.Views.{header_seen};
+ghost use Rattle.coset_sign.specs.Calls.{AsksAbout, Creates, TriesToCreate};
+ghost use Rattle.coset_sign.specs.Sign1.{empty_sign1, sign1, sign1_seen, sign1_carried, sign1_structure, with_signature};
 ghost use Rattle.coset_sign.specs.Same.{sign1_eq, sign1_eq_equiv};
-ghost use Rattle.coset_sign.specs.Signed.{signed_item, or_empty};
-ghost use Rattle.coset_sign.specs.declared.signature.SignatureContext.TheVariants as contexts;
 
+use crate::calls::{ask, make};
 use crate::signature::{SignatureContext, signed_bytes};
 use coset_cbor::de::Pull;
 use coset_cbor::value::Value;
@@ -21,8 +23,11 @@ use coset_shape::encode::{
 };
 use coset_shape::traits::{FromPull, read_slice, read_tagged_slice};
 use coset_shape::util::copy_bytes;
-use coset_shape::{AsCborValue, CborSerializable, Lawful, Result, Source, TaggedCborSerializable};
+use coset_shape::{
+    AsCborValue, CallError, CborSerializable, Lawful, Result, Source, TaggedCborSerializable,
+};
 use std::alloc::Global;
+use std::marker::Model;
 
 /// A message with one signature: `COSE_Sign1` (RFC 8152, section 4.2).
 #[derive(Debug, Drop)]
@@ -78,28 +83,90 @@ impl CoseSign1 {
         }
     }
 
+    /// The structure over this payload.
+    fn structure(&self, alloc: Global, external_aad: &[u8], payload: &[u8]) -> Result<Vec<u8>>
+        ensures { Writes (sign1_structure (sign1_seen self.now) external_aad.now payload.now) (λ b.
+            b.items) result }
+    {
+        let context = SignatureContext::CoseSign1;
+        signed_bytes(alloc, context, &self.protected, None, external_aad, payload)
+    }
+
     /// The bytes that the signature is over (RFC 8152, section 4.4), with the protected header as it was read.
-    /// A missing
-    /// payload counts as empty.
+    /// A missing payload counts as empty.
     ///
     /// # Errors
     /// `OutOfMemory`, or `DuplicateMapKey` where the protected header wasn't read and repeats a label of its rest.
     pub fn tbs_data(&self, alloc: Global, external_aad: &[u8]) -> Result<Vec<u8>>
-        ensures { Writes (signed_item contexts.CoseSign1 (sign1_seen self.now).protected None
-            external_aad.now (or_empty (sign1_seen self.now).payload)) (λ b. b.items) result }
+        ensures { Writes (sign1_carried (sign1_seen self.now) external_aad.now) (λ b. b.items)
+            result }
     {
-        let payload: &[u8] = match &self.payload {
-            Some(payload) => payload,
-            None => &[],
-        };
-        signed_bytes(
-            alloc,
-            SignatureContext::CoseSign1,
-            &self.protected,
-            None,
-            external_aad,
-            payload,
-        )
+        match &self.payload {
+            Some(payload) => self.structure(alloc, external_aad, payload),
+            None => self.structure(alloc, external_aad, &[]),
+        }
+    }
+
+    /// The bytes that the signature is over where the payload is sent apart, so that the message carries none.
+    ///
+    /// # Errors
+    /// The same as [`CoseSign1::tbs_data`].
+    pub fn tbs_detached_data(
+        &self,
+        alloc: Global,
+        payload: &[u8],
+        external_aad: &[u8],
+    ) -> Result<Vec<u8>>
+        requires { self.now.payload ≡ None }
+        ensures { Writes (sign1_structure (sign1_seen self.now) external_aad.now payload.now) (λ b.
+            b.items) result }
+    {
+        self.structure(alloc, external_aad, payload)
+    }
+
+    /// Asks `verifier` whether the signature, its first argument, is one of the bytes that it is over, its second one
+    /// ([`CoseSign1::tbs_data`]). It is asked once, unless there is an error of ours, and not at all then.
+    ///
+    /// # Errors
+    /// The same as [`CoseSign1::tbs_data`]; or `Caller` with the error of `verifier`.
+    pub fn verify_signature<F, E>(
+        &self,
+        alloc: Global,
+        external_aad: &[u8],
+        verifier: F,
+    ) -> Result<(), CallError<E>>
+    where
+        F: FnOnce(&[u8], &[u8]) -> Result<(), E> + Drop,
+        E: Drop,
+        requires { F.IsAlwaysCallable verifier }
+        ensures { AsksAbout F.FnOnce verifier (sign1_seen self.now).signature
+            (sign1_carried (sign1_seen self.now) external_aad.now) result }
+    {
+        let structure = self.tbs_data(alloc, external_aad);
+        ask(&self.signature, structure, verifier)
+    }
+
+    /// The same as [`CoseSign1::verify_signature`] where the payload is sent apart, so that the message carries none.
+    ///
+    /// # Errors
+    /// The same as [`CoseSign1::verify_signature`].
+    pub fn verify_detached_signature<F, E>(
+        &self,
+        alloc: Global,
+        payload: &[u8],
+        external_aad: &[u8],
+        verifier: F,
+    ) -> Result<(), CallError<E>>
+    where
+        F: FnOnce(&[u8], &[u8]) -> Result<(), E> + Drop,
+        E: Drop,
+        requires callable { F.IsAlwaysCallable verifier }
+        requires detached { self.now.payload ≡ None }
+        ensures { AsksAbout F.FnOnce verifier (sign1_seen self.now).signature
+            (sign1_structure (sign1_seen self.now) external_aad.now payload.now) result }
+    {
+        let structure = self.tbs_detached_data(alloc, payload, external_aad);
+        ask(&self.signature, structure, verifier)
     }
 
     /// A message that equals this one, with the same bytes kept.
@@ -232,5 +299,167 @@ impl TaggedCborSerializable for CoseSign1 {
 
     fn to_tagged_vec(self, alloc: Global) -> Result<Vec<u8>> {
         encode_to_tagged_vec(alloc, 18, &self)
+    }
+}
+
+/// Makes a [`CoseSign1`], field by field. Contracts see it as the message that [`build`](CoseSign1Builder::build) gives.
+#[derive(Debug, Drop)]
+pub struct CoseSign1Builder(CoseSign1);
+
+impl Model for CoseSign1Builder {
+    ghost use Rattle.std.specs.Coded.{codes};
+    ghost use Rattle.coset_sign.specs.contracts.sign1.CoseSign1 as contracts;
+    ghost use Rattle.coset_sign.specs.declared.sign1.CoseSign1.{CoseSign1};
+
+    ghost Value = { CoseSign1 };
+
+    ghost coded = { Prim.hlevel (codes, contracts.the_row.coded) };
+
+    ghost view = { λ b. b.0 };
+
+    ghost inverse = { λ v. record { 0 = v } };
+}
+
+impl CoseSign1Builder {
+    /// An empty message. It takes no memory.
+    pub fn new(alloc: Global) -> CoseSign1Builder
+        ensures { sign1_seen result ≡ empty_sign1 }
+    {
+        CoseSign1Builder(CoseSign1::new(alloc))
+    }
+
+    /// The message that was made.
+    pub fn build(self) -> CoseSign1
+        ensures { result ≡ self }
+    {
+        self.0
+    }
+
+    /// Sets the protected header: one that was made, and not read, so that it has no bytes of its own yet.
+    pub fn protected(mut self, header: Header) -> CoseSign1Builder
+        ensures { sign1_seen result ≡ record
+            (sign1_seen self) { protected = unread (header_seen header) } }
+    {
+        self.0.protected = ProtectedHeader {
+            original_data: None,
+            header,
+        };
+        self
+    }
+
+    /// Sets the unprotected header.
+    pub fn unprotected(mut self, header: Header) -> CoseSign1Builder
+        ensures { sign1_seen result ≡ record
+            (sign1_seen self) { unprotected = header_seen header } }
+    {
+        self.0.unprotected = header;
+        self
+    }
+
+    /// Sets the payload.
+    pub fn payload(mut self, payload: Vec<u8>) -> CoseSign1Builder
+        ensures { sign1_seen result ≡ record (sign1_seen self) { payload = Some payload.items } }
+    {
+        self.0.payload = Some(payload);
+        self
+    }
+
+    /// Sets the signature.
+    pub fn signature(mut self, signature: Vec<u8>) -> CoseSign1Builder
+        ensures { sign1_seen result ≡ with_signature signature.items (sign1_seen self) }
+    {
+        self.0.signature = signature;
+        self
+    }
+
+    /// Sets the signature to what `signer` makes of the bytes that it is to be over ([`CoseSign1::tbs_data`]), so all
+    /// other fields are set before. It is called once, unless there is an error of ours, and not at all then.
+    ///
+    /// # Errors
+    /// The same as [`CoseSign1::tbs_data`].
+    pub fn create_signature<F>(
+        self,
+        alloc: Global,
+        external_aad: &[u8],
+        signer: F,
+    ) -> Result<CoseSign1Builder>
+    where
+        F: FnOnce(&[u8]) -> Vec<u8> + Drop,
+        requires { F.IsAlwaysCallable signer }
+        ensures { Creates F.FnOnce signer (sign1_carried (sign1_seen self) external_aad.now) (λ s b.
+            sign1_seen b ≡ with_signature s.items (sign1_seen self)) result }
+    {
+        let tbs = self.0.tbs_data(alloc, external_aad)?;
+        Ok(self.signature(signer(&tbs)))
+    }
+
+    /// The same as [`CoseSign1Builder::create_signature`] where the payload is sent apart, so that the message carries
+    /// none.
+    ///
+    /// # Errors
+    /// The same as [`CoseSign1::tbs_data`].
+    pub fn create_detached_signature<F>(
+        self,
+        alloc: Global,
+        payload: &[u8],
+        external_aad: &[u8],
+        signer: F,
+    ) -> Result<CoseSign1Builder>
+    where
+        F: FnOnce(&[u8]) -> Vec<u8> + Drop,
+        requires callable { F.IsAlwaysCallable signer }
+        requires detached { self.payload ≡ None }
+        ensures { Creates F.FnOnce signer
+            (sign1_structure (sign1_seen self) external_aad.now payload.now) (λ s b. sign1_seen b
+            ≡ with_signature s.items (sign1_seen self)) result }
+    {
+        let tbs = self.0.tbs_detached_data(alloc, payload, external_aad)?;
+        Ok(self.signature(signer(&tbs)))
+    }
+
+    /// The same as [`CoseSign1Builder::create_signature`] with a `signer` that may refuse.
+    ///
+    /// # Errors
+    /// The same as [`CoseSign1::tbs_data`]; or `Caller` with the error of `signer`.
+    pub fn try_create_signature<F, E>(
+        self,
+        alloc: Global,
+        external_aad: &[u8],
+        signer: F,
+    ) -> Result<CoseSign1Builder, CallError<E>>
+    where
+        F: FnOnce(&[u8]) -> Result<Vec<u8>, E> + Drop,
+        E: Drop,
+        requires { F.IsAlwaysCallable signer }
+        ensures { TriesToCreate F.FnOnce signer (sign1_carried (sign1_seen self) external_aad.now)
+            (λ s b. sign1_seen b ≡ with_signature s.items (sign1_seen self)) result }
+    {
+        let signature = make(self.0.tbs_data(alloc, external_aad), signer)?;
+        Ok(self.signature(signature))
+    }
+
+    /// The same as [`CoseSign1Builder::create_detached_signature`] with a `signer` that may refuse.
+    ///
+    /// # Errors
+    /// The same as [`CoseSign1::tbs_data`]; or `Caller` with the error of `signer`.
+    pub fn try_create_detached_signature<F, E>(
+        self,
+        alloc: Global,
+        payload: &[u8],
+        external_aad: &[u8],
+        signer: F,
+    ) -> Result<CoseSign1Builder, CallError<E>>
+    where
+        F: FnOnce(&[u8]) -> Result<Vec<u8>, E> + Drop,
+        E: Drop,
+        requires callable { F.IsAlwaysCallable signer }
+        requires detached { self.payload ≡ None }
+        ensures { TriesToCreate F.FnOnce signer
+            (sign1_structure (sign1_seen self) external_aad.now payload.now) (λ s b. sign1_seen b
+            ≡ with_signature s.items (sign1_seen self)) result }
+    {
+        let structure = self.0.tbs_detached_data(alloc, payload, external_aad);
+        let signature = make(structure, signer)?;
+        Ok(self.signature(signature))
     }
 }

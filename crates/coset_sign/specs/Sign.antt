@@ -1,0 +1,84 @@
+-- COSE_Sign messages (RFC 8152, section 4.1).
+use Rattle.std.specs.Prelude.{◌≡◌, ℕ, List, [], ◌∷◌, ◌++◌, map, Option, Some, None, option_map, refl}
+use Rattle.coset_value.specs.Item.{Item}
+use Rattle.coset_shape.specs.Errors.{IsUnexpected}
+use Rattle.coset_shape.specs.Lists.{EachWith}
+use Rattle.coset_shape.specs.Shape.{Shape, Places, along, blamed, list_of, ◌then◌, end, bstr, or_nil}
+use Rattle.coset_shape.specs.ShapeLaws.{Lawful, LawfulPlaces, bytes_no_nil, along_laws, blamed_laws, list_of_laws, then_laws, end_laws, bstr_laws, or_nil_laws}
+use Rattle.coset_core.specs.Headers.{HeaderSeen, ProtectedSeen, SignatureSeen, empty_header, signature}
+use Rattle.coset_core.specs.HeaderLaws.{signature_laws}
+use Rattle.coset_core.specs.Messages.{Headed, headed, headed_laws, empty_protected}
+use Rattle.coset_core.specs.Views.{header_seen, protected_seen, signature_seen}
+use Rattle.coset_sign.specs.Signed.{signed_item, or_empty}
+use Rattle.coset_sign.specs.declared.sign.CoseSign.{CoseSign}
+use Rattle.coset_sign.specs.declared.signature.SignatureContext.TheVariants.{CoseSignature}
+
+-- a message without its memory
+pub record SignSeen : Type 0 where
+  pub protected : ProtectedSeen
+  pub unprotected : HeaderSeen
+  pub payload : Option (List ℕ)
+  pub signatures : List SignatureSeen
+
+abbrev pub sign_seen : CoseSign → SignSeen
+sign_seen m = record {
+  protected = protected_seen m.protected;
+  unprotected = header_seen m.unprotected;
+  payload = option_map (λ b. b.items) m.payload;
+  signatures = map signature_seen m.signatures.items;
+}
+
+-- one that holds nothing
+abbrev pub empty_sign : SignSeen
+empty_sign = record { protected = empty_protected; unprotected = empty_header; payload = None; signatures = [] }
+
+abbrev pub sign_of : Headed (Option (List ℕ) × (List SignatureSeen × Unit {0})) → SignSeen
+sign_of p = record { protected = p.0; unprotected = p.1.0; payload = p.1.1.0; signatures = p.1.1.1.0 }
+
+abbrev pub sign_fields : SignSeen → Headed (Option (List ℕ) × (List SignatureSeen × Unit {0}))
+sign_fields m = (m.protected, (m.unprotected, (m.payload, (m.signatures, tt))))
+
+-- COSE_Signature, of which is told that an item is none, and not why
+abbrev pub signer : Shape SignatureSeen
+signer = blamed IsUnexpected signature
+
+-- payload : bstr / nil, signatures : [* COSE_Signature]
+abbrev pub sign_places : Places (Option (List ℕ) × (List SignatureSeen × Unit {0}))
+sign_places = or_nil bstr then list_of signer then end
+
+pub sign_places_laws : LawfulPlaces _ sign_places
+sign_places_laws =
+    then_laws _ _ (or_nil_laws bstr bytes_no_nil bstr_laws)
+    (then_laws _ _ (list_of_laws signer (blamed_laws IsUnexpected signature signature_laws)) end_laws)
+
+-- [Headers, payload : bstr / nil, signatures : [* COSE_Signature]]
+abbrev pub sign : Shape SignSeen
+sign = along sign_of sign_fields (headed sign_places)
+
+pub sign_laws : Lawful SignSeen sign
+sign_laws = along_laws sign_of sign_fields (λ x. refl) _ (headed_laws sign_places sign_places_laws)
+
+-- ---- what is signed
+
+-- the structure of one signature of the message over `external_aad` and a payload, where both protected headers have
+-- bytes
+abbrev pub signer_structure : SignSeen → SignatureSeen → List ℕ → List ℕ → Option Item
+signer_structure m s external_aad payload = signed_item CoseSignature m.protected (Some s.protected) external_aad payload
+
+-- over the payload that the message carries, which counts as empty where it is missing
+abbrev pub signer_carried : SignSeen → SignatureSeen → List ℕ → Option Item
+signer_carried m s external_aad = signer_structure m s external_aad (or_empty m.payload)
+
+-- of each signature of the two messages the same is signed, whatever goes with it
+abbrev pub EachSignsSame : SignSeen → SignSeen → Type 0
+EachSignsSame m n = EachWith (λ s t. (external_aad payload : List ℕ) → signer_structure m s external_aad payload ≡ signer_structure n t external_aad payload) m.signatures n.signatures
+
+-- ---- with one signature more
+
+-- behind the others
+abbrev pub and_signature : SignatureSeen → SignSeen → SignSeen
+and_signature s m = record m { signatures = m.signatures ++ s ∷ [] }
+
+-- the signature with these bytes
+abbrev pub signed_with : List ℕ → SignatureSeen → SignatureSeen
+signed_with b s = record s { signature = b }

@@ -1,0 +1,610 @@
+//! Messages with any number of signatures (RFC 8152, section 4.1).
+//!
+//! ```cddl
+//! COSE_Sign = [ Headers, payload : bstr / nil, signatures : [+ COSE_Signature] ]
+//! ```
+//!
+//! A message without signatures is read and written too.
+
+ghost use Rattle.std.specs.Prelude.{◌≡◌, ◌↔◌, ◌<◌, map, length, slice_get, IsTrue, IfOk, IfErr, Option, Some, None};
+ghost use Rattle.coset_value.specs.Item.{Item};
+ghost use Rattle.std.specs.Ordering.{on};
+ghost use Rattle.std.specs.Cmp.Lexicographic.{pointwise};
+ghost use Rattle.std.specs.Cmp.{on_equiv, on_per, partial_equiv_from_equiv};
+ghost use Rattle.coset_shape.specs.declared.error.CoseError.TheVariants.{OutOfMemory};
+ghost use Rattle.coset_shape.specs.Answers.{Reads, Writes};
+ghost use Rattle.coset_shape.specs.Sources.{source_item};
+ghost use Rattle.coset_core.specs.Contents.{Fills};
+ghost use Rattle.coset_core.specs.Headers.{SignatureSeen};
+ghost use Rattle.coset_core.specs.Messages.{unread};
+ghost use Rattle.coset_core.specs.Same.{signature_eq};
+ghost use Rattle.coset_core.specs.Views.{header_seen, signature_seen};
+ghost use Rattle.coset_sign.specs.Calls.{AsksAbout, Creates, TriesToCreate};
+ghost use Rattle.coset_sign.specs.Sign.{and_signature, empty_sign, sign, sign_seen, signed_with, signer_carried, signer_structure};
+ghost use Rattle.coset_sign.specs.Same.{sign_eq, sign_eq_equiv};
+
+use crate::calls::{ask, make};
+use crate::signature::{SignatureContext, signed_bytes};
+use coset_cbor::de::Pull;
+use coset_cbor::value::Value;
+use coset_core::{Bstr, CoseSignature, Header, ProtectedHeader, fill_headers};
+use coset_shape::encode::{
+    Array, Encode, encode_four, encode_to_tagged_vec, encode_to_value, encode_to_vec,
+};
+use coset_shape::list::read_blamed_list;
+use coset_shape::traits::{FromPull, read_slice, read_tagged_slice};
+use coset_shape::util::copy_bytes;
+use coset_shape::{
+    AsCborValue, CallError, CborSerializable, CoseError, Lawful, Result, Source,
+    TaggedCborSerializable,
+};
+use std::alloc::Global;
+use std::marker::Model;
+
+/// A message with any number of signatures: `COSE_Sign` (RFC 8152, section 4.1).
+#[derive(Debug, Drop)]
+pub struct CoseSign {
+    /// The header that each of the signatures covers.
+    pub protected: ProtectedHeader,
+    /// The header that none covers.
+    pub unprotected: Header,
+    /// What is signed, unless it is sent apart.
+    pub payload: Option<Vec<u8>>,
+    /// The signatures.
+    pub signatures: Vec<CoseSignature>,
+}
+
+/// Reads the places into an empty message, from the last to the first. Of a signature with a fault is said that it is
+/// none.
+fn fill_sign(message: &mut CoseSign, alloc: Global, source: Source<'_>) -> Result<()>
+    requires empty { sign_seen message.old ≡ empty_sign }
+    ensures { Fills sign (source_item source.entry) (sign_seen message.new) result }
+{
+    let (protected, unprotected, payload, signatures) = source.into_four("array with 4 items")?;
+    let blame = ("non-signature", "map for COSE_Signature");
+    message.signatures = read_blamed_list(alloc, signatures, "array", blame)?;
+    message.payload = payload.into_bytes_or_nil(alloc, "bstr or nil")?;
+    fill_headers(
+        &mut message.protected,
+        &mut message.unprotected,
+        alloc,
+        protected,
+        unprotected,
+    )
+}
+
+/// Reads a message.
+fn read_sign(alloc: Global, source: Source<'_>) -> Result<CoseSign>
+    ensures { Reads sign sign_seen (source_item source.entry) result }
+{
+    let mut message = CoseSign::new(alloc);
+    match fill_sign(&mut message, alloc, source) {
+        Ok(()) => Ok(message),
+        Err(error) => Err(error),
+    }
+}
+
+impl CoseSign {
+    /// An empty message: empty headers, no payload, no signatures. It takes no memory.
+    pub fn new(alloc: Global) -> CoseSign
+        ensures { sign_seen result ≡ empty_sign }
+    {
+        CoseSign {
+            protected: ProtectedHeader::new(alloc),
+            unprotected: Header::new(alloc),
+            payload: None,
+            signatures: Vec::new(alloc),
+        }
+    }
+
+    /// The structure of this signature over this payload.
+    fn structure(
+        &self,
+        alloc: Global,
+        external_aad: &[u8],
+        payload: &[u8],
+        signature: &CoseSignature,
+    ) -> Result<Vec<u8>>
+        ensures { Writes (signer_structure (sign_seen self.now) (signature_seen signature.now)
+            external_aad.now payload.now) (λ b. b.items) result }
+    {
+        let context = SignatureContext::CoseSignature;
+        let signer = Some(&signature.protected);
+        signed_bytes(
+            alloc,
+            context,
+            &self.protected,
+            signer,
+            external_aad,
+            payload,
+        )
+    }
+
+    /// The bytes that this signature of the message is over (RFC 8152, section 4.4), with the protected headers as they
+    /// were read. A missing payload counts as empty.
+    ///
+    /// # Errors
+    /// `OutOfMemory`, or `DuplicateMapKey` where a protected header wasn't read and repeats a label of its rest.
+    pub fn tbs_data(
+        &self,
+        alloc: Global,
+        external_aad: &[u8],
+        signature: &CoseSignature,
+    ) -> Result<Vec<u8>>
+        ensures { Writes (signer_carried (sign_seen self.now) (signature_seen signature.now)
+            external_aad.now) (λ b. b.items) result }
+    {
+        match &self.payload {
+            Some(payload) => self.structure(alloc, external_aad, payload, signature),
+            None => self.structure(alloc, external_aad, &[], signature),
+        }
+    }
+
+    /// The bytes that this signature is over where the payload is sent apart, so that the message carries none.
+    ///
+    /// # Errors
+    /// The same as [`CoseSign::tbs_data`].
+    pub fn tbs_detached_data(
+        &self,
+        alloc: Global,
+        payload: &[u8],
+        external_aad: &[u8],
+        signature: &CoseSignature,
+    ) -> Result<Vec<u8>>
+        requires { self.now.payload ≡ None }
+        ensures { Writes (signer_structure (sign_seen self.now) (signature_seen signature.now)
+            external_aad.now payload.now) (λ b. b.items) result }
+    {
+        self.structure(alloc, external_aad, payload, signature)
+    }
+
+    /// The signature of that number, counted from 0.
+    fn signature(&self, which: usize) -> &CoseSignature
+        requires { which < length self.now.signatures.items }
+        ensures { slice_get (sign_seen self.now).signatures which
+            ≡ Some (signature_seen result.now) }
+    {
+        &self.signatures[which]
+    }
+
+    /// Asks `verifier` whether the bytes of signature number `which` (counted from 0), its first argument, sign the
+    /// bytes that this signature is over, its second one ([`CoseSign::tbs_data`]). It is asked once, unless there is an
+    /// error of ours, and not at all then.
+    ///
+    /// # Errors
+    /// The same as [`CoseSign::tbs_data`]; or `Caller` with the error of `verifier`.
+    pub fn verify_signature<F, E>(
+        &self,
+        alloc: Global,
+        which: usize,
+        external_aad: &[u8],
+        verifier: F,
+    ) -> Result<(), CallError<E>>
+    where
+        F: FnOnce(&[u8], &[u8]) -> Result<(), E> + Drop,
+        E: Drop,
+        requires callable { F.IsAlwaysCallable verifier }
+        requires there { which < length self.now.signatures.items }
+        ensures { (s : SignatureSeen) → slice_get (sign_seen self.now).signatures which ≡ Some s
+            → AsksAbout F.FnOnce verifier s.signature
+            (signer_carried (sign_seen self.now) s external_aad.now) result }
+    {
+        let signature = self.signature(which);
+        let structure = self.tbs_data(alloc, external_aad, signature);
+        ask(&signature.signature, structure, verifier)
+    }
+
+    /// The same as [`CoseSign::verify_signature`] where the payload is sent apart, so that the message carries none.
+    ///
+    /// # Errors
+    /// The same as [`CoseSign::verify_signature`].
+    pub fn verify_detached_signature<F, E>(
+        &self,
+        alloc: Global,
+        which: usize,
+        payload: &[u8],
+        external_aad: &[u8],
+        verifier: F,
+    ) -> Result<(), CallError<E>>
+    where
+        F: FnOnce(&[u8], &[u8]) -> Result<(), E> + Drop,
+        E: Drop,
+        requires callable { F.IsAlwaysCallable verifier }
+        requires there { which < length self.now.signatures.items }
+        requires detached { self.now.payload ≡ None }
+        ensures { (s : SignatureSeen) → slice_get (sign_seen self.now).signatures which ≡ Some s
+            → AsksAbout F.FnOnce verifier s.signature
+            (signer_structure (sign_seen self.now) s external_aad.now payload.now) result }
+    {
+        let signature = self.signature(which);
+        let structure = self.tbs_detached_data(alloc, payload, external_aad, signature);
+        ask(&signature.signature, structure, verifier)
+    }
+
+    /// A message that equals this one, with the same bytes kept.
+    ///
+    /// # Errors
+    /// `OutOfMemory` alone.
+    pub fn clone(&self) -> Result<CoseSign>
+        ensures copy { IfOk result (λ m. sign_seen m ≡ sign_seen self.now) }
+        ensures memory { IfErr result (λ e. e ≡ OutOfMemory) }
+    {
+        let payload = match &self.payload {
+            Some(payload) => Some(copy_bytes(payload)?),
+            None => None,
+        };
+        Ok(CoseSign {
+            protected: self.protected.clone()?,
+            unprotected: self.unprotected.clone()?,
+            payload,
+            signatures: copy_signatures(&self.signatures)?,
+        })
+    }
+}
+
+/// Equality of every field, the bytes that were kept of the protected headers included.
+impl PartialEq for CoseSign {
+    ghost eq = { on sign_seen sign_eq };
+
+    ghost laws = { on_per sign_seen (partial_equiv_from_equiv sign_eq_equiv) };
+
+    fn eq(&self, other: &CoseSign) -> bool
+        ensures answers { result ≡ sign_eq (sign_seen self.now) (sign_seen other.now) }
+        ensures equal { IsTrue result ↔ (sign_seen self.now ≡ sign_seen other.now) }
+    {
+        same(self, other)
+    }
+}
+
+impl Eq for CoseSign {
+    ghost laws = { on_equiv sign_seen sign_eq_equiv };
+}
+
+/// Whether two messages are the same, the bytes that were kept included.
+fn same(a: &CoseSign, b: &CoseSign) -> bool
+    ensures { result ≡ sign_eq (sign_seen a.now) (sign_seen b.now) }
+{
+    a.protected == b.protected
+        && a.unprotected == b.unprotected
+        && a.payload == b.payload
+        && same_signatures(&a.signatures, &b.signatures)
+}
+
+/// Whether two lists of signatures are the same, the bytes that were kept included.
+fn same_signatures(all: &Vec<CoseSignature>, others: &Vec<CoseSignature>) -> bool
+    ensures { result ≡ pointwise signature_eq (map signature_seen all.now.items)
+        (map signature_seen others.now.items) }
+{
+    all == others
+}
+
+/// Copies of the signatures, with the same bytes kept.
+///
+/// # Errors
+/// `OutOfMemory` alone.
+fn copy_signatures(all: &Vec<CoseSignature>) -> Result<Vec<CoseSignature>>
+    ensures copies { IfOk result (λ c. map signature_seen c.items
+        ≡ map signature_seen all.now.items) }
+    ensures memory { IfErr result (λ e. e ≡ OutOfMemory) }
+{
+    Ok(Clone::clone(all)?)
+}
+
+impl AsCborValue for CoseSign {
+    ghost use Rattle.coset_sign.specs.Sign.{SignSeen, sign_laws};
+
+    ghost Seen = { SignSeen };
+
+    ghost seen = { sign_seen };
+
+    ghost shape = { sign };
+
+    ghost unique = { sign_laws.unique };
+
+    ghost sound = { sign_laws.sound };
+
+    fn from_cbor_value(alloc: Global, value: Value) -> Result<CoseSign> {
+        read_sign(alloc, Source::Tree(value))
+    }
+
+    fn to_cbor_value(self, alloc: Global) -> Result<Value> {
+        encode_to_value(alloc, &self)
+    }
+}
+
+impl Lawful for CoseSign {
+    ghost use Rattle.coset_sign.specs.Sign.{sign_laws};
+
+    ghost laws = { sign_laws };
+}
+
+impl Encode for CoseSign {
+    ghost image = { λ m. sign.image (sign_seen m) };
+
+    ghost spare = { 57 };
+
+    fn room(&self) -> usize {
+        Bstr(&self.protected)
+            .room()
+            .saturating_add(self.unprotected.room())
+            .saturating_add(self.payload.room())
+    }
+
+    fn encode(&self, alloc: Global, out: &mut Vec<u8>) -> Result<()> {
+        encode_four(
+            alloc,
+            &Bstr(&self.protected),
+            &self.unprotected,
+            &self.payload,
+            &Array(&self.signatures),
+            out,
+        )
+    }
+}
+
+impl FromPull for CoseSign {
+    fn from_pull(alloc: Global, pull: Pull<'_>) -> Result<CoseSign> {
+        read_sign(alloc, Source::Lent(pull))
+    }
+}
+
+impl CborSerializable for CoseSign {
+    fn from_slice(alloc: Global, s: &[u8]) -> Result<CoseSign> {
+        read_slice(alloc, s)
+    }
+
+    fn to_vec(self, alloc: Global) -> Result<Vec<u8>> {
+        encode_to_vec(alloc, &self)
+    }
+}
+
+impl TaggedCborSerializable for CoseSign {
+    ghost TAG = { 98 };
+
+    const TAG: u64 = 98;
+
+    fn from_tagged_slice(alloc: Global, s: &[u8]) -> Result<CoseSign> {
+        read_tagged_slice(alloc, 98, s)
+    }
+
+    fn to_tagged_vec(self, alloc: Global) -> Result<Vec<u8>> {
+        encode_to_tagged_vec(alloc, 98, &self)
+    }
+}
+
+/// The signature with these bytes, under the same headers.
+fn signed_with(mut signature: CoseSignature, bytes: Vec<u8>) -> CoseSignature
+    ensures { signature_seen result ≡ signed_with bytes.items (signature_seen signature) }
+{
+    signature.signature = bytes;
+    signature
+}
+
+/// Makes a [`CoseSign`], field by field. Contracts see it as the message that [`build`](CoseSignBuilder::build) gives.
+#[derive(Debug, Drop)]
+pub struct CoseSignBuilder(CoseSign);
+
+impl Model for CoseSignBuilder {
+    ghost use Rattle.std.specs.Coded.{codes};
+    ghost use Rattle.coset_sign.specs.contracts.sign.CoseSign as contracts;
+    ghost use Rattle.coset_sign.specs.declared.sign.CoseSign.{CoseSign};
+
+    ghost Value = { CoseSign };
+
+    ghost coded = { Prim.hlevel (codes, contracts.the_row.coded) };
+
+    ghost view = { λ b. b.0 };
+
+    ghost inverse = { λ v. record { 0 = v } };
+}
+
+impl CoseSignBuilder {
+    /// An empty message. It takes no memory.
+    pub fn new(alloc: Global) -> CoseSignBuilder
+        ensures { sign_seen result ≡ empty_sign }
+    {
+        CoseSignBuilder(CoseSign::new(alloc))
+    }
+
+    /// The message that was made.
+    pub fn build(self) -> CoseSign
+        ensures { result ≡ self }
+    {
+        self.0
+    }
+
+    /// Sets the protected header: one that was made, and not read, so that it has no bytes of its own yet.
+    pub fn protected(mut self, header: Header) -> CoseSignBuilder
+        ensures { sign_seen result ≡ record
+            (sign_seen self) { protected = unread (header_seen header) } }
+    {
+        self.0.protected = ProtectedHeader {
+            original_data: None,
+            header,
+        };
+        self
+    }
+
+    /// Sets the unprotected header.
+    pub fn unprotected(mut self, header: Header) -> CoseSignBuilder
+        ensures { sign_seen result ≡ record
+            (sign_seen self) { unprotected = header_seen header } }
+    {
+        self.0.unprotected = header;
+        self
+    }
+
+    /// Sets the payload.
+    pub fn payload(mut self, payload: Vec<u8>) -> CoseSignBuilder
+        ensures { sign_seen result ≡ record (sign_seen self) { payload = Some payload.items } }
+    {
+        self.0.payload = Some(payload);
+        self
+    }
+
+    /// Adds a signature that is made already.
+    ///
+    /// # Errors
+    /// `OutOfMemory` alone.
+    pub fn add_signature(mut self, signature: CoseSignature) -> Result<CoseSignBuilder>
+        ensures ok { IfOk result (λ b. sign_seen b
+            ≡ and_signature (signature_seen signature) (sign_seen self)) }
+        ensures memory { IfErr result (λ e. e ≡ OutOfMemory) }
+    {
+        self.0.signatures.push(signature)?;
+        Ok(self)
+    }
+
+    /// Adds the signature with the bytes that `signer` makes of the structure, once there is room for it.
+    ///
+    /// # Errors
+    /// The structure's, or `OutOfMemory`.
+    fn add_signed<F>(
+        mut self,
+        signature: CoseSignature,
+        structure: Result<Vec<u8>>,
+        signer: F,
+    ) -> Result<CoseSignBuilder>
+    where
+        F: FnOnce(&[u8]) -> Vec<u8> + Drop,
+        requires { F.IsAlwaysCallable signer }
+        ensures { (o : Option Item) → Writes o (λ b. b.items) structure
+            → Creates F.FnOnce signer o (λ s b. sign_seen b ≡ and_signature
+            (signed_with s.items (signature_seen signature)) (sign_seen self)) result }
+    {
+        let structure = structure?;
+        self.0.signatures.reserve(1)?;
+        let signed = signed_with(signature, signer(&structure));
+        self.0.signatures.push_reserved(signed);
+        Ok(self)
+    }
+
+    /// The same with a `signer` that may refuse.
+    ///
+    /// # Errors
+    /// The structure's, or `OutOfMemory`; or `Caller` with the error of `signer`.
+    fn try_add_signed<F, E>(
+        mut self,
+        signature: CoseSignature,
+        structure: Result<Vec<u8>>,
+        signer: F,
+    ) -> Result<CoseSignBuilder, CallError<E>>
+    where
+        F: FnOnce(&[u8]) -> Result<Vec<u8>, E> + Drop,
+        E: Drop,
+        requires { F.IsAlwaysCallable signer }
+        ensures { (o : Option Item) → Writes o (λ b. b.items) structure
+            → TriesToCreate F.FnOnce signer o (λ s b. sign_seen b ≡ and_signature
+            (signed_with s.items (signature_seen signature)) (sign_seen self)) result }
+    {
+        if self.0.signatures.reserve(1).is_err() {
+            return Err(CallError::Coset(CoseError::OutOfMemory));
+        }
+        let signed = signed_with(signature, make(structure, signer)?);
+        self.0.signatures.push_reserved(signed);
+        Ok(self)
+    }
+
+    /// Adds a signature with the bytes that `signer` makes of those that it is to be over ([`CoseSign::tbs_data`]), so
+    /// both its headers and the message's other fields are set before. `signer` is called once, unless there is an
+    /// error of ours, and not at all then.
+    ///
+    /// # Errors
+    /// The same as [`CoseSign::tbs_data`].
+    pub fn add_created_signature<F>(
+        self,
+        alloc: Global,
+        signature: CoseSignature,
+        external_aad: &[u8],
+        signer: F,
+    ) -> Result<CoseSignBuilder>
+    where
+        F: FnOnce(&[u8]) -> Vec<u8> + Drop,
+        requires { F.IsAlwaysCallable signer }
+        ensures { Creates F.FnOnce signer (signer_carried (sign_seen self)
+            (signature_seen signature) external_aad.now) (λ s b. sign_seen b ≡ and_signature
+            (signed_with s.items (signature_seen signature)) (sign_seen self)) result }
+    {
+        let structure = self.0.tbs_data(alloc, external_aad, &signature);
+        self.add_signed(signature, structure, signer)
+    }
+
+    /// The same as [`CoseSignBuilder::add_created_signature`] where the payload is sent apart, so that the message
+    /// carries none.
+    ///
+    /// # Errors
+    /// The same as [`CoseSign::tbs_data`].
+    pub fn add_detached_signature<F>(
+        self,
+        alloc: Global,
+        signature: CoseSignature,
+        payload: &[u8],
+        external_aad: &[u8],
+        signer: F,
+    ) -> Result<CoseSignBuilder>
+    where
+        F: FnOnce(&[u8]) -> Vec<u8> + Drop,
+        requires callable { F.IsAlwaysCallable signer }
+        requires detached { self.payload ≡ None }
+        ensures { Creates F.FnOnce signer (signer_structure (sign_seen self)
+            (signature_seen signature) external_aad.now payload.now) (λ s b. sign_seen b
+            ≡ and_signature (signed_with s.items (signature_seen signature)) (sign_seen self))
+            result }
+    {
+        let structure = self
+            .0
+            .tbs_detached_data(alloc, payload, external_aad, &signature);
+        self.add_signed(signature, structure, signer)
+    }
+
+    /// The same as [`CoseSignBuilder::add_created_signature`] with a `signer` that may refuse.
+    ///
+    /// # Errors
+    /// The same as [`CoseSign::tbs_data`]; or `Caller` with the error of `signer`.
+    pub fn try_add_created_signature<F, E>(
+        self,
+        alloc: Global,
+        signature: CoseSignature,
+        external_aad: &[u8],
+        signer: F,
+    ) -> Result<CoseSignBuilder, CallError<E>>
+    where
+        F: FnOnce(&[u8]) -> Result<Vec<u8>, E> + Drop,
+        E: Drop,
+        requires { F.IsAlwaysCallable signer }
+        ensures { TriesToCreate F.FnOnce signer (signer_carried (sign_seen self)
+            (signature_seen signature) external_aad.now) (λ s b. sign_seen b ≡ and_signature
+            (signed_with s.items (signature_seen signature)) (sign_seen self)) result }
+    {
+        let structure = self.0.tbs_data(alloc, external_aad, &signature);
+        self.try_add_signed(signature, structure, signer)
+    }
+
+    /// The same as [`CoseSignBuilder::add_detached_signature`] with a `signer` that may refuse.
+    ///
+    /// # Errors
+    /// The same as [`CoseSign::tbs_data`]; or `Caller` with the error of `signer`.
+    pub fn try_add_detached_signature<F, E>(
+        self,
+        alloc: Global,
+        signature: CoseSignature,
+        payload: &[u8],
+        external_aad: &[u8],
+        signer: F,
+    ) -> Result<CoseSignBuilder, CallError<E>>
+    where
+        F: FnOnce(&[u8]) -> Result<Vec<u8>, E> + Drop,
+        E: Drop,
+        requires callable { F.IsAlwaysCallable signer }
+        requires detached { self.payload ≡ None }
+        ensures { TriesToCreate F.FnOnce signer (signer_structure (sign_seen self)
+            (signature_seen signature) external_aad.now payload.now) (λ s b. sign_seen b
+            ≡ and_signature (signed_with s.items (signature_seen signature)) (sign_seen self))
+            result }
+    {
+        let structure = self
+            .0
+            .tbs_detached_data(alloc, payload, external_aad, &signature);
+        self.try_add_signed(signature, structure, signer)
+    }
+}
