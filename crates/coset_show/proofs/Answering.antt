@@ -3,7 +3,7 @@ use Rattle.std.proofs.Common.{◌≡◌, ℕ, List, Some, None, IfSome, refl, sy
 use Rattle.std.specs.Prelude.{Option, sum}
 use Rattle.std.specs.Io.KnownBytes.{Appends}
 use Rattle.coset_show.specs.declared.kind.Kind.{Kind}
-use Rattle.coset_show.specs.declared.kind.Kind.TheVariants.{Value, Sign1}
+use Rattle.coset_show.specs.declared.kind.Kind.TheVariants.{Value, Sign1, Sign}
 use Rattle.coset_show.specs.declared.refusal.Refusal.{Refusal}
 use Rattle.coset_show.specs.Refusal.{no_memory}
 use Rattle.coset_show.specs.Kind.{kind_name}
@@ -11,11 +11,12 @@ use Rattle.coset_show.specs.Answer.{RefusesInput, AnswersInput, refusal_line}
 
 -- names are told apart by their sums
 abbrev named : List ℕ → Kind
-named name = cond (eqb (sum name) (sum (kind_name Value))) Value Sign1
+named name = cond (eqb (sum name) (sum (kind_name Value))) Value (cond (eqb (sum name) (sum (kind_name Sign1))) Sign1 Sign)
 
 named_again : (k : Kind) → named (kind_name k) ≡ k
 named_again Value = refl
 named_again Sign1 = refl
+named_again Sign = refl
 
 -- kinds of one name are one
 pub kind_of_name : (k j : Kind) → kind_name k ≡ kind_name j → k ≡ j

@@ -1,21 +1,21 @@
 -- What is shown, and why it isn't.
 use Rattle.std.proofs.Common.{◌≡◌, Bool, true, false, ℕ, List, [], Some, None, Result, Ok, Err, subst, sym, ap}
 use Rattle.std.specs.Prelude.{MatchResult, IsErrAnd, option_map}
-use Rattle.coset_value.specs.Item.{Item, Items, no_items, item}
-use Rattle.coset_shape.specs.declared.error.CoseError.{CoseError}
-use Rattle.coset_shape.specs.declared.error.CoseError.TheVariants.{OutOfMemory}
-use Rattle.coset_shape.specs.Errors.{UnlessMemory}
-use Rattle.coset_shape.specs.Shape.{Shape, FirstDescribes}
-use Rattle.coset_shape.specs.Answers.{Describes, SliceFaults, DescribesNothing}
-use Rattle.coset_core.specs.Headers.{ProtectedSeen, is_empty_header, header_image, layered_protected, protected, protected_bytes}
-use Rattle.coset_shape.specs.Serialized.{content_bytes}
-use Rattle.coset_sign.specs.SignatureStructure.{signature_structure}
-use Rattle.coset_sign.specs.declared.signature.SignatureContext.TheVariants.{CoseSign1}
-use Rattle.coset_sign.specs.Sign1.{Sign1Seen, sign1, sign1_fields}
-use Rattle.coset_sign.specs.Signed.{or_empty}
+use Rattle.coset.specs.Item.{Item, Items, no_items, item}
+use Rattle.coset.specs.CoseError.{CoseError}
+use Rattle.coset.specs.CoseError.TheVariants.{OutOfMemory}
+use Rattle.coset.specs.Errors.{UnlessMemory}
+use Rattle.coset.specs.Shape.{Shape, FirstDescribes}
+use Rattle.coset.specs.Answers.{Describes, SliceFaults, DescribesNothing}
+use Rattle.coset.specs.Headers.{ProtectedSeen, is_empty_header, header_image, layered_protected, protected, protected_bytes}
+use Rattle.coset.specs.Serialized.{content_bytes}
+use Rattle.coset.specs.SignatureStructure.{signature_structure}
+use Rattle.coset.specs.SignatureContext.TheVariants.{CoseSign1}
+use Rattle.coset.specs.Sign1.{Sign1Seen, sign1, sign1_carried, sign1_fields}
+use Rattle.coset.specs.Signed.{or_empty}
 use Rattle.coset_show.specs.declared.refusal.Refusal.{Refusal}
 use Rattle.coset_show.specs.declared.refusal.Refusal.TheVariants.{Cose}
-use Rattle.coset_show.specs.Show.{RefusesType, tagged_if, sign1_signed_item}
+use Rattle.coset_show.specs.Show.{RefusesType, tagged_if}
 
 -- ---- refusals
 
@@ -49,7 +49,7 @@ unfolding layered_protected
 read_keeps v p d = (d.0, ap (λ o. content_bytes is_empty_header header_image o p.header) d.2)
 
 -- so there is something to sign of a message that was read
-pub read_is_signed : (v : Item) (m : Sign1Seen) → sign1.describes v m → (i : Item) × (sign1_signed_item m ≡ Some i)
+pub read_is_signed : (v : Item) (m : Sign1Seen) → sign1.describes v m → (i : Item) × (sign1_carried m [] ≡ Some i)
 read_is_signed v m d =
     let header = first_of protected.describes _ d.0 (sign1_fields m) d.2 in
     let bytes = read_keeps header.0 m.protected header.1 in

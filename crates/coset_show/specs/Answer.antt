@@ -1,7 +1,7 @@
 -- What the program answers.
 use Rattle.std.specs.Prelude.{◌≡◌, ◌⊎◌, ◌||◌, ◌==◌, not, ℕ, Bool, List, ◌++◌, filter, codes, Ok}
 use Rattle.hex.specs.Hex.{decode_of}
-use Rattle.coset_shape.specs.declared.error.CoseError.TheVariants.{OutOfMemory}
+use Rattle.coset.specs.CoseError.TheVariants.{OutOfMemory}
 use Rattle.coset_show.specs.declared.kind.Kind.{Kind}
 use Rattle.coset_show.specs.declared.refusal.Refusal.{Refusal}
 use Rattle.coset_show.specs.declared.refusal.Refusal.TheVariants.{Unreadable, NotHexadecimal, Cose}

@@ -2,12 +2,12 @@
 use Rattle.std.specs.Prelude.{ℕ, List, [], ◌++◌, codes, Some, None}
 use Rattle.std.specs.Option.{unwrap_or}
 use Rattle.std.specs.Fmt.{decimal}
-use Rattle.coset_cbor.specs.declared.de.EndOfFile.{EndOfFile}
-use Rattle.coset_cbor.specs.declared.de.Error.{Error}
-use Rattle.coset_cbor.specs.declared.de.Error.TheVariants as errors
-use Rattle.coset_shape.specs.declared.error.CoseError.{CoseError}
-use Rattle.coset_shape.specs.declared.error.CoseError.TheVariants as cose
-use Rattle.coset_shape.specs.Errors.{error_text}
+use Rattle.coset.specs.EndOfFile.{EndOfFile}
+use Rattle.coset.specs.Error.{Error}
+use Rattle.coset.specs.Error.TheVariants as errors
+use Rattle.coset.specs.CoseError.{CoseError}
+use Rattle.coset.specs.CoseError.TheVariants as cose
+use Rattle.coset.specs.Errors.{error_text}
 use Rattle.hex.specs.declared.error.FromHexError.{FromHexError}
 use Rattle.hex.specs.declared.error.FromHexError.TheVariants as hex_errors
 use Rattle.coset_show.specs.declared.refusal.Refusal.{Refusal}

@@ -1,16 +1,15 @@
 -- What is shown of bytes that should describe a value of some type.
 use Rattle.std.specs.Prelude.{◌≡◌, Bool, true, false, ℕ, List, [], ◌∷◌, ◌++◌, ◌/◌, ◌==◌, Option, Some, None, Result, MatchResult, codes}
 use Rattle.hex.specs.Hex.{encode_lower}
-use Rattle.coset_cbor.specs.Item.{Item}
-use Rattle.coset_cbor.specs.Shortest.{IsShortest}
-use Rattle.coset_shape.specs.declared.error.CoseError.{CoseError}
-use Rattle.coset_shape.specs.declared.error.CoseError.TheVariants.{OutOfMemory}
-use Rattle.coset_shape.specs.Answers.{Describes, SliceFaults, DescribesNothing}
-use Rattle.coset_shape.specs.Errors.{UnlessMemory}
-use Rattle.coset_shape.specs.Shape.{Shape, tagged}
-use Rattle.coset_sign.specs.Sign1.{Sign1Seen, sign1}
-use Rattle.coset_sign.specs.Signed.{signed_item, or_empty}
-use Rattle.coset_sign.specs.declared.signature.SignatureContext.TheVariants.{CoseSign1}
+use Rattle.coset.specs.Item.{Item}
+use Rattle.coset.specs.Shortest.{IsShortest}
+use Rattle.coset.specs.CoseError.{CoseError}
+use Rattle.coset.specs.CoseError.TheVariants.{OutOfMemory}
+use Rattle.coset.specs.Answers.{Describes, SliceFaults, DescribesNothing}
+use Rattle.coset.specs.Errors.{UnlessMemory}
+use Rattle.coset.specs.Shape.{Shape, tagged}
+use Rattle.coset.specs.Sign1.{Sign1Seen, sign1, sign1_carried}
+use Rattle.coset.specs.Sign.{SignSeen, sign}
 use Rattle.coset_show.specs.declared.refusal.Refusal.{Refusal}
 use Rattle.coset_show.specs.declared.refusal.Refusal.TheVariants.{Unreadable, NotHexadecimal, Cose}
 
@@ -56,18 +55,18 @@ message_in b number s = tagged_if (is_tagged b) number s
 abbrev pub sign1_in : List ℕ → Shape Sign1Seen
 sign1_in b = message_in b 18 sign1
 
--- the structure that is signed where `external_aad` is empty, over the message's protected bytes
-abbrev pub sign1_signed_item : Sign1Seen → Option Item
-sign1_signed_item m = signed_item CoseSign1 m.protected None [] (or_empty m.payload)
+abbrev pub sign_in : List ℕ → Shape SignSeen
+sign_in b = message_in b 98 sign
 
--- b describes a message; the first line is that of its item, and the second that of what is signed, behind `tbs `
+-- b describes a message; the first line is that of its item, and the second, behind `tbs `, that of what is signed where
+-- `external_aad` is empty
 pub record ShowsSign1 (b lines : List ℕ) : Type 0 where
   pub message : Sign1Seen
   pub described : Describes (sign1_in b) b message
   pub first : List ℕ
   pub second : List ℕ
   pub is_message : IsLineOf ((sign1_in b).image message) first
-  pub is_signed : IsLineOf (sign1_signed_item message) second
+  pub is_signed : IsLineOf (sign1_carried message []) second
   pub are_lines : lines ≡ first ++ codes "tbs " ++ second
 
 -- ---- what was read, written

@@ -5,8 +5,9 @@ ghost use Rattle.std.specs.String.{string_bytes};
 ghost use Rattle.coset_show.specs.Kind.{kind_name, ShowsBytes, RefusesBytes};
 
 use crate::refusal::Refusal;
-use crate::show::{sign1_lines, type_line};
-use coset_sign::cbor::value::Value;
+use crate::show::{message_lines, sign1_lines, type_line};
+use coset::CoseSign;
+use coset::cbor::value::Value;
 use std::alloc::Global;
 
 /// What the input spells.
@@ -16,6 +17,8 @@ pub enum Kind {
     Value,
     /// A message with one signature (RFC 8152, section 4.2).
     Sign1,
+    /// A message with any number of signatures (RFC 8152, section 4.1).
+    Sign,
 }
 
 impl Kind {
@@ -27,6 +30,7 @@ impl Kind {
         match name {
             "value" => Some(Kind::Value),
             "sign1" => Some(Kind::Sign1),
+            "sign" => Some(Kind::Sign),
             _ => None,
         }
     }
@@ -42,6 +46,7 @@ impl Kind {
         match self {
             Kind::Value => type_line::<Value>(alloc, bytes),
             Kind::Sign1 => sign1_lines(alloc, bytes),
+            Kind::Sign => message_lines::<CoseSign>(alloc, bytes),
         }
     }
 }

@@ -3,8 +3,8 @@
 ghost use Rattle.std.specs.Fmt.{WritesOnOk};
 ghost use Rattle.coset_show.specs.Refusal.{fault_text};
 
-use coset_sign::cbor::de;
-use coset_sign::{CoseError, EndOfFile};
+use coset::cbor::de;
+use coset::{CoseError, EndOfFile};
 use hex::FromHexError;
 use std::alloc::AllocError;
 use std::fmt;

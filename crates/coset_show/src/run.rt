@@ -13,7 +13,7 @@ ghost use Rattle.coset_show.specs.Answer.{is_space as is_space_spec};
 use crate::kind::Kind;
 use crate::refusal::Refusal;
 use crate::stream::Stream;
-use coset_sign::CoseError;
+use coset::CoseError;
 use std::alloc::{AllocError, Global};
 use std::io::{ErrorKind, Read, Write};
 

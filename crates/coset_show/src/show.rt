@@ -1,17 +1,17 @@
 //! How values of the types of COSE are shown.
 
-ghost use Rattle.std.specs.Prelude.{◌≡◌, IfOk, MatchResult};
+ghost use Rattle.std.specs.Prelude.{◌≡◌, [], IfOk, MatchResult};
 ghost use Rattle.hex.specs.Hex.{encode_lower};
 ghost use Rattle.std.specs.String.{string_bytes};
-ghost use Rattle.coset_value.specs.Item.{Item};
-ghost use Rattle.coset_shape.specs.declared.error.CoseError.TheVariants.{OutOfMemory};
-ghost use Rattle.coset_shape.specs.Answers.{ReadsSlice, RefusesSlice};
-ghost use Rattle.coset_sign.specs.Sign1.{sign1, sign1_seen};
-ghost use Rattle.coset_show.specs.Show.{line, ShowsType, RefusesType, ShowsSign1, IsLineOf, WritesRead, tagged_if, sign1_in, sign1_signed_item};
+ghost use Rattle.coset.specs.Item.{Item};
+ghost use Rattle.coset.specs.CoseError.TheVariants.{OutOfMemory};
+ghost use Rattle.coset.specs.Answers.{ReadsSlice, RefusesSlice};
+ghost use Rattle.coset.specs.Sign1.{sign1, sign1_carried, sign1_seen};
+ghost use Rattle.coset_show.specs.Show.{line, ShowsType, RefusesType, ShowsSign1, IsLineOf, WritesRead, tagged_if, message_in, sign1_in};
 ghost use Rattle.coset_show.specs.Show.{is_tagged as is_tagged_spec};
 
 use crate::refusal::Refusal;
-use coset_sign::{CborSerializable, CoseError, CoseSign1, Lawful, TaggedCborSerializable};
+use coset::{CborSerializable, CoseError, CoseSign1, Lawful, TaggedCborSerializable};
 use std::alloc::{AllocError, Global};
 
 /// The bytes as a line of lower-case hexadecimal.
@@ -86,10 +86,27 @@ fn message_line<T: Lawful + CborSerializable + TaggedCborSerializable>(
     }
 }
 
+/// The line of the message that the bytes describe, under its tag where they begin with one.
+///
+/// # Errors
+/// The same as [`type_line`].
+pub fn message_lines<T: Lawful + CborSerializable + TaggedCborSerializable>(
+    alloc: Global,
+    bytes: &[u8],
+) -> Result<String, Refusal>
+    ensures { MatchResult result
+        (λ lines. ShowsType (message_in bytes.now T.TAG T.shape) bytes.now (string_bytes lines))
+        (λ refusal. RefusesType (message_in bytes.now T.TAG T.shape) bytes.now refusal) }
+{
+    let tagged = is_tagged(bytes);
+    let message: T = read_message(alloc, tagged, bytes)?;
+    Ok(message_line(alloc, tagged, message)?)
+}
+
 /// The line of what is signed where `external_aad` is empty, of a message that was read.
 fn signed_line(alloc: Global, message: &CoseSign1) -> Result<String, CoseError>
     ensures { (v : Item) → sign1.describes v (sign1_seen message.now)
-        → MatchResult result (λ l. IsLineOf (sign1_signed_item (sign1_seen message.now))
+        → MatchResult result (λ l. IsLineOf (sign1_carried (sign1_seen message.now) [])
         (string_bytes l)) (λ e. e ≡ OutOfMemory) }
 {
     let signed = message.tbs_data(alloc, &[])?;

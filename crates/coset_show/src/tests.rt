@@ -160,6 +160,50 @@ fn shows_messages_with_one_signature(rt: HostRuntime) -> Result<(), Fail> {
 }
 
 #[test]
+fn shows_messages_with_any_number_of_signatures(rt: HostRuntime) -> Result<(), Fail> {
+    let rows = [
+        ("8440a0f680", "8440a0f680\n"),
+        ("8440a0f6818340a040", "8440a0f6818340a040\n"),
+        ("9f5fffbffff69f9f40a040ffffff", "8440a0f6818340a040\n"),
+        (
+            "8440a041aa828340a041018340a04102",
+            "8440a041aa828340a041018340a04102\n",
+        ),
+        ("d8628440a0f680", "d8628440a0f680\n"),
+    ];
+    answers(&rt, rt.alloc(), "sign", &rows, 0);
+    Ok(())
+}
+
+#[test]
+fn refuses_what_is_no_message_with_any_number_of_signatures(rt: HostRuntime) -> Result<(), Fail> {
+    let non_signature = "error: got non-signature, expected map for COSE_Signature\n";
+    let rows = [
+        ("8440a0f68101", non_signature),
+        ("8440a0f6818340a001", non_signature),
+        (
+            "8440a0f6828340a0408340a101014040",
+            "error: extraneous data in CBOR input\n",
+        ),
+        ("8440a0f6828340a0408341a1a040", non_signature),
+        ("8440a0f640", "error: got bstr, expected array\n"),
+        ("8440a00180", "error: got int, expected bstr or nil\n"),
+        ("8440a0018101", non_signature),
+        (
+            "8340a080",
+            "error: got array, expected array with 4 items\n",
+        ),
+        ("d28440a0f680", "error: got tag, expected other tag\n"),
+        (
+            "8440a0f6818340a0",
+            "error: decode CBOR failure: Io(EndOfFile)\n",
+        ),
+    ];
+    answers(&rt, rt.alloc(), "sign", &rows, 1);
+    Ok(())
+}
+
+#[test]
 fn refuses_what_is_no_message_with_one_signature(rt: HostRuntime) -> Result<(), Fail> {
     let rows = [
         ("8442a000a0f640", "error: extraneous data in CBOR input\n"),
@@ -324,7 +368,7 @@ impl Read for FaultyReader<'_> {
 #[test]
 fn tells_of_other_kinds(rt: HostRuntime) -> Result<(), Fail> {
     let alloc = rt.alloc();
-    for kind in ["", "VALUE", "value ", "valu", "sign1 ", "sign"] {
+    for kind in ["", "VALUE", "value ", "valu", "sign1 ", "sign2"] {
         let mut reader = Stream::new(FaultyReader {
             rest: b"80",
             calls_left: 9,

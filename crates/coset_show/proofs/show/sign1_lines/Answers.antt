@@ -1,6 +1,6 @@
 use Rattle.std.proofs.Common.{sym, rules}
 use Rattle.std.specs.String.{string_bytes}
-use Rattle.coset_sign.specs.Sign1.{sign1, sign1_seen}
+use Rattle.coset.specs.Sign1.{sign1, sign1_seen}
 use Rattle.coset_show.specs.Show.{sign1_in, tagged_if}
 use Rattle.coset_show.proofs.Showing.{passed_on, refuses_read, refuses_memory, plainly}
 use Rattle.coset_show.proofs.show.sign1_lines.Goals as goal

@@ -1,5 +1,5 @@
 use Rattle.std.proofs.Common.{rules}
-use Rattle.coset_sign.specs.Sign1.{sign1_seen}
+use Rattle.coset.specs.Sign1.{sign1_seen}
 use Rattle.coset_show.proofs.Showing.{read_is_signed}
 use Rattle.coset_show.proofs.show.signed_line.Goals as goal
 

@@ -5,3 +5,6 @@ returns-in-Value c = rw c.in-Value.is c.type_line.ensures
 
 pub returns-in-Sign1 : goal.returns-in-Sign1
 returns-in-Sign1 c = rw c.in-Sign1.is c.sign1_lines.ensures
+
+pub returns-in-Sign : goal.returns-in-Sign
+returns-in-Sign c = rw c.in-Sign.is c.message_lines.ensures
