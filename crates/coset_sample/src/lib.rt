@@ -2,5 +2,13 @@
 //! what the traits promise.
 #![tactic(auto)]
 
+#[cfg(test)]
+mod kinds;
 pub mod reading;
+#[cfg(test)]
+mod refused;
+#[cfg(test)]
+mod repeats;
+#[cfg(test)]
+mod rows;
 pub mod settings;

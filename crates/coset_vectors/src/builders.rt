@@ -1,96 +1,83 @@
 //! Headers and signatures that builders make, call by call.
 
-use crate::headers::is_written;
-use coset_cbor::value::Value;
-use coset_core::{CoseSignatureBuilder, HeaderBuilder};
-use coset_iana::{Algorithm, CoapContentFormat, HeaderParameter};
-use coset_label::RegisteredLabelWithPrivate;
-use coset_shape::CborSerializable;
+use coset::cbor::value::Value;
+use coset::iana::{Algorithm, CoapContentFormat, HeaderParameter};
+use coset::{
+    CborSerializable, CoseSignatureBuilder, Header, HeaderBuilder, RegisteredLabelWithPrivate,
+};
+use std::alloc::Global;
 use std::test::*;
+
+/// Whether the header is written as this.
+fn is_written(alloc: Global, header: Header, bytes: &[u8]) -> bool {
+    match header.to_vec(alloc) {
+        Ok(text) => text.as_slice() == bytes,
+        Err(_) => false,
+    }
+}
 
 #[test]
 fn calls_that_move(rt: HostRuntime) -> Result<(), Fail> {
     let alloc = rt.alloc();
-    assert!(rt; is_written(alloc, HeaderBuilder::new(alloc).build(), b"\xa0"));
-    let header = HeaderBuilder::new(alloc)
-        .algorithm(Algorithm::A128GCM)
-        .key_id(Vec::from_slice(alloc, b"\x01\x02\x03")?)
-        .partial_iv(Vec::from_slice(alloc, b"\x01\x02\x03")?)
-        .build();
+    let rows: [(HeaderBuilder, &[u8]); 5] = [
+        (
+            HeaderBuilder::new(alloc)
+                .algorithm(Algorithm::A128GCM)
+                .key_id(Vec::from_slice(alloc, b"\x01\x02\x03")?)
+                .partial_iv(Vec::from_slice(alloc, b"\x01\x02\x03")?),
+            b"\xa3\x01\x01\x04\x43\x01\x02\x03\x06\x43\x01\x02\x03",
+        ),
+        (
+            HeaderBuilder::new(alloc)
+                .algorithm_label(RegisteredLabelWithPrivate::PrivateUse(i64::MIN))
+                .content_format(CoapContentFormat::Json),
+            b"\xa2\x01\x3b\x7f\xff\xff\xff\xff\xff\xff\xff\x03\x18\x32",
+        ),
+        (
+            HeaderBuilder::new(alloc).content_type(String::from_str(alloc, "a/b")?),
+            b"\xa1\x03\x63\x61\x2f\x62",
+        ),
+        // Of the two initialization vectors the later one stands.
+        (
+            HeaderBuilder::new(alloc)
+                .partial_iv(Vec::from_slice(alloc, b"\x01")?)
+                .iv(Vec::from_slice(alloc, b"\x02")?),
+            b"\xa1\x05\x41\x02",
+        ),
+        (
+            HeaderBuilder::new(alloc)
+                .iv(Vec::from_slice(alloc, b"\x02")?)
+                .partial_iv(Vec::from_slice(alloc, b"\x01")?),
+            b"\xa1\x06\x41\x01",
+        ),
+    ];
+    for (builder, bytes) in rows {
+        assert!(rt; is_written(alloc, builder.build(), bytes), "{bytes:?}");
+    }
+    Ok(())
+}
+
+/// A header with each list but that of counter signatures filled.
+fn grown(alloc: Global) -> coset::Result<Header> {
+    let builder = HeaderBuilder::new(alloc)
+        .add_critical(HeaderParameter::Alg)?
+        .add_critical_label(RegisteredLabelWithPrivate::PrivateUse(-65537))?
+        .value(70, Value::Null)?
+        .text_value(String::from_str(alloc, "a")?, Value::Bool(true))?;
+    Ok(builder.build())
+}
+
+#[test]
+fn calls_that_grow(rt: HostRuntime) -> Result<(), Fail> {
+    let alloc = rt.alloc();
+    let header = grown(alloc).ok().ok_or("memory")?;
     assert!(rt;
         is_written(
             alloc,
             header,
-            b"\xa3\x01\x01\x04\x43\x01\x02\x03\x06\x43\x01\x02\x03"
+            b"\xa3\x02\x82\x01\x3a\x00\x01\x00\x00\x18\x46\xf6\x61\x61\xf5"
         )
     );
-    let header = HeaderBuilder::new(alloc)
-        .algorithm_label(RegisteredLabelWithPrivate::PrivateUse(i64::MIN))
-        .content_format(CoapContentFormat::Json)
-        .build();
-    assert!(rt;
-        is_written(
-            alloc,
-            header,
-            b"\xa2\x01\x3b\x7f\xff\xff\xff\xff\xff\xff\xff\x03\x18\x32"
-        )
-    );
-    let header = HeaderBuilder::new(alloc)
-        .content_type(String::from_str(alloc, "a/b")?)
-        .build();
-    assert!(rt; is_written(alloc, header, b"\xa1\x03\x63\x61\x2f\x62"));
-    Ok(())
-}
-
-#[test]
-fn one_initialization_vector(rt: HostRuntime) -> Result<(), Fail> {
-    let alloc = rt.alloc();
-    let header = HeaderBuilder::new(alloc)
-        .partial_iv(Vec::from_slice(alloc, b"\x01")?)
-        .iv(Vec::from_slice(alloc, b"\x02")?)
-        .build();
-    assert!(rt; is_written(alloc, header, b"\xa1\x05\x41\x02"));
-    let header = HeaderBuilder::new(alloc)
-        .iv(Vec::from_slice(alloc, b"\x02")?)
-        .partial_iv(Vec::from_slice(alloc, b"\x01")?)
-        .build();
-    assert!(rt; is_written(alloc, header, b"\xa1\x06\x41\x01"));
-    Ok(())
-}
-
-#[test]
-fn labels_that_must_be_understood(rt: HostRuntime) -> Result<(), Fail> {
-    let alloc = rt.alloc();
-    let once = HeaderBuilder::new(alloc)
-        .add_critical(HeaderParameter::Alg)
-        .ok()
-        .ok_or("memory")?;
-    let twice = once
-        .add_critical(HeaderParameter::Alg)
-        .ok()
-        .ok_or("memory")?;
-    assert!(rt; is_written(alloc, twice.build(), b"\xa1\x02\x82\x01\x01"));
-    let private = HeaderBuilder::new(alloc)
-        .add_critical_label(RegisteredLabelWithPrivate::PrivateUse(-65537))
-        .ok()
-        .ok_or("memory")?;
-    assert!(rt; is_written(alloc, private.build(), b"\xa1\x02\x81\x3a\x00\x01\x00\x00"));
-    Ok(())
-}
-
-#[test]
-fn pairs_of_other_labels(rt: HostRuntime) -> Result<(), Fail> {
-    let alloc = rt.alloc();
-    let one = HeaderBuilder::new(alloc)
-        .value(70, Value::Null)
-        .ok()
-        .ok_or("memory")?;
-    let label = String::from_str(alloc, "a")?;
-    let two = one
-        .text_value(label, Value::Bool(true))
-        .ok()
-        .ok_or("memory")?;
-    assert!(rt; is_written(alloc, two.build(), b"\xa2\x18\x46\xf6\x61\x61\xf5"));
     Ok(())
 }
 

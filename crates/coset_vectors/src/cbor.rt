@@ -1,11 +1,8 @@
-//! CBOR's reader and writer with ample memory: the values themselves, and the texts of errors.
+//! A value of each kind, and the texts of the reader's and the writer's errors.
 
-use coset_cbor::de::{EndOfFile, read_value};
-use coset_cbor::ser::{
-    write_array_head, write_bytes, write_integer, write_map_head, write_text, write_value,
-};
-use coset_cbor::value::{Float, Integer, Value};
-use coset_cbor::{de, ser};
+use coset::cbor::de::EndOfFile;
+use coset::cbor::value::{Float, Value};
+use coset::cbor::{de, ser};
 use std::alloc::{AllocError, Global};
 use std::test::*;
 
@@ -31,40 +28,6 @@ pub(crate) fn each_kind(alloc: Global) -> Result<Value, AllocError> {
         Value::Tag(2, Box::new(alloc, ten)?),
         Value::Map(pairs),
     ]?))
-}
-
-#[test]
-fn reads_and_writes_each_kind(rt: HostRuntime) -> Result<(), Fail> {
-    let alloc = rt.alloc();
-    let expected = each_kind(alloc)?;
-    let mut input = Vec::from_slice(alloc, &EACH_KIND)?;
-    input.push(0)?;
-    let (value, len) = read_value(alloc, &input).ok().ok_or("an item")?;
-    assert!(rt; value == expected);
-    assert_eq!(rt; len, EACH_KIND.len());
-    let mut out = vec![in alloc; 7]?;
-    write_value(&value, &mut out).ok().ok_or("memory")?;
-    assert_eq!(rt; out[0], 7);
-    assert_eq!(rt; &out[1..], EACH_KIND.as_slice());
-    assert!(rt; value.clone()? == expected);
-    Ok(())
-}
-
-#[test]
-fn writes_parts(rt: HostRuntime) -> Result<(), Fail> {
-    let alloc = rt.alloc();
-    let mut out = vec![in alloc; 7]?;
-    write_map_head(1, &mut out).ok().ok_or("memory")?;
-    write_integer(Integer::from(-500i16), &mut out)
-        .ok()
-        .ok_or("memory")?;
-    write_array_head(2, &mut out).ok().ok_or("memory")?;
-    write_text("ab", &mut out).ok().ok_or("memory")?;
-    write_bytes(&[6; 24], &mut out).ok().ok_or("memory")?;
-    let mut expected = Vec::from_slice(alloc, b"\x07\xa1\x39\x01\xf3\x82\x62ab\x58\x18")?;
-    expected.extend_from_slice(&[6; 24])?;
-    assert_eq!(rt; out.as_slice(), expected.as_slice());
-    Ok(())
 }
 
 #[test]

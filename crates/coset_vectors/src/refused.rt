@@ -1,23 +1,17 @@
-//! Values, types of a caller's own and labels while requests for memory are refused.
+//! Values and labels while requests for memory are refused.
 
+use crate::answer::read_through_item;
 use crate::cbor::{EACH_KIND, each_kind};
-use crate::kinds::twice;
-use crate::sample::{forty, through_a_value};
-use crate::turns::{Answer, Calls, made, refuse_or_answer, written};
-use coset_cbor::de::{EndOfFile, Error, read_value};
-use coset_cbor::ser::write_value;
-use coset_cbor::value::Value;
-use coset_core::{Header, ProtectedHeader};
-use coset_label::{Algorithm, KeyType, Label, RegisteredLabel, RegisteredLabelWithPrivate};
-use coset_sample::reading::Reading;
-use coset_sample::settings::{Name, Settings};
-use coset_shape::traits::{FromPull, read_slice};
-use coset_shape::util::ValueTryAs;
-use coset_shape::{
-    AsCborValue, CallError, CborSerializable, CoseError, TaggedCborSerializable, has_repeats,
+use crate::form::Plain;
+use crate::turns::{Answer, Calls, made, refuse_or_answer};
+use coset::cbor::de::{EndOfFile, Error, read_value};
+use coset::cbor::ser::write_value;
+use coset::cbor::value::Value;
+use coset::{
+    Algorithm, AsCborValue, CborSerializable, CoseError, KeyType, Label, RegisteredLabel,
+    RegisteredLabelWithPrivate,
 };
-use coset_sign::structure::structure_bytes;
-use std::alloc::{AllocError, Global};
+use std::alloc::Global;
 use std::mem;
 use std::test::*;
 
@@ -133,139 +127,6 @@ fn values_refuse_or_answer(rt: HostRuntime) -> Result<(), Fail> {
     refuse_or_answer(&rt, alloc, &mut OfValues { expected })
 }
 
-/// A map of the sample type, with a string, and an array and a text in the rest.
-const SETTINGS: [u8; 12] = *b"\xa3\x01\x05\x02\x42\x01\x02\x07\x82\x01\x61\x61";
-
-const READING: [u8; 8] = *b"\x83\x05\x42\x01\x02\x82\x01\x20";
-
-fn settings(alloc: Global) -> Answer {
-    match Settings::from_slice(alloc, &SETTINGS) {
-        Ok(x) if x.level == 5 && x.name.is_some() && x.rest.len() == 1 => Answer::Same,
-        Err(CoseError::OutOfMemory) => Answer::Refused,
-        _ => Answer::Other,
-    }
-}
-
-fn settings_lent(alloc: Global) -> Answer {
-    match read_slice::<Settings>(alloc, &SETTINGS) {
-        Ok(x) if x.level == 5 && x.name.is_some() && x.rest.len() == 1 => Answer::Same,
-        Err(CoseError::OutOfMemory) => Answer::Refused,
-        _ => Answer::Other,
-    }
-}
-
-fn reading_written(alloc: Global) -> Answer {
-    match Reading::from_slice(alloc, &READING) {
-        Ok(x) => match x.to_tagged_vec(alloc) {
-            Ok(text) if text.len() == 11 => Answer::Same,
-            Err(CoseError::OutOfMemory) => Answer::Refused,
-            _ => Answer::Other,
-        },
-        Err(CoseError::OutOfMemory) => Answer::Refused,
-        Err(_) => Answer::Other,
-    }
-}
-
-fn repeats(alloc: Global, labels: &[(Name, Value)]) -> Answer {
-    match has_repeats(alloc, labels) {
-        Ok(true) => Answer::Same,
-        Ok(false) => Answer::Other,
-        Err(CoseError::OutOfMemory) => Answer::Refused,
-        Err(_) => Answer::Other,
-    }
-}
-
-fn structure(alloc: Global) -> Answer {
-    match structure_bytes(alloc, "MAC0", &[b"\xa0", b"", b"\xaa"]) {
-        Ok(text) if text.as_slice() == b"\x84\x64MAC0\x41\xa0\x40\x41\xaa".as_slice() =>
-            Answer::Same,
-        Err(CoseError::OutOfMemory) => Answer::Refused,
-        _ => Answer::Other,
-    }
-}
-
-/// A header with an algorithm and an identifier, and a text, an array and null in the rest.
-const HEADER: [u8; 17] = *b"\xa4\x01\x61\x61\x04\x42\x31\x31\x61\x6b\x82\x01\x61\x62\x18\x46\xf6";
-
-fn protected(alloc: Global, header: &Header) -> coset_shape::Result<ProtectedHeader> {
-    Ok(ProtectedHeader {
-        original_data: Some(Vec::from_slice(alloc, &HEADER)?),
-        header: header.clone()?,
-    })
-}
-
-/// Whether bytes that aren't one item are refused for their own fault, and a reading without strings is read.
-fn typed_faults_stand(alloc: Global) -> bool {
-    matches!(
-        Reading::from_slice(alloc, b"\x9b\xff\xff\xff\xff\xff\xff\xff\xff"),
-        Err(CoseError::DecodeFailed(Error::Io(EndOfFile)))
-    ) && matches!(
-        Reading::from_slice(alloc, b"\x83\x05\xf6\x80\x00"),
-        Err(CoseError::ExtraneousData)
-    ) && matches!(
-        Reading::from_tagged_slice(alloc, b"\xd9\x03\xe8\x1e"),
-        Err(CoseError::DecodeFailed(Error::Syntax(3)))
-    ) && matches!(
-        Reading::from_slice(alloc, b"\x83\x05\xf6\x80"),
-        Ok(Reading {
-            number: 5,
-            payload: None,
-            ..
-        })
-    )
-}
-
-/// Calls over the sample types, a header, repeated labels and structures.
-#[derive(Drop)]
-struct OfTypes {
-    labels: Vec<(Name, Value)>,
-    header: Header,
-    protected: ProtectedHeader,
-}
-
-impl Calls for OfTypes {
-    fn count(&self) -> usize {
-        11
-    }
-
-    fn need_none(&mut self, alloc: Global) -> bool {
-        typed_faults_stand(alloc)
-    }
-
-    fn answer(&self, alloc: Global, call: usize) -> Option<Answer> {
-        let OfTypes {
-            labels,
-            header,
-            protected,
-        } = self;
-        Some(match call {
-            0 => settings(alloc),
-            1 => settings_lent(alloc),
-            2 => written(alloc, Settings::from_slice(alloc, &SETTINGS), &SETTINGS),
-            3 => reading_written(alloc),
-            4 => repeats(alloc, labels),
-            5 => made(Header::from_slice(alloc, &HEADER), header),
-            6 => made(through_a_value(alloc, &HEADER), header),
-            7 => made(header.clone(), header),
-            8 => made(protected.clone(), protected),
-            9 => written(alloc, header.clone(), &HEADER),
-            _ => structure(alloc),
-        })
-    }
-}
-
-#[test]
-fn types_refuse_or_answer(rt: HostRuntime) -> Result<(), Fail> {
-    let alloc = rt.alloc();
-    let header = Header::from_slice(alloc, &HEADER).ok().ok_or("memory")?;
-    let mut calls = OfTypes {
-        labels: forty(alloc, 3)?,
-        protected: protected(alloc, &header).ok().ok_or("memory")?,
-        header,
-    };
-    refuse_or_answer(&rt, alloc, &mut calls)
-}
-
 /// A text label, longer than the least that a request for memory is given.
 const WORDS: &str = "A label that is long enough to ask for memory of its own: abc.";
 
@@ -282,26 +143,16 @@ fn label_written<T: CborSerializable + Drop>(alloc: Global) -> Option<Answer> {
 }
 
 /// A label read both ways, and written.
-fn label_answer<T: FromPull + CborSerializable + PartialEq + Drop>(
+fn label_answer<T: CborSerializable + PartialEq + Drop>(
     alloc: Global,
     expected: &T,
     call: usize,
 ) -> Option<Answer> {
     match call {
         0 => Some(made(T::from_slice(alloc, &TEXT), expected)),
-        1 => Some(made(through_a_value(alloc, &TEXT), expected)),
+        1 => Some(made(read_through_item::<Plain, T>(alloc, &TEXT), expected)),
         _ => label_written::<T>(alloc),
     }
-}
-
-/// What converting an array of thirty comes to, where there is memory for a copy of it.
-fn conversion(alloc: Global, members: &Value) -> Option<Answer> {
-    let copy = members.clone().ok()?;
-    Some(match copy.try_as_array_then_convert(alloc, twice) {
-        Ok(all) if all.as_slice() == [14u8; 30].as_slice() => Answer::Same,
-        Err(CallError::Coset(CoseError::OutOfMemory)) => Answer::Refused,
-        _ => Answer::Other,
-    })
 }
 
 /// Whether labels that are integers are read, and others refused, without memory; so is a text of a value.
@@ -320,20 +171,19 @@ fn labels_need_none(alloc: Global, text: Value) -> bool {
         && Label::from_cbor_value(alloc, text).is_ok()
 }
 
-/// Calls over labels of text, and of an array of numbers.
+/// Calls over labels of text.
 #[derive(Drop)]
 struct OfLabels {
     label: Label,
     kind: KeyType,
     algorithm: Algorithm,
-    members: Value,
     /// What is read without memory.
     text: Value,
 }
 
 impl Calls for OfLabels {
     fn count(&self) -> usize {
-        13
+        12
     }
 
     fn need_none(&mut self, alloc: Global) -> bool {
@@ -349,19 +199,9 @@ impl Calls for OfLabels {
             9 => Some(made(self.label.clone(), &self.label)),
             10 => Some(made(self.kind.clone(), &self.kind)),
             11 => Some(made(self.algorithm.clone(), &self.algorithm)),
-            12 => conversion(alloc, &self.members),
             _ => None,
         }
     }
-}
-
-/// An array of thirty times 7.
-fn sevens(alloc: Global) -> Result<Value, AllocError> {
-    let mut numbers = Vec::new(alloc);
-    for _ in 0..30u8 {
-        numbers.push(Value::from(7u8))?;
-    }
-    Ok(Value::Array(numbers))
 }
 
 #[test]
@@ -371,7 +211,6 @@ fn labels_refuse_or_answer(rt: HostRuntime) -> Result<(), Fail> {
         label: Label::Text(String::from_str(alloc, WORDS)?),
         kind: RegisteredLabel::Text(String::from_str(alloc, WORDS)?),
         algorithm: RegisteredLabelWithPrivate::Text(String::from_str(alloc, WORDS)?),
-        members: sevens(alloc)?,
         text: Value::Text(String::from_str(alloc, "a")?),
     };
     refuse_or_answer(&rt, alloc, &mut calls)

@@ -1,10 +1,10 @@
 //! Headers with every label, and a signature, while requests for memory are refused.
 
-use crate::sample::through_a_value;
+use crate::answer::read_through_item;
+use crate::form::Plain;
 use crate::turns::{Answer, Calls, made, refuse_or_answer, written};
-use coset_cbor::de::{Pull, read_value};
-use coset_core::{CoseSignature, Header, ProtectedHeader};
-use coset_shape::{CborSerializable, CoseError, Result};
+use coset::cbor::de::{Pull, read_value};
+use coset::{CborSerializable, CoseError, CoseSignature, Header, ProtectedHeader, Result};
 use std::alloc::Global;
 use std::test::*;
 
@@ -61,7 +61,7 @@ impl OfHeaders {
         let signature = &self.signature;
         match call {
             0 => made(CoseSignature::from_slice(alloc, SIGNATURE), signature),
-            1 => made(through_a_value(alloc, SIGNATURE), signature),
+            1 => made(read_through_item::<Plain, _>(alloc, SIGNATURE), signature),
             2 => made(signature.clone(), signature),
             _ => written(alloc, signature.clone(), SIGNATURE),
         }
@@ -87,7 +87,7 @@ impl Calls for OfHeaders {
         } = self;
         Some(match call {
             0 => made(Header::from_slice(alloc, HEADER), header),
-            1 => made(through_a_value(alloc, HEADER), header),
+            1 => made(read_through_item::<Plain, _>(alloc, HEADER), header),
             2 => made(header.clone(), header),
             3 => written(alloc, header.clone(), HEADER),
             4 => made(protected_lent(alloc), read),

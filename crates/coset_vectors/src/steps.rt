@@ -2,8 +2,8 @@
 
 ghost use Rattle.std.specs.Prelude.{◌≡◌, ◌+◌, ◌<◌, ℕ, [], ◌∷◌, ◌++◌, replicate, Ok};
 
-use coset_cbor::de::{EndOfFile, Error, Steps, check};
-use coset_cbor::laws;
+use coset::cbor::de::{EndOfFile, Error, Steps, check};
+use coset::cbor::laws;
 use std::marker::Brand;
 use std::sync::ledger::{Blank, Ledger};
 use std::test::*;

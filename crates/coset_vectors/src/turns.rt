@@ -1,7 +1,7 @@
 //! Calls with too little memory. The address space is filled, and then calls are made with ever more of it left: each
 //! answers that memory is out, or what it answers with ample memory, and each does both at some turn.
 
-use coset_shape::{CborSerializable, CoseError};
+use coset::{CborSerializable, CoseError};
 use std::alloc::{AllocError, Global};
 use std::process::Abort;
 use std::test::*;
@@ -131,7 +131,7 @@ fn count_each(rt: &impl Abort, alloc: Global, calls: &impl Calls, tallies: &mut 
 }
 
 /// What the answer is, where a call ought to make what is expected.
-pub(crate) fn made<T: PartialEq + Drop>(answer: coset_shape::Result<T>, expected: &T) -> Answer {
+pub(crate) fn made<T: PartialEq + Drop>(answer: coset::Result<T>, expected: &T) -> Answer {
     match answer {
         Ok(x) if x == *expected => Answer::Same,
         Err(CoseError::OutOfMemory) => Answer::Refused,
@@ -142,7 +142,7 @@ pub(crate) fn made<T: PartialEq + Drop>(answer: coset_shape::Result<T>, expected
 /// Whether what was made is written as this.
 pub(crate) fn written<T: CborSerializable + Drop>(
     alloc: Global,
-    made: coset_shape::Result<T>,
+    made: coset::Result<T>,
     expected: &[u8],
 ) -> Answer {
     match made {

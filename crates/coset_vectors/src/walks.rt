@@ -1,11 +1,28 @@
 //! Lent items, walked to their end, against the values of the same bytes.
 
 use crate::cbor::EACH_KIND;
-use crate::chunks::{bytes_of, text_of};
-use coset_cbor::de::{Items, Pairs, Pull, read_value};
-use coset_cbor::value::Value;
+use coset::cbor::de::{ByteChunks, Items, Pairs, Pull, TextChunks, read_value};
+use coset::cbor::value::Value;
 use std::alloc::{AllocError, Global};
 use std::test::*;
+
+/// The chunks, joined.
+fn bytes_of(alloc: Global, chunks: ByteChunks<'_>) -> Result<Vec<u8>, AllocError> {
+    let mut all = Vec::new(alloc);
+    for chunk in chunks {
+        all.extend_from_slice(chunk)?;
+    }
+    Ok(all)
+}
+
+/// The chunks of a text string, joined.
+fn text_of(alloc: Global, chunks: TextChunks<'_>) -> Result<String, AllocError> {
+    let mut all = String::new(alloc);
+    for chunk in chunks {
+        all.push_str(chunk)?;
+    }
+    Ok(all)
+}
 
 /// Whether the item that is lent, walked to its end, is the value.
 #[cycle(walk)]

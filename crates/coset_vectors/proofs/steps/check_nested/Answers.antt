@@ -1,9 +1,9 @@
 use Rattle.std.proofs.Common.{◌≡◌, ℕ, ◌+◌, ◌≤◌, List, [], ◌∷◌, ◌++◌, replicate, length, take, drop, Result, Ok, Err, sym, ap, subst, ◌∙◌, arith, append-nil, take-append-drop}
 use Rattle.std.specs.Prelude.{IfOk, IfErr}
 use Rattle.std.proofs.lemmas.List.{length-take, length-append, length-replicate}
-use Rattle.coset_cbor.specs.Item.{Item}
-use Rattle.coset_cbor.specs.Grammar.{IsEncoding, IsItem}
-use Rattle.coset_cbor.specs.Cost.{IsCost}
+use Rattle.coset.specs.Item.{Item}
+use Rattle.coset.specs.Grammar.{IsEncoding, IsItem}
+use Rattle.coset.specs.Cost.{IsCost}
 use Rattle.coset_vectors.proofs.steps.check_nested.Goals as goal
 
 abbrev OneItem : Type 0

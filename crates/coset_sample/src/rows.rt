@@ -1,19 +1,17 @@
-//! Types of a caller's own, read both ways, written and tagged.
+//! Worked rows: readings and settings read both ways, written and tagged.
 
+use crate::reading::Reading;
+use crate::settings::{Name, Settings};
 use coset_cbor::de::read_value;
 use coset_cbor::value::Value;
-use coset_sample::reading::Reading;
-use coset_sample::settings::{Name, Settings};
 use coset_shape::traits::read_slice;
-use coset_shape::{
-    AsCborValue, CborSerializable, CoseError, Result, TaggedCborSerializable, has_repeats,
-};
-use std::alloc::{AllocError, Global};
+use coset_shape::{AsCborValue, CborSerializable, CoseError, Result, TaggedCborSerializable};
+use std::alloc::Global;
 use std::test::*;
 
 /// What a row expects: the bytes that are written of what was read, or the text of the error.
 #[derive(Clone, Copy)]
-pub(crate) enum Expected<'a> {
+enum Expected<'a> {
     Written(&'a [u8]),
     Refused(&'a str),
 }
@@ -30,7 +28,7 @@ pub(crate) fn through_a_value<T: AsCborValue>(alloc: Global, s: &[u8]) -> Result
 }
 
 /// Whether the answer is the one that is expected.
-pub(crate) fn is_expected<T: CborSerializable + Drop>(
+fn is_expected<T: CborSerializable + Drop>(
     alloc: Global,
     answer: Result<T>,
     expected: Expected<'_>,
@@ -46,7 +44,7 @@ pub(crate) fn is_expected<T: CborSerializable + Drop>(
 }
 
 /// Whether the type reads the input as expected, straight from the bytes and through a value.
-pub(crate) fn reads<T: CborSerializable + Drop>(
+fn reads<T: CborSerializable + Drop>(
     alloc: Global,
     input: &[u8],
     expected: Expected<'_>,
@@ -54,28 +52,6 @@ pub(crate) fn reads<T: CborSerializable + Drop>(
     let lent: Result<T> = T::from_slice(alloc, input);
     let tree: Result<T> = through_a_value(alloc, input);
     Ok(is_expected(alloc, lent, expected)? && is_expected(alloc, tree, expected)?)
-}
-
-/// The parts, one after the other.
-pub(crate) fn joined(alloc: Global, parts: &[&[u8]]) -> std::result::Result<Vec<u8>, AllocError> {
-    let mut all = Vec::new(alloc);
-    for part in parts {
-        all.extend_from_slice(part)?;
-    }
-    Ok(all)
-}
-
-/// The shortest encoding of the byte string of these, of which there are less than 65536 (RFC 8949, section 3).
-pub(crate) fn byte_string(alloc: Global, bytes: &[u8]) -> std::result::Result<Vec<u8>, AllocError> {
-    let length = bytes.len();
-    let [.., high, low] = length.to_be_bytes();
-    if length < 24 {
-        joined(alloc, &[&[0x40 | low], bytes])
-    } else if length < 256 {
-        joined(alloc, &[&[0x58, low], bytes])
-    } else {
-        joined(alloc, &[&[0x59, high, low], bytes])
-    }
 }
 
 const READINGS: [(&[u8], Expected); 16] = [
@@ -259,36 +235,5 @@ fn settings_with_repeats(rt: HostRuntime) -> std::result::Result<(), Fail> {
         written.as_slice(),
         b"\xd9\x03\xe9\xa2\x01\x01\x01\xf6".as_slice()
     );
-    Ok(())
-}
-
-/// A label for each number, descending.
-fn label(n: i64) -> Name {
-    Name(1000i64.wrapping_sub(n.wrapping_mul(7)))
-}
-
-/// Forty labels, of which the last is that of `last`.
-pub(crate) fn forty(
-    alloc: Global,
-    last: i64,
-) -> std::result::Result<Vec<(Name, Value)>, AllocError> {
-    let mut pairs = Vec::new(alloc);
-    for n in 0..39i64 {
-        pairs.push((label(n), Value::Null))?;
-    }
-    pairs.push((label(last), Value::Null))?;
-    Ok(pairs)
-}
-
-#[test]
-fn many_labels(rt: HostRuntime) -> std::result::Result<(), Fail> {
-    let alloc = rt.alloc();
-    let none = forty(alloc, 39)?;
-    for n in 0..=none.len() {
-        assert!(rt; matches!(has_repeats(alloc, &none[..n]), Ok(false)));
-    }
-    for n in 0..39i64 {
-        assert!(rt; matches!(has_repeats(alloc, &forty(alloc, n)?), Ok(true)));
-    }
     Ok(())
 }

@@ -1,0 +1,113 @@
+//! What the bytes of a row are said to be.
+
+use crate::answer::answer;
+use crate::form::{InString, Plain, Signed, Tagged};
+use coset::cbor::value::Value;
+use coset::cwt::ClaimName;
+use coset::iana::{EllipticCurve, HeaderParameter};
+use coset::{
+    Algorithm, ContentType, CoseSign, CoseSign1, CoseSignature, Header, KeyOperation, KeyType,
+    Label, ProtectedHeader, RegisteredLabel, RegisteredLabelWithPrivate,
+};
+use std::alloc::{AllocError, Global};
+
+/// What the bytes of a row are said to be.
+#[derive(Clone, Copy, Debug, PartialEq, Eq)]
+pub enum Kind {
+    /// An item of CBOR (RFC 8949, section 3).
+    Value,
+    /// A label (RFC 8152, section 1.4).
+    Label,
+    /// A label of the registry of algorithms.
+    Algorithm,
+    /// A label of the registry of content formats.
+    ContentType,
+    /// A label of the registry of key types.
+    KeyType,
+    /// A label of the registry of key operations.
+    KeyOperation,
+    /// A label of the registry of claims.
+    ClaimName,
+    /// A label of the registry of header parameters.
+    HeaderParameter,
+    /// A label of the registry of elliptic curves, of which none is for private use.
+    EllipticCurve,
+    /// A header (RFC 8152, section 3).
+    Header,
+    /// The map of a protected header.
+    Protected,
+    /// A protected header in the byte string that stands for it in messages.
+    ProtectedBstr,
+    /// A signature (RFC 8152, section 4.1).
+    Signature,
+    /// A message with one signature (RFC 8152, section 4.2).
+    Sign1,
+    /// What is signed of such a message.
+    Sign1Tbs,
+    /// Such a message under its tag.
+    TaggedSign1,
+    /// A message with any number of signatures (RFC 8152, section 4.1).
+    Sign,
+    /// Such a message under its tag.
+    TaggedSign,
+}
+
+impl Kind {
+    /// The kind of that name, which isn't under a tag.
+    pub fn of(name: &str) -> Option<Kind> {
+        Some(match name {
+            "value" => Kind::Value,
+            "label" => Kind::Label,
+            "algorithm" => Kind::Algorithm,
+            "content_type" => Kind::ContentType,
+            "key_type" => Kind::KeyType,
+            "key_operation" => Kind::KeyOperation,
+            "claim_name" => Kind::ClaimName,
+            "header_parameter" => Kind::HeaderParameter,
+            "elliptic_curve" => Kind::EllipticCurve,
+            "header" => Kind::Header,
+            "protected" => Kind::Protected,
+            "protected_bstr" => Kind::ProtectedBstr,
+            "signature" => Kind::Signature,
+            "sign1" => Kind::Sign1,
+            "sign1_tbs" => Kind::Sign1Tbs,
+            "sign" => Kind::Sign,
+            _ => return None,
+        })
+    }
+
+    /// The kind of that name under its tag.
+    pub fn of_tagged(name: &str) -> Option<Kind> {
+        match name {
+            "sign1" => Some(Kind::TaggedSign1),
+            "sign" => Some(Kind::TaggedSign),
+            _ => None,
+        }
+    }
+
+    /// The text for bytes of this kind.
+    pub fn answer(self, alloc: Global, bytes: &[u8]) -> Result<String, AllocError> {
+        match self {
+            Kind::Value => answer::<Plain, Value>(alloc, bytes),
+            Kind::Label => answer::<Plain, Label>(alloc, bytes),
+            Kind::Algorithm => answer::<Plain, Algorithm>(alloc, bytes),
+            Kind::ContentType => answer::<Plain, ContentType>(alloc, bytes),
+            Kind::KeyType => answer::<Plain, KeyType>(alloc, bytes),
+            Kind::KeyOperation => answer::<Plain, KeyOperation>(alloc, bytes),
+            Kind::ClaimName => answer::<Plain, ClaimName>(alloc, bytes),
+            Kind::HeaderParameter => {
+                answer::<Plain, RegisteredLabelWithPrivate<HeaderParameter>>(alloc, bytes)
+            }
+            Kind::EllipticCurve => answer::<Plain, RegisteredLabel<EllipticCurve>>(alloc, bytes),
+            Kind::Header => answer::<Plain, Header>(alloc, bytes),
+            Kind::Protected => answer::<Plain, ProtectedHeader>(alloc, bytes),
+            Kind::ProtectedBstr => answer::<InString, ProtectedHeader>(alloc, bytes),
+            Kind::Signature => answer::<Plain, CoseSignature>(alloc, bytes),
+            Kind::Sign1 => answer::<Plain, CoseSign1>(alloc, bytes),
+            Kind::Sign1Tbs => answer::<Signed, CoseSign1>(alloc, bytes),
+            Kind::TaggedSign1 => answer::<Tagged, CoseSign1>(alloc, bytes),
+            Kind::Sign => answer::<Plain, CoseSign>(alloc, bytes),
+            Kind::TaggedSign => answer::<Tagged, CoseSign>(alloc, bytes),
+        }
+    }
+}
