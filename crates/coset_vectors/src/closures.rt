@@ -110,8 +110,9 @@ fn unwritable(alloc: Global) -> Result<CoseSign1Builder> {
 fn one_signature_asks_once_or_not_at_all(rt: HostRuntime) -> std::result::Result<(), Fail> {
     let alloc = rt.alloc();
     let mut asked = 0u32;
-    let made = CoseSign1Builder::new(alloc).create_signature(alloc, b"", |tbs| {
-        asked = asked.saturating_add(1);
+    let count = &mut asked;
+    let made = CoseSign1Builder::new(alloc).create_signature(alloc, b"", move |tbs| {
+        *count = count.saturating_add(1);
         sign(alloc, tbs)
     });
     assert_eq!(rt; asked, 1);
@@ -126,11 +127,12 @@ fn one_signature_asks_once_or_not_at_all(rt: HostRuntime) -> std::result::Result
     });
     assert!(rt; answer.is_ok());
     assert_eq!(rt; asked, 2);
+    let count = &mut asked;
     let refused = unwritable(alloc)
         .ok()
         .ok_or("memory")?
-        .create_signature(alloc, b"", |tbs| {
-            asked = asked.saturating_add(1);
+        .create_signature(alloc, b"", move |tbs| {
+            *count = count.saturating_add(1);
             sign(alloc, tbs)
         });
     assert!(rt; matches!(refused, Err(CoseError::DuplicateMapKey)));
@@ -237,13 +239,10 @@ fn each_signature_is_asked_about(rt: HostRuntime) -> std::result::Result<(), Fai
     for (which, expected) in [first, second].iter().enumerate() {
         assert!(rt; which < message.signatures.len());
         let mut asked = 0u32;
+        assert_eq!(rt; message.signatures[which].signature.as_slice(), *expected);
         let answer = message.verify_signature(alloc, which, b"", |signature, tbs| {
             asked = asked.saturating_add(1);
-            if signature == *expected {
-                verify(signature, tbs)
-            } else {
-                Err(No)
-            }
+            verify(signature, tbs)
         });
         assert!(rt; answer.is_ok());
         assert_eq!(rt; asked, 1);
@@ -282,7 +281,8 @@ fn signatures_of_a_payload_sent_apart(rt: HostRuntime) -> std::result::Result<()
         |tbs| sign(alloc, tbs),
     );
     let message = made.ok().ok_or("not signed")?.build();
-    assert!(rt; message.payload.is_none() && !message.signatures.is_empty());
+    assert!(rt; message.payload.is_none());
+    assert!(rt; !message.signatures.is_empty());
     assert!(rt;
         message
             .verify_detached_signature(alloc, 0, b"\x07", b"", verify)
@@ -319,7 +319,8 @@ fn signatures_that_may_be_refused(rt: HostRuntime) -> std::result::Result<(), Fa
         |tbs| Ok::<_, No>(sign(alloc, tbs)),
     );
     let message = made.ok().ok_or("not signed")?.build();
-    assert!(rt; message.payload.is_none() && !message.signatures.is_empty());
+    assert!(rt; message.payload.is_none());
+    assert!(rt; !message.signatures.is_empty());
     assert!(rt;
         message
             .verify_detached_signature(alloc, 0, b"\x07", b"", verify)
@@ -347,10 +348,16 @@ fn signatures_over_nothing_that_can_be_written(rt: HostRuntime) -> std::result::
         .ok_or("memory")?
         .build();
     let signature = CoseSignatureBuilder::new(alloc).protected(header).build();
-    let refused = CoseSignBuilder::new(alloc).add_created_signature(alloc, signature, b"", |tbs| {
-        asked = asked.saturating_add(1);
-        sign(alloc, tbs)
-    });
+    let count = &mut asked;
+    let refused = CoseSignBuilder::new(alloc).add_created_signature(
+        alloc,
+        signature,
+        b"",
+        move |tbs| {
+            *count = count.saturating_add(1);
+            sign(alloc, tbs)
+        },
+    );
     assert!(rt; matches!(refused, Err(CoseError::DuplicateMapKey)));
     assert_eq!(rt; asked, 0);
     Ok(())
