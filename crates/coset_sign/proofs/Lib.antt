@@ -2,4 +2,4 @@ pub mod Structures
 pub mod Signatures
 mod Written
 mod Copied
-mod Calling
+pub mod Calling

@@ -1,0 +1,61 @@
+-- COSE_Mac0 messages (RFC 8152, section 6.2).
+use Rattle.std.specs.Prelude.{ℕ, List, [], Option, None, option_map, refl}
+use Rattle.coset_value.specs.Item.{Item}
+use Rattle.coset_shape.specs.Shape.{Shape, Places, along, ◌then◌, end, bstr, or_nil}
+use Rattle.coset_shape.specs.ShapeLaws.{Lawful, LawfulPlaces, bytes_no_nil, along_laws, then_laws, end_laws, bstr_laws, or_nil_laws}
+use Rattle.coset_core.specs.Headers.{HeaderSeen, ProtectedSeen, empty_header}
+use Rattle.coset_core.specs.Messages.{Headed, headed, headed_laws, empty_protected}
+use Rattle.coset_core.specs.Views.{header_seen, protected_seen}
+use Rattle.coset_msg.specs.MacStructure.{mac_item}
+use Rattle.coset_msg.specs.declared.mac0.CoseMac0 as declared
+use Rattle.coset_msg.specs.declared.mac_structure.MacContext.TheVariants.{CoseMac0}
+
+-- a message without its memory
+pub record Mac0Seen : Type 0 where
+  pub protected : ProtectedSeen
+  pub unprotected : HeaderSeen
+  pub payload : Option (List ℕ)
+  pub tag : List ℕ
+
+abbrev pub mac0_seen : declared.CoseMac0 → Mac0Seen
+mac0_seen m = record {
+  protected = protected_seen m.protected;
+  unprotected = header_seen m.unprotected;
+  payload = option_map (λ b. b.items) m.payload;
+  tag = m.tag.items;
+}
+
+-- one that holds nothing
+abbrev pub empty_mac0 : Mac0Seen
+empty_mac0 = record { protected = empty_protected; unprotected = empty_header; payload = None; tag = [] }
+
+abbrev pub mac0_of : Headed (Option (List ℕ) × (List ℕ × Unit {0})) → Mac0Seen
+mac0_of p = record { protected = p.0; unprotected = p.1.0; payload = p.1.1.0; tag = p.1.1.1.0 }
+
+abbrev pub mac0_fields : Mac0Seen → Headed (Option (List ℕ) × (List ℕ × Unit {0}))
+mac0_fields m = (m.protected, (m.unprotected, (m.payload, (m.tag, tt))))
+
+-- payload : bstr / nil, tag : bstr
+abbrev pub mac0_places : Places (Option (List ℕ) × (List ℕ × Unit {0}))
+mac0_places = or_nil bstr then bstr then end
+
+pub mac0_places_laws : LawfulPlaces _ mac0_places
+mac0_places_laws = then_laws _ _ (or_nil_laws bstr bytes_no_nil bstr_laws) (then_laws _ _ bstr_laws end_laws)
+
+-- [Headers, payload : bstr / nil, tag : bstr]
+abbrev pub mac0 : Shape Mac0Seen
+mac0 = along mac0_of mac0_fields (headed mac0_places)
+
+pub mac0_laws : Lawful Mac0Seen mac0
+mac0_laws = along_laws mac0_of mac0_fields (λ x. refl) _ (headed_laws mac0_places mac0_places_laws)
+
+-- ---- what is authenticated
+
+-- the structure of the message over `external_aad` and a payload, where its protected header has bytes
+abbrev pub mac0_structure : Mac0Seen → List ℕ → List ℕ → Option Item
+mac0_structure m external_aad payload = mac_item CoseMac0 m.protected external_aad payload
+
+-- ---- with one field set
+
+abbrev pub with_tag : List ℕ → Mac0Seen → Mac0Seen
+with_tag t m = record m { tag = t }

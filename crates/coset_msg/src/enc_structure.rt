@@ -1,0 +1,105 @@
+//! The structure that goes with a ciphertext (RFC 8152, section 5.3).
+
+ghost use Rattle.std.specs.Prelude.{◌≡◌, IfOk, IfErr};
+ghost use Rattle.coset_cbor.specs.Shortest.{IsShortest};
+ghost use Rattle.coset_shape.specs.declared.error.CoseError.TheVariants.{OutOfMemory};
+ghost use Rattle.coset_shape.specs.Answers.{Writes};
+ghost use Rattle.coset_core.specs.Views.{protected_seen};
+ghost use Rattle.coset_msg.specs.EncStructure.{enc_item, enc_structure};
+
+use coset_core::ProtectedHeader;
+use coset_shape::Result;
+use coset_sign::structure::structure_bytes;
+use std::alloc::Global;
+
+/// What a ciphertext is part of (RFC 8152, section 5.3). It stands in the bytes that go with it, so that those of one
+/// are never those of another.
+#[derive(Clone, Copy, Debug, PartialEq, Eq)]
+pub enum EncryptionContext {
+    /// The content of a `COSE_Encrypt` message.
+    CoseEncrypt,
+    /// The content of a `COSE_Encrypt0` message.
+    CoseEncrypt0,
+    /// A recipient of a `COSE_Encrypt` message.
+    EncRecipient,
+    /// A recipient of a `COSE_Mac` message.
+    MacRecipient,
+    /// A recipient of a recipient.
+    RecRecipient,
+}
+
+impl EncryptionContext {
+    ghost use Rattle.coset_msg.specs.EncStructure.{enc_text};
+
+    /// Its text in the structure.
+    fn text(self) -> &'static str
+        ensures { result.now ≡ enc_text self }
+    {
+        match self {
+            EncryptionContext::CoseEncrypt => "Encrypt",
+            EncryptionContext::CoseEncrypt0 => "Encrypt0",
+            EncryptionContext::EncRecipient => "Enc_Recipient",
+            EncryptionContext::MacRecipient => "Mac_Recipient",
+            EncryptionContext::RecRecipient => "Rec_Recipient",
+        }
+    }
+}
+
+/// The bytes that go with a ciphertext, where these are the protected bytes.
+///
+/// # Errors
+/// `OutOfMemory` alone.
+fn enc_structure_bytes(
+    alloc: Global,
+    context: EncryptionContext,
+    protected: &[u8],
+    external_aad: &[u8],
+) -> Result<Vec<u8>>
+    ensures encoding { IfOk result (λ b. IsShortest b.items
+        (enc_structure context protected.now external_aad.now)) }
+    ensures memory { IfErr result (λ e. e ≡ OutOfMemory) }
+{
+    structure_bytes(alloc, context.text(), &[protected, external_aad])
+}
+
+/// The structure over the protected bytes of a header, which isn't cloned; but one that wasn't read is written.
+///
+/// # Errors
+/// The same as [`enc_structure_data`].
+pub(crate) fn additional_bytes(
+    alloc: Global,
+    context: EncryptionContext,
+    protected: &ProtectedHeader,
+    external_aad: &[u8],
+) -> Result<Vec<u8>>
+    ensures { Writes (enc_item context (protected_seen protected.now) external_aad.now) (λ b.
+        b.items) result }
+{
+    let protected = protected.protected_bytes(alloc)?;
+    enc_structure_bytes(alloc, context, &protected, external_aad)
+}
+
+/// The bytes that go with a ciphertext as its additional authenticated data (RFC 8152, section 5.3): the shortest
+/// encoding of
+///
+/// ```text
+/// Enc_structure = [
+///     context : "Encrypt" / "Encrypt0" / "Enc_Recipient" / "Mac_Recipient" / "Rec_Recipient",
+///     protected : bstr,
+///     external_aad : bstr
+/// ]
+/// ```
+///
+/// # Errors
+/// `OutOfMemory`, or `DuplicateMapKey` where the header wasn't read and repeats a label of its rest.
+pub fn enc_structure_data(
+    alloc: Global,
+    context: EncryptionContext,
+    protected: ProtectedHeader,
+    external_aad: &[u8],
+) -> Result<Vec<u8>>
+    ensures { Writes (enc_item context (protected_seen protected) external_aad.now) (λ b. b.items)
+        result }
+{
+    additional_bytes(alloc, context, &protected, external_aad)
+}

@@ -1,0 +1,22 @@
+//! Messages that are authenticated by a MAC (RFC 8152, section 6) or encrypted (section 5), and the structures that go
+//! with them.
+#![tactic(auto)]
+
+mod enc_structure;
+mod encrypt0;
+pub mod laws;
+mod mac0;
+mod mac_structure;
+
+pub use coset_sign::{
+    Algorithm, AsCborValue, Bstr, CallError, CborOrdering, CborSerializable, ClaimName,
+    ContentType, CoseError, CoseSign, CoseSign1, CoseSign1Builder, CoseSignBuilder, CoseSignature,
+    CoseSignatureBuilder, Encode, EndOfFile, FromPull, Header, HeaderBuilder, KeyOperation,
+    KeyType, Label, Lawful, ProtectedBstr, ProtectedHeader, RegisteredLabel,
+    RegisteredLabelWithPrivate, Result, SignatureContext, Source, TaggedCborSerializable, cbor,
+    has_repeats, iana, shape, sig_structure_data, util,
+};
+pub use enc_structure::{EncryptionContext, enc_structure_data};
+pub use encrypt0::{CoseEncrypt0, CoseEncrypt0Builder};
+pub use mac_structure::{MacContext, mac_structure_data};
+pub use mac0::{CoseMac0, CoseMac0Builder};

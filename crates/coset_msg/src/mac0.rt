@@ -1,0 +1,421 @@
+//! Messages with a MAC for receivers that know the key (RFC 8152, section 6.2).
+//!
+//! ```cddl
+//! COSE_Mac0 = [ Headers, payload : bstr / nil, tag : bstr ]
+//! ```
+
+ghost use Rattle.std.specs.Prelude.{◌≡◌, ◌≢◌, ◌↔◌, IsTrue, IfOk, IfErr, IfSome, Some, None};
+ghost use Rattle.std.specs.Ordering.{on};
+ghost use Rattle.std.specs.Cmp.{on_equiv, on_per, partial_equiv_from_equiv};
+ghost use Rattle.coset_shape.specs.declared.error.CoseError.TheVariants.{OutOfMemory};
+ghost use Rattle.coset_shape.specs.Answers.{Reads, Writes};
+ghost use Rattle.coset_shape.specs.Sources.{source_item};
+ghost use Rattle.coset_core.specs.Contents.{Fills};
+ghost use Rattle.coset_core.specs.Messages.{unread};
+ghost use Rattle.coset_core.specs.Views.{header_seen};
+ghost use Rattle.coset_sign.specs.Calls.{AsksAbout, Creates, TriesToCreate};
+ghost use Rattle.coset_msg.specs.Mac0.{empty_mac0, mac0, mac0_seen, mac0_structure, with_tag};
+ghost use Rattle.coset_msg.specs.Presence.{AsksWherePresent};
+ghost use Rattle.coset_msg.specs.Equality.{mac0_eq, mac0_eq_equiv};
+
+use crate::mac_structure::{MacContext, authenticated_bytes};
+use coset_cbor::de::Pull;
+use coset_cbor::value::Value;
+use coset_core::{Bstr, Header, ProtectedHeader, fill_headers};
+use coset_shape::encode::{
+    Encode, encode_four, encode_to_tagged_vec, encode_to_value, encode_to_vec,
+};
+use coset_shape::traits::{FromPull, read_slice, read_tagged_slice};
+use coset_shape::util::copy_bytes;
+use coset_shape::{
+    AsCborValue, CallError, CborSerializable, Lawful, Result, Source, TaggedCborSerializable,
+};
+use coset_sign::calls::{ask, make};
+use std::alloc::Global;
+use std::marker::Model;
+
+/// A message with a MAC, for receivers that know the key: `COSE_Mac0` (RFC 8152, section 6.2).
+#[derive(Debug, Drop)]
+pub struct CoseMac0 {
+    /// The header that the MAC covers.
+    pub protected: ProtectedHeader,
+    /// The header that it doesn't cover.
+    pub unprotected: Header,
+    /// What is authenticated, unless it is sent apart.
+    pub payload: Option<Vec<u8>>,
+    /// The MAC.
+    pub tag: Vec<u8>,
+}
+
+/// Reads the places into an empty message, from the last to the first.
+fn fill_mac0(message: &mut CoseMac0, alloc: Global, source: Source<'_>) -> Result<()>
+    requires empty { mac0_seen message.old ≡ empty_mac0 }
+    ensures { Fills mac0 (source_item source.entry) (mac0_seen message.new) result }
+{
+    let (protected, unprotected, payload, tag) = source.into_four("array with 4 items")?;
+    message.tag = tag.into_bytes(alloc, "bstr")?;
+    message.payload = payload.into_bytes_or_nil(alloc, "bstr")?;
+    fill_headers(
+        &mut message.protected,
+        &mut message.unprotected,
+        alloc,
+        protected,
+        unprotected,
+    )
+}
+
+/// Reads a message.
+fn read_mac0(alloc: Global, source: Source<'_>) -> Result<CoseMac0>
+    ensures { Reads mac0 mac0_seen (source_item source.entry) result }
+{
+    let mut message = CoseMac0::new(alloc);
+    match fill_mac0(&mut message, alloc, source) {
+        Ok(()) => Ok(message),
+        Err(error) => Err(error),
+    }
+}
+
+impl CoseMac0 {
+    /// An empty message: empty headers, no payload, an empty tag. It takes no memory.
+    pub fn new(alloc: Global) -> CoseMac0
+        ensures { mac0_seen result ≡ empty_mac0 }
+    {
+        CoseMac0 {
+            protected: ProtectedHeader::new(alloc),
+            unprotected: Header::new(alloc),
+            payload: None,
+            tag: Vec::new(alloc),
+        }
+    }
+
+    /// The structure over this payload.
+    fn structure(&self, alloc: Global, external_aad: &[u8], payload: &[u8]) -> Result<Vec<u8>>
+        ensures { Writes (mac0_structure (mac0_seen self.now) external_aad.now payload.now) (λ b.
+            b.items) result }
+    {
+        authenticated_bytes(
+            alloc,
+            MacContext::CoseMac0,
+            &self.protected,
+            external_aad,
+            payload,
+        )
+    }
+
+    /// The payload, which the message carries.
+    fn carried(&self) -> &[u8]
+        requires { self.now.payload ≢ None }
+        ensures { (mac0_seen self.now).payload ≡ Some result.now }
+    {
+        match &self.payload {
+            Some(payload) => payload,
+            None => unreachable!(),
+        }
+    }
+
+    /// Asks `verifier` whether the tag, its first argument, is the MAC of the bytes that are authenticated, its second
+    /// one (RFC 8152, section 6.3), where the message carries its payload. It is asked once, unless there is an error
+    /// of ours, and not at all then.
+    ///
+    /// # Errors
+    /// `OutOfMemory`, or `DuplicateMapKey` where the protected header wasn't read and repeats a label of its rest; or
+    /// `Caller` with the error of `verifier`.
+    pub fn verify_tag<F, E>(
+        &self,
+        alloc: Global,
+        external_aad: &[u8],
+        verifier: F,
+    ) -> Result<(), CallError<E>>
+    where
+        F: FnOnce(&[u8], &[u8]) -> Result<(), E> + Drop,
+        E: Drop,
+        requires callable { F.IsAlwaysCallable verifier }
+        requires carried { self.now.payload ≢ None }
+        ensures { IfSome (mac0_seen self.now).payload (λ p. AsksAbout F.FnOnce verifier
+            (mac0_seen self.now).tag (mac0_structure (mac0_seen self.now) external_aad.now p)
+            result) }
+    {
+        let structure = self.structure(alloc, external_aad, self.carried());
+        ask(&self.tag, structure, verifier)
+    }
+
+    /// The same as [`CoseMac0::verify_tag`], whether the message carries its payload or not: where it carries none,
+    /// `missing` is called for the error, and `verifier` isn't.
+    ///
+    /// # Errors
+    /// The same as [`CoseMac0::verify_tag`]; or `Caller` with what `missing` answers.
+    pub fn verify_payload_tag<F, E, M>(
+        &self,
+        alloc: Global,
+        external_aad: &[u8],
+        missing: M,
+        verifier: F,
+    ) -> Result<(), CallError<E>>
+    where
+        F: FnOnce(&[u8], &[u8]) -> Result<(), E> + Drop,
+        E: Drop,
+        M: FnOnce() -> E + Drop,
+        requires callable { F.IsAlwaysCallable verifier }
+        requires missing_callable { M.IsAlwaysCallable missing }
+        ensures { AsksWherePresent F.FnOnce verifier M.FnOnce missing
+            (mac0_seen self.now).payload (λ p. (mac0_seen self.now).tag)
+            (mac0_structure (mac0_seen self.now) external_aad.now) result }
+    {
+        let Some(payload) = &self.payload else {
+            return Err(CallError::Caller(missing()));
+        };
+        let structure = self.structure(alloc, external_aad, payload);
+        ask(&self.tag, structure, verifier)
+    }
+
+    /// A message that equals this one, with the same bytes kept.
+    ///
+    /// # Errors
+    /// `OutOfMemory` alone.
+    pub fn clone(&self) -> Result<CoseMac0>
+        ensures copy { IfOk result (λ m. mac0_seen m ≡ mac0_seen self.now) }
+        ensures memory { IfErr result (λ e. e ≡ OutOfMemory) }
+    {
+        let payload = match &self.payload {
+            Some(payload) => Some(copy_bytes(payload)?),
+            None => None,
+        };
+        Ok(CoseMac0 {
+            protected: self.protected.clone()?,
+            unprotected: self.unprotected.clone()?,
+            payload,
+            tag: copy_bytes(&self.tag)?,
+        })
+    }
+}
+
+/// Equality of every field, the bytes that were kept of the protected header included.
+impl PartialEq for CoseMac0 {
+    ghost eq = { on mac0_seen mac0_eq };
+
+    ghost laws = { on_per mac0_seen (partial_equiv_from_equiv mac0_eq_equiv) };
+
+    fn eq(&self, other: &CoseMac0) -> bool
+        ensures answers { result ≡ mac0_eq (mac0_seen self.now) (mac0_seen other.now) }
+        ensures equal { IsTrue result ↔ (mac0_seen self.now ≡ mac0_seen other.now) }
+    {
+        same(self, other)
+    }
+}
+
+impl Eq for CoseMac0 {
+    ghost laws = { on_equiv mac0_seen mac0_eq_equiv };
+}
+
+/// Whether two messages are the same, the bytes that were kept included.
+fn same(a: &CoseMac0, b: &CoseMac0) -> bool
+    ensures { result ≡ mac0_eq (mac0_seen a.now) (mac0_seen b.now) }
+{
+    a.protected == b.protected
+        && a.unprotected == b.unprotected
+        && a.payload == b.payload
+        && a.tag == b.tag
+}
+
+impl AsCborValue for CoseMac0 {
+    ghost use Rattle.coset_msg.specs.Mac0.{Mac0Seen, mac0_laws};
+
+    ghost Seen = { Mac0Seen };
+
+    ghost seen = { mac0_seen };
+
+    ghost shape = { mac0 };
+
+    ghost unique = { mac0_laws.unique };
+
+    ghost sound = { mac0_laws.sound };
+
+    fn from_cbor_value(alloc: Global, value: Value) -> Result<CoseMac0> {
+        read_mac0(alloc, Source::Tree(value))
+    }
+
+    fn to_cbor_value(self, alloc: Global) -> Result<Value> {
+        encode_to_value(alloc, &self)
+    }
+}
+
+impl Lawful for CoseMac0 {
+    ghost use Rattle.coset_msg.specs.Mac0.{mac0_laws};
+
+    ghost laws = { mac0_laws };
+}
+
+impl Encode for CoseMac0 {
+    ghost image = { λ m. mac0.image (mac0_seen m) };
+
+    ghost spare = { 66 };
+
+    fn room(&self) -> usize {
+        Bstr(&self.protected)
+            .room()
+            .saturating_add(self.unprotected.room())
+            .saturating_add(self.payload.room())
+            .saturating_add(self.tag.room())
+    }
+
+    fn encode(&self, alloc: Global, out: &mut Vec<u8>) -> Result<()> {
+        let protected = Bstr(&self.protected);
+        encode_four(
+            alloc,
+            &protected,
+            &self.unprotected,
+            &self.payload,
+            &self.tag,
+            out,
+        )
+    }
+}
+
+impl FromPull for CoseMac0 {
+    fn from_pull(alloc: Global, pull: Pull<'_>) -> Result<CoseMac0> {
+        read_mac0(alloc, Source::Lent(pull))
+    }
+}
+
+impl CborSerializable for CoseMac0 {
+    fn from_slice(alloc: Global, s: &[u8]) -> Result<CoseMac0> {
+        read_slice(alloc, s)
+    }
+
+    fn to_vec(self, alloc: Global) -> Result<Vec<u8>> {
+        encode_to_vec(alloc, &self)
+    }
+}
+
+impl TaggedCborSerializable for CoseMac0 {
+    ghost TAG = { 17 };
+
+    const TAG: u64 = 17;
+
+    fn from_tagged_slice(alloc: Global, s: &[u8]) -> Result<CoseMac0> {
+        read_tagged_slice(alloc, 17, s)
+    }
+
+    fn to_tagged_vec(self, alloc: Global) -> Result<Vec<u8>> {
+        encode_to_tagged_vec(alloc, 17, &self)
+    }
+}
+
+/// Makes a [`CoseMac0`], field by field. Contracts see it as the message that [`build`](CoseMac0Builder::build) gives.
+#[derive(Debug, Drop)]
+pub struct CoseMac0Builder(CoseMac0);
+
+impl Model for CoseMac0Builder {
+    ghost use Rattle.std.specs.Coded.{codes};
+    ghost use Rattle.coset_msg.specs.contracts.mac0.CoseMac0 as contracts;
+    ghost use Rattle.coset_msg.specs.declared.mac0.CoseMac0.{CoseMac0};
+
+    ghost Value = { CoseMac0 };
+
+    ghost coded = { Prim.hlevel (codes, contracts.the_row.coded) };
+
+    ghost view = { λ b. b.0 };
+
+    ghost inverse = { λ v. record { 0 = v } };
+}
+
+impl CoseMac0Builder {
+    /// An empty message. It takes no memory.
+    pub fn new(alloc: Global) -> CoseMac0Builder
+        ensures { mac0_seen result ≡ empty_mac0 }
+    {
+        CoseMac0Builder(CoseMac0::new(alloc))
+    }
+
+    /// The message that was made.
+    pub fn build(self) -> CoseMac0
+        ensures { result ≡ self }
+    {
+        self.0
+    }
+
+    /// Sets the protected header: one that was made, and not read, so that it has no bytes of its own yet.
+    pub fn protected(mut self, header: Header) -> CoseMac0Builder
+        ensures { mac0_seen result ≡ record
+            (mac0_seen self) { protected = unread (header_seen header) } }
+    {
+        self.0.protected = ProtectedHeader {
+            original_data: None,
+            header,
+        };
+        self
+    }
+
+    /// Sets the unprotected header.
+    pub fn unprotected(mut self, header: Header) -> CoseMac0Builder
+        ensures { mac0_seen result ≡ record
+            (mac0_seen self) { unprotected = header_seen header } }
+    {
+        self.0.unprotected = header;
+        self
+    }
+
+    /// Sets the payload.
+    pub fn payload(mut self, payload: Vec<u8>) -> CoseMac0Builder
+        ensures { mac0_seen result ≡ record (mac0_seen self) { payload = Some payload.items } }
+    {
+        self.0.payload = Some(payload);
+        self
+    }
+
+    /// Sets the tag.
+    pub fn tag(mut self, tag: Vec<u8>) -> CoseMac0Builder
+        ensures { mac0_seen result ≡ with_tag tag.items (mac0_seen self) }
+    {
+        self.0.tag = tag;
+        self
+    }
+
+    /// Sets the tag to what `creator` makes of the bytes that are authenticated (RFC 8152, section 6.3), so all other
+    /// fields are set before, the payload too. It is called once, unless there is an error of ours, and not at all
+    /// then.
+    ///
+    /// # Errors
+    /// `OutOfMemory`, or `DuplicateMapKey` where the protected header repeats a label of its rest.
+    pub fn create_tag<F>(
+        self,
+        alloc: Global,
+        external_aad: &[u8],
+        creator: F,
+    ) -> Result<CoseMac0Builder>
+    where
+        F: FnOnce(&[u8]) -> Vec<u8> + Drop,
+        requires callable { F.IsAlwaysCallable creator }
+        requires carried { self.payload ≢ None }
+        ensures { IfSome (mac0_seen self).payload (λ p. Creates F.FnOnce creator
+            (mac0_structure (mac0_seen self) external_aad.now p) (λ t b. mac0_seen b
+            ≡ with_tag t.items (mac0_seen self)) result) }
+    {
+        let tbm = self.0.structure(alloc, external_aad, self.0.carried())?;
+        Ok(self.tag(creator(&tbm)))
+    }
+
+    /// The same as [`CoseMac0Builder::create_tag`] with a `creator` that may refuse.
+    ///
+    /// # Errors
+    /// The same as [`CoseMac0Builder::create_tag`]; or `Caller` with the error of `creator`.
+    pub fn try_create_tag<F, E>(
+        self,
+        alloc: Global,
+        external_aad: &[u8],
+        creator: F,
+    ) -> Result<CoseMac0Builder, CallError<E>>
+    where
+        F: FnOnce(&[u8]) -> Result<Vec<u8>, E> + Drop,
+        E: Drop,
+        requires callable { F.IsAlwaysCallable creator }
+        requires carried { self.payload ≢ None }
+        ensures { IfSome (mac0_seen self).payload (λ p. TriesToCreate F.FnOnce creator
+            (mac0_structure (mac0_seen self) external_aad.now p) (λ t b. mac0_seen b
+            ≡ with_tag t.items (mac0_seen self)) result) }
+    {
+        let structure = self.0.structure(alloc, external_aad, self.0.carried());
+        let tag = make(structure, creator)?;
+        Ok(self.tag(tag))
+    }
+}

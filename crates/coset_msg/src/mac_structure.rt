@@ -1,0 +1,99 @@
+//! The structure that is authenticated (RFC 8152, section 6.3).
+
+ghost use Rattle.std.specs.Prelude.{◌≡◌, IfOk, IfErr};
+ghost use Rattle.coset_cbor.specs.Shortest.{IsShortest};
+ghost use Rattle.coset_shape.specs.declared.error.CoseError.TheVariants.{OutOfMemory};
+ghost use Rattle.coset_shape.specs.Answers.{Writes};
+ghost use Rattle.coset_core.specs.Views.{protected_seen};
+ghost use Rattle.coset_msg.specs.MacStructure.{mac_item, mac_structure};
+
+use coset_core::ProtectedHeader;
+use coset_shape::Result;
+use coset_sign::structure::structure_bytes;
+use std::alloc::Global;
+
+/// What a MAC is part of (RFC 8152, section 6.3). It stands in the bytes that are authenticated, so that those of one
+/// are never those of another.
+#[derive(Clone, Copy, Debug, PartialEq, Eq)]
+pub enum MacContext {
+    /// The MAC of a `COSE_Mac` message.
+    CoseMac,
+    /// The MAC of a `COSE_Mac0` message.
+    CoseMac0,
+}
+
+impl MacContext {
+    ghost use Rattle.coset_msg.specs.MacStructure.{mac_text};
+
+    /// Its text in the structure.
+    fn text(self) -> &'static str
+        ensures { result.now ≡ mac_text self }
+    {
+        match self {
+            MacContext::CoseMac => "MAC",
+            MacContext::CoseMac0 => "MAC0",
+        }
+    }
+}
+
+/// The bytes that are authenticated, where these are the protected bytes.
+///
+/// # Errors
+/// `OutOfMemory` alone.
+fn mac_structure_bytes(
+    alloc: Global,
+    context: MacContext,
+    protected: &[u8],
+    external_aad: &[u8],
+    payload: &[u8],
+) -> Result<Vec<u8>>
+    ensures encoding { IfOk result (λ b. IsShortest b.items
+        (mac_structure context protected.now external_aad.now payload.now)) }
+    ensures memory { IfErr result (λ e. e ≡ OutOfMemory) }
+{
+    structure_bytes(alloc, context.text(), &[protected, external_aad, payload])
+}
+
+/// The structure over the protected bytes of a header, which isn't cloned; but one that wasn't read is written.
+///
+/// # Errors
+/// The same as [`mac_structure_data`].
+pub(crate) fn authenticated_bytes(
+    alloc: Global,
+    context: MacContext,
+    protected: &ProtectedHeader,
+    external_aad: &[u8],
+    payload: &[u8],
+) -> Result<Vec<u8>>
+    ensures { Writes (mac_item context (protected_seen protected.now) external_aad.now payload.now)
+        (λ b. b.items) result }
+{
+    let protected = protected.protected_bytes(alloc)?;
+    mac_structure_bytes(alloc, context, &protected, external_aad, payload)
+}
+
+/// The bytes that are authenticated (RFC 8152, section 6.3): the shortest encoding of
+///
+/// ```text
+/// MAC_structure = [
+///     context : "MAC" / "MAC0",
+///     protected : bstr,
+///     external_aad : bstr,
+///     payload : bstr
+/// ]
+/// ```
+///
+/// # Errors
+/// `OutOfMemory`, or `DuplicateMapKey` where the header wasn't read and repeats a label of its rest.
+pub fn mac_structure_data(
+    alloc: Global,
+    context: MacContext,
+    protected: ProtectedHeader,
+    external_aad: &[u8],
+    payload: &[u8],
+) -> Result<Vec<u8>>
+    ensures { Writes (mac_item context (protected_seen protected) external_aad.now payload.now) (λ b.
+        b.items) result }
+{
+    authenticated_bytes(alloc, context, &protected, external_aad, payload)
+}
