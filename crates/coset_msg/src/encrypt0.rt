@@ -189,7 +189,8 @@ impl PartialEq for CoseEncrypt0 {
     ghost laws = { on_per encrypt0_seen (partial_equiv_from_equiv encrypt0_eq_equiv) };
 
     fn eq(&self, other: &CoseEncrypt0) -> bool
-        ensures answers { result ≡ encrypt0_eq (encrypt0_seen self.now) (encrypt0_seen other.now) }
+        ensures answers { result
+            ≡ encrypt0_eq (encrypt0_seen self.now) (encrypt0_seen other.now) }
         ensures equal { IsTrue result ↔ (encrypt0_seen self.now ≡ encrypt0_seen other.now) }
     {
         same(self, other)

@@ -92,8 +92,8 @@ pub fn mac_structure_data(
     external_aad: &[u8],
     payload: &[u8],
 ) -> Result<Vec<u8>>
-    ensures { Writes (mac_item context (protected_seen protected) external_aad.now payload.now) (λ b.
-        b.items) result }
+    ensures { Writes (mac_item context (protected_seen protected) external_aad.now payload.now)
+        (λ b. b.items) result }
 {
     authenticated_bytes(alloc, context, &protected, external_aad, payload)
 }

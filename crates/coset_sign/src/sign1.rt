@@ -386,8 +386,8 @@ impl CoseSign1Builder {
     where
         F: FnOnce(&[u8]) -> Vec<u8> + Drop,
         requires { F.IsAlwaysCallable signer }
-        ensures { Creates F.FnOnce signer (sign1_carried (sign1_seen self) external_aad.now) (λ s b.
-            sign1_seen b ≡ with_signature s.items (sign1_seen self)) result }
+        ensures { Creates F.FnOnce signer (sign1_carried (sign1_seen self) external_aad.now)
+            (λ s b. sign1_seen b ≡ with_signature s.items (sign1_seen self)) result }
     {
         let tbs = self.0.tbs_data(alloc, external_aad)?;
         Ok(self.signature(signer(&tbs)))
