@@ -1,5 +1,5 @@
 -- Headers and signatures read forward, from what their parts answer.
-use Rattle.std.proofs.Common.{◌≡◌, ℕ, Bool, List, [], ◌∷◌, ◌++◌, map, true, false, Option, Some, None, Result, Ok, Err, refl, sym, ap, subst, ◌∙◌, inl, inr}
+use Rattle.std.proofs.Common.{◌≡◌, ℕ, Bool, List, [], map, true, false, Option, Some, None, Result, Ok, Err, refl, sym, ap, subst, ◌∙◌, inl, inr}
 use Rattle.std.specs.Prelude.{IsErrAnd}
 use Rattle.coset_value.specs.Item.{Item, bytes, array, dict, Items, no_items, item, Pairs, no_pairs, pair}
 use Rattle.coset_value.specs.Parts.{as_array, as_bytes, as_map}
@@ -13,17 +13,16 @@ use Rattle.coset_shape.specs.Errors.{UnlessMemory, IsUnexpected, answer}
 use Rattle.coset_shape.specs.Inputs.{State, Stands, AreWithin, PairsWithin, EntersMap, Nexts, TakesNext}
 use Rattle.coset_shape.specs.Maps.{GatherFaults, labelled, SomePair, and_pairs, optional}
 use Rattle.coset_shape.specs.OneOrMore.{Begins}
-use Rattle.coset_shape.specs.Shape.{Shape, EachFaults, any, bstr, any_number, one_or_more, one_or_many}
+use Rattle.coset_shape.specs.Shape.{Shape, any, bstr, any_number, one_or_more, one_or_many}
 use Rattle.coset_shape.specs.Sources.{source_item}
-use Rattle.coset_shape.proofs.Lists.{goes_on as one_more}
 use Rattle.coset_shape.proofs.Walking.{sets_out, goes_on, arrives, refuses}
 use Rattle.coset_label.specs.Labels.{label}
 use Rattle.coset_core.specs.FieldLabels as labels
-use Rattle.coset_core.specs.Contents.{Fills, FillsEach}
+use Rattle.coset_shape.specs.InPlace.{Fills, FillsEach}
 use Rattle.coset_core.specs.Fields.{FieldsSeen, empty_fields, names, fields, parts_of, bars, HasOneIv, partial_header, SomeCounterSignatures}
 use Rattle.coset_core.specs.FieldLaws.{names_laws, partial_fields_laws, barred_fault}
 use Rattle.coset_core.specs.FieldsView.{fields_seen, counter_signatures_held}
-use Rattle.coset_core.specs.Filling.{WalksTo, AtSeven, AtEnd, FillsFields, IsDistinctRest, BeginsPlaces, EndsPlaces, BeginsNext, FirstPlace}
+use Rattle.coset_core.specs.Filling.{WalksTo, AtSeven, AtEnd, FillsFields, IsDistinctRest, BeginsPlaces, EndsPlaces, FirstPlace}
 use Rattle.coset_core.specs.HeaderAgain.{array-is, bytes-is}
 use Rattle.coset_core.specs.HeaderReads.{partial_header_fault, counter_signatures_fault}
 use Rattle.coset_core.specs.Headers.{HeaderSeen, header_of, fields_in, counter_signatures_in, SignatureSeen, empty_header, signatures_of, layered_header, layered_protected, layered_signature}
@@ -32,7 +31,8 @@ use Rattle.coset_core.specs.Views.{header_seen, signature_seen}
 use Rattle.coset_core.specs.declared.header.Header.{Header}
 use Rattle.coset_core.specs.declared.signature.CoseSignature.{CoseSignature}
 use Rattle.coset_core.proofs.Putting.{none_held}
-use Rattle.coset_core.proofs.Reading.{Filled, no_string, not_filled, counter_signatures_there, counter_signatures_missing}
+use Rattle.coset_core.proofs.Reading.{no_string, counter_signatures_there, counter_signatures_missing}
+use Rattle.coset_shape.proofs.InPlace.{not_filled}
 
 -- ---- a header's map
 
@@ -178,31 +178,6 @@ one_filled s v vs xs r e b p = ones_of s v (item (array vs) no_items) xs r (ap o
 pub more_filled :
     {A : Type 0} (s : Shape A) (v : Item) (vs : Items) (xs : List A) (r : Result (Unit {0}) CoseError) → as_array v ≡ Some vs → Begins vs false → FillsEach s vs xs r → Fills (one_or_many (any_number s)) v xs r
 more_filled s v vs xs r e b p = ones_of s v vs xs r (ap one_or_more (array-is v vs e) ∙ begins_more vs b) p
-
--- ---- each of some signatures
-
--- one more was read
-pub one_filled_more :
-    (k : ℕ) (vs : Items) (s t u z : State) (m n : InputItems) (xs ys : List SignatureSeen) (x : SignatureSeen) → (p : Filled k vs z m s xs) → BeginsNext p.others t z n (Ok true)
-    → ((v : Item) (y : State) → Stands v t y → (u ≡ y) × (layered_signature k).describes v x) → ys ≡ xs ++ x ∷ [] → Filled k vs z n u ys
-one_filled_more k vs s t u z m n xs ys x p b read e =
-    let here = read b.0 b.2 b.4 in
-    record {
-      others = b.1;
-      continues = one_more (layered_signature k) vs p.others b.1 b.0 x xs ys p.continues b.3 here.1 e;
-      within = subst (λ y. AreWithin n b.1 y z) (sym here.0) b.5;
-    }
-
-pub one_refused_more :
-    (k : ℕ) (vs : Items) (s t u z : State) (m n : InputItems) (xs ys : List SignatureSeen) (x : SignatureSeen) (r : Result (Unit {0}) Refused) (e : CoseError) (y : Refused) → IsErrAnd r (λ i. i ≡ y) → (p : Filled k vs z m s xs)
-    → BeginsNext p.others t z n (Ok true) → ((v : Item) (i : State) → Stands v t i → (u ≡ i) × UnlessMemory e ((layered_signature k).faults v))
-    → ((left : Items) × AreWithin n left u z) × FillsEach (layered_signature k) vs ys (answer e r)
-one_refused_more k vs s t u z m n xs ys x (Ok i) e y is p b read = absurd is
-one_refused_more k vs s t u z m n xs ys x (Err i) e y is p b read =
-    let here = read b.0 b.2 b.4 in (
-      (b.1, subst (λ j. AreWithin n b.1 j z) (sym here.0) b.5),
-      (λ q. p.continues.blames e (subst (λ ws. EachFaults (layered_signature k).faults ws e) (sym b.3) (inl (here.1 q)))),
-    )
 
 -- ---- a signature's places
 

@@ -7,7 +7,8 @@ use Rattle.coset_shape.specs.declared.error.CoseError.{CoseError}
 use Rattle.coset_shape.specs.Errors.{UnlessMemory}
 use Rattle.coset_shape.specs.Shape.{Shape, Places, both, array_of, ◌then◌}
 use Rattle.coset_shape.specs.ShapeLaws.{LawfulPlaces, some-one}
-use Rattle.coset_core.specs.Contents.{Fills, FillsHeaders}
+use Rattle.coset_core.specs.Contents.{FillsHeaders}
+use Rattle.coset_shape.specs.InPlace.{Fills}
 use Rattle.coset_core.specs.Headers.{ProtectedSeen, header, protected, protected_bytes}
 use Rattle.coset_core.specs.Messages.{Headed, headed}
 

@@ -1,24 +1,17 @@
 -- Headers, and the signatures in them, read from their parts.
-use Rattle.std.proofs.Common.{◌≡◌, ℕ, zero, suc, pred, List, [], ◌∷◌, ◌++◌, length, map, slice_set, ◌-◌, ◌∙◌, Option, Some, None, Result, Ok, Err, refl, sym, ap, subst, inl, inr, append-nil, arith}
-use Rattle.std.specs.Prelude.{IsErrAnd}
-use Rattle.coset_value.specs.Item.{Item, bytes, Items, no_items}
+use Rattle.std.proofs.Common.{◌≡◌, ℕ, zero, suc, pred, List, Option, Some, None, Result, Ok, Err, refl, sym, ap, subst, inl, inr}
+use Rattle.coset_value.specs.Item.{Item, bytes}
 use Rattle.coset_value.specs.Parts.{as_bytes}
 use Rattle.coset_cbor.specs.declared.de.Error.TheVariants.{RecursionLimitExceeded}
 use Rattle.coset_shape.specs.declared.error.CoseError.{CoseError}
 use Rattle.coset_shape.specs.declared.error.CoseError.TheVariants.{DecodeFailed}
 use Rattle.coset_shape.specs.Answers.{Reads, RefusesItem}
 use Rattle.coset_shape.specs.ShapeLaws.{Lawful}
-use Rattle.coset_shape.specs.declared.error.Refused.{Refused}
-use Rattle.coset_shape.specs.Errors.{UnlessMemory, IsUnexpected, answer}
-use Rattle.coset_shape.specs.declared.input.InputItems.{InputItems}
-use Rattle.coset_shape.specs.Inputs.{State, AreWithin}
-use Rattle.coset_shape.specs.Lists.{Continues}
+use Rattle.coset_shape.specs.Errors.{IsUnexpected}
+use Rattle.coset_shape.specs.InPlace.{Fills}
 use Rattle.coset_shape.specs.Serialized.{ContentDescribes, ContentFaults}
-use Rattle.coset_shape.specs.Shape.{Shape, Each, any_number, one_or_many}
-use Rattle.coset_core.specs.Contents.{Fills, FillsContent, GetsEmpty}
-use Rattle.coset_core.specs.Views.{signature_seen}
-use Rattle.coset_core.specs.declared.signature.CoseSignature.{CoseSignature}
-use Rattle.std.proofs.lemmas.List.{map-append}
+use Rattle.coset_shape.specs.Shape.{Shape, any_number, one_or_many}
+use Rattle.coset_core.specs.Contents.{FillsContent}
 use Rattle.coset_core.specs.Fields.{FieldsSeen, partial_header}
 use Rattle.coset_core.specs.HeaderReads.{counter_signatures_read, header_read}
 use Rattle.coset_core.specs.Headers.{HeaderSeen, header_of, SignatureSeen, empty_header, layered_header, layered_protected, layered_signature, no_signatures, signatures_of}
@@ -73,40 +66,3 @@ counter_signatures_there k v h o w f xs p e q same =
 pub counter_signatures_missing :
     (k : ℕ) (v : Item) (h : HeaderSeen) (f : FieldsSeen) → partial_header.describes v (f, None) → h ≡ header_of f no_signatures → (layered_header k).describes v h
 counter_signatures_missing k v h f p same = subst ((layered_header k).describes v) (sym same) (header_read k v f None no_signatures p refl)
-
--- ---- places that are filled
-
--- an error that is passed on
-pub not_filled :
-    {A : Type 0} (s : Shape A) (x : A) (v : Item) (r : Result (Unit {0}) Refused) (e : CoseError) (w : Refused) → IsErrAnd r (λ f. f ≡ w) → UnlessMemory e (s.faults v) → Fills s v x (answer e r)
-not_filled s x v (Ok u) e w h n = absurd h
-not_filled s x v (Err f) e w h n = n
-
--- the last of a list that one more was pushed on
-last_set : {A : Type 0} (xs : List A) (x y : A) → slice_set (xs ++ x ∷ []) (length xs) y ≡ xs ++ y ∷ []
-last_set [] x y = refl
-last_set (z ∷ xs) x y = ap (λ zs. z ∷ zs) (last_set xs x y)
-
-pub last_filled :
-    (old new : List CoseSignature) (n : ℕ) (y : CoseSignature) → n ≡ length old → GetsEmpty old new → map signature_seen (slice_set new n y) ≡ map signature_seen old ++ signature_seen y ∷ []
-last_filled old new n y e g = rw (e, g.1) (ap (map signature_seen) (last_set old g.0 y) ∙ map-append signature_seen old (y ∷ []))
-
-one_longer : (old : List CoseSignature) (s : CoseSignature) → length (old ++ s ∷ []) ≡ suc (length old)
-one_longer [] s = refl
-one_longer (x ∷ xs) s = ap suc (one_longer xs s)
-
-pub last_at : (old new : List CoseSignature) (n : ℕ) → n ≡ length new → GetsEmpty old new → n - 1 ≡ length old
-last_at old new n e g = let longer : length new ≡ suc (length old) = ap length g.1 ∙ one_longer old g.0 in omega (arith, longer, e)
-
--- the items of a list, each read into a place
-pub none_more :
-    {A : Type 0} (s : Shape A) (all left : Items) (xs : List A) → Continues A s.describes s.faults all xs left → left ≡ no_items → Each s.describes all xs
-none_more s all left xs c n = subst (Each s.describes all) (append-nil xs) (c.ends [] (subst (λ vs. Each s.describes vs []) (sym n) tt))
-
--- ---- members that stand where they are read
-
--- of the items vs all those before the others were read as xs, and the others stand there
-pub record Filled (k : ℕ) (vs : Items) (z : State) (m : InputItems) (s : State) (xs : List SignatureSeen) : Type 0 where
-  pub others : Items
-  pub continues : Continues SignatureSeen (layered_signature k).describes (layered_signature k).faults vs xs others
-  pub within : AreWithin m others s z

@@ -1,5 +1,5 @@
 -- Signatures in a row.
-use Rattle.std.proofs.Common.{◌≡◌, ◌≢◌, ◌==◌, ◌&&◌, ◌<◌, ◌+◌, ◌++◌, ℕ, suc, List, [], ◌∷◌, map, take, slice_set, length, false, refl, sym, ap, ◌∙◌, arith}
+use Rattle.std.proofs.Common.{◌≡◌, ◌≢◌, ◌==◌, ◌&&◌, ◌<◌, ◌+◌, ◌++◌, suc, List, [], ◌∷◌, map, length, false, refl, sym, ap, ◌∙◌, arith}
 use Rattle.std.proofs.lemmas.Bool.{and_right}
 use Rattle.std.proofs.lemmas.Grind.{common_steps}
 use Rattle.std.specs.Prelude.{OnOk, Result, Ok, Err}
@@ -13,8 +13,6 @@ use Rattle.coset_core.specs.Views.{header_seen, signature_seen}
 use Rattle.coset_core.specs.declared.header.Header.{Header, roll-Header}
 use Rattle.coset_core.specs.declared.protected.ProtectedHeader.{out-ProtectedHeader}
 use Rattle.coset_core.specs.declared.signature.CoseSignature.{CoseSignature, out-CoseSignature}
-use Rattle.coset_core.specs.Contents.{GetsEmpty}
-use Rattle.coset_core.proofs.Reading.{last_filled}
 
 -- there are none where the list is empty
 pub are_none_of : (ss : List CoseSignature) → are_none (signatures_of (map signature_seen ss)) ≡ (length ss == 0)
@@ -43,14 +41,6 @@ pub header_copied :
     → OnOk r (header_seen (roll-Header x) ≡ header_seen h)
 header_copied x h (Ok u) f s = header-made x ∙ ((λ i. header_of (f i) (signatures_of (s i))) ∙ sym (header-opened h))
 header_copied x h (Err e) f s = tt
-
--- one more is copied
-pub one_more_copied :
-    (old new all : List CoseSignature) (i n : ℕ) (x y : CoseSignature) → map signature_seen old ≡ map signature_seen (take i all) → n ≡ length old → GetsEmpty old new → map signature_seen (take (i + 1) all) ≡ map signature_seen (take i all) ++ signature_seen x ∷ []
-    → signature_seen y ≡ signature_seen x → map signature_seen (slice_set new n y) ≡ map signature_seen (take (i + 1) all)
-one_more_copied old new all i n x y before at gets next same =
-    last_filled old new n y at gets
-    ∙ ((λ j. before j ++ same j ∷ []) ∙ sym next)
 
 -- ---- how many are held
 

@@ -4,7 +4,6 @@ use Rattle.std.specs.Map.{keys_of}
 use Rattle.coset_value.specs.Item.{Item, array, dict, Items, no_items, item, Pairs, no_pairs, pair}
 use Rattle.coset_value.specs.Parts.{as_bytes}
 use Rattle.coset_shape.specs.declared.error.CoseError.{CoseError}
-use Rattle.coset_shape.specs.declared.error.CoseError.TheVariants.{OutOfMemory}
 use Rattle.coset_shape.specs.declared.input.InputItems.{InputItems}
 use Rattle.coset_shape.specs.declared.input.InputPairs.{InputPairs}
 use Rattle.coset_shape.specs.Errors.{UnlessMemory}
@@ -74,12 +73,6 @@ FillsFields all o z f t m (Ok false) = AtEnd all o f t z m × IsDistinctRest f
 FillsFields all o z f t m (Err e) = (left : Pairs) × PairsWithin m left t z × UnlessMemory e (GatherFaults names (fields (optional any)) bars (dict all))
 
 -- ---- signatures
-
--- the next of some members stands at t; or none is left; or it was passed, for which there was no memory
-abbrev pub BeginsNext : Items → State → State → InputItems → Result Bool CoseError → Type 0
-BeginsNext vs t z m (Ok true) = (v : Item) × (others : Items) × (mid : State) × (vs ≡ item v others) × Stands v t mid × AreWithin m others mid z
-BeginsNext vs t z m (Ok false) = (vs ≡ no_items) × AreWithin m no_items t z
-BeginsNext vs t z m (Err e) = (left : Items) × AreWithin m left t z × (e ≡ OutOfMemory)
 
 -- ---- a signature's places
 

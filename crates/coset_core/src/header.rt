@@ -22,7 +22,7 @@
 ghost use Rattle.std.specs.Prelude.{◌≡◌, [], map, option_map, OnOk, IfOk, IfErr, ◌⊎◌, ◌≤◌, ◌<◌, Option, true, false, IsTrue, IsSome, IsErrAnd, OnErr, Err, ◌↔◌, ◌+◌, ◌≢◌, ◌++◌, ◌∷◌, Some, string_bytes};
 ghost use Rattle.coset_shape.specs.declared.error.CoseError.TheVariants as errors;
 ghost use Rattle.coset_shape.specs.declared.error.CoseError.TheVariants.{DuplicateMapKey};
-ghost use Rattle.coset_core.specs.Contents.{Fills};
+ghost use Rattle.coset_shape.specs.InPlace.{Fills};
 ghost use Rattle.coset_core.specs.FieldsView.{fields_seen, counter_signatures_held};
 ghost use Rattle.coset_core.specs.Views.{algorithm_seen, entry_seen, header_seen, signature_seen, critical_seen};
 ghost use Rattle.coset_shape.specs.Answers.{Reads};

@@ -6,7 +6,8 @@
 
 ghost use Rattle.std.specs.Prelude.{◌≡◌, option_map, OnOk, IfOk, IfErr, IsTrue, Some, None, ℕ, List, ◌↔◌};
 ghost use Rattle.coset_shape.specs.declared.error.CoseError.TheVariants.{OutOfMemory};
-ghost use Rattle.coset_core.specs.Contents.{Fills, FillsContent};
+ghost use Rattle.coset_core.specs.Contents.{FillsContent};
+ghost use Rattle.coset_shape.specs.InPlace.{Fills};
 ghost use Rattle.coset_core.specs.Views.{header_seen, protected_seen};
 ghost use Rattle.coset_shape.specs.Answers.{Reads, Images, RefusesItem};
 ghost use Rattle.coset_shape.specs.Errors.{answer};

@@ -6,14 +6,15 @@
 
 ghost use Rattle.std.specs.Prelude.{◌≡◌, [], map, option_map, OnOk, IfOk, IfErr, codes, ◌≤◌, ◌<◌, IsTrue, OnErr, None, ◌↔◌, ◌+◌, IfSome};
 ghost use Rattle.coset_shape.specs.declared.error.CoseError.TheVariants.{OutOfMemory};
-ghost use Rattle.coset_core.specs.Contents.{GetsEmpty, Fills, FillsEach, GetsPlace, empty_signature};
+ghost use Rattle.coset_core.specs.Contents.{empty_signature};
+ghost use Rattle.coset_shape.specs.InPlace.{BeginsNext, Fills, FillsEach, GetsOne, GetsPlace};
 ghost use Rattle.coset_core.specs.Views.{header_seen, signature_seen};
 ghost use Rattle.coset_shape.specs.Answers.{Reads};
 ghost use Rattle.coset_shape.specs.Errors.{IsUnexpected, answer, filled};
 ghost use Rattle.coset_shape.specs.Sources.{source_item};
 ghost use Rattle.coset_value.specs.Item.{Item, array, Items, no_items, item};
 ghost use Rattle.coset_shape.specs.Inputs.{State, state, length_left, input_size, items_size, items_turns, Stands, GoesBehind, AreWithin, EntersArray, TakesNext};
-ghost use Rattle.coset_core.specs.Filling.{BeginsNext, BeginsPlaces, EndsPlaces};
+ghost use Rattle.coset_core.specs.Filling.{BeginsPlaces, EndsPlaces};
 ghost use Rattle.coset_core.specs.Headers.{empty_header, layered_signature, signature as signature_shape, signatures_of, signatures_image};
 ghost use Rattle.coset_core.specs.Written.{AppendsSignatures, signature_array};
 ghost use Rattle.coset_shape.specs.Encoding.{HasNoImage, Encodes};
@@ -178,7 +179,8 @@ impl CborSerializable for CoseSignature {
 /// One more signature, which holds nothing.
 #[inline(never)]
 fn push_empty(alloc: Global, all: &mut Vec<CoseSignature>) -> Result<(), AllocError>
-    ensures { OnOk result (GetsEmpty all.old.items all.new.items) }
+    ensures { OnOk result
+        (GetsOne signature_seen empty_signature all.old.items all.new.items) }
 {
     all.push(CoseSignature::new(alloc))?;
     Ok(())
@@ -190,7 +192,8 @@ fn add_signature(
     all: &mut Vec<CoseSignature>,
     error: &mut CoseError,
 ) -> Result<(), Refused>
-    ensures ok { OnOk result (GetsEmpty all.old.items all.new.items) }
+    ensures ok { OnOk result
+        (GetsOne signature_seen empty_signature all.old.items all.new.items) }
     ensures refused { OnErr result (error.new ≡ OutOfMemory) }
 {
     let is_first = all.is_empty();
@@ -221,7 +224,8 @@ fn next_signature(
         (state input.old)) }
     ensures turns { IfOk result (λ b. IsTrue b → (t : State) → GoesBehind (state input.new) t
         → items_turns members.new t < items_turns members.old (state input.old)) }
-    ensures place { IfOk result (GetsPlace all.old.items all.new.items) }
+    ensures place { IfOk result
+        (GetsPlace signature_seen empty_signature all.old.items all.new.items) }
     ensures next { (vs : Items) (z : State) → AreWithin members.old vs (state input.old) z
         → BeginsNext vs (state input.new) z members.new (answer error.new result) }
 {

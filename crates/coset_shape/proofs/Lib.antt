@@ -7,5 +7,6 @@ pub mod Distinct
 pub mod Encoding
 pub mod EncodingMaps
 pub mod Inputs
+pub mod InPlace
 pub mod Apart
 pub mod Room

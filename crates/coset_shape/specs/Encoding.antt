@@ -37,12 +37,15 @@ abbrev pub Encodes : {T : Type 0} → Option Item → List ℕ → List ℕ → 
 Encodes image old new (Ok x) = AppendsImage image old new
 Encodes image old new (Err e) = HasNoImage image e
 
--- the array of three places, and of four, where each has an item
+-- the array of three places, of four, and of five, where each has an item
 abbrev pub three_places : Option Item → Option Item → Option Item → Option Item
 three_places a b c = option_map array (both item a (both item b (both item c (Some no_items))))
 
 abbrev pub four_places : Option Item → Option Item → Option Item → Option Item → Option Item
 four_places a b c d = option_map array (both item a (both item b (both item c (both item d (Some no_items)))))
+
+abbrev pub five_places : Option Item → Option Item → Option Item → Option Item → Option Item → Option Item
+five_places a b c d e = option_map array (both item a (both item b (both item c (both item d (both item e (Some no_items))))))
 
 -- ---- maps
 

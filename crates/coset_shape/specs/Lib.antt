@@ -25,3 +25,6 @@ pub mod Lists
 pub mod Encoding
 pub mod Room
 pub mod Inputs
+pub mod InPlace
+pub mod Recursive
+pub mod RecursiveLaws

@@ -4,7 +4,7 @@ ghost use Rattle.std.specs.Prelude.{ℕ, length, Option, Some, option_map, OnOk,
 ghost use Rattle.coset_value.specs.Item.{Item, array, item, bytes, tag};
 ghost use Rattle.coset_value.specs.View.{view};
 ghost use Rattle.coset_shape.specs.Answers.{Images, Writes};
-ghost use Rattle.coset_shape.specs.Encoding.{AppendsPlaces, Encodes, HasNoImage, three_places, four_places};
+ghost use Rattle.coset_shape.specs.Encoding.{AppendsPlaces, Encodes, HasNoImage, three_places, four_places, five_places};
 ghost use Rattle.coset_shape.specs.Shape.{images};
 ghost use Rattle.coset_shape.specs.Room.{IsRoomFor};
 
@@ -198,6 +198,31 @@ pub fn encode_four<A: Encode, B: Encode, C: Encode, D: Encode>(
     b.encode(alloc, out)?;
     c.encode(alloc, out)?;
     d.encode(alloc, out)?;
+    Ok(())
+}
+
+/// Appends the array of five places.
+///
+/// # Errors
+/// Those of the first place that has one.
+pub fn encode_five<A: Encode, B: Encode, C: Encode, D: Encode, E: Encode>(
+    alloc: Global,
+    a: &A,
+    b: &B,
+    c: &C,
+    d: &D,
+    e: &E,
+    out: &mut Vec<u8>,
+) -> Result<()>
+    ensures { Encodes (five_places (A.image a.now) (B.image b.now) (C.image c.now) (D.image d.now)
+        (E.image e.now)) out.old.items out.new.items result }
+{
+    write_array_head(5, out)?;
+    a.encode(alloc, out)?;
+    b.encode(alloc, out)?;
+    c.encode(alloc, out)?;
+    d.encode(alloc, out)?;
+    e.encode(alloc, out)?;
     Ok(())
 }
 

@@ -1,5 +1,5 @@
 pub mod Structures
 pub mod Signatures
 mod Written
-mod Copied
+pub mod Copied
 pub mod Calling

@@ -1,6 +1,7 @@
 use Rattle.std.proofs.Common.{◌-◌, arith, rules}
-use Rattle.coset_core.proofs.Reading.{last_at}
-use Rattle.coset_core.proofs.Signatures.{header_copied, one_more_copied}
+use Rattle.coset_shape.proofs.InPlace.{last_at, one_more_copied}
+use Rattle.coset_core.specs.Contents.{empty_signature}
+use Rattle.coset_core.proofs.Signatures.{header_copied}
 use Rattle.coset_core.proofs.Writing.{taken}
 use Rattle.coset_core.specs.Views.{signature_seen}
 use Rattle.coset_core.proofs.+copy.Goals as goal
@@ -10,5 +11,5 @@ header::copy_header-returns t c = header_copied _ c.args.header.now c.copy_signa
 
 pub signature::copy_signatures-loop-signature-preserved : goal.signature::copy_signatures-loop-signature-preserved
 signature::copy_signatures-loop-signature-preserved t c =
-    let at = last_at c.loop-signature.copies.items c.push_empty.new.all.items c.len-last.result (search rules) c.in_ok-push_empty.ensures in
-    one_more_copied c.loop-signature.copies.items c.push_empty.new.all.items c.args.all.now c.loop-signature.signature-index (c.len-last.result - 1) _ c.copy_signature.new.copy c.loop-signature.invariant at c.in_ok-push_empty.ensures (taken signature_seen c.args.all.now c.loop-signature.signature-index c.signature-item.result (omega arith) c.signature-item.is) c.in_ok-copy_signature.ensures
+    let at = last_at signature_seen empty_signature c.loop-signature.copies.items c.push_empty.new.all.items c.len-last.result (search rules) c.in_ok-push_empty.ensures in
+    one_more_copied signature_seen empty_signature c.loop-signature.copies.items c.push_empty.new.all.items c.args.all.now c.loop-signature.signature-index (c.len-last.result - 1) _ c.copy_signature.new.copy c.loop-signature.invariant at c.in_ok-push_empty.ensures (taken signature_seen c.args.all.now c.loop-signature.signature-index c.signature-item.result (omega arith) c.signature-item.is) c.in_ok-copy_signature.ensures

@@ -5,7 +5,8 @@ use Rattle.coset_shape.proofs.Inputs.{items_smaller}
 use Rattle.coset_shape.specs.Shape.{Each}
 use Rattle.coset_shape.specs.ShapeLaws.{some-one}
 use Rattle.coset_shape.specs.Errors.{answer, UnlessMemory}
-use Rattle.coset_core.specs.Contents.{Fills}
+use Rattle.coset_shape.specs.InPlace.{Fills}
+use Rattle.coset_core.specs.Contents.{empty_signature}
 use Rattle.coset_core.specs.FieldsView.{fields_level, fields_seen}
 use Rattle.coset_core.specs.HeaderAgain.{array-is}
 use Rattle.coset_core.specs.Headers.{SignatureSeen, layered_header, layered_protected, layered_signature}
@@ -14,8 +15,10 @@ use Rattle.coset_core.specs.ViewLaws.{protected-made, protected-opened, signatur
 use Rattle.coset_core.specs.declared.header.Header.{out-roll-Header}
 use Rattle.coset_core.specs.declared.protected.ProtectedHeader.{out-ProtectedHeader}
 use Rattle.coset_core.specs.declared.signature.CoseSignature.{out-roll-CoseSignature}
-use Rattle.coset_core.proofs.Reading.{no_layer_left, protected_filled, last_at, last_filled, none_more}
-use Rattle.coset_core.proofs.Forward.{not_entered, none_held_yet, set_out, pairs_refused, ends_plain, counter_signatures_refused, counter_signatures_filled, second_refused, ends_with_counter_signatures, one_filled, more_filled, one_filled_more, one_refused_more, places_refused, second_read, last_refused, places_filled, unprotected_refused, protected_refused}
+use Rattle.coset_core.proofs.Reading.{no_layer_left, protected_filled}
+use Rattle.coset_shape.proofs.InPlace.{last_at, last_filled, one_filled_more, one_refused_more}
+use Rattle.coset_shape.proofs.Lists.{all_read}
+use Rattle.coset_core.proofs.Forward.{not_entered, none_held_yet, set_out, pairs_refused, ends_plain, counter_signatures_refused, counter_signatures_filled, second_refused, ends_with_counter_signatures, one_filled, more_filled, places_refused, second_read, last_refused, places_filled, unprotected_refused, protected_refused}
 use Rattle.coset_core.proofs.+read.Goals as goal
 use Rattle.coset_core.proofs.+read.Goals.{header::fill_counter_signatures-then-one, header::fill_counter_signatures-else-one}
 
@@ -46,7 +49,7 @@ header::fill_counter_signatures-returns-clause-fills t c = elim c.if-one.branch 
 pub signature::fill_each-loop-all-preserved : goal.signature::fill_each-loop-all-preserved
 signature::fill_each-loop-all-preserved t c =
     let next = rw c.if-branch.true at c.in_ok-next_signature.ensures in
-    let at = last_at c.loop-all.all.items c.next_signature.new.all.items c.len-last.result (search rules) next.place in
+    let at = last_at signature_seen empty_signature c.loop-all.all.items c.next_signature.new.all.items c.len-last.result (search rules) next.place in
     let read = c.in_ok-fill_signature.ensures.shrinks in
     record {
       shrinks =
@@ -60,16 +63,16 @@ signature::fill_each-loop-all-preserved t c =
           omega (arith, behind, one, before);
       fills = λ vs z within.
           let p = c.loop-all.invariant.fills vs z within in
-          one_filled_more c.args.layers vs (state c.loop-all.input) (state c.next_signature.new.input) (state c.fill_signature.new.input) z c.loop-all.members c.next_signature.new.members (map signature_seen c.loop-all.all.items) _
+          one_filled_more (layered_signature c.args.layers) vs (state c.loop-all.input) (state c.next_signature.new.input) (state c.fill_signature.new.input) z c.loop-all.members c.next_signature.new.members (map signature_seen c.loop-all.all.items) _
           (signature_seen c.fill_signature.new.signed) p (next.next p.others z p.within) c.in_ok-fill_signature.ensures.fills
-          (last_filled c.loop-all.all.items c.next_signature.new.all.items (c.len-last.result - 1) c.fill_signature.new.signed at next.place);
+          (last_filled signature_seen empty_signature c.loop-all.all.items c.next_signature.new.all.items (c.len-last.result - 1) c.fill_signature.new.signed at next.place);
     }
 
 pub signature::fill_each-returns-in_err-fill_signature-clause-fills : goal.signature::fill_each-returns-in_err-fill_signature-clause-fills
 signature::fill_each-returns-in_err-fill_signature-clause-fills t c = λ vs z within.
     let next = rw c.if-branch.true at c.in_ok-next_signature.ensures in
     let p = c.loop-all.invariant.fills vs z within in
-    one_refused_more c.args.layers vs (state c.loop-all.input) (state c.next_signature.new.input) (state c.fill_signature.new.input) z c.loop-all.members c.next_signature.new.members (map signature_seen c.loop-all.all.items) _
+    one_refused_more (layered_signature c.args.layers) vs (state c.loop-all.input) (state c.next_signature.new.input) (state c.fill_signature.new.input) z c.loop-all.members c.next_signature.new.members (map signature_seen c.loop-all.all.items) _
     (signature_seen c.fill_signature.new.signed) c.from_residual-in_err-fill_signature.result c.fill_signature.new.error c.in_err-fill_signature.field-0.0 c.from_residual-in_err-fill_signature.ensures.1 p (next.next p.others z p.within) c.in_err-fill_signature.ensures.fills
 
 pub signature::fill_each-returns-clause-fills : goal.signature::fill_each-returns-clause-fills
@@ -78,7 +81,7 @@ signature::fill_each-returns-clause-fills t c = λ vs z within.
     let p = c.loop-all.invariant.fills vs z within in
     let none = next.next p.others z p.within in (
       (_, none.1),
-      subst (λ xs. Each (layered_signature c.args.layers).describes vs (map signature_seen xs)) (sym next.place) (none_more (layered_signature c.args.layers) vs p.others (map signature_seen c.loop-all.all.items) p.continues none.0),
+      subst (λ xs. Each (layered_signature c.args.layers).describes vs (map signature_seen xs)) (sym next.place) (all_read (layered_signature c.args.layers) vs p.others (map signature_seen c.loop-all.all.items) p.continues none.0),
     )
 
 pub header::fill_header-returns-in_err-begin_pairs-clause-fills : goal.header::fill_header-returns-in_err-begin_pairs-clause-fills

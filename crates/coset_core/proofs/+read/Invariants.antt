@@ -2,7 +2,8 @@ use Rattle.std.proofs.Common.{ℕ, map, length, ◌+◌, ◌*◌, ◌≤◌}
 use Rattle.coset_value.specs.Item.{Items}
 use Rattle.coset_shape.specs.Inputs.{State, state, length_left, input_size, items_size, pairs_size, items_turns, AreWithin}
 use Rattle.coset_core.specs.Views.{signature_seen}
-use Rattle.coset_core.proofs.Reading.{Filled}
+use Rattle.coset_shape.proofs.InPlace.{Filled}
+use Rattle.coset_core.specs.Headers.{SignatureSeen, layered_signature}
 use Rattle.coset_core.proofs.+read.Given as goal
 
 -- a layer counts more than the bytes of any content
@@ -41,7 +42,7 @@ abbrev pub invariant-signature::fill_each-loop-all : goal.invariant-signature::f
 invariant-signature::fill_each-loop-all l = record {
   shrinks : length_left (state l.input) ≤ length_left (state l.fn.input);
   size : items_size l.members (state l.input) ≤ items_size l.fn.members (state l.fn.input);
-  fills : (vs : Items) (z : State) → AreWithin l.fn.members vs (state l.fn.input) z → Filled l.layers vs z l.members (state l.input) (map signature_seen l.all.items);
+  fills : (vs : Items) (z : State) → AreWithin l.fn.members vs (state l.fn.input) z → Filled SignatureSeen (layered_signature l.layers) vs z l.members (state l.input) (map signature_seen l.all.items);
 }
 
 abbrev pub decreases-signature::fill_each-loop-all : goal.decreases-signature::fill_each-loop-all
