@@ -1,2 +1,2 @@
 mod Contexts
-mod Present
+pub mod Present

@@ -66,7 +66,7 @@ fn enc_structure_bytes(
 ///
 /// # Errors
 /// The same as [`enc_structure_data`].
-pub(crate) fn additional_bytes(
+pub fn additional_bytes(
     alloc: Global,
     context: EncryptionContext,
     protected: &ProtectedHeader,

@@ -2,11 +2,11 @@
 //! with them.
 #![tactic(auto)]
 
-mod enc_structure;
+pub mod enc_structure;
 mod encrypt0;
 pub mod laws;
 mod mac0;
-mod mac_structure;
+pub mod mac_structure;
 
 pub use coset_sign::{
     Algorithm, AsCborValue, Bstr, CallError, CborOrdering, CborSerializable, ClaimName,

@@ -58,7 +58,7 @@ fn mac_structure_bytes(
 ///
 /// # Errors
 /// The same as [`mac_structure_data`].
-pub(crate) fn authenticated_bytes(
+pub fn authenticated_bytes(
     alloc: Global,
     context: MacContext,
     protected: &ProtectedHeader,

@@ -1,0 +1,10 @@
+use Rattle.coset_sign.specs.Calls.{AsksAbout}
+use Rattle.coset_recipient.specs.Mac.{mac_seen, mac_structure_of}
+use Rattle.coset_msg.proofs.Present.{if_there}
+use Rattle.coset_recipient.proofs.mac.CoseMac.verify_tag.Goals as goal
+
+pub returns : goal.returns
+returns g c =
+    let m = mac_seen c.args.self.now in
+    if_there (λ p. AsksAbout g.F.FnOnce c.args.verifier m.tag (mac_structure_of m c.args.external_aad.now p) c.ask.result) c.carried.ensures
+    (rw c.deref.ensures.value at (c.ask.ensures (mac_structure_of m c.args.external_aad.now c.carried.result.now) c.structure-structure.ensures))

@@ -1,0 +1,86 @@
+use Rattle.std.proofs.Common.{codes, option_map, map, ap, sym, subst, refl, ◌∙◌, ◌-◌, arith, rules}
+use Rattle.coset_value.specs.Item.{Items, array}
+use Rattle.coset_shape.specs.Errors.{answer}
+use Rattle.coset_shape.specs.Inputs.{state, AreWithin}
+use Rattle.coset_shape.specs.InPlace.{Fills}
+use Rattle.coset_shape.specs.Shape.{Each}
+use Rattle.coset_shape.proofs.InPlace.{last_at, last_filled, one_filled_more, one_refused_more}
+use Rattle.coset_shape.proofs.Inputs.{items_smaller}
+use Rattle.coset_shape.proofs.Lists.{all_read}
+use Rattle.coset_core.specs.Views.{header_seen, protected_seen}
+use Rattle.coset_recipient.specs.Recipient.{RecipientSeen, empty_recipient, recipient, recipients_of}
+use Rattle.coset_recipient.specs.RecipientView.{recipient_seen, recipient-rolled}
+use Rattle.coset_recipient.specs.declared.recipient.CoseRecipient.{out-roll-CoseRecipient}
+use Rattle.coset_recipient.proofs.Reading.{few_refused, last_refused, none_inside, not_entered, places_filled}
+use Rattle.coset_recipient.proofs.recipient.+read.Goals as goal
+
+pub fill_each-loop-all-preserved : goal.fill_each-loop-all-preserved
+fill_each-loop-all-preserved t c =
+    let next = rw c.if-branch.true at c.in_ok-next_recipient.ensures in
+    let at = last_at recipient_seen empty_recipient c.loop-all.all.items c.next_recipient.new.all.items c.len-last.result (search rules) next.place in
+    let read = c.in_ok-fill_recipient.ensures.shrinks in
+    record {
+      shrinks =
+          let one = next.shrinks in
+          let before = c.loop-all.invariant.shrinks in
+          omega (arith, read, one, before);
+      size =
+          let behind = items_smaller c.next_recipient.new.members (state c.next_recipient.new.input) (state c.fill_recipient.new.input) read in
+          let one = next.size in
+          let before = c.loop-all.invariant.size in
+          omega (arith, behind, one, before);
+      fills = λ vs z within.
+          let p = c.loop-all.invariant.fills vs z within in
+          one_filled_more recipient vs (state c.loop-all.input) (state c.next_recipient.new.input) (state c.fill_recipient.new.input) z c.loop-all.members c.next_recipient.new.members (map recipient_seen c.loop-all.all.items) _
+          (recipient_seen c.fill_recipient.new.recipient) p (next.next p.others z p.within) c.in_ok-fill_recipient.ensures.fills
+          (last_filled recipient_seen empty_recipient c.loop-all.all.items c.next_recipient.new.all.items (c.len-last.result - 1) c.fill_recipient.new.recipient at next.place);
+    }
+
+pub fill_each-returns-in_err-fill_recipient-clause-fills : goal.fill_each-returns-in_err-fill_recipient-clause-fills
+fill_each-returns-in_err-fill_recipient-clause-fills t c = λ vs z within.
+    let next = rw c.if-branch.true at c.in_ok-next_recipient.ensures in
+    let p = c.loop-all.invariant.fills vs z within in
+    one_refused_more recipient vs (state c.loop-all.input) (state c.next_recipient.new.input) (state c.fill_recipient.new.input) z c.loop-all.members c.next_recipient.new.members (map recipient_seen c.loop-all.all.items) _
+    (recipient_seen c.fill_recipient.new.recipient) c.from_residual-in_err-fill_recipient.result c.fill_recipient.new.error c.in_err-fill_recipient.field-0.0 c.from_residual-in_err-fill_recipient.ensures.1 p (next.next p.others z p.within)
+    c.in_err-fill_recipient.ensures.fills
+
+pub fill_each-returns-clause-fills : goal.fill_each-returns-clause-fills
+fill_each-returns-clause-fills t c = λ vs z within.
+    let next = rw c.if-branch.false at c.in_ok-next_recipient.ensures in
+    let p = c.loop-all.invariant.fills vs z within in
+    let none = next.next p.others z p.within in (
+      (_, none.1),
+      subst (λ xs. Each recipient.describes vs (map recipient_seen xs)) (sym next.place) (all_read recipient vs p.others (map recipient_seen c.loop-all.all.items) p.continues none.0),
+    )
+
+pub fill_places-returns-in_err-places-clause-fills : goal.fill_places-returns-in_err-places-clause-fills
+fill_places-returns-in_err-places-clause-fills t c = λ vs z within.
+    few_refused vs (state c.take_three.new.input) z c.take_three.new.members _ c.from_residual.result c.take_three.new.error c.in_err-places.field-0.0 c.from_residual.ensures.1 (c.in_err-places.ensures.takes vs z within)
+
+pub fill_places-fill_last-requires : goal.fill_places-fill_last-requires
+fill_places-fill_last-requires t c =
+    let size = c.in_ok-places.ensures.size in
+    (omega (arith, size, c.decreases), none_inside c.args.recipient.now c.requires.empty)
+
+pub fill_places-returns-in_err-fill_last-clause-fills : goal.fill_places-returns-in_err-fill_last-clause-fills
+fill_places-returns-in_err-fill_last-clause-fills t c = λ vs z within.
+    last_refused vs (state c.take_three.new.input) (state c.fill_last.new.input) z c.take_three.new.members c.fill_last.new.members c.in_ok-places.places _ (map recipient_seen c.fill_last.new.all.items) c.from_residual-in_err-fill_last.result
+    c.fill_last.new.error c.in_err-fill_last.field-0.0 c.from_residual-in_err-fill_last.ensures.1 (c.in_ok-places.ensures.takes vs z within) (λ others inside. c.in_err-fill_last.ensures.fills others z inside)
+
+pub fill_places-returns-clause-fills : goal.fill_places-returns-clause-fills
+fill_places-returns-clause-fills t c = λ vs z within.
+    let p = protected_seen c.fill_first.new.protected in
+    let u = header_seen c.fill_first.new.unprotected in
+    let o = option_map (λ b. b.items) c.fill_first.new.ciphertext in
+    let rs = map recipient_seen c.fill_last.new.all.items in
+    let r = answer c.fill_first.new.error c.fill_first.result in
+    let x : RecipientSeen = record { protected = p; unprotected = u; ciphertext = o; recipients = recipients_of rs } in
+    let seen = recipient-rolled _ ∙ ap (λ g. record { protected = p; unprotected = u; ciphertext = o; recipients = recipients_of (map recipient_seen g.recipients.items) }) (out-roll-CoseRecipient _) in
+    subst (λ y. ((left : Items) × AreWithin c.fill_last.new.members left (state c.fill_last.new.input) z) × Fills recipient (array vs) y r) (sym seen)
+    (places_filled vs (state c.take_three.new.input) (state c.fill_last.new.input) z c.take_three.new.members c.fill_last.new.members c.in_ok-places.places x rs r (c.in_ok-places.ensures.takes vs z within)
+    (λ others inside. c.in_ok-fill_last.ensures.fills others z inside) refl c.fill_first.ensures)
+
+pub fill_recipient-returns-in_err-members-clause-fills : goal.fill_recipient-returns-in_err-members-clause-fills
+fill_recipient-returns-in_err-members-clause-fills t c = λ v z stands.
+    not_entered (codes "array") v (state c.enter_array.new.self) z (recipient_seen c.args.recipient.now) c.enter_array.result c.keep_error.result c.keep_error.new.error c.in_err-members.field-0.0 c.from_residual.result c.from_residual.ensures.1
+    c.keep_error.ensures.answers c.in_err-members.was (c.enter_array.ensures.enters v z stands)

@@ -1,0 +1,68 @@
+-- COSE_Encrypt messages (RFC 8152, section 5.1).
+use Rattle.std.specs.Prelude.{ℕ, List, [], ◌∷◌, ◌++◌, Option, Some, None, map, option_map, refl}
+use Rattle.coset_value.specs.Item.{Item}
+use Rattle.coset_shape.specs.Shape.{Shape, Places, along, ◌then◌, end, bstr, list_of, or_nil}
+use Rattle.coset_shape.specs.ShapeLaws.{Lawful, LawfulPlaces, bytes_no_nil, along_laws, then_laws, end_laws, bstr_laws, list_of_laws, or_nil_laws}
+use Rattle.coset_core.specs.Headers.{HeaderSeen, ProtectedSeen, empty_header}
+use Rattle.coset_core.specs.Messages.{Headed, headed, headed_laws, empty_protected}
+use Rattle.coset_core.specs.Views.{header_seen, protected_seen}
+use Rattle.coset_msg.specs.EncStructure.{enc_item}
+use Rattle.coset_recipient.specs.declared.encrypt.CoseEncrypt as declared
+use Rattle.coset_msg.specs.declared.enc_structure.EncryptionContext.TheVariants.{CoseEncrypt}
+use Rattle.coset_recipient.specs.Recipient.{RecipientSeen, recipient}
+use Rattle.coset_recipient.specs.RecipientLaws.{recipient_laws}
+use Rattle.coset_recipient.specs.RecipientView.{recipient_seen}
+
+-- a message without its memory
+pub record EncryptSeen : Type 0 where
+  pub protected : ProtectedSeen
+  pub unprotected : HeaderSeen
+  pub ciphertext : Option (List ℕ)
+  pub recipients : List RecipientSeen
+
+abbrev pub encrypt_seen : declared.CoseEncrypt → EncryptSeen
+encrypt_seen m = record {
+  protected = protected_seen m.protected;
+  unprotected = header_seen m.unprotected;
+  ciphertext = option_map (λ b. b.items) m.ciphertext;
+  recipients = map recipient_seen m.recipients.items;
+}
+
+-- one that holds nothing
+abbrev pub empty_encrypt : EncryptSeen
+empty_encrypt = record { protected = empty_protected; unprotected = empty_header; ciphertext = None; recipients = [] }
+
+abbrev pub encrypt_of : Headed (Option (List ℕ) × (List RecipientSeen × Unit {0})) → EncryptSeen
+encrypt_of p = record { protected = p.0; unprotected = p.1.0; ciphertext = p.1.1.0; recipients = p.1.1.1.0 }
+
+abbrev pub encrypt_fields : EncryptSeen → Headed (Option (List ℕ) × (List RecipientSeen × Unit {0}))
+encrypt_fields m = (m.protected, (m.unprotected, (m.ciphertext, (m.recipients, tt))))
+
+-- ciphertext : bstr / nil, recipients : [* COSE_recipient]
+abbrev pub encrypt_places : Places (Option (List ℕ) × (List RecipientSeen × Unit {0}))
+encrypt_places = or_nil bstr then list_of recipient then end
+
+pub encrypt_places_laws : LawfulPlaces _ encrypt_places
+encrypt_places_laws = then_laws _ _ (or_nil_laws bstr bytes_no_nil bstr_laws) (then_laws _ _ (list_of_laws recipient recipient_laws) end_laws)
+
+-- [Headers, ciphertext : bstr / nil, recipients : [* COSE_recipient]]
+abbrev pub encrypt : Shape EncryptSeen
+encrypt = along encrypt_of encrypt_fields (headed encrypt_places)
+
+pub encrypt_laws : Lawful EncryptSeen encrypt
+encrypt_laws = along_laws encrypt_of encrypt_fields (λ x. refl) _ (headed_laws encrypt_places encrypt_places_laws)
+
+-- ---- what goes with the ciphertext
+
+-- the structure of the message over `external_aad`, where its protected header has bytes
+abbrev pub encrypt_structure_of : EncryptSeen → List ℕ → Option Item
+encrypt_structure_of m external_aad = enc_item CoseEncrypt m.protected external_aad
+
+-- ---- with one field set, and with one recipient more
+
+abbrev pub with_ciphertext : List ℕ → EncryptSeen → EncryptSeen
+with_ciphertext c m = record m { ciphertext = Some c }
+
+-- behind the others
+abbrev pub and_encrypt_recipient : RecipientSeen → EncryptSeen → EncryptSeen
+and_encrypt_recipient r m = record m { recipients = m.recipients ++ r ∷ [] }

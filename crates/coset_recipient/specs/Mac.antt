@@ -1,0 +1,71 @@
+-- COSE_Mac messages (RFC 8152, section 6.1).
+use Rattle.std.specs.Prelude.{ℕ, List, [], ◌∷◌, ◌++◌, Option, None, map, option_map, refl}
+use Rattle.coset_value.specs.Item.{Item}
+use Rattle.coset_shape.specs.Shape.{Shape, Places, along, ◌then◌, end, bstr, list_of, or_nil}
+use Rattle.coset_shape.specs.ShapeLaws.{Lawful, LawfulPlaces, bytes_no_nil, along_laws, then_laws, end_laws, bstr_laws, list_of_laws, or_nil_laws}
+use Rattle.coset_core.specs.Headers.{HeaderSeen, ProtectedSeen, empty_header}
+use Rattle.coset_core.specs.Messages.{Headed, headed, headed_laws, empty_protected}
+use Rattle.coset_core.specs.Views.{header_seen, protected_seen}
+use Rattle.coset_msg.specs.MacStructure.{mac_item}
+use Rattle.coset_recipient.specs.declared.mac.CoseMac as declared
+use Rattle.coset_msg.specs.declared.mac_structure.MacContext.TheVariants.{CoseMac}
+use Rattle.coset_recipient.specs.Recipient.{RecipientSeen, recipient}
+use Rattle.coset_recipient.specs.RecipientLaws.{recipient_laws}
+use Rattle.coset_recipient.specs.RecipientView.{recipient_seen}
+
+-- a message without its memory
+pub record MacSeen : Type 0 where
+  pub protected : ProtectedSeen
+  pub unprotected : HeaderSeen
+  pub payload : Option (List ℕ)
+  pub tag : List ℕ
+  pub recipients : List RecipientSeen
+
+abbrev pub mac_seen : declared.CoseMac → MacSeen
+mac_seen m = record {
+  protected = protected_seen m.protected;
+  unprotected = header_seen m.unprotected;
+  payload = option_map (λ b. b.items) m.payload;
+  tag = m.tag.items;
+  recipients = map recipient_seen m.recipients.items;
+}
+
+-- one that holds nothing
+abbrev pub empty_mac : MacSeen
+empty_mac = record { protected = empty_protected; unprotected = empty_header; payload = None; tag = []; recipients = [] }
+
+abbrev pub mac_of : Headed (Option (List ℕ) × (List ℕ × (List RecipientSeen × Unit {0}))) → MacSeen
+mac_of p = record { protected = p.0; unprotected = p.1.0; payload = p.1.1.0; tag = p.1.1.1.0; recipients = p.1.1.1.1.0 }
+
+abbrev pub mac_fields : MacSeen → Headed (Option (List ℕ) × (List ℕ × (List RecipientSeen × Unit {0})))
+mac_fields m = (m.protected, (m.unprotected, (m.payload, (m.tag, (m.recipients, tt)))))
+
+-- payload : bstr / nil, tag : bstr, recipients : [* COSE_recipient]
+abbrev pub mac_places : Places (Option (List ℕ) × (List ℕ × (List RecipientSeen × Unit {0})))
+mac_places = or_nil bstr then bstr then list_of recipient then end
+
+pub mac_places_laws : LawfulPlaces _ mac_places
+mac_places_laws =
+    then_laws _ _ (or_nil_laws bstr bytes_no_nil bstr_laws) (then_laws _ _ bstr_laws (then_laws _ _ (list_of_laws recipient recipient_laws) end_laws))
+
+-- [Headers, payload : bstr / nil, tag : bstr, recipients : [* COSE_recipient]]
+abbrev pub mac : Shape MacSeen
+mac = along mac_of mac_fields (headed mac_places)
+
+pub mac_laws : Lawful MacSeen mac
+mac_laws = along_laws mac_of mac_fields (λ x. refl) _ (headed_laws mac_places mac_places_laws)
+
+-- ---- what is authenticated
+
+-- the structure of the message over `external_aad` and a payload, where its protected header has bytes
+abbrev pub mac_structure_of : MacSeen → List ℕ → List ℕ → Option Item
+mac_structure_of m external_aad payload = mac_item CoseMac m.protected external_aad payload
+
+-- ---- with one field set, and with one recipient more
+
+abbrev pub with_tag : List ℕ → MacSeen → MacSeen
+with_tag t m = record m { tag = t }
+
+-- behind the others
+abbrev pub and_mac_recipient : RecipientSeen → MacSeen → MacSeen
+and_mac_recipient r m = record m { recipients = m.recipients ++ r ∷ [] }

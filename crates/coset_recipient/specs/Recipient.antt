@@ -1,0 +1,118 @@
+-- Recipients (RFC 8152, section 5.1).
+use Rattle.std.specs.Prelude.{ℕ, List, [], ◌∷◌, Bool, true, false, Option, Some, None, option_map}
+use Rattle.coset_value.specs.Item.{Item, array, Items, no_items, item}
+use Rattle.coset_shape.specs.Recursive.{recursive}
+use Rattle.coset_shape.specs.Shape.{Shape, Places, along, both, ◌then◌, bstr, or_nil, perhaps, last_image, list_of}
+use Rattle.coset_core.specs.Headers.{HeaderSeen, ProtectedSeen, empty_header, header, protected}
+use Rattle.coset_core.specs.Messages.{Headed, headed, empty_protected}
+use Rattle.coset_msg.specs.EncStructure.{enc_item}
+use Rattle.coset_msg.specs.declared.enc_structure.EncryptionContext.{EncryptionContext}
+use Rattle.coset_msg.specs.declared.enc_structure.EncryptionContext.TheVariants.{CoseEncrypt, CoseEncrypt0, EncRecipient, MacRecipient, RecRecipient}
+
+-- ---- recipients without their memory
+
+-- Recipients, one after the other: of each its protected header, its unprotected one, its ciphertext, and the recipients
+-- inside it
+pub data Recipients : Type 0 where
+  no_recipients : Recipients
+  recipient_and : ProtectedSeen → HeaderSeen → Option (List ℕ) → Recipients → Recipients → Recipients
+
+pub record RecipientSeen : Type 0 where
+  pub protected : ProtectedSeen
+  pub unprotected : HeaderSeen
+  pub ciphertext : Option (List ℕ)
+  pub recipients : Recipients
+
+abbrev pub and_recipients : RecipientSeen → Recipients → Recipients
+and_recipients r more = recipient_and r.protected r.unprotected r.ciphertext r.recipients more
+
+abbrev pub recipients_of : List RecipientSeen → Recipients
+recipients_of [] = no_recipients
+recipients_of (r ∷ rs) = and_recipients r (recipients_of rs)
+
+-- the same as a list
+abbrev pub each_of : Recipients → List RecipientSeen
+each_of no_recipients = []
+each_of (recipient_and p u c inside more) = record { protected = p; unprotected = u; ciphertext = c; recipients = inside } ∷ each_of more
+
+abbrev pub are_none : Recipients → Bool
+are_none no_recipients = true
+are_none (recipient_and p u c inside more) = false
+
+-- one that holds nothing
+abbrev pub empty_recipient : RecipientSeen
+empty_recipient = record { protected = empty_protected; unprotected = empty_header; ciphertext = None; recipients = no_recipients }
+
+-- ---- which items stand for them
+
+abbrev pub are_some : {A : Type 0} → List A → Bool
+are_some [] = false
+are_some (x ∷ xs) = true
+
+abbrev pub recipient_of : Headed (Option (List ℕ) × List RecipientSeen) → RecipientSeen
+recipient_of p = record { protected = p.0; unprotected = p.1.0; ciphertext = p.1.1.0; recipients = recipients_of p.1.1.1 }
+
+abbrev pub recipient_fields : RecipientSeen → Headed (Option (List ℕ) × List RecipientSeen)
+recipient_fields r = (r.protected, (r.unprotected, (r.ciphertext, each_of r.recipients)))
+
+-- ciphertext : bstr / nil, ? recipients, of which s is the shape: they are left out where there are none
+abbrev pub recipient_places : Shape (List RecipientSeen) → Places (Option (List ℕ) × List RecipientSeen)
+recipient_places s = or_nil bstr then perhaps [] are_some s
+
+abbrev pub recipient_with : Shape (List RecipientSeen) → Shape RecipientSeen
+recipient_with s = along recipient_of recipient_fields (headed (recipient_places s))
+
+-- [Headers, ciphertext : bstr / nil, ? recipients : [* COSE_recipient]], where s is the shape of those inside it
+abbrev pub recipient_step : Shape RecipientSeen → Shape RecipientSeen
+recipient_step s = recipient_with (list_of s)
+
+-- ---- the items that they are written as
+
+-- a place for those inside, where there are some, which are written as these items
+abbrev pub inside_place : Recipients → Option Items → Option Items
+inside_place no_recipients o = Some no_items
+inside_place (recipient_and p u c inside more) o = last_image true (option_map array o)
+
+abbrev pub recipient_array : ProtectedSeen → HeaderSeen → Option (List ℕ) → Option Items → Option Item
+recipient_array p u c o = option_map array (both item (protected.image p) (both item (header.image u) (both item ((or_nil bstr).image c) o)))
+
+abbrev pub recipients_image : Recipients → Option Items
+recipients_image no_recipients = Some no_items
+recipients_image (recipient_and p u c inside more) =
+    both item (recipient_array p u c (inside_place inside (recipients_image inside))) (recipients_image more)
+
+abbrev pub recipient_image : RecipientSeen → Option Item
+recipient_image r = recipient_array r.protected r.unprotected r.ciphertext (inside_place r.recipients (recipients_image r.recipients))
+
+-- ---- the shape
+
+-- COSE_recipient, with however many others one inside another
+unfoldable pub recipient : Shape RecipientSeen
+recipient = recursive recipient_step recipient_image
+
+-- ---- what goes with the ciphertext
+
+-- a recipient's contexts, of which there are three
+abbrev pub IsOfRecipient : EncryptionContext → Type 0
+IsOfRecipient CoseEncrypt = ⊥
+IsOfRecipient CoseEncrypt0 = ⊥
+IsOfRecipient EncRecipient = Unit {0}
+IsOfRecipient MacRecipient = Unit {0}
+IsOfRecipient RecRecipient = Unit {0}
+
+-- the structure of the recipient over `external_aad`, where its protected header has bytes
+abbrev pub recipient_structure : EncryptionContext → RecipientSeen → List ℕ → Option Item
+recipient_structure context r external_aad = enc_item context r.protected external_aad
+
+-- ---- with one field set, and with one recipient more
+
+abbrev pub with_ciphertext : List ℕ → RecipientSeen → RecipientSeen
+with_ciphertext c r = record r { ciphertext = Some c }
+
+-- behind the others
+abbrev pub then_recipient : Recipients → RecipientSeen → Recipients
+then_recipient no_recipients r = and_recipients r no_recipients
+then_recipient (recipient_and p u c inside more) r = recipient_and p u c inside (then_recipient more r)
+
+abbrev pub and_recipient : RecipientSeen → RecipientSeen → RecipientSeen
+and_recipient r all = record all { recipients = then_recipient all.recipients r }

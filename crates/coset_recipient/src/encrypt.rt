@@ -1,0 +1,428 @@
+//! Encrypted messages with recipients (RFC 8152, section 5.1).
+//!
+//! ```cddl
+//! COSE_Encrypt = [ Headers, ciphertext : bstr / nil, recipients : [+ COSE_recipient] ]
+//! ```
+//!
+//! A message without recipients is read and written too.
+
+ghost use Rattle.std.specs.Prelude.{◌≡◌, ◌≢◌, ◌↔◌, IsTrue, IfOk, IfErr, IfSome, Some, None};
+ghost use Rattle.std.specs.Ordering.{on};
+ghost use Rattle.std.specs.Cmp.{on_equiv, on_per, partial_equiv_from_equiv};
+ghost use Rattle.coset_shape.specs.declared.error.CoseError.TheVariants.{OutOfMemory};
+ghost use Rattle.coset_shape.specs.Answers.{Reads, Writes};
+ghost use Rattle.coset_shape.specs.Sources.{source_item};
+ghost use Rattle.coset_shape.specs.InPlace.{Fills};
+ghost use Rattle.coset_core.specs.Messages.{unread};
+ghost use Rattle.coset_core.specs.Views.{header_seen};
+ghost use Rattle.coset_sign.specs.Calls.{AsksAbout};
+ghost use Rattle.coset_msg.specs.Presence.{AsksWherePresent, CreatesOf, TriesToCreateOf};
+ghost use Rattle.coset_recipient.specs.Encrypt.{and_encrypt_recipient, empty_encrypt, encrypt, encrypt_seen, encrypt_structure_of, with_ciphertext};
+ghost use Rattle.coset_recipient.specs.Equality.{encrypt_eq, encrypt_eq_equiv};
+ghost use Rattle.coset_recipient.specs.RecipientView.{recipient_seen};
+
+use crate::recipient::{CoseRecipient, copies, read_recipients, same_lists};
+use coset_cbor::de::Pull;
+use coset_cbor::value::Value;
+use coset_core::{Bstr, Header, ProtectedHeader, fill_headers};
+use coset_msg::EncryptionContext;
+use coset_msg::enc_structure::additional_bytes;
+use coset_shape::encode::{
+    Array, Encode, encode_four, encode_to_tagged_vec, encode_to_value, encode_to_vec,
+};
+use coset_shape::traits::{FromPull, read_slice, read_tagged_slice};
+use coset_shape::util::copy_bytes;
+use coset_shape::{
+    AsCborValue, CallError, CborSerializable, Lawful, Result, Source, TaggedCborSerializable,
+};
+use coset_sign::calls::ask;
+use std::alloc::Global;
+use std::marker::Model;
+
+/// An encrypted message, and recipients that come to the key: `COSE_Encrypt` (RFC 8152, section 5.1).
+#[derive(Debug, Drop)]
+pub struct CoseEncrypt {
+    /// The header that is authenticated with the ciphertext.
+    pub protected: ProtectedHeader,
+    /// The header that isn't.
+    pub unprotected: Header,
+    /// The ciphertext, unless it is sent apart.
+    pub ciphertext: Option<Vec<u8>>,
+    /// Who can decrypt the message, and how they come to the key.
+    pub recipients: Vec<CoseRecipient>,
+}
+
+/// Reads the places into an empty message, from the last to the first.
+fn fill_encrypt(message: &mut CoseEncrypt, alloc: Global, source: Source<'_>) -> Result<()>
+    requires empty { encrypt_seen message.old ≡ empty_encrypt }
+    ensures { Fills encrypt (source_item source.entry) (encrypt_seen message.new) result }
+{
+    let (protected, unprotected, ciphertext, recipients) = source.into_four("array with 4 items")?;
+    message.recipients = read_recipients(alloc, recipients)?;
+    message.ciphertext = ciphertext.into_bytes_or_nil(alloc, "bstr")?;
+    fill_headers(
+        &mut message.protected,
+        &mut message.unprotected,
+        alloc,
+        protected,
+        unprotected,
+    )
+}
+
+/// Reads a message.
+fn read_encrypt(alloc: Global, source: Source<'_>) -> Result<CoseEncrypt>
+    ensures { Reads encrypt encrypt_seen (source_item source.entry) result }
+{
+    let mut message = CoseEncrypt::new(alloc);
+    match fill_encrypt(&mut message, alloc, source) {
+        Ok(()) => Ok(message),
+        Err(error) => Err(error),
+    }
+}
+
+impl CoseEncrypt {
+    /// An empty message: empty headers, no ciphertext, no recipients. It takes no memory.
+    pub fn new(alloc: Global) -> CoseEncrypt
+        ensures { encrypt_seen result ≡ empty_encrypt }
+    {
+        CoseEncrypt {
+            protected: ProtectedHeader::new(alloc),
+            unprotected: Header::new(alloc),
+            ciphertext: None,
+            recipients: Vec::new(alloc),
+        }
+    }
+
+    /// The structure that goes with the ciphertext.
+    fn structure(&self, alloc: Global, external_aad: &[u8]) -> Result<Vec<u8>>
+        ensures { Writes (encrypt_structure_of (encrypt_seen self.now) external_aad.now) (λ b.
+            b.items) result }
+    {
+        additional_bytes(
+            alloc,
+            EncryptionContext::CoseEncrypt,
+            &self.protected,
+            external_aad,
+        )
+    }
+
+    /// The ciphertext, which the message carries.
+    fn carried(&self) -> &[u8]
+        requires { self.now.ciphertext ≢ None }
+        ensures { (encrypt_seen self.now).ciphertext ≡ Some result.now }
+    {
+        match &self.ciphertext {
+            Some(ciphertext) => ciphertext,
+            None => unreachable!(),
+        }
+    }
+
+    /// What `cipher` makes of the ciphertext, its first argument, and of the additional authenticated data that go with
+    /// it, its second one (RFC 8152, section 5.3), where the message carries its ciphertext: the plaintext. It is
+    /// called once, unless there is an error of ours, and not at all then.
+    ///
+    /// # Errors
+    /// `OutOfMemory`, or `DuplicateMapKey` where the protected header wasn't read and repeats a label of its rest; or
+    /// `Caller` with the error of `cipher`.
+    pub fn decrypt<F, E>(
+        &self,
+        alloc: Global,
+        external_aad: &[u8],
+        cipher: F,
+    ) -> Result<Vec<u8>, CallError<E>>
+    where
+        F: FnOnce(&[u8], &[u8]) -> Result<Vec<u8>, E> + Drop,
+        E: Drop,
+        requires callable { F.IsAlwaysCallable cipher }
+        requires carried { self.now.ciphertext ≢ None }
+        ensures { IfSome (encrypt_seen self.now).ciphertext (λ c. AsksAbout F.FnOnce cipher c
+            (encrypt_structure_of (encrypt_seen self.now) external_aad.now) result) }
+    {
+        let structure = self.structure(alloc, external_aad);
+        ask(self.carried(), structure, cipher)
+    }
+
+    /// The same as [`CoseEncrypt::decrypt`], whether the message carries its ciphertext or not: where it carries none,
+    /// `missing` is called for the error, and `cipher` isn't.
+    ///
+    /// # Errors
+    /// The same as [`CoseEncrypt::decrypt`]; or `Caller` with what `missing` answers.
+    pub fn decrypt_ciphertext<F, E, M>(
+        &self,
+        alloc: Global,
+        external_aad: &[u8],
+        missing: M,
+        cipher: F,
+    ) -> Result<Vec<u8>, CallError<E>>
+    where
+        F: FnOnce(&[u8], &[u8]) -> Result<Vec<u8>, E> + Drop,
+        E: Drop,
+        M: FnOnce() -> E + Drop,
+        requires callable { F.IsAlwaysCallable cipher }
+        requires missing_callable { M.IsAlwaysCallable missing }
+        ensures { AsksWherePresent F.FnOnce cipher M.FnOnce missing
+            (encrypt_seen self.now).ciphertext (λ c. c)
+            (λ _. encrypt_structure_of (encrypt_seen self.now) external_aad.now) result }
+    {
+        let Some(ciphertext) = &self.ciphertext else {
+            return Err(CallError::Caller(missing()));
+        };
+        let structure = self.structure(alloc, external_aad);
+        ask(ciphertext, structure, cipher)
+    }
+
+    /// A message that equals this one, with the same bytes kept.
+    ///
+    /// # Errors
+    /// `OutOfMemory` alone.
+    pub fn clone(&self) -> Result<CoseEncrypt>
+        ensures copy { IfOk result (λ m. encrypt_seen m ≡ encrypt_seen self.now) }
+        ensures memory { IfErr result (λ e. e ≡ OutOfMemory) }
+    {
+        let ciphertext = match &self.ciphertext {
+            Some(ciphertext) => Some(copy_bytes(ciphertext)?),
+            None => None,
+        };
+        Ok(CoseEncrypt {
+            protected: self.protected.clone()?,
+            unprotected: self.unprotected.clone()?,
+            ciphertext,
+            recipients: copies(&self.recipients)?,
+        })
+    }
+}
+
+/// Equality of every field, the bytes that were kept of the protected headers included.
+impl PartialEq for CoseEncrypt {
+    ghost eq = { on encrypt_seen encrypt_eq };
+
+    ghost laws = { on_per encrypt_seen (partial_equiv_from_equiv encrypt_eq_equiv) };
+
+    fn eq(&self, other: &CoseEncrypt) -> bool
+        ensures answers { result
+            ≡ encrypt_eq (encrypt_seen self.now) (encrypt_seen other.now) }
+        ensures equal { IsTrue result ↔ (encrypt_seen self.now ≡ encrypt_seen other.now) }
+    {
+        same(self, other)
+    }
+}
+
+impl Eq for CoseEncrypt {
+    ghost laws = { on_equiv encrypt_seen encrypt_eq_equiv };
+}
+
+/// Whether two messages are the same, the bytes that were kept included.
+fn same(a: &CoseEncrypt, b: &CoseEncrypt) -> bool
+    ensures { result ≡ encrypt_eq (encrypt_seen a.now) (encrypt_seen b.now) }
+{
+    a.protected == b.protected
+        && a.unprotected == b.unprotected
+        && a.ciphertext == b.ciphertext
+        && same_lists(&a.recipients, &b.recipients)
+}
+
+impl AsCborValue for CoseEncrypt {
+    ghost use Rattle.coset_recipient.specs.Encrypt.{EncryptSeen, encrypt_laws};
+
+    ghost Seen = { EncryptSeen };
+
+    ghost seen = { encrypt_seen };
+
+    ghost shape = { encrypt };
+
+    ghost unique = { encrypt_laws.unique };
+
+    ghost sound = { encrypt_laws.sound };
+
+    fn from_cbor_value(alloc: Global, value: Value) -> Result<CoseEncrypt> {
+        read_encrypt(alloc, Source::Tree(value))
+    }
+
+    fn to_cbor_value(self, alloc: Global) -> Result<Value> {
+        encode_to_value(alloc, &self)
+    }
+}
+
+impl Lawful for CoseEncrypt {
+    ghost use Rattle.coset_recipient.specs.Encrypt.{encrypt_laws};
+
+    ghost laws = { encrypt_laws };
+}
+
+impl Encode for CoseEncrypt {
+    ghost image = { λ m. encrypt.image (encrypt_seen m) };
+
+    ghost spare = { 57 };
+
+    fn room(&self) -> usize {
+        Bstr(&self.protected)
+            .room()
+            .saturating_add(self.unprotected.room())
+            .saturating_add(self.ciphertext.room())
+    }
+
+    fn encode(&self, alloc: Global, out: &mut Vec<u8>) -> Result<()> {
+        encode_four(
+            alloc,
+            &Bstr(&self.protected),
+            &self.unprotected,
+            &self.ciphertext,
+            &Array(&self.recipients),
+            out,
+        )
+    }
+}
+
+impl FromPull for CoseEncrypt {
+    fn from_pull(alloc: Global, pull: Pull<'_>) -> Result<CoseEncrypt> {
+        read_encrypt(alloc, Source::Lent(pull))
+    }
+}
+
+impl CborSerializable for CoseEncrypt {
+    fn from_slice(alloc: Global, s: &[u8]) -> Result<CoseEncrypt> {
+        read_slice(alloc, s)
+    }
+
+    fn to_vec(self, alloc: Global) -> Result<Vec<u8>> {
+        encode_to_vec(alloc, &self)
+    }
+}
+
+impl TaggedCborSerializable for CoseEncrypt {
+    ghost TAG = { 96 };
+
+    const TAG: u64 = 96;
+
+    fn from_tagged_slice(alloc: Global, s: &[u8]) -> Result<CoseEncrypt> {
+        read_tagged_slice(alloc, 96, s)
+    }
+
+    fn to_tagged_vec(self, alloc: Global) -> Result<Vec<u8>> {
+        encode_to_tagged_vec(alloc, 96, &self)
+    }
+}
+
+/// Makes a [`CoseEncrypt`], field by field. Contracts see it as the message that [`build`](CoseEncryptBuilder::build) gives.
+#[derive(Debug, Drop)]
+pub struct CoseEncryptBuilder(CoseEncrypt);
+
+impl Model for CoseEncryptBuilder {
+    ghost use Rattle.std.specs.Coded.{codes};
+    ghost use Rattle.coset_recipient.specs.contracts.encrypt.CoseEncrypt as contracts;
+    ghost use Rattle.coset_recipient.specs.declared.encrypt.CoseEncrypt.{CoseEncrypt};
+
+    ghost Value = { CoseEncrypt };
+
+    ghost coded = { Prim.hlevel (codes, contracts.the_row.coded) };
+
+    ghost view = { λ b. b.0 };
+
+    ghost inverse = { λ v. record { 0 = v } };
+}
+
+impl CoseEncryptBuilder {
+    /// An empty message. It takes no memory.
+    pub fn new(alloc: Global) -> CoseEncryptBuilder
+        ensures { encrypt_seen result ≡ empty_encrypt }
+    {
+        CoseEncryptBuilder(CoseEncrypt::new(alloc))
+    }
+
+    /// The message that was made.
+    pub fn build(self) -> CoseEncrypt
+        ensures { result ≡ self }
+    {
+        self.0
+    }
+
+    /// Sets the protected header: one that was made, and not read, so that it has no bytes of its own yet.
+    pub fn protected(mut self, header: Header) -> CoseEncryptBuilder
+        ensures { encrypt_seen result ≡ record
+            (encrypt_seen self) { protected = unread (header_seen header) } }
+    {
+        self.0.protected = ProtectedHeader {
+            original_data: None,
+            header,
+        };
+        self
+    }
+
+    /// Sets the unprotected header.
+    pub fn unprotected(mut self, header: Header) -> CoseEncryptBuilder
+        ensures { encrypt_seen result ≡ record
+            (encrypt_seen self) { unprotected = header_seen header } }
+    {
+        self.0.unprotected = header;
+        self
+    }
+
+    /// Sets the ciphertext.
+    pub fn ciphertext(mut self, ciphertext: Vec<u8>) -> CoseEncryptBuilder
+        ensures { encrypt_seen result ≡ with_ciphertext ciphertext.items (encrypt_seen self) }
+    {
+        self.0.ciphertext = Some(ciphertext);
+        self
+    }
+
+    /// Adds a recipient, behind the others.
+    ///
+    /// # Errors
+    /// `OutOfMemory` alone.
+    pub fn add_recipient(mut self, recipient: CoseRecipient) -> Result<CoseEncryptBuilder>
+        ensures ok { IfOk result (λ b. encrypt_seen b
+            ≡ and_encrypt_recipient (recipient_seen recipient) (encrypt_seen self)) }
+        ensures memory { IfErr result (λ e. e ≡ OutOfMemory) }
+    {
+        self.0.recipients.push(recipient)?;
+        Ok(self)
+    }
+
+    /// Sets the ciphertext to what `cipher` makes of the plaintext, its first argument, and of the additional
+    /// authenticated data that go with it, its second one (RFC 8152, section 5.3), so all other fields are set before.
+    /// It is called once, unless there is an error of ours, and not at all then.
+    ///
+    /// # Errors
+    /// `OutOfMemory`, or `DuplicateMapKey` where the protected header repeats a label of its rest.
+    pub fn create_ciphertext<F>(
+        self,
+        alloc: Global,
+        plaintext: &[u8],
+        external_aad: &[u8],
+        cipher: F,
+    ) -> Result<CoseEncryptBuilder>
+    where
+        F: FnOnce(&[u8], &[u8]) -> Vec<u8> + Drop,
+        requires { F.IsAlwaysCallable cipher }
+        ensures { CreatesOf F.FnOnce cipher plaintext.now
+            (encrypt_structure_of (encrypt_seen self) external_aad.now) (λ c b. encrypt_seen b
+            ≡ with_ciphertext c.items (encrypt_seen self)) result }
+    {
+        let structure = self.0.structure(alloc, external_aad)?;
+        Ok(self.ciphertext(cipher(plaintext, &structure)))
+    }
+
+    /// The same as [`CoseEncryptBuilder::create_ciphertext`] with a `cipher` that may refuse.
+    ///
+    /// # Errors
+    /// The same as [`CoseEncryptBuilder::create_ciphertext`]; or `Caller` with the error of `cipher`.
+    pub fn try_create_ciphertext<F, E>(
+        self,
+        alloc: Global,
+        plaintext: &[u8],
+        external_aad: &[u8],
+        cipher: F,
+    ) -> Result<CoseEncryptBuilder, CallError<E>>
+    where
+        F: FnOnce(&[u8], &[u8]) -> Result<Vec<u8>, E> + Drop,
+        E: Drop,
+        requires { F.IsAlwaysCallable cipher }
+        ensures { TriesToCreateOf F.FnOnce cipher plaintext.now
+            (encrypt_structure_of (encrypt_seen self) external_aad.now) (λ c b. encrypt_seen b
+            ≡ with_ciphertext c.items (encrypt_seen self)) result }
+    {
+        let structure = self.0.structure(alloc, external_aad);
+        let ciphertext = ask(plaintext, structure, cipher)?;
+        Ok(self.ciphertext(ciphertext))
+    }
+}

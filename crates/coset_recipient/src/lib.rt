@@ -1,0 +1,21 @@
+//! Recipients (RFC 8152, section 5.1), and the messages that have them: encrypted for several (section 5.1) and with a
+//! MAC for several (section 6.1).
+#![tactic(auto)]
+
+mod encrypt;
+pub mod laws;
+mod mac;
+mod recipient;
+
+pub use coset_msg::{
+    Algorithm, AsCborValue, Bstr, CallError, CborOrdering, CborSerializable, ClaimName,
+    ContentType, CoseEncrypt0, CoseEncrypt0Builder, CoseError, CoseMac0, CoseMac0Builder, CoseSign,
+    CoseSign1, CoseSign1Builder, CoseSignBuilder, CoseSignature, CoseSignatureBuilder, Encode,
+    EncryptionContext, EndOfFile, FromPull, Header, HeaderBuilder, KeyOperation, KeyType, Label,
+    Lawful, MacContext, ProtectedBstr, ProtectedHeader, RegisteredLabel,
+    RegisteredLabelWithPrivate, Result, SignatureContext, Source, TaggedCborSerializable, cbor,
+    enc_structure_data, has_repeats, iana, mac_structure_data, shape, sig_structure_data, util,
+};
+pub use encrypt::{CoseEncrypt, CoseEncryptBuilder};
+pub use mac::{CoseMac, CoseMacBuilder};
+pub use recipient::{CoseRecipient, CoseRecipientBuilder};

@@ -1,0 +1,447 @@
+//! Messages with a MAC and recipients (RFC 8152, section 6.1).
+//!
+//! ```cddl
+//! COSE_Mac = [ Headers, payload : bstr / nil, tag : bstr, recipients : [+ COSE_recipient] ]
+//! ```
+//!
+//! A message without recipients is read and written too.
+
+ghost use Rattle.std.specs.Prelude.{◌≡◌, ◌≢◌, ◌↔◌, IsTrue, IfOk, IfErr, IfSome, Some, None};
+ghost use Rattle.std.specs.Ordering.{on};
+ghost use Rattle.std.specs.Cmp.{on_equiv, on_per, partial_equiv_from_equiv};
+ghost use Rattle.coset_shape.specs.declared.error.CoseError.TheVariants.{OutOfMemory};
+ghost use Rattle.coset_shape.specs.Answers.{Reads, Writes};
+ghost use Rattle.coset_shape.specs.Sources.{source_item};
+ghost use Rattle.coset_shape.specs.InPlace.{Fills};
+ghost use Rattle.coset_core.specs.Messages.{unread};
+ghost use Rattle.coset_core.specs.Views.{header_seen};
+ghost use Rattle.coset_sign.specs.Calls.{AsksAbout, Creates, TriesToCreate};
+ghost use Rattle.coset_msg.specs.Presence.{AsksWherePresent};
+ghost use Rattle.coset_recipient.specs.Equality.{mac_eq, mac_eq_equiv};
+ghost use Rattle.coset_recipient.specs.Mac.{and_mac_recipient, empty_mac, mac, mac_seen, mac_structure_of, with_tag};
+ghost use Rattle.coset_recipient.specs.RecipientView.{recipient_seen};
+
+use crate::recipient::{CoseRecipient, copies, read_recipients, same_lists};
+use coset_cbor::de::Pull;
+use coset_cbor::value::Value;
+use coset_core::{Bstr, Header, ProtectedHeader, fill_headers};
+use coset_msg::MacContext;
+use coset_msg::mac_structure::authenticated_bytes;
+use coset_shape::encode::{
+    Array, Encode, encode_five, encode_to_tagged_vec, encode_to_value, encode_to_vec,
+};
+use coset_shape::traits::{FromPull, read_slice, read_tagged_slice};
+use coset_shape::util::copy_bytes;
+use coset_shape::{
+    AsCborValue, CallError, CborSerializable, Lawful, Result, Source, TaggedCborSerializable,
+};
+use coset_sign::calls::{ask, make};
+use std::alloc::Global;
+use std::marker::Model;
+
+/// A message with a MAC, and recipients that come to the key: `COSE_Mac` (RFC 8152, section 6.1).
+#[derive(Debug, Drop)]
+pub struct CoseMac {
+    /// The header that the MAC covers.
+    pub protected: ProtectedHeader,
+    /// The header that it doesn't cover.
+    pub unprotected: Header,
+    /// What is authenticated, unless it is sent apart.
+    pub payload: Option<Vec<u8>>,
+    /// The MAC.
+    pub tag: Vec<u8>,
+    /// Who can check the MAC, and how they come to the key.
+    pub recipients: Vec<CoseRecipient>,
+}
+
+/// Reads the places into an empty message, from the last to the first.
+fn fill_mac(message: &mut CoseMac, alloc: Global, source: Source<'_>) -> Result<()>
+    requires empty { mac_seen message.old ≡ empty_mac }
+    ensures { Fills mac (source_item source.entry) (mac_seen message.new) result }
+{
+    let (protected, unprotected, payload, tag, recipients) = source.into_five(
+        "array with 5 items",
+    )?;
+    message.recipients = read_recipients(alloc, recipients)?;
+    message.tag = tag.into_bytes(alloc, "bstr")?;
+    message.payload = payload.into_bytes_or_nil(alloc, "bstr")?;
+    fill_headers(
+        &mut message.protected,
+        &mut message.unprotected,
+        alloc,
+        protected,
+        unprotected,
+    )
+}
+
+/// Reads a message.
+fn read_mac(alloc: Global, source: Source<'_>) -> Result<CoseMac>
+    ensures { Reads mac mac_seen (source_item source.entry) result }
+{
+    let mut message = CoseMac::new(alloc);
+    match fill_mac(&mut message, alloc, source) {
+        Ok(()) => Ok(message),
+        Err(error) => Err(error),
+    }
+}
+
+impl CoseMac {
+    /// An empty message: empty headers, no payload, an empty tag, no recipients. It takes no memory.
+    pub fn new(alloc: Global) -> CoseMac
+        ensures { mac_seen result ≡ empty_mac }
+    {
+        CoseMac {
+            protected: ProtectedHeader::new(alloc),
+            unprotected: Header::new(alloc),
+            payload: None,
+            tag: Vec::new(alloc),
+            recipients: Vec::new(alloc),
+        }
+    }
+
+    /// The structure over this payload.
+    fn structure(&self, alloc: Global, external_aad: &[u8], payload: &[u8]) -> Result<Vec<u8>>
+        ensures { Writes (mac_structure_of (mac_seen self.now) external_aad.now payload.now) (λ b.
+            b.items) result }
+    {
+        authenticated_bytes(
+            alloc,
+            MacContext::CoseMac,
+            &self.protected,
+            external_aad,
+            payload,
+        )
+    }
+
+    /// The payload, which the message carries.
+    fn carried(&self) -> &[u8]
+        requires { self.now.payload ≢ None }
+        ensures { (mac_seen self.now).payload ≡ Some result.now }
+    {
+        match &self.payload {
+            Some(payload) => payload,
+            None => unreachable!(),
+        }
+    }
+
+    /// Asks `verifier` whether the tag, its first argument, is the MAC of the bytes that are authenticated, its second
+    /// one (RFC 8152, section 6.3), where the message carries its payload. It is asked once, unless there is an error
+    /// of ours, and not at all then.
+    ///
+    /// # Errors
+    /// `OutOfMemory`, or `DuplicateMapKey` where the protected header wasn't read and repeats a label of its rest; or
+    /// `Caller` with the error of `verifier`.
+    pub fn verify_tag<F, E>(
+        &self,
+        alloc: Global,
+        external_aad: &[u8],
+        verifier: F,
+    ) -> Result<(), CallError<E>>
+    where
+        F: FnOnce(&[u8], &[u8]) -> Result<(), E> + Drop,
+        E: Drop,
+        requires callable { F.IsAlwaysCallable verifier }
+        requires carried { self.now.payload ≢ None }
+        ensures { IfSome (mac_seen self.now).payload (λ p. AsksAbout F.FnOnce verifier
+            (mac_seen self.now).tag (mac_structure_of (mac_seen self.now) external_aad.now p)
+            result) }
+    {
+        let structure = self.structure(alloc, external_aad, self.carried());
+        ask(&self.tag, structure, verifier)
+    }
+
+    /// The same as [`CoseMac::verify_tag`], whether the message carries its payload or not: where it carries none,
+    /// `missing` is called for the error, and `verifier` isn't.
+    ///
+    /// # Errors
+    /// The same as [`CoseMac::verify_tag`]; or `Caller` with what `missing` answers.
+    pub fn verify_payload_tag<F, E, M>(
+        &self,
+        alloc: Global,
+        external_aad: &[u8],
+        missing: M,
+        verifier: F,
+    ) -> Result<(), CallError<E>>
+    where
+        F: FnOnce(&[u8], &[u8]) -> Result<(), E> + Drop,
+        E: Drop,
+        M: FnOnce() -> E + Drop,
+        requires callable { F.IsAlwaysCallable verifier }
+        requires missing_callable { M.IsAlwaysCallable missing }
+        ensures { AsksWherePresent F.FnOnce verifier M.FnOnce missing
+            (mac_seen self.now).payload (λ p. (mac_seen self.now).tag)
+            (mac_structure_of (mac_seen self.now) external_aad.now) result }
+    {
+        let Some(payload) = &self.payload else {
+            return Err(CallError::Caller(missing()));
+        };
+        let structure = self.structure(alloc, external_aad, payload);
+        ask(&self.tag, structure, verifier)
+    }
+
+    /// A message that equals this one, with the same bytes kept.
+    ///
+    /// # Errors
+    /// `OutOfMemory` alone.
+    pub fn clone(&self) -> Result<CoseMac>
+        ensures copy { IfOk result (λ m. mac_seen m ≡ mac_seen self.now) }
+        ensures memory { IfErr result (λ e. e ≡ OutOfMemory) }
+    {
+        let payload = match &self.payload {
+            Some(payload) => Some(copy_bytes(payload)?),
+            None => None,
+        };
+        Ok(CoseMac {
+            protected: self.protected.clone()?,
+            unprotected: self.unprotected.clone()?,
+            payload,
+            tag: copy_bytes(&self.tag)?,
+            recipients: copies(&self.recipients)?,
+        })
+    }
+}
+
+/// Equality of every field, the bytes that were kept of the protected headers included.
+impl PartialEq for CoseMac {
+    ghost eq = { on mac_seen mac_eq };
+
+    ghost laws = { on_per mac_seen (partial_equiv_from_equiv mac_eq_equiv) };
+
+    fn eq(&self, other: &CoseMac) -> bool
+        ensures answers { result ≡ mac_eq (mac_seen self.now) (mac_seen other.now) }
+        ensures equal { IsTrue result ↔ (mac_seen self.now ≡ mac_seen other.now) }
+    {
+        same(self, other)
+    }
+}
+
+impl Eq for CoseMac {
+    ghost laws = { on_equiv mac_seen mac_eq_equiv };
+}
+
+/// Whether two messages are the same, the bytes that were kept included.
+fn same(a: &CoseMac, b: &CoseMac) -> bool
+    ensures { result ≡ mac_eq (mac_seen a.now) (mac_seen b.now) }
+{
+    a.protected == b.protected
+        && a.unprotected == b.unprotected
+        && a.payload == b.payload
+        && a.tag == b.tag
+        && same_lists(&a.recipients, &b.recipients)
+}
+
+impl AsCborValue for CoseMac {
+    ghost use Rattle.coset_recipient.specs.Mac.{MacSeen, mac_laws};
+
+    ghost Seen = { MacSeen };
+
+    ghost seen = { mac_seen };
+
+    ghost shape = { mac };
+
+    ghost unique = { mac_laws.unique };
+
+    ghost sound = { mac_laws.sound };
+
+    fn from_cbor_value(alloc: Global, value: Value) -> Result<CoseMac> {
+        read_mac(alloc, Source::Tree(value))
+    }
+
+    fn to_cbor_value(self, alloc: Global) -> Result<Value> {
+        encode_to_value(alloc, &self)
+    }
+}
+
+impl Lawful for CoseMac {
+    ghost use Rattle.coset_recipient.specs.Mac.{mac_laws};
+
+    ghost laws = { mac_laws };
+}
+
+impl Encode for CoseMac {
+    ghost image = { λ m. mac.image (mac_seen m) };
+
+    ghost spare = { 66 };
+
+    fn room(&self) -> usize {
+        Bstr(&self.protected)
+            .room()
+            .saturating_add(self.unprotected.room())
+            .saturating_add(self.payload.room())
+            .saturating_add(self.tag.room())
+    }
+
+    fn encode(&self, alloc: Global, out: &mut Vec<u8>) -> Result<()> {
+        encode_five(
+            alloc,
+            &Bstr(&self.protected),
+            &self.unprotected,
+            &self.payload,
+            &self.tag,
+            &Array(&self.recipients),
+            out,
+        )
+    }
+}
+
+impl FromPull for CoseMac {
+    fn from_pull(alloc: Global, pull: Pull<'_>) -> Result<CoseMac> {
+        read_mac(alloc, Source::Lent(pull))
+    }
+}
+
+impl CborSerializable for CoseMac {
+    fn from_slice(alloc: Global, s: &[u8]) -> Result<CoseMac> {
+        read_slice(alloc, s)
+    }
+
+    fn to_vec(self, alloc: Global) -> Result<Vec<u8>> {
+        encode_to_vec(alloc, &self)
+    }
+}
+
+impl TaggedCborSerializable for CoseMac {
+    ghost TAG = { 97 };
+
+    const TAG: u64 = 97;
+
+    fn from_tagged_slice(alloc: Global, s: &[u8]) -> Result<CoseMac> {
+        read_tagged_slice(alloc, 97, s)
+    }
+
+    fn to_tagged_vec(self, alloc: Global) -> Result<Vec<u8>> {
+        encode_to_tagged_vec(alloc, 97, &self)
+    }
+}
+
+/// Makes a [`CoseMac`], field by field. Contracts see it as the message that [`build`](CoseMacBuilder::build) gives.
+#[derive(Debug, Drop)]
+pub struct CoseMacBuilder(CoseMac);
+
+impl Model for CoseMacBuilder {
+    ghost use Rattle.std.specs.Coded.{codes};
+    ghost use Rattle.coset_recipient.specs.contracts.mac.CoseMac as contracts;
+    ghost use Rattle.coset_recipient.specs.declared.mac.CoseMac.{CoseMac};
+
+    ghost Value = { CoseMac };
+
+    ghost coded = { Prim.hlevel (codes, contracts.the_row.coded) };
+
+    ghost view = { λ b. b.0 };
+
+    ghost inverse = { λ v. record { 0 = v } };
+}
+
+impl CoseMacBuilder {
+    /// An empty message. It takes no memory.
+    pub fn new(alloc: Global) -> CoseMacBuilder
+        ensures { mac_seen result ≡ empty_mac }
+    {
+        CoseMacBuilder(CoseMac::new(alloc))
+    }
+
+    /// The message that was made.
+    pub fn build(self) -> CoseMac
+        ensures { result ≡ self }
+    {
+        self.0
+    }
+
+    /// Sets the protected header: one that was made, and not read, so that it has no bytes of its own yet.
+    pub fn protected(mut self, header: Header) -> CoseMacBuilder
+        ensures { mac_seen result ≡ record
+            (mac_seen self) { protected = unread (header_seen header) } }
+    {
+        self.0.protected = ProtectedHeader {
+            original_data: None,
+            header,
+        };
+        self
+    }
+
+    /// Sets the unprotected header.
+    pub fn unprotected(mut self, header: Header) -> CoseMacBuilder
+        ensures { mac_seen result ≡ record
+            (mac_seen self) { unprotected = header_seen header } }
+    {
+        self.0.unprotected = header;
+        self
+    }
+
+    /// Sets the payload.
+    pub fn payload(mut self, payload: Vec<u8>) -> CoseMacBuilder
+        ensures { mac_seen result ≡ record (mac_seen self) { payload = Some payload.items } }
+    {
+        self.0.payload = Some(payload);
+        self
+    }
+
+    /// Sets the tag.
+    pub fn tag(mut self, tag: Vec<u8>) -> CoseMacBuilder
+        ensures { mac_seen result ≡ with_tag tag.items (mac_seen self) }
+    {
+        self.0.tag = tag;
+        self
+    }
+
+    /// Adds a recipient, behind the others.
+    ///
+    /// # Errors
+    /// `OutOfMemory` alone.
+    pub fn add_recipient(mut self, recipient: CoseRecipient) -> Result<CoseMacBuilder>
+        ensures ok { IfOk result (λ b. mac_seen b
+            ≡ and_mac_recipient (recipient_seen recipient) (mac_seen self)) }
+        ensures memory { IfErr result (λ e. e ≡ OutOfMemory) }
+    {
+        self.0.recipients.push(recipient)?;
+        Ok(self)
+    }
+
+    /// Sets the tag to what `creator` makes of the bytes that are authenticated (RFC 8152, section 6.3), so all other
+    /// fields are set before, the payload too. It is called once, unless there is an error of ours, and not at all
+    /// then.
+    ///
+    /// # Errors
+    /// `OutOfMemory`, or `DuplicateMapKey` where the protected header repeats a label of its rest.
+    pub fn create_tag<F>(
+        self,
+        alloc: Global,
+        external_aad: &[u8],
+        creator: F,
+    ) -> Result<CoseMacBuilder>
+    where
+        F: FnOnce(&[u8]) -> Vec<u8> + Drop,
+        requires callable { F.IsAlwaysCallable creator }
+        requires carried { self.payload ≢ None }
+        ensures { IfSome (mac_seen self).payload (λ p. Creates F.FnOnce creator
+            (mac_structure_of (mac_seen self) external_aad.now p) (λ t b. mac_seen b
+            ≡ with_tag t.items (mac_seen self)) result) }
+    {
+        let tbm = self.0.structure(alloc, external_aad, self.0.carried())?;
+        Ok(self.tag(creator(&tbm)))
+    }
+
+    /// The same as [`CoseMacBuilder::create_tag`] with a `creator` that may refuse.
+    ///
+    /// # Errors
+    /// The same as [`CoseMacBuilder::create_tag`]; or `Caller` with the error of `creator`.
+    pub fn try_create_tag<F, E>(
+        self,
+        alloc: Global,
+        external_aad: &[u8],
+        creator: F,
+    ) -> Result<CoseMacBuilder, CallError<E>>
+    where
+        F: FnOnce(&[u8]) -> Result<Vec<u8>, E> + Drop,
+        E: Drop,
+        requires callable { F.IsAlwaysCallable creator }
+        requires carried { self.payload ≢ None }
+        ensures { IfSome (mac_seen self).payload (λ p. TriesToCreate F.FnOnce creator
+            (mac_structure_of (mac_seen self) external_aad.now p) (λ t b. mac_seen b
+            ≡ with_tag t.items (mac_seen self)) result) }
+    {
+        let structure = self.0.structure(alloc, external_aad, self.0.carried());
+        let tag = make(structure, creator)?;
+        Ok(self.tag(tag))
+    }
+}

@@ -1,0 +1,881 @@
+//! Recipients: who can decrypt a message, or check its MAC, and how they come to the key (RFC 8152, section 5.1).
+//!
+//! ```cddl
+//! COSE_recipient = [ Headers, ciphertext : bstr / nil, ? recipients : [+ COSE_recipient] ]
+//! ```
+//!
+//! An empty list of recipients is read too, and is left out where it is written.
+
+ghost use Rattle.std.specs.Prelude.{◌≡◌, ◌≢◌, ◌↔◌, ◌≤◌, ◌<◌, ◌+◌, [], length, map, option_map, IsTrue, IfOk, IfErr, IfSome, OnOk, OnErr, Some, None};
+ghost use Rattle.std.specs.Ordering.{on};
+ghost use Rattle.std.specs.Cmp.Lexicographic.{pointwise};
+ghost use Rattle.std.specs.Cmp.{on_equiv, on_per, partial_equiv_from_equiv};
+ghost use Rattle.coset_value.specs.Item.{Item, array, Items};
+ghost use Rattle.coset_shape.specs.declared.error.CoseError.TheVariants.{OutOfMemory};
+ghost use Rattle.coset_shape.specs.Answers.{Reads, Writes};
+ghost use Rattle.coset_shape.specs.Encoding.{AppendsPlaces, Encodes, HasNoImage};
+ghost use Rattle.coset_shape.specs.Errors.{IsUnexpected, answer};
+ghost use Rattle.coset_shape.specs.InPlace.{BeginsNext, Fills, FillsEach, GetsOne, GetsPlace};
+ghost use Rattle.coset_shape.specs.Inputs.{State, state, length_left, input_size, items_size, items_turns, Stands, GoesBehind, AreWithin};
+ghost use Rattle.coset_shape.specs.Shape.{images, list_of};
+ghost use Rattle.coset_shape.specs.Sources.{source_item};
+ghost use Rattle.coset_core.specs.Headers.{empty_header};
+ghost use Rattle.coset_core.specs.Messages.{unread};
+ghost use Rattle.coset_core.specs.Views.{header_seen, protected_seen};
+ghost use Rattle.coset_sign.specs.Calls.{AsksAbout};
+ghost use Rattle.coset_msg.specs.Presence.{AsksWherePresent, CreatesOf, TriesToCreateOf};
+ghost use Rattle.coset_recipient.specs.Recipient.{IsOfRecipient, and_recipient, are_none, empty_recipient, recipient as recipient_shape, recipient_image, recipient_structure, recipients_of, with_ciphertext};
+ghost use Rattle.coset_recipient.specs.RecipientReading.{FillsFirst, FillsLast, TakesPlace, TakesThree};
+ghost use Rattle.coset_recipient.specs.RecipientWriting.{Begins, last_places};
+ghost use Rattle.coset_recipient.specs.RecipientSame.{recipient_eq, recipient_eq_equiv, recipients_eq};
+ghost use Rattle.coset_recipient.specs.RecipientView.{recipient_seen};
+
+use coset_cbor::de::Pull;
+use coset_cbor::ser::write_array_head;
+use coset_cbor::value::Value;
+use coset_core::{Bstr, Header, ProtectedHeader, fill_headers};
+use coset_msg::EncryptionContext;
+use coset_msg::enc_structure::additional_bytes;
+use coset_shape::encode::{Encode, encode_to_value, encode_to_vec};
+use coset_shape::error::{Refused, keep_error};
+use coset_shape::input::{Input, InputItems};
+use coset_shape::traits::{FromPull, read_slice};
+use coset_shape::util::copy_bytes;
+use coset_shape::{AsCborValue, CallError, CborSerializable, CoseError, Lawful, Result, Source};
+use coset_sign::calls::ask;
+use std::alloc::{AllocError, Global};
+use std::marker::Model;
+
+/// A recipient of a message: `COSE_recipient` (RFC 8152, section 5.1).
+#[derive(Debug, Drop)]
+pub struct CoseRecipient {
+    /// The header that is authenticated with the ciphertext.
+    pub protected: ProtectedHeader,
+    /// The header that isn't.
+    pub unprotected: Header,
+    /// The encrypted key, unless there is none, as where the key is agreed on.
+    pub ciphertext: Option<Vec<u8>>,
+    /// Who can decrypt that ciphertext, and how.
+    pub recipients: Vec<CoseRecipient>,
+}
+
+/// The error of an array that hasn't three or four places.
+#[cold]
+fn misfit() -> CoseError
+    ensures { IsUnexpected result }
+{
+    CoseError::UnexpectedItem("array", "array with 3 or 4 items")
+}
+
+/// The next place of a recipient's array.
+///
+/// # Errors
+/// `UnexpectedItem`: none is left.
+fn next_place<'a>(
+    members: &mut InputItems,
+    input: &mut Input<'a>,
+    error: &mut CoseError,
+) -> Result<Source<'a>, Refused>
+    ensures shrinks { length_left (state input.new) ≤ length_left (state input.old) }
+    ensures size { items_size members.new (state input.new) ≤ items_size members.old
+        (state input.old) }
+    ensures takes { (vs : Items) (z : State) → AreWithin members.old vs (state input.old) z
+        → TakesPlace vs (state input.new) z members.new (answer error.new result) }
+{
+    match keep_error(members.take(input), error)? {
+        Some(place) => Ok(place),
+        None => {
+            *error = misfit();
+            Err(Refused)
+        }
+    }
+}
+
+/// The first three places of a recipient's array. They are judged after the fourth.
+///
+/// # Errors
+/// `UnexpectedItem`: there are fewer.
+#[inline(never)]
+fn take_three<'a>(
+    members: &mut InputItems,
+    input: &mut Input<'a>,
+    error: &mut CoseError,
+) -> Result<(Source<'a>, Source<'a>, Source<'a>), Refused>
+    ensures shrinks { length_left (state input.new) ≤ length_left (state input.old) }
+    ensures size { items_size members.new (state input.new) ≤ items_size members.old
+        (state input.old) }
+    ensures takes { (vs : Items) (z : State) → AreWithin members.old vs (state input.old) z
+        → TakesThree vs (state input.new) z members.new (answer error.new result) }
+{
+    let protected = next_place(members, input, error)?;
+    let unprotected = next_place(members, input, error)?;
+    let ciphertext = next_place(members, input, error)?;
+    Ok((protected, unprotected, ciphertext))
+}
+
+/// Reads the first three places of a recipient's array into empty ones, from the last to the first.
+///
+/// # Errors
+/// `OutOfMemory`, or the first fault found.
+#[inline(never)]
+fn fill_first(
+    protected: &mut ProtectedHeader,
+    unprotected: &mut Header,
+    ciphertext: &mut Option<Vec<u8>>,
+    alloc: Global,
+    places: (Source<'_>, Source<'_>, Source<'_>),
+    error: &mut CoseError,
+) -> Result<(), Refused>
+    requires protected { (protected_seen protected.old).header ≡ empty_header }
+    requires unprotected { header_seen unprotected.old ≡ empty_header }
+    ensures { FillsFirst (source_item places.entry.0) (source_item places.entry.1)
+        (source_item places.entry.2) (protected_seen protected.new) (header_seen unprotected.new)
+        (option_map (λ b. b.items) ciphertext.new) (answer error.new result) }
+{
+    let (first, second, third) = places;
+    *ciphertext = keep_error(third.into_bytes_or_nil(alloc, "bstr / null"), error)?;
+    keep_error(
+        fill_headers(protected, unprotected, alloc, first, second),
+        error,
+    )
+}
+
+/// One more recipient, which holds nothing.
+#[inline(never)]
+fn push_empty(alloc: Global, all: &mut Vec<CoseRecipient>) -> Result<(), AllocError>
+    ensures { OnOk result
+        (GetsOne recipient_seen empty_recipient all.old.items all.new.items) }
+{
+    all.push(CoseRecipient::new(alloc))?;
+    Ok(())
+}
+
+/// One more recipient, which holds nothing. The first takes room for itself alone.
+fn add_recipient(
+    alloc: Global,
+    all: &mut Vec<CoseRecipient>,
+    error: &mut CoseError,
+) -> Result<(), Refused>
+    ensures ok { OnOk result
+        (GetsOne recipient_seen empty_recipient all.old.items all.new.items) }
+    ensures refused { OnErr result (error.new ≡ OutOfMemory) }
+{
+    let is_first = all.is_empty();
+    if is_first && all.reserve_exact(1).is_err() || push_empty(alloc, all).is_err() {
+        *error = CoseError::OutOfMemory;
+        return Err(Refused);
+    }
+    Ok(())
+}
+
+/// Whether one more recipient stands at the input, for which one more that holds nothing is there then.
+///
+/// # Errors
+/// `OutOfMemory`; the recipient is then passed.
+#[inline(never)]
+fn next_recipient(
+    alloc: Global,
+    all: &mut Vec<CoseRecipient>,
+    members: &mut InputItems,
+    input: &mut Input<'_>,
+    error: &mut CoseError,
+) -> Result<bool, Refused>
+    ensures shrinks { length_left (state input.new) ≤ length_left (state input.old) }
+    ensures size { items_size members.new (state input.new) ≤ items_size members.old
+        (state input.old) }
+    ensures member { IfOk result (λ b. IsTrue b
+        → input_size (state input.new) ≤ items_size members.old
+        (state input.old)) }
+    ensures turns { IfOk result (λ b. IsTrue b → (t : State) → GoesBehind (state input.new) t
+        → items_turns members.new t < items_turns members.old (state input.old)) }
+    ensures place { IfOk result
+        (GetsPlace recipient_seen empty_recipient all.old.items all.new.items) }
+    ensures next { (vs : Items) (z : State) → AreWithin members.old vs (state input.old) z
+        → BeginsNext vs (state input.new) z members.new (answer error.new result) }
+{
+    if !members.next(input) {
+        return Ok(false);
+    }
+    match add_recipient(alloc, all, error) {
+        Ok(()) => Ok(true),
+        Err(Refused) => {
+            input.pass();
+            Err(Refused)
+        }
+    }
+}
+
+/// Reads an array of recipients into an empty list.
+///
+/// # Errors
+/// `UnexpectedItem`: the item is no array; or the same as [`fill_each`].
+#[cycle(read)]
+pub(crate) fn fill_recipients(
+    all: &mut Vec<CoseRecipient>,
+    alloc: Global,
+    input: &mut Input<'_>,
+    error: &mut CoseError,
+) -> Result<(), Refused>
+    requires empty { map recipient_seen all.old.items ≡ [] }
+    ensures shrinks { length_left (state input.new) ≤ length_left (state input.old) }
+    ensures fills { (v : Item) (z : State) → Stands v (state input.old) z
+        → (state input.new ≡ z)
+        × Fills (list_of recipient_shape) v (map recipient_seen all.new.items)
+        (answer error.new result) }
+{
+    let mut members = keep_error(input.enter_array("array"), error)?;
+    let filled = fill_each(all, alloc, &mut members, input, error);
+    members.finish(input);
+    filled
+}
+
+/// Reads each of some recipients into an empty list.
+///
+/// # Errors
+/// `OutOfMemory`, or the fault of the first that has one.
+#[cycle(read)]
+fn fill_each(
+    all: &mut Vec<CoseRecipient>,
+    alloc: Global,
+    members: &mut InputItems,
+    input: &mut Input<'_>,
+    error: &mut CoseError,
+) -> Result<(), Refused>
+    requires empty { map recipient_seen all.old.items ≡ [] }
+    ensures shrinks { length_left (state input.new) ≤ length_left (state input.old) }
+    ensures fills { (vs : Items) (z : State) → AreWithin members.old vs (state input.old) z
+        → ((left : Items) × AreWithin members.new left (state input.new) z)
+        × FillsEach recipient_shape vs (map recipient_seen all.new.items)
+        (answer error.new result) }
+{
+    while next_recipient(alloc, all, members, input, error)? {
+        let last = all.len() - 1;
+        fill_recipient(&mut all[last], alloc, input, error)?;
+    }
+    Ok(())
+}
+
+/// Reads a recipient into one that holds nothing.
+///
+/// # Errors
+/// `UnexpectedItem`: the item is no array; or the same as [`fill_places`].
+#[cycle(read)]
+fn fill_recipient(
+    recipient: &mut CoseRecipient,
+    alloc: Global,
+    input: &mut Input<'_>,
+    error: &mut CoseError,
+) -> Result<(), Refused>
+    requires empty { recipient_seen recipient.old ≡ empty_recipient }
+    ensures shrinks { length_left (state input.new) ≤ length_left (state input.old) }
+    ensures strictly { OnOk result (GoesBehind (state input.old) (state input.new)) }
+    ensures fills { (v : Item) (z : State) → Stands v (state input.old) z
+        → (state input.new ≡ z)
+        × Fills recipient_shape v (recipient_seen recipient.new) (answer error.new result) }
+{
+    let mut members = keep_error(input.enter_array("array"), error)?;
+    let filled = fill_places(recipient, alloc, &mut members, input, error);
+    members.finish(input);
+    filled
+}
+
+/// Reads the places of a recipient's array into one that holds nothing. They are judged from the last on.
+///
+/// # Errors
+/// `OutOfMemory`; `UnexpectedItem` where they are neither three nor four; or the fault of the last place that has one.
+#[cycle(read)]
+fn fill_places(
+    recipient: &mut CoseRecipient,
+    alloc: Global,
+    members: &mut InputItems,
+    input: &mut Input<'_>,
+    error: &mut CoseError,
+) -> Result<(), Refused>
+    requires empty { recipient_seen recipient.old ≡ empty_recipient }
+    ensures shrinks { length_left (state input.new) ≤ length_left (state input.old) }
+    ensures fills { (vs : Items) (z : State) → AreWithin members.old vs (state input.old) z
+        → ((left : Items) × AreWithin members.new left (state input.new) z)
+        × Fills recipient_shape (array vs) (recipient_seen recipient.new)
+        (answer error.new result) }
+{
+    let places = take_three(members, input, error)?;
+    fill_last(&mut recipient.recipients, alloc, members, input, error)?;
+    fill_first(
+        &mut recipient.protected,
+        &mut recipient.unprotected,
+        &mut recipient.ciphertext,
+        alloc,
+        places,
+        error,
+    )
+}
+
+/// Reads the fourth place of a recipient's array, if it is there, into an empty list.
+///
+/// # Errors
+/// `UnexpectedItem`: a fifth follows; or the same as [`fill_recipients`].
+#[cycle(read)]
+fn fill_last(
+    all: &mut Vec<CoseRecipient>,
+    alloc: Global,
+    members: &mut InputItems,
+    input: &mut Input<'_>,
+    error: &mut CoseError,
+) -> Result<(), Refused>
+    requires empty { map recipient_seen all.old.items ≡ [] }
+    ensures shrinks { length_left (state input.new) ≤ length_left (state input.old) }
+    ensures fills { (vs : Items) (z : State) → AreWithin members.old vs (state input.old) z
+        → ((left : Items) × AreWithin members.new left (state input.new) z)
+        × FillsLast vs (map recipient_seen all.new.items) (answer error.new result) }
+{
+    if !members.next(input) {
+        return Ok(());
+    }
+    let filled = fill_recipients(all, alloc, input, error);
+    if members.next(input) {
+        input.pass();
+        *error = misfit();
+        return Err(Refused);
+    }
+    filled
+}
+
+/// Recipients, read from their array.
+pub(crate) fn read_recipients(alloc: Global, source: Source<'_>) -> Result<Vec<CoseRecipient>>
+    ensures { Reads (list_of recipient_shape) (λ all. map recipient_seen all.items)
+        (source_item source.entry) result }
+{
+    let mut all = Vec::new(alloc);
+    let mut input = Input::new(source);
+    let mut error = CoseError::OutOfMemory;
+    match fill_recipients(&mut all, alloc, &mut input, &mut error) {
+        Ok(()) => Ok(all),
+        Err(Refused) => Err(error),
+    }
+}
+
+/// A recipient.
+fn read_recipient(alloc: Global, source: Source<'_>) -> Result<CoseRecipient>
+    ensures { Reads recipient_shape recipient_seen (source_item source.entry) result }
+{
+    let mut recipient = CoseRecipient::new(alloc);
+    let mut input = Input::new(source);
+    let mut error = CoseError::OutOfMemory;
+    match fill_recipient(&mut recipient, alloc, &mut input, &mut error) {
+        Ok(()) => Ok(recipient),
+        Err(Refused) => Err(error),
+    }
+}
+
+/// Whether there are no recipients.
+fn are_none(all: &[CoseRecipient]) -> bool
+    ensures { result ≡ are_none (recipients_of (map recipient_seen all.now)) }
+{
+    all.is_empty()
+}
+
+/// How many places the recipient's array has.
+fn count_places(recipient: &CoseRecipient) -> usize
+    ensures { result ≡ 3 + last_places (recipient_seen recipient.now).recipients }
+{
+    if are_none(&recipient.recipients) {
+        3
+    } else {
+        4
+    }
+}
+
+/// Appends the head of a recipient's array, and its first three places.
+fn write_first(alloc: Global, recipient: &CoseRecipient, out: &mut Vec<u8>) -> Result<()>
+    ensures { Begins (recipient_seen recipient.now) out.old.items out.new.items result }
+{
+    write_array_head(count_places(recipient), out)?;
+    Bstr(&recipient.protected).encode(alloc, out)?;
+    recipient.unprotected.encode(alloc, out)?;
+    recipient.ciphertext.encode(alloc, out)
+}
+
+/// Appends the array of the recipient.
+#[cycle(write)]
+fn write_recipient(alloc: Global, recipient: &CoseRecipient, out: &mut Vec<u8>) -> Result<()>
+    ensures { Encodes (recipient_image (recipient_seen recipient.now)) out.old.items
+        out.new.items result }
+{
+    write_first(alloc, recipient, out)?;
+    let inside: &[CoseRecipient] = &recipient.recipients;
+    if are_none(inside) {
+        return Ok(());
+    }
+    write_recipients(alloc, inside, out)
+}
+
+/// Appends the array of recipients.
+#[cycle(write)]
+fn write_recipients(alloc: Global, all: &[CoseRecipient], out: &mut Vec<u8>) -> Result<()>
+    ensures { Encodes (option_map array (images recipient_image (map recipient_seen all.now)))
+        out.old.items out.new.items result }
+{
+    write_array_head(all.len(), out)?;
+    write_each(alloc, all, out)
+}
+
+/// Appends recipients, one after the other.
+#[cycle(write)]
+fn write_each(alloc: Global, all: &[CoseRecipient], out: &mut Vec<u8>) -> Result<()>
+    ensures ok { OnOk result (AppendsPlaces
+        (images recipient_image (map recipient_seen all.now)) (length all.now) out.old.items
+        out.new.items) }
+    ensures refused { IfErr result
+        (HasNoImage (images recipient_image (map recipient_seen all.now))) }
+{
+    for recipient in all {
+        write_recipient(alloc, recipient, out)?;
+    }
+    Ok(())
+}
+
+/// Copies a protected header, with the bytes that it keeps.
+#[inline(never)]
+fn copy_protected(protected: &ProtectedHeader, copy: &mut ProtectedHeader) -> Result<(), AllocError>
+    ensures { OnOk result (protected_seen copy.new ≡ protected_seen protected.now) }
+{
+    *copy = Clone::clone(protected)?;
+    Ok(())
+}
+
+/// Copies an unprotected header.
+#[inline(never)]
+fn copy_header(header: &Header, copy: &mut Header) -> Result<(), AllocError>
+    ensures { OnOk result (header_seen copy.new ≡ header_seen header.now) }
+{
+    *copy = Clone::clone(header)?;
+    Ok(())
+}
+
+/// Copies bytes that may not be there.
+#[inline(never)]
+fn copy_ciphertext(
+    ciphertext: &Option<Vec<u8>>,
+    copy: &mut Option<Vec<u8>>,
+) -> Result<(), AllocError>
+    ensures { OnOk result (option_map (λ b. b.items) copy.new
+        ≡ option_map (λ b. b.items) ciphertext.now) }
+{
+    *copy = match ciphertext {
+        Some(bytes) => Some(Vec::from_slice(*bytes.allocator(), bytes)?),
+        None => None,
+    };
+    Ok(())
+}
+
+/// Empties a list, and makes room for that many.
+#[inline(never)]
+fn make_room(copies: &mut Vec<CoseRecipient>, count: usize) -> Result<(), AllocError>
+    ensures { copies.new.items ≡ [] }
+{
+    copies.clear();
+    copies.reserve_exact(count)
+}
+
+/// Copies recipients into a list, in place of those that it holds.
+#[cycle(copy)]
+fn copy_recipients(all: &[CoseRecipient], copies: &mut Vec<CoseRecipient>) -> Result<(), AllocError>
+    ensures { OnOk result (map recipient_seen copies.new.items ≡ map recipient_seen all.now) }
+{
+    make_room(copies, all.len())?;
+    for recipient in all {
+        push_empty(*copies.allocator(), copies)?;
+        let last = copies.len() - 1;
+        copy_recipient(recipient, &mut copies[last])?;
+    }
+    Ok(())
+}
+
+/// Copies a recipient into another.
+#[cycle(copy)]
+fn copy_recipient(recipient: &CoseRecipient, copy: &mut CoseRecipient) -> Result<(), AllocError>
+    ensures { OnOk result (recipient_seen copy.new ≡ recipient_seen recipient.now) }
+{
+    copy_protected(&recipient.protected, &mut copy.protected)?;
+    copy_header(&recipient.unprotected, &mut copy.unprotected)?;
+    copy_ciphertext(&recipient.ciphertext, &mut copy.ciphertext)?;
+    copy_recipients(&recipient.recipients, &mut copy.recipients)
+}
+
+#[cycle(same)]
+fn same_recipients(all: &[CoseRecipient], others: &[CoseRecipient]) -> bool
+    ensures { result ≡ recipients_eq (recipients_of (map recipient_seen all.now))
+        (recipients_of (map recipient_seen others.now)) }
+{
+    if all.len() != others.len() {
+        return false;
+    }
+    for (a, b) in all.iter().zip(others) {
+        if !same_recipient(a, b) {
+            return false;
+        }
+    }
+    true
+}
+
+#[cycle(same)]
+fn same_recipient(a: &CoseRecipient, b: &CoseRecipient) -> bool
+    ensures { result ≡ recipient_eq (recipient_seen a.now) (recipient_seen b.now) }
+{
+    a.protected == b.protected
+        && a.unprotected == b.unprotected
+        && a.ciphertext == b.ciphertext
+        && same_recipients(&a.recipients, &b.recipients)
+}
+
+/// Copies of recipients, with the same bytes kept.
+///
+/// # Errors
+/// `OutOfMemory` alone.
+pub(crate) fn copies(all: &Vec<CoseRecipient>) -> Result<Vec<CoseRecipient>>
+    ensures copies { IfOk result (λ c. map recipient_seen c.items
+        ≡ map recipient_seen all.now.items) }
+    ensures memory { IfErr result (λ e. e ≡ OutOfMemory) }
+{
+    Ok(Clone::clone(all)?)
+}
+
+/// Whether two lists of recipients are the same, the bytes that were kept included.
+pub(crate) fn same_lists(all: &Vec<CoseRecipient>, others: &Vec<CoseRecipient>) -> bool
+    ensures { result ≡ pointwise recipient_eq (map recipient_seen all.now.items)
+        (map recipient_seen others.now.items) }
+{
+    all == others
+}
+
+impl CoseRecipient {
+    /// An empty recipient: empty headers, no ciphertext, no recipients. It takes no memory.
+    pub fn new(alloc: Global) -> CoseRecipient
+        ensures { recipient_seen result ≡ empty_recipient }
+    {
+        CoseRecipient {
+            protected: ProtectedHeader::new(alloc),
+            unprotected: Header::new(alloc),
+            ciphertext: None,
+            recipients: Vec::new(alloc),
+        }
+    }
+
+    /// The structure that goes with the ciphertext.
+    fn structure(
+        &self,
+        alloc: Global,
+        context: EncryptionContext,
+        external_aad: &[u8],
+    ) -> Result<Vec<u8>>
+        ensures { Writes (recipient_structure context (recipient_seen self.now)
+            external_aad.now) (λ b. b.items) result }
+    {
+        additional_bytes(alloc, context, &self.protected, external_aad)
+    }
+
+    /// The ciphertext, which the recipient carries.
+    fn carried(&self) -> &[u8]
+        requires { (recipient_seen self.now).ciphertext ≢ None }
+        ensures { (recipient_seen self.now).ciphertext ≡ Some result.now }
+    {
+        match &self.ciphertext {
+            Some(ciphertext) => ciphertext,
+            None => unreachable!(),
+        }
+    }
+
+    /// What `cipher` makes of the ciphertext, its first argument, and of the additional authenticated data that go with
+    /// it, its second one (RFC 8152, section 5.3), where the recipient has a ciphertext: the key, or what else is
+    /// encrypted. The context is that of a recipient of an encrypted message, of a MAC, or of another recipient.
+    /// `cipher` is called once, unless there is an error of ours, and not at all then.
+    ///
+    /// # Errors
+    /// `OutOfMemory`, or `DuplicateMapKey` where the protected header wasn't read and repeats a label of its rest; or
+    /// `Caller` with the error of `cipher`.
+    pub fn decrypt<F, E>(
+        &self,
+        alloc: Global,
+        context: EncryptionContext,
+        external_aad: &[u8],
+        cipher: F,
+    ) -> Result<Vec<u8>, CallError<E>>
+    where
+        F: FnOnce(&[u8], &[u8]) -> Result<Vec<u8>, E> + Drop,
+        E: Drop,
+        requires callable { F.IsAlwaysCallable cipher }
+        requires context { IsOfRecipient context }
+        requires carried { (recipient_seen self.now).ciphertext ≢ None }
+        ensures { IfSome (recipient_seen self.now).ciphertext (λ c. AsksAbout F.FnOnce cipher c
+            (recipient_structure context (recipient_seen self.now) external_aad.now) result) }
+    {
+        let structure = self.structure(alloc, context, external_aad);
+        ask(self.carried(), structure, cipher)
+    }
+
+    /// The same as [`CoseRecipient::decrypt`], whether the recipient has a ciphertext or not: where it has none,
+    /// `missing` is called for the error, and `cipher` isn't.
+    ///
+    /// # Errors
+    /// The same as [`CoseRecipient::decrypt`]; or `Caller` with what `missing` answers.
+    pub fn decrypt_ciphertext<F, E, M>(
+        &self,
+        alloc: Global,
+        context: EncryptionContext,
+        external_aad: &[u8],
+        missing: M,
+        cipher: F,
+    ) -> Result<Vec<u8>, CallError<E>>
+    where
+        F: FnOnce(&[u8], &[u8]) -> Result<Vec<u8>, E> + Drop,
+        E: Drop,
+        M: FnOnce() -> E + Drop,
+        requires callable { F.IsAlwaysCallable cipher }
+        requires missing_callable { M.IsAlwaysCallable missing }
+        requires context { (recipient_seen self.now).ciphertext ≢ None → IsOfRecipient context }
+        ensures { AsksWherePresent F.FnOnce cipher M.FnOnce missing
+            (recipient_seen self.now).ciphertext (λ c. c) (λ _. recipient_structure context
+            (recipient_seen self.now) external_aad.now) result }
+    {
+        let Some(ciphertext) = &self.ciphertext else {
+            return Err(CallError::Caller(missing()));
+        };
+        let structure = self.structure(alloc, context, external_aad);
+        ask(ciphertext, structure, cipher)
+    }
+
+    /// A recipient that equals this one, with the same bytes kept.
+    ///
+    /// # Errors
+    /// `OutOfMemory` alone.
+    pub fn clone(&self) -> Result<CoseRecipient>
+        ensures copy { IfOk result (λ r. recipient_seen r ≡ recipient_seen self.now) }
+        ensures memory { IfErr result (λ e. e ≡ OutOfMemory) }
+    {
+        Ok(Clone::clone(self)?)
+    }
+}
+
+/// The same as [`CoseRecipient::clone`], for generic code.
+impl Clone for CoseRecipient {
+    ghost is_clone = { λ recipient copy. recipient_seen copy ≡ recipient_seen recipient };
+
+    fn clone(&self) -> Result<CoseRecipient, AllocError> {
+        let mut copy = CoseRecipient::new(*self.recipients.allocator());
+        copy_recipient(self, &mut copy)?;
+        Ok(copy)
+    }
+}
+
+/// Equality of every field, the bytes that were kept of the protected headers included.
+impl PartialEq for CoseRecipient {
+    ghost eq = { on recipient_seen recipient_eq };
+
+    ghost laws = { on_per recipient_seen (partial_equiv_from_equiv recipient_eq_equiv) };
+
+    fn eq(&self, other: &CoseRecipient) -> bool
+        ensures answers { result
+            ≡ recipient_eq (recipient_seen self.now) (recipient_seen other.now) }
+        ensures equal { IsTrue result
+            ↔ (recipient_seen self.now ≡ recipient_seen other.now) }
+    {
+        same_recipient(self, other)
+    }
+}
+
+impl Eq for CoseRecipient {
+    ghost laws = { on_equiv recipient_seen recipient_eq_equiv };
+}
+
+impl AsCborValue for CoseRecipient {
+    ghost use Rattle.coset_recipient.specs.Recipient.{RecipientSeen};
+    ghost use Rattle.coset_recipient.specs.RecipientLaws.{recipient_laws};
+
+    ghost Seen = { RecipientSeen };
+
+    ghost seen = { recipient_seen };
+
+    ghost shape = { recipient_shape };
+
+    ghost unique = { recipient_laws.unique };
+
+    ghost sound = { recipient_laws.sound };
+
+    fn from_cbor_value(alloc: Global, value: Value) -> Result<CoseRecipient> {
+        read_recipient(alloc, Source::Tree(value))
+    }
+
+    fn to_cbor_value(self, alloc: Global) -> Result<Value> {
+        encode_to_value(alloc, &self)
+    }
+}
+
+impl Lawful for CoseRecipient {
+    ghost use Rattle.coset_recipient.specs.RecipientLaws.{recipient_laws};
+
+    ghost laws = { recipient_laws };
+}
+
+impl Encode for CoseRecipient {
+    ghost image = { λ r. recipient_shape.image (recipient_seen r) };
+
+    ghost spare = { 57 };
+
+    fn room(&self) -> usize {
+        Bstr(&self.protected)
+            .room()
+            .saturating_add(self.unprotected.room())
+            .saturating_add(self.ciphertext.room())
+    }
+
+    fn encode(&self, alloc: Global, out: &mut Vec<u8>) -> Result<()> {
+        write_recipient(alloc, self, out)
+    }
+}
+
+impl FromPull for CoseRecipient {
+    fn from_pull(alloc: Global, pull: Pull<'_>) -> Result<CoseRecipient> {
+        read_recipient(alloc, Source::Lent(pull))
+    }
+}
+
+impl CborSerializable for CoseRecipient {
+    fn from_slice(alloc: Global, s: &[u8]) -> Result<CoseRecipient> {
+        read_slice(alloc, s)
+    }
+
+    fn to_vec(self, alloc: Global) -> Result<Vec<u8>> {
+        encode_to_vec(alloc, &self)
+    }
+}
+
+/// Makes a [`CoseRecipient`], field by field. Contracts see it as the recipient that
+/// [`build`](CoseRecipientBuilder::build) gives.
+#[derive(Debug, Drop)]
+pub struct CoseRecipientBuilder(CoseRecipient);
+
+impl Model for CoseRecipientBuilder {
+    ghost use Rattle.std.specs.Coded.{codes};
+    ghost use Rattle.coset_recipient.specs.contracts.recipient.CoseRecipient as contracts;
+    ghost use Rattle.coset_recipient.specs.declared.recipient.CoseRecipient.{CoseRecipient};
+
+    ghost Value = { CoseRecipient };
+
+    ghost coded = { Prim.hlevel (codes, contracts.the_row.coded) };
+
+    ghost view = { λ b. b.0 };
+
+    ghost inverse = { λ v. record { 0 = v } };
+}
+
+impl CoseRecipientBuilder {
+    /// An empty recipient. It takes no memory.
+    pub fn new(alloc: Global) -> CoseRecipientBuilder
+        ensures { recipient_seen result ≡ empty_recipient }
+    {
+        CoseRecipientBuilder(CoseRecipient::new(alloc))
+    }
+
+    /// The recipient that was made.
+    pub fn build(self) -> CoseRecipient
+        ensures { result ≡ self }
+    {
+        self.0
+    }
+
+    /// Sets the protected header: one that was made, and not read, so that it has no bytes of its own yet.
+    pub fn protected(mut self, header: Header) -> CoseRecipientBuilder
+        ensures { recipient_seen result ≡ record
+            (recipient_seen self) { protected = unread (header_seen header) } }
+    {
+        self.0.protected = ProtectedHeader {
+            original_data: None,
+            header,
+        };
+        self
+    }
+
+    /// Sets the unprotected header.
+    pub fn unprotected(mut self, header: Header) -> CoseRecipientBuilder
+        ensures { recipient_seen result ≡ record
+            (recipient_seen self) { unprotected = header_seen header } }
+    {
+        self.0.unprotected = header;
+        self
+    }
+
+    /// Sets the ciphertext.
+    pub fn ciphertext(mut self, ciphertext: Vec<u8>) -> CoseRecipientBuilder
+        ensures { recipient_seen result
+            ≡ with_ciphertext ciphertext.items (recipient_seen self) }
+    {
+        self.0.ciphertext = Some(ciphertext);
+        self
+    }
+
+    /// Adds a recipient, behind the others.
+    ///
+    /// # Errors
+    /// `OutOfMemory` alone.
+    pub fn add_recipient(mut self, recipient: CoseRecipient) -> Result<CoseRecipientBuilder>
+        ensures ok { IfOk result (λ b. recipient_seen b
+            ≡ and_recipient (recipient_seen recipient) (recipient_seen self)) }
+        ensures memory { IfErr result (λ e. e ≡ OutOfMemory) }
+    {
+        self.0.recipients.push(recipient)?;
+        Ok(self)
+    }
+
+    /// Sets the ciphertext to what `cipher` makes of the plaintext, its first argument, and of the additional
+    /// authenticated data that go with it, its second one (RFC 8152, section 5.3), so all other fields are set before.
+    /// The context is that of a recipient of an encrypted message, of a MAC, or of another recipient. `cipher` is
+    /// called once, unless there is an error of ours, and not at all then.
+    ///
+    /// # Errors
+    /// `OutOfMemory`, or `DuplicateMapKey` where the protected header repeats a label of its rest.
+    pub fn create_ciphertext<F>(
+        self,
+        alloc: Global,
+        context: EncryptionContext,
+        plaintext: &[u8],
+        external_aad: &[u8],
+        cipher: F,
+    ) -> Result<CoseRecipientBuilder>
+    where
+        F: FnOnce(&[u8], &[u8]) -> Vec<u8> + Drop,
+        requires callable { F.IsAlwaysCallable cipher }
+        requires context { IsOfRecipient context }
+        ensures { CreatesOf F.FnOnce cipher plaintext.now
+            (recipient_structure context (recipient_seen self) external_aad.now) (λ c b.
+            recipient_seen b ≡ with_ciphertext c.items (recipient_seen self)) result }
+    {
+        let structure = self.0.structure(alloc, context, external_aad)?;
+        Ok(self.ciphertext(cipher(plaintext, &structure)))
+    }
+
+    /// The same as [`CoseRecipientBuilder::create_ciphertext`] with a `cipher` that may refuse.
+    ///
+    /// # Errors
+    /// The same as [`CoseRecipientBuilder::create_ciphertext`]; or `Caller` with the error of `cipher`.
+    pub fn try_create_ciphertext<F, E>(
+        self,
+        alloc: Global,
+        context: EncryptionContext,
+        plaintext: &[u8],
+        external_aad: &[u8],
+        cipher: F,
+    ) -> Result<CoseRecipientBuilder, CallError<E>>
+    where
+        F: FnOnce(&[u8], &[u8]) -> Result<Vec<u8>, E> + Drop,
+        E: Drop,
+        requires callable { F.IsAlwaysCallable cipher }
+        requires context { IsOfRecipient context }
+        ensures { TriesToCreateOf F.FnOnce cipher plaintext.now
+            (recipient_structure context (recipient_seen self) external_aad.now) (λ c b.
+            recipient_seen b ≡ with_ciphertext c.items (recipient_seen self)) result }
+    {
+        let structure = self.0.structure(alloc, context, external_aad);
+        let ciphertext = ask(plaintext, structure, cipher)?;
+        Ok(self.ciphertext(ciphertext))
+    }
+}
