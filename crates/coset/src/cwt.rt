@@ -1,3 +1,3 @@
 //! CBOR web tokens (RFC 8392).
 
-pub use coset_sign::ClaimName;
+pub use coset_recipient::ClaimName;

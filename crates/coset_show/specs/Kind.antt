@@ -2,22 +2,34 @@
 use Rattle.std.specs.Prelude.{ℕ, List, codes}
 use Rattle.coset.specs.Shape.{any}
 use Rattle.coset_show.specs.declared.kind.Kind.{Kind}
-use Rattle.coset_show.specs.declared.kind.Kind.TheVariants.{Value, Sign1, Sign}
+use Rattle.coset_show.specs.declared.kind.Kind.TheVariants.{Value, Sign1, Sign, Mac, Mac0, Encrypt, Encrypt0}
 use Rattle.coset_show.specs.declared.refusal.Refusal.{Refusal}
-use Rattle.coset_show.specs.Show.{ShowsType, RefusesType, ShowsSign1, sign1_in, sign_in}
+use Rattle.coset_show.specs.Show.{ShowsType, RefusesType, ShowsSign1, sign1_in, sign_in, mac_in, mac0_in, encrypt_in, encrypt0_in}
 
 -- the name of a kind, as the program is told it
 abbrev pub kind_name : Kind → List ℕ
 kind_name Value = codes "value"
 kind_name Sign1 = codes "sign1"
 kind_name Sign = codes "sign"
+kind_name Mac = codes "mac"
+kind_name Mac0 = codes "mac0"
+kind_name Encrypt = codes "encrypt"
+kind_name Encrypt0 = codes "encrypt0"
 
 abbrev pub ShowsBytes : Kind → List ℕ → List ℕ → Type 0
 ShowsBytes Value = ShowsType any
 ShowsBytes Sign1 = ShowsSign1
 ShowsBytes Sign = λ b. ShowsType (sign_in b) b
+ShowsBytes Mac = λ b. ShowsType (mac_in b) b
+ShowsBytes Mac0 = λ b. ShowsType (mac0_in b) b
+ShowsBytes Encrypt = λ b. ShowsType (encrypt_in b) b
+ShowsBytes Encrypt0 = λ b. ShowsType (encrypt0_in b) b
 
 abbrev pub RefusesBytes : Kind → List ℕ → Refusal → Type 0
 RefusesBytes Value b = RefusesType any b
 RefusesBytes Sign1 b = RefusesType (sign1_in b) b
 RefusesBytes Sign b = RefusesType (sign_in b) b
+RefusesBytes Mac b = RefusesType (mac_in b) b
+RefusesBytes Mac0 b = RefusesType (mac0_in b) b
+RefusesBytes Encrypt b = RefusesType (encrypt_in b) b
+RefusesBytes Encrypt0 b = RefusesType (encrypt0_in b) b

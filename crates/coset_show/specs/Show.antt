@@ -10,6 +10,10 @@ use Rattle.coset.specs.Errors.{UnlessMemory}
 use Rattle.coset.specs.Shape.{Shape, tagged}
 use Rattle.coset.specs.Sign1.{Sign1Seen, sign1, sign1_carried}
 use Rattle.coset.specs.Sign.{SignSeen, sign}
+use Rattle.coset.specs.Mac.{MacSeen, mac}
+use Rattle.coset.specs.Mac0.{Mac0Seen, mac0}
+use Rattle.coset.specs.Encrypt.{EncryptSeen, encrypt}
+use Rattle.coset.specs.Encrypt0.{Encrypt0Seen, encrypt0}
 use Rattle.coset_show.specs.declared.refusal.Refusal.{Refusal}
 use Rattle.coset_show.specs.declared.refusal.Refusal.TheVariants.{Unreadable, NotHexadecimal, Cose}
 
@@ -57,6 +61,18 @@ sign1_in b = message_in b 18 sign1
 
 abbrev pub sign_in : List ℕ → Shape SignSeen
 sign_in b = message_in b 98 sign
+
+abbrev pub mac_in : List ℕ → Shape MacSeen
+mac_in b = message_in b 97 mac
+
+abbrev pub mac0_in : List ℕ → Shape Mac0Seen
+mac0_in b = message_in b 17 mac0
+
+abbrev pub encrypt_in : List ℕ → Shape EncryptSeen
+encrypt_in b = message_in b 96 encrypt
+
+abbrev pub encrypt0_in : List ℕ → Shape Encrypt0Seen
+encrypt0_in b = message_in b 16 encrypt0
 
 -- b describes a message; the first line is that of its item, and the second, behind `tbs `, that of what is signed where
 -- `external_aad` is empty

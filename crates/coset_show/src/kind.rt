@@ -6,8 +6,8 @@ ghost use Rattle.coset_show.specs.Kind.{kind_name, ShowsBytes, RefusesBytes};
 
 use crate::refusal::Refusal;
 use crate::show::{message_lines, sign1_lines, type_line};
-use coset::CoseSign;
 use coset::cbor::value::Value;
+use coset::{CoseEncrypt, CoseEncrypt0, CoseMac, CoseMac0, CoseSign};
 use std::alloc::Global;
 
 /// What the input spells.
@@ -19,6 +19,14 @@ pub enum Kind {
     Sign1,
     /// A message with any number of signatures (RFC 8152, section 4.1).
     Sign,
+    /// A message with a MAC and recipients (RFC 8152, section 6.1).
+    Mac,
+    /// A message with a MAC, for receivers that know the key (RFC 8152, section 6.2).
+    Mac0,
+    /// An encrypted message with recipients (RFC 8152, section 5.1).
+    Encrypt,
+    /// An encrypted message, for receivers that know the key (RFC 8152, section 5.2).
+    Encrypt0,
 }
 
 impl Kind {
@@ -31,6 +39,10 @@ impl Kind {
             "value" => Some(Kind::Value),
             "sign1" => Some(Kind::Sign1),
             "sign" => Some(Kind::Sign),
+            "mac" => Some(Kind::Mac),
+            "mac0" => Some(Kind::Mac0),
+            "encrypt" => Some(Kind::Encrypt),
+            "encrypt0" => Some(Kind::Encrypt0),
             _ => None,
         }
     }
@@ -47,6 +59,10 @@ impl Kind {
             Kind::Value => type_line::<Value>(alloc, bytes),
             Kind::Sign1 => sign1_lines(alloc, bytes),
             Kind::Sign => message_lines::<CoseSign>(alloc, bytes),
+            Kind::Mac => message_lines::<CoseMac>(alloc, bytes),
+            Kind::Mac0 => message_lines::<CoseMac0>(alloc, bytes),
+            Kind::Encrypt => message_lines::<CoseEncrypt>(alloc, bytes),
+            Kind::Encrypt0 => message_lines::<CoseEncrypt0>(alloc, bytes),
         }
     }
 }

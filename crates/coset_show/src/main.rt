@@ -6,6 +6,8 @@ ghost use Rattle.std.specs.Vec.Iter.{into_iter_items};
 ghost use Rattle.coset_show.specs.Arguments.{AreNameAnd, AreNoNameAndOne};
 
 mod kind;
+#[cfg(test)]
+mod message_tests;
 mod refusal;
 mod run;
 mod show;

@@ -8,3 +8,15 @@ returns-in-Sign1 c = rw c.in-Sign1.is c.sign1_lines.ensures
 
 pub returns-in-Sign : goal.returns-in-Sign
 returns-in-Sign c = rw c.in-Sign.is c.message_lines.ensures
+
+pub returns-in-Mac0 : goal.returns-in-Mac0
+returns-in-Mac0 c = rw c.in-Mac0.is c.message_lines-in-Mac0.ensures
+
+pub returns-in-Encrypt0 : goal.returns-in-Encrypt0
+returns-in-Encrypt0 c = rw c.in-Encrypt0.is c.message_lines-in-Encrypt0.ensures
+
+pub returns-in-Mac : goal.returns-in-Mac
+returns-in-Mac c = rw c.in-Mac.is c.message_lines-in-Mac.ensures
+
+pub returns-in-Encrypt : goal.returns-in-Encrypt
+returns-in-Encrypt c = rw c.in-Encrypt.is c.message_lines-in-Encrypt.ensures
