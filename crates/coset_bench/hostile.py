@@ -46,6 +46,16 @@ def layers(count: int, innermost: bytes) -> bytes:
     return content
 
 
+def recipients(count: int, protected: bytes, innermost: bytes) -> bytes:
+    """That many recipients inside one another, each with this protected header, and what stands for the innermost one's
+    ciphertext (RFC 8152, section 5.1)."""
+    start = byte_string(protected) + head(5, 0)
+    recipient = head(4, 3) + start + innermost
+    for _ in range(count - 1):
+        recipient = head(4, 4) + start + b"\xf6" + head(4, 1) + recipient
+    return recipient
+
+
 def main(folder: Path) -> None:
     items = head(4, 200_000) + bytes(200_000)
     pair = head(0, 70) + items
@@ -62,6 +72,10 @@ def main(folder: Path) -> None:
         "deepest.cbor": message(layers(16, b""), head(5, 0)),
         # Its innermost protected header has the same label twice.
         "deepest_twice.cbor": message(layers(16, b"\xa2\x18\x46\x00\x18\x46\x00"), head(5, 0)),
+        # 128 recipients inside one another, each with a protected header that is as deep as it may be.
+        "recipients.cbor": recipients(128, layers(16, b""), b"\xf6"),
+        # The innermost has a number for its ciphertext.
+        "recipients_refused.cbor": recipients(128, layers(16, b""), b"\x00"),
         # 256 items inside one another, as deep as an item may be.
         "levels.cbor": head(4, 1) * 255 + head(4, 0),
     }

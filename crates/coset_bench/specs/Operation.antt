@@ -1,7 +1,7 @@
 -- The names of operations.
 use Rattle.std.specs.Prelude.{ℕ, List, codes}
 use Rattle.coset_bench.specs.declared.operation.Operation.{Operation}
-use Rattle.coset_bench.specs.declared.operation.Operation.TheVariants.{Check, Value, ValueWrite, Header, HeaderWrite, Sign1, Sign1Refused, Sign1Write, Sign1Copy, Sign1Compare, Sign1Tbs}
+use Rattle.coset_bench.specs.declared.operation.Operation.TheVariants.{Check, Value, ValueWrite, Header, HeaderWrite, Sign1, Sign1Refused, Sign1Write, Sign1Copy, Sign1Compare, Sign1Tbs, Recipient, RecipientRefused, RecipientWrite, RecipientCopy, RecipientCompare}
 
 -- the name of an operation, as the program is told it
 abbrev pub operation_name : Operation → List ℕ
@@ -16,3 +16,8 @@ operation_name Sign1Write = codes "sign1_write"
 operation_name Sign1Copy = codes "sign1_copy"
 operation_name Sign1Compare = codes "sign1_compare"
 operation_name Sign1Tbs = codes "sign1_tbs"
+operation_name Recipient = codes "recipient"
+operation_name RecipientRefused = codes "recipient_refused"
+operation_name RecipientWrite = codes "recipient_write"
+operation_name RecipientCopy = codes "recipient_copy"
+operation_name RecipientCompare = codes "recipient_compare"

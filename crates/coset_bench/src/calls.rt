@@ -10,8 +10,8 @@ use crate::fault::Fault;
 use coset_cbor::de::{EndOfFile, Error, Steps, check};
 use coset_cbor::value::Value;
 use coset_core::Header;
+use coset_recipient::{CoseRecipient, CoseSign1};
 use coset_shape::{CborSerializable, CoseError};
-use coset_sign::CoseSign1;
 use std::alloc::Global;
 use std::marker::Brand;
 use std::rt::Clock;
@@ -42,6 +42,12 @@ impl Timed for Header {
 
 impl Timed for CoseSign1 {
     fn copy(&self) -> Result<CoseSign1, CoseError> {
+        self.clone()
+    }
+}
+
+impl Timed for CoseRecipient {
+    fn copy(&self) -> Result<CoseRecipient, CoseError> {
         self.clone()
     }
 }

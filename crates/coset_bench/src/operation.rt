@@ -9,7 +9,7 @@ use crate::calls::{
 use crate::fault::Fault;
 use coset_cbor::value::Value;
 use coset_core::Header;
-use coset_sign::CoseSign1;
+use coset_recipient::{CoseRecipient, CoseSign1};
 use std::rt::Clock;
 use std::time::Duration;
 
@@ -38,6 +38,16 @@ pub enum Operation {
     Sign1Compare,
     /// Making the bytes that its signature is over.
     Sign1Tbs,
+    /// Reading a recipient.
+    Recipient,
+    /// Refusing one.
+    RecipientRefused,
+    /// Writing one.
+    RecipientWrite,
+    /// Copying one.
+    RecipientCopy,
+    /// Comparing one with its copy.
+    RecipientCompare,
 }
 
 impl Operation {
@@ -58,6 +68,11 @@ impl Operation {
             "sign1_copy" => Some(Operation::Sign1Copy),
             "sign1_compare" => Some(Operation::Sign1Compare),
             "sign1_tbs" => Some(Operation::Sign1Tbs),
+            "recipient" => Some(Operation::Recipient),
+            "recipient_refused" => Some(Operation::RecipientRefused),
+            "recipient_write" => Some(Operation::RecipientWrite),
+            "recipient_copy" => Some(Operation::RecipientCopy),
+            "recipient_compare" => Some(Operation::RecipientCompare),
             _ => None,
         }
     }
@@ -84,6 +99,11 @@ impl Operation {
             Operation::Sign1Copy => time_copy::<CoseSign1, R>(rt, bytes, calls),
             Operation::Sign1Compare => time_compare::<CoseSign1, R>(rt, bytes, calls),
             Operation::Sign1Tbs => time_tbs(rt, bytes, calls),
+            Operation::Recipient => time_read::<CoseRecipient, R>(rt, bytes, calls),
+            Operation::RecipientRefused => time_refusal::<CoseRecipient, R>(rt, bytes, calls),
+            Operation::RecipientWrite => time_write::<CoseRecipient, R>(rt, bytes, calls),
+            Operation::RecipientCopy => time_copy::<CoseRecipient, R>(rt, bytes, calls),
+            Operation::RecipientCompare => time_compare::<CoseRecipient, R>(rt, bytes, calls),
         }
     }
 }
