@@ -6,8 +6,9 @@ use coset::cbor::value::Value;
 use coset::cwt::ClaimName;
 use coset::iana::{EllipticCurve, HeaderParameter};
 use coset::{
-    Algorithm, ContentType, CoseSign, CoseSign1, CoseSignature, Header, KeyOperation, KeyType,
-    Label, ProtectedHeader, RegisteredLabel, RegisteredLabelWithPrivate,
+    Algorithm, ContentType, CoseEncrypt, CoseEncrypt0, CoseMac, CoseMac0, CoseRecipient, CoseSign,
+    CoseSign1, CoseSignature, Header, KeyOperation, KeyType, Label, ProtectedHeader,
+    RegisteredLabel, RegisteredLabelWithPrivate,
 };
 use std::alloc::{AllocError, Global};
 
@@ -40,6 +41,8 @@ pub enum Kind {
     ProtectedBstr,
     /// A signature (RFC 8152, section 4.1).
     Signature,
+    /// A recipient (RFC 8152, section 5.1).
+    Recipient,
     /// A message with one signature (RFC 8152, section 4.2).
     Sign1,
     /// What is signed of such a message.
@@ -50,6 +53,22 @@ pub enum Kind {
     Sign,
     /// Such a message under its tag.
     TaggedSign,
+    /// A message with a MAC and recipients (RFC 8152, section 6.1).
+    Mac,
+    /// Such a message under its tag.
+    TaggedMac,
+    /// A message with a MAC, for receivers that know the key (RFC 8152, section 6.2).
+    Mac0,
+    /// Such a message under its tag.
+    TaggedMac0,
+    /// An encrypted message with recipients (RFC 8152, section 5.1).
+    Encrypt,
+    /// Such a message under its tag.
+    TaggedEncrypt,
+    /// An encrypted message, for receivers that know the key (RFC 8152, section 5.2).
+    Encrypt0,
+    /// Such a message under its tag.
+    TaggedEncrypt0,
 }
 
 impl Kind {
@@ -69,9 +88,14 @@ impl Kind {
             "protected" => Kind::Protected,
             "protected_bstr" => Kind::ProtectedBstr,
             "signature" => Kind::Signature,
+            "recipient" => Kind::Recipient,
             "sign1" => Kind::Sign1,
             "sign1_tbs" => Kind::Sign1Tbs,
             "sign" => Kind::Sign,
+            "mac" => Kind::Mac,
+            "mac0" => Kind::Mac0,
+            "encrypt" => Kind::Encrypt,
+            "encrypt0" => Kind::Encrypt0,
             _ => return None,
         })
     }
@@ -81,6 +105,10 @@ impl Kind {
         match name {
             "sign1" => Some(Kind::TaggedSign1),
             "sign" => Some(Kind::TaggedSign),
+            "mac" => Some(Kind::TaggedMac),
+            "mac0" => Some(Kind::TaggedMac0),
+            "encrypt" => Some(Kind::TaggedEncrypt),
+            "encrypt0" => Some(Kind::TaggedEncrypt0),
             _ => None,
         }
     }
@@ -103,11 +131,20 @@ impl Kind {
             Kind::Protected => answer::<Plain, ProtectedHeader>(alloc, bytes),
             Kind::ProtectedBstr => answer::<InString, ProtectedHeader>(alloc, bytes),
             Kind::Signature => answer::<Plain, CoseSignature>(alloc, bytes),
+            Kind::Recipient => answer::<Plain, CoseRecipient>(alloc, bytes),
             Kind::Sign1 => answer::<Plain, CoseSign1>(alloc, bytes),
             Kind::Sign1Tbs => answer::<Signed, CoseSign1>(alloc, bytes),
             Kind::TaggedSign1 => answer::<Tagged, CoseSign1>(alloc, bytes),
             Kind::Sign => answer::<Plain, CoseSign>(alloc, bytes),
             Kind::TaggedSign => answer::<Tagged, CoseSign>(alloc, bytes),
+            Kind::Mac => answer::<Plain, CoseMac>(alloc, bytes),
+            Kind::TaggedMac => answer::<Tagged, CoseMac>(alloc, bytes),
+            Kind::Mac0 => answer::<Plain, CoseMac0>(alloc, bytes),
+            Kind::TaggedMac0 => answer::<Tagged, CoseMac0>(alloc, bytes),
+            Kind::Encrypt => answer::<Plain, CoseEncrypt>(alloc, bytes),
+            Kind::TaggedEncrypt => answer::<Tagged, CoseEncrypt>(alloc, bytes),
+            Kind::Encrypt0 => answer::<Plain, CoseEncrypt0>(alloc, bytes),
+            Kind::TaggedEncrypt0 => answer::<Tagged, CoseEncrypt0>(alloc, bytes),
         }
     }
 }
