@@ -1,6 +1,6 @@
 //! Messages that are signed and verified by closures: when these are called, and what becomes of their answers.
 
-use coset::cbor::value::Value;
+use crate::messages::repeated;
 use coset::{
     CallError, CborSerializable, CoseError, CoseSign, CoseSign1, CoseSign1Builder, CoseSignBuilder,
     CoseSignature, CoseSignatureBuilder, HeaderBuilder, Result, TaggedCborSerializable, iana,
@@ -10,7 +10,7 @@ use std::test::*;
 
 /// That a closure refuses.
 #[derive(Clone, Copy, Debug, PartialEq, Eq)]
-struct No;
+pub(crate) struct No;
 
 /// Stands for a signing key: signs by repeating what it is given.
 fn sign(alloc: Global, tbs: &[u8]) -> Vec<u8> {
@@ -98,12 +98,8 @@ fn only_what_is_protected_is_signed(rt: HostRuntime) -> std::result::Result<(), 
 }
 
 /// A builder whose protected header has the label 70 twice, so that nothing can be signed.
-fn unwritable(alloc: Global) -> Result<CoseSign1Builder> {
-    let header = HeaderBuilder::new(alloc)
-        .value(70, Value::from(1u8))?
-        .value(70, Value::from(2u8))?
-        .build();
-    Ok(CoseSign1Builder::new(alloc).protected(header))
+fn unwritable(alloc: Global) -> std::result::Result<CoseSign1Builder, Fail> {
+    Ok(CoseSign1Builder::new(alloc).protected(repeated(alloc)?.header))
 }
 
 #[test]
@@ -128,15 +124,12 @@ fn one_signature_asks_once_or_not_at_all(rt: HostRuntime) -> std::result::Result
     assert!(rt; answer.is_ok());
     assert_eq!(rt; asked, 2);
     let count = &mut asked;
-    let refused = unwritable(alloc)
-        .ok()
-        .ok_or("memory")?
-        .create_signature(alloc, b"", move |tbs| {
-            *count = count.saturating_add(1);
-            sign(alloc, tbs)
-        });
+    let refused = unwritable(alloc)?.create_signature(alloc, b"", move |tbs| {
+        *count = count.saturating_add(1);
+        sign(alloc, tbs)
+    });
     assert!(rt; matches!(refused, Err(CoseError::DuplicateMapKey)));
-    let message = unwritable(alloc).ok().ok_or("memory")?.build();
+    let message = unwritable(alloc)?.build();
     let refused = message.verify_signature(alloc, b"", |signature, tbs| {
         asked = asked.saturating_add(1);
         verify(signature, tbs)
@@ -341,13 +334,9 @@ fn signatures_that_may_be_refused(rt: HostRuntime) -> std::result::Result<(), Fa
 fn signatures_over_nothing_that_can_be_written(rt: HostRuntime) -> std::result::Result<(), Fail> {
     let alloc = rt.alloc();
     let mut asked = 0u32;
-    let header = HeaderBuilder::new(alloc)
-        .value(70, Value::from(1u8))
-        .and_then(|header| header.value(70, Value::from(2u8)))
-        .ok()
-        .ok_or("memory")?
+    let signature = CoseSignatureBuilder::new(alloc)
+        .protected(repeated(alloc)?.header)
         .build();
-    let signature = CoseSignatureBuilder::new(alloc).protected(header).build();
     let count = &mut asked;
     let refused = CoseSignBuilder::new(alloc).add_created_signature(
         alloc,

@@ -12,18 +12,26 @@ mod builders;
 mod cbor;
 #[cfg(test)]
 mod closures;
+#[cfg(test)]
+mod encrypted;
 mod form;
 mod kind;
 #[cfg(test)]
 mod labels;
 #[cfg(test)]
+mod macs;
+#[cfg(test)]
 mod messages;
+#[cfg(test)]
+mod recipients;
 #[cfg(test)]
 mod refused;
 #[cfg(test)]
 mod refused_headers;
 #[cfg(test)]
 mod refused_messages;
+#[cfg(test)]
+mod refused_signatures;
 mod row;
 #[cfg(test)]
 mod steps;

@@ -13,9 +13,11 @@ pub(crate) fn readme(alloc: Global) -> std::result::Result<CoseSign1, AllocError
     let mut message = CoseSign1::new(alloc);
     message.protected.header.alg = Some(iana::Algorithm::ES256.into());
     message.protected.header.key_id = Vec::from_slice(alloc, b"11")?;
-    message.payload = Some(Vec::from_slice(alloc, b"This is the content")?);
+    message.payload = Some(Vec::from_slice(alloc, README_CONTENT)?);
     Ok(message)
 }
+
+pub(crate) const README_CONTENT: &[u8] = b"This is the content";
 
 pub(crate) const README_EXTERNAL_AAD: &[u8] = b"this is additional data";
 
@@ -41,7 +43,7 @@ fn built_messages(rt: HostRuntime) -> std::result::Result<(), Fail> {
 }
 
 /// A protected header that wasn't read, with the label 70 twice.
-fn repeated(alloc: Global) -> std::result::Result<ProtectedHeader, Fail> {
+pub(crate) fn repeated(alloc: Global) -> std::result::Result<ProtectedHeader, Fail> {
     let mut protected = ProtectedHeader::new(alloc);
     for value in [1u8, 2] {
         protected

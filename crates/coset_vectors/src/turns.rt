@@ -1,7 +1,7 @@
 //! Calls with too little memory. The address space is filled, and then calls are made with ever more of it left: each
 //! answers that memory is out, or what it answers with ample memory, and each does both at some turn.
 
-use coset::{CborSerializable, CoseError};
+use coset::{CallError, CborSerializable, CoseError};
 use std::alloc::{AllocError, Global};
 use std::process::Abort;
 use std::test::*;
@@ -139,6 +139,37 @@ pub(crate) fn made<T: PartialEq + Drop>(answer: coset::Result<T>, expected: &T) 
     }
 }
 
+/// What a call answered whose closure was called so often: once where it answers, and not at all where it refuses.
+pub(crate) fn called<T: PartialEq + Drop>(
+    answer: coset::Result<T>,
+    expected: &T,
+    times: u32,
+) -> Answer {
+    match (made(answer, expected), times) {
+        (Answer::Same, 1) => Answer::Same,
+        (Answer::Refused, 0) => Answer::Refused,
+        _ => Answer::Other,
+    }
+}
+
+/// What a call answered whose closure shouldn't refuse.
+pub(crate) fn ours<T, E: Drop>(answer: Result<T, CallError<E>>) -> coset::Result<T> {
+    match answer {
+        Ok(x) => Ok(x),
+        Err(CallError::Coset(error)) => Err(error),
+        Err(CallError::Caller(_)) => Err(CoseError::UnexpectedItem("refusal", "answer")),
+    }
+}
+
+/// Whether these bytes were made.
+pub(crate) fn made_bytes(answer: coset::Result<Vec<u8>>, expected: &[u8]) -> Answer {
+    match answer {
+        Ok(bytes) if bytes.as_slice() == expected => Answer::Same,
+        Err(CoseError::OutOfMemory) => Answer::Refused,
+        _ => Answer::Other,
+    }
+}
+
 /// Whether what was made is written as this.
 pub(crate) fn written<T: CborSerializable + Drop>(
     alloc: Global,
@@ -146,11 +177,7 @@ pub(crate) fn written<T: CborSerializable + Drop>(
     expected: &[u8],
 ) -> Answer {
     match made {
-        Ok(x) => match x.to_vec(alloc) {
-            Ok(text) if text.as_slice() == expected => Answer::Same,
-            Err(CoseError::OutOfMemory) => Answer::Refused,
-            _ => Answer::Other,
-        },
+        Ok(x) => made_bytes(x.to_vec(alloc), expected),
         Err(CoseError::OutOfMemory) => Answer::Refused,
         Err(_) => Answer::Other,
     }
