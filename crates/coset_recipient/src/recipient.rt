@@ -40,7 +40,6 @@ use coset_shape::encode::{Encode, encode_to_value, encode_to_vec};
 use coset_shape::error::{Refused, keep_error};
 use coset_shape::input::{Input, InputItems};
 use coset_shape::traits::{FromPull, read_slice};
-use coset_shape::util::copy_bytes;
 use coset_shape::{AsCborValue, CallError, CborSerializable, CoseError, Lawful, Result, Source};
 use coset_sign::calls::ask;
 use std::alloc::{AllocError, Global};
