@@ -22,3 +22,5 @@ pub mod LabelLaws
 pub mod Views
 pub mod LentLabels
 pub mod Orderings
+pub mod Sorted
+pub mod SortedLaws

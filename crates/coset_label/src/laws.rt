@@ -4,6 +4,7 @@ ghost use Rattle.std.specs.Cmp.{IsTotalOrder};
 ghost use Rattle.std.specs.Cmp.Lexicographic.{slice_cmp};
 ghost use Rattle.std.specs.Ordering.{nat_cmp};
 ghost use Rattle.coset_label.specs.Names.{ComparesEncodings, Name, TellsApart, canonical_cmp, length_first_cmp, name_cmp, registered_cmp};
+ghost use Rattle.coset_label.specs.Sorted.{HasOneOrder};
 
 use coset_cbor::laws;
 
@@ -28,4 +29,11 @@ pub fn orders_tell_apart()
     ensures bytes { TellsApart name_cmp }
     ensures lengths { TellsApart canonical_cmp }
     ensures registered { TellsApart registered_cmp }
+{}
+
+/// Of lists with the same pairs, whose labels all differ, only one stands in the order of its labels.
+pub fn one_order()
+    ensures bytes { HasOneOrder name_cmp }
+    ensures lengths { HasOneOrder canonical_cmp }
+    ensures registered { HasOneOrder registered_cmp }
 {}

@@ -1,10 +1,14 @@
 -- What holds of maps with labels, and of reading them pair by pair, where the labels and the values of fields have laws.
 use Rattle.std.specs.Prelude.{filter, is_some}
+use Rattle.std.specs.Cmp.{both_ways}
 use Rattle.std.specs.List.{IsDistinct, AllByRecursion, list_all}
+use Rattle.std.specs.List.Sorted.{IsPermutation}
 use Rattle.std.specs.Map.{keys_of, lookup}
 use Rattle.std.proofs.Common.{◌≡◌, ◌⊎◌, ◌≤◌, ℕ, List, [], ◌∷◌, ◌++◌, Option, Some, None, Bool, true, false, not, cond, option_map, refl, sym, ◌∙◌, ap, subst, inl, inr, arith, true≢false}
 use Rattle.std.proofs.lemmas.Bool.{or_parts, or_left, or_right, and_parts, not-true, not-false, false_from_ne_true}
-use Rattle.std.proofs.lemmas.List.Elements.{filter-append}
+use Rattle.std.proofs.lemmas.List.Elements.{All-from_recursion, filter-append, recursion_from_All}
+use Rattle.std.proofs.lemmas.List.Sorted.{All-permutation, IsPermutation-map, IsPermutation-refl}
+use Rattle.std.proofs.lemmas.Map.Keys.{IsDistinct-IsPermutation}
 use Rattle.std.proofs.lemmas.Map.Made.{IsDistinct-keys_filter}
 use Rattle.coset_cbor.specs.Item.{Item, dict, depth, Pairs, no_pairs, pair, pairs_depth}
 use Rattle.coset_cbor.specs.Parts.{as_map}
@@ -32,6 +36,10 @@ all_filter {X} P t (x ∷ xs) h = go (t x) (all_filter P t xs h.1)
     go : (b : Bool) → AllByRecursion P (filter t xs) → AllByRecursion P (cond b (x ∷ filter t xs) (filter t xs))
     go true k = (h.0, k)
     go false k = k
+
+-- in another order
+all_moved : {X : Type 0} (P : X → Type 0) (xs ys : List X) → IsPermutation xs ys → AllByRecursion P xs → AllByRecursion P ys
+all_moved P xs ys m h = recursion_from_All P ys (All-permutation P xs ys m (All-from_recursion P xs h))
 
 -- what a filter keeps, and where it keeps all or nothing
 filter_passing : {X : Type 0} (t : X → Bool) (xs : List X) → AllByRecursion (λ y. t y ≡ true) (filter t xs)
@@ -285,7 +293,7 @@ module _ {N : Type 0} (n : Names N) where
       let all : filter t rs ≡ rs = filter_all t rs (all_map (λ e. is_core n labels e.0 ≡ false) (λ e. t e ≡ true) (λ e q. ap not q) rs r) in
       sym (filter-append t cs rs ∙ rw (none, all) refl)
 
-  rest_distinct : (labels : List N) (es rs : List (N × Item)) → rs ≡ rest_of n labels es → IsDistinct n.same (keys_of es) → IsDistinct n.same (keys_of rs)
+  pub rest_distinct : (labels : List N) (es rs : List (N × Item)) → rs ≡ rest_of n labels es → IsDistinct n.same (keys_of es) → IsDistinct n.same (keys_of rs)
   rest_distinct labels es rs r d = subst (λ xs. IsDistinct n.same (keys_of xs)) (sym r) (IsDistinct-keys_filter n.same (λ e. not (is_core n labels e.0)) es d)
 
   -- a value that is found is no deeper than all are
@@ -332,6 +340,11 @@ module _ {N : Type 0} (n : Names N) (laws : LawfulNames N n) where
 
   pub flip : (l m : N) → n.same l m ≡ false → n.same m l ≡ false
   flip l m h = not_same m l (λ p. apart_of l m h (sym p))
+
+  -- and answers the same the other way round
+  same_flips : (l m : N) → n.same l m ≡ n.same m l
+  same_flips l m =
+      both_ways (n.same l m) (n.same m l) (λ h. subst (λ k. n.same k l ≡ true) (laws.same_is l m h) (laws.same_self l)) (λ h. subst (λ k. n.same k m ≡ true) (laws.same_is m l h) (laws.same_self m))
 
   -- the label of a field is no label of the rest
   pub core_apart : (labels : List N) (l m : N) → is_core n labels l ≡ false → is_core n labels m ≡ true → l ≡ m → ⊥
@@ -535,7 +548,7 @@ module _ {N : Type 0} (n : Names N) (laws : LawfulNames N n) where
   -- ---- the whole map
 
   -- the pairs' labels
-  named_unique : (ps : Pairs) (es fs : List (N × Item)) → Named n.shape.describes ps es → Named n.shape.describes ps fs → es ≡ fs
+  pub named_unique : (ps : Pairs) (es fs : List (N × Item)) → Named n.shape.describes ps es → Named n.shape.describes ps fs → es ≡ fs
   named_unique no_pairs [] [] p q = refl
   named_unique no_pairs [] (f ∷ fs) p q = absurd q
   named_unique no_pairs (e ∷ es) fs p q = absurd p
@@ -638,20 +651,21 @@ module _ {N : Type 0} (n : Names N) (laws : LawfulNames N n) where
     entries_sound ps x e p (inl f) = pairs_sound e ps p.entries p.named p.distinct (λ m v q g. fl.sound p.entries x.0 m v e p.fields q g) f
     entries_sound ps x e p (inr f) = not_distinct ps p.entries p.named f.0 p.distinct
 
-    entries_again : (ps : Pairs) (x : A × List (N × Item)) → Entries N A n fs ps x → Again (A × List (N × Item)) (labelled_by checks n fs) (dict ps) x
-    entries_again ps x p =
+    -- the fields, and the rest in any order: they are written as an item that stands for them
+    entries_arranged : (ps : Pairs) (x : A × List (N × Item)) (rs : List (N × Item)) → Entries N A n fs ps x → IsPermutation x.1 rs → Again (A × List (N × Item)) (labelled_by checks n fs) (dict ps) (x.0, rs)
+    entries_arranged ps x rs p moved =
         record {
           image = dict all.pairs;
-          is_image = rw (may_write_distinct n checks x.1 distinct, core.is_image) (ap (option_map dict) all.is_image);
+          is_image = rw (may_write_distinct n checks rs distinct, core.is_image) (ap (option_map dict) all.is_image);
           described = (
             all.pairs,
             refl,
             record {
-              entries = core.entries ++ x.1;
+              entries = core.entries ++ rs;
               named = all.named;
-              distinct = distinct_append fs.labels core.entries x.1 core.core rest core.distinct distinct;
-              fields = core.described x.1 rest;
-              rest = rest_again n fs.labels core.entries x.1 core.core rest;
+              distinct = distinct_append fs.labels core.entries rs core.core rest core.distinct distinct;
+              fields = core.described rs rest;
+              rest = rest_again n fs.labels core.entries rs core.core rest;
             },
           );
           shallow = omega (arith, all.shallow);
@@ -663,20 +677,26 @@ module _ {N : Type 0} (n : Names N) (laws : LawfulNames N n) where
         core : AgainFields N A n fs (pairs_depth ps) x.0
         core = fl.again (pairs_depth ps) p.entries x.0 (all_map (Writable N n (pairs_depth ps)) (λ e. depth e.1 ≤ pairs_depth ps) (λ e w. w.shallow) p.entries writable) p.fields
 
-        rest : IsRest n fs.labels x.1
-        rest = subst (IsRest n fs.labels) (sym p.rest) (rest_apart n fs.labels p.entries)
+        rest : IsRest n fs.labels rs
+        rest = all_moved (λ e. is_core n fs.labels e.0 ≡ false) x.1 rs moved (subst (IsRest n fs.labels) (sym p.rest) (rest_apart n fs.labels p.entries))
 
-        distinct : IsDistinct n.same (keys_of x.1)
-        distinct = rest_distinct n fs.labels p.entries x.1 p.rest p.distinct
+        distinct : IsDistinct n.same (keys_of rs)
+        distinct = IsDistinct-IsPermutation n.same same_flips (keys_of x.1) (keys_of rs) (IsPermutation-map (λ e. e.0) x.1 rs moved) (rest_distinct n fs.labels p.entries x.1 p.rest p.distinct)
 
-        writable_rest : AllByRecursion (Writable N n (pairs_depth ps)) x.1
-        writable_rest = subst (AllByRecursion (Writable N n (pairs_depth ps))) (sym p.rest) (all_filter (Writable N n (pairs_depth ps)) (λ e. not (is_core n fs.labels e.0)) p.entries writable)
+        writable_rest : AllByRecursion (Writable N n (pairs_depth ps)) rs
+        writable_rest =
+            all_moved (Writable N n (pairs_depth ps)) x.1 rs moved
+            (subst (AllByRecursion (Writable N n (pairs_depth ps))) (sym p.rest) (all_filter (Writable N n (pairs_depth ps)) (λ e. not (is_core n fs.labels e.0)) p.entries writable))
 
-        all : Written N n (pairs_depth ps) (core.entries ++ x.1)
-        all = written (pairs_depth ps) (core.entries ++ x.1) (all_append (Writable N n (pairs_depth ps)) core.entries x.1 core.writable writable_rest)
+        all : Written N n (pairs_depth ps) (core.entries ++ rs)
+        all = written (pairs_depth ps) (core.entries ++ rs) (all_append (Writable N n (pairs_depth ps)) core.entries rs core.writable writable_rest)
+
+    -- so what a map stands for is written with its rest in any order
+    pub labelled_arranged : (v : Item) (x : A × List (N × Item)) (rs : List (N × Item)) → (labelled_by checks n fs).describes v x → IsPermutation x.1 rs → Again (A × List (N × Item)) (labelled_by checks n fs) v (x.0, rs)
+    labelled_arranged v x rs p moved = subst (λ w. Again (A × List (N × Item)) (labelled_by checks n fs) w (x.0, rs)) (as_map-is v p.0 p.1) (entries_arranged p.0 x rs p.2 moved)
 
     labelled_again : (v : Item) (x : A × List (N × Item)) → (labelled_by checks n fs).describes v x → Again (A × List (N × Item)) (labelled_by checks n fs) v x
-    labelled_again v x p = subst (λ w. Again (A × List (N × Item)) (labelled_by checks n fs) w x) (as_map-is v p.0 p.1) (entries_again p.0 x p.2)
+    labelled_again v x p = labelled_arranged v x x.1 p (IsPermutation-refl x.1)
 
     pub labelled_laws : Lawful (A × List (N × Item)) (labelled_by checks n fs)
     labelled_laws =

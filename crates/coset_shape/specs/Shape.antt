@@ -1,7 +1,7 @@
 -- Which items of CBOR stand for which values of a type. A type's shape is put together from those of its parts, in the
 -- manner of CDDL (RFC 8610); the CDDL of each is in its comment. A value is seen without its memory: a `String` as its
 -- UTF-8 bytes, a struct as a record.
-use Rattle.std.specs.Prelude.{◌≡◌, ◌≢◌, ◌⊎◌, ℕ, ℤ, List, [], ◌∷◌, Option, Some, None, Bool, true, false, option_map, FitsSigned, ⊤}
+use Rattle.std.specs.Prelude.{◌≡◌, ◌≢◌, ◌⊎◌, ℕ, ℤ, pos, ◌≤ℤ◌, List, [], ◌∷◌, Option, Some, None, Bool, true, false, option_map, FitsSigned, ⊤}
 use Rattle.std.proofs.Common.{inl, inr}
 use Rattle.std.specs.Int.{w64}
 use Rattle.coset_cbor.specs.Item.{Bits, Item, integer, bytes, float, text, null, tag, array, Items, no_items, item}
@@ -77,6 +77,10 @@ IsOutOfRange e = e ≡ errors.OutOfRangeIntegerValue
 -- an integer of 64 bits with a sign
 abbrev pub int64 : Shape ℤ
 int64 = that IsOutOfRange (FitsSigned w64) int
+
+-- uint
+abbrev pub uint : Shape ℤ
+uint = that IsOutOfRange (λ i. pos 0 ≤ℤ i) int
 
 -- not the empty list
 abbrev pub IsFilled : {A : Type 0} → List A → Type 0

@@ -4,7 +4,7 @@ use Rattle.std.proofs.Common.{◌≡◌, ◌⊎◌, ◌≤◌, ℕ, suc, max, �
 use Rattle.coset_cbor.specs.Item.{Item, integer, bytes, float, text, boolean, null, tag, array, dict, Items, no_items, item, depth, items_depth, items_count}
 use Rattle.coset_cbor.specs.Parts.{as_array, as_tag}
 use Rattle.coset_shape.specs.declared.error.CoseError.{CoseError}
-use Rattle.coset_shape.specs.Shape.{Shape, Places, PlacesFaults, both, kind_of, int, bstr, tstr, floating, any, that, int64, filled_bstr, along, blamed, either, is_nil, nil, option_of, sum_of, or_nil, present, fixed, tagged, array_of, end, ◌then◌, Each, images, EachFaults, any_number, list_of, some_of, perhaps, LastDescribes, LastMisfits, LastFaults, last_image, arranged, one_or_more, one_or_array, one_or_many}
+use Rattle.coset_shape.specs.Shape.{Shape, Places, PlacesFaults, both, kind_of, int, bstr, tstr, floating, any, that, int64, uint, filled_bstr, along, blamed, either, is_nil, nil, option_of, sum_of, or_nil, present, fixed, tagged, array_of, end, ◌then◌, Each, images, EachFaults, any_number, list_of, some_of, perhaps, LastDescribes, LastMisfits, LastFaults, last_image, arranged, one_or_more, one_or_array, one_or_many}
 
 -- x is written as an item that stands for x and is no deeper than v
 pub record Again (A : Type 0) (s : Shape A) (v : Item) (x : A) : Type 0 where
@@ -93,6 +93,9 @@ that_laws {A} blames P s l =
 
 pub int64_laws : Lawful ℤ int64
 int64_laws = that_laws _ _ int int_laws
+
+pub uint_laws : Lawful ℤ uint
+uint_laws = that_laws _ _ int int_laws
 
 pub filled_bstr_laws : Lawful (List ℕ) filled_bstr
 filled_bstr_laws = that_laws _ _ bstr bstr_laws

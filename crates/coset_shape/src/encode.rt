@@ -74,6 +74,24 @@ impl Encode for i64 {
     }
 }
 
+/// A number without a sign is an integer.
+impl Encode for u64 {
+    ghost use Rattle.coset_value.specs.Item.{integer};
+    ghost use Rattle.std.specs.Prelude.{pos};
+
+    ghost image = { λ n. Some (integer (pos n)) };
+
+    ghost spare = { 9 };
+
+    fn room(&self) -> usize {
+        LONGEST_HEAD
+    }
+
+    fn encode(&self, _alloc: Global, out: &mut Vec<u8>) -> Result<()> {
+        Ok(write_integer(Integer::from(*self), out)?)
+    }
+}
+
 /// A `String` is a text string.
 impl Encode for String {
     ghost use Rattle.coset_value.specs.Item.{text};

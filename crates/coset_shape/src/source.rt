@@ -1,21 +1,22 @@
 //! One item, read once: each type's reader is written over it, and serves both ways of reading.
 
-ghost use Rattle.std.specs.Prelude.{◌≡◌, ◌⊎◌, codes, IfErr, option_map, string_bytes};
+ghost use Rattle.std.specs.Prelude.{◌≡◌, ◌⊎◌, codes, IfErr, option_map, pos, string_bytes};
 ghost use Rattle.coset_value.specs.Item.{Item};
 ghost use Rattle.coset_value.specs.Parts.{as_integer, as_bytes, as_text, as_array, as_map};
-ghost use Rattle.coset_value.specs.View.{view, items_view, pairs_view};
+ghost use Rattle.coset_value.specs.View.{bits_of, view, items_view, pairs_view};
 ghost use Rattle.coset_cbor.specs.Pulls.{pull_item};
+ghost use Rattle.coset_cbor.specs.Scalars.{as_float};
 ghost use Rattle.coset_shape.specs.declared.error.CoseError.TheVariants.{OutOfMemory, OutOfRangeIntegerValue};
 ghost use Rattle.coset_shape.specs.Answers.{Reads};
 ghost use Rattle.coset_shape.specs.Errors.{IsUnexpected, UnlessMemory};
 ghost use Rattle.coset_shape.specs.Kinds.{TriesAs, Says, kind, SaysFilled};
-ghost use Rattle.coset_shape.specs.Shape.{bstr, filled_bstr, tstr, int64, or_nil, is_nil};
+ghost use Rattle.coset_shape.specs.Shape.{bstr, filled_bstr, tstr, int64, uint, or_nil, is_nil};
 ghost use Rattle.coset_shape.specs.Sources.{source_item, members_left, map_left, MayCopy, Copies, Takes, TakesPair};
 
 use crate::error::{CoseError, Result};
 use crate::util::{ValueTryAs, cbor_type_error, pull_type_error, type_error};
 use coset_cbor::de::{Items, Pairs, Pull};
-use coset_cbor::value::{Integer, Value};
+use coset_cbor::value::{Float, Integer, Value};
 use std::alloc::Global;
 use std::vec;
 
@@ -75,6 +76,17 @@ impl<'a> Source<'a> {
         match self {
             Source::Tree(value) => value.as_integer(),
             Source::Lent(pull) => pull.integer(),
+        }
+    }
+
+    /// The width and bits of a float, and `None` of any other item.
+    pub fn float(&self) -> Option<Float>
+        ensures { option_map bits_of result ≡ as_float (source_item self.now) }
+    {
+        match self {
+            Source::Tree(Value::Float(float)) => Some(*float),
+            Source::Tree(_) => None,
+            Source::Lent(pull) => pull.float(),
         }
     }
 
@@ -178,6 +190,19 @@ impl<'a> Source<'a> {
     {
         match self.integer() {
             Some(number) => Ok(i64::try_from(number)?),
+            None => Err(self.type_error(want)),
+        }
+    }
+
+    /// An integer that isn't negative; a negative one is `OutOfRangeIntegerValue`. It takes no memory.
+    pub fn into_uint(self, want: &'static str) -> Result<u64>
+        ensures read { Reads uint (λ n. pos n) (source_item self.entry) result }
+        ensures says { IfErr result (λ e. (e ≡ OutOfRangeIntegerValue)
+            ⊎ Says (kind (source_item self.entry)) want.now e) }
+        ensures memory { IfErr result (λ e. e ≡ OutOfMemory → ⊥) }
+    {
+        match self.integer() {
+            Some(number) => Ok(u64::try_from(number)?),
             None => Err(self.type_error(want)),
         }
     }
