@@ -1,0 +1,4 @@
+pub mod ClaimPutting
+pub mod ClaimWriting
+pub mod ClaimCopies
+pub mod Places

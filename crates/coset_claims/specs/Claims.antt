@@ -1,0 +1,124 @@
+-- Claims sets (RFC 8392, sections 3 and 4).
+use Rattle.std.specs.Prelude.{◌≡◌, ◌⊎◌, ℕ, ℤ, pos, int_lt, List, [], ◌∷◌, ◌++◌, Option, Some, None, Bool, true, is_some, map, option_map, string_bytes}
+use Rattle.std.specs.Ordering.{is_eq}
+use Rattle.coset_value.specs.Item.{Item}
+use Rattle.coset_value.specs.View.{view}
+use Rattle.coset_value.specs.declared.value.Value.{Value}
+use Rattle.coset_iana.specs.CwtClaimName as claim_names
+use Rattle.coset_iana.specs.Registry.{first_numbered}
+use Rattle.coset_iana.specs.WithPrivateRange.{is_private_use}
+use Rattle.coset_iana.specs.declared.claims.CwtClaimName.{CwtClaimName}
+use Rattle.coset_iana.specs.declared.claims.TheConstants.{CWT_CLAIM_NAMES}
+use Rattle.coset_shape.specs.Maps.{Names, Fields, field, no_field, optional, labelled_freely}
+use Rattle.coset_shape.specs.Shape.{Shape, along, bstr, tstr}
+use Rattle.coset_label.specs.Labels.{registered_or_private}
+use Rattle.coset_label.specs.Names.{RegisteredName, registered_cmp}
+use Rattle.coset_label.specs.Views.{registered_or_private_seen}
+use Rattle.coset_label.specs.declared.registered.RegisteredLabelWithPrivate.{RegisteredLabelWithPrivate}
+use Rattle.coset_claims.specs.ClaimLabels as labels
+use Rattle.coset_claims.specs.Timestamp.{TimestampSeen, timestamp, timestamp_seen}
+use Rattle.coset_claims.specs.declared.claims_set.ClaimsSet.{ClaimsSet}
+
+-- ---- what contracts see
+
+-- a claims set without its memory
+pub record ClaimsSeen : Type 0 where
+  pub issuer : Option (List ℕ)
+  pub subject : Option (List ℕ)
+  pub audience : Option (List ℕ)
+  pub expiration_time : Option TimestampSeen
+  pub not_before : Option TimestampSeen
+  pub issued_at : Option TimestampSeen
+  pub cwt_id : Option (List ℕ)
+  pub rest : List (RegisteredName × Item)
+
+-- a claim's name
+abbrev pub name_seen : RegisteredLabelWithPrivate CwtClaimName → RegisteredName
+name_seen = registered_or_private_seen claim_names.number
+
+-- a claim of the rest
+abbrev pub entry_seen : RegisteredLabelWithPrivate CwtClaimName × Value → RegisteredName × Item
+entry_seen e = (name_seen e.0, view e.1)
+
+abbrev pub claims_seen : ClaimsSet → ClaimsSeen
+claims_seen c = record {
+  issuer = option_map string_bytes c.issuer;
+  subject = option_map string_bytes c.subject;
+  audience = option_map string_bytes c.audience;
+  expiration_time = option_map timestamp_seen c.expiration_time;
+  not_before = option_map timestamp_seen c.not_before;
+  issued_at = option_map timestamp_seen c.issued_at;
+  cwt_id = option_map (λ b. b.items) c.cwt_id;
+  rest = map entry_seen c.rest.items;
+}
+
+-- no claim
+abbrev pub no_claims : ClaimsSeen
+no_claims = record {
+  issuer = None;
+  subject = None;
+  audience = None;
+  expiration_time = None;
+  not_before = None;
+  issued_at = None;
+  cwt_id = None;
+  rest = [];
+}
+
+-- ---- which items are claims sets
+
+-- a claim's name: the number of one that IANA assigned, else a number for private use, or a text
+unfoldable pub claim_name : Shape RegisteredName
+claim_name = registered_or_private (λ i. is_some (first_numbered claim_names.number CWT_CLAIM_NAMES i)) is_private_use
+
+-- two names are one
+abbrev pub same_name : RegisteredName → RegisteredName → Bool
+same_name a b = is_eq (registered_cmp a b)
+
+abbrev pub names : Names RegisteredName
+names = record { shape = claim_name; same = same_name }
+
+-- the registered claims, in the order of their numbers
+abbrev pub Fielded : Type 0
+Fielded = Option (List ℕ) × (Option (List ℕ) × (Option (List ℕ) × (Option TimestampSeen × (Option TimestampSeen × (Option TimestampSeen × (Option (List ℕ) × Unit {0}))))))
+
+-- ? 1 => tstr, ? 2 => tstr, ? 3 => tstr, ? 4 => timestamp, ? 5 => timestamp, ? 6 => timestamp, ? 7 => bstr
+abbrev pub fields : Fields RegisteredName Fielded
+fields =
+    field names labels.iss (optional tstr)
+    (field names labels.sub (optional tstr)
+    (field names labels.aud (optional tstr)
+    (field names labels.exp (optional timestamp)
+    (field names labels.nbf (optional timestamp)
+    (field names labels.iat (optional timestamp)
+    (field names labels.cti (optional bstr)
+    no_field))))))
+
+abbrev pub claims_of : Fielded × List (RegisteredName × Item) → ClaimsSeen
+claims_of p = record {
+  issuer = p.0.0;
+  subject = p.0.1.0;
+  audience = p.0.1.1.0;
+  expiration_time = p.0.1.1.1.0;
+  not_before = p.0.1.1.1.1.0;
+  issued_at = p.0.1.1.1.1.1.0;
+  cwt_id = p.0.1.1.1.1.1.1.0;
+  rest = p.1;
+}
+
+abbrev pub parts_of : ClaimsSeen → Fielded × List (RegisteredName × Item)
+parts_of c = ((c.issuer, (c.subject, (c.audience, (c.expiration_time, (c.not_before, (c.issued_at, (c.cwt_id, tt))))))), c.rest)
+
+-- {fields, * claim_name => any}. No two names are one where a claims set is read; where it is written, that isn't asked
+unfoldable pub claims : Shape ClaimsSeen
+claims = along claims_of parts_of (labelled_freely names fields)
+
+-- ---- what a builder's calls make
+
+-- one more claim, behind the others of the rest
+abbrev pub and_claim : RegisteredName → Item → ClaimsSeen → ClaimsSeen
+and_claim l v c = record c { rest = c.rest ++ (l, v) ∷ [] }
+
+-- no claim with a field of its own has this number: it is none of 1 to 7
+abbrev pub IsOtherClaim : ℤ → Type 0
+IsOtherClaim n = (int_lt n (pos 1) ≡ true) ⊎ (int_lt (pos 7) n ≡ true)

@@ -1,0 +1,69 @@
+-- Public information that goes into a key's derivation beside the parties' (RFC 8152, section 11.2).
+use Rattle.std.specs.Prelude.{◌≡◌, ℕ, ℤ, pos, List, Option, Some, None, Result, Ok, Err, Vec, false, is_some, option_map, unsigned_abs, refl}
+use Rattle.std.specs.Global.{Global}
+use Rattle.std.proofs.Common.{true≢false}
+use Rattle.coset_value.specs.Item.{Item, Items, array, item, no_items}
+use Rattle.coset_shape.specs.declared.error.CoseError.{CoseError}
+use Rattle.coset_shape.specs.Errors.{UnlessMemory}
+use Rattle.coset_shape.specs.Shape.{Shape, Places, along, both, uint, bstr, present, perhaps, array_of, ◌then◌}
+use Rattle.coset_shape.specs.ShapeLaws.{Lawful, along_laws, uint_laws, bstr_laws, present_laws, perhaps_laws, array_of_laws, then_laws}
+use Rattle.coset_core.specs.Headers.{ProtectedSeen, protected}
+use Rattle.coset_core.specs.HeaderLaws.{protected_laws}
+use Rattle.coset_core.specs.Messages.{empty_protected}
+use Rattle.coset_core.specs.Views.{protected_seen}
+use Rattle.coset_claims.specs.declared.supp_pub.SuppPubInfo.{SuppPubInfo}
+
+-- the information without its memory
+pub record SuppPubSeen : Type 0 where
+  pub key_data_length : ℕ
+  pub protected : ProtectedSeen
+  pub other : Option (List ℕ)
+
+abbrev pub supp_pub_seen : SuppPubInfo → SuppPubSeen
+supp_pub_seen s = record {
+  key_data_length = s.key_data_length;
+  protected = protected_seen s.protected;
+  other = option_map (λ b. b.items) s.other;
+}
+
+-- none
+abbrev pub empty_supp_pub : SuppPubSeen
+empty_supp_pub = record { key_data_length = 0; protected = empty_protected; other = None }
+
+abbrev SuppPubPlaces : Type 0
+SuppPubPlaces = ℤ × (ProtectedSeen × Option (List ℕ))
+
+abbrev pub supp_pub_of : SuppPubPlaces → SuppPubSeen
+supp_pub_of p = record { key_data_length = unsigned_abs p.0; protected = p.1.0; other = p.1.1 }
+
+abbrev pub supp_pub_places : SuppPubSeen → SuppPubPlaces
+supp_pub_places s = (pos s.key_data_length, (s.protected, s.other))
+
+-- ? other : bstr
+abbrev pub other_place : Places (Option (List ℕ))
+other_place = perhaps None is_some (present bstr)
+
+-- [keyDataLength : uint, protected : empty_or_serialized_map, ? other : bstr]
+abbrev pub supp_pub : Shape SuppPubSeen
+supp_pub = along supp_pub_of supp_pub_places (array_of (uint then protected then other_place))
+
+missing : (o : Option (List ℕ)) → is_some o ≡ false → o ≡ None
+missing None e = refl
+missing (Some b) e = absurd (true≢false e)
+
+pub supp_pub_laws : Lawful SuppPubSeen supp_pub
+supp_pub_laws =
+    along_laws supp_pub_of supp_pub_places (λ x. refl) _
+    (array_of_laws _ (then_laws _ _ uint_laws (then_laws _ _ protected_laws (perhaps_laws None is_some refl missing (present bstr) (present_laws bstr bstr_laws)))))
+
+-- ---- what its reader and its writer are made of
+
+-- Reading the last place, if it is there: the bytes that it stands for, or, out of memory aside, an error that tells of a
+-- fault in it
+abbrev pub ReadsOther : Items → Result (Option (Vec ℕ Global)) CoseError → Type 0
+ReadsOther vs (Ok o) = other_place.describes vs (option_map (λ b. b.items) o)
+ReadsOther vs (Err e) = UnlessMemory e (other_place.faults vs)
+
+-- the array of two places, where each has an item
+abbrev pub two_places : Option Item → Option Item → Option Item
+two_places a b = option_map array (both item a (both item b (Some no_items)))

@@ -1,0 +1,528 @@
+//! Claims sets: what a CBOR web token says of its subject (RFC 8392, sections 3 and 4).
+//!
+//! ```cddl
+//! claims_set = {
+//!     ? 1 => tstr,                   ; iss, issuer
+//!     ? 2 => tstr,                   ; sub, subject
+//!     ? 3 => tstr,                   ; aud, audience
+//!     ? 4 => timestamp,              ; exp, expiration time
+//!     ? 5 => timestamp,              ; nbf, not before
+//!     ? 6 => timestamp,              ; iat, issued at
+//!     ? 7 => bstr,                   ; cti, CWT ID
+//!     * (int / tstr) => any
+//! }
+//! ```
+
+ghost use Rattle.std.specs.Prelude.{◌≡◌, ◌↔◌, ℕ, ◌==◌, not, map, option_map, string_bytes, IsTrue, IfOk, IfErr, OnOk, OnErr, Some};
+ghost use Rattle.std.specs.Map.{keys_of};
+ghost use Rattle.std.specs.Option.{option_eq};
+ghost use Rattle.std.specs.Ordering.{on};
+ghost use Rattle.std.specs.Cmp.{on_equiv, on_per, partial_equiv_from_equiv};
+ghost use Rattle.std.specs.Cmp.Lexicographic.{pointwise};
+ghost use Rattle.coset_value.specs.View.{view};
+ghost use Rattle.coset_iana.specs.CwtClaimName as claim_names;
+ghost use Rattle.coset_iana.specs.WithPrivateRange.{is_private_use};
+ghost use Rattle.coset_shape.specs.declared.error.CoseError.TheVariants.{OutOfMemory};
+ghost use Rattle.coset_shape.specs.Answers.{Reads};
+ghost use Rattle.coset_shape.specs.Errors.{UnlessMemory};
+ghost use Rattle.coset_shape.specs.Maps.{Adds, Refuses, are_distinct, optional};
+ghost use Rattle.coset_shape.specs.Shape.{bstr, tstr};
+ghost use Rattle.coset_shape.specs.Sources.{source_item};
+ghost use Rattle.coset_label.specs.Names.{assigned, phrase, private_use};
+ghost use Rattle.coset_core.specs.FieldValues.{TakesValue, RefusesValue};
+ghost use Rattle.coset_claims.specs.Timestamp.{timestamp, timestamp_eq, timestamp_seen};
+ghost use Rattle.coset_claims.specs.Claims.{IsOtherClaim, and_claim, claim_name, claims, claims_seen, entry_seen, fields, name_seen, names, no_claims, parts_of, same_name};
+ghost use Rattle.coset_claims.specs.ClaimsEquality.{claim_eq, claims_eq, claims_eq_equiv};
+
+use crate::timestamp::{Timestamp, read_timestamp};
+use coset_cbor::de::Pull;
+use coset_cbor::value::Value;
+use coset_iana::{CwtClaimName, EnumI64};
+use coset_label::{ClaimName, RegisteredLabelWithPrivate};
+use coset_shape::encode::{Encode, encode_to_value, encode_to_vec};
+use coset_shape::encode_map::MapEncoder;
+use coset_shape::list::read_source;
+use coset_shape::map::{Gather, read_map};
+use coset_shape::traits::{FromPull, read_slice};
+use coset_shape::{AsCborValue, CborSerializable, CoseError, Lawful, Result, Source, has_repeats};
+use std::alloc::{AllocError, Global};
+use std::marker::Model;
+
+/// A claims set (RFC 8392, section 1.1).
+#[derive(Debug, Drop)]
+pub struct ClaimsSet {
+    /// Who issued the token (claim 1).
+    pub issuer: Option<String>,
+    /// Whom the claims are about (claim 2).
+    pub subject: Option<String>,
+    /// Whom the token is meant for (claim 3).
+    pub audience: Option<String>,
+    /// From when on the token isn't valid any more (claim 4).
+    pub expiration_time: Option<Timestamp>,
+    /// Before when the token isn't valid yet (claim 5).
+    pub not_before: Option<Timestamp>,
+    /// When the token was issued (claim 6).
+    pub issued_at: Option<Timestamp>,
+    /// The token's identifier, which may be empty (claim 7).
+    pub cwt_id: Option<Vec<u8>>,
+    /// The other claims, in order.
+    pub rest: Vec<(ClaimName, Value)>,
+}
+
+impl ClaimsSet {
+    /// No claims. It takes no memory.
+    pub fn new(alloc: Global) -> ClaimsSet
+        ensures { claims_seen result ≡ no_claims }
+    {
+        ClaimsSet {
+            issuer: None,
+            subject: None,
+            audience: None,
+            expiration_time: None,
+            not_before: None,
+            issued_at: None,
+            cwt_id: None,
+            rest: Vec::new(alloc),
+        }
+    }
+}
+
+/// Reads the name of a claim.
+#[tactic(auto, unfolding(crate::specs::Claims::claim_name))]
+fn read_name(alloc: Global, source: Source<'_>) -> Result<ClaimName>
+    ensures { Reads claim_name name_seen (source_item source.entry) result }
+{
+    read_source(alloc, source)
+}
+
+/// Whether the name is that of this claim.
+fn is_claim(name: &ClaimName, claim: CwtClaimName) -> bool
+    ensures { result ≡ same_name (assigned (claim_names.number claim)) (name_seen name.now) }
+{
+    match name {
+        RegisteredLabelWithPrivate::Assigned(found) => found.to_i64() == claim.to_i64(),
+        _ => false,
+    }
+}
+
+/// Sets a text, where there is none yet.
+fn set_text(alloc: Global, field: &mut Option<String>, value: Source<'_>) -> Result<()>
+    ensures takes { OnOk result (TakesValue (optional tstr) (source_item value.entry)
+        (option_map string_bytes field.old) (option_map string_bytes field.new)) }
+    ensures refused { IfErr result (λ e. UnlessMemory e (RefusesValue (optional tstr)
+        (source_item value.entry) (option_map string_bytes field.old))) }
+    ensures kept { OnErr result (field.new ≡ field.old) }
+{
+    if field.is_some() {
+        return Err(CoseError::DuplicateMapKey);
+    }
+    *field = Some(value.into_text(alloc, "tstr")?);
+    Ok(())
+}
+
+/// Sets a timestamp, where there is none yet.
+fn set_timestamp(field: &mut Option<Timestamp>, value: Source<'_>) -> Result<()>
+    ensures takes { OnOk result (TakesValue (optional timestamp) (source_item value.entry)
+        (option_map timestamp_seen field.old) (option_map timestamp_seen field.new)) }
+    ensures refused { IfErr result (λ e. UnlessMemory e (RefusesValue (optional timestamp)
+        (source_item value.entry) (option_map timestamp_seen field.old))) }
+    ensures kept { OnErr result (field.new ≡ field.old) }
+{
+    if field.is_some() {
+        return Err(CoseError::DuplicateMapKey);
+    }
+    *field = Some(read_timestamp(value)?);
+    Ok(())
+}
+
+/// Sets a byte string, where there is none yet.
+fn set_bytes(alloc: Global, field: &mut Option<Vec<u8>>, value: Source<'_>) -> Result<()>
+    ensures takes { OnOk result (TakesValue (optional bstr) (source_item value.entry)
+        (option_map (λ b. b.items) field.old) (option_map (λ b. b.items) field.new)) }
+    ensures refused { IfErr result (λ e. UnlessMemory e (RefusesValue (optional bstr)
+        (source_item value.entry) (option_map (λ b. b.items) field.old))) }
+    ensures kept { OnErr result (field.new ≡ field.old) }
+{
+    if field.is_some() {
+        return Err(CoseError::DuplicateMapKey);
+    }
+    *field = Some(value.into_bytes(alloc, "bstr")?);
+    Ok(())
+}
+
+/// Takes one more claim. Whether names of the rest repeat isn't asked.
+///
+/// # Errors
+/// `OutOfMemory`; `DuplicateMapKey` where a field has a value already; or a fault of its value. The claims are then as
+/// before.
+fn put(claims: &mut ClaimsSet, alloc: Global, name: ClaimName, value: Source<'_>) -> Result<()>
+    ensures takes { OnOk result (Adds names fields (name_seen name) (source_item value.entry)
+        (parts_of (claims_seen claims.old)) (parts_of (claims_seen claims.new))) }
+    ensures refused { IfErr result (λ e. UnlessMemory e (Refuses names fields (name_seen name)
+        (source_item value.entry) (parts_of (claims_seen claims.old)))) }
+    ensures kept { OnErr result (claims_seen claims.new ≡ claims_seen claims.old) }
+{
+    if is_claim(&name, CwtClaimName::Iss) {
+        return set_text(alloc, &mut claims.issuer, value);
+    }
+    if is_claim(&name, CwtClaimName::Sub) {
+        return set_text(alloc, &mut claims.subject, value);
+    }
+    if is_claim(&name, CwtClaimName::Aud) {
+        return set_text(alloc, &mut claims.audience, value);
+    }
+    if is_claim(&name, CwtClaimName::Exp) {
+        return set_timestamp(&mut claims.expiration_time, value);
+    }
+    if is_claim(&name, CwtClaimName::Nbf) {
+        return set_timestamp(&mut claims.not_before, value);
+    }
+    if is_claim(&name, CwtClaimName::Iat) {
+        return set_timestamp(&mut claims.issued_at, value);
+    }
+    if is_claim(&name, CwtClaimName::Cti) {
+        return set_bytes(alloc, &mut claims.cwt_id, value);
+    }
+    let value = value.into_value(alloc)?;
+    claims.rest.push((name, value))?;
+    Ok(())
+}
+
+/// A claims set is read claim by claim.
+impl Gather for ClaimsSet {
+    ghost use Rattle.coset_label.specs.Names.{RegisteredName};
+    ghost use Rattle.coset_claims.specs.Claims.{Fielded};
+    ghost use Rattle.coset_claims.specs.ClaimsLaws.{fields_laws, names_laws};
+
+    ghost Name = { RegisteredName };
+
+    ghost Got = { Fielded };
+
+    ghost names = { names };
+
+    ghost fields = { fields };
+
+    ghost seen = { λ c. parts_of (claims_seen c) };
+
+    ghost lawful_names = { names_laws };
+
+    ghost lawful_fields = { fields_laws };
+
+    fn add(&mut self, alloc: Global, key: Source<'_>, value: Source<'_>) -> Result<()> {
+        let name = read_name(alloc, key)?;
+        put(self, alloc, name, value)
+    }
+
+    fn repeats(&self, alloc: Global) -> Result<bool>
+        ensures repeats { IfOk result (λ b. b ≡ not
+            (are_distinct names.same (keys_of (claims_seen self.now).rest))) }
+        ensures memory { IfErr result (λ e. e ≡ OutOfMemory) }
+    {
+        has_repeats(alloc, &self.rest)
+    }
+}
+
+/// Reads a claims set.
+#[tactic(auto, unfolding(crate::specs::Claims::claims))]
+fn read_claims(alloc: Global, source: Source<'_>) -> Result<ClaimsSet>
+    ensures { Reads claims claims_seen (source_item source.entry) result }
+{
+    let mut claims = ClaimsSet::new(alloc);
+    read_map(alloc, source, &mut claims)?;
+    Ok(claims)
+}
+
+impl AsCborValue for ClaimsSet {
+    ghost use Rattle.coset_claims.specs.Claims.{ClaimsSeen};
+    ghost use Rattle.coset_claims.specs.ClaimsLaws.{claims_laws};
+
+    ghost Seen = { ClaimsSeen };
+
+    ghost seen = { claims_seen };
+
+    ghost shape = { claims };
+
+    ghost unique = { claims_laws.unique };
+
+    ghost sound = { claims_laws.sound };
+
+    fn from_cbor_value(alloc: Global, value: Value) -> Result<ClaimsSet> {
+        read_claims(alloc, Source::Tree(value))
+    }
+
+    fn to_cbor_value(self, alloc: Global) -> Result<Value> {
+        encode_to_value(alloc, &self)
+    }
+}
+
+impl Lawful for ClaimsSet {
+    ghost use Rattle.coset_claims.specs.ClaimsLaws.{claims_laws};
+
+    ghost laws = { claims_laws };
+}
+
+impl Encode for ClaimsSet {
+    ghost image = { λ c. claims.image (claims_seen c) };
+
+    ghost spare = { 0 };
+
+    fn encode(&self, alloc: Global, out: &mut Vec<u8>) -> Result<()> {
+        let mut pairs = MapEncoder::new(alloc);
+        pairs.optional(alloc, CwtClaimName::Iss.to_i64(), &self.issuer)?;
+        pairs.optional(alloc, CwtClaimName::Sub.to_i64(), &self.subject)?;
+        pairs.optional(alloc, CwtClaimName::Aud.to_i64(), &self.audience)?;
+        pairs.optional(alloc, CwtClaimName::Exp.to_i64(), &self.expiration_time)?;
+        pairs.optional(alloc, CwtClaimName::Nbf.to_i64(), &self.not_before)?;
+        pairs.optional(alloc, CwtClaimName::Iat.to_i64(), &self.issued_at)?;
+        pairs.optional(alloc, CwtClaimName::Cti.to_i64(), &self.cwt_id)?;
+        pairs.rest(alloc, &self.rest)?;
+        pairs.finish(out)
+    }
+}
+
+impl FromPull for ClaimsSet {
+    fn from_pull(alloc: Global, pull: Pull<'_>) -> Result<ClaimsSet> {
+        read_claims(alloc, Source::Lent(pull))
+    }
+}
+
+impl CborSerializable for ClaimsSet {
+    fn from_slice(alloc: Global, s: &[u8]) -> Result<ClaimsSet> {
+        read_slice(alloc, s)
+    }
+
+    fn to_vec(self, alloc: Global) -> Result<Vec<u8>> {
+        encode_to_vec(alloc, &self)
+    }
+}
+
+/// The same as [`ClaimsSet::clone`], for generic code.
+impl Clone for ClaimsSet {
+    ghost is_clone = { λ claims copy. claims_seen copy ≡ claims_seen claims };
+
+    fn clone(&self) -> Result<ClaimsSet, AllocError> {
+        Ok(ClaimsSet {
+            issuer: self.issuer.clone()?,
+            subject: self.subject.clone()?,
+            audience: self.audience.clone()?,
+            expiration_time: self.expiration_time.clone()?,
+            not_before: self.not_before.clone()?,
+            issued_at: self.issued_at.clone()?,
+            cwt_id: self.cwt_id.clone()?,
+            rest: self.rest.clone()?,
+        })
+    }
+}
+
+impl ClaimsSet {
+    /// A claims set that equals this one.
+    ///
+    /// # Errors
+    /// `OutOfMemory` alone.
+    pub fn clone(&self) -> Result<ClaimsSet>
+        ensures copy { IfOk result (λ c. claims_seen c ≡ claims_seen self.now) }
+        ensures memory { IfErr result (λ e. e ≡ OutOfMemory) }
+    {
+        Ok(Clone::clone(self)?)
+    }
+}
+
+/// Equality of every field; the rest is compared claim by claim, in order.
+impl PartialEq for ClaimsSet {
+    ghost eq = { on claims_seen claims_eq };
+
+    ghost laws = { on_per claims_seen (partial_equiv_from_equiv claims_eq_equiv) };
+
+    fn eq(&self, other: &ClaimsSet) -> bool
+        ensures answers { result ≡ claims_eq (claims_seen self.now) (claims_seen other.now) }
+        ensures equal { IsTrue result ↔ (claims_seen self.now ≡ claims_seen other.now) }
+    {
+        same(self, other)
+    }
+}
+
+impl Eq for ClaimsSet {
+    ghost laws = { on_equiv claims_seen claims_eq_equiv };
+}
+
+fn same_text(a: &Option<String>, b: &Option<String>) -> bool
+    ensures { result ≡ option_eq (pointwise ◌==◌) (option_map string_bytes a.now)
+        (option_map string_bytes b.now) }
+{
+    *a == *b
+}
+
+fn same_timestamp(a: &Option<Timestamp>, b: &Option<Timestamp>) -> bool
+    ensures { result ≡ option_eq timestamp_eq (option_map timestamp_seen a.now)
+        (option_map timestamp_seen b.now) }
+{
+    *a == *b
+}
+
+fn same_bytes(a: &Option<Vec<u8>>, b: &Option<Vec<u8>>) -> bool
+    ensures { result ≡ option_eq (pointwise ◌==◌) (option_map (λ s. s.items) a.now)
+        (option_map (λ s. s.items) b.now) }
+{
+    *a == *b
+}
+
+fn same_rest(a: &Vec<(ClaimName, Value)>, b: &Vec<(ClaimName, Value)>) -> bool
+    ensures { result ≡ pointwise claim_eq (map entry_seen a.now.items)
+        (map entry_seen b.now.items) }
+{
+    *a == *b
+}
+
+fn same(a: &ClaimsSet, b: &ClaimsSet) -> bool
+    ensures { result ≡ claims_eq (claims_seen a.now) (claims_seen b.now) }
+{
+    same_text(&a.issuer, &b.issuer)
+        && same_text(&a.subject, &b.subject)
+        && same_text(&a.audience, &b.audience)
+        && same_timestamp(&a.expiration_time, &b.expiration_time)
+        && same_timestamp(&a.not_before, &b.not_before)
+        && same_timestamp(&a.issued_at, &b.issued_at)
+        && same_bytes(&a.cwt_id, &b.cwt_id)
+        && same_rest(&a.rest, &b.rest)
+}
+
+/// Makes a [`ClaimsSet`], claim by claim. Contracts see it as the claims set that [`build`](ClaimsSetBuilder::build)
+/// gives.
+#[derive(Drop)]
+pub struct ClaimsSetBuilder(ClaimsSet);
+
+impl Model for ClaimsSetBuilder {
+    ghost use Rattle.std.specs.Coded.{codes};
+    ghost use Rattle.coset_claims.specs.contracts.claims_set.ClaimsSet as contracts;
+    ghost use Rattle.coset_claims.specs.declared.claims_set.ClaimsSet.{ClaimsSet};
+
+    ghost Value = { ClaimsSet };
+
+    ghost coded = { Prim.hlevel (codes, contracts.the_row.coded) };
+
+    ghost view = { λ b. b.0 };
+
+    ghost inverse = { λ v. record { 0 = v } };
+}
+
+impl ClaimsSetBuilder {
+    /// No claims. It takes no memory.
+    pub fn new(alloc: Global) -> ClaimsSetBuilder
+        ensures { claims_seen result ≡ no_claims }
+    {
+        ClaimsSetBuilder(ClaimsSet::new(alloc))
+    }
+
+    /// The claims set that was made.
+    pub fn build(self) -> ClaimsSet
+        ensures { result ≡ self }
+    {
+        self.0
+    }
+
+    /// Sets the issuer (claim 1).
+    pub fn issuer(mut self, issuer: String) -> ClaimsSetBuilder
+        ensures { claims_seen result ≡ record
+            (claims_seen self) { issuer = Some (string_bytes issuer) } }
+    {
+        self.0.issuer = Some(issuer);
+        self
+    }
+
+    /// Sets the subject (claim 2).
+    pub fn subject(mut self, subject: String) -> ClaimsSetBuilder
+        ensures { claims_seen result ≡ record
+            (claims_seen self) { subject = Some (string_bytes subject) } }
+    {
+        self.0.subject = Some(subject);
+        self
+    }
+
+    /// Sets the audience (claim 3).
+    pub fn audience(mut self, audience: String) -> ClaimsSetBuilder
+        ensures { claims_seen result ≡ record
+            (claims_seen self) { audience = Some (string_bytes audience) } }
+    {
+        self.0.audience = Some(audience);
+        self
+    }
+
+    /// Sets the expiration time (claim 4).
+    pub fn expiration_time(mut self, expiration_time: Timestamp) -> ClaimsSetBuilder
+        ensures { claims_seen result ≡ record
+            (claims_seen self) { expiration_time = Some (timestamp_seen expiration_time) } }
+    {
+        self.0.expiration_time = Some(expiration_time);
+        self
+    }
+
+    /// Sets the time before which the token isn't valid (claim 5).
+    pub fn not_before(mut self, not_before: Timestamp) -> ClaimsSetBuilder
+        ensures { claims_seen result ≡ record
+            (claims_seen self) { not_before = Some (timestamp_seen not_before) } }
+    {
+        self.0.not_before = Some(not_before);
+        self
+    }
+
+    /// Sets the time at which the token is issued (claim 6).
+    pub fn issued_at(mut self, issued_at: Timestamp) -> ClaimsSetBuilder
+        ensures { claims_seen result ≡ record
+            (claims_seen self) { issued_at = Some (timestamp_seen issued_at) } }
+    {
+        self.0.issued_at = Some(issued_at);
+        self
+    }
+
+    /// Sets the token's identifier (claim 7).
+    pub fn cwt_id(mut self, cwt_id: Vec<u8>) -> ClaimsSetBuilder
+        ensures { claims_seen result ≡ record (claims_seen self) { cwt_id = Some cwt_id.items } }
+    {
+        self.0.cwt_id = Some(cwt_id);
+        self
+    }
+
+    /// Adds a claim whose name isn't of 1 to 7: those have calls of their own. A claims set with a name twice is
+    /// written, but isn't read again (`DuplicateMapKey`).
+    ///
+    /// # Errors
+    /// `OutOfMemory` alone.
+    pub fn claim(mut self, name: CwtClaimName, value: Value) -> Result<ClaimsSetBuilder>
+        requires { IsOtherClaim (claim_names.number name) }
+        ensures ok { IfOk result (λ b. claims_seen b
+            ≡ and_claim (assigned (claim_names.number name)) (view value) (claims_seen self)) }
+        ensures memory { IfErr result (λ e. e ≡ OutOfMemory) }
+    {
+        self.0.rest.push((ClaimName::Assigned(name), value))?;
+        Ok(self)
+    }
+
+    /// Adds a claim whose name is a text. A claims set with a name twice is written, but isn't read again
+    /// (`DuplicateMapKey`).
+    ///
+    /// # Errors
+    /// `OutOfMemory` alone.
+    pub fn text_claim(mut self, name: String, value: Value) -> Result<ClaimsSetBuilder>
+        ensures ok { IfOk result (λ b. claims_seen b
+            ≡ and_claim (phrase (string_bytes name)) (view value) (claims_seen self)) }
+        ensures memory { IfErr result (λ e. e ≡ OutOfMemory) }
+    {
+        self.0.rest.push((ClaimName::Text(name), value))?;
+        Ok(self)
+    }
+
+    /// Adds a claim whose name is a number for private use, less than -65536. A claims set with a name twice is
+    /// written, but isn't read again (`DuplicateMapKey`).
+    ///
+    /// # Errors
+    /// `OutOfMemory` alone.
+    pub fn private_claim(mut self, id: i64, value: Value) -> Result<ClaimsSetBuilder>
+        requires { IsTrue (is_private_use id) }
+        ensures ok { IfOk result (λ b. claims_seen b
+            ≡ and_claim (private_use id) (view value) (claims_seen self)) }
+        ensures memory { IfErr result (λ e. e ≡ OutOfMemory) }
+    {
+        self.0.rest.push((ClaimName::PrivateUse(id), value))?;
+        Ok(self)
+    }
+}

@@ -1,0 +1,19 @@
+//! Claims of CBOR web tokens (RFC 8392), and parts of the context of a key derivation (RFC 8152, section 11.2).
+#![tactic(auto)]
+
+mod claims_set;
+mod party;
+mod supp_pub;
+mod timestamp;
+
+pub use claims_set::{ClaimsSet, ClaimsSetBuilder};
+pub use coset_core::{
+    Algorithm, AsCborValue, Bstr, CallError, CborOrdering, CborSerializable, ClaimName,
+    ContentType, CoseError, CoseSignature, CoseSignatureBuilder, Encode, EndOfFile, FromPull,
+    Header, HeaderBuilder, KeyOperation, KeyType, Label, Lawful, ProtectedBstr, ProtectedHeader,
+    RegisteredLabel, RegisteredLabelWithPrivate, Result, Source, TaggedCborSerializable, cbor,
+    has_repeats, iana, shape, util,
+};
+pub use party::{Nonce, PartyInfo, PartyInfoBuilder};
+pub use supp_pub::{SuppPubInfo, SuppPubInfoBuilder};
+pub use timestamp::Timestamp;

@@ -1,0 +1,404 @@
+//! The parties of a key agreement (RFC 8152, section 11.2).
+//!
+//! ```cddl
+//! PartyInfo = [ identity : bstr / nil, nonce : bstr / int / nil, other : bstr / nil ]
+//! ```
+
+ghost use Rattle.std.specs.Prelude.{◌≡◌, ◌↔◌, IsTrue, IfOk, IfErr, Some, option_map};
+ghost use Rattle.std.specs.Option.{option_eq};
+ghost use Rattle.std.specs.Ordering.{on};
+ghost use Rattle.std.specs.Cmp.{on_equiv, on_per, partial_equiv_from_equiv};
+ghost use Rattle.coset_shape.specs.declared.error.CoseError.TheVariants.{OutOfMemory};
+ghost use Rattle.coset_shape.specs.Answers.{Reads};
+ghost use Rattle.coset_shape.specs.Sources.{source_item};
+ghost use Rattle.coset_claims.specs.Party.{empty_party, nonce, nonce_or_nil, nonce_seen, party, party_seen};
+ghost use Rattle.coset_claims.specs.ContextSame.{nonce_eq, nonce_eq_equiv, party_eq, party_eq_equiv};
+
+use coset_cbor::de::Pull;
+use coset_cbor::value::Value;
+use coset_shape::encode::{Encode, encode_three, encode_to_value, encode_to_vec};
+use coset_shape::traits::{FromPull, read_slice};
+use coset_shape::{AsCborValue, CborSerializable, Lawful, Result, Source};
+use std::alloc::{AllocError, Global};
+use std::marker::Model;
+
+/// A nonce that a party contributes (RFC 8152, section 11.2).
+#[derive(Debug, Drop)]
+pub enum Nonce {
+    /// Bytes.
+    Bytes(Vec<u8>),
+    /// A number.
+    Integer(i64),
+}
+
+/// What every error of a nonce's kind asks for.
+const NONCE: &str = "bstr / int / nil";
+
+/// Reads a nonce, or null where there is none.
+fn read_nonce(alloc: Global, source: Source<'_>) -> Result<Option<Nonce>>
+    ensures { Reads nonce_or_nil (option_map nonce_seen) (source_item source.entry) result }
+{
+    if source.is_null() {
+        return Ok(None);
+    }
+    if source.integer().is_some() {
+        return Ok(Some(Nonce::Integer(source.into_int64(NONCE)?)));
+    }
+    Ok(Some(Nonce::Bytes(source.into_bytes(alloc, NONCE)?)))
+}
+
+impl Encode for Nonce {
+    ghost image = { λ n. nonce.image (nonce_seen n) };
+
+    ghost spare = { 9 };
+
+    fn room(&self) -> usize {
+        match self {
+            Nonce::Bytes(bytes) => bytes.room(),
+            Nonce::Integer(number) => number.room(),
+        }
+    }
+
+    fn encode(&self, alloc: Global, out: &mut Vec<u8>) -> Result<()> {
+        match self {
+            Nonce::Bytes(bytes) => bytes.encode(alloc, out),
+            Nonce::Integer(number) => number.encode(alloc, out),
+        }
+    }
+}
+
+/// The place of a nonce: null where there is none.
+#[derive(Clone, Copy)]
+struct NoncePlace<'a>(&'a Option<Nonce>);
+
+impl Encode for NoncePlace<'_> {
+    ghost image = { λ p. nonce_or_nil.image (option_map nonce_seen p.0.now) };
+
+    ghost spare = { 9 };
+
+    fn room(&self) -> usize {
+        match self.0 {
+            Some(nonce) => nonce.room(),
+            None => 1,
+        }
+    }
+
+    fn encode(&self, alloc: Global, out: &mut Vec<u8>) -> Result<()> {
+        match self.0 {
+            Some(nonce) => nonce.encode(alloc, out),
+            None => Value::Null.encode(alloc, out),
+        }
+    }
+}
+
+/// The same as [`Nonce::clone`], for generic code.
+impl Clone for Nonce {
+    ghost is_clone = { λ nonce copy. nonce_seen copy ≡ nonce_seen nonce };
+
+    fn clone(&self) -> Result<Nonce, AllocError> {
+        match self {
+            Nonce::Bytes(bytes) => Ok(Nonce::Bytes(Vec::from_slice(*bytes.allocator(), bytes)?)),
+            Nonce::Integer(number) => Ok(Nonce::Integer(*number)),
+        }
+    }
+}
+
+impl Nonce {
+    /// A nonce that equals this one.
+    ///
+    /// # Errors
+    /// `OutOfMemory` alone.
+    pub fn clone(&self) -> Result<Nonce>
+        ensures copy { IfOk result (λ n. nonce_seen n ≡ nonce_seen self.now) }
+        ensures memory { IfErr result (λ e. e ≡ OutOfMemory) }
+    {
+        Ok(Clone::clone(self)?)
+    }
+}
+
+/// Equality of the numbers, or of the bytes. A number equals no bytes.
+impl PartialEq for Nonce {
+    ghost eq = { on nonce_seen nonce_eq };
+
+    ghost laws = { on_per nonce_seen (partial_equiv_from_equiv nonce_eq_equiv) };
+
+    fn eq(&self, other: &Nonce) -> bool
+        ensures answers { result ≡ nonce_eq (nonce_seen self.now) (nonce_seen other.now) }
+        ensures equal { IsTrue result ↔ (nonce_seen self.now ≡ nonce_seen other.now) }
+    {
+        same_nonce(self, other)
+    }
+}
+
+impl Eq for Nonce {
+    ghost laws = { on_equiv nonce_seen nonce_eq_equiv };
+}
+
+/// Whether two nonces are the same.
+fn same_nonce(a: &Nonce, b: &Nonce) -> bool
+    ensures { result ≡ nonce_eq (nonce_seen a.now) (nonce_seen b.now) }
+{
+    match (a, b) {
+        (Nonce::Bytes(a), Nonce::Bytes(b)) => *a == *b,
+        (Nonce::Integer(a), Nonce::Integer(b)) => *a == *b,
+        _ => false,
+    }
+}
+
+/// What is said of a party of a key agreement (RFC 8152, section 11.2).
+#[derive(Debug, Drop)]
+pub struct PartyInfo {
+    /// Who the party is.
+    pub identity: Option<Vec<u8>>,
+    /// Its nonce.
+    pub nonce: Option<Nonce>,
+    /// What else is said of it.
+    pub other: Option<Vec<u8>>,
+}
+
+impl PartyInfo {
+    /// A party of whom nothing is said. It takes no memory.
+    pub fn new() -> PartyInfo
+        ensures { party_seen result ≡ empty_party }
+    {
+        PartyInfo {
+            identity: None,
+            nonce: None,
+            other: None,
+        }
+    }
+}
+
+impl Default for PartyInfo {
+    ghost is_default = { λ p. party_seen p ≡ empty_party };
+
+    /// The same as [`PartyInfo::new`].
+    fn default() -> PartyInfo {
+        PartyInfo::new()
+    }
+}
+
+/// Reads the places of a party, from the last to the first.
+pub(crate) fn read_party(alloc: Global, source: Source<'_>) -> Result<PartyInfo>
+    ensures { Reads party party_seen (source_item source.entry) result }
+{
+    let (identity, nonce, other) = source.into_three("array with 3 items")?;
+    let other = other.into_bytes_or_nil(alloc, "bstr / nil")?;
+    let nonce = read_nonce(alloc, nonce)?;
+    let identity = identity.into_bytes_or_nil(alloc, "bstr / nil")?;
+    Ok(PartyInfo {
+        identity,
+        nonce,
+        other,
+    })
+}
+
+impl AsCborValue for PartyInfo {
+    ghost use Rattle.coset_claims.specs.Party.{PartySeen, party_laws};
+
+    ghost Seen = { PartySeen };
+
+    ghost seen = { party_seen };
+
+    ghost shape = { party };
+
+    ghost unique = { party_laws.unique };
+
+    ghost sound = { party_laws.sound };
+
+    fn from_cbor_value(alloc: Global, value: Value) -> Result<PartyInfo> {
+        read_party(alloc, Source::Tree(value))
+    }
+
+    fn to_cbor_value(self, alloc: Global) -> Result<Value> {
+        encode_to_value(alloc, &self)
+    }
+}
+
+impl FromPull for PartyInfo {
+    fn from_pull(alloc: Global, pull: Pull<'_>) -> Result<PartyInfo> {
+        read_party(alloc, Source::Lent(pull))
+    }
+}
+
+impl CborSerializable for PartyInfo {
+    fn from_slice(alloc: Global, s: &[u8]) -> Result<PartyInfo> {
+        read_slice(alloc, s)
+    }
+
+    fn to_vec(self, alloc: Global) -> Result<Vec<u8>> {
+        encode_to_vec(alloc, &self)
+    }
+}
+
+impl Encode for PartyInfo {
+    ghost image = { λ p. party.image (party_seen p) };
+
+    ghost spare = { 27 };
+
+    fn room(&self) -> usize {
+        self.identity
+            .room()
+            .saturating_add(NoncePlace(&self.nonce).room())
+            .saturating_add(self.other.room())
+    }
+
+    fn encode(&self, alloc: Global, out: &mut Vec<u8>) -> Result<()> {
+        let nonce = NoncePlace(&self.nonce);
+        encode_three(alloc, &self.identity, &nonce, &self.other, out)
+    }
+}
+
+impl Lawful for PartyInfo {
+    ghost use Rattle.coset_claims.specs.Party.{party_laws};
+
+    ghost laws = { party_laws };
+}
+
+/// A copy of bytes that may be missing.
+pub(crate) fn copy_optional(bytes: &Option<Vec<u8>>) -> Result<Option<Vec<u8>>, AllocError>
+    ensures { IfOk result (λ o. option_map (λ b. b.items) o
+        ≡ option_map (λ b. b.items) bytes.now) }
+{
+    match bytes {
+        Some(bytes) => Ok(Some(Vec::from_slice(*bytes.allocator(), bytes)?)),
+        None => Ok(None),
+    }
+}
+
+/// A copy of a nonce that may be missing.
+fn copy_nonce(nonce: &Option<Nonce>) -> Result<Option<Nonce>, AllocError>
+    ensures { IfOk result (λ o. option_map nonce_seen o ≡ option_map nonce_seen nonce.now) }
+{
+    match nonce {
+        Some(nonce) => Ok(Some(Clone::clone(nonce)?)),
+        None => Ok(None),
+    }
+}
+
+/// The same as [`PartyInfo::clone`], for generic code.
+impl Clone for PartyInfo {
+    ghost is_clone = { λ party copy. party_seen copy ≡ party_seen party };
+
+    fn clone(&self) -> Result<PartyInfo, AllocError> {
+        Ok(PartyInfo {
+            identity: copy_optional(&self.identity)?,
+            nonce: copy_nonce(&self.nonce)?,
+            other: copy_optional(&self.other)?,
+        })
+    }
+}
+
+impl PartyInfo {
+    /// A party that equals this one.
+    ///
+    /// # Errors
+    /// `OutOfMemory` alone.
+    pub fn clone(&self) -> Result<PartyInfo>
+        ensures copy { IfOk result (λ p. party_seen p ≡ party_seen self.now) }
+        ensures memory { IfErr result (λ e. e ≡ OutOfMemory) }
+    {
+        Ok(Clone::clone(self)?)
+    }
+}
+
+/// Equality of every field.
+impl PartialEq for PartyInfo {
+    ghost eq = { on party_seen party_eq };
+
+    ghost laws = { on_per party_seen (partial_equiv_from_equiv party_eq_equiv) };
+
+    fn eq(&self, other: &PartyInfo) -> bool
+        ensures answers { result ≡ party_eq (party_seen self.now) (party_seen other.now) }
+        ensures equal { IsTrue result ↔ (party_seen self.now ≡ party_seen other.now) }
+    {
+        same_party(self, other)
+    }
+}
+
+impl Eq for PartyInfo {
+    ghost laws = { on_equiv party_seen party_eq_equiv };
+}
+
+/// Whether two parties are the same.
+fn same_party(a: &PartyInfo, b: &PartyInfo) -> bool
+    ensures { result ≡ party_eq (party_seen a.now) (party_seen b.now) }
+{
+    a.identity == b.identity && same_nonces(&a.nonce, &b.nonce) && a.other == b.other
+}
+
+/// Whether two nonces are the same, or both missing.
+fn same_nonces(a: &Option<Nonce>, b: &Option<Nonce>) -> bool
+    ensures { result ≡ option_eq nonce_eq (option_map nonce_seen a.now)
+        (option_map nonce_seen b.now) }
+{
+    *a == *b
+}
+
+/// Makes a [`PartyInfo`], field by field. Contracts see it as the party that [`build`](PartyInfoBuilder::build) gives.
+#[derive(Debug, Drop)]
+pub struct PartyInfoBuilder(PartyInfo);
+
+impl Model for PartyInfoBuilder {
+    ghost use Rattle.std.specs.Coded.{codes};
+    ghost use Rattle.coset_claims.specs.contracts.party.PartyInfo as contracts;
+    ghost use Rattle.coset_claims.specs.declared.party.PartyInfo.{PartyInfo};
+
+    ghost Value = { PartyInfo };
+
+    ghost coded = { Prim.hlevel (codes, contracts.the_row.coded) };
+
+    ghost view = { λ b. b.0 };
+
+    ghost inverse = { λ v. record { 0 = v } };
+}
+
+impl Default for PartyInfoBuilder {
+    ghost is_default = { λ b. party_seen b ≡ empty_party };
+
+    /// The same as [`PartyInfoBuilder::new`].
+    fn default() -> PartyInfoBuilder {
+        PartyInfoBuilder::new()
+    }
+}
+
+impl PartyInfoBuilder {
+    /// A party of whom nothing is said. It takes no memory.
+    pub fn new() -> PartyInfoBuilder
+        ensures { party_seen result ≡ empty_party }
+    {
+        PartyInfoBuilder(PartyInfo::new())
+    }
+
+    /// The party that was made.
+    pub fn build(self) -> PartyInfo
+        ensures { result ≡ self }
+    {
+        self.0
+    }
+
+    /// Sets who the party is.
+    pub fn identity(mut self, identity: Vec<u8>) -> PartyInfoBuilder
+        ensures { party_seen result ≡ record (party_seen self) { identity = Some identity.items } }
+    {
+        self.0.identity = Some(identity);
+        self
+    }
+
+    /// Sets its nonce.
+    pub fn nonce(mut self, nonce: Nonce) -> PartyInfoBuilder
+        ensures { party_seen result ≡ record
+            (party_seen self) { nonce = Some (nonce_seen nonce) } }
+    {
+        self.0.nonce = Some(nonce);
+        self
+    }
+
+    /// Sets what else is said of it.
+    pub fn other(mut self, other: Vec<u8>) -> PartyInfoBuilder
+        ensures { party_seen result ≡ record (party_seen self) { other = Some other.items } }
+    {
+        self.0.other = Some(other);
+        self
+    }
+}
