@@ -73,3 +73,10 @@ pub use Rattle.coset_msg.specs.declared.encrypt0.CoseEncrypt0
 pub use Rattle.coset_recipient.specs.declared.mac.CoseMac
 pub use Rattle.coset_recipient.specs.declared.encrypt.CoseEncrypt
 pub use Rattle.coset_recipient.specs.declared.recipient.CoseRecipient
+pub use Rattle.coset_claims.specs.Timestamp
+pub use Rattle.coset_claims.specs.Claims
+pub use Rattle.coset_claims.specs.declared.claims_set.ClaimsSet
+pub use Rattle.coset_claims.specs.Party
+pub use Rattle.coset_claims.specs.SuppPub
+pub use Rattle.coset_claims.specs.declared.party.PartyInfo
+pub use Rattle.coset_claims.specs.declared.supp_pub.SuppPubInfo

@@ -13,6 +13,7 @@
 
 pub mod cwt;
 
+pub use coset_claims::{Nonce, PartyInfo, PartyInfoBuilder, SuppPubInfo, SuppPubInfoBuilder};
 pub use coset_recipient::{
     Algorithm, AsCborValue, CallError, CborOrdering, CborSerializable, ContentType, CoseEncrypt,
     CoseEncrypt0, CoseEncrypt0Builder, CoseEncryptBuilder, CoseError, CoseMac, CoseMac0,

@@ -7,6 +7,7 @@ ghost use Rattle.coset_show.specs.Kind.{kind_name, ShowsBytes, RefusesBytes};
 use crate::refusal::Refusal;
 use crate::show::{message_lines, sign1_lines, type_line};
 use coset::cbor::value::Value;
+use coset::cwt::ClaimsSet;
 use coset::{CoseEncrypt, CoseEncrypt0, CoseMac, CoseMac0, CoseSign};
 use std::alloc::Global;
 
@@ -27,6 +28,8 @@ pub enum Kind {
     Encrypt,
     /// An encrypted message, for receivers that know the key (RFC 8152, section 5.2).
     Encrypt0,
+    /// The claims of a web token (RFC 8392, section 3).
+    Claims,
 }
 
 impl Kind {
@@ -43,6 +46,7 @@ impl Kind {
             "mac0" => Some(Kind::Mac0),
             "encrypt" => Some(Kind::Encrypt),
             "encrypt0" => Some(Kind::Encrypt0),
+            "claims" => Some(Kind::Claims),
             _ => None,
         }
     }
@@ -63,6 +67,7 @@ impl Kind {
             Kind::Mac0 => message_lines::<CoseMac0>(alloc, bytes),
             Kind::Encrypt => message_lines::<CoseEncrypt>(alloc, bytes),
             Kind::Encrypt0 => message_lines::<CoseEncrypt0>(alloc, bytes),
+            Kind::Claims => type_line::<ClaimsSet>(alloc, bytes),
         }
     }
 }

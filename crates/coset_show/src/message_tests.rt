@@ -183,6 +183,23 @@ fn refuses_what_is_no_encrypted_message(rt: HostRuntime) -> Result<(), Fail> {
     Ok(())
 }
 
+#[test]
+fn shows_claims(rt: HostRuntime) -> Result<(), Fail> {
+    let rows = [
+        ("a0", "a0\n"),
+        ("a104fb3ff8000000000000", "a104fb3ff8000000000000\n"),
+        ("bf616100016161ff", "a2016161616100\n"),
+    ];
+    answers(&rt, rt.alloc(), "claims", &rows, 0);
+    let rows = [
+        ("8101", "error: got array, expected map\n"),
+        ("d83da0", "error: got tag, expected map\n"),
+        ("a207400740", "error: duplicate map key\n"),
+    ];
+    answers(&rt, rt.alloc(), "claims", &rows, 1);
+    Ok(())
+}
+
 /// The byte string of bytes, both as digits: its shortest encoding where there are less than 256.
 fn byte_string(alloc: Global, content: &str) -> Result<String, AllocError> {
     let length = content.len() / 2;

@@ -1,6 +1,7 @@
 //! How values stand in the bytes of rows.
 
 use coset::cbor::value::Value;
+use coset::cwt::Timestamp;
 use coset::{
     AsCborValue, CborSerializable, CoseError, CoseSign1, ProtectedBstr, ProtectedHeader, Result,
     TaggedCborSerializable,
@@ -99,6 +100,23 @@ impl Form<ProtectedHeader> for InString {
 
     fn write(alloc: Global, value: ProtectedHeader) -> Result<Vec<u8>> {
         ProtectedBstr(value).to_vec(alloc)
+    }
+}
+
+/// Seconds, which are read and written by way of a value alone.
+pub struct AsValue;
+
+impl Form<Timestamp> for AsValue {
+    fn read(alloc: Global, bytes: &[u8]) -> Result<Timestamp> {
+        Timestamp::from_cbor_value(alloc, Value::from_slice(alloc, bytes)?)
+    }
+
+    fn read_item(alloc: Global, item: Value) -> Result<Timestamp> {
+        Timestamp::from_cbor_value(alloc, item)
+    }
+
+    fn write(alloc: Global, value: Timestamp) -> Result<Vec<u8>> {
+        value.to_cbor_value(alloc)?.to_vec(alloc)
     }
 }
 

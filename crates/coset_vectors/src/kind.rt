@@ -1,14 +1,14 @@
 //! What the bytes of a row are said to be.
 
 use crate::answer::answer;
-use crate::form::{InString, Plain, Signed, Tagged};
+use crate::form::{AsValue, InString, Plain, Signed, Tagged};
 use coset::cbor::value::Value;
-use coset::cwt::ClaimName;
+use coset::cwt::{ClaimName, ClaimsSet, Timestamp};
 use coset::iana::{EllipticCurve, HeaderParameter};
 use coset::{
     Algorithm, ContentType, CoseEncrypt, CoseEncrypt0, CoseMac, CoseMac0, CoseRecipient, CoseSign,
-    CoseSign1, CoseSignature, Header, KeyOperation, KeyType, Label, ProtectedHeader,
-    RegisteredLabel, RegisteredLabelWithPrivate,
+    CoseSign1, CoseSignature, Header, KeyOperation, KeyType, Label, PartyInfo, ProtectedHeader,
+    RegisteredLabel, RegisteredLabelWithPrivate, SuppPubInfo,
 };
 use std::alloc::{AllocError, Global};
 
@@ -69,6 +69,14 @@ pub enum Kind {
     Encrypt0,
     /// Such a message under its tag.
     TaggedEncrypt0,
+    /// The claims of a web token (RFC 8392, section 3).
+    Claims,
+    /// Seconds, whole or not (RFC 8392, section 2).
+    Timestamp,
+    /// A party of a key derivation (RFC 8152, section 11.2).
+    Party,
+    /// What is public of a key derivation (RFC 8152, section 11.2).
+    SuppPub,
 }
 
 impl Kind {
@@ -96,6 +104,10 @@ impl Kind {
             "mac0" => Kind::Mac0,
             "encrypt" => Kind::Encrypt,
             "encrypt0" => Kind::Encrypt0,
+            "claims" => Kind::Claims,
+            "timestamp" => Kind::Timestamp,
+            "party" => Kind::Party,
+            "supp_pub" => Kind::SuppPub,
             _ => return None,
         })
     }
@@ -145,6 +157,10 @@ impl Kind {
             Kind::TaggedEncrypt => answer::<Tagged, CoseEncrypt>(alloc, bytes),
             Kind::Encrypt0 => answer::<Plain, CoseEncrypt0>(alloc, bytes),
             Kind::TaggedEncrypt0 => answer::<Tagged, CoseEncrypt0>(alloc, bytes),
+            Kind::Claims => answer::<Plain, ClaimsSet>(alloc, bytes),
+            Kind::Timestamp => answer::<AsValue, Timestamp>(alloc, bytes),
+            Kind::Party => answer::<Plain, PartyInfo>(alloc, bytes),
+            Kind::SuppPub => answer::<Plain, SuppPubInfo>(alloc, bytes),
         }
     }
 }

@@ -11,6 +11,8 @@ mod builders;
 #[cfg(test)]
 mod cbor;
 #[cfg(test)]
+mod claims;
+#[cfg(test)]
 mod closures;
 #[cfg(test)]
 mod encrypted;
