@@ -1,0 +1,143 @@
+-- Sets as they lie in memory, as contracts see them, and as arrays are read into them.
+use Rattle.std.proofs.Common.{◌≡◌, ◌⊎◌, ◌||◌, List, [], ◌∷◌, ◌++◌, map, Bool, true, false, Some, Contains, length, refl, sym, ◌∙◌, ap, subst, inl, inr, arith, true≢false, Ordering, Less, Equal, Greater}
+use Rattle.std.specs.Cmp.{IsTotalOrder}
+use Rattle.std.specs.BTreeMap.{is_at}
+use Rattle.std.specs.BTreeSet.{insert_key}
+use Rattle.std.specs.List.{list_any, IsDistinct}
+use Rattle.std.specs.Ordering.{eq_by_cmp, is_eq, match_ordering, on}
+use Rattle.std.proofs.lemmas.Map.Lookups.{CmpEqualImpliesEq}
+use Rattle.std.proofs.lemmas.Map.Views.{tells_apart}
+use Rattle.coset_value.specs.Item.{Item, Items, no_items, item}
+use Rattle.coset_value.specs.Parts.{as_array}
+use Rattle.coset_shape.specs.Errors.{IsUnexpected}
+use Rattle.coset_shape.specs.declared.error.CoseError.{CoseError}
+use Rattle.coset_shape.specs.Sets.{IsSetOf, IsDistinctBy, HasMember, Repeats, set_of}
+use Rattle.coset_shape.specs.SetLaws.{set_has, set_push, distinct_push, set_of_none}
+use Rattle.coset_shape.specs.Shape.{Shape, Each, EachFaults}
+use Rattle.coset_shape.proofs.Encoding.{and_items}
+
+-- ---- as contracts see them
+
+module _ {K N : Type 0} (seen : K → N) where
+  pub no-keys : (ks : List K) → length ks ≡ 0 → map seen ks ≡ []
+  no-keys [] e = refl
+  no-keys (x ∷ xs) e = absurd (omega (arith, e))
+
+  pub some-keys : (ks : List K) (b : Bool) → (length ks ≡ 0 → b ≡ true) → b ≡ false → map seen ks ≡ [] → ⊥
+  some-keys [] b t f e = true≢false (sym (t refl) ∙ f)
+  some-keys (x ∷ xs) b t f e = absurd (cc)
+
+module _ {K N : Type 0} (seen : K → N) (cmp : N → N → Ordering) where
+  pub insert-seen : (ks : List K) (k : K) → map seen (insert_key (on seen cmp) ks k) ≡ insert_key cmp (map seen ks) (seen k)
+  insert-seen [] k = refl
+  insert-seen (x ∷ xs) k = by (cmp (seen k) (seen x)) (insert-seen xs k)
+    where
+      by : (r : Ordering) → map seen (insert_key (on seen cmp) xs k) ≡ insert_key cmp (map seen xs) (seen k)
+          → map seen (match_ordering r (k ∷ x ∷ xs) (x ∷ xs) (x ∷ insert_key (on seen cmp) xs k)) ≡ match_ordering r (seen k ∷ seen x ∷ map seen xs) (seen x ∷ map seen xs) (seen x ∷ insert_key cmp (map seen xs) (seen k))
+      by Less h = refl
+      by Equal h = refl
+      by Greater h = ap (λ ys. seen x ∷ ys) h
+
+  pub contains-seen : (ks : List K) (k : K) → list_any (is_at (on seen cmp k)) ks ≡ list_any (eq_by_cmp cmp (seen k)) (map seen ks)
+  contains-seen [] k = refl
+  contains-seen (x ∷ xs) k = ap (λ b. is_eq (cmp (seen k) (seen x)) || b) (contains-seen xs k)
+
+-- ---- as arrays are read
+
+and_items-assoc : (us vs ws : Items) → and_items (and_items us vs) ws ≡ and_items us (and_items vs ws)
+and_items-assoc no_items vs ws = refl
+and_items-assoc (item u us) vs ws = ap (item u) (and_items-assoc us vs ws)
+
+and_items-none : (vs : Items) → and_items vs no_items ≡ vs
+and_items-none no_items = refl
+and_items-none (item v vs) = ap (item v) (and_items-none vs)
+
+module _ {A : Type 0} (cmp : A → A → Ordering) (o : IsTotalOrder cmp) (exact : CmpEqualImpliesEq cmp) (s : Shape A) where
+  each-more : (vs : Items) (xs : List A) (v : Item) (x : A) → Each s.describes vs xs → s.describes v x → Each s.describes (and_items vs (item v no_items)) (xs ++ x ∷ [])
+  each-more no_items [] v x p d = (d, tt)
+  each-more no_items (y ∷ ys) v x p d = absurd p
+  each-more (item w ws) [] v x p d = absurd p
+  each-more (item w ws) (y ∷ ys) v x p d = (p.0, each-more ws ys v x p.1 d)
+
+  fault-behind : (vs ws : Items) (e : CoseError) → EachFaults s.faults ws e → EachFaults s.faults (and_items vs ws) e
+  fault-behind no_items ws e f = f
+  fault-behind (item v vs) ws e f = inr (fault-behind vs ws e f)
+
+  member-behind : (vs ws : Items) (x : A) → HasMember s.describes x ws → HasMember s.describes x (and_items vs ws)
+  member-behind no_items ws x f = f
+  member-behind (item v vs) ws x f = inr (member-behind vs ws x f)
+
+  -- an item that stands for one of the values before it
+  repeats-behind : (vs : Items) (xs : List A) (v : Item) (ws : Items) (x : A) → Each s.describes vs xs → list_any (eq_by_cmp cmp x) xs ≡ true → s.describes v x → Repeats s.describes (and_items vs (item v ws))
+  repeats-behind no_items [] v ws x p h d = absurd (true≢false (sym h))
+  repeats-behind no_items (y ∷ ys) v ws x p h d = absurd p
+  repeats-behind (item u us) [] v ws x p h d = absurd p
+  repeats-behind (item u us) (y ∷ ys) v ws x p h d = by (is_eq (cmp x y)) refl h (repeats-behind us ys v ws x p.1)
+    where
+      by : (b : Bool) → is_eq (cmp x y) ≡ b → (b || list_any (eq_by_cmp cmp x) ys) ≡ true → (list_any (eq_by_cmp cmp x) ys ≡ true → s.describes v x → Repeats s.describes (and_items us (item v ws)))
+          → ((z : A) × s.describes u z × HasMember s.describes z (and_items us (item v ws))) ⊎ Repeats s.describes (and_items us (item v ws))
+      by true e q later = inl (x, subst (s.describes u) (sym (tells_apart exact x y e)) p.0, member-behind us (item v ws) x (inl d))
+      by false e q later = inr (later q d)
+
+  -- of the items of an array some were read, which make this set, and left are still to come
+  pub record Gathered (all : Items) (set : List A) (left : Items) : Type 0 where
+    pub done : Items
+    pub read : List A
+    pub parts : all ≡ and_items done left
+    pub each : Each s.describes done read
+    pub is_set : IsSetOf cmp read set
+    pub distinct : IsDistinctBy cmp read
+
+  pub none_gathered : (all : Items) → Gathered all [] all
+  unfolding IsDistinct
+  none_gathered all = record { done = no_items; read = []; parts = refl; each = tt; is_set = set_of_none cmp; distinct = tt }
+
+  -- one more, which is new
+  pub more_gathered :
+      (all old new : Items) (set : List A) (v : Item) (x : A) → Gathered all set old → old ≡ item v new → s.describes v x → list_any (eq_by_cmp cmp x) set ≡ false → Gathered all (insert_key cmp set x) new
+  more_gathered all old new set v x g e d h =
+      record {
+        done = and_items g.done (item v no_items);
+        read = g.read ++ x ∷ [];
+        parts = g.parts ∙ (ap (and_items g.done) e ∙ sym (and_items-assoc g.done (item v no_items) new));
+        each = each-more g.done g.read v x g.each d;
+        is_set = set_push o exact g.read set x g.is_set;
+        distinct = distinct_push o exact g.read set x g.is_set g.distinct h;
+      }
+
+  -- one more, which isn't
+  pub repeated_gathered :
+      (w : Item) (all old new : Items) (set : List A) (v : Item) (x : A) (e : CoseError) → as_array w ≡ Some all → Gathered all set old → old ≡ item v new → s.describes v x → list_any (eq_by_cmp cmp x) set ≡ true
+      → IsUnexpected e → (set_of cmp s).faults w e
+  repeated_gathered w all old new set v x e a g q d h u =
+      let stands : Repeats s.describes (and_items g.done (item v new)) = repeats-behind g.done g.read v new x g.each (sym (set_has o exact g.read set g.is_set x) ∙ h) d in
+      inr (u, (all, a, subst (Repeats s.describes) (sym (g.parts ∙ ap (and_items g.done) q)) stands))
+
+  -- a member that is refused
+  pub refused_gathered :
+      (w : Item) (all old new : Items) (set : List A) (v : Item) (e : CoseError) → as_array w ≡ Some all → Gathered all set old → old ≡ item v new → s.faults v e → (set_of cmp s).faults w e
+  refused_gathered w all old new set v e a g q f =
+      inl (inl (inr (all, a, inr (λ m. m, subst (λ vs. EachFaults s.faults vs e) (sym (g.parts ∙ ap (and_items g.done) q)) (fault-behind g.done (item v new) e (inl f))))))
+
+  -- all of them
+  all_each : (all left : Items) (set : List A) (g : Gathered all set left) → left ≡ no_items → Each s.describes all g.read
+  all_each all left set g n = subst (λ vs. Each s.describes vs g.read) (sym (g.parts ∙ (ap (and_items g.done) n ∙ and_items-none g.done))) g.each
+
+  pub all_gathered : (w : Item) (all left : Items) (set : List A) → as_array w ≡ Some all → Gathered all set left → left ≡ no_items → (set ≡ [] → ⊥) → (set_of cmp s).describes w set
+  all_gathered w all left set a g n some = (
+    g.read,
+    (((all, a, all_each all left set g n), λ none. some (no-set g.read set none g.is_set)), g.distinct),
+    g.is_set,
+  )
+    where
+      no-set : (xs ys : List A) → xs ≡ [] → IsSetOf cmp xs ys → ys ≡ []
+      no-set xs [] e m = refl
+      no-set xs (y ∷ ys) e m = let c : Contains [] y = subst (λ zs. Contains zs y) e ((m.members y).0 (0, omega arith, refl)) in absurd (omega (arith, c.1))
+
+  -- there are none
+  pub empty_gathered : (w : Item) (all left : Items) (set : List A) (e : CoseError) → as_array w ≡ Some all → Gathered all set left → left ≡ no_items → set ≡ [] → IsUnexpected e → (set_of cmp s).faults w e
+  empty_gathered w all left set e a g n none u = inl (inr (u, (g.read, (all, a, all_each all left set g n), λ some. some (no-list g.read set none g.is_set))))
+    where
+      no-list : (xs ys : List A) → ys ≡ [] → IsSetOf cmp xs ys → xs ≡ []
+      no-list [] ys e m = refl
+      no-list (x ∷ xs) ys e m = let c : Contains [] x = subst (λ zs. Contains zs x) e ((m.members x).1 (0, omega arith, refl)) in absurd (omega (arith, c.1))

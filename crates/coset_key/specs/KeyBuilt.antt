@@ -1,0 +1,94 @@
+-- What the calls of a key's builder make (RFC 8152, sections 7.1 and 13): a key of a certain type, or one with a field set
+-- and the rest as it was.
+use Rattle.std.specs.Prelude.{◌≡◌, ◌⊎◌, ℕ, ℤ, pos, int_lt, true, List, [], ◌∷◌, ◌++◌, Some}
+use Rattle.std.specs.BTreeSet.{insert_key}
+use Rattle.coset_value.specs.Item.{Item, integer, bytes}
+use Rattle.coset_iana.specs.AkpKeyParameter as akp
+use Rattle.coset_iana.specs.Ec2KeyParameter as ec2
+use Rattle.coset_iana.specs.EllipticCurve as curves
+use Rattle.coset_iana.specs.KeyType as kinds
+use Rattle.coset_iana.specs.SymmetricKeyParameter as symmetric
+use Rattle.coset_iana.specs.Algorithm as algorithms
+use Rattle.coset_iana.specs.declared.key_parameters.AkpKeyParameter.TheVariants.{Pub}
+use Rattle.coset_iana.specs.declared.key_parameters.Ec2KeyParameter.TheVariants as coordinates
+use Rattle.coset_iana.specs.declared.key_parameters.SymmetricKeyParameter.TheVariants.{K}
+use Rattle.coset_iana.specs.declared.keys.EllipticCurve.{EllipticCurve}
+use Rattle.coset_iana.specs.declared.keys.KeyType.{KeyType}
+use Rattle.coset_iana.specs.declared.keys.KeyType.TheVariants.{OKP, EC2, Symmetric, AKP}
+use Rattle.coset_label.specs.Names.{Name, number, RegisteredName, assigned, name_cmp}
+use Rattle.coset_key.specs.Keys.{KeySeen, empty_key}
+use Rattle.coset_key.specs.MlDsa.{algorithm_of}
+use Rattle.coset_key.specs.declared.ml_dsa.MlDsaVariant.{MlDsaVariant}
+
+-- ---- keys of a type
+
+-- a key of that type alone
+abbrev pub key_of_type : KeyType → KeySeen
+key_of_type t = record empty_key { kty = number (kinds.number t) }
+
+-- and with these params
+abbrev pub key_with : KeyType → List (Name × Item) → KeySeen
+key_with t params = record (key_of_type t) { params = params }
+
+-- an octet key pair
+abbrev pub okp_key : KeySeen
+okp_key = key_of_type OKP
+
+-- the labels of a curve, of a point's coordinates, and of a private key
+abbrev pub curve_label : Name
+curve_label = number (ec2.number coordinates.Crv)
+
+abbrev pub x_label : Name
+x_label = number (ec2.number coordinates.X)
+
+abbrev pub y_label : Name
+y_label = number (ec2.number coordinates.Y)
+
+abbrev pub d_label : Name
+d_label = number (ec2.number coordinates.D)
+
+-- the params of a point on a curve; y is a byte string, or a bool for its sign
+abbrev pub point_params : EllipticCurve → List ℕ → Item → List (Name × Item)
+point_params curve x y = (curve_label, integer (curves.number curve)) ∷ (x_label, bytes x) ∷ (y_label, y) ∷ []
+
+-- an elliptic curve key with two coordinates
+abbrev pub ec2_key : EllipticCurve → List ℕ → Item → KeySeen
+ec2_key curve x y = key_with EC2 (point_params curve x y)
+
+-- and with the private key
+abbrev pub ec2_private_key : EllipticCurve → List ℕ → List ℕ → List ℕ → KeySeen
+ec2_private_key curve x y d = key_with EC2 (point_params curve x (bytes y) ++ (d_label, bytes d) ∷ [])
+
+-- a public key of ML-DSA
+abbrev pub ml_dsa_key : MlDsaVariant → List ℕ → KeySeen
+ml_dsa_key variant k = record (key_with AKP ((number (akp.number Pub), bytes k) ∷ [])) { alg = Some (assigned (algorithms.number (algorithm_of variant))) }
+
+-- a symmetric key
+abbrev pub symmetric_key : List ℕ → KeySeen
+symmetric_key k = key_with Symmetric ((number (symmetric.number K), bytes k) ∷ [])
+
+-- ---- fields set
+
+abbrev pub with_kty : Name → KeySeen → KeySeen
+with_kty t k = record k { kty = t }
+
+abbrev pub with_key_id : List ℕ → KeySeen → KeySeen
+with_key_id b k = record k { key_id = b }
+
+abbrev pub with_algorithm : RegisteredName → KeySeen → KeySeen
+with_algorithm a k = record k { alg = Some a }
+
+abbrev pub with_base_iv : List ℕ → KeySeen → KeySeen
+with_base_iv b k = record k { base_iv = b }
+
+-- one more operation at its place, unless it is there
+abbrev pub and_operation : Name → KeySeen → KeySeen
+and_operation l k = record k { key_ops = insert_key name_cmp k.key_ops l }
+
+-- one more pair of another label, behind the others
+abbrev pub and_param : Name → Item → KeySeen → KeySeen
+and_param l v k = record k { params = k.params ++ (l, v) ∷ [] }
+
+-- IANA assigns the label to no parameter that all keys have in common: it is none of 0 to 5
+abbrev pub IsOtherLabel : ℤ → Type 0
+IsOtherLabel n = (int_lt n (pos 0) ≡ true) ⊎ (int_lt (pos 5) n ≡ true)

@@ -1,0 +1,110 @@
+-- Keys and sets of keys, and which items stand for them (RFC 8152, section 7).
+use Rattle.std.specs.Prelude.{◌≢◌, ℕ, List, [], Option, Some, None, map, option_map, unwrap_or, is_some}
+use Rattle.coset_value.specs.Item.{Item}
+use Rattle.coset_iana.specs.KeyOperation as operations
+use Rattle.coset_iana.specs.KeyType as kinds
+use Rattle.coset_iana.specs.Registry.{first_numbered}
+use Rattle.coset_iana.specs.declared.keys.KeyOperation as declared_operations
+use Rattle.coset_iana.specs.declared.keys.KeyType as declared_kinds
+use Rattle.coset_iana.specs.declared.keys.KeyType.TheVariants.{Reserved}
+use Rattle.coset_iana.specs.declared.keys.TheConstants.{KEY_TYPES, KEY_OPERATIONS}
+use Rattle.coset_shape.specs.Errors.{IsUnexpected}
+use Rattle.coset_shape.specs.Maps.{Fields, field, no_field, optional, listed, labelled}
+use Rattle.coset_shape.specs.Sets.{set_of}
+use Rattle.coset_shape.specs.Shape.{Shape, along, that, filled_bstr, list_of}
+use Rattle.coset_label.specs.Labels.{registered}
+use Rattle.coset_label.specs.Names.{Name, number, RegisteredName, name_cmp}
+use Rattle.coset_label.specs.Views.{registered_seen}
+use Rattle.coset_label.specs.declared.registered.RegisteredLabel.{RegisteredLabel}
+use Rattle.coset_core.specs.Fields.{algorithm, names}
+use Rattle.coset_core.specs.Views.{algorithm_seen, entry_seen}
+use Rattle.coset_key.specs.KeyLabels as labels
+use Rattle.coset_key.specs.declared.key.CoseKey.{CoseKey}
+use Rattle.coset_key.specs.declared.key_set.CoseKeySet.{CoseKeySet}
+
+-- a key without its memory; `key_ops` are in the order of their encodings, each once
+pub record KeySeen : Type 0 where
+  pub kty : Name
+  pub key_id : List ℕ
+  pub alg : Option RegisteredName
+  pub key_ops : List Name
+  pub base_iv : List ℕ
+  pub params : List (Name × Item)
+
+abbrev pub kty_seen : RegisteredLabel declared_kinds.KeyType → Name
+kty_seen = registered_seen kinds.number
+
+abbrev pub operation_seen : RegisteredLabel declared_operations.KeyOperation → Name
+operation_seen = registered_seen operations.number
+
+abbrev pub key_seen : CoseKey → KeySeen
+key_seen k = record {
+  kty = kty_seen k.kty;
+  key_id = k.key_id.items;
+  alg = option_map algorithm_seen k.alg;
+  key_ops = map operation_seen k.key_ops.keys;
+  base_iv = k.base_iv.items;
+  params = map entry_seen k.params.items;
+}
+
+abbrev pub key_set_seen : CoseKeySet → List KeySeen
+key_set_seen s = map key_seen s.0.items
+
+-- the key type that no key has
+abbrev pub reserved : Name
+reserved = number (kinds.number Reserved)
+
+-- a key that says nothing
+abbrev pub empty_key : KeySeen
+empty_key = record { kty = reserved; key_id = []; alg = None; key_ops = []; base_iv = []; params = [] }
+
+-- ---- the fields' values
+
+-- a key type: the number of one that IANA assigned, or a text
+unfoldable pub key_type : Shape Name
+key_type = registered (λ i. is_some (first_numbered kinds.number KEY_TYPES i))
+
+-- a key operation: the number of one that IANA assigned, or a text
+unfoldable pub operation : Shape Name
+operation = registered (λ i. is_some (first_numbered operations.number KEY_OPERATIONS i))
+
+-- [+ operation], none of them twice: a set, which is written in the order of the operations' encodings
+unfoldable pub key_ops : Shape (List Name)
+key_ops = set_of name_cmp operation
+
+-- ---- keys
+
+-- the fields by label
+abbrev pub Fielded : Type 0
+Fielded = Option Name × (List ℕ × (Option RegisteredName × (List Name × (List ℕ × Unit {0}))))
+
+abbrev pub fields : Fields Name Fielded
+fields =
+    field names labels.kty (optional key_type)
+    (field names labels.kid (listed filled_bstr)
+    (field names labels.alg (optional algorithm)
+    (field names labels.key_ops (listed key_ops)
+    (field names labels.base_iv (listed filled_bstr)
+    no_field))))
+
+-- the fields by label, and all other pairs
+abbrev pub Parts : Type 0
+Parts = Fielded × List (Name × Item)
+
+abbrev pub key_of : Parts → KeySeen
+key_of p = record { kty = unwrap_or p.0.0 reserved; key_id = p.0.1.0; alg = p.0.1.1.0; key_ops = p.0.1.1.1.0; base_iv = p.0.1.1.1.1.0; params = p.1 }
+
+abbrev pub parts_of : KeySeen → Parts
+parts_of k = ((Some k.kty, (k.key_id, (k.alg, (k.key_ops, (k.base_iv, tt))))), k.params)
+
+-- the key type is there, and isn't the reserved one
+abbrev pub HasKeyType : Parts → Type 0
+HasKeyType p = (p.0.0 ≢ None) × (p.0.0 ≢ Some reserved)
+
+-- {1 => key_type, ? 2 => bstr .size (1..), ? 3 => algorithm, ? 4 => key_ops, ? 5 => bstr .size (1..), * label => any}
+unfoldable pub key : Shape KeySeen
+key = along key_of parts_of (that IsUnexpected HasKeyType (labelled names fields))
+
+-- [* key]
+abbrev pub key_set : Shape (List KeySeen)
+key_set = list_of key

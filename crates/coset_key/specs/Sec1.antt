@@ -1,0 +1,99 @@
+-- Points of elliptic curves as octet strings (SEC 1, sections 2.3.3 and 2.3.4; RFC 8152, section 13.1.1).
+use Rattle.std.specs.Prelude.{◌≡◌, ◌≢◌, ◌⊎◌, ◌==◌, ◌%◌, ℕ, List, [], ◌∷◌, ◌++◌, length, Bool, true, false, cond, codes, Option, Some, Result, Ok, Err, Vec, ⊤}
+use Rattle.std.specs.Global.{Global}
+use Rattle.std.specs.Map.{lookup}
+use Rattle.coset_value.specs.Item.{Item, bytes, boolean}
+use Rattle.coset_iana.specs.KeyType as kinds
+use Rattle.coset_iana.specs.declared.keys.EllipticCurve.{EllipticCurve}
+use Rattle.coset_iana.specs.declared.keys.KeyType.TheVariants.{EC2}
+use Rattle.coset_shape.specs.declared.error.CoseError.TheVariants as errors
+use Rattle.coset_shape.specs.declared.error.CallError.{CallError}
+use Rattle.coset_shape.specs.declared.error.CallError.TheVariants.{Coset, Caller}
+use Rattle.coset_label.specs.Names.{Name, number}
+use Rattle.coset_core.specs.Fields.{same_name}
+use Rattle.coset_key.specs.Keys.{KeySeen, key_seen}
+use Rattle.coset_key.specs.KeyBuilt.{ec2_key, x_label, y_label}
+use Rattle.coset_key.specs.declared.key.CoseKey.{CoseKey}
+use Rattle.coset_key.specs.declared.sec1.ParseSec1OctetStringError.{ParseSec1OctetStringError}
+use Rattle.coset_key.specs.declared.sec1.ToSec1OctetStringError.{ToSec1OctetStringError}
+use Rattle.coset_key.specs.declared.sec1.ToSec1OctetStringError.TheVariants.{NotEcKey, MissingCoordinate, InvalidCoordinateType, UnequalCoordinateLength, OutOfMemory}
+
+-- a point by its x coordinate, and the sign of y or y itself
+pub data Point : Type 0 where
+  compressed : Bool → List ℕ → Point
+  uncompressed : List ℕ → List ℕ → Point
+
+-- 02 or 03 and x, as the sign says; 04, x and y
+abbrev pub octets : Point → List ℕ
+octets (compressed false x) = 2 ∷ x
+octets (compressed true x) = 3 ∷ x
+octets (uncompressed x y) = 4 ∷ x ++ y
+
+-- the coordinates have one length
+abbrev pub IsEven : Point → Type 0
+IsEven (compressed sign x) = ⊤
+IsEven (uncompressed x y) = length x ≡ length y
+
+-- the octet string is that of this point
+abbrev pub Spells : List ℕ → Point → Type 0
+Spells s p = (octets p ≡ s) × IsEven p
+
+-- no octet string of a point: it is empty, or begins with another octet than 02, 03 and 04, or after 04 comes an odd
+-- number of octets
+abbrev pub IsMalformed : List ℕ → Type 0
+IsMalformed [] = ⊤
+IsMalformed (b ∷ rest) = ((b ≢ 2) × (b ≢ 3) × (b ≢ 4)) ⊎ ((b ≡ 4) × (length rest % 2 ≡ 1))
+
+-- ---- out of a key
+
+-- the point with this x, and y as the item says
+abbrev pub point : List ℕ → Item → Result Point ToSec1OctetStringError
+point x (boolean sign) = Ok (compressed sign x)
+point x (bytes y) = cond (length x == length y) (Ok (uncompressed x y)) (Err UnequalCoordinateLength)
+point x v = Err InvalidCoordinateType
+
+-- the point with these coordinates, where they are there
+abbrev pub coordinates_point : Option Item → Option Item → Result Point ToSec1OctetStringError
+coordinates_point (Some (bytes x)) (Some y) = point x y
+coordinates_point (Some v) (Some y) = Err InvalidCoordinateType
+coordinates_point o q = Err MissingCoordinate
+
+-- the value of the first param with the label
+abbrev pub param : Name → KeySeen → Option Item
+param l k = lookup (same_name l) k.params
+
+-- the point of an elliptic curve key with two coordinates, or why there is none
+abbrev pub key_point : KeySeen → Result Point ToSec1OctetStringError
+key_point k = cond (same_name k.kty (number (kinds.number EC2))) (coordinates_point (param x_label k) (param y_label k)) (Err NotEcKey)
+
+-- the octet string of the point; or why there is none; or, only where there is one, that memory ran out
+abbrev pub GivesOctets : Result Point ToSec1OctetStringError → Result (Vec ℕ Global) ToSec1OctetStringError → Type 0
+GivesOctets (Ok p) (Ok b) = b.items ≡ octets p
+GivesOctets (Ok p) (Err e) = e ≡ OutOfMemory
+GivesOctets (Err e) (Ok b) = ⊥
+GivesOctets (Err e) (Err f) = f ≡ e
+
+-- ---- into a key
+
+-- the key of the point
+abbrev pub point_key : EllipticCurve → Point → KeySeen
+point_key curve (compressed sign x) = ec2_key curve x (boolean sign)
+point_key curve (uncompressed x y) = ec2_key curve x (bytes y)
+
+-- the key of the point that the octet string spells; or that it spells none; or, only where it does, that memory ran out
+abbrev pub ParsesSec1 : EllipticCurve → List ℕ → Result CoseKey (CallError ParseSec1OctetStringError) → Type 0
+ParsesSec1 curve s (Ok k) = (p : Point) × Spells s p × (key_seen k ≡ point_key curve p)
+ParsesSec1 curve s (Err (Coset e)) = (e ≡ errors.OutOfMemory) × (IsMalformed s → ⊥)
+ParsesSec1 curve s (Err (Caller e)) = IsMalformed s
+
+-- ---- texts
+
+abbrev pub to_sec1_error_text : ToSec1OctetStringError → Option (List ℕ)
+to_sec1_error_text NotEcKey = Some (codes "not an EC key")
+to_sec1_error_text MissingCoordinate = Some (codes "missing coordinate")
+to_sec1_error_text InvalidCoordinateType = Some (codes "invalid coordinate type")
+to_sec1_error_text UnequalCoordinateLength = Some (codes "unequal coordinate lengths")
+to_sec1_error_text OutOfMemory = Some (codes "out of memory")
+
+abbrev pub parse_sec1_error_text : ParseSec1OctetStringError → Option (List ℕ)
+parse_sec1_error_text e = Some (codes "ParseSec1OctetStringError")

@@ -1,0 +1,677 @@
+//! Keys (RFC 8152, section 7).
+//!
+//! ```cddl
+//! COSE_Key = {
+//!     1 => tstr / int,          ; kty
+//!     ? 2 => bstr,              ; kid
+//!     ? 3 => tstr / int,        ; alg
+//!     ? 4 => [+ (tstr / int)],  ; key_ops
+//!     ? 5 => bstr,              ; Base IV
+//!     * label => values
+//! }
+//! ```
+
+ghost use Rattle.std.specs.Prelude.{◌≡◌, ◌≢◌, ◌↔◌, IsTrue, not, map, option_map, Some, OnOk, OnErr, IfOk, IfErr};
+ghost use Rattle.std.specs.Cmp.{on_equiv, on_per, partial_equiv_from_equiv};
+ghost use Rattle.std.specs.Cmp.Lexicographic.{pointwise};
+ghost use Rattle.std.specs.Map.{keys_of};
+ghost use Rattle.std.specs.Option.{option_eq};
+ghost use Rattle.std.specs.Ordering.{on};
+ghost use Rattle.coset_value.specs.Item.{boolean, bytes};
+ghost use Rattle.coset_value.specs.View.{view};
+ghost use Rattle.coset_iana.specs.Algorithm as algorithms;
+ghost use Rattle.coset_iana.specs.KeyOperation as operations;
+ghost use Rattle.coset_iana.specs.KeyParameter as parameters;
+ghost use Rattle.coset_iana.specs.KeyType as kinds;
+ghost use Rattle.coset_iana.specs.declared.keys.KeyParameter.TheVariants as labels;
+ghost use Rattle.coset_shape.specs.declared.error.CoseError.TheVariants.{OutOfMemory};
+ghost use Rattle.coset_shape.specs.Answers.{Reads};
+ghost use Rattle.coset_shape.specs.Encoding.{AddsField, HasNoImage};
+ghost use Rattle.coset_shape.specs.Errors.{IsUnexpected, UnlessMemory};
+ghost use Rattle.coset_shape.specs.Maps.{Adds, Refuses, are_distinct, listed, optional};
+ghost use Rattle.coset_shape.specs.Shape.{filled_bstr};
+ghost use Rattle.coset_shape.specs.Sources.{source_item};
+ghost use Rattle.coset_label.specs.Names.{assigned, number};
+ghost use Rattle.coset_label.specs.Views.{label_seen};
+ghost use Rattle.coset_core.specs.Fields.{algorithm, names, same_name};
+ghost use Rattle.coset_core.specs.FieldValues.{TakesValue, RefusesValue};
+ghost use Rattle.coset_core.specs.Same.{algorithm_eq, entry_eq};
+ghost use Rattle.coset_core.specs.Views.{algorithm_seen, entry_seen};
+ghost use Rattle.coset_key.specs.Equality.{key_eq, key_eq_equiv};
+ghost use Rattle.coset_key.specs.KeyBuilt.{and_operation, and_param, ec2_key, ec2_private_key, ml_dsa_key, okp_key, symmetric_key, with_algorithm, with_base_iv, with_key_id, with_kty, IsOtherLabel};
+ghost use Rattle.coset_key.specs.Keys.{empty_key, fields, key as key_shape, key_ops as key_ops_shape, key_seen, kty_seen, operation_seen, reserved};
+ghost use Rattle.coset_key.specs.Reading.{IsFinished, nothing, so_far_seen};
+
+use crate::key_ops::{KeyOps, add_operation, same_key_ops, set_key_ops};
+use crate::ml_dsa::MlDsaVariant;
+use coset_cbor::de::Pull;
+use coset_cbor::value::Value;
+use coset_core::{
+    Algorithm, AsCborValue, CborSerializable, CoseError, Encode, FromPull, KeyOperation, KeyType,
+    Label, Lawful, RegisteredLabel, RegisteredLabelWithPrivate, Result, Source, has_repeats, iana,
+};
+use coset_iana::{
+    AkpKeyParameter, Ec2KeyParameter, EllipticCurve, EnumI64, KeyParameter, SymmetricKeyParameter,
+};
+use coset_shape::encode::{encode_to_value, encode_to_vec};
+use coset_shape::encode_map::MapEncoder;
+use coset_shape::list::read_source;
+use coset_shape::map::{Gather, read_map};
+use coset_shape::traits::read_slice;
+use std::alloc::{AllocError, Global};
+use std::collections::BTreeSet;
+use std::marker::Model;
+
+/// A key: `COSE_Key` (RFC 8152, section 7).
+#[derive(Debug, Drop)]
+pub struct CoseKey {
+    /// The type of the key (label 1), which decides what its `params` mean.
+    pub kty: KeyType,
+    /// The identifier of the key (label 2); none where it is empty.
+    pub key_id: Vec<u8>,
+    /// The only algorithm that the key may serve (label 3).
+    pub alg: Option<Algorithm>,
+    /// What the key may be used for (label 4), in the order of the encodings; whatever it is where it is empty.
+    pub key_ops: BTreeSet<KeyOperation>,
+    /// The bytes that a Partial IV is added to (label 5); none where it is empty.
+    pub base_iv: Vec<u8>,
+    /// The pairs of other labels, in order.
+    pub params: Vec<(Label, Value)>,
+}
+
+impl CoseKey {
+    /// A key of the reserved type that says nothing more. It takes no memory.
+    pub fn new(alloc: Global) -> CoseKey
+        ensures { key_seen result ≡ empty_key }
+    {
+        CoseKey {
+            kty: RegisteredLabel::Assigned(iana::KeyType::Reserved),
+            key_id: Vec::new(alloc),
+            alg: None,
+            key_ops: BTreeSet::new(alloc),
+            base_iv: Vec::new(alloc),
+            params: Vec::new(alloc),
+        }
+    }
+
+    /// A key that equals this one.
+    ///
+    /// # Errors
+    /// `OutOfMemory` alone.
+    pub fn clone(&self) -> Result<CoseKey>
+        ensures copy { IfOk result (λ k. key_seen k ≡ key_seen self.now) }
+        ensures memory { IfErr result (λ e. e ≡ OutOfMemory) }
+    {
+        Ok(Clone::clone(self)?)
+    }
+}
+
+/// A key of which some pairs were read.
+#[derive(Drop)]
+struct SoFar {
+    kty: Option<KeyType>,
+    key_id: Vec<u8>,
+    alg: Option<Algorithm>,
+    key_ops: BTreeSet<KeyOperation>,
+    base_iv: Vec<u8>,
+    params: Vec<(Label, Value)>,
+}
+
+/// Whether the label is that of this parameter, of whatever registry.
+pub(crate) fn is_parameter<P: EnumI64 + Copy>(label: &Label, parameter: P) -> bool
+    ensures { result ≡ same_name (number (P.number parameter)) (label_seen label.now) }
+{
+    match label {
+        Label::Int(number) => *number == parameter.to_i64(),
+        Label::Text(_) => false,
+    }
+}
+
+/// Sets a field to what its value is read as, where it has none yet.
+fn set_field<T: FromPull + Drop>(
+    alloc: Global,
+    field: &mut Option<T>,
+    value: Source<'_>,
+) -> Result<()>
+    ensures takes { OnOk result (TakesValue (optional T.shape) (source_item value.entry)
+        (option_map T.seen field.old) (option_map T.seen field.new)) }
+    ensures refused { IfErr result (λ e. UnlessMemory e (RefusesValue (optional T.shape)
+        (source_item value.entry) (option_map T.seen field.old))) }
+    ensures kept { OnErr result (field.new ≡ field.old) }
+{
+    if field.is_some() {
+        return Err(CoseError::DuplicateMapKey);
+    }
+    *field = Some(read_source(alloc, value)?);
+    Ok(())
+}
+
+/// Sets the bytes of a field, where there are none yet.
+fn set_bytes(alloc: Global, field: &mut Vec<u8>, value: Source<'_>) -> Result<()>
+    ensures takes { OnOk result (TakesValue (listed filled_bstr) (source_item value.entry)
+        field.old.items field.new.items) }
+    ensures refused { IfErr result (λ e. UnlessMemory e
+        (RefusesValue (listed filled_bstr) (source_item value.entry) field.old.items)) }
+    ensures kept { OnErr result (field.new ≡ field.old) }
+{
+    if !field.is_empty() {
+        return Err(CoseError::DuplicateMapKey);
+    }
+    *field = value.into_filled_bytes(alloc)?;
+    Ok(())
+}
+
+impl SoFar {
+    /// Nothing. It takes no memory.
+    fn new(alloc: Global) -> SoFar
+        ensures { so_far_seen result ≡ nothing }
+    {
+        SoFar {
+            kty: None,
+            key_id: Vec::new(alloc),
+            alg: None,
+            key_ops: BTreeSet::new(alloc),
+            base_iv: Vec::new(alloc),
+            params: Vec::new(alloc),
+        }
+    }
+
+    /// Takes one more value, by its label. Whether labels of the params repeat isn't asked.
+    ///
+    /// # Errors
+    /// `OutOfMemory`; `DuplicateMapKey` where a field has a value already; or a fault of its value. What was read is then
+    /// as before.
+    fn put(&mut self, alloc: Global, label: Label, value: Source<'_>) -> Result<()>
+        ensures takes { OnOk result (Adds names fields (label_seen label) (source_item value.entry)
+            (so_far_seen self.old) (so_far_seen self.new)) }
+        ensures refused { IfErr result (λ e. UnlessMemory e (Refuses names fields (label_seen label)
+            (source_item value.entry) (so_far_seen self.old))) }
+        ensures kept { OnErr result (so_far_seen self.new ≡ so_far_seen self.old) }
+    {
+        if is_parameter(&label, KeyParameter::Kty) {
+            return set_field(alloc, &mut self.kty, value);
+        }
+        if is_parameter(&label, KeyParameter::Kid) {
+            return set_bytes(alloc, &mut self.key_id, value);
+        }
+        if is_parameter(&label, KeyParameter::Alg) {
+            return set_field(alloc, &mut self.alg, value);
+        }
+        if is_parameter(&label, KeyParameter::KeyOps) {
+            return set_key_ops(alloc, &mut self.key_ops, value);
+        }
+        if is_parameter(&label, KeyParameter::BaseIv) {
+            return set_bytes(alloc, &mut self.base_iv, value);
+        }
+        let value = value.into_value(alloc)?;
+        self.params.push((label, value))?;
+        Ok(())
+    }
+
+    /// The key, where its type is there and isn't the reserved one.
+    ///
+    /// # Errors
+    /// `UnexpectedItem`.
+    fn finish(self) -> Result<CoseKey>
+        ensures { IsFinished (so_far_seen self) result }
+    {
+        let SoFar {
+            kty,
+            key_id,
+            alg,
+            key_ops,
+            base_iv,
+            params,
+        } = self;
+        match kty {
+            Some(kty) if kty != RegisteredLabel::Assigned(iana::KeyType::Reserved) => Ok(CoseKey {
+                kty,
+                key_id,
+                alg,
+                key_ops,
+                base_iv,
+                params,
+            }),
+            _ => Err(CoseError::UnexpectedItem("no kty label", "mandatory kty label")),
+        }
+    }
+}
+
+impl Gather for SoFar {
+    ghost use Rattle.coset_label.specs.Names.{Name};
+    ghost use Rattle.coset_core.specs.FieldLaws.{names_laws};
+    ghost use Rattle.coset_key.specs.Keys.{Fielded};
+    ghost use Rattle.coset_key.specs.KeyLaws.{fields_laws};
+
+    ghost Name = { Name };
+
+    ghost Got = { Fielded };
+
+    ghost names = { names };
+
+    ghost fields = { fields };
+
+    ghost seen = { so_far_seen };
+
+    ghost lawful_names = { names_laws };
+
+    ghost lawful_fields = { fields_laws };
+
+    fn add(&mut self, alloc: Global, key: Source<'_>, value: Source<'_>) -> Result<()> {
+        let label = read_source(alloc, key)?;
+        self.put(alloc, label, value)
+    }
+
+    fn repeats(&self, alloc: Global) -> Result<bool>
+        ensures repeats { IfOk result (λ b. b ≡ not
+            (are_distinct names.same (keys_of (so_far_seen self.now).1))) }
+        ensures memory { IfErr result (λ e. e ≡ OutOfMemory) }
+    {
+        has_repeats(alloc, &self.params)
+    }
+}
+
+/// Reads a key.
+fn read_key(alloc: Global, source: Source<'_>) -> Result<CoseKey>
+    ensures { Reads key_shape key_seen (source_item source.entry) result }
+{
+    let mut so_far = SoFar::new(alloc);
+    read_map(alloc, source, &mut so_far)?;
+    so_far.finish()
+}
+
+impl AsCborValue for CoseKey {
+    ghost use Rattle.coset_key.specs.Keys.{KeySeen};
+    ghost use Rattle.coset_key.specs.KeyLaws.{key_laws};
+
+    ghost Seen = { KeySeen };
+
+    ghost seen = { key_seen };
+
+    ghost shape = { key_shape };
+
+    ghost unique = { key_laws.unique };
+
+    ghost sound = { key_laws.sound };
+
+    fn from_cbor_value(alloc: Global, value: Value) -> Result<CoseKey> {
+        read_key(alloc, Source::Tree(value))
+    }
+
+    fn to_cbor_value(self, alloc: Global) -> Result<Value> {
+        encode_to_value(alloc, &self)
+    }
+}
+
+impl FromPull for CoseKey {
+    fn from_pull(alloc: Global, pull: Pull<'_>) -> Result<CoseKey> {
+        read_key(alloc, Source::Lent(pull))
+    }
+}
+
+impl CborSerializable for CoseKey {
+    fn from_slice(alloc: Global, s: &[u8]) -> Result<CoseKey> {
+        read_slice(alloc, s)
+    }
+
+    fn to_vec(self, alloc: Global) -> Result<Vec<u8>> {
+        encode_to_vec(alloc, &self)
+    }
+}
+
+/// Appends the pair of this parameter's label and this value.
+fn write_field<T: Encode>(
+    pairs: &mut MapEncoder,
+    alloc: Global,
+    parameter: KeyParameter,
+    value: &T,
+) -> Result<()>
+    ensures ok { OnOk result (AddsField (parameters.number parameter)
+        (option_map Some (T.image value.now)) pairs.old pairs.new) }
+    ensures refused { IfErr result (HasNoImage (T.image value.now)) }
+{
+    pairs.field(alloc, parameter.to_i64(), value)
+}
+
+/// Appends the pair of this parameter's label and these bytes, where there are any.
+fn write_bytes(
+    pairs: &mut MapEncoder,
+    alloc: Global,
+    parameter: KeyParameter,
+    bytes: &Vec<u8>,
+) -> Result<()>
+    ensures ok { OnOk result (AddsField (parameters.number parameter)
+        ((listed filled_bstr).image bytes.now.items) pairs.old pairs.new) }
+    ensures memory { IfErr result (λ e. e ≡ OutOfMemory) }
+{
+    if bytes.is_empty() {
+        return Ok(());
+    }
+    write_field(pairs, alloc, parameter, bytes)
+}
+
+/// Appends the pair of the algorithm, where there is one.
+#[tactic(auto, unfolding(coset_core::specs::Fields::algorithm))]
+fn write_algorithm(pairs: &mut MapEncoder, alloc: Global, alg: &Option<Algorithm>) -> Result<()>
+    ensures ok { OnOk result (AddsField (parameters.number labels.Alg)
+        ((optional algorithm).image (option_map algorithm_seen alg.now)) pairs.old pairs.new) }
+    ensures memory { IfErr result (λ e. e ≡ OutOfMemory) }
+{
+    match alg {
+        Some(alg) => write_field(pairs, alloc, KeyParameter::Alg, alg),
+        None => Ok(()),
+    }
+}
+
+/// Appends the pair of the key operations, where there are any.
+fn write_key_ops(
+    pairs: &mut MapEncoder,
+    alloc: Global,
+    operations: &BTreeSet<KeyOperation>,
+) -> Result<()>
+    ensures ok { OnOk result (AddsField (parameters.number labels.KeyOps)
+        ((listed key_ops_shape).image (map operation_seen operations.now.keys)) pairs.old
+        pairs.new) }
+    ensures memory { IfErr result (λ e. e ≡ OutOfMemory) }
+{
+    if operations.is_empty() {
+        return Ok(());
+    }
+    write_field(pairs, alloc, KeyParameter::KeyOps, &KeyOps(operations))
+}
+
+impl Encode for CoseKey {
+    ghost image = { λ k. key_shape.image (key_seen k) };
+
+    ghost spare = { 0 };
+
+    fn encode(&self, alloc: Global, out: &mut Vec<u8>) -> Result<()> {
+        if has_repeats(alloc, &self.params)? {
+            return Err(CoseError::DuplicateMapKey);
+        }
+        let mut pairs = MapEncoder::new(alloc);
+        write_field(&mut pairs, alloc, KeyParameter::Kty, &self.kty)?;
+        write_bytes(&mut pairs, alloc, KeyParameter::Kid, &self.key_id)?;
+        write_algorithm(&mut pairs, alloc, &self.alg)?;
+        write_key_ops(&mut pairs, alloc, &self.key_ops)?;
+        write_bytes(&mut pairs, alloc, KeyParameter::BaseIv, &self.base_iv)?;
+        pairs.rest(alloc, &self.params)?;
+        pairs.finish(out)?;
+        Ok(())
+    }
+}
+
+impl Lawful for CoseKey {
+    ghost use Rattle.coset_key.specs.KeyLaws.{key_laws};
+
+    ghost laws = { key_laws };
+}
+
+/// The same as [`CoseKey::clone`], for generic code.
+impl Clone for CoseKey {
+    ghost is_clone = { λ key copy. key_seen copy ≡ key_seen key };
+
+    fn clone(&self) -> Result<CoseKey, AllocError> {
+        Ok(CoseKey {
+            kty: Clone::clone(&self.kty)?,
+            key_id: Vec::from_slice(*self.key_id.allocator(), &self.key_id)?,
+            alg: self.alg.clone()?,
+            key_ops: self.key_ops.clone()?,
+            base_iv: Vec::from_slice(*self.base_iv.allocator(), &self.base_iv)?,
+            params: self.params.clone()?,
+        })
+    }
+}
+
+/// Equality of every field; the params are compared pair by pair, in order.
+impl PartialEq for CoseKey {
+    ghost eq = { on key_seen key_eq };
+
+    ghost laws = { on_per key_seen (partial_equiv_from_equiv key_eq_equiv) };
+
+    fn eq(&self, other: &CoseKey) -> bool
+        ensures answers { result ≡ key_eq (key_seen self.now) (key_seen other.now) }
+        ensures equal { IsTrue result ↔ (key_seen self.now ≡ key_seen other.now) }
+    {
+        same_key(self, other)
+    }
+}
+
+impl Eq for CoseKey {
+    ghost laws = { on_equiv key_seen key_eq_equiv };
+}
+
+fn same_key(a: &CoseKey, b: &CoseKey) -> bool
+    ensures { result ≡ key_eq (key_seen a.now) (key_seen b.now) }
+{
+    a.kty == b.kty
+        && a.key_id == b.key_id
+        && same_algorithm(&a.alg, &b.alg)
+        && same_key_ops(&a.key_ops, &b.key_ops)
+        && a.base_iv == b.base_iv
+        && same_params(&a.params, &b.params)
+}
+
+fn same_algorithm(a: &Option<Algorithm>, b: &Option<Algorithm>) -> bool
+    ensures { result ≡ option_eq algorithm_eq (option_map algorithm_seen a.now)
+        (option_map algorithm_seen b.now) }
+{
+    *a == *b
+}
+
+fn same_params(a: &Vec<(Label, Value)>, b: &Vec<(Label, Value)>) -> bool
+    ensures { result ≡ pointwise entry_eq (map entry_seen a.now.items)
+        (map entry_seen b.now.items) }
+{
+    *a == *b
+}
+
+/// Makes a [`CoseKey`], field by field. Contracts see it as the key that [`build`](CoseKeyBuilder::build) gives.
+#[derive(Debug, Drop)]
+pub struct CoseKeyBuilder(CoseKey);
+
+impl Model for CoseKeyBuilder {
+    ghost use Rattle.std.specs.Coded.{codes};
+    ghost use Rattle.coset_key.specs.contracts.key.CoseKey as contracts;
+    ghost use Rattle.coset_key.specs.declared.key.CoseKey.{CoseKey};
+
+    ghost Value = { CoseKey };
+
+    ghost coded = { Prim.hlevel (codes, contracts.the_row.coded) };
+
+    ghost view = { λ b. b.0 };
+
+    ghost inverse = { λ v. record { 0 = v } };
+}
+
+impl CoseKeyBuilder {
+    /// A key of the reserved type that says nothing more. It takes no memory.
+    pub fn new(alloc: Global) -> CoseKeyBuilder
+        ensures { key_seen result ≡ empty_key }
+    {
+        CoseKeyBuilder(CoseKey::new(alloc))
+    }
+
+    /// An octet key pair (RFC 8152, section 13.2), without params. It takes no memory.
+    pub fn new_okp_key(alloc: Global) -> CoseKeyBuilder
+        ensures { key_seen result ≡ okp_key }
+    {
+        CoseKeyBuilder::new(alloc).key_type(iana::KeyType::OKP)
+    }
+
+    /// A public key of an elliptic curve with two coordinates (RFC 8152, section 13.1.1).
+    ///
+    /// # Errors
+    /// `OutOfMemory` alone.
+    pub fn new_ec2_pub_key(
+        alloc: Global,
+        curve: EllipticCurve,
+        x: Vec<u8>,
+        y: Vec<u8>,
+    ) -> Result<CoseKeyBuilder>
+        ensures ok { IfOk result (λ b. key_seen b ≡ ec2_key curve x.items (bytes y.items)) }
+        ensures memory { IfErr result (λ e. e ≡ OutOfMemory) }
+    {
+        new_ec2_key(alloc, curve, x, Value::Bytes(y))
+    }
+
+    /// A public key of an elliptic curve with two coordinates, of which the second is given by its sign (RFC 8152,
+    /// section 13.1.1).
+    ///
+    /// # Errors
+    /// `OutOfMemory` alone.
+    pub fn new_ec2_pub_key_y_sign(
+        alloc: Global,
+        curve: EllipticCurve,
+        x: Vec<u8>,
+        y_sign: bool,
+    ) -> Result<CoseKeyBuilder>
+        ensures ok { IfOk result (λ b. key_seen b ≡ ec2_key curve x.items (boolean y_sign)) }
+        ensures memory { IfErr result (λ e. e ≡ OutOfMemory) }
+    {
+        new_ec2_key(alloc, curve, x, Value::Bool(y_sign))
+    }
+
+    /// A private key of an elliptic curve with two coordinates, with its public key (RFC 8152, section 13.1.1).
+    ///
+    /// # Errors
+    /// `OutOfMemory` alone.
+    pub fn new_ec2_priv_key(
+        alloc: Global,
+        curve: EllipticCurve,
+        x: Vec<u8>,
+        y: Vec<u8>,
+        d: Vec<u8>,
+    ) -> Result<CoseKeyBuilder>
+        ensures ok { IfOk result (λ b. key_seen b ≡ ec2_private_key curve x.items y.items d.items) }
+        ensures memory { IfErr result (λ e. e ≡ OutOfMemory) }
+    {
+        let key = CoseKeyBuilder::new_ec2_pub_key(alloc, curve, x, y)?;
+        key.and_param(Ec2KeyParameter::D.to_i64(), Value::Bytes(d))
+    }
+
+    /// A public key of ML-DSA (FIPS 204).
+    ///
+    /// # Errors
+    /// `OutOfMemory` alone.
+    pub fn new_mldsa_pub_key(
+        alloc: Global,
+        variant: MlDsaVariant,
+        k: Vec<u8>,
+    ) -> Result<CoseKeyBuilder>
+        ensures ok { IfOk result (λ b. key_seen b ≡ ml_dsa_key variant k.items) }
+        ensures memory { IfErr result (λ e. e ≡ OutOfMemory) }
+    {
+        let key = CoseKeyBuilder::new(alloc).key_type(iana::KeyType::AKP);
+        key.algorithm(variant.into())
+            .and_param(AkpKeyParameter::Pub.to_i64(), Value::Bytes(k))
+    }
+
+    /// A symmetric key (RFC 8152, section 13.3).
+    ///
+    /// # Errors
+    /// `OutOfMemory` alone.
+    pub fn new_symmetric_key(alloc: Global, k: Vec<u8>) -> Result<CoseKeyBuilder>
+        ensures ok { IfOk result (λ b. key_seen b ≡ symmetric_key k.items) }
+        ensures memory { IfErr result (λ e. e ≡ OutOfMemory) }
+    {
+        let key = CoseKeyBuilder::new(alloc).key_type(iana::KeyType::Symmetric);
+        key.and_param(SymmetricKeyParameter::K.to_i64(), Value::Bytes(k))
+    }
+
+    /// The key that was made.
+    pub fn build(self) -> CoseKey
+        ensures { result ≡ self }
+    {
+        self.0
+    }
+
+    /// Sets the type (label 1).
+    pub fn key_type(self, key_type: iana::KeyType) -> CoseKeyBuilder
+        ensures { key_seen result ≡ with_kty (number (kinds.number key_type)) (key_seen self) }
+    {
+        self.kty(RegisteredLabel::Assigned(key_type))
+    }
+
+    /// Sets the type (label 1) to a label, which may be a text.
+    pub fn kty(mut self, kty: KeyType) -> CoseKeyBuilder
+        ensures { key_seen result ≡ with_kty (kty_seen kty) (key_seen self) }
+    {
+        self.0.kty = kty;
+        self
+    }
+
+    /// Sets the identifier (label 2).
+    pub fn key_id(mut self, key_id: Vec<u8>) -> CoseKeyBuilder
+        ensures { key_seen result ≡ with_key_id key_id.items (key_seen self) }
+    {
+        self.0.key_id = key_id;
+        self
+    }
+
+    /// Sets the algorithm (label 3).
+    pub fn algorithm(mut self, algorithm: iana::Algorithm) -> CoseKeyBuilder
+        ensures { key_seen result
+            ≡ with_algorithm (assigned (algorithms.number algorithm)) (key_seen self) }
+    {
+        self.0.alg = Some(RegisteredLabelWithPrivate::Assigned(algorithm));
+        self
+    }
+
+    /// Adds a key operation (label 4); one that is there changes nothing.
+    ///
+    /// # Errors
+    /// `OutOfMemory` alone.
+    pub fn add_key_op(mut self, op: iana::KeyOperation) -> Result<CoseKeyBuilder>
+        ensures ok { IfOk result (λ b. key_seen b
+            ≡ and_operation (number (operations.number op)) (key_seen self)) }
+        ensures memory { IfErr result (λ e. e ≡ OutOfMemory) }
+    {
+        add_operation(&mut self.0.key_ops, RegisteredLabel::Assigned(op))?;
+        Ok(self)
+    }
+
+    /// Sets the Base IV (label 5).
+    pub fn base_iv(mut self, base_iv: Vec<u8>) -> CoseKeyBuilder
+        ensures { key_seen result ≡ with_base_iv base_iv.items (key_seen self) }
+    {
+        self.0.base_iv = base_iv;
+        self
+    }
+
+    /// Adds a pair with a number as its label, which is none of 0 to 5: those have calls of their own, or are reserved. A
+    /// key with a label twice isn't written (`DuplicateMapKey`).
+    ///
+    /// # Errors
+    /// `OutOfMemory` alone.
+    pub fn param(self, label: i64, value: Value) -> Result<CoseKeyBuilder>
+        requires { IsOtherLabel label }
+        ensures ok { IfOk result (λ b. key_seen b
+            ≡ and_param (number label) (view value) (key_seen self)) }
+        ensures memory { IfErr result (λ e. e ≡ OutOfMemory) }
+    {
+        self.and_param(label, value)
+    }
+
+    /// Adds a pair with a number as its label.
+    fn and_param(mut self, label: i64, value: Value) -> Result<CoseKeyBuilder>
+        ensures ok { IfOk result (λ b. key_seen b
+            ≡ and_param (number label) (view value) (key_seen self)) }
+        ensures memory { IfErr result (λ e. e ≡ OutOfMemory) }
+    {
+        self.0.params.push((Label::Int(label), value))?;
+        Ok(self)
+    }
+}
+
+/// A key of an elliptic curve with two coordinates, of which the second is a byte string, or its sign.
+fn new_ec2_key(alloc: Global, curve: EllipticCurve, x: Vec<u8>, y: Value) -> Result<CoseKeyBuilder>
+    ensures ok { IfOk result (λ b. key_seen b ≡ ec2_key curve x.items (view y)) }
+    ensures memory { IfErr result (λ e. e ≡ OutOfMemory) }
+{
+    CoseKeyBuilder::new(alloc)
+        .key_type(iana::KeyType::EC2)
+        .and_param(Ec2KeyParameter::Crv.to_i64(), Value::from(curve.to_i64()))?
+        .and_param(Ec2KeyParameter::X.to_i64(), Value::Bytes(x))?
+        .and_param(Ec2KeyParameter::Y.to_i64(), y)
+}

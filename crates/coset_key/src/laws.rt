@@ -1,0 +1,22 @@
+//! Laws of keys, which callers may cite. Each is the contract of a function that does nothing. What holds of each type that
+//! is read and written stands in `coset_shape::laws`.
+
+ghost use Rattle.std.specs.Prelude.{◌≡◌, ℕ, List, Ok};
+ghost use Rattle.coset_iana.specs.declared.keys.EllipticCurve.{EllipticCurve};
+ghost use Rattle.coset_key.specs.MlDsa.{algorithm_of};
+ghost use Rattle.coset_key.specs.Sec1.{IsMalformed, Point, Spells, key_point, octets, point_key};
+ghost use Rattle.coset_key.specs.declared.ml_dsa.MlDsaVariant.{MlDsaVariant};
+
+/// An octet string is that of at most one point, and of none where it is malformed. The key of a point has that point, so
+/// that the octet string that was read comes back.
+pub fn points_come_back()
+    ensures back { (curve : EllipticCurve) (s : List ℕ) (p : Point) → Spells s p
+        → (key_point (point_key curve p) ≡ Ok p) × (octets p ≡ s) }
+    ensures one { (s : List ℕ) (p q : Point) → Spells s p → Spells s q → p ≡ q }
+    ensures none { (s : List ℕ) (p : Point) → Spells s p → IsMalformed s → ⊥ }
+{}
+
+/// Two variants of ML-DSA have two algorithms, so that a variant comes back from its algorithm.
+pub fn ml_dsa_variants_come_back()
+    ensures { (v w : MlDsaVariant) → algorithm_of v ≡ algorithm_of w → v ≡ w }
+{}
