@@ -8,7 +8,7 @@ use crate::refusal::Refusal;
 use crate::show::{message_lines, sign1_lines, type_line};
 use coset::cbor::value::Value;
 use coset::cwt::ClaimsSet;
-use coset::{CoseEncrypt, CoseEncrypt0, CoseMac, CoseMac0, CoseSign};
+use coset::{CoseEncrypt, CoseEncrypt0, CoseKey, CoseKeySet, CoseMac, CoseMac0, CoseSign};
 use std::alloc::Global;
 
 /// What the input spells.
@@ -28,6 +28,10 @@ pub enum Kind {
     Encrypt,
     /// An encrypted message, for receivers that know the key (RFC 8152, section 5.2).
     Encrypt0,
+    /// A key (RFC 8152, section 7).
+    Key,
+    /// A set of keys (RFC 8152, section 7).
+    Keyset,
     /// The claims of a web token (RFC 8392, section 3).
     Claims,
 }
@@ -46,6 +50,8 @@ impl Kind {
             "mac0" => Some(Kind::Mac0),
             "encrypt" => Some(Kind::Encrypt),
             "encrypt0" => Some(Kind::Encrypt0),
+            "key" => Some(Kind::Key),
+            "keyset" => Some(Kind::Keyset),
             "claims" => Some(Kind::Claims),
             _ => None,
         }
@@ -67,6 +73,8 @@ impl Kind {
             Kind::Mac0 => message_lines::<CoseMac0>(alloc, bytes),
             Kind::Encrypt => message_lines::<CoseEncrypt>(alloc, bytes),
             Kind::Encrypt0 => message_lines::<CoseEncrypt0>(alloc, bytes),
+            Kind::Key => type_line::<CoseKey>(alloc, bytes),
+            Kind::Keyset => type_line::<CoseKeySet>(alloc, bytes),
             Kind::Claims => type_line::<ClaimsSet>(alloc, bytes),
         }
     }

@@ -184,6 +184,33 @@ fn refuses_what_is_no_encrypted_message(rt: HostRuntime) -> Result<(), Fail> {
 }
 
 #[test]
+fn shows_keys(rt: HostRuntime) -> Result<(), Fail> {
+    let rows = [
+        ("a200000104", "a201040000\n"),
+        ("a2010404820a01", "a201040482010a\n"),
+    ];
+    answers(&rt, rt.alloc(), "key", &rows, 0);
+    let rows = [
+        (
+            "a0",
+            "error: got no kty label, expected mandatory kty label\n",
+        ),
+        ("a10108", "error: expected recognized IANA value\n"),
+    ];
+    answers(&rt, rt.alloc(), "key", &rows, 1);
+    answers(
+        &rt,
+        rt.alloc(),
+        "keyset",
+        &[("9fa10101ff", "81a10101\n")],
+        0,
+    );
+    let rows = [("a0", "error: got map, expected array\n")];
+    answers(&rt, rt.alloc(), "keyset", &rows, 1);
+    Ok(())
+}
+
+#[test]
 fn shows_claims(rt: HostRuntime) -> Result<(), Fail> {
     let rows = [
         ("a0", "a0\n"),

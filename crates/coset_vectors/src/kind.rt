@@ -6,9 +6,9 @@ use coset::cbor::value::Value;
 use coset::cwt::{ClaimName, ClaimsSet, Timestamp};
 use coset::iana::{EllipticCurve, HeaderParameter};
 use coset::{
-    Algorithm, ContentType, CoseEncrypt, CoseEncrypt0, CoseMac, CoseMac0, CoseRecipient, CoseSign,
-    CoseSign1, CoseSignature, Header, KeyOperation, KeyType, Label, PartyInfo, ProtectedHeader,
-    RegisteredLabel, RegisteredLabelWithPrivate, SuppPubInfo,
+    Algorithm, ContentType, CoseEncrypt, CoseEncrypt0, CoseKey, CoseKeySet, CoseMac, CoseMac0,
+    CoseRecipient, CoseSign, CoseSign1, CoseSignature, Header, KeyOperation, KeyType, Label,
+    PartyInfo, ProtectedHeader, RegisteredLabel, RegisteredLabelWithPrivate, SuppPubInfo,
 };
 use std::alloc::{AllocError, Global};
 
@@ -69,6 +69,10 @@ pub enum Kind {
     Encrypt0,
     /// Such a message under its tag.
     TaggedEncrypt0,
+    /// A key (RFC 8152, section 7).
+    Key,
+    /// A set of keys (RFC 8152, section 7).
+    Keyset,
     /// The claims of a web token (RFC 8392, section 3).
     Claims,
     /// Seconds, whole or not (RFC 8392, section 2).
@@ -104,6 +108,8 @@ impl Kind {
             "mac0" => Kind::Mac0,
             "encrypt" => Kind::Encrypt,
             "encrypt0" => Kind::Encrypt0,
+            "key" => Kind::Key,
+            "keyset" => Kind::Keyset,
             "claims" => Kind::Claims,
             "timestamp" => Kind::Timestamp,
             "party" => Kind::Party,
@@ -157,6 +163,8 @@ impl Kind {
             Kind::TaggedEncrypt => answer::<Tagged, CoseEncrypt>(alloc, bytes),
             Kind::Encrypt0 => answer::<Plain, CoseEncrypt0>(alloc, bytes),
             Kind::TaggedEncrypt0 => answer::<Tagged, CoseEncrypt0>(alloc, bytes),
+            Kind::Key => answer::<Plain, CoseKey>(alloc, bytes),
+            Kind::Keyset => answer::<Plain, CoseKeySet>(alloc, bytes),
             Kind::Claims => answer::<Plain, ClaimsSet>(alloc, bytes),
             Kind::Timestamp => answer::<AsValue, Timestamp>(alloc, bytes),
             Kind::Party => answer::<Plain, PartyInfo>(alloc, bytes),

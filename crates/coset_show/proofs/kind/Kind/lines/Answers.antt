@@ -23,3 +23,9 @@ returns-in-Encrypt c = rw c.in-Encrypt.is c.message_lines-in-Encrypt.ensures
 
 pub returns-in-Claims : goal.returns-in-Claims
 returns-in-Claims c = rw c.in-Claims.is c.type_line-in-Claims.ensures
+
+pub returns-in-Key : goal.returns-in-Key
+returns-in-Key c = rw c.in-Key.is c.type_line-in-Key.ensures
+
+pub returns-in-Keyset : goal.returns-in-Keyset
+returns-in-Keyset c = rw c.in-Keyset.is c.type_line-in-Keyset.ensures
