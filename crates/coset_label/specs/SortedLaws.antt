@@ -27,7 +27,7 @@ module _ {N : Type 0} {cmp : N → N → Ordering} (o : IsTotalOrder cmp) where
       subst (λ n. is_lt (cmp (get_or (e ∷ es) n x).0 (get_or es k x).0) ≡ false) one-more h
 
   -- labels in order, all of which differ, are each below those after it
-  strictly : (es : List (N × Item)) → IsDistinct (eq_by_cmp cmp) (keys_of es) → AreInOrder cmp es → IsStrictlySortedBy cmp (keys_of es)
+  pub strictly : (es : List (N × Item)) → IsDistinct (eq_by_cmp cmp) (keys_of es) → AreInOrder cmp es → IsStrictlySortedBy cmp (keys_of es)
   unfolding IsStrictlySortedBy
   strictly [] d s = tt
   strictly (e ∷ []) d s = (tt, tt)
@@ -37,7 +37,7 @@ module _ {N : Type 0} {cmp : N → N → Ordering} (o : IsTotalOrder cmp) where
       ((below, recursion_from_All (λ k. cmp e.0 k ≡ Less) (keys_of es) (All-weaker (λ k. cmp f.0 k ≡ Less) (λ k. cmp e.0 k ≡ Less) (λ k. o.trans e.0 f.0 k below) (keys_of es) (All-after_first cmp f.0 (keys_of es) rest))), rest)
 
   -- what is in a list is its first, or in the others
-  in-cases : (y : N × Item) (ys : List (N × Item)) (x : N × Item) → Contains (y ∷ ys) x → (y ≡ x) ⊎ Contains ys x
+  pub in-cases : (y : N × Item) (ys : List (N × Item)) (x : N × Item) → Contains (y ∷ ys) x → (y ≡ x) ⊎ Contains ys x
   in-cases y ys x c =
       elim (Contains-append_cases (y ∷ []) ys x c) [
         | inl d ↦ elim (Contains-push_cases [] y x d) [ inl n ↦ absurd (omega (arith, n.1)) | inr h ↦ inl h ]
@@ -50,7 +50,7 @@ module _ {N : Type 0} {cmp : N → N → Ordering} (o : IsTotalOrder cmp) where
   of-labels P (e ∷ es) a = (a.0, of-labels P es a.1)
 
   -- a label behind the first is above it
-  above : (y : N × Item) (ys : List (N × Item)) (x : N × Item) → IsStrictlySortedBy cmp (keys_of (y ∷ ys)) → Contains ys x → cmp y.0 x.0 ≡ Less
+  pub above : (y : N × Item) (ys : List (N × Item)) (x : N × Item) → IsStrictlySortedBy cmp (keys_of (y ∷ ys)) → Contains ys x → cmp y.0 x.0 ≡ Less
   above y ys x s c =
       let P : N → Type 0 = λ k. cmp y.0 k ≡ Less in
       All-contains (λ e. P e.0) ys x (All-from_recursion (λ e. P e.0) ys (of-labels P ys (recursion_from_All P (keys_of ys) (All-after_first cmp y.0 (keys_of ys) s)))) c

@@ -7,7 +7,7 @@ use Rattle.coset_cbor.specs.Shortest.{IsShortest}
 use Rattle.coset_shape.specs.Shape.{Shape}
 use Rattle.coset_shape.specs.ShapeLaws.{Again, Lawful, some-one}
 use Rattle.coset_shape.specs.Answers.{Describes}
-use Rattle.coset_shape.specs.ReadAgain.{IsWritten, EncodesApart, ImagesApart, ReadsAgain, reads_again}
+use Rattle.coset_shape.specs.ReadAgain.{IsWritten, EncodesApart, ImagesApart, ReadsAgain, StaysAsWritten, reads_again}
 use Rattle.coset_shape.proofs.Whole.{OneItem, one_of}
 
 module _ {A : Type 0} (s : Shape A) (l : Lawful A s) where
@@ -39,3 +39,10 @@ module _ {A : Type 0} (s : Shape A) (l : Lawful A s) where
         let same : m.0 ≡ n.0 = some-one m.1 (ap s.image e ∙ n.1) in
         least m.0 c (in_range m.0 c m.2) m.2 ∙ (ap least_encoding same ∙ sym (least n.0 d (in_range n.0 d n.2) n.2)),
   )
+
+  -- what is read of what x is written as is x, and is written so again
+  pub stays_as_written : OneItem → EncodesApart s → StaysAsWritten s
+  stays_as_written one apart a b c x y p m q n =
+      let r : Describes s b x = written_describes a b x p m in
+      let same : y ≡ x = one_value_of one b y x q r in
+      (same, (apart b b c b y x q r n m).1 same)

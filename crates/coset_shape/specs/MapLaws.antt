@@ -282,7 +282,7 @@ module _ {N : Type 0} (n : Names N) where
       go false k = k
 
   -- what is kept as the rest
-  rest_apart : (labels : List N) (es : List (N × Item)) → IsRest n labels (rest_of n labels es)
+  pub rest_apart : (labels : List N) (es : List (N × Item)) → IsRest n labels (rest_of n labels es)
   rest_apart labels es =
       all_map (λ e. not (is_core n labels e.0) ≡ true) (λ e. is_core n labels e.0 ≡ false) (λ e q. not-true (is_core n labels e.0) q) (rest_of n labels es) (filter_passing (λ e. not (is_core n labels e.0)) es)
 

@@ -30,3 +30,8 @@ EncodesApart {A} s =
 -- values that items describe are written as equal items exactly where they are equal
 abbrev pub ImagesApart : {A : Type 0} → Shape A → Type 0
 ImagesApart {A} s = (v w : Item) (x y : A) → s.describes v x → s.describes w y → (s.image x ≡ s.image y) ↔ (x ≡ y)
+
+-- what bytes describe is written as bytes that, read and written again, are the same value and the same bytes
+abbrev pub StaysAsWritten : {A : Type 0} → Shape A → Type 0
+StaysAsWritten {A} s =
+    (a b c : List ℕ) (x y : A) → Describes s a x → IsWritten s x b → Describes s b y → IsWritten s y c → (y ≡ x) × (c ≡ b)

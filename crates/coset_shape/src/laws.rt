@@ -4,7 +4,7 @@ ghost use Rattle.std.specs.Prelude.{◌≡◌, List, ℕ};
 ghost use Rattle.coset_value.specs.Item.{Item};
 ghost use Rattle.coset_cbor.specs.Grammar.{IsItem};
 ghost use Rattle.coset_shape.specs.Answers.{Describes};
-ghost use Rattle.coset_shape.specs.ReadAgain.{EncodesApart, ImagesApart, ReadsAgain};
+ghost use Rattle.coset_shape.specs.ReadAgain.{EncodesApart, ImagesApart, ReadsAgain, StaysAsWritten};
 ghost use Rattle.coset_shape.specs.Shape.{tagged};
 ghost use Rattle.coset_shape.specs.ShapeLaws.{Again};
 
@@ -49,4 +49,13 @@ pub fn written_apart<T: Lawful>()
     one_item();
     shortest_is_in_range();
     least_heads_are_shortest();
+}
+
+/// What was read, plain or under a tag, is written as bytes that stay the same when they are read and written again.
+pub fn stays_as_written<T: Lawful>()
+    ensures plain { StaysAsWritten T.shape }
+    ensures tagged { (n : ℕ) → StaysAsWritten (tagged n T.shape) }
+{
+    one_item();
+    written_apart::<T>();
 }

@@ -4,7 +4,7 @@ use Rattle.coset_value.specs.Item.{Item, Items, no_items, item, array}
 use Rattle.coset_value.specs.Parts.{as_array}
 use Rattle.coset_shape.specs.Lists.{EachWith}
 use Rattle.coset_shape.specs.Shape.{Shape, Places, both, tagged, array_of, ◌then◌, end, bstr, or_nil, Each, images, any_number, list_of}
-use Rattle.coset_shape.specs.ShapeLaws.{some-one}
+use Rattle.coset_shape.specs.ShapeLaws.{some-one, bstr_laws, or_nil_laws, bytes_no_nil}
 use Rattle.coset_core.specs.Headers.{ProtectedSeen, SignatureSeen, header, protected, protected_bytes, places_of}
 use Rattle.coset_core.proofs.Messages.{KeptAsWritten, kept_in_message, under_tag}
 use Rattle.coset_sign.specs.SignatureStructure.{signature_structure}
@@ -83,3 +83,29 @@ each_same_plain kept v m n e d =
 
 pub each_same_tagged : KeptAsWritten → (v : Item) (m n : SignSeen) → (tagged 98 sign).image m ≡ Some v → (tagged 98 sign).describes v n → EachSignsSame n m
 each_same_tagged kept v m n e d = each_same_plain kept d.0 m n (under_tag 98 (sign.image m) v d.0 e d.1) d.2
+
+-- ---- what a message with one signature carries
+
+bytes_back : (s t : List ℕ) (v : Item) → bstr.image s ≡ Some v → bstr.describes v t → t ≡ s
+bytes_back s t v e d = bstr_laws.unique v t s d (subst (λ w. bstr.describes w s) (some-one refl e) refl)
+
+payload_back : (p q : Option (List ℕ)) (v : Item) → (or_nil bstr).image p ≡ Some v → (or_nil bstr).describes v q → q ≡ p
+payload_back None q v e d = (or_nil_laws bstr bytes_no_nil bstr_laws).unique v q None d (subst (λ w. (or_nil bstr).describes w None) (some-one refl e) (refl, refl))
+payload_back (Some s) q v e d = (or_nil_laws bstr bytes_no_nil bstr_laws).unique v q (Some s) d (subst (λ w. (or_nil bstr).describes w (Some s)) (some-one refl e) (refl, refl))
+
+pub carried_plain : (v : Item) (m n : Sign1Seen) → sign1.image m ≡ Some v → sign1.describes v n → (n.payload ≡ m.payload) × (n.signature ≡ m.signature)
+carried_plain v m n e d =
+    let places = protected then header then sign1_places in
+    let all = members_written (places.image (sign1_fields m)) v e in
+    let second = behind protected (header then sign1_places) all.0 (sign1_fields m) (sign1_fields n) all.1 (members_read places v all.0 (sign1_fields n) d all.2) in
+    let third = behind header sign1_places second.0 (sign1_fields m).1 (sign1_fields n).1 second.1 second.2 in
+    let payload = place_written ((or_nil bstr).image m.payload) ((bstr then end).image (m.signature, tt)) third.0 third.1 in
+    let last = behind (or_nil bstr) (bstr then end) third.0 (sign1_fields m).1.1 (sign1_fields n).1.1 third.1 third.2 in
+    let signature = place_written (bstr.image m.signature) (Some no_items) last.0 last.1 in
+    (
+      payload_back m.payload n.payload payload.0 payload.2 (subst (λ vs. sign1_places.describes vs (n.payload, (n.signature, tt))) payload.4 third.2).0,
+      bytes_back m.signature n.signature signature.0 signature.2 (subst (λ vs. (bstr then end).describes vs (n.signature, tt)) signature.4 last.2).0,
+    )
+
+pub carried_tagged : (v : Item) (m n : Sign1Seen) → (tagged 18 sign1).image m ≡ Some v → (tagged 18 sign1).describes v n → (n.payload ≡ m.payload) × (n.signature ≡ m.signature)
+carried_tagged v m n e d = carried_plain d.0 m n (under_tag 18 (sign1.image m) v d.0 e d.1) d.2

@@ -45,6 +45,16 @@ pub fn signed_as_written()
     kept_as_written();
 }
 
+/// A message with one signature that was read from what another is written as, plain or under its tag, carries the payload
+/// and the signature of that one, however the item was spelled.
+pub fn carried_as_written()
+    ensures plain { (v : Item) (m n : Sign1Seen) → sign1.image m ≡ Some v → sign1.describes v n
+        → (n.payload ≡ m.payload) × (n.signature ≡ m.signature) }
+    ensures tagged { (v : Item) (m n : Sign1Seen) → (tagged 18 sign1).image m ≡ Some v
+        → (tagged 18 sign1).describes v n
+        → (n.payload ≡ m.payload) × (n.signature ≡ m.signature) }
+{}
+
 /// What each signature of a message signs that was read from what another is written as, plain or under its tag, is what
 /// that one's signs, however the item was spelled; and there are as many of them.
 pub fn each_signed_as_written()
