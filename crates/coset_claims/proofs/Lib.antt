@@ -2,3 +2,4 @@ pub mod ClaimPutting
 pub mod ClaimWriting
 pub mod ClaimCopies
 pub mod Places
+pub mod ByteStrings

@@ -32,4 +32,5 @@ pub mod ClaimsLaws
 pub mod ClaimsEquality
 pub mod Party
 pub mod SuppPub
+pub mod Context
 pub mod ContextSame

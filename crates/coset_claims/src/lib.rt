@@ -1,12 +1,14 @@
-//! Claims of CBOR web tokens (RFC 8392), and parts of the context of a key derivation (RFC 8152, section 11.2).
+//! Claims of CBOR web tokens (RFC 8392), and the context of a key derivation (RFC 8152, section 11.2).
 #![tactic(auto)]
 
 mod claims_set;
+mod context;
 mod party;
 mod supp_pub;
 mod timestamp;
 
 pub use claims_set::{ClaimsSet, ClaimsSetBuilder};
+pub use context::{CoseKdfContext, CoseKdfContextBuilder};
 pub use coset_core::{
     Algorithm, AsCborValue, Bstr, CallError, CborOrdering, CborSerializable, ClaimName,
     ContentType, CoseError, CoseSignature, CoseSignatureBuilder, Encode, EndOfFile, FromPull,

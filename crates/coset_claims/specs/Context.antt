@@ -1,0 +1,69 @@
+-- COSE_KDF_Context: what a key is derived for (RFC 8152, section 11.2).
+use Rattle.std.specs.Prelude.{ℕ, List, [], ◌∷◌, ◌++◌, Option, map, option_map, refl}
+use Rattle.coset_value.specs.Item.{Item, Items, array, item}
+use Rattle.coset_iana.specs.Algorithm as algorithms
+use Rattle.coset_iana.specs.declared.algorithms.Algorithm.TheVariants.{Reserved}
+use Rattle.coset_shape.specs.Shape.{Shape, along, both, bstr, array_of, ◌then◌, any_number}
+use Rattle.coset_shape.specs.ShapeLaws.{Lawful, along_laws, bstr_laws, array_of_laws, then_laws, any_number_laws}
+use Rattle.coset_label.specs.Names.{RegisteredName, assigned}
+use Rattle.coset_core.specs.Fields.{algorithm}
+use Rattle.coset_core.specs.FieldLaws.{algorithm_laws}
+use Rattle.coset_core.specs.Views.{algorithm_seen}
+use Rattle.coset_claims.specs.Party.{PartySeen, empty_party, party, party_laws, party_seen}
+use Rattle.coset_claims.specs.SuppPub.{SuppPubSeen, empty_supp_pub, supp_pub, supp_pub_laws, supp_pub_seen}
+use Rattle.coset_claims.specs.declared.context.CoseKdfContext.{CoseKdfContext}
+
+-- a context without its memory
+pub record ContextSeen : Type 0 where
+  pub algorithm_id : RegisteredName
+  pub party_u_info : PartySeen
+  pub party_v_info : PartySeen
+  pub supp_pub_info : SuppPubSeen
+  pub supp_priv_info : List (List ℕ)
+
+abbrev pub context_seen : CoseKdfContext → ContextSeen
+context_seen c = record {
+  algorithm_id = algorithm_seen c.algorithm_id;
+  party_u_info = party_seen c.party_u_info;
+  party_v_info = party_seen c.party_v_info;
+  supp_pub_info = supp_pub_seen c.supp_pub_info;
+  supp_priv_info = map (λ b. b.items) c.supp_priv_info.items;
+}
+
+-- one in which nothing is said, with the reserved algorithm
+abbrev pub empty_context : ContextSeen
+empty_context = record {
+  algorithm_id = assigned (algorithms.number Reserved);
+  party_u_info = empty_party;
+  party_v_info = empty_party;
+  supp_pub_info = empty_supp_pub;
+  supp_priv_info = [];
+}
+
+abbrev ContextPlaces : Type 0
+ContextPlaces = RegisteredName × (PartySeen × (PartySeen × (SuppPubSeen × List (List ℕ))))
+
+abbrev pub context_of : ContextPlaces → ContextSeen
+context_of p = record { algorithm_id = p.0; party_u_info = p.1.0; party_v_info = p.1.1.0; supp_pub_info = p.1.1.1.0; supp_priv_info = p.1.1.1.1 }
+
+abbrev pub context_places : ContextSeen → ContextPlaces
+context_places c = (c.algorithm_id, (c.party_u_info, (c.party_v_info, (c.supp_pub_info, c.supp_priv_info))))
+
+-- [AlgorithmID : int / tstr, PartyUInfo : PartyInfo, PartyVInfo : PartyInfo, SuppPubInfo, * SuppPrivInfo : bstr]
+abbrev pub context : Shape ContextSeen
+context = along context_of context_places (array_of (algorithm then party then party then supp_pub then any_number bstr))
+
+pub context_laws : Lawful ContextSeen context
+context_laws =
+    along_laws context_of context_places (λ x. refl) _
+    (array_of_laws _ (then_laws _ _ algorithm_laws (then_laws _ _ party_laws (then_laws _ _ party_laws (then_laws _ _ supp_pub_laws (any_number_laws bstr bstr_laws))))))
+
+-- with one byte string more behind the others
+abbrev pub and_supp_priv_info : List ℕ → ContextSeen → ContextSeen
+and_supp_priv_info b c = record c { supp_priv_info = c.supp_priv_info ++ b ∷ [] }
+
+-- ---- what its writer is made of
+
+-- the array of four places, and of those behind them, where each has an item
+abbrev pub four_places_and : Option Item → Option Item → Option Item → Option Item → Option Items → Option Item
+four_places_and a b c d more = option_map array (both item a (both item b (both item c (both item d more))))

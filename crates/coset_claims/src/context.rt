@@ -1,0 +1,379 @@
+//! The context of key derivation: what a key is derived for (RFC 8152, section 11.2).
+//!
+//! ```cddl
+//! COSE_KDF_Context = [
+//!     AlgorithmID : int / tstr,
+//!     PartyUInfo : PartyInfo,
+//!     PartyVInfo : PartyInfo,
+//!     SuppPubInfo : SuppPubInfo,
+//!     * SuppPrivInfo : bstr
+//! ]
+//! ```
+//!
+//! The RFC has at most one byte string of private information; any number is read and written.
+
+ghost use Rattle.std.specs.Prelude.{◌≡◌, ◌↔◌, ◌==◌, length, map, IsTrue, IfOk, IfErr, OnOk};
+ghost use Rattle.std.specs.Ordering.{on};
+ghost use Rattle.std.specs.Cmp.{on_equiv, on_per, partial_equiv_from_equiv};
+ghost use Rattle.std.specs.Cmp.Lexicographic.{pointwise};
+ghost use Rattle.coset_iana.specs.Algorithm as algorithms;
+ghost use Rattle.coset_shape.specs.declared.error.CoseError.TheVariants.{OutOfMemory};
+ghost use Rattle.coset_shape.specs.Answers.{Reads};
+ghost use Rattle.coset_shape.specs.Encoding.{AppendsPlaces, Encodes};
+ghost use Rattle.coset_shape.specs.Lists.{ReadsEach};
+ghost use Rattle.coset_shape.specs.Shape.{bstr, images};
+ghost use Rattle.coset_shape.specs.Sources.{members_left, source_item};
+ghost use Rattle.coset_label.specs.Names.{assigned};
+ghost use Rattle.coset_core.specs.Fields.{algorithm};
+ghost use Rattle.coset_core.specs.Views.{algorithm_seen};
+ghost use Rattle.coset_claims.specs.Context.{and_supp_priv_info, context, context_seen, empty_context, four_places_and};
+ghost use Rattle.coset_claims.specs.ContextSame.{context_eq, context_eq_equiv};
+ghost use Rattle.coset_claims.specs.Party.{party_seen};
+ghost use Rattle.coset_claims.specs.SuppPub.{supp_pub_seen};
+
+use crate::party::{PartyInfo, read_party};
+use crate::supp_pub::{SuppPubInfo, read_supp_pub};
+use coset_cbor::de::Pull;
+use coset_cbor::ser::{write_array_head, write_bytes};
+use coset_cbor::value::Value;
+use coset_core::{Algorithm, RegisteredLabelWithPrivate, iana};
+use coset_shape::encode::{Encode, encode_to_value, encode_to_vec};
+use coset_shape::list::read_source;
+use coset_shape::source::Members;
+use coset_shape::traits::{FromPull, read_slice};
+use coset_shape::{AsCborValue, CborSerializable, CoseError, Lawful, Result, Source};
+use std::alloc::{AllocError, Global};
+use std::marker::Model;
+
+/// What a key is derived for: `COSE_KDF_Context` (RFC 8152, section 11.2). Its fields are set by its builder. Contracts
+/// see them as five parts: the algorithm, the two parties, the public information, and the byte strings of private
+/// information.
+#[derive(Debug, Drop)]
+pub struct CoseKdfContext {
+    algorithm_id: Algorithm,
+    party_u_info: PartyInfo,
+    party_v_info: PartyInfo,
+    supp_pub_info: SuppPubInfo,
+    supp_priv_info: Vec<Vec<u8>>,
+}
+
+impl CoseKdfContext {
+    /// A context in which nothing is said, with the reserved algorithm. It takes no memory.
+    pub fn new(alloc: Global) -> CoseKdfContext
+        ensures { context_seen result ≡ empty_context }
+    {
+        CoseKdfContext {
+            algorithm_id: RegisteredLabelWithPrivate::Assigned(iana::Algorithm::Reserved),
+            party_u_info: PartyInfo::new(),
+            party_v_info: PartyInfo::new(),
+            supp_pub_info: SuppPubInfo::new(alloc),
+            supp_priv_info: Vec::new(alloc),
+        }
+    }
+}
+
+/// Reads byte strings up to the end of an array. Of those with a fault the last is named.
+fn read_byte_strings(alloc: Global, members: Members<'_>) -> Result<Vec<Vec<u8>>>
+    ensures { ReadsEach bstr (λ b. b.items) (members_left members.entry) result }
+{
+    let mut members = members;
+    let mut all = Vec::new(alloc);
+    let mut fault = None;
+    while let Some(member) = members.next() {
+        match member.into_bytes(alloc, "bstr") {
+            Ok(bytes) => all.push(bytes)?,
+            Err(CoseError::OutOfMemory) => return Err(CoseError::OutOfMemory),
+            Err(error) => fault = Some(error),
+        }
+    }
+    match fault {
+        None => Ok(all),
+        Some(error) => Err(error),
+    }
+}
+
+/// Reads an algorithm.
+#[tactic(auto, unfolding(coset_core::specs::Fields::algorithm))]
+fn read_algorithm(alloc: Global, source: Source<'_>) -> Result<Algorithm>
+    ensures { Reads algorithm algorithm_seen (source_item source.entry) result }
+{
+    read_source(alloc, source)
+}
+
+/// Reads the places of a context, from the last to the first.
+fn read_context(alloc: Global, source: Source<'_>) -> Result<CoseKdfContext>
+    ensures { Reads context context_seen (source_item source.entry) result }
+{
+    let (algorithm, party_u, party_v, supp_pub, supp_priv) = source.into_four_and_more(
+        "array with at least 4 items",
+    )?;
+    let supp_priv_info = read_byte_strings(alloc, supp_priv)?;
+    let supp_pub_info = read_supp_pub(alloc, supp_pub)?;
+    let party_v_info = read_party(alloc, party_v)?;
+    let party_u_info = read_party(alloc, party_u)?;
+    let algorithm_id = read_algorithm(alloc, algorithm)?;
+    Ok(CoseKdfContext {
+        algorithm_id,
+        party_u_info,
+        party_v_info,
+        supp_pub_info,
+        supp_priv_info,
+    })
+}
+
+impl AsCborValue for CoseKdfContext {
+    ghost use Rattle.coset_claims.specs.Context.{ContextSeen, context_laws};
+
+    ghost Seen = { ContextSeen };
+
+    ghost seen = { context_seen };
+
+    ghost shape = { context };
+
+    ghost unique = { context_laws.unique };
+
+    ghost sound = { context_laws.sound };
+
+    fn from_cbor_value(alloc: Global, value: Value) -> Result<CoseKdfContext> {
+        read_context(alloc, Source::Tree(value))
+    }
+
+    fn to_cbor_value(self, alloc: Global) -> Result<Value> {
+        encode_to_value(alloc, &self)
+    }
+}
+
+impl FromPull for CoseKdfContext {
+    fn from_pull(alloc: Global, pull: Pull<'_>) -> Result<CoseKdfContext> {
+        read_context(alloc, Source::Lent(pull))
+    }
+}
+
+impl CborSerializable for CoseKdfContext {
+    fn from_slice(alloc: Global, s: &[u8]) -> Result<CoseKdfContext> {
+        read_slice(alloc, s)
+    }
+
+    fn to_vec(self, alloc: Global) -> Result<Vec<u8>> {
+        encode_to_vec(alloc, &self)
+    }
+}
+
+/// Appends these byte strings, one after the other.
+fn write_byte_strings(all: &[Vec<u8>], out: &mut Vec<u8>) -> Result<()>
+    ensures ok { OnOk result (AppendsPlaces (images bstr.image (map (λ b. b.items) all.now))
+        (length all.now) out.old.items out.new.items) }
+    ensures memory { IfErr result (λ e. e ≡ OutOfMemory) }
+{
+    for bytes in all {
+        write_bytes(bytes, out)?;
+    }
+    Ok(())
+}
+
+/// Appends the array of four places, and of these byte strings behind them.
+///
+/// # Errors
+/// Those of the first place that has one.
+fn encode_four_and_more<A: Encode, B: Encode, C: Encode, D: Encode>(
+    alloc: Global,
+    a: &A,
+    b: &B,
+    c: &C,
+    d: &D,
+    more: &Vec<Vec<u8>>,
+    out: &mut Vec<u8>,
+) -> Result<()>
+    ensures { Encodes (four_places_and (A.image a.now) (B.image b.now) (C.image c.now)
+        (D.image d.now) (images bstr.image (map (λ b. b.items) more.now.items)))
+        out.old.items out.new.items result }
+{
+    write_array_head(more.len() + 4, out)?;
+    a.encode(alloc, out)?;
+    b.encode(alloc, out)?;
+    c.encode(alloc, out)?;
+    d.encode(alloc, out)?;
+    write_byte_strings(more, out)?;
+    Ok(())
+}
+
+impl Encode for CoseKdfContext {
+    ghost image = { λ c. context.image (context_seen c) };
+
+    ghost spare = { 96 };
+
+    fn room(&self) -> usize {
+        self.party_u_info
+            .room()
+            .saturating_add(self.party_v_info.room())
+            .saturating_add(self.supp_pub_info.room())
+    }
+
+    #[tactic(auto, unfolding(coset_core::specs::Fields::algorithm))]
+    fn encode(&self, alloc: Global, out: &mut Vec<u8>) -> Result<()> {
+        encode_four_and_more(
+            alloc,
+            &self.algorithm_id,
+            &self.party_u_info,
+            &self.party_v_info,
+            &self.supp_pub_info,
+            &self.supp_priv_info,
+            out,
+        )
+    }
+}
+
+impl Lawful for CoseKdfContext {
+    ghost use Rattle.coset_claims.specs.Context.{context_laws};
+
+    ghost laws = { context_laws };
+}
+
+/// The same as [`CoseKdfContext::clone`], for generic code.
+impl Clone for CoseKdfContext {
+    ghost is_clone = { λ context copy. context_seen copy ≡ context_seen context };
+
+    fn clone(&self) -> Result<CoseKdfContext, AllocError> {
+        Ok(CoseKdfContext {
+            algorithm_id: Clone::clone(&self.algorithm_id)?,
+            party_u_info: Clone::clone(&self.party_u_info)?,
+            party_v_info: Clone::clone(&self.party_v_info)?,
+            supp_pub_info: Clone::clone(&self.supp_pub_info)?,
+            supp_priv_info: self.supp_priv_info.clone()?,
+        })
+    }
+}
+
+impl CoseKdfContext {
+    /// A context that equals this one, with the same bytes kept.
+    ///
+    /// # Errors
+    /// `OutOfMemory` alone.
+    pub fn clone(&self) -> Result<CoseKdfContext>
+        ensures copy { IfOk result (λ c. context_seen c ≡ context_seen self.now) }
+        ensures memory { IfErr result (λ e. e ≡ OutOfMemory) }
+    {
+        Ok(Clone::clone(self)?)
+    }
+}
+
+/// Equality of every field, the bytes that were kept of the protected header included.
+impl PartialEq for CoseKdfContext {
+    ghost eq = { on context_seen context_eq };
+
+    ghost laws = { on_per context_seen (partial_equiv_from_equiv context_eq_equiv) };
+
+    fn eq(&self, other: &CoseKdfContext) -> bool
+        ensures answers { result ≡ context_eq (context_seen self.now) (context_seen other.now) }
+        ensures equal { IsTrue result ↔ (context_seen self.now ≡ context_seen other.now) }
+    {
+        same_context(self, other)
+    }
+}
+
+impl Eq for CoseKdfContext {
+    ghost laws = { on_equiv context_seen context_eq_equiv };
+}
+
+/// Whether two contexts are the same, the bytes that were kept included.
+fn same_context(a: &CoseKdfContext, b: &CoseKdfContext) -> bool
+    ensures { result ≡ context_eq (context_seen a.now) (context_seen b.now) }
+{
+    a.algorithm_id == b.algorithm_id
+        && a.party_u_info == b.party_u_info
+        && a.party_v_info == b.party_v_info
+        && a.supp_pub_info == b.supp_pub_info
+        && same_byte_strings(&a.supp_priv_info, &b.supp_priv_info)
+}
+
+/// Whether two lists of byte strings are the same.
+fn same_byte_strings(all: &Vec<Vec<u8>>, others: &Vec<Vec<u8>>) -> bool
+    ensures { result ≡ pointwise (pointwise ◌==◌) (map (λ b. b.items) all.now.items)
+        (map (λ b. b.items) others.now.items) }
+{
+    *all == *others
+}
+
+/// Makes a [`CoseKdfContext`], part by part. Contracts see it as the context that
+/// [`build`](CoseKdfContextBuilder::build) gives.
+#[derive(Debug, Drop)]
+pub struct CoseKdfContextBuilder(CoseKdfContext);
+
+impl Model for CoseKdfContextBuilder {
+    ghost use Rattle.std.specs.Coded.{codes};
+    ghost use Rattle.coset_claims.specs.contracts.context.CoseKdfContext as contracts;
+    ghost use Rattle.coset_claims.specs.declared.context.CoseKdfContext.{CoseKdfContext};
+
+    ghost Value = { CoseKdfContext };
+
+    ghost coded = { Prim.hlevel (codes, contracts.the_row.coded) };
+
+    ghost view = { λ b. b.0 };
+
+    ghost inverse = { λ v. record { 0 = v } };
+}
+
+impl CoseKdfContextBuilder {
+    /// A context in which nothing is said, with the reserved algorithm. It takes no memory.
+    pub fn new(alloc: Global) -> CoseKdfContextBuilder
+        ensures { context_seen result ≡ empty_context }
+    {
+        CoseKdfContextBuilder(CoseKdfContext::new(alloc))
+    }
+
+    /// The context that was made.
+    pub fn build(self) -> CoseKdfContext
+        ensures { result ≡ self }
+    {
+        self.0
+    }
+
+    /// Sets the algorithm for which the key is derived.
+    pub fn algorithm(mut self, algorithm: iana::Algorithm) -> CoseKdfContextBuilder
+        ensures { context_seen result ≡ record
+            (context_seen self) { algorithm_id = assigned (algorithms.number algorithm) } }
+    {
+        self.0.algorithm_id = RegisteredLabelWithPrivate::Assigned(algorithm);
+        self
+    }
+
+    /// Sets what is said of party U.
+    pub fn party_u_info(mut self, party: PartyInfo) -> CoseKdfContextBuilder
+        ensures { context_seen result ≡ record
+            (context_seen self) { party_u_info = party_seen party } }
+    {
+        self.0.party_u_info = party;
+        self
+    }
+
+    /// Sets what is said of party V.
+    pub fn party_v_info(mut self, party: PartyInfo) -> CoseKdfContextBuilder
+        ensures { context_seen result ≡ record
+            (context_seen self) { party_v_info = party_seen party } }
+    {
+        self.0.party_v_info = party;
+        self
+    }
+
+    /// Sets the public information.
+    pub fn supp_pub_info(mut self, info: SuppPubInfo) -> CoseKdfContextBuilder
+        ensures { context_seen result ≡ record
+            (context_seen self) { supp_pub_info = supp_pub_seen info } }
+    {
+        self.0.supp_pub_info = info;
+        self
+    }
+
+    /// Adds a byte string of private information, behind the others.
+    ///
+    /// # Errors
+    /// `OutOfMemory` alone.
+    pub fn add_supp_priv_info(mut self, info: Vec<u8>) -> Result<CoseKdfContextBuilder>
+        ensures ok { IfOk result (λ b. context_seen b
+            ≡ and_supp_priv_info info.items (context_seen self)) }
+        ensures memory { IfErr result (λ e. e ≡ OutOfMemory) }
+    {
+        self.0.supp_priv_info.push(info)?;
+        Ok(self)
+    }
+}
