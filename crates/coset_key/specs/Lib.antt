@@ -31,5 +31,6 @@ pub mod Reading
 pub mod KeyLaws
 pub mod Equality
 pub mod KeyBuilt
+pub mod Canonical
 pub mod MlDsa
 pub mod Sec1

@@ -11,9 +11,10 @@
 //! }
 //! ```
 
-ghost use Rattle.std.specs.Prelude.{◌≡◌, ◌≢◌, ◌↔◌, IsTrue, not, map, option_map, Some, OnOk, OnErr, IfOk, IfErr};
+ghost use Rattle.std.specs.Prelude.{◌≡◌, ◌≢◌, ◌↔◌, ◌≤◌, IsTrue, not, length, map, option_map, Some, IsOk, OnOk, OnErr, IfOk, IfErr};
 ghost use Rattle.std.specs.Cmp.{on_equiv, on_per, partial_equiv_from_equiv};
 ghost use Rattle.std.specs.Cmp.Lexicographic.{pointwise};
+ghost use Rattle.std.specs.List.Sorted.{IsStableByKey};
 ghost use Rattle.std.specs.Map.{keys_of};
 ghost use Rattle.std.specs.Option.{option_eq};
 ghost use Rattle.std.specs.Ordering.{on};
@@ -32,11 +33,13 @@ ghost use Rattle.coset_shape.specs.Maps.{Adds, Refuses, are_distinct, listed, op
 ghost use Rattle.coset_shape.specs.Shape.{filled_bstr};
 ghost use Rattle.coset_shape.specs.Sources.{source_item};
 ghost use Rattle.coset_label.specs.Names.{assigned, number};
+ghost use Rattle.coset_label.specs.Orderings.{name_cmp_by};
 ghost use Rattle.coset_label.specs.Views.{label_seen};
 ghost use Rattle.coset_core.specs.Fields.{algorithm, names, same_name};
 ghost use Rattle.coset_core.specs.FieldValues.{TakesValue, RefusesValue};
 ghost use Rattle.coset_core.specs.Same.{algorithm_eq, entry_eq};
 ghost use Rattle.coset_core.specs.Views.{algorithm_seen, entry_seen};
+ghost use Rattle.coset_key.specs.Canonical.{Canonicalizes};
 ghost use Rattle.coset_key.specs.Equality.{key_eq, key_eq_equiv};
 ghost use Rattle.coset_key.specs.KeyBuilt.{and_operation, and_param, ec2_key, ec2_private_key, ml_dsa_key, okp_key, symmetric_key, with_algorithm, with_base_iv, with_key_id, with_kty, IsOtherLabel};
 ghost use Rattle.coset_key.specs.Keys.{empty_key, fields, key as key_shape, key_ops as key_ops_shape, key_seen, kty_seen, operation_seen, reserved};
@@ -47,8 +50,9 @@ use crate::ml_dsa::MlDsaVariant;
 use coset_cbor::de::Pull;
 use coset_cbor::value::Value;
 use coset_core::{
-    Algorithm, AsCborValue, CborSerializable, CoseError, Encode, FromPull, KeyOperation, KeyType,
-    Label, Lawful, RegisteredLabel, RegisteredLabelWithPrivate, Result, Source, has_repeats, iana,
+    Algorithm, AsCborValue, CborOrdering, CborSerializable, CoseError, Encode, FromPull,
+    KeyOperation, KeyType, Label, Lawful, RegisteredLabel, RegisteredLabelWithPrivate, Result,
+    Source, has_repeats, iana,
 };
 use coset_iana::{
     AkpKeyParameter, Ec2KeyParameter, EllipticCurve, EnumI64, KeyParameter, SymmetricKeyParameter,
@@ -103,6 +107,24 @@ impl CoseKey {
         ensures memory { IfErr result (λ e. e ≡ OutOfMemory) }
     {
         Ok(Clone::clone(self)?)
+    }
+
+    /// Puts `params` into the order of their labels' encodings: by their bytes (RFC 8949, section 4.2.1), or by their
+    /// lengths first (RFC 7049, section 3.9). Params with one label stay in the order in which they stand, and all else of
+    /// the key stays. So all labels of a key that was read are written in that order, but that label 0, which only a param
+    /// can have, is written behind 1 to 5. The work grows with n log n.
+    ///
+    /// # Errors
+    /// `OutOfMemory` alone, and only of more than 20 params; the key is then as it was.
+    pub fn canonicalize(&mut self, alloc: Global, ordering: CborOrdering) -> Result<()>
+        ensures canonical { Canonicalizes ordering (key_seen self.old) (key_seen self.new) result }
+        ensures stable { IsStableByKey (λ e. label_seen e.0) (name_cmp_by ordering)
+            self.old.params.items self.new.params.items }
+        ensures few { length self.old.params.items ≤ 20 → IsOk result }
+    {
+        let params = self.params.as_mut_slice();
+        params.sort_by(alloc, |a, b| ordering.compare(&a.0, &b.0))?;
+        Ok(())
     }
 }
 

@@ -3,9 +3,14 @@
 
 ghost use Rattle.std.specs.Prelude.{◌≡◌, ℕ, List, Ok};
 ghost use Rattle.coset_iana.specs.declared.keys.EllipticCurve.{EllipticCurve};
+ghost use Rattle.coset_label.specs.declared.ordering.CborOrdering.{CborOrdering};
+ghost use Rattle.coset_key.specs.Canonical.{CanonicalApart, CanonicalReadsAgain, LabelsAscend, ZeroBehindFields};
 ghost use Rattle.coset_key.specs.MlDsa.{algorithm_of};
 ghost use Rattle.coset_key.specs.Sec1.{IsMalformed, Point, Spells, key_point, octets, point_key};
 ghost use Rattle.coset_key.specs.declared.ml_dsa.MlDsaVariant.{MlDsaVariant};
+
+use crate::key::CoseKey;
+use coset_shape::laws::written_apart;
 
 /// An octet string is that of at most one point, and of none where it is malformed. The key of a point has that point, so
 /// that the octet string that was read comes back.
@@ -19,4 +24,25 @@ pub fn points_come_back()
 /// Two variants of ML-DSA have two algorithms, so that a variant comes back from its algorithm.
 pub fn ml_dsa_variants_come_back()
     ensures { (v w : MlDsaVariant) → algorithm_of v ≡ algorithm_of w → v ≡ w }
+{}
+
+/// A key that was read, and whose params were put into an order (`CoseKey::canonicalize`), is written, and read again as
+/// itself.
+pub fn canonical_keys_read_again()
+    ensures { (o : CborOrdering) → CanonicalReadsAgain o }
+{}
+
+/// Keys that were read, and whose params were put into one order (`CoseKey::canonicalize`), are written as equal bytes
+/// exactly where they agree but for the order of their params.
+pub fn canonical_keys_apart()
+    ensures { (o : CborOrdering) → CanonicalApart o }
+{
+    written_apart::<CoseKey>();
+}
+
+/// Of a key that was read, and whose params were put into an order, all labels are written in that order; but a param with
+/// label 0 is written behind the fields, whose labels are greater.
+pub fn labels_ascend()
+    ensures ascend { (o : CborOrdering) → LabelsAscend o }
+    ensures zero { (o : CborOrdering) → ZeroBehindFields o }
 {}

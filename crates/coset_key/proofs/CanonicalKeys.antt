@@ -1,0 +1,100 @@
+-- Keys whose params stand in the order of their labels.
+use Rattle.std.proofs.Common.{◌≡◌, ℕ, List, true, sym, ◌∙◌, ap, subst, arith}
+use Rattle.std.specs.Cmp.{IsTotalOrder, both_ways}
+use Rattle.std.specs.List.{IsDistinct}
+use Rattle.std.specs.List.Sorted.{IsPermutation}
+use Rattle.std.specs.Map.{keys_of}
+use Rattle.std.specs.Ordering.{eq_by_cmp}
+use Rattle.std.proofs.lemmas.List.Sorted.{IsPermutation-map, IsPermutation-sym, IsPermutation-trans}
+use Rattle.std.proofs.lemmas.Cmp.{eq_by_cmp_equiv}
+use Rattle.std.proofs.lemmas.Map.Keys.{IsDistinct-IsPermutation}
+use Rattle.coset_value.specs.Item.{Item}
+use Rattle.coset_cbor.specs.Shortest.{IsShortest}
+use Rattle.coset_cbor.proofs.Shortest.{definite_is_encoding}
+use Rattle.coset_shape.specs.Answers.{Describes}
+use Rattle.coset_shape.specs.MapLaws.{labelled_arranged, rest_distinct}
+use Rattle.coset_shape.specs.ReadAgain.{EncodesApart, IsWritten}
+use Rattle.coset_shape.specs.ShapeLaws.{Again, some-one}
+use Rattle.coset_label.specs.NameOrder.{name_cmp_total, canonical_cmp_total, name_cmp-apart, canonical_cmp-apart}
+use Rattle.coset_label.specs.Names.{Name, TellsApart}
+use Rattle.coset_label.specs.Orderings.{name_cmp_by}
+use Rattle.coset_label.specs.SortedLaws.{has_one_order}
+use Rattle.coset_label.specs.declared.ordering.CborOrdering.{CborOrdering}
+use Rattle.coset_label.specs.declared.ordering.CborOrdering.TheVariants.{Lexicographic, LengthFirstLexicographic}
+use Rattle.coset_core.specs.Fields.{names, same_name}
+use Rattle.coset_core.specs.FieldLaws.{names_laws}
+use Rattle.coset_key.specs.Canonical.{with_params, AgreeButForOrder, IsCanonicalOf, CanonicalReadsAgain, CanonicalApart}
+use Rattle.coset_key.specs.KeyLaws.{fields_laws}
+use Rattle.coset_key.specs.Keys.{KeySeen, key, fields, parts_of}
+
+-- ---- the orders
+
+pub total_by : (o : CborOrdering) → IsTotalOrder (name_cmp_by o)
+total_by Lexicographic = name_cmp_total
+total_by LengthFirstLexicographic = canonical_cmp_total
+
+apart_by : (o : CborOrdering) → TellsApart (name_cmp_by o)
+apart_by Lexicographic = name_cmp-apart
+apart_by LengthFirstLexicographic = canonical_cmp-apart
+
+-- either order calls level what is one label
+level : (o : CborOrdering) (a b : Name) → same_name a b ≡ eq_by_cmp (name_cmp_by o) a b
+level o a b = both_ways (same_name a b) (eq_by_cmp (name_cmp_by o) a b) (λ h. (apart_by o a b).1 ((name_cmp-apart a b).0 h)) (λ h. (name_cmp-apart a b).1 ((apart_by o a b).0 h))
+
+-- ---- a key with its params in another order
+
+-- it is written as an item that stands for it
+arranged : (v : Item) (k : KeySeen) (ps : List (Name × Item)) → key.describes v k → IsPermutation k.params ps → Again KeySeen key v (with_params ps k)
+unfolding key
+arranged v k ps p m =
+    let a = labelled_arranged names names_laws true fields fields_laws v (parts_of k) ps p.0 m in
+    record { image = a.image; is_image = a.is_image; described = (a.described, p.1); shallow = a.shallow }
+
+-- the labels of the params of a key that was read differ
+params_differ : (o : CborOrdering) (v : Item) (k : KeySeen) → key.describes v k → IsDistinct (eq_by_cmp (name_cmp_by o)) (keys_of k.params)
+unfolding key
+params_differ o v k p =
+    let e = p.0.2 in
+    let d : IsDistinct same_name (keys_of k.params) = rest_distinct names fields.labels e.entries k.params e.rest e.distinct in
+    subst (λ t. IsDistinct t (keys_of k.params)) (λ i a b. level o a b i) d
+
+-- and differ once they are in order
+pub canonical_differ : (o : CborOrdering) (v : Item) (k x : KeySeen) → key.describes v k → IsCanonicalOf o k x → IsDistinct (eq_by_cmp (name_cmp_by o)) (keys_of x.params)
+canonical_differ o v k x p c =
+    IsDistinct-IsPermutation (eq_by_cmp (name_cmp_by o)) (eq_by_cmp_equiv (total_by o)).symm (keys_of k.params) (keys_of x.params) (IsPermutation-map (λ e. e.0) k.params x.params c.agree.params) (params_differ o v k p)
+
+-- keys in order are equal where they are of keys that agree but for the order, and only there
+canonical_one : (o : CborOrdering) (v : Item) (k l x y : KeySeen) → key.describes v k → IsCanonicalOf o k x → IsCanonicalOf o l y → AgreeButForOrder k l → x ≡ y
+canonical_one o v k l x y p c d h =
+    let moved = IsPermutation-trans x.params l.params y.params (IsPermutation-trans x.params k.params l.params (IsPermutation-sym k.params x.params c.agree.params) h.params) d.agree.params in
+    let one : x.params ≡ y.params = has_one_order (total_by o) x.params y.params (canonical_differ o v k x p c) moved c.ordered d.ordered in
+    sym c.agree.others ∙ ((λ i. with_params (one i) k) ∙ (ap (with_params y.params) h.others ∙ d.agree.others))
+
+canonical_of_one : (o : CborOrdering) (k l x y : KeySeen) → IsCanonicalOf o k x → IsCanonicalOf o l y → x ≡ y → AgreeButForOrder k l
+canonical_of_one o k l x y c d e =
+    record {
+      others = ap (with_params l.params) (c.agree.others ∙ (e ∙ sym d.agree.others));
+      params = IsPermutation-trans k.params x.params l.params c.agree.params (subst (λ z. IsPermutation z.params l.params) (sym e) (IsPermutation-sym l.params y.params d.agree.params));
+    }
+
+-- a key in order is written as an item that stands for it
+in_order : (o : CborOrdering) (v : Item) (k x : KeySeen) → key.describes v k → IsCanonicalOf o k x → Again KeySeen key v x
+in_order o v k x p c = subst (Again KeySeen key v) c.agree.others (arranged v k x.params p c.agree.params)
+
+pub canonical_reads_again : (o : CborOrdering) → CanonicalReadsAgain o
+canonical_reads_again o b k x p c =
+    let again = in_order o p.0 k x p.2 c in
+    (again.image, again.is_image, λ d short. (again.image, (definite_is_encoding again.image d short.definite, omega (arith, again.shallow, p.1.1)), again.described))
+
+-- what it is written as describes it
+describes_it : (o : CborOrdering) (a c : List ℕ) (k x : KeySeen) → Describes key a k → IsCanonicalOf o k x → IsWritten key x c → Describes key c x
+describes_it o a c k x p m w =
+    let again = canonical_reads_again o a k x p m in
+    again.2 c (subst (IsShortest c) (some-one w.1 again.1) w.2)
+
+pub canonical_apart : (o : CborOrdering) → EncodesApart key → CanonicalApart o
+canonical_apart o apart a b c d k l x y p q m n u w =
+    let one = apart c d c d x y (describes_it o a c k x p m u) (describes_it o b d l y q n w) u w in (
+      λ e. canonical_of_one o k l x y m n (one.0 e),
+      λ h. one.1 (canonical_one o p.0 k l x y p.2 m n h),
+    )
