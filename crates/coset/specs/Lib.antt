@@ -78,11 +78,14 @@ pub use Rattle.coset_claims.specs.Claims
 pub use Rattle.coset_claims.specs.declared.claims_set.ClaimsSet
 pub use Rattle.coset_claims.specs.Party
 pub use Rattle.coset_claims.specs.SuppPub
+pub use Rattle.coset_claims.specs.Context
 pub use Rattle.coset_claims.specs.declared.party.PartyInfo
 pub use Rattle.coset_claims.specs.declared.supp_pub.SuppPubInfo
+pub use Rattle.coset_claims.specs.declared.context.CoseKdfContext
 pub use Rattle.coset_key.specs.KeyLabels
 pub use Rattle.coset_key.specs.Keys
 pub use Rattle.coset_key.specs.KeyBuilt
+pub use Rattle.coset_key.specs.Canonical
 pub use Rattle.coset_key.specs.MlDsa
 pub use Rattle.coset_key.specs.Sec1
 pub use Rattle.coset_key.specs.declared.key.CoseKey

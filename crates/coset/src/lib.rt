@@ -7,13 +7,17 @@
 //! `from_tagged_slice`, and calls `verify_signature` with a closure, which is given the signature and what it is over: the
 //! bytes as they were received. A message with a MAC ([`CoseMac0`]) is made by `create_tag` and verified by `verify_tag`, an
 //! encrypted one ([`CoseEncrypt0`]) is made by `create_ciphertext` and read by `decrypt`; [`CoseMac`] and [`CoseEncrypt`]
-//! have recipients besides ([`CoseRecipient`]). Keys are [`CoseKey`] and [`CoseKeySet`]. CBOR by itself is in [`cbor`], the numbers that IANA registers in
-//! [`iana`], claims of web tokens in [`cwt`].
+//! have recipients besides ([`CoseRecipient`]). Keys are [`CoseKey`] and [`CoseKeySet`], and what a key is derived for is a
+//! [`CoseKdfContext`]. CBOR by itself is in [`cbor`], the numbers that IANA registers in [`iana`], claims of web tokens in
+//! [`cwt`].
 #![tactic(auto)]
 
 pub mod cwt;
 
-pub use coset_claims::{Nonce, PartyInfo, PartyInfoBuilder, SuppPubInfo, SuppPubInfoBuilder};
+pub use coset_claims::{
+    CoseKdfContext, CoseKdfContextBuilder, Nonce, PartyInfo, PartyInfoBuilder, SuppPubInfo,
+    SuppPubInfoBuilder,
+};
 pub use coset_key::{
     CoseKey, CoseKeyBuilder, CoseKeySet, MlDsaVariant, ParseSec1OctetStringError,
     ToSec1OctetStringError,

@@ -1,10 +1,11 @@
 -- What is shown of the bytes that an input spells, by its kind.
 use Rattle.std.specs.Prelude.{ℕ, List, codes}
 use Rattle.coset.specs.Claims.{claims}
+use Rattle.coset.specs.Context.{context}
 use Rattle.coset.specs.Keys.{key, key_set}
 use Rattle.coset.specs.Shape.{any}
 use Rattle.coset_show.specs.declared.kind.Kind.{Kind}
-use Rattle.coset_show.specs.declared.kind.Kind.TheVariants.{Value, Sign1, Sign, Mac, Mac0, Encrypt, Encrypt0, Key, Keyset, Claims}
+use Rattle.coset_show.specs.declared.kind.Kind.TheVariants.{Value, Sign1, Sign, Mac, Mac0, Encrypt, Encrypt0, Key, Keyset, Claims, Kdf}
 use Rattle.coset_show.specs.declared.refusal.Refusal.{Refusal}
 use Rattle.coset_show.specs.Show.{ShowsType, RefusesType, ShowsSign1, sign1_in, sign_in, mac_in, mac0_in, encrypt_in, encrypt0_in}
 
@@ -20,6 +21,7 @@ kind_name Encrypt0 = codes "encrypt0"
 kind_name Key = codes "key"
 kind_name Keyset = codes "keyset"
 kind_name Claims = codes "claims"
+kind_name Kdf = codes "kdf"
 
 abbrev pub ShowsBytes : Kind → List ℕ → List ℕ → Type 0
 ShowsBytes Value = ShowsType any
@@ -32,6 +34,7 @@ ShowsBytes Encrypt0 = λ b. ShowsType (encrypt0_in b) b
 ShowsBytes Key = ShowsType key
 ShowsBytes Keyset = ShowsType key_set
 ShowsBytes Claims = ShowsType claims
+ShowsBytes Kdf = ShowsType context
 
 abbrev pub RefusesBytes : Kind → List ℕ → Refusal → Type 0
 RefusesBytes Value b = RefusesType any b
@@ -44,3 +47,4 @@ RefusesBytes Encrypt0 b = RefusesType (encrypt0_in b) b
 RefusesBytes Key b = RefusesType key b
 RefusesBytes Keyset b = RefusesType key_set b
 RefusesBytes Claims b = RefusesType claims b
+RefusesBytes Kdf b = RefusesType context b

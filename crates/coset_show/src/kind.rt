@@ -8,7 +8,9 @@ use crate::refusal::Refusal;
 use crate::show::{message_lines, sign1_lines, type_line};
 use coset::cbor::value::Value;
 use coset::cwt::ClaimsSet;
-use coset::{CoseEncrypt, CoseEncrypt0, CoseKey, CoseKeySet, CoseMac, CoseMac0, CoseSign};
+use coset::{
+    CoseEncrypt, CoseEncrypt0, CoseKdfContext, CoseKey, CoseKeySet, CoseMac, CoseMac0, CoseSign,
+};
 use std::alloc::Global;
 
 /// What the input spells.
@@ -34,6 +36,8 @@ pub enum Kind {
     Keyset,
     /// The claims of a web token (RFC 8392, section 3).
     Claims,
+    /// The context of a key derivation (RFC 8152, section 11.2).
+    Kdf,
 }
 
 impl Kind {
@@ -53,6 +57,7 @@ impl Kind {
             "key" => Some(Kind::Key),
             "keyset" => Some(Kind::Keyset),
             "claims" => Some(Kind::Claims),
+            "kdf" => Some(Kind::Kdf),
             _ => None,
         }
     }
@@ -76,6 +81,7 @@ impl Kind {
             Kind::Key => type_line::<CoseKey>(alloc, bytes),
             Kind::Keyset => type_line::<CoseKeySet>(alloc, bytes),
             Kind::Claims => type_line::<ClaimsSet>(alloc, bytes),
+            Kind::Kdf => type_line::<CoseKdfContext>(alloc, bytes),
         }
     }
 }

@@ -227,6 +227,38 @@ fn shows_claims(rt: HostRuntime) -> Result<(), Fail> {
     Ok(())
 }
 
+#[test]
+fn shows_contexts(rt: HostRuntime) -> Result<(), Fail> {
+    let rows = [
+        ("840083f6f6f683f6f6f6820040", "840083f6f6f683f6f6f6820040\n"),
+        (
+            "9f009ff6f6f6ff9ff6f6f6ff9f0040ff40ff",
+            "850083f6f6f683f6f6f682004040\n",
+        ),
+        (
+            "870083f6f6f683f6f6f6820040430102034202034103",
+            "870083f6f6f683f6f6f6820040430102034202034103\n",
+        ),
+    ];
+    answers(&rt, rt.alloc(), "kdf", &rows, 0);
+    let rows = [
+        (
+            "830083f6f6f683f6f6f6",
+            "error: got array, expected array with at least 4 items\n",
+        ),
+        (
+            "840883f6f6f683f6f6f6820040",
+            "error: expected value in IANA or private use range\n",
+        ),
+        (
+            "840183401b8000000000000000f683f6f6f6820040",
+            "error: out of range integer value\n",
+        ),
+    ];
+    answers(&rt, rt.alloc(), "kdf", &rows, 1);
+    Ok(())
+}
+
 /// The byte string of bytes, both as digits: its shortest encoding where there are less than 256.
 fn byte_string(alloc: Global, content: &str) -> Result<String, AllocError> {
     let length = content.len() / 2;

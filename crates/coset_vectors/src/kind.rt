@@ -6,9 +6,10 @@ use coset::cbor::value::Value;
 use coset::cwt::{ClaimName, ClaimsSet, Timestamp};
 use coset::iana::{EllipticCurve, HeaderParameter};
 use coset::{
-    Algorithm, ContentType, CoseEncrypt, CoseEncrypt0, CoseKey, CoseKeySet, CoseMac, CoseMac0,
-    CoseRecipient, CoseSign, CoseSign1, CoseSignature, Header, KeyOperation, KeyType, Label,
-    PartyInfo, ProtectedHeader, RegisteredLabel, RegisteredLabelWithPrivate, SuppPubInfo,
+    Algorithm, ContentType, CoseEncrypt, CoseEncrypt0, CoseKdfContext, CoseKey, CoseKeySet,
+    CoseMac, CoseMac0, CoseRecipient, CoseSign, CoseSign1, CoseSignature, Header, KeyOperation,
+    KeyType, Label, PartyInfo, ProtectedHeader, RegisteredLabel, RegisteredLabelWithPrivate,
+    SuppPubInfo,
 };
 use std::alloc::{AllocError, Global};
 
@@ -81,6 +82,8 @@ pub enum Kind {
     Party,
     /// What is public of a key derivation (RFC 8152, section 11.2).
     SuppPub,
+    /// The context of a key derivation (RFC 8152, section 11.2).
+    Kdf,
 }
 
 impl Kind {
@@ -114,6 +117,7 @@ impl Kind {
             "timestamp" => Kind::Timestamp,
             "party" => Kind::Party,
             "supp_pub" => Kind::SuppPub,
+            "kdf" => Kind::Kdf,
             _ => return None,
         })
     }
@@ -169,6 +173,7 @@ impl Kind {
             Kind::Timestamp => answer::<AsValue, Timestamp>(alloc, bytes),
             Kind::Party => answer::<Plain, PartyInfo>(alloc, bytes),
             Kind::SuppPub => answer::<Plain, SuppPubInfo>(alloc, bytes),
+            Kind::Kdf => answer::<Plain, CoseKdfContext>(alloc, bytes),
         }
     }
 }

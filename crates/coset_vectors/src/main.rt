@@ -9,14 +9,20 @@ mod answer;
 #[cfg(test)]
 mod builders;
 #[cfg(test)]
+mod canonical;
+#[cfg(test)]
 mod cbor;
 #[cfg(test)]
 mod claims;
 #[cfg(test)]
 mod closures;
 #[cfg(test)]
+mod contexts;
+#[cfg(test)]
 mod encrypted;
 mod form;
+#[cfg(test)]
+mod keys;
 mod kind;
 #[cfg(test)]
 mod labels;

@@ -24,6 +24,9 @@ returns-in-Encrypt c = rw c.in-Encrypt.is c.message_lines-in-Encrypt.ensures
 pub returns-in-Claims : goal.returns-in-Claims
 returns-in-Claims c = rw c.in-Claims.is c.type_line-in-Claims.ensures
 
+pub returns-in-Kdf : goal.returns-in-Kdf
+returns-in-Kdf c = rw c.in-Kdf.is c.type_line-in-Kdf.ensures
+
 pub returns-in-Key : goal.returns-in-Key
 returns-in-Key c = rw c.in-Key.is c.type_line-in-Key.ensures
 
