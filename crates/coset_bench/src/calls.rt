@@ -9,7 +9,9 @@ ghost use Rattle.std.specs.Prelude.{◌≡◌, ◌≤◌, ◌<◌, length, IfOk}
 use crate::fault::Fault;
 use coset_cbor::de::{EndOfFile, Error, Steps, check};
 use coset_cbor::value::Value;
+use coset_claims::ClaimsSet;
 use coset_core::Header;
+use coset_key::CoseKeySet;
 use coset_recipient::{CoseRecipient, CoseSign1};
 use coset_shape::{CborSerializable, CoseError};
 use std::alloc::Global;
@@ -48,6 +50,18 @@ impl Timed for CoseSign1 {
 
 impl Timed for CoseRecipient {
     fn copy(&self) -> Result<CoseRecipient, CoseError> {
+        self.clone()
+    }
+}
+
+impl Timed for CoseKeySet {
+    fn copy(&self) -> Result<CoseKeySet, CoseError> {
+        self.clone()
+    }
+}
+
+impl Timed for ClaimsSet {
+    fn copy(&self) -> Result<ClaimsSet, CoseError> {
         self.clone()
     }
 }

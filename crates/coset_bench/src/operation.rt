@@ -8,7 +8,9 @@ use crate::calls::{
 };
 use crate::fault::Fault;
 use coset_cbor::value::Value;
+use coset_claims::ClaimsSet;
 use coset_core::Header;
+use coset_key::CoseKeySet;
 use coset_recipient::{CoseRecipient, CoseSign1};
 use std::rt::Clock;
 use std::time::Duration;
@@ -48,6 +50,14 @@ pub enum Operation {
     RecipientCopy,
     /// Comparing one with its copy.
     RecipientCompare,
+    /// Reading a set of keys.
+    KeySet,
+    /// Writing one.
+    KeySetWrite,
+    /// Reading the claims of a token.
+    Claims,
+    /// Writing them.
+    ClaimsWrite,
 }
 
 impl Operation {
@@ -73,6 +83,10 @@ impl Operation {
             "recipient_write" => Some(Operation::RecipientWrite),
             "recipient_copy" => Some(Operation::RecipientCopy),
             "recipient_compare" => Some(Operation::RecipientCompare),
+            "keyset" => Some(Operation::KeySet),
+            "keyset_write" => Some(Operation::KeySetWrite),
+            "claims" => Some(Operation::Claims),
+            "claims_write" => Some(Operation::ClaimsWrite),
             _ => None,
         }
     }
@@ -104,6 +118,10 @@ impl Operation {
             Operation::RecipientWrite => time_write::<CoseRecipient, R>(rt, bytes, calls),
             Operation::RecipientCopy => time_copy::<CoseRecipient, R>(rt, bytes, calls),
             Operation::RecipientCompare => time_compare::<CoseRecipient, R>(rt, bytes, calls),
+            Operation::KeySet => time_read::<CoseKeySet, R>(rt, bytes, calls),
+            Operation::KeySetWrite => time_write::<CoseKeySet, R>(rt, bytes, calls),
+            Operation::Claims => time_read::<ClaimsSet, R>(rt, bytes, calls),
+            Operation::ClaimsWrite => time_write::<ClaimsSet, R>(rt, bytes, calls),
         }
     }
 }
