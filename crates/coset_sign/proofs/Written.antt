@@ -101,8 +101,7 @@ carried_plain v m n e d =
     let third = behind header sign1_places second.0 (sign1_fields m).1 (sign1_fields n).1 second.1 second.2 in
     let payload = place_written ((or_nil bstr).image m.payload) ((bstr then end).image (m.signature, tt)) third.0 third.1 in
     let last = behind (or_nil bstr) (bstr then end) third.0 (sign1_fields m).1.1 (sign1_fields n).1.1 third.1 third.2 in
-    let signature = place_written (bstr.image m.signature) (Some no_items) last.0 last.1 in
-    (
+    let signature = place_written (bstr.image m.signature) (Some no_items) last.0 last.1 in (
       payload_back m.payload n.payload payload.0 payload.2 (subst (λ vs. sign1_places.describes vs (n.payload, (n.signature, tt))) payload.4 third.2).0,
       bytes_back m.signature n.signature signature.0 signature.2 (subst (λ vs. (bstr then end).describes vs (n.signature, tt)) signature.4 last.2).0,
     )
