@@ -1,5 +1,5 @@
 -- COSE_Sign1 messages (RFC 8152, section 4.2).
-use Rattle.std.specs.Prelude.{ℕ, List, [], Option, None, option_map, refl}
+use Rattle.std.specs.Prelude.{◌≡◌, ℕ, List, [], Option, Some, None, option_map, refl}
 use Rattle.coset_value.specs.Item.{Item}
 use Rattle.coset_shape.specs.Shape.{Shape, Places, along, ◌then◌, end, bstr, or_nil}
 use Rattle.coset_shape.specs.ShapeLaws.{Lawful, LawfulPlaces, bytes_no_nil, along_laws, then_laws, end_laws, bstr_laws, or_nil_laws}
@@ -48,6 +48,11 @@ sign1 = along sign1_of sign1_fields (headed sign1_places)
 
 pub sign1_laws : Lawful Sign1Seen sign1
 sign1_laws = along_laws sign1_of sign1_fields (λ x. refl) _ (headed_laws sign1_places sign1_places_laws)
+
+-- what was read of what another message is written as carries that one's payload and signature
+abbrev pub CarriedAsWritten : Shape Sign1Seen → Type 0
+CarriedAsWritten s =
+    (v : Item) (m n : Sign1Seen) → s.image m ≡ Some v → s.describes v n → (n.payload ≡ m.payload) × (n.signature ≡ m.signature)
 
 -- ---- what is signed
 

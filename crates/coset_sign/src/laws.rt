@@ -6,7 +6,7 @@ ghost use Rattle.coset_cbor.specs.Shortest.{IsShortest};
 ghost use Rattle.coset_shape.specs.Shape.{tagged};
 ghost use Rattle.coset_sign.specs.Structure.{structure};
 ghost use Rattle.coset_sign.specs.SignatureStructure.{signature_structure};
-ghost use Rattle.coset_sign.specs.Sign1.{Sign1Seen, sign1};
+ghost use Rattle.coset_sign.specs.Sign1.{CarriedAsWritten, Sign1Seen, sign1};
 ghost use Rattle.coset_sign.specs.Sign.{SignSeen, sign, EachSignsSame};
 ghost use Rattle.coset_sign.specs.Signed.{SignsSame};
 ghost use Rattle.coset_sign.specs.declared.signature.SignatureContext.{SignatureContext};
@@ -48,11 +48,8 @@ pub fn signed_as_written()
 /// A message with one signature that was read from what another is written as, plain or under its tag, carries the payload
 /// and the signature of that one, however the item was spelled.
 pub fn carried_as_written()
-    ensures plain { (v : Item) (m n : Sign1Seen) → sign1.image m ≡ Some v → sign1.describes v n
-        → (n.payload ≡ m.payload) × (n.signature ≡ m.signature) }
-    ensures tagged { (v : Item) (m n : Sign1Seen) → (tagged 18 sign1).image m ≡ Some v
-        → (tagged 18 sign1).describes v n
-        → (n.payload ≡ m.payload) × (n.signature ≡ m.signature) }
+    ensures plain { CarriedAsWritten sign1 }
+    ensures tagged { CarriedAsWritten (tagged 18 sign1) }
 {}
 
 /// What each signature of a message signs that was read from what another is written as, plain or under its tag, is what
