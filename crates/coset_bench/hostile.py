@@ -1,5 +1,5 @@
 #!/usr/bin/env python3
-"""Writes the hostile messages whose times and stack docs/SPEED.md tells: `hostile.py FOLDER`."""
+"""Writes the hostile messages and keys whose times and stack docs/SPEED.md tells: `hostile.py FOLDER`."""
 
 import sys
 from pathlib import Path
@@ -56,6 +56,12 @@ def recipients(count: int, protected: bytes, innermost: bytes) -> bytes:
     return recipient
 
 
+def key(labels: list[int]) -> bytes:
+    """A symmetric key whose params have these labels, each with the value 0 (RFC 8152, section 7)."""
+    params = b"".join(head(0, label) + b"\x00" for label in labels)
+    return head(5, 1 + len(labels)) + b"\x01\x04" + params
+
+
 def main(folder: Path) -> None:
     items = head(4, 200_000) + bytes(200_000)
     pair = head(0, 70) + items
@@ -76,6 +82,9 @@ def main(folder: Path) -> None:
         "recipients.cbor": recipients(128, layers(16, b""), b"\xf6"),
         # The innermost has a number for its ciphertext.
         "recipients_refused.cbor": recipients(128, layers(16, b""), b"\x00"),
+        # The labels of 10,000 params: from the greatest down, and mixed (7919 shares no factor with 10,000).
+        "key_falling.cbor": key([10_099 - i for i in range(10_000)]),
+        "key_mixed.cbor": key([100 + 7919 * i % 10_000 for i in range(10_000)]),
         # 256 items inside one another, as deep as an item may be.
         "levels.cbor": head(4, 1) * 255 + head(4, 0),
     }

@@ -1,7 +1,7 @@
 -- The names of operations.
 use Rattle.std.specs.Prelude.{ℕ, List, codes}
 use Rattle.coset_bench.specs.declared.operation.Operation.{Operation}
-use Rattle.coset_bench.specs.declared.operation.Operation.TheVariants.{Check, Value, ValueWrite, Header, HeaderWrite, Sign1, Sign1Refused, Sign1Write, Sign1Copy, Sign1Compare, Sign1Tbs, Recipient, RecipientRefused, RecipientWrite, RecipientCopy, RecipientCompare, KeySet, KeySetWrite, Claims, ClaimsWrite}
+use Rattle.coset_bench.specs.declared.operation.Operation.TheVariants.{Check, Value, ValueWrite, Header, HeaderWrite, Sign1, Sign1Refused, Sign1Write, Sign1Copy, Sign1Compare, Sign1Tbs, Recipient, RecipientRefused, RecipientWrite, RecipientCopy, RecipientCompare, KeyCanonicalize, KeySet, KeySetWrite, Claims, ClaimsWrite}
 
 -- the name of an operation, as the program is told it
 abbrev pub operation_name : Operation → List ℕ
@@ -21,6 +21,7 @@ operation_name RecipientRefused = codes "recipient_refused"
 operation_name RecipientWrite = codes "recipient_write"
 operation_name RecipientCopy = codes "recipient_copy"
 operation_name RecipientCompare = codes "recipient_compare"
+operation_name KeyCanonicalize = codes "key_canonicalize"
 operation_name KeySet = codes "keyset"
 operation_name KeySetWrite = codes "keyset_write"
 operation_name Claims = codes "claims"

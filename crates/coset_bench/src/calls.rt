@@ -11,7 +11,7 @@ use coset_cbor::de::{EndOfFile, Error, Steps, check};
 use coset_cbor::value::Value;
 use coset_claims::ClaimsSet;
 use coset_core::Header;
-use coset_key::CoseKeySet;
+use coset_key::{CborOrdering, CoseKey, CoseKeySet};
 use coset_recipient::{CoseRecipient, CoseSign1};
 use coset_shape::{CborSerializable, CoseError};
 use std::alloc::Global;
@@ -50,6 +50,12 @@ impl Timed for CoseSign1 {
 
 impl Timed for CoseRecipient {
     fn copy(&self) -> Result<CoseRecipient, CoseError> {
+        self.clone()
+    }
+}
+
+impl Timed for CoseKey {
+    fn copy(&self) -> Result<CoseKey, CoseError> {
         self.clone()
     }
 }
@@ -151,6 +157,23 @@ pub fn time_compare<T: Timed, R: AllocGlobal + Clock>(
         if value != copy {
             return Err(Fault::Unexpected);
         }
+    }
+    Ok(start.elapsed(rt)?)
+}
+
+/// Puts the params of a key that was read in order, and drops the key. The copies that are put in order are made before
+/// the time.
+pub fn time_canonicalize<R: AllocGlobal + Clock>(
+    rt: &R,
+    bytes: &[u8],
+    calls: usize,
+) -> Result<Duration, Fault> {
+    let alloc = rt.alloc();
+    let key = CoseKey::from_slice(alloc, bytes)?;
+    let copies = copies(alloc, &key, calls)?;
+    let start = Instant::now(rt)?;
+    for mut copy in copies {
+        copy.canonicalize(alloc, CborOrdering::Lexicographic)?;
     }
     Ok(start.elapsed(rt)?)
 }

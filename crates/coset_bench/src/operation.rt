@@ -4,7 +4,8 @@ ghost use Rattle.std.specs.Prelude.{◌≡◌, MatchOption};
 ghost use Rattle.coset_bench.specs.Operation.{operation_name};
 
 use crate::calls::{
-    time_check, time_compare, time_copy, time_read, time_refusal, time_tbs, time_write,
+    time_canonicalize, time_check, time_compare, time_copy, time_read, time_refusal, time_tbs,
+    time_write,
 };
 use crate::fault::Fault;
 use coset_cbor::value::Value;
@@ -50,6 +51,8 @@ pub enum Operation {
     RecipientCopy,
     /// Comparing one with its copy.
     RecipientCompare,
+    /// Putting the params of a key in order.
+    KeyCanonicalize,
     /// Reading a set of keys.
     KeySet,
     /// Writing one.
@@ -83,6 +86,7 @@ impl Operation {
             "recipient_write" => Some(Operation::RecipientWrite),
             "recipient_copy" => Some(Operation::RecipientCopy),
             "recipient_compare" => Some(Operation::RecipientCompare),
+            "key_canonicalize" => Some(Operation::KeyCanonicalize),
             "keyset" => Some(Operation::KeySet),
             "keyset_write" => Some(Operation::KeySetWrite),
             "claims" => Some(Operation::Claims),
@@ -118,6 +122,7 @@ impl Operation {
             Operation::RecipientWrite => time_write::<CoseRecipient, R>(rt, bytes, calls),
             Operation::RecipientCopy => time_copy::<CoseRecipient, R>(rt, bytes, calls),
             Operation::RecipientCompare => time_compare::<CoseRecipient, R>(rt, bytes, calls),
+            Operation::KeyCanonicalize => time_canonicalize(rt, bytes, calls),
             Operation::KeySet => time_read::<CoseKeySet, R>(rt, bytes, calls),
             Operation::KeySetWrite => time_write::<CoseKeySet, R>(rt, bytes, calls),
             Operation::Claims => time_read::<ClaimsSet, R>(rt, bytes, calls),

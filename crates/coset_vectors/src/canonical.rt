@@ -8,7 +8,7 @@ use std::test::*;
 
 /// Keys as they are received, and what is written of them once their params are in order: by the bytes of their labels'
 /// encodings, and by the lengths of these first. All in hexadecimal.
-const KEYS: [(&str, &str, &str); 4] = [
+const KEYS: [(&str, &str, &str); 5] = [
     (
         "a3010461610019123400",
         "a3010419123400616100",
@@ -22,6 +22,12 @@ const KEYS: [(&str, &str, &str); 4] = [
     ),
     // Label 0 is written behind the key type, in either order.
     ("a200000104", "a201040000", "a201040000"),
+    // So many params that the sort takes memory: three texts, -1, -25, and 30 to 10.
+    (
+        "b81b0104616200616100626161002000381800181e00181d00181c00181b00181a00181900181800170016001500140013001200110010000f000e000d000c000b000a00",
+        "b81b01040a000b000c000d000e000f0010001100120013001400150016001700181800181900181a00181b00181c00181d00181e00200038180061610061620062616100",
+        "b81b01040a000b000c000d000e000f00100011001200130014001500160017002000181800181900181a00181b00181c00181d00181e0038180061610061620062616100",
+    ),
 ];
 
 /// What is written of the key once its params are in that order, in hexadecimal.

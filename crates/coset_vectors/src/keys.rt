@@ -6,8 +6,9 @@ use crate::turns::{Answer, Calls, made, ours, refuse_or_answer, written};
 use coset::cbor::value::Value;
 use coset::iana::{Algorithm, EllipticCurve, KeyOperation, KeyType};
 use coset::{
-    CallError, CborSerializable, CoseError, CoseKey, CoseKeyBuilder, CoseKeySet, MlDsaVariant,
-    ParseSec1OctetStringError, RegisteredLabel, Result, ToSec1OctetStringError,
+    CallError, CborOrdering, CborSerializable, CoseError, CoseKey, CoseKeyBuilder, CoseKeySet,
+    Label, MlDsaVariant, ParseSec1OctetStringError, RegisteredLabel, Result,
+    ToSec1OctetStringError,
 };
 use std::alloc::Global;
 use std::test::*;
@@ -218,10 +219,42 @@ fn texts_of_errors(rt: HostRuntime) -> std::result::Result<(), Fail> {
     Ok(())
 }
 
+/// A symmetric key with 40 params, which aren't put in order without memory: their labels rise, or those of the second
+/// half come first. (Where all of them fall, they are turned around in place.)
+fn with_params(alloc: Global, rising: bool) -> Result<CoseKey> {
+    let mut key = CoseKeyBuilder::new(alloc)
+        .key_type(KeyType::Symmetric)
+        .build();
+    let (first, second) = if rising {
+        (100..120i64, 120..140i64)
+    } else {
+        (120..140i64, 100..120i64)
+    };
+    for label in first.chain(second) {
+        key.params.push((Label::Int(label), Value::from(label)))?;
+    }
+    Ok(key)
+}
+
+/// What came of putting a key's params in order: the key is as expected, or as it was where memory is out. Nothing where
+/// there is no memory for the key.
+fn put_in_order(alloc: Global, key: &CoseKey, expected: &CoseKey) -> Option<Answer> {
+    let mut ordered = key.clone().ok()?;
+    Some(
+        match ordered.canonicalize(alloc, CborOrdering::Lexicographic) {
+            Ok(()) if ordered == *expected => Answer::Same,
+            Err(CoseError::OutOfMemory) if ordered == *key => Answer::Refused,
+            _ => Answer::Other,
+        },
+    )
+}
+
 #[derive(Drop)]
 struct OfKeys {
     key: CoseKey,
     set: CoseKeySet,
+    halves: CoseKey,
+    rising: CoseKey,
 }
 
 /// A set of two keys.
@@ -229,7 +262,7 @@ const SET: &[u8] = b"\x82\xa2\x01\x04\x20\x41\x01\xa1\x01\x01";
 
 impl Calls for OfKeys {
     fn count(&self) -> usize {
-        9
+        10
     }
 
     /// A key that holds nothing but its type is read without memory.
@@ -238,7 +271,12 @@ impl Calls for OfKeys {
     }
 
     fn answer(&self, alloc: Global, call: usize) -> Option<Answer> {
-        let Self { key, set } = self;
+        let Self {
+            key,
+            set,
+            halves,
+            rising,
+        } = self;
         let point: &[u8] = b"\x04\x01\x02";
         let curve = EllipticCurve::P_256;
         Some(match call {
@@ -250,6 +288,7 @@ impl Calls for OfKeys {
             5 => made(CoseKeySet::from_slice(alloc, SET), set),
             6 => made(set.clone(), set),
             7 => written(alloc, set.clone(), SET),
+            8 => return put_in_order(alloc, halves, rising),
             _ => {
                 let made = CoseKeyBuilder::new_ec2_pub_key_sec1_octet_string(alloc, curve, point);
                 written(alloc, ours(made).map(|b| b.build()), POINTS[0].1)
@@ -264,6 +303,8 @@ fn keys_refuse_or_answer(rt: HostRuntime) -> std::result::Result<(), Fail> {
     let mut calls = OfKeys {
         key: all_fields(alloc).ok().ok_or("memory")?,
         set: CoseKeySet::from_slice(alloc, SET).ok().ok_or("memory")?,
+        halves: with_params(alloc, false).ok().ok_or("memory")?,
+        rising: with_params(alloc, true).ok().ok_or("memory")?,
     };
     refuse_or_answer(&rt, alloc, &mut calls)
 }
