@@ -1,0 +1,5 @@
+pub mod Attestation
+pub mod Exchange
+pub mod FindKey
+pub mod Oscore
+pub mod Store

@@ -1,0 +1,15 @@
+-- What a store holds of a key.
+use Rattle.std.specs.Prelude.{ℕ, List}
+use Rattle.coset_shape.specs.Answers.{Describes}
+use Rattle.coset_shape.specs.ReadAgain.{IsWritten}
+use Rattle.coset_label.specs.declared.ordering.CborOrdering.{CborOrdering}
+use Rattle.coset_key.specs.Canonical.{IsCanonicalOf}
+use Rattle.coset_key.specs.Keys.{KeySeen, key}
+
+-- what a key that was read is written as, once its params are in order
+pub record IsStored (o : CborOrdering) (bytes held : List ℕ) : Type 0 where
+  pub read : KeySeen
+  pub ordered : KeySeen
+  pub is_read : Describes key bytes read
+  pub is_ordered : IsCanonicalOf o read ordered
+  pub is_written : IsWritten key ordered held

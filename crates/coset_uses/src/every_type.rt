@@ -1,0 +1,94 @@
+//! Every type that is read and written, named once: one that lacks a trait, or a law, wouldn't compile.
+
+ghost use Rattle.std.specs.Prelude.{◌≡◌, ℕ, List};
+ghost use Rattle.coset_value.specs.Item.{Item};
+ghost use Rattle.coset_cbor.specs.Grammar.{IsItem};
+ghost use Rattle.coset_shape.specs.Answers.{Describes};
+ghost use Rattle.coset_shape.specs.ReadAgain.{EncodesApart, ReadsAgain, StaysAsWritten};
+ghost use Rattle.coset_shape.specs.Shape.{tagged};
+ghost use Rattle.coset_shape.specs.ShapeLaws.{Again};
+
+use coset::cbor::value::Value;
+use coset::cwt::{ClaimName, ClaimsSet, Timestamp};
+use coset::{
+    Algorithm, CborSerializable, ContentType, CoseEncrypt, CoseEncrypt0, CoseKdfContext, CoseKey,
+    CoseKeySet, CoseMac, CoseMac0, CoseRecipient, CoseSign, CoseSign1, CoseSignature, FromPull,
+    Header, KeyOperation, KeyType, Label, Lawful, PartyInfo, ProtectedHeader, SuppPubInfo,
+    TaggedCborSerializable,
+};
+use coset_shape::laws::{
+    image_is_described, one_value, reads_again, spellings_agree, stays_as_written, written_apart,
+};
+use std::fmt;
+
+/// What holds of each type: bytes describe at most one value, and so do two spellings of one item; what was read is
+/// written and read again as itself; values that were read are written as equal bytes exactly where they are equal; and
+/// those bytes stay the same when they are read and written again.
+pub fn keeps_the_laws<T: Lawful + CborSerializable + FromPull + PartialEq + fmt::Debug>()
+    ensures one { (s : List ℕ) (x y : T.Seen) → Describes T.shape s x → Describes T.shape s y
+        → x ≡ y }
+    ensures spellings { (s t : List ℕ) (v : Item) (x : T.Seen) → IsItem s v → IsItem t v
+        → Describes T.shape s x → Describes T.shape t x }
+    ensures again { (s : List ℕ) (x : T.Seen) → Describes T.shape s x → ReadsAgain T.shape x }
+    ensures apart { EncodesApart T.shape }
+    ensures stays { StaysAsWritten T.shape }
+{
+    one_value::<T>();
+    spellings_agree::<T>();
+    reads_again::<T>();
+    written_apart::<T>();
+    stays_as_written::<T>();
+}
+
+/// What holds besides of each type that may stand under its tag: the same, with the tag.
+pub fn keeps_the_laws_when_tagged<T: Lawful + TaggedCborSerializable>()
+    ensures again { (n : ℕ) (s : List ℕ) (x : T.Seen) → Describes (tagged n T.shape) s x
+        → ReadsAgain (tagged n T.shape) x }
+    ensures apart { (n : ℕ) → EncodesApart (tagged n T.shape) }
+    ensures stays { (n : ℕ) → StaysAsWritten (tagged n T.shape) }
+{
+    reads_again::<T>();
+    written_apart::<T>();
+    stays_as_written::<T>();
+}
+
+/// What holds of a type that is read from items alone: what one describes is written as one that describes it.
+pub fn keeps_the_law_of_items<T: Lawful + PartialEq + fmt::Debug>()
+    ensures { (v : Item) (x : T.Seen) → T.shape.describes v x → Again T.Seen T.shape v x }
+{
+    image_is_described::<T>();
+}
+
+/// The types.
+pub fn every_type_keeps_the_laws() {
+    keeps_the_laws::<Value>();
+    keeps_the_laws::<Label>();
+    keeps_the_laws::<KeyType>();
+    keeps_the_laws::<KeyOperation>();
+    keeps_the_laws::<ContentType>();
+    keeps_the_laws::<Algorithm>();
+    keeps_the_laws::<ClaimName>();
+    keeps_the_laws::<Header>();
+    keeps_the_laws::<ProtectedHeader>();
+    keeps_the_laws::<CoseSignature>();
+    keeps_the_laws::<CoseSign>();
+    keeps_the_laws::<CoseSign1>();
+    keeps_the_laws::<CoseMac>();
+    keeps_the_laws::<CoseMac0>();
+    keeps_the_laws::<CoseEncrypt>();
+    keeps_the_laws::<CoseEncrypt0>();
+    keeps_the_laws::<CoseRecipient>();
+    keeps_the_laws::<CoseKey>();
+    keeps_the_laws::<CoseKeySet>();
+    keeps_the_law_of_items::<Timestamp>();
+    keeps_the_laws::<ClaimsSet>();
+    keeps_the_laws::<PartyInfo>();
+    keeps_the_laws::<SuppPubInfo>();
+    keeps_the_laws::<CoseKdfContext>();
+    keeps_the_laws_when_tagged::<CoseSign>();
+    keeps_the_laws_when_tagged::<CoseSign1>();
+    keeps_the_laws_when_tagged::<CoseMac>();
+    keeps_the_laws_when_tagged::<CoseMac0>();
+    keeps_the_laws_when_tagged::<CoseEncrypt>();
+    keeps_the_laws_when_tagged::<CoseEncrypt0>();
+}

@@ -1,0 +1,37 @@
+//! A key of a set, found by its identifier (RFC 8152, section 7).
+
+ghost use Rattle.std.specs.Prelude.{◌≡◌, IfOk, option_map};
+ghost use Rattle.coset_key.specs.Keys.{key_seen, key_set_seen};
+ghost use Rattle.coset_uses.specs.FindKey.{IsKeyOf, first_with};
+
+use coset::{CborOrdering, CborSerializable, CoseKey, CoseKeySet, Result};
+use std::alloc::Global;
+
+/// The first key of the set that has this identifier.
+pub fn find_key<'a>(keys: &'a CoseKeySet, key_id: &[u8]) -> Option<&'a CoseKey>
+    ensures { option_map (λ k. key_seen k.now) result
+        ≡ first_with key_id.now (key_set_seen keys.now) }
+{
+    keys.0.iter().find(|key| key.key_id.as_slice() == key_id)
+}
+
+/// The first key that has this identifier of the set that the bytes are, with its params in order.
+///
+/// # Errors
+/// Why the bytes aren't a set of keys; or `OutOfMemory`.
+pub fn key_of(
+    alloc: Global,
+    keys: &[u8],
+    key_id: &[u8],
+    ordering: CborOrdering,
+) -> Result<Option<CoseKey>>
+    ensures { IfOk result (λ o. IsKeyOf ordering keys.now key_id.now (option_map key_seen o)) }
+{
+    let keys = CoseKeySet::from_slice(alloc, keys)?;
+    let Some(found) = find_key(&keys, key_id) else {
+        return Ok(None);
+    };
+    let mut key = found.clone()?;
+    key.canonicalize(alloc, ordering)?;
+    Ok(Some(key))
+}

@@ -1,0 +1,65 @@
+//! A request as OSCORE protects it (RFC 8613): a message `COSE_Encrypt0` whose `external_aad` tells what the two sides
+//! agree on.
+
+ghost use Rattle.std.specs.Prelude.{IfOk};
+ghost use Rattle.coset_uses.specs.Oscore.{IsDecrypted};
+
+use crate::cipher::{DecryptionKey, Refused};
+use coset::cbor::value::Value;
+use coset::iana::{Algorithm, EnumI64};
+use coset::{
+    CallError, CborSerializable, CoseEncrypt0, EncryptionContext, Result, enc_structure_data,
+};
+use std::alloc::Global;
+
+/// The `external_aad` of a request (RFC 8613, section 5.4): version 1 of OSCORE, the algorithm, the identifier of who asks,
+/// its Partial IV, and no options.
+///
+/// # Errors
+/// `OutOfMemory` alone.
+pub fn external_aad(
+    alloc: Global,
+    algorithm: Algorithm,
+    request_kid: &[u8],
+    request_piv: &[u8],
+) -> Result<Vec<u8>> {
+    let mut algorithms = Vec::new(alloc);
+    algorithms.push(Value::from(algorithm.to_i64()))?;
+    let mut parts = Vec::new(alloc);
+    parts.push(Value::from(1u8))?;
+    parts.push(Value::Array(algorithms))?;
+    parts.push(Value::Bytes(Vec::from_slice(alloc, request_kid)?))?;
+    parts.push(Value::Bytes(Vec::from_slice(alloc, request_piv)?))?;
+    parts.push(Value::Bytes(Vec::new(alloc)))?;
+    Value::Array(parts).to_vec(alloc)
+}
+
+/// The plaintext of an encrypted message.
+///
+/// # Errors
+/// Why the bytes aren't such a message; `OutOfMemory`; or `Caller`, where the message carries no ciphertext or the key
+/// refuses.
+pub fn decrypted<K: DecryptionKey>(
+    alloc: Global,
+    key: &K,
+    message: &[u8],
+    external_aad: &[u8],
+) -> Result<Vec<u8>, CallError<Refused>>
+    ensures { IfOk result (λ p. IsDecrypted (K.decrypts key.now) external_aad.now message.now
+        p.items) }
+{
+    let CoseEncrypt0 {
+        protected,
+        unprotected: _,
+        ciphertext,
+    } = CoseEncrypt0::from_slice(alloc, message)?;
+    let Some(ciphertext) = ciphertext else {
+        return Err(CallError::Caller(Refused));
+    };
+    let context = EncryptionContext::CoseEncrypt0;
+    let aad = enc_structure_data(alloc, context, protected, external_aad)?;
+    match key.decrypt(alloc, &ciphertext, &aad) {
+        Ok(plaintext) => Ok(plaintext),
+        Err(refused) => Err(CallError::Caller(refused)),
+    }
+}

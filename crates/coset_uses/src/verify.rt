@@ -1,0 +1,73 @@
+//! Verifying a web token (RFC 8392, section 7.2), however it was spelled on its way.
+
+ghost use Rattle.std.specs.Prelude.{◌≡◌, ℕ, List, IfOk, IfErr};
+ghost use Rattle.coset_shape.specs.declared.error.CoseError.TheVariants.{OutOfMemory};
+ghost use Rattle.coset_shape.specs.declared.error.CallError.TheVariants.{Coset};
+ghost use Rattle.coset_shape.specs.ReadAgain.{IsWritten};
+ghost use Rattle.coset_claims.specs.Claims.{claims_seen};
+ghost use Rattle.coset_sign.specs.Sign1.{Sign1Seen, sign1, sign1_seen};
+ghost use Rattle.coset_uses.specs.Exchange.{CarriesSame, IsSent, IsSpelling, IsVerified, AreVerified};
+
+use crate::cipher::{Refused, VerifyingKey};
+use coset::cwt::ClaimsSet;
+use coset::{CallError, CborSerializable, CoseError, CoseSign1};
+use coset_cbor::laws::{
+    least_heads_are_shortest, one_item, shortest_is_encoding, shortest_is_in_range,
+};
+use coset_shape::laws::spellings_agree;
+use coset_sign::laws::{carried_as_written, signed_as_written};
+use std::alloc::Global;
+
+/// The message that the token is, once its signature was verified.
+///
+/// # Errors
+/// Why the bytes aren't a message with one signature; or `Caller`, where the key refuses. Of a token that a matching key
+/// signed, however it was spelled on its way, `OutOfMemory` alone.
+pub fn verify_token<K: VerifyingKey>(
+    alloc: Global,
+    key: &K,
+    token: &[u8],
+    external_aad: &[u8],
+) -> Result<CoseSign1, CallError<Refused>>
+    ensures verified { IfOk result (λ n. IsVerified (K.accepts key.now) external_aad.now token.now
+        (sign1_seen n)) }
+    ensures same { (b : List ℕ) (m : Sign1Seen) → IsWritten sign1 m b → IsSpelling b token.now
+        → IfOk result (λ n. CarriesSame (sign1_seen n) m) }
+    ensures genuine { (payload b : List ℕ)
+        → IsSent (K.accepts key.now) external_aad.now payload b → IsSpelling b token.now
+        → IfErr result (λ e. e ≡ Coset OutOfMemory) }
+{
+    spellings_agree::<CoseSign1>();
+    signed_as_written();
+    carried_as_written();
+    one_item();
+    shortest_is_encoding();
+    shortest_is_in_range();
+    least_heads_are_shortest();
+    let message = CoseSign1::from_slice(alloc, token)?;
+    let tbs = message.tbs_data(alloc, external_aad)?;
+    match key.verify(&message.signature, &tbs) {
+        Ok(()) => Ok(message),
+        Err(refused) => Err(CallError::Caller(refused)),
+    }
+}
+
+/// The claims of a web token, once its signature was verified.
+///
+/// # Errors
+/// The same as [`verify_token`]; or why the payload isn't claims.
+pub fn verified_claims<K: VerifyingKey>(
+    alloc: Global,
+    key: &K,
+    token: &[u8],
+    external_aad: &[u8],
+) -> Result<ClaimsSet, CallError<Refused>>
+    ensures { IfOk result (λ claims. AreVerified (K.accepts key.now) external_aad.now token.now
+        (claims_seen claims)) }
+{
+    let message = verify_token(alloc, key, token, external_aad)?;
+    let Some(payload) = &message.payload else {
+        return Err(CallError::Coset(CoseError::UnexpectedItem("nil", "bstr")));
+    };
+    Ok(ClaimsSet::from_slice(alloc, payload)?)
+}
