@@ -1,4 +1,8 @@
-//! Labels: integers and texts.
+//! Labels: integers and texts (RFC 8152, section 1.4).
+//!
+//! ```cddl
+//! label = int / tstr
+//! ```
 
 ghost use Rattle.std.specs.Prelude.{◌≡◌, IfOk, IfErr};
 ghost use Rattle.coset_value.specs.View.{view};

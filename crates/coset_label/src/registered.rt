@@ -1,4 +1,8 @@
-//! Labels that a registry assigns.
+//! Labels that a registry assigns (RFC 8152, section 16).
+//!
+//! ```cddl
+//! registered = int / tstr    ; the integer: a value of the registry, or a number of its private range where it has one
+//! ```
 
 ghost use Rattle.std.specs.Prelude.{◌≡◌, IfErr, IfOk, is_some};
 ghost use Rattle.coset_value.specs.View.{view};

@@ -82,7 +82,7 @@ pub fn additional_bytes(
 /// The bytes that go with a ciphertext as its additional authenticated data (RFC 8152, section 5.3): the shortest
 /// encoding of
 ///
-/// ```text
+/// ```cddl
 /// Enc_structure = [
 ///     context : "Encrypt" / "Encrypt0" / "Enc_Recipient" / "Mac_Recipient" / "Rec_Recipient",
 ///     protected : bstr,

@@ -74,7 +74,7 @@ pub fn authenticated_bytes(
 
 /// The bytes that are authenticated (RFC 8152, section 6.3): the shortest encoding of
 ///
-/// ```text
+/// ```cddl
 /// MAC_structure = [
 ///     context : "MAC" / "MAC0",
 ///     protected : bstr,

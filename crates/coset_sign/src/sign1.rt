@@ -1,4 +1,8 @@
 //! Messages with one signature (RFC 8152, section 4.2).
+//!
+//! ```cddl
+//! COSE_Sign1 = [ Headers, payload : bstr / nil, signature : bstr ]
+//! ```
 
 ghost use Rattle.std.specs.Prelude.{◌≡◌, ◌↔◌, IsTrue, IfOk, IfErr, Some, None};
 ghost use Rattle.std.specs.Ordering.{on};

@@ -41,17 +41,7 @@ impl SignatureContext {
     }
 }
 
-/// The bytes that are signed: the shortest encoding of
-///
-/// ```text
-/// Sig_structure = [
-///     context : "Signature" / "Signature1" / "CounterSignature",
-///     body_protected : bstr,
-///     ? sign_protected : bstr,
-///     external_aad : bstr,
-///     payload : bstr
-/// ]
-/// ```
+/// The bytes that are signed, as [`sig_structure_data`] gives them of headers.
 ///
 /// `body` and `signer` are the contents of the protected headers. A `COSE_Sign1` message has no `signer`.
 ///
@@ -109,6 +99,16 @@ pub(crate) fn signed_bytes(
 
 /// The bytes that are signed (RFC 8152, section 4.4): the shortest encoding of the structure of this context, the
 /// protected bytes of the body's header and, where there is one, of the signer's, `external_aad` and the payload.
+///
+/// ```cddl
+/// Sig_structure = [
+///     context : "Signature" / "Signature1" / "CounterSignature",
+///     body_protected : bstr,
+///     ? sign_protected : bstr,
+///     external_aad : bstr,
+///     payload : bstr
+/// ]
+/// ```
 ///
 /// # Errors
 /// `OutOfMemory`, or `DuplicateMapKey` where a header wasn't read and repeats a label of its rest.
