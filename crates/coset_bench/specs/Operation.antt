@@ -1,28 +1,47 @@
 -- The names of operations.
-use Rattle.std.specs.Prelude.{ℕ, List, codes}
+use Rattle.std.specs.Prelude.{ℕ, List, ◌++◌, codes}
+use Rattle.coset_bench.specs.declared.kind.Kind.{Kind}
+use Rattle.coset_bench.specs.declared.kind.Kind.TheVariants.{Value, Header, Sign1, Sign, Mac0, Mac, Encrypt0, Encrypt, Recipient, Key, KeySet, Claims, Kdf}
+use Rattle.coset_bench.specs.declared.structure.Structure.{Structure}
+use Rattle.coset_bench.specs.declared.structure.Structure.TheVariants.{Sign1Tbs, SignTbs, Mac0Tbm, MacTbm, Encrypt0Aad, EncryptAad}
 use Rattle.coset_bench.specs.declared.operation.Operation.{Operation}
-use Rattle.coset_bench.specs.declared.operation.Operation.TheVariants.{Check, Value, ValueWrite, Header, HeaderWrite, Sign1, Sign1Refused, Sign1Write, Sign1Copy, Sign1Compare, Sign1Tbs, Recipient, RecipientRefused, RecipientWrite, RecipientCopy, RecipientCompare, KeyCanonicalize, KeySet, KeySetWrite, Claims, ClaimsWrite}
+use Rattle.coset_bench.specs.declared.operation.Operation.TheVariants.{Check, Read, Write, Make, Sign1Refused, Sign1Copy, Sign1Compare, RecipientRefused, RecipientCopy, RecipientCompare, KeyCanonicalize}
+
+-- the name of the operation that reads a type
+abbrev pub kind_name : Kind → List ℕ
+kind_name Value = codes "value"
+kind_name Header = codes "header"
+kind_name Sign1 = codes "sign1"
+kind_name Sign = codes "sign"
+kind_name Mac0 = codes "mac0"
+kind_name Mac = codes "mac"
+kind_name Encrypt0 = codes "encrypt0"
+kind_name Encrypt = codes "encrypt"
+kind_name Recipient = codes "recipient"
+kind_name Key = codes "key"
+kind_name KeySet = codes "keyset"
+kind_name Claims = codes "claims"
+kind_name Kdf = codes "kdf"
+
+-- the name of the operation that makes a structure
+abbrev pub structure_name : Structure → List ℕ
+structure_name Sign1Tbs = codes "sign1_tbs"
+structure_name SignTbs = codes "sign_tbs"
+structure_name Mac0Tbm = codes "mac0_tbm"
+structure_name MacTbm = codes "mac_tbm"
+structure_name Encrypt0Aad = codes "encrypt0_aad"
+structure_name EncryptAad = codes "encrypt_aad"
 
 -- the name of an operation, as the program is told it
 abbrev pub operation_name : Operation → List ℕ
 operation_name Check = codes "check"
-operation_name Value = codes "value"
-operation_name ValueWrite = codes "value_write"
-operation_name Header = codes "header"
-operation_name HeaderWrite = codes "header_write"
-operation_name Sign1 = codes "sign1"
+operation_name (Read k) = kind_name k
+operation_name (Write k) = kind_name k ++ codes "_write"
+operation_name (Make s) = structure_name s
 operation_name Sign1Refused = codes "sign1_refused"
-operation_name Sign1Write = codes "sign1_write"
 operation_name Sign1Copy = codes "sign1_copy"
 operation_name Sign1Compare = codes "sign1_compare"
-operation_name Sign1Tbs = codes "sign1_tbs"
-operation_name Recipient = codes "recipient"
 operation_name RecipientRefused = codes "recipient_refused"
-operation_name RecipientWrite = codes "recipient_write"
 operation_name RecipientCopy = codes "recipient_copy"
 operation_name RecipientCompare = codes "recipient_compare"
 operation_name KeyCanonicalize = codes "key_canonicalize"
-operation_name KeySet = codes "keyset"
-operation_name KeySetWrite = codes "keyset_write"
-operation_name Claims = codes "claims"
-operation_name ClaimsWrite = codes "claims_write"

@@ -7,70 +7,16 @@
 ghost use Rattle.std.specs.Prelude.{◌≡◌, ◌≤◌, ◌<◌, length, IfOk};
 
 use crate::fault::Fault;
+use crate::structured::Structured;
+use crate::timed::Timed;
 use coset_cbor::de::{EndOfFile, Error, Steps, check};
-use coset_cbor::value::Value;
-use coset_claims::ClaimsSet;
-use coset_core::Header;
-use coset_key::{CborOrdering, CoseKey, CoseKeySet};
-use coset_recipient::{CoseRecipient, CoseSign1};
-use coset_shape::{CborSerializable, CoseError};
+use coset_key::{CborOrdering, CoseKey};
+use coset_shape::CborSerializable;
 use std::alloc::Global;
 use std::marker::Brand;
 use std::rt::Clock;
 use std::sync::ledger::{Blank, Ledger};
 use std::time::{Duration, Instant};
-
-/// A type whose reading and writing are timed.
-pub trait Timed: CborSerializable + PartialEq + Drop {
-    /// A copy of the value.
-    ///
-    /// # Errors
-    /// `OutOfMemory` alone.
-    fn copy(&self) -> Result<Self, CoseError>
-        ensures { IfOk result (λ copy. Self.seen copy ≡ Self.seen self.now) };
-}
-
-impl Timed for Value {
-    fn copy(&self) -> Result<Value, CoseError> {
-        Ok(self.clone()?)
-    }
-}
-
-impl Timed for Header {
-    fn copy(&self) -> Result<Header, CoseError> {
-        self.clone()
-    }
-}
-
-impl Timed for CoseSign1 {
-    fn copy(&self) -> Result<CoseSign1, CoseError> {
-        self.clone()
-    }
-}
-
-impl Timed for CoseRecipient {
-    fn copy(&self) -> Result<CoseRecipient, CoseError> {
-        self.clone()
-    }
-}
-
-impl Timed for CoseKey {
-    fn copy(&self) -> Result<CoseKey, CoseError> {
-        self.clone()
-    }
-}
-
-impl Timed for CoseKeySet {
-    fn copy(&self) -> Result<CoseKeySet, CoseError> {
-        self.clone()
-    }
-}
-
-impl Timed for ClaimsSet {
-    fn copy(&self) -> Result<ClaimsSet, CoseError> {
-        self.clone()
-    }
-}
 
 /// Reads the value, and drops it.
 pub fn time_read<T: Timed, R: AllocGlobal + Clock>(
@@ -178,18 +124,18 @@ pub fn time_canonicalize<R: AllocGlobal + Clock>(
     Ok(start.elapsed(rt)?)
 }
 
-/// Makes the bytes that a message's signature is over, without `external_aad`.
-pub fn time_tbs<R: AllocGlobal + Clock>(
+/// Makes the structure of a message that was read.
+pub fn time_structure<T: Timed + Structured, R: AllocGlobal + Clock>(
     rt: &R,
     bytes: &[u8],
     calls: usize,
 ) -> Result<Duration, Fault> {
     let alloc = rt.alloc();
-    let message = CoseSign1::from_slice(alloc, bytes)?;
-    let length = message.tbs_data(alloc, &[])?.len();
+    let message = T::from_slice(alloc, bytes)?;
+    let length = message.structure_length(alloc)?;
     let start = Instant::now(rt)?;
     for _ in 0..calls {
-        if message.tbs_data(alloc, &[])?.len() != length {
+        if message.structure_length(alloc)? != length {
             return Err(Fault::Unexpected);
         }
     }

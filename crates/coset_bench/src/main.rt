@@ -9,8 +9,12 @@ mod calls;
 mod command;
 mod fault;
 mod figure;
+mod kind;
 mod operation;
 mod run;
+mod structure;
+mod structured;
+mod timed;
 
 use command::Command;
 use std::process::ExitCode;

@@ -1,0 +1,64 @@
+//! Messages, and the structures that their signatures, MACs or ciphers are given.
+
+use crate::fault::Fault;
+use coset_recipient::{
+    CallError, CoseEncrypt, CoseEncrypt0, CoseMac, CoseMac0, CoseSign, CoseSign1,
+};
+use std::alloc::Global;
+
+/// A message that has such a structure.
+pub trait Structured {
+    /// Makes the structure, without `external_aad`, and answers how long it is.
+    ///
+    /// # Errors
+    /// `OutOfMemory`; or `Unexpected`, where the message lacks what the structure is over.
+    fn structure_length(&self, alloc: Global) -> Result<usize, Fault>;
+}
+
+/// The length that a closure told by refusing; nothing of a message that lacks what the structure is over.
+fn told<T: Drop>(answer: Result<T, CallError<Option<usize>>>) -> Result<usize, Fault> {
+    match answer {
+        Err(CallError::Caller(Some(length))) => Ok(length),
+        Err(CallError::Coset(error)) => Err(Fault::Cose(error)),
+        _ => Err(Fault::Unexpected),
+    }
+}
+
+impl Structured for CoseSign1 {
+    fn structure_length(&self, alloc: Global) -> Result<usize, Fault> {
+        Ok(self.tbs_data(alloc, &[])?.len())
+    }
+}
+
+impl Structured for CoseSign {
+    fn structure_length(&self, alloc: Global) -> Result<usize, Fault> {
+        match self.signatures.first() {
+            Some(signature) => Ok(self.tbs_data(alloc, &[], signature)?.len()),
+            None => Err(Fault::Unexpected),
+        }
+    }
+}
+
+impl Structured for CoseMac0 {
+    fn structure_length(&self, alloc: Global) -> Result<usize, Fault> {
+        told(self.verify_payload_tag(alloc, &[], || None, |_tag, data| Err(Some(data.len()))))
+    }
+}
+
+impl Structured for CoseMac {
+    fn structure_length(&self, alloc: Global) -> Result<usize, Fault> {
+        told(self.verify_payload_tag(alloc, &[], || None, |_tag, data| Err(Some(data.len()))))
+    }
+}
+
+impl Structured for CoseEncrypt0 {
+    fn structure_length(&self, alloc: Global) -> Result<usize, Fault> {
+        told(self.decrypt_ciphertext(alloc, &[], || None, |_text, aad| Err(Some(aad.len()))))
+    }
+}
+
+impl Structured for CoseEncrypt {
+    fn structure_length(&self, alloc: Global) -> Result<usize, Fault> {
+        told(self.decrypt_ciphertext(alloc, &[], || None, |_text, aad| Err(Some(aad.len()))))
+    }
+}
