@@ -1,8 +1,16 @@
--- The plaintext of an encrypted message (RFC 8152, section 5.3).
-use Rattle.std.specs.Prelude.{◌≡◌, ℕ, List, Some}
+-- What goes with a request of OSCORE (RFC 8613), and the plaintext of an encrypted message (RFC 8152, section 5.3).
+use Rattle.std.specs.Prelude.{◌≡◌, ℕ, ℤ, pos, List, [], Some}
+use Rattle.coset_value.specs.Item.{Item, integer, bytes, array, Items, no_items, item}
 use Rattle.coset_shape.specs.Answers.{Describes}
 use Rattle.coset_sign.specs.Calls.{IsStructure}
 use Rattle.coset_msg.specs.Encrypt0.{Encrypt0Seen, encrypt0, encrypt0_structure}
+
+-- the `external_aad` of a request (RFC 8613, section 5.4): version 1, a list of the one algorithm, the identifier of who
+-- asks, its Partial IV, and no options
+abbrev pub request_aad : ℤ → List ℕ → List ℕ → Item
+request_aad algorithm kid piv =
+    let algorithms = array (item (integer algorithm) no_items) in
+    array (item (integer (pos 1)) (item algorithms (item (bytes kid) (item (bytes piv) (item (bytes []) no_items)))))
 
 -- the bytes are a message whose ciphertext decrypts to p, with its structure over `external_aad`
 pub record IsDecrypted (decrypts : List ℕ → List ℕ → List ℕ → Type 0) (external_aad b p : List ℕ) : Type 0 where

@@ -3,8 +3,9 @@
 //! The labels are those of profile `PSA_IOT_PROFILE_1` of Arm's attestation tokens: numbers below -65536, which RFC 8392,
 //! section 9.1, leaves to whoever agrees on them.
 
-ghost use Rattle.std.specs.Prelude.{◌≡◌, option_map};
+ghost use Rattle.std.specs.Prelude.{◌≡◌, ◌↔◌, IsTrue, Some, option_map};
 ghost use Rattle.std.specs.List.{find};
+ghost use Rattle.coset_value.specs.Item.{bytes};
 ghost use Rattle.coset_value.specs.View.{view};
 ghost use Rattle.coset_label.specs.Names.{private_use};
 ghost use Rattle.coset_claims.specs.Claims.{claims_seen, entry_seen, name_seen, same_name};
@@ -39,9 +40,12 @@ pub fn private_claim<'a>(claims: &'a ClaimsSet, label: i64) -> Option<&'a Value>
 }
 
 /// Whether the token was asked for with this nonce.
-pub fn is_fresh(claims: &ClaimsSet, nonce: &[u8]) -> bool {
+pub fn is_fresh(claims: &ClaimsSet, nonce: &[u8]) -> bool
+    ensures { IsTrue result ↔ (first_claim (private_use NONCE) (claims_seen claims.now).rest
+        ≡ Some (bytes nonce.now)) }
+{
     match private_claim(claims, NONCE) {
-        Some(Value::Bytes(bytes)) => bytes.as_slice() == nonce,
+        Some(Value::Bytes(held)) => held.as_slice() == nonce,
         _ => false,
     }
 }

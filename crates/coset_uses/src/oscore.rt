@@ -1,8 +1,10 @@
 //! A request as OSCORE protects it (RFC 8613): a message `COSE_Encrypt0` whose `external_aad` tells what the two sides
 //! agree on.
 
-ghost use Rattle.std.specs.Prelude.{IfOk};
-ghost use Rattle.coset_uses.specs.Oscore.{IsDecrypted};
+ghost use Rattle.std.specs.Prelude.{IfOk, Some};
+ghost use Rattle.coset_iana.specs.Algorithm as algorithms;
+ghost use Rattle.coset_shape.specs.Answers.{Writes};
+ghost use Rattle.coset_uses.specs.Oscore.{IsDecrypted, request_aad};
 
 use crate::cipher::{DecryptionKey, Refused};
 use coset::cbor::value::Value;
@@ -22,7 +24,10 @@ pub fn external_aad(
     algorithm: Algorithm,
     request_kid: &[u8],
     request_piv: &[u8],
-) -> Result<Vec<u8>> {
+) -> Result<Vec<u8>>
+    ensures { Writes (Some (request_aad (algorithms.number algorithm) request_kid.now
+        request_piv.now)) (λ b. b.items) result }
+{
     let mut algorithms = Vec::new(alloc);
     algorithms.push(Value::from(algorithm.to_i64()))?;
     let mut parts = Vec::new(alloc);
