@@ -9,6 +9,7 @@ pub mod reading;
 mod refused;
 #[cfg(test)]
 mod repeats;
+pub mod report;
 #[cfg(test)]
 mod rows;
 pub mod settings;

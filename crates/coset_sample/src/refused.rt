@@ -1,10 +1,11 @@
-//! Readings, settings, repeated labels and arrays while requests for memory are refused: the address space is filled,
+//! Readings, reports, settings, repeated labels and arrays while requests for memory are refused: the address space is filled,
 //! and then calls are made with ever more of it left. Each answers that memory is out, or what it answers with ample
 //! memory, and each does both at some turn.
 
 use crate::kinds::twice;
 use crate::reading::Reading;
 use crate::repeats::forty;
+use crate::report::Report;
 use crate::settings::{Name, Settings};
 use coset_cbor::de::{EndOfFile, Error};
 use coset_cbor::value::Value;
@@ -46,10 +47,12 @@ fn fill(alloc: Global) -> std::result::Result<Vec<Vec<u8>>, AllocError> {
 /// A map with a string, and an array and a text in the rest.
 const SETTINGS: [u8; 12] = *b"\xa3\x01\x05\x02\x42\x01\x02\x07\x82\x01\x61\x61";
 
+const REPORT: [u8; 11] = *b"\x82\x42\xaa\xbb\x81\x83\x05\x41\x01\x81\x01";
+
 const READING: [u8; 8] = *b"\x83\x05\x42\x01\x02\x82\x01\x20";
 
 /// How many calls there are.
-const CALLS: usize = 6;
+const CALLS: usize = 7;
 
 /// Whether a call answers what it answers with ample memory.
 fn is_answered(alloc: Global, labels: &[(Name, Value)], call: usize) -> Result<bool> {
@@ -65,6 +68,10 @@ fn is_answered(alloc: Global, labels: &[(Name, Value)], call: usize) -> Result<b
             Ok(written.len() == 11)
         }
         4 => has_repeats(alloc, labels),
+        5 => {
+            let written = Report::from_slice(alloc, &REPORT)?.to_vec(alloc)?;
+            Ok(written.as_slice() == REPORT.as_slice())
+        }
         _ => is_converted(alloc),
     }
 }

@@ -1,6 +1,7 @@
-//! Worked rows: readings and settings read both ways, written and tagged.
+//! Worked rows: readings, reports and settings read both ways, written and tagged.
 
 use crate::reading::Reading;
+use crate::report::Report;
 use crate::settings::{Name, Settings};
 use coset_cbor::de::read_value;
 use coset_cbor::value::Value;
@@ -108,6 +109,43 @@ fn readings(rt: HostRuntime) -> std::result::Result<(), Fail> {
     let alloc = rt.alloc();
     for (input, expected) in &READINGS {
         assert!(rt; reads::<Reading>(alloc, input, *expected)?);
+    }
+    Ok(())
+}
+
+/// The last place is judged first, and in it the first reading.
+const REPORTS: [(&[u8], Expected); 9] = [
+    (
+        b"\x82\x41\xaa\x82\x83\x05\xf6\x80\x83\x06\x40\x81\x07",
+        Written(b"\x82\x41\xaa\x82\x83\x05\xf6\x80\x83\x06\x40\x81\x07"),
+    ),
+    (
+        b"\x9f\x5f\x41\xaa\xff\x9f\x83\x18\x05\xf6\x80\xff\xff",
+        Written(b"\x82\x41\xaa\x81\x83\x05\xf6\x80"),
+    ),
+    (b"\x82\x40\x80", Written(b"\x82\x40\x80")),
+    (
+        b"\x81\x40",
+        Refused("got array, expected array with 2 items"),
+    ),
+    (
+        b"\x83\x40\x80\x00",
+        Refused("got array, expected array with 2 items"),
+    ),
+    (b"\x82\xf6\x80", Refused("got nul, expected bstr")),
+    (b"\x82\xf6\xa0", Refused("got map, expected array")),
+    (
+        b"\x82\xf6\x82\x83\xf5\xf6\x80\x00",
+        Refused("got bool, expected int"),
+    ),
+    (b"\xa0", Refused("got map, expected array")),
+];
+
+#[test]
+fn reports(rt: HostRuntime) -> std::result::Result<(), Fail> {
+    let alloc = rt.alloc();
+    for (input, expected) in &REPORTS {
+        assert!(rt; reads::<Report>(alloc, input, *expected)?);
     }
     Ok(())
 }

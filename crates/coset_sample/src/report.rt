@@ -1,0 +1,75 @@
+//! A report: an array of two places, the second of which holds another type's values.
+//!
+//! ```cddl
+//! report = [ sender : bstr, readings : [* reading] ]
+//! ```
+
+ghost use Rattle.coset_shape.specs.Answers.{Reads};
+ghost use Rattle.coset_shape.specs.Sources.{source_item};
+ghost use Rattle.coset_sample.specs.Report.{seen, report};
+
+use crate::reading::Reading;
+use coset_cbor::de::Pull;
+use coset_cbor::value::Value;
+use coset_shape::list::{array_value, list_value, read_list};
+use coset_shape::traits::FromPull;
+use coset_shape::{AsCborValue, CborSerializable, Lawful, Result, Source};
+use std::alloc::Global;
+
+/// A report: who sends it, and readings.
+#[derive(Debug, Drop, PartialEq, Eq)]
+pub struct Report {
+    /// Who sends it.
+    pub sender: Vec<u8>,
+    /// The readings, in order.
+    pub readings: Vec<Reading>,
+}
+
+/// Reads the places from the last to the first.
+fn read_report(alloc: Global, source: Source<'_>) -> Result<Report>
+    ensures { Reads report seen (source_item source.entry) result }
+{
+    let (sender, readings) = source.into_two("array with 2 items")?;
+    let readings = read_list(alloc, readings, "array")?;
+    let sender = sender.into_bytes(alloc, "bstr")?;
+    Ok(Report { sender, readings })
+}
+
+impl AsCborValue for Report {
+    ghost use Rattle.coset_sample.specs.Report.{Seen as ReportSeen, report_laws};
+
+    ghost Seen = { ReportSeen };
+
+    ghost seen = { seen };
+
+    ghost shape = { report };
+
+    ghost unique = { report_laws.unique };
+
+    ghost sound = { report_laws.sound };
+
+    fn from_cbor_value(alloc: Global, value: Value) -> Result<Report> {
+        read_report(alloc, Source::Tree(value))
+    }
+
+    fn to_cbor_value(self, alloc: Global) -> Result<Value> {
+        let Report { sender, readings } = self;
+        let readings = list_value(alloc, readings)?;
+        let places = vec![in alloc; Value::Bytes(sender), readings]?;
+        Ok(array_value(places))
+    }
+}
+
+impl Lawful for Report {
+    ghost use Rattle.coset_sample.specs.Report.{report_laws};
+
+    ghost laws = { report_laws };
+}
+
+impl FromPull for Report {
+    fn from_pull(alloc: Global, pull: Pull<'_>) -> Result<Report> {
+        read_report(alloc, Source::Lent(pull))
+    }
+}
+
+impl CborSerializable for Report {}
