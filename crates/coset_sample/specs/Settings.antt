@@ -1,4 +1,4 @@
--- Settings: a map of a level, a name that may be missing, and whatever else.
+-- Settings: a map of a level, a name and a limit that may be missing, and whatever else.
 use Rattle.std.specs.Prelude.{◌≢◌, ℕ, ℤ, pos, List, Option, Some, None, true, map, option_map, unwrap_or, refl}
 use Rattle.std.specs.Ordering.{int_eq}
 use Rattle.std.specs.Cmp.{signed_Decides}
@@ -26,35 +26,36 @@ entry_seen e = (name_seen e.0, view e.1)
 pub record Seen : Type 0 where
   pub level : ℤ
   pub name : Option (List ℕ)
+  pub limit : Option ℤ
   pub rest : List (ℤ × Item)
 
 abbrev pub seen : Settings → Seen
-seen s = record { level = s.level; name = option_map (λ b. b.items) s.name; rest = map entry_seen s.rest.items }
+seen s = record { level = s.level; name = option_map (λ b. b.items) s.name; limit = s.limit; rest = map entry_seen s.rest.items }
 
 -- every integer of 64 bits is a label
 abbrev pub names : Names ℤ
 names = record { shape = int64; same = int_eq }
 
--- ? 1 => int, ? 2 => bstr
-abbrev pub fields : Fields ℤ (Option ℤ × (Option (List ℕ) × Unit {0}))
-fields = field names (pos 1) (optional int64) (field names (pos 2) (optional bstr) no_field)
+-- ? 1 => int, ? 2 => bstr, ? 4 => int
+abbrev pub fields : Fields ℤ (Option ℤ × (Option (List ℕ) × (Option ℤ × Unit {0})))
+fields = field names (pos 1) (optional int64) (field names (pos 2) (optional bstr) (field names (pos 4) (optional int64) no_field))
 
 abbrev Parts : Type 0
-Parts = (Option ℤ × (Option (List ℕ) × Unit {0})) × List (ℤ × Item)
+Parts = (Option ℤ × (Option (List ℕ) × (Option ℤ × Unit {0}))) × List (ℤ × Item)
 
 abbrev pub so_far_seen : SoFar → Parts
-so_far_seen s = ((s.level, (option_map (λ b. b.items) s.name, tt)), map entry_seen s.rest.items)
+so_far_seen s = ((s.level, (option_map (λ b. b.items) s.name, (s.limit, tt))), map entry_seen s.rest.items)
 
 abbrev pub of_parts : Parts → Seen
-of_parts p = record { level = unwrap_or p.0.0 (pos 0); name = p.0.1.0; rest = p.1 }
+of_parts p = record { level = unwrap_or p.0.0 (pos 0); name = p.0.1.0; limit = p.0.1.1.0; rest = p.1 }
 
 abbrev pub parts : Seen → Parts
-parts x = ((Some x.level, (x.name, tt)), x.rest)
+parts x = ((Some x.level, (x.name, (x.limit, tt))), x.rest)
 
 abbrev pub HasLevel : Parts → Type 0
 HasLevel p = p.0.0 ≢ None
 
--- {1 => int, ? 2 => bstr, * int => any}
+-- {1 => int, ? 2 => bstr, ? 4 => int, * int => any}
 abbrev pub settings : Shape Seen
 settings = along of_parts parts (that IsUnexpected HasLevel (labelled names fields))
 
@@ -69,10 +70,14 @@ flat_one = record { key = integer (pos 1); is_image = refl; described = (refl, s
 flat_two : Flat ℤ names (pos 2)
 flat_two = record { key = integer (pos 2); is_image = refl; described = (refl, search rules); is_flat = refl }
 
-pub fields_laws : LawfulFields ℤ (Option ℤ × (Option (List ℕ) × Unit {0})) names fields
+flat_four : Flat ℤ names (pos 4)
+flat_four = record { key = integer (pos 4); is_image = refl; described = (refl, search rules); is_flat = refl }
+
+pub fields_laws : LawfulFields ℤ (Option ℤ × (Option (List ℕ) × (Option ℤ × Unit {0}))) names fields
 fields_laws =
     field_laws names names_laws (pos 1) flat_one _ (optional_laws int64 int64_laws) _
-    (field_laws names names_laws (pos 2) flat_two _ (optional_laws bstr bstr_laws) _ (no_field_laws names names_laws) refl) refl
+    (field_laws names names_laws (pos 2) flat_two _ (optional_laws bstr bstr_laws) _
+    (field_laws names names_laws (pos 4) flat_four _ (optional_laws int64 int64_laws) _ (no_field_laws names names_laws) refl) refl) refl
 
 pub settings_laws : Lawful Seen settings
 settings_laws = along_laws of_parts parts (λ x. refl) _ (that_laws _ _ _ (labelled_laws names names_laws true fields fields_laws))

@@ -190,8 +190,17 @@ fn tagged_readings(rt: HostRuntime) -> std::result::Result<(), Fail> {
     Ok(())
 }
 
-const SETTINGS: [(&[u8], Expected); 15] = [
+const SETTINGS: [(&[u8], Expected); 18] = [
     (b"\xa1\x01\x05", Written(b"\xa1\x01\x05")),
+    (
+        b"\xa3\x04\x39\x01\x00\x07\xf6\x01\x05",
+        Written(b"\xa3\x01\x05\x04\x39\x01\x00\x07\xf6"),
+    ),
+    (
+        b"\xa3\x04\x00\x01\x05\x18\x04\x01",
+        Refused("duplicate map key"),
+    ),
+    (b"\xa2\x04\x40\x01\x05", Refused("got bstr, expected int")),
     (
         b"\xa3\x02\x41\xaa\x01\x05\x03\x80",
         Written(b"\xa3\x01\x05\x02\x41\xaa\x03\x80"),
@@ -259,6 +268,7 @@ fn settings_with_repeats(rt: HostRuntime) -> std::result::Result<(), Fail> {
     let settings = Settings {
         level: 1,
         name: None,
+        limit: None,
         rest,
     };
     assert!(rt; matches!(settings.to_vec(alloc), Err(CoseError::DuplicateMapKey)));
@@ -266,6 +276,7 @@ fn settings_with_repeats(rt: HostRuntime) -> std::result::Result<(), Fail> {
     let settings = Settings {
         level: 1,
         name: None,
+        limit: None,
         rest,
     };
     let written = settings.to_tagged_vec(alloc).ok().ok_or("memory")?;

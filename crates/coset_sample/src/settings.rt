@@ -1,4 +1,8 @@
 //! Settings: a map of labels.
+//!
+//! ```cddl
+//! settings = { 1 => int, ? 2 => bstr, ? 4 => int, * int => any }
+//! ```
 
 ghost use Rattle.std.specs.Prelude.{◌≡◌, ℤ, not, IfOk, IfErr};
 ghost use Rattle.std.specs.Map.{keys_of};
@@ -46,13 +50,15 @@ impl AsCborValue for Name {
     }
 }
 
-/// Settings: a level, a name that may be missing, and all else that the map holds, in order.
+/// Settings: a level, a name and a limit that may be missing, and all else that the map holds, in order.
 #[derive(Debug, Drop, PartialEq, Eq)]
 pub struct Settings {
     /// Label 1.
     pub level: i64,
     /// Label 2.
     pub name: Option<Vec<u8>>,
+    /// Label 4.
+    pub limit: Option<i64>,
     /// The pairs of other labels.
     pub rest: Vec<(Name, Value)>,
 }
@@ -62,6 +68,7 @@ pub struct Settings {
 struct SoFar {
     level: Option<i64>,
     name: Option<Vec<u8>>,
+    limit: Option<i64>,
     rest: Vec<(Name, Value)>,
 }
 
@@ -71,7 +78,7 @@ impl Gather for SoFar {
 
     ghost Name = { ℤ };
 
-    ghost Got = { Option ℤ × (Option (List ℕ) × Unit {0}) };
+    ghost Got = { Option ℤ × (Option (List ℕ) × (Option ℤ × Unit {0})) };
 
     ghost names = { names };
 
@@ -99,6 +106,13 @@ impl Gather for SoFar {
             self.name = Some(value.into_bytes(alloc, "bstr")?);
             return Ok(());
         }
+        if label == 4 {
+            if self.limit.is_some() {
+                return Err(CoseError::DuplicateMapKey);
+            }
+            self.limit = Some(value.into_int64("int")?);
+            return Ok(());
+        }
         let value = value.into_value(alloc)?;
         self.rest.push((Name(label), value))?;
         Ok(())
@@ -119,14 +133,25 @@ fn read_settings(alloc: Global, source: Source<'_>) -> Result<Settings>
     let mut so_far = SoFar {
         level: None,
         name: None,
+        limit: None,
         rest: Vec::new(alloc),
     };
     read_map(alloc, source, &mut so_far)?;
-    let SoFar { level, name, rest } = so_far;
+    let SoFar {
+        level,
+        name,
+        limit,
+        rest,
+    } = so_far;
     let Some(level) = level else {
         return Err(CoseError::UnexpectedItem("no level", "level"));
     };
-    Ok(Settings { level, name, rest })
+    Ok(Settings {
+        level,
+        name,
+        limit,
+        rest,
+    })
 }
 
 impl AsCborValue for Settings {
@@ -183,6 +208,7 @@ impl Encode for Settings {
         let mut pairs = MapEncoder::new(alloc);
         pairs.field(alloc, 1, &self.level)?;
         pairs.optional(alloc, 2, &self.name)?;
+        pairs.optional(alloc, 4, &self.limit)?;
         pairs.rest(alloc, &self.rest)?;
         pairs.finish(out)?;
         Ok(())
