@@ -1,17 +1,4 @@
 //! Claims sets: what a CBOR web token says of its subject (RFC 8392, sections 3 and 4).
-//!
-//! ```cddl
-//! claims_set = {
-//!     ? 1 => tstr,                   ; iss, issuer
-//!     ? 2 => tstr,                   ; sub, subject
-//!     ? 3 => tstr,                   ; aud, audience
-//!     ? 4 => timestamp,              ; exp, expiration time
-//!     ? 5 => timestamp,              ; nbf, not before
-//!     ? 6 => timestamp,              ; iat, issued at
-//!     ? 7 => bstr,                   ; cti, CWT ID
-//!     * (int / tstr) => any
-//! }
-//! ```
 
 ghost use Rattle.std.specs.Prelude.{◌≡◌, ◌↔◌, ℕ, ◌==◌, not, map, option_map, string_bytes, IsTrue, IfOk, IfErr, OnOk, OnErr, Some};
 ghost use Rattle.std.specs.Map.{keys_of};
@@ -49,6 +36,19 @@ use std::alloc::{AllocError, Global};
 use std::marker::Model;
 
 /// A claims set (RFC 8392, section 1.1).
+///
+/// ```cddl
+/// claims_set = {
+///     ? 1 => tstr,                   ; iss, issuer
+///     ? 2 => tstr,                   ; sub, subject
+///     ? 3 => tstr,                   ; aud, audience
+///     ? 4 => timestamp,              ; exp, expiration time
+///     ? 5 => timestamp,              ; nbf, not before
+///     ? 6 => timestamp,              ; iat, issued at
+///     ? 7 => bstr,                   ; cti, CWT ID
+///     * (int / tstr) => any
+/// }
+/// ```
 #[derive(Debug, Drop)]
 pub struct ClaimsSet {
     /// Who issued the token (claim 1).

@@ -1,16 +1,4 @@
 //! The context of key derivation: what a key is derived for (RFC 8152, section 11.2).
-//!
-//! ```cddl
-//! COSE_KDF_Context = [
-//!     AlgorithmID : int / tstr,
-//!     PartyUInfo : PartyInfo,
-//!     PartyVInfo : PartyInfo,
-//!     SuppPubInfo : SuppPubInfo,
-//!     * SuppPrivInfo : bstr
-//! ]
-//! ```
-//!
-//! The RFC has at most one byte string of private information; any number is read and written.
 
 ghost use Rattle.std.specs.Prelude.{◌≡◌, ◌↔◌, ◌==◌, length, map, IsTrue, IfOk, IfErr, OnOk};
 ghost use Rattle.std.specs.Ordering.{on};
@@ -48,6 +36,18 @@ use std::marker::Model;
 /// What a key is derived for: `COSE_KDF_Context` (RFC 8152, section 11.2). Its fields are set by its builder. Contracts
 /// see them as five parts: the algorithm, the two parties, the public information, and the byte strings of private
 /// information.
+///
+/// ```cddl
+/// COSE_KDF_Context = [
+///     AlgorithmID : int / tstr,
+///     PartyUInfo : PartyInfo,
+///     PartyVInfo : PartyInfo,
+///     SuppPubInfo : SuppPubInfo,
+///     * SuppPrivInfo : bstr
+/// ]
+/// ```
+///
+/// The RFC has at most one byte string of private information; any number is read and written.
 #[derive(Debug, Drop)]
 pub struct CoseKdfContext {
     algorithm_id: Algorithm,

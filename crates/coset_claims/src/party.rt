@@ -1,8 +1,4 @@
 //! The parties of a key agreement (RFC 8152, section 11.2).
-//!
-//! ```cddl
-//! PartyInfo = [ identity : bstr / nil, nonce : bstr / int / nil, other : bstr / nil ]
-//! ```
 
 ghost use Rattle.std.specs.Prelude.{◌≡◌, ◌↔◌, IsTrue, IfOk, IfErr, Some, option_map};
 ghost use Rattle.std.specs.Option.{option_eq};
@@ -23,6 +19,10 @@ use std::alloc::{AllocError, Global};
 use std::marker::Model;
 
 /// A nonce that a party contributes (RFC 8152, section 11.2).
+///
+/// ```cddl
+/// nonce = bstr / int
+/// ```
 #[derive(Debug, Drop)]
 pub enum Nonce {
     /// Bytes.
@@ -146,6 +146,10 @@ fn same_nonce(a: &Nonce, b: &Nonce) -> bool
 }
 
 /// What is said of a party of a key agreement (RFC 8152, section 11.2).
+///
+/// ```cddl
+/// PartyInfo = [ identity : bstr / nil, nonce : bstr / int / nil, other : bstr / nil ]
+/// ```
 #[derive(Debug, Drop)]
 pub struct PartyInfo {
     /// Who the party is.

@@ -1,8 +1,4 @@
 //! Public information that goes into a key's derivation beside the parties' (RFC 8152, section 11.2).
-//!
-//! ```cddl
-//! SuppPubInfo = [ keyDataLength : uint, protected : empty_or_serialized_map, ? other : bstr ]
-//! ```
 
 ghost use Rattle.std.specs.Prelude.{◌≡◌, ◌↔◌, IsTrue, IfOk, IfErr, Some, option_map};
 ghost use Rattle.std.specs.Ordering.{on};
@@ -28,6 +24,10 @@ use std::alloc::{AllocError, Global};
 use std::marker::Model;
 
 /// Public information that goes into a key's derivation beside the parties': `SuppPubInfo` (RFC 8152, section 11.2).
+///
+/// ```cddl
+/// SuppPubInfo = [ keyDataLength : uint, protected : empty_or_serialized_map, ? other : bstr ]
+/// ```
 #[derive(Debug, Drop)]
 pub struct SuppPubInfo {
     /// How many bits the derived key has: 0 to 2^64 - 1.

@@ -1,8 +1,4 @@
 //! Timestamps of claims (RFC 8392, section 2, "NumericDate").
-//!
-//! ```cddl
-//! timestamp = int / float     ; the seconds of a tag 1, without the tag
-//! ```
 
 ghost use Rattle.std.specs.Prelude.{◌≡◌, ◌↔◌, IsTrue, IfOk, IfErr};
 ghost use Rattle.std.specs.Ordering.{on};
@@ -21,6 +17,10 @@ use coset_shape::{AsCborValue, Lawful, Result, Source};
 use std::alloc::{AllocError, Global};
 
 /// Seconds since 1970 began in UTC, without leap seconds (RFC 8392, section 2; RFC 8949, section 3.4.2).
+///
+/// ```cddl
+/// timestamp = int / float     ; the seconds of a tag 1, without the tag
+/// ```
 #[derive(Debug, Drop)]
 pub enum Timestamp {
     /// Whole seconds; before 1970 they are negative.

@@ -1,19 +1,5 @@
 //! Headers: what is said of a message's content beside it (RFC 8152, sections 3 and 3.1).
 //!
-//! ```cddl
-//! header_map = { Generic_Headers, * label => values }
-//!
-//! Generic_Headers = (
-//!     ? 1 => int / tstr,                             ; algorithm
-//!     ? 2 => [+label],                               ; labels that must be understood
-//!     ? 3 => tstr / int,                             ; content type
-//!     ? 4 => bstr,                                   ; key identifier
-//!     ? 5 => bstr,                                   ; IV
-//!     ? 6 => bstr,                                   ; Partial IV
-//!     ? 7 => COSE_Signature / [+ COSE_Signature]     ; counter signatures
-//! )
-//! ```
-//!
 //! A header is filled where it stands, and an error is kept in one place for all that reads it, since what is answered by
 //! value takes its size in stack at each function that it passes, and input chooses how deep headers lie within one another.
 //! Each reader leaves the input just behind its item, whatever it answers, so that each byte is passed once at any depth. Of
@@ -87,6 +73,20 @@ const HEADS: usize = 24;
 pub(crate) const LAYERS: usize = 16;
 
 /// A header (RFC 8152, section 3.1).
+///
+/// ```cddl
+/// header_map = { Generic_Headers, * label => values }
+///
+/// Generic_Headers = (
+///     ? 1 => int / tstr,                             ; algorithm
+///     ? 2 => [+label],                               ; labels that must be understood
+///     ? 3 => tstr / int,                             ; content type
+///     ? 4 => bstr,                                   ; key identifier
+///     ? 5 => bstr,                                   ; IV
+///     ? 6 => bstr,                                   ; Partial IV
+///     ? 7 => COSE_Signature / [+ COSE_Signature]     ; counter signatures
+/// )
+/// ```
 #[cycle(header)]
 #[derive(Debug)]
 pub struct Header {

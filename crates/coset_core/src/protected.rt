@@ -1,8 +1,4 @@
 //! Protected headers: those that a signature covers, kept as they were read (RFC 8152, section 3).
-//!
-//! ```cddl
-//! empty_or_serialized_map = bstr .cbor header_map / bstr .size 0
-//! ```
 
 ghost use Rattle.std.specs.Prelude.{◌≡◌, option_map, OnOk, IfOk, IfErr, IsTrue, Some, None, ℕ, List, ◌↔◌};
 ghost use Rattle.coset_shape.specs.declared.error.CoseError.TheVariants.{OutOfMemory};
@@ -43,6 +39,10 @@ use std::alloc::{AllocError, Global};
 use std::borrow::CowSlice;
 
 /// A protected header (RFC 8152, section 3).
+///
+/// ```cddl
+/// empty_or_serialized_map = bstr .cbor header_map / bstr .size 0
+/// ```
 #[cycle(header)]
 #[derive(Debug, Drop)]
 pub struct ProtectedHeader {

@@ -12,6 +12,10 @@ use std::alloc::Global;
 
 /// A protected header as a type whose item is the byte string that stands for it in messages (RFC 8152, section 3). A
 /// [`ProtectedHeader`] as such is read from its map, and written as that.
+///
+/// ```cddl
+/// empty_or_serialized_map = bstr .cbor header_map / bstr .size 0
+/// ```
 #[derive(Debug, Drop)]
 pub struct ProtectedBstr(pub ProtectedHeader);
 

@@ -1,8 +1,4 @@
 //! Signatures: those of a message, and those that countersign (RFC 8152, sections 4.1 and 4.5).
-//!
-//! ```cddl
-//! COSE_Signature = [ Headers, signature : bstr ]
-//! ```
 
 ghost use Rattle.std.specs.Prelude.{◌≡◌, [], map, option_map, OnOk, IfOk, IfErr, codes, ◌≤◌, ◌<◌, IsTrue, OnErr, None, ◌↔◌, ◌+◌, IfSome};
 ghost use Rattle.coset_shape.specs.declared.error.CoseError.TheVariants.{OutOfMemory};
@@ -42,6 +38,10 @@ use std::marker::Model;
 
 /// One signature (RFC 8152, section 4.1), which has its own headers: of a `COSE_Sign` message, or a counter signature
 /// (section 4.5).
+///
+/// ```cddl
+/// COSE_Signature = [ Headers, signature : bstr ]
+/// ```
 #[cycle(header)]
 #[derive(Debug, Drop)]
 pub struct CoseSignature {

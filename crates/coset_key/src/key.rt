@@ -1,15 +1,4 @@
 //! Keys (RFC 8152, section 7).
-//!
-//! ```cddl
-//! COSE_Key = {
-//!     1 => tstr / int,          ; kty
-//!     ? 2 => bstr,              ; kid
-//!     ? 3 => tstr / int,        ; alg
-//!     ? 4 => [+ (tstr / int)],  ; key_ops
-//!     ? 5 => bstr,              ; Base IV
-//!     * label => values
-//! }
-//! ```
 
 ghost use Rattle.std.specs.Prelude.{◌≡◌, ◌≢◌, ◌↔◌, ◌≤◌, IsTrue, not, length, map, option_map, Some, IsOk, OnOk, OnErr, IfOk, IfErr};
 ghost use Rattle.std.specs.Cmp.{on_equiv, on_per, partial_equiv_from_equiv};
@@ -67,6 +56,17 @@ use std::collections::BTreeSet;
 use std::marker::Model;
 
 /// A key: `COSE_Key` (RFC 8152, section 7).
+///
+/// ```cddl
+/// COSE_Key = {
+///     1 => tstr / int,          ; kty
+///     ? 2 => bstr,              ; kid
+///     ? 3 => tstr / int,        ; alg
+///     ? 4 => [+ (tstr / int)],  ; key_ops
+///     ? 5 => bstr,              ; Base IV
+///     * label => values
+/// }
+/// ```
 #[derive(Debug, Drop)]
 pub struct CoseKey {
     /// The type of the key (label 1), which decides what its `params` mean.

@@ -1,8 +1,4 @@
 //! Sets of keys (RFC 8152, section 7).
-//!
-//! ```cddl
-//! COSE_KeySet = [ * COSE_Key ]
-//! ```
 
 ghost use Rattle.std.specs.Prelude.{◌≡◌, ◌↔◌, IsTrue, [], IfOk, IfErr};
 ghost use Rattle.std.specs.Cmp.{on_equiv, on_per, partial_equiv_from_equiv};
@@ -23,6 +19,10 @@ use coset_shape::traits::read_slice;
 use std::alloc::{AllocError, Global};
 
 /// Keys, in order: `COSE_KeySet` (RFC 8152, section 7).
+///
+/// ```cddl
+/// COSE_KeySet = [ * COSE_Key ]
+/// ```
 #[derive(Debug, Drop)]
 pub struct CoseKeySet(pub Vec<CoseKey>);
 

@@ -1,8 +1,4 @@
 //! Labels: integers and texts (RFC 8152, section 1.4).
-//!
-//! ```cddl
-//! label = int / tstr
-//! ```
 
 ghost use Rattle.std.specs.Prelude.{◌≡◌, IfOk, IfErr};
 ghost use Rattle.coset_value.specs.View.{view};
@@ -20,6 +16,10 @@ use coset_shape::{AsCborValue, CborSerializable, Lawful, Result, Source};
 use std::alloc::{AllocError, Global};
 
 /// A label: an integer within 64 bits with a sign, or a text (RFC 8152, section 1.4).
+///
+/// ```cddl
+/// label = int / tstr
+/// ```
 #[derive(Debug, Drop)]
 pub enum Label {
     /// An integer.

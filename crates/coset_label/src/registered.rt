@@ -1,8 +1,4 @@
 //! Labels that a registry assigns (RFC 8152, section 16).
-//!
-//! ```cddl
-//! registered = int / tstr    ; the integer: a value of the registry, or a number of its private range where it has one
-//! ```
 
 ghost use Rattle.std.specs.Prelude.{◌≡◌, IfErr, IfOk, is_some};
 ghost use Rattle.coset_value.specs.View.{view};
@@ -21,6 +17,10 @@ use coset_shape::{AsCborValue, CborSerializable, CoseError, Lawful, Result, Sour
 use std::alloc::{AllocError, Global};
 
 /// A label of a registry without a private range: one of its values, or a text (RFC 8152, section 16).
+///
+/// ```cddl
+/// registered_label = int / tstr
+/// ```
 #[derive(Debug, Drop)]
 pub enum RegisteredLabel<T> {
     /// A value of the registry.
@@ -31,6 +31,10 @@ pub enum RegisteredLabel<T> {
 
 /// A label of a registry with a private range: one of its values, a number of the range, or a text (RFC 8152, section
 /// 16).
+///
+/// ```cddl
+/// registered_label_with_private = int / tstr
+/// ```
 #[derive(Debug, Drop)]
 pub enum RegisteredLabelWithPrivate<T> {
     /// A number for private use.

@@ -1,8 +1,4 @@
 //! Encrypted messages for receivers that know the key (RFC 8152, section 5.2).
-//!
-//! ```cddl
-//! COSE_Encrypt0 = [ Headers, ciphertext : bstr / nil ]
-//! ```
 
 ghost use Rattle.std.specs.Prelude.{◌≡◌, ◌≢◌, ◌↔◌, IsTrue, IfOk, IfErr, IfSome, Some, None};
 ghost use Rattle.std.specs.Ordering.{on};
@@ -35,6 +31,10 @@ use std::alloc::Global;
 use std::marker::Model;
 
 /// An encrypted message, for receivers that know the key: `COSE_Encrypt0` (RFC 8152, section 5.2).
+///
+/// ```cddl
+/// COSE_Encrypt0 = [ Headers, ciphertext : bstr / nil ]
+/// ```
 #[derive(Debug, Drop)]
 pub struct CoseEncrypt0 {
     /// The header that is authenticated with the ciphertext.

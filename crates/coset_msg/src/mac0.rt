@@ -1,8 +1,4 @@
 //! Messages with a MAC for receivers that know the key (RFC 8152, section 6.2).
-//!
-//! ```cddl
-//! COSE_Mac0 = [ Headers, payload : bstr / nil, tag : bstr ]
-//! ```
 
 ghost use Rattle.std.specs.Prelude.{◌≡◌, ◌≢◌, ◌↔◌, IsTrue, IfOk, IfErr, IfSome, Some, None};
 ghost use Rattle.std.specs.Ordering.{on};
@@ -35,6 +31,10 @@ use std::alloc::Global;
 use std::marker::Model;
 
 /// A message with a MAC, for receivers that know the key: `COSE_Mac0` (RFC 8152, section 6.2).
+///
+/// ```cddl
+/// COSE_Mac0 = [ Headers, payload : bstr / nil, tag : bstr ]
+/// ```
 #[derive(Debug, Drop)]
 pub struct CoseMac0 {
     /// The header that the MAC covers.

@@ -1,10 +1,4 @@
 //! Encrypted messages with recipients (RFC 8152, section 5.1).
-//!
-//! ```cddl
-//! COSE_Encrypt = [ Headers, ciphertext : bstr / nil, recipients : [+ COSE_recipient] ]
-//! ```
-//!
-//! A message without recipients is read and written too.
 
 ghost use Rattle.std.specs.Prelude.{◌≡◌, ◌≢◌, ◌↔◌, IsTrue, IfOk, IfErr, IfSome, Some, None};
 ghost use Rattle.std.specs.Ordering.{on};
@@ -40,6 +34,12 @@ use std::alloc::Global;
 use std::marker::Model;
 
 /// An encrypted message, and recipients that come to the key: `COSE_Encrypt` (RFC 8152, section 5.1).
+///
+/// ```cddl
+/// COSE_Encrypt = [ Headers, ciphertext : bstr / nil, recipients : [+ COSE_recipient] ]
+/// ```
+///
+/// A message without recipients is read and written too.
 #[derive(Debug, Drop)]
 pub struct CoseEncrypt {
     /// The header that is authenticated with the ciphertext.

@@ -1,10 +1,4 @@
 //! Messages with a MAC and recipients (RFC 8152, section 6.1).
-//!
-//! ```cddl
-//! COSE_Mac = [ Headers, payload : bstr / nil, tag : bstr, recipients : [+ COSE_recipient] ]
-//! ```
-//!
-//! A message without recipients is read and written too.
 
 ghost use Rattle.std.specs.Prelude.{◌≡◌, ◌≢◌, ◌↔◌, IsTrue, IfOk, IfErr, IfSome, Some, None};
 ghost use Rattle.std.specs.Ordering.{on};
@@ -40,6 +34,12 @@ use std::alloc::Global;
 use std::marker::Model;
 
 /// A message with a MAC, and recipients that come to the key: `COSE_Mac` (RFC 8152, section 6.1).
+///
+/// ```cddl
+/// COSE_Mac = [ Headers, payload : bstr / nil, tag : bstr, recipients : [+ COSE_recipient] ]
+/// ```
+///
+/// A message without recipients is read and written too.
 #[derive(Debug, Drop)]
 pub struct CoseMac {
     /// The header that the MAC covers.

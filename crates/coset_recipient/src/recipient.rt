@@ -1,10 +1,4 @@
 //! Recipients: who can decrypt a message, or check its MAC, and how they come to the key (RFC 8152, section 5.1).
-//!
-//! ```cddl
-//! COSE_recipient = [ Headers, ciphertext : bstr / nil, ? recipients : [+ COSE_recipient] ]
-//! ```
-//!
-//! An empty list of recipients is read too, and is left out where it is written.
 
 ghost use Rattle.std.specs.Prelude.{◌≡◌, ◌≢◌, ◌↔◌, ◌≤◌, ◌<◌, ◌+◌, [], length, map, option_map, IsTrue, IfOk, IfErr, IfSome, OnOk, OnErr, Some, None};
 ghost use Rattle.std.specs.Ordering.{on};
@@ -46,6 +40,12 @@ use std::alloc::{AllocError, Global};
 use std::marker::Model;
 
 /// A recipient of a message: `COSE_recipient` (RFC 8152, section 5.1).
+///
+/// ```cddl
+/// COSE_recipient = [ Headers, ciphertext : bstr / nil, ? recipients : [+ COSE_recipient] ]
+/// ```
+///
+/// An empty list of recipients is read too, and is left out where it is written.
 #[derive(Debug, Drop)]
 pub struct CoseRecipient {
     /// The header that is authenticated with the ciphertext.

@@ -1,10 +1,4 @@
 //! Messages with any number of signatures (RFC 8152, section 4.1).
-//!
-//! ```cddl
-//! COSE_Sign = [ Headers, payload : bstr / nil, signatures : [+ COSE_Signature] ]
-//! ```
-//!
-//! A message without signatures is read and written too.
 
 ghost use Rattle.std.specs.Prelude.{◌≡◌, ◌↔◌, ◌<◌, map, length, slice_get, IsTrue, IfOk, IfErr, Option, Some, None};
 ghost use Rattle.coset_value.specs.Item.{Item};
@@ -42,6 +36,12 @@ use std::alloc::Global;
 use std::marker::Model;
 
 /// A message with any number of signatures: `COSE_Sign` (RFC 8152, section 4.1).
+///
+/// ```cddl
+/// COSE_Sign = [ Headers, payload : bstr / nil, signatures : [+ COSE_Signature] ]
+/// ```
+///
+/// A message without signatures is read and written too.
 #[derive(Debug, Drop)]
 pub struct CoseSign {
     /// The header that each of the signatures covers.

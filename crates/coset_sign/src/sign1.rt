@@ -1,8 +1,4 @@
 //! Messages with one signature (RFC 8152, section 4.2).
-//!
-//! ```cddl
-//! COSE_Sign1 = [ Headers, payload : bstr / nil, signature : bstr ]
-//! ```
 
 ghost use Rattle.std.specs.Prelude.{◌≡◌, ◌↔◌, IsTrue, IfOk, IfErr, Some, None};
 ghost use Rattle.std.specs.Ordering.{on};
@@ -34,6 +30,10 @@ use std::alloc::Global;
 use std::marker::Model;
 
 /// A message with one signature: `COSE_Sign1` (RFC 8152, section 4.2).
+///
+/// ```cddl
+/// COSE_Sign1 = [ Headers, payload : bstr / nil, signature : bstr ]
+/// ```
 #[derive(Debug, Drop)]
 pub struct CoseSign1 {
     /// The header that the signature covers.
