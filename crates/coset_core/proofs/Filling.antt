@@ -1,5 +1,5 @@
 -- A header's pairs, read one after the other.
-use Rattle.std.proofs.Common.{◌≡◌, ◌⊎◌, Bool, true, false, Option, Some, None, Result, Ok, Err, refl, sym, ap, subst, ◌∙◌, inl, inr}
+use Rattle.std.proofs.Common.{◌≡◌, ◌⊎◌, true, false, Option, Some, None, Result, Ok, Err, refl, sym, ap, subst, ◌∙◌, inl, inr}
 use Rattle.std.specs.Prelude.{IsErrAnd}
 use Rattle.coset_value.specs.Item.{Item, dict, Pairs, no_pairs, pair}
 use Rattle.std.specs.Map.{keys_of}
@@ -14,36 +14,36 @@ use Rattle.coset_shape.proofs.Walking.{goes_on, refuses, stumbles}
 use Rattle.coset_label.specs.Labels.{label}
 use Rattle.coset_label.specs.Views.{label_seen}
 use Rattle.coset_label.specs.declared.label.Label.{Label}
-use Rattle.coset_core.specs.FieldLabels as labels
-use Rattle.coset_core.specs.Fields.{FieldsSeen, names, fields, parts_of, same_name, bars}
+use Rattle.coset_core.specs.Fields.{FieldsSeen, Versions, names, fields, parts_of, same_name, bars}
 use Rattle.coset_core.specs.FieldLaws.{names_laws, partial_fields_laws}
-use Rattle.coset_core.specs.Filling.{WalksTo, NextsLabel, AtSeven, AtEnd, AtFault, FillsSome, FillsFields, IsDistinctRest}
+use Rattle.coset_core.specs.Filling.{WalksTo, NextsLabel, AtHeld, AtEnd, AtFault, FillsSome, FillsFields, IsDistinctRest, label_of}
+use Rattle.coset_core.specs.declared.header.Version.{Version}
 
 -- some pairs were read, and others are left
-pub record SoFar (all : Pairs) (o : Option Item) (f : FieldsSeen) (t z : State) (m : InputPairs) : Type 0 where
+pub record SoFar (all : Pairs) (o : Versions (Option Item)) (f : FieldsSeen) (t z : State) (m : InputPairs) : Type 0 where
   pub left : Pairs
   pub walks : WalksTo all f o left
   pub within : PairsWithin m left t z
 
-pub at_seven :
-    (all : Pairs) (o : Option Item) (f : FieldsSeen) (s t z : State) (m n : InputPairs) (l : Label) → (w : SoFar all o f s z m) → NextsLabel w.left t z n (Ok (Some l)) → same_name labels.counter_signature (label_seen l) ≡ true
-    → AtSeven all o f t z n
-at_seven all o f s t z m n l w h seven = record {
+pub at_held :
+    (version : Version) (all : Pairs) (o : Versions (Option Item)) (f : FieldsSeen) (s t z : State) (m n : InputPairs) (l : Label) → (w : SoFar all o f s z m) → NextsLabel w.left t z n (Ok (Some l)) → same_name (label_of version) (label_seen l) ≡ true
+    → AtHeld version all o f t z n
+at_held version all o f s t z m n l w h named = record {
   key = h.0;
   value = h.1;
   others = h.2;
   mid = h.3;
   walks = subst (WalksTo all f o) h.4 w.walks;
-  seven = subst (label.describes h.0) (sym (names_laws.same_is labels.counter_signature (label_seen l) seven)) h.5;
+  held = subst (label.describes h.0) (sym (names_laws.same_is (label_of version) (label_seen l) named)) h.5;
   stands = h.6;
   within = h.7;
 }
 
-pub at_end : (all : Pairs) (o : Option Item) (f : FieldsSeen) (s t z : State) (m n : InputPairs) → (w : SoFar all o f s z m) → NextsLabel w.left t z n (Ok None) → AtEnd all o f t z n
+pub at_end : (all : Pairs) (o : Versions (Option Item)) (f : FieldsSeen) (s t z : State) (m n : InputPairs) → (w : SoFar all o f s z m) → NextsLabel w.left t z n (Ok None) → AtEnd all o f t z n
 at_end all o f s t z m n w h = record { walks = subst (WalksTo all f o) h.0 w.walks; within = h.1 }
 
 pub at_key :
-    (all : Pairs) (o : Option Item) (f : FieldsSeen) (s t z : State) (m n : InputPairs) (e : CoseError) → (w : SoFar all o f s z m) → NextsLabel w.left t z n (Err e) → AtFault all o f t z n e
+    (all : Pairs) (o : Versions (Option Item)) (f : FieldsSeen) (s t z : State) (m n : InputPairs) (e : CoseError) → (w : SoFar all o f s z m) → NextsLabel w.left t z n (Err e) → AtFault all o f t z n e
 at_key all o f s t z m n e w h = record {
   key = h.0;
   value = h.1;
@@ -55,20 +55,20 @@ at_key all o f s t z m n e w h = record {
 
 -- a value that was read, and one that was refused
 pub on_value :
-    (all : Pairs) (o : Option Item) (f g : FieldsSeen) (s t u z : State) (m n : InputPairs) (l : Label) (v : Item) → (w : SoFar all o f s z m) → NextsLabel w.left t z n (Ok (Some l))
-    → ((x : Item) (y : State) → Stands x t y → (u ≡ y) × (v ≡ x)) → Adds names (fields (optional any)) (label_seen l) v (parts_of (f, o)) (parts_of (g, o)) → SoFar all o g u z n
+    (all : Pairs) (o : Versions (Option Item)) (f g : FieldsSeen) (s t u z : State) (m n : InputPairs) (l : Label) (v : Item) → (w : SoFar all o f s z m) → NextsLabel w.left t z n (Ok (Some l))
+    → ((x : Item) (y : State) → Stands x t y → (u ≡ y) × (v ≡ x)) → Adds names (fields (optional any) (optional any)) (label_seen l) v (parts_of (f, o)) (parts_of (g, o)) → SoFar all o g u z n
 on_value all o f g s t u z m n l v w h taken adds =
     let here = taken h.1 h.3 h.6 in
     record {
       left = h.2;
-      walks = goes_on names names_laws (fields (optional any)) partial_fields_laws all w.left h.2 h.0 v (parts_of (f, o)) (parts_of (g, o)) w.walks (h.4 ∙ ap (λ x. pair h.0 x h.2) (sym here.1)) (label_seen l, h.5, adds);
+      walks = goes_on names names_laws (fields (optional any) (optional any)) partial_fields_laws all w.left h.2 h.0 v (parts_of (f, o)) (parts_of (g, o)) w.walks (h.4 ∙ ap (λ x. pair h.0 x h.2) (sym here.1)) (label_seen l, h.5, adds);
       within = subst (λ y. PairsWithin n h.2 y z) (sym here.0) h.7;
     }
 
 pub at_value :
-    (all : Pairs) (o : Option Item) (f g : FieldsSeen) (s t u z : State) (m n : InputPairs) (l : Label) (v : Item) (e : CoseError) → (w : SoFar all o f s z m) → NextsLabel w.left t z n (Ok (Some l))
+    (all : Pairs) (o : Versions (Option Item)) (f g : FieldsSeen) (s t u z : State) (m n : InputPairs) (l : Label) (v : Item) (e : CoseError) → (w : SoFar all o f s z m) → NextsLabel w.left t z n (Ok (Some l))
     → ((x : Item) (y : State) → Stands x t y → (u ≡ y) × (v ≡ x)) → g ≡ f
-    → UnlessMemory e (λ i. Refuses names (fields (optional any)) (label_seen l) v (parts_of (f, o)) i ⊎ bars (label_seen l) (parts_of (f, o)) i) → AtFault all o g u z n e
+    → UnlessMemory e (λ i. Refuses names (fields (optional any) (optional any)) (label_seen l) v (parts_of (f, o)) i ⊎ bars (label_seen l) (parts_of (f, o)) i) → AtFault all o g u z n e
 at_value all o f g s t u z m n l v e w h taken same refused =
     let here = taken h.1 h.3 h.6 in
     subst (λ x. AtFault all o x u z n e) (sym same) (record {
@@ -81,57 +81,57 @@ at_value all o f g s t u z m n l v e w h taken same refused =
     })
   where
     fault :
-        Refuses names (fields (optional any)) (label_seen l) v (parts_of (f, o)) e ⊎ bars (label_seen l) (parts_of (f, o)) e
-        → RefusesKey names (fields (optional any)) h.0 v (parts_of (f, o)) e ⊎ BarsKey names bars h.0 (parts_of (f, o)) e
+        Refuses names (fields (optional any) (optional any)) (label_seen l) v (parts_of (f, o)) e ⊎ bars (label_seen l) (parts_of (f, o)) e
+        → RefusesKey names (fields (optional any) (optional any)) h.0 v (parts_of (f, o)) e ⊎ BarsKey names bars h.0 (parts_of (f, o)) e
     fault (inl r) = inl (inr (label_seen l, h.5, r))
     fault (inr b) = inr (label_seen l, h.5, b)
 
 -- an error that is passed on
 pub stops :
-    (all : Pairs) (o : Option Item) (f : FieldsSeen) (t z : State) (n : InputPairs) (r : Result Bool CoseError) (e : CoseError) → IsErrAnd r (λ x. x ≡ e) → AtFault all o f t z n e → FillsSome all o z f t n r
+    (all : Pairs) (o : Versions (Option Item)) (f : FieldsSeen) (t z : State) (n : InputPairs) (r : Result (Option Version) CoseError) (e : CoseError) → IsErrAnd r (λ x. x ≡ e) → AtFault all o f t z n e → FillsSome all o z f t n r
 stops all o f t z n (Ok b) e h a = absurd h
 stops all o f t z n (Err x) e h a = subst (AtFault all o f t z n) (sym h) a
 
 -- a value that stands there is taken
 pub no_refusal :
-    (all : Pairs) (o : Option Item) (f : FieldsSeen) (s t z : State) (m n : InputPairs) (l : Label) → (w : SoFar all o f s z m) → NextsLabel w.left t z n (Ok (Some l)) → ((x : Item) (y : State) → Stands x t y → ⊥) → ⊥
+    (all : Pairs) (o : Versions (Option Item)) (f : FieldsSeen) (s t z : State) (m n : InputPairs) (l : Label) → (w : SoFar all o f s z m) → NextsLabel w.left t z n (Ok (Some l)) → ((x : Item) (y : State) → Stands x t y → ⊥) → ⊥
 no_refusal all o f s t z m n l w h never = never h.1 h.3 h.6
 
 -- ---- labels of the rest that repeat
 
-walked : (all : Pairs) (o : Option Item) (f : FieldsSeen) (t z : State) (m : InputPairs) (r : Result Bool CoseError) → FillsSome all o z f t m r → (left : Pairs) × WalksTo all f o left
-walked all o f t z m (Ok true) s = (pair s.key s.value s.others, s.walks)
-walked all o f t z m (Ok false) s = (no_pairs, s.walks)
+walked : (all : Pairs) (o : Versions (Option Item)) (f : FieldsSeen) (t z : State) (m : InputPairs) (r : Result (Option Version) CoseError) → FillsSome all o z f t m r → (left : Pairs) × WalksTo all f o left
+walked all o f t z m (Ok (Some version)) s = (pair s.key s.value s.others, s.walks)
+walked all o f t z m (Ok None) s = (no_pairs, s.walks)
 walked all o f t z m (Err e) s = (pair s.key s.value s.others, s.walks)
 
 -- they don't
 pub distinct :
-    (all : Pairs) (o : Option Item) (f : FieldsSeen) (t z : State) (m : InputPairs) (r : Result Bool CoseError) → FillsSome all o z f t m r → IsDistinctRest f → FillsFields all o z f t m r
-distinct all o f t z m (Ok true) s d = (s, d)
-distinct all o f t z m (Ok false) s d = (s, d)
+    (all : Pairs) (o : Versions (Option Item)) (f : FieldsSeen) (t z : State) (m : InputPairs) (r : Result (Option Version) CoseError) → FillsSome all o z f t m r → IsDistinctRest f → FillsFields all o z f t m r
+distinct all o f t z m (Ok (Some version)) s d = (s, d)
+distinct all o f t z m (Ok None) s d = (s, d)
 distinct all o f t z m (Err e) s d = (s.others, s.within, λ i. fault (s.faulty i))
   where
     fault :
-        RefusesKey names (fields (optional any)) s.key s.value (parts_of (f, o)) e ⊎ BarsKey names bars s.key (parts_of (f, o)) e
-        → GatherFaults names (fields (optional any)) bars (dict all) e
-    fault (inl g) = inl (refuses names names_laws (fields (optional any)) partial_fields_laws (dict all) all (pair s.key s.value s.others) s.others s.key s.value (parts_of (f, o)) e refl s.walks refl g)
+        RefusesKey names (fields (optional any) (optional any)) s.key s.value (parts_of (f, o)) e ⊎ BarsKey names bars s.key (parts_of (f, o)) e
+        → GatherFaults names (fields (optional any) (optional any)) bars (dict all) e
+    fault (inl g) = inl (refuses names names_laws (fields (optional any) (optional any)) partial_fields_laws (dict all) all (pair s.key s.value s.others) s.others s.key s.value (parts_of (f, o)) e refl s.walks refl g)
     fault (inr g) = inr (all, refl, record { key = s.key; value = s.value; left = s.others; before = parts_of (f, o); walked = s.walks; barred = g })
 
 -- they do, or there was no memory to ask
 pub repeats :
-    (all : Pairs) (o : Option Item) (f : FieldsSeen) (s t z : State) (m : InputPairs) (r q : Result Bool CoseError) (e : CoseError) → FillsSome all o z f s m r
+    (all : Pairs) (o : Versions (Option Item)) (f : FieldsSeen) (s t z : State) (m : InputPairs) (r q : Result (Option Version) CoseError) (e : CoseError) → FillsSome all o z f s m r
     → UnlessMemory e (λ i. (i ≡ DuplicateMapKey) × (are_distinct same_name (keys_of f.rest) ≡ false)) → ((left : Pairs) × PairsWithin m left t z) × IsErrAnd q (λ i. i ≡ e) → FillsFields all o z f t m q
 repeats all o f s t z m r (Ok b) e w named p = absurd p.1
 repeats all o f s t z m r (Err i) e w named p =
-    (p.0.0, p.0.1, subst (λ x. UnlessMemory x (GatherFaults names (fields (optional any)) bars (dict all))) (sym p.1) (λ n. fault (named n)))
+    (p.0.0, p.0.1, subst (λ x. UnlessMemory x (GatherFaults names (fields (optional any) (optional any)) bars (dict all))) (sym p.1) (λ n. fault (named n)))
   where
-    fault : (e ≡ DuplicateMapKey) × (are_distinct same_name (keys_of f.rest) ≡ false) → GatherFaults names (fields (optional any)) bars (dict all) e
+    fault : (e ≡ DuplicateMapKey) × (are_distinct same_name (keys_of f.rest) ≡ false) → GatherFaults names (fields (optional any) (optional any)) bars (dict all) e
     fault h =
         let k = walked all o f s z m r w in
-        subst (GatherFaults names (fields (optional any)) bars (dict all)) (sym h.0)
-        (inl (stumbles names names_laws (fields (optional any)) partial_fields_laws (dict all) all k.0 (parts_of (f, o)) refl k.1 h.1))
+        subst (GatherFaults names (fields (optional any) (optional any)) bars (dict all)) (sym h.0)
+        (inl (stumbles names names_laws (fields (optional any) (optional any)) partial_fields_laws (dict all) all k.0 (parts_of (f, o)) refl k.1 h.1))
 
 -- a value that wasn't read is passed
 pub value_passed :
-    (all : Pairs) (o : Option Item) (f : FieldsSeen) (t u z : State) (m : InputPairs) → AtSeven all o f t z m → ((x : Item) (y : State) → Stands x t y → u ≡ y) → (left : Pairs) × PairsWithin m left u z
-value_passed all o f t u z m s passes = (s.others, subst (λ y. PairsWithin m s.others y z) (sym (passes s.value s.mid s.stands)) s.within)
+    (version : Version) (all : Pairs) (o : Versions (Option Item)) (f : FieldsSeen) (t u z : State) (m : InputPairs) → AtHeld version all o f t z m → ((x : Item) (y : State) → Stands x t y → u ≡ y) → (left : Pairs) × PairsWithin m left u z
+value_passed version all o f t u z m s passes = (s.others, subst (λ y. PairsWithin m s.others y z) (sym (passes s.value s.mid s.stands)) s.within)

@@ -1,37 +1,38 @@
 -- Headers and signatures read forward, from what their parts answer.
-use Rattle.std.proofs.Common.{◌≡◌, ℕ, Bool, List, [], map, true, false, Option, Some, None, Result, Ok, Err, refl, sym, ap, subst, ◌∙◌, inl, inr}
+use Rattle.std.proofs.Common.{◌≡◌, ℕ, Bool, List, [], ◌∷◌, map, true, false, true≢false, Option, Some, None, Result, Ok, Err, refl, sym, ap, subst, ◌∙◌, inl, inr}
 use Rattle.std.specs.Prelude.{IsErrAnd}
 use Rattle.coset_value.specs.Item.{Item, bytes, array, dict, Items, no_items, item, Pairs, no_pairs, pair}
 use Rattle.coset_value.specs.Parts.{as_array, as_bytes, as_map}
 use Rattle.coset_shape.specs.declared.error.CoseError.{CoseError}
-use Rattle.coset_shape.specs.declared.error.CoseError.TheVariants.{DuplicateMapKey}
+use Rattle.coset_shape.specs.declared.error.CoseError.TheVariants.{DuplicateMapKey, OutOfMemory}
 use Rattle.coset_shape.specs.declared.input.InputItems.{InputItems}
 use Rattle.coset_shape.specs.declared.input.InputPairs.{InputPairs}
 use Rattle.coset_shape.specs.declared.source.Source.{Source}
 use Rattle.coset_shape.specs.declared.error.Refused.{Refused}
 use Rattle.coset_shape.specs.Errors.{UnlessMemory, IsUnexpected, answer}
 use Rattle.coset_shape.specs.Inputs.{State, Stands, AreWithin, PairsWithin, EntersMap, Nexts, TakesNext}
-use Rattle.coset_shape.specs.Maps.{GatherFaults, labelled, SomePair, and_pairs, optional}
+use Rattle.coset_shape.specs.Maps.{GatherFaults, labelled, SomePair, and_pairs, optional, listed, is_filled}
 use Rattle.coset_shape.specs.OneOrMore.{Begins}
-use Rattle.coset_shape.specs.Shape.{Shape, any, bstr, any_number, one_or_more, one_or_many}
+use Rattle.coset_shape.specs.Shape.{Shape, Each, any, bstr, any_number, one_or_more, one_or_many}
 use Rattle.coset_shape.specs.Sources.{source_item}
 use Rattle.coset_shape.proofs.Walking.{sets_out, goes_on, arrives, refuses}
 use Rattle.coset_label.specs.Labels.{label}
 use Rattle.coset_core.specs.FieldLabels as labels
 use Rattle.coset_shape.specs.InPlace.{Fills, FillsEach}
-use Rattle.coset_core.specs.Fields.{FieldsSeen, empty_fields, names, fields, parts_of, bars, HasOneIv, partial_header, SomeCounterSignatures}
-use Rattle.coset_core.specs.FieldLaws.{names_laws, partial_fields_laws, barred_fault}
-use Rattle.coset_core.specs.FieldsView.{fields_seen, counter_signatures_held}
-use Rattle.coset_core.specs.Filling.{WalksTo, AtSeven, AtEnd, FillsFields, IsDistinctRest, BeginsPlaces, EndsPlaces, FirstPlace}
-use Rattle.coset_core.specs.HeaderAgain.{array-is, bytes-is}
+use Rattle.coset_core.specs.Fields.{FieldsSeen, Versions, empty_fields, names, fields, parts_of, bars, HasOneIv, partial_header, HoldsSignatures, SomeCounterSignatures}
+use Rattle.coset_core.specs.FieldLaws.{names_laws, partial_fields_laws, join, barred_fault}
+use Rattle.coset_core.specs.FieldsView.{signatures_held, fields_seen, counter_signatures_held, countersignatures_held}
+use Rattle.coset_core.specs.Filling.{WalksTo, AtHeld, AtEnd, FillsFields, IsDistinctRest, Keeps, BeginsPlaces, EndsPlaces, FirstPlace, label_of, at_version, with_version, held, held_of}
+use Rattle.coset_core.specs.HeaderAgain.{array-is, bytes-is, never_none}
 use Rattle.coset_core.specs.HeaderReads.{partial_header_fault, counter_signatures_fault}
-use Rattle.coset_core.specs.Headers.{HeaderSeen, header_of, fields_in, counter_signatures_in, SignatureSeen, empty_header, signatures_of, layered_header, layered_protected, layered_signature}
+use Rattle.coset_core.specs.Headers.{HeaderSeen, fields_in, counter_signatures_in, countersignatures_in, SignatureSeen, empty_header, layered_header, layered_protected, layered_signature, signatures_within}
 use Rattle.coset_core.specs.ViewLaws.{header-opened}
-use Rattle.coset_core.specs.Views.{header_seen, signature_seen}
+use Rattle.coset_core.specs.Views.{countersignature_seen, header_seen, signature_seen}
 use Rattle.coset_core.specs.declared.header.Header.{Header}
-use Rattle.coset_core.specs.declared.signature.CoseSignature.{CoseSignature}
+use Rattle.coset_core.specs.declared.header.Version.{Version}
+use Rattle.coset_core.specs.declared.header.Version.TheVariants.{V1, V2}
 use Rattle.coset_core.proofs.Putting.{none_held}
-use Rattle.coset_core.proofs.Reading.{no_string, counter_signatures_there, counter_signatures_missing}
+use Rattle.coset_core.proofs.Reading.{no_string, header_whole}
 use Rattle.coset_shape.proofs.InPlace.{not_filled}
 
 -- ---- a header's map
@@ -49,110 +50,180 @@ not_entered k v h t z r e y is m = (m.0, not_filled (layered_header k) h v r e y
 fields_opened : (h : Header) → header_seen h ≡ empty_header → fields_seen h ≡ empty_fields
 fields_opened h e = sym (ap fields_in (header-opened h)) ∙ ap fields_in e
 
-pub none_held_yet : (h : Header) → header_seen h ≡ empty_header → counter_signatures_held h ≡ []
-none_held_yet h e = none_held (counter_signatures_held h) (sym (ap counter_signatures_in (header-opened h)) ∙ ap counter_signatures_in e)
+pub none_held_yet : (h : Header) → header_seen h ≡ empty_header → held h ≡ ([], [])
+none_held_yet h e =
+    let first = none_held signature_seen (counter_signatures_held h) (sym (ap counter_signatures_in (header-opened h)) ∙ ap counter_signatures_in e) in
+    let second = none_held countersignature_seen (countersignatures_held h) (sym (ap countersignatures_in (header-opened h)) ∙ ap countersignatures_in e) in
+    λ i. (map signature_seen (first i), map countersignature_seen (second i))
 
 pub one_iv_yet : (h : Header) → header_seen h ≡ empty_header → HasOneIv (fields_seen h)
 one_iv_yet h e = inl (ap (λ f. f.iv) (fields_opened h e))
 
-pub set_out : (h : Header) (all : Pairs) → header_seen h ≡ empty_header → WalksTo all (fields_seen h) None all
+set_out : (h : Header) (all : Pairs) → header_seen h ≡ empty_header → WalksTo all (fields_seen h) (None, None) all
 set_out h all e =
-    subst (λ f. WalksTo all f None all) (sym (fields_opened h e))
-    (sets_out names names_laws (fields (optional any)) partial_fields_laws all (parts_of (empty_fields, None)) (refl, (refl, (refl, (refl, (refl, (refl, (refl, tt))))))) refl)
+    subst (λ f. WalksTo all f (None, None) all) (sym (fields_opened h e))
+    (sets_out names names_laws (fields (optional any) (optional any)) partial_fields_laws all (parts_of (empty_fields, (None, None))) (refl, (refl, (refl, (refl, (refl, (refl, (refl, (refl, (refl, tt))))))))) refl)
 
 -- a fault of the pairs
-gather_fault : (v : Item) (e : CoseError) → GatherFaults names (fields (optional any)) bars v e → partial_header.faults v e
+gather_fault : (v : Item) (e : CoseError) → GatherFaults names (fields (optional any) (optional any)) bars v e → partial_header.faults v e
 unfolding partial_header
 gather_fault v e (inl g) = inl g
 gather_fault v e (inr g) = barred_fault v e g
 
-pub pairs_refused :
-    (k : ℕ) (all : Pairs) (o : Option Item) (z : State) (f : FieldsSeen) (t : State) (m : InputPairs) (h : HeaderSeen) (r : Result (Unit {0}) Refused) (e : CoseError) (y : Refused) → IsErrAnd r (λ i. i ≡ y)
-    → FillsFields all o z f t m (Err e) → ((left : Pairs) × PairsWithin m left t z) × Fills (layered_header k) (dict all) h (answer e r)
-pairs_refused k all o z f t m h r e y is p = ((p.0, p.1), not_filled (layered_header k) h (dict all) r e y is (λ n. partial_header_fault k (dict all) e (gather_fault (dict all) e (p.2 n))))
-
--- all pairs were read
-unread_all : (all : Pairs) (o : Option Item) (f : FieldsSeen) (t z : State) (m : InputPairs) → AtEnd all o f t z m → IsDistinctRest f → HasOneIv f → partial_header.describes (dict all) (f, o)
-unfolding partial_header
-unread_all all o f t z m p d one = (arrives names names_laws (fields (optional any)) partial_fields_laws (dict all) all no_pairs (parts_of (f, o)) refl p.walks refl d, one)
-
 abbrev pub Passed : InputPairs → State → State → Type 0
 Passed m t z = (left : Pairs) × PairsWithin m left t z
 
-pub ends_plain :
-    (k : ℕ) (all : Pairs) (z : State) (h : Header) (t : State) (m : InputPairs) → FillsFields all None z (fields_seen h) t m (Ok false) → HasOneIv (fields_seen h) → counter_signatures_held h ≡ []
-    → Passed m t z × (layered_header k).describes (dict all) (header_seen h)
-ends_plain k all z h t m p one none = (
-  (no_pairs, p.0.within),
-  counter_signatures_missing k (dict all) (header_seen h) (fields_seen h) (unread_all all None (fields_seen h) t z m p.0 p.1 one)
-      (header-opened h ∙ ap (λ xs. header_of (fields_seen h) (signatures_of (map signature_seen xs))) none),
-)
+-- some pairs were read: the fields that they make, and the counter signatures that the values of labels 7 and 11 hold
+pub record HeaderSoFar (k : ℕ) (all : Pairs) (h : Header) (t z : State) (m : InputPairs) : Type 0 where
+  pub values : Versions (Option Item)
+  pub left : Pairs
+  pub walks : WalksTo all (fields_seen h) values left
+  pub within : PairsWithin m left t z
+  pub first : (listed (signatures_within k)).describes values.0 (held h).0
+  pub second : (listed (signatures_within k)).describes values.1 (held h).1
+
+-- none was read
+pub so_far_none : (k : ℕ) (all : Pairs) (h : Header) (t z : State) (m : InputPairs) → header_seen h ≡ empty_header → PairsWithin m all t z → HeaderSoFar k all h t z m
+so_far_none k all h t z m e within = record {
+  values = (None, None);
+  left = all;
+  walks = set_out h all e;
+  within = within;
+  first = ap (λ x. x.0) (none_held_yet h e);
+  second = ap (λ x. x.1) (none_held_yet h e);
+}
+
+-- the next pairs are at fault
+pub pairs_refused :
+    (k : ℕ) (all : Pairs) (o : Versions (Option Item)) (z : State) (f : FieldsSeen) (t : State) (m : InputPairs) (h : HeaderSeen) (r : Result (Unit {0}) Refused) (e : CoseError) (y : Refused) → IsErrAnd r (λ i. i ≡ y)
+    → FillsFields all o z f t m (Err e) → Passed m t z × Fills (layered_header k) (dict all) h (answer e r)
+pairs_refused k all o z f t m h r e y is p = ((p.0, p.1), not_filled (layered_header k) h (dict all) r e y is (λ n. partial_header_fault k (dict all) e (gather_fault (dict all) e (p.2 n))))
+
+-- all pairs were read
+unread_all : (all : Pairs) (o : Versions (Option Item)) (f : FieldsSeen) (t z : State) (m : InputPairs) → AtEnd all o f t z m → IsDistinctRest f → HasOneIv f → partial_header.describes (dict all) (f, o)
+unfolding partial_header
+unread_all all o f t z m p d one = (arrives names names_laws (fields (optional any) (optional any)) partial_fields_laws (dict all) all no_pairs (parts_of (f, o)) refl p.walks refl d, one)
+
+pub ends :
+    (k : ℕ) (all : Pairs) (z : State) (g h : Header) (s t : State) (m n : InputPairs) → (p : HeaderSoFar k all g s z m) → FillsFields all p.values z (fields_seen h) t n (Ok None) → HasOneIv (fields_seen h) → signatures_held h ≡ signatures_held g
+    → Passed n t z × (layered_header k).describes (dict all) (header_seen h)
+ends k all z g h s t m n p q one same =
+    let first = subst (λ xs. (listed (signatures_within k)).describes p.values.0 (map signature_seen xs)) (sym (ap (λ x. x.0) same)) p.first in
+    let second = subst (λ xs. (listed (signatures_within k)).describes p.values.1 (map countersignature_seen xs)) (sym (ap (λ x. x.1) same)) p.second in (
+      (no_pairs, q.0.within),
+      header_whole k (dict all) (header_seen h) (fields_seen h) (held h).0 (held h).1
+          (join (listed (signatures_within k)) (listed (signatures_within k)) (dict all) (fields_seen h) p.values (held h) (unread_all all p.values (fields_seen h) t z n q.0 q.1 one) first second) (header-opened h),
+    )
 
 -- one of some pairs
 some_there : (P : Item → Item → Type 0) (done others : Pairs) (k v : Item) → P k v → SomePair P (and_pairs done (pair k v others))
 some_there P no_pairs others k v p = inl p
 some_there P (pair j w done) others k v p = inr (some_there P done others k v p)
 
-seven_there : (all : Pairs) (o : Option Item) (f : FieldsSeen) (t z : State) (m : InputPairs) → (s : AtSeven all o f t z m) → SomeCounterSignatures (λ u. u ≡ s.value) (dict all)
-seven_there all o f t z m s =
-    (all, refl, subst (SomePair (λ j w. label.describes j labels.counter_signature × (w ≡ s.value))) (sym s.walks.parts) (some_there (λ j w. label.describes j labels.counter_signature × (w ≡ s.value)) s.walks.done s.others s.key s.value (s.seven, refl)))
+named : (version : Version) (key : Item) → label.describes key (label_of version) → HoldsSignatures key
+named V1 key h = inl h
+named V2 key h = inr h
 
--- the value of label 7 was refused
+held_there : (version : Version) (all : Pairs) (o : Versions (Option Item)) (f : FieldsSeen) (t z : State) (m : InputPairs) → (s : AtHeld version all o f t z m) → SomeCounterSignatures (λ u. u ≡ s.value) (dict all)
+held_there version all o f t z m s =
+    (all, refl, subst (SomePair (λ j w. HoldsSignatures j × (w ≡ s.value))) (sym s.walks.parts) (some_there (λ j w. HoldsSignatures j × (w ≡ s.value)) s.walks.done s.others s.key s.value (named version s.key s.held, refl)))
+
+-- the value was refused, or there was no memory to keep what was read of it
 pub counter_signatures_refused :
-    (k : ℕ) (all : Pairs) (o : Option Item) (f : FieldsSeen) (t u z : State) (m : InputPairs) (xs : List SignatureSeen) (h : HeaderSeen) (r : Result (Unit {0}) Refused) (e : CoseError) (y : Refused) → IsErrAnd r (λ i. i ≡ y)
-    → AtSeven all o f t z m → ((w : Item) (x : State) → Stands w t x → (u ≡ x) × Fills (one_or_many (any_number (layered_signature k))) w xs (Err e)) → Passed m u z × Fills (layered_header k) (dict all) h (answer e r)
-counter_signatures_refused k all o f t u z m xs h r e y is s read =
+    (version : Version) (k : ℕ) (all : Pairs) (o : Versions (Option Item)) (f : FieldsSeen) (t u z : State) (m : InputPairs) (xs : List SignatureSeen) (h : HeaderSeen) (r : Result (Unit {0}) Refused) (e : CoseError) (y : Refused)
+    → IsErrAnd r (λ i. i ≡ y) → AtHeld version all o f t z m → ((w : Item) (x : State) → Stands w t x → (u ≡ x) × Fills (signatures_within k) w xs (Err e)) → Passed m u z × Fills (layered_header k) (dict all) h (answer e r)
+counter_signatures_refused version k all o f t u z m xs h r e y is s read =
     let here = read s.value s.mid s.stands in (
       (s.others, subst (λ x. PairsWithin m s.others x z) (sym here.0) s.within),
-      not_filled (layered_header k) h (dict all) r e y is (λ n. counter_signatures_fault k (dict all) s.value e (seven_there all o f t z m s) (here.1 n)),
+      not_filled (layered_header k) h (dict all) r e y is (λ n. counter_signatures_fault k (dict all) s.value e (held_there version all o f t z m s) (here.1 n)),
     )
 
--- the value of label 7 was read
-pub record Goes (k : ℕ) (all : Pairs) (f : FieldsSeen) (u z : State) (m : InputPairs) (xs : List SignatureSeen) : Type 0 where
-  pub value : Item
-  pub others : Pairs
-  pub walks : WalksTo all f (Some value) others
-  pub within : PairsWithin m others u z
-  pub signatures : (one_or_many (any_number (layered_signature k))).describes value xs
+pub not_kept :
+    (version : Version) (k : ℕ) (all : Pairs) (o : Versions (Option Item)) (f : FieldsSeen) (t u z : State) (m : InputPairs) (xs : List SignatureSeen) (h : HeaderSeen) (r : Result (Unit {0}) Refused) (e : CoseError) (y : Refused)
+    → IsErrAnd r (λ i. i ≡ y) → AtHeld version all o f t z m → ((w : Item) (x : State) → Stands w t x → (u ≡ x) × (signatures_within k).describes w xs) → e ≡ OutOfMemory → Passed m u z × Fills (layered_header k) (dict all) h (answer e r)
+not_kept version k all o f t u z m xs h r e y is s read memory =
+    let here = read s.value s.mid s.stands in (
+      (s.others, subst (λ x. PairsWithin m s.others x z) (sym here.0) s.within),
+      not_filled (layered_header k) h (dict all) r e y is (λ n. absurd (n memory)),
+    )
 
-pub counter_signatures_filled :
-    (k : ℕ) (all : Pairs) (f g : FieldsSeen) (t u z : State) (m : InputPairs) (xs : List SignatureSeen) → g ≡ f → AtSeven all None f t z m
-    → ((w : Item) (y : State) → Stands w t y → (u ≡ y) × (one_or_many (any_number (layered_signature k))).describes w xs) → Goes k all g u z m xs
-counter_signatures_filled k all f g t u z m xs same s read =
-    let here = read s.value s.mid s.stands in
+-- the value was read, and is kept
+taken :
+    (version : Version) (all : Pairs) (f : FieldsSeen) (o : Versions (Option Item)) (key value : Item) (others : Pairs) → WalksTo all f o (pair key value others) → label.describes key (label_of version) → at_version version o ≡ None
+    → WalksTo all f (with_version version (Some value) o) others
+taken V1 all f o key value others w h none =
+    goes_on names names_laws (fields (optional any) (optional any)) partial_fields_laws all (pair key value others) others key value (parts_of (f, o)) (parts_of (f, (Some value, o.1))) w refl
+    (labels.counter_signature, h, ((refl, (refl, (refl, (refl, (refl, (refl, (none, refl, refl))))))), refl))
+taken V2 all f o key value others w h none =
+    goes_on names names_laws (fields (optional any) (optional any)) partial_fields_laws all (pair key value others) others key value (parts_of (f, o)) (parts_of (f, (o.0, Some value))) w refl
+    (labels.countersignature_v2, h, ((refl, (refl, (refl, (refl, (refl, (refl, (refl, (none, refl, refl)))))))), refl))
+
+never_empty : (k : ℕ) (w : Item) → (signatures_within k).describes w [] → ⊥
+never_empty k w d = go d.0 d.1 d.2
+  where
+    go : (vs : Items) → one_or_more w ≡ Some vs → Each (layered_signature k).describes vs [] → ⊥
+    go no_items e each = never_none w e
+    go (item v vs) e each = each
+
+-- where the list is empty, there was no value
+no_value : (k : ℕ) (o : Option Item) (xs : List SignatureSeen) → (listed (signatures_within k)).describes o xs → is_filled xs ≡ false → o ≡ None
+no_value k None xs d e = refl
+no_value k (Some w) [] d e = absurd (never_empty k w d)
+no_value k (Some w) (x ∷ xs) d e = absurd (true≢false e)
+
+pub so_far_more :
+    (version : Version) (k : ℕ) (all : Pairs) (g h i : Header) (s t u z : State) (m n : InputPairs) (xs : List SignatureSeen) → (p : HeaderSoFar k all g s z m) → AtHeld version all p.values (fields_seen h) t z n → signatures_held h ≡ signatures_held g
+    → is_filled (held_of version h) ≡ false → ((w : Item) (y : State) → Stands w t y → (u ≡ y) × (signatures_within k).describes w xs) → Keeps version xs h i → HeaderSoFar k all i u z n
+so_far_more V1 k all g h i s t u z m n xs p at same empty read kept =
+    let here = read at.value at.mid at.stands in
+    let first = subst (λ ys. (listed (signatures_within k)).describes p.values.0 (map signature_seen ys)) (sym (ap (λ x. x.0) same)) p.first in
+    let second = subst (λ ys. (listed (signatures_within k)).describes p.values.1 (map countersignature_seen ys)) (sym (ap (λ x. x.1) same)) p.second in
     record {
-      value = s.value;
-      others = s.others;
-      walks = subst (λ x. WalksTo all x (Some s.value) s.others) (sym same)
-          (goes_on names names_laws (fields (optional any)) partial_fields_laws all (pair s.key s.value s.others) s.others s.key s.value (parts_of (f, None)) (parts_of (f, Some s.value)) s.walks refl
-          (labels.counter_signature, s.seven, ((refl, (refl, (refl, (refl, (refl, (refl, (refl, refl, refl))))))), refl)));
-      within = subst (λ y. PairsWithin m s.others y z) (sym here.0) s.within;
-      signatures = here.1;
+      values = (Some at.value, p.values.1);
+      left = at.others;
+      walks = subst (λ f. WalksTo all f (Some at.value, p.values.1) at.others) (sym kept.fields) (taken V1 all (fields_seen h) p.values at.key at.value at.others at.walks at.held (no_value k p.values.0 (held h).0 first empty));
+      within = subst (λ y. PairsWithin n at.others y z) (sym here.0) at.within;
+      first = subst (λ x. (listed (signatures_within k)).describes (Some at.value) x.0) (sym kept.signatures) here.1;
+      second = subst (λ x. (listed (signatures_within k)).describes p.values.1 x.1) (sym kept.signatures) second;
+    }
+so_far_more V2 k all g h i s t u z m n xs p at same empty read kept =
+    let here = read at.value at.mid at.stands in
+    let first = subst (λ ys. (listed (signatures_within k)).describes p.values.0 (map signature_seen ys)) (sym (ap (λ x. x.0) same)) p.first in
+    let second = subst (λ ys. (listed (signatures_within k)).describes p.values.1 (map countersignature_seen ys)) (sym (ap (λ x. x.1) same)) p.second in
+    record {
+      values = (p.values.0, Some at.value);
+      left = at.others;
+      walks = subst (λ f. WalksTo all f (p.values.0, Some at.value) at.others) (sym kept.fields) (taken V2 all (fields_seen h) p.values at.key at.value at.others at.walks at.held (no_value k p.values.1 (held h).1 second empty));
+      within = subst (λ y. PairsWithin n at.others y z) (sym here.0) at.within;
+      first = subst (λ x. (listed (signatures_within k)).describes p.values.0 x.0) (sym kept.signatures) first;
+      second = subst (λ x. (listed (signatures_within k)).describes (Some at.value) x.1) (sym kept.signatures) here.1;
     }
 
--- label 7 twice
+-- the label of a list that is filled stood before
+some_value : (k : ℕ) (o : Option Item) (xs : List SignatureSeen) → (listed (signatures_within k)).describes o xs → is_filled xs ≡ true → o ≡ None → ⊥
+some_value k None xs d e none = absurd (true≢false (sym e ∙ ap is_filled d))
+some_value k (Some w) xs d e none = absurd (cc)
+
+repeated : (version : Version) (all : Pairs) (f : FieldsSeen) (o : Versions (Option Item)) (key value : Item) (others : Pairs) → WalksTo all f o (pair key value others) → label.describes key (label_of version) → (at_version version o ≡ None → ⊥)
+    → (labelled names (fields (optional any) (optional any))).faults (dict all) DuplicateMapKey
+repeated V1 all f o key value others w h some =
+    refuses names names_laws (fields (optional any) (optional any)) partial_fields_laws (dict all) all (pair key value others) others key value (parts_of (f, o)) DuplicateMapKey refl w refl (inr (labels.counter_signature, h, inl (some, refl)))
+repeated V2 all f o key value others w h some =
+    refuses names names_laws (fields (optional any) (optional any)) partial_fields_laws (dict all) all (pair key value others) others key value (parts_of (f, o)) DuplicateMapKey refl w refl (inr (labels.countersignature_v2, h, inl (some, refl)))
+
 pub second_refused :
-    (k : ℕ) (all : Pairs) (w : Item) (f : FieldsSeen) (t u z : State) (m : InputPairs) (h : HeaderSeen) (r : Result (Unit {0}) CoseError) → AtSeven all (Some w) f t z m
-    → ((x : Item) (y : State) → Stands x t y → (u ≡ y) × (r ≡ Err DuplicateMapKey)) → Passed m u z × Fills (layered_header k) (dict all) h r
-second_refused k all w f t u z m h r s read =
-    let here = read s.value s.mid s.stands in (
-      (s.others, subst (λ y. PairsWithin m s.others y z) (sym here.0) s.within),
-      subst (Fills (layered_header k) (dict all) h) (sym here.1) (λ _. partial_header_fault k (dict all) DuplicateMapKey (gather_fault (dict all) DuplicateMapKey (inl fault))),
+    (version : Version) (k : ℕ) (all : Pairs) (g h : Header) (s t u z : State) (m n : InputPairs) (x : HeaderSeen) (r : Result (Unit {0}) CoseError) → (p : HeaderSoFar k all g s z m) → AtHeld version all p.values (fields_seen h) t z n → signatures_held h ≡ signatures_held g
+    → is_filled (held_of version h) ≡ true → ((w : Item) (y : State) → Stands w t y → (u ≡ y) × (r ≡ Err DuplicateMapKey)) → Passed n u z × Fills (layered_header k) (dict all) x r
+second_refused version k all g h s t u z m n x r p at same filled read =
+    let here = read at.value at.mid at.stands in (
+      (at.others, subst (λ y. PairsWithin n at.others y z) (sym here.0) at.within),
+      subst (Fills (layered_header k) (dict all) x) (sym here.1)
+          (λ _. partial_header_fault k (dict all) DuplicateMapKey (gather_fault (dict all) DuplicateMapKey (inl (repeated version all (fields_seen h) p.values at.key at.value at.others at.walks at.held (there version filled))))),
     )
   where
-    fault : (labelled names (fields (optional any))).faults (dict all) DuplicateMapKey
-    fault =
-        refuses names names_laws (fields (optional any)) partial_fields_laws (dict all) all (pair s.key s.value s.others) s.others s.key s.value (parts_of (f, Some w)) DuplicateMapKey refl s.walks refl
-        (inr (labels.counter_signature, s.seven, inl ((λ e. absurd cc), refl)))
-
-pub ends_with_counter_signatures :
-    (k : ℕ) (all : Pairs) (z : State) (h : Header) (t u : State) (m n : InputPairs) (f : FieldsSeen) (xs : List CoseSignature) → (g : Goes k all f u z m (map signature_seen xs)) → FillsFields all (Some g.value) z (fields_seen h) t n (Ok false)
-    → HasOneIv (fields_seen h) → counter_signatures_held h ≡ xs → Passed n t z × (layered_header k).describes (dict all) (header_seen h)
-ends_with_counter_signatures k all z h t u m n f xs g p one held = (
-  (no_pairs, p.0.within),
-  counter_signatures_there k (dict all) (header_seen h) (Some g.value) g.value (fields_seen h) (map signature_seen xs) (unread_all all (Some g.value) (fields_seen h) t z n p.0 p.1 one) refl g.signatures
-      (header-opened h ∙ ap (λ ys. header_of (fields_seen h) (signatures_of (map signature_seen ys))) held),
-)
+    there : (version : Version) → is_filled (held_of version h) ≡ true → at_version version p.values ≡ None → ⊥
+    there V1 filled = some_value k p.values.0 (held h).0 (subst (λ ys. (listed (signatures_within k)).describes p.values.0 (map signature_seen ys)) (sym (ap (λ x. x.0) same)) p.first) filled
+    there V2 filled = some_value k p.values.1 (held h).1 (subst (λ ys. (listed (signatures_within k)).describes p.values.1 (map countersignature_seen ys)) (sym (ap (λ x. x.1) same)) p.second) filled
 
 -- ---- one, or several
 

@@ -11,3 +11,4 @@ pub mod Room
 pub mod Filling
 pub mod Forward
 pub mod Messages
+pub mod Memory

@@ -10,11 +10,12 @@ use Rattle.coset_shape.specs.ShapeLaws.{Lawful}
 use Rattle.coset_shape.specs.Errors.{IsUnexpected}
 use Rattle.coset_shape.specs.InPlace.{Fills}
 use Rattle.coset_shape.specs.Serialized.{ContentDescribes, ContentFaults}
+use Rattle.coset_shape.specs.Maps.{listed}
 use Rattle.coset_shape.specs.Shape.{Shape, any_number, one_or_many}
 use Rattle.coset_core.specs.Contents.{FillsContent}
-use Rattle.coset_core.specs.Fields.{FieldsSeen, partial_header}
-use Rattle.coset_core.specs.HeaderReads.{counter_signatures_read, header_read}
-use Rattle.coset_core.specs.Headers.{HeaderSeen, header_of, SignatureSeen, empty_header, layered_header, layered_protected, layered_signature, no_signatures, signatures_of}
+use Rattle.coset_core.specs.Fields.{FieldsSeen, map_with}
+use Rattle.coset_core.specs.HeaderReads.{header_read_with}
+use Rattle.coset_core.specs.Headers.{HeaderSeen, header_of, SignatureSeen, empty_header, layered_header, layered_protected, layered_signature, signatures_of}
 
 -- what is refused describes nothing
 pub refuses_item : {T A : Type 0} (s : Shape A) → Lawful A s → (seen : T → A) (v : Item) (r : Result T CoseError) → Reads s seen v r → RefusesItem s v r
@@ -55,14 +56,11 @@ protected_filled k j b c o h (Ok u) z kept same d =
     (content_described k j (bytes b) b h z refl (subst (λ s. ContentDescribes empty_header (layered_header j) s h) same d))
 protected_filled k j b c o h (Err e) z kept same d = λ n. content_faulty k j (bytes b) b e z refl (subst (λ s. ContentFaults (layered_header j) s e) same (d n))
 
--- ---- a header's map, and then its counter signatures
+-- ---- a header's map, with its counter signatures of both versions
 
-pub counter_signatures_there :
-    (k : ℕ) (v : Item) (h : HeaderSeen) (o : Option Item) (w : Item) (f : FieldsSeen) (xs : List SignatureSeen) → partial_header.describes v (f, o) → o ≡ Some w → (one_or_many (any_number (layered_signature k))).describes w xs
-    → h ≡ header_of f (signatures_of xs) → (layered_header k).describes v h
-counter_signatures_there k v h o w f xs p e q same =
-    subst ((layered_header k).describes v) (sym same) (header_read k v f (Some w) (signatures_of xs) (subst (λ x. partial_header.describes v (f, x)) e p) (counter_signatures_read k w xs q))
-
-pub counter_signatures_missing :
-    (k : ℕ) (v : Item) (h : HeaderSeen) (f : FieldsSeen) → partial_header.describes v (f, None) → h ≡ header_of f no_signatures → (layered_header k).describes v h
-counter_signatures_missing k v h f p same = subst ((layered_header k).describes v) (sym same) (header_read k v f None no_signatures p refl)
+-- a header of these fields and these signatures
+pub header_whole :
+    (k : ℕ) (v : Item) (h : HeaderSeen) (f : FieldsSeen) (xs ys : List SignatureSeen)
+    → (map_with (listed (one_or_many (any_number (layered_signature k)))) (listed (one_or_many (any_number (layered_signature k))))).describes v (f, (xs, ys))
+    → h ≡ header_of f (signatures_of xs) (signatures_of ys) → (layered_header k).describes v h
+header_whole k v h f xs ys p same = subst ((layered_header k).describes v) (sym same) (header_read_with k v f xs ys p)

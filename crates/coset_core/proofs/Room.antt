@@ -12,10 +12,10 @@ use Rattle.coset_shape.specs.ShapeLaws.{some-one, some-none}
 use Rattle.coset_shape.specs.Serialized.{content_bytes, fresh_bytes}
 use Rattle.coset_shape.proofs.Room.{behind_head}
 use Rattle.coset_label.specs.Names.{Name, number, name_item}
-use Rattle.coset_core.specs.Fields.{FieldsSeen, same_name, partial_header}
+use Rattle.coset_core.specs.Fields.{FieldsSeen, Versions, same_name, partial_header}
 use Rattle.coset_core.specs.Headers.{HeaderSeen, header_of, fields_in, ProtectedSeen, Signatures, no_signatures, signature_and, empty_header, is_empty_header, are_none, header_item, header_image, header, protected, layered_header, layered_protected, counter_signatures_item, signatures_image}
 use Rattle.coset_core.specs.HeaderWrites.{header_put, header_repeats}
-use Rattle.coset_core.specs.Written.{entry_pairs, registered_item, critical_item, filled_item, header_fields}
+use Rattle.coset_core.specs.Written.{entry_pairs, registered_item, bytes_item, critical_item, filled_item, header_fields}
 use Rattle.coset_core.proofs.Writing.{image-entries}
 use Rattle.coset_core.proofs.WritingHeaders.{puts}
 
@@ -48,9 +48,9 @@ total-string n (c ∷ b) k es h = let long = behind_head (least_head 2 (length (
 abbrev pub strings : FieldsSeen → ℕ
 strings f = length f.key_id + (length f.iv + (length f.partial_iv + 0))
 
-total-strings : (f : FieldsSeen) (o : Option Item) → strings f ≤ total (header_fields f o)
+total-strings : (f : FieldsSeen) (o : Versions (Option Item)) → strings f ≤ total (header_fields f o)
 total-strings f o =
-    let seven : List (Name × Item) = put_field (number (pos 7)) o [] in
+    let seven : List (Name × Item) = put_field (number (pos 7)) o.0 (put_field (number (pos 11)) o.1 (put_field (number (pos 12)) (bytes_item f.countersignature0_v2) [])) in
     let six : List (Name × Item) = put_field (number (pos 6)) (filled_item f.partial_iv) seven in
     let five : List (Name × Item) = put_field (number (pos 5)) (filled_item f.iv) six in
     let four : List (Name × Item) = put_field (number (pos 4)) (filled_item f.key_id) five in
@@ -63,20 +63,21 @@ total-strings f o =
     total-front (number (pos 1)) (option_map registered_item f.alg) (strings f) two
     (total-front (number (pos 2)) (critical_item f.crit) (strings f) three (total-front (number (pos 3)) (option_map name_item f.content_type) (strings f) four keys))
 
-map-strings : (f : FieldsSeen) (o : Option (Option Item)) (v : Item) → header_item f o ≡ Some v → strings f ≤ length (least_encoding v)
-map-strings f None v e = absurd (cc)
-map-strings f (Some o) v e = go (are_distinct same_name (keys_of f.rest)) refl
+map-strings : (f : FieldsSeen) (o p : Option (Option Item)) (v : Item) → header_item f o p ≡ Some v → strings f ≤ length (least_encoding v)
+map-strings f None p v e = absurd (cc)
+map-strings f (Some o) None v e = absurd (cc)
+map-strings f (Some o) (Some p) v e = go (are_distinct same_name (keys_of f.rest)) refl
   where
     es : List (Name × Item)
-    es = header_fields f o ++ f.rest
+    es = header_fields f (o, p) ++ f.rest
 
     go : (b : Bool) → are_distinct same_name (keys_of f.rest) ≡ b → strings f ≤ length (least_encoding v)
-    go false d = absurd (some-none e (header_repeats f (Some o) d))
+    go false d = absurd (some-none e (header_repeats f (Some o) (Some p) d))
     go true d =
-        let is : header_item f (Some o) ≡ Some (dict (entry_pairs es)) = header_put f _ _ _ _ _ _ o (puts f) d ∙ ap (option_map dict) (image-entries es) in
+        let is : header_item f (Some o) (Some p) ≡ Some (dict (entry_pairs es)) = header_put f _ _ _ _ _ _ (o, p) _ (puts f) d ∙ ap (option_map dict) (image-entries es) in
         let same : dict (entry_pairs es) ≡ v = some-one is e in
-        let inside = total-strings f o in
-        let fields = total-append (header_fields f o) f.rest in
+        let inside = total-strings f (o, p) in
+        let fields = total-append (header_fields f (o, p)) f.rest in
         let pairs = total-pairs es in
         let long = behind_head (least_head 5 (pairs_count (entry_pairs es))) (least_pair_encodings (entry_pairs es)) in
         subst (λ u. strings f ≤ length (least_encoding u)) same (omega (arith, inside, fields, pairs, long))
@@ -84,7 +85,7 @@ map-strings f (Some o) v e = go (are_distinct same_name (keys_of f.rest)) refl
 -- a header's map
 pub header_room : (h : HeaderSeen) (n : ℕ) → n ≤ strings (fields_in h) + 24 → IsRoomFor (header.image h) 24 n
 unfolding layered_header
-header_room (header_of f ss) n few v e = let all = map-strings f (counter_signatures_item ss (signatures_image ss)) v e in omega (arith, few, all)
+header_room (header_of f ss ts) n few v e = let all = map-strings f (counter_signatures_item ss (signatures_image ss)) (counter_signatures_item ts (signatures_image ts)) v e in omega (arith, few, all)
 
 and_true : (a b : Bool) → a && b ≡ true → (a ≡ true) × (b ≡ true)
 and_true true b e = (refl, e)
@@ -107,8 +108,10 @@ no_signatures_of (signature_and o p u s more) e = absurd (true≢false (sym e))
 
 -- a header that holds nothing is the empty one
 is_the_empty : (h : HeaderSeen) → is_empty_header h ≡ true → h ≡ empty_header
-is_the_empty (header_of f ss) e =
-    let last : Bool = are_none ss && length f.rest == 0 in
+is_the_empty (header_of f ss ts) e =
+    let abbreviated : Bool = is_none f.countersignature0_v2 && length f.rest == 0 in
+    let second : Bool = are_none ts && abbreviated in
+    let last : Bool = are_none ss && second in
     let from_partial : Bool = length f.partial_iv == 0 && last in
     let from_iv : Bool = length f.iv == 0 && from_partial in
     let from_key : Bool = length f.key_id == 0 && from_iv in
@@ -120,7 +123,9 @@ is_the_empty (header_of f ss) e =
     let key = and_true (length f.key_id == 0) from_iv kind.1 in
     let iv = and_true (length f.iv == 0) from_partial key.1 in
     let partial = and_true (length f.partial_iv == 0) last iv.1 in
-    let behind = and_true (are_none ss) (length f.rest == 0) partial.1 in
+    let first = and_true (are_none ss) second partial.1 in
+    let later = and_true (are_none ts) abbreviated first.1 in
+    let behind = and_true (is_none f.countersignature0_v2) (length f.rest == 0) later.1 in
     λ i. header_of (record {
       alg = none_of f.alg alg.0 i;
       crit = none_long f.crit crit.0 i;
@@ -128,8 +133,9 @@ is_the_empty (header_of f ss) e =
       key_id = none_long f.key_id key.0 i;
       iv = none_long f.iv iv.0 i;
       partial_iv = none_long f.partial_iv partial.0 i;
+      countersignature0_v2 = none_of f.countersignature0_v2 behind.0 i;
       rest = none_long f.rest behind.1 i;
-    }) (no_signatures_of ss behind.0 i)
+    }) (no_signatures_of ss first.0 i) (no_signatures_of ts later.0 i)
 
 -- and that is written as a byte
 empty_image : header_image empty_header ≡ Some (dict no_pairs)

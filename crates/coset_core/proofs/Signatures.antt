@@ -1,83 +1,91 @@
 -- Signatures in a row.
-use Rattle.std.proofs.Common.{◌≡◌, ◌≢◌, ◌==◌, ◌&&◌, ◌<◌, ◌+◌, ◌++◌, suc, List, [], ◌∷◌, map, length, false, refl, sym, ap, ◌∙◌, arith}
+use Rattle.std.proofs.Common.{◌≡◌, ℕ, ◌≢◌, ◌==◌, ◌&&◌, ◌<◌, ◌+◌, ◌++◌, suc, List, [], ◌∷◌, map, length, Bool, true, false, refl, sym, ap, ◌∙◌, arith}
 use Rattle.std.proofs.lemmas.Bool.{and_right}
 use Rattle.std.proofs.lemmas.Grind.{common_steps}
 use Rattle.std.specs.Prelude.{OnOk, Result, Ok, Err}
 use Rattle.std.specs.declared.alloc.AllocError.{AllocError}
-use Rattle.coset_core.specs.FieldsView.{counter_signatures_held, fields_level, fields_seen}
-use Rattle.coset_core.specs.Headers.{are_none, signatures_of, header_of}
-use Rattle.coset_core.specs.Held.{header_count, signatures_in}
+use Rattle.coset_core.specs.FieldsView.{counter_signatures_held, countersignatures_held, fields_level, fields_seen}
+use Rattle.coset_core.specs.Headers.{SignatureSeen, are_none, signatures_of, header_of}
+use Rattle.coset_core.specs.Held.{header_count, held_in, signatures_count, signatures_in}
 use Rattle.coset_core.specs.Same.{fields_eq, header_eq, signatures_eq}
-use Rattle.coset_core.specs.ViewLaws.{HeaderLevel, header-made, header-opened, protected-opened, signature-opened}
-use Rattle.coset_core.specs.Views.{header_seen, signature_seen}
+use Rattle.coset_core.specs.ViewLaws.{HeaderLevel, header-made, header-opened}
+use Rattle.coset_core.specs.Views.{countersignature_seen, header_seen, signature_seen}
+use Rattle.coset_core.specs.declared.countersignature.CoseCountersignature.{CoseCountersignature}
 use Rattle.coset_core.specs.declared.header.Header.{Header, roll-Header}
-use Rattle.coset_core.specs.declared.protected.ProtectedHeader.{out-ProtectedHeader}
-use Rattle.coset_core.specs.declared.signature.CoseSignature.{CoseSignature, out-CoseSignature}
+use Rattle.coset_core.specs.declared.signature.CoseSignature.{CoseSignature}
 
 -- there are none where the list is empty
-pub are_none_of : (ss : List CoseSignature) → are_none (signatures_of (map signature_seen ss)) ≡ (length ss == 0)
-are_none_of [] = refl
-are_none_of (s ∷ ss) = grind (arith, common_steps)
+pub are_none_of : {T : Type 0} (seen : T → SignatureSeen) (ss : List T) → are_none (signatures_of (map seen ss)) ≡ (length ss == 0)
+are_none_of seen [] = refl
+are_none_of seen (s ∷ ss) = grind (arith, common_steps)
 
 -- those of lists of unequal lengths aren't the same
-pub unequal : (ss ts : List CoseSignature) → length ss ≢ length ts → false ≡ signatures_eq (signatures_of (map signature_seen ss)) (signatures_of (map signature_seen ts))
-unequal [] [] h = absurd (h refl)
-unequal (s ∷ ss) (t ∷ ts) h = sym (and_right _ _ (sym (unequal ss ts (λ e. h (ap suc e)))))
-unequal [] (t ∷ ts) h = refl
-unequal (s ∷ ss) [] h = refl
+pub unequal : {T : Type 0} (seen : T → SignatureSeen) (ss ts : List T) → length ss ≢ length ts → false ≡ signatures_eq (signatures_of (map seen ss)) (signatures_of (map seen ts))
+unequal seen [] [] h = absurd (h refl)
+unequal seen (s ∷ ss) (t ∷ ts) h = sym (and_right _ _ (sym (unequal seen ss ts (λ e. h (ap suc e)))))
+unequal seen [] (t ∷ ts) h = refl
+unequal seen (s ∷ ss) [] h = refl
+
+-- ---- tests one after the other
+
+pub and_assoc : (a b c : Bool) → (a && b) && c ≡ a && (b && c)
+and_assoc true b c = refl
+and_assoc false b c = refl
+
+-- what is false at l stays so with h; and what is true at l is what h is
+pub stays : (v l h : Bool) → v ≡ l → v ≡ false → v ≡ l && h
+stays v l h is fails = rw (sym is ∙ fails) fails
+
+pub goes_by : (v l h r : Bool) → v ≡ l → v ≡ true → r ≡ h → r ≡ l && h
+goes_by v l h r is holds e = rw (sym is ∙ holds) e
 
 -- headers are the same where their fields and their signatures are
 pub header_eq-opened :
     (h g : Header)
     → header_eq (header_seen h) (header_seen g)
-    ≡ fields_eq (fields_seen h) (fields_seen g) && signatures_eq (signatures_of (map signature_seen (counter_signatures_held h))) (signatures_of (map signature_seen (counter_signatures_held g)))
+    ≡ fields_eq (fields_seen h) (fields_seen g)
+    && (signatures_eq (signatures_of (map signature_seen (counter_signatures_held h))) (signatures_of (map signature_seen (counter_signatures_held g)))
+    && signatures_eq (signatures_of (map countersignature_seen (countersignatures_held h))) (signatures_of (map countersignature_seen (countersignatures_held g))))
 header_eq-opened h g = λ i. header_eq (header-opened h i) (header-opened g i)
 
 -- ---- headers that are copied
 
 -- a header that has the fields and the counter signatures of another
 pub header_copied :
-    (x : HeaderLevel) (h : Header) (r : Result (Unit {0}) AllocError) → fields_level x ≡ fields_seen h → OnOk r (map signature_seen x.counter_signatures.items ≡ map signature_seen (counter_signatures_held h))
-    → OnOk r (header_seen (roll-Header x) ≡ header_seen h)
-header_copied x h (Ok u) f s = header-made x ∙ ((λ i. header_of (f i) (signatures_of (s i))) ∙ sym (header-opened h))
-header_copied x h (Err e) f s = tt
+    (x : HeaderLevel) (h : Header) (r : Result (Unit {0}) AllocError) → fields_level x ≡ fields_seen h → map signature_seen x.counter_signatures.items ≡ map signature_seen (counter_signatures_held h)
+    → OnOk r (map countersignature_seen x.countersignatures_v2.items ≡ map countersignature_seen (countersignatures_held h)) → OnOk r (header_seen (roll-Header x) ≡ header_seen h)
+header_copied x h (Ok u) f s t = header-made x ∙ ((λ i. header_of (f i) (signatures_of (s i)) (signatures_of (t i))) ∙ sym (header-opened h))
+header_copied x h (Err e) f s t = tt
 
 -- ---- how many are held
 
--- what one holds
-abbrev protected_held : CoseSignature → List CoseSignature
-protected_held s = counter_signatures_held (out-ProtectedHeader (out-CoseSignature s).protected).header
+-- what a header holds, of both versions
+abbrev pub held_by : Header → ℕ
+held_by h = held_in (counter_signatures_held h) (countersignatures_held h)
 
-abbrev unprotected_held : CoseSignature → List CoseSignature
-unprotected_held s = counter_signatures_held (out-CoseSignature s).unprotected
+pub opened : (h : Header) → header_count (header_seen h) ≡ held_by h
+opened h = ap header_count (header-opened h)
 
-protected_is : (s : CoseSignature) → header_count (signature_seen s).protected.header ≡ signatures_in (protected_held s)
-protected_is s =
-    ap (λ x. header_count x.protected.header) (signature-opened s)
-    ∙ (ap (λ x. header_count x.header) (protected-opened (out-CoseSignature s).protected) ∙ ap header_count (header-opened (out-ProtectedHeader (out-CoseSignature s).protected).header))
+-- what the two headers hold of one that was seen
+abbrev pub within : SignatureSeen → ℕ
+within s = header_count s.protected.header + header_count s.unprotected
 
-unprotected_is : (s : CoseSignature) → header_count (signature_seen s).unprotected ≡ signatures_in (unprotected_held s)
-unprotected_is s = ap (λ x. header_count x.unprotected) (signature-opened s) ∙ ap header_count (header-opened (out-CoseSignature s).unprotected)
+-- one more counts itself, and what it holds
+last_counts : {T : Type 0} (seen : T → SignatureSeen) (ss : List T) (s : T) → signatures_count (signatures_of (map seen (ss ++ s ∷ []))) ≡ suc (within (seen s) + signatures_count (signatures_of (map seen ss)))
+last_counts seen [] s = omega arith
+last_counts seen (x ∷ ss) s = let others = last_counts seen ss s in omega (arith, others)
 
--- one more holds itself, and what it holds
-one_counts : (s : CoseSignature) (ss : List CoseSignature) → signatures_in (s ∷ ss) ≡ suc (signatures_in (protected_held s) + signatures_in (unprotected_held s) + signatures_in ss)
-one_counts s ss = rw (protected_is s, unprotected_is s) refl
-
-last_counts : (ss : List CoseSignature) (s : CoseSignature) → signatures_in (ss ++ s ∷ []) ≡ suc (signatures_in (protected_held s) + signatures_in (unprotected_held s) + signatures_in ss)
-last_counts [] s = one_counts s []
-last_counts (x ∷ ss) s =
-    let first = one_counts x (ss ++ s ∷ []) in
-    let others = last_counts ss s in
-    let before = one_counts x ss in
-    omega (arith, first, others, before)
-
--- without the last fewer are left
-pub last_taken :
-    (old new : List CoseSignature) (s : CoseSignature) (ps us : List CoseSignature) → old ≡ new ++ s ∷ [] → ps ≡ protected_held s → us ≡ unprotected_held s
-    → signatures_in ps + signatures_in us + signatures_in new < signatures_in old
-last_taken old new s ps us o p u =
+-- without the last of either version fewer are left
+pub first_taken :
+    (old new : List CoseSignature) (v : List CoseCountersignature) (s : CoseSignature) → old ≡ new ++ s ∷ [] → within (signature_seen s) + held_in new v < held_in old v
+first_taken old new v s o =
     let count : signatures_in old ≡ signatures_in (new ++ s ∷ []) = ap signatures_in o in
-    let first : signatures_in ps ≡ signatures_in (protected_held s) = ap signatures_in p in
-    let second : signatures_in us ≡ signatures_in (unprotected_held s) = ap signatures_in u in
-    let all = last_counts new s in
-    omega (arith, count, first, second, all)
+    let all = last_counts signature_seen new s in
+    omega (arith, count, all)
+
+pub second_taken :
+    (a : List CoseSignature) (old new : List CoseCountersignature) (s : CoseCountersignature) → old ≡ new ++ s ∷ [] → within (countersignature_seen s) + held_in a new < held_in a old
+second_taken a old new s o =
+    let count : held_in [] old ≡ held_in [] (new ++ s ∷ []) = ap (held_in []) o in
+    let all = last_counts countersignature_seen new s in
+    omega (arith, count, all)

@@ -7,12 +7,11 @@ use Rattle.coset_value.specs.Range.{AreInRange, ArePairsInRange}
 use Rattle.coset_value.specs.View.{items_of}
 use Rattle.coset_cbor.specs.Least.{least_head, least_encoding, least_encodings, least_pair_encodings}
 use Rattle.coset_shape.specs.Encoding.{AppendsItem}
-use Rattle.coset_shape.specs.Maps.{put_field, named_image}
+use Rattle.coset_shape.specs.Maps.{put_field, put_fields, named_image}
 use Rattle.coset_label.specs.Labels.{label}
 use Rattle.coset_label.specs.Names.{Name, number, word, name_item, RegisteredName}
 use Rattle.coset_core.specs.FieldLabels as labels
 use Rattle.coset_core.specs.Fields.{FieldsSeen}
-use Rattle.coset_core.specs.HeaderWrites.{fields_put}
 use Rattle.coset_core.specs.Written.{AppendsItems, AppendsPairs, entry_pairs, registered_item, critical_item, filled_item, plain_fields, one, count_pairs}
 use Rattle.coset_core.specs.ViewLaws.{HeaderLevel, header_level}
 use Rattle.coset_core.proofs.Signatures.{are_none_of}
@@ -142,17 +141,9 @@ front : (n : Name) (o : Option Item) (es : List (Name × Item)) → put_field n 
 front n None es = refl
 front n (Some v) es = refl
 
--- the first six, one after the other
-pub fields-parts :
-    (a b t k i p : Option Item)
-    → fields_put a b t k i p None
-    ≡ put_field labels.alg a []
-    ++ (put_field labels.crit b [] ++ (put_field labels.content_type t [] ++ (put_field labels.kid k [] ++ (put_field labels.iv i [] ++ put_field labels.partial_iv p []))))
-fields-parts a b t k i p =
-    front _ a _ ∙ ap (λ es. put_field labels.alg a [] ++ es)
-    (front _ b _ ∙ ap (λ es. put_field labels.crit b [] ++ es)
-    (front _ t _ ∙ ap (λ es. put_field labels.content_type t [] ++ es)
-    (front _ k _ ∙ ap (λ es. put_field labels.kid k [] ++ es) (front _ i _))))
+-- fields, one after the other
+puts-and : (fs : List (Name × Option Item)) (n : Name) (o : Option Item) → put_fields ((n, o) ∷ fs) ≡ put_field n o [] ++ put_fields fs
+puts-and fs n o = front n o (put_fields fs)
 
 pub plain-put :
     (f : FieldsSeen) (s0 s1 s2 s3 s4 s5 s6 : List ℕ)
@@ -164,8 +155,19 @@ pub plain-put :
     → AppendsPairs s5 s6 (put_field labels.partial_iv (filled_item f.partial_iv) [])
     → AppendsPairs s0 s6 (plain_fields f)
 plain-put f s0 s1 s2 s3 s4 s5 s6 p1 p2 p3 p4 p5 p6 =
+    let a : Option Item = option_map registered_item f.alg in
+    let t : Option Item = option_map name_item f.content_type in
+    let f6 : List (Name × Option Item) = (labels.partial_iv, filled_item f.partial_iv) ∷ [] in
+    let f5 : List (Name × Option Item) = (labels.iv, filled_item f.iv) ∷ f6 in
+    let f4 : List (Name × Option Item) = (labels.kid, filled_item f.key_id) ∷ f5 in
+    let f3 : List (Name × Option Item) = (labels.content_type, t) ∷ f4 in
+    let f2 : List (Name × Option Item) = (labels.crit, critical_item f.crit) ∷ f3 in
     subst (AppendsPairs s0 s6)
-    (sym (fields-parts (option_map registered_item f.alg) (critical_item f.crit) (option_map name_item f.content_type) (filled_item f.key_id) (filled_item f.iv) (filled_item f.partial_iv)))
+    (sym
+    (puts-and f2 labels.alg a ∙ ap (λ es. put_field labels.alg a [] ++ es)
+    (puts-and f3 labels.crit (critical_item f.crit) ∙ ap (λ es. put_field labels.crit (critical_item f.crit) [] ++ es)
+    (puts-and f4 labels.content_type t ∙ ap (λ es. put_field labels.content_type t [] ++ es)
+    (puts-and f5 labels.kid (filled_item f.key_id) ∙ ap (λ es. put_field labels.kid (filled_item f.key_id) [] ++ es) (puts-and f6 labels.iv (filled_item f.iv)))))))
     (pairs-then s0 s1 s6 _ _ p1 (pairs-then s1 s2 s6 _ _ p2 (pairs-then s2 s3 s6 _ _ p3 (pairs-then s3 s4 s6 _ _ p4 (pairs-then s4 s5 s6 _ _ p5 p6)))))
 
 -- ---- how many pairs there are
@@ -184,5 +186,7 @@ pub counted :
     + one (not (length x.iv.items == 0))
     + one (not (length x.partial_iv.items == 0))
     + one (not (length x.counter_signatures.items == 0))
+    + one (not (length x.countersignatures_v2.items == 0))
+    + one (is_some x.countersignature0_v2)
     ≡ count_pairs (header_level x)
 counted x = simp (length-map, are_none_of, some_mapped)

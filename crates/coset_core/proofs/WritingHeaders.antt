@@ -12,14 +12,14 @@ use Rattle.coset_shape.specs.declared.error.CoseError.TheVariants.{DuplicateMapK
 use Rattle.coset_shape.specs.Encoding.{AppendsItem, AppendsImage, Encodes}
 use Rattle.coset_shape.specs.Errors.{UnlessMemory}
 use Rattle.coset_shape.specs.Maps.{put_field, are_distinct, optional, listed}
-use Rattle.coset_shape.specs.Shape.{images, one_or_array, some_of, filled_bstr}
+use Rattle.coset_shape.specs.Shape.{images, one_or_array, some_of, bstr, filled_bstr}
 use Rattle.coset_label.specs.Names.{Name, name_item, RegisteredName}
 use Rattle.coset_core.specs.FieldLabels as labels
 use Rattle.coset_shape.proofs.Encoding.{array-put as array-put-places, place-put, nothing-put, and_items, images-append, images-missing}
-use Rattle.coset_core.specs.Fields.{FieldsSeen, same_name, algorithm, critical, content_type}
-use Rattle.coset_core.specs.Headers.{HeaderSeen, header_of, fields_in, counter_signatures_in, ProtectedSeen, SignatureSeen, Signatures, no_signatures, signature_and, signatures_of, are_none, counter_signatures_item, header_item, signature_item, signatures_image, header_image, protected_bytes}
+use Rattle.coset_core.specs.Fields.{FieldsSeen, Versions, same_name, algorithm, critical, content_type}
+use Rattle.coset_core.specs.Headers.{HeaderSeen, header_of, fields_in, counter_signatures_in, countersignatures_in, ProtectedSeen, SignatureSeen, Signatures, no_signatures, signature_and, signatures_of, are_none, counter_signatures_item, header_item, signature_item, signatures_image, header_image, protected_bytes}
 use Rattle.coset_core.specs.HeaderWrites.{fields_put, images_signatures, signature_image_is, algorithm_image, critical_image, content_type_image, Puts, header_put, header_repeats}
-use Rattle.coset_core.specs.Written.{AppendsItems, AppendsPairs, AppendsCounterSignatures, AppendsSignatures, entry_pairs, registered_item, critical_item, filled_item, header_fields, plain_fields, one, count_pairs, signature_array}
+use Rattle.coset_core.specs.Written.{AppendsItems, AppendsPairs, AppendsCounterSignatures, AppendsSignatures, entry_pairs, registered_item, bytes_item, critical_item, filled_item, header_fields, plain_fields, one, count_pairs, signature_array}
 use Rattle.coset_core.proofs.Writing.{some_mapped, items-push, array-put, pairs-none, pairs-then, pair-put, count-entries, image-entries}
 
 -- an error passed on that says of P what another is asked to say of Q
@@ -82,7 +82,7 @@ signatures-push ss s old mid new p q =
 pub signatures-none : (ss more : List SignatureSeen) (s : SignatureSeen) → signature_array s ≡ None → signatures_image (signatures_of (ss ++ s ∷ more)) ≡ None
 signatures-none ss more s e = each (ss ++ s ∷ more) ∙ images-missing signature_array ss more s e
 
--- ---- label 7
+-- ---- labels 7 and 11
 
 -- one alone, or a head and several
 one_or_array-put :
@@ -93,17 +93,17 @@ one_or_array-put (v ∷ []) n old head new h count small alone several p = recor
 one_or_array-put (v ∷ w ∷ vs) n old head new h count small alone several p = array-put (v ∷ w ∷ vs) n old head new count small (several (λ e. absurd (omega (arith, e, count)))) p
 
 pub counter_signatures-put :
-    (ss : List SignatureSeen) (n : ℕ) (old mid head new : List ℕ) → not (length ss == 0) ≡ true → n ≡ length ss → n < 2 ^ 64 → AppendsItem old mid (name_item labels.counter_signature) → (n ≡ 1 → head ≡ mid)
-    → (n ≢ 1 → head ≡ mid ++ least_head 4 n) → AppendsSignatures head new ss → AppendsCounterSignatures old new (signatures_of ss)
-counter_signatures-put [] n old mid head new h count small name alone several p = absurd (true≢false (sym h))
-counter_signatures-put (s ∷ ss) n old mid head new h count small name alone several p = (
+    (label : Name) (ss : List SignatureSeen) (n : ℕ) (old mid head new : List ℕ) → not (length ss == 0) ≡ true → n ≡ length ss → n < 2 ^ 64 → AppendsItem old mid (name_item label) → (n ≡ 1 → head ≡ mid)
+    → (n ≢ 1 → head ≡ mid ++ least_head 4 n) → AppendsSignatures head new ss → AppendsCounterSignatures label old new (signatures_of ss)
+counter_signatures-put label [] n old mid head new h count small name alone several p = absurd (true≢false (sym h))
+counter_signatures-put label (s ∷ ss) n old mid head new h count small name alone several p = (
   Some (one_or_array (items_of p.0)),
   ap (option_map (λ vs. Some (one_or_array vs))) p.1,
-  pair-put old mid new labels.counter_signature (one_or_array (items_of p.0)) name (one_or_array-put p.0 n mid head new (rw p.2 h) (count ∙ sym p.2) small alone several p.3),
+  pair-put old mid new label (one_or_array (items_of p.0)) name (one_or_array-put p.0 n mid head new (rw p.2 h) (count ∙ sym p.2) small alone several p.3),
 )
 
-pub counter_signatures-none : (s : List ℕ) → AppendsCounterSignatures s s no_signatures
-counter_signatures-none s = (None, refl, pairs-none s)
+pub counter_signatures-none : (label : Name) (s : List ℕ) → AppendsCounterSignatures label s s no_signatures
+counter_signatures-none label s = (None, refl, pairs-none s)
 
 -- ---- what the fields are written as
 
@@ -127,7 +127,13 @@ filled-put : (b : List ℕ) → (listed filled_bstr).image b ≡ Some (filled_it
 filled-put [] = refl
 filled-put (c ∷ b) = refl
 
-pub puts : (f : FieldsSeen) → Puts f (option_map registered_item f.alg) (critical_item f.crit) (option_map name_item f.content_type) (filled_item f.key_id) (filled_item f.iv) (filled_item f.partial_iv)
+bytes-put : (o : Option (List ℕ)) → (optional bstr).image o ≡ Some (bytes_item o)
+bytes-put None = refl
+bytes-put (Some b) = refl
+
+pub puts :
+    (f : FieldsSeen) → Puts f (option_map registered_item f.alg) (critical_item f.crit) (option_map name_item f.content_type) (filled_item f.key_id) (filled_item f.iv) (filled_item f.partial_iv)
+    (bytes_item f.countersignature0_v2)
 puts f = record {
   alg = algorithm-put f.alg;
   crit = critical-put f.crit;
@@ -135,6 +141,7 @@ puts f = record {
   key_id = filled-put f.key_id;
   iv = filled-put f.iv;
   partial_iv = filled-put f.partial_iv;
+  countersignature0_v2 = bytes-put f.countersignature0_v2;
 }
 
 -- ---- how many there are
@@ -144,9 +151,10 @@ put-count n None es = omega arith
 put-count n (Some v) es = omega arith
 
 count-fields :
-    (a b t k i p o : Option Item)
-    → length (fields_put a b t k i p o) ≡ one (is_some a) + (one (is_some b) + (one (is_some t) + (one (is_some k) + (one (is_some i) + (one (is_some p) + (one (is_some o) + 0))))))
-count-fields a b t k i p o = simp put-count
+    (a b t k i p : Option Item) (o : Versions (Option Item)) (q : Option Item)
+    → length (fields_put a b t k i p o q)
+    ≡ one (is_some a) + (one (is_some b) + (one (is_some t) + (one (is_some k) + (one (is_some i) + (one (is_some p) + (one (is_some o.0) + (one (is_some o.1) + (one (is_some q) + 0))))))))
+count-fields a b t k i p o q = simp put-count
 
 is_some-critical : (xs : List RegisteredName) → is_some (critical_item xs) ≡ not (length xs == 0)
 is_some-critical [] = refl
@@ -175,23 +183,27 @@ is_some-counter_signatures ss o e = there o ∙ (sym (ap is_there e) ∙ named s
     named no_signatures o e = refl
     named (signature_and b p u s more) o e = some (signatures_image (signature_and b p u s more)) o e
 
-count-all : (f : FieldsSeen) (ss : Signatures) (o : Option Item) → counter_signatures_item ss (signatures_image ss) ≡ Some o → length (header_fields f o) + length f.rest ≡ count_pairs (header_of f ss)
-count-all f ss o e =
+count-all :
+    (f : FieldsSeen) (ss ts : Signatures) (o : Versions (Option Item)) → counter_signatures_item ss (signatures_image ss) ≡ Some o.0 → counter_signatures_item ts (signatures_image ts) ≡ Some o.1
+    → length (header_fields f o) + length f.rest ≡ count_pairs (header_of f ss ts)
+count-all f ss ts o e g =
     let a : is_some (option_map registered_item f.alg) ≡ is_some f.alg = some_mapped registered_item f.alg in
     let t : is_some (option_map name_item f.content_type) ≡ is_some f.content_type = some_mapped name_item f.content_type in
-    rw (count-fields, a, t, is_some-critical f.crit, is_some-filled f.key_id, is_some-filled f.iv, is_some-filled f.partial_iv, is_some-counter_signatures ss o e) (omega arith)
+    let q : is_some (bytes_item f.countersignature0_v2) ≡ is_some f.countersignature0_v2 = some_mapped bytes f.countersignature0_v2 in
+    rw (count-fields, a, t, q, is_some-critical f.crit, is_some-filled f.key_id, is_some-filled f.iv, is_some-filled f.partial_iv, is_some-counter_signatures ss o.0 e, is_some-counter_signatures ts o.1 g) (omega arith)
 
 -- ---- headers
 
--- the pair of label 7 comes behind the other fields
-last-field : (f : FieldsSeen) (o : Option Item) → plain_fields f ++ put_field labels.counter_signature o [] ≡ header_fields f o
-last-field f o =
-    front labels.alg (option_map registered_item f.alg) _ _ (front labels.crit (critical_item f.crit) _ _ (front labels.content_type (option_map name_item f.content_type) _ _
-    (front labels.kid (filled_item f.key_id) _ _ (front labels.iv (filled_item f.iv) _ _ (front labels.partial_iv (filled_item f.partial_iv) _ _ refl)))))
+-- the pairs of labels 7, 11 and 12 come behind the other fields
+last-fields : (f : FieldsSeen) (o : Versions (Option Item)) → plain_fields f ++ (put_field labels.counter_signature o.0 [] ++ (put_field labels.countersignature_v2 o.1 [] ++ put_field labels.countersignature0_v2 (bytes_item f.countersignature0_v2) [])) ≡ header_fields f o
+last-fields f o =
+    front labels.alg (option_map registered_item f.alg) _ _ _ (front labels.crit (critical_item f.crit) _ _ _ (front labels.content_type (option_map name_item f.content_type) _ _ _
+    (front labels.kid (filled_item f.key_id) _ _ _ (front labels.iv (filled_item f.iv) _ _ _ (front labels.partial_iv (filled_item f.partial_iv) _ _ _
+    (front labels.counter_signature o.0 _ _ _ (front labels.countersignature_v2 o.1 _ _ _ refl)))))))
   where
-    front : (n : Name) (v : Option Item) (es gs : List (Name × Item)) → es ++ put_field labels.counter_signature o [] ≡ gs → put_field n v es ++ put_field labels.counter_signature o [] ≡ put_field n v gs
-    front n None es gs e = e
-    front n (Some w) es gs e = ap (λ ds. (n, w) ∷ ds) e
+    front : (n : Name) (v : Option Item) (es gs ds : List (Name × Item)) → es ++ ds ≡ gs → put_field n v es ++ ds ≡ put_field n v gs
+    front n None es gs ds e = e
+    front n (Some w) es gs ds e = ap (λ fs. (n, w) ∷ fs) e
 
 -- a head and pairs are a map
 dict-put :
@@ -203,27 +215,37 @@ dict-put es n old head new count small first p =
       parts = rw (p.parts, first, same) (append_assoc old (least_head 5 n) (least_pair_encodings (entry_pairs es)));
     }
 
--- a head, the first six fields, the pair of label 7 and the rest are the header's map
+-- a head, the first six fields, the pairs of labels 7, 11 and 12, and the rest are the header's map
 pub map-put :
-    (h : HeaderSeen) (n : ℕ) (old head mid half new : List ℕ) → are_distinct same_name (keys_of (fields_in h).rest) ≡ true → n ≡ count_pairs h → n < 2 ^ 64 → head ≡ old ++ least_head 5 n
-    → AppendsPairs head mid (plain_fields (fields_in h)) → AppendsCounterSignatures mid half (counter_signatures_in h) → AppendsPairs half new (fields_in h).rest → AppendsImage (header_image h) old new
-map-put (header_of f ss) n old head mid half new distinct count small first plain counter_signatures rest =
-    let o = counter_signatures.0 in
-    let fields : AppendsPairs head half (header_fields f o) = subst (AppendsPairs head half) (last-field f o) (pairs-then head mid half (plain_fields f) (put_field labels.counter_signature o []) plain counter_signatures.2) in
-    let all = pairs-then head half new (header_fields f o) f.rest fields rest in
-    let long : n ≡ length (header_fields f o ++ f.rest) = count ∙ (sym (count-all f ss o counter_signatures.1) ∙ sym (length-append (header_fields f o) f.rest)) in (
+    (h : HeaderSeen) (n : ℕ) (old head mid s7 s11 s12 new : List ℕ) → are_distinct same_name (keys_of (fields_in h).rest) ≡ true → n ≡ count_pairs h → n < 2 ^ 64 → head ≡ old ++ least_head 5 n
+    → AppendsPairs head mid (plain_fields (fields_in h)) → AppendsCounterSignatures labels.counter_signature mid s7 (counter_signatures_in h)
+    → AppendsCounterSignatures labels.countersignature_v2 s7 s11 (countersignatures_in h)
+    → AppendsPairs s11 s12 (put_field labels.countersignature0_v2 (bytes_item (fields_in h).countersignature0_v2) []) → AppendsPairs s12 new (fields_in h).rest → AppendsImage (header_image h) old new
+map-put (header_of f ss ts) n old head mid s7 s11 s12 new distinct count small first plain counter_signatures countersignatures abbreviated rest =
+    let o : Versions (Option Item) = (counter_signatures.0, countersignatures.0) in
+    let behind = pairs-then mid s7 s12 _ _ counter_signatures.2 (pairs-then s7 s11 s12 _ _ countersignatures.2 abbreviated) in
+    let fields : AppendsPairs head s12 (header_fields f o) = subst (AppendsPairs head s12) (last-fields f o) (pairs-then head mid s12 (plain_fields f) _ plain behind) in
+    let all = pairs-then head s12 new (header_fields f o) f.rest fields rest in
+    let long : n ≡ length (header_fields f o ++ f.rest) = count ∙ (sym (count-all f ss ts o counter_signatures.1 countersignatures.1) ∙ sym (length-append (header_fields f o) f.rest)) in (
       dict (entry_pairs (header_fields f o ++ f.rest)),
-      ap (header_item f) counter_signatures.1 ∙ (header_put f _ _ _ _ _ _ o (puts f) distinct ∙ ap (option_map dict) (image-entries (header_fields f o ++ f.rest))),
+      (λ i. header_item f (counter_signatures.1 i) (countersignatures.1 i)) ∙ (header_put f _ _ _ _ _ _ o _ (puts f) distinct ∙ ap (option_map dict) (image-entries (header_fields f o ++ f.rest))),
       dict-put (header_fields f o ++ f.rest) n old head new long small first all,
     )
 
--- no map is written where a label of the rest repeats, or the signatures can't be written
+-- no map is written where a label of the rest repeats, or signatures of either version can't be written
 pub unwritten-rest : (h : HeaderSeen) → are_distinct same_name (keys_of (fields_in h).rest) ≡ false → header_image h ≡ None
-unwritten-rest (header_of f ss) e = header_repeats f (counter_signatures_item ss (signatures_image ss)) e
+unwritten-rest (header_of f ss ts) e = header_repeats f (counter_signatures_item ss (signatures_image ss)) (counter_signatures_item ts (signatures_image ts)) e
+
+none_item : (ss : Signatures) → signatures_image ss ≡ None → counter_signatures_item ss (signatures_image ss) ≡ None
+none_item no_signatures e = absurd (true≢false (ap is_some e))
+none_item (signature_and b p u s more) e = ap (option_map (λ vs. Some (one_or_array vs))) e
 
 pub unwritten-counter_signatures : (h : HeaderSeen) → signatures_image (counter_signatures_in h) ≡ None → header_image h ≡ None
-unwritten-counter_signatures (header_of f ss) e = ap (header_item f) (none ss e)
+unwritten-counter_signatures (header_of f ss ts) e = ap (λ o. header_item f o (counter_signatures_item ts (signatures_image ts))) (none_item ss e)
+
+pub unwritten-countersignatures : (h : HeaderSeen) → signatures_image (countersignatures_in h) ≡ None → header_image h ≡ None
+unwritten-countersignatures (header_of f ss ts) e = ap (header_item f (counter_signatures_item ss (signatures_image ss))) (none_item ts e) ∙ behind (counter_signatures_item ss (signatures_image ss))
   where
-    none : (ss : Signatures) → signatures_image ss ≡ None → counter_signatures_item ss (signatures_image ss) ≡ None
-    none no_signatures e = absurd (true≢false (ap is_some e))
-    none (signature_and b p u s more) e = ap (option_map (λ vs. Some (one_or_array vs))) e
+    behind : (o : Option (Option Item)) → header_item f o None ≡ None
+    behind (Some o) = refl
+    behind None = refl

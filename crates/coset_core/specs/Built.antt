@@ -1,6 +1,7 @@
 -- What the calls of a header's builder make of a header (RFC 8152, section 3.1): each sets what it is named for, and
 -- leaves the rest as it was.
-use Rattle.std.specs.Prelude.{◌≡◌, ◌⊎◌, ℕ, ℤ, pos, int_lt, true, List, [], ◌∷◌, ◌++◌, Some}
+use Rattle.std.specs.Ordering.{int_eq}
+use Rattle.std.specs.Prelude.{◌≡◌, ◌&&◌, ◌||◌, not, ℕ, ℤ, pos, int_lt, Bool, true, List, [], ◌∷◌, ◌++◌, Some}
 use Rattle.coset_value.specs.Item.{Item}
 use Rattle.coset_label.specs.Names.{Name, RegisteredName}
 use Rattle.coset_core.specs.Fields.{FieldsSeen}
@@ -8,7 +9,7 @@ use Rattle.coset_core.specs.Headers.{HeaderSeen, header_of, Signatures, no_signa
 
 -- with other fields, and the same counter signatures
 abbrev pub with_fields : (FieldsSeen → FieldsSeen) → HeaderSeen → HeaderSeen
-with_fields g (header_of f ss) = header_of (g f) ss
+with_fields g (header_of f ss ts) = header_of (g f) ss ts
 
 abbrev pub with_algorithm : RegisteredName → HeaderSeen → HeaderSeen
 with_algorithm a = with_fields (λ f. record f { alg = Some a })
@@ -41,8 +42,19 @@ and_last s (signature_and o p u b more) = signature_and o p u b (and_last s more
 
 -- one more counter signature, behind the others, and the same fields
 abbrev pub and_counter_signature : SignatureSeen → HeaderSeen → HeaderSeen
-and_counter_signature s (header_of f ss) = header_of f (and_last s ss)
+and_counter_signature s (header_of f ss ts) = header_of f (and_last s ss) ts
 
--- no field has this label: it is none of 1 to 7
+-- one more countersignature of version 2
+abbrev pub and_countersignature_v2 : SignatureSeen → HeaderSeen → HeaderSeen
+and_countersignature_v2 s (header_of f ss ts) = header_of f ss (and_last s ts)
+
+-- the abbreviated one
+abbrev pub with_countersignature0_v2 : List ℕ → HeaderSeen → HeaderSeen
+with_countersignature0_v2 b = with_fields (λ f. record f { countersignature0_v2 = Some b })
+
+-- no field has this label: it is none of 1 to 7, and neither 11 nor 12
+abbrev pub is_other_label : ℤ → Bool
+is_other_label n = int_lt n (pos 1) || (int_lt (pos 7) n && not (int_eq n (pos 11) || int_eq n (pos 12)))
+
 abbrev pub IsOtherLabel : ℤ → Type 0
-IsOtherLabel n = (int_lt n (pos 1) ≡ true) ⊎ (int_lt (pos 7) n ≡ true)
+IsOtherLabel n = is_other_label n ≡ true

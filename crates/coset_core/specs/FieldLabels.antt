@@ -1,6 +1,6 @@
 -- The labels of a header's fields (RFC 8152, section 3.1), by the names that IANA gives them.
 use Rattle.coset_iana.specs.HeaderParameter as parameters
-use Rattle.coset_iana.specs.declared.headers.HeaderParameter.TheVariants.{Alg, Crit, ContentType, Kid, Iv, PartialIv, CounterSignature}
+use Rattle.coset_iana.specs.declared.headers.HeaderParameter.TheVariants.{Alg, Crit, ContentType, Kid, Iv, PartialIv, CounterSignature, CounterSignatureV2, CounterSignature0V2}
 use Rattle.coset_label.specs.Names.{Name, number}
 
 abbrev pub alg : Name
@@ -23,3 +23,9 @@ partial_iv = number (parameters.number PartialIv)
 
 abbrev pub counter_signature : Name
 counter_signature = number (parameters.number CounterSignature)
+
+abbrev pub countersignature_v2 : Name
+countersignature_v2 = number (parameters.number CounterSignatureV2)
+
+abbrev pub countersignature0_v2 : Name
+countersignature0_v2 = number (parameters.number CounterSignature0V2)

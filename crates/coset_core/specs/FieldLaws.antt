@@ -6,8 +6,8 @@ use Rattle.std.specs.Map.{keys_of, lookup}
 use Rattle.coset_value.specs.Item.{Item, integer, Pairs, no_pairs, pair}
 use Rattle.coset_value.specs.Parts.{as_map}
 use Rattle.coset_shape.specs.Errors.{IsUnexpected}
-use Rattle.coset_shape.specs.Shape.{any, filled_bstr, some_of}
-use Rattle.coset_shape.specs.ShapeLaws.{Lawful, Again, some-one, along_laws, that_laws, any_laws, filled_bstr_laws, some_of_laws}
+use Rattle.coset_shape.specs.Shape.{any, bstr, filled_bstr, some_of}
+use Rattle.coset_shape.specs.ShapeLaws.{Lawful, Again, some-one, along_laws, that_laws, any_laws, bstr_laws, filled_bstr_laws, some_of_laws}
 use Rattle.coset_shape.specs.Maps.{FieldShape, optional, listed, Named, HasLabel, SomePair, SoFar, Barred, and_pairs}
 use Rattle.coset_shape.specs.declared.error.CoseError.{CoseError}
 use Rattle.coset_shape.specs.MapLaws.{LawfulNames, LawfulFieldShape, LawfulFields, Flat, field_laws, no_field_laws, optional_laws, listed_laws, labelled_laws, new_of, not_new, has_label, lookup_none, lookup_later}
@@ -16,7 +16,7 @@ use Rattle.coset_label.specs.Labels.{label}
 use Rattle.coset_label.specs.LabelLaws.{label_laws, registered_laws, registered_or_private_laws}
 use Rattle.coset_label.specs.NameOrder.{name_cmp-apart}
 use Rattle.coset_core.specs.FieldLabels as labels
-use Rattle.coset_core.specs.Fields.{FieldsSeen, algorithm, critical, content_type, IsContentType, same_name, names, Fielded, fields, fields_of, parts_of, HasOneIv, HasBothIvs, map_of, map_with, partial_header, SomeCounterSignatures, bars}
+use Rattle.coset_core.specs.Fields.{FieldsSeen, algorithm, critical, content_type, IsContentType, same_name, names, Versions, Fielded, fields, fields_of, parts_of, HasOneIv, HasBothIvs, map_of, map_with, partial_header, HoldsSignatures, SomeCounterSignatures, bars}
 
 pub names_laws : LawfulNames Name names
 names_laws = record {
@@ -62,21 +62,23 @@ flat_number i d = record { key = integer i; is_image = refl; described = d; is_f
 filled_laws : LawfulFieldShape (List ℕ) (listed filled_bstr)
 filled_laws = listed_laws filled_bstr (λ v p. p.1 refl) filled_bstr_laws
 
-pub fields_laws : {C : Type 0} (c : FieldShape C) → LawfulFieldShape C c → LawfulFields Name (Fielded C) names (fields c)
-fields_laws c l =
+pub fields_laws : {C : Type 0} (c d : FieldShape C) → LawfulFieldShape C c → LawfulFieldShape C d → LawfulFields Name (Fielded C) names (fields c d)
+fields_laws c d l m =
     field_laws names names_laws labels.alg (flat_number _ (refl, (refl, search rules))) _ (optional_laws algorithm algorithm_laws) _
     (field_laws names names_laws labels.crit (flat_number _ (refl, (refl, search rules))) _ (listed_laws (some_of critical) (λ v p. p.1 refl) criticals_laws) _
     (field_laws names names_laws labels.content_type (flat_number _ (refl, (refl, search rules))) _ (optional_laws content_type content_type_laws) _
     (field_laws names names_laws labels.kid (flat_number _ (refl, (refl, search rules))) _ filled_laws _
     (field_laws names names_laws labels.iv (flat_number _ (refl, (refl, search rules))) _ filled_laws _
     (field_laws names names_laws labels.partial_iv (flat_number _ (refl, (refl, search rules))) _ filled_laws _
-    (field_laws names names_laws labels.counter_signature (flat_number _ (refl, (refl, search rules))) c l _ (no_field_laws names names_laws) refl)
-    refl) refl) refl) refl) refl) refl
+    (field_laws names names_laws labels.counter_signature (flat_number _ (refl, (refl, search rules))) c l _
+    (field_laws names names_laws labels.countersignature_v2 (flat_number _ (refl, (refl, search rules))) d m _
+    (field_laws names names_laws labels.countersignature0_v2 (flat_number _ (refl, (refl, search rules))) _ (optional_laws bstr bstr_laws) _ (no_field_laws names names_laws) refl)
+    refl) refl) refl) refl) refl) refl) refl) refl
 
 -- ---- maps of them
 
-map_of_laws : {C : Type 0} (c : FieldShape C) → LawfulFieldShape C c → Lawful (FieldsSeen × C) (map_of c)
-map_of_laws c l = along_laws fields_of parts_of (λ x. refl) _ (labelled_laws names names_laws true (fields c) (fields_laws c l))
+map_of_laws : {C : Type 0} (c d : FieldShape C) → LawfulFieldShape C c → LawfulFieldShape C d → Lawful (FieldsSeen × Versions C) (map_of c d)
+map_of_laws c d l m = along_laws fields_of parts_of (λ x. refl) _ (labelled_laws names names_laws true (fields c d) (fields_laws c d l m))
 
 -- a vector that some pair has is there
 iv_there : (l : Name) (ps : Pairs) (es : List (Name × Item)) (iv : List ℕ) → Named label.describes ps es → HasLabel label.describes l ps → (listed filled_bstr).describes (lookup (same_name l) es) iv → iv ≡ [] → ⊥
@@ -87,8 +89,8 @@ iv_there l ps es iv n h d none = go (lookup (same_name l) es) refl d
     go None e p = not_new names names_laws ps es l n h (new_of names l es e)
 
 -- so both are where both labels stand
-not_both : {C : Type 0} (c : FieldShape C) (v : Item) (x : FieldsSeen × C) → (map_of c).describes v x → HasOneIv x.0 → HasBothIvs v → ⊥
-not_both c v x p one both =
+not_both : {C : Type 0} (c d : FieldShape C) (v : Item) (x : FieldsSeen × Versions C) → (map_of c d).describes v x → HasOneIv x.0 → HasBothIvs v → ⊥
+not_both c d v x p one both =
     let ps = p.0 in
     let m = p.2 in
     let same : both.0 ≡ ps = some-one both.1 p.1 in
@@ -97,26 +99,26 @@ not_both c v x p one both =
       | inr h ↦ iv_there labels.partial_iv ps m.entries x.0.partial_iv m.named (subst (HasLabel label.describes labels.partial_iv) same both.3) m.fields.1.1.1.1.1.0 h
     ]
 
-pub map_with_laws : {C : Type 0} (c : FieldShape C) → LawfulFieldShape C c → Lawful (FieldsSeen × C) (map_with c)
-map_with_laws {C} c l =
-    let m = map_of_laws c l in
+pub map_with_laws : {C : Type 0} (c d : FieldShape C) → LawfulFieldShape C c → LawfulFieldShape C d → Lawful (FieldsSeen × Versions C) (map_with c d)
+map_with_laws {C} c d l k =
+    let m = map_of_laws c d l k in
     record {
       unique = λ v x y p q. m.unique v x y p.0 q.0;
       again = λ v x p.
-          let a : Again (FieldsSeen × C) (map_of c) v x = m.again v x p.0 in
+          let a : Again (FieldsSeen × Versions C) (map_of c d) v x = m.again v x p.0 in
           record { image = a.image; is_image = a.is_image; described = (a.described, p.1); shallow = a.shallow };
-      sound = λ v x e p f. elim f [ inl g ↦ m.sound v x e p.0 g | inr g ↦ not_both c v x p.0 p.1 g.0 ];
+      sound = λ v x e p f. elim f [ inl g ↦ m.sound v x e p.0 g | inr g ↦ not_both c d v x p.0 p.1 g.0 ];
     }
 
--- where the value of label 7 is left as it is
-pub partial_fields_laws : LawfulFields Name (Fielded (Option Item)) names (fields (optional any))
-partial_fields_laws = fields_laws (optional any) (optional_laws any any_laws)
+-- where the values of labels 7 and 11 are left as they are
+pub partial_fields_laws : LawfulFields Name (Fielded (Option Item)) names (fields (optional any) (optional any))
+partial_fields_laws = fields_laws (optional any) (optional any) (optional_laws any any_laws) (optional_laws any any_laws)
 
-pub partial_header_laws : Lawful (FieldsSeen × Option Item) partial_header
+pub partial_header_laws : Lawful (FieldsSeen × Versions (Option Item)) partial_header
 unfolding partial_header
-partial_header_laws = map_with_laws (optional any) (optional_laws any any_laws)
+partial_header_laws = map_with_laws (optional any) (optional any) (optional_laws any any_laws) (optional_laws any any_laws)
 
--- ---- the value of label 7, read later
+-- ---- the values of labels 7 and 11, read later
 
 -- a value as it is
 as_it_is : (o : Option Item) → (optional any).describes o o
@@ -128,14 +130,17 @@ is_itself (Some v) (Some w) h = ap Some h
 is_itself (Some v) None h = absurd h
 is_itself None p h = sym h
 
--- a map is one whose value of label 7 is left as it is, and that value
-pub split : {C : Type 0} (c : FieldShape C) (v : Item) (f : FieldsSeen) (x : C) → (map_with c).describes v (f, x) → (o : Option Item) × partial_header.describes v (f, o) × c.describes o x
+-- a map is one whose values of labels 7 and 11 are left as they are, and these values
+pub split :
+    {C : Type 0} (c d : FieldShape C) (v : Item) (f : FieldsSeen) (x : Versions C) → (map_with c d).describes v (f, x)
+    → (o : Versions (Option Item)) × partial_header.describes v (f, o) × c.describes o.0 x.0 × d.describes o.1 x.1
 unfolding partial_header
-split c v f x p =
+split c d v f x p =
     let m = p.0.2 in
     let fs = m.fields in
-    let o : Option Item = lookup (names.same labels.counter_signature) m.entries in (
-      o,
+    let o : Option Item = lookup (names.same labels.counter_signature) m.entries in
+    let q : Option Item = lookup (names.same labels.countersignature_v2) m.entries in (
+      (o, q),
       (
         (
           p.0.0,
@@ -144,21 +149,25 @@ split c v f x p =
             entries = m.entries;
             named = m.named;
             distinct = m.distinct;
-            fields = (fs.0, (fs.1.0, (fs.1.1.0, (fs.1.1.1.0, (fs.1.1.1.1.0, (fs.1.1.1.1.1.0, (as_it_is o, tt)))))));
+            fields = (fs.0, (fs.1.0, (fs.1.1.0, (fs.1.1.1.0, (fs.1.1.1.1.0, (fs.1.1.1.1.1.0, (as_it_is o, (as_it_is q, (fs.1.1.1.1.1.1.1.1.0, tt)))))))));
             rest = m.rest;
           },
         ),
         p.1,
       ),
       fs.1.1.1.1.1.1.0,
+      fs.1.1.1.1.1.1.1.0,
     )
 
-pub join : {C : Type 0} (c : FieldShape C) (v : Item) (f : FieldsSeen) (o : Option Item) (x : C) → partial_header.describes v (f, o) → c.describes o x → (map_with c).describes v (f, x)
+pub join :
+    {C : Type 0} (c d : FieldShape C) (v : Item) (f : FieldsSeen) (o : Versions (Option Item)) (x : Versions C) → partial_header.describes v (f, o) → c.describes o.0 x.0 → d.describes o.1 x.1
+    → (map_with c d).describes v (f, x)
 unfolding partial_header
-join c v f o x p q =
+join c d v f o x p q r =
     let m = p.0.2 in
     let fs = m.fields in
-    let same : lookup (names.same labels.counter_signature) m.entries ≡ o = is_itself _ o fs.1.1.1.1.1.1.0 in (
+    let first : lookup (names.same labels.counter_signature) m.entries ≡ o.0 = is_itself _ o.0 fs.1.1.1.1.1.1.0 in
+    let second : lookup (names.same labels.countersignature_v2) m.entries ≡ o.1 = is_itself _ o.1 fs.1.1.1.1.1.1.1.0 in (
       (
         p.0.0,
         p.0.1,
@@ -166,18 +175,40 @@ join c v f o x p q =
           entries = m.entries;
           named = m.named;
           distinct = m.distinct;
-          fields = (fs.0, (fs.1.0, (fs.1.1.0, (fs.1.1.1.0, (fs.1.1.1.1.0, (fs.1.1.1.1.1.0, (subst (λ y. c.describes y x) (sym same) q, tt)))))));
+          fields = (
+            fs.0,
+            (
+              fs.1.0,
+              (
+                fs.1.1.0,
+                (
+                  fs.1.1.1.0,
+                  (
+                    fs.1.1.1.1.0,
+                    (
+                      fs.1.1.1.1.1.0,
+                      (subst (λ y. c.describes y x.0) (sym first) q, (subst (λ y. d.describes y x.1) (sym second) r, (fs.1.1.1.1.1.1.1.1.0, tt))),
+                    ),
+                  ),
+                ),
+              ),
+            ),
+          );
           rest = m.rest;
         },
       ),
       p.1,
     )
 
--- and it is written as the other, where the value is what c writes
-pub image_with : {C : Type 0} (c : FieldShape C) (f : FieldsSeen) (x : C) (o : Option Item) → c.image x ≡ Some o → partial_header.image (f, o) ≡ (map_with c).image (f, x)
+-- and it is written as the other, where the values are what c and d write
+pub image_with :
+    {C : Type 0} (c d : FieldShape C) (f : FieldsSeen) (x : Versions C) (o p : Option Item) → c.image x.0 ≡ Some o → d.image x.1 ≡ Some p
+    → partial_header.image (f, (o, p)) ≡ (map_with c d).image (f, x)
 unfolding partial_header
-image_with c f x (Some v) h = rw h refl
-image_with c f x None h = rw h refl
+image_with c d f x (Some v) (Some w) h k = rw (h, k) refl
+image_with c d f x (Some v) None h k = rw (h, k) refl
+image_with c d f x None (Some w) h k = rw (h, k) refl
+image_with c d f x None None h k = rw (h, k) refl
 
 -- a value that is found stands among the pairs
 found_pair : (l : Name) (w : Item) (ps : Pairs) (es : List (Name × Item)) → Named label.describes ps es → lookup (same_name l) es ≡ Some w → SomePair (λ k u. label.describes k l × (u ≡ w)) ps
@@ -203,14 +234,25 @@ pair_found P l (pair k v ps) (e ∷ es) p d (inl f) =
     (e.1, rw q refl, subst P p.1 f.1)
 pair_found P l (pair k v ps) (e ∷ es) p d (inr f) = let g = pair_found P l ps es p.2 d.1 f in (g.0, lookup_later names names_laws e es l g.0 d.0 g.1, g.2)
 
--- so the value of label 7 is the one that is left as it is
-pub counter_signatures_found : (P : Item → Type 0) (v : Item) (f : FieldsSeen) (o : Option Item) → partial_header.describes v (f, o) → SomeCounterSignatures P v → (w : Item) × (o ≡ Some w) × P w
+-- so the value is the one that is left as it is
+some_of_two : (P : Item → Type 0) (ps : Pairs) → SomePair (λ k w. HoldsSignatures k × P w) ps → SomePair (λ k w. label.describes k labels.counter_signature × P w) ps ⊎ SomePair (λ k w. label.describes k labels.countersignature_v2 × P w) ps
+some_of_two P no_pairs f = absurd f
+some_of_two P (pair k v ps) (inl f) = elim f.0 [ inl h ↦ inl (inl (h, f.1)) | inr h ↦ inr (inl (h, f.1)) ]
+some_of_two P (pair k v ps) (inr f) = elim (some_of_two P ps f) [ inl g ↦ inl (inr g) | inr g ↦ inr (inr g) ]
+
+pub counter_signatures_found :
+    (P : Item → Type 0) (v : Item) (f : FieldsSeen) (o : Versions (Option Item)) → partial_header.describes v (f, o) → SomeCounterSignatures P v
+    → (w : Item) × ((o.0 ≡ Some w) ⊎ (o.1 ≡ Some w)) × P w
 unfolding partial_header
 counter_signatures_found P v f o p s =
     let m = p.0.2 in
-    let same : lookup (same_name labels.counter_signature) m.entries ≡ o = is_itself _ o m.fields.1.1.1.1.1.1.0 in
-    let g = pair_found P labels.counter_signature p.0.0 m.entries m.named m.distinct (subst (SomePair (λ k u. label.describes k labels.counter_signature × P u)) (some-one s.1 p.0.1) s.2) in
-    (g.0, sym same ∙ g.1, g.2)
+    let first : lookup (same_name labels.counter_signature) m.entries ≡ o.0 = is_itself _ o.0 m.fields.1.1.1.1.1.1.0 in
+    let second : lookup (same_name labels.countersignature_v2) m.entries ≡ o.1 = is_itself _ o.1 m.fields.1.1.1.1.1.1.1.0 in
+    let two = some_of_two P p.0.0 (subst (SomePair (λ k u. HoldsSignatures k × P u)) (some-one s.1 p.0.1) s.2) in
+    elim two [
+      | inl h ↦ let g = pair_found P labels.counter_signature p.0.0 m.entries m.named m.distinct h in (g.0, inl (sym first ∙ g.1), g.2)
+      | inr h ↦ let g = pair_found P labels.countersignature_v2 p.0.0 m.entries m.named m.distinct h in (g.0, inr (sym second ∙ g.1), g.2)
+    ]
 
 -- what stands among some pairs stands among them and others
 some_before : (P : Item → Item → Type 0) (ps qs : Pairs) → SomePair P ps → SomePair P (and_pairs ps qs)
@@ -232,14 +274,14 @@ iv_before : (l : Name) (ps : Pairs) (es : List (Name × Item)) (iv : List ℕ) �
 iv_before l ps es iv n d some = has_label names names_laws ps es l n (λ a. some (subst (λ o. (listed filled_bstr).describes o iv) (lookup_none names l es a) d))
 
 -- what bars a label is a fault of the map
-pub barred_fault : (v : Item) (e : CoseError) → (ps : Pairs) × (as_map v ≡ Some ps) × Barred Name (Fielded (Option Item)) names (fields (optional any)) bars ps e → partial_header.faults v e
+pub barred_fault : (v : Item) (e : CoseError) → (ps : Pairs) × (as_map v ≡ Some ps) × Barred Name (Fielded (Option Item)) names (fields (optional any) (optional any)) bars ps e → partial_header.faults v e
 unfolding partial_header
 barred_fault v e f = go f.2.barred.2
   where
-    b : Barred Name (Fielded (Option Item)) names (fields (optional any)) bars f.0 e
+    b : Barred Name (Fielded (Option Item)) names (fields (optional any) (optional any)) bars f.0 e
     b = f.2
 
-    s : SoFar Name (Fielded (Option Item)) names (fields (optional any)) b.walked.done b.before
+    s : SoFar Name (Fielded (Option Item)) names (fields (optional any) (optional any)) b.walked.done b.before
     s = b.walked.so_far
 
     earlier : (l : Name) → HasLabel label.describes l b.walked.done → HasLabel label.describes l f.0

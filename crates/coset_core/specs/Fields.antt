@@ -1,4 +1,4 @@
--- What a header holds beside its counter signatures, and maps of that (RFC 8152, section 3.1).
+-- What a header holds beside its counter signatures of both versions, and maps of that (RFC 8152, section 3.1).
 use Rattle.std.specs.Prelude.{◌≡◌, ◌≢◌, ◌⊎◌, ℕ, ◌==◌, List, [], filter, length, Option, Some, None, Bool, true, is_some, ⊤}
 use Rattle.std.specs.Ordering.{is_eq}
 use Rattle.std.specs.Str.{trim}
@@ -13,7 +13,7 @@ use Rattle.coset_iana.specs.declared.algorithms.TheConstants.{ALGORITHMS}
 use Rattle.coset_iana.specs.declared.content_formats.TheConstants.{COAP_CONTENT_FORMATS}
 use Rattle.coset_iana.specs.declared.headers.TheConstants.{HEADER_PARAMETERS}
 use Rattle.coset_shape.specs.Errors.{IsUnexpected}
-use Rattle.coset_shape.specs.Shape.{Shape, that, any, along, some_of, filled_bstr}
+use Rattle.coset_shape.specs.Shape.{Shape, that, any, along, some_of, bstr, filled_bstr}
 use Rattle.coset_shape.specs.Maps.{Names, Fields, FieldShape, HasLabel, SomePair, Bars, field, no_field, optional, listed, labelled}
 use Rattle.coset_label.specs.Names.{Name, number, word, RegisteredName, name_cmp}
 use Rattle.coset_label.specs.Labels.{label, registered, registered_or_private}
@@ -27,11 +27,12 @@ pub record FieldsSeen : Type 0 where
   pub key_id : List ℕ
   pub iv : List ℕ
   pub partial_iv : List ℕ
+  pub countersignature0_v2 : Option (List ℕ)
   pub rest : List (Name × Item)
 
 -- nothing
 abbrev pub empty_fields : FieldsSeen
-empty_fields = record { alg = None; crit = []; content_type = None; key_id = []; iv = []; partial_iv = []; rest = [] }
+empty_fields = record { alg = None; crit = []; content_type = None; key_id = []; iv = []; partial_iv = []; countersignature0_v2 = None; rest = [] }
 
 -- ---- the fields' values
 
@@ -67,12 +68,16 @@ same_name a b = is_eq (name_cmp a b)
 abbrev pub names : Names Name
 names = record { shape = label; same = same_name }
 
--- the fields by label, the last of which is what C says
-abbrev pub Fielded : Type 0 → Type 0
-Fielded C = Option RegisteredName × (List RegisteredName × (Option Name × (List ℕ × (List ℕ × (List ℕ × (C × Unit {0}))))))
+-- what stands under the two labels whose values hold counter signatures: 7 and 11
+abbrev pub Versions : Type 0 → Type 0
+Versions C = C × C
 
-abbrev pub fields : {C : Type 0} → FieldShape C → Fields Name (Fielded C)
-fields counter_signatures =
+-- the fields by label, in the order in which they are written; under the two labels of counter signatures is what C says
+abbrev pub Fielded : Type 0 → Type 0
+Fielded C = Option RegisteredName × (List RegisteredName × (Option Name × (List ℕ × (List ℕ × (List ℕ × (C × (C × (Option (List ℕ) × Unit {0}))))))))
+
+abbrev pub fields : {C : Type 0} → FieldShape C → FieldShape C → Fields Name (Fielded C)
+fields counter_signatures countersignatures_v2 =
     field names labels.alg (optional algorithm)
     (field names labels.crit (listed (some_of critical))
     (field names labels.content_type (optional content_type)
@@ -80,45 +85,61 @@ fields counter_signatures =
     (field names labels.iv (listed filled_bstr)
     (field names labels.partial_iv (listed filled_bstr)
     (field names labels.counter_signature counter_signatures
-    no_field))))))
+    (field names labels.countersignature_v2 countersignatures_v2
+    (field names labels.countersignature0_v2 (optional bstr)
+    no_field))))))))
 
-abbrev pub fields_of : {C : Type 0} → Fielded C × List (Name × Item) → FieldsSeen × C
+abbrev pub fields_of : {C : Type 0} → Fielded C × List (Name × Item) → FieldsSeen × Versions C
 fields_of p = (
-  record { alg = p.0.0; crit = p.0.1.0; content_type = p.0.1.1.0; key_id = p.0.1.1.1.0; iv = p.0.1.1.1.1.0; partial_iv = p.0.1.1.1.1.1.0; rest = p.1 },
-  p.0.1.1.1.1.1.1.0,
+  record {
+    alg = p.0.0;
+    crit = p.0.1.0;
+    content_type = p.0.1.1.0;
+    key_id = p.0.1.1.1.0;
+    iv = p.0.1.1.1.1.0;
+    partial_iv = p.0.1.1.1.1.1.0;
+    countersignature0_v2 = p.0.1.1.1.1.1.1.1.1.0;
+    rest = p.1;
+  },
+  (p.0.1.1.1.1.1.1.0, p.0.1.1.1.1.1.1.1.0),
 )
 
-abbrev pub parts_of : {C : Type 0} → FieldsSeen × C → Fielded C × List (Name × Item)
-parts_of x = ((x.0.alg, (x.0.crit, (x.0.content_type, (x.0.key_id, (x.0.iv, (x.0.partial_iv, (x.1, tt))))))), x.0.rest)
+abbrev pub parts_of : {C : Type 0} → FieldsSeen × Versions C → Fielded C × List (Name × Item)
+parts_of x =
+    ((x.0.alg, (x.0.crit, (x.0.content_type, (x.0.key_id, (x.0.iv, (x.0.partial_iv, (x.1.0, (x.1.1, (x.0.countersignature0_v2, tt))))))))), x.0.rest)
 
 -- not both IV and Partial IV
 abbrev pub HasOneIv : FieldsSeen → Type 0
 HasOneIv f = (f.iv ≡ []) ⊎ (f.partial_iv ≡ [])
 
 -- the fields by label, and the rest
-abbrev pub map_of : {C : Type 0} → FieldShape C → Shape (FieldsSeen × C)
-map_of counter_signatures = along fields_of parts_of (labelled names (fields counter_signatures))
+abbrev pub map_of : {C : Type 0} → FieldShape C → FieldShape C → Shape (FieldsSeen × Versions C)
+map_of c d = along fields_of parts_of (labelled names (fields c d))
 
 -- both IV and Partial IV
 abbrev pub HasBothIvs : Item → Type 0
 HasBothIvs v = (ps : Pairs) × (as_map v ≡ Some ps) × HasLabel label.describes labels.iv ps × HasLabel label.describes labels.partial_iv ps
 
 -- {? 1 => algorithm, ? 2 => [+ critical], ? 3 => content_type, ? 4 => bstr .size (1..), ? 5 => bstr .size (1..) //
--- 6 => bstr .size (1..), ? 7 => counter_signatures, * label => any}
-abbrev pub map_with : {C : Type 0} → FieldShape C → Shape (FieldsSeen × C)
-map_with counter_signatures = record {
-  describes = λ v x. (map_of counter_signatures).describes v x × HasOneIv x.0;
-  image = (map_of counter_signatures).image;
-  faults = λ v e. (map_of counter_signatures).faults v e ⊎ (HasBothIvs v × IsUnexpected e);
+-- 6 => bstr .size (1..), ? 7 => c, ? 11 => d, ? 12 => bstr, * label => any}
+abbrev pub map_with : {C : Type 0} → FieldShape C → FieldShape C → Shape (FieldsSeen × Versions C)
+map_with c d = record {
+  describes = λ v x. (map_of c d).describes v x × HasOneIv x.0;
+  image = (map_of c d).image;
+  faults = λ v e. (map_of c d).faults v e ⊎ (HasBothIvs v × IsUnexpected e);
 }
 
--- such a map, with the value of label 7 as it is
-unfoldable pub partial_header : Shape (FieldsSeen × Option Item)
-partial_header = map_with (optional any)
+-- such a map, with the values of labels 7 and 11 as they are
+unfoldable pub partial_header : Shape (FieldsSeen × Versions (Option Item))
+partial_header = map_with (optional any) (optional any)
 
--- one of the pairs of a map has label 7, and a value of which P tells
+-- the key of counter signatures: label 7, or label 11
+abbrev pub HoldsSignatures : Item → Type 0
+HoldsSignatures k = label.describes k labels.counter_signature ⊎ label.describes k labels.countersignature_v2
+
+-- one of the pairs of a map holds counter signatures, and P tells of its value
 abbrev pub SomeCounterSignatures : (Item → Type 0) → Item → Type 0
-SomeCounterSignatures P v = (ps : Pairs) × (as_map v ≡ Some ps) × SomePair (λ k w. label.describes k labels.counter_signature × P w) ps
+SomeCounterSignatures P v = (ps : Pairs) × (as_map v ≡ Some ps) × SomePair (λ k w. HoldsSignatures k × P w) ps
 
 -- why a label is refused after others: Partial IV after IV, or IV after Partial IV
 abbrev pub bars : {C : Type 0} → Bars Name (Fielded C)

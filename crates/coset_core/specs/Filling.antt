@@ -1,5 +1,5 @@
 -- Reading a header and its signatures forward: what is read so far, and what is answered where reading stops.
-use Rattle.std.specs.Prelude.{◌≡◌, ◌⊎◌, ℕ, List, Bool, true, false, Option, Some, None, Result, Ok, Err}
+use Rattle.std.specs.Prelude.{◌≡◌, ◌⊎◌, ℕ, List, map, Bool, true, false, Option, Some, None, Result, Ok, Err}
 use Rattle.std.specs.Map.{keys_of}
 use Rattle.coset_value.specs.Item.{Item, array, dict, Items, no_items, item, Pairs, no_pairs, pair}
 use Rattle.coset_value.specs.Parts.{as_bytes}
@@ -15,14 +15,36 @@ use Rattle.coset_label.specs.Names.{Name}
 use Rattle.coset_label.specs.Views.{label_seen}
 use Rattle.coset_label.specs.declared.label.Label.{Label}
 use Rattle.coset_core.specs.FieldLabels as labels
-use Rattle.coset_core.specs.Fields.{FieldsSeen, Fielded, names, fields, parts_of, same_name, bars}
-use Rattle.coset_core.specs.Headers.{layered_protected, layered_signature}
+use Rattle.coset_core.specs.Fields.{FieldsSeen, Versions, Fielded, names, fields, parts_of, same_name, bars}
+use Rattle.coset_core.specs.FieldsView.{counter_signatures_held, countersignatures_held, fields_seen}
+use Rattle.coset_core.specs.Headers.{SignatureSeen, layered_protected, layered_signature}
+use Rattle.coset_core.specs.Views.{countersignature_seen, signature_seen}
+use Rattle.coset_core.specs.declared.header.Header.{Header}
+use Rattle.coset_core.specs.declared.header.Version.{Version}
+use Rattle.coset_core.specs.declared.header.Version.TheVariants.{V1, V2}
 
 -- ---- a header's pairs
 
--- of all the pairs of a map those before ps make the fields f, and o is the value of label 7
-abbrev pub WalksTo : Pairs → FieldsSeen → Option Item → Pairs → Type 0
-WalksTo all f o ps = Walks Name (Fielded (Option Item)) names (fields (optional any)) all (parts_of (f, o)) ps
+-- a version's label, and what is there of a version
+abbrev pub label_of : Version → Name
+label_of V1 = labels.counter_signature
+label_of V2 = labels.countersignature_v2
+
+abbrev pub at_version : {A : Type 0} → Version → Versions A → A
+at_version V1 x = x.0
+at_version V2 x = x.1
+
+abbrev pub with_version : {A : Type 0} → Version → A → Versions A → Versions A
+with_version V1 a x = (a, x.1)
+with_version V2 a x = (x.0, a)
+
+-- the label is that of no version
+abbrev pub NamesNoVersion : Name → Type 0
+NamesNoVersion m = (same_name labels.counter_signature m ≡ false) × (same_name labels.countersignature_v2 m ≡ false)
+
+-- of all the pairs of a map those before ps make the fields f, and o are the values of labels 7 and 11
+abbrev pub WalksTo : Pairs → FieldsSeen → Versions (Option Item) → Pairs → Type 0
+WalksTo all f o ps = Walks Name (Fielded (Option Item)) names (fields (optional any) (optional any)) all (parts_of (f, o)) ps
 
 -- at t stands the value of the next pair, whose label this is; or none is left; or the next pair's key is at fault
 abbrev pub NextsLabel : Pairs → State → State → InputPairs → Result (Option Label) CoseError → Type 0
@@ -31,35 +53,35 @@ NextsLabel ps t z m (Ok (Some l)) =
 NextsLabel ps t z m (Ok None) = (ps ≡ no_pairs) × PairsWithin m no_pairs t z
 NextsLabel ps t z m (Err e) = (k : Item) × (v : Item) × (others : Pairs) × (ps ≡ pair k v others) × PairsWithin m others t z × UnlessMemory e (label.faults k)
 
--- at t stands the value of a pair of label 7
-pub record AtSeven (all : Pairs) (o : Option Item) (f : FieldsSeen) (t z : State) (m : InputPairs) : Type 0 where
+-- at t stands the value of a pair that holds counter signatures of this version
+pub record AtHeld (version : Version) (all : Pairs) (o : Versions (Option Item)) (f : FieldsSeen) (t z : State) (m : InputPairs) : Type 0 where
   pub key : Item
   pub value : Item
   pub others : Pairs
   pub mid : State
   pub walks : WalksTo all f o (pair key value others)
-  pub seven : label.describes key labels.counter_signature
+  pub held : label.describes key (label_of version)
   pub stands : Stands value t mid
   pub within : PairsWithin m others mid z
 
 -- all pairs were read
-pub record AtEnd (all : Pairs) (o : Option Item) (f : FieldsSeen) (t z : State) (m : InputPairs) : Type 0 where
+pub record AtEnd (all : Pairs) (o : Versions (Option Item)) (f : FieldsSeen) (t z : State) (m : InputPairs) : Type 0 where
   pub walks : WalksTo all f o no_pairs
   pub within : PairsWithin m no_pairs t z
 
 -- the pair was passed that is at fault
-pub record AtFault (all : Pairs) (o : Option Item) (f : FieldsSeen) (t z : State) (m : InputPairs) (e : CoseError) : Type 0 where
+pub record AtFault (all : Pairs) (o : Versions (Option Item)) (f : FieldsSeen) (t z : State) (m : InputPairs) (e : CoseError) : Type 0 where
   pub key : Item
   pub value : Item
   pub others : Pairs
   pub walks : WalksTo all f o (pair key value others)
   pub within : PairsWithin m others t z
-  pub faulty : UnlessMemory e (λ g. RefusesKey names (fields (optional any)) key value (parts_of (f, o)) g ⊎ BarsKey names bars key (parts_of (f, o)) g)
+  pub faulty : UnlessMemory e (λ g. RefusesKey names (fields (optional any) (optional any)) key value (parts_of (f, o)) g ⊎ BarsKey names bars key (parts_of (f, o)) g)
 
 -- where reading pairs one after the other stops
-abbrev pub FillsSome : Pairs → Option Item → State → FieldsSeen → State → InputPairs → Result Bool CoseError → Type 0
-FillsSome all o z f t m (Ok true) = AtSeven all o f t z m
-FillsSome all o z f t m (Ok false) = AtEnd all o f t z m
+abbrev pub FillsSome : Pairs → Versions (Option Item) → State → FieldsSeen → State → InputPairs → Result (Option Version) CoseError → Type 0
+FillsSome all o z f t m (Ok (Some version)) = AtHeld version all o f t z m
+FillsSome all o z f t m (Ok None) = AtEnd all o f t z m
 FillsSome all o z f t m (Err e) = AtFault all o f t z m e
 
 -- no label of the rest repeats
@@ -67,12 +89,24 @@ abbrev pub IsDistinctRest : FieldsSeen → Type 0
 IsDistinctRest f = are_distinct same_name (keys_of f.rest) ≡ true
 
 -- the same, where labels of the rest that repeat are a fault
-abbrev pub FillsFields : Pairs → Option Item → State → FieldsSeen → State → InputPairs → Result Bool CoseError → Type 0
-FillsFields all o z f t m (Ok true) = AtSeven all o f t z m × IsDistinctRest f
-FillsFields all o z f t m (Ok false) = AtEnd all o f t z m × IsDistinctRest f
-FillsFields all o z f t m (Err e) = (left : Pairs) × PairsWithin m left t z × UnlessMemory e (GatherFaults names (fields (optional any)) bars (dict all))
+abbrev pub FillsFields : Pairs → Versions (Option Item) → State → FieldsSeen → State → InputPairs → Result (Option Version) CoseError → Type 0
+FillsFields all o z f t m (Ok (Some version)) = AtHeld version all o f t z m × IsDistinctRest f
+FillsFields all o z f t m (Ok None) = AtEnd all o f t z m × IsDistinctRest f
+FillsFields all o z f t m (Err e) = (left : Pairs) × PairsWithin m left t z × UnlessMemory e (GatherFaults names (fields (optional any) (optional any)) bars (dict all))
 
 -- ---- signatures
+
+-- the counter signatures of both versions that a header holds, and those of one
+abbrev pub held : Header → Versions (List SignatureSeen)
+held h = (map signature_seen (counter_signatures_held h), map countersignature_seen (countersignatures_held h))
+
+abbrev pub held_of : Version → Header → List SignatureSeen
+held_of version h = at_version version (held h)
+
+-- the header has these counter signatures of that version, and all else as it was
+pub record Keeps (version : Version) (xs : List SignatureSeen) (old new : Header) : Type 0 where
+  pub fields : fields_seen new ≡ fields_seen old
+  pub signatures : held new ≡ with_version version xs (held old)
 
 -- ---- a signature's places
 

@@ -7,7 +7,7 @@ use Rattle.coset_shape.specs.Shape.{Shape, Places, fixed, bstr, ◌then◌, end,
 use Rattle.coset_shape.specs.ShapeLaws.{Again, AgainPlaces, Lawful, LawfulPlaces, some-one, both-some, array_of_laws, then_laws, bstr_laws, end_laws, one_or_many_laws}
 use Rattle.coset_shape.specs.Maps.{FieldShape}
 use Rattle.coset_shape.specs.MapLaws.{AgainFieldShape, LawfulFieldShape, Within}
-use Rattle.coset_core.specs.Fields.{FieldsSeen, map_with}
+use Rattle.coset_core.specs.Fields.{FieldsSeen, Versions, map_with}
 use Rattle.coset_core.specs.FieldLaws.{map_with_laws, split, join, image_with}
 use Rattle.coset_core.specs.Headers.{HeaderSeen, header_of, Signatures, no_signatures, signature_and, CounterSignaturesAre, IsHeader, AreSignatures, signed_array, told_by, counter_signatures_item, header_item, protected_item, signatures_image, header_image}
 use Rattle.coset_core.specs.HeaderReads.{ProtectedOf}
@@ -26,9 +26,9 @@ IsAgain k h = (v : Item) → IsHeader h k v → Again (Unit {0}) (told_as (IsHea
 abbrev pub AreAgain : ℕ → Signatures → Type 0
 AreAgain k ss = (vs : Items) → AreSignatures ss k vs → AgainPlaces (Unit {0}) (known_places k ss) vs tt
 
--- ---- the signatures of label 7
+-- ---- the signatures of label 7, or 11
 
-never_none : (w : Item) → one_or_more w ≡ Some no_items → ⊥
+pub never_none : (w : Item) → one_or_more w ≡ Some no_items → ⊥
 never_none (array (item (bytes b) vs)) p = cc
 never_none (array (item v vs)) p = cc
 never_none _ p = cc
@@ -78,7 +78,7 @@ one_or_array_told :
 one_or_array_told o p u s more k no_items a = absurd a
 one_or_array_told o p u s more k (item v vs) a = one_or_array_begins v vs (places_begin o p k (IsHeader u k) s v a.0.0 (array-is v a.0.0 a.0.1) a.0.2)
 
--- the value of label 7 that stands for them
+-- the value of label 7, or 11, that stands for them
 abbrev known : ℕ → Signatures → FieldShape (Unit {0})
 known k ss = record { describes = λ o x. CounterSignaturesAre (AreSignatures ss k) (ss ≡ no_signatures) o; image = λ x. counter_signatures_item ss (signatures_image ss); faults = λ v e. ⊥ }
 
@@ -114,16 +114,19 @@ within (Some v) = (depth v, omega arith)
 within None = (0, tt)
 
 -- its map is written so, where its signatures are
-map_again : (f : FieldsSeen) (ss : Signatures) (k : ℕ) → AreAgain k ss → IsAgain k (header_of f ss)
-map_again f ss k again v h =
-    let l = known_laws k ss again in
-    let a : Again (FieldsSeen × Unit {0}) (map_with (known k ss)) v (f, tt) = (map_with_laws (known k ss) l).again v (f, tt) (join (known k ss) v f h.0 tt h.1 h.2) in
-    let d = within h.0 in
-    let c : AgainFieldShape (Unit {0}) (known k ss) d.0 tt = known_again k ss again d.0 h.0 tt d.1 h.2 in
+map_again : (f : FieldsSeen) (ss ts : Signatures) (k : ℕ) → AreAgain k ss → AreAgain k ts → IsAgain k (header_of f ss ts)
+map_again f ss ts k again again_v2 v h =
+    let two : Versions (Unit {0}) = (tt, tt) in
+    let a : Again (FieldsSeen × Versions (Unit {0})) (map_with (known k ss) (known k ts)) v (f, two) =
+    (map_with_laws (known k ss) (known k ts) (known_laws k ss again) (known_laws k ts again_v2)).again v (f, two) (join (known k ss) (known k ts) v f h.0 two h.1 h.2 h.3) in
+    let d = within h.0.0 in
+    let c : AgainFieldShape (Unit {0}) (known k ss) d.0 tt = known_again k ss again d.0 h.0.0 tt d.1 h.2 in
+    let e = within h.0.1 in
+    let g : AgainFieldShape (Unit {0}) (known k ts) e.0 tt = known_again k ts again_v2 e.0 h.0.1 tt e.1 h.3 in
     record {
       image = a.image;
-      is_image = ap (header_item f) c.is_image ∙ (image_with (known k ss) f tt c.value c.is_image ∙ a.is_image);
-      described = split (known k ss) a.image f tt a.described;
+      is_image = (λ i. header_item f (c.is_image i) (g.is_image i)) ∙ (image_with (known k ss) (known k ts) f two c.value g.value c.is_image g.is_image ∙ a.is_image);
+      described = split (known k ss) (known k ts) a.image f two a.described;
       shallow = a.shallow;
     }
 
@@ -152,7 +155,7 @@ signed_laws p u lp lu = array_of_laws _ (then_laws p _ lp (then_laws u _ lu (the
 -- all headers are written so, and all signatures
 mutual
   pub header_again : (h : HeaderSeen) (k : ℕ) → IsAgain k h
-  header_again (header_of f ss) k v h = map_again f ss k (λ vs x. signatures_again ss k vs x) v h
+  header_again (header_of f ss ts) k v h = map_again f ss ts k (λ vs x. signatures_again ss k vs x) (λ vs x. signatures_again ts k vs x) v h
 
   pub signatures_again : (ss : Signatures) (k : ℕ) → AreAgain k ss
   signatures_again no_signatures k vs h = record { image = no_items; is_image = refl; described = refl; shallow = omega arith }

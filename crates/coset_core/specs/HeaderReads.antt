@@ -1,4 +1,4 @@
--- Headers read from their parts: the map with the value of label 7 as it is, and the counter signatures of that value.
+-- Headers read from their parts: the map with the values of labels 7 and 11 as they are, and the counter signatures of these values.
 use Rattle.std.specs.Prelude.{None, ⊤}
 use Rattle.std.proofs.Common.{◌≡◌, ℕ, zero, suc, List, [], ◌∷◌, Option, Some, refl, ap, sym, subst, inl, inr}
 use Rattle.coset_value.specs.Item.{Item, Items, no_items, item, Pairs, no_pairs, pair}
@@ -6,7 +6,7 @@ use Rattle.coset_shape.specs.Shape.{Shape, Each, EachFaults, fixed, bstr, ◌the
 use Rattle.coset_shape.specs.Serialized.{ContentDescribes, ContentFaults}
 use Rattle.coset_shape.specs.declared.error.CoseError.{CoseError}
 use Rattle.coset_shape.specs.Maps.{listed, SomePair}
-use Rattle.coset_core.specs.Fields.{FieldsSeen, map_with, partial_header, SomeCounterSignatures}
+use Rattle.coset_core.specs.Fields.{FieldsSeen, Versions, map_with, partial_header, SomeCounterSignatures}
 use Rattle.coset_core.specs.FieldLaws.{split}
 use Rattle.coset_core.specs.Headers.{HeaderSeen, header_of, Signatures, no_signatures, ProtectedSeen, SignatureSeen, signatures_of, empty_header, CounterSignaturesAre, ContentIs, ProtectedIs, IsHeader, AreSignatures, signed_array, told_by, HeaderFaults, ProtectedFaults, counter_signatures_faults, layered_header, layered_protected, layered_signature}
 
@@ -62,12 +62,12 @@ counter_signatures_read k w xs h = (h.0, h.1, signatures_read k h.0 xs h.2)
 
 -- a header of which that is told
 pub header_read :
-    (k : ℕ) (v : Item) (f : FieldsSeen) (o : Option Item) (ss : Signatures) → partial_header.describes v (f, o) → CounterSignaturesAre (AreSignatures ss k) (ss ≡ no_signatures) o
-    → (layered_header k).describes v (header_of f ss)
+    (k : ℕ) (v : Item) (f : FieldsSeen) (o : Versions (Option Item)) (ss ts : Signatures) → partial_header.describes v (f, o) → CounterSignaturesAre (AreSignatures ss k) (ss ≡ no_signatures) o.0
+    → CounterSignaturesAre (AreSignatures ts k) (ts ≡ no_signatures) o.1 → (layered_header k).describes v (header_of f ss ts)
 unfolding layered_header
-header_read k v f o ss p q = (o, p, q)
+header_read k v f o ss ts p q r = (o, p, q, r)
 
--- a map with a list of signatures, which is left out where it is empty
+-- a map with lists of signatures, which are left out where they are empty
 listed_read :
     (k : ℕ) (xs : List SignatureSeen) (o : Option Item) → (listed (one_or_many (any_number (layered_signature k)))).describes o xs
     → CounterSignaturesAre (AreSignatures (signatures_of xs) k) (signatures_of xs ≡ no_signatures) o
@@ -75,15 +75,16 @@ listed_read k xs (Some w) h = counter_signatures_read k w xs h
 listed_read k xs None h = ap signatures_of h
 
 pub header_read_with :
-    (k : ℕ) (v : Item) (f : FieldsSeen) (xs : List SignatureSeen) → (map_with (listed (one_or_many (any_number (layered_signature k))))).describes v (f, xs)
-    → (layered_header k).describes v (header_of f (signatures_of xs))
-header_read_with k v f xs h =
-    let parts = split (listed (one_or_many (any_number (layered_signature k)))) v f xs h in
-    header_read k v f parts.0 (signatures_of xs) parts.1 (listed_read k xs parts.0 parts.2)
+    (k : ℕ) (v : Item) (f : FieldsSeen) (xs ys : List SignatureSeen)
+    → (map_with (listed (one_or_many (any_number (layered_signature k)))) (listed (one_or_many (any_number (layered_signature k))))).describes v (f, (xs, ys))
+    → (layered_header k).describes v (header_of f (signatures_of xs) (signatures_of ys))
+header_read_with k v f xs ys h =
+    let parts = split (listed (one_or_many (any_number (layered_signature k)))) (listed (one_or_many (any_number (layered_signature k)))) v f (xs, ys) h in
+    header_read k v f parts.0 (signatures_of xs) (signatures_of ys) parts.1 (listed_read k xs parts.0.0 parts.2) (listed_read k ys parts.0.1 parts.3)
 
 -- ---- what is wrong
 
--- faults of a signature, in whose label 7 they are found within n signatures
+-- faults of a signature, in whose label 7 or 11 they are found within n signatures
 abbrev pub protected_faults : ℕ → ℕ → Shape (Unit {0})
 protected_faults n k = fixed (λ v. ⊤) None (ProtectedFaults (λ j. HeaderFaults (counter_signatures_faults n j)) k)
 

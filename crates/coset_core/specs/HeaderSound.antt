@@ -15,13 +15,23 @@ use Rattle.coset_core.specs.HeaderReads.{ProtectedOf, protected_faults, unprotec
 abbrev AreSound : ℕ → Type 0
 AreSound n = (k : ℕ) (w : Item) (e : CoseError) (ss : Signatures) (vs : Items) → one_or_more w ≡ Some vs → AreSignatures ss k vs → counter_signatures_faults n k w e → ⊥
 
--- so none is in a map, in the content of a byte string, and in that string
+-- so none is in a value that stands for signatures
+held_sound :
+    (n : ℕ) → AreSound n → (k : ℕ) (e : CoseError) (ss : Signatures) (o : Option Item) (w : Item) → o ≡ Some w → CounterSignaturesAre (AreSignatures ss k) (ss ≡ no_signatures) o
+    → counter_signatures_faults n k w e → ⊥
+held_sound n sound k e ss o w is a x =
+    let are : CounterSignaturesAre (AreSignatures ss k) (ss ≡ no_signatures) (Some w) = subst (CounterSignaturesAre (AreSignatures ss k) (ss ≡ no_signatures)) is a in
+    sound k w e ss are.0 are.1 are.2 x
+
+-- in a map, in the content of a byte string, and in that string
 header_sound : (n : ℕ) → AreSound n → (k : ℕ) (e : CoseError) (h : HeaderSeen) (v : Item) → IsHeader h k v → HeaderFaults (counter_signatures_faults n k) v e → ⊥
-header_sound n sound k e (header_of f ss) v a (inl x) = partial_header_laws.sound v (f, a.0) e a.1 x
-header_sound n sound k e (header_of f ss) v a (inr x) =
+header_sound n sound k e (header_of f ss ts) v a (inl x) = partial_header_laws.sound v (f, a.0) e a.1 x
+header_sound n sound k e (header_of f ss ts) v a (inr x) =
     let found = counter_signatures_found (λ w. counter_signatures_faults n k w e) v f a.0 a.1 x in
-    let are : CounterSignaturesAre (AreSignatures ss k) (ss ≡ no_signatures) (Some found.0) = subst (CounterSignaturesAre (AreSignatures ss k) (ss ≡ no_signatures)) found.1 a.2 in
-    sound k found.0 e ss are.0 are.1 are.2 found.2
+    elim found.1 [
+      | inl h ↦ held_sound n sound k e ss a.0.0 found.0 h a.2 found.2
+      | inr h ↦ held_sound n sound k e ts a.0.1 found.0 h a.3 found.2
+    ]
 
 content_sound :
     (n : ℕ) → AreSound n → (k : ℕ) (e : CoseError) (h : HeaderSeen) (b : List ℕ) → ContentIs (IsHeader h k) (h ≡ empty_header) b

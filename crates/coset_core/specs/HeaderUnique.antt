@@ -4,7 +4,7 @@ use Rattle.coset_value.specs.Item.{Item, Items, no_items, item}
 use Rattle.coset_cbor.proofs.Again.{encodings_differ}
 use Rattle.coset_shape.specs.Shape.{one_or_more, bstr, ◌then◌, end}
 use Rattle.coset_shape.specs.ShapeLaws.{some-one, some-none}
-use Rattle.coset_core.specs.Fields.{FieldsSeen}
+use Rattle.coset_core.specs.Fields.{FieldsSeen, Versions}
 use Rattle.coset_core.specs.FieldLaws.{partial_header_laws}
 use Rattle.coset_core.specs.Headers.{HeaderSeen, header_of, Signatures, no_signatures, signature_and, empty_header, CounterSignaturesAre, ContentIs, IsHeader, AreSignatures, signed_array, told_by}
 use Rattle.coset_core.specs.HeaderReads.{ProtectedOf}
@@ -17,7 +17,7 @@ SameHeader h g = (k : ℕ) (v : Item) → IsHeader h k v → IsHeader g k v → 
 abbrev SameSignatures : Signatures → Signatures → Type 0
 SameSignatures ss ts = (k : ℕ) (vs : Items) → AreSignatures ss k vs → AreSignatures ts k vs → ss ≡ ts
 
--- so label 7 stands for the same
+-- so the value of label 7, or 11, stands for the same
 counter_signatures_same :
     (k : ℕ) (ss ts : Signatures) → SameSignatures ss ts → (o p : Option Item) → o ≡ p → CounterSignaturesAre (AreSignatures ss k) (ss ≡ no_signatures) o
     → CounterSignaturesAre (AreSignatures ts k) (ts ≡ no_signatures) p → ss ≡ ts
@@ -29,12 +29,13 @@ counter_signatures_same k ss ts same (Some v) (Some w) e a b =
     same k b.0 (subst (AreSignatures ss k) vs a.2) b.2
 
 -- and a map, and the content of a byte string
-map_same : (f g : FieldsSeen) (ss ts : Signatures) → SameSignatures ss ts → SameHeader (header_of f ss) (header_of g ts)
-map_same f g ss ts same k v a b =
-    let e : ◌≡◌ {A = FieldsSeen × Option Item} (f, a.0) (g, b.0) = partial_header_laws.unique v (f, a.0) (g, b.0) a.1 b.1 in
+map_same : (f g : FieldsSeen) (ss ts us ws : Signatures) → SameSignatures ss us → SameSignatures ts ws → SameHeader (header_of f ss ts) (header_of g us ws)
+map_same f g ss ts us ws same same_v2 k v a b =
+    let e : ◌≡◌ {A = FieldsSeen × Versions (Option Item)} (f, a.0) (g, b.0) = partial_header_laws.unique v (f, a.0) (g, b.0) a.1 b.1 in
     let first : f ≡ g = ap (λ x. x.0) e in
-    let last : ss ≡ ts = counter_signatures_same k ss ts same a.0 b.0 (ap (λ x. x.1) e) a.2 b.2 in
-    λ i. header_of (first i) (last i)
+    let second : ss ≡ us = counter_signatures_same k ss us same a.0.0 b.0.0 (ap (λ x. x.1.0) e) a.2 b.2 in
+    let last : ts ≡ ws = counter_signatures_same k ts ws same_v2 a.0.1 b.0.1 (ap (λ x. x.1.1) e) a.3 b.3 in
+    λ i. header_of (first i) (second i) (last i)
 
 content_same : (h g : HeaderSeen) → SameHeader h g → (k : ℕ) (b : List ℕ) → ContentIs (IsHeader h k) (h ≡ empty_header) b → ContentIs (IsHeader g k) (g ≡ empty_header) b → h ≡ g
 content_same h g same k [] p q = p ∙ sym q
@@ -72,7 +73,7 @@ signed_same P Q R S s t v a b =
 -- all headers, and all signatures
 mutual
   pub header_same : (h g : HeaderSeen) → SameHeader h g
-  header_same (header_of f ss) (header_of g ts) k v a b = map_same f g ss ts (λ j vs x y. signatures_same ss ts j vs x y) k v a b
+  header_same (header_of f ss ts) (header_of g us ws) k v a b = map_same f g ss ts us ws (λ j vs x y. signatures_same ss us j vs x y) (λ j vs x y. signatures_same ts ws j vs x y) k v a b
 
   pub signatures_same : (ss ts : Signatures) → SameSignatures ss ts
   signatures_same no_signatures no_signatures k vs a b = refl

@@ -2,14 +2,14 @@
 use Rattle.std.specs.Map.{keys_of}
 use Rattle.std.proofs.Common.{◌≡◌, ◌++◌, ℕ, zero, suc, List, [], ◌∷◌, Option, Some, None, Bool, true, false, option_map, refl, sym, ap, ◌∙◌}
 use Rattle.coset_value.specs.Item.{Item, bytes, dict, Items, item}
-use Rattle.coset_shape.specs.Shape.{both, images, any, one_or_array, filled_bstr, some_of, any_number, one_or_many}
+use Rattle.coset_shape.specs.Shape.{both, images, any, bstr, one_or_array, filled_bstr, some_of, any_number, one_or_many}
 use Rattle.coset_shape.specs.Maps.{FieldShape, optional, listed, put_field, put_fields, named_image, are_distinct, entries_image, may_write}
 use Rattle.coset_shape.specs.Serialized.{content_bytes}
 use Rattle.coset_shape.specs.RestLaws.{some-entries, no-entries}
 use Rattle.coset_label.specs.Labels.{label}
 use Rattle.coset_label.specs.Names.{Name, number, word, name_item, RegisteredName, assigned, private_use, phrase, as_name}
 use Rattle.coset_core.specs.FieldLabels as labels
-use Rattle.coset_core.specs.Fields.{FieldsSeen, algorithm, critical, content_type, same_name, names, fields, parts_of, map_with, partial_header}
+use Rattle.coset_core.specs.Fields.{FieldsSeen, Versions, algorithm, critical, content_type, same_name, names, fields, parts_of, map_with, partial_header}
 use Rattle.coset_core.specs.FieldLaws.{image_with}
 use Rattle.coset_core.specs.Headers.{HeaderSeen, header_of, ProtectedSeen, SignatureSeen, signatures_of, is_empty_header, counter_signatures_item, header_item, signature_item, signatures_image, header_image, protected_bytes, layered_header, layered_protected, layered_signature}
 
@@ -40,7 +40,7 @@ images_signatures k (x ∷ xs) =
     let first = signature_image_is k x ∙ ap (λ o. signature_item (option_map bytes o) (header_image x.unprotected) x.signature) (kept_parts x.protected.original x.protected.header) in
     λ i. both item (first i) (images_signatures k xs i)
 
--- ---- label 7
+-- ---- label 7, or 11
 
 -- none is left out; one is written as itself, and several as an array
 pub counter_signatures_none : counter_signatures_item (signatures_of []) (signatures_image (signatures_of [])) ≡ Some None
@@ -72,21 +72,36 @@ entries_none : (b : Bool) (rest : List (Name × Item)) (o : Option (List (Name �
 entries_none true rest o e = ap (entries_image names true rest) e
 entries_none false rest o e = refl
 
--- nothing is written where the value of label 7 can't be
-pub unwritten_with : {C : Type 0} (c : FieldShape C) (f : FieldsSeen) (x : C) → c.image x ≡ None → (map_with c).image (f, x) ≡ None
-unwritten_with c f x e =
-    let here : both (put_field labels.counter_signature) (c.image x) (Some []) ≡ None = ap (λ o. both (put_field labels.counter_signature) o (Some [])) e in
-    entries_none (may_write names true f.rest) f.rest ((fields c).image (parts_of (f, x)).0)
+-- nothing is written where the value of label 7, or that of label 11, can't be
+behind_six :
+    {C : Type 0} (c d : FieldShape C) (f : FieldsSeen) (x : Versions C)
+    → both (put_field labels.counter_signature) (c.image x.0) (both (put_field labels.countersignature_v2) (d.image x.1) (both (put_field labels.countersignature0_v2) ((optional bstr).image f.countersignature0_v2) (Some []))) ≡ None
+    → (map_with c d).image (f, x) ≡ None
+behind_six c d f x here =
+    entries_none (may_write names true f.rest) f.rest ((fields c d).image (parts_of (f, x)).0)
     (both_none _ _ _ (both_none _ _ _ (both_none _ _ _ (both_none _ _ _ (both_none _ _ _ (both_none _ _ _ here))))))
 
+pub unwritten_first : {C : Type 0} (c d : FieldShape C) (f : FieldsSeen) (x : Versions C) → c.image x.0 ≡ None → (map_with c d).image (f, x) ≡ None
+unwritten_first c d f x e =
+    behind_six c d f x (ap (λ o. both (put_field labels.counter_signature) o (both (put_field labels.countersignature_v2) (d.image x.1) (both (put_field labels.countersignature0_v2) ((optional bstr).image f.countersignature0_v2) (Some [])))) e)
+
+pub unwritten_second : {C : Type 0} (c d : FieldShape C) (f : FieldsSeen) (x : Versions C) → d.image x.1 ≡ None → (map_with c d).image (f, x) ≡ None
+unwritten_second c d f x e =
+    behind_six c d f x (both_none _ _ _ (ap (λ o. both (put_field labels.countersignature_v2) o (both (put_field labels.countersignature0_v2) ((optional bstr).image f.countersignature0_v2) (Some []))) e))
+
 -- a map with signatures is written as a header
-header_item_with : {C : Type 0} (c : FieldShape C) (f : FieldsSeen) (x : C) (o : Option (Option Item)) → c.image x ≡ o → header_item f o ≡ (map_with c).image (f, x)
-header_item_with c f x (Some o) e = image_with c f x o e
-header_item_with c f x None e = sym (unwritten_with c f x e)
+header_item_with :
+    {C : Type 0} (c d : FieldShape C) (f : FieldsSeen) (x : Versions C) (o p : Option (Option Item)) → c.image x.0 ≡ o → d.image x.1 ≡ p → header_item f o p ≡ (map_with c d).image (f, x)
+header_item_with c d f x (Some o) (Some p) e g = image_with c d f x o p e g
+header_item_with c d f x (Some o) None e g = sym (unwritten_second c d f x g)
+header_item_with c d f x None p e g = sym (unwritten_first c d f x e)
 
 pub header_image_with :
-    (k : ℕ) (f : FieldsSeen) (xs : List SignatureSeen) → header_image (header_of f (signatures_of xs)) ≡ (map_with (listed (one_or_many (any_number (layered_signature k))))).image (f, xs)
-header_image_with k f xs = header_item_with (listed (one_or_many (any_number (layered_signature k)))) f xs _ (sym (counter_signatures_image k xs))
+    (k : ℕ) (f : FieldsSeen) (xs ys : List SignatureSeen) → header_image (header_of f (signatures_of xs) (signatures_of ys))
+    ≡ (map_with (listed (one_or_many (any_number (layered_signature k)))) (listed (one_or_many (any_number (layered_signature k))))).image (f, (xs, ys))
+header_image_with k f xs ys =
+    let c = listed (one_or_many (any_number (layered_signature k))) in
+    header_item_with c c f (xs, ys) _ _ (sym (counter_signatures_image k xs)) (sym (counter_signatures_image k ys))
 
 -- ---- fields
 
@@ -109,37 +124,41 @@ content_type_image (number i) = refl
 content_type_image (word s) = refl
 
 -- the fields that are there, in the order of their labels
-abbrev pub fields_put : (alg crit content_type key_id iv partial_iv counter_signatures : Option Item) → List (Name × Item)
-fields_put a b t k i p o =
+abbrev pub fields_put : (alg crit content_type key_id iv partial_iv : Option Item) (counter_signatures : Versions (Option Item)) (countersignature0_v2 : Option Item) → List (Name × Item)
+fields_put a b t k i p o q =
     put_fields
-    ((labels.alg, a) ∷ (labels.crit, b) ∷ (labels.content_type, t) ∷ (labels.kid, k) ∷ (labels.iv, i) ∷ (labels.partial_iv, p) ∷ (labels.counter_signature, o) ∷ [])
+    ((labels.alg, a) ∷ (labels.crit, b) ∷ (labels.content_type, t) ∷ (labels.kid, k) ∷ (labels.iv, i) ∷ (labels.partial_iv, p)
+    ∷ (labels.counter_signature, o.0) ∷ (labels.countersignature_v2, o.1) ∷ (labels.countersignature0_v2, q) ∷ [])
 
 -- what the fields of a header are written as
-pub record Puts (f : FieldsSeen) (a b t k i p : Option Item) : Type 0 where
+pub record Puts (f : FieldsSeen) (a b t k i p q : Option Item) : Type 0 where
   pub alg : (optional algorithm).image f.alg ≡ Some a
   pub crit : (listed (some_of critical)).image f.crit ≡ Some b
   pub content_type : (optional content_type).image f.content_type ≡ Some t
   pub key_id : (listed filled_bstr).image f.key_id ≡ Some k
   pub iv : (listed filled_bstr).image f.iv ≡ Some i
   pub partial_iv : (listed filled_bstr).image f.partial_iv ≡ Some p
+  pub countersignature0_v2 : (optional bstr).image f.countersignature0_v2 ≡ Some q
 
 any_image : (o : Option Item) → (optional any).image o ≡ Some o
 any_image (Some v) = refl
 any_image None = refl
 
 fields_image :
-    (f : FieldsSeen) (a b t k i p o : Option Item) → Puts f a b t k i p → (fields (optional any)).image (parts_of (f, o)).0 ≡ Some (fields_put a b t k i p o)
-fields_image f a b t k i p o h = rw (h.alg, h.crit, h.content_type, h.key_id, h.iv, h.partial_iv, any_image o) refl
+    (f : FieldsSeen) (a b t k i p : Option Item) (o : Versions (Option Item)) (q : Option Item) → Puts f a b t k i p q
+    → (fields (optional any) (optional any)).image (parts_of (f, o)).0 ≡ Some (fields_put a b t k i p o q)
+fields_image f a b t k i p o q h = rw (h.alg, h.crit, h.content_type, h.key_id, h.iv, h.partial_iv, any_image o.0, any_image o.1, h.countersignature0_v2) refl
 
 -- a header whose rest repeats no label is written as the map of these and the rest
 pub header_put :
-    (f : FieldsSeen) (a b t k i p o : Option Item) → Puts f a b t k i p → are_distinct same_name (keys_of f.rest) ≡ true
-    → header_item f (Some o) ≡ option_map dict (named_image label.image (fields_put a b t k i p o ++ f.rest))
+    (f : FieldsSeen) (a b t k i p : Option Item) (o : Versions (Option Item)) (q : Option Item) → Puts f a b t k i p q → are_distinct same_name (keys_of f.rest) ≡ true
+    → header_item f (Some o.0) (Some o.1) ≡ option_map dict (named_image label.image (fields_put a b t k i p o q ++ f.rest))
 unfolding partial_header
-header_put f a b t k i p o h d = sym (some-entries names f.rest (fields_put a b t k i p o) _ d (fields_image f a b t k i p o h))
+header_put f a b t k i p o q h d = sym (some-entries names f.rest (fields_put a b t k i p o q) _ d (fields_image f a b t k i p o q h))
 
 -- and another isn't
-pub header_repeats : (f : FieldsSeen) (o : Option (Option Item)) → are_distinct same_name (keys_of f.rest) ≡ false → header_item f o ≡ None
+pub header_repeats : (f : FieldsSeen) (o p : Option (Option Item)) → are_distinct same_name (keys_of f.rest) ≡ false → header_item f o p ≡ None
 unfolding partial_header
-header_repeats f (Some o) d = no-entries names f.rest _ d
-header_repeats f None d = refl
+header_repeats f (Some o) (Some p) d = no-entries names f.rest _ d
+header_repeats f (Some o) None d = refl
+header_repeats f None p d = refl

@@ -11,25 +11,28 @@ use Rattle.coset_shape.specs.Serialized.{ContentFaults, content_bytes, serialize
 use Rattle.coset_shape.specs.Shape.{Shape, both, fixed, along, array_of, ◌then◌, end, any_number, bstr, one_or_more, one_or_array, one_or_many}
 use Rattle.coset_shape.specs.declared.error.CoseError.{CoseError}
 use Rattle.coset_shape.specs.declared.error.CoseError.TheVariants.{DecodeFailed}
-use Rattle.coset_core.specs.Fields.{FieldsSeen, empty_fields, partial_header, SomeCounterSignatures}
+use Rattle.coset_core.specs.Fields.{FieldsSeen, Versions, empty_fields, partial_header, SomeCounterSignatures}
 
 -- ---- headers without their memory
 
--- A header: its fields, and its counter signatures. Of each of these, one after the other: the bytes that its protected
+-- A header: its fields, its counter signatures, and those of version 2. Of each of these, one after the other: the bytes that its protected
 -- header was read from, where it was read; that header; the unprotected one; and the signature
 mutual
   pub data HeaderSeen : Type 0 where
-    header_of : FieldsSeen → Signatures → HeaderSeen
+    header_of : FieldsSeen → Signatures → Signatures → HeaderSeen
 
   pub data Signatures : Type 0 where
     no_signatures : Signatures
     signature_and : Option (List ℕ) → HeaderSeen → HeaderSeen → List ℕ → Signatures → Signatures
 
 abbrev pub fields_in : HeaderSeen → FieldsSeen
-fields_in (header_of f ss) = f
+fields_in (header_of f ss ts) = f
 
 abbrev pub counter_signatures_in : HeaderSeen → Signatures
-counter_signatures_in (header_of f ss) = ss
+counter_signatures_in (header_of f ss ts) = ss
+
+abbrev pub countersignatures_in : HeaderSeen → Signatures
+countersignatures_in (header_of f ss ts) = ts
 
 -- a protected header: the bytes that it was read from, where it was read, and the header
 pub record ProtectedSeen : Type 0 where
@@ -50,29 +53,31 @@ signatures_of (s ∷ ss) = and_signatures s (signatures_of ss)
 
 -- the header that holds nothing, and whether a header is that
 abbrev pub empty_header : HeaderSeen
-empty_header = header_of empty_fields no_signatures
+empty_header = header_of empty_fields no_signatures no_signatures
 
 abbrev pub are_none : Signatures → Bool
 are_none no_signatures = true
 are_none (signature_and o p u s more) = false
 
 abbrev pub is_empty_header : HeaderSeen → Bool
-is_empty_header (header_of f ss) =
+is_empty_header (header_of f ss ts) =
     is_none f.alg
     && (length f.crit == 0
-    && (is_none f.content_type && (length f.key_id == 0 && (length f.iv == 0 && (length f.partial_iv == 0 && (are_none ss && length f.rest == 0))))))
+    && (is_none f.content_type
+    && (length f.key_id == 0
+    && (length f.iv == 0 && (length f.partial_iv == 0 && (are_none ss && (are_none ts && (is_none f.countersignature0_v2 && length f.rest == 0))))))))
 
 -- ---- which items stand for them, with so many layers left
 
--- the value of label 7 stands for signatures, where `Are` tells of the items of one or of several which stand for them,
+-- the value of label 7, or 11, stands for signatures, where `Are` tells of the items of one or of several which stand for them,
 -- and `is_none` that there are none
 abbrev pub CounterSignaturesAre : (Items → Type 0) → Type 0 → Option Item → Type 0
 CounterSignaturesAre Are is_none None = is_none
 CounterSignaturesAre Are is_none (Some w) = (vs : Items) × (one_or_more w ≡ Some vs) × Are vs
 
--- a map of these fields, and the value of its label 7 stands for the signatures
-abbrev pub HeaderIs : (Items → Type 0) → Type 0 → FieldsSeen → Item → Type 0
-HeaderIs Are is_none f v = (o : Option Item) × partial_header.describes v (f, o) × CounterSignaturesAre Are is_none o
+-- a map of these fields, and the values of its labels 7 and 11 stand for the signatures of both versions
+abbrev pub HeaderIs : (Option Item → Type 0) → (Option Item → Type 0) → FieldsSeen → Item → Type 0
+HeaderIs First Second f v = (o : Versions (Option Item)) × partial_header.describes v (f, o) × First o.0 × Second o.1
 
 -- what a byte string holds: nothing, where the header is empty; or one item, of which P tells
 abbrev pub ContentIs : (Item → Type 0) → Type 0 → List ℕ → Type 0
@@ -98,7 +103,8 @@ told_by P = fixed P None nothing_wrong
 -- the item stands for this header; and the items for these signatures, in order
 abbrev mutual
   pub IsHeader : HeaderSeen → ℕ → Item → Type 0
-  IsHeader (header_of f ss) k v = HeaderIs (AreSignatures ss k) (ss ≡ no_signatures) f v
+  IsHeader (header_of f ss ts) k v =
+      HeaderIs (CounterSignaturesAre (AreSignatures ss k) (ss ≡ no_signatures)) (CounterSignaturesAre (AreSignatures ts k) (ts ≡ no_signatures)) f v
 
   pub AreSignatures : Signatures → ℕ → Items → Type 0
   AreSignatures no_signatures k vs = vs ≡ no_items
@@ -109,14 +115,15 @@ abbrev mutual
 
 -- ---- the items that they are written as
 
--- the value of label 7, where the signatures are written as these
+-- the value of label 7, or 11, where the signatures are written as these
 abbrev pub counter_signatures_item : Signatures → Option Items → Option (Option Item)
 counter_signatures_item no_signatures o = Some None
 counter_signatures_item (signature_and b p u s more) o = option_map (λ vs. Some (one_or_array vs)) o
 
-abbrev pub header_item : FieldsSeen → Option (Option Item) → Option Item
-header_item f (Some o) = partial_header.image (f, o)
-header_item f None = None
+abbrev pub header_item : FieldsSeen → Option (Option Item) → Option (Option Item) → Option Item
+header_item f (Some o) (Some p) = partial_header.image (f, (o, p))
+header_item f (Some o) None = None
+header_item f None q = None
 
 -- the byte string of a protected header, whose map is written so; and the array of a signature, whose headers are
 abbrev pub protected_item : Option (List ℕ) → HeaderSeen → Option Item → Option Item
@@ -128,7 +135,7 @@ signature_item p u s = option_map array (both item p (both item u (Some (item (b
 -- the header's item, and the signatures' items
 abbrev mutual
   pub header_image : HeaderSeen → Option Item
-  header_image (header_of f ss) = header_item f (counter_signatures_item ss (signatures_image ss))
+  header_image (header_of f ss ts) = header_item f (counter_signatures_item ss (signatures_image ss)) (counter_signatures_item ts (signatures_image ts))
 
   pub signatures_image : Signatures → Option Items
   signatures_image no_signatures = Some no_items
@@ -137,7 +144,7 @@ abbrev mutual
 
 -- ---- what is wrong with an item
 
--- with a header: with its map; or with a value of label 7, of which C tells
+-- with a header: with its map; or with a value of label 7 or 11, of which C tells
 abbrev pub HeaderFaults : (Item → CoseError → Type 0) → Item → CoseError → Type 0
 HeaderFaults C v e = partial_header.faults v e ⊎ SomeCounterSignatures (λ w. C w e) v
 
@@ -146,7 +153,7 @@ abbrev pub ProtectedFaults : (ℕ → Item → CoseError → Type 0) → ℕ →
 ProtectedFaults H zero v e = ((as_bytes v ≡ None) × IsUnexpected e) ⊎ ((b : List ℕ) × (as_bytes v ≡ Some b) × (e ≡ DecodeFailed RecursionLimitExceeded))
 ProtectedFaults H (suc k) v e = ((as_bytes v ≡ None) × IsUnexpected e) ⊎ ((b : List ℕ) × (as_bytes v ≡ Some b) × ContentFaults (fixed (λ w. ⊤) None (H k)) b e)
 
--- with the value of label 7, found within n signatures, one inside another
+-- with the value of label 7 or 11, found within n signatures, one inside another
 abbrev pub counter_signatures_faults : ℕ → ℕ → Item → CoseError → Type 0
 counter_signatures_faults zero k w e = ⊥
 counter_signatures_faults (suc n) k w e =
@@ -200,6 +207,10 @@ places_of s = (s.protected, (s.unprotected, (s.signature, tt)))
 -- [protected, unprotected, signature : bstr], with k layers left
 abbrev pub layered_signature : ℕ → Shape SignatureSeen
 layered_signature k = along signature_of places_of (signed_array (layered_protected k) (layered_header k))
+
+-- the value of label 7, or 11: one of them, or several
+abbrev pub signatures_within : ℕ → Shape (List SignatureSeen)
+signatures_within k = one_or_many (any_number (layered_signature k))
 
 -- at most this many byte strings of protected headers stand within one another
 abbrev pub LAYERS : ℕ

@@ -1,13 +1,14 @@
 -- How many signatures are held, one inside another.
 use Rattle.std.specs.Prelude.{ℕ, suc, ◌+◌, List, map}
 use Rattle.coset_core.specs.Headers.{HeaderSeen, header_of, Signatures, no_signatures, signature_and, signatures_of}
-use Rattle.coset_core.specs.Views.{signature_seen}
+use Rattle.coset_core.specs.Views.{countersignature_seen, signature_seen}
+use Rattle.coset_core.specs.declared.countersignature.CoseCountersignature.{CoseCountersignature}
 use Rattle.coset_core.specs.declared.signature.CoseSignature.{CoseSignature}
 
 -- those in a header, and signatures with those in their headers
 abbrev mutual
   pub header_count : HeaderSeen → ℕ
-  header_count (header_of f ss) = signatures_count ss
+  header_count (header_of f ss ts) = signatures_count ss + signatures_count ts
 
   pub signatures_count : Signatures → ℕ
   signatures_count no_signatures = 0
@@ -15,3 +16,7 @@ abbrev mutual
 
 abbrev pub signatures_in : List CoseSignature → ℕ
 signatures_in all = signatures_count (signatures_of (map signature_seen all))
+
+-- of both versions
+abbrev pub held_in : List CoseSignature → List CoseCountersignature → ℕ
+held_in all version_2 = signatures_in all + signatures_count (signatures_of (map countersignature_seen version_2))

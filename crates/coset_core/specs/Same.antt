@@ -31,13 +31,15 @@ fields_eq f g =
     option_eq algorithm_eq f.alg g.alg
     && (pointwise critical_eq f.crit g.crit
     && (option_eq content_type_eq f.content_type g.content_type
-    && (pointwise ◌==◌ f.key_id g.key_id && (pointwise ◌==◌ f.iv g.iv && (pointwise ◌==◌ f.partial_iv g.partial_iv && pointwise entry_eq f.rest g.rest)))))
+    && (pointwise ◌==◌ f.key_id g.key_id
+    && (pointwise ◌==◌ f.iv g.iv
+    && (pointwise ◌==◌ f.partial_iv g.partial_iv && (option_eq (pointwise ◌==◌) f.countersignature0_v2 g.countersignature0_v2 && pointwise entry_eq f.rest g.rest))))))
 
--- the same fields, and the same counter signatures: as many, each the same as its counterpart, in the bytes that were
+-- the same fields, and the same counter signatures of both versions: as many, each the same as its counterpart, in the bytes that were
 -- kept, the protected header, the unprotected one, and the signature
 abbrev mutual
   pub header_eq : HeaderSeen → HeaderSeen → Bool
-  header_eq (header_of f ss) (header_of g ts) = fields_eq f g && signatures_eq ss ts
+  header_eq (header_of f ss ts) (header_of g us ws) = fields_eq f g && (signatures_eq ss us && signatures_eq ts ws)
 
   pub signatures_eq : Signatures → Signatures → Bool
   signatures_eq no_signatures no_signatures = true

@@ -62,25 +62,29 @@ fields_eq-decides f g =
       key_id = p.1.1.1.0 i;
       iv = p.1.1.1.1.0 i;
       partial_iv = p.1.1.1.1.1.0 i;
-      rest = p.1.1.1.1.1.1 i;
+      countersignature0_v2 = p.1.1.1.1.1.1.0 i;
+      rest = p.1.1.1.1.1.1.1 i;
     })
-    (λ p. (ap (λ x. x.alg) p, (ap (λ x. x.crit) p, (ap (λ x. x.content_type) p, (ap (λ x. x.key_id) p, (ap (λ x. x.iv) p, (ap (λ x. x.partial_iv) p, ap (λ x. x.rest) p)))))))
+    (λ p. (ap (λ x. x.alg) p, (ap (λ x. x.crit) p, (ap (λ x. x.content_type) p, (ap (λ x. x.key_id) p, (ap (λ x. x.iv) p, (ap (λ x. x.partial_iv) p, (ap (λ x. x.countersignature0_v2) p, ap (λ x. x.rest) p))))))))
     (Decides-and (option_eq algorithm_eq f.alg g.alg) _ (option_eq-decides algorithm_eq algorithm_eq-decides f.alg g.alg)
     (Decides-and (pointwise critical_eq f.crit g.crit) _ (pointwise_decides critical_eq-decides f.crit g.crit)
     (Decides-and (option_eq content_type_eq f.content_type g.content_type) _ (option_eq-decides content_type_eq same_name-decides f.content_type g.content_type)
     (Decides-and (pointwise ◌==◌ f.key_id g.key_id) _ (bytes_decides f.key_id g.key_id)
     (Decides-and (pointwise ◌==◌ f.iv g.iv) _ (bytes_decides f.iv g.iv)
-    (Decides-and (pointwise ◌==◌ f.partial_iv g.partial_iv) (pointwise entry_eq f.rest g.rest)
-    (bytes_decides f.partial_iv g.partial_iv) (pointwise_decides entry_eq-decides f.rest g.rest)))))))
+    (Decides-and (pointwise ◌==◌ f.partial_iv g.partial_iv) _ (bytes_decides f.partial_iv g.partial_iv)
+    (Decides-and (option_eq (pointwise ◌==◌) f.countersignature0_v2 g.countersignature0_v2) (pointwise entry_eq f.rest g.rest)
+    (kept-decides f.countersignature0_v2 g.countersignature0_v2) (pointwise_decides entry_eq-decides f.rest g.rest))))))))
 
 -- headers and signatures that pass the test are equal
 mutual
   header-sound : (h g : HeaderSeen) → header_eq h g ≡ true → h ≡ g
-  header-sound (header_of f ss) (header_of g ts) h =
-      let both = and_parts (fields_eq f g) (signatures_eq ss ts) h in
+  header-sound (header_of f ss ts) (header_of g us ws) h =
+      let both = and_parts (fields_eq f g) (signatures_eq ss us && signatures_eq ts ws) h in
+      let versions = and_parts (signatures_eq ss us) (signatures_eq ts ws) both.1 in
       let fields = (fields_eq-decides f g).0 both.0 in
-      let counter_signatures = signatures-sound ss ts both.1 in
-      λ i. header_of (fields i) (counter_signatures i)
+      let counter_signatures = signatures-sound ss us versions.0 in
+      let countersignatures_v2 = signatures-sound ts ws versions.1 in
+      λ i. header_of (fields i) (counter_signatures i) (countersignatures_v2 i)
 
   signatures-sound : (ss ts : Signatures) → signatures_eq ss ts ≡ true → ss ≡ ts
   signatures-sound no_signatures no_signatures h = refl
@@ -102,9 +106,9 @@ mutual
 -- and they pass the test against themselves
 mutual
   header-itself : (h : HeaderSeen) → header_eq h h ≡ true
-  header-itself (header_of f ss) =
+  header-itself (header_of f ss ts) =
       let fields = (fields_eq-decides f f).1 refl in
-      rw (fields, signatures-itself ss) refl
+      rw (fields, signatures-itself ss, signatures-itself ts) refl
 
   signatures-itself : (ss : Signatures) → signatures_eq ss ss ≡ true
   signatures-itself no_signatures = refl

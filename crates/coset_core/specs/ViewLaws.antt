@@ -2,24 +2,28 @@
 use Rattle.std.specs.Prelude.{◌≡◌, map, option_map}
 use Rattle.coset_core.specs.Headers.{HeaderSeen, header_of, ProtectedSeen, SignatureSeen, signatures_of}
 use Rattle.coset_core.specs.FieldsView.{fields_level}
-use Rattle.coset_core.specs.Views.{header_step, protected_step, signature_step, header_seen, protected_seen, signature_seen}
+use Rattle.coset_core.specs.Views.{countersignature_step, header_step, protected_step, signature_step, countersignature_seen, header_seen, protected_seen, signature_seen}
+use Rattle.coset_core.specs.declared.countersignature.CoseCountersignature.{CoseCountersignature, CoseCountersignature-F, out-CoseCountersignature, roll-CoseCountersignature, fold-roll-CoseCountersignature, fold_out-CoseCountersignature}
 use Rattle.coset_core.specs.declared.header.Header.{Header, Header-F, out-Header, roll-Header, fold-roll-Header, fold_out-Header}
 use Rattle.coset_core.specs.declared.protected.ProtectedHeader.{ProtectedHeader, ProtectedHeader-F, out-ProtectedHeader, roll-ProtectedHeader, fold-roll-ProtectedHeader, fold_out-ProtectedHeader}
 use Rattle.coset_core.specs.declared.signature.CoseSignature.{CoseSignature, CoseSignature-F, out-CoseSignature, roll-CoseSignature, fold-roll-CoseSignature, fold_out-CoseSignature}
 
 -- one level of each
 abbrev pub HeaderLevel : Type 0
-HeaderLevel = Header-F Header ProtectedHeader CoseSignature
+HeaderLevel = Header-F CoseCountersignature Header ProtectedHeader CoseSignature
 
 abbrev pub ProtectedLevel : Type 0
-ProtectedLevel = ProtectedHeader-F Header ProtectedHeader CoseSignature
+ProtectedLevel = ProtectedHeader-F CoseCountersignature Header ProtectedHeader CoseSignature
 
 abbrev pub SignatureLevel : Type 0
-SignatureLevel = CoseSignature-F Header ProtectedHeader CoseSignature
+SignatureLevel = CoseSignature-F CoseCountersignature Header ProtectedHeader CoseSignature
+
+abbrev pub CountersignatureLevel : Type 0
+CountersignatureLevel = CoseCountersignature-F CoseCountersignature Header ProtectedHeader CoseSignature
 
 -- what each level is seen as
 abbrev pub header_level : HeaderLevel → HeaderSeen
-header_level h = header_of (fields_level h) (signatures_of (map signature_seen h.counter_signatures.items))
+header_level h = header_of (fields_level h) (signatures_of (map signature_seen h.counter_signatures.items)) (signatures_of (map countersignature_seen h.countersignatures_v2.items))
 
 abbrev pub protected_level : ProtectedLevel → ProtectedSeen
 protected_level p = record { original = option_map (λ v. v.items) p.original_data; header = header_seen p.header }
@@ -27,20 +31,29 @@ protected_level p = record { original = option_map (λ v. v.items) p.original_da
 abbrev pub signature_level : SignatureLevel → SignatureSeen
 signature_level s = record { protected = protected_seen s.protected; unprotected = header_seen s.unprotected; signature = s.signature.items }
 
+abbrev pub countersignature_level : CountersignatureLevel → SignatureSeen
+countersignature_level s = record { protected = protected_seen s.protected; unprotected = header_seen s.unprotected; signature = s.signature.items }
+
 pub header-made : (x : HeaderLevel) → header_seen (roll-Header x) ≡ header_level x
-header-made = fold-roll-Header HeaderSeen ProtectedSeen SignatureSeen header_step protected_step signature_step
+header-made = fold-roll-Header SignatureSeen HeaderSeen ProtectedSeen SignatureSeen countersignature_step header_step protected_step signature_step
 
 pub header-opened : (h : Header) → header_seen h ≡ header_level (out-Header h)
-header-opened = fold_out-Header HeaderSeen ProtectedSeen SignatureSeen header_step protected_step signature_step
+header-opened = fold_out-Header SignatureSeen HeaderSeen ProtectedSeen SignatureSeen countersignature_step header_step protected_step signature_step
 
 pub protected-made : (x : ProtectedLevel) → protected_seen (roll-ProtectedHeader x) ≡ protected_level x
-protected-made = fold-roll-ProtectedHeader HeaderSeen ProtectedSeen SignatureSeen header_step protected_step signature_step
+protected-made = fold-roll-ProtectedHeader SignatureSeen HeaderSeen ProtectedSeen SignatureSeen countersignature_step header_step protected_step signature_step
 
 pub protected-opened : (p : ProtectedHeader) → protected_seen p ≡ protected_level (out-ProtectedHeader p)
-protected-opened = fold_out-ProtectedHeader HeaderSeen ProtectedSeen SignatureSeen header_step protected_step signature_step
+protected-opened = fold_out-ProtectedHeader SignatureSeen HeaderSeen ProtectedSeen SignatureSeen countersignature_step header_step protected_step signature_step
 
 pub signature-made : (x : SignatureLevel) → signature_seen (roll-CoseSignature x) ≡ signature_level x
-signature-made = fold-roll-CoseSignature HeaderSeen ProtectedSeen SignatureSeen header_step protected_step signature_step
+signature-made = fold-roll-CoseSignature SignatureSeen HeaderSeen ProtectedSeen SignatureSeen countersignature_step header_step protected_step signature_step
 
 pub signature-opened : (s : CoseSignature) → signature_seen s ≡ signature_level (out-CoseSignature s)
-signature-opened = fold_out-CoseSignature HeaderSeen ProtectedSeen SignatureSeen header_step protected_step signature_step
+signature-opened = fold_out-CoseSignature SignatureSeen HeaderSeen ProtectedSeen SignatureSeen countersignature_step header_step protected_step signature_step
+
+pub countersignature-made : (x : CountersignatureLevel) → countersignature_seen (roll-CoseCountersignature x) ≡ countersignature_level x
+countersignature-made = fold-roll-CoseCountersignature SignatureSeen HeaderSeen ProtectedSeen SignatureSeen countersignature_step header_step protected_step signature_step
+
+pub countersignature-opened : (s : CoseCountersignature) → countersignature_seen s ≡ countersignature_level (out-CoseCountersignature s)
+countersignature-opened = fold_out-CoseCountersignature SignatureSeen HeaderSeen ProtectedSeen SignatureSeen countersignature_step header_step protected_step signature_step

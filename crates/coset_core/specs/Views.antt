@@ -16,6 +16,7 @@ use Rattle.coset_label.specs.declared.registered.RegisteredLabel.{RegisteredLabe
 use Rattle.coset_label.specs.declared.registered.RegisteredLabelWithPrivate.{RegisteredLabelWithPrivate}
 use Rattle.coset_core.specs.Fields.{FieldsSeen}
 use Rattle.coset_core.specs.Headers.{HeaderSeen, header_of, ProtectedSeen, SignatureSeen, signatures_of}
+use Rattle.coset_core.specs.declared.countersignature.CoseCountersignature.{CoseCountersignature, CoseCountersignature-F, fold-CoseCountersignature}
 use Rattle.coset_core.specs.declared.header.Header.{Header, Header-F, fold-Header}
 use Rattle.coset_core.specs.declared.protected.ProtectedHeader.{ProtectedHeader, ProtectedHeader-F, fold-ProtectedHeader}
 use Rattle.coset_core.specs.declared.signature.CoseSignature.{CoseSignature, CoseSignature-F, fold-CoseSignature}
@@ -33,7 +34,7 @@ abbrev pub entry_seen : Label × Value → Name × Item
 entry_seen e = (label_seen e.0, view e.1)
 
 -- what one level of a header holds beside its counter signatures
-abbrev pub fields_step : {H P S : Type 0} → Header-F H P S → FieldsSeen
+abbrev pub fields_step : {C H P S : Type 0} → Header-F C H P S → FieldsSeen
 fields_step h = record {
   alg = option_map algorithm_seen h.alg;
   crit = map critical_seen h.crit.items;
@@ -41,24 +42,32 @@ fields_step h = record {
   key_id = h.key_id.items;
   iv = h.iv.items;
   partial_iv = h.partial_iv.items;
+  countersignature0_v2 = option_map (λ b. b.items) h.countersignature0_v2;
   rest = map entry_seen h.rest.items;
 }
 
 -- one level of each, where what it holds is seen already
-abbrev pub header_step : Header-F HeaderSeen ProtectedSeen SignatureSeen → HeaderSeen
-header_step h = header_of (fields_step h) (signatures_of h.counter_signatures.items)
+abbrev pub header_step : Header-F SignatureSeen HeaderSeen ProtectedSeen SignatureSeen → HeaderSeen
+header_step h = header_of (fields_step h) (signatures_of h.counter_signatures.items) (signatures_of h.countersignatures_v2.items)
 
-abbrev pub protected_step : ProtectedHeader-F HeaderSeen ProtectedSeen SignatureSeen → ProtectedSeen
+abbrev pub protected_step : ProtectedHeader-F SignatureSeen HeaderSeen ProtectedSeen SignatureSeen → ProtectedSeen
 protected_step p = record { original = option_map (λ v. v.items) p.original_data; header = p.header }
 
-abbrev pub signature_step : CoseSignature-F HeaderSeen ProtectedSeen SignatureSeen → SignatureSeen
+abbrev pub signature_step : CoseSignature-F SignatureSeen HeaderSeen ProtectedSeen SignatureSeen → SignatureSeen
 signature_step s = record { protected = s.protected; unprotected = s.unprotected; signature = s.signature.items }
 
+abbrev pub countersignature_step : CoseCountersignature-F SignatureSeen HeaderSeen ProtectedSeen SignatureSeen → SignatureSeen
+countersignature_step s = record { protected = s.protected; unprotected = s.unprotected; signature = s.signature.items }
+
 abbrev pub header_seen : Header → HeaderSeen
-header_seen = fold-Header HeaderSeen ProtectedSeen SignatureSeen header_step protected_step signature_step
+header_seen = fold-Header SignatureSeen HeaderSeen ProtectedSeen SignatureSeen countersignature_step header_step protected_step signature_step
 
 abbrev pub protected_seen : ProtectedHeader → ProtectedSeen
-protected_seen = fold-ProtectedHeader HeaderSeen ProtectedSeen SignatureSeen header_step protected_step signature_step
+protected_seen = fold-ProtectedHeader SignatureSeen HeaderSeen ProtectedSeen SignatureSeen countersignature_step header_step protected_step signature_step
 
 abbrev pub signature_seen : CoseSignature → SignatureSeen
-signature_seen = fold-CoseSignature HeaderSeen ProtectedSeen SignatureSeen header_step protected_step signature_step
+signature_seen = fold-CoseSignature SignatureSeen HeaderSeen ProtectedSeen SignatureSeen countersignature_step header_step protected_step signature_step
+
+-- what was signed by a countersignature of version 2 is seen as what is signed by a signature
+abbrev pub countersignature_seen : CoseCountersignature → SignatureSeen
+countersignature_seen = fold-CoseCountersignature SignatureSeen HeaderSeen ProtectedSeen SignatureSeen countersignature_step header_step protected_step signature_step

@@ -5,10 +5,10 @@ use Rattle.coset_value.specs.Range.{AreInRange, ArePairsInRange}
 use Rattle.coset_value.specs.View.{items_of}
 use Rattle.coset_cbor.specs.Least.{least_encodings, least_pair_encodings}
 use Rattle.coset_cbor.specs.Shortest.{IsShortest}
-use Rattle.coset_shape.specs.Maps.{put_field}
+use Rattle.coset_shape.specs.Maps.{put_field, put_fields}
 use Rattle.coset_label.specs.Names.{Name, name_item, RegisteredName, as_name}
 use Rattle.coset_core.specs.FieldLabels as labels
-use Rattle.coset_core.specs.Fields.{FieldsSeen}
+use Rattle.coset_core.specs.Fields.{FieldsSeen, Versions}
 use Rattle.coset_core.specs.Headers.{HeaderSeen, header_of, SignatureSeen, Signatures, signatures_of, are_none, is_empty_header, counter_signatures_item, signature_item, signatures_image, header_image, protected_bytes}
 use Rattle.coset_core.specs.HeaderWrites.{fields_put}
 
@@ -45,14 +45,22 @@ abbrev pub filled_item : List ℕ → Option Item
 filled_item [] = None
 filled_item (c ∷ b) = Some (bytes (c ∷ b))
 
--- the fields that are there, where o is the value of label 7
-abbrev pub header_fields : FieldsSeen → Option Item → List (Name × Item)
+-- the item of bytes that may be missing
+abbrev pub bytes_item : Option (List ℕ) → Option Item
+bytes_item o = option_map bytes o
+
+-- the fields that are there, where these are the values of labels 7 and 11
+abbrev pub header_fields : FieldsSeen → Versions (Option Item) → List (Name × Item)
 header_fields f o =
     fields_put (option_map registered_item f.alg) (critical_item f.crit) (option_map name_item f.content_type) (filled_item f.key_id) (filled_item f.iv) (filled_item f.partial_iv) o
+    (bytes_item f.countersignature0_v2)
 
 -- those of the first six labels
 abbrev pub plain_fields : FieldsSeen → List (Name × Item)
-plain_fields f = header_fields f None
+plain_fields f =
+    put_fields
+    ((labels.alg, option_map registered_item f.alg) ∷ (labels.crit, critical_item f.crit) ∷ (labels.content_type, option_map name_item f.content_type)
+    ∷ (labels.kid, filled_item f.key_id) ∷ (labels.iv, filled_item f.iv) ∷ (labels.partial_iv, filled_item f.partial_iv) ∷ [])
 
 -- one for what is there
 abbrev pub one : Bool → ℕ
@@ -61,7 +69,7 @@ one false = 0
 
 -- how many pairs a header's map has
 abbrev pub count_pairs : HeaderSeen → ℕ
-count_pairs (header_of f ss) =
+count_pairs (header_of f ss ts) =
     length f.rest
     + one (is_some f.alg)
     + one (not (length f.crit == 0))
@@ -70,6 +78,8 @@ count_pairs (header_of f ss) =
     + one (not (length f.iv == 0))
     + one (not (length f.partial_iv == 0))
     + one (not (are_none ss))
+    + one (not (are_none ts))
+    + one (is_some f.countersignature0_v2)
 
 -- ---- headers and signatures
 
@@ -77,9 +87,9 @@ count_pairs (header_of f ss) =
 abbrev pub AppendsSignatures : List ℕ → List ℕ → List SignatureSeen → Type 0
 AppendsSignatures old new ss = (vs : List Item) × (signatures_image (signatures_of ss) ≡ Some (items_of vs)) × (length vs ≡ length ss) × AppendsItems old new vs
 
--- new is old, and then the pair of label 7, where there are signatures
-abbrev pub AppendsCounterSignatures : List ℕ → List ℕ → Signatures → Type 0
-AppendsCounterSignatures old new ss = (o : Option Item) × (counter_signatures_item ss (signatures_image ss) ≡ Some o) × AppendsPairs old new (put_field labels.counter_signature o [])
+-- new is old, and then the pair of that label, where there are signatures
+abbrev pub AppendsCounterSignatures : Name → List ℕ → List ℕ → Signatures → Type 0
+AppendsCounterSignatures label old new ss = (o : Option Item) × (counter_signatures_item ss (signatures_image ss) ≡ Some o) × AppendsPairs old new (put_field label o [])
 
 -- the array of a signature
 abbrev pub signature_array : SignatureSeen → Option Item

@@ -5,20 +5,20 @@
 //! Each reader leaves the input just behind its item, whatever it answers, so that each byte is passed once at any depth. Of
 //! `layers` each byte string of a protected header takes one.
 
-ghost use Rattle.std.specs.Prelude.{◌≡◌, [], map, option_map, OnOk, IfOk, IfErr, ◌⊎◌, ◌≤◌, ◌<◌, Option, true, false, IsTrue, IsSome, IsErrAnd, OnErr, Err, ◌↔◌, ◌+◌, ◌≢◌, ◌++◌, ◌∷◌, Some, string_bytes};
+ghost use Rattle.std.specs.Prelude.{MatchOption, ◌≡◌, [], map, option_map, OnOk, IfOk, IfErr, ◌⊎◌, ◌≤◌, ◌<◌, Option, true, false, IsTrue, IsSome, IsErrAnd, OnErr, Err, ◌↔◌, ◌+◌, ◌≢◌, ◌++◌, ◌∷◌, Some, string_bytes};
 ghost use Rattle.coset_shape.specs.declared.error.CoseError.TheVariants as errors;
 ghost use Rattle.coset_shape.specs.declared.error.CoseError.TheVariants.{DuplicateMapKey};
 ghost use Rattle.coset_shape.specs.InPlace.{Fills};
-ghost use Rattle.coset_core.specs.FieldsView.{fields_seen, counter_signatures_held};
-ghost use Rattle.coset_core.specs.Views.{algorithm_seen, entry_seen, header_seen, signature_seen, critical_seen};
+ghost use Rattle.coset_core.specs.FieldsView.{fields_seen, signatures_held};
+ghost use Rattle.coset_core.specs.Views.{algorithm_seen, countersignature_seen, critical_seen, entry_seen, header_seen, signature_seen};
 ghost use Rattle.coset_shape.specs.Answers.{Reads};
 ghost use Rattle.coset_shape.specs.Errors.{IsUnexpected, UnlessMemory, answer, filled};
 ghost use Rattle.coset_shape.specs.Sources.{source_item};
-ghost use Rattle.coset_core.specs.Fields.{FieldsSeen, algorithm, names, fields, parts_of, same_name, HasOneIv, bars};
+ghost use Rattle.coset_core.specs.Fields.{FieldsSeen, Versions, algorithm, names, fields, parts_of, same_name, HasOneIv, bars};
 ghost use Rattle.coset_value.specs.Item.{Item, Pairs, dict};
 ghost use Rattle.coset_shape.specs.Inputs.{State, state, length_left, input_size, pairs_size, pairs_turns, PairsWithin, items_size, Stands, EntersMap, EntersOnes};
-ghost use Rattle.coset_shape.specs.Maps.{optional, listed, Adds, Refuses, put_field, are_distinct};
-ghost use Rattle.coset_shape.specs.Shape.{any, filled_bstr, any_number, one_or_many};
+ghost use Rattle.coset_shape.specs.Maps.{is_filled, optional, listed, Adds, Refuses, put_field, are_distinct};
+ghost use Rattle.coset_shape.specs.Shape.{any, bstr, filled_bstr, any_number, one_or_many};
 ghost use Rattle.coset_label.specs.Names.{number, name_item, word, assigned};
 ghost use Rattle.coset_label.specs.Views.{label_seen};
 ghost use Rattle.coset_shape.specs.declared.input.InputPairs.{InputPairs};
@@ -26,11 +26,11 @@ ghost use Rattle.coset_iana.specs.Algorithm as algorithms;
 ghost use Rattle.coset_iana.specs.CoapContentFormat as content_formats;
 ghost use Rattle.coset_iana.specs.HeaderParameter as parameters;
 ghost use Rattle.coset_core.specs.FieldLabels as labels;
-ghost use Rattle.coset_core.specs.Filling.{WalksTo, NextsLabel, FillsSome, FillsFields};
+ghost use Rattle.coset_core.specs.Filling.{FillsFields, FillsSome, Keeps, NamesNoVersion, NextsLabel, WalksTo, held_of, label_of};
 ghost use Rattle.coset_core.specs.FieldValues.{TakesValue, RefusesValue};
 ghost use Rattle.coset_core.specs.Headers.{empty_header, is_empty_header, layered_header, layered_signature, header as header_shape, signatures_of, signatures_image, header_image};
 ghost use Rattle.coset_value.specs.View.{view};
-ghost use Rattle.coset_core.specs.Written.{AppendsPairs, AppendsCounterSignatures, registered_item, filled_item, plain_fields, one, count_pairs};
+ghost use Rattle.coset_core.specs.Written.{AppendsPairs, AppendsCounterSignatures, bytes_item, registered_item, filled_item, plain_fields, one, count_pairs};
 ghost use Rattle.coset_shape.specs.Encoding.{HasNoImage, AppendsItem, Encodes};
 ghost use Rattle.std.specs.Option.{option_eq};
 ghost use Rattle.std.specs.Ordering.{on};
@@ -40,9 +40,13 @@ ghost use Rattle.coset_core.specs.Same.{algorithm_eq, entry_eq, fields_eq, heade
 ghost use Rattle.coset_core.specs.SameLaws.{header_eq_equiv};
 ghost use Rattle.std.specs.Map.{keys_of};
 ghost use Rattle.coset_cbor.specs.Least.{least_head};
-ghost use Rattle.coset_core.specs.Built.{with_algorithm, and_critical, with_content_type, with_key_id, with_iv, with_partial_iv, and_counter_signature, and_pair, IsOtherLabel};
+ghost use Rattle.coset_core.specs.Built.{with_algorithm, and_critical, with_content_type, with_key_id, with_iv, with_partial_iv, with_countersignature0_v2, and_counter_signature, and_countersignature_v2, and_pair, IsOtherLabel};
 
 use crate::content_type::{same_content_type, set_content_type, write_content_type_field};
+use crate::countersignature::{
+    CoseCountersignature, copy_countersignatures, countersignatures_of, same_countersignatures,
+    write_each_countersignature,
+};
 use crate::critical::{same_critical, set_critical, write_critical_field, write_registered};
 use crate::signature::{
     CoseSignature, copy_signatures, fill_each, fill_one, let_go, same_signatures, write_signatures,
@@ -84,7 +88,9 @@ pub(crate) const LAYERS: usize = 16;
 ///     ? 4 => bstr,                                   ; key identifier
 ///     ? 5 => bstr,                                   ; IV
 ///     ? 6 => bstr,                                   ; Partial IV
-///     ? 7 => COSE_Signature / [+ COSE_Signature]     ; counter signatures
+///     ? 7 => COSE_Signature / [+ COSE_Signature],    ; counter signatures
+///     ? 11 => COSE_Countersignature / [+ COSE_Countersignature],   ; those of version 2
+///     ? 12 => bstr                                   ; an abbreviated one of version 2
 /// )
 /// ```
 #[cycle(header)]
@@ -104,6 +110,10 @@ pub struct Header {
     pub partial_iv: Vec<u8>,
     /// The counter signatures (label 7); none where it is empty.
     pub counter_signatures: Vec<CoseSignature>,
+    /// The countersignatures of version 2 (label 11); none where it is empty.
+    pub countersignatures_v2: Vec<CoseCountersignature>,
+    /// The abbreviated countersignature of version 2 (label 12), which may be empty.
+    pub countersignature0_v2: Option<Vec<u8>>,
     /// The pairs of other labels, in order.
     pub rest: Vec<(Label, Value)>,
 }
@@ -111,14 +121,15 @@ pub struct Header {
 /// The counter signatures are let go in a function of their own, since headers in them are as deep as the input asked.
 impl Drop for Header {
     fn drop(self) {
-        let_go(self.into_counter_signatures());
+        let (all, version_2) = self.into_signatures();
+        let_go(all, version_2);
     }
 }
 
 impl Header {
-    /// The counter signatures alone.
-    pub(crate) fn into_counter_signatures(self) -> Vec<CoseSignature>
-        ensures { result.items ≡ counter_signatures_held self }
+    /// The counter signatures alone, of both versions.
+    pub(crate) fn into_signatures(self) -> (Vec<CoseSignature>, Vec<CoseCountersignature>)
+        ensures { (result.0.items, result.1.items) ≡ signatures_held self }
     {
         let Header {
             alg: _,
@@ -128,9 +139,11 @@ impl Header {
             iv: _,
             partial_iv: _,
             counter_signatures,
+            countersignatures_v2,
+            countersignature0_v2: _,
             rest: _,
         } = self;
-        counter_signatures
+        (counter_signatures, countersignatures_v2)
     }
 
     /// An empty header. It takes no memory.
@@ -145,6 +158,8 @@ impl Header {
             iv: Vec::new(alloc),
             partial_iv: Vec::new(alloc),
             counter_signatures: Vec::new(alloc),
+            countersignatures_v2: Vec::new(alloc),
+            countersignature0_v2: None,
             rest: Vec::new(alloc),
         }
     }
@@ -160,6 +175,8 @@ impl Header {
             && self.iv.is_empty()
             && self.partial_iv.is_empty()
             && self.counter_signatures.is_empty()
+            && self.countersignatures_v2.is_empty()
+            && self.countersignature0_v2.is_none()
             && self.rest.is_empty()
     }
 }
@@ -240,7 +257,7 @@ impl Encode for Header {
 
     ghost spare = { 24 };
 
-    /// Enough for all but the rest and the counter signatures.
+    /// Enough for all but the rest and the counter signatures of both versions.
     fn room(&self) -> usize {
         HEADS
             .saturating_add(self.key_id.len())
@@ -318,6 +335,21 @@ fn set_bytes(alloc: Global, field: &mut Vec<u8>, value: Source<'_>) -> Result<()
     Ok(())
 }
 
+/// Sets bytes that may be empty, where there are none yet.
+fn set_bstr(alloc: Global, field: &mut Option<Vec<u8>>, value: Source<'_>) -> Result<()>
+    ensures takes { OnOk result (TakesValue (optional bstr) (source_item value.entry)
+        (option_map (λ b. b.items) field.old) (option_map (λ b. b.items) field.new)) }
+    ensures refused { IfErr result (λ e. UnlessMemory e (RefusesValue (optional bstr)
+        (source_item value.entry) (option_map (λ b. b.items) field.old))) }
+    ensures kept { OnErr result (field.new ≡ field.old) }
+{
+    if field.is_some() {
+        return Err(CoseError::DuplicateMapKey);
+    }
+    *field = Some(value.into_bytes(alloc, "bstr")?);
+    Ok(())
+}
+
 /// Sets IV or Partial IV, where it isn't there yet; `barred` tells whether the other is.
 fn set_iv(alloc: Global, field: &mut Vec<u8>, barred: bool, value: Source<'_>) -> Result<()>
     ensures takes { OnOk result (TakesValue (listed filled_bstr) (source_item value.entry)
@@ -341,25 +373,26 @@ fn set_iv(alloc: Global, field: &mut Vec<u8>, barred: bool, value: Source<'_>) -
     Ok(())
 }
 
-/// Takes one more value of a header, by its label, which isn't 7. Whether labels of the rest repeat isn't asked.
+/// Takes one more value of a header, by its label, which is neither 7 nor 11. Whether labels of the rest repeat isn't asked.
 ///
 /// # Errors
 /// `OutOfMemory`; `DuplicateMapKey` where a field has a value already; a fault of its value; or `UnexpectedItem` where
 /// it is the second of IV and Partial IV. The header is then as before.
 fn put(header: &mut Header, alloc: Global, label: Label, value: Source<'_>) -> Result<()>
-    requires other { same_name labels.counter_signature (label_seen label) ≡ false }
+    requires other { NamesNoVersion (label_seen label) }
     requires one_iv { HasOneIv (fields_seen header.old) }
-    ensures takes { (o : Option Item)
+    ensures takes { (o : Versions (Option Item))
         → OnOk result
-        (Adds names (fields (optional any)) (label_seen label) (source_item value.entry)
-        (parts_of (fields_seen header.old, o)) (parts_of (fields_seen header.new, o))) }
-    ensures refused { (o : Option Item)
-        → IfErr result (λ e. UnlessMemory e (λ f. Refuses names (fields (optional any))
-        (label_seen label) (source_item value.entry) (parts_of (fields_seen header.old, o)) f
+        (Adds names (fields (optional any) (optional any)) (label_seen label)
+        (source_item value.entry) (parts_of (fields_seen header.old, o)) (parts_of (fields_seen header.new, o))) }
+    ensures refused { (o : Versions (Option Item))
+        → IfErr result (λ e. UnlessMemory e (λ f. Refuses names
+        (fields (optional any) (optional any)) (label_seen label) (source_item value.entry)
+        (parts_of (fields_seen header.old, o)) f
         ⊎ bars (label_seen label) (parts_of (fields_seen header.old, o)) f)) }
     ensures kept { OnErr result (fields_seen header.new ≡ fields_seen header.old) }
     ensures one_iv { HasOneIv (fields_seen header.new) }
-    ensures others { counter_signatures_held header.new ≡ counter_signatures_held header.old }
+    ensures others { signatures_held header.new ≡ signatures_held header.old }
 {
     if is_parameter(&label, HeaderParameter::Alg) {
         return set_algorithm(alloc, &mut header.alg, value);
@@ -380,6 +413,9 @@ fn put(header: &mut Header, alloc: Global, label: Label, value: Source<'_>) -> R
     if is_parameter(&label, HeaderParameter::PartialIv) {
         let barred = !header.iv.is_empty();
         return set_iv(alloc, &mut header.partial_iv, barred, value);
+    }
+    if is_parameter(&label, HeaderParameter::CounterSignature0V2) {
+        return set_bstr(alloc, &mut header.countersignature0_v2, value);
     }
     let value = value.into_value(alloc)?;
     header.rest.push((label, value))?;
@@ -412,8 +448,31 @@ fn next_label(alloc: Global, pairs: &mut InputPairs, input: &mut Input<'_>) -> R
     }
 }
 
-/// Reads pairs into a header up to one of label 7, whose value then stands at the input; or all that are left. It says
-/// whether it is the former.
+/// A version of counter signatures: the values of its label hold them.
+#[derive(Clone, Copy)]
+pub(crate) enum Version {
+    /// Those of label 7 (RFC 8152, section 4.5).
+    V1,
+    /// Those of label 11.
+    V2,
+}
+
+/// The version whose counter signatures have this label, or `None` where it is another label.
+fn version_of(label: &Label) -> Option<Version>
+    ensures { MatchOption result (NamesNoVersion (label_seen label.now))
+        (λ version. same_name (label_of version) (label_seen label.now) ≡ true) }
+{
+    if is_parameter(label, HeaderParameter::CounterSignature) {
+        return Some(Version::V1);
+    }
+    if is_parameter(label, HeaderParameter::CounterSignatureV2) {
+        return Some(Version::V2);
+    }
+    None
+}
+
+/// Reads pairs into a header up to one that holds counter signatures, whose value then stands at the input; or all that
+/// are left. It says of which version they are.
 ///
 /// # Errors
 /// `OutOfMemory`, or the fault of a pair, which is passed.
@@ -422,49 +481,55 @@ fn fill_some(
     alloc: Global,
     pairs: &mut InputPairs,
     input: &mut Input<'_>,
-) -> Result<bool>
+) -> Result<Option<Version>>
     requires one_iv { HasOneIv (fields_seen header.old) }
     ensures one_iv { HasOneIv (fields_seen header.new) }
-    ensures others { counter_signatures_held header.new ≡ counter_signatures_held header.old }
+    ensures others { signatures_held header.new ≡ signatures_held header.old }
     ensures shrinks { length_left (state input.new) ≤ length_left (state input.old) }
     ensures size { pairs_size pairs.new (state input.new) ≤ pairs_size pairs.old (state input.old) }
-    ensures value { IfOk result (λ b. IsTrue b → input_size (state input.new) ≤ pairs_size pairs.old
+    ensures value { IfOk result (λ o. IsSome o → input_size (state input.new) ≤ pairs_size pairs.old
         (state input.old)) }
-    ensures fills { (all ps : Pairs) (o : Option Item) (z : State)
+    ensures turns { IfOk result (λ o. IsSome o → pairs_turns pairs.new (state input.new) <
+        pairs_turns pairs.old (state input.old)) }
+    ensures fills { (all ps : Pairs) (o : Versions (Option Item)) (z : State)
         → WalksTo all (fields_seen header.old) o ps → PairsWithin pairs.old ps (state input.old) z
         → FillsSome all o z (fields_seen header.new) (state input.new) pairs.new result }
 {
     while let Some(label) = next_label(alloc, pairs, input)? {
-        if is_parameter(&label, HeaderParameter::CounterSignature) {
-            return Ok(true);
+        if let Some(version) = version_of(&label) {
+            return Ok(Some(version));
         }
         let value = input.take()?;
         put(header, alloc, label, value)?;
     }
-    Ok(false)
+    Ok(None)
 }
 
-/// The error of labels of the rest that repeat, or that there was no memory to ask for them. A value of label 7 that
-/// stands at the input is passed.
+/// The error of labels of the rest that repeat, or that there was no memory to ask for them. A value of counter signatures
+/// that stands at the input is passed.
 #[cold]
-fn refuse(filled: Result<bool>, input: &mut Input<'_>, error: CoseError) -> Result<bool>
+fn refuse(
+    filled: Result<Option<Version>>,
+    input: &mut Input<'_>,
+    error: CoseError,
+) -> Result<Option<Version>>
     ensures shrinks { length_left (state input.new) ≤ length_left (state input.old) }
-    ensures passes { (all : Pairs) (o : Option Item) (f : FieldsSeen) (z : State) (m : InputPairs)
-        → FillsSome all o z f (state input.old) m filled
+    ensures passes { (all : Pairs) (o : Versions (Option Item)) (f : FieldsSeen) (z : State)
+        (m : InputPairs) → FillsSome all o z f (state input.old) m filled
         → (left : Pairs) × PairsWithin m left (state input.new) z }
     ensures refused { IsErrAnd result (λ e. e ≡ error) }
 {
     let Ok(at_value) = filled else {
         return Err(error);
     };
-    if at_value {
+    if at_value.is_some() {
         input.pass();
     }
     Err(error)
 }
 
 /// As many pairs as [`fill_some`] reads. That no label of the rest repeats is asked before a fault is answered, before
-/// the value of label 7 is read, and in the end.
+/// counter signatures are read, and in the end.
 ///
 /// # Errors
 /// `OutOfMemory`, or the first fault of the pairs.
@@ -475,15 +540,17 @@ fn fill_fields(
     pairs: &mut InputPairs,
     input: &mut Input<'_>,
     error: &mut CoseError,
-) -> Result<bool, Refused>
+) -> Result<Option<Version>, Refused>
     requires one_iv { HasOneIv (fields_seen header.old) }
     ensures one_iv { HasOneIv (fields_seen header.new) }
-    ensures others { counter_signatures_held header.new ≡ counter_signatures_held header.old }
+    ensures others { signatures_held header.new ≡ signatures_held header.old }
     ensures shrinks { length_left (state input.new) ≤ length_left (state input.old) }
     ensures size { pairs_size pairs.new (state input.new) ≤ pairs_size pairs.old (state input.old) }
-    ensures value { IfOk result (λ b. IsTrue b → input_size (state input.new) ≤ pairs_size pairs.old
+    ensures value { IfOk result (λ o. IsSome o → input_size (state input.new) ≤ pairs_size pairs.old
         (state input.old)) }
-    ensures fills { (all ps : Pairs) (o : Option Item) (z : State)
+    ensures turns { IfOk result (λ o. IsSome o → pairs_turns pairs.new (state input.new) <
+        pairs_turns pairs.old (state input.old)) }
+    ensures fills { (all ps : Pairs) (o : Versions (Option Item)) (z : State)
         → WalksTo all (fields_seen header.old) o ps → PairsWithin pairs.old ps (state input.old) z
         → FillsFields all o z (fields_seen header.new) (state input.new) pairs.new
         (answer error.new result) }
@@ -561,17 +628,59 @@ fn fill_pairs(
         × Fills (layered_header layers) (dict all) (header_seen header.new)
         (answer error.new result) }
 {
-    if !fill_fields(header, alloc, pairs, input, error)? {
-        return Ok(());
-    }
-    fill_counter_signatures(&mut header.counter_signatures, alloc, input, layers, error)?;
-    if fill_fields(header, alloc, pairs, input, error)? {
-        return refuse_second(input, error);
+    while let Some(version) = fill_fields(header, alloc, pairs, input, error)? {
+        if holds(header, version) {
+            return refuse_second(input, error);
+        }
+        let mut read = Vec::new(alloc);
+        if let Err(refused) = fill_counter_signatures(&mut read, alloc, input, layers, error) {
+            // In a call of its own: what drops a signature takes more stack than a level of reading.
+            let_go(read, Vec::new(alloc));
+            return Err(refused);
+        }
+        keep_signatures(header, version, alloc, read, error)?;
     }
     Ok(())
 }
 
-/// The error of a map with label 7 twice; the second value is passed.
+/// Whether the header holds counter signatures of this version.
+fn holds(header: &Header, version: Version) -> bool
+    ensures { result ≡ is_filled (held_of version header.now) }
+{
+    match version {
+        Version::V1 => !header.counter_signatures.is_empty(),
+        Version::V2 => !header.countersignatures_v2.is_empty(),
+    }
+}
+
+/// Keeps the counter signatures that were read as those of this version.
+///
+/// # Errors
+/// `OutOfMemory` alone.
+#[inline(never)]
+fn keep_signatures(
+    header: &mut Header,
+    version: Version,
+    alloc: Global,
+    read: Vec<CoseSignature>,
+    error: &mut CoseError,
+) -> Result<(), Refused>
+    ensures keeps { OnOk result
+        (Keeps version (map signature_seen read.items) header.old header.new) }
+    ensures refused { OnErr result (error.new ≡ errors.OutOfMemory) }
+    ensures kept { OnOk result (error.new ≡ error.old) }
+{
+    match version {
+        Version::V1 => header.counter_signatures = read,
+        Version::V2 => {
+            let all = keep_error(countersignatures_of(alloc, read), error)?;
+            header.countersignatures_v2 = all;
+        }
+    }
+    Ok(())
+}
+
+/// The error of a map with one of the labels 7 and 11 twice; the second value is passed.
 #[cold]
 #[inline(never)]
 fn refuse_second(input: &mut Input<'_>, error: &mut CoseError) -> Result<(), Refused>
@@ -605,7 +714,7 @@ fn begin_ones(
     Ok(one)
 }
 
-/// Reads the value of label 7 into an empty list: one counter signature, or several.
+/// Reads the value of label 7 or 11 into an empty list: one counter signature, or several.
 ///
 /// # Errors
 /// `OutOfMemory`; `UnexpectedItem` where the item holds none; or the fault of the first that has one.
@@ -745,6 +854,23 @@ fn one(there: bool) -> usize
     if there { 1 } else { 0 }
 }
 
+/// Appends the pair of this parameter's label and these bytes, where they are there.
+fn write_bstr_field(
+    parameter: HeaderParameter,
+    bytes: &Option<Vec<u8>>,
+    out: &mut Vec<u8>,
+) -> Result<(), OutOfMemory>
+    ensures { OnOk result (AppendsPairs out.old.items out.new.items
+        (put_field (number (parameters.number parameter))
+        (bytes_item (option_map (λ b. b.items) bytes.now)) [])) }
+{
+    if let Some(bytes) = bytes {
+        write_parameter(parameter, out)?;
+        write_bytes(bytes, out)?;
+    }
+    Ok(())
+}
+
 /// How many pairs the header's map has.
 fn count(header: &Header) -> usize
     ensures { result ≡ count_pairs (header_seen header.now) }
@@ -757,6 +883,8 @@ fn count(header: &Header) -> usize
         + one(!header.iv.is_empty())
         + one(!header.partial_iv.is_empty())
         + one(!header.counter_signatures.is_empty())
+        + one(!header.countersignatures_v2.is_empty())
+        + one(header.countersignature0_v2.is_some())
 }
 
 /// Asks that no label of the rest stand twice.
@@ -771,7 +899,7 @@ fn ask_distinct(alloc: Global, rest: &[(Label, Value)]) -> Result<()>
     Ok(())
 }
 
-/// Appends the head of the array of label 7. One signature alone has none.
+/// Appends the head of the array of counter signatures. One alone has none.
 fn write_counter_signatures_head(count: usize, out: &mut Vec<u8>) -> Result<(), OutOfMemory>
     ensures one { OnOk result (count ≡ 1 → out.new.items ≡ out.old.items) }
     ensures array { OnOk result (count ≢ 1 → out.new.items ≡ out.old.items ++ least_head 4 count) }
@@ -796,6 +924,9 @@ pub(crate) fn write_header(alloc: Global, header: &Header, out: &mut Vec<u8>) ->
     write_map_head(count(header), out)?;
     write_fields(header, out)?;
     write_counter_signatures(alloc, &header.counter_signatures, out)?;
+    write_countersignatures(alloc, &header.countersignatures_v2, out)?;
+    let parameter = HeaderParameter::CounterSignature0V2;
+    write_bstr_field(parameter, &header.countersignature0_v2, out)?;
     write_rest(&header.rest, out)?;
     Ok(())
 }
@@ -807,8 +938,8 @@ fn write_counter_signatures(
     signatures: &[CoseSignature],
     out: &mut Vec<u8>,
 ) -> Result<()>
-    ensures ok { OnOk result (AppendsCounterSignatures out.old.items out.new.items
-        (signatures_of (map signature_seen signatures.now))) }
+    ensures ok { OnOk result (AppendsCounterSignatures labels.counter_signature out.old.items
+        out.new.items (signatures_of (map signature_seen signatures.now))) }
     ensures refused { IfErr result
         (HasNoImage (signatures_image (signatures_of (map signature_seen signatures.now)))) }
 {
@@ -821,11 +952,32 @@ fn write_counter_signatures(
     Ok(())
 }
 
+/// Appends the pair of the countersignatures of version 2, where there are any.
+#[cycle(write)]
+fn write_countersignatures(
+    alloc: Global,
+    signatures: &[CoseCountersignature],
+    out: &mut Vec<u8>,
+) -> Result<()>
+    ensures ok { OnOk result (AppendsCounterSignatures labels.countersignature_v2 out.old.items
+        out.new.items (signatures_of (map countersignature_seen signatures.now))) }
+    ensures refused { IfErr result
+        (HasNoImage (signatures_image (signatures_of (map countersignature_seen signatures.now)))) }
+{
+    if signatures.is_empty() {
+        return Ok(());
+    }
+    write_parameter(HeaderParameter::CounterSignatureV2, out)?;
+    write_counter_signatures_head(signatures.len(), out)?;
+    write_each_countersignature(alloc, signatures, out)?;
+    Ok(())
+}
+
 /// Copies what a header holds beside its counter signatures.
 #[inline(never)]
 fn copy_fields(header: &Header, copy: &mut Header) -> Result<(), AllocError>
     ensures copy { OnOk result (fields_seen copy.new ≡ fields_seen header.now) }
-    ensures others { counter_signatures_held copy.new ≡ counter_signatures_held copy.old }
+    ensures others { signatures_held copy.new ≡ signatures_held copy.old }
 {
     copy.alg = header.alg.clone()?;
     copy.crit = header.crit.clone()?;
@@ -833,8 +985,20 @@ fn copy_fields(header: &Header, copy: &mut Header) -> Result<(), AllocError>
     copy.key_id = Vec::from_slice(*header.key_id.allocator(), &header.key_id)?;
     copy.iv = Vec::from_slice(*header.iv.allocator(), &header.iv)?;
     copy.partial_iv = Vec::from_slice(*header.partial_iv.allocator(), &header.partial_iv)?;
+    copy.countersignature0_v2 = copy_bstr(&header.countersignature0_v2)?;
     copy.rest = header.rest.clone()?;
     Ok(())
+}
+
+/// A copy of bytes that may be missing.
+fn copy_bstr(bytes: &Option<Vec<u8>>) -> Result<Option<Vec<u8>>, AllocError>
+    ensures { IfOk result (λ copy. option_map (λ b. b.items) copy
+        ≡ option_map (λ b. b.items) bytes.now) }
+{
+    match bytes {
+        Some(bytes) => Ok(Some(Vec::from_slice(*bytes.allocator(), bytes)?)),
+        None => Ok(None),
+    }
 }
 
 /// Copies a header into another.
@@ -843,14 +1007,17 @@ pub(crate) fn copy_header(header: &Header, copy: &mut Header) -> Result<(), Allo
     ensures { OnOk result (header_seen copy.new ≡ header_seen header.now) }
 {
     copy_fields(header, copy)?;
-    copy_signatures(&header.counter_signatures, &mut copy.counter_signatures)
+    copy_signatures(&header.counter_signatures, &mut copy.counter_signatures)?;
+    copy_countersignatures(&header.countersignatures_v2, &mut copy.countersignatures_v2)
 }
 
 #[cycle(same)]
 pub(crate) fn same_header(a: &Header, b: &Header) -> bool
     ensures { result ≡ header_eq (header_seen a.now) (header_seen b.now) }
 {
-    same_fields(a, b) && same_signatures(&a.counter_signatures, &b.counter_signatures)
+    same_fields(a, b)
+        && same_signatures(&a.counter_signatures, &b.counter_signatures)
+        && same_countersignatures(&a.countersignatures_v2, &b.countersignatures_v2)
 }
 
 /// Whether two headers are the same but for their counter signatures.
@@ -863,6 +1030,7 @@ fn same_fields(a: &Header, b: &Header) -> bool
         && a.key_id == b.key_id
         && a.iv == b.iv
         && a.partial_iv == b.partial_iv
+        && a.countersignature0_v2 == b.countersignature0_v2
         && same_rest(&a.rest, &b.rest)
 }
 
@@ -1014,8 +1182,33 @@ impl HeaderBuilder {
         Ok(self)
     }
 
-    /// Adds a pair with a number as its label, which is none of 1 to 7: those have calls of their own. A header with a
-    /// label twice isn't written (`DuplicateMapKey`).
+    /// Adds a countersignature of version 2 (label 11).
+    ///
+    /// # Errors
+    /// `OutOfMemory` alone.
+    pub fn add_countersignature_v2(
+        mut self,
+        signature: CoseCountersignature,
+    ) -> Result<HeaderBuilder>
+        ensures ok { IfOk result (λ b. header_seen b
+            ≡ and_countersignature_v2 (countersignature_seen signature) (header_seen self)) }
+        ensures memory { IfErr result (λ e. e ≡ errors.OutOfMemory) }
+    {
+        self.0.countersignatures_v2.push(signature)?;
+        Ok(self)
+    }
+
+    /// Sets the abbreviated countersignature of version 2 (label 12).
+    pub fn countersignature0_v2(mut self, signature: Vec<u8>) -> HeaderBuilder
+        ensures { header_seen result
+            ≡ with_countersignature0_v2 signature.items (header_seen self) }
+    {
+        self.0.countersignature0_v2 = Some(signature);
+        self
+    }
+
+    /// Adds a pair with a number as its label, which is none of 1 to 7, and neither 11 nor 12: those have calls of their
+    /// own. A header with a label twice isn't written (`DuplicateMapKey`).
     ///
     /// # Errors
     /// `OutOfMemory` alone.

@@ -2,6 +2,7 @@
 #![tactic(auto)]
 
 mod content_type;
+mod countersignature;
 mod critical;
 mod header;
 mod headers;
@@ -16,6 +17,7 @@ pub use coset_label::{
     RegisteredLabelWithPrivate, Result, Source, TaggedCborSerializable, cbor, has_repeats, iana,
     shape, util,
 };
+pub use countersignature::{CoseCountersignature, CoseCountersignatureBuilder};
 pub use header::{Header, HeaderBuilder};
 pub use headers::fill_headers;
 pub use protected::{Bstr, ProtectedHeader};

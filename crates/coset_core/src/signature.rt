@@ -4,7 +4,7 @@ ghost use Rattle.std.specs.Prelude.{◌≡◌, [], map, option_map, OnOk, IfOk, 
 ghost use Rattle.coset_shape.specs.declared.error.CoseError.TheVariants.{OutOfMemory};
 ghost use Rattle.coset_core.specs.Contents.{empty_signature};
 ghost use Rattle.coset_shape.specs.InPlace.{BeginsNext, Fills, FillsEach, GetsOne, GetsPlace};
-ghost use Rattle.coset_core.specs.Views.{header_seen, signature_seen};
+ghost use Rattle.coset_core.specs.Views.{header_seen, protected_seen, signature_seen};
 ghost use Rattle.coset_shape.specs.Answers.{Reads};
 ghost use Rattle.coset_shape.specs.Errors.{IsUnexpected, answer, filled};
 ghost use Rattle.coset_shape.specs.Sources.{source_item};
@@ -18,8 +18,9 @@ ghost use Rattle.std.specs.Ordering.{on};
 ghost use Rattle.std.specs.Cmp.{on_equiv, on_per, partial_equiv_from_equiv};
 ghost use Rattle.coset_core.specs.Same.{signature_eq, signatures_eq};
 ghost use Rattle.coset_core.specs.SameLaws.{signature_eq_equiv};
-ghost use Rattle.coset_core.specs.Held.{signatures_in};
+ghost use Rattle.coset_core.specs.Held.{header_count, held_in};
 
+use crate::countersignature::CoseCountersignature;
 use crate::header::{Header, LAYERS, copy_header, fill_header, same_header, write_header};
 use crate::protected::{
     Bstr, ProtectedHeader, copy_protected, fill_protected, protected_from_header, same_protected,
@@ -472,7 +473,7 @@ fn fill_places(
 }
 
 /// A signature.
-fn read_signature(alloc: Global, source: Source<'_>) -> Result<CoseSignature>
+pub(crate) fn read_signature(alloc: Global, source: Source<'_>) -> Result<CoseSignature>
     ensures { Reads signature_shape signature_seen (source_item source.entry) result }
 {
     let mut signed = CoseSignature::new(alloc);
@@ -517,7 +518,7 @@ fn write_signature(alloc: Global, signature: &CoseSignature, out: &mut Vec<u8>) 
 
 /// Empties a list, and makes room for that many.
 #[inline(never)]
-fn make_room(copies: &mut Vec<CoseSignature>, count: usize) -> Result<(), AllocError>
+pub(crate) fn make_room<T: Drop>(copies: &mut Vec<T>, count: usize) -> Result<(), AllocError>
     ensures { copies.new.items ≡ [] }
 {
     copies.clear();
@@ -526,7 +527,7 @@ fn make_room(copies: &mut Vec<CoseSignature>, count: usize) -> Result<(), AllocE
 
 /// Copies bytes.
 #[inline(never)]
-fn copy_into(bytes: &Vec<u8>, copy: &mut Vec<u8>) -> Result<(), AllocError>
+pub(crate) fn copy_into(bytes: &Vec<u8>, copy: &mut Vec<u8>) -> Result<(), AllocError>
     ensures { OnOk result (copy.new.items ≡ bytes.now.items) }
 {
     *copy = Vec::from_slice(*bytes.allocator(), bytes)?;
@@ -585,37 +586,65 @@ fn same_signature(a: &CoseSignature, b: &CoseSignature) -> bool
         && a.signature == b.signature
 }
 
-/// Of the last signature the counter signatures of its two headers. The rest of it is let go.
-#[inline(never)]
-fn take_last(all: &mut Vec<CoseSignature>) -> Option<(Vec<CoseSignature>, Vec<CoseSignature>)>
-    ensures none { result ≡ None → all.new.items ≡ [] }
-    ensures fewer { IfSome result (λ x. signatures_in x.0.items + signatures_in x.1.items
-        + signatures_in all.new.items < signatures_in all.old.items) }
+/// Of the last signature of either version its two headers. The rest of it is let go.
+fn last_headers(
+    all: &mut Vec<CoseSignature>,
+    version_2: &mut Vec<CoseCountersignature>,
+) -> Option<(ProtectedHeader, Header)>
+    ensures none { result ≡ None → (all.new.items ≡ []) × (version_2.new.items ≡ []) }
+    ensures fewer { IfSome result (λ x. header_count (protected_seen x.0).header + header_count
+        (header_seen x.1) + held_in all.new.items version_2.new.items
+        < held_in all.old.items version_2.old.items) }
 {
-    let CoseSignature {
+    if let Some(signed) = all.pop() {
+        let CoseSignature {
+            protected,
+            unprotected,
+            signature: _,
+        } = signed;
+        return Some((protected, unprotected));
+    }
+    let CoseCountersignature {
         protected,
         unprotected,
         signature: _,
-    } = all.pop()?;
+    } = version_2.pop()?;
+    Some((protected, unprotected))
+}
+
+/// The counter signatures of both versions.
+type Held = (Vec<CoseSignature>, Vec<CoseCountersignature>);
+
+/// Of the last signature of either version the counter signatures of its two headers. The rest of it is let go.
+#[inline(never)]
+fn take_last(
+    all: &mut Vec<CoseSignature>,
+    version_2: &mut Vec<CoseCountersignature>,
+) -> Option<(Held, Held)>
+    ensures none { result ≡ None → (all.new.items ≡ []) × (version_2.new.items ≡ []) }
+    ensures fewer { IfSome result (λ x. held_in x.0.0.items x.0.1.items + held_in x.1.0.items
+        x.1.1.items + held_in all.new.items version_2.new.items
+        < held_in all.old.items version_2.old.items) }
+{
+    let (protected, unprotected) = last_headers(all, version_2)?;
     let ProtectedHeader {
         original_data: _,
         header,
     } = protected;
-    Some((
-        header.into_counter_signatures(),
-        unprotected.into_counter_signatures(),
-    ))
+    Some((header.into_signatures(), unprotected.into_signatures()))
 }
 
-/// Lets signatures go, and those in their headers.
+/// Lets signatures of both versions go, and those in their headers.
 #[inline(never)]
-pub(crate) fn let_go(all: Vec<CoseSignature>) {
+pub(crate) fn let_go(all: Vec<CoseSignature>, version_2: Vec<CoseCountersignature>) {
     let mut all = all;
-    while let Some((protected, unprotected)) = take_last(&mut all) {
-        let_go(protected);
-        let_go(unprotected);
+    let mut version_2 = version_2;
+    while let Some((protected, unprotected)) = take_last(&mut all, &mut version_2) {
+        let_go(protected.0, protected.1);
+        let_go(unprotected.0, unprotected.1);
     }
     all.destroy_empty();
+    version_2.destroy_empty();
 }
 
 /// Makes a [`CoseSignature`], field by field. Contracts see it as the signature that

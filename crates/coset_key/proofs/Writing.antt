@@ -1,14 +1,10 @@
 -- The fields of a key, written pair by pair.
-use Rattle.std.proofs.Common.{◌≡◌, ◌==◌, ℤ, List, [], ◌∷◌, length, Bool, true, false, Option, Some, None, option_map, refl, sym, ◌∙◌, ap, true≢false, arith, Result, Ok, Err}
-use Rattle.std.specs.Prelude.{IfErr}
+use Rattle.std.proofs.Common.{◌≡◌, ◌==◌, ℤ, List, [], ◌∷◌, length, Bool, true, false, Option, Some, None, option_map, refl, sym, ◌∙◌, ap, true≢false, arith}
 use Rattle.coset_value.specs.Item.{Item, Items, item, array}
-use Rattle.coset_shape.specs.Encoding.{AddsField, HasNoImage}
+use Rattle.coset_shape.specs.Encoding.{AddsField}
 use Rattle.coset_shape.specs.Maps.{field_shape_image, is_filled}
 use Rattle.coset_shape.specs.Shape.{both, images, list_of}
-use Rattle.coset_shape.specs.ShapeLaws.{some-none}
 use Rattle.coset_shape.specs.declared.encode_map.MapEncoder.{MapEncoder}
-use Rattle.coset_shape.specs.declared.error.CoseError.{CoseError}
-use Rattle.coset_shape.specs.declared.error.CoseError.TheVariants.{DecodeFailed, DuplicateMapKey, EncodeFailed, ExtraneousData, OutOfRangeIntegerValue, UnexpectedItem, UnregisteredIanaValue, UnregisteredIanaNonPrivateValue, OutOfMemory}
 use Rattle.coset_shape.proofs.EncodingMaps.{nothing-added}
 use Rattle.coset_label.specs.Names.{Name, number, word, name_item, RegisteredName, assigned, private_use, phrase}
 use Rattle.coset_core.specs.Fields.{algorithm}
@@ -55,21 +51,3 @@ key_ops_image ns = let vs = operations_image ns in (array vs.0, ap (option_map a
 pub key_ops_list : (ns : List Name) → is_filled ns ≡ true → field_shape_image (is_filled ns) (key_ops.image ns) ≡ option_map Some ((list_of operation).image ns)
 unfolding key_ops
 key_ops_list ns e = ap (λ b. field_shape_image b ((list_of operation).image ns)) e
-
--- ---- errors
-
-only_memory : (e : CoseError) → ((e ≡ OutOfMemory → ⊥) → ⊥) → e ≡ OutOfMemory
-only_memory OutOfMemory h = refl
-only_memory (DecodeFailed d) h = absurd (h (λ q. absurd (cc)))
-only_memory DuplicateMapKey h = absurd (h (λ q. absurd (cc)))
-only_memory EncodeFailed h = absurd (h (λ q. absurd (cc)))
-only_memory ExtraneousData h = absurd (h (λ q. absurd (cc)))
-only_memory OutOfRangeIntegerValue h = absurd (h (λ q. absurd (cc)))
-only_memory (UnexpectedItem got want) h = absurd (h (λ q. absurd (cc)))
-only_memory UnregisteredIanaValue h = absurd (h (λ q. absurd (cc)))
-only_memory UnregisteredIanaNonPrivateValue h = absurd (h (λ q. absurd (cc)))
-
--- of what has an item, only memory is refused
-pub refused_memory : {T A : Type 0} (r : Result T CoseError) (o : Option A) (x : A) → o ≡ Some x → IfErr r (HasNoImage o) → IfErr r (λ e. e ≡ OutOfMemory)
-refused_memory (Ok t) o x is h = tt
-refused_memory (Err e) o x is h = only_memory e (λ n. some-none is (h n).1)

@@ -1,6 +1,9 @@
 use Rattle.std.proofs.Common.{◌≡◌, map, take}
-use Rattle.coset_core.specs.Views.{signature_seen}
+use Rattle.coset_core.specs.Views.{countersignature_seen, signature_seen}
 use Rattle.coset_core.proofs.+copy.Given as goal
 
 abbrev pub invariant-signature::copy_signatures-loop-signature : goal.invariant-signature::copy_signatures-loop-signature
 invariant-signature::copy_signatures-loop-signature l = map signature_seen l.copies.items ≡ map signature_seen (take l.signature-index l.all)
+
+abbrev pub invariant-countersignature::copy_countersignatures-loop-signature : goal.invariant-countersignature::copy_countersignatures-loop-signature
+invariant-countersignature::copy_countersignatures-loop-signature l = map countersignature_seen l.copies.items ≡ map countersignature_seen (take l.signature-index l.all)

@@ -1,24 +1,24 @@
-use Rattle.std.proofs.Common.{◌≡◌, Some, None, true, false, option_map, map, ap, sym, subst, refl, ◌∙◌, ◌-◌, arith, rules}
+use Rattle.std.proofs.Common.{◌≡◌, Some, Err, true, false, option_map, map, ap, sym, subst, refl, ◌∙◌, ◌-◌, arith, rules}
 use Rattle.coset_value.specs.Item.{Item, Items, array, bytes}
 use Rattle.coset_shape.specs.Inputs.{state, AreWithin}
-use Rattle.coset_shape.proofs.Inputs.{items_smaller}
+use Rattle.coset_shape.proofs.Inputs.{items_smaller, pairs_fewer, pairs_smaller}
 use Rattle.coset_shape.specs.Shape.{Each}
 use Rattle.coset_shape.specs.ShapeLaws.{some-one}
 use Rattle.coset_shape.specs.Errors.{answer, UnlessMemory}
 use Rattle.coset_shape.specs.InPlace.{Fills}
 use Rattle.coset_core.specs.Contents.{empty_signature}
-use Rattle.coset_core.specs.FieldsView.{fields_level, fields_seen}
+use Rattle.coset_core.specs.Fields.{HasOneIv}
+use Rattle.coset_core.specs.FieldsView.{fields_seen}
 use Rattle.coset_core.specs.HeaderAgain.{array-is}
 use Rattle.coset_core.specs.Headers.{SignatureSeen, layered_header, layered_protected, layered_signature}
 use Rattle.coset_core.specs.Views.{header_seen, protected_seen, signature_seen}
 use Rattle.coset_core.specs.ViewLaws.{protected-made, protected-opened, signature-made}
-use Rattle.coset_core.specs.declared.header.Header.{out-roll-Header}
 use Rattle.coset_core.specs.declared.protected.ProtectedHeader.{out-ProtectedHeader}
 use Rattle.coset_core.specs.declared.signature.CoseSignature.{out-roll-CoseSignature}
 use Rattle.coset_core.proofs.Reading.{no_layer_left, protected_filled}
 use Rattle.coset_shape.proofs.InPlace.{last_at, last_filled, one_filled_more, one_refused_more}
 use Rattle.coset_shape.proofs.Lists.{all_read}
-use Rattle.coset_core.proofs.Forward.{not_entered, none_held_yet, set_out, pairs_refused, ends_plain, counter_signatures_refused, counter_signatures_filled, second_refused, ends_with_counter_signatures, one_filled, more_filled, places_refused, second_read, last_refused, places_filled, unprotected_refused, protected_refused}
+use Rattle.coset_core.proofs.Forward.{not_entered, one_iv_yet, so_far_none, so_far_more, ends, pairs_refused, counter_signatures_refused, not_kept, second_refused, one_filled, more_filled, places_refused, second_read, last_refused, places_filled, unprotected_refused, protected_refused}
 use Rattle.coset_core.proofs.+read.Goals as goal
 use Rattle.coset_core.proofs.+read.Goals.{header::fill_counter_signatures-then-one, header::fill_counter_signatures-else-one}
 
@@ -88,58 +88,85 @@ pub header::fill_header-returns-in_err-begin_pairs-clause-fills : goal.header::f
 header::fill_header-returns-in_err-begin_pairs-clause-fills t c = λ v z stands.
     not_entered c.args.layers v _ (state c.begin_pairs.new.input) z c.from_residual.result c.begin_pairs.new.error c.in_err-begin_pairs.field-0.0 c.from_residual.ensures.1 (c.in_err-begin_pairs.ensures.enters v z stands)
 
-pub header::fill_pairs-returns-in_err-fill_fields-clause-fills : goal.header::fill_pairs-returns-in_err-fill_fields-clause-fills
-header::fill_pairs-returns-in_err-fill_fields-clause-fills t c = λ all z within.
-    pairs_refused c.args.layers all None z (fields_seen c.fill_fields.new.header) (state c.fill_fields.new.input) c.fill_fields.new.pairs _ c.from_residual.result c.fill_fields.new.error c.in_err-fill_fields.field-0.0 c.from_residual.ensures.1
-    (c.in_err-fill_fields.ensures.fills all all None z (set_out c.args.header.now all c.requires.empty) within)
-
-pub header::fill_pairs-returns-then-not-branch-clause-fills : goal.header::fill_pairs-returns-then-not-branch-clause-fills
-header::fill_pairs-returns-then-not-branch-clause-fills t c = λ all z within.
-    let read = rw c.if-not-branch.true at c.in_ok-fill_fields.ensures in
-    ends_plain c.args.layers all z c.fill_fields.new.header (state c.fill_fields.new.input) c.fill_fields.new.pairs (read.fills all all None z (set_out c.args.header.now all c.requires.empty) within) read.one_iv
-    (read.others ∙ none_held_yet c.args.header.now c.requires.empty)
+pub header::fill_pairs-loop-version-init : goal.header::fill_pairs-loop-version-init
+header::fill_pairs-loop-version-init t c = record {
+  one_iv = one_iv_yet c.args.header.now c.requires.empty;
+  shrinks = omega arith;
+  size = omega arith;
+  fills = λ all z within. so_far_none c.args.layers all c.args.header.now (state c.args.input.now) z c.args.pairs.now c.requires.empty within;
+}
 
 pub header::fill_pairs-fill_counter_signatures-requires : goal.header::fill_pairs-fill_counter_signatures-requires
 header::fill_pairs-fill_counter_signatures-requires t c =
-    let read = rw c.if-not-branch.false at c.in_ok-fill_fields.ensures in
-    let inner = read.value refl in
-    (omega (arith, inner, c.decreases), ap (map signature_seen) (read.others ∙ none_held_yet c.args.header.now c.requires.empty))
+    let next = rw c.in-Some.is at c.in_ok-version.ensures in
+    let inner = next.value refl in
+    let before = c.loop-version.invariant.size in
+    (omega (arith, inner, before, c.decreases), ap (map signature_seen) c.new-read.ensures.items)
 
-pub header::fill_pairs-returns-in_err-fill_counter_signatures-clause-fills : goal.header::fill_pairs-returns-in_err-fill_counter_signatures-clause-fills
-header::fill_pairs-returns-in_err-fill_counter_signatures-clause-fills t c = λ all z within.
-    let read = rw c.if-not-branch.false at c.in_ok-fill_fields.ensures in
-    let seven = (read.fills all all None z (set_out c.args.header.now all c.requires.empty) within).0 in
-    counter_signatures_refused c.args.layers all None (fields_seen c.fill_fields.new.header) (state c.fill_fields.new.input) (state c.fill_counter_signatures.new.input) z c.fill_fields.new.pairs (map signature_seen c.fill_counter_signatures.new.all.items) _
-    c.from_residual-in_err-fill_counter_signatures.result c.fill_counter_signatures.new.error c.in_err-fill_counter_signatures.field-0.0 c.from_residual-in_err-fill_counter_signatures.ensures.1 seven c.in_err-fill_counter_signatures.ensures.fills
+pub header::fill_pairs-loop-version-preserved : goal.header::fill_pairs-loop-version-preserved
+header::fill_pairs-loop-version-preserved t c =
+    let next = rw c.in-Some.is at c.in_ok-version.ensures in
+    let read = c.in_default-fill_counter_signatures.ensures in
+    let keeps = c.in_ok-keep_signatures.ensures.keeps in
+    record {
+      one_iv = subst HasOneIv (sym keeps.fields) next.one_iv;
+      shrinks =
+          let one = next.shrinks in
+          let two = read.shrinks in
+          let before = c.loop-version.invariant.shrinks in
+          omega (arith, one, two, before);
+      size =
+          let behind = pairs_smaller c.fill_fields.new.pairs (state c.fill_fields.new.input) (state c.fill_counter_signatures.new.input) read.shrinks in
+          let one = next.size in
+          let before = c.loop-version.invariant.size in
+          omega (arith, behind, one, before);
+      fills = λ all z within.
+          let p = c.loop-version.invariant.fills all z within in
+          so_far_more c.in-Some.version c.args.layers all c.loop-version.header c.fill_fields.new.header c.keep_signatures.new.header (state c.loop-version.input) (state c.fill_fields.new.input) (state c.fill_counter_signatures.new.input) z
+          c.loop-version.pairs c.fill_fields.new.pairs (map signature_seen c.fill_counter_signatures.new.all.items) p (next.fills all p.left p.values z p.walks p.within).0 next.others (sym c.holds.ensures ∙ c.if-holds.false) read.fills keeps;
+    }
 
-pub header::fill_pairs-returns-in_err-fill_fields-2-clause-fills : goal.header::fill_pairs-returns-in_err-fill_fields-2-clause-fills
-header::fill_pairs-returns-in_err-fill_fields-2-clause-fills t c = λ all z within.
-    let read = rw c.if-not-branch.false at c.in_ok-fill_fields.ensures in
-    let seven = (read.fills all all None z (set_out c.args.header.now all c.requires.empty) within).0 in
-    let g = counter_signatures_filled c.args.layers all (fields_seen c.fill_fields.new.header) _ (state c.fill_fields.new.input) (state c.fill_counter_signatures.new.input) z c.fill_fields.new.pairs (map signature_seen c.fill_counter_signatures.new.all.items)
-    (ap fields_level (out-roll-Header _)) seven c.in_ok-fill_counter_signatures.ensures.fills in
-    pairs_refused c.args.layers all (Some g.value) z (fields_seen c.fill_fields-2.new.header) (state c.fill_fields-2.new.input) c.fill_fields-2.new.pairs _ c.from_residual-in_err-fill_fields-2.result c.fill_fields-2.new.error c.in_err-fill_fields-2.field-0.0
-    c.from_residual-in_err-fill_fields-2.ensures.1 (c.in_err-fill_fields-2.ensures.fills all g.others (Some g.value) z g.walks g.within)
+pub header::fill_pairs-loop-version-smaller : goal.header::fill_pairs-loop-version-smaller
+header::fill_pairs-loop-version-smaller t c =
+    let next = rw c.in-Some.is at c.in_ok-version.ensures in
+    let one = next.turns refl in
+    let behind = pairs_fewer c.fill_fields.new.pairs (state c.fill_fields.new.input) (state c.fill_counter_signatures.new.input) c.in_default-fill_counter_signatures.ensures.shrinks in
+    omega (arith, one, behind)
 
-pub header::fill_pairs-returns-then-branch-clause-fills : goal.header::fill_pairs-returns-then-branch-clause-fills
-header::fill_pairs-returns-then-branch-clause-fills t c = λ all z within.
-    let read = rw c.if-not-branch.false at c.in_ok-fill_fields.ensures in
-    let seven = (read.fills all all None z (set_out c.args.header.now all c.requires.empty) within).0 in
-    let g = counter_signatures_filled c.args.layers all (fields_seen c.fill_fields.new.header) _ (state c.fill_fields.new.input) (state c.fill_counter_signatures.new.input) z c.fill_fields.new.pairs (map signature_seen c.fill_counter_signatures.new.all.items)
-    (ap fields_level (out-roll-Header _)) seven c.in_ok-fill_counter_signatures.ensures.fills in
-    let again = rw c.if-branch.true at c.in_ok-fill_fields-2.ensures in
-    second_refused c.args.layers all g.value (fields_seen c.fill_fields-2.new.header) (state c.fill_fields-2.new.input) (state c.refuse_second.new.input) z c.fill_fields-2.new.pairs _ (answer c.refuse_second.new.error c.refuse_second.result)
-    (again.fills all g.others (Some g.value) z g.walks g.within).0 c.refuse_second.ensures.passes
+pub header::fill_pairs-returns-in_err-version-clause-fills : goal.header::fill_pairs-returns-in_err-version-clause-fills
+header::fill_pairs-returns-in_err-version-clause-fills t c = λ all z within.
+    let p = c.loop-version.invariant.fills all z within in
+    pairs_refused c.args.layers all p.values z (fields_seen c.fill_fields.new.header) (state c.fill_fields.new.input) c.fill_fields.new.pairs _ c.from_residual.result c.fill_fields.new.error c.in_err-version.field-0.0 c.from_residual.ensures.1
+    (c.in_err-version.ensures.fills all p.left p.values z p.walks p.within)
+
+pub header::fill_pairs-returns-then-holds-clause-fills : goal.header::fill_pairs-returns-then-holds-clause-fills
+header::fill_pairs-returns-then-holds-clause-fills t c = λ all z within.
+    let next = rw c.in-Some.is at c.in_ok-version.ensures in
+    let p = c.loop-version.invariant.fills all z within in
+    second_refused c.in-Some.version c.args.layers all c.loop-version.header c.fill_fields.new.header (state c.loop-version.input) (state c.fill_fields.new.input) (state c.refuse_second.new.input) z c.loop-version.pairs c.fill_fields.new.pairs _
+    (answer c.refuse_second.new.error c.refuse_second.result) p (next.fills all p.left p.values z p.walks p.within).0 next.others (sym c.holds.ensures ∙ c.if-holds.true) c.refuse_second.ensures.passes
+
+pub header::fill_pairs-returns-in-Err-clause-fills : goal.header::fill_pairs-returns-in-Err-clause-fills
+header::fill_pairs-returns-in-Err-clause-fills t c = λ all z within.
+    let next = rw c.in-Some.is at c.in_ok-version.ensures in
+    let p = c.loop-version.invariant.fills all z within in
+    counter_signatures_refused c.in-Some.version c.args.layers all p.values (fields_seen c.fill_fields.new.header) (state c.fill_fields.new.input) (state c.fill_counter_signatures.new.input) z c.fill_fields.new.pairs
+    (map signature_seen c.fill_counter_signatures.new.all.items) (header_seen c.fill_fields.new.header) (Err c.in-Err.refused) c.fill_counter_signatures.new.error c.in-Err.refused refl
+    (next.fills all p.left p.values z p.walks p.within).0 c.in-Err.ensures.fills
+
+pub header::fill_pairs-returns-in_err-keep_signatures-clause-fills : goal.header::fill_pairs-returns-in_err-keep_signatures-clause-fills
+header::fill_pairs-returns-in_err-keep_signatures-clause-fills t c = λ all z within.
+    let next = rw c.in-Some.is at c.in_ok-version.ensures in
+    let p = c.loop-version.invariant.fills all z within in
+    not_kept c.in-Some.version c.args.layers all p.values (fields_seen c.fill_fields.new.header) (state c.fill_fields.new.input) (state c.fill_counter_signatures.new.input) z c.fill_fields.new.pairs
+    (map signature_seen c.fill_counter_signatures.new.all.items) _ c.from_residual-in_err-keep_signatures.result c.keep_signatures.new.error c.in_err-keep_signatures.field-0.0 c.from_residual-in_err-keep_signatures.ensures.1
+    (next.fills all p.left p.values z p.walks p.within).0 c.in_default-fill_counter_signatures.ensures.fills c.in_err-keep_signatures.ensures.refused
 
 pub header::fill_pairs-returns-clause-fills : goal.header::fill_pairs-returns-clause-fills
 header::fill_pairs-returns-clause-fills t c = λ all z within.
-    let read = rw c.if-not-branch.false at c.in_ok-fill_fields.ensures in
-    let seven = (read.fills all all None z (set_out c.args.header.now all c.requires.empty) within).0 in
-    let g = counter_signatures_filled c.args.layers all (fields_seen c.fill_fields.new.header) _ (state c.fill_fields.new.input) (state c.fill_counter_signatures.new.input) z c.fill_fields.new.pairs (map signature_seen c.fill_counter_signatures.new.all.items)
-    (ap fields_level (out-roll-Header _)) seven c.in_ok-fill_counter_signatures.ensures.fills in
-    let again = rw c.if-branch.false at c.in_ok-fill_fields-2.ensures in
-    ends_with_counter_signatures c.args.layers all z c.fill_fields-2.new.header (state c.fill_fields-2.new.input) (state c.fill_counter_signatures.new.input) c.fill_fields.new.pairs c.fill_fields-2.new.pairs _ c.fill_counter_signatures.new.all.items g
-    (again.fills all g.others (Some g.value) z g.walks g.within) again.one_iv (again.others ∙ ap (λ h. h.counter_signatures.items) (out-roll-Header _))
+    let next = rw c.in_default.is at c.in_ok-version.ensures in
+    let p = c.loop-version.invariant.fills all z within in
+    ends c.args.layers all z c.loop-version.header c.fill_fields.new.header (state c.loop-version.input) (state c.fill_fields.new.input) c.loop-version.pairs c.fill_fields.new.pairs p (next.fills all p.left p.values z p.walks p.within) next.one_iv next.others
 
 pub signature::fill_signature-returns-clause-fills : goal.signature::fill_signature-returns-clause-fills
 signature::fill_signature-returns-clause-fills t c = λ v z stands.

@@ -1,6 +1,9 @@
 use Rattle.std.proofs.Common.{ℕ, map, length, ◌+◌, ◌*◌, ◌≤◌}
-use Rattle.coset_value.specs.Item.{Items}
-use Rattle.coset_shape.specs.Inputs.{State, state, length_left, input_size, items_size, pairs_size, items_turns, AreWithin}
+use Rattle.coset_value.specs.Item.{Items, Pairs}
+use Rattle.coset_shape.specs.Inputs.{State, state, length_left, input_size, items_size, pairs_size, items_turns, pairs_turns, AreWithin, PairsWithin}
+use Rattle.coset_core.specs.Fields.{HasOneIv}
+use Rattle.coset_core.specs.FieldsView.{fields_seen}
+use Rattle.coset_core.proofs.Forward.{HeaderSoFar}
 use Rattle.coset_core.specs.Views.{signature_seen}
 use Rattle.coset_shape.proofs.InPlace.{Filled}
 use Rattle.coset_core.specs.Headers.{SignatureSeen, layered_signature}
@@ -36,6 +39,18 @@ decreases-protected::fill_protected l = layer * l.layers + 1
 
 abbrev pub decreases-protected::fill_content : goal.decreases-protected::fill_content
 decreases-protected::fill_content l = layer * l.layers + 8 * length l.content.now + 10
+
+-- some pairs were read, and the others stand there
+abbrev pub invariant-header::fill_pairs-loop-version : goal.invariant-header::fill_pairs-loop-version
+invariant-header::fill_pairs-loop-version l = record {
+  one_iv : HasOneIv (fields_seen l.header);
+  shrinks : length_left (state l.input) ≤ length_left (state l.fn.input);
+  size : pairs_size l.pairs (state l.input) ≤ pairs_size l.fn.pairs (state l.fn.input);
+  fills : (all : Pairs) (z : State) → PairsWithin l.fn.pairs all (state l.fn.input) z → HeaderSoFar l.layers all l.header (state l.input) z l.pairs;
+}
+
+abbrev pub decreases-header::fill_pairs-loop-version : goal.decreases-header::fill_pairs-loop-version
+decreases-header::fill_pairs-loop-version l = pairs_turns l.pairs (state l.input)
 
 -- the signatures so far are those of the items so far, and the others stand there
 abbrev pub invariant-signature::fill_each-loop-all : goal.invariant-signature::fill_each-loop-all

@@ -1,10 +1,48 @@
-use Rattle.std.proofs.Common.{sym, rules}
-use Rattle.coset_core.proofs.Signatures.{unequal, header_eq-opened}
+use Rattle.std.proofs.Common.{◌≡◌, Bool, ◌&&◌, map, sym, ◌∙◌, rules}
+use Rattle.coset_core.specs.FieldsView.{counter_signatures_held, countersignatures_held, fields_seen}
+use Rattle.coset_core.specs.Headers.{signatures_of}
+use Rattle.coset_core.specs.Same.{fields_eq, signatures_eq}
+use Rattle.coset_core.specs.Views.{countersignature_seen, signature_seen}
+use Rattle.coset_core.specs.declared.header.Header.{Header}
+use Rattle.coset_core.proofs.Signatures.{and_assoc, goes_by, header_eq-opened, stays, unequal}
 use Rattle.coset_core.proofs.+same.Goals as goal
+use Rattle.coset_core.proofs.+same.Goals.{header::same_header-then-same_fields, header::same_header-else-same_fields}
 
-pub header::same_header-returns-then-same_fields : goal.header::same_header-returns-then-same_fields
-header::same_header-returns-then-same_fields t c =
-    rw (header_eq-opened c.args.a.now c.args.b.now, sym c.same_fields.ensures, c.if-same_fields.true) (search rules)
+-- the test of the fields, and those of the signatures of each version
+abbrev fields_test : Header → Header → Bool
+fields_test a b = fields_eq (fields_seen a) (fields_seen b)
+
+abbrev first_test : Header → Header → Bool
+first_test a b = signatures_eq (signatures_of (map signature_seen (counter_signatures_held a))) (signatures_of (map signature_seen (counter_signatures_held b)))
+
+abbrev second_test : Header → Header → Bool
+second_test a b = signatures_eq (signatures_of (map countersignature_seen (countersignatures_held a))) (signatures_of (map countersignature_seen (countersignatures_held b)))
+
+pub header::same_header-returns-then-same_signatures : goal.header::same_header-returns-then-same_signatures
+header::same_header-returns-then-same_signatures t c =
+    let a = c.args.a.now in
+    let b = c.args.b.now in
+    let first : c.if-same_fields.value ≡ fields_test a b && first_test a b = elim c.if-same_fields.branch [
+      | header::same_header-then-same_fields w ↦ search rules
+      | header::same_header-else-same_fields w ↦ search rules
+    ] in
+    let second = rw (c.deref-then-same_signatures.ensures.value, c.deref-then-same_signatures-2.ensures.value) at c.same_countersignatures.ensures in
+    goes_by c.if-same_fields.value (fields_test a b && first_test a b) (second_test a b) c.same_countersignatures.result first c.if-same_signatures.true second
+    ∙ (and_assoc (fields_test a b) (first_test a b) (second_test a b) ∙ sym (header_eq-opened a b))
+
+pub header::same_header-returns-else-same_signatures : goal.header::same_header-returns-else-same_signatures
+header::same_header-returns-else-same_signatures t c =
+    let a = c.args.a.now in
+    let b = c.args.b.now in
+    let first : c.if-same_fields.value ≡ fields_test a b && first_test a b = elim c.if-same_fields.branch [
+      | header::same_header-then-same_fields w ↦ search rules
+      | header::same_header-else-same_fields w ↦ search rules
+    ] in
+    stays c.if-same_fields.value (fields_test a b && first_test a b) (second_test a b) first c.if-same_signatures.false
+    ∙ (and_assoc (fields_test a b) (first_test a b) (second_test a b) ∙ sym (header_eq-opened a b))
 
 pub signature::same_signatures-returns-then-all-others : goal.signature::same_signatures-returns-then-all-others
-signature::same_signatures-returns-then-all-others t c = unequal _ _ c.if-all-others.true
+signature::same_signatures-returns-then-all-others t c = unequal signature_seen _ _ c.if-all-others.true
+
+pub countersignature::same_countersignatures-returns-then-all-others : goal.countersignature::same_countersignatures-returns-then-all-others
+countersignature::same_countersignatures-returns-then-all-others t c = unequal countersignature_seen _ _ c.if-all-others.true

@@ -1,9 +1,9 @@
-use Rattle.std.proofs.Common.{sym, ◌∙◌, arith}
+use Rattle.std.proofs.Common.{refl, ◌∙◌, arith}
 use Rattle.coset_shape.specs.Inputs.{state}
 use Rattle.coset_shape.specs.Sources.{source_item}
-use Rattle.coset_shape.proofs.Inputs.{pairs_smaller}
+use Rattle.coset_shape.proofs.Inputs.{pairs_fewer, pairs_smaller}
 use Rattle.coset_core.specs.FieldsView.{fields_seen}
-use Rattle.coset_core.proofs.Filling.{at_seven, at_end, at_key, on_value, at_value, stops, no_refusal}
+use Rattle.coset_core.proofs.Filling.{at_held, at_end, at_key, on_value, at_value, stops, no_refusal}
 use Rattle.coset_core.proofs.header.fill_some.Goals as goal
 
 pub returns-in_err-label-clause-fills : goal.returns-in_err-label-clause-fills
@@ -12,11 +12,11 @@ returns-in_err-label-clause-fills c = λ all ps o z walks within.
     stops all o (fields_seen c.loop-label.header) (state c.next_label.new.input) z c.next_label.new.pairs c.from_residual.result c.in_err-label.field-0.0 c.from_residual.ensures.1
     (at_key all o (fields_seen c.loop-label.header) (state c.loop-label.input) (state c.next_label.new.input) z c.loop-label.pairs c.next_label.new.pairs c.in_err-label.field-0.0 w (c.in_err-label.ensures.nexts w.left z w.within))
 
-pub returns-then-is_parameter-clause-fills : goal.returns-then-is_parameter-clause-fills
-returns-then-is_parameter-clause-fills c = λ all ps o z walks within.
+pub returns-in-Some-version_of-clause-fills : goal.returns-in-Some-version_of-clause-fills
+returns-in-Some-version_of-clause-fills c = λ all ps o z walks within.
     let w = c.loop-label.invariant.fills all ps o z walks within in
     let next = rw c.in-Some.is at c.in_ok-label.ensures.nexts in
-    at_seven all o (fields_seen c.loop-label.header) (state c.loop-label.input) (state c.next_label.new.input) z c.loop-label.pairs c.next_label.new.pairs c.in-Some.label w (next w.left z w.within) (sym c.is_parameter.ensures ∙ c.if-is_parameter.true)
+    at_held c.in-Some-version_of.version all o (fields_seen c.loop-label.header) (state c.loop-label.input) (state c.next_label.new.input) z c.loop-label.pairs c.next_label.new.pairs c.in-Some.label w (next w.left z w.within) (rw c.in-Some-version_of.is at c.version_of.ensures)
 
 pub returns-in_err-value-clause-fills : goal.returns-in_err-value-clause-fills
 returns-in_err-value-clause-fills c = λ all ps o z walks within.
@@ -38,6 +38,12 @@ loop-label-preserved c = record {
       let taken = pairs_smaller c.next_label.new.pairs (state c.next_label.new.input) (state c.take.new.self) c.in_ok-value.ensures.shrinks in
       let next = c.in_ok-label.ensures.size in
       let before = c.loop-label.invariant.size in
+      omega (arith, taken, next, before);
+  turns =
+      let taken = pairs_fewer c.next_label.new.pairs (state c.next_label.new.input) (state c.take.new.self) c.in_ok-value.ensures.shrinks in
+      let some = rw c.in-Some.is at c.in_ok-label.ensures.turns in
+      let next = some refl in
+      let before = c.loop-label.invariant.turns in
       omega (arith, taken, next, before);
   fills = λ all ps o z walks within.
       let w = c.loop-label.invariant.fills all ps o z walks within in

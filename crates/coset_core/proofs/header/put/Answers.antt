@@ -8,7 +8,7 @@ use Rattle.coset_core.specs.Fields.{HasOneIv, fields, names, parts_of}
 use Rattle.coset_core.specs.FieldsView.{fields_level, fields_seen}
 use Rattle.coset_core.specs.Views.{entry_seen}
 use Rattle.coset_core.specs.declared.header.Header.{out-Header, out-roll-Header}
-use Rattle.coset_core.proofs.Putting.{adds_rest, adds_alg, adds_crit, adds_content_type, adds_key_id, adds_iv, adds_partial_iv, refuses_crit, refuses_iv, refuses_partial_iv, stays_alone, swapped, filled, empty}
+use Rattle.coset_core.proofs.Putting.{adds_rest, adds_alg, adds_crit, adds_content_type, adds_key_id, adds_iv, adds_partial_iv, adds_countersignature0_v2, refuses_crit, refuses_iv, refuses_partial_iv, stays_alone, swapped, filled, empty}
 use Rattle.coset_core.proofs.header.put.Goals as goal
 
 pub returns-then-is_parameter-clause-takes : goal.returns-then-is_parameter-clause-takes
@@ -34,6 +34,10 @@ returns-then-is_parameter-5-clause-takes c = λ o.
 pub returns-then-is_parameter-6-clause-takes : goal.returns-then-is_parameter-6-clause-takes
 returns-then-is_parameter-6-clause-takes c = λ o.
     adds_partial_iv (label_seen c.args.label) (source_item c.args.value) c.set_iv-then-is_parameter-6.result (fields_seen c.args.header.now) _ _ o (sym c.is_parameter-6.ensures ∙ c.if-is_parameter-6.true) c.set_iv-then-is_parameter-6.ensures.takes (ap fields_level (out-roll-Header _))
+
+pub returns-then-is_parameter-7-clause-takes : goal.returns-then-is_parameter-7-clause-takes
+returns-then-is_parameter-7-clause-takes c = λ o.
+    adds_countersignature0_v2 (label_seen c.args.label) (source_item c.args.value) c.set_bstr.result (fields_seen c.args.header.now) _ _ o (sym c.is_parameter-7.ensures ∙ c.if-is_parameter-7.true) c.set_bstr.ensures.takes (ap fields_level (out-roll-Header _))
 
 pub returns-then-is_parameter-2-clause-refused : goal.returns-then-is_parameter-2-clause-refused
 returns-then-is_parameter-2-clause-refused c = λ o.
@@ -64,7 +68,7 @@ pub returns-clause-takes : goal.returns-clause-takes
 returns-clause-takes c = λ o.
     let rest = (out-Header c.args.header.now).rest.items in
     let pushed : map entry_seen c.push.new.self.items ≡ map entry_seen (rest ++ (c.args.label, c.in_ok-value.value) ∷ []) = ap (map entry_seen) c.in_ok-push.ensures.items in
-    subst (λ f. Adds names (fields (optional any)) (label_seen c.args.label) (source_item c.args.value) (parts_of (fields_seen c.args.header.now, o)) (parts_of (f, o))) (sym (ap fields_level (out-roll-Header _)))
+    subst (λ f. Adds names (fields (optional any) (optional any)) (label_seen c.args.label) (source_item c.args.value) (parts_of (fields_seen c.args.header.now, o)) (parts_of (f, o))) (sym (ap fields_level (out-roll-Header _)))
     (adds_rest (label_seen c.args.label) (source_item c.args.value) (parts_of (fields_seen c.args.header.now, o)) _ (sym c.is_parameter.ensures ∙ c.if-is_parameter.false) (sym c.is_parameter-2.ensures ∙ c.if-is_parameter-2.false) (sym c.is_parameter-3.ensures ∙ c.if-is_parameter-3.false)
-    (sym c.is_parameter-4.ensures ∙ c.if-is_parameter-4.false) (sym c.is_parameter-5.ensures ∙ c.if-is_parameter-5.false) (sym c.is_parameter-6.ensures ∙ c.if-is_parameter-6.false) c.requires.other refl
+    (sym c.is_parameter-4.ensures ∙ c.if-is_parameter-4.false) (sym c.is_parameter-5.ensures ∙ c.if-is_parameter-5.false) (sym c.is_parameter-6.ensures ∙ c.if-is_parameter-6.false) (sym c.is_parameter-7.ensures ∙ c.if-is_parameter-7.false) c.requires.other refl
     (pushed ∙ map_push entry_seen rest (c.args.label, c.in_ok-value.value) ∙ ap (λ v. map entry_seen rest ++ (label_seen c.args.label, v) ∷ []) c.in_ok-value.ensures))

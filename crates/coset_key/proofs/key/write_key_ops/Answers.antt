@@ -2,7 +2,8 @@ use Rattle.std.proofs.Common.{map, pos, sym, subst, OnOk}
 use Rattle.coset_shape.specs.Encoding.{AddsField}
 use Rattle.coset_key.specs.Keys.{operation_seen}
 use Rattle.coset_key.proofs.KeySets.{no-keys, some-keys}
-use Rattle.coset_key.proofs.Writing.{left_out, empty_left_out, filled_written, key_ops_image, key_ops_list, refused_memory}
+use Rattle.coset_core.proofs.Memory.{refused_memory}
+use Rattle.coset_key.proofs.Writing.{left_out, empty_left_out, filled_written, key_ops_image, key_ops_list}
 use Rattle.coset_key.proofs.key.write_key_ops.Goals as goal
 
 pub returns-then-is_empty-clause-ok : goal.returns-then-is_empty-clause-ok

@@ -1,25 +1,18 @@
-use Rattle.std.proofs.Common.{rules, ◌≡◌, Bool, true, false, refl, Option, Some, None, option_map, ◌&&◌, ◌==◌, length, ap, sym, ◌∙◌}
+use Rattle.std.proofs.Common.{rules, ◌≡◌, Bool, refl, Option, Some, None, option_map, ◌&&◌, ◌==◌, length, ap, sym, ◌∙◌}
 use Rattle.std.specs.Option.{is_none}
 use Rattle.coset_core.specs.Headers.{is_empty_header}
 use Rattle.std.proofs.lemmas.List.{length-map}
 use Rattle.coset_core.specs.ViewLaws.{HeaderLevel, header_level, header-opened}
-use Rattle.coset_core.proofs.Signatures.{are_none_of}
+use Rattle.coset_core.proofs.Signatures.{and_assoc, are_none_of, stays}
 use Rattle.coset_core.specs.declared.header.Header.{out-Header}
 use Rattle.coset_core.proofs.header.Header.is_empty.Goals as goal
 use Rattle.coset_core.proofs.header.Header.is_empty.Goals.{then-is_none, else-is_none, then-is_empty, else-is_empty, then-is_none-2, else-is_none-2}
 use Rattle.coset_core.proofs.header.Header.is_empty.Goals.{then-is_empty-2, else-is_empty-2, then-is_empty-3, else-is_empty-3, then-is_empty-4, else-is_empty-4}
+use Rattle.coset_core.proofs.header.Header.is_empty.Goals.{then-is_empty-5, else-is_empty-5, then-is_empty-6, else-is_empty-6}
 
 none_mapped : {A B : Type 0} (f : A → B) (o : Option A) → is_none (option_map f o) ≡ is_none o
 none_mapped f None = refl
 none_mapped f (Some x) = refl
-
-and_assoc : (a b c : Bool) → (a && b) && c ≡ a && (b && c)
-and_assoc true b c = refl
-and_assoc false b c = refl
-
--- what is false at l stays so with h
-stays : (v l h : Bool) → v ≡ l → v ≡ false → v ≡ l && h
-stays v l h is fails = rw (sym is ∙ fails) fails
 
 -- each test on what the fields hold
 abbrev Tests : HeaderLevel → Bool
@@ -28,13 +21,14 @@ Tests x =
     && (length x.crit.items == 0
     && (is_none x.content_type
     && (length x.key_id.items == 0
-    && (length x.iv.items == 0 && (length x.partial_iv.items == 0 && (length x.counter_signatures.items == 0 && length x.rest.items == 0))))))
+    && (length x.iv.items == 0 && (length x.partial_iv.items == 0
+    && (length x.counter_signatures.items == 0 && (length x.countersignatures_v2.items == 0 && (is_none x.countersignature0_v2 && length x.rest.items == 0))))))))
 
 tests : (x : HeaderLevel) → is_empty_header (header_level x) ≡ Tests x
 tests x = simp (length-map, are_none_of, none_mapped)
 
-pub returns-else-is_empty-5 : goal.returns-else-is_empty-5
-returns-else-is_empty-5 c =
+pub returns-else-is_none-3 : goal.returns-else-is_none-3
+returns-else-is_none-3 c =
     let x = out-Header c.args.self.now in
     let crit : c.if-is_none.value ≡ is_none x.alg && length x.crit.items == 0 = elim c.if-is_none.branch [
       | then-is_none w ↦ search rules
@@ -60,6 +54,14 @@ returns-else-is_empty-5 c =
       | then-is_empty-4 w ↦ search rules
       | else-is_empty-4 w ↦ search rules
     ] in
-    let all = rw (part, iv, key, kind, crit) at counter_signatures in
-    let tested : c.if-is_empty-4.value ≡ Tests x = stays _ _ (length x.rest.items == 0) all c.if-is_empty-5.false ∙ simp and_assoc in
+    let countersignatures : c.if-is_empty-5.value ≡ c.if-is_empty-4.value && length x.countersignatures_v2.items == 0 = elim c.if-is_empty-5.branch [
+      | then-is_empty-5 w ↦ search rules
+      | else-is_empty-5 w ↦ search rules
+    ] in
+    let abbreviated : c.if-is_empty-6.value ≡ c.if-is_empty-5.value && is_none x.countersignature0_v2 = elim c.if-is_empty-6.branch [
+      | then-is_empty-6 w ↦ search rules
+      | else-is_empty-6 w ↦ search rules
+    ] in
+    let all = rw (countersignatures, counter_signatures, part, iv, key, kind, crit) at abbreviated in
+    let tested : c.if-is_empty-6.value ≡ Tests x = stays _ _ (length x.rest.items == 0) all c.if-is_none-3.false ∙ simp and_assoc in
     tested ∙ sym (ap is_empty_header (header-opened c.args.self.now) ∙ tests x)

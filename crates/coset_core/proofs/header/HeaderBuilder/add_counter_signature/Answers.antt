@@ -6,5 +6,5 @@ use Rattle.coset_core.proofs.header.HeaderBuilder.add_counter_signature.Goals as
 
 pub returns-clause-ok : goal.returns-clause-ok
 returns-clause-ok c =
-    counter_signature-added c.self.inside.0 _ c.args.signature refl c.in_ok-push.ensures.items
+    counter_signature-added c.self.inside.0 _ c.args.signature refl c.in_ok-push.ensures.items refl
     ∙ ap (λ h. and_counter_signature (signature_seen c.args.signature) (header_seen h)) c.self.view_is

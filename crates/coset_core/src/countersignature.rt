@@ -1,0 +1,388 @@
+//! Countersignatures of version 2: their shape is that of a signature, and what they are over is more than what those of
+//! label 7 are over. The shape, the structures and their contexts are this library's own, modelled on RFC 9338.
+
+ghost use Rattle.std.specs.Prelude.{◌≡◌, [], map, OnOk, IfOk, IfErr, IsTrue, None, ◌↔◌};
+ghost use Rattle.coset_shape.specs.declared.error.CoseError.TheVariants.{OutOfMemory};
+ghost use Rattle.coset_core.specs.Contents.{empty_signature};
+ghost use Rattle.coset_shape.specs.InPlace.{GetsOne};
+ghost use Rattle.coset_core.specs.Views.{countersignature_seen, header_seen, signature_seen};
+ghost use Rattle.coset_shape.specs.Answers.{Reads};
+ghost use Rattle.coset_shape.specs.Sources.{source_item};
+ghost use Rattle.coset_core.specs.Headers.{signature as signature_shape, signatures_of, signatures_image};
+ghost use Rattle.coset_core.specs.Written.{AppendsSignatures, signature_array};
+ghost use Rattle.coset_shape.specs.Encoding.{HasNoImage, Encodes};
+ghost use Rattle.std.specs.Ordering.{on};
+ghost use Rattle.std.specs.Cmp.{on_equiv, on_per, partial_equiv_from_equiv};
+ghost use Rattle.coset_core.specs.Same.{signature_eq, signatures_eq};
+ghost use Rattle.coset_core.specs.SameLaws.{signature_eq_equiv};
+
+use crate::header::{Header, copy_header, same_header, write_header};
+use crate::protected::{
+    Bstr, ProtectedHeader, copy_protected, protected_from_header, same_protected, write_protected,
+};
+use crate::signature::{CoseSignature, copy_into, make_room, read_signature};
+use coset_cbor::de::Pull;
+use coset_cbor::ser::{write_array_head, write_bytes};
+use coset_cbor::value::Value;
+use coset_shape::encode::{Encode, encode_to_tagged_vec, encode_to_value, encode_to_vec};
+use coset_shape::traits::{FromPull, read_slice, read_tagged_slice};
+use coset_shape::{AsCborValue, CborSerializable, Lawful, Result, Source, TaggedCborSerializable};
+use std::alloc::{AllocError, Global};
+use std::marker::Model;
+
+/// A countersignature of version 2: its array is that of a signature, and it may stand under tag 19. It stands in headers
+/// under label 11 ([`Header::countersignatures_v2`]). It is modelled on RFC 9338, section 3.1.
+///
+/// ```cddl
+/// COSE_Countersignature = [ Headers, signature : bstr ]
+/// ```
+#[cycle(header)]
+#[derive(Debug, Drop)]
+pub struct CoseCountersignature {
+    /// The header that the countersignature covers.
+    pub protected: ProtectedHeader,
+    /// The header that it doesn't.
+    pub unprotected: Header,
+    /// The countersignature's bytes.
+    pub signature: Vec<u8>,
+}
+
+impl CoseCountersignature {
+    /// A countersignature of no bytes with empty headers. It takes no memory.
+    pub fn new(alloc: Global) -> CoseCountersignature
+        ensures { countersignature_seen result ≡ empty_signature }
+    {
+        CoseCountersignature {
+            protected: ProtectedHeader::new(alloc),
+            unprotected: Header::new(alloc),
+            signature: Vec::new(alloc),
+        }
+    }
+}
+
+/// What was read as a signature, as a countersignature.
+fn countersignature_of(signed: CoseSignature) -> CoseCountersignature
+    ensures { countersignature_seen result ≡ signature_seen signed }
+{
+    let CoseSignature {
+        protected,
+        unprotected,
+        signature,
+    } = signed;
+    CoseCountersignature {
+        protected,
+        unprotected,
+        signature,
+    }
+}
+
+/// What were read as signatures, as countersignatures.
+pub(crate) fn countersignatures_of(
+    alloc: Global,
+    read: Vec<CoseSignature>,
+) -> Result<Vec<CoseCountersignature>>
+    ensures ok { IfOk result (λ all. map countersignature_seen all.items
+        ≡ map signature_seen read.items) }
+    ensures memory { IfErr result (λ e. e ≡ OutOfMemory) }
+{
+    let mut all = Vec::with_capacity(alloc, read.len())?;
+    for signed in read {
+        all.push(countersignature_of(signed))?;
+    }
+    Ok(all)
+}
+
+/// Equality of the headers and of the countersignature's bytes.
+impl PartialEq for CoseCountersignature {
+    ghost eq = { on countersignature_seen signature_eq };
+
+    ghost laws = { on_per countersignature_seen (partial_equiv_from_equiv signature_eq_equiv) };
+
+    fn eq(&self, other: &CoseCountersignature) -> bool
+        ensures answers { result ≡ signature_eq (countersignature_seen self.now)
+            (countersignature_seen other.now) }
+        ensures equal { IsTrue result
+            ↔ (countersignature_seen self.now ≡ countersignature_seen other.now) }
+    {
+        same_countersignature(self, other)
+    }
+}
+
+impl Eq for CoseCountersignature {
+    ghost laws = { on_equiv countersignature_seen signature_eq_equiv };
+}
+
+/// The same as [`CoseCountersignature::clone`], for generic code.
+impl Clone for CoseCountersignature {
+    ghost is_clone = { λ signed copy. countersignature_seen copy ≡ countersignature_seen signed };
+
+    fn clone(&self) -> Result<CoseCountersignature, AllocError> {
+        let mut copy = CoseCountersignature::new(*self.signature.allocator());
+        copy_countersignature(self, &mut copy)?;
+        Ok(copy)
+    }
+}
+
+impl CoseCountersignature {
+    /// A countersignature that equals this one.
+    ///
+    /// # Errors
+    /// `OutOfMemory` alone.
+    pub fn clone(&self) -> Result<CoseCountersignature>
+        ensures copy { IfOk result (λ s. countersignature_seen s ≡ countersignature_seen self.now) }
+        ensures memory { IfErr result (λ e. e ≡ OutOfMemory) }
+    {
+        Ok(Clone::clone(self)?)
+    }
+}
+
+/// A countersignature.
+fn read_countersignature(alloc: Global, source: Source<'_>) -> Result<CoseCountersignature>
+    ensures { Reads signature_shape countersignature_seen (source_item source.entry) result }
+{
+    Ok(countersignature_of(read_signature(alloc, source)?))
+}
+
+impl AsCborValue for CoseCountersignature {
+    ghost use Rattle.coset_core.specs.Headers.{SignatureSeen};
+    ghost use Rattle.coset_core.specs.HeaderLaws.{signature_laws};
+
+    ghost Seen = { SignatureSeen };
+
+    ghost seen = { countersignature_seen };
+
+    ghost shape = { signature_shape };
+
+    ghost unique = { signature_laws.unique };
+
+    ghost sound = { signature_laws.sound };
+
+    fn from_cbor_value(alloc: Global, value: Value) -> Result<CoseCountersignature> {
+        read_countersignature(alloc, Source::Tree(value))
+    }
+
+    fn to_cbor_value(self, alloc: Global) -> Result<Value> {
+        encode_to_value(alloc, &self)
+    }
+}
+
+impl Lawful for CoseCountersignature {
+    ghost use Rattle.coset_core.specs.HeaderLaws.{signature_laws};
+
+    ghost laws = { signature_laws };
+}
+
+impl Encode for CoseCountersignature {
+    ghost image = { λ s. signature_shape.image (countersignature_seen s) };
+
+    ghost spare = { 57 };
+
+    fn room(&self) -> usize {
+        Bstr(&self.protected)
+            .room()
+            .saturating_add(self.unprotected.room())
+            .saturating_add(self.signature.room())
+    }
+
+    fn encode(&self, alloc: Global, out: &mut Vec<u8>) -> Result<()> {
+        write_countersignature(alloc, self, out)
+    }
+}
+
+impl FromPull for CoseCountersignature {
+    fn from_pull(alloc: Global, pull: Pull<'_>) -> Result<CoseCountersignature> {
+        read_countersignature(alloc, Source::Lent(pull))
+    }
+}
+
+impl CborSerializable for CoseCountersignature {
+    fn from_slice(alloc: Global, s: &[u8]) -> Result<CoseCountersignature> {
+        read_slice(alloc, s)
+    }
+
+    fn to_vec(self, alloc: Global) -> Result<Vec<u8>> {
+        encode_to_vec(alloc, &self)
+    }
+}
+
+impl TaggedCborSerializable for CoseCountersignature {
+    ghost TAG = { 19 };
+
+    const TAG: u64 = 19;
+
+    fn from_tagged_slice(alloc: Global, s: &[u8]) -> Result<CoseCountersignature> {
+        read_tagged_slice(alloc, 19, s)
+    }
+
+    fn to_tagged_vec(self, alloc: Global) -> Result<Vec<u8>> {
+        encode_to_tagged_vec(alloc, 19, &self)
+    }
+}
+
+/// Appends the countersignatures, one after the other.
+#[cycle(write)]
+pub(crate) fn write_each_countersignature(
+    alloc: Global,
+    signatures: &[CoseCountersignature],
+    out: &mut Vec<u8>,
+) -> Result<()>
+    ensures ok { OnOk result (AppendsSignatures out.old.items out.new.items
+        (map countersignature_seen signatures.now)) }
+    ensures refused { IfErr result
+        (HasNoImage (signatures_image (signatures_of (map countersignature_seen signatures.now)))) }
+{
+    for signature in signatures {
+        write_countersignature(alloc, signature, out)?;
+    }
+    Ok(())
+}
+
+/// Appends the array of the countersignature.
+#[cycle(write)]
+fn write_countersignature(
+    alloc: Global,
+    signature: &CoseCountersignature,
+    out: &mut Vec<u8>,
+) -> Result<()>
+    ensures { Encodes (signature_array (countersignature_seen signature.now)) out.old.items
+        out.new.items result }
+{
+    write_array_head(3, out)?;
+    write_protected(alloc, &signature.protected, out)?;
+    write_header(alloc, &signature.unprotected, out)?;
+    write_bytes(&signature.signature, out)?;
+    Ok(())
+}
+
+/// One more countersignature, which holds nothing.
+#[inline(never)]
+fn push_empty(alloc: Global, all: &mut Vec<CoseCountersignature>) -> Result<(), AllocError>
+    ensures { OnOk result
+        (GetsOne countersignature_seen empty_signature all.old.items all.new.items) }
+{
+    all.push(CoseCountersignature::new(alloc))?;
+    Ok(())
+}
+
+/// Copies countersignatures into a list, in place of those that it holds.
+#[cycle(copy)]
+pub(crate) fn copy_countersignatures(
+    all: &[CoseCountersignature],
+    copies: &mut Vec<CoseCountersignature>,
+) -> Result<(), AllocError>
+    ensures { OnOk result (map countersignature_seen copies.new.items
+        ≡ map countersignature_seen all.now) }
+{
+    make_room(copies, all.len())?;
+    for signature in all {
+        push_empty(*copies.allocator(), copies)?;
+        let last = copies.len() - 1;
+        copy_countersignature(signature, &mut copies[last])?;
+    }
+    Ok(())
+}
+
+/// Copies a countersignature into another.
+#[cycle(copy)]
+fn copy_countersignature(
+    signature: &CoseCountersignature,
+    copy: &mut CoseCountersignature,
+) -> Result<(), AllocError>
+    ensures { OnOk result (countersignature_seen copy.new
+        ≡ countersignature_seen signature.now) }
+{
+    copy_protected(&signature.protected, &mut copy.protected)?;
+    copy_header(&signature.unprotected, &mut copy.unprotected)?;
+    copy_into(&signature.signature, &mut copy.signature)
+}
+
+#[cycle(same)]
+pub(crate) fn same_countersignatures(
+    all: &[CoseCountersignature],
+    others: &[CoseCountersignature],
+) -> bool
+    ensures { result ≡ signatures_eq (signatures_of (map countersignature_seen all.now))
+        (signatures_of (map countersignature_seen others.now)) }
+{
+    if all.len() != others.len() {
+        return false;
+    }
+    for (a, b) in all.iter().zip(others) {
+        if !same_countersignature(a, b) {
+            return false;
+        }
+    }
+    true
+}
+
+#[cycle(same)]
+fn same_countersignature(a: &CoseCountersignature, b: &CoseCountersignature) -> bool
+    ensures { result ≡ signature_eq (countersignature_seen a.now) (countersignature_seen b.now) }
+{
+    same_protected(&a.protected, &b.protected)
+        && same_header(&a.unprotected, &b.unprotected)
+        && a.signature == b.signature
+}
+
+/// Makes a [`CoseCountersignature`], field by field. Contracts see it as the countersignature that
+/// [`build`](CoseCountersignatureBuilder::build) gives.
+#[derive(Debug, Drop)]
+pub struct CoseCountersignatureBuilder(CoseCountersignature);
+
+impl Model for CoseCountersignatureBuilder {
+    ghost use Rattle.std.specs.Coded.{codes};
+    ghost use Rattle.coset_core.specs.contracts.countersignature.CoseCountersignature as contracts;
+    ghost use Rattle.coset_core.specs.declared.countersignature.CoseCountersignature.{CoseCountersignature};
+
+    ghost Value = { CoseCountersignature };
+
+    ghost coded = { Prim.hlevel (codes, contracts.the_row.coded) };
+
+    ghost view = { λ b. b.0 };
+
+    ghost inverse = { λ v. record { 0 = v } };
+}
+
+impl CoseCountersignatureBuilder {
+    /// A countersignature of no bytes with empty headers. It takes no memory.
+    pub fn new(alloc: Global) -> CoseCountersignatureBuilder
+        ensures { countersignature_seen result ≡ empty_signature }
+    {
+        CoseCountersignatureBuilder(CoseCountersignature::new(alloc))
+    }
+
+    /// The countersignature that was made.
+    pub fn build(self) -> CoseCountersignature
+        ensures { result ≡ self }
+    {
+        self.0
+    }
+
+    /// Sets the protected header: one that was made, and not read, so that it has no bytes of its own yet.
+    pub fn protected(mut self, header: Header) -> CoseCountersignatureBuilder
+        ensures { countersignature_seen result ≡ record (countersignature_seen self) {
+          protected = record { original = None; header = header_seen header };
+        } }
+    {
+        self.0.protected = protected_from_header(header);
+        self
+    }
+
+    /// Sets the unprotected header.
+    pub fn unprotected(mut self, header: Header) -> CoseCountersignatureBuilder
+        ensures { countersignature_seen result ≡ record
+            (countersignature_seen self) { unprotected = header_seen header } }
+    {
+        self.0.unprotected = header;
+        self
+    }
+
+    /// Sets the countersignature's bytes.
+    pub fn signature(mut self, signature: Vec<u8>) -> CoseCountersignatureBuilder
+        ensures { countersignature_seen result ≡ record
+            (countersignature_seen self) { signature = signature.items } }
+    {
+        self.0.signature = signature;
+        self
+    }
+}
