@@ -28,6 +28,7 @@ pub use Rattle.coset_recipient.specs.Built
 pub use Rattle.coset_recipient.specs.Structure
 pub use Rattle.coset_recipient.specs.SignatureStructure
 pub use Rattle.coset_recipient.specs.Signed
+pub use Rattle.coset_recipient.specs.Countersigned
 pub use Rattle.coset_recipient.specs.Calls
 pub use Rattle.coset_recipient.specs.Sign1
 pub use Rattle.coset_recipient.specs.Sign
@@ -60,6 +61,7 @@ pub use Rattle.coset_shape.specs.declared.error.CallError
 pub use Rattle.coset_label.specs.declared.label.Label
 pub use Rattle.coset_label.specs.declared.registered.RegisteredLabel
 pub use Rattle.coset_label.specs.declared.registered.RegisteredLabelWithPrivate
+pub use Rattle.coset_core.specs.declared.countersignature.CoseCountersignature
 pub use Rattle.coset_core.specs.declared.header.Header
 pub use Rattle.coset_core.specs.declared.protected.ProtectedHeader
 pub use Rattle.coset_core.specs.declared.signature.CoseSignature

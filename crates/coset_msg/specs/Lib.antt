@@ -28,6 +28,7 @@ pub use Rattle.coset_sign.specs.Built
 pub use Rattle.coset_sign.specs.Structure
 pub use Rattle.coset_sign.specs.SignatureStructure
 pub use Rattle.coset_sign.specs.Signed
+pub use Rattle.coset_sign.specs.Countersigned
 pub use Rattle.coset_sign.specs.Calls
 pub use Rattle.coset_sign.specs.Sign1
 pub use Rattle.coset_sign.specs.Sign

@@ -9,8 +9,8 @@ ghost use Rattle.coset_msg.specs.Encrypt0.{Encrypt0Seen, encrypt0};
 ghost use Rattle.coset_msg.specs.Mac0.{Mac0Seen, mac0};
 ghost use Rattle.coset_msg.specs.Structured.{Structured, structure_of};
 
+use coset_cbor::laws::{one_item, shortest_is_encoding};
 use coset_core::laws::kept_as_written;
-use coset_sign::laws::one_structure;
 
 /// Bytes are the structure of at most one context, of what is signed, authenticated or goes with a ciphertext, and of one
 /// list of parts: of one protected header, one signer or none, one `external_aad` and one payload, where there is one.
@@ -18,7 +18,8 @@ pub fn one_of_all_structures()
     ensures { (b : List ℕ) (x y : Structured) → IsShortest b (structure_of x)
         → IsShortest b (structure_of y) → x ≡ y }
 {
-    one_structure();
+    one_item();
+    shortest_is_encoding();
 }
 
 /// Of a message that was read from what another is written as, plain or under its tag, the same bytes stand for the

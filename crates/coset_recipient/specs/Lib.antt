@@ -28,6 +28,7 @@ pub use Rattle.coset_msg.specs.Built
 pub use Rattle.coset_msg.specs.Structure
 pub use Rattle.coset_msg.specs.SignatureStructure
 pub use Rattle.coset_msg.specs.Signed
+pub use Rattle.coset_msg.specs.Countersigned
 pub use Rattle.coset_msg.specs.Calls
 pub use Rattle.coset_msg.specs.Sign1
 pub use Rattle.coset_msg.specs.Sign

@@ -9,12 +9,14 @@ mod recipient;
 
 pub use coset_msg::{
     Algorithm, AsCborValue, Bstr, CallError, CborOrdering, CborSerializable, ClaimName,
-    ContentType, CoseEncrypt0, CoseEncrypt0Builder, CoseError, CoseMac0, CoseMac0Builder, CoseSign,
-    CoseSign1, CoseSign1Builder, CoseSignBuilder, CoseSignature, CoseSignatureBuilder, Encode,
+    ContentType, CoseCountersignature, CoseCountersignatureBuilder, CoseEncrypt0,
+    CoseEncrypt0Builder, CoseError, CoseMac0, CoseMac0Builder, CoseSign, CoseSign1,
+    CoseSign1Builder, CoseSignBuilder, CoseSignature, CoseSignatureBuilder, Encode,
     EncryptionContext, EndOfFile, FromPull, Header, HeaderBuilder, KeyOperation, KeyType, Label,
     Lawful, MacContext, ProtectedBstr, ProtectedHeader, RegisteredLabel,
     RegisteredLabelWithPrivate, Result, SignatureContext, Source, TaggedCborSerializable, cbor,
-    enc_structure_data, has_repeats, iana, mac_structure_data, shape, sig_structure_data, util,
+    countersign_v2_structure_data, countersign0_v2_structure_data, enc_structure_data, has_repeats,
+    iana, mac_structure_data, shape, sig_structure_data, util, verify_countersignature,
 };
 pub use encrypt::{CoseEncrypt, CoseEncryptBuilder};
 pub use mac::{CoseMac, CoseMacBuilder};

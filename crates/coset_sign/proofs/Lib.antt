@@ -1,5 +1,6 @@
 pub mod Structures
 pub mod Signatures
 mod Written
+mod Received
 pub mod Copied
 pub mod Calling

@@ -1,11 +1,14 @@
 -- Structures, and the encoding of one that is written part by part.
-use Rattle.std.proofs.Common.{◌≡◌, ℕ, suc, ◌+◌, ◌<◌, ◌^◌, List, [], ◌∷◌, ◌++◌, Bor, map, take, length, get_or, refl, sym, ap, subst, ◌∙◌, append_assoc, arith}
+use Rattle.std.proofs.Common.{◌≡◌, ℕ, ◌+◌, ◌<◌, ◌^◌, List, [], ◌∷◌, ◌++◌, Bor, map, take, length, get_or, Option, Some, refl, sym, ap, subst, ◌∙◌, append_assoc, arith}
 use Rattle.std.proofs.lemmas.List.{append-nil, take_more, map_push}
 use Rattle.coset_value.specs.Item.{Item, bytes, text, array, Items, no_items, item, items_count}
 use Rattle.coset_value.specs.Range.{IsInRange, AreInRange}
 use Rattle.coset_cbor.specs.Least.{least_head, least_encoding, least_encodings}
 use Rattle.coset_cbor.specs.Shortest.{IsShortest}
-use Rattle.coset_sign.specs.Structure.{byte_strings, structure}
+use Rattle.coset_shape.specs.Encoding.{AppendsImage, AppendsItem}
+use Rattle.coset_shape.specs.Shape.{both, images}
+use Rattle.coset_shape.specs.ShapeLaws.{some-one}
+use Rattle.coset_sign.specs.Structure.{BeginsStructure, byte_strings, byte_strings_and, structure, structure_and}
 
 -- ---- what a structure is of
 
@@ -66,17 +69,48 @@ part_in_range parts i d lt so_far here =
 
 -- ---- the whole
 
-items_count-byte_strings : (ss : List (List ℕ)) → items_count (byte_strings ss) ≡ length ss
-items_count-byte_strings [] = refl
-items_count-byte_strings (s ∷ ss) = ap suc (items_count-byte_strings ss)
+-- byte strings, and what stands behind them
+items_count-and : (ss : List (List ℕ)) (vs : Items) → items_count (byte_strings_and ss vs) ≡ length ss + items_count vs
+items_count-and [] vs = omega arith
+items_count-and (s ∷ ss) vs = let more = items_count-and ss vs in omega (arith, more)
 
--- A head, the context and the parts, one after the other, are the shortest encoding.
-pub whole_written : ((v : Item) → IsInRange v → IsShortest (least_encoding v) v) → (context : List ℕ) (ss : List (List ℕ)) (n : ℕ) (b : List ℕ) → n ≡ length ss + 1 → n < 2 ^ 64
-    → IsInRange (text context) → AreInRange (byte_strings ss) → b ≡ (least_head 4 n ++ least_encoding (text context)) ++ least_encodings (byte_strings ss)
-    → IsShortest b (structure context ss)
-whole_written is_shortest context ss n b count small context_in_range in_range written =
-    let counted : n ≡ items_count (item (text context) (byte_strings ss)) = omega (arith, items_count-byte_strings ss) in
-    let spelled : b ≡ least_encoding (structure context ss) =
-    written ∙ append_assoc (least_head 4 n) (least_encoding (text context)) (least_encodings (byte_strings ss)) ∙ ap (λ (k : ℕ). least_head 4 k ++ (least_encoding (text context) ++ least_encodings (byte_strings ss))) counted in
-    subst (λ (x : List ℕ). IsShortest x (structure context ss)) (sym spelled)
-    (is_shortest (structure context ss) (subst (λ (k : ℕ). k < 2 ^ 64) counted small, (context_in_range, in_range)))
+least_encodings-and : (ss : List (List ℕ)) (vs : Items) → least_encodings (byte_strings_and ss vs) ≡ least_encodings (byte_strings ss) ++ least_encodings vs
+least_encodings-and [] vs = refl
+least_encodings-and (s ∷ ss) vs =
+    ap (λ (x : List ℕ). least_encoding (bytes s) ++ x) (least_encodings-and ss vs) ∙ sym (append_assoc (least_encoding (bytes s)) (least_encodings (byte_strings ss)) (least_encodings vs))
+
+in_range-and : (ss : List (List ℕ)) (vs : Items) → AreInRange (byte_strings ss) → AreInRange vs → AreInRange (byte_strings_and ss vs)
+in_range-and [] vs h k = k
+in_range-and (s ∷ ss) vs h k = (h.0, in_range-and ss vs h.1 k)
+
+-- The beginning of a structure, and then what stands behind it, are the shortest encoding.
+pub whole_written :
+    ((v : Item) → IsInRange v → IsShortest (least_encoding v) v) → (context : List ℕ) (ss : List (List ℕ)) (vs : Items) (b t : List ℕ) → BeginsStructure b context ss (items_count vs) → AreInRange vs
+    → t ≡ b ++ least_encodings vs → IsShortest t (structure_and context ss vs)
+whole_written is_shortest context ss vs b t begun in_range written =
+    let n : ℕ = length ss + 1 + items_count vs in
+    let counted : n ≡ items_count (item (text context) (byte_strings_and ss vs)) = let all = items_count-and ss vs in omega (arith, all) in
+    let head : List ℕ = least_head 4 n in
+    let front : List ℕ = least_encoding (text context) in
+    let spelled : t ≡ least_encoding (structure_and context ss vs) =
+    written ∙ ap (λ (x : List ℕ). x ++ least_encodings vs) begun.begins
+    ∙ append_assoc (head ++ front) (least_encodings (byte_strings ss)) (least_encodings vs)
+    ∙ append_assoc head front (least_encodings (byte_strings ss) ++ least_encodings vs)
+    ∙ ap (λ (x : List ℕ). head ++ (front ++ x)) (sym (least_encodings-and ss vs))
+    ∙ ap (λ (k : ℕ). least_head 4 k ++ (front ++ least_encodings (byte_strings_and ss vs))) counted in
+    subst (λ (x : List ℕ). IsShortest x (structure_and context ss vs)) (sym spelled)
+    (is_shortest (structure_and context ss vs) (subst (λ (k : ℕ). k < 2 ^ 64) counted begun.small, (begun.context_in_range, in_range-and ss vs begun.in_range in_range)))
+
+-- ---- a list of byte strings behind the parts
+
+pub strings_image : {X : Type 0} (see : X → List ℕ) (xs : List X) → images (λ x. Some (bytes (see x))) xs ≡ Some (byte_strings (map see xs))
+strings_image see [] = refl
+strings_image see (x ∷ xs) = ap (both item (Some (bytes (see x)))) (strings_image see xs)
+
+pub list_written :
+    ((v : Item) → IsInRange v → IsShortest (least_encoding v) v) → (context : List ℕ) (ss os : List (List ℕ)) (o : Option Item) (b t : List ℕ) → BeginsStructure b context ss 1 → o ≡ Some (array (byte_strings os))
+    → AppendsImage o b t → IsShortest t (structure_and context ss (item (array (byte_strings os)) no_items))
+list_written is_shortest context ss os o b t begun is appended =
+    let v : Item = array (byte_strings os) in
+    let put : AppendsItem b t v = subst (AppendsItem b t) (some-one appended.1 is) appended.2 in
+    whole_written is_shortest context ss (item v no_items) b t begun (put.in_range, tt) (put.parts ∙ ap (λ (x : List ℕ). b ++ x) (sym (append-nil (least_encoding v))))

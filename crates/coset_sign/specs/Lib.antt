@@ -27,6 +27,7 @@ pub use Rattle.coset_core.specs.Messages
 pub use Rattle.coset_core.specs.Built
 pub mod Structure
 pub mod SignatureStructure
+pub mod Countersigned
 pub mod Signed
 pub mod Calls
 pub mod Sign1

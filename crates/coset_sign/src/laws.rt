@@ -1,12 +1,12 @@
 //! Laws of the structures and of what is signed, which callers may cite. Each is the contract of a function that does nothing.
 
-ghost use Rattle.std.specs.Prelude.{◌≡◌, ℕ, List, Option, Some};
+ghost use Rattle.std.specs.Prelude.{◌≡◌, ℕ, List, Option, Some, None};
 ghost use Rattle.coset_value.specs.Item.{Item};
 ghost use Rattle.coset_cbor.specs.Shortest.{IsShortest};
 ghost use Rattle.coset_shape.specs.Shape.{tagged};
 ghost use Rattle.coset_sign.specs.Structure.{structure};
 ghost use Rattle.coset_sign.specs.SignatureStructure.{signature_structure};
-ghost use Rattle.coset_sign.specs.Sign1.{CarriedAsWritten, Sign1Seen, sign1};
+ghost use Rattle.coset_sign.specs.Sign1.{CarriedAsWritten, Sign1Seen, sign1, sign1_structure};
 ghost use Rattle.coset_sign.specs.Sign.{SignSeen, sign, EachSignsSame};
 ghost use Rattle.coset_sign.specs.Signed.{SignsSame};
 ghost use Rattle.coset_sign.specs.declared.signature.SignatureContext.{SignatureContext};
@@ -33,6 +33,14 @@ pub fn one_signature_structure()
 {
     one_structure();
 }
+
+/// Of a message with one signature that was read there always is something that is signed: its protected header kept the
+/// bytes that it was read from.
+pub fn signed_when_read()
+    ensures { (v : Item) (m : Sign1Seen) (external_aad payload : List ℕ) → sign1.describes v m
+        → sign1_structure m external_aad payload ≡ None
+        → ⊥ }
+{}
 
 /// What is signed of a message with one signature that was read from what another is written as, plain or under its tag,
 /// is what is signed of that one, however the item was spelled.

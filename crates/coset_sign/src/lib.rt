@@ -2,6 +2,7 @@
 #![tactic(auto)]
 
 pub mod calls;
+mod countersign;
 pub mod laws;
 mod sign;
 mod sign1;
@@ -12,10 +13,14 @@ mod tests;
 
 pub use coset_core::{
     Algorithm, AsCborValue, Bstr, CallError, CborOrdering, CborSerializable, ClaimName,
-    ContentType, CoseError, CoseSignature, CoseSignatureBuilder, Encode, EndOfFile, FromPull,
-    Header, HeaderBuilder, KeyOperation, KeyType, Label, Lawful, ProtectedBstr, ProtectedHeader,
-    RegisteredLabel, RegisteredLabelWithPrivate, Result, Source, TaggedCborSerializable, cbor,
-    has_repeats, iana, shape, util,
+    ContentType, CoseCountersignature, CoseCountersignatureBuilder, CoseError, CoseSignature,
+    CoseSignatureBuilder, Encode, EndOfFile, FromPull, Header, HeaderBuilder, KeyOperation,
+    KeyType, Label, Lawful, ProtectedBstr, ProtectedHeader, RegisteredLabel,
+    RegisteredLabelWithPrivate, Result, Source, TaggedCborSerializable, cbor, has_repeats, iana,
+    shape, util,
+};
+pub use countersign::{
+    countersign_v2_structure_data, countersign0_v2_structure_data, verify_countersignature,
 };
 pub use sign::{CoseSign, CoseSignBuilder};
 pub use sign1::{CoseSign1, CoseSign1Builder};

@@ -2,7 +2,7 @@ use Rattle.std.proofs.Common.{◌≡◌, ◌++◌}
 use Rattle.coset_value.specs.Range.{AreInRange}
 use Rattle.coset_cbor.specs.Least.{least_encodings}
 use Rattle.coset_sign.proofs.Structures.{first_parts}
-use Rattle.coset_sign.proofs.structure.structure_bytes.Given as goal
+use Rattle.coset_sign.proofs.structure.begin_structure.Given as goal
 
 abbrev pub invariant-loop-part : goal.invariant-loop-part
 invariant-loop-part l = record {

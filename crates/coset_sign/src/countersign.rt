@@ -1,0 +1,196 @@
+//! What countersignatures of version 2 are over. The structures are this library's own, modelled on RFC 9338, section 3.3.
+
+ghost use Rattle.std.specs.Prelude.{◌≡◌, ◌≢◌, [], map, option_map, is_some, IfOk, IfErr, Some, None};
+ghost use Rattle.std.specs.Option.{option_copied};
+ghost use Rattle.coset_cbor.specs.Shortest.{IsShortest};
+ghost use Rattle.coset_shape.specs.declared.error.CoseError.TheVariants.{OutOfMemory};
+ghost use Rattle.coset_shape.specs.Answers.{Writes};
+ghost use Rattle.coset_core.specs.Views.{countersignature_seen, protected_seen};
+ghost use Rattle.coset_sign.specs.Calls.{AsksAbout};
+ghost use Rattle.coset_sign.specs.Countersigned.{countersign_structure, countersign_text, countersigned_item};
+ghost use Rattle.coset_sign.specs.SignatureStructure.{signed_parts};
+ghost use Rattle.coset_sign.specs.Structure.{BeginsStructure};
+
+use crate::calls::ask;
+use crate::structure::{begin_structure, byte_strings_room};
+use coset_cbor::laws::least_encoding_is_shortest;
+use coset_core::{CoseCountersignature, ProtectedHeader};
+use coset_shape::encode::{Array, Encode};
+use coset_shape::{CallError, Result};
+use std::alloc::Global;
+
+/// The beginning of the structure of these contents of protected headers, of which an abbreviated countersignature has no
+/// `signer`: all but the other fields, for which so many bytes are kept ready.
+///
+/// # Errors
+/// `OutOfMemory` alone.
+fn begin_countersign(
+    alloc: Global,
+    body: &[u8],
+    signer: Option<&[u8]>,
+    external_aad: &[u8],
+    payload: &[u8],
+    more: usize,
+) -> Result<Vec<u8>>
+    ensures begins { IfOk result (λ b. BeginsStructure b.items
+        (countersign_text (is_some (option_copied signer.entry)))
+        (signed_parts body.now (option_copied signer.entry) external_aad.now payload.now) 1) }
+    ensures memory { IfErr result (λ e. e ≡ OutOfMemory) }
+{
+    match signer {
+        Some(signer) => {
+            let parts = [body, signer, external_aad, payload];
+            begin_structure(alloc, "CounterSignatureV2", &parts, 1, more)
+        }
+        None => {
+            let parts = [body, external_aad, payload];
+            begin_structure(alloc, "CounterSignature0V2", &parts, 1, more)
+        }
+    }
+}
+
+/// The structure of these contents of protected headers.
+///
+/// # Errors
+/// `OutOfMemory` alone.
+fn countersign_bytes(
+    alloc: Global,
+    body: &[u8],
+    signer: Option<&[u8]>,
+    external_aad: &[u8],
+    payload: &[u8],
+    other_fields: &[Vec<u8>],
+) -> Result<Vec<u8>>
+    ensures encoding { IfOk result (λ b. IsShortest b.items
+        (countersign_structure body.now (option_copied signer.entry) external_aad.now payload.now
+        (map (λ field. field.items) other_fields.now))) }
+    ensures memory { IfErr result (λ e. e ≡ OutOfMemory) }
+{
+    let more = byte_strings_room(other_fields);
+    let mut out = begin_countersign(alloc, body, signer, external_aad, payload, more)?;
+    Array(other_fields).encode(alloc, &mut out)?;
+    least_encoding_is_shortest();
+    Ok(out)
+}
+
+/// The structure over the protected bytes of the headers.
+///
+/// # Errors
+/// `OutOfMemory`, or `DuplicateMapKey` where a header wasn't read and repeats a label of its rest.
+fn countersigned_bytes(
+    alloc: Global,
+    body: &ProtectedHeader,
+    signer: Option<&ProtectedHeader>,
+    external_aad: &[u8],
+    payload: &[u8],
+    other_fields: &[Vec<u8>],
+) -> Result<Vec<u8>>
+    ensures { Writes (countersigned_item (protected_seen body.now)
+        (option_map (λ s. protected_seen s.now) signer.entry) external_aad.now payload.now
+        (map (λ field. field.items) other_fields.now)) (λ b. b.items) result }
+{
+    let body = body.protected_bytes(alloc)?;
+    match signer {
+        Some(signer) => {
+            let signer = signer.protected_bytes(alloc)?;
+            countersign_bytes(
+                alloc,
+                &body,
+                Some(&signer),
+                external_aad,
+                payload,
+                other_fields,
+            )
+        }
+        None => countersign_bytes(alloc, &body, None, external_aad, payload, other_fields),
+    }
+}
+
+/// The bytes that a countersignature of version 2 is over: the shortest encoding of the structure of the protected bytes of
+/// the body's header and of the countersignature's, `external_aad`, the payload, and the other fields of what is
+/// countersigned. Which these are is the caller's; there is at least one.
+///
+/// ```cddl
+/// Countersign_structure = [
+///     context : "CounterSignatureV2",
+///     body_protected : bstr,
+///     sign_protected : bstr,
+///     external_aad : bstr,
+///     payload : bstr,
+///     other_fields : [+ bstr]
+/// ]
+/// ```
+///
+/// # Errors
+/// `OutOfMemory`, or `DuplicateMapKey` where a header wasn't read and repeats a label of its rest.
+pub fn countersign_v2_structure_data(
+    alloc: Global,
+    body: ProtectedHeader,
+    sign: ProtectedHeader,
+    external_aad: &[u8],
+    payload: &[u8],
+    other_fields: &[Vec<u8>],
+) -> Result<Vec<u8>>
+    requires { other_fields.now ≢ [] }
+    ensures { Writes (countersigned_item (protected_seen body) (Some (protected_seen sign))
+        external_aad.now payload.now (map (λ field. field.items) other_fields.now)) (λ b. b.items)
+        result }
+{
+    countersigned_bytes(
+        alloc,
+        &body,
+        Some(&sign),
+        external_aad,
+        payload,
+        other_fields,
+    )
+}
+
+/// The bytes that an abbreviated countersignature of version 2 is over: the same without a header of its own, under a
+/// context of its own, `"CounterSignature0V2"`.
+///
+/// # Errors
+/// The same as [`countersign_v2_structure_data`].
+pub fn countersign0_v2_structure_data(
+    alloc: Global,
+    body: ProtectedHeader,
+    external_aad: &[u8],
+    payload: &[u8],
+    other_fields: &[Vec<u8>],
+) -> Result<Vec<u8>>
+    requires { other_fields.now ≢ [] }
+    ensures { Writes (countersigned_item (protected_seen body) None external_aad.now payload.now
+        (map (λ field. field.items) other_fields.now)) (λ b. b.items) result }
+{
+    countersigned_bytes(alloc, &body, None, external_aad, payload, other_fields)
+}
+
+/// Asks `verifier` whether the countersignature, its first argument, is one of the bytes that it is over, its second one
+/// ([`countersign_v2_structure_data`] with the countersignature's protected header). It is asked once, unless there is an
+/// error of ours, and not at all then.
+///
+/// # Errors
+/// The same as [`countersign_v2_structure_data`]; or `Caller` with the error of `verifier`.
+pub fn verify_countersignature<F, E>(
+    alloc: Global,
+    countersignature: &CoseCountersignature,
+    body: ProtectedHeader,
+    external_aad: &[u8],
+    payload: &[u8],
+    other_fields: &[Vec<u8>],
+    verifier: F,
+) -> Result<(), CallError<E>>
+where
+    F: FnOnce(&[u8], &[u8]) -> Result<(), E> + Drop,
+    E: Drop,
+    requires callable { F.IsAlwaysCallable verifier }
+    requires some { other_fields.now ≢ [] }
+    ensures { AsksAbout F.FnOnce verifier (countersignature_seen countersignature.now).signature
+        (countersigned_item (protected_seen body)
+        (Some (countersignature_seen countersignature.now).protected) external_aad.now payload.now
+        (map (λ field. field.items) other_fields.now)) result }
+{
+    let sign = Some(&countersignature.protected);
+    let structure = countersigned_bytes(alloc, &body, sign, external_aad, payload, other_fields);
+    ask(&countersignature.signature, structure, verifier)
+}
