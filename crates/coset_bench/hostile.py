@@ -1,7 +1,9 @@
 #!/usr/bin/env python3
 """Writes the hostile messages and keys whose times and stack docs/SPEED.md tells: `hostile.py FOLDER`."""
 
+import itertools
 import sys
+from collections.abc import Iterator
 from pathlib import Path
 
 
@@ -19,10 +21,11 @@ def byte_string(content: bytes) -> bytes:
     return head(2, len(content)) + content
 
 
-def with_counter_signature(protected: bytes, unprotected: bytes) -> bytes:
-    """A header with one counter signature, of these headers (RFC 8152, section 4.5)."""
+def with_counter_signature(label: int, protected: bytes, unprotected: bytes) -> bytes:
+    """A header with one counter signature, of these headers, under the label: 7 (RFC 8152, section 4.5), or 11 for one of
+    version 2."""
     signature = head(4, 3) + byte_string(protected) + unprotected + byte_string(b"")
-    return head(5, 1) + head(0, 7) + signature
+    return head(5, 1) + head(0, label) + signature
 
 
 def message(protected: bytes, unprotected: bytes) -> bytes:
@@ -30,19 +33,19 @@ def message(protected: bytes, unprotected: bytes) -> bytes:
     return head(4, 4) + byte_string(protected) + unprotected + b"\xf6" + byte_string(b"")
 
 
-def nested(headers: int, innermost: bytes) -> bytes:
-    """That many headers around the innermost one, each the unprotected one of a counter signature."""
+def nested(headers: int, innermost: bytes, labels: Iterator[int]) -> bytes:
+    """That many headers around the innermost one, each the unprotected one of a counter signature under the next label."""
     header = innermost
     for _ in range(headers):
-        header = with_counter_signature(b"", header)
+        header = with_counter_signature(next(labels), b"", header)
     return header
 
 
-def layers(count: int, innermost: bytes) -> bytes:
+def layers(count: int, innermost: bytes, labels: Iterator[int]) -> bytes:
     """What the outermost of that many protected headers inside one another holds, each in the innermost of 127 headers."""
     content = innermost
     for _ in range(count - 1):
-        content = nested(126, with_counter_signature(content, head(5, 0)))
+        content = nested(126, with_counter_signature(next(labels), content, head(5, 0)), labels)
     return content
 
 
@@ -62,34 +65,54 @@ def key(labels: list[int]) -> bytes:
     return head(5, 1 + len(labels)) + b"\x01\x04" + params
 
 
-def main(folder: Path) -> None:
-    items = head(4, 200_000) + bytes(200_000)
-    pair = head(0, 70) + items
-    wide = head(5, 1) + pair
-    twice = head(5, 2) + pair + head(0, 70) + b"\x00"
-    # Its last item doesn't announce its length.
-    items_end = head(4, 200_001) + bytes(200_000) + b"\x9f\xff"
-    files = {
-        "nested.cbor": message(b"", nested(120, wide)),
-        "nested_end.cbor": message(b"", nested(120, head(5, 1) + head(0, 70) + items_end)),
-        "flat.cbor": message(b"", wide),
-        "nested_twice.cbor": message(b"", nested(120, twice)),
-        "flat_twice.cbor": message(b"", twice),
-        "deepest.cbor": message(layers(16, b""), head(5, 0)),
+# A pair whose value is an array of 200,000 integers.
+PAIR = head(0, 70) + head(4, 200_000) + bytes(200_000)
+# A header of that pair; and one that has its label twice.
+WIDE = head(5, 1) + PAIR
+TWICE = head(5, 2) + PAIR + head(0, 70) + b"\x00"
+# The first with one more item, which doesn't announce its length.
+WIDE_END = head(5, 1) + head(0, 70) + head(4, 200_001) + bytes(200_000) + b"\x9f\xff"
+
+
+def nests(labels: list[int]) -> dict[str, bytes]:
+    """The messages whose counter signatures stand under these labels in turn."""
+
+    def around(innermost: bytes) -> bytes:
+        return message(b"", nested(120, innermost, itertools.cycle(labels)))
+
+    def deep(innermost: bytes) -> bytes:
+        return layers(16, innermost, itertools.cycle(labels))
+
+    return {
+        "nested": around(WIDE),
+        "nested_end": around(WIDE_END),
+        "nested_twice": around(TWICE),
+        "deepest": message(deep(b""), head(5, 0)),
         # Its innermost protected header has the same label twice.
-        "deepest_twice.cbor": message(layers(16, b"\xa2\x18\x46\x00\x18\x46\x00"), head(5, 0)),
+        "deepest_twice": message(deep(b"\xa2\x18\x46\x00\x18\x46\x00"), head(5, 0)),
         # 128 recipients inside one another, each with a protected header that is as deep as it may be.
-        "recipients.cbor": recipients(128, layers(16, b""), b"\xf6"),
+        "recipients": recipients(128, deep(b""), b"\xf6"),
         # The innermost has a number for its ciphertext.
-        "recipients_refused.cbor": recipients(128, layers(16, b""), b"\x00"),
+        "recipients_refused": recipients(128, deep(b""), b"\x00"),
+    }
+
+
+def main(folder: Path) -> None:
+    files = nests([7])
+    # The same through label 11, and through labels 7 and 11 in turn.
+    files |= {f"{name}_11": content for name, content in nests([11]).items()}
+    files |= {f"{name}_7_11": content for name, content in nests([7, 11]).items()}
+    files |= {
+        "flat": message(b"", WIDE),
+        "flat_twice": message(b"", TWICE),
         # The labels of 10,000 params: from the greatest down, and mixed (7919 shares no factor with 10,000).
-        "key_falling.cbor": key([10_099 - i for i in range(10_000)]),
-        "key_mixed.cbor": key([100 + 7919 * i % 10_000 for i in range(10_000)]),
+        "key_falling": key([10_099 - i for i in range(10_000)]),
+        "key_mixed": key([100 + 7919 * i % 10_000 for i in range(10_000)]),
         # 256 items inside one another, as deep as an item may be.
-        "levels.cbor": head(4, 1) * 255 + head(4, 0),
+        "levels": head(4, 1) * 255 + head(4, 0),
     }
     for name, content in files.items():
-        (folder / name).write_bytes(content)
+        (folder / f"{name}.cbor").write_bytes(content)
 
 
 if __name__ == "__main__":

@@ -1,9 +1,9 @@
 -- The names of operations.
 use Rattle.std.specs.Prelude.{ℕ, List, ◌++◌, codes}
 use Rattle.coset_bench.specs.declared.kind.Kind.{Kind}
-use Rattle.coset_bench.specs.declared.kind.Kind.TheVariants.{Value, Header, Sign1, Sign, Mac0, Mac, Encrypt0, Encrypt, Recipient, Key, KeySet, Claims, Kdf}
+use Rattle.coset_bench.specs.declared.kind.Kind.TheVariants.{Value, Header, Countersignature, Sign1, Sign, Mac0, Mac, Encrypt0, Encrypt, Recipient, Key, KeySet, Claims, Kdf}
 use Rattle.coset_bench.specs.declared.structure.Structure.{Structure}
-use Rattle.coset_bench.specs.declared.structure.Structure.TheVariants.{Sign1Tbs, SignTbs, Mac0Tbm, MacTbm, Encrypt0Aad, EncryptAad}
+use Rattle.coset_bench.specs.declared.structure.Structure.TheVariants.{CountersignatureTbs, Sign1Tbs, SignTbs, Mac0Tbm, MacTbm, Encrypt0Aad, EncryptAad}
 use Rattle.coset_bench.specs.declared.operation.Operation.{Operation}
 use Rattle.coset_bench.specs.declared.operation.Operation.TheVariants.{Check, Read, Write, Make, Sign1Refused, Sign1Copy, Sign1Compare, RecipientRefused, RecipientCopy, RecipientCompare, KeyCanonicalize}
 
@@ -11,6 +11,7 @@ use Rattle.coset_bench.specs.declared.operation.Operation.TheVariants.{Check, Re
 abbrev pub kind_name : Kind → List ℕ
 kind_name Value = codes "value"
 kind_name Header = codes "header"
+kind_name Countersignature = codes "countersignature"
 kind_name Sign1 = codes "sign1"
 kind_name Sign = codes "sign"
 kind_name Mac0 = codes "mac0"
@@ -25,6 +26,7 @@ kind_name Kdf = codes "kdf"
 
 -- the name of the operation that makes a structure
 abbrev pub structure_name : Structure → List ℕ
+structure_name CountersignatureTbs = codes "countersignature_tbs"
 structure_name Sign1Tbs = codes "sign1_tbs"
 structure_name SignTbs = codes "sign_tbs"
 structure_name Mac0Tbm = codes "mac0_tbm"

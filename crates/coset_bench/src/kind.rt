@@ -10,7 +10,8 @@ use coset_claims::{ClaimsSet, CoseKdfContext};
 use coset_core::Header;
 use coset_key::{CoseKey, CoseKeySet};
 use coset_recipient::{
-    CoseEncrypt, CoseEncrypt0, CoseMac, CoseMac0, CoseRecipient, CoseSign, CoseSign1,
+    CoseCountersignature, CoseEncrypt, CoseEncrypt0, CoseMac, CoseMac0, CoseRecipient, CoseSign,
+    CoseSign1,
 };
 use std::rt::Clock;
 use std::time::Duration;
@@ -22,6 +23,8 @@ pub enum Kind {
     Value,
     /// A header.
     Header,
+    /// A countersignature of version 2.
+    Countersignature,
     /// A message with one signature.
     Sign1,
     /// A message with signatures.
@@ -55,6 +58,7 @@ impl Kind {
         match name {
             "value" => Some(Kind::Value),
             "header" => Some(Kind::Header),
+            "countersignature" => Some(Kind::Countersignature),
             "sign1" => Some(Kind::Sign1),
             "sign" => Some(Kind::Sign),
             "mac0" => Some(Kind::Mac0),
@@ -78,6 +82,7 @@ impl Kind {
         match name {
             "value_write" => Some(Kind::Value),
             "header_write" => Some(Kind::Header),
+            "countersignature_write" => Some(Kind::Countersignature),
             "sign1_write" => Some(Kind::Sign1),
             "sign_write" => Some(Kind::Sign),
             "mac0_write" => Some(Kind::Mac0),
@@ -106,6 +111,7 @@ impl Kind {
         match self {
             Kind::Value => time_read::<Value, R>(rt, bytes, calls),
             Kind::Header => time_read::<Header, R>(rt, bytes, calls),
+            Kind::Countersignature => time_read::<CoseCountersignature, R>(rt, bytes, calls),
             Kind::Sign1 => time_read::<CoseSign1, R>(rt, bytes, calls),
             Kind::Sign => time_read::<CoseSign, R>(rt, bytes, calls),
             Kind::Mac0 => time_read::<CoseMac0, R>(rt, bytes, calls),
@@ -133,6 +139,7 @@ impl Kind {
         match self {
             Kind::Value => time_write::<Value, R>(rt, bytes, calls),
             Kind::Header => time_write::<Header, R>(rt, bytes, calls),
+            Kind::Countersignature => time_write::<CoseCountersignature, R>(rt, bytes, calls),
             Kind::Sign1 => time_write::<CoseSign1, R>(rt, bytes, calls),
             Kind::Sign => time_write::<CoseSign, R>(rt, bytes, calls),
             Kind::Mac0 => time_write::<CoseMac0, R>(rt, bytes, calls),

@@ -1,17 +1,21 @@
-//! The structures whose making is timed: what a message's signatures, MAC or cipher are given.
+//! The structures whose making is timed: what a message's signatures, MAC or cipher are given, or a countersignature.
 
 ghost use Rattle.std.specs.Prelude.{◌≡◌, MatchOption};
 ghost use Rattle.coset_bench.specs.Operation.{structure_name};
 
 use crate::calls::time_structure;
 use crate::fault::Fault;
-use coset_recipient::{CoseEncrypt, CoseEncrypt0, CoseMac, CoseMac0, CoseSign, CoseSign1};
+use coset_recipient::{
+    CoseCountersignature, CoseEncrypt, CoseEncrypt0, CoseMac, CoseMac0, CoseSign, CoseSign1,
+};
 use std::rt::Clock;
 use std::time::Duration;
 
-/// A structure of a message (RFC 8152, sections 4.4, 5.3 and 6.3).
+/// A structure of a message (RFC 8152, sections 4.4, 5.3 and 6.3), or of a countersignature of version 2.
 #[derive(Clone, Copy, Debug, PartialEq, Eq)]
 pub enum Structure {
+    /// The `Countersign_structure` of a countersignature of version 2.
+    CountersignatureTbs,
     /// The `Sig_structure` of a message with one signature.
     Sign1Tbs,
     /// The `Sig_structure` of a message's first signature.
@@ -33,6 +37,7 @@ impl Structure {
             (λ s. name.now ≡ structure_name s) }
     {
         match name {
+            "countersignature_tbs" => Some(Structure::CountersignatureTbs),
             "sign1_tbs" => Some(Structure::Sign1Tbs),
             "sign_tbs" => Some(Structure::SignTbs),
             "mac0_tbm" => Some(Structure::Mac0Tbm),
@@ -54,6 +59,9 @@ impl Structure {
         calls: usize,
     ) -> Result<Duration, Fault> {
         match self {
+            Structure::CountersignatureTbs => {
+                time_structure::<CoseCountersignature, R>(rt, bytes, calls)
+            }
             Structure::Sign1Tbs => time_structure::<CoseSign1, R>(rt, bytes, calls),
             Structure::SignTbs => time_structure::<CoseSign, R>(rt, bytes, calls),
             Structure::Mac0Tbm => time_structure::<CoseMac0, R>(rt, bytes, calls),

@@ -2,7 +2,8 @@
 
 use crate::fault::Fault;
 use coset_recipient::{
-    CallError, CoseEncrypt, CoseEncrypt0, CoseMac, CoseMac0, CoseSign, CoseSign1,
+    CallError, CoseCountersignature, CoseEncrypt, CoseEncrypt0, CoseMac, CoseMac0, CoseSign,
+    CoseSign1, ProtectedHeader, verify_countersignature,
 };
 use std::alloc::Global;
 
@@ -21,6 +22,17 @@ fn told<T: Drop>(answer: Result<T, CallError<Option<usize>>>) -> Result<usize, F
         Err(CallError::Caller(Some(length))) => Ok(length),
         Err(CallError::Coset(error)) => Err(Fault::Cose(error)),
         _ => Err(Fault::Unexpected),
+    }
+}
+
+/// Over what has an empty protected header and payload, and one more field, which is empty too.
+impl Structured for CoseCountersignature {
+    fn structure_length(&self, alloc: Global) -> Result<usize, Fault> {
+        let body = ProtectedHeader::new(alloc);
+        let others = [Vec::new(alloc)];
+        told(verify_countersignature(alloc, self, body, &[], &[], &others, |_signature, tbs| {
+            Err(Some(tbs.len()))
+        }))
     }
 }
 

@@ -7,7 +7,8 @@ use coset_claims::{ClaimsSet, CoseKdfContext};
 use coset_core::Header;
 use coset_key::{CoseKey, CoseKeySet};
 use coset_recipient::{
-    CoseEncrypt, CoseEncrypt0, CoseMac, CoseMac0, CoseRecipient, CoseSign, CoseSign1,
+    CoseCountersignature, CoseEncrypt, CoseEncrypt0, CoseMac, CoseMac0, CoseRecipient, CoseSign,
+    CoseSign1,
 };
 use coset_shape::{CborSerializable, CoseError};
 
@@ -29,6 +30,12 @@ impl Timed for Value {
 
 impl Timed for Header {
     fn copy(&self) -> Result<Header, CoseError> {
+        self.clone()
+    }
+}
+
+impl Timed for CoseCountersignature {
+    fn copy(&self) -> Result<CoseCountersignature, CoseError> {
         self.clone()
     }
 }

@@ -3,7 +3,7 @@ use Rattle.std.proofs.Common.{◌≡◌, ℕ, List, Some, None, IfSome, refl, sy
 use Rattle.std.specs.Prelude.{Option, sum}
 use Rattle.std.specs.Io.KnownBytes.{Appends}
 use Rattle.coset_show.specs.declared.kind.Kind.{Kind}
-use Rattle.coset_show.specs.declared.kind.Kind.TheVariants.{Value, Sign1, Sign, Mac, Mac0, Encrypt, Encrypt0, Key, Keyset, Claims, Kdf}
+use Rattle.coset_show.specs.declared.kind.Kind.TheVariants.{Value, Sign1, Sign, Mac, Mac0, Encrypt, Encrypt0, Countersignature, Key, Keyset, Claims, Kdf}
 use Rattle.coset_show.specs.declared.refusal.Refusal.{Refusal}
 use Rattle.coset_show.specs.Refusal.{no_memory}
 use Rattle.coset_show.specs.Kind.{kind_name}
@@ -14,7 +14,9 @@ abbrev this_or : List ℕ → Kind → Kind → Kind
 this_or name k other = cond (eqb (sum name) (sum (kind_name k))) k other
 
 abbrev named : List ℕ → Kind
-named name = this_or name Value (this_or name Sign1 (this_or name Sign (this_or name Mac (this_or name Mac0 (this_or name Encrypt (this_or name Encrypt0 (this_or name Key (this_or name Keyset (this_or name Claims Kdf)))))))))
+named name =
+    this_or name Value (this_or name Sign1 (this_or name Sign (this_or name Mac (this_or name Mac0 (this_or name Encrypt (this_or name Encrypt0
+    (this_or name Countersignature (this_or name Key (this_or name Keyset (this_or name Claims Kdf))))))))))
 
 named_again : (k : Kind) → named (kind_name k) ≡ k
 named_again Value = refl
@@ -24,6 +26,7 @@ named_again Mac = refl
 named_again Mac0 = refl
 named_again Encrypt = refl
 named_again Encrypt0 = refl
+named_again Countersignature = refl
 named_again Key = refl
 named_again Keyset = refl
 named_again Claims = refl

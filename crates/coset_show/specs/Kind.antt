@@ -5,9 +5,9 @@ use Rattle.coset.specs.Context.{context}
 use Rattle.coset.specs.Keys.{key, key_set}
 use Rattle.coset.specs.Shape.{any}
 use Rattle.coset_show.specs.declared.kind.Kind.{Kind}
-use Rattle.coset_show.specs.declared.kind.Kind.TheVariants.{Value, Sign1, Sign, Mac, Mac0, Encrypt, Encrypt0, Key, Keyset, Claims, Kdf}
+use Rattle.coset_show.specs.declared.kind.Kind.TheVariants.{Value, Sign1, Sign, Mac, Mac0, Encrypt, Encrypt0, Countersignature, Key, Keyset, Claims, Kdf}
 use Rattle.coset_show.specs.declared.refusal.Refusal.{Refusal}
-use Rattle.coset_show.specs.Show.{ShowsType, RefusesType, ShowsSign1, sign1_in, sign_in, mac_in, mac0_in, encrypt_in, encrypt0_in}
+use Rattle.coset_show.specs.Show.{ShowsType, RefusesType, ShowsSign1, sign1_in, sign_in, mac_in, mac0_in, encrypt_in, encrypt0_in, countersignature_in}
 
 -- the name of a kind, as the program is told it
 abbrev pub kind_name : Kind → List ℕ
@@ -18,6 +18,7 @@ kind_name Mac = codes "mac"
 kind_name Mac0 = codes "mac0"
 kind_name Encrypt = codes "encrypt"
 kind_name Encrypt0 = codes "encrypt0"
+kind_name Countersignature = codes "countersignature"
 kind_name Key = codes "key"
 kind_name Keyset = codes "keyset"
 kind_name Claims = codes "claims"
@@ -31,6 +32,7 @@ ShowsBytes Mac = λ b. ShowsType (mac_in b) b
 ShowsBytes Mac0 = λ b. ShowsType (mac0_in b) b
 ShowsBytes Encrypt = λ b. ShowsType (encrypt_in b) b
 ShowsBytes Encrypt0 = λ b. ShowsType (encrypt0_in b) b
+ShowsBytes Countersignature = λ b. ShowsType (countersignature_in b) b
 ShowsBytes Key = ShowsType key
 ShowsBytes Keyset = ShowsType key_set
 ShowsBytes Claims = ShowsType claims
@@ -44,6 +46,7 @@ RefusesBytes Mac b = RefusesType (mac_in b) b
 RefusesBytes Mac0 b = RefusesType (mac0_in b) b
 RefusesBytes Encrypt b = RefusesType (encrypt_in b) b
 RefusesBytes Encrypt0 b = RefusesType (encrypt0_in b) b
+RefusesBytes Countersignature b = RefusesType (countersignature_in b) b
 RefusesBytes Key b = RefusesType key b
 RefusesBytes Keyset b = RefusesType key_set b
 RefusesBytes Claims b = RefusesType claims b

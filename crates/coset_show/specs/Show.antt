@@ -1,5 +1,5 @@
 -- What is shown of bytes that should describe a value of some type.
-use Rattle.std.specs.Prelude.{◌≡◌, Bool, true, false, ℕ, List, [], ◌∷◌, ◌++◌, ◌/◌, ◌==◌, Option, Some, None, Result, MatchResult, codes}
+use Rattle.std.specs.Prelude.{◌≡◌, Bool, true, false, ℕ, List, [], ◌∷◌, ◌++◌, ◌/◌, ◌==◌, Option, Some, Result, MatchResult, codes}
 use Rattle.hex.specs.Hex.{encode_lower}
 use Rattle.coset.specs.Item.{Item}
 use Rattle.coset.specs.Shortest.{IsShortest}
@@ -8,6 +8,7 @@ use Rattle.coset.specs.CoseError.TheVariants.{OutOfMemory}
 use Rattle.coset.specs.Answers.{Describes, SliceFaults, DescribesNothing}
 use Rattle.coset.specs.Errors.{UnlessMemory}
 use Rattle.coset.specs.Shape.{Shape, tagged}
+use Rattle.coset.specs.Headers.{SignatureSeen, signature}
 use Rattle.coset.specs.Sign1.{Sign1Seen, sign1, sign1_carried}
 use Rattle.coset.specs.Sign.{SignSeen, sign}
 use Rattle.coset.specs.Mac.{MacSeen, mac}
@@ -73,6 +74,9 @@ encrypt_in b = message_in b 96 encrypt
 
 abbrev pub encrypt0_in : List ℕ → Shape Encrypt0Seen
 encrypt0_in b = message_in b 16 encrypt0
+
+abbrev pub countersignature_in : List ℕ → Shape SignatureSeen
+countersignature_in b = message_in b 19 signature
 
 -- b describes a message; the first line is that of its item, and the second, behind `tbs `, that of what is signed where
 -- `external_aad` is empty

@@ -9,7 +9,8 @@ use crate::show::{message_lines, sign1_lines, type_line};
 use coset::cbor::value::Value;
 use coset::cwt::ClaimsSet;
 use coset::{
-    CoseEncrypt, CoseEncrypt0, CoseKdfContext, CoseKey, CoseKeySet, CoseMac, CoseMac0, CoseSign,
+    CoseCountersignature, CoseEncrypt, CoseEncrypt0, CoseKdfContext, CoseKey, CoseKeySet, CoseMac,
+    CoseMac0, CoseSign,
 };
 use std::alloc::Global;
 
@@ -30,6 +31,8 @@ pub enum Kind {
     Encrypt,
     /// An encrypted message, for receivers that know the key (RFC 8152, section 5.2).
     Encrypt0,
+    /// A countersignature of version 2.
+    Countersignature,
     /// A key (RFC 8152, section 7).
     Key,
     /// A set of keys (RFC 8152, section 7).
@@ -54,6 +57,7 @@ impl Kind {
             "mac0" => Some(Kind::Mac0),
             "encrypt" => Some(Kind::Encrypt),
             "encrypt0" => Some(Kind::Encrypt0),
+            "countersignature" => Some(Kind::Countersignature),
             "key" => Some(Kind::Key),
             "keyset" => Some(Kind::Keyset),
             "claims" => Some(Kind::Claims),
@@ -78,6 +82,7 @@ impl Kind {
             Kind::Mac0 => message_lines::<CoseMac0>(alloc, bytes),
             Kind::Encrypt => message_lines::<CoseEncrypt>(alloc, bytes),
             Kind::Encrypt0 => message_lines::<CoseEncrypt0>(alloc, bytes),
+            Kind::Countersignature => message_lines::<CoseCountersignature>(alloc, bytes),
             Kind::Key => type_line::<CoseKey>(alloc, bytes),
             Kind::Keyset => type_line::<CoseKeySet>(alloc, bytes),
             Kind::Claims => type_line::<ClaimsSet>(alloc, bytes),

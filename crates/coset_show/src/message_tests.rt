@@ -184,6 +184,46 @@ fn refuses_what_is_no_encrypted_message(rt: HostRuntime) -> Result<(), Fail> {
 }
 
 #[test]
+fn shows_countersignatures(rt: HostRuntime) -> Result<(), Fail> {
+    let rows = [
+        ("8340a040", "8340a040\n"),
+        ("9f5fffbfff40ff", "8340a040\n"),
+        ("8344a1180126a04107", "8344a1180126a04107\n"),
+        (
+            "8340a30c400b818340a040078340a04041aa",
+            "8340a3078340a0400b8340a0400c4041aa\n",
+        ),
+        ("d3 83 40 A0 40\n", "d38340a040\n"),
+        ("d8139f5fffbfff40ff", "d38340a040\n"),
+    ];
+    answers(&rt, rt.alloc(), "countersignature", &rows, 0);
+    Ok(())
+}
+
+#[test]
+fn refuses_what_is_no_countersignature(rt: HostRuntime) -> Result<(), Fail> {
+    let rows = [
+        ("8340a0f6", "error: got nul, expected bstr\n"),
+        ("8340a10c0140", "error: got int, expected bstr\n"),
+        (
+            "8440a04040",
+            "error: got array, expected array with 3 items\n",
+        ),
+        (
+            "d38440a04040",
+            "error: got array, expected array with 3 items\n",
+        ),
+        ("d28340a040", "error: got tag, expected other tag\n"),
+        ("d3d38340a040", "error: got tag, expected array\n"),
+        ("8342a000a040", "error: extraneous data in CBOR input\n"),
+        ("d38340a04000", "error: extraneous data in CBOR input\n"),
+        ("d3", "error: decode CBOR failure: Io(EndOfFile)\n"),
+    ];
+    answers(&rt, rt.alloc(), "countersignature", &rows, 1);
+    Ok(())
+}
+
+#[test]
 fn shows_keys(rt: HostRuntime) -> Result<(), Fail> {
     let rows = [
         ("a200000104", "a201040000\n"),

@@ -231,6 +231,7 @@ fn tells_of_other_kinds(rt: HostRuntime) -> Result<(), Fail> {
         "sign2",
         "mac1",
         "encrypt00",
+        "signature",
     ] {
         let mut reader = Stream::new(FaultyReader {
             rest: b"80",

@@ -11,10 +11,10 @@ ghost use Rattle.coset_shape.specs.ShapeLaws.{Again};
 use coset::cbor::value::Value;
 use coset::cwt::{ClaimName, ClaimsSet, Timestamp};
 use coset::{
-    Algorithm, CborSerializable, ContentType, CoseEncrypt, CoseEncrypt0, CoseKdfContext, CoseKey,
-    CoseKeySet, CoseMac, CoseMac0, CoseRecipient, CoseSign, CoseSign1, CoseSignature, FromPull,
-    Header, KeyOperation, KeyType, Label, Lawful, PartyInfo, ProtectedHeader, SuppPubInfo,
-    TaggedCborSerializable,
+    Algorithm, CborSerializable, ContentType, CoseCountersignature, CoseEncrypt, CoseEncrypt0,
+    CoseKdfContext, CoseKey, CoseKeySet, CoseMac, CoseMac0, CoseRecipient, CoseSign, CoseSign1,
+    CoseSignature, FromPull, Header, KeyOperation, KeyType, Label, Lawful, PartyInfo,
+    ProtectedHeader, SuppPubInfo, TaggedCborSerializable,
 };
 use coset_shape::laws::{
     image_is_described, one_value, reads_again, spellings_agree, stays_as_written, written_apart,
@@ -71,6 +71,7 @@ pub fn every_type_keeps_the_laws() {
     keeps_the_laws::<Header>();
     keeps_the_laws::<ProtectedHeader>();
     keeps_the_laws::<CoseSignature>();
+    keeps_the_laws::<CoseCountersignature>();
     keeps_the_laws::<CoseSign>();
     keeps_the_laws::<CoseSign1>();
     keeps_the_laws::<CoseMac>();
@@ -85,6 +86,7 @@ pub fn every_type_keeps_the_laws() {
     keeps_the_laws::<PartyInfo>();
     keeps_the_laws::<SuppPubInfo>();
     keeps_the_laws::<CoseKdfContext>();
+    keeps_the_laws_when_tagged::<CoseCountersignature>();
     keeps_the_laws_when_tagged::<CoseSign>();
     keeps_the_laws_when_tagged::<CoseSign1>();
     keeps_the_laws_when_tagged::<CoseMac>();

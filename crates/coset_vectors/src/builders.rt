@@ -3,7 +3,8 @@
 use coset::cbor::value::Value;
 use coset::iana::{Algorithm, CoapContentFormat, HeaderParameter};
 use coset::{
-    CborSerializable, CoseSignatureBuilder, Header, HeaderBuilder, RegisteredLabelWithPrivate,
+    CborSerializable, CoseCountersignature, CoseCountersignatureBuilder, CoseSignatureBuilder,
+    Header, HeaderBuilder, RegisteredLabelWithPrivate,
 };
 use std::alloc::Global;
 use std::test::*;
@@ -57,7 +58,7 @@ fn calls_that_move(rt: HostRuntime) -> Result<(), Fail> {
     Ok(())
 }
 
-/// A header with each list but that of counter signatures filled.
+/// A header with each list but those of counter signatures filled.
 fn grown(alloc: Global) -> coset::Result<Header> {
     let builder = HeaderBuilder::new(alloc)
         .add_critical(HeaderParameter::Alg)?
@@ -113,5 +114,77 @@ fn counter_signatures(rt: HostRuntime) -> Result<(), Fail> {
     let none = CoseSignatureBuilder::new(alloc).build();
     let written = none.to_vec(alloc).ok().ok_or("memory")?;
     assert_eq!(rt; written.as_slice(), b"\x83\x40\xa0\x40".as_slice());
+    Ok(())
+}
+
+/// A countersignature of which everything is said.
+fn countersignature(alloc: Global) -> coset::Result<CoseCountersignature> {
+    let builder = CoseCountersignatureBuilder::new(alloc)
+        .protected(
+            HeaderBuilder::new(alloc)
+                .algorithm(Algorithm::ES256)
+                .build(),
+        )
+        .unprotected(
+            HeaderBuilder::new(alloc)
+                .key_id(Vec::from_slice(alloc, b"\x31")?)
+                .build(),
+        )
+        .signature(Vec::from_slice(alloc, b"\x07")?);
+    Ok(builder.build())
+}
+
+/// A header with that one and an empty one, in this order, and of two abbreviated ones the later; and with values of the
+/// labels beside theirs, which are of the rest.
+fn countersigned(alloc: Global) -> coset::Result<Header> {
+    let builder = HeaderBuilder::new(alloc)
+        .value(13, Value::Null)?
+        .countersignature0_v2(Vec::from_slice(alloc, b"\x01\x02")?)
+        .countersignature0_v2(Vec::from_slice(alloc, b"\xaa")?)
+        .add_countersignature_v2(countersignature(alloc)?)?
+        .add_countersignature_v2(CoseCountersignature::new(alloc))?
+        .value(10, Value::Null)?
+        .value(8, Value::Null)?;
+    Ok(builder.build())
+}
+
+const COUNTERSIGNED: &[u8] =
+    b"\xa5\x0b\x82\x83\x43\xa1\x01\x26\xa1\x04\x41\x31\x41\x07\x83\x40\xa0\x40\x0c\x41\xaa\x0d\xf6\x0a\xf6\x08\xf6";
+
+#[test]
+fn countersignatures(rt: HostRuntime) -> Result<(), Fail> {
+    let alloc = rt.alloc();
+    let none = CoseCountersignatureBuilder::new(alloc).build();
+    assert!(rt; none == CoseCountersignature::new(alloc));
+    let written = none.to_vec(alloc).ok().ok_or("memory")?;
+    assert_eq!(rt; written.as_slice(), b"\x83\x40\xa0\x40".as_slice());
+    let header = countersigned(alloc).ok().ok_or("memory")?;
+    let one = countersignature(alloc).ok().ok_or("memory")?;
+    assert!(rt; header.countersignatures_v2.first() == Some(&one));
+    assert!(rt; is_written(alloc, header, COUNTERSIGNED));
+    Ok(())
+}
+
+/// A header that has a countersignature alone isn't empty, and nor is its byte string where it is protected.
+#[test]
+fn countersignatures_fill_a_header(rt: HostRuntime) -> Result<(), Fail> {
+    let alloc = rt.alloc();
+    assert!(rt; HeaderBuilder::new(alloc).build().is_empty());
+    let one = HeaderBuilder::new(alloc)
+        .add_countersignature_v2(CoseCountersignature::new(alloc))
+        .ok()
+        .ok_or("memory")?;
+    let abbreviated = HeaderBuilder::new(alloc).countersignature0_v2(Vec::new(alloc));
+    let rows: [(HeaderBuilder, &[u8]); 2] = [
+        (one, b"\x83\x46\xa1\x0b\x83\x40\xa0\x40\xa0\x40"),
+        (abbreviated, b"\x83\x43\xa1\x0c\x40\xa0\x40"),
+    ];
+    for (builder, bytes) in rows {
+        let header = builder.build();
+        assert!(rt; !header.is_empty());
+        let protected = CoseCountersignatureBuilder::new(alloc).protected(header);
+        let written = protected.build().to_vec(alloc).ok().ok_or("memory")?;
+        assert_eq!(rt; written.as_slice(), bytes);
+    }
     Ok(())
 }

@@ -1,9 +1,10 @@
 //! Messages that are signed and verified by closures: when these are called, and what becomes of their answers.
 
-use crate::messages::repeated;
+use crate::messages::{README_CONTENT, readme, repeated};
 use coset::{
-    CallError, CborSerializable, CoseError, CoseSign, CoseSign1, CoseSign1Builder, CoseSignBuilder,
-    CoseSignature, CoseSignatureBuilder, HeaderBuilder, Result, TaggedCborSerializable, iana,
+    CallError, CborSerializable, CoseCountersignature, CoseCountersignatureBuilder, CoseError,
+    CoseSign, CoseSign1, CoseSign1Builder, CoseSignBuilder, CoseSignature, CoseSignatureBuilder,
+    HeaderBuilder, ProtectedHeader, Result, TaggedCborSerializable, iana, verify_countersignature,
 };
 use std::alloc::Global;
 use std::test::*;
@@ -348,6 +349,83 @@ fn signatures_over_nothing_that_can_be_written(rt: HostRuntime) -> std::result::
         },
     );
     assert!(rt; matches!(refused, Err(CoseError::DuplicateMapKey)));
+    assert_eq!(rt; asked, 0);
+    Ok(())
+}
+
+/// What a countersignature with the algorithm -7 is over, of the README's message with its signature as the one other field.
+pub(crate) const COUNTERSIGNED: &[u8] =
+    b"\x86\x72CounterSignatureV2\x47\xa2\x01\x26\x04\x42\x31\x31\x43\xa1\x01\x26\x57this is additional data\x53This is the content\x81\x43\x01\x02\x03";
+
+/// Stands for the key that verifies such a countersignature, of these bytes alone.
+pub(crate) fn judge(signature: &[u8], tbs: &[u8]) -> std::result::Result<(), No> {
+    if signature == b"\x01\x02\x03".as_slice() && tbs == COUNTERSIGNED {
+        Ok(())
+    } else {
+        Err(No)
+    }
+}
+
+#[test]
+fn a_countersignature_is_asked_about_once(rt: HostRuntime) -> std::result::Result<(), Fail> {
+    let alloc = rt.alloc();
+    let others = [Vec::from_slice(alloc, b"\x01\x02\x03")?];
+    let read: Result<CoseCountersignature> = CoseCountersignature::from_slice(
+        alloc,
+        b"\x83\x43\xa1\x01\x26\xa0\x43\x01\x02\x03",
+    );
+    let one = read.ok().ok_or("read")?;
+    for (external_aad, is_accepted) in [(EXTERNAL_AAD, true), (b"not aad", false)] {
+        let mut asked = 0u32;
+        let answer = verify_countersignature(
+            alloc,
+            &one,
+            readme(alloc)?.protected,
+            external_aad,
+            README_CONTENT,
+            &others,
+            |signature, tbs| {
+                asked = asked.saturating_add(1);
+                judge(signature, tbs)
+            },
+        );
+        assert_eq!(rt; answer.is_ok(), is_accepted);
+        assert!(rt; matches!(answer, Ok(()) | Err(CallError::Caller(No))));
+        assert_eq!(rt; asked, 1);
+    }
+    Ok(())
+}
+
+#[test]
+fn countersignatures_over_nothing_that_can_be_written(
+    rt: HostRuntime,
+) -> std::result::Result<(), Fail> {
+    let alloc = rt.alloc();
+    let mut asked = 0u32;
+    let others = [Vec::new(alloc)];
+    let unwritable = CoseCountersignatureBuilder::new(alloc)
+        .protected(repeated(alloc)?.header)
+        .build();
+    let rows = [
+        (unwritable, ProtectedHeader::new(alloc)),
+        (CoseCountersignature::new(alloc), repeated(alloc)?),
+    ];
+    for (one, body) in rows {
+        let count = &mut asked;
+        let refused = verify_countersignature(
+            alloc,
+            &one,
+            body,
+            b"",
+            b"",
+            &others,
+            move |signature, tbs| {
+                *count = count.saturating_add(1);
+                verify(signature, tbs)
+            },
+        );
+        assert!(rt; matches!(refused, Err(CallError::Coset(CoseError::DuplicateMapKey))));
+    }
     assert_eq!(rt; asked, 0);
     Ok(())
 }

@@ -6,10 +6,10 @@ use coset::cbor::value::Value;
 use coset::cwt::{ClaimName, ClaimsSet, Timestamp};
 use coset::iana::{EllipticCurve, HeaderParameter};
 use coset::{
-    Algorithm, ContentType, CoseEncrypt, CoseEncrypt0, CoseKdfContext, CoseKey, CoseKeySet,
-    CoseMac, CoseMac0, CoseRecipient, CoseSign, CoseSign1, CoseSignature, Header, KeyOperation,
-    KeyType, Label, PartyInfo, ProtectedHeader, RegisteredLabel, RegisteredLabelWithPrivate,
-    SuppPubInfo,
+    Algorithm, ContentType, CoseCountersignature, CoseEncrypt, CoseEncrypt0, CoseKdfContext,
+    CoseKey, CoseKeySet, CoseMac, CoseMac0, CoseRecipient, CoseSign, CoseSign1, CoseSignature,
+    Header, KeyOperation, KeyType, Label, PartyInfo, ProtectedHeader, RegisteredLabel,
+    RegisteredLabelWithPrivate, SuppPubInfo,
 };
 use std::alloc::{AllocError, Global};
 
@@ -42,6 +42,10 @@ pub enum Kind {
     ProtectedBstr,
     /// A signature (RFC 8152, section 4.1).
     Signature,
+    /// A countersignature of version 2.
+    Countersignature,
+    /// Such a one under its tag.
+    TaggedCountersignature,
     /// A recipient (RFC 8152, section 5.1).
     Recipient,
     /// A message with one signature (RFC 8152, section 4.2).
@@ -103,6 +107,7 @@ impl Kind {
             "protected" => Kind::Protected,
             "protected_bstr" => Kind::ProtectedBstr,
             "signature" => Kind::Signature,
+            "countersignature" => Kind::Countersignature,
             "recipient" => Kind::Recipient,
             "sign1" => Kind::Sign1,
             "sign1_tbs" => Kind::Sign1Tbs,
@@ -125,6 +130,7 @@ impl Kind {
     /// The kind of that name under its tag.
     pub fn of_tagged(name: &str) -> Option<Kind> {
         match name {
+            "countersignature" => Some(Kind::TaggedCountersignature),
             "sign1" => Some(Kind::TaggedSign1),
             "sign" => Some(Kind::TaggedSign),
             "mac" => Some(Kind::TaggedMac),
@@ -153,6 +159,8 @@ impl Kind {
             Kind::Protected => answer::<Plain, ProtectedHeader>(alloc, bytes),
             Kind::ProtectedBstr => answer::<InString, ProtectedHeader>(alloc, bytes),
             Kind::Signature => answer::<Plain, CoseSignature>(alloc, bytes),
+            Kind::Countersignature => answer::<Plain, CoseCountersignature>(alloc, bytes),
+            Kind::TaggedCountersignature => answer::<Tagged, CoseCountersignature>(alloc, bytes),
             Kind::Recipient => answer::<Plain, CoseRecipient>(alloc, bytes),
             Kind::Sign1 => answer::<Plain, CoseSign1>(alloc, bytes),
             Kind::Sign1Tbs => answer::<Signed, CoseSign1>(alloc, bytes),

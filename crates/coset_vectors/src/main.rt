@@ -9,8 +9,6 @@ mod answer;
 #[cfg(test)]
 mod builders;
 #[cfg(test)]
-mod canonical;
-#[cfg(test)]
 mod cbor;
 #[cfg(test)]
 mod claims;
@@ -18,22 +16,16 @@ mod claims;
 mod closures;
 #[cfg(test)]
 mod contexts;
-#[cfg(test)]
-mod encrypted;
 mod form;
 #[cfg(test)]
 mod keys;
 mod kind;
 #[cfg(test)]
-mod labels;
-#[cfg(test)]
-mod macs;
-#[cfg(test)]
 mod messages;
 #[cfg(test)]
-mod recipients;
-#[cfg(test)]
 mod refused;
+#[cfg(test)]
+mod refused_countersignatures;
 #[cfg(test)]
 mod refused_headers;
 #[cfg(test)]

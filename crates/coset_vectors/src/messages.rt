@@ -2,8 +2,8 @@
 
 use coset::cbor::value::Value;
 use coset::{
-    CborSerializable, CoseError, CoseSign1, Label, ProtectedHeader, Result, SignatureContext, iana,
-    sig_structure_data,
+    CborSerializable, CoseError, CoseSign1, Label, ProtectedHeader, Result, SignatureContext,
+    countersign_v2_structure_data, countersign0_v2_structure_data, iana, sig_structure_data,
 };
 use std::alloc::{AllocError, Global};
 use std::test::*;
@@ -100,5 +100,60 @@ fn structures(rt: HostRuntime) -> std::result::Result<(), Fail> {
         let bytes = sig_structure_data(alloc, context, body, signer, b"", b"");
         assert_eq!(rt; bytes.ok().ok_or("memory")?.as_slice(), expected);
     }
+    Ok(())
+}
+
+#[test]
+fn countersigned_structures(rt: HostRuntime) -> std::result::Result<(), Fail> {
+    let alloc = rt.alloc();
+    let body = ProtectedHeader::new(alloc);
+    let sign = ProtectedHeader::new(alloc);
+    let one = [Vec::new(alloc)];
+    let whole = countersign_v2_structure_data(alloc, body, sign, b"", b"", &one);
+    assert_eq!(rt;
+        whole.ok().ok_or("memory")?.as_slice(),
+        b"\x86\x72CounterSignatureV2\x40\x40\x40\x40\x81\x40".as_slice()
+    );
+    let body = ProtectedHeader::new(alloc);
+    let abbreviated = countersign0_v2_structure_data(alloc, body, b"", b"", &one);
+    assert_eq!(rt;
+        abbreviated.ok().ok_or("memory")?.as_slice(),
+        b"\x85\x73CounterSignature0V2\x40\x40\x40\x81\x40".as_slice()
+    );
+    // A header that was read is in it as its bytes were, and each of the other fields in its place.
+    let body = readme(alloc)?.protected;
+    let mut sign = ProtectedHeader::new(alloc);
+    sign.original_data = Some(Vec::from_slice(alloc, b"\xa1\x18\x01\x26")?);
+    let two = [
+        Vec::from_slice(alloc, b"\x02")?,
+        Vec::from_slice(alloc, b"\x03\x04")?,
+    ];
+    let whole = countersign_v2_structure_data(
+        alloc,
+        body,
+        sign,
+        README_EXTERNAL_AAD,
+        README_CONTENT,
+        &two,
+    );
+    assert_eq!(rt;
+        whole.ok().ok_or("memory")?.as_slice(),
+        b"\x86\x72CounterSignatureV2\x47\xa2\x01\x26\x04\x42\x31\x31\x44\xa1\x18\x01\x26\x57this is additional data\x53This is the content\x82\x41\x02\x42\x03\x04".as_slice()
+    );
+    Ok(())
+}
+
+#[test]
+fn repeated_labels_are_not_countersigned(rt: HostRuntime) -> std::result::Result<(), Fail> {
+    let alloc = rt.alloc();
+    let one = [Vec::new(alloc)];
+    let sign = ProtectedHeader::new(alloc);
+    let of_body = countersign_v2_structure_data(alloc, repeated(alloc)?, sign, b"", b"", &one);
+    assert!(rt; matches!(of_body, Err(CoseError::DuplicateMapKey)));
+    let body = ProtectedHeader::new(alloc);
+    let of_sign = countersign_v2_structure_data(alloc, body, repeated(alloc)?, b"", b"", &one);
+    assert!(rt; matches!(of_sign, Err(CoseError::DuplicateMapKey)));
+    let abbreviated = countersign0_v2_structure_data(alloc, repeated(alloc)?, b"", b"", &one);
+    assert!(rt; matches!(abbreviated, Err(CoseError::DuplicateMapKey)));
     Ok(())
 }

@@ -21,6 +21,9 @@ returns-in-Mac c = rw c.in-Mac.is c.message_lines-in-Mac.ensures
 pub returns-in-Encrypt : goal.returns-in-Encrypt
 returns-in-Encrypt c = rw c.in-Encrypt.is c.message_lines-in-Encrypt.ensures
 
+pub returns-in-Countersignature : goal.returns-in-Countersignature
+returns-in-Countersignature c = rw c.in-Countersignature.is c.message_lines-in-Countersignature.ensures
+
 pub returns-in-Claims : goal.returns-in-Claims
 returns-in-Claims c = rw c.in-Claims.is c.type_line-in-Claims.ensures
 

@@ -1,7 +1,7 @@
 //! Messages with a MAC that closures make and verify: what the closures are given, how often they are called, and what
 //! becomes of their answers.
 
-use crate::messages::repeated;
+use crate::header::repeated;
 use coset::{
     CallError, CborSerializable, CoseError, CoseMac0, CoseMac0Builder, HeaderBuilder, MacContext,
     ProtectedHeader, TaggedCborSerializable, iana, mac_structure_data,

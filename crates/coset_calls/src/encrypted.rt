@@ -1,8 +1,8 @@
 //! Messages that closures encrypt and decrypt: what the closures are given, how often they are called, and what becomes
 //! of their answers.
 
+use crate::header::repeated;
 use crate::macs::Refused;
-use crate::messages::repeated;
 use coset::{
     CallError, CborSerializable, CoseEncrypt0, CoseEncrypt0Builder, CoseError, EncryptionContext,
     HeaderBuilder, ProtectedHeader, TaggedCborSerializable, enc_structure_data, iana,

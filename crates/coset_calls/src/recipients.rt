@@ -1,8 +1,8 @@
 //! Recipients, and messages that have them: what the closures of their calls are given, how often they are called, and
 //! what becomes of their answers.
 
+use crate::header::repeated;
 use crate::macs::Refused;
-use crate::messages::repeated;
 use coset::{
     CallError, CborSerializable, CoseEncrypt, CoseEncryptBuilder, CoseError, CoseMac,
     CoseMacBuilder, CoseRecipient, CoseRecipientBuilder, EncryptionContext, HeaderBuilder,

@@ -29,7 +29,7 @@ enum Own {
 
 impl EnumI64 for Own {
     ghost use Rattle.coset.specs.Registry.{first_numbered, number-first_numbered};
-    ghost use Rattle.coset_vectors.specs.declared.labels.Own.TheVariants.{Reserved, Something};
+    ghost use Rattle.coset_calls.specs.declared.labels.Own.TheVariants.{Reserved, Something};
 
     ghost number = { elim [ Reserved ↦ pos 0 | Something ↦ pos 1 ] };
 
