@@ -189,6 +189,12 @@ fn one_signature_that_may_be_refused(rt: HostRuntime) -> std::result::Result<(),
         |_tbs| Err::<Vec<u8>, No>(No),
     );
     assert!(rt; matches!(refused, Err(CallError::Caller(No))));
+    Ok(())
+}
+
+#[test]
+fn one_detached_signature_that_may_be_refused(rt: HostRuntime) -> std::result::Result<(), Fail> {
+    let alloc = rt.alloc();
     let made = CoseSign1Builder::new(alloc).try_create_detached_signature(
         alloc,
         b"\xaa",
