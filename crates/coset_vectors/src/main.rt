@@ -25,8 +25,6 @@ mod messages;
 #[cfg(test)]
 mod refused;
 #[cfg(test)]
-mod refused_countersignatures;
-#[cfg(test)]
 mod refused_headers;
 #[cfg(test)]
 mod refused_messages;
