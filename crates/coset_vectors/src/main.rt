@@ -25,6 +25,8 @@ mod messages;
 #[cfg(test)]
 mod refused;
 #[cfg(test)]
+mod refused_countersignatures;
+#[cfg(test)]
 mod refused_headers;
 #[cfg(test)]
 mod refused_messages;
