@@ -240,13 +240,6 @@ pub record HeadStarts (m : ℕ) (h : List ℕ) : Type 0 where
   pub low : info ≤ 27
   pub argument : (j : ℕ) → j < 4 → info ≡ 24 + j → 2 ^ j ≤ length more
 
-powers : (j : ℕ) → j < 4 → (2 ^ j ≡ 1 × (j ≡ 0)) ⊎ ((2 ^ j ≡ 2 × (j ≡ 1)) ⊎ ((2 ^ j ≡ 4 × (j ≡ 2)) ⊎ (2 ^ j ≡ 8 × (j ≡ 3))))
-powers zero lt = inl (refl, refl)
-powers (suc zero) lt = inr (inl (refl, refl))
-powers (suc (suc zero)) lt = inr (inr (inl (refl, refl)))
-powers (suc (suc (suc zero))) lt = inr (inr (inr (refl, refl)))
-powers (suc (suc (suc (suc j)))) lt = absurd (omega arith)
-
 sized : (k : ℕ) (more : List ℕ) → 2 ^ k ≡ length more → k < 4 → (j : ℕ) → j < 4 → 24 + k ≡ 24 + j → 2 ^ j ≤ length more
 sized k more e low j lt is = let same : k ≡ j = omega arith in subst (λ (i : ℕ). 2 ^ i ≤ length more) same (omega arith)
 

@@ -2,7 +2,7 @@
 use Rattle.std.proofs.Common.{◌≡◌, ◌≢◌, ℕ, zero, suc, ◌+◌, ◌<◌, ◌≤◌, true, false, ltb, List, [], ◌∷◌, ◌++◌, length, drop, ◌-◌, inl, inr, ◌⊎◌, Option, Some, None, Result, Ok, Err, option_map, refl, sym, ap, subst, ◌∙◌, arith}
 use Rattle.std.proofs.lemmas.List.{length-append}
 use Rattle.std.proofs.lemmas.Bool.{true≢false, ltb-false}
-use Rattle.std.specs.Prelude.{pos, negsuc, ◌/◌, ◌^◌, is_some}
+use Rattle.std.specs.Prelude.{◌/◌, ◌^◌}
 use Rattle.coset_cbor.specs.declared.cursor.Places.{Places}
 use Rattle.coset_cbor.specs.declared.fault.Fault.{Fault}
 use Rattle.coset_cbor.specs.declared.fault.Fault.TheVariants.{End}
@@ -11,9 +11,9 @@ use Rattle.coset_cbor.specs.declared.head.MajorType.TheVariants as major_types
 use Rattle.coset_cbor.specs.declared.head.Argument.{Argument}
 use Rattle.coset_cbor.specs.declared.head.Argument.TheVariants as places
 use Rattle.coset_cbor.specs.declared.head.Head.{Head}
-use Rattle.coset_value.specs.Item.{Item, integer, bytes, float, text, boolean, null, tag, array, dict, Items, no_items, item, items_count}
+use Rattle.coset_value.specs.Item.{Item, array, dict, Items, no_items, item, items_count}
 use Rattle.coset_value.specs.View.{items_of, pairs_of}
-use Rattle.coset_value.specs.Parts.{as_array, as_bytes}
+use Rattle.coset_value.specs.Parts.{as_array}
 use Rattle.coset_cbor.specs.Grammar.{IsItem}
 use Rattle.coset_cbor.specs.Reading.{◌>>=◌, number_of, head_at, begins_break, times_at, until_at, pair_at, things, item_by, item_at}
 use Rattle.coset_cbor.specs.Jumps.{item_major_type}
@@ -76,27 +76,6 @@ stands_by v s a h whole e =
 
 pub stands_major_type : (v : Item) (s a : List ℕ) (h : Head × List ℕ) → Stands v s a → head_at s ≡ Ok h → item_major_type v ≡ h.0.major_type
 stands_major_type v s a h whole e = major_type_by (things (item_at 255)) (length s) h.0.argument h.0.major_type h.1 (v, a) (stands_by v s a h whole e)
-
--- ---- what kind of item stands there
-
--- the test of a kind
-pub bytes_by_major_type : (v : Item) → (item_major_type v ≡ major_types.Bytes → is_some (as_bytes v) ≡ true) × (item_major_type v ≢ major_types.Bytes → is_some (as_bytes v) ≡ false)
-bytes_by_major_type (integer (pos n)) = ((λ e. absurd cc), (λ e. refl))
-bytes_by_major_type (integer (negsuc n)) = ((λ e. absurd cc), (λ e. refl))
-bytes_by_major_type (bytes s) = ((λ e. refl), (λ e. absurd (e refl)))
-bytes_by_major_type (float x) = ((λ e. absurd cc), (λ e. refl))
-bytes_by_major_type (text s) = ((λ e. absurd cc), (λ e. refl))
-bytes_by_major_type (boolean b) = ((λ e. absurd cc), (λ e. refl))
-bytes_by_major_type null = ((λ e. absurd cc), (λ e. refl))
-bytes_by_major_type (tag t v) = ((λ e. absurd cc), (λ e. refl))
-bytes_by_major_type (array vs) = ((λ e. absurd cc), (λ e. refl))
-bytes_by_major_type (dict ps) = ((λ e. absurd cc), (λ e. refl))
-
-pub array_by_major_type_of : (v : Item) → (item_major_type v ≡ major_types.Array → is_some (as_array v) ≡ true) × (item_major_type v ≢ major_types.Array → is_some (as_array v) ≡ false)
-array_by_major_type_of v = elim (is_array v) [
-  | inl x ↦ ((λ e. rw x.1 refl), (λ e. absurd (e (ap item_major_type x.1))))
-  | inr x ↦ ((λ e. absurd (x.1 e)), (λ e. rw x.0 refl))
-]
 
 -- ---- members
 

@@ -24,10 +24,6 @@ rest_of x = x.1
 
 -- ---- items one after the other
 
-pub past_none : (s : List ℕ) → IsPast 0 s s
-unfolding IsPast
-past_none s = refl
-
 pub past_one : (s : List ℕ) (x : Item × List ℕ) → item_at 256 s ≡ Ok x → IsPast 1 s x.1
 unfolding IsPast
 past_one s x e = (x, e, refl)

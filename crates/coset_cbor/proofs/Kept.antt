@@ -7,16 +7,7 @@ use Rattle.coset_value.specs.Item.{Item, array, dict, items_count, pairs_count}
 use Rattle.coset_value.specs.Range.{IsInRange, AreInRange, ArePairsInRange}
 use Rattle.coset_value.specs.View.{items_of, pairs_of, view, pair_view, items_view, pairs_view}
 use Rattle.coset_value.specs.declared.value.Value.{Value, Tag, Array, Map, the_lemmas}
-use Rattle.coset_cbor.specs.Least.{Extends, least_head, least_encoding, least_encodings, least_pair_encodings}
-
-pub extends_self : (old new : List ℕ) → new ≡ old → Extends old new
-extends_self old new e = ([], e ∙ sym (append-nil old))
-
-pub extends_by : (old new more : List ℕ) → new ≡ old ++ more → Extends old new
-extends_by old new more e = (more, e)
-
-pub extends_then : (old middle new : List ℕ) → Extends old middle → Extends middle new → Extends old new
-extends_then old middle new p q = (p.0 ++ q.0, q.1 ∙ ap (λ (x : List ℕ). x ++ q.0) p.1 ∙ append_assoc old p.0 q.0)
+use Rattle.coset_cbor.specs.Least.{least_head, least_encoding, least_encodings, least_pair_encodings}
 
 pub least_encodings-push : (vs : List Item) (v : Item) → least_encodings (items_of (vs ++ v ∷ [])) ≡ least_encodings (items_of vs) ++ least_encoding v
 least_encodings-push [] v = append-nil (least_encoding v)

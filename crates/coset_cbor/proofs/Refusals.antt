@@ -493,9 +493,6 @@ not_supported d s f bad e = subst (λ (g : Fault). Stands d s g) e ([], s, refl,
 no_item : (d : ℕ) (s : List ℕ) (f : Fault) → NoItem false s → Syntax (length s) ≡ f → Stands d s f
 no_item d s f bad e = subst (λ (g : Fault). Stands d s g) e ([], s, refl, refl, inl (0, false, at_start, bad))
 
-abbrev wrong : Fault → Result (Item × List ℕ) Fault
-wrong f = Err f
-
 simple_fault : (d : ℕ) (s front r : List ℕ) (f : Fault) (a : Argument) → s ≡ front ++ r → IsArgumentEncoding 7 a front → simple_at (length s) a r ≡ Err f → Stands d s f
 simple_fault d s front r f (places.Within n) parts h e =
     elim (chosen (eqb n 20) _ _ _ e) [

@@ -161,9 +161,6 @@ argument_takes place w limit k back shows s x fits e =
       rest_fits = IsBytes-drop (byte_len w) s fits;
     })
 
-abbrev Turned : ℕ → List ℕ → Argument × List ℕ → ℕ → Type 0
-Turned info s x k = ArgumentTakes k s x
-
 argument_by_takes : (info left : ℕ) (s : List ℕ) (x : Argument × List ℕ) → IsBytes s → argument_by info left s ≡ Ok x → ArgumentTakes info s x
 argument_by_takes info left s x fits e =
     elim (chosen (ltb info 24) _ _ _ e) [

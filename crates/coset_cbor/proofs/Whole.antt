@@ -43,10 +43,6 @@ no_front s f e v b rest parts is = apart (v, rest) f (sym (item_again 256 v b re
 pub fault_is_there : (s : List ℕ) (f : Fault) → IsBytes s → item_at 256 s ≡ Err f → Stands 256 s f
 fault_is_there s f fits e = item_fault 256 s f fits e
 
--- what is left gives the offset
-pub offset_is : (s c t : List ℕ) (len left : ℕ) → length s ≡ len → s ≡ c ++ t → left ≡ length t → len - left ≡ length c
-offset_is s c t len left e parts is = omega (arith, ap length parts ∙ length-append c t)
-
 abbrev rest_is : List ℕ → Result (List ℕ) Fault
 rest_is s = Ok s
 

@@ -2,10 +2,10 @@
 use Rattle.std.specs.Prelude.{◌≡◌, ℕ, ℤ, pos, List, Option, Some, None, Result, Ok, Err, Vec, false, is_some, option_map, unsigned_abs, refl}
 use Rattle.std.specs.Global.{Global}
 use Rattle.std.proofs.Common.{true≢false}
-use Rattle.coset_value.specs.Item.{Item, Items, array, item, no_items}
+use Rattle.coset_value.specs.Item.{Items}
 use Rattle.coset_shape.specs.declared.error.CoseError.{CoseError}
 use Rattle.coset_shape.specs.Errors.{UnlessMemory}
-use Rattle.coset_shape.specs.Shape.{Shape, Places, along, both, uint, bstr, present, perhaps, array_of, ◌then◌}
+use Rattle.coset_shape.specs.Shape.{Shape, Places, along, uint, bstr, present, perhaps, array_of, ◌then◌}
 use Rattle.coset_shape.specs.ShapeLaws.{Lawful, along_laws, uint_laws, bstr_laws, present_laws, perhaps_laws, array_of_laws, then_laws}
 use Rattle.coset_core.specs.Headers.{ProtectedSeen, protected}
 use Rattle.coset_core.specs.HeaderLaws.{protected_laws}
@@ -63,7 +63,3 @@ supp_pub_laws =
 abbrev pub ReadsOther : Items → Result (Option (Vec ℕ Global)) CoseError → Type 0
 ReadsOther vs (Ok o) = other_place.describes vs (option_map (λ b. b.items) o)
 ReadsOther vs (Err e) = UnlessMemory e (other_place.faults vs)
-
--- the array of two places, where each has an item
-abbrev pub two_places : Option Item → Option Item → Option Item
-two_places a b = option_map array (both item a (both item b (Some no_items)))

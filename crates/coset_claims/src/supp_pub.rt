@@ -5,19 +5,17 @@ ghost use Rattle.std.specs.Ordering.{on};
 ghost use Rattle.std.specs.Cmp.{on_equiv, on_per, partial_equiv_from_equiv};
 ghost use Rattle.coset_shape.specs.declared.error.CoseError.TheVariants.{OutOfMemory};
 ghost use Rattle.coset_shape.specs.Answers.{Reads};
-ghost use Rattle.coset_shape.specs.Encoding.{Encodes};
 ghost use Rattle.coset_shape.specs.Sources.{put_last, source_item};
 ghost use Rattle.coset_core.specs.Messages.{unread};
 ghost use Rattle.coset_core.specs.Views.{header_seen};
-ghost use Rattle.coset_claims.specs.SuppPub.{ReadsOther, empty_supp_pub, supp_pub, supp_pub_seen, two_places};
+ghost use Rattle.coset_claims.specs.SuppPub.{ReadsOther, empty_supp_pub, supp_pub, supp_pub_seen};
 ghost use Rattle.coset_claims.specs.ContextSame.{supp_pub_eq, supp_pub_eq_equiv};
 
 use crate::party::copy_optional;
 use coset_cbor::de::Pull;
-use coset_cbor::ser::write_array_head;
 use coset_cbor::value::Value;
 use coset_core::{Bstr, Header, ProtectedHeader};
-use coset_shape::encode::{Encode, encode_three, encode_to_value, encode_to_vec};
+use coset_shape::encode::{Encode, encode_three, encode_to_value, encode_to_vec, encode_two};
 use coset_shape::traits::{FromPull, read_slice};
 use coset_shape::{AsCborValue, CborSerializable, Lawful, Result, Source};
 use std::alloc::{AllocError, Global};
@@ -112,20 +110,6 @@ impl CborSerializable for SuppPubInfo {
     fn to_vec(self, alloc: Global) -> Result<Vec<u8>> {
         encode_to_vec(alloc, &self)
     }
-}
-
-/// Appends the array of two places.
-///
-/// # Errors
-/// Those of the first place that has one.
-fn encode_two<A: Encode, B: Encode>(alloc: Global, a: &A, b: &B, out: &mut Vec<u8>) -> Result<()>
-    ensures { Encodes (two_places (A.image a.now) (B.image b.now)) out.old.items out.new.items
-        result }
-{
-    write_array_head(2, out)?;
-    a.encode(alloc, out)?;
-    b.encode(alloc, out)?;
-    Ok(())
 }
 
 impl Encode for SuppPubInfo {

@@ -130,8 +130,3 @@ repeats all o f s t z m r (Err i) e w named p =
         let k = walked all o f s z m r w in
         subst (GatherFaults names (fields (optional any) (optional any)) bars (dict all)) (sym h.0)
         (inl (stumbles names names_laws (fields (optional any) (optional any)) partial_fields_laws (dict all) all k.0 (parts_of (f, o)) refl k.1 h.1))
-
--- a value that wasn't read is passed
-pub value_passed :
-    (version : Version) (all : Pairs) (o : Versions (Option Item)) (f : FieldsSeen) (t u z : State) (m : InputPairs) → AtHeld version all o f t z m → ((x : Item) (y : State) → Stands x t y → u ≡ y) → (left : Pairs) × PairsWithin m left u z
-value_passed version all o f t u z m s passes = (s.others, subst (λ y. PairsWithin m s.others y z) (sym (passes s.value s.mid s.stands)) s.within)

@@ -45,10 +45,6 @@ items_in_range-append : (vs ws : List Item) → AreInRange (items_of vs) → Are
 items_in_range-append [] ws p q = q
 items_in_range-append (v ∷ vs) ws p q = (p.0, items_in_range-append vs ws p.1 q)
 
--- nothing was written
-pub items-none : (s : List ℕ) → AppendsItems s s []
-items-none s = record { in_range = tt; parts = sym (append-nil s) }
-
 -- some items, and one more
 pub items-push : (old mid new : List ℕ) (vs : List Item) (v : Item) → AppendsItems old mid vs → AppendsItem mid new v → AppendsItems old new (vs ++ v ∷ [])
 items-push old mid new vs v p q = record {

@@ -17,10 +17,10 @@ use Rattle.coset_label.specs.Names.{Name, name_item, RegisteredName}
 use Rattle.coset_core.specs.FieldLabels as labels
 use Rattle.coset_shape.proofs.Encoding.{array-put as array-put-places, place-put, nothing-put, and_items, images-append, images-missing}
 use Rattle.coset_core.specs.Fields.{FieldsSeen, Versions, same_name, algorithm, critical, content_type}
-use Rattle.coset_core.specs.Headers.{HeaderSeen, header_of, fields_in, counter_signatures_in, countersignatures_in, ProtectedSeen, SignatureSeen, Signatures, no_signatures, signature_and, signatures_of, are_none, counter_signatures_item, header_item, signature_item, signatures_image, header_image, protected_bytes}
+use Rattle.coset_core.specs.Headers.{HeaderSeen, header_of, fields_in, counter_signatures_in, countersignatures_in, ProtectedSeen, SignatureSeen, Signatures, no_signatures, signature_and, signatures_of, are_none, counter_signatures_item, header_item, signatures_image, header_image, protected_bytes}
 use Rattle.coset_core.specs.HeaderWrites.{fields_put, images_signatures, signature_image_is, algorithm_image, critical_image, content_type_image, Puts, header_put, header_repeats}
 use Rattle.coset_core.specs.Written.{AppendsItems, AppendsPairs, AppendsCounterSignatures, AppendsSignatures, entry_pairs, registered_item, bytes_item, critical_item, filled_item, header_fields, plain_fields, one, count_pairs, signature_array}
-use Rattle.coset_core.proofs.Writing.{some_mapped, items-push, array-put, pairs-none, pairs-then, pair-put, count-entries, image-entries}
+use Rattle.coset_core.proofs.Writing.{some_mapped, items-push, array-put, pairs-then, pair-put, count-entries, image-entries}
 
 -- an error passed on that says of P what another is asked to say of Q
 pub passes : {T : Type 0} (r : Result T CoseError) (f : CoseError) (P Q : Type 0) → IsErrAnd r (λ e. e ≡ f) → (P → Q) → UnlessMemory f (λ g. (g ≡ DuplicateMapKey) × P) → IfErr r (λ e. UnlessMemory e (λ g. (g ≡ DuplicateMapKey) × Q))
@@ -44,17 +44,6 @@ signature-put s old head mid half new first p u b =
 -- a byte string is that of a protected header
 pub string-put : (p : ProtectedSeen) (b old new : List ℕ) → protected_bytes p ≡ Some b → AppendsItem old new (bytes b) → AppendsImage (option_map bytes (protected_bytes p)) old new
 string-put p b old new e put = (bytes b, ap (option_map bytes) e, put)
-
--- none of its parts may be missing
-pub unsigned-unprotected : (s : SignatureSeen) → header_image s.unprotected ≡ None → signature_array s ≡ None
-unsigned-unprotected s e = ap (λ o. signature_item (option_map bytes (protected_bytes s.protected)) o s.signature) e ∙ last (option_map bytes (protected_bytes s.protected))
-  where
-    last : (o : Option Item) → signature_item o None s.signature ≡ None
-    last (Some b) = refl
-    last None = refl
-
-pub unsigned-protected : (s : SignatureSeen) → option_map bytes (protected_bytes s.protected) ≡ None → signature_array s ≡ None
-unsigned-protected s e = ap (λ o. signature_item o (header_image s.unprotected) s.signature) e
 
 -- ---- several
 
@@ -101,9 +90,6 @@ counter_signatures-put label (s ∷ ss) n old mid head new h count small name al
   ap (option_map (λ vs. Some (one_or_array vs))) p.1,
   pair-put old mid new label (one_or_array (items_of p.0)) name (one_or_array-put p.0 n mid head new (rw p.2 h) (count ∙ sym p.2) small alone several p.3),
 )
-
-pub counter_signatures-none : (label : Name) (s : List ℕ) → AppendsCounterSignatures label s s no_signatures
-counter_signatures-none label s = (None, refl, pairs-none s)
 
 -- ---- what the fields are written as
 

@@ -1,5 +1,5 @@
 -- The laws of a header's fields, and of maps of them.
-use Rattle.std.proofs.Common.{◌≡◌, ℕ, List, [], ◌∷◌, Option, Some, None, Bool, true, false, cond, inl, inr, ◌⊎◌, refl, ap, sym, ◌∙◌, subst, rules}
+use Rattle.std.proofs.Common.{◌≡◌, ℕ, List, [], ◌∷◌, Option, Some, None, Bool, true, false, inl, inr, ◌⊎◌, refl, ap, sym, ◌∙◌, subst, rules}
 use Rattle.std.specs.Prelude.{ℤ}
 use Rattle.std.specs.List.{IsDistinct}
 use Rattle.std.specs.Map.{keys_of, lookup}
@@ -210,19 +210,7 @@ image_with c d f x (Some v) None h k = rw (h, k) refl
 image_with c d f x None (Some w) h k = rw (h, k) refl
 image_with c d f x None None h k = rw (h, k) refl
 
--- a value that is found stands among the pairs
-found_pair : (l : Name) (w : Item) (ps : Pairs) (es : List (Name × Item)) → Named label.describes ps es → lookup (same_name l) es ≡ Some w → SomePair (λ k u. label.describes k l × (u ≡ w)) ps
-found_pair l w no_pairs [] p q = absurd (cc)
-found_pair l w no_pairs (e ∷ es) p q = absurd p
-found_pair l w (pair k v ps) [] p q = absurd p
-found_pair l w (pair k v ps) (e ∷ es) p q = go (same_name l e.0) refl q (found_pair l w ps es p.2)
-  where
-    go : (b : Bool) → same_name l e.0 ≡ b → cond b (Some e.1) (lookup (same_name l) es) ≡ Some w → (lookup (same_name l) es ≡ Some w → SomePair (λ k u. label.describes k l × (u ≡ w)) ps)
-        → (label.describes k l × (v ≡ w)) ⊎ SomePair (λ k u. label.describes k l × (u ≡ w)) ps
-    go true c h ih = inl (subst (label.describes k) (sym (names_laws.same_is l e.0 c)) p.0, p.1 ∙ some-one refl h)
-    go false c h ih = inr (ih h)
-
--- and what stands among them is found, where no label stands twice
+-- what stands among some pairs is found, where no label stands twice
 pair_found :
     (P : Item → Type 0) (l : Name) (ps : Pairs) (es : List (Name × Item)) → Named label.describes ps es → IsDistinct same_name (keys_of es) → SomePair (λ k u. label.describes k l × P u) ps
     → (w : Item) × (lookup (same_name l) es ≡ Some w) × P w
@@ -255,11 +243,6 @@ counter_signatures_found P v f o p s =
     ]
 
 -- what stands among some pairs stands among them and others
-some_before : (P : Item → Item → Type 0) (ps qs : Pairs) → SomePair P ps → SomePair P (and_pairs ps qs)
-some_before P no_pairs qs f = absurd f
-some_before P (pair k v ps) qs (inl f) = inl f
-some_before P (pair k v ps) qs (inr f) = inr (some_before P ps qs f)
-
 label_before : (l : Name) (ps qs : Pairs) → HasLabel label.describes l ps → HasLabel label.describes l (and_pairs ps qs)
 label_before l no_pairs qs f = absurd f
 label_before l (pair k v ps) qs (inl f) = inl f

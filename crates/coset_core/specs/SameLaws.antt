@@ -136,9 +136,6 @@ signature_eq-decides s t =
     (Decides-and (header_eq s.unprotected t.unprotected) (pointwise ◌==◌ s.signature t.signature) (header_eq-decides s.unprotected t.unprotected) (bytes_decides s.signature t.signature)))
 
 -- so they are reflexive, symmetric and transitive
-pub fields_eq_equiv : IsEquivalence fields_eq
-fields_eq_equiv = decided fields_eq fields_eq-decides
-
 pub header_eq_equiv : IsEquivalence header_eq
 header_eq_equiv = decided header_eq header_eq-decides
 

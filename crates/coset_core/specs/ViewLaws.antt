@@ -3,7 +3,7 @@ use Rattle.std.specs.Prelude.{◌≡◌, map, option_map}
 use Rattle.coset_core.specs.Headers.{HeaderSeen, header_of, ProtectedSeen, SignatureSeen, signatures_of}
 use Rattle.coset_core.specs.FieldsView.{fields_level}
 use Rattle.coset_core.specs.Views.{countersignature_step, header_step, protected_step, signature_step, countersignature_seen, header_seen, protected_seen, signature_seen}
-use Rattle.coset_core.specs.declared.countersignature.CoseCountersignature.{CoseCountersignature, CoseCountersignature-F, out-CoseCountersignature, roll-CoseCountersignature, fold-roll-CoseCountersignature, fold_out-CoseCountersignature}
+use Rattle.coset_core.specs.declared.countersignature.CoseCountersignature.{CoseCountersignature, CoseCountersignature-F, out-CoseCountersignature, fold_out-CoseCountersignature}
 use Rattle.coset_core.specs.declared.header.Header.{Header, Header-F, out-Header, roll-Header, fold-roll-Header, fold_out-Header}
 use Rattle.coset_core.specs.declared.protected.ProtectedHeader.{ProtectedHeader, ProtectedHeader-F, out-ProtectedHeader, roll-ProtectedHeader, fold-roll-ProtectedHeader, fold_out-ProtectedHeader}
 use Rattle.coset_core.specs.declared.signature.CoseSignature.{CoseSignature, CoseSignature-F, out-CoseSignature, roll-CoseSignature, fold-roll-CoseSignature, fold_out-CoseSignature}
@@ -51,9 +51,6 @@ signature-made = fold-roll-CoseSignature SignatureSeen HeaderSeen ProtectedSeen 
 
 pub signature-opened : (s : CoseSignature) → signature_seen s ≡ signature_level (out-CoseSignature s)
 signature-opened = fold_out-CoseSignature SignatureSeen HeaderSeen ProtectedSeen SignatureSeen countersignature_step header_step protected_step signature_step
-
-pub countersignature-made : (x : CountersignatureLevel) → countersignature_seen (roll-CoseCountersignature x) ≡ countersignature_level x
-countersignature-made = fold-roll-CoseCountersignature SignatureSeen HeaderSeen ProtectedSeen SignatureSeen countersignature_step header_step protected_step signature_step
 
 pub countersignature-opened : (s : CoseCountersignature) → countersignature_seen s ≡ countersignature_level (out-CoseCountersignature s)
 countersignature-opened = fold_out-CoseCountersignature SignatureSeen HeaderSeen ProtectedSeen SignatureSeen countersignature_step header_step protected_step signature_step

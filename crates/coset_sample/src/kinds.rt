@@ -1,7 +1,9 @@
-//! Values asked for one kind: what they hold, or the error that names both kinds.
+//! Values asked for one kind: what they hold, or the error that names both kinds. And an array of what values are
+//! written as.
 
+use crate::reading::Mark;
 use coset_cbor::value::{Float, Value};
-use coset_shape::util::{ValueTryAs, cbor_type_error};
+use coset_shape::util::{ValueTryAs, cbor_type_error, to_cbor_array};
 use coset_shape::{CallError, CoseError, Result};
 use std::alloc::{AllocError, Global};
 use std::test::*;
@@ -124,5 +126,14 @@ fn converts_members(rt: HostRuntime) -> std::result::Result<(), Fail> {
             Err(CallError::Coset(CoseError::UnexpectedItem("nul", "array")))
         )
     );
+    Ok(())
+}
+
+#[test]
+fn writes_members(rt: HostRuntime) -> std::result::Result<(), Fail> {
+    let alloc = rt.alloc();
+    let numbers = vec![in alloc; Value::from(5u8), Value::from(-1i64)]?;
+    let written = to_cbor_array(alloc, vec![in alloc; Mark(5), Mark(-1)]?);
+    assert!(rt; matches!(written, Ok(array) if array == Value::Array(numbers)));
     Ok(())
 }

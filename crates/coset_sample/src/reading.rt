@@ -9,7 +9,8 @@ ghost use Rattle.coset_sample.specs.Reading.{mark_seen, seen, reading};
 
 use coset_cbor::de::Pull;
 use coset_cbor::value::{Integer, Value};
-use coset_shape::list::{array_value, bytes_or_nil, list_value, read_list};
+use coset_shape::encode::{Array, Encode, encode_three, encode_to_value, encode_to_vec};
+use coset_shape::list::read_list;
 use coset_shape::traits::{FromPull, read_slice, read_tagged_slice};
 use coset_shape::{
     AsCborValue, CborSerializable, CoseError, Lawful, Result, Source, TaggedCborSerializable,
@@ -48,6 +49,16 @@ impl AsCborValue for Mark {
 
 impl Lawful for Mark {
     ghost laws = { int64_laws };
+}
+
+impl Encode for Mark {
+    ghost image = { λ m. int64.image (mark_seen m) };
+
+    ghost spare = { 0 };
+
+    fn encode(&self, alloc: Global, out: &mut Vec<u8>) -> Result<()> {
+        self.0.encode(alloc, out)
+    }
 }
 
 impl FromPull for Mark {
@@ -100,14 +111,7 @@ impl AsCborValue for Reading {
     }
 
     fn to_cbor_value(self, alloc: Global) -> Result<Value> {
-        let Reading {
-            number,
-            payload,
-            marks,
-        } = self;
-        let marks = list_value(alloc, marks)?;
-        let places = vec![in alloc; Value::from(number), bytes_or_nil(payload), marks]?;
-        Ok(array_value(places))
+        encode_to_value(alloc, &self)
     }
 }
 
@@ -115,6 +119,16 @@ impl Lawful for Reading {
     ghost use Rattle.coset_sample.specs.Reading.{reading_laws};
 
     ghost laws = { reading_laws };
+}
+
+impl Encode for Reading {
+    ghost image = { λ r. reading.image (seen r) };
+
+    ghost spare = { 0 };
+
+    fn encode(&self, alloc: Global, out: &mut Vec<u8>) -> Result<()> {
+        encode_three(alloc, &self.number, &self.payload, &Array(&self.marks), out)
+    }
 }
 
 impl FromPull for Reading {
@@ -127,8 +141,13 @@ impl CborSerializable for Reading {
     fn from_slice(alloc: Global, s: &[u8]) -> Result<Reading> {
         read_slice(alloc, s)
     }
+
+    fn to_vec(self, alloc: Global) -> Result<Vec<u8>> {
+        encode_to_vec(alloc, &self)
+    }
 }
 
+/// Under its tag a reading is written by the default body, by way of a value.
 impl TaggedCborSerializable for Reading {
     ghost TAG = { 1000 };
 

@@ -11,7 +11,8 @@ ghost use Rattle.coset_sample.specs.Report.{seen, report};
 use crate::reading::Reading;
 use coset_cbor::de::Pull;
 use coset_cbor::value::Value;
-use coset_shape::list::{array_value, list_value, read_list};
+use coset_shape::encode::{Array, Encode, encode_to_value, encode_two};
+use coset_shape::list::read_list;
 use coset_shape::traits::FromPull;
 use coset_shape::{AsCborValue, CborSerializable, Lawful, Result, Source};
 use std::alloc::Global;
@@ -53,10 +54,7 @@ impl AsCborValue for Report {
     }
 
     fn to_cbor_value(self, alloc: Global) -> Result<Value> {
-        let Report { sender, readings } = self;
-        let readings = list_value(alloc, readings)?;
-        let places = vec![in alloc; Value::Bytes(sender), readings]?;
-        Ok(array_value(places))
+        encode_to_value(alloc, &self)
     }
 }
 
@@ -66,10 +64,21 @@ impl Lawful for Report {
     ghost laws = { report_laws };
 }
 
+impl Encode for Report {
+    ghost image = { λ r. report.image (seen r) };
+
+    ghost spare = { 0 };
+
+    fn encode(&self, alloc: Global, out: &mut Vec<u8>) -> Result<()> {
+        encode_two(alloc, &self.sender, &Array(&self.readings), out)
+    }
+}
+
 impl FromPull for Report {
     fn from_pull(alloc: Global, pull: Pull<'_>) -> Result<Report> {
         read_report(alloc, Source::Lent(pull))
     }
 }
 
+/// A report is read and written by the default bodies, by way of a value.
 impl CborSerializable for Report {}

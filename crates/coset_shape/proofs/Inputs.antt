@@ -13,7 +13,7 @@ use Rattle.coset_shape.specs.declared.input.InputItems.{InputItems}
 use Rattle.coset_shape.specs.declared.input.InputItems.TheVariants as items
 use Rattle.coset_shape.specs.declared.input.InputPairs.{InputPairs}
 use Rattle.coset_shape.specs.declared.input.InputPairs.TheVariants as pairs
-use Rattle.coset_shape.specs.Inputs.{State, tree, lent, state, length_left, items_size, pairs_size, pairs_turns, GoesBehind, Stands, AreWithin, PairsWithin, Nexts, TakesNext, NextsKey, LentKey}
+use Rattle.coset_shape.specs.Inputs.{State, lent, state, length_left, items_size, pairs_size, pairs_turns, Stands, AreWithin, PairsWithin, Nexts, TakesNext, NextsKey, LentKey}
 use Rattle.coset_shape.specs.Sources.{source_item}
 
 lent_is : (s t : List ℕ) → lent s ≡ lent t → s ≡ t
@@ -51,10 +51,6 @@ pairs_smaller (pairs.Lent p) s t h = h
 pub pairs_fewer : (m : InputPairs) (s t : State) → length_left t ≤ length_left s → pairs_turns m t ≤ pairs_turns m s
 pairs_fewer (pairs.Tree it) s t h = omega arith
 pairs_fewer (pairs.Lent p) s t h = h
-
-pub goes_farther : (s t u : State) → GoesBehind s t → length_left u ≤ length_left t → GoesBehind s u
-goes_farther (tree w) t u g h = tt
-goes_farther (lent s) t u g h = omega (arith, g, h)
 
 -- a member that is taken
 pub taken_next :

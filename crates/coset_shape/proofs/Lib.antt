@@ -1,7 +1,6 @@
 pub mod Whole
 pub mod Lists
 pub mod Walking
-pub mod Vectors
 pub mod Pushing
 pub mod Distinct
 pub mod Encoding

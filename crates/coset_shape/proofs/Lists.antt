@@ -1,17 +1,15 @@
 -- A list read member by member.
-use Rattle.std.proofs.Common.{◌≡◌, ◌++◌, List, [], ◌∷◌, map, Option, Some, Result, Ok, Err, refl, sym, ◌∙◌, ap, subst, inr, inl, append_assoc, append-nil, slice_get, rules}
+use Rattle.std.proofs.Common.{◌≡◌, ◌++◌, List, [], ◌∷◌, Option, Some, Result, Ok, Err, refl, sym, ◌∙◌, ap, subst, inr, inl, append_assoc, append-nil, slice_get, rules}
 use Rattle.std.proofs.lemmas.Option.{none-some}
 use Rattle.std.specs.Prelude.{IsErrAnd, IfErr, Vec}
 use Rattle.std.specs.Global.{Global}
 use Rattle.std.specs.Iterator.{Yields}
 use Rattle.coset_value.specs.Item.{Item, array, Items, no_items, item}
-use Rattle.coset_value.specs.Parts.{as_array}
 use Rattle.coset_value.specs.View.{view, items_view}
 use Rattle.coset_value.specs.declared.value.Value.{Value, Array, the_lemmas}
 use Rattle.coset_shape.specs.declared.error.CoseError.{CoseError}
-use Rattle.coset_shape.specs.Answers.{Reads}
 use Rattle.coset_shape.specs.Errors.{UnlessMemory}
-use Rattle.coset_shape.specs.Shape.{Shape, Each, EachFaults, blamed, images, list_of}
+use Rattle.coset_shape.specs.Shape.{Shape, Each, EachFaults, blamed, images}
 use Rattle.coset_shape.specs.ShapeLaws.{both-some}
 use Rattle.coset_shape.specs.Lists.{Continues, EachWith, ReadsEach}
 
@@ -38,11 +36,6 @@ module _ {A : Type 0} (s : Shape A) where
       → old ≡ item w new → UnlessMemory e (s.faults w) → ReadsEach s seen all r
   member_refused seen w all old new xs (Ok x) e is c q h = absurd is
   member_refused seen w all old new xs (Err f) e is c q h = λ n. c.blames f (subst (λ vs. EachFaults s.faults vs f) (sym q) (inl (subst (s.faults w) (sym is) (h (λ m. n (is ∙ m))))))
-
-  -- the members of an array
-  pub list_read : {T : Type 0} (seen : T → A) (v : Item) (all : Items) (r : Result (Vec T Global) CoseError) → as_array v ≡ Some all → ReadsEach s seen all r → Reads (list_of s) (λ xs. map seen xs.items) v r
-  list_read seen v all (Ok x) e h = (all, e, h)
-  list_read seen v all (Err f) e h = λ n. inr (all, e, inr (λ m. m, h n))
 
   -- whatever their faults are
   pub each_blamed : (blames : CoseError → Type 0) (all : Items) (e f : CoseError) → blames f → EachFaults s.faults all e → EachFaults (blamed blames s).faults all f
@@ -84,10 +77,6 @@ view-Array vs = search (rules, the_lemmas)
 -- one more of what is yielded, one less of what is left
 pub moved : {A : Type 0} (ys : List A) (x : A) (old new all : List A) → ys ++ old ≡ all → old ≡ x ∷ new → (ys ++ x ∷ []) ++ new ≡ all
 moved ys x old new all p q = append_assoc ys (x ∷ []) new ∙ (ap (λ zs. ys ++ zs) (sym q) ∙ p)
-
--- what is yielded, the one that comes next, and the others
-pub moved-back : {A : Type 0} (ys : List A) (x : A) (old new all : List A) → ys ++ old ≡ all → old ≡ x ∷ new → all ≡ ys ++ x ∷ new
-moved-back ys x old new all p q = sym p ∙ ap (λ zs. ys ++ zs) q
 
 -- the first of a list, where there is one
 pub begins_with : {A : Type 0} (xs : List A) (x : A) → slice_get xs 0 ≡ Some x → (ys : List A) × (xs ≡ x ∷ ys)

@@ -37,7 +37,10 @@ abbrev pub Encodes : {T : Type 0} → Option Item → List ℕ → List ℕ → 
 Encodes image old new (Ok x) = AppendsImage image old new
 Encodes image old new (Err e) = HasNoImage image e
 
--- the array of three places, of four, and of five, where each has an item
+-- the array of two places, of three, of four, and of five, where each has an item
+abbrev pub two_places : Option Item → Option Item → Option Item
+two_places a b = option_map array (both item a (both item b (Some no_items)))
+
 abbrev pub three_places : Option Item → Option Item → Option Item → Option Item
 three_places a b c = option_map array (both item a (both item b (both item c (Some no_items))))
 

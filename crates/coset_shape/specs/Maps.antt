@@ -243,7 +243,3 @@ GatherFaults {N} {A} n fs bars v e = (labelled n fs).faults v e ⊎ ((ps : Pairs
 -- of an item's pairs some were taken, which made y of x; or it is no map, and none were
 abbrev pub Gathers : {N A : Type 0} → Names N → Fields N A → Item → A × List (N × Item) → A × List (N × Item) → Type 0
 Gathers {N} {A} n fs v x y = ((as_map v ≡ None) × (y ≡ x)) ⊎ ((ps : Pairs) × (left : Pairs) × (as_map v ≡ Some ps) × Walks N A n fs ps y left)
-
--- the pairs with these labels and values came behind those that were there
-abbrev pub Appends : {N : Type 0} → (N → Option Item) → Pairs → Pairs → List (N × Item) → Type 0
-Appends f old new es = (ps : Pairs) × (named_image f es ≡ Some ps) × (new ≡ and_pairs old ps)

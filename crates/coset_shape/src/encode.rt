@@ -4,7 +4,7 @@ ghost use Rattle.std.specs.Prelude.{ℕ, length, Option, Some, option_map, OnOk,
 ghost use Rattle.coset_value.specs.Item.{Item, array, item, bytes, tag};
 ghost use Rattle.coset_value.specs.View.{view};
 ghost use Rattle.coset_shape.specs.Answers.{Images, Writes};
-ghost use Rattle.coset_shape.specs.Encoding.{AppendsPlaces, Encodes, HasNoImage, three_places, four_places, five_places};
+ghost use Rattle.coset_shape.specs.Encoding.{AppendsPlaces, Encodes, HasNoImage, two_places, three_places, four_places, five_places};
 ghost use Rattle.coset_shape.specs.Shape.{images};
 ghost use Rattle.coset_shape.specs.Room.{IsRoomFor};
 
@@ -172,6 +172,25 @@ fn encode_members<T: Encode>(alloc: Global, members: &[T], out: &mut Vec<u8>) ->
     for member in members {
         member.encode(alloc, out)?;
     }
+    Ok(())
+}
+
+/// Appends the array of two places.
+///
+/// # Errors
+/// Those of the first place that has one.
+pub fn encode_two<A: Encode, B: Encode>(
+    alloc: Global,
+    a: &A,
+    b: &B,
+    out: &mut Vec<u8>,
+) -> Result<()>
+    ensures { Encodes (two_places (A.image a.now) (B.image b.now)) out.old.items out.new.items
+        result }
+{
+    write_array_head(2, out)?;
+    a.encode(alloc, out)?;
+    b.encode(alloc, out)?;
     Ok(())
 }
 

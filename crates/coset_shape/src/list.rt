@@ -1,30 +1,25 @@
-//! Lists, read and written member by member.
+//! Lists, read member by member.
 
-ghost use Rattle.std.specs.Prelude.{◌≡◌, ◌≢◌, Some, None, map, option_map, IfOk, IfErr};
-ghost use Rattle.coset_value.specs.Item.{array, no_items};
+ghost use Rattle.std.specs.Prelude.{◌≡◌, ◌≢◌, Some, None, map, IfErr};
+ghost use Rattle.coset_value.specs.Item.{no_items};
 ghost use Rattle.coset_value.specs.Parts.{as_array};
-ghost use Rattle.coset_value.specs.View.{view, items_view};
 ghost use Rattle.coset_shape.specs.declared.error.CoseError.TheVariants.{OutOfMemory};
-ghost use Rattle.coset_shape.specs.Answers.{Reads, Images};
+ghost use Rattle.coset_shape.specs.Answers.{Reads};
 ghost use Rattle.coset_shape.specs.Lists.{ReadsEach};
 ghost use Rattle.coset_shape.specs.Errors.{IsUnexpected, UnlessMemory};
 ghost use Rattle.coset_shape.specs.Kinds.{Says, kind};
-ghost use Rattle.coset_shape.specs.Maps.{optional, listed};
-ghost use Rattle.coset_shape.specs.Shape.{blamed, list_of, some_of, bstr, filled_bstr, or_nil};
+ghost use Rattle.coset_shape.specs.Shape.{blamed, list_of, some_of};
 ghost use Rattle.coset_shape.specs.Sources.{source_item, members_left};
-ghost use Rattle.coset_shape.specs.Encoding.{HasNoImage};
 
 use crate::error::{CoseError, Result};
 use crate::source::{Members, Source};
-use crate::traits::{AsCborValue, FromPull};
-use crate::util::to_cbor_array;
-use coset_cbor::value::Value;
+use crate::traits::FromPull;
 use std::alloc::Global;
 
 /// Reads an item by its type, whichever way it is given.
 ///
 /// # Errors
-/// The same as [`AsCborValue::from_cbor_value`].
+/// The same as [`AsCborValue::from_cbor_value`](crate::AsCborValue::from_cbor_value).
 pub fn read_source<T: FromPull>(alloc: Global, source: Source<'_>) -> Result<T>
     ensures { Reads T.shape T.seen (source_item source.entry) result }
 {
@@ -124,69 +119,4 @@ pub fn read_filled_list<T: FromPull + Drop>(
         return Err(CoseError::UnexpectedItem(empty.0, empty.1));
     }
     Ok(all)
-}
-
-/// The array of the items that these are written as, in order.
-///
-/// # Errors
-/// `OutOfMemory`, or `DuplicateMapKey` where one has no item.
-pub fn list_value<T: AsCborValue + Drop>(alloc: Global, values: Vec<T>) -> Result<Value>
-    ensures { Images ((list_of T.shape).image (map T.seen values.items)) view result }
-{
-    to_cbor_array(alloc, values)
-}
-
-/// The array of these places.
-pub fn array_value(places: Vec<Value>) -> Value
-    ensures { view result ≡ array (items_view places.items) }
-{
-    Value::Array(places)
-}
-
-/// These bytes, or null.
-pub fn bytes_or_nil(bytes: Option<Vec<u8>>) -> Value
-    ensures { (or_nil bstr).image (option_map (λ b. b.items) bytes) ≡ Some (view result) }
-{
-    match bytes {
-        Some(bytes) => Value::Bytes(bytes),
-        None => Value::Null,
-    }
-}
-
-/// The value of a field, where these bytes are there.
-pub fn optional_bytes(bytes: Option<Vec<u8>>) -> Option<Value>
-    ensures { (optional bstr).image (option_map (λ b. b.items) bytes)
-        ≡ Some (option_map view result) }
-{
-    match bytes {
-        Some(bytes) => Some(Value::Bytes(bytes)),
-        None => None,
-    }
-}
-
-/// The value of a field that is left out where these bytes are none.
-pub fn filled_bytes(bytes: Vec<u8>) -> Option<Value>
-    ensures { (listed filled_bstr).image bytes.items ≡ Some (option_map view result) }
-{
-    if bytes.is_empty() {
-        None
-    } else {
-        Some(Value::Bytes(bytes))
-    }
-}
-
-/// The value of a field, where there is something for it.
-///
-/// # Errors
-/// The same as [`AsCborValue::to_cbor_value`].
-pub fn optional_value<T: AsCborValue>(alloc: Global, field: Option<T>) -> Result<Option<Value>>
-    ensures ok { IfOk result (λ o. (optional T.shape).image (option_map T.seen field)
-        ≡ Some (option_map view o)) }
-    ensures refused { IfErr result
-        (HasNoImage ((optional T.shape).image (option_map T.seen field))) }
-{
-    match field {
-        Some(field) => Ok(Some(field.to_cbor_value(alloc)?)),
-        None => Ok(None),
-    }
 }

@@ -1,23 +1,18 @@
 //! Maps of labels, read pair by pair (RFC 8152, section 1.4).
 
-ghost use Rattle.std.specs.Prelude.{◌≡◌, codes, ◌⊎◌, ◌++◌, List, [], false, not, map, Some, None, option_map, IfOk, IfErr, OnOk, OnErr};
+ghost use Rattle.std.specs.Prelude.{◌≡◌, codes, ◌⊎◌, List, [], false, not, None, IfOk, IfErr, OnOk, OnErr};
 ghost use Rattle.std.specs.Map.{keys_of};
-ghost use Rattle.coset_value.specs.Item.{Item, dict};
+ghost use Rattle.coset_value.specs.Item.{Item};
 ghost use Rattle.coset_value.specs.Parts.{as_map};
-ghost use Rattle.coset_value.specs.View.{view, pairs_view};
 ghost use Rattle.coset_shape.specs.declared.error.CoseError.TheVariants.{OutOfMemory, DuplicateMapKey};
-ghost use Rattle.coset_shape.specs.Answers.{Images};
 ghost use Rattle.coset_shape.specs.Errors.{UnlessMemory};
 ghost use Rattle.coset_shape.specs.Kinds.{Says, kind};
-ghost use Rattle.coset_shape.specs.Maps.{Names, Fields, TakesKey, RefusesKey, are_distinct, labelled, named_image, put_fields, Appends};
+ghost use Rattle.coset_shape.specs.Maps.{Names, Fields, TakesKey, RefusesKey, are_distinct, labelled};
 ghost use Rattle.coset_shape.specs.MapLaws.{LawfulNames, LawfulFields};
 ghost use Rattle.coset_shape.specs.Sources.{source_item};
-ghost use Rattle.coset_shape.specs.Encoding.{HasNoImage};
 
 use crate::error::{CoseError, Result};
 use crate::source::Source;
-use crate::traits::AsCborValue;
-use coset_cbor::value::Value;
 use std::alloc::Global;
 
 /// What the pairs of a map make that were read so far: the fields that some labels stand for, and all other pairs in
@@ -103,71 +98,4 @@ pub fn read_map<G: Gather>(alloc: Global, source: Source<'_>, so_far: &mut G) ->
         return Err(CoseError::DuplicateMapKey);
     }
     Ok(())
-}
-
-/// A label with its value, as a pair.
-fn pair_value<L: AsCborValue>(alloc: Global, label: L, value: Value) -> Result<(Value, Value)>
-    ensures ok { IfOk result (λ p. (L.shape.image (L.seen label) ≡ Some (view p.0))
-        × (p.1 ≡ value)) }
-    ensures refused { IfErr result (HasNoImage (L.shape.image (L.seen label))) }
-{
-    Ok((label.to_cbor_value(alloc)?, value))
-}
-
-/// Appends the fields that are there.
-fn push_fields<L: AsCborValue + Drop>(
-    alloc: Global,
-    pairs: &mut Vec<(Value, Value)>,
-    fields: Vec<(L, Option<Value>)>,
-) -> Result<()>
-    ensures ok { OnOk result
-        (Appends L.shape.image (pairs_view pairs.old.items) (pairs_view pairs.new.items)
-        (put_fields (map (λ f. (L.seen f.0, option_map view f.1)) fields.items))) }
-    ensures refused { IfErr result (λ e. UnlessMemory e (λ f. (f ≡ DuplicateMapKey)
-        × (named_image L.shape.image (put_fields
-        (map (λ f. (L.seen f.0, option_map view f.1)) fields.items)) ≡ None))) }
-{
-    for (label, value) in fields {
-        if let Some(value) = value {
-            pairs.push(pair_value(alloc, label, value)?)?;
-        }
-    }
-    Ok(())
-}
-
-/// Appends the pairs of the rest.
-fn push_rest<L: AsCborValue + Drop>(
-    alloc: Global,
-    pairs: &mut Vec<(Value, Value)>,
-    rest: Vec<(L, Value)>,
-) -> Result<()>
-    ensures ok { OnOk result
-        (Appends L.shape.image (pairs_view pairs.old.items) (pairs_view pairs.new.items)
-        (map (λ e. (L.seen e.0, view e.1)) rest.items)) }
-    ensures refused { IfErr result (λ e. UnlessMemory e (λ f. (f ≡ DuplicateMapKey)
-        × (named_image L.shape.image (map (λ e. (L.seen e.0, view e.1)) rest.items) ≡ None))) }
-{
-    for (label, value) in rest {
-        pairs.push(pair_value(alloc, label, value)?)?;
-    }
-    Ok(())
-}
-
-/// The map of the fields that are there, in this order, and the rest behind them. Whether labels repeat isn't asked.
-///
-/// # Errors
-/// `OutOfMemory`, or `DuplicateMapKey` where a label has no item.
-pub fn labelled_value<L: AsCborValue + Drop>(
-    alloc: Global,
-    fields: Vec<(L, Option<Value>)>,
-    rest: Vec<(L, Value)>,
-) -> Result<Value>
-    ensures { Images (option_map dict (named_image L.shape.image
-        (put_fields (map (λ f. (L.seen f.0, option_map view f.1)) fields.items) ++ map
-        (λ e. (L.seen e.0, view e.1)) rest.items))) view result }
-{
-    let mut pairs = Vec::new(alloc);
-    push_fields(alloc, &mut pairs, fields)?;
-    push_rest(alloc, &mut pairs, rest)?;
-    Ok(Value::Map(pairs))
 }

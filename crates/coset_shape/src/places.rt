@@ -132,20 +132,6 @@ impl<'a> Source<'a> {
         Ok((first, second, third))
     }
 
-    /// Three places, and a fourth that may be missing.
-    pub fn into_three_or_four(
-        self,
-        want: &'static str,
-    ) -> Result<(Source<'a>, Source<'a>, Source<'a>, Option<Source<'a>>)>
-        ensures { TakesPlaces 3 LastMisfits want.now (λ x. put_three (x.0, x.1, x.2) (put_last x.3))
-            (source_item self.entry) result }
-    {
-        let mut members = self.into_members("array")?;
-        let (first, second, third) = members.take_three().ok_or(misfit(want))?;
-        let fourth = last(members, want)?;
-        Ok((first, second, third, fourth))
-    }
-
     /// Four places, and any number after them.
     pub fn into_four_and_more(
         self,

@@ -1,0 +1,14 @@
+use Rattle.std.proofs.Common.{subst, option_map, map, ap, ◌∙◌}
+use Rattle.coset_value.specs.Item.{array}
+use Rattle.coset_shape.specs.Encoding.{Encodes, two_places}
+use Rattle.coset_shape.specs.Shape.{bstr, images}
+use Rattle.coset_shape.proofs.Encoding.{images-mapped}
+use Rattle.coset_sample.specs.Reading.{reading, seen as reading_seen}
+use Rattle.coset_sample.specs.Report.{seen}
+use Rattle.coset_sample.proofs.report.ReportEncode.encode.Goals as goal
+
+pub returns : goal.returns
+returns c =
+    let r = seen c.args.self.now in
+    subst (λ o. Encodes (two_places (bstr.image r.sender) (option_map array o)) c.args.out.now.items c.encode_two.new.out.items c.encode_two.result)
+    (images-mapped reading.image reading_seen c.deref.result.now ∙ ap (λ xs. images reading.image (map reading_seen xs)) c.deref.ensures.value) c.encode_two.ensures
