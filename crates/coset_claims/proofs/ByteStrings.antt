@@ -1,12 +1,10 @@
--- The byte strings behind the places of a context: how they are read, written, and left out of what is reserved.
-use Rattle.std.proofs.Common.{◌≡◌, ℕ, List, Option, Some, None, ◌∙◌, arith}
-use Rattle.coset_value.specs.Item.{Item, Items}
+-- The byte strings behind the places of a context: how they are read and written.
+use Rattle.std.proofs.Common.{◌≡◌, ℕ, List, Option, Some, None, ◌∙◌}
+use Rattle.coset_value.specs.Item.{Items}
 use Rattle.coset_shape.specs.declared.error.CoseError.{CoseError}
 use Rattle.coset_shape.specs.Encoding.{AppendsPlaces}
 use Rattle.coset_shape.specs.Lists.{Continues}
-use Rattle.coset_shape.specs.Room.{IsRoomFor}
 use Rattle.coset_shape.specs.Shape.{bstr, EachFaults}
-use Rattle.coset_shape.proofs.Room.{AreRoomFor}
 
 -- Of all the items that should be byte strings, xs were read, and left are still to come; or one of them had a fault, so
 -- that they have it, and those of what is left are theirs too
@@ -17,12 +15,3 @@ ReadSoFar all xs left (Some e) = EachFaults bstr.faults all e × ((f : CoseError
 -- as many places are written, whichever way their number is told
 pub as_many : {os : Option Items} {m n : ℕ} {old new : List ℕ} → m ≡ n → AppendsPlaces os m old new → AppendsPlaces os n old new
 as_many e p = (p.0, p.1, record { count = p.2.count ∙ e; in_range = p.2.in_range; parts = p.2.parts })
-
--- ---- room
-
--- nothing is reserved for a place, or for those that follow
-pub not_reserved : {o : Option Item} → IsRoomFor o 0 0
-not_reserved v e = omega arith
-
-pub none_reserved : {o : Option Items} → AreRoomFor o 0 0
-none_reserved vs e = omega arith

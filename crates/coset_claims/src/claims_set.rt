@@ -264,8 +264,6 @@ impl Lawful for ClaimsSet {
 impl Encode for ClaimsSet {
     ghost image = { λ c. claims.image (claims_seen c) };
 
-    ghost spare = { 0 };
-
     fn encode(&self, alloc: Global, out: &mut Vec<u8>) -> Result<()> {
         let mut pairs = MapEncoder::new(alloc);
         pairs.optional(alloc, CwtClaimName::Iss.to_i64(), &self.issuer)?;

@@ -200,8 +200,6 @@ fn encode_four_and_more<A: Encode, B: Encode, C: Encode, D: Encode>(
 impl Encode for CoseKdfContext {
     ghost image = { λ c. context.image (context_seen c) };
 
-    ghost spare = { 96 };
-
     fn room(&self) -> usize {
         self.party_u_info
             .room()

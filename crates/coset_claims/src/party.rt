@@ -50,8 +50,6 @@ fn read_nonce(alloc: Global, source: Source<'_>) -> Result<Option<Nonce>>
 impl Encode for Nonce {
     ghost image = { λ n. nonce.image (nonce_seen n) };
 
-    ghost spare = { 9 };
-
     fn room(&self) -> usize {
         match self {
             Nonce::Bytes(bytes) => bytes.room(),
@@ -73,8 +71,6 @@ struct NoncePlace<'a>(&'a Option<Nonce>);
 
 impl Encode for NoncePlace<'_> {
     ghost image = { λ p. nonce_or_nil.image (option_map nonce_seen p.0.now) };
-
-    ghost spare = { 9 };
 
     fn room(&self) -> usize {
         match self.0 {
@@ -237,8 +233,6 @@ impl CborSerializable for PartyInfo {
 
 impl Encode for PartyInfo {
     ghost image = { λ p. party.image (party_seen p) };
-
-    ghost spare = { 27 };
 
     fn room(&self) -> usize {
         self.identity

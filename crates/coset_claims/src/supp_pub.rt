@@ -115,8 +115,6 @@ impl CborSerializable for SuppPubInfo {
 impl Encode for SuppPubInfo {
     ghost image = { λ s. supp_pub.image (supp_pub_seen s) };
 
-    ghost spare = { 42 };
-
     fn room(&self) -> usize {
         let room = self
             .key_data_length

@@ -83,8 +83,6 @@ impl Lawful for Timestamp {
 impl Encode for Timestamp {
     ghost image = { λ t. timestamp.image (timestamp_seen t) };
 
-    ghost spare = { 0 };
-
     #[tactic(auto, unfolding(crate::specs::Timestamp::timestamp))]
     fn encode(&self, alloc: Global, out: &mut Vec<u8>) -> Result<()> {
         match self {

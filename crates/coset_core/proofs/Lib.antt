@@ -7,7 +7,6 @@ pub mod Keeping
 pub mod Copies
 pub mod Building
 pub mod Kept
-pub mod Room
 pub mod Filling
 pub mod Forward
 pub mod Messages

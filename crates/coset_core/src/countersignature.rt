@@ -175,8 +175,6 @@ impl Lawful for CoseCountersignature {
 impl Encode for CoseCountersignature {
     ghost image = { λ s. signature_shape.image (countersignature_seen s) };
 
-    ghost spare = { 57 };
-
     fn room(&self) -> usize {
         Bstr(&self.protected)
             .room()

@@ -255,8 +255,6 @@ impl Lawful for Header {
 impl Encode for Header {
     ghost image = { λ h. header_shape.image (header_seen h) };
 
-    ghost spare = { 24 };
-
     /// Enough for all but the rest and the counter signatures of both versions.
     fn room(&self) -> usize {
         HEADS

@@ -227,8 +227,6 @@ impl Lawful for ProtectedHeader {
 impl Encode for ProtectedHeader {
     ghost image = { λ p. protected_map.image (protected_seen p) };
 
-    ghost spare = { 24 };
-
     fn room(&self) -> usize {
         self.header.room()
     }
@@ -261,8 +259,6 @@ pub struct Bstr<'a>(pub &'a ProtectedHeader);
 
 impl Encode for Bstr<'_> {
     ghost image = { λ p. protected_shape.image (protected_seen p.0.now) };
-
-    ghost spare = { 24 };
 
     fn room(&self) -> usize {
         match &self.0.original_data {

@@ -147,8 +147,6 @@ impl Lawful for CoseSignature {
 impl Encode for CoseSignature {
     ghost image = { λ s. signature_shape.image (signature_seen s) };
 
-    ghost spare = { 57 };
-
     fn room(&self) -> usize {
         Bstr(&self.protected)
             .room()

@@ -405,8 +405,6 @@ fn write_key_ops(
 impl Encode for CoseKey {
     ghost image = { λ k. key_shape.image (key_seen k) };
 
-    ghost spare = { 0 };
-
     fn encode(&self, alloc: Global, out: &mut Vec<u8>) -> Result<()> {
         if has_repeats(alloc, &self.params)? {
             return Err(CoseError::DuplicateMapKey);

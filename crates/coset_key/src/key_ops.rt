@@ -89,8 +89,6 @@ impl Encode for KeyOps<'_> {
 
     ghost image = { λ s. (list_of operation).image (map operation_seen s.0.now.keys) };
 
-    ghost spare = { 0 };
-
     fn encode(&self, alloc: Global, out: &mut Vec<u8>) -> Result<()> {
         write_array_head(self.0.len(), out)?;
         for operation in self.0 {

@@ -96,8 +96,6 @@ impl CborSerializable for CoseKeySet {
 impl Encode for CoseKeySet {
     ghost image = { λ s. key_set.image (key_set_seen s) };
 
-    ghost spare = { 0 };
-
     fn encode(&self, alloc: Global, out: &mut Vec<u8>) -> Result<()> {
         Array(&self.0).encode(alloc, out)
     }

@@ -78,8 +78,6 @@ impl Lawful for Label {
 impl Encode for Label {
     ghost image = { λ l. label.image (label_seen l) };
 
-    ghost spare = { 0 };
-
     fn encode(&self, alloc: Global, out: &mut Vec<u8>) -> Result<()> {
         match self {
             Label::Int(number) => number.encode(alloc, out),

@@ -239,8 +239,6 @@ impl Lawful for CoseEncrypt0 {
 impl Encode for CoseEncrypt0 {
     ghost image = { λ m. encrypt0.image (encrypt0_seen m) };
 
-    ghost spare = { 57 };
-
     fn room(&self) -> usize {
         Bstr(&self.protected)
             .room()

@@ -248,8 +248,6 @@ impl Lawful for CoseMac0 {
 impl Encode for CoseMac0 {
     ghost image = { λ m. mac0.image (mac0_seen m) };
 
-    ghost spare = { 66 };
-
     fn room(&self) -> usize {
         Bstr(&self.protected)
             .room()

@@ -252,8 +252,6 @@ impl Lawful for CoseEncrypt {
 impl Encode for CoseEncrypt {
     ghost image = { λ m. encrypt.image (encrypt_seen m) };
 
-    ghost spare = { 57 };
-
     fn room(&self) -> usize {
         Bstr(&self.protected)
             .room()

@@ -261,8 +261,6 @@ impl Lawful for CoseMac {
 impl Encode for CoseMac {
     ghost image = { λ m. mac.image (mac_seen m) };
 
-    ghost spare = { 66 };
-
     fn room(&self) -> usize {
         Bstr(&self.protected)
             .room()

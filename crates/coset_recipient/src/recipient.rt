@@ -718,8 +718,6 @@ impl Lawful for CoseRecipient {
 impl Encode for CoseRecipient {
     ghost image = { λ r. recipient_shape.image (recipient_seen r) };
 
-    ghost spare = { 57 };
-
     fn room(&self) -> usize {
         Bstr(&self.protected)
             .room()

@@ -54,8 +54,6 @@ impl Lawful for Mark {
 impl Encode for Mark {
     ghost image = { λ m. int64.image (mark_seen m) };
 
-    ghost spare = { 0 };
-
     fn encode(&self, alloc: Global, out: &mut Vec<u8>) -> Result<()> {
         self.0.encode(alloc, out)
     }
@@ -123,8 +121,6 @@ impl Lawful for Reading {
 
 impl Encode for Reading {
     ghost image = { λ r. reading.image (seen r) };
-
-    ghost spare = { 0 };
 
     fn encode(&self, alloc: Global, out: &mut Vec<u8>) -> Result<()> {
         encode_three(alloc, &self.number, &self.payload, &Array(&self.marks), out)

@@ -67,8 +67,6 @@ impl Lawful for Report {
 impl Encode for Report {
     ghost image = { λ r. report.image (seen r) };
 
-    ghost spare = { 0 };
-
     fn encode(&self, alloc: Global, out: &mut Vec<u8>) -> Result<()> {
         encode_two(alloc, &self.sender, &Array(&self.readings), out)
     }

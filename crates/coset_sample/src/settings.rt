@@ -189,8 +189,6 @@ impl Lawful for Settings {
 impl Encode for Name {
     ghost image = { λ n. int64.image (name_seen n) };
 
-    ghost spare = { 0 };
-
     fn encode(&self, alloc: Global, out: &mut Vec<u8>) -> Result<()> {
         self.0.encode(alloc, out)
     }
@@ -198,8 +196,6 @@ impl Encode for Name {
 
 impl Encode for Settings {
     ghost image = { λ s. settings.image (seen s) };
-
-    ghost spare = { 0 };
 
     fn encode(&self, alloc: Global, out: &mut Vec<u8>) -> Result<()> {
         if has_repeats(alloc, &self.rest)? {

@@ -8,4 +8,3 @@ pub mod EncodingMaps
 pub mod Inputs
 pub mod InPlace
 pub mod Apart
-pub mod Room

@@ -23,7 +23,6 @@ pub mod Sources
 pub mod OneOrMore
 pub mod Lists
 pub mod Encoding
-pub mod Room
 pub mod Inputs
 pub mod InPlace
 pub mod Recursive

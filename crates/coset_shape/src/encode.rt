@@ -1,12 +1,11 @@
 //! Values written straight into bytes: each type's one writer.
 
-ghost use Rattle.std.specs.Prelude.{ℕ, length, Option, Some, option_map, OnOk, IfErr};
+ghost use Rattle.std.specs.Prelude.{length, Option, Some, option_map, OnOk, IfErr};
 ghost use Rattle.coset_value.specs.Item.{Item, array, item, bytes, tag};
 ghost use Rattle.coset_value.specs.View.{view};
 ghost use Rattle.coset_shape.specs.Answers.{Images, Writes};
 ghost use Rattle.coset_shape.specs.Encoding.{AppendsPlaces, Encodes, HasNoImage, two_places, three_places, four_places, five_places};
 ghost use Rattle.coset_shape.specs.Shape.{images};
-ghost use Rattle.coset_shape.specs.Room.{IsRoomFor};
 
 use crate::error::Result;
 use coset_cbor::de::decode_encoded;
@@ -26,13 +25,9 @@ pub trait Encode {
     /// The item that a value is written as, where there is one.
     ghost image: { Self → Option Item };
 
-    /// How many bytes more than the encoding takes may be reserved.
-    ghost spare: { ℕ };
-
-    /// About as many bytes as the encoding takes: so many are reserved at once.
-    fn room(&self) -> usize
-        ensures { IsRoomFor (image self.now) spare result }
-    {
+    /// About as many bytes as the encoding takes: so many are reserved before it is written. It is a hint, of which
+    /// nothing is asked: 0 is right too, and what is written is the same.
+    fn room(&self) -> usize {
         0
     }
 
@@ -48,8 +43,6 @@ pub trait Encode {
 impl Encode for Value {
     ghost image = { λ v. Some (view v) };
 
-    ghost spare = { 0 };
-
     fn encode(&self, _alloc: Global, out: &mut Vec<u8>) -> Result<()> {
         laws::shortest_is_in_range();
         laws::least_heads_are_shortest();
@@ -62,8 +55,6 @@ impl Encode for i64 {
     ghost use Rattle.coset_value.specs.Item.{integer};
 
     ghost image = { λ n. Some (integer n) };
-
-    ghost spare = { 9 };
 
     fn room(&self) -> usize {
         LONGEST_HEAD
@@ -81,8 +72,6 @@ impl Encode for u64 {
 
     ghost image = { λ n. Some (integer (pos n)) };
 
-    ghost spare = { 9 };
-
     fn room(&self) -> usize {
         LONGEST_HEAD
     }
@@ -99,8 +88,6 @@ impl Encode for String {
 
     ghost image = { λ s. Some (text (string_bytes s)) };
 
-    ghost spare = { 9 };
-
     fn room(&self) -> usize {
         self.len().saturating_add(LONGEST_HEAD)
     }
@@ -113,8 +100,6 @@ impl Encode for String {
 /// Bytes are a byte string.
 impl Encode for Vec<u8> {
     ghost image = { λ b. Some (bytes b.items) };
-
-    ghost spare = { 9 };
 
     fn room(&self) -> usize {
         self.len().saturating_add(LONGEST_HEAD)
@@ -130,8 +115,6 @@ impl Encode for Option<Vec<u8>> {
     ghost use Rattle.coset_shape.specs.Shape.{bstr, or_nil};
 
     ghost image = { λ o. (or_nil bstr).image (option_map (λ b. b.items) o) };
-
-    ghost spare = { 9 };
 
     fn room(&self) -> usize {
         match self {
@@ -154,8 +137,6 @@ pub struct Array<'a, T>(pub &'a [T]);
 
 impl<T: Encode> Encode for Array<'_, T> {
     ghost image = { λ l. option_map array (images T.image l.0.now) };
-
-    ghost spare = { 0 };
 
     fn encode(&self, alloc: Global, out: &mut Vec<u8>) -> Result<()> {
         write_array_head(self.0.len(), out)?;

@@ -321,8 +321,6 @@ impl Lawful for CoseSign {
 impl Encode for CoseSign {
     ghost image = { λ m. sign.image (sign_seen m) };
 
-    ghost spare = { 57 };
-
     fn room(&self) -> usize {
         Bstr(&self.protected)
             .room()

@@ -253,8 +253,6 @@ impl Lawful for CoseSign1 {
 impl Encode for CoseSign1 {
     ghost image = { λ m. sign1.image (sign1_seen m) };
 
-    ghost spare = { 66 };
-
     fn room(&self) -> usize {
         Bstr(&self.protected)
             .room()
