@@ -1,7 +1,3 @@
-pub use Rattle.coset_value.specs.Item
-pub use Rattle.coset_value.specs.Range
-pub use Rattle.coset_value.specs.View
-pub use Rattle.coset_value.specs.Parts
 pub mod Grammar
 pub mod Definite
 pub mod Shortest

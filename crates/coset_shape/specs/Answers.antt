@@ -1,7 +1,7 @@
 -- What the calls answer that read and write: by the shape of the type, and by how its values are seen.
 use Rattle.std.specs.Prelude.{◌≡◌, ◌≢◌, ◌⊎◌, ◌<◌, ℕ, List, Option, Some, None, Result, Ok, Err, length, take, ⊤, IfErr}
-use Rattle.coset_cbor.specs.Item.{Item}
-use Rattle.coset_cbor.specs.Parts.{as_tag}
+use Rattle.coset_value.specs.Item.{Item}
+use Rattle.coset_value.specs.Parts.{as_tag}
 use Rattle.coset_cbor.specs.Grammar.{IsItem}
 use Rattle.coset_cbor.specs.Refused.{IsMemory, StandsIn}
 use Rattle.coset_cbor.specs.Shortest.{IsShortest}

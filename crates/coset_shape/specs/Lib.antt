@@ -1,11 +1,3 @@
-pub use Rattle.coset_cbor.specs.Item
-pub use Rattle.coset_cbor.specs.View
-pub use Rattle.coset_cbor.specs.Parts
-pub use Rattle.coset_cbor.specs.Range
-pub use Rattle.coset_cbor.specs.Grammar
-pub use Rattle.coset_cbor.specs.Shortest
-pub use Rattle.coset_cbor.specs.Refused
-pub use Rattle.coset_cbor.specs.Pulls
 pub mod Errors
 pub mod Shape
 pub mod ShapeLaws

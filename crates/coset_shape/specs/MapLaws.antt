@@ -10,8 +10,8 @@ use Rattle.std.proofs.lemmas.List.Elements.{All-from_recursion, filter-append, r
 use Rattle.std.proofs.lemmas.List.Sorted.{All-permutation, IsPermutation-map, IsPermutation-refl}
 use Rattle.std.proofs.lemmas.Map.Keys.{IsDistinct-IsPermutation}
 use Rattle.std.proofs.lemmas.Map.Made.{IsDistinct-keys_filter}
-use Rattle.coset_cbor.specs.Item.{Item, dict, depth, Pairs, no_pairs, pair, pairs_depth}
-use Rattle.coset_cbor.specs.Parts.{as_map}
+use Rattle.coset_value.specs.Item.{Item, dict, depth, Pairs, no_pairs, pair, pairs_depth}
+use Rattle.coset_value.specs.Parts.{as_map}
 use Rattle.coset_shape.specs.declared.error.CoseError.{CoseError}
 use Rattle.coset_shape.specs.declared.error.CoseError.TheVariants.{DuplicateMapKey}
 use Rattle.coset_shape.specs.Shape.{Shape, present}

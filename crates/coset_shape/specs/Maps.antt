@@ -3,8 +3,8 @@
 use Rattle.std.specs.Prelude.{◌≡◌, ◌⊎◌, ◌&&◌, List, [], ◌∷◌, ◌++◌, Option, Some, None, Bool, true, false, not, filter, option_map, is_some, ⊤}
 use Rattle.std.specs.List.{IsDistinct, list_any, list_all}
 use Rattle.std.specs.Map.{keys_of, lookup}
-use Rattle.coset_cbor.specs.Item.{Item, dict, Pairs, no_pairs, pair}
-use Rattle.coset_cbor.specs.Parts.{as_map}
+use Rattle.coset_value.specs.Item.{Item, dict, Pairs, no_pairs, pair}
+use Rattle.coset_value.specs.Parts.{as_map}
 use Rattle.coset_shape.specs.declared.error.CoseError.{CoseError}
 use Rattle.coset_shape.specs.declared.error.CoseError.TheVariants as errors
 use Rattle.coset_shape.specs.Errors.{IsUnexpected}

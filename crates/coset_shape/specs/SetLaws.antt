@@ -13,7 +13,7 @@ use Rattle.std.proofs.Math.Seq.{get_or-append_seam}
 use Rattle.std.proofs.lemmas.Map.Keys.{IsDistinct-from_sorted, IsDistinct-head, IsDistinct-tail, IsDistinct-push, apart_from_distinct}
 use Rattle.std.proofs.lemmas.Map.Lookups.{CmpEqualImpliesEq, btree_set_from_contains}
 use Rattle.std.proofs.lemmas.Map.Views.{All-insert_key, All-after_first, Contains-from_any, list_any-from_Contains, tells_apart}
-use Rattle.coset_cbor.specs.Item.{Item, array, Items, no_items, item, depth, items_depth}
+use Rattle.coset_value.specs.Item.{Item, array, Items, no_items, item, depth, items_depth}
 use Rattle.coset_shape.specs.Shape.{Shape, Each, IsFilled, some_of}
 use Rattle.coset_shape.specs.ShapeLaws.{Again, Lawful, some-one, some_of_laws, arranged_laws, as_array-depth}
 use Rattle.coset_shape.specs.Sets.{IsSetOf, IsDistinctBy, HasMember, Repeats, distinct_of, set_of}

@@ -5,8 +5,8 @@ use Rattle.std.specs.List.{IsDistinct}
 use Rattle.std.specs.List.Sorted.{IsStrictlySortedBy}
 use Rattle.std.specs.Ordering.{eq_by_cmp}
 use Rattle.std.specs.declared.cmp.Ordering.{Ordering}
-use Rattle.coset_cbor.specs.Item.{Item, Items, no_items, item}
-use Rattle.coset_cbor.specs.Parts.{as_array}
+use Rattle.coset_value.specs.Item.{Item, Items, no_items, item}
+use Rattle.coset_value.specs.Parts.{as_array}
 use Rattle.coset_shape.specs.Errors.{IsUnexpected}
 use Rattle.coset_shape.specs.Shape.{Shape, some_of, arranged}
 

@@ -4,8 +4,8 @@
 use Rattle.std.specs.Prelude.{◌≡◌, ◌≢◌, ◌⊎◌, ℕ, ℤ, pos, ◌≤ℤ◌, List, [], ◌∷◌, Option, Some, None, Bool, true, false, option_map, FitsSigned, ⊤}
 use Rattle.std.proofs.Common.{inl, inr}
 use Rattle.std.specs.Int.{w64}
-use Rattle.coset_cbor.specs.Item.{Bits, Item, integer, bytes, float, text, null, tag, array, Items, no_items, item}
-use Rattle.coset_cbor.specs.Parts.{as_integer, as_bytes, as_text, as_array, as_tag}
+use Rattle.coset_value.specs.Item.{Bits, Item, integer, bytes, float, text, null, tag, array, Items, no_items, item}
+use Rattle.coset_value.specs.Parts.{as_integer, as_bytes, as_text, as_array, as_tag}
 use Rattle.coset_cbor.specs.Scalars.{as_float}
 use Rattle.coset_shape.specs.declared.error.CoseError.{CoseError}
 use Rattle.coset_shape.specs.declared.error.CoseError.TheVariants as errors

@@ -1,8 +1,8 @@
 -- What holds of each shape: an item stands for at most one value; what was read is written as an item that is read to
 -- the same value and is no deeper; and no fault stands in an item that stands for a value.
 use Rattle.std.proofs.Common.{◌≡◌, ◌⊎◌, ◌≤◌, ℕ, suc, max, ℤ, List, [], ◌∷◌, Option, Some, None, Bool, true, false, option_map, refl, sym, ◌∙◌, ap, subst, inl, inr, arith, true≢false}
-use Rattle.coset_cbor.specs.Item.{Item, integer, bytes, float, text, boolean, null, tag, array, dict, Items, no_items, item, depth, items_depth, items_count}
-use Rattle.coset_cbor.specs.Parts.{as_array, as_tag}
+use Rattle.coset_value.specs.Item.{Item, integer, bytes, float, text, boolean, null, tag, array, dict, Items, no_items, item, depth, items_depth, items_count}
+use Rattle.coset_value.specs.Parts.{as_array, as_tag}
 use Rattle.coset_shape.specs.declared.error.CoseError.{CoseError}
 use Rattle.coset_shape.specs.Shape.{Shape, Places, PlacesFaults, both, kind_of, int, bstr, tstr, floating, any, that, int64, uint, filled_bstr, along, blamed, either, is_nil, nil, option_of, sum_of, or_nil, present, fixed, tagged, array_of, end, ◌then◌, Each, images, EachFaults, any_number, list_of, some_of, perhaps, LastDescribes, LastMisfits, LastFaults, last_image, arranged, one_or_more, one_or_array, one_or_many}
 

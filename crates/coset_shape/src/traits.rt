@@ -1,8 +1,8 @@
 //! How a type is read from CBOR and written to it.
 
 ghost use Rattle.std.specs.Prelude.{◌≡◌, ℕ, IfErr};
-ghost use Rattle.coset_cbor.specs.Item.{Item};
-ghost use Rattle.coset_cbor.specs.View.{view};
+ghost use Rattle.coset_value.specs.Item.{Item};
+ghost use Rattle.coset_value.specs.View.{view};
 ghost use Rattle.coset_cbor.specs.Pulls.{pull_item};
 ghost use Rattle.coset_shape.specs.declared.error.CoseError.{CoseError};
 ghost use Rattle.coset_shape.specs.declared.error.CoseError.TheVariants.{OutOfMemory};
