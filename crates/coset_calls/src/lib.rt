@@ -1,5 +1,6 @@
 //! Calls of `coset` of which no contract and no row of test vectors says all: what closures are given and how often they
-//! are called, in messages with a MAC, encrypted messages and recipients; orders of labels; and keys in canonical order.
+//! are called, in messages with a MAC, encrypted messages and recipients; orders of labels; keys in canonical order; the
+//! tables of the registries; and values of CBOR apart from their bytes.
 #![tactic(auto)]
 
 #[cfg(test)]
@@ -14,3 +15,7 @@ mod labels;
 mod macs;
 #[cfg(test)]
 mod recipients;
+#[cfg(test)]
+mod registries;
+#[cfg(test)]
+mod values;

@@ -284,3 +284,29 @@ fn structures_that_are_authenticated(rt: HostRuntime) -> std::result::Result<(),
     assert!(rt; matches!(bytes, Err(CoseError::DuplicateMapKey)));
     Ok(())
 }
+
+/// The vector of a structure is made large enough at once: five heads, its texts and its bytes.
+#[test]
+fn makes_room_at_once(rt: HostRuntime) -> std::result::Result<(), Fail> {
+    let alloc = rt.alloc();
+    for (length, head) in [
+        (0, b"\x40".as_slice()),
+        (23, b"\x57"),
+        (24, b"\x58\x18"),
+        (256, b"\x59\x01\x00"),
+        (65_536, b"\x5a\x00\x01\x00\x00"),
+    ] {
+        let mut protected = ProtectedHeader::new(alloc);
+        protected.original_data = Some(Vec::from_slice(alloc, b"\xa0")?);
+        let payload = vec![in alloc; 7; length]?;
+        let bytes = mac_structure_data(alloc, MacContext::CoseMac0, protected, b"", &payload)
+            .ok()
+            .ok_or("memory")?;
+        let mut expected = Vec::from_slice(alloc, b"\x84\x64MAC0\x41\xa0\x40")?;
+        expected.extend_from_slice(head)?;
+        expected.extend_from_slice(&payload)?;
+        assert_eq!(rt; bytes.as_slice(), expected.as_slice());
+        assert_eq!(rt; bytes.capacity(), length.saturating_add(5 * 9 + 4 + 1));
+    }
+    Ok(())
+}

@@ -64,6 +64,3 @@ pub trait WithPrivateRange {
     fn is_private(i: i64) -> bool
         ensures { result ≡ is_private i };
 }
-
-#[cfg(test)]
-mod tests;

@@ -8,8 +8,6 @@ mod sign;
 mod sign1;
 mod signature;
 pub mod structure;
-#[cfg(test)]
-mod tests;
 
 pub use coset_core::{
     Algorithm, AsCborValue, Bstr, CallError, CborOrdering, CborSerializable, ClaimName,

@@ -7,8 +7,6 @@
 mod float;
 mod integer;
 pub mod laws;
-#[cfg(test)]
-mod tests;
 mod value;
 
 pub use float::Float;

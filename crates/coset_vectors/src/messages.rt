@@ -78,26 +78,52 @@ fn repeated_labels_are_not_written(rt: HostRuntime) -> std::result::Result<(), F
 #[test]
 fn structures(rt: HostRuntime) -> std::result::Result<(), Fail> {
     let alloc = rt.alloc();
-    let rows: [(SignatureContext, Option<ProtectedHeader>, &[u8]); 3] = [
+    let rows: [(
+        SignatureContext,
+        Option<ProtectedHeader>,
+        &[u8],
+        &[u8],
+        &[u8],
+    ); 5] = [
         (
             SignatureContext::CoseSign1,
             None,
+            b"",
+            b"",
             b"\x84\x6aSignature1\x40\x40\x40",
+        ),
+        (
+            SignatureContext::CoseSign1,
+            None,
+            b"\xaa",
+            b"",
+            b"\x84\x6aSignature1\x40\x41\xaa\x40",
+        ),
+        (
+            SignatureContext::CoseSign1,
+            None,
+            b"",
+            b"\xaa",
+            b"\x84\x6aSignature1\x40\x40\x41\xaa",
         ),
         (
             SignatureContext::CoseSignature,
             Some(ProtectedHeader::new(alloc)),
+            b"",
+            b"",
             b"\x85\x69Signature\x40\x40\x40\x40",
         ),
         (
             SignatureContext::CounterSignature,
             Some(ProtectedHeader::new(alloc)),
+            b"",
+            b"",
             b"\x85\x70CounterSignature\x40\x40\x40\x40",
         ),
     ];
-    for (context, signer, expected) in rows {
+    for (context, signer, external_aad, payload, expected) in rows {
         let body = ProtectedHeader::new(alloc);
-        let bytes = sig_structure_data(alloc, context, body, signer, b"", b"");
+        let bytes = sig_structure_data(alloc, context, body, signer, external_aad, payload);
         assert_eq!(rt; bytes.ok().ok_or("memory")?.as_slice(), expected);
     }
     Ok(())

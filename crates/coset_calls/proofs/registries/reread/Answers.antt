@@ -1,6 +1,6 @@
 use Rattle.std.proofs.Common.{◌≡◌, ◌∙◌, of_z, sym, to_z, w64}
 use Rattle.std.proofs.lemmas.Int.{to_z-of_z}
-use Rattle.coset_iana.proofs.tests.reread.Goals as goal
+use Rattle.coset_calls.proofs.registries.reread.Goals as goal
 
 -- the value of a number has that number
 pub returns : goal.returns

@@ -1,6 +1,8 @@
-use crate::{Float, Integer, Value};
+//! Values apart from their bytes: where integers end, what each kind answers, copies and `==`.
+
+use coset::cbor::value::{Float, Integer, Value};
 use std::alloc::{AllocError, Global};
-use std::test::Fail;
+use std::test::*;
 
 const TWO_TO_64: i128 = 0x1_0000_0000_0000_0000;
 

@@ -1,9 +1,9 @@
 //! Every name and number of the registries, both ways, and the traits as generic code meets them.
 
 ghost use Rattle.std.specs.Prelude.{◌≡◌, [], ◌∷◌, refl, pos, IsTrue, IfSome};
-ghost use Rattle.coset_iana.specs.Registry.{minus};
+ghost use Rattle.coset.specs.Registry.{minus};
 
-use super::*;
+use coset::iana::*;
 use std::cmp::Ordering;
 use std::fmt::Debug;
 use std::process::Abort;
@@ -115,8 +115,8 @@ enum Grade {
 }
 
 impl EnumI64 for Grade {
-    ghost use Rattle.coset_iana.specs.Registry.{first_numbered, number-first_numbered};
-    ghost use Rattle.coset_iana.specs.declared.tests.Grade.TheVariants.{Pass, Fail};
+    ghost use Rattle.coset.specs.Registry.{first_numbered, number-first_numbered};
+    ghost use Rattle.coset_calls.specs.declared.registries.Grade.TheVariants.{Pass, Fail};
 
     ghost number = { elim [ Pass ↦ pos 1 | Fail ↦ minus 1 ] };
 
