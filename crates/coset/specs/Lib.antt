@@ -23,6 +23,8 @@ pub use Rattle.coset_core.specs.Headers
 pub use Rattle.coset_core.specs.HeaderLaws
 pub use Rattle.coset_core.specs.ProtectedMap
 pub use Rattle.coset_core.specs.Views
+pub use Rattle.coset_core.specs.FieldsView
+pub use Rattle.coset_core.specs.ViewLaws
 pub use Rattle.coset_core.specs.Messages
 pub use Rattle.coset_core.specs.Built
 pub use Rattle.coset_sign.specs.Structure

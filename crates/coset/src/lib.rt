@@ -14,6 +14,7 @@
 #![tactic(auto)]
 
 pub mod cwt;
+pub mod laws;
 
 pub use coset_claims::{
     CoseKdfContext, CoseKdfContextBuilder, Nonce, PartyInfo, PartyInfoBuilder, SuppPubInfo,
