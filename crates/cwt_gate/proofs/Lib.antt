@@ -1,0 +1,3 @@
+mod Comparing
+mod Opened
+mod Judging

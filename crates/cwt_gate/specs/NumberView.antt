@@ -1,0 +1,18 @@
+-- The code's numbers and formats, as those of `Number`.
+use Rattle.std.specs.Prelude.{◌*◌, ◌^◌, ◌<◌}
+use Rattle.cwt_gate.specs.Number as numbers
+use Rattle.cwt_gate.specs.declared.number.Format.{Format}
+use Rattle.cwt_gate.specs.declared.number.Number.{Number}
+
+abbrev pub number_seen : Number → numbers.Number
+number_seen x = record { is_negative = x.is_negative; units = x.significand * 2 ^ x.exponent; scale = x.scale }
+
+abbrev pub format_seen : Format → numbers.Format
+format_seen m = record { fractions = m.fractions; exponents = m.exponents; scale = m.scale }
+
+-- a format whose fractions and exponents fit
+pub record IsFormat (m : Format) : Type 0 where
+  pub some_fractions : 0 < m.fractions
+  pub few_fractions : m.fractions < 2 ^ 53
+  pub some_exponents : 0 < m.exponents
+  pub few_exponents : m.exponents < 2 ^ 12

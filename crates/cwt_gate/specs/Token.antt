@@ -1,0 +1,43 @@
+-- Tokens: messages with one signature under at most two tags (RFC 8392, section 6).
+use Rattle.std.specs.Prelude.{◌≡◌, ◌==◌, ◌&&◌, ℕ, Bool, false, if◌then◌else◌}
+use Rattle.coset.specs.Item.{Item, tag}
+use Rattle.coset.specs.CoseError.{CoseError}
+use Rattle.coset.specs.Shape.{Shape}
+use Rattle.coset.specs.Sign1.{Sign1Seen, sign1, sign1_laws, sign1_seen}
+use Rattle.cwt_gate.specs.declared.token.Token as declared
+
+-- the item is under the tag of this number
+abbrev pub is_under : ℕ → Item → Bool
+is_under number (tag t v) = t == number
+is_under number v = false
+
+-- what a tag encloses; any other item is itself
+abbrev pub untagged : Item → Item
+untagged (tag t v) = v
+untagged v = v
+
+-- the item is under the tag of web tokens, and then under that of messages with one signature
+abbrev pub is_wrapped : Item → Bool
+is_wrapped v = is_under 61 v && is_under 18 (untagged v)
+
+-- The item of the message in a token: under both tags, under the tag of messages with one signature alone, or the item
+-- itself, whatever other tag it is under
+abbrev pub message_in : Item → Item
+message_in v = if is_under 18 v then untagged v else (if is_wrapped v then untagged (untagged v) else v)
+
+-- COSE_Sign1 / #6.18(COSE_Sign1) / #6.61(#6.18(COSE_Sign1)), written without a tag
+abbrev pub token : Shape Sign1Seen
+token = record {
+  describes = λ v m. sign1.describes (message_in v) m;
+  image = sign1.image;
+  faults = λ v e. sign1.faults (message_in v) e;
+}
+
+abbrev pub token_seen : declared.Token → Sign1Seen
+token_seen t = sign1_seen t.0
+
+pub token_unique : (v : Item) (m n : Sign1Seen) → token.describes v m → token.describes v n → m ≡ n
+token_unique v = sign1_laws.unique (message_in v)
+
+pub token_sound : (v : Item) (m : Sign1Seen) (e : CoseError) → token.describes v m → token.faults v e → ⊥
+token_sound v = sign1_laws.sound (message_in v)

@@ -1,0 +1,63 @@
+//! Why a token is not let in.
+
+ghost use Rattle.std.specs.Prelude.{◌≡◌};
+ghost use Rattle.cwt_gate.specs.Gate.{refusal_of};
+ghost use Rattle.cwt_gate.specs.declared.error.PolicyError.TheVariants.{Gate};
+
+use coset::{CallError, CoseError};
+
+/// Why a token is not let in. Of several reasons it is the first in this order.
+#[derive(Debug, Drop)]
+pub enum GateError<E> {
+    /// The bytes are no message with one signature, plain, under its tag, or under the tag of web tokens and then its own;
+    /// or memory ran out before the closure was called.
+    Token(CoseError),
+    /// The message carries no payload.
+    NoPayload,
+    /// The closure refused the signature.
+    Caller(E),
+    /// The payload isn't a claims set; or memory ran out after the closure was called.
+    Claims(CoseError),
+    /// When the token expires, or from when on it is valid, is no whole number of seconds.
+    FractionalTime,
+    /// The token has expired: this is the moment that it names, or a later one (RFC 8392, section 3.1.4).
+    Expired,
+    /// The token isn't valid yet: this is a moment before the one that it names (RFC 8392, section 3.1.5).
+    NotYetValid,
+}
+
+/// A signature that can't be verified: by the closure, or for what comes before it is asked.
+impl<E: Drop> From<CallError<E>> for GateError<E> {
+    ghost from_gives = { λ error refusal. refusal ≡ refusal_of error };
+
+    fn from(error: CallError<E>) -> GateError<E> {
+        match error {
+            CallError::Coset(error) => GateError::Token(error),
+            CallError::Caller(error) => GateError::Caller(error),
+        }
+    }
+}
+
+/// Why a token is not let in by [`judge_with`](crate::judge_with). Of several reasons it is the first of these: that of
+/// `Gate` which tells of the token, `Algorithm`, `Critical`, those of `Gate` from `NoPayload` on, and `Audience`.
+#[derive(Debug, Drop)]
+pub enum PolicyError<E> {
+    /// The same as of [`judge`](crate::judge); never `FractionalTime`, since fractions are compared as they are.
+    Gate(GateError<E>),
+    /// The protected header names no algorithm, or one that the policy doesn't have.
+    Algorithm,
+    /// A label that must be understood isn't one of the policy's, or isn't in the protected header; or the unprotected
+    /// header names such labels (RFC 8152, section 3.1).
+    Critical,
+    /// The token is for another audience, or for none, where the policy has one (RFC 8392, section 3.1.3).
+    Audience,
+}
+
+/// A reason of the gate.
+impl<E: Drop> From<GateError<E>> for PolicyError<E> {
+    ghost from_gives = { λ error refusal. refusal ≡ Gate error };
+
+    fn from(error: GateError<E>) -> PolicyError<E> {
+        PolicyError::Gate(error)
+    }
+}

@@ -1,0 +1,22 @@
+//! A gate for web tokens (RFC 8392): [`judge`] lets in the claims of a token whose signature the caller's closure accepts,
+//! at a moment at which they are valid; [`judge_with`] also asks that they meet a [`Policy`]. It stands on the public
+//! contracts of `coset`, and says nothing of CBOR's bytes.
+#![tactic(auto)]
+
+mod error;
+mod gate;
+mod moment;
+mod number;
+mod policy;
+#[cfg(test)]
+mod policy_rows;
+#[cfg(test)]
+mod refused;
+#[cfg(test)]
+mod rows;
+mod token;
+mod verified;
+
+pub use error::{GateError, PolicyError};
+pub use gate::{judge, judge_with};
+pub use policy::Policy;

@@ -1,0 +1,128 @@
+//! Binary floats as numbers, which are compared with whole numbers exactly.
+
+ghost use Rattle.std.specs.Prelude.{◌≡◌, ◌<◌, ◌*◌, ◌^◌, option_map, unsigned_abs, IfSome};
+ghost use Rattle.std.specs.Ordering.{nat_cmp};
+ghost use Rattle.coset.specs.View.{bits_of};
+ghost use Rattle.cwt_gate.specs.Number.{is_at_most, number, number_in, units_of};
+ghost use Rattle.cwt_gate.specs.NumberView.{number_seen, format_seen, IsFormat};
+
+use coset::cbor::value::Float;
+use std::cmp::Ordering;
+
+/// A format of binary floats (IEEE 754, section 3.4).
+#[derive(Clone, Copy)]
+struct Format {
+    /// How many fractions its bits tell apart.
+    fractions: u64,
+    /// How many exponents its bits tell apart.
+    exponents: u64,
+    /// 2 to the power of this is how many of its least number make 1.
+    scale: u32,
+}
+
+const HALF: Format = Format {
+    fractions: 1 << 10,
+    exponents: 1 << 5,
+    scale: 24,
+};
+
+const SINGLE: Format = Format {
+    fractions: 1 << 23,
+    exponents: 1 << 8,
+    scale: 149,
+};
+
+const DOUBLE: Format = Format {
+    fractions: 1 << 52,
+    exponents: 1 << 11,
+    scale: 1074,
+};
+
+/// A number: its significand, times 2 to the power of `exponent`, is how many units it is, of which 2 to the power of
+/// `scale` make 1.
+#[derive(Clone, Copy)]
+pub(crate) struct Number {
+    is_negative: bool,
+    significand: u64,
+    exponent: u32,
+    scale: u32,
+}
+
+/// The number of these bits, unless they are of an infinity or of what is no number.
+fn number_in(bits: u64, format: Format) -> Option<Number>
+    requires { IsFormat format }
+    ensures value { option_map number_seen result ≡ number_in (format_seen format) bits }
+    ensures small { IfSome result (λ x. x.significand < 2 ^ 54) }
+{
+    let upper = bits / format.fractions;
+    let exponent = upper % format.exponents;
+    let fraction = bits % format.fractions;
+    if exponent + 1 == format.exponents {
+        return None;
+    }
+    let is_negative = upper >= format.exponents;
+    let (significand, exponent) = scaled(format.fractions, exponent, fraction);
+    Some(Number {
+        is_negative,
+        significand,
+        exponent,
+        scale: format.scale,
+    })
+}
+
+/// The significand of this fraction, and to which power of 2 it is scaled, in units.
+fn scaled(fractions: u64, exponent: u64, fraction: u64) -> (u64, u32)
+    requires few_fractions { fractions < 2 ^ 53 }
+    requires fraction { fraction < fractions }
+    requires few_exponents { exponent < 2 ^ 12 }
+    ensures value { result.0 * 2 ^ result.1 ≡ units_of fractions exponent fraction }
+    ensures small { result.0 < 2 ^ 54 }
+{
+    if exponent == 0 {
+        (fraction, 0)
+    } else {
+        (fractions + fraction, (exponent - 1) as u32)
+    }
+}
+
+/// The number that a float is, unless it is an infinity or no number.
+pub(crate) fn number_of(float: Float) -> Option<Number>
+    ensures value { option_map number_seen result ≡ number (bits_of float) }
+    ensures small { IfSome result (λ x. x.significand < 2 ^ 54) }
+{
+    match float {
+        Float::Half(bits) => number_in(u64::from(bits), HALF),
+        Float::Single(bits) => number_in(u64::from(bits), SINGLE),
+        Float::Double(bits) => number_in(bits, DOUBLE),
+    }
+}
+
+/// How the number, without its sign, compares with k.
+fn compare(number: &Number, k: u128) -> Ordering
+    requires small { number.now.significand < 2 ^ 54 }
+    requires near { k < 2 ^ 66 }
+    ensures { result ≡ nat_cmp (number_seen number.now).units (k * 2 ^ number.now.scale) }
+{
+    let significand = u128::from(number.significand);
+    if number.exponent >= number.scale {
+        let up = (number.exponent - number.scale).min(66);
+        (significand << up).cmp(&k)
+    } else {
+        let down = (number.scale - number.exponent).min(60);
+        significand.cmp(&(k << down))
+    }
+}
+
+/// Whether the number is at most k.
+pub(crate) fn is_at_most(number: &Number, k: i128) -> bool
+    requires small { number.now.significand < 2 ^ 54 }
+    requires near { unsigned_abs k < 2 ^ 66 }
+    ensures { result ≡ is_at_most (number_seen number.now) k }
+{
+    let order = compare(number, k.unsigned_abs());
+    if number.is_negative {
+        k >= 0 || order.is_ge()
+    } else {
+        k >= 0 && order.is_le()
+    }
+}

@@ -1,0 +1,108 @@
+//! Tokens as they arrive: messages with one signature under at most two tags (RFC 8392, section 6).
+
+ghost use Rattle.std.specs.Prelude.{◌≡◌};
+ghost use Rattle.coset.specs.Answers.{ReadsSlice, RefusesSlice};
+ghost use Rattle.coset.specs.Sign1.{sign1_seen};
+ghost use Rattle.coset.specs.View.{view};
+ghost use Rattle.cwt_gate.specs.Token.{is_under, is_wrapped, message_in, token as token_shape, untagged};
+
+use coset::cbor::value::Value;
+use coset::{AsCborValue, CborSerializable, CoseSign1, Result};
+use std::alloc::Global;
+
+/// The tag of messages with one signature (RFC 8152, section 2).
+const COSE_SIGN1: u64 = 18;
+
+/// The tag of web tokens (RFC 8392, section 6).
+const CWT: u64 = 61;
+
+/// A token: the message in it.
+///
+/// ```cddl
+/// token = COSE_Sign1 / #6.18(COSE_Sign1) / #6.61(#6.18(COSE_Sign1))
+/// ```
+#[derive(Debug, Drop)]
+pub struct Token(pub CoseSign1);
+
+/// Whether the value is under the tag of this number.
+fn is_under(number: u64, value: &Value) -> bool
+    ensures { result ≡ is_under number (view value.now) }
+{
+    match value {
+        Value::Tag(found, _) => *found == number,
+        _ => false,
+    }
+}
+
+/// What a tag encloses; any other value is itself.
+fn untagged(value: Value) -> Value
+    ensures { view result ≡ untagged (view value) }
+{
+    match value {
+        Value::Tag(_, inner) => Box::into_inner(inner),
+        other => other,
+    }
+}
+
+/// Whether the value is a message's under the tag of web tokens and then its own.
+fn is_wrapped(value: &Value) -> bool
+    ensures { result ≡ is_wrapped (view value.now) }
+{
+    match value {
+        Value::Tag(found, inner) => *found == CWT && is_under(COSE_SIGN1, inner),
+        _ => false,
+    }
+}
+
+/// What is to be read as the message.
+fn message_in(value: Value) -> Value
+    ensures { view result ≡ message_in (view value) }
+{
+    if is_under(COSE_SIGN1, &value) {
+        return untagged(value);
+    }
+    if is_wrapped(&value) {
+        return untagged(untagged(value));
+    }
+    value
+}
+
+impl AsCborValue for Token {
+    ghost use Rattle.coset.specs.Sign1.{Sign1Seen};
+    ghost use Rattle.cwt_gate.specs.Token.{token, token_seen, token_sound, token_unique};
+
+    ghost Seen = { Sign1Seen };
+
+    ghost seen = { token_seen };
+
+    ghost shape = { token };
+
+    ghost unique = { token_unique };
+
+    ghost sound = { token_sound };
+
+    fn from_cbor_value(alloc: Global, value: Value) -> Result<Token> {
+        Ok(Token(CoseSign1::from_cbor_value(alloc, message_in(value))?))
+    }
+
+    /// Writes the message without a tag.
+    fn to_cbor_value(self, alloc: Global) -> Result<Value> {
+        self.0.to_cbor_value(alloc)
+    }
+}
+
+impl CborSerializable for Token {}
+
+/// The message that the token is.
+///
+/// # Errors
+/// `OutOfMemory`; or why the bytes are no token.
+pub fn read_token(alloc: Global, token: &[u8]) -> Result<CoseSign1>
+    ensures read { ReadsSlice token_shape sign1_seen token.now result }
+    ensures refused { RefusesSlice token_shape token.now result }
+{
+    match Token::from_slice(alloc, token) {
+        Ok(Token(message)) => Ok(message),
+        Err(error) => Err(error),
+    }
+}

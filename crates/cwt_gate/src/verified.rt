@@ -1,0 +1,34 @@
+//! The claims of a message whose signature the caller's closure accepts.
+
+ghost use Rattle.coset.specs.Sign1.{sign1_seen};
+ghost use Rattle.cwt_gate.specs.Gate.{GivesClaims};
+
+use crate::error::GateError;
+use coset::cwt::ClaimsSet;
+use coset::{CborSerializable, CoseSign1};
+use std::alloc::Global;
+
+/// The claims of a message. The payload is looked at only once the closure accepted the signature.
+///
+/// # Errors
+/// `NoPayload`; `Token`, out of memory before the closure was called; `Caller`; or `Claims`.
+pub(crate) fn verified_claims<F, E>(
+    alloc: Global,
+    message: &CoseSign1,
+    verify: F,
+) -> Result<ClaimsSet, GateError<E>>
+where
+    F: FnOnce(&[u8], &[u8]) -> Result<(), E> + Drop,
+    E: Drop,
+    requires { F.IsAlwaysCallable verify }
+    ensures { GivesClaims F.FnOnce verify (sign1_seen message.now) result }
+{
+    let Some(payload) = &message.payload else {
+        return Err(GateError::NoPayload);
+    };
+    message.verify_signature(alloc, &[], verify)?;
+    match ClaimsSet::from_slice(alloc, payload) {
+        Ok(claims) => Ok(claims),
+        Err(error) => Err(GateError::Claims(error)),
+    }
+}
