@@ -1,5 +1,6 @@
 pub mod Attestation
 pub mod Exchange
 pub mod FindKey
+pub mod LetIn
 pub mod Oscore
 pub mod Store

@@ -8,6 +8,7 @@ pub mod every_type;
 pub mod exchange;
 pub mod find_key;
 pub mod issue;
+pub mod let_in;
 #[cfg(test)]
 mod lookups;
 pub mod oscore;

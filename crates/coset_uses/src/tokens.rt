@@ -1,12 +1,15 @@
 //! Tokens that are signed, sent and verified, with a stand-in for the cipher.
 
+use crate::cipher::VerifyingKey;
 use crate::exchange::{Channel, exchange};
 use crate::issue::{issue_token, sign_token};
+use crate::let_in::let_in;
 use crate::stand_in::StandInKey;
 use crate::verify::{verified_claims, verify_token};
 use coset::cwt::{ClaimsSet, ClaimsSetBuilder};
 use coset::iana::Algorithm;
 use coset::{CallError, CoseError, Header, HeaderBuilder};
+use cwt_gate::PolicyError;
 use std::alloc::Global;
 use std::test::*;
 
@@ -107,5 +110,24 @@ fn claims_that_are_issued(rt: HostRuntime) -> Result<(), Fail> {
         .ok()
         .ok_or("refused")?;
     assert!(rt; claims_read == claims(alloc)?);
+    Ok(())
+}
+
+#[test]
+fn a_token_that_is_let_in(rt: HostRuntime) -> Result<(), Fail> {
+    let alloc = rt.alloc();
+    let claims = Vec::from_slice(alloc, b"\xa1\x03\x61a")?;
+    let token = sign_token(alloc, &StandInKey, header(alloc), claims, b"")
+        .ok()
+        .ok_or("not signed")?;
+    let claims = let_in(alloc, "a", &token, 0, |signature, tbs| {
+        StandInKey.verify(signature, tbs)
+    });
+    let claims = claims.ok().ok_or("refused")?;
+    assert!(rt; claims.audience.as_deref() == Some("a"));
+    let other = let_in(alloc, "b", &token, 0, |signature, tbs| {
+        StandInKey.verify(signature, tbs)
+    });
+    assert!(rt; matches!(other, Err(PolicyError::Audience)));
     Ok(())
 }
