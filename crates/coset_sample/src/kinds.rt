@@ -132,8 +132,13 @@ fn converts_members(rt: HostRuntime) -> std::result::Result<(), Fail> {
 #[test]
 fn writes_members(rt: HostRuntime) -> std::result::Result<(), Fail> {
     let alloc = rt.alloc();
-    let numbers = vec![in alloc; Value::from(5u8), Value::from(-1i64)]?;
-    let written = to_cbor_array(alloc, vec![in alloc; Mark(5), Mark(-1)]?);
-    assert!(rt; matches!(written, Ok(array) if array == Value::Array(numbers)));
+    let mut marks = Vec::new(alloc);
+    marks.push(Mark(5))?;
+    marks.push(Mark(-1))?;
+    let mut numbers = Vec::new(alloc);
+    numbers.push(Value::from(5u8))?;
+    numbers.push(Value::from(-1i64))?;
+    let array = to_cbor_array(alloc, marks).ok().ok_or("refused")?;
+    assert!(rt; array == Value::Array(numbers));
     Ok(())
 }
