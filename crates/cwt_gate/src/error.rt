@@ -42,7 +42,7 @@ impl<E: Drop> From<CallError<E>> for GateError<E> {
 /// `Gate` which tells of the token, `Algorithm`, `Critical`, those of `Gate` from `NoPayload` on, and `Audience`.
 #[derive(Debug, Drop)]
 pub enum PolicyError<E> {
-    /// The same as of [`judge`](crate::judge); never `FractionalTime`, since fractions are compared as they are.
+    /// A reason that [`judge`](crate::judge) has too; never `FractionalTime`, since fractions are compared as they are.
     Gate(GateError<E>),
     /// The protected header names no algorithm, or one that the policy doesn't have.
     Algorithm,
