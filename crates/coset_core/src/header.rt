@@ -119,15 +119,22 @@ pub struct Header {
 }
 
 /// The counter signatures are let go in a function of their own, since headers in them are as deep as the input asked.
+/// Most headers have none.
 impl Drop for Header {
     fn drop(self) {
         let (all, version_2) = self.into_signatures();
-        let_go(all, version_2);
+        if all.is_empty() && version_2.is_empty() {
+            all.destroy_empty();
+            version_2.destroy_empty();
+        } else {
+            let_go(all, version_2);
+        }
     }
 }
 
 impl Header {
     /// The counter signatures alone, of both versions.
+    #[inline(always)]
     pub(crate) fn into_signatures(self) -> (Vec<CoseSignature>, Vec<CoseCountersignature>)
         ensures { (result.0.items, result.1.items) ≡ signatures_held self }
     {

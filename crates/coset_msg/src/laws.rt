@@ -13,7 +13,8 @@ use coset_cbor::laws::{one_item, shortest_is_encoding};
 use coset_core::laws::kept_as_written;
 
 /// Bytes are the structure of at most one context, of what is signed, authenticated or goes with a ciphertext, and of one
-/// list of parts: of one protected header, one signer or none, one `external_aad` and one payload, where there is one.
+/// list of parts: of one protected header, one signer or none, one `external_aad`, one payload, where there is one, and
+/// the same other fields, where it is a countersignature's of version 2.
 pub fn one_of_all_structures()
     ensures { (b : List ℕ) (x y : Structured) → IsShortest b (structure_of x)
         → IsShortest b (structure_of y) → x ≡ y }

@@ -108,7 +108,7 @@ fn countersigned_bytes(
 
 /// The bytes that a countersignature of version 2 is over: the shortest encoding of the structure of the protected bytes of
 /// the body's header and of the countersignature's, `external_aad`, the payload, and the other fields of what is
-/// countersigned. Which these are is the caller's; there is at least one.
+/// countersigned. Which these are is the caller's; there is at least one. It is modelled on RFC 9338, section 3.3.
 ///
 /// ```cddl
 /// Countersign_structure = [
@@ -147,7 +147,17 @@ pub fn countersign_v2_structure_data(
 }
 
 /// The bytes that an abbreviated countersignature of version 2 is over: the same without a header of its own, under a
-/// context of its own, `"CounterSignature0V2"`.
+/// context of its own. It is modelled on RFC 9338, section 3.3.
+///
+/// ```cddl
+/// Countersign0_structure = [
+///     context : "CounterSignature0V2",
+///     body_protected : bstr,
+///     external_aad : bstr,
+///     payload : bstr,
+///     other_fields : [+ bstr]
+/// ]
+/// ```
 ///
 /// # Errors
 /// The same as [`countersign_v2_structure_data`].
@@ -167,7 +177,7 @@ pub fn countersign0_v2_structure_data(
 
 /// Asks `verifier` whether the countersignature, its first argument, is one of the bytes that it is over, its second one
 /// ([`countersign_v2_structure_data`] with the countersignature's protected header). It is asked once, unless there is an
-/// error of ours, and not at all then.
+/// error of ours, and not at all then. The process is that of RFC 9338, section 3.3.
 ///
 /// # Errors
 /// The same as [`countersign_v2_structure_data`]; or `Caller` with the error of `verifier`.
