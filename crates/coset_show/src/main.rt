@@ -5,6 +5,7 @@ ghost use Rattle.std.specs.Prelude.{MatchOption};
 ghost use Rattle.std.specs.Vec.Iter.{into_iter_items};
 ghost use Rattle.coset_show.specs.Arguments.{AreNameAnd, AreNoNameAndOne};
 
+mod ends;
 mod kind;
 #[cfg(test)]
 mod message_tests;

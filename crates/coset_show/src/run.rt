@@ -1,6 +1,6 @@
 //! The program, over any reader and writer.
 
-ghost use Rattle.std.specs.Prelude.{◌≡◌, ◌⊎◌, ℕ, List, true, false, IfOk, IfErr, IfSome, OnOk, MatchResult};
+ghost use Rattle.std.specs.Prelude.{◌≡◌, ◌⊎◌, ℕ, List, true, false, IsTrue, IfOk, IfErr, IfSome, OnOk, MatchResult};
 ghost use Rattle.std.specs.String.{string_bytes};
 ghost use Rattle.std.specs.Io.KnownBytes.{Appends};
 ghost use Rattle.coset_show.specs.declared.kind.Kind.{Kind};
@@ -10,12 +10,13 @@ ghost use Rattle.coset_show.specs.Answer.{without_space, Spells, ShowsInput, Ref
 ghost use Rattle.coset_show.specs.Refusal.{no_memory};
 ghost use Rattle.coset_show.specs.Answer.{is_space as is_space_spec};
 
+use crate::ends::{Reader, Writer};
 use crate::kind::Kind;
 use crate::refusal::Refusal;
 use crate::stream::Stream;
 use coset::CoseError;
 use std::alloc::{AllocError, Global};
-use std::io::{ErrorKind, Read, Write};
+use std::io::ErrorKind;
 
 /// The status of an input that was shown.
 const SHOWN: u8 = 0;
@@ -32,7 +33,7 @@ const MISUSED: u8 = 2;
 /// written is made before any of it goes out. The status is 0 where the input is shown; 1 where it is refused,
 /// which a line that begins `error: ` tells, and where a write fails; 2 for a kind that isn't known, of which the
 /// usage line tells: then the reader isn't asked.
-pub fn run<R: Read, W: Write>(
+pub fn run<R: Reader, W: Writer>(
     alloc: Global,
     kind: &str,
     reader: &mut Stream<R>,
@@ -56,6 +57,8 @@ pub fn run<R: Read, W: Write>(
         × (result ≡ 1) }
     // A write fails: 1.
     ensures unwritten { Fails writer.old writer.new → result ≡ 1 }
+    // Of a reader that is known not to fail none is said to have failed.
+    ensures sure { IsTrue R.is_sure → has_failed reader.new ≡ has_failed reader.old }
 {
     let Some(kind) = Kind::of(kind) else {
         return write_lines(writer, "usage: coset_show KIND\n", MISUSED);
@@ -73,11 +76,12 @@ pub fn run<R: Read, W: Write>(
 ///
 /// # Errors
 /// Why the input isn't shown.
-fn answer<R: Read>(alloc: Global, kind: Kind, reader: &mut Stream<R>) -> Result<String, Refusal>
+fn answer<R: Reader>(alloc: Global, kind: Kind, reader: &mut Stream<R>) -> Result<String, Refusal>
     ensures known { IsSound reader.new → IfSome (R.remaining (inside reader.old)) (λ input.
         MatchResult result (λ lines. ShowsInput kind input (string_bytes lines))
         (λ refusal. RefusesInput kind input refusal)) }
     ensures unreadable { Fails reader.old reader.new → result ≡ Err Refusal.Unreadable }
+    ensures sure { IsTrue R.is_sure → has_failed reader.new ≡ has_failed reader.old }
 {
     let input = read_to_end(alloc, reader)?;
     let bytes = spelled_bytes(alloc, input)?;
@@ -85,13 +89,14 @@ fn answer<R: Read>(alloc: Global, kind: Kind, reader: &mut Stream<R>) -> Result<
 }
 
 /// All that the reader has left.
-fn read_to_end<R: Read>(alloc: Global, reader: &mut Stream<R>) -> Result<Vec<u8>, Refusal>
+fn read_to_end<R: Reader>(alloc: Global, reader: &mut Stream<R>) -> Result<Vec<u8>, Refusal>
     ensures bytes { IfSome (R.remaining (inside reader.old)) (λ input.
         IfOk result (λ v. v.items ≡ input)) }
     ensures ok { OnOk result (has_failed reader.new ≡ has_failed reader.old) }
     ensures err { IfErr result (λ refusal.
         ((refusal ≡ no_memory) × (has_failed reader.new ≡ has_failed reader.old))
         ⊎ ((refusal ≡ Refusal.Unreadable) × (has_failed reader.new ≡ true))) }
+    ensures sure { IsTrue R.is_sure → has_failed reader.new ≡ has_failed reader.old }
 {
     let mut input = Vec::new(alloc);
     let mut chunk = [0; 4096];
@@ -141,7 +146,7 @@ fn refusal_line(alloc: Global, refusal: &Refusal) -> Result<String, AllocError>
 }
 
 /// Writes the lines, and answers the status, or that of a failed write.
-fn write_lines<W: Write>(writer: &mut Stream<W>, lines: &str, status: u8) -> u8
+fn write_lines<W: Writer>(writer: &mut Stream<W>, lines: &str, status: u8) -> u8
     ensures written { IsSound writer.new
         → Appends (W.contents (inside writer.old)) (W.contents (inside writer.new)) lines.now
         × (result ≡ status) }

@@ -1,13 +1,14 @@
 //! Readers and writers that remember a failure.
 
-ghost use Rattle.std.specs.Prelude.{◌≡◌, ◌≢◌, true, IfErr, OnOk, OnErr};
+ghost use Rattle.std.specs.Prelude.{◌≡◌, ◌≢◌, true, IsTrue, IsOk, IfErr, OnOk, OnErr};
 ghost use Rattle.std.specs.Io.{ReadsAtMost};
 ghost use Rattle.std.specs.Io.KnownBytes.{Appends, ReadConsumes};
 ghost use Rattle.std.specs.IoError.{error_kind};
 ghost use Rattle.coset_show.specs.Stream.{inside, has_failed, IsSound};
 
+use crate::ends::{Reader, Writer};
 use std::io;
-use std::io::{ErrorKind, Read, Write};
+use std::io::ErrorKind;
 
 /// A reader or a writer, and whether a call of it has failed. A call that was interrupted hasn't failed: it can
 /// be made again.
@@ -38,7 +39,7 @@ impl<T> Stream<T> {
     }
 }
 
-impl<R: Read> Stream<R> {
+impl<R: Reader> Stream<R> {
     /// Reads once into the buffer, and answers how many bytes: none at the end of the input.
     ///
     /// # Errors
@@ -52,8 +53,9 @@ impl<R: Read> Stream<R> {
             → has_failed self.new ≡ has_failed self.old) }
         ensures failed { IfErr result (λ e. error_kind e ≢ ErrorKind.Interrupted
             → has_failed self.new ≡ true) }
+        ensures sure { IsTrue R.is_sure → IsOk result }
     {
-        let read = self.inner.read(buffer);
+        let read = self.inner.read_once(buffer);
         if let Err(error) = &read {
             if error.kind() != ErrorKind::Interrupted {
                 self.failed = true;
@@ -63,7 +65,7 @@ impl<R: Read> Stream<R> {
     }
 }
 
-impl<W: Write> Stream<W> {
+impl<W: Writer> Stream<W> {
     /// Writes all of the bytes, and sees them through.
     ///
     /// # Errors
@@ -73,11 +75,10 @@ impl<W: Write> Stream<W> {
             (Appends (W.contents (inside self.old)) (W.contents (inside self.new)) bytes.now) }
         ensures ok { OnOk result (has_failed self.new ≡ has_failed self.old) }
         ensures failed { OnErr result (has_failed self.new ≡ true) }
+        ensures sure { IsTrue W.is_sure
+            → IfErr result (λ e. error_kind e ≡ ErrorKind.OutOfMemory) }
     {
-        let written = match self.inner.write_all(bytes) {
-            Ok(()) => self.inner.flush(),
-            refused => refused,
-        };
+        let written = self.inner.put(bytes);
         if written.is_err() {
             self.failed = true;
         }

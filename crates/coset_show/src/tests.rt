@@ -1,5 +1,8 @@
 //! The program over memory.
 
+ghost use Rattle.std.specs.Prelude.{false};
+
+use crate::ends::{Reader, Writer};
 use crate::run::run;
 use crate::stream::Stream;
 use std::alloc::{AllocError, Global};
@@ -195,13 +198,13 @@ fn shows_strings(rt: HostRuntime) -> Result<(), Fail> {
 
 /// A reader of a byte a call that fails, or is interrupted, at one call.
 #[derive(Drop)]
-struct FaultyReader<'a> {
+struct FailRead<'a> {
     rest: &'a [u8],
     calls_left: usize,
     fault: ErrorKind,
 }
 
-impl Read for FaultyReader<'_> {
+impl Read for FailRead<'_> {
     fn read(&mut self, buffer: &mut [u8]) -> io::Result<usize> {
         if self.calls_left == 1 {
             self.calls_left = 0;
@@ -219,6 +222,14 @@ impl Read for FaultyReader<'_> {
     }
 }
 
+impl Reader for FailRead<'_> {
+    ghost is_sure = { false };
+
+    fn read_once(&mut self, buffer: &mut [u8]) -> io::Result<usize> {
+        self.read(buffer)
+    }
+}
+
 #[test]
 fn tells_of_other_kinds(rt: HostRuntime) -> Result<(), Fail> {
     let alloc = rt.alloc();
@@ -233,7 +244,7 @@ fn tells_of_other_kinds(rt: HostRuntime) -> Result<(), Fail> {
         "encrypt00",
         "signature",
     ] {
-        let mut reader = Stream::new(FaultyReader {
+        let mut reader = Stream::new(FailRead {
             rest: b"80",
             calls_left: 9,
             fault: ErrorKind::Other,
@@ -248,26 +259,56 @@ fn tells_of_other_kinds(rt: HostRuntime) -> Result<(), Fail> {
     Ok(())
 }
 
+/// An input of each kind, of two a refused one too, with what is written for it and the status.
+const EACH_KIND: [(&str, &str, &str, u8); 14] = [
+    ("value", "d81240", "d240\n", 0),
+    (
+        "value",
+        "9f01",
+        "error: decode CBOR failure: Io(EndOfFile)\n",
+        1,
+    ),
+    (
+        "sign1",
+        "8440a0f640",
+        "8440a0f640\ntbs 846a5369676e617475726531404040\n",
+        0,
+    ),
+    (
+        "sign1",
+        "83000000",
+        "error: got array, expected array with 4 items\n",
+        1,
+    ),
+    ("sign", "8440a0f6818340a040", "8440a0f6818340a040\n", 0),
+    ("mac0", "d18440a0f640", "d18440a0f640\n", 0),
+    ("mac", "d8618540a0f64080", "d8618540a0f64080\n", 0),
+    ("encrypt0", "d08340a0f6", "d08340a0f6\n", 0),
+    ("encrypt", "d8608440a0f680", "d8608440a0f680\n", 0),
+    ("countersignature", "d38340a040", "d38340a040\n", 0),
+    ("key", "a10101", "a10101\n", 0),
+    ("keyset", "9fa10101ff", "81a10101\n", 0),
+    ("claims", "a1041903e8", "a1041903e8\n", 0),
+    (
+        "kdf",
+        "840183f6f6f683f6f6f6820040",
+        "840183f6f6f683f6f6f6820040\n",
+        0,
+    ),
+];
+
 #[test]
 fn tells_of_failed_reads(rt: HostRuntime) -> Result<(), Fail> {
     let alloc = rt.alloc();
-    let unread = b"error: input cannot be read\n".as_slice();
     for fault in [
         ErrorKind::Other,
         ErrorKind::OutOfMemory,
         ErrorKind::Interrupted,
     ] {
-        for (input, kind, lines) in [
-            ("d81240", "value", "d240\n"),
-            (
-                "8440a0f640",
-                "sign1",
-                "8440a0f640\ntbs 846a5369676e617475726531404040\n",
-            ),
-        ] {
+        for (kind, input, lines, answer) in &EACH_KIND {
             // The input takes a call for each byte, and one that finds the end.
             for failing in 1..=input.len() + 2 {
-                let mut reader = Stream::new(FaultyReader {
+                let mut reader = Stream::new(FailRead {
                     rest: input.as_bytes(),
                     calls_left: failing,
                     fault,
@@ -277,8 +318,9 @@ fn tells_of_failed_reads(rt: HostRuntime) -> Result<(), Fail> {
                 let written: Vec<u8> = writer.into_inner();
                 if failing == input.len() + 2 || fault == ErrorKind::Interrupted {
                     assert_eq!(rt; written.as_slice(), lines.as_bytes());
-                    assert_eq!(rt; status, 0);
+                    assert_eq!(rt; status, *answer);
                 } else {
+                    let unread = b"error: input cannot be read\n".as_slice();
                     assert_eq!(rt; written.as_slice(), unread);
                     assert_eq!(rt; status, 1);
                 }
@@ -288,23 +330,37 @@ fn tells_of_failed_reads(rt: HostRuntime) -> Result<(), Fail> {
     Ok(())
 }
 
-/// A writer of a byte a call that fails, or takes nothing, at one call and at each after it.
+/// A writer of a byte a call that fails, or takes nothing, at one call, and at each after it where it doesn't recover.
 #[derive(Drop)]
-struct FaultyWriter {
+struct FailWrite {
     taken: Vec<u8>,
     calls_left: usize,
+    recovers: bool,
     fault: Option<ErrorKind>,
 }
 
-impl Write for FaultyWriter {
+impl FailWrite {
+    /// Whether this call is one that fails.
+    fn fails(&mut self) -> bool {
+        if self.calls_left > 0 {
+            self.calls_left -= 1;
+            return false;
+        }
+        if self.recovers {
+            self.calls_left = usize::MAX;
+        }
+        true
+    }
+}
+
+impl Write for FailWrite {
     fn write(&mut self, buffer: &[u8]) -> io::Result<usize> {
-        if self.calls_left == 0 {
+        if self.fails() {
             return match self.fault {
                 Some(kind) => Err(io::Error::from(kind)),
                 None => Ok(0),
             };
         }
-        self.calls_left -= 1;
         match buffer.first() {
             Some(first) => {
                 self.taken.push(*first)?;
@@ -315,158 +371,67 @@ impl Write for FaultyWriter {
     }
 
     fn flush(&mut self) -> io::Result<()> {
+        let fails = self.fails();
         match self.fault {
-            Some(kind) if self.calls_left == 0 => Err(io::Error::from(kind)),
+            Some(kind) if fails => Err(io::Error::from(kind)),
             _ => Ok(()),
         }
     }
 }
 
+impl Writer for FailWrite {
+    ghost is_sure = { false };
+
+    fn put(&mut self, bytes: &[u8]) -> io::Result<()> {
+        self.write_all(bytes)?;
+        self.flush()
+    }
+}
+
+/// Whether the answer is right where the writer's call with that number, counted from 0, fails.
+fn tells_of_write(
+    rt: &impl Abort,
+    alloc: Global,
+    row: &(&str, &str, &str, u8),
+    working: usize,
+    fault: Option<ErrorKind>,
+    recovers: bool,
+) {
+    let (kind, input, lines, answer) = row;
+    let mut reader = Stream::new(input.as_bytes());
+    let mut writer = Stream::new(FailWrite {
+        taken: Vec::new(alloc),
+        calls_left: working,
+        recovers,
+        fault,
+    });
+    let status = run(alloc, kind, &mut reader, &mut writer);
+    let taken = writer.into_inner().taken;
+    // The last byte, and where that is the writer's last call, what follows it, must go out too.
+    let whole = lines.len() < working || (lines.len() == working && fault.is_none());
+    let front = lines.len().min(working);
+    assert!(rt; front <= lines.len());
+    assert_eq!(rt; taken.as_slice(), &lines.as_bytes()[..front]);
+    assert_eq!(rt;
+        status,
+        if whole { *answer } else { 1 },
+        "at {working} of {kind}"
+    );
+}
+
 #[test]
 fn tells_of_failed_writes(rt: HostRuntime) -> Result<(), Fail> {
     let alloc = rt.alloc();
-    for (kind, input, line, answer) in [
-        ("value", "9f01ff", "8101\n", 0u8),
-        (
-            "value",
-            "9f01",
-            "error: decode CBOR failure: Io(EndOfFile)\n",
-            1,
-        ),
-        (
-            "sign1",
-            "8440a0f640",
-            "8440a0f640\ntbs 846a5369676e617475726531404040\n",
-            0,
-        ),
-        (
-            "sign1",
-            "83000000",
-            "error: got array, expected array with 4 items\n",
-            1,
-        ),
-        ("", "9f01", "usage: coset_show KIND\n", 2),
-    ] {
-        for fault in [Some(ErrorKind::Other), None] {
+    let usage = ("", "9f01", "usage: coset_show KIND\n", 2u8);
+    for fault in [Some(ErrorKind::Other), None] {
+        for recovers in [false, true] {
             for working in 0..=50usize {
-                let mut reader = Stream::new(input.as_bytes());
-                let mut writer = Stream::new(FaultyWriter {
-                    taken: Vec::new(alloc),
-                    calls_left: working,
-                    fault,
-                });
-                let status = run(alloc, kind, &mut reader, &mut writer);
-                let taken = writer.into_inner().taken;
-                // The last byte, and where that is the writer's last call, what follows it, must go out too.
-                let whole = line.len() < working || (line.len() == working && fault.is_none());
-                let front = line.len().min(working);
-                assert!(rt; front <= line.len());
-                assert_eq!(rt; taken.as_slice(), &line.as_bytes()[..front]);
-                assert_eq!(rt;
-                    status,
-                    if whole { answer } else { 1 },
-                    "at {working} of {kind}"
-                );
-            }
-        }
-    }
-    Ok(())
-}
-
-/// Blocks that together hold all the memory that is left, so that every request is refused while they stand.
-fn fill(alloc: Global) -> Result<Vec<Vec<u8>>, AllocError> {
-    let mut held: Vec<Vec<u8>> = Vec::with_capacity(alloc, 200_000)?;
-    let mut size = 1usize << 40;
-    for _ in 0..40u32 {
-        for _ in 0..150_000u32 {
-            match Vec::with_capacity(alloc, size) {
-                Ok(block) => {
-                    if held.push(block).is_err() {
-                        break;
-                    }
+                for row in &EACH_KIND {
+                    tells_of_write(&rt, alloc, row, working, fault, recovers);
                 }
-                Err(_) => break,
+                tells_of_write(&rt, alloc, &usage, working, fault, recovers);
             }
         }
-        size /= 2;
-    }
-    Ok(held)
-}
-
-/// What `run` wrote in little memory: how often the line `error: out of memory`, the given line, and anything else.
-#[derive(Clone, Copy, Debug)]
-struct Tally {
-    refused: u32,
-    answered: u32,
-    others: u32,
-}
-
-/// Calls `run` with less and less memory left.
-fn sweep(
-    alloc: Global,
-    kind: &str,
-    input: &str,
-    line: &str,
-    answer: u8,
-) -> Result<Tally, AllocError> {
-    let reserve: Vec<u8> = Vec::with_capacity(alloc, 65536)?;
-    let held = fill(alloc)?;
-    drop(reserve);
-    let mut tally = Tally {
-        refused: 0,
-        answered: 0,
-        others: 0,
-    };
-    for step in 0..1000usize {
-        let pad: Result<Vec<u8>, AllocError> = Vec::with_capacity(alloc, 65536 - 16 * step);
-        // In a slice, the writer takes no memory of its own.
-        let mut room = [0u8; 256];
-        let mut reader = Stream::new(input.as_bytes());
-        let mut writer = Stream::new(room.as_mut_slice());
-        let status = run(alloc, kind, &mut reader, &mut writer);
-        drop(pad);
-        let left = writer.into_inner().len();
-        let written = &room[..room.len().saturating_sub(left)];
-        if written == b"error: out of memory\n".as_slice() && status == 1 {
-            tally.refused = tally.refused.wrapping_add(1);
-        } else if written == line.as_bytes() && status == answer {
-            tally.answered = tally.answered.wrapping_add(1);
-        } else {
-            tally.others = tally.others.wrapping_add(1);
-        }
-    }
-    drop(held);
-    Ok(tally)
-}
-
-#[test]
-fn refuses_for_want_of_memory(rt: HostRuntime) -> Result<(), Fail> {
-    for (kind, input, lines, answer) in [
-        ("value", "9f5f420001430203 04ffff", "81450001020304\n", 0u8),
-        (
-            "value",
-            "8201ff",
-            "error: decode CBOR failure: Syntax(2)\n",
-            1,
-        ),
-        (
-            "sign1",
-            "8451a401260442313118468201026161a10000a11847f64301020341aa",
-            "8451a401260442313118468201026161a10000a11847f64301020341aa\n\
-             tbs 846a5369676e61747572653151a401260442313118468201026161a100004043010203\n",
-            0,
-        ),
-        (
-            "sign1",
-            "8446a22000380000a0f640",
-            "error: duplicate map key\n",
-            1,
-        ),
-    ] {
-        let tally = sweep(rt.alloc(), kind, input, lines, answer)?;
-        assert!(rt; tally.refused > 0, "at {input}: {tally:?}");
-        assert!(rt; tally.answered > 0, "at {input}: {tally:?}");
-        assert_eq!(rt; tally.others, 0, "at {input}: {tally:?}");
     }
     Ok(())
 }
