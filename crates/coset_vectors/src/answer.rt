@@ -37,6 +37,9 @@ pub fn read_through_item<F: Form<T>, T>(alloc: Global, bytes: &[u8]) -> Result<T
 }
 
 /// The text for a value that was read, or for why it wasn't.
+///
+/// # Errors
+/// Memory ran out: that is no answer that could differ from another.
 fn text_of<F: Form<T>, T>(alloc: Global, read: Result<T>) -> Result<String, AllocError> {
     let written = match read {
         Ok(value) => F::write(alloc, value),
@@ -44,6 +47,7 @@ fn text_of<F: Form<T>, T>(alloc: Global, read: Result<T>) -> Result<String, Allo
     };
     match written {
         Ok(bytes) => hex::encode(alloc, bytes.as_slice()),
+        Err(CoseError::OutOfMemory) => Err(AllocError),
         Err(error) => format!(in alloc; "error: {error}"),
     }
 }

@@ -1,7 +1,8 @@
 //! What the bytes of a row are said to be.
 
 use crate::answer::answer;
-use crate::form::{AsValue, InString, Plain, Signed, Tagged};
+use crate::form::{AsValue, Form, InString, Plain, Signed, Tagged};
+use crate::fronts::flaw;
 use coset::cbor::value::Value;
 use coset::cwt::{ClaimName, ClaimsSet, Timestamp};
 use coset::iana::{EllipticCurve, HeaderParameter};
@@ -12,6 +13,29 @@ use coset::{
     RegisteredLabelWithPrivate, SuppPubInfo,
 };
 use std::alloc::{AllocError, Global};
+
+/// What is asked about bytes of a kind.
+#[derive(Clone, Copy)]
+enum Question {
+    /// Which value they hold.
+    Value,
+    /// Whether their fronts hold none, and what follows them is extraneous.
+    Fronts,
+}
+
+impl Question {
+    /// The answer for bytes of that form.
+    fn of<F: Form<T>, T: PartialEq + Drop>(
+        self,
+        alloc: Global,
+        bytes: &[u8],
+    ) -> Result<String, AllocError> {
+        match self {
+            Question::Value => answer::<F, T>(alloc, bytes),
+            Question::Fronts => flaw::<F, T>(alloc, bytes),
+        }
+    }
+}
 
 /// What the bytes of a row are said to be.
 #[derive(Clone, Copy, Debug, PartialEq, Eq)]
@@ -143,45 +167,59 @@ impl Kind {
 
     /// The text for bytes of this kind.
     pub fn answer(self, alloc: Global, bytes: &[u8]) -> Result<String, AllocError> {
+        self.ask(alloc, Question::Value, bytes)
+    }
+
+    /// What is wrong with the fronts of bytes of this kind, which hold a value, and with what follows them; or nothing.
+    pub fn flaw(self, alloc: Global, bytes: &[u8]) -> Result<String, AllocError> {
+        self.ask(alloc, Question::Fronts, bytes)
+    }
+
+    /// What is answered to a question about bytes of this kind.
+    fn ask(self, alloc: Global, question: Question, bytes: &[u8]) -> Result<String, AllocError> {
         match self {
-            Kind::Value => answer::<Plain, Value>(alloc, bytes),
-            Kind::Label => answer::<Plain, Label>(alloc, bytes),
-            Kind::Algorithm => answer::<Plain, Algorithm>(alloc, bytes),
-            Kind::ContentType => answer::<Plain, ContentType>(alloc, bytes),
-            Kind::KeyType => answer::<Plain, KeyType>(alloc, bytes),
-            Kind::KeyOperation => answer::<Plain, KeyOperation>(alloc, bytes),
-            Kind::ClaimName => answer::<Plain, ClaimName>(alloc, bytes),
+            Kind::Value => question.of::<Plain, Value>(alloc, bytes),
+            Kind::Label => question.of::<Plain, Label>(alloc, bytes),
+            Kind::Algorithm => question.of::<Plain, Algorithm>(alloc, bytes),
+            Kind::ContentType => question.of::<Plain, ContentType>(alloc, bytes),
+            Kind::KeyType => question.of::<Plain, KeyType>(alloc, bytes),
+            Kind::KeyOperation => question.of::<Plain, KeyOperation>(alloc, bytes),
+            Kind::ClaimName => question.of::<Plain, ClaimName>(alloc, bytes),
             Kind::HeaderParameter => {
-                answer::<Plain, RegisteredLabelWithPrivate<HeaderParameter>>(alloc, bytes)
+                question.of::<Plain, RegisteredLabelWithPrivate<HeaderParameter>>(alloc, bytes)
             }
-            Kind::EllipticCurve => answer::<Plain, RegisteredLabel<EllipticCurve>>(alloc, bytes),
-            Kind::Header => answer::<Plain, Header>(alloc, bytes),
-            Kind::Protected => answer::<Plain, ProtectedHeader>(alloc, bytes),
-            Kind::ProtectedBstr => answer::<InString, ProtectedHeader>(alloc, bytes),
-            Kind::Signature => answer::<Plain, CoseSignature>(alloc, bytes),
-            Kind::Countersignature => answer::<Plain, CoseCountersignature>(alloc, bytes),
-            Kind::TaggedCountersignature => answer::<Tagged, CoseCountersignature>(alloc, bytes),
-            Kind::Recipient => answer::<Plain, CoseRecipient>(alloc, bytes),
-            Kind::Sign1 => answer::<Plain, CoseSign1>(alloc, bytes),
-            Kind::Sign1Tbs => answer::<Signed, CoseSign1>(alloc, bytes),
-            Kind::TaggedSign1 => answer::<Tagged, CoseSign1>(alloc, bytes),
-            Kind::Sign => answer::<Plain, CoseSign>(alloc, bytes),
-            Kind::TaggedSign => answer::<Tagged, CoseSign>(alloc, bytes),
-            Kind::Mac => answer::<Plain, CoseMac>(alloc, bytes),
-            Kind::TaggedMac => answer::<Tagged, CoseMac>(alloc, bytes),
-            Kind::Mac0 => answer::<Plain, CoseMac0>(alloc, bytes),
-            Kind::TaggedMac0 => answer::<Tagged, CoseMac0>(alloc, bytes),
-            Kind::Encrypt => answer::<Plain, CoseEncrypt>(alloc, bytes),
-            Kind::TaggedEncrypt => answer::<Tagged, CoseEncrypt>(alloc, bytes),
-            Kind::Encrypt0 => answer::<Plain, CoseEncrypt0>(alloc, bytes),
-            Kind::TaggedEncrypt0 => answer::<Tagged, CoseEncrypt0>(alloc, bytes),
-            Kind::Key => answer::<Plain, CoseKey>(alloc, bytes),
-            Kind::Keyset => answer::<Plain, CoseKeySet>(alloc, bytes),
-            Kind::Claims => answer::<Plain, ClaimsSet>(alloc, bytes),
-            Kind::Timestamp => answer::<AsValue, Timestamp>(alloc, bytes),
-            Kind::Party => answer::<Plain, PartyInfo>(alloc, bytes),
-            Kind::SuppPub => answer::<Plain, SuppPubInfo>(alloc, bytes),
-            Kind::Kdf => answer::<Plain, CoseKdfContext>(alloc, bytes),
+            Kind::EllipticCurve => question.of::<Plain, RegisteredLabel<EllipticCurve>>(
+                alloc, bytes,
+            ),
+            Kind::Header => question.of::<Plain, Header>(alloc, bytes),
+            Kind::Protected => question.of::<Plain, ProtectedHeader>(alloc, bytes),
+            Kind::ProtectedBstr => question.of::<InString, ProtectedHeader>(alloc, bytes),
+            Kind::Signature => question.of::<Plain, CoseSignature>(alloc, bytes),
+            Kind::Countersignature => question.of::<Plain, CoseCountersignature>(alloc, bytes),
+            Kind::TaggedCountersignature => question.of::<Tagged, CoseCountersignature>(
+                alloc, bytes,
+            ),
+            Kind::Recipient => question.of::<Plain, CoseRecipient>(alloc, bytes),
+            Kind::Sign1 => question.of::<Plain, CoseSign1>(alloc, bytes),
+            Kind::Sign1Tbs => question.of::<Signed, CoseSign1>(alloc, bytes),
+            Kind::TaggedSign1 => question.of::<Tagged, CoseSign1>(alloc, bytes),
+            Kind::Sign => question.of::<Plain, CoseSign>(alloc, bytes),
+            Kind::TaggedSign => question.of::<Tagged, CoseSign>(alloc, bytes),
+            Kind::Mac => question.of::<Plain, CoseMac>(alloc, bytes),
+            Kind::TaggedMac => question.of::<Tagged, CoseMac>(alloc, bytes),
+            Kind::Mac0 => question.of::<Plain, CoseMac0>(alloc, bytes),
+            Kind::TaggedMac0 => question.of::<Tagged, CoseMac0>(alloc, bytes),
+            Kind::Encrypt => question.of::<Plain, CoseEncrypt>(alloc, bytes),
+            Kind::TaggedEncrypt => question.of::<Tagged, CoseEncrypt>(alloc, bytes),
+            Kind::Encrypt0 => question.of::<Plain, CoseEncrypt0>(alloc, bytes),
+            Kind::TaggedEncrypt0 => question.of::<Tagged, CoseEncrypt0>(alloc, bytes),
+            Kind::Key => question.of::<Plain, CoseKey>(alloc, bytes),
+            Kind::Keyset => question.of::<Plain, CoseKeySet>(alloc, bytes),
+            Kind::Claims => question.of::<Plain, ClaimsSet>(alloc, bytes),
+            Kind::Timestamp => question.of::<AsValue, Timestamp>(alloc, bytes),
+            Kind::Party => question.of::<Plain, PartyInfo>(alloc, bytes),
+            Kind::SuppPub => question.of::<Plain, SuppPubInfo>(alloc, bytes),
+            Kind::Kdf => question.of::<Plain, CoseKdfContext>(alloc, bytes),
         }
     }
 }

@@ -2,43 +2,17 @@
 //!
 //! A row is `KIND HEX`: what the bytes are said to be, as `header` or `sign1`, and the bytes. It is answered by what is
 //! written of the value that they hold, in hexadecimal; or, where they hold none, by `error: ` and why. `tagged KIND HEX`
-//! is a message under its tag. An empty line, and a comment, which begins with `#`, is answered by itself.
+//! is a message under its tag. An empty line, and a comment, which begins with `#`, is answered by itself. Where memory
+//! runs out while a row is answered, that is its answer, and the next one is read.
 #![tactic(auto)]
 
 mod answer;
-#[cfg(test)]
-mod builders;
-#[cfg(test)]
-mod cbor;
-#[cfg(test)]
-mod claims;
-#[cfg(test)]
-mod closures;
-#[cfg(test)]
-mod contexts;
 mod form;
-#[cfg(test)]
-mod keys;
+mod fronts;
 mod kind;
-#[cfg(test)]
-mod messages;
-#[cfg(test)]
-mod refused;
-#[cfg(test)]
-mod refused_countersignatures;
-#[cfg(test)]
-mod refused_headers;
-#[cfg(test)]
-mod refused_messages;
-#[cfg(test)]
-mod refused_signatures;
 mod row;
-#[cfg(test)]
-mod steps;
-#[cfg(test)]
-mod turns;
-#[cfg(test)]
-mod walks;
+mod strings;
+mod sweep;
 
 use std::alloc::Global;
 use std::io::{self, BufRead, BufReader, BufWriter, Write};

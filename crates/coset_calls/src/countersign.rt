@@ -1,0 +1,101 @@
+//! Calls about what countersignatures of version 2 are over.
+
+use crate::asked::Asked;
+use crate::header;
+use coset::{
+    CoseCountersignature, CoseError, Result, countersign_v2_structure_data,
+    countersign0_v2_structure_data, verify_countersignature,
+};
+use coset_lines::words::{Words, bytes};
+use coset_lines::{mark, tell};
+use std::alloc::Global;
+
+/// The other fields of what is countersigned: the words between commas, of which each spells one. `none` stands for no
+/// field, of which no structure is made.
+///
+/// # Errors
+/// A word spells none, there is no field, or memory ran out.
+fn other_fields(alloc: Global, word: &str) -> Result<Vec<Vec<u8>>> {
+    let mut fields = Vec::new(alloc);
+    if word != "none" {
+        for field in word.split(',') {
+            fields.push(bytes(alloc, field)?)?;
+        }
+    }
+    Ok(fields)
+}
+
+/// That there are no other fields.
+fn no_fields() -> CoseError {
+    CoseError::UnexpectedItem("no other fields", "at least one")
+}
+
+/// `yes` or `no`; the countersignature; the body's protected header; `external_aad`; the payload; the other fields;
+/// what becomes of the body's header, and of the countersignature's.
+///
+/// # Errors
+/// What it is given can't be made of the words.
+pub fn verify(alloc: Global, words: &Words<'_>) -> Result<String> {
+    let says_yes = words.says_yes(1)?;
+    let mut one: CoseCountersignature = words.value(alloc, 2)?;
+    header::change(&mut one.protected, words.word(8))?;
+    let body = header::read(alloc, words, 3, 7)?;
+    let external_aad = words.bytes(alloc, 4)?;
+    let payload = words.bytes(alloc, 5)?;
+    let fields = other_fields(alloc, words.word(6))?;
+    let mut asked = Asked::new(alloc)?;
+    let count = &mut asked;
+    if fields.is_empty() {
+        return Err(no_fields());
+    }
+    mark::begin(alloc);
+    let answer = verify_countersignature(
+        alloc,
+        &one,
+        body,
+        &external_aad,
+        &payload,
+        &fields,
+        move |signature, tbs| count.judge(signature, tbs, says_yes),
+    );
+    mark::end(alloc);
+    asked.judged(alloc, answer)
+}
+
+/// The body's protected header; the countersignature's; `external_aad`; the payload; the other fields; what becomes of
+/// the body's header, and of the countersignature's.
+///
+/// # Errors
+/// What it is given can't be made of the words.
+pub fn structure(alloc: Global, words: &Words<'_>) -> Result<String> {
+    let body = header::read(alloc, words, 1, 6)?;
+    let sign = header::read(alloc, words, 2, 7)?;
+    let external_aad = words.bytes(alloc, 3)?;
+    let payload = words.bytes(alloc, 4)?;
+    let fields = other_fields(alloc, words.word(5))?;
+    if fields.is_empty() {
+        return Err(no_fields());
+    }
+    mark::begin(alloc);
+    let answer = countersign_v2_structure_data(alloc, body, sign, &external_aad, &payload, &fields);
+    mark::end(alloc);
+    tell::bytes(alloc, answer)
+}
+
+/// The body's protected header; `external_aad`; the payload; the other fields; what becomes of the header.
+///
+/// # Errors
+/// What it is given can't be made of the words.
+pub fn abbreviated_structure(alloc: Global, words: &Words<'_>) -> Result<String> {
+    let body = header::read(alloc, words, 1, 5)?;
+    let external_aad = words.bytes(alloc, 2)?;
+    let payload = words.bytes(alloc, 3)?;
+    let fields = other_fields(alloc, words.word(4))?;
+    if fields.is_empty() {
+        return Err(no_fields());
+    }
+    mark::begin(alloc);
+    let answer = countersign0_v2_structure_data(alloc, body, &external_aad, &payload, &fields);
+    mark::end(alloc);
+    tell::bytes(alloc, answer)
+}

@@ -1,0 +1,184 @@
+//! Calls of `CoseEncrypt` and its builder.
+
+use crate::asked::{Asked, No, and_missing};
+use crate::header;
+use coset::{CoseEncrypt, CoseEncryptBuilder, CoseError, CoseRecipient, Result};
+use coset_lines::words::Words;
+use coset_lines::{mark, tell};
+use std::alloc::Global;
+
+/// Makes the call of that name.
+///
+/// # Errors
+/// What it is given can't be made of the words, or the name isn't known.
+pub fn call(alloc: Global, name: &str, words: &Words<'_>) -> Result<String> {
+    match name {
+        "decrypt" => decrypt(alloc, words),
+        "decrypt_ciphertext" => decrypt_ciphertext(alloc, words),
+        "create_ciphertext" => create_ciphertext(alloc, words),
+        "try_create_ciphertext" => try_create_ciphertext(alloc, words),
+        "add_recipient" => add_recipient(alloc, words),
+        "build" => build(alloc, words),
+        "to_vec_with" => tell::written(alloc, message(alloc, words, 1, 2)?),
+        _ => Err(CoseError::UnexpectedItem("name", "call of CoseEncrypt")),
+    }
+}
+
+/// The message of the word at `place`, with its protected header as the word at `header` says.
+fn message(alloc: Global, words: &Words<'_>, place: usize, header: usize) -> Result<CoseEncrypt> {
+    let mut message: CoseEncrypt = words.value(alloc, place)?;
+    header::change(&mut message.protected, words.word(header))?;
+    Ok(message)
+}
+
+/// `yes` or `no`; the message; `external_aad`; the plaintext that the closure makes; what becomes of the header.
+fn decrypt(alloc: Global, words: &Words<'_>) -> Result<String> {
+    let message = message(alloc, words, 2, 5)?;
+    let external_aad = words.bytes(alloc, 3)?;
+    let plaintext = words.made(alloc, 1, 4)?;
+    let mut asked = Asked::new(alloc)?;
+    let count = &mut asked;
+    if message.ciphertext.is_none() {
+        return Err(CoseError::UnexpectedItem("no ciphertext", "ciphertext"));
+    }
+    mark::begin(alloc);
+    let answer = message.decrypt(alloc, &external_aad, move |ciphertext, structure| {
+        count.try_make(ciphertext, structure, plaintext)
+    });
+    mark::end(alloc);
+    asked.opened(alloc, answer)
+}
+
+/// The same of a message whose ciphertext may be missing.
+fn decrypt_ciphertext(alloc: Global, words: &Words<'_>) -> Result<String> {
+    let message = message(alloc, words, 2, 5)?;
+    let external_aad = words.bytes(alloc, 3)?;
+    let plaintext = words.made(alloc, 1, 4)?;
+    let mut asked = Asked::new(alloc)?;
+    let mut missed = 0u32;
+    let count = &mut asked;
+    let misses = &mut missed;
+    mark::begin(alloc);
+    let answer = message.decrypt_ciphertext(
+        alloc,
+        &external_aad,
+        move || {
+            *misses = misses.saturating_add(1);
+            No
+        },
+        move |ciphertext, structure| count.try_make(ciphertext, structure, plaintext),
+    );
+    mark::end(alloc);
+    and_missing(alloc, asked.opened(alloc, answer)?, missed)
+}
+
+/// What was built, where the builder was made.
+fn built<E: Drop>(
+    made: std::result::Result<CoseEncryptBuilder, E>,
+) -> std::result::Result<CoseEncrypt, E> {
+    match made {
+        Ok(builder) => Ok(builder.build()),
+        Err(error) => Err(error),
+    }
+}
+
+/// A builder with the message's headers and recipients.
+///
+/// # Errors
+/// `OutOfMemory` alone.
+fn filled(alloc: Global, message: CoseEncrypt) -> Result<CoseEncryptBuilder> {
+    let CoseEncrypt {
+        protected,
+        unprotected,
+        ciphertext: _,
+        recipients,
+    } = message;
+    let builder = CoseEncryptBuilder::new(alloc)
+        .protected(protected.header)
+        .unprotected(unprotected);
+    and_each(builder, recipients)
+}
+
+/// The builder with these recipients behind its own.
+///
+/// # Errors
+/// `OutOfMemory` alone.
+fn and_each(
+    mut builder: CoseEncryptBuilder,
+    recipients: Vec<CoseRecipient>,
+) -> Result<CoseEncryptBuilder> {
+    for recipient in recipients {
+        builder = builder.add_recipient(recipient)?;
+    }
+    Ok(builder)
+}
+
+/// The message; the plaintext; `external_aad`; the ciphertext that the closure makes; what becomes of the header.
+fn create_ciphertext(alloc: Global, words: &Words<'_>) -> Result<String> {
+    let builder = filled(alloc, message(alloc, words, 1, 5)?)?;
+    let plaintext = words.bytes(alloc, 2)?;
+    let external_aad = words.bytes(alloc, 3)?;
+    let ciphertext = words.bytes(alloc, 4)?;
+    let mut asked = Asked::new(alloc)?;
+    let count = &mut asked;
+    mark::begin(alloc);
+    let answer = builder.create_ciphertext(
+        alloc,
+        &plaintext,
+        &external_aad,
+        move |plaintext, structure| count.make(plaintext, structure, ciphertext),
+    );
+    mark::end(alloc);
+    asked.made(alloc, built(answer))
+}
+
+/// `yes` or `no`, and the same.
+fn try_create_ciphertext(alloc: Global, words: &Words<'_>) -> Result<String> {
+    let builder = filled(alloc, message(alloc, words, 2, 6)?)?;
+    let plaintext = words.bytes(alloc, 3)?;
+    let external_aad = words.bytes(alloc, 4)?;
+    let ciphertext = words.made(alloc, 1, 5)?;
+    let mut asked = Asked::new(alloc)?;
+    let count = &mut asked;
+    mark::begin(alloc);
+    let answer = builder.try_create_ciphertext(
+        alloc,
+        &plaintext,
+        &external_aad,
+        move |plaintext, structure| count.try_make(plaintext, structure, ciphertext),
+    );
+    mark::end(alloc);
+    asked.tried(alloc, built(answer))
+}
+
+/// The message, of which the headers and the recipients count; a recipient more.
+fn add_recipient(alloc: Global, words: &Words<'_>) -> Result<String> {
+    let message: CoseEncrypt = words.value(alloc, 1)?;
+    let builder = filled(alloc, message)?;
+    let recipient: CoseRecipient = words.value(alloc, 2)?;
+    mark::begin(alloc);
+    let answer = builder.add_recipient(recipient);
+    mark::end(alloc);
+    tell::value(alloc, built(answer))
+}
+
+/// The message; what becomes of the header. Each of its recipients is added.
+fn build(alloc: Global, words: &Words<'_>) -> Result<String> {
+    let CoseEncrypt {
+        protected,
+        unprotected,
+        ciphertext,
+        recipients,
+    } = message(alloc, words, 1, 2)?;
+    mark::begin(alloc);
+    let builder = CoseEncryptBuilder::new(alloc)
+        .protected(protected.header)
+        .unprotected(unprotected);
+    let builder = match ciphertext {
+        Some(ciphertext) => builder.ciphertext(ciphertext),
+        None => builder,
+    };
+    let answer = and_each(builder, recipients);
+    mark::end(alloc);
+    tell::value(alloc, built(answer))
+}

@@ -1,0 +1,154 @@
+//! Calls of `CoseEncrypt0` and its builder.
+
+use crate::asked::{Asked, No, and_missing};
+use crate::header;
+use coset::{CoseEncrypt0, CoseEncrypt0Builder, CoseError, Result};
+use coset_lines::words::Words;
+use coset_lines::{mark, tell};
+use std::alloc::Global;
+
+/// Makes the call of that name.
+///
+/// # Errors
+/// What it is given can't be made of the words, or the name isn't known.
+pub fn call(alloc: Global, name: &str, words: &Words<'_>) -> Result<String> {
+    match name {
+        "decrypt" => decrypt(alloc, words),
+        "decrypt_ciphertext" => decrypt_ciphertext(alloc, words),
+        "create_ciphertext" => create_ciphertext(alloc, words),
+        "try_create_ciphertext" => try_create_ciphertext(alloc, words),
+        "build" => build(alloc, words),
+        "to_vec_with" => tell::written(alloc, message(alloc, words, 1, 2)?),
+        _ => Err(CoseError::UnexpectedItem("name", "call of CoseEncrypt0")),
+    }
+}
+
+/// The message of the word at `place`, with its protected header as the word at `header` says.
+fn message(alloc: Global, words: &Words<'_>, place: usize, header: usize) -> Result<CoseEncrypt0> {
+    let mut message: CoseEncrypt0 = words.value(alloc, place)?;
+    header::change(&mut message.protected, words.word(header))?;
+    Ok(message)
+}
+
+/// `yes` or `no`; the message; `external_aad`; the plaintext that the closure makes; what becomes of the header.
+fn decrypt(alloc: Global, words: &Words<'_>) -> Result<String> {
+    let message = message(alloc, words, 2, 5)?;
+    let external_aad = words.bytes(alloc, 3)?;
+    let plaintext = words.made(alloc, 1, 4)?;
+    let mut asked = Asked::new(alloc)?;
+    let count = &mut asked;
+    if message.ciphertext.is_none() {
+        return Err(CoseError::UnexpectedItem("no ciphertext", "ciphertext"));
+    }
+    mark::begin(alloc);
+    let answer = message.decrypt(alloc, &external_aad, move |ciphertext, structure| {
+        count.try_make(ciphertext, structure, plaintext)
+    });
+    mark::end(alloc);
+    asked.opened(alloc, answer)
+}
+
+/// The same of a message whose ciphertext may be missing.
+fn decrypt_ciphertext(alloc: Global, words: &Words<'_>) -> Result<String> {
+    let message = message(alloc, words, 2, 5)?;
+    let external_aad = words.bytes(alloc, 3)?;
+    let plaintext = words.made(alloc, 1, 4)?;
+    let mut asked = Asked::new(alloc)?;
+    let mut missed = 0u32;
+    let count = &mut asked;
+    let misses = &mut missed;
+    mark::begin(alloc);
+    let answer = message.decrypt_ciphertext(
+        alloc,
+        &external_aad,
+        move || {
+            *misses = misses.saturating_add(1);
+            No
+        },
+        move |ciphertext, structure| count.try_make(ciphertext, structure, plaintext),
+    );
+    mark::end(alloc);
+    and_missing(alloc, asked.opened(alloc, answer)?, missed)
+}
+
+/// What was built, where the builder was made.
+fn built<E: Drop>(
+    made: std::result::Result<CoseEncrypt0Builder, E>,
+) -> std::result::Result<CoseEncrypt0, E> {
+    match made {
+        Ok(builder) => Ok(builder.build()),
+        Err(error) => Err(error),
+    }
+}
+
+/// The message; the plaintext; `external_aad`; the ciphertext that the closure makes; what becomes of the header.
+fn create_ciphertext(alloc: Global, words: &Words<'_>) -> Result<String> {
+    let CoseEncrypt0 {
+        protected,
+        unprotected,
+        ciphertext: _,
+    } = message(alloc, words, 1, 5)?;
+    let builder = CoseEncrypt0Builder::new(alloc)
+        .protected(protected.header)
+        .unprotected(unprotected);
+    let plaintext = words.bytes(alloc, 2)?;
+    let external_aad = words.bytes(alloc, 3)?;
+    let ciphertext = words.bytes(alloc, 4)?;
+    let mut asked = Asked::new(alloc)?;
+    let count = &mut asked;
+    mark::begin(alloc);
+    let answer = builder.create_ciphertext(
+        alloc,
+        &plaintext,
+        &external_aad,
+        move |plaintext, structure| count.make(plaintext, structure, ciphertext),
+    );
+    mark::end(alloc);
+    asked.made(alloc, built(answer))
+}
+
+/// `yes` or `no`, and the same.
+fn try_create_ciphertext(alloc: Global, words: &Words<'_>) -> Result<String> {
+    let CoseEncrypt0 {
+        protected,
+        unprotected,
+        ciphertext: _,
+    } = message(alloc, words, 2, 6)?;
+    let builder = CoseEncrypt0Builder::new(alloc)
+        .protected(protected.header)
+        .unprotected(unprotected);
+    let plaintext = words.bytes(alloc, 3)?;
+    let external_aad = words.bytes(alloc, 4)?;
+    let ciphertext = words.made(alloc, 1, 5)?;
+    let mut asked = Asked::new(alloc)?;
+    let count = &mut asked;
+    mark::begin(alloc);
+    let answer = builder.try_create_ciphertext(
+        alloc,
+        &plaintext,
+        &external_aad,
+        move |plaintext, structure| count.try_make(plaintext, structure, ciphertext),
+    );
+    mark::end(alloc);
+    asked.tried(alloc, built(answer))
+}
+
+/// The message; what becomes of the header.
+fn build(alloc: Global, words: &Words<'_>) -> Result<String> {
+    let CoseEncrypt0 {
+        protected,
+        unprotected,
+        ciphertext,
+    } = message(alloc, words, 1, 2)?;
+    mark::begin(alloc);
+    let builder = CoseEncrypt0Builder::new(alloc)
+        .protected(protected.header)
+        .unprotected(unprotected);
+    let builder = match ciphertext {
+        Some(ciphertext) => builder.ciphertext(ciphertext),
+        None => builder,
+    };
+    let built = builder.build();
+    mark::end(alloc);
+    tell::value(alloc, Ok(built))
+}

@@ -1,0 +1,163 @@
+//! Calls of `CoseMac0` and its builder.
+
+use crate::asked::{Asked, No, and_missing};
+use crate::header;
+use coset::{CoseError, CoseMac0, CoseMac0Builder, Result};
+use coset_lines::words::Words;
+use coset_lines::{mark, tell};
+use std::alloc::Global;
+
+/// Makes the call of that name.
+///
+/// # Errors
+/// What it is given can't be made of the words, or the name isn't known.
+pub fn call(alloc: Global, name: &str, words: &Words<'_>) -> Result<String> {
+    match name {
+        "verify_tag" => verify_tag(alloc, words),
+        "verify_payload_tag" => verify_payload_tag(alloc, words),
+        "create_tag" => create_tag(alloc, words),
+        "try_create_tag" => try_create_tag(alloc, words),
+        "build" => build(alloc, words),
+        "to_vec_with" => tell::written(alloc, message(alloc, words, 1, 2)?),
+        _ => Err(CoseError::UnexpectedItem("name", "call of CoseMac0")),
+    }
+}
+
+/// The message of the word at `place`, with its protected header as the word at `header` says.
+fn message(alloc: Global, words: &Words<'_>, place: usize, header: usize) -> Result<CoseMac0> {
+    let mut message: CoseMac0 = words.value(alloc, place)?;
+    header::change(&mut message.protected, words.word(header))?;
+    Ok(message)
+}
+
+/// That a payload is missing, without which the call can't be made.
+fn no_payload() -> CoseError {
+    CoseError::UnexpectedItem("no payload", "payload")
+}
+
+/// `yes` or `no`; the message; `external_aad`; what becomes of the header.
+fn verify_tag(alloc: Global, words: &Words<'_>) -> Result<String> {
+    let says_yes = words.says_yes(1)?;
+    let message = message(alloc, words, 2, 4)?;
+    let external_aad = words.bytes(alloc, 3)?;
+    let mut asked = Asked::new(alloc)?;
+    let count = &mut asked;
+    if message.payload.is_none() {
+        return Err(no_payload());
+    }
+    mark::begin(alloc);
+    let answer = message.verify_tag(alloc, &external_aad, move |tag, tbm| {
+        count.judge(tag, tbm, says_yes)
+    });
+    mark::end(alloc);
+    asked.judged(alloc, answer)
+}
+
+/// The same of a message whose payload may be missing.
+fn verify_payload_tag(alloc: Global, words: &Words<'_>) -> Result<String> {
+    let says_yes = words.says_yes(1)?;
+    let message = message(alloc, words, 2, 4)?;
+    let external_aad = words.bytes(alloc, 3)?;
+    let mut asked = Asked::new(alloc)?;
+    let mut missed = 0u32;
+    let count = &mut asked;
+    let misses = &mut missed;
+    mark::begin(alloc);
+    let answer = message.verify_payload_tag(
+        alloc,
+        &external_aad,
+        move || {
+            *misses = misses.saturating_add(1);
+            No
+        },
+        move |tag, tbm| count.judge(tag, tbm, says_yes),
+    );
+    mark::end(alloc);
+    and_missing(alloc, asked.judged(alloc, answer)?, missed)
+}
+
+/// What was built, where the builder was made.
+fn built<E: Drop>(
+    made: std::result::Result<CoseMac0Builder, E>,
+) -> std::result::Result<CoseMac0, E> {
+    match made {
+        Ok(builder) => Ok(builder.build()),
+        Err(error) => Err(error),
+    }
+}
+
+/// The message; `external_aad`; the tag that the closure makes; what becomes of the header.
+fn create_tag(alloc: Global, words: &Words<'_>) -> Result<String> {
+    let CoseMac0 {
+        protected,
+        unprotected,
+        payload,
+        tag: _,
+    } = message(alloc, words, 1, 4)?;
+    let Some(payload) = payload else {
+        return Err(no_payload());
+    };
+    let builder = CoseMac0Builder::new(alloc)
+        .protected(protected.header)
+        .unprotected(unprotected)
+        .payload(payload);
+    let external_aad = words.bytes(alloc, 2)?;
+    let tag = words.bytes(alloc, 3)?;
+    let mut asked = Asked::new(alloc)?;
+    let count = &mut asked;
+    mark::begin(alloc);
+    let answer = builder.create_tag(alloc, &external_aad, move |tbm| {
+        count.make(&[], tbm, tag)
+    });
+    mark::end(alloc);
+    asked.made(alloc, built(answer))
+}
+
+/// `yes` or `no`, and the same.
+fn try_create_tag(alloc: Global, words: &Words<'_>) -> Result<String> {
+    let CoseMac0 {
+        protected,
+        unprotected,
+        payload,
+        tag: _,
+    } = message(alloc, words, 2, 5)?;
+    let Some(payload) = payload else {
+        return Err(no_payload());
+    };
+    let builder = CoseMac0Builder::new(alloc)
+        .protected(protected.header)
+        .unprotected(unprotected)
+        .payload(payload);
+    let external_aad = words.bytes(alloc, 3)?;
+    let tag = words.made(alloc, 1, 4)?;
+    let mut asked = Asked::new(alloc)?;
+    let count = &mut asked;
+    mark::begin(alloc);
+    let answer = builder.try_create_tag(alloc, &external_aad, move |tbm| {
+        count.try_make(&[], tbm, tag)
+    });
+    mark::end(alloc);
+    asked.tried(alloc, built(answer))
+}
+
+/// The message; what becomes of the header.
+fn build(alloc: Global, words: &Words<'_>) -> Result<String> {
+    let CoseMac0 {
+        protected,
+        unprotected,
+        payload,
+        tag,
+    } = message(alloc, words, 1, 2)?;
+    mark::begin(alloc);
+    let builder = CoseMac0Builder::new(alloc)
+        .protected(protected.header)
+        .unprotected(unprotected)
+        .tag(tag);
+    let builder = match payload {
+        Some(payload) => builder.payload(payload),
+        None => builder,
+    };
+    let built = builder.build();
+    mark::end(alloc);
+    tell::value(alloc, Ok(built))
+}

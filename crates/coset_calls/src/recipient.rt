@@ -1,0 +1,216 @@
+//! Calls of `CoseRecipient` and its builder.
+
+ghost use Rattle.std.specs.Prelude.{IfOk};
+ghost use Rattle.coset_recipient.specs.Recipient.{IsOfRecipient};
+
+use crate::asked::{Asked, No, and_missing};
+use crate::header;
+use coset::{CoseError, CoseRecipient, CoseRecipientBuilder, EncryptionContext, Result};
+use coset_lines::words::Words;
+use coset_lines::{mark, tell};
+use std::alloc::Global;
+
+/// Makes the call of that name.
+///
+/// # Errors
+/// What it is given can't be made of the words, or the name isn't known.
+pub fn call(alloc: Global, name: &str, words: &Words<'_>) -> Result<String> {
+    match name {
+        "decrypt" => decrypt(alloc, words),
+        "decrypt_ciphertext" => decrypt_ciphertext(alloc, words),
+        "create_ciphertext" => create_ciphertext(alloc, words),
+        "try_create_ciphertext" => try_create_ciphertext(alloc, words),
+        "add_recipient" => add_recipient(alloc, words),
+        "build" => build(alloc, words),
+        "to_vec_with" => tell::written(alloc, recipient(alloc, words, 1, 2)?),
+        _ => Err(CoseError::UnexpectedItem("name", "call of CoseRecipient")),
+    }
+}
+
+/// The context of that name, which is one of a recipient.
+fn recipient_context(word: &str) -> Result<EncryptionContext>
+    ensures { IfOk result (λ context. IsOfRecipient context) }
+{
+    match word {
+        "EncRecipient" => Ok(EncryptionContext::EncRecipient),
+        "MacRecipient" => Ok(EncryptionContext::MacRecipient),
+        "RecRecipient" => Ok(EncryptionContext::RecRecipient),
+        _ => Err(CoseError::UnexpectedItem("word", "context of a recipient")),
+    }
+}
+
+/// The recipient of the word at `place`, with its protected header as the word at `header` says.
+fn recipient(
+    alloc: Global,
+    words: &Words<'_>,
+    place: usize,
+    header: usize,
+) -> Result<CoseRecipient> {
+    let mut recipient: CoseRecipient = words.value(alloc, place)?;
+    header::change(&mut recipient.protected, words.word(header))?;
+    Ok(recipient)
+}
+
+/// `yes` or `no`; the recipient; the context; `external_aad`; the plaintext that the closure makes; what becomes of
+/// the header.
+fn decrypt(alloc: Global, words: &Words<'_>) -> Result<String> {
+    let recipient = recipient(alloc, words, 2, 6)?;
+    let context = recipient_context(words.word(3))?;
+    let external_aad = words.bytes(alloc, 4)?;
+    let plaintext = words.made(alloc, 1, 5)?;
+    let mut asked = Asked::new(alloc)?;
+    let count = &mut asked;
+    if recipient.ciphertext.is_none() {
+        return Err(CoseError::UnexpectedItem("no ciphertext", "ciphertext"));
+    }
+    mark::begin(alloc);
+    let answer = recipient.decrypt(
+        alloc,
+        context,
+        &external_aad,
+        move |ciphertext, structure| { count.try_make(ciphertext, structure, plaintext) },
+    );
+    mark::end(alloc);
+    asked.opened(alloc, answer)
+}
+
+/// The same of a recipient whose ciphertext may be missing.
+fn decrypt_ciphertext(alloc: Global, words: &Words<'_>) -> Result<String> {
+    let recipient = recipient(alloc, words, 2, 6)?;
+    let context = recipient_context(words.word(3))?;
+    let external_aad = words.bytes(alloc, 4)?;
+    let plaintext = words.made(alloc, 1, 5)?;
+    let mut asked = Asked::new(alloc)?;
+    let mut missed = 0u32;
+    let count = &mut asked;
+    let misses = &mut missed;
+    mark::begin(alloc);
+    let answer = recipient.decrypt_ciphertext(
+        alloc,
+        context,
+        &external_aad,
+        move || {
+            *misses = misses.saturating_add(1);
+            No
+        },
+        move |ciphertext, structure| count.try_make(ciphertext, structure, plaintext),
+    );
+    mark::end(alloc);
+    and_missing(alloc, asked.opened(alloc, answer)?, missed)
+}
+
+/// What was built, where the builder was made.
+fn built<E: Drop>(
+    made: std::result::Result<CoseRecipientBuilder, E>,
+) -> std::result::Result<CoseRecipient, E> {
+    match made {
+        Ok(builder) => Ok(builder.build()),
+        Err(error) => Err(error),
+    }
+}
+
+/// A builder with the recipient's headers and recipients.
+///
+/// # Errors
+/// `OutOfMemory` alone.
+fn filled(alloc: Global, recipient: CoseRecipient) -> Result<CoseRecipientBuilder> {
+    let CoseRecipient {
+        protected,
+        unprotected,
+        ciphertext: _,
+        recipients,
+    } = recipient;
+    let builder = CoseRecipientBuilder::new(alloc)
+        .protected(protected.header)
+        .unprotected(unprotected);
+    and_each(builder, recipients)
+}
+
+/// The builder with these recipients behind its own.
+///
+/// # Errors
+/// `OutOfMemory` alone.
+fn and_each(
+    mut builder: CoseRecipientBuilder,
+    recipients: Vec<CoseRecipient>,
+) -> Result<CoseRecipientBuilder> {
+    for recipient in recipients {
+        builder = builder.add_recipient(recipient)?;
+    }
+    Ok(builder)
+}
+
+/// The recipient; the context; the plaintext; `external_aad`; the ciphertext that the closure makes; what becomes of
+/// the header.
+fn create_ciphertext(alloc: Global, words: &Words<'_>) -> Result<String> {
+    let builder = filled(alloc, recipient(alloc, words, 1, 6)?)?;
+    let context = recipient_context(words.word(2))?;
+    let plaintext = words.bytes(alloc, 3)?;
+    let external_aad = words.bytes(alloc, 4)?;
+    let ciphertext = words.bytes(alloc, 5)?;
+    let mut asked = Asked::new(alloc)?;
+    let count = &mut asked;
+    mark::begin(alloc);
+    let answer = builder.create_ciphertext(
+        alloc,
+        context,
+        &plaintext,
+        &external_aad,
+        move |plaintext, structure| count.make(plaintext, structure, ciphertext),
+    );
+    mark::end(alloc);
+    asked.made(alloc, built(answer))
+}
+
+/// `yes` or `no`, and the same.
+fn try_create_ciphertext(alloc: Global, words: &Words<'_>) -> Result<String> {
+    let builder = filled(alloc, recipient(alloc, words, 2, 7)?)?;
+    let context = recipient_context(words.word(3))?;
+    let plaintext = words.bytes(alloc, 4)?;
+    let external_aad = words.bytes(alloc, 5)?;
+    let ciphertext = words.made(alloc, 1, 6)?;
+    let mut asked = Asked::new(alloc)?;
+    let count = &mut asked;
+    mark::begin(alloc);
+    let answer = builder.try_create_ciphertext(
+        alloc,
+        context,
+        &plaintext,
+        &external_aad,
+        move |plaintext, structure| count.try_make(plaintext, structure, ciphertext),
+    );
+    mark::end(alloc);
+    asked.tried(alloc, built(answer))
+}
+
+/// The recipient, of which the headers and the recipients count; a recipient more.
+fn add_recipient(alloc: Global, words: &Words<'_>) -> Result<String> {
+    let recipient: CoseRecipient = words.value(alloc, 1)?;
+    let builder = filled(alloc, recipient)?;
+    let other: CoseRecipient = words.value(alloc, 2)?;
+    mark::begin(alloc);
+    let answer = builder.add_recipient(other);
+    mark::end(alloc);
+    tell::value(alloc, built(answer))
+}
+
+/// The recipient; what becomes of the header. Each of its recipients is added.
+fn build(alloc: Global, words: &Words<'_>) -> Result<String> {
+    let CoseRecipient {
+        protected,
+        unprotected,
+        ciphertext,
+        recipients,
+    } = recipient(alloc, words, 1, 2)?;
+    mark::begin(alloc);
+    let builder = CoseRecipientBuilder::new(alloc)
+        .protected(protected.header)
+        .unprotected(unprotected);
+    let builder = match ciphertext {
+        Some(ciphertext) => builder.ciphertext(ciphertext),
+        None => builder,
+    };
+    let answer = and_each(builder, recipients);
+    mark::end(alloc);
+    tell::value(alloc, built(answer))
+}

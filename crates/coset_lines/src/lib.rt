@@ -1,0 +1,7 @@
+//! Lines that name calls of `coset`, and their answers: what the programs share that make calls by their names.
+#![tactic(auto)]
+
+pub mod line;
+pub mod mark;
+pub mod tell;
+pub mod words;

@@ -1,0 +1,116 @@
+//! Which labels words are, and what is written of labels that are made of numbers.
+
+use crate::own::Own;
+use crate::spelled;
+use coset::iana::{self, EnumI64, WithPrivateRange};
+use coset::{
+    Algorithm, CborSerializable, CoseError, KeyType, Label, RegisteredLabel,
+    RegisteredLabelWithPrivate, Result,
+};
+use coset_lines::words::{self, Words};
+use coset_lines::{mark, tell};
+use std::alloc::Global;
+use std::fmt::Debug;
+
+/// A label's bytes: which label is read of them.
+///
+/// # Errors
+/// What the call is given can't be made of the words, or the kind of labels isn't known.
+pub fn debug(alloc: Global, kind: &str, words: &Words<'_>) -> Result<String> {
+    match kind {
+        "Label" => told::<Label>(alloc, words),
+        "KeyType" => told::<KeyType>(alloc, words),
+        "Algorithm" => told::<Algorithm>(alloc, words),
+        "Own" => told::<RegisteredLabelWithPrivate<Own>>(alloc, words),
+        _ => Err(CoseError::UnexpectedItem("name", "kind of labels")),
+    }
+}
+
+fn told<T: CborSerializable + Debug + Drop>(alloc: Global, words: &Words<'_>) -> Result<String> {
+    let bytes = words.bytes(alloc, 1)?;
+    mark::begin(alloc);
+    let answer = T::from_slice(alloc, &bytes);
+    mark::end(alloc);
+    match answer {
+        Ok(label) => Ok(format!(in alloc; "ok {label:?}")?),
+        Err(error) => tell::refused(alloc, error),
+    }
+}
+
+/// A number, which may have a name: what is written of the label for private use.
+///
+/// # Errors
+/// What the call is given can't be made of the words, or the kind of labels isn't known.
+pub fn of_private_use(alloc: Global, kind: &str, words: &Words<'_>) -> Result<String> {
+    match kind {
+        "Algorithm" => written::<iana::Algorithm>(alloc, words::number(words.word(1))?),
+        "Own" => written::<Own>(alloc, words::number(words.word(1))?),
+        _ => Err(CoseError::UnexpectedItem("name", "kind of labels")),
+    }
+}
+
+fn written<T: EnumI64 + WithPrivateRange + Drop>(alloc: Global, number: i64) -> Result<String> {
+    let label: RegisteredLabelWithPrivate<T> = RegisteredLabelWithPrivate::PrivateUse(number);
+    mark::begin(alloc);
+    let answer = label.to_vec(alloc);
+    mark::end(alloc);
+    tell::bytes(alloc, answer)
+}
+
+/// A label's bytes: what is written of the label that is read.
+///
+/// # Errors
+/// The word is no label.
+pub fn own_to_vec(alloc: Global, words: &Words<'_>) -> Result<String> {
+    let label: RegisteredLabelWithPrivate<Own> = spelled::read(alloc, words.word(1))?;
+    mark::begin(alloc);
+    let answer = label.to_vec(alloc);
+    mark::end(alloc);
+    tell::bytes(alloc, answer)
+}
+
+/// A number that has a name in the registry: the label that the name becomes.
+///
+/// # Errors
+/// What the call is given can't be made of the words, or the kind of labels isn't known.
+pub fn from(alloc: Global, kind: &str, words: &Words<'_>) -> Result<String> {
+    match kind {
+        "KeyType" => {
+            let name: iana::KeyType = spelled::named(words.word(1))?;
+            mark::begin(alloc);
+            let label: KeyType = RegisteredLabel::from(name);
+            mark::end(alloc);
+            Ok(format!(in alloc; "{label:?}")?)
+        }
+        "Algorithm" => {
+            let name: iana::Algorithm = spelled::named(words.word(1))?;
+            mark::begin(alloc);
+            let label: Algorithm = RegisteredLabelWithPrivate::from(name);
+            mark::end(alloc);
+            Ok(format!(in alloc; "{label:?}")?)
+        }
+        _ => Err(CoseError::UnexpectedItem("name", "kind of labels")),
+    }
+}
+
+/// The label that stands where none is named.
+///
+/// # Errors
+/// The kind of labels isn't known.
+pub fn default(alloc: Global, kind: &str) -> Result<String> {
+    match kind {
+        "KeyType" => {
+            mark::begin(alloc);
+            let label = KeyType::default();
+            mark::end(alloc);
+            Ok(format!(in alloc; "{label:?}")?)
+        }
+        "Algorithm" => {
+            mark::begin(alloc);
+            let label = Algorithm::default();
+            mark::end(alloc);
+            Ok(format!(in alloc; "{label:?}")?)
+        }
+        _ => Err(CoseError::UnexpectedItem("name", "kind of labels")),
+    }
+}

@@ -1,0 +1,87 @@
+//! Calls that read CBOR.
+
+ghost use Rattle.std.specs.Prelude.{◌≡◌, ◌+◌, ◌<◌, ℕ, [], ◌∷◌, ◌++◌, replicate, Ok};
+
+use coset::cbor::de::{EndOfFile, Error, Steps, check, decode_encoded, read_value};
+use coset::cbor::laws;
+use coset::{CborSerializable, CoseError, Result};
+use coset_lines::words::Words;
+use coset_lines::{mark, tell};
+use std::alloc::Global;
+use std::marker::Brand;
+use std::sync::ledger::{Blank, Ledger};
+
+/// The bytes: what is written of the value that is read, and its length.
+///
+/// # Errors
+/// The word is no hexadecimal, or memory ran out.
+pub fn read(alloc: Global, words: &Words<'_>) -> Result<String> {
+    let bytes = words.bytes(alloc, 1)?;
+    mark::begin(alloc);
+    let answer = read_value(alloc, &bytes);
+    mark::end(alloc);
+    match answer {
+        Ok((value, length)) => {
+            let spelled = tell::hexadecimal(alloc, &value.to_vec(alloc)?)?;
+            Ok(format!(in alloc; "ok {spelled} {length}")?)
+        }
+        Err(error) => tell::unread(alloc, &error),
+    }
+}
+
+/// The bytes: the item that they are, or `none`.
+///
+/// # Errors
+/// The word is no hexadecimal, or memory ran out.
+pub fn decode(alloc: Global, words: &Words<'_>) -> Result<String> {
+    let bytes = words.bytes(alloc, 1)?;
+    mark::begin(alloc);
+    let answer = decode_encoded(alloc, &bytes);
+    mark::end(alloc);
+    match answer {
+        Ok(Some(value)) => tell::value(alloc, Ok(value)),
+        Ok(None) => tell::none(alloc),
+        Err(error) => tell::refused(alloc, CoseError::from(error)),
+    }
+}
+
+/// The bytes: the length of the item at their front.
+///
+/// # Errors
+/// The word is no hexadecimal, or memory ran out.
+pub fn check_front(alloc: Global, words: &Words<'_>) -> Result<String> {
+    let bytes = words.bytes(alloc, 1)?;
+    mark::begin(alloc);
+    let answer = check_counted::<Brand>(&bytes, Blank::new(1));
+    mark::end(alloc);
+    match answer {
+        Ok(length) => Ok(format!(in alloc; "ok {length}")?),
+        Err(error) => tell::unread(alloc, &error),
+    }
+}
+
+/// A check with a counter of its own.
+fn check_counted<L: Ledger>(
+    bytes: &[u8],
+    blank: Blank,
+) -> std::result::Result<usize, Error<EndOfFile>>
+    requires name { blank.name ≡ L.name }
+    requires parts { blank.parts ≡ L.parts }
+    requires some { 0 < L.parts }
+{
+    let mut steps = Steps::<L>::new(blank);
+    check_nested(bytes, &mut steps)
+}
+
+/// A check. Of arrays of one member each, n of them inside one another around an empty one, it takes n + 1 steps.
+fn check_nested<L: Ledger>(
+    bytes: &[u8],
+    steps: &mut Steps<L>,
+) -> std::result::Result<usize, Error<EndOfFile>>
+    ensures { (n : ℕ) → n < 256 → bytes.now ≡ replicate n 0x81 ++ 0x80 ∷ []
+        → (result ≡ Ok (n + 1)) × (steps.new ≡ steps.old + (n + 1)) }
+{
+    laws::one_item();
+    laws::nested_arrays_cost();
+    check(bytes, steps)
+}

@@ -1,0 +1,54 @@
+//! Calls of `ProtectedHeader` about the byte string that holds it.
+
+use crate::typed::{given, lent, told, unknown};
+use coset::cbor::value::Value;
+use coset::{ProtectedBstr, ProtectedHeader, Result};
+use coset_lines::words::Words;
+use coset_lines::{mark, tell};
+use std::alloc::Global;
+
+/// Makes the call of that name.
+///
+/// # Errors
+/// What it is given can't be made of the words, or the name isn't known.
+pub fn call(alloc: Global, name: &str, words: &Words<'_>) -> Result<String> {
+    match name {
+        "from_cbor_bstr" => from_cbor_bstr(alloc, words),
+        "from_pull_bstr" => from_pull_bstr(alloc, words),
+        "cbor_bstr" => cbor_bstr(alloc, words),
+        _ => Err(unknown()),
+    }
+}
+
+/// The byte string.
+fn from_cbor_bstr(alloc: Global, words: &Words<'_>) -> Result<String> {
+    let item = words.value::<Value>(alloc, 1)?;
+    mark::begin(alloc);
+    let answer = ProtectedHeader::from_cbor_bstr(alloc, item);
+    mark::end(alloc);
+    told(alloc, in_string(answer))
+}
+
+/// The byte string.
+fn from_pull_bstr(alloc: Global, words: &Words<'_>) -> Result<String> {
+    let bytes = words.bytes(alloc, 1)?;
+    let pull = lent(&bytes)?;
+    mark::begin(alloc);
+    let answer = ProtectedHeader::from_pull_bstr(alloc, pull);
+    mark::end(alloc);
+    told(alloc, in_string(answer))
+}
+
+/// The map of a header, of which no bytes are kept.
+fn cbor_bstr(alloc: Global, words: &Words<'_>) -> Result<String> {
+    let header: ProtectedHeader = given(alloc, words, 1)?;
+    mark::begin(alloc);
+    let answer = header.cbor_bstr(alloc);
+    mark::end(alloc);
+    tell::value(alloc, answer)
+}
+
+/// The header as it is written in a byte string.
+fn in_string(answer: Result<ProtectedHeader>) -> Result<ProtectedBstr> {
+    Ok(ProtectedBstr(answer?))
+}
