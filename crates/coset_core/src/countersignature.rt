@@ -1,7 +1,7 @@
 //! Countersignatures of version 2: their shape is that of a signature, and what they are over is more than what those of
 //! label 7 are over. The shape, the structures and their contexts are this library's own, modelled on RFC 9338.
 
-ghost use Rattle.std.specs.Prelude.{◌≡◌, [], map, OnOk, IfOk, IfErr, IsTrue, None, ◌↔◌};
+ghost use Rattle.std.specs.Prelude.{◌≡◌, [], map, OnOk, IfOk, IfErr, IfSome, IsTrue, None, ◌↔◌, ◌+◌, ◌<◌};
 ghost use Rattle.coset_shape.specs.declared.error.CoseError.TheVariants.{OutOfMemory};
 ghost use Rattle.coset_core.specs.Contents.{empty_signature};
 ghost use Rattle.coset_shape.specs.InPlace.{GetsOne};
@@ -15,12 +15,13 @@ ghost use Rattle.std.specs.Ordering.{on};
 ghost use Rattle.std.specs.Cmp.{on_equiv, on_per, partial_equiv_from_equiv};
 ghost use Rattle.coset_core.specs.Same.{signature_eq, signatures_eq};
 ghost use Rattle.coset_core.specs.SameLaws.{signature_eq_equiv};
+ghost use Rattle.coset_core.specs.Held.{held_in};
 
 use crate::header::{Header, copy_header, same_header, write_header};
 use crate::protected::{
     Bstr, ProtectedHeader, copy_protected, protected_from_header, same_protected, write_protected,
 };
-use crate::signature::{CoseSignature, copy_into, make_room, read_signature};
+use crate::signature::{CoseSignature, Held, copy_into, held_by, make_room, read_signature};
 use coset_cbor::de::Pull;
 use coset_cbor::ser::{write_array_head, write_bytes};
 use coset_cbor::value::Value;
@@ -320,6 +321,23 @@ fn same_countersignature(a: &CoseCountersignature, b: &CoseCountersignature) -> 
     same_protected(&a.protected, &b.protected)
         && same_header(&a.unprotected, &b.unprotected)
         && a.signature == b.signature
+}
+
+/// Of the last countersignature the counter signatures of its two headers. The rest of it is let go.
+#[inline(never)]
+pub(crate) fn take_last_countersignature(
+    all: &mut Vec<CoseCountersignature>,
+) -> Option<(Held, Held)>
+    ensures none { result ≡ None → all.old.items ≡ [] }
+    ensures fewer { IfSome result (λ x. held_in x.0.0.items x.0.1.items + held_in x.1.0.items
+        x.1.1.items + held_in [] all.new.items < held_in [] all.old.items) }
+{
+    let CoseCountersignature {
+        protected,
+        unprotected,
+        signature: _,
+    } = all.pop()?;
+    Some(held_by(protected, unprotected))
 }
 
 /// Makes a [`CoseCountersignature`], field by field. Contracts see it as the countersignature that

@@ -49,7 +49,8 @@ use crate::countersignature::{
 };
 use crate::critical::{same_critical, set_critical, write_critical_field, write_registered};
 use crate::signature::{
-    CoseSignature, copy_signatures, fill_each, fill_one, let_go, same_signatures, write_signatures,
+    CoseSignature, Held, copy_signatures, fill_each, fill_one, let_go, let_held_go,
+    same_signatures, write_signatures,
 };
 use coset_cbor::de::Pull;
 use coset_cbor::ser::{
@@ -119,23 +120,16 @@ pub struct Header {
 }
 
 /// The counter signatures are let go in a function of their own, since headers in them are as deep as the input asked.
-/// Most headers have none.
 impl Drop for Header {
     fn drop(self) {
-        let (all, version_2) = self.into_signatures();
-        if all.is_empty() && version_2.is_empty() {
-            all.destroy_empty();
-            version_2.destroy_empty();
-        } else {
-            let_go(all, version_2);
-        }
+        let_held_go(self.into_signatures());
     }
 }
 
 impl Header {
     /// The counter signatures alone, of both versions.
     #[inline(always)]
-    pub(crate) fn into_signatures(self) -> (Vec<CoseSignature>, Vec<CoseCountersignature>)
+    pub(crate) fn into_signatures(self) -> Held
         ensures { (result.0.items, result.1.items) ≡ signatures_held self }
     {
         let Header {
@@ -959,6 +953,7 @@ fn write_counter_signatures(
 
 /// Appends the pair of the countersignatures of version 2, where there are any.
 #[cycle(write)]
+#[inline(always)]
 fn write_countersignatures(
     alloc: Global,
     signatures: &[CoseCountersignature],

@@ -18,9 +18,9 @@ ghost use Rattle.std.specs.Ordering.{on};
 ghost use Rattle.std.specs.Cmp.{on_equiv, on_per, partial_equiv_from_equiv};
 ghost use Rattle.coset_core.specs.Same.{signature_eq, signatures_eq};
 ghost use Rattle.coset_core.specs.SameLaws.{signature_eq_equiv};
-ghost use Rattle.coset_core.specs.Held.{header_count, held_in};
+ghost use Rattle.coset_core.specs.Held.{header_count, held_in, signatures_in};
 
-use crate::countersignature::CoseCountersignature;
+use crate::countersignature::{CoseCountersignature, take_last_countersignature};
 use crate::header::{Header, LAYERS, copy_header, fill_header, same_header, write_header};
 use crate::protected::{
     Bstr, ProtectedHeader, copy_protected, fill_protected, protected_from_header, same_protected,
@@ -584,37 +584,39 @@ fn same_signature(a: &CoseSignature, b: &CoseSignature) -> bool
         && a.signature == b.signature
 }
 
-/// Of the last signature of either version its two headers. The rest of it is let go.
-fn last_headers(
-    all: &mut Vec<CoseSignature>,
-    version_2: &mut Vec<CoseCountersignature>,
-) -> Option<(ProtectedHeader, Header)>
-    ensures none { result ≡ None → (all.new.items ≡ []) × (version_2.new.items ≡ []) }
-    ensures fewer { IfSome result (λ x. header_count (protected_seen x.0).header + header_count
-        (header_seen x.1) + held_in all.new.items version_2.new.items
-        < held_in all.old.items version_2.old.items) }
+/// The counter signatures of both versions.
+pub(crate) type Held = (Vec<CoseSignature>, Vec<CoseCountersignature>);
+
+/// The counter signatures of the two headers, whose rest is let go.
+#[inline(always)]
+pub(crate) fn held_by(protected: ProtectedHeader, unprotected: Header) -> (Held, Held)
+    ensures { held_in result.0.0.items result.0.1.items + held_in result.1.0.items result.1.1.items
+        ≡ header_count (protected_seen protected).header + header_count (header_seen unprotected) }
 {
-    if let Some(signed) = all.pop() {
-        let CoseSignature {
-            protected,
-            unprotected,
-            signature: _,
-        } = signed;
-        return Some((protected, unprotected));
-    }
-    let CoseCountersignature {
+    let ProtectedHeader {
+        original_data: _,
+        header,
+    } = protected;
+    (header.into_signatures(), unprotected.into_signatures())
+}
+
+/// Of the last signature the counter signatures of its two headers. The rest of it is let go.
+#[inline(never)]
+fn take_last_signature(all: &mut Vec<CoseSignature>) -> Option<(Held, Held)>
+    ensures none { result ≡ None → all.old.items ≡ [] }
+    ensures fewer { IfSome result (λ x. held_in x.0.0.items x.0.1.items + held_in x.1.0.items
+        x.1.1.items + signatures_in all.new.items < signatures_in all.old.items) }
+{
+    let CoseSignature {
         protected,
         unprotected,
         signature: _,
-    } = version_2.pop()?;
-    Some((protected, unprotected))
+    } = all.pop()?;
+    Some(held_by(protected, unprotected))
 }
 
-/// The counter signatures of both versions.
-type Held = (Vec<CoseSignature>, Vec<CoseCountersignature>);
-
 /// Of the last signature of either version the counter signatures of its two headers. The rest of it is let go.
-#[inline(never)]
+#[inline(always)]
 fn take_last(
     all: &mut Vec<CoseSignature>,
     version_2: &mut Vec<CoseCountersignature>,
@@ -624,22 +626,37 @@ fn take_last(
         x.1.1.items + held_in all.new.items version_2.new.items
         < held_in all.old.items version_2.old.items) }
 {
-    let (protected, unprotected) = last_headers(all, version_2)?;
-    let ProtectedHeader {
-        original_data: _,
-        header,
-    } = protected;
-    Some((header.into_signatures(), unprotected.into_signatures()))
+    if !all.is_empty() {
+        return take_last_signature(all);
+    }
+    if version_2.is_empty() {
+        return None;
+    }
+    take_last_countersignature(version_2)
+}
+
+/// Lets go what a header holds. Most headers hold none.
+#[cycle(let_go)]
+#[inline(always)]
+pub(crate) fn let_held_go(held: Held) {
+    let (all, version_2) = held;
+    if all.is_empty() && version_2.is_empty() {
+        all.destroy_empty();
+        version_2.destroy_empty();
+    } else {
+        let_go(all, version_2);
+    }
 }
 
 /// Lets signatures of both versions go, and those in their headers.
+#[cycle(let_go)]
 #[inline(never)]
 pub(crate) fn let_go(all: Vec<CoseSignature>, version_2: Vec<CoseCountersignature>) {
     let mut all = all;
     let mut version_2 = version_2;
     while let Some((protected, unprotected)) = take_last(&mut all, &mut version_2) {
-        let_go(protected.0, protected.1);
-        let_go(unprotected.0, unprotected.1);
+        let_held_go(protected);
+        let_held_go(unprotected);
     }
     all.destroy_empty();
     version_2.destroy_empty();

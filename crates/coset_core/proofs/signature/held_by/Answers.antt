@@ -4,15 +4,14 @@ use Rattle.coset_core.specs.ViewLaws.{protected-opened}
 use Rattle.coset_core.specs.Views.{header_seen, protected_seen}
 use Rattle.coset_core.specs.declared.protected.ProtectedHeader.{out-ProtectedHeader}
 use Rattle.coset_core.proofs.Signatures.{opened}
-use Rattle.coset_core.proofs.signature.take_last.Goals as goal
+use Rattle.coset_core.proofs.signature.held_by.Goals as goal
 
-pub returns-clause-fewer : goal.returns-clause-fewer
-returns-clause-fewer c =
-    let p = c.in_ok-protected.protected in
-    let u = c.in_ok-protected.unprotected in
+pub returns : goal.returns
+returns c =
+    let p = c.args.protected in
+    let u = c.args.unprotected in
     let first : held_in c.into_signatures.result.0.items c.into_signatures.result.1.items ≡ header_count (protected_seen p).header =
     ap (λ x. held_in x.0 x.1) c.into_signatures.ensures ∙ (sym (opened (out-ProtectedHeader p).header) ∙ sym (ap (λ q. header_count q.header) (protected-opened p))) in
     let second : held_in c.into_signatures-2.result.0.items c.into_signatures-2.result.1.items ≡ header_count (header_seen u) =
     ap (λ x. held_in x.0 x.1) c.into_signatures-2.ensures ∙ sym (opened u) in
-    let less = c.in_ok-protected.ensures.fewer in
-    omega (arith, first, second, less)
+    omega (arith, first, second)
