@@ -1,4 +1,5 @@
 pub mod Whole
+pub mod Described
 pub mod Lists
 pub mod Walking
 pub mod Pushing

@@ -11,17 +11,22 @@ ghost use Rattle.coset_shape.specs.ShapeLaws.{Again};
 use crate::traits::{AsCborValue, Lawful};
 use coset_cbor::laws::{least_heads_are_shortest, one_item, shortest_is_in_range};
 
-/// Bytes describe at most one value.
+/// Bytes describe at most one value, plain or under a tag.
 pub fn one_value<T: AsCborValue>()
-    ensures { (s : List ℕ) (x y : T.Seen) → Describes T.shape s x → Describes T.shape s y → x ≡ y }
+    ensures plain { (s : List ℕ) (x y : T.Seen) → Describes T.shape s x → Describes T.shape s y
+        → x ≡ y }
+    ensures tagged { (n : ℕ) (s : List ℕ) (x y : T.Seen) → Describes (tagged n T.shape) s x
+        → Describes (tagged n T.shape) s y → x ≡ y }
 {
     one_item();
 }
 
-/// Two spellings of one item describe the same value, or neither describes any.
+/// Two spellings of one item describe the same value, or neither describes any; under a tag too.
 pub fn spellings_agree<T: AsCborValue>()
-    ensures { (s t : List ℕ) (v : Item) (x : T.Seen) → IsItem s v → IsItem t v
+    ensures plain { (s t : List ℕ) (v : Item) (x : T.Seen) → IsItem s v → IsItem t v
         → Describes T.shape s x → Describes T.shape t x }
+    ensures tagged { (n : ℕ) (s t : List ℕ) (v : Item) (x : T.Seen) → IsItem s v → IsItem t v
+        → Describes (tagged n T.shape) s x → Describes (tagged n T.shape) t x }
 {
     one_item();
 }

@@ -42,11 +42,17 @@ pub fn keeps_the_laws<T: Lawful + CborSerializable + FromPull + PartialEq + fmt:
 
 /// What holds besides of each type that may stand under its tag: the same, with the tag.
 pub fn keeps_the_laws_when_tagged<T: Lawful + TaggedCborSerializable>()
+    ensures one { (n : ℕ) (s : List ℕ) (x y : T.Seen) → Describes (tagged n T.shape) s x
+        → Describes (tagged n T.shape) s y → x ≡ y }
+    ensures spellings { (n : ℕ) (s t : List ℕ) (v : Item) (x : T.Seen) → IsItem s v → IsItem t v
+        → Describes (tagged n T.shape) s x → Describes (tagged n T.shape) t x }
     ensures again { (n : ℕ) (s : List ℕ) (x : T.Seen) → Describes (tagged n T.shape) s x
         → ReadsAgain (tagged n T.shape) x }
     ensures apart { (n : ℕ) → EncodesApart (tagged n T.shape) }
     ensures stays { (n : ℕ) → StaysAsWritten (tagged n T.shape) }
 {
+    one_value::<T>();
+    spellings_agree::<T>();
     reads_again::<T>();
     written_apart::<T>();
     stays_as_written::<T>();

@@ -1,7 +1,10 @@
-use Rattle.std.proofs.Common.{subst}
-use Rattle.coset_shape.proofs.Whole.{one_of}
+use Rattle.coset_shape.specs.Shape.{tagged}
+use Rattle.coset_shape.proofs.Described.{tagged_unique, one_described}
 use Rattle.coset_shape.proofs.laws.one_value.Goals as goal
 
-pub returns : goal.returns
-returns g c = λ s x y p q.
-    g.met.T.AsCborValue.unique p.0 x y p.2 (subst (λ v. g.T.AsCborValue.shape.describes v y) (one_of c.one_item.ensures s q.0 p.0 q.1 p.1) q.2)
+pub returns-clause-plain : goal.returns-clause-plain
+returns-clause-plain g c = one_described g.T.AsCborValue.shape c.one_item.ensures g.met.T.AsCborValue.unique
+
+pub returns-clause-tagged : goal.returns-clause-tagged
+returns-clause-tagged g c = λ n.
+    one_described (tagged n g.T.AsCborValue.shape) c.one_item.ensures (tagged_unique n g.T.AsCborValue.shape g.met.T.AsCborValue.unique)

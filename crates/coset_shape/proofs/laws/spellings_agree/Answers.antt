@@ -1,7 +1,9 @@
-use Rattle.std.proofs.Common.{subst}
-use Rattle.coset_shape.proofs.Whole.{one_of}
+use Rattle.coset_shape.specs.Shape.{tagged}
+use Rattle.coset_shape.proofs.Described.{stands_for}
 use Rattle.coset_shape.proofs.laws.spellings_agree.Goals as goal
 
-pub returns : goal.returns
-returns g c = λ s t v x a b p.
-    (v, b, subst (λ w. g.T.AsCborValue.shape.describes w x) (one_of c.one_item.ensures s p.0 v p.1 a) p.2)
+pub returns-clause-plain : goal.returns-clause-plain
+returns-clause-plain g c = λ s t v x a b p. (v, b, stands_for g.T.AsCborValue.shape c.one_item.ensures s v x a p)
+
+pub returns-clause-tagged : goal.returns-clause-tagged
+returns-clause-tagged g c = λ n s t v x a b p. (v, b, stands_for (tagged n g.T.AsCborValue.shape) c.one_item.ensures s v x a p)

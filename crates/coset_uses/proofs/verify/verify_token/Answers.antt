@@ -5,7 +5,7 @@ use Rattle.coset_uses.proofs.verify.verify_token.Goals as goal
 
 pub returns-in_err-message-clause-genuine : goal.returns-in_err-message-clause-genuine
 returns-in_err-message-clause-genuine g c = λ payload b sent spelt.
-    passed_on _ _ c.from_residual.ensures.1 (λ k. c.in_err-message.ensures.refused k sent.read.0 (c.spellings_agree.ensures b c.args.token.now spelt.0 sent.read.0 spelt.1 spelt.2 sent.read.1))
+    passed_on _ _ c.from_residual.ensures.1 (λ k. c.in_err-message.ensures.refused k sent.read.0 (c.spellings_agree.ensures.plain b c.args.token.now spelt.0 sent.read.0 spelt.1 spelt.2 sent.read.1))
 
 pub returns-in_err-tbs-clause-genuine : goal.returns-in_err-tbs-clause-genuine
 returns-in_err-tbs-clause-genuine g c = λ payload b sent spelt.
