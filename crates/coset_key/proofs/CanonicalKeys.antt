@@ -1,5 +1,5 @@
 -- Keys whose params stand in the order of their labels.
-use Rattle.std.proofs.Common.{◌≡◌, ℕ, List, true, sym, ◌∙◌, ap, subst, arith}
+use Rattle.std.proofs.Common.{◌≡◌, ℕ, List, true, sym, ◌∙◌, ap, subst}
 use Rattle.std.specs.Cmp.{IsTotalOrder, both_ways}
 use Rattle.std.specs.List.{IsDistinct}
 use Rattle.std.specs.List.Sorted.{IsPermutation}
@@ -9,12 +9,10 @@ use Rattle.std.proofs.lemmas.List.Sorted.{IsPermutation-map, IsPermutation-sym, 
 use Rattle.std.proofs.lemmas.Cmp.{eq_by_cmp_equiv}
 use Rattle.std.proofs.lemmas.Map.Keys.{IsDistinct-IsPermutation}
 use Rattle.coset_value.specs.Item.{Item}
-use Rattle.coset_cbor.specs.Shortest.{IsShortest}
-use Rattle.coset_cbor.proofs.Shortest.{definite_is_encoding}
 use Rattle.coset_shape.specs.Answers.{Describes}
 use Rattle.coset_shape.specs.MapLaws.{labelled_arranged, rest_distinct}
-use Rattle.coset_shape.specs.ReadAgain.{EncodesApart, IsWritten}
-use Rattle.coset_shape.specs.ShapeLaws.{Again, some-one}
+use Rattle.coset_shape.specs.ReadAgain.{EncodesApart, again_reads}
+use Rattle.coset_shape.specs.ShapeLaws.{Again}
 use Rattle.coset_label.specs.NameOrder.{name_cmp_total, canonical_cmp_total, name_cmp-apart, canonical_cmp-apart}
 use Rattle.coset_label.specs.Names.{Name, TellsApart}
 use Rattle.coset_label.specs.Orderings.{name_cmp_by}
@@ -82,19 +80,13 @@ in_order : (o : CborOrdering) (v : Item) (k x : KeySeen) → key.describes v k �
 in_order o v k x p c = subst (Again KeySeen key v) c.agree.others (arranged v k x.params p c.agree.params)
 
 pub canonical_reads_again : (o : CborOrdering) → CanonicalReadsAgain o
-canonical_reads_again o b k x p c =
-    let again = in_order o p.0 k x p.2 c in
-    (again.image, again.is_image, λ d short. (again.image, (definite_is_encoding again.image d short.definite, omega (arith, again.shallow, p.1.1)), again.described))
-
--- what it is written as describes it
-describes_it : (o : CborOrdering) (a c : List ℕ) (k x : KeySeen) → Describes key a k → IsCanonicalOf o k x → IsWritten key x c → Describes key c x
-describes_it o a c k x p m w =
-    let again = canonical_reads_again o a k x p m in
-    again.2 c (subst (IsShortest c) (some-one w.1 again.1) w.2)
+canonical_reads_again o b k x p c = again_reads key p.0 x (in_order o p.0 k x p.2 c) p.1.1
 
 pub canonical_apart : (o : CborOrdering) → EncodesApart key → CanonicalApart o
 canonical_apart o apart a b c d k l x y p q m n u w =
-    let one = apart c d c d x y (describes_it o a c k x p m u) (describes_it o b d l y q n w) u w in (
+    let first = in_order o p.0 k x p.2 m in
+    let second = in_order o q.0 l y q.2 n in
+    let one = apart first.image second.image c d x y first.described second.described u w in (
       λ e. canonical_of_one o k l x y m n (one.0 e),
       λ h. one.1 (canonical_one o p.0 k l x y p.2 m n h),
     )

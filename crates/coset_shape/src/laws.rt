@@ -1,7 +1,7 @@
 //! Laws of every type that is read and written. Each is the contract of a function that does nothing.
 
-ghost use Rattle.std.specs.Prelude.{◌≡◌, List, ℕ};
-ghost use Rattle.coset_value.specs.Item.{Item};
+ghost use Rattle.std.specs.Prelude.{◌≡◌, ◌≤◌, List, ℕ};
+ghost use Rattle.coset_value.specs.Item.{Item, depth};
 ghost use Rattle.coset_cbor.specs.Grammar.{IsItem};
 ghost use Rattle.coset_shape.specs.Answers.{Describes};
 ghost use Rattle.coset_shape.specs.ReadAgain.{EncodesApart, ImagesApart, ReadsAgain, StaysAsWritten};
@@ -37,15 +37,21 @@ pub fn image_is_described<T: Lawful>()
     ensures { (v : Item) (x : T.Seen) → T.shape.describes v x → Again T.Seen T.shape v x }
 {}
 
-/// What was read from bytes, plain or under a tag, is written, and then read again as itself.
+/// What was read, plain or under a tag, is written, and then read again as itself; what was read under a tag also where it
+/// is written without it. The same holds of what an item within 256 levels describes, wherever that was.
 pub fn reads_again<T: Lawful>()
     ensures plain { (s : List ℕ) (x : T.Seen) → Describes T.shape s x → ReadsAgain T.shape x }
     ensures tagged { (n : ℕ) (s : List ℕ) (x : T.Seen) → Describes (tagged n T.shape) s x
         → ReadsAgain (tagged n T.shape) x }
+    ensures untagged { (n : ℕ) (s : List ℕ) (x : T.Seen) → Describes (tagged n T.shape) s x
+        → ReadsAgain T.shape x }
+    ensures items { (v : Item) (x : T.Seen) → T.shape.describes v x → depth v ≤ 256
+        → ReadsAgain T.shape x }
 {}
 
-/// Values that were read, both plain or both under one tag, are written as equal bytes, or as equal items, exactly where
-/// they are equal.
+/// Values that were read are written, both plain or both under one tag, as equal bytes, or as equal items, exactly where
+/// they are equal. Each may have come from bytes, under a tag or without, from a tree, from a lent item or as a part of
+/// another value: all that is asked is that some item describes it.
 pub fn written_apart<T: Lawful>()
     ensures plain { EncodesApart T.shape }
     ensures tagged { (n : ℕ) → EncodesApart (tagged n T.shape) }
@@ -56,7 +62,8 @@ pub fn written_apart<T: Lawful>()
     least_heads_are_shortest();
 }
 
-/// What was read, plain or under a tag, is written as bytes that stay the same when they are read and written again.
+/// What was read, however it came, is written, plain or under a tag, as bytes that stay the same when they are read and
+/// written again.
 pub fn stays_as_written<T: Lawful>()
     ensures plain { StaysAsWritten T.shape }
     ensures tagged { (n : ℕ) → StaysAsWritten (tagged n T.shape) }

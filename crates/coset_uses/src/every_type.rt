@@ -1,7 +1,7 @@
 //! Every type that is read and written, named once: one that lacks a trait, or a law, wouldn't compile.
 
-ghost use Rattle.std.specs.Prelude.{◌≡◌, ℕ, List};
-ghost use Rattle.coset_value.specs.Item.{Item};
+ghost use Rattle.std.specs.Prelude.{◌≡◌, ◌≤◌, ℕ, List};
+ghost use Rattle.coset_value.specs.Item.{Item, depth};
 ghost use Rattle.coset_cbor.specs.Grammar.{IsItem};
 ghost use Rattle.coset_shape.specs.Answers.{Describes};
 ghost use Rattle.coset_shape.specs.ReadAgain.{EncodesApart, ReadsAgain, StaysAsWritten};
@@ -22,14 +22,17 @@ use coset_shape::laws::{
 use std::fmt;
 
 /// What holds of each type: bytes describe at most one value, and so do two spellings of one item; what was read is
-/// written and read again as itself; values that were read are written as equal bytes exactly where they are equal; and
-/// those bytes stay the same when they are read and written again.
+/// written and read again as itself, and so is what an item within 256 levels describes; values that were read, however
+/// each came, are written as equal bytes exactly where they are equal; and those bytes stay the same when they are read
+/// and written again.
 pub fn keeps_the_laws<T: Lawful + CborSerializable + FromPull + PartialEq + fmt::Debug>()
     ensures one { (s : List ℕ) (x y : T.Seen) → Describes T.shape s x → Describes T.shape s y
         → x ≡ y }
     ensures spellings { (s t : List ℕ) (v : Item) (x : T.Seen) → IsItem s v → IsItem t v
         → Describes T.shape s x → Describes T.shape t x }
     ensures again { (s : List ℕ) (x : T.Seen) → Describes T.shape s x → ReadsAgain T.shape x }
+    ensures items { (v : Item) (x : T.Seen) → T.shape.describes v x → depth v ≤ 256
+        → ReadsAgain T.shape x }
     ensures apart { EncodesApart T.shape }
     ensures stays { StaysAsWritten T.shape }
 {
@@ -40,7 +43,8 @@ pub fn keeps_the_laws<T: Lawful + CborSerializable + FromPull + PartialEq + fmt:
     stays_as_written::<T>();
 }
 
-/// What holds besides of each type that may stand under its tag: the same, with the tag.
+/// What holds besides of each type that may stand under its tag: the same, with the tag; and what was read under the tag is
+/// read again where it is written without it.
 pub fn keeps_the_laws_when_tagged<T: Lawful + TaggedCborSerializable>()
     ensures one { (n : ℕ) (s : List ℕ) (x y : T.Seen) → Describes (tagged n T.shape) s x
         → Describes (tagged n T.shape) s y → x ≡ y }
@@ -48,6 +52,8 @@ pub fn keeps_the_laws_when_tagged<T: Lawful + TaggedCborSerializable>()
         → Describes (tagged n T.shape) s x → Describes (tagged n T.shape) t x }
     ensures again { (n : ℕ) (s : List ℕ) (x : T.Seen) → Describes (tagged n T.shape) s x
         → ReadsAgain (tagged n T.shape) x }
+    ensures untagged { (n : ℕ) (s : List ℕ) (x : T.Seen) → Describes (tagged n T.shape) s x
+        → ReadsAgain T.shape x }
     ensures apart { (n : ℕ) → EncodesApart (tagged n T.shape) }
     ensures stays { (n : ℕ) → StaysAsWritten (tagged n T.shape) }
 {
