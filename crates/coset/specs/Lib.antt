@@ -4,6 +4,7 @@ pub use Rattle.coset_value.specs.Parts
 pub use Rattle.coset_value.specs.Range
 pub use Rattle.coset_cbor.specs.Grammar
 pub use Rattle.coset_cbor.specs.Shortest
+pub use Rattle.coset_cbor.specs.Fronts
 pub use Rattle.coset_cbor.specs.Refused
 pub use Rattle.coset_cbor.specs.Pulls
 pub use Rattle.coset_shape.specs.Errors
@@ -11,6 +12,7 @@ pub use Rattle.coset_shape.specs.Shape
 pub use Rattle.coset_shape.specs.ShapeLaws
 pub use Rattle.coset_shape.specs.Maps
 pub use Rattle.coset_shape.specs.Answers
+pub use Rattle.coset_shape.specs.Refusals
 pub use Rattle.coset_shape.specs.Kinds
 pub use Rattle.coset_shape.specs.Sources
 pub use Rattle.coset_shape.specs.Encoding

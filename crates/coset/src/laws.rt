@@ -12,7 +12,8 @@ pub use coset_label::laws::{
 pub use coset_msg::laws::{kept_in_messages, one_of_all_structures};
 pub use coset_recipient::laws::{kept_with_recipients, recipients_hold_recipients};
 pub use coset_shape::laws::{
-    image_is_described, one_value, reads_again, spellings_agree, stays_as_written, written_apart,
+    image_is_described, one_value, reads_again, refused_as_bytes, spellings_agree,
+    stays_as_written, written_apart,
 };
 pub use coset_sign::laws::{
     carried_as_written, each_signed_as_written, one_signature_structure, one_structure,

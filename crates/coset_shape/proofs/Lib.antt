@@ -1,5 +1,6 @@
 pub mod Whole
 pub mod Described
+pub mod Refusals
 pub mod Lists
 pub mod Walking
 pub mod Pushing

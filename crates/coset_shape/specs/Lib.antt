@@ -7,6 +7,7 @@ pub mod Maps
 pub mod MapLaws
 pub mod RestLaws
 pub mod Answers
+pub mod Refusals
 pub mod Serialized
 pub mod SerializedLaws
 pub mod ReadAgain

@@ -15,7 +15,7 @@ ReadsAgain s x = (v : Item) × (s.image x ≡ Some v) × ((b : List ℕ) → IsS
 -- so is what is written as an item that stands for it and is no deeper than one within 256 levels
 pub again_reads : {A : Type 0} (s : Shape A) (v : Item) (x : A) → Again A s v x → depth v ≤ 256 → ReadsAgain s x
 again_reads s v x a shallow =
-    (a.image, a.is_image, λ c least_encoding. (a.image, (definite_is_encoding a.image c least_encoding.definite, omega (arith, a.shallow, shallow)), a.described))
+    (a.image, a.is_image, λ c short. (a.image, (definite_is_encoding a.image c short.definite, omega (arith, a.shallow, shallow)), a.described))
 
 -- and what bytes describe
 pub reads_again : {A : Type 0} (s : Shape A) → Lawful A s → (b : List ℕ) (x : A) → Describes s b x → ReadsAgain s x

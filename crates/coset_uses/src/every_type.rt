@@ -1,12 +1,14 @@
 //! Every type that is read and written, named once: one that lacks a trait, or a law, wouldn't compile.
 
-ghost use Rattle.std.specs.Prelude.{◌≡◌, ◌≤◌, ℕ, List};
+ghost use Rattle.std.specs.Prelude.{◌≡◌, ◌≤◌, ℕ, List, Result};
 ghost use Rattle.coset_value.specs.Item.{Item, depth};
 ghost use Rattle.coset_cbor.specs.Grammar.{IsItem};
-ghost use Rattle.coset_shape.specs.Answers.{Describes};
+ghost use Rattle.coset_shape.specs.Answers.{AllocatesForItems, Describes, ReadsSlice};
 ghost use Rattle.coset_shape.specs.ReadAgain.{EncodesApart, ReadsAgain, StaysAsWritten};
+ghost use Rattle.coset_shape.specs.Refusals.{NamesWholeFault};
 ghost use Rattle.coset_shape.specs.Shape.{tagged};
 ghost use Rattle.coset_shape.specs.ShapeLaws.{Again};
+ghost use Rattle.coset_shape.specs.declared.error.CoseError.{CoseError};
 
 use coset::cbor::value::Value;
 use coset::cwt::{ClaimName, ClaimsSet, Timestamp};
@@ -17,19 +19,22 @@ use coset::{
     ProtectedHeader, SuppPubInfo, TaggedCborSerializable,
 };
 use coset_shape::laws::{
-    image_is_described, one_value, reads_again, spellings_agree, stays_as_written, written_apart,
+    image_is_described, one_value, reads_again, refused_as_bytes, spellings_agree,
+    stays_as_written, written_apart,
 };
 use std::fmt;
 
-/// What holds of each type: bytes describe at most one value, and so do two spellings of one item; what was read is
-/// written and read again as itself, and so is what an item within 256 levels describes; values that were read, however
-/// each came, are written as equal bytes exactly where they are equal; and those bytes stay the same when they are read
-/// and written again.
+/// What holds of each type: bytes describe at most one value, and so do two spellings of one item; bytes that aren't
+/// one item are refused for that; what was read is written and read again as itself, and so is what an item within 256
+/// levels describes; values that were read, however each came, are written as equal bytes exactly where they are equal;
+/// and those bytes stay the same when they are read and written again.
 pub fn keeps_the_laws<T: Lawful + CborSerializable + FromPull + PartialEq + fmt::Debug>()
     ensures one { (s : List ℕ) (x y : T.Seen) → Describes T.shape s x → Describes T.shape s y
         → x ≡ y }
     ensures spellings { (s t : List ℕ) (v : Item) (x : T.Seen) → IsItem s v → IsItem t v
         → Describes T.shape s x → Describes T.shape t x }
+    ensures refused { (s : List ℕ) (r : Result T CoseError) → ReadsSlice T.shape T.seen s r
+        → AllocatesForItems s r → NamesWholeFault s r }
     ensures again { (s : List ℕ) (x : T.Seen) → Describes T.shape s x → ReadsAgain T.shape x }
     ensures items { (v : Item) (x : T.Seen) → T.shape.describes v x → depth v ≤ 256
         → ReadsAgain T.shape x }
@@ -38,18 +43,21 @@ pub fn keeps_the_laws<T: Lawful + CborSerializable + FromPull + PartialEq + fmt:
 {
     one_value::<T>();
     spellings_agree::<T>();
+    refused_as_bytes::<T>();
     reads_again::<T>();
     written_apart::<T>();
     stays_as_written::<T>();
 }
 
-/// What holds besides of each type that may stand under its tag: the same, with the tag; and what was read under the tag is
-/// read again where it is written without it.
+/// What holds besides of each type that may stand under its tag: the same, with the tag; and what was read under the
+/// tag is read again where it is written without it.
 pub fn keeps_the_laws_when_tagged<T: Lawful + TaggedCborSerializable>()
     ensures one { (n : ℕ) (s : List ℕ) (x y : T.Seen) → Describes (tagged n T.shape) s x
         → Describes (tagged n T.shape) s y → x ≡ y }
     ensures spellings { (n : ℕ) (s t : List ℕ) (v : Item) (x : T.Seen) → IsItem s v → IsItem t v
         → Describes (tagged n T.shape) s x → Describes (tagged n T.shape) t x }
+    ensures refused { (n : ℕ) (s : List ℕ) (r : Result T CoseError)
+        → ReadsSlice (tagged n T.shape) T.seen s r → AllocatesForItems s r → NamesWholeFault s r }
     ensures again { (n : ℕ) (s : List ℕ) (x : T.Seen) → Describes (tagged n T.shape) s x
         → ReadsAgain (tagged n T.shape) x }
     ensures untagged { (n : ℕ) (s : List ℕ) (x : T.Seen) → Describes (tagged n T.shape) s x
@@ -59,6 +67,7 @@ pub fn keeps_the_laws_when_tagged<T: Lawful + TaggedCborSerializable>()
 {
     one_value::<T>();
     spellings_agree::<T>();
+    refused_as_bytes::<T>();
     reads_again::<T>();
     written_apart::<T>();
     stays_as_written::<T>();
