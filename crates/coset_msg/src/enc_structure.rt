@@ -91,7 +91,7 @@ pub fn additional_bytes(
 /// ```
 ///
 /// # Errors
-/// `OutOfMemory`, or `DuplicateMapKey` where the header wasn't read and repeats a label of its rest.
+/// `OutOfMemory`, or `DuplicateMapKey` where the header wasn't read and it, or one in it, repeats a label of its rest.
 pub fn enc_structure_data(
     alloc: Global,
     context: EncryptionContext,

@@ -113,7 +113,8 @@ impl CoseEncrypt0 {
     /// called once, unless there is an error of ours, and not at all then.
     ///
     /// # Errors
-    /// `OutOfMemory`, or `DuplicateMapKey` where the protected header wasn't read and repeats a label of its rest; or
+    /// `OutOfMemory`, or `DuplicateMapKey` where the protected header wasn't read and it, or one in it,
+    /// repeats a label of its rest; or
     /// `Caller` with the error of `cipher`.
     pub fn decrypt<F, E>(
         &self,
@@ -349,7 +350,7 @@ impl CoseEncrypt0Builder {
     /// It is called once, unless there is an error of ours, and not at all then.
     ///
     /// # Errors
-    /// `OutOfMemory`, or `DuplicateMapKey` where the protected header repeats a label of its rest.
+    /// `OutOfMemory`, or `DuplicateMapKey` where the protected header, or one in it, repeats a label of its rest.
     pub fn create_ciphertext<F>(
         self,
         alloc: Global,

@@ -84,7 +84,7 @@ pub fn authenticated_bytes(
 /// ```
 ///
 /// # Errors
-/// `OutOfMemory`, or `DuplicateMapKey` where the header wasn't read and repeats a label of its rest.
+/// `OutOfMemory`, or `DuplicateMapKey` where the header wasn't read and it, or one in it, repeats a label of its rest.
 pub fn mac_structure_data(
     alloc: Global,
     context: MacContext,

@@ -129,7 +129,8 @@ impl CoseMac {
     /// of ours, and not at all then.
     ///
     /// # Errors
-    /// `OutOfMemory`, or `DuplicateMapKey` where the protected header wasn't read and repeats a label of its rest; or
+    /// `OutOfMemory`, or `DuplicateMapKey` where the protected header wasn't read and it, or one in it,
+    /// repeats a label of its rest; or
     /// `Caller` with the error of `verifier`.
     pub fn verify_tag<F, E>(
         &self,
@@ -400,7 +401,7 @@ impl CoseMacBuilder {
     /// then.
     ///
     /// # Errors
-    /// `OutOfMemory`, or `DuplicateMapKey` where the protected header repeats a label of its rest.
+    /// `OutOfMemory`, or `DuplicateMapKey` where the protected header, or one in it, repeats a label of its rest.
     pub fn create_tag<F>(
         self,
         alloc: Global,

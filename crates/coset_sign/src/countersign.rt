@@ -76,7 +76,7 @@ fn countersign_bytes(
 /// The structure over the protected bytes of the headers.
 ///
 /// # Errors
-/// `OutOfMemory`, or `DuplicateMapKey` where a header wasn't read and repeats a label of its rest.
+/// `OutOfMemory`, or `DuplicateMapKey` where a header wasn't read and it, or one in it, repeats a label of its rest.
 fn countersigned_bytes(
     alloc: Global,
     body: &ProtectedHeader,
@@ -122,7 +122,7 @@ fn countersigned_bytes(
 /// ```
 ///
 /// # Errors
-/// `OutOfMemory`, or `DuplicateMapKey` where a header wasn't read and repeats a label of its rest.
+/// `OutOfMemory`, or `DuplicateMapKey` where a header wasn't read and it, or one in it, repeats a label of its rest.
 pub fn countersign_v2_structure_data(
     alloc: Global,
     body: ProtectedHeader,

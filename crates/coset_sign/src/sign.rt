@@ -124,7 +124,8 @@ impl CoseSign {
     /// were read. A missing payload counts as empty.
     ///
     /// # Errors
-    /// `OutOfMemory`, or `DuplicateMapKey` where a protected header wasn't read and repeats a label of its rest.
+    /// `OutOfMemory`, or `DuplicateMapKey` where a protected header wasn't read and it, or one in it,
+    /// repeats a label of its rest.
     pub fn tbs_data(
         &self,
         alloc: Global,

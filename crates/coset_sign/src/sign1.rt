@@ -100,7 +100,8 @@ impl CoseSign1 {
     /// A missing payload counts as empty.
     ///
     /// # Errors
-    /// `OutOfMemory`, or `DuplicateMapKey` where the protected header wasn't read and repeats a label of its rest.
+    /// `OutOfMemory`, or `DuplicateMapKey` where the protected header wasn't read and it, or one in it,
+    /// repeats a label of its rest.
     pub fn tbs_data(&self, alloc: Global, external_aad: &[u8]) -> Result<Vec<u8>>
         ensures { Writes (sign1_carried (sign1_seen self.now) external_aad.now) (λ b. b.items)
             result }

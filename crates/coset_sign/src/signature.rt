@@ -74,7 +74,7 @@ pub(crate) fn signature_structure_bytes(
 /// written.
 ///
 /// # Errors
-/// `OutOfMemory`, or `DuplicateMapKey` where a header wasn't read and repeats a label of its rest.
+/// `OutOfMemory`, or `DuplicateMapKey` where a header wasn't read and it, or one in it, repeats a label of its rest.
 pub(crate) fn signed_bytes(
     alloc: Global,
     context: SignatureContext,
@@ -111,7 +111,7 @@ pub(crate) fn signed_bytes(
 /// ```
 ///
 /// # Errors
-/// `OutOfMemory`, or `DuplicateMapKey` where a header wasn't read and repeats a label of its rest.
+/// `OutOfMemory`, or `DuplicateMapKey` where a header wasn't read and it, or one in it, repeats a label of its rest.
 pub fn sig_structure_data(
     alloc: Global,
     context: SignatureContext,
