@@ -34,6 +34,7 @@ pub fn structure_bytes(alloc: Global, context: &str, parts: &[&[u8]]) -> Result<
 ///
 /// # Errors
 /// `OutOfMemory` alone.
+#[inline(always)]
 pub fn begin_structure(
     alloc: Global,
     context: &str,
