@@ -74,6 +74,9 @@ use std::marker::Model;
 /// About what a header takes beside its byte strings.
 const HEADS: usize = 24;
 
+/// About what a pair of the rest takes, a label and a short value.
+const PAIR: usize = 8;
+
 /// At most this many byte strings of protected headers stand within one another.
 pub(crate) const LAYERS: usize = 16;
 
@@ -256,12 +259,13 @@ impl Lawful for Header {
 impl Encode for Header {
     ghost image = { λ h. header_shape.image (header_seen h) };
 
-    /// Enough for all but the rest and the counter signatures of both versions.
+    /// Enough for all but counter signatures of both versions, where the values of the rest are short.
     fn room(&self) -> usize {
         HEADS
             .saturating_add(self.key_id.len())
             .saturating_add(self.iv.len())
             .saturating_add(self.partial_iv.len())
+            .saturating_add(self.rest.len().saturating_mul(PAIR))
     }
 
     #[tactic(auto, unfolding(crate::specs::Headers::layered_header))]
