@@ -258,6 +258,7 @@ impl Encode for CoseEncrypt {
             .room()
             .saturating_add(self.unprotected.room())
             .saturating_add(self.ciphertext.room())
+            .saturating_add(Array(&self.recipients).room())
     }
 
     fn encode(&self, alloc: Global, out: &mut Vec<u8>) -> Result<()> {

@@ -268,6 +268,7 @@ impl Encode for CoseMac {
             .saturating_add(self.unprotected.room())
             .saturating_add(self.payload.room())
             .saturating_add(self.tag.room())
+            .saturating_add(Array(&self.recipients).room())
     }
 
     fn encode(&self, alloc: Global, out: &mut Vec<u8>) -> Result<()> {

@@ -138,6 +138,14 @@ pub struct Array<'a, T>(pub &'a [T]);
 impl<T: Encode> Encode for Array<'_, T> {
     ghost image = { λ l. option_map array (images T.image l.0.now) };
 
+    fn room(&self) -> usize {
+        let mut room = LONGEST_HEAD;
+        for member in self.0 {
+            room = room.saturating_add(member.room());
+        }
+        room
+    }
+
     fn encode(&self, alloc: Global, out: &mut Vec<u8>) -> Result<()> {
         write_array_head(self.0.len(), out)?;
         encode_members(alloc, self.0, out)

@@ -327,6 +327,7 @@ impl Encode for CoseSign {
             .room()
             .saturating_add(self.unprotected.room())
             .saturating_add(self.payload.room())
+            .saturating_add(Array(&self.signatures).room())
     }
 
     fn encode(&self, alloc: Global, out: &mut Vec<u8>) -> Result<()> {
