@@ -3,8 +3,8 @@
 
 pub use coset_core::laws::{kept_as_received, kept_as_written};
 pub use coset_key::laws::{
-    canonical_keys_apart, canonical_keys_read_again, labels_ascend, ml_dsa_variants_come_back,
-    points_come_back,
+    canonical_keys_apart, canonical_keys_read_again, keys_of_a_set, labels_ascend,
+    ml_dsa_variants_come_back, points_come_back,
 };
 pub use coset_label::laws::{
     one_order, orders_are_of_encodings, orders_are_total, orders_tell_apart,

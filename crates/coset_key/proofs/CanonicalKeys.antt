@@ -9,7 +9,6 @@ use Rattle.std.proofs.lemmas.List.Sorted.{IsPermutation-map, IsPermutation-sym, 
 use Rattle.std.proofs.lemmas.Cmp.{eq_by_cmp_equiv}
 use Rattle.std.proofs.lemmas.Map.Keys.{IsDistinct-IsPermutation}
 use Rattle.coset_value.specs.Item.{Item}
-use Rattle.coset_shape.specs.Answers.{Describes}
 use Rattle.coset_shape.specs.MapLaws.{labelled_arranged, rest_distinct}
 use Rattle.coset_shape.specs.ReadAgain.{EncodesApart, again_reads}
 use Rattle.coset_shape.specs.ShapeLaws.{Again}
@@ -80,13 +79,13 @@ in_order : (o : CborOrdering) (v : Item) (k x : KeySeen) → key.describes v k �
 in_order o v k x p c = subst (Again KeySeen key v) c.agree.others (arranged v k x.params p c.agree.params)
 
 pub canonical_reads_again : (o : CborOrdering) → CanonicalReadsAgain o
-canonical_reads_again o b k x p c = again_reads key p.0 x (in_order o p.0 k x p.2 c) p.1.1
+canonical_reads_again o v k x p shallow c = again_reads key v x (in_order o v k x p c) shallow
 
 pub canonical_apart : (o : CborOrdering) → EncodesApart key → CanonicalApart o
-canonical_apart o apart a b c d k l x y p q m n u w =
-    let first = in_order o p.0 k x p.2 m in
-    let second = in_order o q.0 l y q.2 n in
-    let one = apart first.image second.image c d x y first.described second.described u w in (
+canonical_apart o apart v w c d k l x y p q m n u t =
+    let first = in_order o v k x p m in
+    let second = in_order o w l y q n in
+    let one = apart first.image second.image c d x y first.described second.described u t in (
       λ e. canonical_of_one o k l x y m n (one.0 e),
-      λ h. one.1 (canonical_one o p.0 k l x y p.2 m n h),
+      λ h. one.1 (canonical_one o v k l x y p m n h),
     )

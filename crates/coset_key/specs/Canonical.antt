@@ -1,10 +1,9 @@
 -- Keys whose params stand in the order of their labels' encodings (RFC 8949, section 4.2.1; RFC 7049, section 3.9).
-use Rattle.std.specs.Prelude.{◌≡◌, ◌≢◌, ◌↔◌, ℕ, pos, List, ◌∷◌, ◌++◌, Some, Result, Ok, Err, Bool, true, false, Contains}
+use Rattle.std.specs.Prelude.{◌≡◌, ◌≢◌, ◌≤◌, ◌↔◌, ℕ, pos, List, ◌∷◌, ◌++◌, Some, Result, Ok, Err, Bool, true, false, Contains}
 use Rattle.std.specs.List.{AllByRecursion}
 use Rattle.std.specs.List.Sorted.{IsPermutation, IsStrictlySortedBy}
 use Rattle.std.specs.Map.{keys_of}
-use Rattle.coset_value.specs.Item.{Item, Pairs, dict}
-use Rattle.coset_shape.specs.Answers.{Describes}
+use Rattle.coset_value.specs.Item.{Item, Pairs, depth, dict}
 use Rattle.coset_shape.specs.Maps.{Named, is_core}
 use Rattle.coset_shape.specs.ReadAgain.{IsWritten, ReadsAgain}
 use Rattle.coset_shape.specs.declared.error.CoseError.{CoseError}
@@ -38,15 +37,16 @@ Canonicalizes o k l (Err e) = (e ≡ OutOfMemory) × (l ≡ k)
 
 -- ---- what is written of keys that were read
 
--- a key that was read is written, once its params are in order, and read again as itself
+-- a key that was read, from whatever held the item that describes it, is written, once its params are in order, and read
+-- again as itself
 abbrev pub CanonicalReadsAgain : CborOrdering → Type 0
-CanonicalReadsAgain o = (b : List ℕ) (k x : KeySeen) → Describes key b k → IsCanonicalOf o k x → ReadsAgain key x
+CanonicalReadsAgain o = (v : Item) (k x : KeySeen) → key.describes v k → depth v ≤ 256 → IsCanonicalOf o k x → ReadsAgain key x
 
 -- keys that were read are written, once their params are in order, as equal bytes exactly where they agree but for the
 -- order of their params
 abbrev pub CanonicalApart : CborOrdering → Type 0
 CanonicalApart o =
-    (a b c d : List ℕ) (k l x y : KeySeen) → Describes key a k → Describes key b l → IsCanonicalOf o k x → IsCanonicalOf o l y → IsWritten key x c → IsWritten key y d
+    (v w : Item) (c d : List ℕ) (k l x y : KeySeen) → key.describes v k → key.describes w l → IsCanonicalOf o k x → IsCanonicalOf o l y → IsWritten key x c → IsWritten key y d
     → (c ≡ d) ↔ AgreeButForOrder k l
 
 -- k was read, and is written, once its params are in order, as pairs of these labels and values

@@ -1,13 +1,16 @@
 //! Laws of keys, which callers may cite. Each is the contract of a function that does nothing. What holds of each type that
 //! is read and written stands in `coset_shape::laws`.
 
-ghost use Rattle.std.specs.Prelude.{◌≡◌, ℕ, List, Ok};
+ghost use Rattle.std.specs.Prelude.{◌≡◌, ◌≤◌, ℕ, Contains, List, Ok};
+ghost use Rattle.coset_value.specs.Item.{Item, depth};
 ghost use Rattle.coset_iana.specs.declared.keys.EllipticCurve.{EllipticCurve};
 ghost use Rattle.coset_label.specs.declared.ordering.CborOrdering.{CborOrdering};
 ghost use Rattle.coset_key.specs.Canonical.{CanonicalApart, CanonicalReadsAgain, LabelsAscend, ZeroBehindFields};
+ghost use Rattle.coset_key.specs.Keys.{KeySeen, key, key_set};
 ghost use Rattle.coset_key.specs.MlDsa.{algorithm_of};
 ghost use Rattle.coset_key.specs.Sec1.{IsMalformed, Point, Spells, key_point, octets, point_key};
 ghost use Rattle.coset_key.specs.declared.ml_dsa.MlDsaVariant.{MlDsaVariant};
+ghost use Rattle.coset_shape.specs.Answers.{Describes};
 
 use crate::key::CoseKey;
 use coset_shape::laws::written_apart;
@@ -26,14 +29,21 @@ pub fn ml_dsa_variants_come_back()
     ensures { (v w : MlDsaVariant) → algorithm_of v ≡ algorithm_of w → v ≡ w }
 {}
 
-/// A key that was read, and whose params were put into an order (`CoseKey::canonicalize`), is written, and read again as
-/// itself.
+/// Each key of a set that was read is described by an item within 255 levels. So what holds of a key that such an item
+/// describes, as the laws below say, holds of the keys of a set.
+pub fn keys_of_a_set()
+    ensures { (b : List ℕ) (s : List KeySeen) (k : KeySeen) → Describes key_set b s → Contains s k
+        → (v : Item) × key.describes v k × (depth v ≤ 255) }
+{}
+
+/// A key that was read, on its own, in a set or from a tree within 256 levels, and whose params were put into an order
+/// (`CoseKey::canonicalize`), is written, and read again as itself.
 pub fn canonical_keys_read_again()
     ensures { (o : CborOrdering) → CanonicalReadsAgain o }
 {}
 
-/// Keys that were read, and whose params were put into one order (`CoseKey::canonicalize`), are written as equal bytes
-/// exactly where they agree but for the order of their params.
+/// Keys that were read, on their own, in a set or from a tree, and whose params were put into one order
+/// (`CoseKey::canonicalize`), are written as equal bytes exactly where they agree but for the order of their params.
 pub fn canonical_keys_apart()
     ensures { (o : CborOrdering) → CanonicalApart o }
 {
