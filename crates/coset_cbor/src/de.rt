@@ -1,6 +1,6 @@
 //! Reading a value from bytes (RFC 8949, section 3 and appendix C).
 
-ghost use Rattle.std.specs.Prelude.{◌≡◌, ◌≤◌, ◌+◌, ◌++◌, List, ℕ, take, length, IfOk, IfErr, MatchOption};
+ghost use Rattle.std.specs.Prelude.{◌≡◌, ◌≤◌, ◌+◌, ◌++◌, List, Some, ℕ, codes, take, length, IfOk, IfErr, MatchOption};
 ghost use Rattle.coset_value.specs.Item.{Item};
 ghost use Rattle.coset_value.specs.View.{view};
 ghost use Rattle.coset_cbor.specs.Fronts.{HasNoItem};
@@ -19,6 +19,7 @@ use crate::read;
 pub use crate::steps::Steps;
 use coset_value::Value;
 use std::alloc::Global;
+use std::error;
 use std::fmt;
 use std::sync::ledger::Ledger;
 
@@ -28,6 +29,16 @@ pub(crate) const MAX_DEPTH: u32 = 256;
 /// The input ends where more is due.
 #[derive(Clone, Copy, Debug, PartialEq, Eq)]
 pub struct EndOfFile;
+
+impl fmt::Display for EndOfFile {
+    ghost output = { λ _. Some (codes "end of file") };
+
+    fn fmt<W: fmt::Write>(&self, f: &mut fmt::Formatter<W>) -> fmt::Result {
+        write!(f, "end of file")
+    }
+}
+
+impl error::Error for EndOfFile {}
 
 /// Why bytes were not read. A number is the offset of the first byte of the head that is at fault.
 #[derive(Debug, Drop)]
@@ -49,6 +60,8 @@ impl<T: fmt::Debug> fmt::Display for Error<T> {
         write!(f, "{self:?}")
     }
 }
+
+impl<T: fmt::Debug + Drop> error::Error for Error<T> {}
 
 impl<T> From<OutOfMemory> for Error<T> {
     ghost use Rattle.coset_cbor.specs.declared.de.Error.TheVariants as errors;

@@ -1,5 +1,20 @@
 //! Out of memory.
 
+ghost use Rattle.std.specs.Prelude.{Some, codes};
+
+use std::error::Error;
+use std::fmt;
+
 /// A request for memory was refused.
 #[derive(Clone, Copy, Debug, PartialEq, Eq)]
 pub struct OutOfMemory;
+
+impl fmt::Display for OutOfMemory {
+    ghost output = { λ _. Some (codes "out of memory") };
+
+    fn fmt<W: fmt::Write>(&self, f: &mut fmt::Formatter<W>) -> fmt::Result {
+        write!(f, "out of memory")
+    }
+}
+
+impl Error for OutOfMemory {}

@@ -12,6 +12,7 @@ use crate::memory::OutOfMemory;
 use crate::write::{put, put_head, put_integer, put_string, put_text};
 use coset_value::{Integer, Value};
 use std::alloc::AllocError;
+use std::error;
 use std::fmt;
 
 /// Why a value was not written. No call of this crate answers it: it stands for the errors of other writers.
@@ -28,6 +29,8 @@ impl<T: fmt::Debug> fmt::Display for Error<T> {
         write!(f, "{self:?}")
     }
 }
+
+impl<T: fmt::Debug + Drop> error::Error for Error<T> {}
 
 /// Appends the shortest encoding of the value to `out` (RFC 8949, section 4.2.1, with map keys in the value's own
 /// order and floats in their own width).

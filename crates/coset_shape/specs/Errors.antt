@@ -1,6 +1,8 @@
 -- What the errors say, and which tell of a fault in what is read.
 use Rattle.std.specs.Prelude.{◌≡◌, ℕ, List, ◌++◌, codes, Option, Some, None, Result, Ok, Err, ⊤}
 use Rattle.coset_cbor.specs.declared.de.Error as decoding
+use Rattle.coset_shape.specs.declared.error.CallError.{CallError}
+use Rattle.coset_shape.specs.declared.error.CallError.TheVariants.{Coset, Caller}
 use Rattle.coset_shape.specs.declared.error.CoseError.{CoseError}
 use Rattle.coset_shape.specs.declared.error.Refused.{Refused}
 use Rattle.coset_shape.specs.declared.error.CoseError.TheVariants.{DecodeFailed, DuplicateMapKey, EncodeFailed, ExtraneousData, OutOfRangeIntegerValue, UnexpectedItem, UnregisteredIanaValue, UnregisteredIanaNonPrivateValue, OutOfMemory}
@@ -16,6 +18,11 @@ error_text (UnexpectedItem got want) = Some (codes "got " ++ got.now ++ codes ",
 error_text UnregisteredIanaValue = Some (codes "expected recognized IANA value")
 error_text UnregisteredIanaNonPrivateValue = Some (codes "expected value in IANA or private use range")
 error_text OutOfMemory = Some (codes "out of memory")
+
+-- the text of an error of a call that takes a closure: that of the error which it holds, the closure's as `text` has it
+abbrev pub call_error_text : {E : Type 0} → (E → Option (List ℕ)) → CallError E → Option (List ℕ)
+call_error_text text (Coset e) = error_text e
+call_error_text text (Caller e) = text e
 
 -- an item isn't as its place asks
 abbrev pub IsUnexpected : CoseError → Type 0

@@ -1,7 +1,7 @@
 //! Why a call was refused.
 
 ghost use Rattle.std.specs.Prelude.{◌≡◌, OnOk};
-ghost use Rattle.coset_shape.specs.Errors.{answer, error_text, decode_failure};
+ghost use Rattle.coset_shape.specs.Errors.{answer, call_error_text, error_text, decode_failure};
 ghost use Rattle.coset_shape.specs.declared.error.CoseError.TheVariants.{EncodeFailed, OutOfMemory, OutOfRangeIntegerValue};
 ghost use Rattle.coset_shape.specs.declared.error.CallError.TheVariants.{Coset};
 
@@ -153,10 +153,48 @@ impl<T: Drop> From<AllocFailed<T>> for CoseError {
     }
 }
 
+/// The text of the error that it holds.
+impl<E: fmt::Display> fmt::Display for CallError<E> {
+    ghost output = { call_error_text E.output };
+
+    fn fmt<W: fmt::Write>(&self, f: &mut fmt::Formatter<W>) -> fmt::Result {
+        match self {
+            CallError::Coset(e) => write!(f, "{e}"),
+            CallError::Caller(e) => write!(f, "{e}"),
+        }
+    }
+}
+
+impl<E: Error> Error for CallError<E> {}
+
 impl<E: Drop> From<CoseError> for CallError<E> {
     ghost from_gives = { λ x e. e ≡ Coset x };
 
     fn from(e: CoseError) -> CallError<E> {
         CallError::Coset(e)
+    }
+}
+
+impl<E: Drop> From<coset_cbor::OutOfMemory> for CallError<E> {
+    ghost from_gives = { λ _ e. e ≡ Coset OutOfMemory };
+
+    fn from(_e: coset_cbor::OutOfMemory) -> CallError<E> {
+        CallError::Coset(CoseError::OutOfMemory)
+    }
+}
+
+impl<E: Drop> From<AllocError> for CallError<E> {
+    ghost from_gives = { λ _ e. e ≡ Coset OutOfMemory };
+
+    fn from(_e: AllocError) -> CallError<E> {
+        CallError::Coset(CoseError::OutOfMemory)
+    }
+}
+
+impl<T: Drop, E: Drop> From<AllocFailed<T>> for CallError<E> {
+    ghost from_gives = { λ _ e. e ≡ Coset OutOfMemory };
+
+    fn from(_e: AllocFailed<T>) -> CallError<E> {
+        CallError::Coset(CoseError::OutOfMemory)
     }
 }
