@@ -17,6 +17,7 @@ pub use Rattle.coset_shape.specs.Kinds
 pub use Rattle.coset_shape.specs.Sources
 pub use Rattle.coset_shape.specs.Encoding
 pub use Rattle.coset_shape.specs.ReadAgain
+pub use Rattle.coset_shape.specs.AsWritten
 pub use Rattle.coset_label.specs.Names
 pub use Rattle.coset_label.specs.Labels
 pub use Rattle.coset_label.specs.LabelLaws
@@ -47,6 +48,7 @@ pub use Rattle.coset_recipient.specs.RecipientSame
 pub use Rattle.coset_recipient.specs.RecipientView
 pub use Rattle.coset_recipient.specs.Mac
 pub use Rattle.coset_recipient.specs.Encrypt
+pub use Rattle.coset_recipient.specs.Structures
 pub use Rattle.coset_sign.specs.Same
 pub use Rattle.coset_cbor.specs.Faults
 pub use Rattle.coset_cbor.specs.Cost

@@ -1,7 +1,13 @@
 //! What holds of the library's definitions as such. Each law is the contract of a function that does nothing: who proves
-//! something over it calls that function. Those of CBOR are in `cbor::laws`.
+//! something over it calls that function.
 
+pub use coset_cbor::laws::{
+    least_encoding_is_shortest, least_heads_are_shortest, lent_chunks, lent_item, lent_members,
+    nested_arrays_cost, no_item_at_a_fault, one_cost, one_item, one_shortest,
+    only_the_end_in_a_front, shortest_is_encoding, shortest_is_in_range,
+};
 pub use coset_core::laws::{kept_as_received, kept_as_written};
+pub use coset_iana::laws::{numbers_are_inverse, orders_are_by_number};
 pub use coset_key::laws::{
     canonical_keys_apart, canonical_keys_read_again, keys_of_a_set, labels_ascend,
     ml_dsa_variants_come_back, points_come_back,
@@ -9,13 +15,17 @@ pub use coset_key::laws::{
 pub use coset_label::laws::{
     one_order, orders_are_of_encodings, orders_are_total, orders_tell_apart,
 };
-pub use coset_msg::laws::{kept_in_messages, one_of_all_structures};
-pub use coset_recipient::laws::{kept_with_recipients, recipients_hold_recipients};
+pub use coset_msg::laws::{
+    kept_in_messages, one_of_all_structures, structure_as_written, structure_when_read,
+};
+pub use coset_recipient::laws::{
+    kept_with_recipients, recipients_hold_recipients, structures_as_written, structures_when_read,
+};
 pub use coset_shape::laws::{
-    image_is_described, one_value, reads_again, refused_as_bytes, spellings_agree,
-    stays_as_written, written_apart,
+    image_is_described, one_value, reads_again, refused_as_bytes, refused_describes_nothing,
+    spellings_agree, stays_as_written, written_apart,
 };
 pub use coset_sign::laws::{
-    carried_as_written, each_signed_as_written, one_signature_structure, one_structure,
-    signed_as_written, signed_when_read,
+    carried_as_written, each_signed_as_written, each_signed_when_read, one_signature_structure,
+    one_structure, signed_as_written, signed_when_read,
 };

@@ -13,7 +13,9 @@
 //! IANA registers in [`iana`], claims of web tokens in [`cwt`].
 #![tactic(auto)]
 
+pub mod cbor;
 pub mod cwt;
+pub mod iana;
 pub mod laws;
 
 pub use coset_claims::{
@@ -32,7 +34,7 @@ pub use coset_recipient::{
     CoseSignBuilder, CoseSignature, CoseSignatureBuilder, Encode, EncryptionContext, EndOfFile,
     FromPull, Header, HeaderBuilder, KeyOperation, KeyType, Label, Lawful, MacContext,
     ProtectedBstr, ProtectedHeader, RegisteredLabel, RegisteredLabelWithPrivate, Result,
-    SignatureContext, TaggedCborSerializable, cbor, countersign_v2_structure_data,
-    countersign0_v2_structure_data, enc_structure_data, iana, mac_structure_data,
-    sig_structure_data, verify_countersignature,
+    SignatureContext, TaggedCborSerializable, countersign_v2_structure_data,
+    countersign0_v2_structure_data, enc_structure_data, mac_structure_data, sig_structure_data,
+    verify_countersignature,
 };

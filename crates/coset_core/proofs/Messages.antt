@@ -1,15 +1,18 @@
 -- Messages read from their places, and what is kept of one that was written.
-use Rattle.std.proofs.Common.{◌≡◌, ℕ, Option, Some, None, Result, Ok, Err, option_map, refl, sym, ap, subst, ◌∙◌, inl, inr}
-use Rattle.std.specs.Prelude.{IsErrAnd}
-use Rattle.coset_value.specs.Item.{Item, Items, item, array, tag}
-use Rattle.coset_value.specs.Parts.{as_array, as_tag}
+use Rattle.std.proofs.Common.{◌≡◌, ℕ, List, Some, Result, Ok, Err, sym, ap, subst, ◌∙◌, inl, inr}
+use Rattle.std.specs.Prelude.{IsErrAnd, ⊤}
+use Rattle.coset_value.specs.Item.{Item, Items, item}
+use Rattle.coset_value.specs.Parts.{as_array}
+use Rattle.coset_shape.specs.AsWritten.{AsWritten, WhenRead, PlacesAsWritten, PlacesWhenRead}
+use Rattle.coset_shape.proofs.AsWritten.{array_as_written, array_when_read, then_as_written, then_when_read}
+use Rattle.coset_shape.specs.Serialized.{content_bytes}
 use Rattle.coset_shape.specs.declared.error.CoseError.{CoseError}
 use Rattle.coset_shape.specs.Errors.{UnlessMemory}
-use Rattle.coset_shape.specs.Shape.{Shape, Places, both, array_of, ◌then◌}
-use Rattle.coset_shape.specs.ShapeLaws.{LawfulPlaces, some-one}
+use Rattle.coset_shape.specs.Shape.{Places, ◌then◌}
+use Rattle.coset_shape.specs.ShapeLaws.{LawfulPlaces}
 use Rattle.coset_core.specs.Contents.{FillsHeaders}
 use Rattle.coset_shape.specs.InPlace.{Fills}
-use Rattle.coset_core.specs.Headers.{ProtectedSeen, header, protected, protected_bytes}
+use Rattle.coset_core.specs.Headers.{ProtectedSeen, header, header_image, is_empty_header, layered_protected, protected, protected_bytes}
 use Rattle.coset_core.specs.Messages.{Headed, headed}
 
 -- the places behind the headers were read, and then the headers
@@ -30,31 +33,41 @@ pub place_refused :
 place_refused ps v p u vs x (Ok t) e is a fits h = absurd is
 place_refused ps v p u vs x (Err f) e is a fits h = λ n. inr (item p (item u vs), a, inr (fits, inr (inr (subst (ps.faults vs) (sym is) (h (λ m. n (is ∙ m)))))))
 
--- the first place of an array that was written
-first_written : (o : Option Item) (os : Option Items) (v : Item) → option_map array (both item o os) ≡ Some v → (u : Item) × (us : Items) × (o ≡ Some u) × (as_array v ≡ Some (item u us))
-first_written None os v e = absurd (cc)
-first_written (Some u) None v e = absurd (cc)
-first_written (Some u) (Some us) v e = let same : array (item u us) ≡ v = some-one refl e in (u, us, refl, ap as_array (sym same))
-
--- the first place of an array that was read
-first_read : {A B : Type 0} (s : Shape A) (ps : Places B) (v u : Item) (us : Items) (x : A × B) → (array_of (s then ps)).describes v x → as_array v ≡ Some (item u us) → s.describes u x.0
-first_read s ps v u us x d h = (subst (λ vs. (s then ps).describes vs x) (some-one d.1 h) d.2).0
-
--- what is under a tag that was written
-pub under_tag : (n : ℕ) (o : Option Item) (v u : Item) → option_map (tag n) o ≡ Some v → as_tag v ≡ Some (n, u) → o ≡ Some u
-under_tag n None v u e d = absurd (cc)
-under_tag n (Some w) v u e d =
-    let same : tag n w ≡ v = some-one refl e in
-    let inside : (n, w) ≡ (n, u) = some-one (ap as_tag (sym same)) d in
-    ap Some (ap (λ x. x.1) inside)
+-- ---- what is kept of a message
 
 -- of a protected header that was read from what another is written as, the same bytes are kept
-abbrev pub KeptAsWritten : Type 0
-KeptAsWritten = (v : Item) (p q : ProtectedSeen) → protected.image p ≡ Some v → protected.describes v q → protected_bytes q ≡ protected_bytes p
+abbrev pub KeepsBytes : ProtectedSeen → ProtectedSeen → Type 0
+KeepsBytes p q = protected_bytes q ≡ protected_bytes p
 
--- so it is with a message
-pub kept_in_message : KeptAsWritten → {A : Type 0} (ps : Places A) (v : Item) (x y : Headed A) → (headed ps).image x ≡ Some v → (headed ps).describes v y → protected_bytes y.0 ≡ protected_bytes x.0
-kept_in_message kept ps v x y e d =
-    let first = first_written (protected.image x.0) _ v e in
-    let there = first_read protected (header then ps) v first.0 first.1 y d first.3 in
-    kept first.0 x.0 y.0 first.2 there
+abbrev pub KeptAsWritten : Type 0
+KeptAsWritten = AsWritten protected KeepsBytes
+
+-- there are bytes that stand for it
+abbrev pub HasBytes : ProtectedSeen → Type 0
+HasBytes p = (b : List ℕ) × (protected_bytes p ≡ Some b)
+
+pub has_bytes : WhenRead protected HasBytes
+unfolding layered_protected
+has_bytes w p d = (d.0, ap (λ o. content_bytes is_empty_header header_image o p.header) d.2)
+
+module _ {A : Type 0} (ps : Places A) where
+  -- with its protected header, and with the places behind the headers
+  pub message_as_written :
+      (Q : ProtectedSeen → ProtectedSeen → Type 0) (R : A → A → Type 0) → AsWritten protected Q → PlacesAsWritten ps R → AsWritten (headed ps) (λ x y. Q x.0 y.0 × (⊤ × R x.1.1 y.1.1))
+  message_as_written Q R h more =
+      array_as_written (protected then header then ps) _ (then_as_written protected (header then ps) Q _ h (then_as_written header ps (λ x y. ⊤) R (λ v x y e d. tt) more))
+
+  pub message_when_read : (P : ProtectedSeen → Type 0) (R : A → Type 0) → WhenRead protected P → PlacesWhenRead ps R → WhenRead (headed ps) (λ x. P x.0 × (⊤ × R x.1.1))
+  message_when_read P R h more =
+      array_when_read (protected then header then ps) _ (then_when_read protected (header then ps) P _ h (then_when_read header ps (λ x. ⊤) R (λ v x d. tt) more))
+
+  -- with its protected header alone
+  pub header_as_written : (Q : ProtectedSeen → ProtectedSeen → Type 0) → AsWritten protected Q → AsWritten (headed ps) (λ x y. Q x.0 y.0)
+  header_as_written Q h v x y e d = (message_as_written Q (λ a b. ⊤) h (λ vs a b f g. tt) v x y e d).0
+
+  pub header_when_read : (P : ProtectedSeen → Type 0) → WhenRead protected P → WhenRead (headed ps) (λ x. P x.0)
+  header_when_read P h v x d = (message_when_read P (λ a. ⊤) h (λ vs a f. tt) v x d).0
+
+  -- with these places alone
+  pub places_as_written : (R : A → A → Type 0) → PlacesAsWritten ps R → AsWritten (headed ps) (λ x y. R x.1.1 y.1.1)
+  places_as_written R more v x y e d = (message_as_written (λ p q. ⊤) R (λ w p q f g. tt) more v x y e d).1.1

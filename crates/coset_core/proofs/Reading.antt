@@ -5,8 +5,6 @@ use Rattle.coset_value.specs.Parts.{as_bytes}
 use Rattle.coset_cbor.specs.declared.de.Error.TheVariants.{RecursionLimitExceeded}
 use Rattle.coset_shape.specs.declared.error.CoseError.{CoseError}
 use Rattle.coset_shape.specs.declared.error.CoseError.TheVariants.{DecodeFailed}
-use Rattle.coset_shape.specs.Answers.{Reads, RefusesItem}
-use Rattle.coset_shape.specs.ShapeLaws.{Lawful}
 use Rattle.coset_shape.specs.Errors.{IsUnexpected}
 use Rattle.coset_shape.specs.InPlace.{Fills}
 use Rattle.coset_shape.specs.Serialized.{ContentDescribes, ContentFaults}
@@ -16,11 +14,6 @@ use Rattle.coset_core.specs.Contents.{FillsContent}
 use Rattle.coset_core.specs.Fields.{FieldsSeen, map_with}
 use Rattle.coset_core.specs.HeaderReads.{header_read_with}
 use Rattle.coset_core.specs.Headers.{HeaderSeen, header_of, SignatureSeen, empty_header, layered_header, layered_protected, layered_signature, signatures_of}
-
--- what is refused describes nothing
-pub refuses_item : {T A : Type 0} (s : Shape A) → Lawful A s → (seen : T → A) (v : Item) (r : Result T CoseError) → Reads s seen v r → RefusesItem s v r
-refuses_item s l seen v (Ok x) p = tt
-refuses_item s l seen v (Err e) p = λ n x d. l.sound v x e d (p n)
 
 -- ---- the byte string of a protected header
 

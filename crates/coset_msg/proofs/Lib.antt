@@ -1,2 +1,3 @@
 mod Contexts
 pub mod Present
+pub mod Written

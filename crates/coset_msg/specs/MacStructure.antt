@@ -1,5 +1,5 @@
 -- The structure that is authenticated (RFC 8152, section 6.3).
-use Rattle.std.specs.Prelude.{ℕ, List, [], ◌∷◌, Option, option_map, codes}
+use Rattle.std.specs.Prelude.{◌≡◌, ℕ, List, [], ◌∷◌, Option, None, option_map, codes}
 use Rattle.coset_value.specs.Item.{Item}
 use Rattle.coset_core.specs.Headers.{ProtectedSeen, protected_bytes}
 use Rattle.coset_sign.specs.Structure.{structure}
@@ -18,3 +18,11 @@ mac_structure context protected external_aad payload = structure (mac_text conte
 -- that structure over the protected bytes of a header; none where it has no such bytes
 abbrev pub mac_item : MacContext → ProtectedSeen → List ℕ → List ℕ → Option Item
 mac_item context p external_aad payload = option_map (λ b. mac_structure context b external_aad payload) (protected_bytes p)
+
+-- of the two headers the same is authenticated, in each context, whatever `external_aad` and the payload are
+abbrev pub AuthenticatesSame : ProtectedSeen → ProtectedSeen → Type 0
+AuthenticatesSame p q = (context : MacContext) (external_aad payload : List ℕ) → mac_item context p external_aad payload ≡ mac_item context q external_aad payload
+
+-- something is authenticated
+abbrev pub Authenticates : ProtectedSeen → Type 0
+Authenticates p = (context : MacContext) (external_aad payload : List ℕ) → mac_item context p external_aad payload ≡ None → ⊥

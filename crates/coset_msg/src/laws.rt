@@ -1,12 +1,14 @@
 //! Laws of the structures, which callers may cite. Each is the contract of a function that does nothing.
 
-ghost use Rattle.std.specs.Prelude.{◌≡◌, ℕ, List, Some};
-ghost use Rattle.coset_value.specs.Item.{Item};
+ghost use Rattle.std.specs.Prelude.{◌≡◌, ℕ, List};
 ghost use Rattle.coset_cbor.specs.Shortest.{IsShortest};
+ghost use Rattle.coset_shape.specs.AsWritten.{AsWritten, WhenRead};
 ghost use Rattle.coset_shape.specs.Shape.{tagged};
 ghost use Rattle.coset_core.specs.Headers.{protected_bytes};
-ghost use Rattle.coset_msg.specs.Encrypt0.{Encrypt0Seen, encrypt0};
-ghost use Rattle.coset_msg.specs.Mac0.{Mac0Seen, mac0};
+ghost use Rattle.coset_msg.specs.EncStructure.{Encrypts, EncryptsSame};
+ghost use Rattle.coset_msg.specs.Encrypt0.{encrypt0};
+ghost use Rattle.coset_msg.specs.Mac0.{mac0};
+ghost use Rattle.coset_msg.specs.MacStructure.{Authenticates, AuthenticatesSame};
 ghost use Rattle.coset_msg.specs.Structured.{Structured, structure_of};
 
 use coset_cbor::laws::{one_item, shortest_is_encoding};
@@ -24,19 +26,38 @@ pub fn one_of_all_structures()
 }
 
 /// Of a message that was read from what another is written as, plain or under its tag, the same bytes stand for the
-/// protected header, however the item was spelled: so the structures are the same.
+/// protected header, however the item was spelled.
 pub fn kept_in_messages()
-    ensures mac0 { (v : Item) (m n : Mac0Seen) → mac0.image m ≡ Some v → mac0.describes v n
-        → protected_bytes n.protected ≡ protected_bytes m.protected }
-    ensures tagged_mac0 { (v : Item) (m n : Mac0Seen) → (tagged 17 mac0).image m ≡ Some v
-        → (tagged 17 mac0).describes v n
-        → protected_bytes n.protected ≡ protected_bytes m.protected }
-    ensures encrypt0 { (v : Item) (m n : Encrypt0Seen) → encrypt0.image m ≡ Some v
-        → encrypt0.describes v n
-        → protected_bytes n.protected ≡ protected_bytes m.protected }
-    ensures tagged_encrypt0 { (v : Item) (m n : Encrypt0Seen)
-        → (tagged 16 encrypt0).image m ≡ Some v → (tagged 16 encrypt0).describes v n
-        → protected_bytes n.protected ≡ protected_bytes m.protected }
+    ensures mac0 { AsWritten mac0 (λ m n. protected_bytes n.protected
+        ≡ protected_bytes m.protected) }
+    ensures tagged_mac0 { AsWritten (tagged 17 mac0) (λ m n. protected_bytes n.protected
+        ≡ protected_bytes m.protected) }
+    ensures encrypt0 { AsWritten encrypt0 (λ m n. protected_bytes n.protected
+        ≡ protected_bytes m.protected) }
+    ensures tagged_encrypt0 { AsWritten (tagged 16 encrypt0) (λ m n. protected_bytes n.protected
+        ≡ protected_bytes m.protected) }
 {
     kept_as_written();
 }
+
+/// What is authenticated of a message with a MAC, or goes with the ciphertext of an encrypted one, that was read from
+/// what another is written as, plain or under its tag, is that one's, however the item was spelled.
+pub fn structure_as_written()
+    ensures mac0 { AsWritten mac0 (λ m n. AuthenticatesSame m.protected n.protected) }
+    ensures tagged_mac0 { AsWritten (tagged 17 mac0)
+        (λ m n. AuthenticatesSame m.protected n.protected) }
+    ensures encrypt0 { AsWritten encrypt0 (λ m n. EncryptsSame m.protected n.protected) }
+    ensures tagged_encrypt0 { AsWritten (tagged 16 encrypt0)
+        (λ m n. EncryptsSame m.protected n.protected) }
+{
+    kept_as_written();
+}
+
+/// Of a message with a MAC that was read, plain or under its tag, there always is something that is authenticated, and of
+/// an encrypted one something that goes with the ciphertext: its protected header kept the bytes that it was read from.
+pub fn structure_when_read()
+    ensures mac0 { WhenRead mac0 (λ m. Authenticates m.protected) }
+    ensures tagged_mac0 { WhenRead (tagged 17 mac0) (λ m. Authenticates m.protected) }
+    ensures encrypt0 { WhenRead encrypt0 (λ m. Encrypts m.protected) }
+    ensures tagged_encrypt0 { WhenRead (tagged 16 encrypt0) (λ m. Encrypts m.protected) }
+{}

@@ -7,3 +7,4 @@ pub mod RecipientWriting
 pub mod Mac
 pub mod Encrypt
 pub mod Equality
+pub mod Structures

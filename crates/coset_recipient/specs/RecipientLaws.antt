@@ -55,7 +55,7 @@ step_written s same r =
 
 -- ---- the shape
 
-step : Step RecipientSeen recipient_step recipient_image
+pub step : Step RecipientSeen recipient_step recipient_image
 step =
     record {
       lawful = step_laws;

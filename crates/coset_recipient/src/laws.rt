@@ -1,13 +1,15 @@
 //! Laws of recipients and of the messages that have them, which callers may cite. Each is the contract of a function that
 //! does nothing.
 
-ghost use Rattle.std.specs.Prelude.{◌≡◌, ◌↔◌, Some};
+ghost use Rattle.std.specs.Prelude.{◌≡◌, ◌↔◌};
 ghost use Rattle.coset_value.specs.Item.{Item};
+ghost use Rattle.coset_shape.specs.AsWritten.{AsWritten, WhenRead};
 ghost use Rattle.coset_shape.specs.Shape.{tagged};
 ghost use Rattle.coset_core.specs.Headers.{protected_bytes};
-ghost use Rattle.coset_recipient.specs.Encrypt.{EncryptSeen, encrypt};
-ghost use Rattle.coset_recipient.specs.Mac.{MacSeen, mac};
+ghost use Rattle.coset_recipient.specs.Encrypt.{encrypt};
+ghost use Rattle.coset_recipient.specs.Mac.{mac};
 ghost use Rattle.coset_recipient.specs.Recipient.{RecipientSeen, recipient, recipient_step};
+ghost use Rattle.coset_recipient.specs.Structures.{EncryptsAll, EncryptsAllSame, Macs, MacsSame, RecipientEncrypts, RecipientEncryptsSame};
 
 use coset_core::laws::kept_as_written;
 
@@ -21,22 +23,42 @@ pub fn recipients_hold_recipients()
 {}
 
 /// Of a recipient or a message that was read from what another is written as, plain or under its tag, the same bytes
-/// stand for the protected header, however the item was spelled: so the structures are the same.
+/// stand for the protected header, however the item was spelled.
 pub fn kept_with_recipients()
-    ensures recipient { (v : Item) (r s : RecipientSeen) → recipient.image r ≡ Some v
-        → recipient.describes v s
-        → protected_bytes s.protected ≡ protected_bytes r.protected }
-    ensures mac { (v : Item) (m n : MacSeen) → mac.image m ≡ Some v → mac.describes v n
-        → protected_bytes n.protected ≡ protected_bytes m.protected }
-    ensures tagged_mac { (v : Item) (m n : MacSeen) → (tagged 97 mac).image m ≡ Some v
-        → (tagged 97 mac).describes v n
-        → protected_bytes n.protected ≡ protected_bytes m.protected }
-    ensures encrypt { (v : Item) (m n : EncryptSeen) → encrypt.image m ≡ Some v
-        → encrypt.describes v n
-        → protected_bytes n.protected ≡ protected_bytes m.protected }
-    ensures tagged_encrypt { (v : Item) (m n : EncryptSeen)
-        → (tagged 96 encrypt).image m ≡ Some v → (tagged 96 encrypt).describes v n
-        → protected_bytes n.protected ≡ protected_bytes m.protected }
+    ensures recipient { AsWritten recipient (λ r s. protected_bytes s.protected
+        ≡ protected_bytes r.protected) }
+    ensures mac { AsWritten mac (λ m n. protected_bytes n.protected
+        ≡ protected_bytes m.protected) }
+    ensures tagged_mac { AsWritten (tagged 97 mac) (λ m n. protected_bytes n.protected
+        ≡ protected_bytes m.protected) }
+    ensures encrypt { AsWritten encrypt (λ m n. protected_bytes n.protected
+        ≡ protected_bytes m.protected) }
+    ensures tagged_encrypt { AsWritten (tagged 96 encrypt) (λ m n. protected_bytes n.protected
+        ≡ protected_bytes m.protected) }
 {
     kept_as_written();
 }
+
+/// What is authenticated of a message, and what goes with its ciphertext or with that of a recipient, at any depth and in
+/// each context, is that of the other one, where it was read from what that other is written as, plain or under its tag,
+/// however the item was spelled.
+pub fn structures_as_written()
+    ensures recipient { AsWritten recipient RecipientEncryptsSame }
+    ensures mac { AsWritten mac MacsSame }
+    ensures tagged_mac { AsWritten (tagged 97 mac) MacsSame }
+    ensures encrypt { AsWritten encrypt EncryptsAllSame }
+    ensures tagged_encrypt { AsWritten (tagged 96 encrypt) EncryptsAllSame }
+{
+    kept_as_written();
+}
+
+/// Of a message that was read, plain or under its tag, there always is something that is authenticated or that goes with
+/// its ciphertext, and something that goes with the ciphertext of each recipient, at any depth: their protected headers
+/// kept the bytes that they were read from.
+pub fn structures_when_read()
+    ensures recipient { WhenRead recipient RecipientEncrypts }
+    ensures mac { WhenRead mac Macs }
+    ensures tagged_mac { WhenRead (tagged 97 mac) Macs }
+    ensures encrypt { WhenRead encrypt EncryptsAll }
+    ensures tagged_encrypt { WhenRead (tagged 96 encrypt) EncryptsAll }
+{}

@@ -10,3 +10,4 @@ pub mod EncodingMaps
 pub mod Inputs
 pub mod InPlace
 pub mod Apart
+pub mod AsWritten

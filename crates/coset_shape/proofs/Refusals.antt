@@ -1,4 +1,4 @@
--- How bytes that aren't one item are refused.
+-- How bytes that aren't one item are refused, and items that describe nothing.
 use Rattle.std.proofs.Common.{◌≡◌, ◌⊎◌, ◌<◌, ℕ, List, [], ◌++◌, Result, Ok, Err, length, take, drop, refl, sym, ap, ◌∙◌, inl, inr, append-nil, arith, take-append-drop, length-take-le}
 use Rattle.coset_value.specs.Item.{Item}
 use Rattle.coset_cbor.specs.Fronts.{AreBytes, HasNoItem}
@@ -9,7 +9,7 @@ use Rattle.coset_cbor.specs.declared.de.Error.{Error}
 use Rattle.coset_shape.specs.declared.error.CoseError.{CoseError}
 use Rattle.coset_shape.specs.declared.error.CoseError.TheVariants.{DecodeFailed, DuplicateMapKey, EncodeFailed, ExtraneousData, OutOfRangeIntegerValue, UnexpectedItem, UnregisteredIanaValue, UnregisteredIanaNonPrivateValue, OutOfMemory}
 use Rattle.coset_shape.specs.Shape.{Shape}
-use Rattle.coset_shape.specs.Answers.{AllocatesForItems, ReadsSlice}
+use Rattle.coset_shape.specs.Answers.{AllocatesForItems, Reads, ReadsSlice, RefusesItem}
 use Rattle.coset_shape.specs.Refusals.{NamesByteFault, NamesExtraneous, NamesWholeFault}
 use Rattle.coset_shape.proofs.Whole.{OneItem}
 
@@ -69,3 +69,10 @@ module _ {A T : Type 0} (shape : Shape A) (seen : T → A) (s : List ℕ) where
 
   pub names_whole_fault : OneItem → NoItemAtFault → (r : Result T CoseError) → ReadsSlice shape seen s r → AllocatesForItems s r → NamesWholeFault s r
   names_whole_fault one at_fault r read memory = (names_byte_fault r read memory, names_extraneous one at_fault r read memory)
+
+-- an item that is refused, out of memory aside, describes nothing, where no fault stands in one that describes a value
+pub refuses_item :
+    {T A : Type 0} (shape : Shape A) → ((v : Item) (x : A) (e : CoseError) → shape.describes v x → shape.faults v e → ⊥) → (seen : T → A) (v : Item) (r : Result T CoseError) → Reads shape seen v r
+    → RefusesItem shape v r
+refuses_item shape sound seen v (Ok x) p = tt
+refuses_item shape sound seen v (Err e) p = λ n x d. sound v x e d (p n)

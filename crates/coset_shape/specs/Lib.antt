@@ -11,6 +11,7 @@ pub mod Refusals
 pub mod Serialized
 pub mod SerializedLaws
 pub mod ReadAgain
+pub mod AsWritten
 pub mod Kinds
 pub mod Sources
 pub mod OneOrMore

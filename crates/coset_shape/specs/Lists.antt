@@ -40,6 +40,11 @@ EachWith R [] [] = ⊤
 EachWith R (x ∷ xs) (y ∷ ys) = R x y × EachWith R xs ys
 EachWith R xs ys = ⊥
 
+-- P holds of each of them
+abbrev pub EachHas : {A : Type 0} → (A → Type 0) → List A → Type 0
+EachHas P [] = ⊤
+EachHas P (x ∷ xs) = P x × EachHas P xs
+
 -- one of the values is refused, and those before it aren't
 abbrev pub FirstRefused : {A B : Type 0} → (A → B → Type 0) → (A → Type 0) → List A → Type 0
 FirstRefused {A} {B} R P xs = (before : List A) × (made : List B) × (x : A) × (after : List A) × (xs ≡ before ++ x ∷ after) × EachWith R before made × P x

@@ -119,7 +119,8 @@ module _ {A : Type 0} (step : Shape A → Shape A) (image : A → Option Item) (
   lawful_nested zero = record { unique = λ v x y p q. absurd p; again = λ v x p. absurd p; sound = λ v x e p f. p }
   lawful_nested (suc n) = k.lawful (nested step image n) (lawful_nested n)
 
-  written_nested : (n : ℕ) (x : A) → (nested step image n).image x ≡ image x
+  -- each is written so, however many there may be
+  pub written_nested : (n : ℕ) (x : A) → (nested step image n).image x ≡ image x
   written_nested zero x = refl
   written_nested (suc n) x = k.written (nested step image n) (written_nested n) x
 

@@ -3,7 +3,7 @@
 ghost use Rattle.std.specs.Prelude.{◌≡◌, ◌≤◌, List, Result, ℕ};
 ghost use Rattle.coset_value.specs.Item.{Item, depth};
 ghost use Rattle.coset_cbor.specs.Grammar.{IsItem};
-ghost use Rattle.coset_shape.specs.Answers.{AllocatesForItems, Describes, ReadsSlice};
+ghost use Rattle.coset_shape.specs.Answers.{AllocatesForItems, Describes, Reads, ReadsSlice, RefusesItem};
 ghost use Rattle.coset_shape.specs.ReadAgain.{EncodesApart, ImagesApart, ReadsAgain, StaysAsWritten};
 ghost use Rattle.coset_shape.specs.Refusals.{NamesWholeFault};
 ghost use Rattle.coset_shape.specs.Shape.{tagged};
@@ -47,6 +47,13 @@ pub fn refused_as_bytes<T: AsCborValue>()
     one_item();
     no_item_at_a_fault();
 }
+
+/// An item that is refused, by whichever call, describes no value, unless memory ran out. The premise is the clause of
+/// `from_cbor_value`, and of `from_pull`.
+pub fn refused_describes_nothing<T: AsCborValue>()
+    ensures { (v : Item) (r : Result T CoseError) → Reads T.shape T.seen v r
+        → RefusesItem T.shape v r }
+{}
 
 /// A value that an item describes is written as an item that describes the same value and is no deeper. So what
 /// `from_cbor_value` read `to_cbor_value` writes, and `from_cbor_value` reads that again as the same value.

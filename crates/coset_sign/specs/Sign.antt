@@ -2,7 +2,7 @@
 use Rattle.std.specs.Prelude.{◌≡◌, ℕ, List, [], ◌∷◌, ◌++◌, map, Option, Some, None, option_map, refl}
 use Rattle.coset_value.specs.Item.{Item}
 use Rattle.coset_shape.specs.Errors.{IsUnexpected}
-use Rattle.coset_shape.specs.Lists.{EachWith}
+use Rattle.coset_shape.specs.Lists.{EachHas, EachWith}
 use Rattle.coset_shape.specs.Shape.{Shape, Places, along, blamed, list_of, ◌then◌, end, bstr, or_nil}
 use Rattle.coset_shape.specs.ShapeLaws.{Lawful, LawfulPlaces, bytes_no_nil, along_laws, blamed_laws, list_of_laws, then_laws, end_laws, bstr_laws, or_nil_laws}
 use Rattle.coset_core.specs.Headers.{HeaderSeen, ProtectedSeen, SignatureSeen, empty_header, signature}
@@ -72,6 +72,10 @@ signer_carried m s external_aad = signer_structure m s external_aad (or_empty m.
 -- of each signature of the two messages the same is signed, whatever goes with it
 abbrev pub EachSignsSame : SignSeen → SignSeen → Type 0
 EachSignsSame m n = EachWith (λ s t. (external_aad payload : List ℕ) → signer_structure m s external_aad payload ≡ signer_structure n t external_aad payload) m.signatures n.signatures
+
+-- each signature of the message signs something, whatever goes with it
+abbrev pub EachSigns : SignSeen → Type 0
+EachSigns m = EachHas (λ s. (external_aad payload : List ℕ) → signer_structure m s external_aad payload ≡ None → ⊥) m.signatures
 
 -- ---- with one signature more
 

@@ -49,10 +49,9 @@ sign1 = along sign1_of sign1_fields (headed sign1_places)
 pub sign1_laws : Lawful Sign1Seen sign1
 sign1_laws = along_laws sign1_of sign1_fields (λ x. refl) _ (headed_laws sign1_places sign1_places_laws)
 
--- what was read of what another message is written as carries that one's payload and signature
-abbrev pub CarriedAsWritten : Shape Sign1Seen → Type 0
-CarriedAsWritten s =
-    (v : Item) (m n : Sign1Seen) → s.image m ≡ Some v → s.describes v n → (n.payload ≡ m.payload) × (n.signature ≡ m.signature)
+-- the second message carries the payload and the signature of the first
+abbrev pub SamePayloadAndSignature : Sign1Seen → Sign1Seen → Type 0
+SamePayloadAndSignature m n = (n.payload ≡ m.payload) × (n.signature ≡ m.signature)
 
 -- ---- what is signed
 

@@ -1,13 +1,13 @@
 //! Laws of the structures and of what is signed, which callers may cite. Each is the contract of a function that does nothing.
 
-ghost use Rattle.std.specs.Prelude.{◌≡◌, ℕ, List, Option, Some, None};
-ghost use Rattle.coset_value.specs.Item.{Item};
+ghost use Rattle.std.specs.Prelude.{◌≡◌, ℕ, List, Option, None};
 ghost use Rattle.coset_cbor.specs.Shortest.{IsShortest};
+ghost use Rattle.coset_shape.specs.AsWritten.{AsWritten, WhenRead};
 ghost use Rattle.coset_shape.specs.Shape.{tagged};
 ghost use Rattle.coset_sign.specs.Structure.{structure};
 ghost use Rattle.coset_sign.specs.SignatureStructure.{signature_structure};
-ghost use Rattle.coset_sign.specs.Sign1.{CarriedAsWritten, Sign1Seen, sign1, sign1_structure};
-ghost use Rattle.coset_sign.specs.Sign.{SignSeen, sign, EachSignsSame};
+ghost use Rattle.coset_sign.specs.Sign1.{SamePayloadAndSignature, sign1, sign1_structure};
+ghost use Rattle.coset_sign.specs.Sign.{EachSigns, EachSignsSame, sign};
 ghost use Rattle.coset_sign.specs.Signed.{SignsSame};
 ghost use Rattle.coset_sign.specs.declared.signature.SignatureContext.{SignatureContext};
 
@@ -34,21 +34,26 @@ pub fn one_signature_structure()
     one_structure();
 }
 
-/// Of a message with one signature that was read there always is something that is signed: its protected header kept the
-/// bytes that it was read from.
+/// Of a message with one signature that was read, plain or under its tag, there always is something that is signed: its
+/// protected header kept the bytes that it was read from.
 pub fn signed_when_read()
-    ensures { (v : Item) (m : Sign1Seen) (external_aad payload : List ℕ) → sign1.describes v m
-        → sign1_structure m external_aad payload ≡ None
-        → ⊥ }
+    ensures plain { (external_aad payload : List ℕ)
+        → WhenRead sign1 (λ m. sign1_structure m external_aad payload ≡ None → ⊥) }
+    ensures tagged { (external_aad payload : List ℕ)
+        → WhenRead (tagged 18 sign1) (λ m. sign1_structure m external_aad payload ≡ None → ⊥) }
+{}
+
+/// Of a message that was read, plain or under its tag, each signature signs something.
+pub fn each_signed_when_read()
+    ensures plain { WhenRead sign EachSigns }
+    ensures tagged { WhenRead (tagged 98 sign) EachSigns }
 {}
 
 /// What is signed of a message with one signature that was read from what another is written as, plain or under its tag,
 /// is what is signed of that one, however the item was spelled.
 pub fn signed_as_written()
-    ensures plain { (v : Item) (m n : Sign1Seen) → sign1.image m ≡ Some v → sign1.describes v n
-        → SignsSame n.protected m.protected }
-    ensures tagged { (v : Item) (m n : Sign1Seen) → (tagged 18 sign1).image m ≡ Some v
-        → (tagged 18 sign1).describes v n → SignsSame n.protected m.protected }
+    ensures plain { AsWritten sign1 (λ m n. SignsSame n.protected m.protected) }
+    ensures tagged { AsWritten (tagged 18 sign1) (λ m n. SignsSame n.protected m.protected) }
 {
     kept_as_written();
 }
@@ -56,17 +61,15 @@ pub fn signed_as_written()
 /// A message with one signature that was read from what another is written as, plain or under its tag, carries the payload
 /// and the signature of that one, however the item was spelled.
 pub fn carried_as_written()
-    ensures plain { CarriedAsWritten sign1 }
-    ensures tagged { CarriedAsWritten (tagged 18 sign1) }
+    ensures plain { AsWritten sign1 SamePayloadAndSignature }
+    ensures tagged { AsWritten (tagged 18 sign1) SamePayloadAndSignature }
 {}
 
 /// What each signature of a message signs that was read from what another is written as, plain or under its tag, is what
 /// that one's signs, however the item was spelled; and there are as many of them.
 pub fn each_signed_as_written()
-    ensures plain { (v : Item) (m n : SignSeen) → sign.image m ≡ Some v → sign.describes v n
-        → EachSignsSame n m }
-    ensures tagged { (v : Item) (m n : SignSeen) → (tagged 98 sign).image m ≡ Some v
-        → (tagged 98 sign).describes v n → EachSignsSame n m }
+    ensures plain { AsWritten sign (λ m n. EachSignsSame n m) }
+    ensures tagged { AsWritten (tagged 98 sign) (λ m n. EachSignsSame n m) }
 {
     kept_as_written();
 }

@@ -22,11 +22,11 @@ use Rattle.cwt_gate.specs.declared.error.PolicyError.TheVariants.{Gate}
 
 -- of a message that was read there is something that is signed
 abbrev pub AlwaysSigned : Type 0
-AlwaysSigned = (v : Item) (m : Sign1Seen) (external_aad payload : List ℕ) → sign1.describes v m → sign1_structure m external_aad payload ≡ None → ⊥
+AlwaysSigned = (external_aad payload : List ℕ) (v : Item) (m : Sign1Seen) → sign1.describes v m → sign1_structure m external_aad payload ≡ None → ⊥
 
 -- so that there is none is never why a token is refused
 unsigned : AlwaysSigned → (b : List ℕ) (m : Sign1Seen) (e : CoseError) → Describes token b m → HasNoImage (sign1_carried m []) e → IsRefused token b e
-unsigned law b m e d none = λ other. absurd (law _ m [] _ d.2 (none other).1)
+unsigned law b m e d none = λ other. absurd (law [] _ _ m d.2 (none other).1)
 
 -- what a test answers of a moment that was handed on
 pub moved : (test : ℤ → Bool) (now : ℤ) → SFits w64 now → {b : Bool} → test (to_z w64 (of_z w64 now)) ≡ b → test now ≡ b

@@ -30,7 +30,7 @@ returns-in_err-claims g c =
     let e = c.in_err-claims.field-0.0 in
     let allowed : allows p m.protected.header ≡ true = ap (allows p) (protected_opened c.in-Ok.message.protected) ∙ (sym c.allows.ensures ∙ c.if-not-allows.false) in
     passed_on (JudgesWith g.F.FnOnce c.args.verify p c.args.now c.args.token.now) c.from_residual.result _ c.from_residual.ensures.1
-    (none_given_with g.F.FnOnce c.args.verify c.signed_when_read.ensures p c.args.now c.args.token.now m e c.in-Ok.ensures.read (allowed, sym c.understands.ensures ∙ c.if-not-understands.false) c.in_err-claims.ensures)
+    (none_given_with g.F.FnOnce c.args.verify c.signed_when_read.ensures.plain p c.args.now c.args.token.now m e c.in-Ok.ensures.read (allowed, sym c.understands.ensures ∙ c.if-not-understands.false) c.in_err-claims.ensures)
 
 pub returns-then-has_expired : goal.returns-then-has_expired
 returns-then-has_expired g c =

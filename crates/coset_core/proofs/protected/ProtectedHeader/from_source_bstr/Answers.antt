@@ -1,9 +1,9 @@
 use Rattle.coset_shape.specs.Sources.{source_item}
+use Rattle.coset_shape.proofs.Refusals.{refuses_item}
 use Rattle.coset_core.specs.HeaderLaws.{protected_laws}
 use Rattle.coset_core.specs.Headers.{protected}
 use Rattle.coset_core.specs.Views.{protected_seen}
-use Rattle.coset_core.proofs.Reading.{refuses_item}
 use Rattle.coset_core.proofs.protected.ProtectedHeader.from_source_bstr.Goals as goal
 
 pub returns-clause-refused : goal.returns-clause-refused
-returns-clause-refused c = refuses_item protected protected_laws protected_seen (source_item c.args.source) c.read_protected.result c.read_protected.ensures
+returns-clause-refused c = refuses_item protected protected_laws.sound protected_seen (source_item c.args.source) c.read_protected.result c.read_protected.ensures

@@ -1,0 +1,9 @@
+//! The registries that COSE and CBOR web tokens stand on: enums whose values stand for the numbers that IANA assigns.
+
+pub use coset_iana::{
+    ALGORITHM_PRIVATE_USE_MAX, AkpKeyParameter, Algorithm, CWT_CLAIM_PRIVATE_USE_MAX, CborTag,
+    CoapContentFormat, CwtClaimName, ELLIPTIC_CURVE_PRIVATE_USE_MAX, Ec2KeyParameter,
+    EllipticCurve, EnumI64, HEADER_PARAMETER_PRIVATE_USE_MAX, HeaderAlgorithmParameter,
+    HeaderParameter, HssLmsKeyParameter, KeyOperation, KeyParameter, KeyType, OkpKeyParameter,
+    RsaKeyParameter, SymmetricKeyParameter, WalnutDsaKeyParameter, WithPrivateRange,
+};

@@ -1,0 +1,42 @@
+-- What is authenticated of messages with recipients, and what goes with the ciphertexts of these and of their recipients
+-- (RFC 8152, sections 5.3 and 6.3).
+use Rattle.std.specs.Prelude.{⊤}
+use Rattle.coset_shape.specs.Lists.{EachHas, EachWith}
+use Rattle.coset_msg.specs.EncStructure.{Encrypts, EncryptsSame}
+use Rattle.coset_msg.specs.MacStructure.{Authenticates, AuthenticatesSame}
+use Rattle.coset_recipient.specs.Encrypt.{EncryptSeen}
+use Rattle.coset_recipient.specs.Mac.{MacSeen}
+use Rattle.coset_recipient.specs.Recipient.{Recipients, no_recipients, recipient_and, RecipientSeen}
+
+-- as many of the ones as of the others; and of each and its counterpart, and of those inside them at any depth, the same
+-- goes with the ciphertext
+abbrev pub EachEncryptsSame : Recipients → Recipients → Type 0
+EachEncryptsSame no_recipients no_recipients = ⊤
+EachEncryptsSame (recipient_and p u c inside more) (recipient_and q w d within others) =
+    EncryptsSame p q × EachEncryptsSame inside within × EachEncryptsSame more others
+EachEncryptsSame rs ss = ⊥
+
+abbrev pub RecipientEncryptsSame : RecipientSeen → RecipientSeen → Type 0
+RecipientEncryptsSame r s = EncryptsSame r.protected s.protected × EachEncryptsSame r.recipients s.recipients
+
+-- with the ciphertext of each, and of those inside it at any depth, goes something
+abbrev pub EachEncrypts : Recipients → Type 0
+EachEncrypts no_recipients = ⊤
+EachEncrypts (recipient_and p u c inside more) = Encrypts p × EachEncrypts inside × EachEncrypts more
+
+abbrev pub RecipientEncrypts : RecipientSeen → Type 0
+RecipientEncrypts r = Encrypts r.protected × EachEncrypts r.recipients
+
+-- ---- messages
+
+abbrev pub MacsSame : MacSeen → MacSeen → Type 0
+MacsSame m n = AuthenticatesSame m.protected n.protected × EachWith RecipientEncryptsSame m.recipients n.recipients
+
+abbrev pub Macs : MacSeen → Type 0
+Macs m = Authenticates m.protected × EachHas RecipientEncrypts m.recipients
+
+abbrev pub EncryptsAllSame : EncryptSeen → EncryptSeen → Type 0
+EncryptsAllSame m n = EncryptsSame m.protected n.protected × EachWith RecipientEncryptsSame m.recipients n.recipients
+
+abbrev pub EncryptsAll : EncryptSeen → Type 0
+EncryptsAll m = Encrypts m.protected × EachHas RecipientEncrypts m.recipients
