@@ -29,3 +29,4 @@ pub use coset_sign::laws::{
     carried_as_written, each_signed_as_written, each_signed_when_read, one_signature_structure,
     one_structure, signed_as_written, signed_when_read,
 };
+pub use coset_value::laws::{floats_compare_by_bits, integers_compare_as_numbers};
