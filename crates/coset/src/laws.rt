@@ -6,7 +6,7 @@ pub use coset_cbor::laws::{
     nested_arrays_cost, no_item_at_a_fault, one_cost, one_item, one_shortest,
     only_the_end_in_a_front, shortest_is_encoding, shortest_is_in_range,
 };
-pub use coset_core::laws::{kept_as_received, kept_as_written};
+pub use coset_core::laws::{headers_hold_signatures, kept_as_received, kept_as_written};
 pub use coset_iana::laws::{numbers_are_inverse, orders_are_by_number};
 pub use coset_key::laws::{
     canonical_keys_apart, canonical_keys_read_again, keys_of_a_set, labels_ascend,

@@ -19,9 +19,8 @@ use crate::read;
 pub use crate::steps::Steps;
 use coset_value::Value;
 use std::alloc::Global;
-use std::error;
-use std::fmt;
 use std::sync::ledger::Ledger;
+use std::{error, fmt};
 
 /// How deep arrays, maps and tags may nest in what is read.
 pub(crate) const MAX_DEPTH: u32 = 256;

@@ -12,8 +12,7 @@ use crate::memory::OutOfMemory;
 use crate::write::{put, put_head, put_integer, put_string, put_text};
 use coset_value::{Integer, Value};
 use std::alloc::AllocError;
-use std::error;
-use std::fmt;
+use std::{error, fmt};
 
 /// Why a value was not written. No call of this crate answers it: it stands for the errors of other writers.
 #[derive(Debug, Drop)]

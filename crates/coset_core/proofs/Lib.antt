@@ -9,5 +9,6 @@ pub mod Building
 pub mod Kept
 pub mod Filling
 pub mod Forward
+pub mod HeaderMap
 pub mod Messages
 pub mod Memory

@@ -9,7 +9,7 @@ use Rattle.coset_shape.specs.Errors.{IsUnexpected}
 use Rattle.coset_shape.specs.InPlace.{Fills}
 use Rattle.coset_shape.specs.Serialized.{ContentDescribes, ContentFaults}
 use Rattle.coset_shape.specs.Maps.{listed}
-use Rattle.coset_shape.specs.Shape.{Shape, any_number, one_or_many}
+use Rattle.coset_shape.specs.Shape.{any_number, one_or_many}
 use Rattle.coset_core.specs.Contents.{FillsContent}
 use Rattle.coset_core.specs.Fields.{FieldsSeen, map_with}
 use Rattle.coset_core.specs.HeaderReads.{header_read_with}

@@ -1,9 +1,9 @@
 -- Messages that were read, and that were read from what others are written as.
-use Rattle.std.proofs.Common.{ℕ, List, option_map, sym, ap}
+use Rattle.std.proofs.Common.{option_map, sym, ap}
 use Rattle.coset_shape.specs.AsWritten.{AsWritten, WhenRead}
 use Rattle.coset_shape.specs.ShapeLaws.{some-none}
-use Rattle.coset_core.specs.Headers.{ProtectedSeen, protected}
-use Rattle.coset_core.proofs.Messages.{HasBytes, KeepsBytes, KeptAsWritten, has_bytes, header_as_written, header_when_read}
+use Rattle.coset_core.specs.Headers.{protected}
+use Rattle.coset_core.proofs.Messages.{KeepsBytes, KeptAsWritten, has_bytes, header_as_written, header_when_read}
 use Rattle.coset_msg.specs.EncStructure.{Encrypts, EncryptsSame, enc_structure}
 use Rattle.coset_msg.specs.MacStructure.{Authenticates, AuthenticatesSame, mac_structure}
 use Rattle.coset_msg.specs.Encrypt0.{encrypt0, encrypt0_fields, encrypt0_places}

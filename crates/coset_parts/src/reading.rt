@@ -3,8 +3,7 @@
 ghost use Rattle.std.specs.Prelude.{◌≡◌, ◌+◌, ◌<◌, ℕ, [], ◌∷◌, ◌++◌, replicate, Ok};
 
 use coset::cbor::de::{EndOfFile, Error, Steps, check, decode_encoded, read_value};
-use coset::laws;
-use coset::{CborSerializable, CoseError, Result};
+use coset::{CborSerializable, CoseError, Result, laws};
 use coset_lines::words::Words;
 use coset_lines::{mark, tell};
 use std::alloc::Global;

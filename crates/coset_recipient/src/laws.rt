@@ -5,6 +5,7 @@ ghost use Rattle.std.specs.Prelude.{◌≡◌, ◌↔◌};
 ghost use Rattle.coset_value.specs.Item.{Item};
 ghost use Rattle.coset_shape.specs.AsWritten.{AsWritten, WhenRead};
 ghost use Rattle.coset_shape.specs.Shape.{tagged};
+ghost use Rattle.coset_shape.specs.declared.error.CoseError.{CoseError};
 ghost use Rattle.coset_core.specs.Headers.{protected_bytes};
 ghost use Rattle.coset_recipient.specs.Encrypt.{encrypt};
 ghost use Rattle.coset_recipient.specs.Mac.{mac};
@@ -20,6 +21,8 @@ pub fn recipients_hold_recipients()
         ↔ (recipient_step recipient).describes v r }
     ensures image { (r : RecipientSeen) → recipient.image r
         ≡ (recipient_step recipient).image r }
+    ensures faults { (v : Item) (e : CoseError) → recipient.faults v e
+        ↔ (recipient_step recipient).faults v e }
 {}
 
 /// Of a recipient or a message that was read from what another is written as, plain or under its tag, the same bytes

@@ -1,12 +1,12 @@
 -- What holds of values that were read, and of those that were read of what others are written as, by their shapes.
 use Rattle.std.proofs.Common.{◌≡◌, ℕ, zero, suc, List, [], ◌∷◌, Bool, true, false, Option, Some, None, option_map, refl, sym, ◌∙◌, ap, subst}
-use Rattle.coset_value.specs.Item.{Item, Items, no_items, item, array, bytes, tag}
+use Rattle.coset_value.specs.Item.{Item, Items, no_items, item, array, tag}
 use Rattle.coset_value.specs.Parts.{as_array, as_tag}
 use Rattle.coset_shape.specs.AsWritten.{AsWritten, WhenRead, PlacesAsWritten, PlacesWhenRead}
 use Rattle.coset_shape.specs.Lists.{EachHas, EachWith}
 use Rattle.coset_shape.specs.Recursive.{nested, recursive}
 use Rattle.coset_shape.specs.RecursiveLaws.{Step, written_nested}
-use Rattle.coset_shape.specs.Shape.{Shape, Places, both, array_of, ◌then◌, end, any_number, list_of, images, Each, perhaps, last_image, LastDescribes, tagged, bstr, or_nil}
+use Rattle.coset_shape.specs.Shape.{Shape, Places, both, array_of, ◌then◌, any_number, list_of, images, Each, perhaps, last_image, LastDescribes, tagged, bstr, or_nil}
 use Rattle.coset_shape.specs.ShapeLaws.{some-one, bstr_laws, bytes_no_nil, or_nil_laws}
 
 -- ---- under a tag

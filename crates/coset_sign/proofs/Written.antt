@@ -1,5 +1,5 @@
 -- A message that was read, and one that was read from what another is written as.
-use Rattle.std.proofs.Common.{◌≡◌, ℕ, List, [], ◌∷◌, Option, Some, None, option_map, ap}
+use Rattle.std.proofs.Common.{◌≡◌, ℕ, List, [], ◌∷◌, Some, None, option_map, ap}
 use Rattle.std.specs.Prelude.{⊤}
 use Rattle.coset_shape.proofs.AsWritten.{bstr_as_written, list_as_written, list_when_read, or_nil_as_written, then_as_written, then_when_read}
 use Rattle.coset_shape.specs.AsWritten.{AsWritten, WhenRead}

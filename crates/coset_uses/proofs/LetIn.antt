@@ -8,7 +8,7 @@ use Rattle.coset_claims.specs.declared.claims_set.ClaimsSet.{ClaimsSet}
 use Rattle.cwt_gate.specs.Gate.{JudgesWith, Verifies}
 use Rattle.cwt_gate.specs.Policy.{is_meant, is_one_of, is_there_and}
 use Rattle.cwt_gate.specs.declared.error.PolicyError.{PolicyError}
-use Rattle.coset_uses.specs.LetIn.{IsLetIn}
+use Rattle.coset_uses.specs.LetIn.{IsLetIn, policy_of}
 
 first_of_two : (b : Bool) → b || false ≡ true → b ≡ true
 first_of_two true e = e
@@ -26,10 +26,10 @@ meant a (Some b) e = ap Some (sym ((bytes_decides a b).0 e))
 
 -- what the gate lets in, by a policy of one algorithm and this audience
 pub known :
-    {F E : Type 0} (g : Verifies F E) (f : F) (a : RegisteredName) (audience : List ℕ) (leeway : ℕ) (critical : List RegisteredName) (now : ℤ) (b : List ℕ) (r : Result ClaimsSet (PolicyError E))
+    {F E : Type 0} (g : Verifies F E) (f : F) (a : RegisteredName) (audience : List ℕ) (now : ℤ) (b : List ℕ) (r : Result ClaimsSet (PolicyError E))
     → TellsApart registered_cmp
-    → JudgesWith g f (record { algorithms = a ∷ []; audience = Some audience; leeway = leeway; critical = critical }) now b r
+    → JudgesWith g f (policy_of a audience) now b r
     → IfOk r (λ x. IsLetIn g f a audience b (claims_seen x))
-known g f a audience leeway critical now b (Err e) law h = tt
-known g f a audience leeway critical now b (Ok x) law h =
+known g f a audience now b (Err e) law h = tt
+known g f a audience now b (Ok x) law h =
     record { message = h.0.0; read = h.0.1; named = only law a _ h.0.2.0.0; accepted = h.0.2.1; meant = meant audience _ h.3 }

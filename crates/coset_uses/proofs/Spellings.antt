@@ -7,7 +7,9 @@ use Rattle.coset_cbor.specs.Grammar.{IsEncoding}
 use Rattle.coset_cbor.specs.Least.{least_encoding}
 use Rattle.coset_cbor.specs.Shortest.{IsShortest}
 use Rattle.coset_shape.specs.Answers.{Describes}
+use Rattle.coset_shape.specs.AsWritten.{AsWritten}
 use Rattle.coset_shape.specs.ReadAgain.{IsWritten}
+use Rattle.coset_shape.specs.Shape.{Shape}
 use Rattle.coset_shape.specs.declared.error.CallError.{CallError}
 use Rattle.coset_shape.specs.declared.error.CallError.TheVariants.{Coset}
 use Rattle.coset_shape.specs.declared.error.CoseError.{CoseError}
@@ -18,7 +20,7 @@ use Rattle.coset_sign.specs.Calls.{IsStructure}
 use Rattle.coset_sign.specs.Sign1.{Sign1Seen, sign1, sign1_carried, sign1_structure}
 use Rattle.coset_sign.specs.Signed.{SignsSame, or_empty}
 use Rattle.coset_sign.specs.declared.signature.SignatureContext.TheVariants.{CoseSign1}
-use Rattle.coset_uses.specs.Exchange.{CarriesSame, IsSent, IsSpelling, Respells}
+use Rattle.coset_uses.specs.Exchange.{Arrives, CarriesSame, IsSent, IsSpelling, Respells}
 use Rattle.coset_uses.specs.declared.exchange.Lost.TheVariants.{NotVerified}
 use Rattle.coset_uses.specs.declared.cipher.Refused.{Refused}
 
@@ -50,16 +52,20 @@ abbrev pub ShortestIsEncoding : Type 0
 ShortestIsEncoding = (v : Item) (b : List ℕ) → IsShortest b v → IsEncoding v b
 
 -- the item that was written is the one that was read
-same_item : OneItem → ShortestIsEncoding → (b t : List ℕ) (m n : Sign1Seen) (w : IsWritten sign1 m b) → IsSpelling b t → Describes sign1 t n → sign1.describes w.0 n
-same_item one encoding b t m n w s d =
+same_item :
+    {A : Type 0} (shape : Shape A) → OneItem → ShortestIsEncoding → (b t : List ℕ) (m n : A) (w : IsWritten shape m b) → IsSpelling b t → Describes shape t n → shape.describes w.0 n
+same_item shape one encoding b t m n w s d =
     let arrived : d.0 ≡ s.0 = one_of one t d.0 s.0 d.1 s.2 in
     let sent : s.0 ≡ w.0 = (one s.0 w.0 b b [] [] s.1.0 (encoding w.0 b w.2) refl).0 in
-    subst (λ v. sign1.describes v n) (arrived ∙ sent) d.2
+    subst (λ v. shape.describes v n) (arrived ∙ sent) d.2
+
+pub arrives : {A : Type 0} (shape : Shape A) (R : A → A → Type 0) → OneItem → ShortestIsEncoding → AsWritten shape R → Arrives shape R
+arrives shape R one encoding law b t m n w s d = law w.0 m n w.1 (same_item shape one encoding b t m n w s d)
 
 pub carries_same :
     OneItem → ShortestIsEncoding → SignedAsWritten → CarriedAsWritten → (b t : List ℕ) (m n : Sign1Seen) → IsWritten sign1 m b → IsSpelling b t → Describes sign1 t n → CarriesSame n m
 carries_same one encoding signs carries b t m n w s d =
-    let read = same_item one encoding b t m n w s d in
+    let read = same_item sign1 one encoding b t m n w s d in
     let both = carries w.0 m n w.1 read in
     record {
       payload = both.0;

@@ -4,6 +4,7 @@ use Rattle.coset_value.specs.Item.{Item}
 use Rattle.coset_cbor.specs.Grammar.{IsItem}
 use Rattle.coset_shape.specs.Answers.{Describes}
 use Rattle.coset_shape.specs.ReadAgain.{IsWritten}
+use Rattle.coset_shape.specs.Shape.{Shape}
 use Rattle.coset_claims.specs.Claims.{ClaimsSeen, claims}
 use Rattle.coset_sign.specs.Calls.{IsStructure}
 use Rattle.coset_sign.specs.Sign1.{Sign1Seen, sign1, sign1_carried}
@@ -15,6 +16,14 @@ IsSpelling a b = (v : Item) × IsItem a v × IsItem b v
 -- b is an encoding of the item that a is one of, where there is one
 abbrev pub Respells : List ℕ → List ℕ → Type 0
 Respells a b = (v : Item) → IsItem a v → IsItem b v
+
+-- R holds of a message that is written, and of what is read of it, in whatever spelling it arrives
+abbrev pub Arrives : {A : Type 0} → Shape A → (A → A → Type 0) → Type 0
+Arrives {A} s R = (b t : List ℕ) (m n : A) → IsWritten s m b → IsSpelling b t → Describes s t n → R m n
+
+-- P holds of each message that is read
+abbrev pub IsReceived : {A : Type 0} → Shape A → (A → Type 0) → Type 0
+IsReceived {A} s P = (b : List ℕ) (m : A) → Describes s b m → P m
 
 -- The bytes that a message with one signature is written as, and that read as a message: it carries this payload, and its
 -- signature is one of its structure over `external_aad` (RFC 8152, section 4.4). `signs t s`: s is a signature of the bytes t

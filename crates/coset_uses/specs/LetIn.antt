@@ -1,11 +1,12 @@
 -- A web token that is let in.
-use Rattle.std.specs.Prelude.{◌≡◌, ℕ, List, Some}
+use Rattle.std.specs.Prelude.{◌≡◌, ℕ, List, [], ◌∷◌, Some}
 use Rattle.coset_shape.specs.Answers.{Describes}
 use Rattle.coset_label.specs.Names.{RegisteredName}
 use Rattle.coset_core.specs.Headers.{fields_in}
 use Rattle.coset_claims.specs.Claims.{ClaimsSeen}
 use Rattle.coset_sign.specs.Sign1.{Sign1Seen}
 use Rattle.cwt_gate.specs.Gate.{Accepts, Verifies}
+use Rattle.cwt_gate.specs.Policy.{PolicySeen}
 use Rattle.cwt_gate.specs.Token.{token}
 
 -- the bytes are a token whose protected header names this algorithm; the closure f accepts its signature, of what that is
@@ -16,3 +17,7 @@ pub record IsLetIn {F E : Type 0} (g : Verifies F E) (f : F) (algorithm : Regist
   pub named : (fields_in message.protected.header).alg ≡ Some algorithm
   pub accepted : Accepts g f message c
   pub meant : c.audience ≡ Some audience
+
+-- a policy of this one algorithm and this audience, with a leeway of one minute, that understands no critical label
+abbrev pub policy_of : RegisteredName → List ℕ → PolicySeen
+policy_of algorithm audience = record { algorithms = algorithm ∷ []; audience = Some audience; leeway = 60; critical = [] }

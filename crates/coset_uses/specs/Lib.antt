@@ -1,6 +1,9 @@
 pub mod Attestation
 pub mod Exchange
 pub mod FindKey
+pub mod KeySets
 pub mod LetIn
 pub mod Oscore
+pub mod Refusals
 pub mod Store
+pub mod Inside

@@ -3,7 +3,7 @@
 ghost use Rattle.std.specs.Prelude.{◌≡◌, ◌≤◌, ℕ, List, Result};
 ghost use Rattle.coset_value.specs.Item.{Item, depth};
 ghost use Rattle.coset_cbor.specs.Grammar.{IsItem};
-ghost use Rattle.coset_shape.specs.Answers.{AllocatesForItems, Describes, ReadsSlice};
+ghost use Rattle.coset_shape.specs.Answers.{AllocatesForItems, Describes, Reads, ReadsSlice, RefusesItem};
 ghost use Rattle.coset_shape.specs.ReadAgain.{EncodesApart, ReadsAgain, StaysAsWritten};
 ghost use Rattle.coset_shape.specs.Refusals.{NamesWholeFault};
 ghost use Rattle.coset_shape.specs.Shape.{tagged};
@@ -19,15 +19,16 @@ use coset::{
     ProtectedHeader, SuppPubInfo, TaggedCborSerializable,
 };
 use coset_shape::laws::{
-    image_is_described, one_value, reads_again, refused_as_bytes, spellings_agree,
-    stays_as_written, written_apart,
+    image_is_described, one_value, reads_again, refused_as_bytes, refused_describes_nothing,
+    spellings_agree, stays_as_written, written_apart,
 };
 use std::fmt;
 
 /// What holds of each type: bytes describe at most one value, and so do two spellings of one item; bytes that aren't
-/// one item are refused for that; what was read is written and read again as itself, and so is what an item within 256
-/// levels describes; values that were read, however each came, are written as equal bytes exactly where they are equal;
-/// and those bytes stay the same when they are read and written again.
+/// one item are refused for that; an item that is refused describes nothing, unless memory ran out; what was read is
+/// written and read again as itself, and so is what an item within 256 levels describes; values that were read, however
+/// each came, are written as equal bytes exactly where they are equal; and those bytes stay the same when they are read
+/// and written again.
 pub fn keeps_the_laws<T: Lawful + CborSerializable + FromPull + PartialEq + fmt::Debug>()
     ensures one { (s : List ℕ) (x y : T.Seen) → Describes T.shape s x → Describes T.shape s y
         → x ≡ y }
@@ -35,6 +36,8 @@ pub fn keeps_the_laws<T: Lawful + CborSerializable + FromPull + PartialEq + fmt:
         → Describes T.shape s x → Describes T.shape t x }
     ensures refused { (s : List ℕ) (r : Result T CoseError) → ReadsSlice T.shape T.seen s r
         → AllocatesForItems s r → NamesWholeFault s r }
+    ensures refused_items { (v : Item) (r : Result T CoseError) → Reads T.shape T.seen v r
+        → RefusesItem T.shape v r }
     ensures again { (s : List ℕ) (x : T.Seen) → Describes T.shape s x → ReadsAgain T.shape x }
     ensures items { (v : Item) (x : T.Seen) → T.shape.describes v x → depth v ≤ 256
         → ReadsAgain T.shape x }
@@ -44,6 +47,7 @@ pub fn keeps_the_laws<T: Lawful + CborSerializable + FromPull + PartialEq + fmt:
     one_value::<T>();
     spellings_agree::<T>();
     refused_as_bytes::<T>();
+    refused_describes_nothing::<T>();
     reads_again::<T>();
     written_apart::<T>();
     stays_as_written::<T>();

@@ -4,14 +4,16 @@
 //! strings, arrays and maps whose length isn't announced (RFC 8949, section 3). Whatever spelling arrives, what is
 //! verified is what was signed, so that a genuine token is never refused.
 
-ghost use Rattle.std.specs.Prelude.{◌≡◌, ℕ, List, Some, IfOk, IfErr, IfSome};
+ghost use Rattle.std.specs.Prelude.{◌≡◌, ℕ, List, Some, None, IfOk, IfErr, IfSome};
 ghost use Rattle.coset_shape.specs.declared.error.CoseError.TheVariants.{OutOfMemory};
 ghost use Rattle.coset_shape.specs.declared.error.CallError.TheVariants.{Coset};
 ghost use Rattle.coset_shape.specs.declared.error.CallError.{CallError};
+ghost use Rattle.coset_core.specs.Views.{header_seen};
 ghost use Rattle.coset_sign.specs.Sign1.{sign1_seen};
 ghost use Rattle.coset_uses.specs.declared.exchange.Lost.TheVariants.{NotVerified};
 ghost use Rattle.coset_uses.specs.declared.cipher.Refused.{Refused};
 ghost use Rattle.coset_uses.specs.Exchange.{Respells};
+ghost use Rattle.coset_uses.specs.Refusals.{IsLost};
 
 use crate::cipher::{Refused, SigningKey, VerifyingKey};
 use crate::issue::sign_token;
@@ -21,9 +23,13 @@ use std::alloc::Global;
 
 /// What carries a token from the one side to the other.
 pub trait Channel {
-    /// The token as it arrives: the same item, in any spelling; or nothing.
+    /// Which tokens the channel may lose.
+    ghost loses: { Self → List ℕ → Type 0 };
+
+    /// The token as it arrives: the same item, in any spelling; or nothing, where `loses` holds.
     fn carry(&mut self, alloc: Global, token: &[u8]) -> Option<Vec<u8>>
-        ensures { IfSome result (λ b. Respells token.now b.items) };
+        ensures carried { IfSome result (λ b. Respells token.now b.items) }
+        ensures lost { result ≡ None → loses self.old token.now };
 }
 
 /// Why a token didn't come to be verified.
@@ -52,6 +58,8 @@ pub fn exchange<S: SigningKey, V: VerifyingKey, C: Channel>(
 ) -> Result<CoseSign1, Lost>
     requires { (t s : List ℕ) → S.signs signing_key.now t s → V.accepts verifying_key.now t s }
     ensures payload { IfOk result (λ n. (sign1_seen n).payload ≡ Some payload.items) }
+    ensures lost { IfErr result (λ e. IsLost (S.signs signing_key.now) (S.refuses signing_key.now)
+        (C.loses channel.old) external_aad.now (header_seen protected) payload.items e) }
     ensures arrives { IfErr result (λ e. (c : CallError Refused) → e ≡ NotVerified c
         → c ≡ Coset OutOfMemory) }
 {

@@ -1,7 +1,8 @@
 //! A key of a set, found by its identifier (RFC 8152, section 7).
 
-ghost use Rattle.std.specs.Prelude.{◌≡◌, IfOk, option_map};
-ghost use Rattle.coset_key.specs.Keys.{key_seen, key_set_seen};
+ghost use Rattle.std.specs.Prelude.{◌≡◌, IfOk, IfErr, option_map};
+ghost use Rattle.coset_key.specs.Keys.{key_seen, key_set, key_set_seen};
+ghost use Rattle.cwt_gate.specs.Gate.{IsRefused};
 ghost use Rattle.coset_uses.specs.FindKey.{IsKeyOf, first_with};
 
 use coset::{CborOrdering, CborSerializable, CoseKey, CoseKeySet, Result};
@@ -25,7 +26,9 @@ pub fn key_of(
     key_id: &[u8],
     ordering: CborOrdering,
 ) -> Result<Option<CoseKey>>
-    ensures { IfOk result (λ o. IsKeyOf ordering keys.now key_id.now (option_map key_seen o)) }
+    ensures found { IfOk result (λ o. IsKeyOf ordering keys.now key_id.now
+        (option_map key_seen o)) }
+    ensures refused { IfErr result (λ e. IsRefused key_set keys.now e) }
 {
     let keys = CoseKeySet::from_slice(alloc, keys)?;
     let Some(found) = find_key(&keys, key_id) else {

@@ -1,8 +1,12 @@
 //! Issuing a web token (RFC 8392, section 7.1): its claims are the payload of a message with one signature.
 
-ghost use Rattle.std.specs.Prelude.{IfOk};
+ghost use Rattle.std.specs.Prelude.{IfOk, IfErr};
+ghost use Rattle.coset_iana.specs.Algorithm as algorithms;
+ghost use Rattle.coset_label.specs.Names.{assigned};
+ghost use Rattle.coset_core.specs.Views.{header_seen};
 ghost use Rattle.coset_claims.specs.Claims.{claims_seen};
 ghost use Rattle.coset_uses.specs.Exchange.{IsIssued, IsSent};
+ghost use Rattle.coset_uses.specs.Refusals.{IsNotIssued, IsNotSent};
 
 use crate::cipher::{Refused, SigningKey};
 use coset::cwt::ClaimsSet;
@@ -22,18 +26,20 @@ pub fn sign_token<K: SigningKey>(
     payload: Vec<u8>,
     external_aad: &[u8],
 ) -> Result<Vec<u8>, CallError<Refused>>
-    ensures { IfOk result (λ b. IsSent (K.signs key.now) external_aad.now payload.items b.items) }
+    ensures sent { IfOk result (λ b. IsSent (K.signs key.now) external_aad.now payload.items
+        b.items) }
+    ensures refused { IfErr result (λ e. IsNotSent (K.refuses key.now) external_aad.now
+        (header_seen protected) payload.items e) }
 {
     let unsigned = CoseSign1Builder::new(alloc)
         .protected(protected)
         .payload(payload);
-    let mut message = unsigned.build();
-    let tbs = message.tbs_data(alloc, external_aad)?;
-    message.signature = match key.sign(alloc, &tbs) {
-        Ok(signature) => signature,
-        Err(refused) => return Err(CallError::Caller(refused)),
-    };
-    let token = message.to_vec(alloc)?;
+    let signed = unsigned.try_create_signature(
+        alloc,
+        external_aad,
+        move |tbs| key.sign(alloc, tbs),
+    )?;
+    let token = signed.build().to_vec(alloc)?;
     drop(CoseSign1::from_slice(alloc, &token)?);
     Ok(token)
 }
@@ -49,8 +55,10 @@ pub fn issue_token<K: SigningKey>(
     claims: ClaimsSet,
     external_aad: &[u8],
 ) -> Result<Vec<u8>, CallError<Refused>>
-    ensures { IfOk result (λ b. IsIssued (K.signs key.now) external_aad.now (claims_seen claims)
-        b.items) }
+    ensures issued { IfOk result (λ b. IsIssued (K.signs key.now) external_aad.now
+        (claims_seen claims) b.items) }
+    ensures refused { IfErr result (λ e. IsNotIssued (K.refuses key.now) external_aad.now
+        (assigned (algorithms.number algorithm)) (claims_seen claims) e) }
 {
     let payload = claims.to_vec(alloc)?;
     let protected = HeaderBuilder::new(alloc).algorithm(algorithm).build();

@@ -5,7 +5,8 @@ ghost use Rattle.coset_iana.specs.Algorithm as algorithms;
 ghost use Rattle.coset_iana.specs.declared.algorithms.Algorithm.TheVariants.{ES256};
 ghost use Rattle.coset_label.specs.Names.{assigned};
 ghost use Rattle.coset_claims.specs.Claims.{claims_seen};
-ghost use Rattle.coset_uses.specs.LetIn.{IsLetIn};
+ghost use Rattle.cwt_gate.specs.Gate.{JudgesWith};
+ghost use Rattle.coset_uses.specs.LetIn.{IsLetIn, policy_of};
 
 use crate::cipher::Refused;
 use coset::RegisteredLabelWithPrivate;
@@ -22,7 +23,7 @@ const LEEWAY: u64 = 60;
 /// they are valid.
 ///
 /// # Errors
-/// Why it isn't let in.
+/// Why it isn't let in: what [`judge_with`] says of this policy.
 pub fn let_in<F>(
     alloc: Global,
     audience: &str,
@@ -33,8 +34,10 @@ pub fn let_in<F>(
 where
     F: FnOnce(&[u8], &[u8]) -> Result<(), Refused> + Drop,
     requires { F.IsAlwaysCallable verify }
-    ensures { IfOk result (λ c. IsLetIn F.FnOnce verify (assigned (algorithms.number ES256))
+    ensures let_in { IfOk result (λ c. IsLetIn F.FnOnce verify (assigned (algorithms.number ES256))
         audience.now token.now (claims_seen c)) }
+    ensures judged { JudgesWith F.FnOnce verify (policy_of (assigned (algorithms.number ES256))
+        audience.now) now token.now result }
 {
     orders_tell_apart();
     let algorithms = [RegisteredLabelWithPrivate::Assigned(Algorithm::ES256)];

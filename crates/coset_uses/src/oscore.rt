@@ -1,17 +1,17 @@
 //! A request as OSCORE protects it (RFC 8613): a message `COSE_Encrypt0` whose `external_aad` tells what the two sides
 //! agree on.
 
-ghost use Rattle.std.specs.Prelude.{IfOk, Some};
+ghost use Rattle.std.specs.Prelude.{IfOk, IfErr, Some};
 ghost use Rattle.coset_iana.specs.Algorithm as algorithms;
 ghost use Rattle.coset_shape.specs.Answers.{Writes};
 ghost use Rattle.coset_uses.specs.Oscore.{IsDecrypted, request_aad};
+ghost use Rattle.coset_uses.specs.Refusals.{IsNotDecrypted};
 
 use crate::cipher::{DecryptionKey, Refused};
 use coset::cbor::value::Value;
 use coset::iana::{Algorithm, EnumI64};
-use coset::{
-    CallError, CborSerializable, CoseEncrypt0, EncryptionContext, Result, enc_structure_data,
-};
+use coset::{CallError, CborSerializable, CoseEncrypt0, Result};
+use coset_msg::laws::structure_when_read;
 use std::alloc::Global;
 
 /// The `external_aad` of a request (RFC 8613, section 5.4): version 1 of OSCORE, the algorithm, the identifier of who asks,
@@ -50,21 +50,18 @@ pub fn decrypted<K: DecryptionKey>(
     message: &[u8],
     external_aad: &[u8],
 ) -> Result<Vec<u8>, CallError<Refused>>
-    ensures { IfOk result (λ p. IsDecrypted (K.decrypts key.now) external_aad.now message.now
-        p.items) }
+    ensures decrypted { IfOk result (λ p. IsDecrypted (K.decrypts key.now) external_aad.now
+        message.now p.items) }
+    ensures refused { IfErr result (λ e. IsNotDecrypted (K.refuses key.now) external_aad.now
+        message.now e) }
 {
-    let CoseEncrypt0 {
-        protected,
-        unprotected: _,
-        ciphertext,
-    } = CoseEncrypt0::from_slice(alloc, message)?;
-    let Some(ciphertext) = ciphertext else {
-        return Err(CallError::Caller(Refused));
-    };
-    let context = EncryptionContext::CoseEncrypt0;
-    let aad = enc_structure_data(alloc, context, protected, external_aad)?;
-    match key.decrypt(alloc, &ciphertext, &aad) {
-        Ok(plaintext) => Ok(plaintext),
-        Err(refused) => Err(CallError::Caller(refused)),
+    structure_when_read();
+    let message = CoseEncrypt0::from_slice(alloc, message)?;
+    if message.ciphertext.is_none() {
+        return Err(CallError::Caller(Refused::Rejected));
     }
+    let plaintext = message.decrypt(alloc, external_aad, move |ciphertext, aad| {
+        key.decrypt(alloc, ciphertext, aad)
+    })?;
+    Ok(plaintext)
 }

@@ -46,6 +46,6 @@ fn a_request_that_is_decrypted(rt: HostRuntime) -> Result<(), Fail> {
         b"GET".as_slice()
     );
     let other_aad = decrypted(alloc, &StandInKey, &message, EXTERNAL_AADS[1].1);
-    assert!(rt; matches!(other_aad, Err(CallError::Caller(Refused))));
+    assert!(rt; matches!(other_aad, Err(CallError::Caller(Refused::Rejected))));
     Ok(())
 }

@@ -2,6 +2,8 @@
 //! nothing: never use it for anything but tests and examples.
 
 ghost use Rattle.std.specs.Prelude.{◌≡◌, ◌++◌};
+ghost use Rattle.coset_uses.specs.Refusals.{IsNotBehind};
+ghost use Rattle.coset_uses.specs.declared.cipher.Refused.TheVariants.{OutOfMemory};
 
 use crate::cipher::{DecryptionKey, Refused, SigningKey, VerifyingKey};
 use std::alloc::Global;
@@ -14,8 +16,10 @@ pub struct StandInKey;
 impl SigningKey for StandInKey {
     ghost signs = { λ self tbs signature. signature ≡ tbs };
 
+    ghost refuses = { λ self tbs refused. refused ≡ OutOfMemory };
+
     fn sign(&self, alloc: Global, tbs: &[u8]) -> Result<Vec<u8>, Refused> {
-        Vec::from_slice(alloc, tbs).map_err(|_| Refused)
+        Vec::from_slice(alloc, tbs).map_err(|_| Refused::OutOfMemory)
     }
 }
 
@@ -26,7 +30,7 @@ impl VerifyingKey for StandInKey {
         if signature == tbs {
             Ok(())
         } else {
-            Err(Refused)
+            Err(Refused::Rejected)
         }
     }
 }
@@ -34,13 +38,15 @@ impl VerifyingKey for StandInKey {
 impl DecryptionKey for StandInKey {
     ghost decrypts = { λ self ciphertext aad plaintext. ciphertext ≡ aad ++ plaintext };
 
+    ghost refuses = { λ self ciphertext aad refused. IsNotBehind aad ciphertext refused };
+
     fn decrypt(&self, alloc: Global, ciphertext: &[u8], aad: &[u8]) -> Result<Vec<u8>, Refused> {
         let Some(plaintext) = ciphertext.strip_prefix(aad) else {
-            return Err(Refused);
+            return Err(Refused::Rejected);
         };
         match Vec::from_slice(alloc, plaintext) {
             Ok(copy) => Ok(copy),
-            Err(_) => Err(Refused),
+            Err(_) => Err(Refused::OutOfMemory),
         }
     }
 }

@@ -3,14 +3,15 @@
 //! A key may be spelled in many ways, and its params may stand in any order. A store that reads a key, puts its params in
 //! order and writes it holds bytes that two such stores can compare, or hash, in place of the keys.
 
-ghost use Rattle.std.specs.Prelude.{◌≡◌, ◌↔◌, IfOk, IsTrue};
+ghost use Rattle.std.specs.Prelude.{◌≡◌, ◌⊎◌, ◌↔◌, IfOk, IfErr, IsTrue};
 ghost use Rattle.coset_key.specs.Canonical.{AgreeButForOrder};
 ghost use Rattle.coset_key.specs.Keys.{KeySeen, key};
 ghost use Rattle.coset_shape.specs.Answers.{Describes};
+ghost use Rattle.cwt_gate.specs.Gate.{IsRefused};
 ghost use Rattle.coset_uses.specs.Store.{IsStored};
 
 use coset::{CborOrdering, CborSerializable, CoseKey, Result};
-use coset_key::laws::canonical_keys_apart;
+use coset_key::laws::{canonical_keys_apart, canonical_keys_read_again};
 use coset_shape::laws::one_value;
 use std::alloc::Global;
 
@@ -19,8 +20,10 @@ use std::alloc::Global;
 /// # Errors
 /// Why the bytes aren't a key; or `OutOfMemory`.
 pub fn stored(alloc: Global, bytes: &[u8], ordering: CborOrdering) -> Result<Vec<u8>>
-    ensures { IfOk result (λ held. IsStored ordering bytes.now held.items) }
+    ensures held { IfOk result (λ held. IsStored ordering bytes.now held.items) }
+    ensures refused { IfErr result (λ e. IsRefused key bytes.now e) }
 {
+    canonical_keys_read_again();
     let mut key = CoseKey::from_slice(alloc, bytes)?;
     key.canonicalize(alloc, ordering)?;
     key.to_vec(alloc)
@@ -32,8 +35,9 @@ pub fn stored(alloc: Global, bytes: &[u8], ordering: CborOrdering) -> Result<Vec
 /// # Errors
 /// The same as [`stored`].
 pub fn hold_the_same(alloc: Global, one: &[u8], other: &[u8]) -> Result<bool>
-    ensures { (k l : KeySeen) → Describes key one.now k → Describes key other.now l
+    ensures same { (k l : KeySeen) → Describes key one.now k → Describes key other.now l
         → IfOk result (λ same. IsTrue same ↔ AgreeButForOrder k l) }
+    ensures refused { IfErr result (λ e. IsRefused key one.now e ⊎ IsRefused key other.now e) }
 {
     canonical_keys_apart();
     one_value::<CoseKey>();

@@ -23,6 +23,10 @@ const EXTERNAL_AAD: &[u8] = b"\x01\x02";
 struct Plain;
 
 impl Channel for Plain {
+    ghost use Rattle.std.specs.Prelude.{⊤};
+
+    ghost loses = { λ _ _. ⊤ };
+
     fn carry(&mut self, alloc: Global, token: &[u8]) -> Option<Vec<u8>> {
         Vec::from_slice(alloc, token).ok()
     }

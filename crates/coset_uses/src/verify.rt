@@ -7,6 +7,7 @@ ghost use Rattle.coset_shape.specs.ReadAgain.{IsWritten};
 ghost use Rattle.coset_claims.specs.Claims.{claims_seen};
 ghost use Rattle.coset_sign.specs.Sign1.{Sign1Seen, sign1, sign1_seen};
 ghost use Rattle.coset_uses.specs.Exchange.{CarriesSame, IsSent, IsSpelling, IsVerified, AreVerified};
+ghost use Rattle.coset_uses.specs.Refusals.{AreNotVerified, IsNotVerified};
 
 use crate::cipher::{Refused, VerifyingKey};
 use coset::cwt::ClaimsSet;
@@ -15,14 +16,14 @@ use coset_cbor::laws::{
     least_heads_are_shortest, one_item, shortest_is_encoding, shortest_is_in_range,
 };
 use coset_shape::laws::spellings_agree;
-use coset_sign::laws::{carried_as_written, signed_as_written};
+use coset_sign::laws::{carried_as_written, signed_as_written, signed_when_read};
 use std::alloc::Global;
 
 /// The message that the token is, once its signature was verified.
 ///
 /// # Errors
-/// Why the bytes aren't a message with one signature; or `Caller`, where the key refuses. Of a token that a matching key
-/// signed, however it was spelled on its way, `OutOfMemory` alone.
+/// Why the bytes aren't a message with one signature; `OutOfMemory`; or `Caller`, where the key doesn't accept its
+/// signature. Of a token that a matching key signed, however it was spelled on its way, `OutOfMemory` alone.
 pub fn verify_token<K: VerifyingKey>(
     alloc: Global,
     key: &K,
@@ -36,20 +37,22 @@ pub fn verify_token<K: VerifyingKey>(
     ensures genuine { (payload b : List ℕ)
         → IsSent (K.accepts key.now) external_aad.now payload b → IsSpelling b token.now
         → IfErr result (λ e. e ≡ Coset OutOfMemory) }
+    ensures refused { IfErr result (λ e. IsNotVerified (K.accepts key.now) external_aad.now
+        token.now e) }
 {
     spellings_agree::<CoseSign1>();
     signed_as_written();
     carried_as_written();
+    signed_when_read();
     one_item();
     shortest_is_encoding();
     shortest_is_in_range();
     least_heads_are_shortest();
     let message = CoseSign1::from_slice(alloc, token)?;
-    let tbs = message.tbs_data(alloc, external_aad)?;
-    match key.verify(&message.signature, &tbs) {
-        Ok(()) => Ok(message),
-        Err(refused) => Err(CallError::Caller(refused)),
-    }
+    message.verify_signature(alloc, external_aad, |signature, tbs| {
+        key.verify(signature, tbs)
+    })?;
+    Ok(message)
 }
 
 /// The claims of a web token, once its signature was verified.
@@ -62,8 +65,10 @@ pub fn verified_claims<K: VerifyingKey>(
     token: &[u8],
     external_aad: &[u8],
 ) -> Result<ClaimsSet, CallError<Refused>>
-    ensures { IfOk result (λ claims. AreVerified (K.accepts key.now) external_aad.now token.now
-        (claims_seen claims)) }
+    ensures verified { IfOk result (λ claims. AreVerified (K.accepts key.now) external_aad.now
+        token.now (claims_seen claims)) }
+    ensures refused { IfErr result (λ e. AreNotVerified (K.accepts key.now) external_aad.now
+        token.now e) }
 {
     let message = verify_token(alloc, key, token, external_aad)?;
     let Some(payload) = &message.payload else {

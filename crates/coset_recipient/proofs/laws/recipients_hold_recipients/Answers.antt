@@ -6,3 +6,6 @@ returns-clause-describes c = λ v r. (λ d. (recipient-opened.describes v r d).1
 
 pub returns-clause-image : goal.returns-clause-image
 returns-clause-image c = recipient-of_step
+
+pub returns-clause-faults : goal.returns-clause-faults
+returns-clause-faults c = λ v e. (λ f. (recipient-opened.faults v e f).1, λ f. (recipient-made.faults v e f).1)

@@ -1,0 +1,23 @@
+-- A header as the map of its fields, in which labels 7 and 11 hold signatures: `header_map` of RFC 8152, section 3, where label 7
+-- holds counter signatures (section 4.5). Those of label 11 are modelled on RFC 9338, section 3.1.
+use Rattle.std.specs.Prelude.{List, [], ◌∷◌}
+use Rattle.coset_shape.specs.Shape.{Shape, along}
+use Rattle.coset_shape.specs.Maps.{listed}
+use Rattle.coset_core.specs.Fields.{FieldsSeen, Versions, map_with}
+use Rattle.coset_core.specs.Headers.{HeaderSeen, header_of, fields_in, counter_signatures_in, countersignatures_in, Signatures, no_signatures, signature_and, SignatureSeen, signatures_of}
+
+-- signatures as a list
+abbrev pub each_of : Signatures → List SignatureSeen
+each_of no_signatures = []
+each_of (signature_and o p u s more) = record { protected = record { original = o; header = p }; unprotected = u; signature = s } ∷ each_of more
+
+-- a header of its fields and its signatures of both versions; and these of a header
+abbrev pub header_with : FieldsSeen × Versions (List SignatureSeen) → HeaderSeen
+header_with x = header_of x.0 (signatures_of x.1.0) (signatures_of x.1.1)
+
+abbrev pub header_parts : HeaderSeen → FieldsSeen × Versions (List SignatureSeen)
+header_parts h = (fields_in h, (each_of (counter_signatures_in h), each_of (countersignatures_in h)))
+
+-- the map of a header's fields, where s is the shape of its signatures: ? 7 => s and ? 11 => s, each left out where there are none
+abbrev pub header_map : Shape (List SignatureSeen) → Shape HeaderSeen
+header_map s = along header_with header_parts (map_with (listed s) (listed s))
