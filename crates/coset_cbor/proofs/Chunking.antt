@@ -213,7 +213,7 @@ simple_read is_text left (places.Eight n) s v rest e = other_is is_text (float (
 simple_read is_text left places.Indefinite s v rest e = absurd (item_apart (v, rest) (Syntax left) (sym e))
 
 -- behind a head of another kind stands no string of this one
-other_read : (is_text : Bool) (inside : Inside) (left : ℕ) (a : Argument) (k : MajorType) (s : List ℕ) (v : Item) (rest : List ℕ) → begins_chunk is_text k ≡ false → item_by inside left a k s ≡ Ok (v, rest) → as_string is_text v ≡ None
+pub other_read : (is_text : Bool) (inside : Inside) (left : ℕ) (a : Argument) (k : MajorType) (s : List ℕ) (v : Item) (rest : List ℕ) → begins_chunk is_text k ≡ false → item_by inside left a k s ≡ Ok (v, rest) → as_string is_text v ≡ None
 other_read is_text inside left a major_types.Unsigned s v rest is e =
     let n = some_ok left (number_of a) (λ n. Ok (integer (pos n), s)) (v, rest) e in
     other_is is_text (integer (pos n.0)) v s rest (not_string is_text (integer (pos n.0)) refl refl) n.2

@@ -120,14 +120,14 @@ integer_is inside left a major_types.Simple s x e = no_integer x.0 (simple_major
 
 -- ---- strings
 
-string_by : (is_text : Bool) (inside : Inside) (left : ℕ) (a : Argument) (k : MajorType) (s : List ℕ) (x : Item × List ℕ) → begins_chunk is_text k ≡ true → item_by inside left a k s ≡ Ok x
-    → (y : List ℕ × List ℕ) × (any_string_by is_text left (number_of a) s ≡ Ok y) × (Some y.0 ≡ as_string is_text x.0)
+pub string_by : (is_text : Bool) (inside : Inside) (left : ℕ) (a : Argument) (k : MajorType) (s : List ℕ) (x : Item × List ℕ) → begins_chunk is_text k ≡ true → item_by inside left a k s ≡ Ok x
+    → (y : List ℕ × List ℕ) × (any_string_by is_text left (number_of a) s ≡ Ok y) × (Some y.0 ≡ as_string is_text x.0) × (y.1 ≡ x.1)
 string_by false inside left a major_types.Bytes s x k e =
     let r = bind_ok (any_string_by false left (number_of a) s) (λ y. Ok (bytes y.0, y.1)) x e in
-    (r.0, r.1, ap (λ (z : Item × List ℕ). as_string false z.0) (ok_is (bytes r.0.0, r.0.1) x r.2))
+    (r.0, r.1, ap (λ (z : Item × List ℕ). as_string false z.0) (ok_is (bytes r.0.0, r.0.1) x r.2), ap (λ (z : Item × List ℕ). z.1) (ok_is (bytes r.0.0, r.0.1) x r.2))
 string_by true inside left a major_types.Text s x k e =
     let r = bind_ok (any_string_by true left (number_of a) s) (λ y. Ok (Item.text y.0, y.1)) x e in
-    (r.0, r.1, ap (λ (z : Item × List ℕ). as_string true z.0) (ok_is (Item.text r.0.0, r.0.1) x r.2))
+    (r.0, r.1, ap (λ (z : Item × List ℕ). as_string true z.0) (ok_is (Item.text r.0.0, r.0.1) x r.2), ap (λ (z : Item × List ℕ). z.1) (ok_is (Item.text r.0.0, r.0.1) x r.2))
 string_by true inside left a major_types.Bytes s x k e = absurd cc
 string_by false inside left a major_types.Text s x k e = absurd cc
 string_by is_text inside left a major_types.Unsigned s x k e = absurd cc

@@ -1,6 +1,6 @@
 -- Reading forward over bytes of which items are known to stand at the front (RFC 8949, section 3).
-use Rattle.std.specs.Prelude.{◌≡◌, ℕ, ◌+◌, ◌^◌, ◌<◌, List, ◌∷◌, ◌++◌, Bool, true, false, Option, Some, None, option_map}
-use Rattle.coset_value.specs.Item.{Item, Items, no_items, item, items_count, Pairs, no_pairs, pair}
+use Rattle.std.specs.Prelude.{◌≡◌, ℕ, ◌+◌, ◌^◌, ◌<◌, List, ◌∷◌, ◌++◌, Bool, true, false, Option, Some, None, Result, Ok, Err, ◌≢◌, option_map}
+use Rattle.coset_value.specs.Item.{Item, null, Items, no_items, item, items_count, Pairs, no_pairs, pair}
 use Rattle.coset_value.specs.Parts.{as_map}
 use Rattle.coset_cbor.specs.declared.cursor.Cursor.{Cursor}
 use Rattle.coset_cbor.specs.declared.cursor.Places.{Places}
@@ -45,3 +45,18 @@ Nexts vs s a p false = (vs ≡ no_items) × AreWithin p no_items s a
 abbrev pub Doubles : Option ℕ → Option ℕ → Type 0
 Doubles pairs None = pairs ≡ None
 Doubles pairs (Some n) = (m : ℕ) × (pairs ≡ Some m) × (m + m < 2 ^ 64 → n ≡ m + m)
+
+-- what the item v holds was read, and the place t is just behind it; or v holds nothing of the kind, and the place is s as before
+abbrev pub TakesPart : {T P : Type 0} → (Item → Option P) → (T → P) → Item → List ℕ → List ℕ → List ℕ → Option T → Type 0
+TakesPart part seen v s t a (Some x) = (part v ≡ Some (seen x)) × (t ≡ a)
+TakesPart part seen v s t a None = (part v ≡ None) × (t ≡ s)
+
+-- the same of what is copied; or memory ran out, and the place is behind the item
+abbrev pub CopiesPart : {T P E : Type 0} → (Item → Option P) → (T → P) → Item → List ℕ → List ℕ → List ℕ → Result (Option T) E → Type 0
+CopiesPart part seen v s t a (Ok o) = TakesPart part seen v s t a o
+CopiesPart part seen v s t a (Err e) = t ≡ a
+
+-- the same of null, which holds nothing
+abbrev pub TakesNull : Item → List ℕ → List ℕ → List ℕ → Bool → Type 0
+TakesNull v s t a true = (v ≡ null) × (t ≡ a)
+TakesNull v s t a false = (v ≢ null) × (t ≡ s)

@@ -21,7 +21,7 @@ use crate::string::after_break;
 /// A place in bytes.
 #[derive(Clone, Copy, Debug)]
 pub struct Cursor<'a> {
-    rest: &'a [u8],
+    pub(crate) rest: &'a [u8],
 }
 
 /// The items that an array or a map has still to give, of a map each key and then its value: how many, or those up to

@@ -73,7 +73,7 @@ impl<T> From<OutOfMemory> for Error<T> {
 }
 
 /// The error that a fault is in an input of `len` bytes.
-fn error_of(fault: Fault, len: usize) -> Error<EndOfFile>
+pub(crate) fn error_of(fault: Fault, len: usize) -> Error<EndOfFile>
     ensures other { IsMemory result → ⊥ }
     ensures stands { (s : List ℕ) → length s ≡ len → Stands 256 s fault → StandsIn s result }
 {

@@ -6,6 +6,7 @@ mod chunks;
 pub mod cursor;
 pub mod de;
 mod fault;
+mod forward;
 mod head;
 mod jump;
 pub mod laws;

@@ -47,7 +47,7 @@ fn front_length<L: Ledger>(bytes: &[u8], blank: Blank) -> Result<usize, Error<En
 }
 
 /// The value of an integer, a float or a simple value, as its head says.
-fn scalar_of(head: Head, left: usize, bytes: &[u8]) -> Option<Value>
+pub(crate) fn scalar_of(head: Head, left: usize, bytes: &[u8]) -> Option<Value>
     ensures { option_map view result ≡ scalar_by left head.argument head.major_type bytes.now }
 {
     match head.major_type {
@@ -68,7 +68,7 @@ fn scalar_of(head: Head, left: usize, bytes: &[u8]) -> Option<Value>
 }
 
 /// The number of an integer, as its head says.
-fn integer_of(start: Start) -> Option<Integer>
+pub(crate) fn integer_of(start: Start) -> Option<Integer>
     ensures { result
         ≡ integer_by (number_of (argument_from start.info start.number)) start.major_type }
 {

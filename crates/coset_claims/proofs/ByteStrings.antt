@@ -2,6 +2,8 @@
 use Rattle.std.proofs.Common.{◌≡◌, ℕ, List, Option, Some, None, ◌∙◌}
 use Rattle.coset_value.specs.Item.{Items}
 use Rattle.coset_shape.specs.declared.error.CoseError.{CoseError}
+use Rattle.coset_shape.specs.declared.input.InputItems.{InputItems}
+use Rattle.coset_shape.specs.Inputs.{State, AreWithin}
 use Rattle.coset_shape.specs.Encoding.{AppendsPlaces}
 use Rattle.coset_shape.specs.Lists.{Continues}
 use Rattle.coset_shape.specs.Shape.{bstr, EachFaults}
@@ -11,6 +13,12 @@ use Rattle.coset_shape.specs.Shape.{bstr, EachFaults}
 abbrev pub ReadSoFar : Items → List (List ℕ) → Items → Option CoseError → Type 0
 ReadSoFar all xs left None = Continues (List ℕ) bstr.describes bstr.faults all xs left
 ReadSoFar all xs left (Some e) = EachFaults bstr.faults all e × ((f : CoseError) → EachFaults bstr.faults left f → EachFaults bstr.faults all f)
+
+-- the same, and what is left stands there
+pub record Midway (all : Items) (z : State) (m : InputItems) (t : State) (xs : List (List ℕ)) (fault : Option CoseError) : Type 0 where
+  pub left : Items
+  pub so_far : ReadSoFar all xs left fault
+  pub within : AreWithin m left t z
 
 -- as many places are written, whichever way their number is told
 pub as_many : {os : Option Items} {m n : ℕ} {old new : List ℕ} → m ≡ n → AppendsPlaces os m old new → AppendsPlaces os n old new

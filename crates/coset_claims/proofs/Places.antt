@@ -1,20 +1,27 @@
--- A place of an array that is refused.
-use Rattle.std.specs.Prelude.{◌≡◌, Option, Some, None, Result, Ok, Err, IsErrAnd}
-use Rattle.std.proofs.Common.{sym, subst}
-use Rattle.coset_value.specs.Item.{Item}
+-- Places of an array that were passed.
+use Rattle.std.proofs.Common.{◌≡◌, ◌≤◌, Option, Some, None, Result, Ok, Err, sym, subst, arith}
+use Rattle.std.specs.Prelude.{ℕ, Vec}
+use Rattle.std.specs.Global.{Global}
+use Rattle.coset_value.specs.Item.{Items, no_items, item}
 use Rattle.coset_shape.specs.declared.error.CoseError.{CoseError}
-use Rattle.coset_shape.specs.Answers.{Reads}
+use Rattle.coset_shape.specs.declared.input.InputItems.{InputItems}
 use Rattle.coset_shape.specs.Errors.{UnlessMemory}
-use Rattle.coset_shape.specs.Shape.{Shape, LastMisfits}
-use Rattle.coset_shape.specs.Sources.{put_last}
-use Rattle.coset_shape.specs.declared.source.Source.{Source}
+use Rattle.coset_shape.specs.Inputs.{State, tree, lent, AreWithin, GoesBehind, length_left}
+use Rattle.coset_shape.specs.Shape.{IsEnd, LastMisfits}
+use Rattle.coset_claims.specs.SuppPub.{ReadsOther, other_place}
 
--- an error that is passed on
-pub passed_on : {T A : Type 0} (s : Shape A) (seen : T → A) (v : Item) (r : Result T CoseError) (e : CoseError) → IsErrAnd r (λ f. f ≡ e) → UnlessMemory e (s.faults v) → Reads s seen v r
-passed_on s seen v (Ok x) e h n = absurd h
-passed_on s seen v (Err f) e h n = subst (λ g. UnlessMemory g (s.faults v)) (sym h) n
+-- who is behind something stays so
+pub goes_further : (s t u : State) → GoesBehind s t → length_left u ≤ length_left t → GoesBehind s u
+goes_further (tree w) t u g h = tt
+goes_further (lent s) t u g h = omega (arith, g, h)
 
--- at most one last place is no misfit
-pub fits : (o : Option Source) → LastMisfits (put_last o) → ⊥
-fits None m = m
-fits (Some s) m = m tt
+-- what is left behind the last place, and that nothing is wrong with the number of places where nothing is
+pub other_behind : (vs : Items) (t z : State) (m : InputItems) (r : Result (Option (Vec ℕ Global)) CoseError) → ReadsOther vs t z m r → (left : Items) × AreWithin m left t z × (left ≡ no_items → LastMisfits vs → ⊥)
+other_behind no_items t z m r p = (no_items, p.0, λ none misfit. misfit)
+other_behind (item v vs) t z m r p = (vs, p.0, λ none misfit. misfit (subst IsEnd (sym none) tt))
+
+-- the last place is at fault
+pub other_refused :
+    (vs : Items) (t z : State) (m : InputItems) (e : CoseError) → ReadsOther vs t z m (Err e) → (left : Items) × AreWithin m left t z × (left ≡ no_items → (LastMisfits vs → ⊥) × UnlessMemory e (other_place.faults vs))
+other_refused no_items t z m e p = absurd p.1
+other_refused (item v vs) t z m e p = (vs, p.0, λ none. (λ misfit. misfit (subst IsEnd (sym none) tt), λ n. p.1 n))

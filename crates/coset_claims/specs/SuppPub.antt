@@ -1,10 +1,12 @@
 -- Public information that goes into a key's derivation beside the parties' (RFC 8152, section 11.2).
-use Rattle.std.specs.Prelude.{◌≡◌, ℕ, ℤ, pos, List, Option, Some, None, Result, Ok, Err, Vec, false, is_some, option_map, unsigned_abs, refl}
+use Rattle.std.specs.Prelude.{◌≡◌, ℕ, ℤ, pos, List, Option, Some, None, Result, Ok, Err, Vec, IsOkAnd, false, is_some, option_map, unsigned_abs, refl}
 use Rattle.std.specs.Global.{Global}
 use Rattle.std.proofs.Common.{true≢false}
-use Rattle.coset_value.specs.Item.{Items}
+use Rattle.coset_value.specs.Item.{Items, no_items, item}
 use Rattle.coset_shape.specs.declared.error.CoseError.{CoseError}
-use Rattle.coset_shape.specs.Errors.{UnlessMemory}
+use Rattle.coset_shape.specs.declared.input.InputItems.{InputItems}
+use Rattle.coset_shape.specs.Answers.{Reads}
+use Rattle.coset_shape.specs.Inputs.{State, AreWithin}
 use Rattle.coset_shape.specs.Shape.{Shape, Places, along, uint, bstr, present, perhaps, array_of, ◌then◌}
 use Rattle.coset_shape.specs.ShapeLaws.{Lawful, along_laws, uint_laws, bstr_laws, present_laws, perhaps_laws, array_of_laws, then_laws}
 use Rattle.coset_core.specs.Headers.{ProtectedSeen, protected}
@@ -58,8 +60,7 @@ supp_pub_laws =
 
 -- ---- what its reader and its writer are made of
 
--- Reading the last place, if it is there: the bytes that it stands for, or, out of memory aside, an error that tells of a
--- fault in it
-abbrev pub ReadsOther : Items → Result (Option (Vec ℕ Global)) CoseError → Type 0
-ReadsOther vs (Ok o) = other_place.describes vs (option_map (λ b. b.items) o)
-ReadsOther vs (Err e) = UnlessMemory e (other_place.faults vs)
+-- none of these places is left; or the next of them was read as bytes, and the others stand at t
+abbrev pub ReadsOther : Items → State → State → InputItems → Result (Option (Vec ℕ Global)) CoseError → Type 0
+ReadsOther no_items t z m r = AreWithin m no_items t z × IsOkAnd r (λ o. o ≡ None)
+ReadsOther (item v vs) t z m r = AreWithin m vs t z × Reads (present bstr) (option_map (λ b. b.items)) v r

@@ -1,6 +1,6 @@
 //! Claims sets: what a CBOR web token says of its subject (RFC 8392, sections 3 and 4).
 
-ghost use Rattle.std.specs.Prelude.{◌≡◌, ◌↔◌, ℕ, ◌==◌, not, map, option_map, string_bytes, IsTrue, IfOk, IfErr, OnOk, OnErr, Some};
+ghost use Rattle.std.specs.Prelude.{◌≡◌, ◌↔◌, ◌≤◌, ◌<◌, IsSome, ℕ, ◌==◌, not, map, option_map, string_bytes, IsTrue, IfOk, IfErr, OnOk, OnErr, Some};
 ghost use Rattle.std.specs.Map.{keys_of};
 ghost use Rattle.std.specs.Option.{option_eq};
 ghost use Rattle.std.specs.Ordering.{on};
@@ -12,9 +12,9 @@ ghost use Rattle.coset_iana.specs.WithPrivateRange.{is_private_use};
 ghost use Rattle.coset_shape.specs.declared.error.CoseError.TheVariants.{OutOfMemory};
 ghost use Rattle.coset_shape.specs.Answers.{Reads};
 ghost use Rattle.coset_shape.specs.Errors.{UnlessMemory};
+ghost use Rattle.coset_shape.specs.Inputs.{GoesBehind, ReadsAt, length_left, state};
 ghost use Rattle.coset_shape.specs.Maps.{Adds, Refuses, are_distinct, optional};
 ghost use Rattle.coset_shape.specs.Shape.{bstr, tstr};
-ghost use Rattle.coset_shape.specs.Sources.{source_item};
 ghost use Rattle.coset_label.specs.Names.{assigned, phrase, private_use};
 ghost use Rattle.coset_core.specs.FieldValues.{TakesValue, RefusesValue};
 ghost use Rattle.coset_claims.specs.Timestamp.{timestamp, timestamp_eq, timestamp_seen};
@@ -28,7 +28,7 @@ use coset_iana::{CwtClaimName, EnumI64};
 use coset_label::{ClaimName, RegisteredLabelWithPrivate};
 use coset_shape::encode::{Encode, encode_to_value, encode_to_vec};
 use coset_shape::encode_map::MapEncoder;
-use coset_shape::list::read_source;
+use coset_shape::input::{Input, InputPairs};
 use coset_shape::map::{Gather, read_map};
 use coset_shape::traits::{FromPull, read_slice};
 use coset_shape::{AsCborValue, CborSerializable, CoseError, Lawful, Result, Source, has_repeats};
@@ -87,14 +87,6 @@ impl ClaimsSet {
     }
 }
 
-/// Reads the name of a claim.
-#[tactic(auto, unfolding(crate::specs::Claims::claim_name))]
-fn read_name(alloc: Global, source: Source<'_>) -> Result<ClaimName>
-    ensures { Reads claim_name name_seen (source_item source.entry) result }
-{
-    read_source(alloc, source)
-}
-
 /// Whether the name is that of this claim.
 fn is_claim(name: &ClaimName, claim: CwtClaimName) -> bool
     ensures { result ≡ same_name (assigned (claim_names.number claim)) (name_seen name.now) }
@@ -106,84 +98,93 @@ fn is_claim(name: &ClaimName, claim: CwtClaimName) -> bool
 }
 
 /// Sets a text, where there is none yet.
-fn set_text(alloc: Global, field: &mut Option<String>, value: Source<'_>) -> Result<()>
-    ensures takes { OnOk result (TakesValue (optional tstr) (source_item value.entry)
-        (option_map string_bytes field.old) (option_map string_bytes field.new)) }
-    ensures refused { IfErr result (λ e. UnlessMemory e (RefusesValue (optional tstr)
-        (source_item value.entry) (option_map string_bytes field.old))) }
+fn set_text(alloc: Global, field: &mut Option<String>, input: &mut Input<'_>) -> Result<()>
+    ensures shrinks { length_left (state input.new) ≤ length_left (state input.old) }
+    ensures takes { ReadsAt (state input.old) (state input.new) (λ v. OnOk result
+        (TakesValue (optional tstr) v
+        (option_map string_bytes field.old) (option_map string_bytes field.new))) }
+    ensures refused { ReadsAt (state input.old) (state input.new) (λ v. IfErr result
+        (λ e. UnlessMemory e (RefusesValue (optional tstr) v (option_map string_bytes field.old)))) }
     ensures kept { OnErr result (field.new ≡ field.old) }
 {
     if field.is_some() {
-        return Err(CoseError::DuplicateMapKey);
+        return Err(input.repeated());
     }
-    *field = Some(value.into_text(alloc, "tstr")?);
+    *field = Some(input.text(alloc, "tstr")?);
     Ok(())
 }
 
 /// Sets a timestamp, where there is none yet.
-fn set_timestamp(field: &mut Option<Timestamp>, value: Source<'_>) -> Result<()>
-    ensures takes { OnOk result (TakesValue (optional timestamp) (source_item value.entry)
-        (option_map timestamp_seen field.old) (option_map timestamp_seen field.new)) }
-    ensures refused { IfErr result (λ e. UnlessMemory e (RefusesValue (optional timestamp)
-        (source_item value.entry) (option_map timestamp_seen field.old))) }
+fn set_timestamp(field: &mut Option<Timestamp>, input: &mut Input<'_>) -> Result<()>
+    ensures shrinks { length_left (state input.new) ≤ length_left (state input.old) }
+    ensures takes { ReadsAt (state input.old) (state input.new) (λ v. OnOk result
+        (TakesValue (optional timestamp) v
+        (option_map timestamp_seen field.old) (option_map timestamp_seen field.new))) }
+    ensures refused { ReadsAt (state input.old) (state input.new) (λ v. IfErr result
+        (λ e. UnlessMemory e (RefusesValue (optional timestamp) v (option_map timestamp_seen field.old)))) }
     ensures kept { OnErr result (field.new ≡ field.old) }
 {
     if field.is_some() {
-        return Err(CoseError::DuplicateMapKey);
+        return Err(input.repeated());
     }
-    *field = Some(read_timestamp(value)?);
+    *field = Some(read_timestamp(input)?);
     Ok(())
 }
 
 /// Sets a byte string, where there is none yet.
-fn set_bytes(alloc: Global, field: &mut Option<Vec<u8>>, value: Source<'_>) -> Result<()>
-    ensures takes { OnOk result (TakesValue (optional bstr) (source_item value.entry)
-        (option_map (λ b. b.items) field.old) (option_map (λ b. b.items) field.new)) }
-    ensures refused { IfErr result (λ e. UnlessMemory e (RefusesValue (optional bstr)
-        (source_item value.entry) (option_map (λ b. b.items) field.old))) }
+fn set_bytes(alloc: Global, field: &mut Option<Vec<u8>>, input: &mut Input<'_>) -> Result<()>
+    ensures shrinks { length_left (state input.new) ≤ length_left (state input.old) }
+    ensures takes { ReadsAt (state input.old) (state input.new) (λ v. OnOk result
+        (TakesValue (optional bstr) v
+        (option_map (λ b. b.items) field.old) (option_map (λ b. b.items) field.new))) }
+    ensures refused { ReadsAt (state input.old) (state input.new) (λ v. IfErr result
+        (λ e. UnlessMemory e (RefusesValue (optional bstr) v (option_map (λ b. b.items) field.old)))) }
     ensures kept { OnErr result (field.new ≡ field.old) }
 {
     if field.is_some() {
-        return Err(CoseError::DuplicateMapKey);
+        return Err(input.repeated());
     }
-    *field = Some(value.into_bytes(alloc, "bstr")?);
+    *field = Some(input.bytes(alloc, "bstr")?);
     Ok(())
 }
 
-/// Takes one more claim. Whether names of the rest repeat isn't asked.
+/// Takes one more claim, by its name, and goes behind it. Whether names of the rest repeat isn't asked.
 ///
 /// # Errors
 /// `OutOfMemory`; `DuplicateMapKey` where a field has a value already; or a fault of its value. The claims are then as
 /// before.
-fn put(claims: &mut ClaimsSet, alloc: Global, name: ClaimName, value: Source<'_>) -> Result<()>
-    ensures takes { OnOk result (Adds names fields (name_seen name) (source_item value.entry)
-        (parts_of (claims_seen claims.old)) (parts_of (claims_seen claims.new))) }
-    ensures refused { IfErr result (λ e. UnlessMemory e (Refuses names fields (name_seen name)
-        (source_item value.entry) (parts_of (claims_seen claims.old)))) }
+fn put(claims: &mut ClaimsSet, alloc: Global, name: ClaimName, input: &mut Input<'_>) -> Result<()>
+    ensures shrinks { length_left (state input.new) ≤ length_left (state input.old) }
+    ensures takes { ReadsAt (state input.old) (state input.new) (λ v. OnOk result
+        (Adds names fields (name_seen name) v
+        (parts_of (claims_seen claims.old)) (parts_of (claims_seen claims.new)))) }
+    ensures refused { ReadsAt (state input.old) (state input.new) (λ v. IfErr result
+        (λ e. UnlessMemory e (Refuses names fields (name_seen name) v
+        (parts_of (claims_seen claims.old))))) }
     ensures kept { OnErr result (claims_seen claims.new ≡ claims_seen claims.old) }
 {
     if is_claim(&name, CwtClaimName::Iss) {
-        return set_text(alloc, &mut claims.issuer, value);
+        return set_text(alloc, &mut claims.issuer, input);
     }
     if is_claim(&name, CwtClaimName::Sub) {
-        return set_text(alloc, &mut claims.subject, value);
+        return set_text(alloc, &mut claims.subject, input);
     }
     if is_claim(&name, CwtClaimName::Aud) {
-        return set_text(alloc, &mut claims.audience, value);
+        return set_text(alloc, &mut claims.audience, input);
     }
     if is_claim(&name, CwtClaimName::Exp) {
-        return set_timestamp(&mut claims.expiration_time, value);
+        return set_timestamp(&mut claims.expiration_time, input);
     }
     if is_claim(&name, CwtClaimName::Nbf) {
-        return set_timestamp(&mut claims.not_before, value);
+        return set_timestamp(&mut claims.not_before, input);
     }
     if is_claim(&name, CwtClaimName::Iat) {
-        return set_timestamp(&mut claims.issued_at, value);
+        return set_timestamp(&mut claims.issued_at, input);
     }
     if is_claim(&name, CwtClaimName::Cti) {
-        return set_bytes(alloc, &mut claims.cwt_id, value);
+        return set_bytes(alloc, &mut claims.cwt_id, input);
     }
-    let value = value.into_value(alloc)?;
+    let value = input.value(alloc)?;
     claims.rest.push((name, value))?;
     Ok(())
 }
@@ -194,6 +195,8 @@ impl Gather for ClaimsSet {
     ghost use Rattle.coset_claims.specs.Claims.{Fielded};
     ghost use Rattle.coset_claims.specs.ClaimsLaws.{fields_laws, names_laws};
 
+    type Label = ClaimName;
+
     ghost Name = { RegisteredName };
 
     ghost Got = { Fielded };
@@ -202,15 +205,25 @@ impl Gather for ClaimsSet {
 
     ghost fields = { fields };
 
+    ghost named = { name_seen };
+
     ghost seen = { λ c. parts_of (claims_seen c) };
 
     ghost lawful_names = { names_laws };
 
     ghost lawful_fields = { fields_laws };
 
-    fn add(&mut self, alloc: Global, key: Source<'_>, value: Source<'_>) -> Result<()> {
-        let name = read_name(alloc, key)?;
-        put(self, alloc, name, value)
+    #[tactic(auto, unfolding(crate::specs::Claims::claim_name))]
+    fn next_label(
+        alloc: Global,
+        pairs: &mut InputPairs,
+        input: &mut Input<'_>,
+    ) -> Result<Option<ClaimName>> {
+        pairs.next_key(alloc, input)
+    }
+
+    fn add(&mut self, alloc: Global, name: ClaimName, input: &mut Input<'_>) -> Result<()> {
+        put(self, alloc, name, input)
     }
 
     fn repeats(&self, alloc: Global) -> Result<bool>
@@ -224,11 +237,13 @@ impl Gather for ClaimsSet {
 
 /// Reads a claims set.
 #[tactic(auto, unfolding(crate::specs::Claims::claims))]
-fn read_claims(alloc: Global, source: Source<'_>) -> Result<ClaimsSet>
-    ensures { Reads claims claims_seen (source_item source.entry) result }
+fn read_claims(alloc: Global, input: &mut Input<'_>) -> Result<ClaimsSet>
+    ensures shrinks { length_left (state input.new) ≤ length_left (state input.old) }
+    ensures strictly { OnOk result (GoesBehind (state input.old) (state input.new)) }
+    ensures reads { ReadsAt (state input.old) (state input.new) (λ v. Reads claims claims_seen v result) }
 {
     let mut claims = ClaimsSet::new(alloc);
-    read_map(alloc, source, &mut claims)?;
+    read_map(alloc, input, &mut claims)?;
     Ok(claims)
 }
 
@@ -247,7 +262,7 @@ impl AsCborValue for ClaimsSet {
     ghost sound = { claims_laws.sound };
 
     fn from_cbor_value(alloc: Global, value: Value) -> Result<ClaimsSet> {
-        read_claims(alloc, Source::Tree(value))
+        read_claims(alloc, &mut Input::Tree(value))
     }
 
     fn to_cbor_value(self, alloc: Global) -> Result<Value> {
@@ -280,7 +295,11 @@ impl Encode for ClaimsSet {
 
 impl FromPull for ClaimsSet {
     fn from_pull(alloc: Global, pull: Pull<'_>) -> Result<ClaimsSet> {
-        read_claims(alloc, Source::Lent(pull))
+        read_claims(alloc, &mut Input::new(Source::Lent(pull)))
+    }
+
+    fn from_input(alloc: Global, input: &mut Input<'_>) -> Result<ClaimsSet> {
+        read_claims(alloc, input)
     }
 }
 

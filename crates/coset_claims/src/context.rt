@@ -1,16 +1,18 @@
 //! The context of key derivation: what a key is derived for (RFC 8152, section 11.2).
 
-ghost use Rattle.std.specs.Prelude.{◌≡◌, ◌↔◌, ◌==◌, length, map, IsTrue, IfOk, IfErr, OnOk};
+ghost use Rattle.std.specs.Prelude.{◌≡◌, ◌↔◌, ◌≤◌, ◌==◌, length, map, IsTrue, IfOk, IfErr, OnOk};
 ghost use Rattle.std.specs.Ordering.{on};
 ghost use Rattle.std.specs.Cmp.{on_equiv, on_per, partial_equiv_from_equiv};
 ghost use Rattle.std.specs.Cmp.Lexicographic.{pointwise};
+ghost use Rattle.coset_value.specs.Item.{Items};
 ghost use Rattle.coset_iana.specs.Algorithm as algorithms;
 ghost use Rattle.coset_shape.specs.declared.error.CoseError.TheVariants.{OutOfMemory};
 ghost use Rattle.coset_shape.specs.Answers.{Reads};
 ghost use Rattle.coset_shape.specs.Encoding.{AppendsPlaces, Encodes};
+ghost use Rattle.coset_shape.specs.Inputs.{AreWithin, GoesBehind, ReadsAt, State, length_left, state};
+ghost use Rattle.coset_shape.specs.Sources.{source_item};
 ghost use Rattle.coset_shape.specs.Lists.{ReadsEach};
 ghost use Rattle.coset_shape.specs.Shape.{bstr, images};
-ghost use Rattle.coset_shape.specs.Sources.{members_left, source_item};
 ghost use Rattle.coset_label.specs.Names.{assigned};
 ghost use Rattle.coset_core.specs.Fields.{algorithm};
 ghost use Rattle.coset_core.specs.Views.{algorithm_seen};
@@ -26,8 +28,7 @@ use coset_cbor::ser::{write_array_head, write_bytes};
 use coset_cbor::value::Value;
 use coset_core::{Algorithm, RegisteredLabelWithPrivate, iana};
 use coset_shape::encode::{Encode, encode_to_value, encode_to_vec};
-use coset_shape::list::read_source;
-use coset_shape::source::Members;
+use coset_shape::input::{Input, InputItems};
 use coset_shape::traits::{FromPull, read_slice};
 use coset_shape::{AsCborValue, CborSerializable, CoseError, Lawful, Result, Source};
 use std::alloc::{AllocError, Global};
@@ -72,15 +73,29 @@ impl CoseKdfContext {
     }
 }
 
-/// Reads byte strings up to the end of an array. Of those with a fault the last is named.
-fn read_byte_strings(alloc: Global, members: Members<'_>) -> Result<Vec<Vec<u8>>>
-    ensures { ReadsEach bstr (λ b. b.items) (members_left members.entry) result }
+/// Reads one byte string.
+fn read_byte_string(alloc: Global, source: Source<'_>) -> Result<Vec<u8>>
+    ensures { Reads bstr (λ b. b.items) (source_item source.entry) result }
 {
-    let mut members = members;
+    let mut input = Input::new(source);
+    input.bytes(alloc, "bstr")
+}
+
+/// Reads byte strings up to the end of an array. Of those with a fault the last is named.
+fn read_byte_strings(
+    alloc: Global,
+    members: &mut InputItems,
+    input: &mut Input<'_>,
+) -> Result<Vec<Vec<u8>>>
+    ensures shrinks { length_left (state input.new) ≤ length_left (state input.old) }
+    ensures reads { (vs : Items) (z : State) → AreWithin members.old vs (state input.old) z
+        → ((left : Items) × AreWithin members.new left (state input.new) z)
+        × ReadsEach bstr (λ b. b.items) vs result }
+{
     let mut all = Vec::new(alloc);
     let mut fault = None;
-    while let Some(member) = members.next() {
-        match member.into_bytes(alloc, "bstr") {
+    while members.next(input) {
+        match read_byte_string(alloc, input.take()?) {
             Ok(bytes) => all.push(bytes)?,
             Err(CoseError::OutOfMemory) => return Err(CoseError::OutOfMemory),
             Err(error) => fault = Some(error),
@@ -94,26 +109,41 @@ fn read_byte_strings(alloc: Global, members: Members<'_>) -> Result<Vec<Vec<u8>>
 
 /// Reads an algorithm.
 #[tactic(auto, unfolding(coset_core::specs::Fields::algorithm))]
-fn read_algorithm(alloc: Global, source: Source<'_>) -> Result<Algorithm>
-    ensures { Reads algorithm algorithm_seen (source_item source.entry) result }
+fn read_algorithm(alloc: Global, input: &mut Input<'_>) -> Result<Algorithm>
+    ensures shrinks { length_left (state input.new) ≤ length_left (state input.old) }
+    ensures reads { ReadsAt (state input.old) (state input.new)
+        (λ v. Reads algorithm algorithm_seen v result) }
 {
-    read_source(alloc, source)
+    Algorithm::from_input(alloc, input)
 }
 
-/// Reads the places of a context, from the last to the first.
-fn read_context(alloc: Global, source: Source<'_>) -> Result<CoseKdfContext>
-    ensures { Reads context context_seen (source_item source.entry) result }
+/// What the error of too few places asks for.
+const FOUR: &str = "array with at least 4 items";
+
+/// Reads the places of a context from the first to the last, and names the fault of the last that has one.
+fn read_context(alloc: Global, input: &mut Input<'_>) -> Result<CoseKdfContext>
+    ensures shrinks { length_left (state input.new) ≤ length_left (state input.old) }
+    ensures strictly { OnOk result (GoesBehind (state input.old) (state input.new)) }
+    ensures reads { ReadsAt (state input.old) (state input.new)
+        (λ v. Reads context context_seen v result) }
 {
-    let (algorithm, party_u, party_v, supp_pub, supp_priv) = source.into_four_and_more(
-        "array with at least 4 items",
-    )?;
-    let supp_priv_info = read_byte_strings(alloc, supp_priv)?;
-    let supp_pub_info = read_supp_pub(alloc, supp_pub)?;
-    let party_v_info = read_party(alloc, party_v)?;
-    let party_u_info = read_party(alloc, party_u)?;
-    let algorithm_id = read_algorithm(alloc, algorithm)?;
+    let mut places = input.enter_array("array")?;
+    places.place(input, FOUR)?;
+    let algorithm_id = read_algorithm(alloc, input);
+    places.place(input, FOUR)?;
+    let party_u_info = read_party(alloc, input);
+    places.place(input, FOUR)?;
+    let party_v_info = read_party(alloc, input);
+    places.place(input, FOUR)?;
+    let supp_pub_info = read_supp_pub(alloc, input);
+    let supp_priv_info = read_byte_strings(alloc, &mut places, input);
+    places.finish(input);
+    let supp_priv_info = supp_priv_info?;
+    let supp_pub_info = supp_pub_info?;
+    let party_v_info = party_v_info?;
+    let party_u_info = party_u_info?;
     Ok(CoseKdfContext {
-        algorithm_id,
+        algorithm_id: algorithm_id?,
         party_u_info,
         party_v_info,
         supp_pub_info,
@@ -135,7 +165,7 @@ impl AsCborValue for CoseKdfContext {
     ghost sound = { context_laws.sound };
 
     fn from_cbor_value(alloc: Global, value: Value) -> Result<CoseKdfContext> {
-        read_context(alloc, Source::Tree(value))
+        read_context(alloc, &mut Input::Tree(value))
     }
 
     fn to_cbor_value(self, alloc: Global) -> Result<Value> {
@@ -145,7 +175,11 @@ impl AsCborValue for CoseKdfContext {
 
 impl FromPull for CoseKdfContext {
     fn from_pull(alloc: Global, pull: Pull<'_>) -> Result<CoseKdfContext> {
-        read_context(alloc, Source::Lent(pull))
+        read_context(alloc, &mut Input::new(Source::Lent(pull)))
+    }
+
+    fn from_input(alloc: Global, input: &mut Input<'_>) -> Result<CoseKdfContext> {
+        read_context(alloc, input)
     }
 }
 

@@ -1,18 +1,19 @@
 //! The parties of a key agreement (RFC 8152, section 11.2).
 
-ghost use Rattle.std.specs.Prelude.{◌≡◌, ◌↔◌, IsTrue, IfOk, IfErr, Some, option_map};
+ghost use Rattle.std.specs.Prelude.{◌≡◌, ◌↔◌, ◌≤◌, IsTrue, IfOk, IfErr, OnOk, Some, option_map};
 ghost use Rattle.std.specs.Option.{option_eq};
 ghost use Rattle.std.specs.Ordering.{on};
 ghost use Rattle.std.specs.Cmp.{on_equiv, on_per, partial_equiv_from_equiv};
 ghost use Rattle.coset_shape.specs.declared.error.CoseError.TheVariants.{OutOfMemory};
 ghost use Rattle.coset_shape.specs.Answers.{Reads};
-ghost use Rattle.coset_shape.specs.Sources.{source_item};
+ghost use Rattle.coset_shape.specs.Inputs.{GoesBehind, ReadsAt, length_left, state};
 ghost use Rattle.coset_claims.specs.Party.{empty_party, nonce, nonce_or_nil, nonce_seen, party, party_seen};
 ghost use Rattle.coset_claims.specs.ContextSame.{nonce_eq, nonce_eq_equiv, party_eq, party_eq_equiv};
 
 use coset_cbor::de::Pull;
 use coset_cbor::value::Value;
 use coset_shape::encode::{Encode, encode_three, encode_to_value, encode_to_vec};
+use coset_shape::input::Input;
 use coset_shape::traits::{FromPull, read_slice};
 use coset_shape::{AsCborValue, CborSerializable, Lawful, Result, Source};
 use std::alloc::{AllocError, Global};
@@ -35,16 +36,18 @@ pub enum Nonce {
 const NONCE: &str = "bstr / int / nil";
 
 /// Reads a nonce, or null where there is none.
-fn read_nonce(alloc: Global, source: Source<'_>) -> Result<Option<Nonce>>
-    ensures { Reads nonce_or_nil (option_map nonce_seen) (source_item source.entry) result }
+fn read_nonce(alloc: Global, input: &mut Input<'_>) -> Result<Option<Nonce>>
+    ensures shrinks { length_left (state input.new) ≤ length_left (state input.old) }
+    ensures strictly { OnOk result (GoesBehind (state input.old) (state input.new)) }
+    ensures reads { ReadsAt (state input.old) (state input.new) (λ v. Reads nonce_or_nil (option_map nonce_seen) v result) }
 {
-    if source.is_null() {
+    if input.null() {
         return Ok(None);
     }
-    if source.integer().is_some() {
-        return Ok(Some(Nonce::Integer(source.into_int64(NONCE)?)));
+    if let Some(number) = input.integer() {
+        return Ok(Some(Nonce::Integer(i64::try_from(number)?)));
     }
-    Ok(Some(Nonce::Bytes(source.into_bytes(alloc, NONCE)?)))
+    Ok(Some(Nonce::Bytes(input.bytes(alloc, NONCE)?)))
 }
 
 impl Encode for Nonce {
@@ -178,16 +181,27 @@ impl Default for PartyInfo {
     }
 }
 
-/// Reads the places of a party, from the last to the first.
-pub(crate) fn read_party(alloc: Global, source: Source<'_>) -> Result<PartyInfo>
-    ensures { Reads party party_seen (source_item source.entry) result }
+/// What the error of another number of places asks for.
+const THREE: &str = "array with 3 items";
+
+/// Reads the places of a party from the first to the last, and names the fault of the last that has one.
+pub(crate) fn read_party(alloc: Global, input: &mut Input<'_>) -> Result<PartyInfo>
+    ensures shrinks { length_left (state input.new) ≤ length_left (state input.old) }
+    ensures strictly { OnOk result (GoesBehind (state input.old) (state input.new)) }
+    ensures reads { ReadsAt (state input.old) (state input.new) (λ v. Reads party party_seen v result) }
 {
-    let (identity, nonce, other) = source.into_three("array with 3 items")?;
-    let other = other.into_bytes_or_nil(alloc, "bstr / nil")?;
-    let nonce = read_nonce(alloc, nonce)?;
-    let identity = identity.into_bytes_or_nil(alloc, "bstr / nil")?;
+    let mut places = input.enter_array("array")?;
+    places.place(input, THREE)?;
+    let identity = input.bytes_or_nil(alloc, "bstr / nil");
+    places.place(input, THREE)?;
+    let nonce = read_nonce(alloc, input);
+    places.place(input, THREE)?;
+    let other = input.bytes_or_nil(alloc, "bstr / nil");
+    places.end(input, THREE)?;
+    let other = other?;
+    let nonce = nonce?;
     Ok(PartyInfo {
-        identity,
+        identity: identity?,
         nonce,
         other,
     })
@@ -207,7 +221,7 @@ impl AsCborValue for PartyInfo {
     ghost sound = { party_laws.sound };
 
     fn from_cbor_value(alloc: Global, value: Value) -> Result<PartyInfo> {
-        read_party(alloc, Source::Tree(value))
+        read_party(alloc, &mut Input::Tree(value))
     }
 
     fn to_cbor_value(self, alloc: Global) -> Result<Value> {
@@ -217,7 +231,11 @@ impl AsCborValue for PartyInfo {
 
 impl FromPull for PartyInfo {
     fn from_pull(alloc: Global, pull: Pull<'_>) -> Result<PartyInfo> {
-        read_party(alloc, Source::Lent(pull))
+        read_party(alloc, &mut Input::new(Source::Lent(pull)))
+    }
+
+    fn from_input(alloc: Global, input: &mut Input<'_>) -> Result<PartyInfo> {
+        read_party(alloc, input)
     }
 }
 

@@ -1,11 +1,12 @@
 //! Public information that goes into a key's derivation beside the parties' (RFC 8152, section 11.2).
 
-ghost use Rattle.std.specs.Prelude.{◌≡◌, ◌↔◌, IsTrue, IfOk, IfErr, Some, option_map};
+ghost use Rattle.std.specs.Prelude.{◌≡◌, ◌↔◌, ◌≤◌, IsTrue, IfOk, IfErr, OnOk, Some, option_map};
+ghost use Rattle.coset_value.specs.Item.{Items};
 ghost use Rattle.std.specs.Ordering.{on};
 ghost use Rattle.std.specs.Cmp.{on_equiv, on_per, partial_equiv_from_equiv};
 ghost use Rattle.coset_shape.specs.declared.error.CoseError.TheVariants.{OutOfMemory};
 ghost use Rattle.coset_shape.specs.Answers.{Reads};
-ghost use Rattle.coset_shape.specs.Sources.{put_last, source_item};
+ghost use Rattle.coset_shape.specs.Inputs.{AreWithin, GoesBehind, ReadsAt, State, length_left, state};
 ghost use Rattle.coset_core.specs.Messages.{unread};
 ghost use Rattle.coset_core.specs.Views.{header_seen};
 ghost use Rattle.coset_claims.specs.SuppPub.{ReadsOther, empty_supp_pub, supp_pub, supp_pub_seen};
@@ -14,8 +15,9 @@ ghost use Rattle.coset_claims.specs.ContextSame.{supp_pub_eq, supp_pub_eq_equiv}
 use crate::party::copy_optional;
 use coset_cbor::de::Pull;
 use coset_cbor::value::Value;
-use coset_core::{Bstr, Header, ProtectedHeader};
+use coset_core::{Bstr, Header, ProtectedBstr, ProtectedHeader};
 use coset_shape::encode::{Encode, encode_three, encode_to_value, encode_to_vec, encode_two};
+use coset_shape::input::{Input, InputItems};
 use coset_shape::traits::{FromPull, read_slice};
 use coset_shape::{AsCborValue, CborSerializable, Lawful, Result, Source};
 use std::alloc::{AllocError, Global};
@@ -49,26 +51,42 @@ impl SuppPubInfo {
     }
 }
 
+/// What the error of another number of places asks for.
+const TWO_OR_THREE: &str = "array with 2 or 3 items";
+
 /// Reads the last place, if it is there.
-fn read_other(alloc: Global, place: Option<Source<'_>>) -> Result<Option<Vec<u8>>>
-    ensures { ReadsOther (put_last place.entry) result }
+fn read_other(
+    alloc: Global,
+    places: &mut InputItems,
+    input: &mut Input<'_>,
+) -> Result<Option<Vec<u8>>>
+    ensures shrinks { length_left (state input.new) ≤ length_left (state input.old) }
+    ensures reads { (vs : Items) (z : State) → AreWithin places.old vs (state input.old) z
+        → ReadsOther vs (state input.new) z places.new result }
 {
-    match place {
-        Some(place) => Ok(Some(place.into_bytes(alloc, "bstr")?)),
-        None => Ok(None),
+    if !places.next(input) {
+        return Ok(None);
     }
+    Ok(Some(input.bytes(alloc, "bstr")?))
 }
 
-/// Reads the places, from the last to the first.
-pub(crate) fn read_supp_pub(alloc: Global, source: Source<'_>) -> Result<SuppPubInfo>
-    ensures { Reads supp_pub supp_pub_seen (source_item source.entry) result }
+/// Reads the places from the first to the last, and names the fault of the last that has one.
+pub(crate) fn read_supp_pub(alloc: Global, input: &mut Input<'_>) -> Result<SuppPubInfo>
+    ensures shrinks { length_left (state input.new) ≤ length_left (state input.old) }
+    ensures strictly { OnOk result (GoesBehind (state input.old) (state input.new)) }
+    ensures reads { ReadsAt (state input.old) (state input.new) (λ v. Reads supp_pub supp_pub_seen v result) }
 {
-    let (length, protected, other) = source.into_two_or_three("array with 2 or 3 items")?;
-    let other = read_other(alloc, other)?;
-    let protected = ProtectedHeader::from_source_bstr(alloc, protected)?;
-    let key_data_length = length.into_uint("int")?;
+    let mut places = input.enter_array("array")?;
+    places.place(input, TWO_OR_THREE)?;
+    let key_data_length = input.uint("int");
+    places.place(input, TWO_OR_THREE)?;
+    let protected = ProtectedBstr::from_input(alloc, input);
+    let other = read_other(alloc, &mut places, input);
+    places.end(input, TWO_OR_THREE)?;
+    let other = other?;
+    let ProtectedBstr(protected) = protected?;
     Ok(SuppPubInfo {
-        key_data_length,
+        key_data_length: key_data_length?,
         protected,
         other,
     })
@@ -88,7 +106,7 @@ impl AsCborValue for SuppPubInfo {
     ghost sound = { supp_pub_laws.sound };
 
     fn from_cbor_value(alloc: Global, value: Value) -> Result<SuppPubInfo> {
-        read_supp_pub(alloc, Source::Tree(value))
+        read_supp_pub(alloc, &mut Input::Tree(value))
     }
 
     fn to_cbor_value(self, alloc: Global) -> Result<Value> {
@@ -98,7 +116,11 @@ impl AsCborValue for SuppPubInfo {
 
 impl FromPull for SuppPubInfo {
     fn from_pull(alloc: Global, pull: Pull<'_>) -> Result<SuppPubInfo> {
-        read_supp_pub(alloc, Source::Lent(pull))
+        read_supp_pub(alloc, &mut Input::new(Source::Lent(pull)))
+    }
+
+    fn from_input(alloc: Global, input: &mut Input<'_>) -> Result<SuppPubInfo> {
+        read_supp_pub(alloc, input)
     }
 }
 

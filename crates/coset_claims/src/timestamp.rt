@@ -1,17 +1,18 @@
 //! Timestamps of claims (RFC 8392, section 2, "NumericDate").
 
-ghost use Rattle.std.specs.Prelude.{◌≡◌, ◌↔◌, IsTrue, IfOk, IfErr};
+ghost use Rattle.std.specs.Prelude.{◌≡◌, ◌↔◌, ◌≤◌, IsTrue, IfOk, IfErr, OnOk};
 ghost use Rattle.std.specs.Ordering.{on};
 ghost use Rattle.std.specs.Cmp.{on_equiv, on_per, partial_equiv_from_equiv};
 ghost use Rattle.coset_value.specs.View.{view};
 ghost use Rattle.coset_shape.specs.declared.error.CoseError.TheVariants.{OutOfMemory};
 ghost use Rattle.coset_shape.specs.Answers.{Reads};
-ghost use Rattle.coset_shape.specs.Sources.{source_item};
+ghost use Rattle.coset_shape.specs.Inputs.{GoesBehind, ReadsAt, length_left, state};
 ghost use Rattle.coset_claims.specs.Timestamp.{timestamp, timestamp_eq, timestamp_eq_equiv, timestamp_seen};
 
 use coset_cbor::de::Pull;
 use coset_cbor::value::{Float, Value};
 use coset_shape::encode::Encode;
+use coset_shape::input::Input;
 use coset_shape::traits::FromPull;
 use coset_shape::{AsCborValue, Lawful, Result, Source};
 use std::alloc::{AllocError, Global};
@@ -31,16 +32,19 @@ pub enum Timestamp {
 
 /// Reads a timestamp. It takes no memory.
 #[tactic(auto, unfolding(crate::specs::Timestamp::timestamp))]
-pub(crate) fn read_timestamp(source: Source<'_>) -> Result<Timestamp>
-    ensures read { Reads timestamp timestamp_seen (source_item source.entry) result }
-    ensures memory { IfErr result (λ e. e ≡ OutOfMemory → ⊥) }
+pub(crate) fn read_timestamp(input: &mut Input<'_>) -> Result<Timestamp>
+    ensures shrinks { length_left (state input.new) ≤ length_left (state input.old) }
+    ensures strictly { OnOk result (GoesBehind (state input.old) (state input.new)) }
+    ensures reads { ReadsAt (state input.old) (state input.new) (λ v. Reads timestamp timestamp_seen v result) }
+    ensures memory { ReadsAt (state input.old) (state input.new)
+        (λ v. IfErr result (λ e. e ≡ OutOfMemory → ⊥)) }
 {
-    if let Some(number) = source.integer() {
+    if let Some(number) = input.integer() {
         return Ok(Timestamp::WholeSeconds(i64::try_from(number)?));
     }
-    match source.float() {
+    match input.float() {
         Some(float) => Ok(Timestamp::FractionalSeconds(float)),
-        None => Err(source.type_error("int/float")),
+        None => Err(input.type_error("int/float")),
     }
 }
 
@@ -62,7 +66,7 @@ impl AsCborValue for Timestamp {
         ensures read { Reads timestamp timestamp_seen (view value) result }
         ensures memory { IfErr result (λ e. e ≡ OutOfMemory → ⊥) }
     {
-        read_timestamp(Source::Tree(value))
+        read_timestamp(&mut Input::Tree(value))
     }
 
     #[tactic(auto, unfolding(crate::specs::Timestamp::timestamp))]
@@ -94,7 +98,11 @@ impl Encode for Timestamp {
 
 impl FromPull for Timestamp {
     fn from_pull(_alloc: Global, pull: Pull<'_>) -> Result<Timestamp> {
-        read_timestamp(Source::Lent(pull))
+        read_timestamp(&mut Input::new(Source::Lent(pull)))
+    }
+
+    fn from_input(_alloc: Global, input: &mut Input<'_>) -> Result<Timestamp> {
+        read_timestamp(input)
     }
 }
 

@@ -1,5 +1,5 @@
 -- A header's pairs, read one after the other.
-use Rattle.std.proofs.Common.{◌≡◌, ◌⊎◌, true, false, Option, Some, None, Result, Ok, Err, refl, sym, ap, subst, ◌∙◌, inl, inr}
+use Rattle.std.proofs.Common.{◌≡◌, ◌⊎◌, true, false, Option, Some, None, Result, Ok, Err, refl, sym, subst, inl, inr}
 use Rattle.std.specs.Prelude.{IsErrAnd}
 use Rattle.coset_value.specs.Item.{Item, dict, Pairs, no_pairs, pair}
 use Rattle.std.specs.Map.{keys_of}
@@ -7,7 +7,7 @@ use Rattle.coset_shape.specs.declared.error.CoseError.{CoseError}
 use Rattle.coset_shape.specs.declared.error.CoseError.TheVariants.{DuplicateMapKey}
 use Rattle.coset_shape.specs.declared.input.InputPairs.{InputPairs}
 use Rattle.coset_shape.specs.Errors.{UnlessMemory}
-use Rattle.coset_shape.specs.Inputs.{State, Stands, PairsWithin}
+use Rattle.coset_shape.specs.Inputs.{State, NextsKey, PairsWithin, ReadsAt}
 use Rattle.coset_shape.specs.Maps.{Adds, Refuses, RefusesKey, BarsKey, GatherFaults, are_distinct, optional}
 use Rattle.coset_shape.specs.Shape.{any}
 use Rattle.coset_shape.proofs.Walking.{goes_on, refuses, stumbles}
@@ -16,8 +16,12 @@ use Rattle.coset_label.specs.Views.{label_seen}
 use Rattle.coset_label.specs.declared.label.Label.{Label}
 use Rattle.coset_core.specs.Fields.{FieldsSeen, Versions, names, fields, parts_of, same_name, bars}
 use Rattle.coset_core.specs.FieldLaws.{names_laws, partial_fields_laws}
-use Rattle.coset_core.specs.Filling.{WalksTo, NextsLabel, AtHeld, AtEnd, AtFault, FillsSome, FillsFields, IsDistinctRest, label_of}
+use Rattle.coset_core.specs.Filling.{WalksTo, AtHeld, AtEnd, AtFault, FillsSome, FillsFields, IsDistinctRest, label_of}
 use Rattle.coset_core.specs.declared.header.Version.{Version}
+
+-- the value of the next pair stands at t, whose label this is; or none is left; or the next pair's key is at fault
+abbrev pub NextsLabel : Pairs → State → State → InputPairs → Result (Option Label) CoseError → Type 0
+NextsLabel ps t z m r = NextsKey label label_seen ps t z m r
 
 -- some pairs were read, and others are left
 pub record SoFar (all : Pairs) (o : Versions (Option Item)) (f : FieldsSeen) (t z : State) (m : InputPairs) : Type 0 where
@@ -55,34 +59,33 @@ at_key all o f s t z m n e w h = record {
 
 -- a value that was read, and one that was refused
 pub on_value :
-    (all : Pairs) (o : Versions (Option Item)) (f g : FieldsSeen) (s t u z : State) (m n : InputPairs) (l : Label) (v : Item) → (w : SoFar all o f s z m) → NextsLabel w.left t z n (Ok (Some l))
-    → ((x : Item) (y : State) → Stands x t y → (u ≡ y) × (v ≡ x)) → Adds names (fields (optional any) (optional any)) (label_seen l) v (parts_of (f, o)) (parts_of (g, o)) → SoFar all o g u z n
-on_value all o f g s t u z m n l v w h taken adds =
-    let here = taken h.1 h.3 h.6 in
+    (all : Pairs) (o : Versions (Option Item)) (f g : FieldsSeen) (s t u z : State) (m n : InputPairs) (l : Label) → (w : SoFar all o f s z m) → NextsLabel w.left t z n (Ok (Some l))
+    → ReadsAt t u (λ v. Adds names (fields (optional any) (optional any)) (label_seen l) v (parts_of (f, o)) (parts_of (g, o))) → SoFar all o g u z n
+on_value all o f g s t u z m n l w h takes =
+    let here = takes h.1 h.3 h.6 in
     record {
       left = h.2;
-      walks = goes_on names names_laws (fields (optional any) (optional any)) partial_fields_laws all w.left h.2 h.0 v (parts_of (f, o)) (parts_of (g, o)) w.walks (h.4 ∙ ap (λ x. pair h.0 x h.2) (sym here.1)) (label_seen l, h.5, adds);
+      walks = goes_on names names_laws (fields (optional any) (optional any)) partial_fields_laws all w.left h.2 h.0 h.1 (parts_of (f, o)) (parts_of (g, o)) w.walks h.4 (label_seen l, h.5, here.1);
       within = subst (λ y. PairsWithin n h.2 y z) (sym here.0) h.7;
     }
 
 pub at_value :
-    (all : Pairs) (o : Versions (Option Item)) (f g : FieldsSeen) (s t u z : State) (m n : InputPairs) (l : Label) (v : Item) (e : CoseError) → (w : SoFar all o f s z m) → NextsLabel w.left t z n (Ok (Some l))
-    → ((x : Item) (y : State) → Stands x t y → (u ≡ y) × (v ≡ x)) → g ≡ f
-    → UnlessMemory e (λ i. Refuses names (fields (optional any) (optional any)) (label_seen l) v (parts_of (f, o)) i ⊎ bars (label_seen l) (parts_of (f, o)) i) → AtFault all o g u z n e
-at_value all o f g s t u z m n l v e w h taken same refused =
-    let here = taken h.1 h.3 h.6 in
+    (all : Pairs) (o : Versions (Option Item)) (f g : FieldsSeen) (s t u z : State) (m n : InputPairs) (l : Label) (e : CoseError) → (w : SoFar all o f s z m) → NextsLabel w.left t z n (Ok (Some l)) → g ≡ f
+    → ReadsAt t u (λ v. UnlessMemory e (λ i. Refuses names (fields (optional any) (optional any)) (label_seen l) v (parts_of (f, o)) i ⊎ bars (label_seen l) (parts_of (f, o)) i)) → AtFault all o g u z n e
+at_value all o f g s t u z m n l e w h same refused =
+    let here = refused h.1 h.3 h.6 in
     subst (λ x. AtFault all o x u z n e) (sym same) (record {
       key = h.0;
-      value = v;
+      value = h.1;
       others = h.2;
-      walks = subst (WalksTo all f o) (h.4 ∙ ap (λ x. pair h.0 x h.2) (sym here.1)) w.walks;
+      walks = subst (WalksTo all f o) h.4 w.walks;
       within = subst (λ y. PairsWithin n h.2 y z) (sym here.0) h.7;
-      faulty = λ i. fault (refused i);
+      faulty = λ i. fault (here.1 i);
     })
   where
     fault :
-        Refuses names (fields (optional any) (optional any)) (label_seen l) v (parts_of (f, o)) e ⊎ bars (label_seen l) (parts_of (f, o)) e
-        → RefusesKey names (fields (optional any) (optional any)) h.0 v (parts_of (f, o)) e ⊎ BarsKey names bars h.0 (parts_of (f, o)) e
+        Refuses names (fields (optional any) (optional any)) (label_seen l) h.1 (parts_of (f, o)) e ⊎ bars (label_seen l) (parts_of (f, o)) e
+        → RefusesKey names (fields (optional any) (optional any)) h.0 h.1 (parts_of (f, o)) e ⊎ BarsKey names bars h.0 (parts_of (f, o)) e
     fault (inl r) = inl (inr (label_seen l, h.5, r))
     fault (inr b) = inr (label_seen l, h.5, b)
 
@@ -91,11 +94,6 @@ pub stops :
     (all : Pairs) (o : Versions (Option Item)) (f : FieldsSeen) (t z : State) (n : InputPairs) (r : Result (Option Version) CoseError) (e : CoseError) → IsErrAnd r (λ x. x ≡ e) → AtFault all o f t z n e → FillsSome all o z f t n r
 stops all o f t z n (Ok b) e h a = absurd h
 stops all o f t z n (Err x) e h a = subst (AtFault all o f t z n) (sym h) a
-
--- a value that stands there is taken
-pub no_refusal :
-    (all : Pairs) (o : Versions (Option Item)) (f : FieldsSeen) (s t z : State) (m n : InputPairs) (l : Label) → (w : SoFar all o f s z m) → NextsLabel w.left t z n (Ok (Some l)) → ((x : Item) (y : State) → Stands x t y → ⊥) → ⊥
-no_refusal all o f s t z m n l w h never = never h.1 h.3 h.6
 
 -- ---- labels of the rest that repeat
 

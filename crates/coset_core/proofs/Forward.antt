@@ -7,14 +7,12 @@ use Rattle.coset_shape.specs.declared.error.CoseError.{CoseError}
 use Rattle.coset_shape.specs.declared.error.CoseError.TheVariants.{DuplicateMapKey, OutOfMemory}
 use Rattle.coset_shape.specs.declared.input.InputItems.{InputItems}
 use Rattle.coset_shape.specs.declared.input.InputPairs.{InputPairs}
-use Rattle.coset_shape.specs.declared.source.Source.{Source}
 use Rattle.coset_shape.specs.declared.error.Refused.{Refused}
 use Rattle.coset_shape.specs.Errors.{UnlessMemory, IsUnexpected, answer}
-use Rattle.coset_shape.specs.Inputs.{State, Stands, AreWithin, PairsWithin, EntersMap, Nexts, TakesNext}
+use Rattle.coset_shape.specs.Inputs.{State, Stands, AreWithin, PairsWithin, EntersMap, Nexts, ReadsAt}
 use Rattle.coset_shape.specs.Maps.{GatherFaults, labelled, SomePair, and_pairs, optional, listed, is_filled}
 use Rattle.coset_shape.specs.OneOrMore.{Begins}
 use Rattle.coset_shape.specs.Shape.{Shape, Each, any, bstr, any_number, one_or_more, one_or_many}
-use Rattle.coset_shape.specs.Sources.{source_item}
 use Rattle.coset_shape.proofs.Walking.{sets_out, goes_on, arrives, refuses}
 use Rattle.coset_label.specs.Labels.{label}
 use Rattle.coset_core.specs.FieldLabels as labels
@@ -259,11 +257,12 @@ places_refused k vs t z m o f x r e y is b = ((b.0, b.1), not_filled (layered_si
 
 -- the first place was read, and is no byte string
 pub first_refused :
-    (vs : Items) (s t z : State) (m n : InputItems) (q : Source) (e : CoseError) → TakesNext vs s z m (Ok (Some q)) → ((us : Items) → AreWithin m us s z → Nexts us t z n true) → UnlessMemory e (bstr.faults (source_item q))
-    → (w : Item) × (u : Item) × (others : Items) × (mid : State) × (vs ≡ item w (item u others)) × Stands u t mid × AreWithin n others mid z × ((k : ℕ) → UnlessMemory e ((layered_protected k).faults w))
-first_refused vs s t z m n q e p next h =
-    let b = next p.1 p.4 in
-    (source_item q, b.0, b.1, b.2, p.2 ∙ (λ i. item (sym p.3 i) (b.3 i)), b.4, b.5, λ k i. no_string k (source_item q) e (h i))
+    (vs : Items) (s t x z : State) (m n : InputItems) (e : CoseError) → Nexts vs s z m true → ReadsAt s t (λ v. UnlessMemory e (bstr.faults v)) → ((us : Items) → AreWithin m us t z → Nexts us x z n true)
+    → (w : Item) × (u : Item) × (others : Items) × (mid : State) × (vs ≡ item w (item u others)) × Stands u x mid × AreWithin n others mid z × ((k : ℕ) → UnlessMemory e ((layered_protected k).faults w))
+first_refused vs s t x z m n e p read next =
+    let here = read p.0 p.2 p.4 in
+    let b = next p.1 (subst (λ y. AreWithin m p.1 y z) (sym here.0) p.5) in
+    (p.0, b.0, b.1, b.2, p.3 ∙ ap (item p.0) b.3, b.4, b.5, λ k i. no_string k p.0 e (here.1 i))
 
 -- the second place was read, whatever was answered
 pub record Second (vs : Items) (o : Option (List ℕ)) (f : CoseError) (b : Bool) (u z : State) (m : InputItems) (P : Item → Type 0) : Type 0 where
@@ -284,16 +283,18 @@ second_read vs t u z m o f b P q read =
 
 -- the third place is the last, and no byte string
 pub third_refused :
-    (vs others : Items) (t z : State) (m : InputItems) (b : List ℕ) (q : Source) (r : Result (Unit {0}) Refused) (e : CoseError) (y : Refused) → IsErrAnd r (λ i. i ≡ y) → vs ≡ item (source_item q) others
-    → Nexts others t z m false → UnlessMemory e (bstr.faults (source_item q)) → EndsPlaces vs t z m b (answer e r)
-third_refused vs others t z m b q (Ok u) e y is one none h = absurd is
-third_refused vs others t z m b q (Err f) e y is one none h = (
-  no_items,
-  none.1,
-  λ p u k.
-      subst (λ ws. UnlessMemory e ((layered_signature k).faults (array (item p (item u ws))))) (sym (one ∙ ap (item (source_item q)) none.0))
-      (λ n. inr (item p (item u (item (source_item q) no_items)), refl, inr (λ x. x tt, inr (inr (inl (h n)))))),
-)
+    (vs : Items) (s t x z : State) (m n : InputItems) (b : List ℕ) (r : Result (Unit {0}) Refused) (e : CoseError) (y : Refused) → IsErrAnd r (λ i. i ≡ y) → Nexts vs s z m true → ReadsAt s t (λ v. UnlessMemory e (bstr.faults v))
+    → ((us : Items) → AreWithin m us t z → Nexts us x z n false) → EndsPlaces vs x z n b (answer e r)
+third_refused vs s t x z m n b (Ok u) e y is p read none = absurd is
+third_refused vs s t x z m n b (Err f) e y is p read none =
+    let here = read p.0 p.2 p.4 in
+    let end = none p.1 (subst (λ y. AreWithin m p.1 y z) (sym here.0) p.5) in (
+      no_items,
+      end.1,
+      λ q u k.
+          subst (λ ws. UnlessMemory e ((layered_signature k).faults (array (item q (item u ws))))) (sym (p.3 ∙ ap (item p.0) end.0))
+          (λ n. inr (item q (item u (item p.0 no_items)), refl, inr (λ x. x tt, inr (inr (inl (here.1 n)))))),
+    )
 
 pub last_refused :
     (k : ℕ) (vs : Items) (u w z : State) (m n : InputItems) (o : Option (List ℕ)) (f : CoseError) (i : Bool) (P : Item → Type 0) (b : List ℕ) (x : SignatureSeen) (r : Result (Unit {0}) Refused) (e : CoseError) (y : Refused)

@@ -1,9 +1,12 @@
 -- What reading into headers answers: the content of a protected header's byte string, and two headers together.
-use Rattle.std.specs.Prelude.{◌⊎◌, ℕ, List, [], None, Result, Ok, Err}
-use Rattle.coset_value.specs.Item.{Item}
+use Rattle.std.specs.Prelude.{◌≡◌, ◌⊎◌, ℕ, List, [], None, Result, Ok, Err}
+use Rattle.coset_value.specs.Item.{Item, Items, item}
 use Rattle.coset_shape.specs.declared.error.CoseError.{CoseError}
+use Rattle.coset_shape.specs.declared.input.InputItems.{InputItems}
 use Rattle.coset_shape.specs.Errors.{UnlessMemory}
+use Rattle.coset_shape.specs.Inputs.{State, AreWithin}
 use Rattle.coset_shape.specs.Serialized.{ContentDescribes, ContentFaults}
+use Rattle.coset_shape.specs.Sources.{IsMisfit, Never, misfits_after}
 use Rattle.coset_core.specs.Headers.{HeaderSeen, ProtectedSeen, SignatureSeen, empty_header, layered_header, header, protected}
 
 -- the place holds the header that the bytes hold, with k layers left; or, out of memory aside, an error that tells of a
@@ -21,3 +24,8 @@ empty_signature = record { protected = record { original = None; header = empty_
 abbrev pub FillsHeaders : Item → Item → ProtectedSeen → HeaderSeen → Result (Unit {0}) CoseError → Type 0
 FillsHeaders v w p u (Ok x) = protected.describes v p × header.describes w u
 FillsHeaders v w p u (Err e) = UnlessMemory e (λ f. protected.faults v f ⊎ header.faults w f)
+
+-- the first two places of an array were read, and the others stand at t; or they are too few, and the array was passed
+abbrev pub BeginsHeaders : List ℕ → Items → ProtectedSeen → HeaderSeen → State → State → InputItems → Result (Result (Unit {0}) CoseError) CoseError → Type 0
+BeginsHeaders want vs p u t z m (Ok r) = (v : Item) × (w : Item) × (others : Items) × (vs ≡ item v (item w others)) × AreWithin m others t z × FillsHeaders v w p u r
+BeginsHeaders want vs p u t z m (Err e) = misfits_after 2 Never vs × (t ≡ z) × IsMisfit want e

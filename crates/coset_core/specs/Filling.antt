@@ -12,8 +12,6 @@ use Rattle.coset_shape.specs.Maps.{Walks, RefusesKey, BarsKey, GatherFaults, are
 use Rattle.coset_shape.specs.Shape.{any}
 use Rattle.coset_label.specs.Labels.{label}
 use Rattle.coset_label.specs.Names.{Name}
-use Rattle.coset_label.specs.Views.{label_seen}
-use Rattle.coset_label.specs.declared.label.Label.{Label}
 use Rattle.coset_core.specs.FieldLabels as labels
 use Rattle.coset_core.specs.Fields.{FieldsSeen, Versions, Fielded, names, fields, parts_of, same_name, bars}
 use Rattle.coset_core.specs.FieldsView.{counter_signatures_held, countersignatures_held, fields_seen}
@@ -45,13 +43,6 @@ NamesNoVersion m = (same_name labels.counter_signature m ≡ false) × (same_nam
 -- of all the pairs of a map those before ps make the fields f, and o are the values of labels 7 and 11
 abbrev pub WalksTo : Pairs → FieldsSeen → Versions (Option Item) → Pairs → Type 0
 WalksTo all f o ps = Walks Name (Fielded (Option Item)) names (fields (optional any) (optional any)) all (parts_of (f, o)) ps
-
--- at t stands the value of the next pair, whose label this is; or none is left; or the next pair's key is at fault
-abbrev pub NextsLabel : Pairs → State → State → InputPairs → Result (Option Label) CoseError → Type 0
-NextsLabel ps t z m (Ok (Some l)) =
-    (k : Item) × (v : Item) × (others : Pairs) × (mid : State) × (ps ≡ pair k v others) × label.describes k (label_seen l) × Stands v t mid × PairsWithin m others mid z
-NextsLabel ps t z m (Ok None) = (ps ≡ no_pairs) × PairsWithin m no_pairs t z
-NextsLabel ps t z m (Err e) = (k : Item) × (v : Item) × (others : Pairs) × (ps ≡ pair k v others) × PairsWithin m others t z × UnlessMemory e (label.faults k)
 
 -- at t stands the value of a pair that holds counter signatures of this version
 pub record AtHeld (version : Version) (all : Pairs) (o : Versions (Option Item)) (f : FieldsSeen) (t z : State) (m : InputPairs) : Type 0 where

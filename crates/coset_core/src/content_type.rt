@@ -1,10 +1,10 @@
 //! Content types of headers: formats of CoAP, or media types (RFC 8152, section 3.1).
 
-ghost use Rattle.std.specs.Prelude.{◌≡◌, [], option_map, OnOk, IfOk, IfErr, filter, length, ◌==◌, OnErr};
+ghost use Rattle.std.specs.Prelude.{◌≡◌, ◌≤◌, [], option_map, OnOk, IfOk, IfErr, filter, length, ◌==◌, OnErr};
 ghost use Rattle.coset_core.specs.Views.{content_type_seen};
 ghost use Rattle.coset_shape.specs.Answers.{Reads};
 ghost use Rattle.coset_shape.specs.Errors.{IsUnexpected, UnlessMemory};
-ghost use Rattle.coset_shape.specs.Sources.{source_item};
+ghost use Rattle.coset_shape.specs.Inputs.{state, ReadsAt, length_left};
 ghost use Rattle.coset_core.specs.Fields.{IsMediaType, content_type};
 ghost use Rattle.coset_shape.specs.Maps.{optional, put_field};
 ghost use Rattle.coset_label.specs.Names.{name_item};
@@ -20,8 +20,9 @@ use coset_cbor::OutOfMemory;
 use coset_cbor::ser::write_text;
 use coset_iana::{EnumI64, HeaderParameter};
 use coset_label::{ContentType, RegisteredLabel};
-use coset_shape::list::read_source;
-use coset_shape::{CoseError, Result, Source};
+use coset_shape::input::Input;
+use coset_shape::traits::FromPull;
+use coset_shape::{CoseError, Result};
 use std::alloc::Global;
 
 /// How many of the text's bytes are `/`.
@@ -56,10 +57,12 @@ fn ask_media_type(text: &str) -> Result<()>
 
 /// Reads a content type.
 #[tactic(auto, unfolding(crate::specs::Fields::content_type))]
-fn read_content_type(alloc: Global, source: Source<'_>) -> Result<ContentType>
-    ensures { Reads content_type content_type_seen (source_item source.entry) result }
+fn read_content_type(alloc: Global, input: &mut Input<'_>) -> Result<ContentType>
+    ensures shrinks { length_left (state input.new) ≤ length_left (state input.old) }
+    ensures reads { ReadsAt (state input.old) (state input.new)
+        (λ v. Reads content_type content_type_seen v result) }
 {
-    let content_type = read_source(alloc, source)?;
+    let content_type = ContentType::from_input(alloc, input)?;
     if let RegisteredLabel::Text(text) = &content_type {
         ask_media_type(text)?;
     }
@@ -70,18 +73,21 @@ fn read_content_type(alloc: Global, source: Source<'_>) -> Result<ContentType>
 pub(crate) fn set_content_type(
     alloc: Global,
     field: &mut Option<ContentType>,
-    value: Source<'_>,
+    input: &mut Input<'_>,
 ) -> Result<()>
-    ensures takes { OnOk result (TakesValue (optional content_type) (source_item value.entry)
-        (option_map content_type_seen field.old) (option_map content_type_seen field.new)) }
-    ensures refused { IfErr result (λ e. UnlessMemory e (RefusesValue (optional content_type)
-        (source_item value.entry) (option_map content_type_seen field.old))) }
+    ensures shrinks { length_left (state input.new) ≤ length_left (state input.old) }
+    ensures takes { ReadsAt (state input.old) (state input.new) (λ v. OnOk result
+        (TakesValue (optional content_type) v
+        (option_map content_type_seen field.old) (option_map content_type_seen field.new))) }
+    ensures refused { ReadsAt (state input.old) (state input.new) (λ v. IfErr result
+        (λ e. UnlessMemory e (RefusesValue (optional content_type) v
+        (option_map content_type_seen field.old)))) }
     ensures kept { OnErr result (field.new ≡ field.old) }
 {
     if field.is_some() {
-        return Err(CoseError::DuplicateMapKey);
+        return Err(input.repeated());
     }
-    *field = Some(read_content_type(alloc, value)?);
+    *field = Some(read_content_type(alloc, input)?);
     Ok(())
 }
 

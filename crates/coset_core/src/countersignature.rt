@@ -1,13 +1,13 @@
 //! Countersignatures of version 2: their shape is that of a signature, and what they are over is more than what those of
 //! label 7 are over. The shape, the structures and their contexts are this library's own, modelled on RFC 9338.
 
-ghost use Rattle.std.specs.Prelude.{◌≡◌, [], map, OnOk, IfOk, IfErr, IfSome, IsTrue, None, ◌↔◌, ◌+◌, ◌<◌};
+ghost use Rattle.std.specs.Prelude.{◌≡◌, ◌≤◌, [], map, OnOk, IfOk, IfErr, IfSome, IsTrue, None, ◌↔◌, ◌+◌, ◌<◌};
 ghost use Rattle.coset_shape.specs.declared.error.CoseError.TheVariants.{OutOfMemory};
 ghost use Rattle.coset_core.specs.Contents.{empty_signature};
 ghost use Rattle.coset_shape.specs.InPlace.{GetsOne};
 ghost use Rattle.coset_core.specs.Views.{countersignature_seen, header_seen, signature_seen};
 ghost use Rattle.coset_shape.specs.Answers.{Reads};
-ghost use Rattle.coset_shape.specs.Sources.{source_item};
+ghost use Rattle.coset_shape.specs.Inputs.{state, GoesBehind, ReadsAt, length_left};
 ghost use Rattle.coset_core.specs.Headers.{signature as signature_shape, signatures_of, signatures_image};
 ghost use Rattle.coset_core.specs.Written.{AppendsSignatures, signature_array};
 ghost use Rattle.coset_shape.specs.Encoding.{HasNoImage, Encodes};
@@ -26,6 +26,7 @@ use coset_cbor::de::Pull;
 use coset_cbor::ser::{write_array_head, write_bytes};
 use coset_cbor::value::Value;
 use coset_shape::encode::{Encode, encode_to_tagged_vec, encode_to_value, encode_to_vec};
+use coset_shape::input::Input;
 use coset_shape::traits::{FromPull, read_slice, read_tagged_slice};
 use coset_shape::{AsCborValue, CborSerializable, Lawful, Result, Source, TaggedCborSerializable};
 use std::alloc::{AllocError, Global};
@@ -138,10 +139,13 @@ impl CoseCountersignature {
 }
 
 /// A countersignature.
-fn read_countersignature(alloc: Global, source: Source<'_>) -> Result<CoseCountersignature>
-    ensures { Reads signature_shape countersignature_seen (source_item source.entry) result }
+fn read_countersignature(alloc: Global, input: &mut Input<'_>) -> Result<CoseCountersignature>
+    ensures shrinks { length_left (state input.new) ≤ length_left (state input.old) }
+    ensures strictly { OnOk result (GoesBehind (state input.old) (state input.new)) }
+    ensures reads { ReadsAt (state input.old) (state input.new)
+        (λ v. Reads signature_shape countersignature_seen v result) }
 {
-    Ok(countersignature_of(read_signature(alloc, source)?))
+    Ok(countersignature_of(read_signature(alloc, input)?))
 }
 
 impl AsCborValue for CoseCountersignature {
@@ -159,7 +163,7 @@ impl AsCborValue for CoseCountersignature {
     ghost sound = { signature_laws.sound };
 
     fn from_cbor_value(alloc: Global, value: Value) -> Result<CoseCountersignature> {
-        read_countersignature(alloc, Source::Tree(value))
+        read_countersignature(alloc, &mut Input::Tree(value))
     }
 
     fn to_cbor_value(self, alloc: Global) -> Result<Value> {
@@ -190,7 +194,11 @@ impl Encode for CoseCountersignature {
 
 impl FromPull for CoseCountersignature {
     fn from_pull(alloc: Global, pull: Pull<'_>) -> Result<CoseCountersignature> {
-        read_countersignature(alloc, Source::Lent(pull))
+        read_countersignature(alloc, &mut Input::new(Source::Lent(pull)))
+    }
+
+    fn from_input(alloc: Global, input: &mut Input<'_>) -> Result<CoseCountersignature> {
+        read_countersignature(alloc, input)
     }
 }
 

@@ -1,10 +1,10 @@
 //! The labels of a header that must be understood, and labels that registries assign (RFC 8152, section 3.1).
 
-ghost use Rattle.std.specs.Prelude.{◌≡◌, [], map, OnOk, IfOk, IfErr, OnErr};
+ghost use Rattle.std.specs.Prelude.{◌≡◌, ◌≤◌, [], map, OnOk, IfOk, IfErr, OnErr};
 ghost use Rattle.coset_core.specs.Views.{critical_seen};
 ghost use Rattle.coset_shape.specs.Answers.{Reads};
 ghost use Rattle.coset_shape.specs.Errors.{UnlessMemory};
-ghost use Rattle.coset_shape.specs.Sources.{source_item};
+ghost use Rattle.coset_shape.specs.Inputs.{state, ReadsAt, length_left};
 ghost use Rattle.coset_core.specs.Fields.{critical};
 ghost use Rattle.coset_shape.specs.Maps.{listed, put_field};
 ghost use Rattle.coset_shape.specs.Shape.{some_of};
@@ -21,22 +21,24 @@ use coset_cbor::OutOfMemory;
 use coset_cbor::ser::{write_array_head, write_text};
 use coset_iana::{EnumI64, HeaderParameter};
 use coset_label::RegisteredLabelWithPrivate;
+use coset_shape::Result;
+use coset_shape::input::Input;
 use coset_shape::list::read_filled_list;
-use coset_shape::{CoseError, Result, Source};
 use std::alloc::Global;
 
 /// Reads the labels that must be understood.
 #[tactic(auto, unfolding(crate::specs::Fields::critical))]
 fn read_critical(
     alloc: Global,
-    source: Source<'_>,
+    input: &mut Input<'_>,
 ) -> Result<Vec<RegisteredLabelWithPrivate<HeaderParameter>>>
-    ensures { Reads (some_of critical) (λ all. map critical_seen all.items)
-        (source_item source.entry) result }
+    ensures shrinks { length_left (state input.new) ≤ length_left (state input.old) }
+    ensures reads { ReadsAt (state input.old) (state input.new)
+        (λ v. Reads (some_of critical) (λ all. map critical_seen all.items) v result) }
 {
     read_filled_list(
         alloc,
-        source,
+        input,
         "array value",
         ("empty array", "non-empty array"),
     )
@@ -46,18 +48,21 @@ fn read_critical(
 pub(crate) fn set_critical(
     alloc: Global,
     field: &mut Vec<RegisteredLabelWithPrivate<HeaderParameter>>,
-    value: Source<'_>,
+    input: &mut Input<'_>,
 ) -> Result<()>
-    ensures takes { OnOk result (TakesValue (listed (some_of critical)) (source_item value.entry)
-        (map critical_seen field.old.items) (map critical_seen field.new.items)) }
-    ensures refused { IfErr result (λ e. UnlessMemory e (RefusesValue (listed (some_of critical))
-        (source_item value.entry) (map critical_seen field.old.items))) }
+    ensures shrinks { length_left (state input.new) ≤ length_left (state input.old) }
+    ensures takes { ReadsAt (state input.old) (state input.new) (λ v. OnOk result
+        (TakesValue (listed (some_of critical)) v
+        (map critical_seen field.old.items) (map critical_seen field.new.items))) }
+    ensures refused { ReadsAt (state input.old) (state input.new) (λ v. IfErr result
+        (λ e. UnlessMemory e (RefusesValue (listed (some_of critical)) v
+        (map critical_seen field.old.items)))) }
     ensures kept { OnErr result (field.new ≡ field.old) }
 {
     if !field.is_empty() {
-        return Err(CoseError::DuplicateMapKey);
+        return Err(input.repeated());
     }
-    *field = read_critical(alloc, value)?;
+    *field = read_critical(alloc, input)?;
     Ok(())
 }
 

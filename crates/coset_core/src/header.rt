@@ -13,10 +13,9 @@ ghost use Rattle.coset_core.specs.FieldsView.{fields_seen, signatures_held};
 ghost use Rattle.coset_core.specs.Views.{algorithm_seen, countersignature_seen, critical_seen, entry_seen, header_seen, signature_seen};
 ghost use Rattle.coset_shape.specs.Answers.{Reads};
 ghost use Rattle.coset_shape.specs.Errors.{IsUnexpected, UnlessMemory, answer, filled};
-ghost use Rattle.coset_shape.specs.Sources.{source_item};
 ghost use Rattle.coset_core.specs.Fields.{FieldsSeen, Versions, algorithm, names, fields, parts_of, same_name, HasOneIv, bars};
 ghost use Rattle.coset_value.specs.Item.{Item, Pairs, dict};
-ghost use Rattle.coset_shape.specs.Inputs.{State, state, length_left, input_size, pairs_size, pairs_turns, PairsWithin, items_size, Stands, EntersMap, EntersOnes};
+ghost use Rattle.coset_shape.specs.Inputs.{State, state, GoesBehind, ReadsAt, length_left, input_size, pairs_size, pairs_turns, PairsWithin, items_size, Stands, EntersMap, EntersOnes};
 ghost use Rattle.coset_shape.specs.Maps.{is_filled, optional, listed, Adds, Refuses, put_field, are_distinct};
 ghost use Rattle.coset_shape.specs.Shape.{any, bstr, filled_bstr, any_number, one_or_many};
 ghost use Rattle.coset_label.specs.Names.{number, name_item, word, assigned};
@@ -26,7 +25,7 @@ ghost use Rattle.coset_iana.specs.Algorithm as algorithms;
 ghost use Rattle.coset_iana.specs.CoapContentFormat as content_formats;
 ghost use Rattle.coset_iana.specs.HeaderParameter as parameters;
 ghost use Rattle.coset_core.specs.FieldLabels as labels;
-ghost use Rattle.coset_core.specs.Filling.{FillsFields, FillsSome, Keeps, NamesNoVersion, NextsLabel, WalksTo, held_of, label_of};
+ghost use Rattle.coset_core.specs.Filling.{FillsFields, FillsSome, Keeps, NamesNoVersion, WalksTo, held_of, label_of};
 ghost use Rattle.coset_core.specs.FieldValues.{TakesValue, RefusesValue};
 ghost use Rattle.coset_core.specs.Headers.{empty_header, is_empty_header, layered_header, layered_signature, header as header_shape, signatures_of, signatures_image, header_image};
 ghost use Rattle.coset_value.specs.View.{view};
@@ -65,7 +64,6 @@ use coset_label::{
 use coset_shape::encode::{Encode, encode_to_value, encode_to_vec};
 use coset_shape::error::{Refused, keep_error};
 use coset_shape::input::{Input, InputItems, InputPairs};
-use coset_shape::list::read_source;
 use coset_shape::traits::{FromPull, read_slice};
 use coset_shape::{AsCborValue, CborSerializable, CoseError, Lawful, Result, Source, has_repeats};
 use std::alloc::{AllocError, Global};
@@ -242,7 +240,7 @@ impl AsCborValue for Header {
     ghost sound = { header_laws.sound };
 
     fn from_cbor_value(alloc: Global, value: Value) -> Result<Header> {
-        read_header(alloc, Source::Tree(value))
+        read_header(alloc, &mut Input::Tree(value))
     }
 
     fn to_cbor_value(self, alloc: Global) -> Result<Value> {
@@ -276,7 +274,11 @@ impl Encode for Header {
 
 impl FromPull for Header {
     fn from_pull(alloc: Global, pull: Pull<'_>) -> Result<Header> {
-        read_header(alloc, Source::Lent(pull))
+        read_header(alloc, &mut Input::new(Source::Lent(pull)))
+    }
+
+    fn from_input(alloc: Global, input: &mut Input<'_>) -> Result<Header> {
+        read_header(alloc, input)
     }
 }
 
@@ -300,72 +302,83 @@ fn is_parameter(label: &Label, parameter: HeaderParameter) -> bool
     }
 }
 
+/// Reads an algorithm.
+#[tactic(auto, unfolding(crate::specs::Fields::algorithm))]
+fn read_algorithm(alloc: Global, input: &mut Input<'_>) -> Result<Algorithm>
+    ensures shrinks { length_left (state input.new) ≤ length_left (state input.old) }
+    ensures reads { ReadsAt (state input.old) (state input.new)
+        (λ v. Reads algorithm algorithm_seen v result) }
+{
+    Algorithm::from_input(alloc, input)
+}
+
 /// Sets the algorithm, where there is none yet.
-fn set_algorithm(alloc: Global, field: &mut Option<Algorithm>, value: Source<'_>) -> Result<()>
-    ensures takes { OnOk result (TakesValue (optional algorithm) (source_item value.entry)
-        (option_map algorithm_seen field.old) (option_map algorithm_seen field.new)) }
-    ensures refused { IfErr result (λ e. UnlessMemory e (RefusesValue (optional algorithm)
-        (source_item value.entry) (option_map algorithm_seen field.old))) }
+fn set_algorithm(alloc: Global, field: &mut Option<Algorithm>, input: &mut Input<'_>) -> Result<()>
+    ensures shrinks { length_left (state input.new) ≤ length_left (state input.old) }
+    ensures takes { ReadsAt (state input.old) (state input.new) (λ v. OnOk result
+        (TakesValue (optional algorithm) v
+        (option_map algorithm_seen field.old) (option_map algorithm_seen field.new))) }
+    ensures refused { ReadsAt (state input.old) (state input.new) (λ v. IfErr result
+        (λ e. UnlessMemory e (RefusesValue (optional algorithm) v
+        (option_map algorithm_seen field.old)))) }
     ensures kept { OnErr result (field.new ≡ field.old) }
 {
     if field.is_some() {
-        return Err(CoseError::DuplicateMapKey);
+        return Err(input.repeated());
     }
-    *field = Some(read_algorithm(alloc, value)?);
+    *field = Some(read_algorithm(alloc, input)?);
     Ok(())
 }
 
-/// Reads an algorithm.
-#[tactic(auto, unfolding(crate::specs::Fields::algorithm))]
-fn read_algorithm(alloc: Global, source: Source<'_>) -> Result<Algorithm>
-    ensures { Reads algorithm algorithm_seen (source_item source.entry) result }
-{
-    read_source(alloc, source)
-}
-
 /// Sets the bytes of a field, where there are none yet.
-fn set_bytes(alloc: Global, field: &mut Vec<u8>, value: Source<'_>) -> Result<()>
-    ensures takes { OnOk result (TakesValue (listed filled_bstr) (source_item value.entry)
-        field.old.items field.new.items) }
-    ensures refused { IfErr result (λ e. UnlessMemory e
-        (RefusesValue (listed filled_bstr) (source_item value.entry) field.old.items)) }
+fn set_bytes(alloc: Global, field: &mut Vec<u8>, input: &mut Input<'_>) -> Result<()>
+    ensures shrinks { length_left (state input.new) ≤ length_left (state input.old) }
+    ensures takes { ReadsAt (state input.old) (state input.new) (λ v. OnOk result
+        (TakesValue (listed filled_bstr) v field.old.items field.new.items)) }
+    ensures refused { ReadsAt (state input.old) (state input.new) (λ v. IfErr result
+        (λ e. UnlessMemory e (RefusesValue (listed filled_bstr) v field.old.items))) }
     ensures kept { OnErr result (field.new ≡ field.old) }
 {
     if !field.is_empty() {
-        return Err(CoseError::DuplicateMapKey);
+        return Err(input.repeated());
     }
-    *field = value.into_filled_bytes(alloc)?;
+    *field = input.filled_bytes(alloc)?;
     Ok(())
 }
 
 /// Sets bytes that may be empty, where there are none yet.
-fn set_bstr(alloc: Global, field: &mut Option<Vec<u8>>, value: Source<'_>) -> Result<()>
-    ensures takes { OnOk result (TakesValue (optional bstr) (source_item value.entry)
-        (option_map (λ b. b.items) field.old) (option_map (λ b. b.items) field.new)) }
-    ensures refused { IfErr result (λ e. UnlessMemory e (RefusesValue (optional bstr)
-        (source_item value.entry) (option_map (λ b. b.items) field.old))) }
+fn set_bstr(alloc: Global, field: &mut Option<Vec<u8>>, input: &mut Input<'_>) -> Result<()>
+    ensures shrinks { length_left (state input.new) ≤ length_left (state input.old) }
+    ensures takes { ReadsAt (state input.old) (state input.new) (λ v. OnOk result
+        (TakesValue (optional bstr) v
+        (option_map (λ b. b.items) field.old) (option_map (λ b. b.items) field.new))) }
+    ensures refused { ReadsAt (state input.old) (state input.new) (λ v. IfErr result
+        (λ e. UnlessMemory e (RefusesValue (optional bstr) v
+        (option_map (λ b. b.items) field.old)))) }
     ensures kept { OnErr result (field.new ≡ field.old) }
 {
     if field.is_some() {
-        return Err(CoseError::DuplicateMapKey);
+        return Err(input.repeated());
     }
-    *field = Some(value.into_bytes(alloc, "bstr")?);
+    *field = Some(input.bytes(alloc, "bstr")?);
     Ok(())
 }
 
 /// Sets IV or Partial IV, where it isn't there yet; `barred` tells whether the other is.
-fn set_iv(alloc: Global, field: &mut Vec<u8>, barred: bool, value: Source<'_>) -> Result<()>
-    ensures takes { OnOk result (TakesValue (listed filled_bstr) (source_item value.entry)
-        field.old.items field.new.items) }
+fn set_iv(alloc: Global, field: &mut Vec<u8>, barred: bool, input: &mut Input<'_>) -> Result<()>
+    ensures shrinks { length_left (state input.new) ≤ length_left (state input.old) }
+    ensures takes { ReadsAt (state input.old) (state input.new) (λ v. OnOk result
+        (TakesValue (listed filled_bstr) v field.old.items field.new.items)) }
     ensures alone { OnOk result (barred ≡ false) }
-    ensures refused { IfErr result (λ e. UnlessMemory e (λ f. RefusesValue (listed filled_bstr)
-        (source_item value.entry) field.old.items f ⊎ ((barred ≡ true) × IsUnexpected f))) }
+    ensures refused { ReadsAt (state input.old) (state input.new) (λ v. IfErr result
+        (λ e. UnlessMemory e (λ f. RefusesValue (listed filled_bstr) v field.old.items f
+        ⊎ ((barred ≡ true) × IsUnexpected f)))) }
     ensures kept { OnErr result (field.new ≡ field.old) }
 {
     if !field.is_empty() {
-        return Err(CoseError::DuplicateMapKey);
+        return Err(input.repeated());
     }
-    let bytes = value.into_filled_bytes(alloc)?;
+    let bytes = input.filled_bytes(alloc)?;
     if barred {
         return Err(CoseError::UnexpectedItem(
             "IV and partial-IV specified",
@@ -376,79 +389,55 @@ fn set_iv(alloc: Global, field: &mut Vec<u8>, barred: bool, value: Source<'_>) -
     Ok(())
 }
 
-/// Takes one more value of a header, by its label, which is neither 7 nor 11. Whether labels of the rest repeat isn't asked.
+/// Takes one more value of a header, by its label, which is neither 7 nor 11, and goes behind it. Whether labels of the
+/// rest repeat isn't asked.
 ///
 /// # Errors
 /// `OutOfMemory`; `DuplicateMapKey` where a field has a value already; a fault of its value; or `UnexpectedItem` where
 /// it is the second of IV and Partial IV. The header is then as before.
-fn put(header: &mut Header, alloc: Global, label: Label, value: Source<'_>) -> Result<()>
+fn put(header: &mut Header, alloc: Global, label: Label, input: &mut Input<'_>) -> Result<()>
     requires other { NamesNoVersion (label_seen label) }
     requires one_iv { HasOneIv (fields_seen header.old) }
-    ensures takes { (o : Versions (Option Item))
-        → OnOk result
-        (Adds names (fields (optional any) (optional any)) (label_seen label)
-        (source_item value.entry) (parts_of (fields_seen header.old, o)) (parts_of (fields_seen header.new, o))) }
-    ensures refused { (o : Versions (Option Item))
-        → IfErr result (λ e. UnlessMemory e (λ f. Refuses names
-        (fields (optional any) (optional any)) (label_seen label) (source_item value.entry)
+    ensures shrinks { length_left (state input.new) ≤ length_left (state input.old) }
+    ensures takes { (o : Versions (Option Item)) → ReadsAt (state input.old) (state input.new)
+        (λ v. OnOk result
+        (Adds names (fields (optional any) (optional any)) (label_seen label) v
+        (parts_of (fields_seen header.old, o)) (parts_of (fields_seen header.new, o)))) }
+    ensures refused { (o : Versions (Option Item)) → ReadsAt (state input.old) (state input.new)
+        (λ v. IfErr result (λ e. UnlessMemory e (λ f. Refuses names
+        (fields (optional any) (optional any)) (label_seen label) v
         (parts_of (fields_seen header.old, o)) f
-        ⊎ bars (label_seen label) (parts_of (fields_seen header.old, o)) f)) }
+        ⊎ bars (label_seen label) (parts_of (fields_seen header.old, o)) f))) }
     ensures kept { OnErr result (fields_seen header.new ≡ fields_seen header.old) }
     ensures one_iv { HasOneIv (fields_seen header.new) }
     ensures others { signatures_held header.new ≡ signatures_held header.old }
 {
     if is_parameter(&label, HeaderParameter::Alg) {
-        return set_algorithm(alloc, &mut header.alg, value);
+        return set_algorithm(alloc, &mut header.alg, input);
     }
     if is_parameter(&label, HeaderParameter::Crit) {
-        return set_critical(alloc, &mut header.crit, value);
+        return set_critical(alloc, &mut header.crit, input);
     }
     if is_parameter(&label, HeaderParameter::ContentType) {
-        return set_content_type(alloc, &mut header.content_type, value);
+        return set_content_type(alloc, &mut header.content_type, input);
     }
     if is_parameter(&label, HeaderParameter::Kid) {
-        return set_bytes(alloc, &mut header.key_id, value);
+        return set_bytes(alloc, &mut header.key_id, input);
     }
     if is_parameter(&label, HeaderParameter::Iv) {
         let barred = !header.partial_iv.is_empty();
-        return set_iv(alloc, &mut header.iv, barred, value);
+        return set_iv(alloc, &mut header.iv, barred, input);
     }
     if is_parameter(&label, HeaderParameter::PartialIv) {
         let barred = !header.iv.is_empty();
-        return set_iv(alloc, &mut header.partial_iv, barred, value);
+        return set_iv(alloc, &mut header.partial_iv, barred, input);
     }
     if is_parameter(&label, HeaderParameter::CounterSignature0V2) {
-        return set_bstr(alloc, &mut header.countersignature0_v2, value);
+        return set_bstr(alloc, &mut header.countersignature0_v2, input);
     }
-    let value = value.into_value(alloc)?;
+    let value = input.value(alloc)?;
     header.rest.push((label, value))?;
     Ok(())
-}
-
-/// The label of the next pair of a map, whose value then stands at the input; or `None` where no pair is left.
-///
-/// # Errors
-/// `OutOfMemory`, or a fault of the key, which is no label; its value is then passed.
-fn next_label(alloc: Global, pairs: &mut InputPairs, input: &mut Input<'_>) -> Result<Option<Label>>
-    ensures shrinks { length_left (state input.new) ≤ length_left (state input.old) }
-    ensures size { pairs_size pairs.new (state input.new) ≤ pairs_size pairs.old (state input.old) }
-    ensures value { IfOk result (λ o. IsSome o → input_size (state input.new) ≤ pairs_size pairs.old
-        (state input.old)) }
-    ensures turns { IfOk result (λ o. IsSome o → pairs_turns pairs.new (state input.new) <
-        pairs_turns pairs.old (state input.old)) }
-    ensures nexts { (ps : Pairs) (z : State) → PairsWithin pairs.old ps (state input.old) z
-        → NextsLabel ps (state input.new) z pairs.new result }
-{
-    let Some(key) = pairs.next_key(input)? else {
-        return Ok(None);
-    };
-    match read_source::<Label>(alloc, key) {
-        Ok(label) => Ok(Some(label)),
-        Err(error) => {
-            input.pass();
-            Err(error)
-        }
-    }
 }
 
 /// A version of counter signatures: the values of its label hold them.
@@ -498,12 +487,11 @@ fn fill_some(
         → WalksTo all (fields_seen header.old) o ps → PairsWithin pairs.old ps (state input.old) z
         → FillsSome all o z (fields_seen header.new) (state input.new) pairs.new result }
 {
-    while let Some(label) = next_label(alloc, pairs, input)? {
+    while let Some(label) = pairs.next_key::<Label>(alloc, input)? {
         if let Some(version) = version_of(&label) {
             return Ok(Some(version));
         }
-        let value = input.take()?;
-        put(header, alloc, label, value)?;
+        put(header, alloc, label, input)?;
     }
     Ok(None)
 }
@@ -577,6 +565,7 @@ fn begin_pairs(
     error: &mut CoseError,
 ) -> Result<(), Refused>
     ensures shrinks { length_left (state input.new) ≤ length_left (state input.old) }
+    ensures strictly { OnOk result (GoesBehind (state input.old) (state input.new)) }
     ensures deeper { OnOk result (pairs_size pairs.new (state input.new)
         < input_size (state input.old)) }
     ensures enters { (v : Item) (z : State) → Stands v (state input.old) z
@@ -600,6 +589,7 @@ pub(crate) fn fill_header(
 ) -> Result<(), Refused>
     requires empty { header_seen header.old ≡ empty_header }
     ensures shrinks { length_left (state input.new) ≤ length_left (state input.old) }
+    ensures strictly { OnOk result (GoesBehind (state input.old) (state input.new)) }
     ensures fills { (v : Item) (z : State) → Stands v (state input.old) z → (state input.new ≡ z)
         × Fills (layered_header layers) v (header_seen header.new)
         (answer error.new result) }
@@ -748,13 +738,15 @@ fn fill_counter_signatures(
 }
 
 /// A header.
-pub(crate) fn read_header(alloc: Global, source: Source<'_>) -> Result<Header>
-    ensures { Reads header_shape header_seen (source_item source.entry) result }
+pub(crate) fn read_header(alloc: Global, input: &mut Input<'_>) -> Result<Header>
+    ensures shrinks { length_left (state input.new) ≤ length_left (state input.old) }
+    ensures strictly { OnOk result (GoesBehind (state input.old) (state input.new)) }
+    ensures reads { ReadsAt (state input.old) (state input.new)
+        (λ v. Reads header_shape header_seen v result) }
 {
     let mut header = Header::new(alloc);
-    let mut input = Input::new(source);
     let mut error = CoseError::OutOfMemory;
-    match fill_header(&mut header, alloc, &mut input, LAYERS, &mut error) {
+    match fill_header(&mut header, alloc, input, LAYERS, &mut error) {
         Ok(()) => Ok(header),
         Err(Refused) => Err(error),
     }

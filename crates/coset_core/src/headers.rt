@@ -1,46 +1,91 @@
-//! The two headers that messages and signatures begin with (RFC 8152, section 3).
+//! The two headers that messages begin with (RFC 8152, section 3).
 //!
 //! ```cddl
 //! Headers = ( protected : empty_or_serialized_map, unprotected : header_map )
 //! ```
 
-ghost use Rattle.std.specs.Prelude.{◌≡◌};
-ghost use Rattle.coset_core.specs.Contents.{FillsHeaders};
+ghost use Rattle.std.specs.Prelude.{◌≡◌, ◌≤◌};
+ghost use Rattle.coset_core.specs.Headers.{empty_header, header as header_shape, protected as protected_shape};
 ghost use Rattle.coset_core.specs.Views.{header_seen, protected_seen};
-ghost use Rattle.coset_shape.specs.Sources.{source_item};
-ghost use Rattle.coset_core.specs.Headers.{empty_header};
+ghost use Rattle.coset_shape.specs.InPlace.{Fills};
+ghost use Rattle.coset_shape.specs.Inputs.{State, state, AreWithin, ReadsAt, length_left};
+ghost use Rattle.coset_value.specs.Item.{Items};
+ghost use Rattle.coset_core.specs.Contents.{BeginsHeaders};
 
 use crate::header::{Header, LAYERS, fill_header};
 use crate::protected::{ProtectedHeader, fill_bstr};
 use coset_shape::error::Refused;
-use coset_shape::input::Input;
-use coset_shape::{CoseError, Result, Source};
+use coset_shape::input::{Input, InputItems};
+use coset_shape::{CoseError, Result};
 use std::alloc::Global;
 
-/// Reads the two headers that messages begin with into empty ones: the unprotected one and then the protected one, so that
-/// the fault of the last place that has one is named (RFC 8152, section 3).
+/// Reads the first place of a message into an empty header, and keeps its bytes.
 ///
 /// # Errors
-/// `OutOfMemory`, or the first fault found.
+/// The same as [`ProtectedHeader::from_cbor_bstr`].
+pub fn fill_protected_header(
+    protected: &mut ProtectedHeader,
+    alloc: Global,
+    input: &mut Input<'_>,
+) -> Result<()>
+    requires empty { (protected_seen protected.old).header ≡ empty_header }
+    ensures shrinks { length_left (state input.new) ≤ length_left (state input.old) }
+    ensures fills { ReadsAt (state input.old) (state input.new)
+        (λ v. Fills protected_shape v (protected_seen protected.new) result) }
+{
+    let mut error = CoseError::OutOfMemory;
+    match fill_bstr(protected, alloc, input, &mut error) {
+        Ok(()) => Ok(()),
+        Err(Refused) => Err(error),
+    }
+}
+
+/// Reads the second place of a message into an empty header.
+///
+/// # Errors
+/// `OutOfMemory`, or the first fault found, from the first pair on.
+pub fn fill_unprotected_header(
+    unprotected: &mut Header,
+    alloc: Global,
+    input: &mut Input<'_>,
+) -> Result<()>
+    requires empty { header_seen unprotected.old ≡ empty_header }
+    ensures shrinks { length_left (state input.new) ≤ length_left (state input.old) }
+    ensures fills { ReadsAt (state input.old) (state input.new)
+        (λ v. Fills header_shape v (header_seen unprotected.new) result) }
+{
+    let mut error = CoseError::OutOfMemory;
+    match fill_header(unprotected, alloc, input, LAYERS, &mut error) {
+        Ok(()) => Ok(()),
+        Err(Refused) => Err(error),
+    }
+}
+
+/// Reads the first two places of a message into empty headers. What reading them answers stands inside the answer, since the
+/// places behind them are judged before them: it is the fault of the second, or else of the first.
+///
+/// # Errors
+/// `UnexpectedItem` with `want`: there are fewer places, and the array is passed.
 pub fn fill_headers(
     protected: &mut ProtectedHeader,
     unprotected: &mut Header,
     alloc: Global,
-    first: Source<'_>,
-    second: Source<'_>,
-) -> Result<()>
+    places: &mut InputItems,
+    input: &mut Input<'_>,
+    want: &'static str,
+) -> Result<Result<()>>
     requires protected { (protected_seen protected.old).header ≡ empty_header }
     requires unprotected { header_seen unprotected.old ≡ empty_header }
-    ensures { FillsHeaders (source_item first.entry) (source_item second.entry)
-        (protected_seen protected.new) (header_seen unprotected.new) result }
+    ensures shrinks { length_left (state input.new) ≤ length_left (state input.old) }
+    ensures begins { (vs : Items) (z : State) → AreWithin places.old vs (state input.old) z
+        → BeginsHeaders want.now vs (protected_seen protected.new) (header_seen unprotected.new)
+        (state input.new) z places.new result }
 {
-    let mut input = Input::new(second);
-    let mut error = CoseError::OutOfMemory;
-    if fill_header(unprotected, alloc, &mut input, LAYERS, &mut error).is_err() {
-        return Err(error);
-    }
-    match fill_bstr(protected, alloc, first, &mut error) {
-        Ok(()) => Ok(()),
-        Err(Refused) => Err(error),
+    places.place(input, want)?;
+    let first = fill_protected_header(protected, alloc, input);
+    places.place(input, want)?;
+    match fill_unprotected_header(unprotected, alloc, input) {
+        Ok(()) => Ok(first),
+        Err(error) => Ok(Err(error)),
     }
 }

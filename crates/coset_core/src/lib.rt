@@ -19,7 +19,7 @@ pub use coset_label::{
 };
 pub use countersignature::{CoseCountersignature, CoseCountersignatureBuilder};
 pub use header::{Header, HeaderBuilder};
-pub use headers::fill_headers;
+pub use headers::{fill_headers, fill_protected_header, fill_unprotected_header};
 pub use protected::{Bstr, ProtectedHeader};
 pub use protected_bstr::ProtectedBstr;
 pub use signature::{CoseSignature, CoseSignatureBuilder};

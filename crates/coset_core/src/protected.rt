@@ -1,12 +1,13 @@
 //! Protected headers: those that a signature covers, kept as they were read (RFC 8152, section 3).
 
-ghost use Rattle.std.specs.Prelude.{◌≡◌, option_map, OnOk, IfOk, IfErr, IsTrue, Some, None, ℕ, List, ◌↔◌};
+ghost use Rattle.std.specs.Prelude.{◌≡◌, ◌≤◌, option_map, OnOk, IfOk, IfErr, IsTrue, Some, None, ℕ, List, ◌↔◌};
 ghost use Rattle.coset_shape.specs.declared.error.CoseError.TheVariants.{OutOfMemory};
 ghost use Rattle.coset_core.specs.Contents.{FillsContent};
 ghost use Rattle.coset_shape.specs.InPlace.{Fills};
 ghost use Rattle.coset_core.specs.Views.{header_seen, protected_seen};
 ghost use Rattle.coset_shape.specs.Answers.{Reads, Images, RefusesItem};
 ghost use Rattle.coset_shape.specs.Errors.{answer};
+ghost use Rattle.coset_shape.specs.Inputs.{state, GoesBehind, ReadsAt, length_left};
 ghost use Rattle.coset_shape.specs.Sources.{source_item};
 ghost use Rattle.coset_value.specs.Item.{bytes};
 ghost use Rattle.coset_shape.specs.Shape.{bstr};
@@ -101,7 +102,7 @@ impl ProtectedHeader {
         ensures read { Reads protected_shape protected_seen (source_item source.entry) result }
         ensures refused { RefusesItem protected_shape (source_item source.entry) result }
     {
-        read_protected(alloc, source)
+        read_protected(alloc, &mut Input::new(source))
     }
 
     /// The bytes that stand for the header in messages and under signatures (RFC 8152, sections 3 and 4.4): those that
@@ -211,7 +212,7 @@ impl AsCborValue for ProtectedHeader {
 
     /// Reads the header from its map. No bytes are kept.
     fn from_cbor_value(alloc: Global, value: Value) -> Result<ProtectedHeader> {
-        Ok(protected_from_header(read_header(alloc, Source::Tree(value))?))
+        Ok(protected_from_header(read_header(alloc, &mut Input::Tree(value))?))
     }
 
     /// Writes the header's map, whatever bytes were kept.
@@ -239,7 +240,11 @@ impl Encode for ProtectedHeader {
 
 impl FromPull for ProtectedHeader {
     fn from_pull(alloc: Global, pull: Pull<'_>) -> Result<ProtectedHeader> {
-        Ok(protected_from_header(read_header(alloc, Source::Lent(pull))?))
+        ProtectedHeader::from_input(alloc, &mut Input::new(Source::Lent(pull)))
+    }
+
+    fn from_input(alloc: Global, input: &mut Input<'_>) -> Result<ProtectedHeader> {
+        Ok(protected_from_header(read_header(alloc, input)?))
     }
 }
 
@@ -279,14 +284,16 @@ impl Encode for Bstr<'_> {
 /// `OutOfMemory`, or `UnexpectedItem`: the item is no byte string.
 pub(crate) fn string_bytes(
     alloc: Global,
-    source: Source<'_>,
+    input: &mut Input<'_>,
     error: &mut CoseError,
 ) -> Result<Vec<u8>, Refused>
-    ensures read { Reads bstr (λ b. b.items) (source_item source.entry)
-        (answer error.new result) }
+    ensures shrinks { length_left (state input.new) ≤ length_left (state input.old) }
+    ensures strictly { OnOk result (GoesBehind (state input.old) (state input.new)) }
+    ensures reads { ReadsAt (state input.old) (state input.new)
+        (λ v. Reads bstr (λ b. b.items) v (answer error.new result)) }
     ensures kept { OnOk result (error.new ≡ error.old) }
 {
-    keep_error(source.into_bytes(alloc, "bstr"), error)
+    keep_error(input.bytes(alloc, "bstr"), error)
 }
 
 /// Reads the header that the bytes hold which an empty protected header keeps.
@@ -345,25 +352,30 @@ fn fill_content(
 pub(crate) fn fill_bstr(
     protected: &mut ProtectedHeader,
     alloc: Global,
-    source: Source<'_>,
+    input: &mut Input<'_>,
     error: &mut CoseError,
 ) -> Result<(), Refused>
     requires empty { (protected_seen protected.old).header ≡ empty_header }
-    ensures { Fills protected_shape (source_item source.entry) (protected_seen protected.new)
-        (answer error.new result) }
+    ensures shrinks { length_left (state input.new) ≤ length_left (state input.old) }
+    ensures strictly { OnOk result (GoesBehind (state input.old) (state input.new)) }
+    ensures fills { ReadsAt (state input.old) (state input.new)
+        (λ v. Fills protected_shape v (protected_seen protected.new) (answer error.new result)) }
 {
-    let bytes = string_bytes(alloc, source, error)?;
+    let bytes = string_bytes(alloc, input, error)?;
     protected.original_data = Some(bytes);
     fill_protected(protected, alloc, LAYERS, error)
 }
 
 /// A protected header.
-fn read_protected(alloc: Global, source: Source<'_>) -> Result<ProtectedHeader>
-    ensures { Reads protected_shape protected_seen (source_item source.entry) result }
+pub(crate) fn read_protected(alloc: Global, input: &mut Input<'_>) -> Result<ProtectedHeader>
+    ensures shrinks { length_left (state input.new) ≤ length_left (state input.old) }
+    ensures strictly { OnOk result (GoesBehind (state input.old) (state input.new)) }
+    ensures reads { ReadsAt (state input.old) (state input.new)
+        (λ v. Reads protected_shape protected_seen v result) }
 {
     let mut protected = ProtectedHeader::new(alloc);
     let mut error = CoseError::OutOfMemory;
-    match fill_bstr(&mut protected, alloc, source, &mut error) {
+    match fill_bstr(&mut protected, alloc, input, &mut error) {
         Ok(()) => Ok(protected),
         Err(Refused) => Err(error),
     }

@@ -3,9 +3,10 @@
 ghost use Rattle.coset_core.specs.Headers.{protected};
 ghost use Rattle.coset_core.specs.Views.{protected_seen};
 
-use crate::protected::ProtectedHeader;
+use crate::protected::{ProtectedHeader, read_protected};
 use coset_cbor::de::Pull;
 use coset_cbor::value::Value;
+use coset_shape::input::Input;
 use coset_shape::traits::{FromPull, read_slice};
 use coset_shape::{AsCborValue, CborSerializable, Lawful, Result};
 use std::alloc::Global;
@@ -54,6 +55,10 @@ impl FromPull for ProtectedBstr {
     /// The same as [`ProtectedHeader::from_pull_bstr`].
     fn from_pull(alloc: Global, pull: Pull<'_>) -> Result<ProtectedBstr> {
         Ok(ProtectedBstr(ProtectedHeader::from_pull_bstr(alloc, pull)?))
+    }
+
+    fn from_input(alloc: Global, input: &mut Input<'_>) -> Result<ProtectedBstr> {
+        Ok(ProtectedBstr(read_protected(alloc, input)?))
     }
 }
 

@@ -7,9 +7,8 @@ ghost use Rattle.coset_shape.specs.InPlace.{BeginsNext, Fills, FillsEach, GetsOn
 ghost use Rattle.coset_core.specs.Views.{header_seen, protected_seen, signature_seen};
 ghost use Rattle.coset_shape.specs.Answers.{Reads};
 ghost use Rattle.coset_shape.specs.Errors.{IsUnexpected, answer, filled};
-ghost use Rattle.coset_shape.specs.Sources.{source_item};
 ghost use Rattle.coset_value.specs.Item.{Item, array, Items, no_items, item};
-ghost use Rattle.coset_shape.specs.Inputs.{State, state, length_left, input_size, items_size, items_turns, Stands, GoesBehind, AreWithin, EntersArray, TakesNext};
+ghost use Rattle.coset_shape.specs.Inputs.{State, state, length_left, input_size, items_size, items_turns, Stands, GoesBehind, AreWithin, EntersArray, ReadsAt};
 ghost use Rattle.coset_core.specs.Filling.{BeginsPlaces, EndsPlaces};
 ghost use Rattle.coset_core.specs.Headers.{empty_header, layered_signature, signature as signature_shape, signatures_of, signatures_image};
 ghost use Rattle.coset_core.specs.Written.{AppendsSignatures, signature_array};
@@ -130,7 +129,7 @@ impl AsCborValue for CoseSignature {
     ghost sound = { signature_laws.sound };
 
     fn from_cbor_value(alloc: Global, value: Value) -> Result<CoseSignature> {
-        read_signature(alloc, Source::Tree(value))
+        read_signature(alloc, &mut Input::Tree(value))
     }
 
     fn to_cbor_value(self, alloc: Global) -> Result<Value> {
@@ -161,7 +160,11 @@ impl Encode for CoseSignature {
 
 impl FromPull for CoseSignature {
     fn from_pull(alloc: Global, pull: Pull<'_>) -> Result<CoseSignature> {
-        read_signature(alloc, Source::Lent(pull))
+        read_signature(alloc, &mut Input::new(Source::Lent(pull)))
+    }
+
+    fn from_input(alloc: Global, input: &mut Input<'_>) -> Result<CoseSignature> {
+        read_signature(alloc, input)
     }
 }
 
@@ -248,22 +251,6 @@ fn misfit() -> CoseError
     CoseError::UnexpectedItem("array", "array with 3 items")
 }
 
-/// The next place of an array, or `None` where none is left.
-fn next_place<'a>(
-    members: &mut InputItems,
-    input: &mut Input<'a>,
-    error: &mut CoseError,
-) -> Result<Option<Source<'a>>, Refused>
-    ensures shrinks { length_left (state input.new) ≤ length_left (state input.old) }
-    ensures size { items_size members.new (state input.new) ≤ items_size members.old
-        (state input.old) }
-    ensures takes { (vs : Items) (z : State) → AreWithin members.old vs (state input.old) z
-        → TakesNext vs (state input.new) z members.new (answer error.new result) }
-    ensures kept { OnOk result (error.new ≡ error.old) }
-{
-    keep_error(members.take(input), error)
-}
-
 /// Reads the first place of a signature's array, a byte string that is kept; the second then stands at the input. It says
 /// whether the first is one, and why not in a place of its own, since the later places are judged before it.
 ///
@@ -287,15 +274,16 @@ fn begin_places(
         → BeginsPlaces vs (state input.new) z members.new (option_map (λ b. b.items) kept.new)
         why.new (answer error.new result) }
 {
-    let Some(first) = next_place(members, input, error)? else {
-        *error = misfit();
-        return Err(Refused);
-    };
     if !members.next(input) {
         *error = misfit();
         return Err(Refused);
     }
-    match string_bytes(alloc, first, why) {
+    let first = string_bytes(alloc, input, why);
+    if !members.next(input) {
+        *error = misfit();
+        return Err(Refused);
+    }
+    match first {
         Ok(bytes) => {
             *kept = Some(bytes);
             Ok(true)
@@ -322,16 +310,17 @@ fn end_places(
         (answer error.new result) }
     ensures kept { OnOk result (error.new ≡ error.old) }
 {
-    let Some(last) = next_place(members, input, error)? else {
+    if !members.next(input) {
         *error = misfit();
         return Err(Refused);
-    };
+    }
+    let last = string_bytes(alloc, input, error);
     if members.next(input) {
         input.pass();
         *error = misfit();
         return Err(Refused);
     }
-    *signature = string_bytes(alloc, last, error)?;
+    *signature = last?;
     Ok(())
 }
 
@@ -471,13 +460,15 @@ fn fill_places(
 }
 
 /// A signature.
-pub(crate) fn read_signature(alloc: Global, source: Source<'_>) -> Result<CoseSignature>
-    ensures { Reads signature_shape signature_seen (source_item source.entry) result }
+pub(crate) fn read_signature(alloc: Global, input: &mut Input<'_>) -> Result<CoseSignature>
+    ensures shrinks { length_left (state input.new) ≤ length_left (state input.old) }
+    ensures strictly { OnOk result (GoesBehind (state input.old) (state input.new)) }
+    ensures reads { ReadsAt (state input.old) (state input.new)
+        (λ v. Reads signature_shape signature_seen v result) }
 {
     let mut signed = CoseSignature::new(alloc);
-    let mut input = Input::new(source);
     let mut error = CoseError::OutOfMemory;
-    match fill_signature(&mut signed, alloc, &mut input, LAYERS, &mut error) {
+    match fill_signature(&mut signed, alloc, input, LAYERS, &mut error) {
         Ok(()) => Ok(signed),
         Err(Refused) => Err(error),
     }

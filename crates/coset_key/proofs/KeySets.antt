@@ -1,6 +1,7 @@
--- Sets as they lie in memory, as contracts see them, and as arrays are read into them.
-use Rattle.std.proofs.Common.{◌≡◌, ◌⊎◌, ◌||◌, List, [], ◌∷◌, ◌++◌, map, Bool, true, false, Some, Contains, length, refl, sym, ◌∙◌, ap, subst, inl, inr, arith, true≢false, Ordering, Less, Equal, Greater}
+-- Sets as they lie in memory, as contracts see them, and as the members of arrays are read into them.
+use Rattle.std.proofs.Common.{◌≡◌, ◌⊎◌, ◌||◌, List, [], ◌∷◌, ◌++◌, map, Bool, true, false, Some, Result, Ok, Err, Contains, length, refl, sym, ◌∙◌, ap, subst, inl, inr, arith, true≢false, Ordering, Less, Equal, Greater}
 use Rattle.std.specs.Cmp.{IsTotalOrder}
+use Rattle.std.specs.Prelude.{IsErrAnd}
 use Rattle.std.specs.BTreeMap.{is_at}
 use Rattle.std.specs.BTreeSet.{insert_key}
 use Rattle.std.specs.List.{list_any, IsDistinct}
@@ -9,7 +10,10 @@ use Rattle.std.proofs.lemmas.Map.Lookups.{CmpEqualImpliesEq}
 use Rattle.std.proofs.lemmas.Map.Views.{tells_apart}
 use Rattle.coset_value.specs.Item.{Item, Items, no_items, item}
 use Rattle.coset_value.specs.Parts.{as_array}
-use Rattle.coset_shape.specs.Errors.{IsUnexpected}
+use Rattle.coset_shape.specs.Errors.{IsUnexpected, UnlessMemory}
+use Rattle.coset_shape.specs.Inputs.{State, AreWithin, Nexts, ReadsAt}
+use Rattle.coset_shape.specs.declared.input.InputItems.{InputItems}
+use Rattle.coset_key.specs.Reading.{ReadsSet}
 use Rattle.coset_shape.specs.declared.error.CoseError.{CoseError}
 use Rattle.coset_shape.specs.Sets.{IsSetOf, IsDistinctBy, HasMember, Repeats, set_of}
 use Rattle.coset_shape.specs.SetLaws.{set_has, set_push, distinct_push, set_of_none}
@@ -105,39 +109,81 @@ module _ {A : Type 0} (cmp : A → A → Ordering) (o : IsTotalOrder cmp) (exact
         distinct = distinct_push o exact g.read set x g.is_set g.distinct h;
       }
 
-  -- one more, which isn't
-  pub repeated_gathered :
-      (w : Item) (all old new : Items) (set : List A) (v : Item) (x : A) (e : CoseError) → as_array w ≡ Some all → Gathered all set old → old ≡ item v new → s.describes v x → list_any (eq_by_cmp cmp x) set ≡ true
-      → IsUnexpected e → (set_of cmp s).faults w e
-  repeated_gathered w all old new set v x e a g q d h u =
-      let stands : Repeats s.describes (and_items g.done (item v new)) = repeats-behind g.done g.read v new x g.each (sym (set_has o exact g.read set g.is_set x) ∙ h) d in
-      inr (u, (all, a, subst (Repeats s.describes) (sym (g.parts ∙ ap (and_items g.done) q)) stands))
-
-  -- a member that is refused
-  pub refused_gathered :
-      (w : Item) (all old new : Items) (set : List A) (v : Item) (e : CoseError) → as_array w ≡ Some all → Gathered all set old → old ≡ item v new → s.faults v e → (set_of cmp s).faults w e
-  refused_gathered w all old new set v e a g q f =
-      inl (inl (inr (all, a, inr (λ m. m, subst (λ vs. EachFaults s.faults vs e) (sym (g.parts ∙ ap (and_items g.done) q)) (fault-behind g.done (item v new) e (inl f))))))
-
   -- all of them
   all_each : (all left : Items) (set : List A) (g : Gathered all set left) → left ≡ no_items → Each s.describes all g.read
   all_each all left set g n = subst (λ vs. Each s.describes vs g.read) (sym (g.parts ∙ (ap (and_items g.done) n ∙ and_items-none g.done))) g.each
 
-  pub all_gathered : (w : Item) (all left : Items) (set : List A) → as_array w ≡ Some all → Gathered all set left → left ≡ no_items → (set ≡ [] → ⊥) → (set_of cmp s).describes w set
-  all_gathered w all left set a g n some = (
-    g.read,
-    (((all, a, all_each all left set g n), λ none. some (no-set g.read set none g.is_set)), g.distinct),
-    g.is_set,
-  )
-    where
-      no-set : (xs ys : List A) → xs ≡ [] → IsSetOf cmp xs ys → ys ≡ []
-      no-set xs [] e m = refl
-      no-set xs (y ∷ ys) e m = let c : Contains [] y = subst (λ zs. Contains zs y) e ((m.members y).0 (0, omega arith, refl)) in absurd (omega (arith, c.1))
+  -- ---- where they stand
 
-  -- there are none
-  pub empty_gathered : (w : Item) (all left : Items) (set : List A) (e : CoseError) → as_array w ≡ Some all → Gathered all set left → left ≡ no_items → set ≡ [] → IsUnexpected e → (set_of cmp s).faults w e
-  empty_gathered w all left set e a g n none u = inl (inr (u, (g.read, (all, a, all_each all left set g n), λ some. some (no-list g.read set none g.is_set))))
-    where
-      no-list : (xs ys : List A) → ys ≡ [] → IsSetOf cmp xs ys → xs ≡ []
-      no-list [] ys e m = refl
-      no-list (x ∷ xs) ys e m = let c : Contains [] x = subst (λ zs. Contains zs x) e ((m.members x).1 (0, omega arith, refl)) in absurd (omega (arith, c.1))
+  -- some were read, and the others stand there
+  pub record Midway (all : Items) (z : State) (m : InputItems) (t : State) (set : List A) : Type 0 where
+    pub left : Items
+    pub gathered : Gathered all set left
+    pub within : AreWithin m left t z
+
+  -- the next of them was passed, whatever was read of it
+  pub passed : (t u z : State) (m : InputItems) (left : Items) (Q : Item → Type 0) → Nexts left t z m true → ReadsAt t u Q → (others : Items) × AreWithin m others u z
+  passed t u z m left Q next read = (next.1, subst (λ (y : State). AreWithin m next.1 y z) (sym (read next.0 next.2 next.4).0) next.5)
+
+  -- it is new
+  pub one_more :
+      (all : Items) (r t u z : State) (m n : InputItems) (set : List A) (x : A) → (w : Midway all z m r set) → Nexts w.left t z n true → ReadsAt t u (λ v. s.describes v x) → list_any (eq_by_cmp cmp x) set ≡ false
+      → Midway all z n u (insert_key cmp set x)
+  one_more all r t u z m n set x w next read fresh =
+      let here = read next.0 next.2 next.4 in
+      record {
+        left = next.1;
+        gathered = more_gathered all w.left next.1 set next.0 x w.gathered next.3 here.1 fresh;
+        within = subst (λ (y : State). AreWithin n next.1 y z) (sym here.0) next.5;
+      }
+
+  module _ {T : Type 0} (seen : T → List A) where
+    -- it stood before
+    pub stands_twice :
+        (all : Items) (r t u z : State) (m n : InputItems) (set : List A) (x : A) (e : CoseError) → (w : Midway all z m r set) → Nexts w.left t z n true → ReadsAt t u (λ v. s.describes v x)
+        → list_any (eq_by_cmp cmp x) set ≡ true → IsUnexpected e → ((left : Items) × AreWithin n left u z) × ReadsSet cmp s seen all (Err e)
+    stands_twice all r t u z m n set x e w next read again is =
+        let g = w.gathered in
+        let stands : Repeats s.describes (and_items g.done (item next.0 next.1)) = repeats-behind g.done g.read next.0 next.1 x g.each (sym (set_has o exact g.read set g.is_set x) ∙ again) (read next.0 next.2 next.4).1 in
+        (passed t u z n w.left (λ v. s.describes v x) next read, λ i. inr (is, subst (Repeats s.describes) (sym (g.parts ∙ ap (and_items g.done) next.3)) stands))
+
+    -- it is at fault
+    pub is_refused :
+        (all : Items) (r t u z : State) (m n : InputItems) (set : List A) (e : CoseError) (q : Result T CoseError) → (w : Midway all z m r set) → Nexts w.left t z n true → ReadsAt t u (λ v. UnlessMemory e (s.faults v)) → IsErrAnd q (λ f. f ≡ e)
+        → ((left : Items) × AreWithin n left u z) × ReadsSet cmp s seen all q
+    is_refused all r t u z m n set e (Ok x) w next read is = absurd is
+    is_refused all r t u z m n set e (Err f) w next read is = (
+      passed t u z n w.left (λ v. UnlessMemory e (s.faults v)) next read,
+      λ i.
+          let g = w.gathered in
+          let fault : s.faults next.0 f = subst (s.faults next.0) (sym is) ((read next.0 next.2 next.4).1 (λ h. i (is ∙ h))) in
+          inl (subst (λ vs. EachFaults s.faults vs f) (sym (g.parts ∙ ap (and_items g.done) next.3)) (fault-behind g.done (item next.0 next.1) f (inl fault))),
+    )
+
+    -- none is left
+    pub all_gathered :
+        (all : Items) (r t z : State) (m n : InputItems) (x : T) → (w : Midway all z m r (seen x)) → Nexts w.left t z n false → ((left : Items) × AreWithin n left t z) × ReadsSet cmp s seen all (Ok x)
+    all_gathered all r t z m n x w next = ((no_items, next.1), (w.gathered.read, all_each all w.left (seen x) w.gathered next.0, w.gathered.distinct, w.gathered.is_set))
+
+    -- ---- all members of an array
+
+    pub set_refused : (v : Item) (all : Items) (e : CoseError) → as_array v ≡ Some all → UnlessMemory e (λ f. EachFaults s.faults all f ⊎ (IsUnexpected f × Repeats s.describes all)) → UnlessMemory e ((set_of cmp s).faults v)
+    set_refused v all e a h = λ i. fault (h i)
+      where
+        fault : EachFaults s.faults all e ⊎ (IsUnexpected e × Repeats s.describes all) → (set_of cmp s).faults v e
+        fault (inl f) = inl (inl (inr (all, a, inr (λ m. m, f))))
+        fault (inr f) = inr (f.0, (all, a, f.1))
+
+    pub set_read : (v : Item) (all : Items) (x : T) → as_array v ≡ Some all → ReadsSet cmp s seen all (Ok x) → (seen x ≡ [] → ⊥) → (set_of cmp s).describes v (seen x)
+    set_read v all x a r some = (r.0, (((all, a, r.1), λ none. some (no-set r.0 (seen x) none r.3)), r.2), r.3)
+      where
+        no-set : (xs ys : List A) → xs ≡ [] → IsSetOf cmp xs ys → ys ≡ []
+        no-set xs [] e m = refl
+        no-set xs (y ∷ ys) e m = let c : Contains [] y = subst (λ zs. Contains zs y) e ((m.members y).0 (0, omega arith, refl)) in absurd (omega (arith, c.1))
+
+    pub set_empty : (v : Item) (all : Items) (x : T) (e : CoseError) → as_array v ≡ Some all → ReadsSet cmp s seen all (Ok x) → seen x ≡ [] → IsUnexpected e → (set_of cmp s).faults v e
+    set_empty v all x e a r none u = inl (inr (u, (r.0, (all, a, r.1), λ some. some (no-list r.0 (seen x) none r.3))))
+      where
+        no-list : (xs ys : List A) → ys ≡ [] → IsSetOf cmp xs ys → xs ≡ []
+        no-list [] ys e m = refl
+        no-list (x ∷ xs) ys e m = let c : Contains [] x = subst (λ zs. Contains zs x) e ((m.members x).1 (0, omega arith, refl)) in absurd (omega (arith, c.1))

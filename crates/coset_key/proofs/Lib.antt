@@ -2,7 +2,6 @@ pub mod AscendingLabels
 pub mod CanonicalKeys
 pub mod Finishing
 pub mod KeySets
-pub mod Passing
 pub mod Points
 pub mod Putting
 pub mod Sorting

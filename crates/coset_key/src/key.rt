@@ -1,6 +1,6 @@
 //! Keys (RFC 8152, section 7).
 
-ghost use Rattle.std.specs.Prelude.{◌≡◌, ◌≢◌, ◌↔◌, ◌≤◌, IsTrue, not, length, map, option_map, Some, IsOk, OnOk, OnErr, IfOk, IfErr};
+ghost use Rattle.std.specs.Prelude.{◌≡◌, ◌≢◌, ◌↔◌, ◌≤◌, ◌<◌, IsSome, IsTrue, not, length, map, option_map, Some, IsOk, OnOk, OnErr, IfOk, IfErr};
 ghost use Rattle.std.specs.Cmp.{on_equiv, on_per, partial_equiv_from_equiv};
 ghost use Rattle.std.specs.Cmp.Lexicographic.{pointwise};
 ghost use Rattle.std.specs.List.Sorted.{IsStableByKey};
@@ -18,9 +18,9 @@ ghost use Rattle.coset_shape.specs.declared.error.CoseError.TheVariants.{OutOfMe
 ghost use Rattle.coset_shape.specs.Answers.{Reads};
 ghost use Rattle.coset_shape.specs.Encoding.{AddsField, HasNoImage};
 ghost use Rattle.coset_shape.specs.Errors.{IsUnexpected, UnlessMemory};
+ghost use Rattle.coset_shape.specs.Inputs.{GoesBehind, ReadsAt, length_left, state};
 ghost use Rattle.coset_shape.specs.Maps.{Adds, Refuses, are_distinct, listed, optional};
 ghost use Rattle.coset_shape.specs.Shape.{filled_bstr};
-ghost use Rattle.coset_shape.specs.Sources.{source_item};
 ghost use Rattle.coset_label.specs.Names.{assigned, number};
 ghost use Rattle.coset_label.specs.Orderings.{name_cmp_by};
 ghost use Rattle.coset_label.specs.Views.{label_seen};
@@ -48,7 +48,7 @@ use coset_iana::{
 };
 use coset_shape::encode::{encode_to_value, encode_to_vec};
 use coset_shape::encode_map::MapEncoder;
-use coset_shape::list::read_source;
+use coset_shape::input::{Input, InputPairs};
 use coset_shape::map::{Gather, read_map};
 use coset_shape::traits::read_slice;
 use std::alloc::{AllocError, Global};
@@ -153,33 +153,36 @@ pub(crate) fn is_parameter<P: EnumI64 + Copy>(label: &Label, parameter: P) -> bo
 fn set_field<T: FromPull + Drop>(
     alloc: Global,
     field: &mut Option<T>,
-    value: Source<'_>,
+    input: &mut Input<'_>,
 ) -> Result<()>
-    ensures takes { OnOk result (TakesValue (optional T.shape) (source_item value.entry)
-        (option_map T.seen field.old) (option_map T.seen field.new)) }
-    ensures refused { IfErr result (λ e. UnlessMemory e (RefusesValue (optional T.shape)
-        (source_item value.entry) (option_map T.seen field.old))) }
+    ensures shrinks { length_left (state input.new) ≤ length_left (state input.old) }
+    ensures takes { ReadsAt (state input.old) (state input.new) (λ v. OnOk result
+        (TakesValue (optional T.shape) v
+        (option_map T.seen field.old) (option_map T.seen field.new))) }
+    ensures refused { ReadsAt (state input.old) (state input.new) (λ v. IfErr result
+        (λ e. UnlessMemory e (RefusesValue (optional T.shape) v (option_map T.seen field.old)))) }
     ensures kept { OnErr result (field.new ≡ field.old) }
 {
     if field.is_some() {
-        return Err(CoseError::DuplicateMapKey);
+        return Err(input.repeated());
     }
-    *field = Some(read_source(alloc, value)?);
+    *field = Some(T::from_input(alloc, input)?);
     Ok(())
 }
 
 /// Sets the bytes of a field, where there are none yet.
-fn set_bytes(alloc: Global, field: &mut Vec<u8>, value: Source<'_>) -> Result<()>
-    ensures takes { OnOk result (TakesValue (listed filled_bstr) (source_item value.entry)
-        field.old.items field.new.items) }
-    ensures refused { IfErr result (λ e. UnlessMemory e
-        (RefusesValue (listed filled_bstr) (source_item value.entry) field.old.items)) }
+fn set_bytes(alloc: Global, field: &mut Vec<u8>, input: &mut Input<'_>) -> Result<()>
+    ensures shrinks { length_left (state input.new) ≤ length_left (state input.old) }
+    ensures takes { ReadsAt (state input.old) (state input.new) (λ v. OnOk result
+        (TakesValue (listed filled_bstr) v field.old.items field.new.items)) }
+    ensures refused { ReadsAt (state input.old) (state input.new) (λ v. IfErr result
+        (λ e. UnlessMemory e (RefusesValue (listed filled_bstr) v field.old.items))) }
     ensures kept { OnErr result (field.new ≡ field.old) }
 {
     if !field.is_empty() {
-        return Err(CoseError::DuplicateMapKey);
+        return Err(input.repeated());
     }
-    *field = value.into_filled_bytes(alloc)?;
+    *field = input.filled_bytes(alloc)?;
     Ok(())
 }
 
@@ -198,34 +201,37 @@ impl SoFar {
         }
     }
 
-    /// Takes one more value, by its label. Whether labels of the params repeat isn't asked.
+    /// Takes one more value, by its label, and goes behind it. Whether labels of the params repeat isn't asked.
     ///
     /// # Errors
     /// `OutOfMemory`; `DuplicateMapKey` where a field has a value already; or a fault of its value. What was read is then
     /// as before.
-    fn put(&mut self, alloc: Global, label: Label, value: Source<'_>) -> Result<()>
-        ensures takes { OnOk result (Adds names fields (label_seen label) (source_item value.entry)
-            (so_far_seen self.old) (so_far_seen self.new)) }
-        ensures refused { IfErr result (λ e. UnlessMemory e (Refuses names fields (label_seen label)
-            (source_item value.entry) (so_far_seen self.old))) }
+    fn put(&mut self, alloc: Global, label: Label, input: &mut Input<'_>) -> Result<()>
+        ensures shrinks { length_left (state input.new) ≤ length_left (state input.old) }
+        ensures takes { ReadsAt (state input.old) (state input.new) (λ v. OnOk result
+            (Adds names fields (label_seen label) v (so_far_seen self.old)
+            (so_far_seen self.new))) }
+        ensures refused { ReadsAt (state input.old) (state input.new) (λ v. IfErr result
+            (λ e. UnlessMemory e (Refuses names fields (label_seen label) v
+            (so_far_seen self.old)))) }
         ensures kept { OnErr result (so_far_seen self.new ≡ so_far_seen self.old) }
     {
         if is_parameter(&label, KeyParameter::Kty) {
-            return set_field(alloc, &mut self.kty, value);
+            return set_field(alloc, &mut self.kty, input);
         }
         if is_parameter(&label, KeyParameter::Kid) {
-            return set_bytes(alloc, &mut self.key_id, value);
+            return set_bytes(alloc, &mut self.key_id, input);
         }
         if is_parameter(&label, KeyParameter::Alg) {
-            return set_field(alloc, &mut self.alg, value);
+            return set_field(alloc, &mut self.alg, input);
         }
         if is_parameter(&label, KeyParameter::KeyOps) {
-            return set_key_ops(alloc, &mut self.key_ops, value);
+            return set_key_ops(alloc, &mut self.key_ops, input);
         }
         if is_parameter(&label, KeyParameter::BaseIv) {
-            return set_bytes(alloc, &mut self.base_iv, value);
+            return set_bytes(alloc, &mut self.base_iv, input);
         }
-        let value = value.into_value(alloc)?;
+        let value = input.value(alloc)?;
         self.params.push((label, value))?;
         Ok(())
     }
@@ -265,6 +271,8 @@ impl Gather for SoFar {
     ghost use Rattle.coset_key.specs.Keys.{Fielded};
     ghost use Rattle.coset_key.specs.KeyLaws.{fields_laws};
 
+    type Label = Label;
+
     ghost Name = { Name };
 
     ghost Got = { Fielded };
@@ -273,15 +281,24 @@ impl Gather for SoFar {
 
     ghost fields = { fields };
 
+    ghost named = { label_seen };
+
     ghost seen = { so_far_seen };
 
     ghost lawful_names = { names_laws };
 
     ghost lawful_fields = { fields_laws };
 
-    fn add(&mut self, alloc: Global, key: Source<'_>, value: Source<'_>) -> Result<()> {
-        let label = read_source(alloc, key)?;
-        self.put(alloc, label, value)
+    fn next_label(
+        alloc: Global,
+        pairs: &mut InputPairs,
+        input: &mut Input<'_>,
+    ) -> Result<Option<Label>> {
+        pairs.next_key(alloc, input)
+    }
+
+    fn add(&mut self, alloc: Global, label: Label, input: &mut Input<'_>) -> Result<()> {
+        self.put(alloc, label, input)
     }
 
     fn repeats(&self, alloc: Global) -> Result<bool>
@@ -294,11 +311,14 @@ impl Gather for SoFar {
 }
 
 /// Reads a key.
-fn read_key(alloc: Global, source: Source<'_>) -> Result<CoseKey>
-    ensures { Reads key_shape key_seen (source_item source.entry) result }
+fn read_key(alloc: Global, input: &mut Input<'_>) -> Result<CoseKey>
+    ensures shrinks { length_left (state input.new) ≤ length_left (state input.old) }
+    ensures strictly { OnOk result (GoesBehind (state input.old) (state input.new)) }
+    ensures reads { ReadsAt (state input.old) (state input.new)
+        (λ v. Reads key_shape key_seen v result) }
 {
     let mut so_far = SoFar::new(alloc);
-    read_map(alloc, source, &mut so_far)?;
+    read_map(alloc, input, &mut so_far)?;
     so_far.finish()
 }
 
@@ -317,7 +337,7 @@ impl AsCborValue for CoseKey {
     ghost sound = { key_laws.sound };
 
     fn from_cbor_value(alloc: Global, value: Value) -> Result<CoseKey> {
-        read_key(alloc, Source::Tree(value))
+        read_key(alloc, &mut Input::Tree(value))
     }
 
     fn to_cbor_value(self, alloc: Global) -> Result<Value> {
@@ -327,7 +347,11 @@ impl AsCborValue for CoseKey {
 
 impl FromPull for CoseKey {
     fn from_pull(alloc: Global, pull: Pull<'_>) -> Result<CoseKey> {
-        read_key(alloc, Source::Lent(pull))
+        read_key(alloc, &mut Input::new(Source::Lent(pull)))
+    }
+
+    fn from_input(alloc: Global, input: &mut Input<'_>) -> Result<CoseKey> {
+        read_key(alloc, input)
     }
 }
 

@@ -1,30 +1,58 @@
 //! Sets of key operations (RFC 8152, section 7.1).
 
-ghost use Rattle.std.specs.Prelude.{◌≡◌, map, IfErr, OnOk, OnErr};
+ghost use Rattle.std.specs.Prelude.{◌≡◌, ◌≤◌, map, IfErr, OnOk, OnErr};
 ghost use Rattle.std.specs.BTreeSet.{insert_key};
 ghost use Rattle.std.specs.Cmp.Lexicographic.{pointwise};
+ghost use Rattle.coset_value.specs.Item.{Items};
 ghost use Rattle.coset_shape.specs.declared.error.CoseError.TheVariants.{OutOfMemory};
 ghost use Rattle.coset_shape.specs.Answers.{Reads};
 ghost use Rattle.coset_shape.specs.Errors.{UnlessMemory};
+ghost use Rattle.coset_shape.specs.Inputs.{AreWithin, GoesBehind, ReadsAt, State, length_left, state};
 ghost use Rattle.coset_shape.specs.Maps.{listed};
-ghost use Rattle.coset_shape.specs.Sources.{source_item};
 ghost use Rattle.coset_label.specs.Names.{name_cmp};
 ghost use Rattle.coset_core.specs.Fields.{same_name};
 ghost use Rattle.coset_core.specs.FieldValues.{TakesValue, RefusesValue};
 ghost use Rattle.coset_key.specs.Keys.{key_ops, operation, operation_seen};
+ghost use Rattle.coset_key.specs.Reading.{ReadsSet, operations_seen};
 
 use coset_cbor::ser::write_array_head;
-use coset_core::{CoseError, Encode, KeyOperation, Result, Source};
-use coset_shape::list::read_source;
+use coset_core::{CoseError, Encode, FromPull, KeyOperation, Result};
+use coset_shape::input::{Input, InputItems};
 use std::alloc::Global;
 use std::collections::BTreeSet;
 
 /// Reads a key operation.
 #[tactic(auto, unfolding(crate::specs::Keys::operation))]
-fn read_operation(alloc: Global, source: Source<'_>) -> Result<KeyOperation>
-    ensures { Reads operation operation_seen (source_item source.entry) result }
+fn read_operation(alloc: Global, input: &mut Input<'_>) -> Result<KeyOperation>
+    ensures shrinks { length_left (state input.new) ≤ length_left (state input.old) }
+    ensures strictly { OnOk result (GoesBehind (state input.old) (state input.new)) }
+    ensures reads { ReadsAt (state input.old) (state input.new)
+        (λ v. Reads operation operation_seen v result) }
 {
-    read_source(alloc, source)
+    KeyOperation::from_input(alloc, input)
+}
+
+/// Reads the key operations that are left, from the first on.
+///
+/// # Errors
+/// `OutOfMemory`; `UnexpectedItem` where an operation stands twice; or the fault of an operation.
+fn read_operations(
+    alloc: Global,
+    members: &mut InputItems,
+    input: &mut Input<'_>,
+) -> Result<BTreeSet<KeyOperation>>
+    ensures shrinks { length_left (state input.new) ≤ length_left (state input.old) }
+    ensures reads { (vs : Items) (z : State) → AreWithin members.old vs (state input.old) z
+        → ((left : Items) × AreWithin members.new left (state input.new) z)
+        × ReadsSet name_cmp operation operations_seen vs result }
+{
+    let mut operations = BTreeSet::new(alloc);
+    while members.next(input) {
+        if !operations.insert(read_operation(alloc, input)?)? {
+            return Err(CoseError::UnexpectedItem("repeated array entry", "unique array label"));
+        }
+    }
+    Ok(operations)
 }
 
 /// Reads key operations, from the first on.
@@ -32,16 +60,15 @@ fn read_operation(alloc: Global, source: Source<'_>) -> Result<KeyOperation>
 /// # Errors
 /// `OutOfMemory`; or `UnexpectedItem` where the item is no array, an operation stands in it twice, or it is empty; or the
 /// fault of an operation.
-fn read_key_ops(alloc: Global, source: Source<'_>) -> Result<BTreeSet<KeyOperation>>
-    ensures { Reads key_ops (λ s. map operation_seen s.keys) (source_item source.entry) result }
+fn read_key_ops(alloc: Global, input: &mut Input<'_>) -> Result<BTreeSet<KeyOperation>>
+    ensures shrinks { length_left (state input.new) ≤ length_left (state input.old) }
+    ensures reads { ReadsAt (state input.old) (state input.new)
+        (λ v. Reads key_ops (λ s. map operation_seen s.keys) v result) }
 {
-    let mut members = source.into_members("array")?;
-    let mut operations = BTreeSet::new(alloc);
-    while let Some(member) = members.next() {
-        if !operations.insert(read_operation(alloc, member)?)? {
-            return Err(CoseError::UnexpectedItem("repeated array entry", "unique array label"));
-        }
-    }
+    let mut members = input.enter_array("array")?;
+    let operations = read_operations(alloc, &mut members, input);
+    members.finish(input);
+    let operations = operations?;
     if operations.is_empty() {
         return Err(CoseError::UnexpectedItem("empty array", "non-empty array"));
     }
@@ -52,18 +79,21 @@ fn read_key_ops(alloc: Global, source: Source<'_>) -> Result<BTreeSet<KeyOperati
 pub(crate) fn set_key_ops(
     alloc: Global,
     field: &mut BTreeSet<KeyOperation>,
-    value: Source<'_>,
+    input: &mut Input<'_>,
 ) -> Result<()>
-    ensures takes { OnOk result (TakesValue (listed key_ops) (source_item value.entry)
-        (map operation_seen field.old.keys) (map operation_seen field.new.keys)) }
-    ensures refused { IfErr result (λ e. UnlessMemory e (RefusesValue (listed key_ops)
-        (source_item value.entry) (map operation_seen field.old.keys))) }
+    ensures shrinks { length_left (state input.new) ≤ length_left (state input.old) }
+    ensures takes { ReadsAt (state input.old) (state input.new) (λ v. OnOk result
+        (TakesValue (listed key_ops) v
+        (map operation_seen field.old.keys) (map operation_seen field.new.keys))) }
+    ensures refused { ReadsAt (state input.old) (state input.new) (λ v. IfErr result
+        (λ e. UnlessMemory e (RefusesValue (listed key_ops) v
+        (map operation_seen field.old.keys)))) }
     ensures kept { OnErr result (field.new ≡ field.old) }
 {
     if !field.is_empty() {
-        return Err(CoseError::DuplicateMapKey);
+        return Err(input.repeated());
     }
-    *field = read_key_ops(alloc, value)?;
+    *field = read_key_ops(alloc, input)?;
     Ok(())
 }
 

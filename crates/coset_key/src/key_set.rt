@@ -1,11 +1,11 @@
 //! Sets of keys (RFC 8152, section 7).
 
-ghost use Rattle.std.specs.Prelude.{◌≡◌, ◌↔◌, IsTrue, [], IfOk, IfErr};
+ghost use Rattle.std.specs.Prelude.{◌≡◌, ◌↔◌, ◌≤◌, IsTrue, [], IfOk, IfErr, OnOk};
 ghost use Rattle.std.specs.Cmp.{on_equiv, on_per, partial_equiv_from_equiv};
 ghost use Rattle.std.specs.Ordering.{on};
 ghost use Rattle.coset_shape.specs.declared.error.CoseError.TheVariants.{OutOfMemory};
 ghost use Rattle.coset_shape.specs.Answers.{Reads};
-ghost use Rattle.coset_shape.specs.Sources.{source_item};
+ghost use Rattle.coset_shape.specs.Inputs.{GoesBehind, ReadsAt, length_left, state};
 ghost use Rattle.coset_key.specs.Equality.{key_set_eq, key_set_eq_equiv};
 ghost use Rattle.coset_key.specs.Keys.{key_set, key_set_seen};
 
@@ -14,6 +14,7 @@ use coset_cbor::de::Pull;
 use coset_cbor::value::Value;
 use coset_core::{AsCborValue, CborSerializable, Encode, FromPull, Lawful, Result, Source};
 use coset_shape::encode::{Array, encode_to_value, encode_to_vec};
+use coset_shape::input::Input;
 use coset_shape::list::read_list;
 use coset_shape::traits::read_slice;
 use std::alloc::{AllocError, Global};
@@ -27,10 +28,13 @@ use std::alloc::{AllocError, Global};
 pub struct CoseKeySet(pub Vec<CoseKey>);
 
 /// Reads a set of keys, from the first on.
-fn read_key_set(alloc: Global, source: Source<'_>) -> Result<CoseKeySet>
-    ensures { Reads key_set key_set_seen (source_item source.entry) result }
+fn read_key_set(alloc: Global, input: &mut Input<'_>) -> Result<CoseKeySet>
+    ensures shrinks { length_left (state input.new) ≤ length_left (state input.old) }
+    ensures strictly { OnOk result (GoesBehind (state input.old) (state input.new)) }
+    ensures reads { ReadsAt (state input.old) (state input.new)
+        (λ v. Reads key_set key_set_seen v result) }
 {
-    Ok(CoseKeySet(read_list(alloc, source, "array")?))
+    Ok(CoseKeySet(read_list(alloc, input, "array")?))
 }
 
 impl CoseKeySet {
@@ -69,7 +73,7 @@ impl AsCborValue for CoseKeySet {
     ghost sound = { key_set_laws.sound };
 
     fn from_cbor_value(alloc: Global, value: Value) -> Result<CoseKeySet> {
-        read_key_set(alloc, Source::Tree(value))
+        read_key_set(alloc, &mut Input::Tree(value))
     }
 
     fn to_cbor_value(self, alloc: Global) -> Result<Value> {
@@ -79,7 +83,11 @@ impl AsCborValue for CoseKeySet {
 
 impl FromPull for CoseKeySet {
     fn from_pull(alloc: Global, pull: Pull<'_>) -> Result<CoseKeySet> {
-        read_key_set(alloc, Source::Lent(pull))
+        read_key_set(alloc, &mut Input::new(Source::Lent(pull)))
+    }
+
+    fn from_input(alloc: Global, input: &mut Input<'_>) -> Result<CoseKeySet> {
+        read_key_set(alloc, input)
     }
 }
 

@@ -1,16 +1,17 @@
 //! Labels: integers and texts (RFC 8152, section 1.4).
 
-ghost use Rattle.std.specs.Prelude.{◌≡◌, IfOk, IfErr};
+ghost use Rattle.std.specs.Prelude.{◌≡◌, ◌≤◌, IfOk, IfErr, OnOk};
 ghost use Rattle.coset_value.specs.View.{view};
 ghost use Rattle.coset_shape.specs.declared.error.CoseError.TheVariants.{OutOfMemory};
 ghost use Rattle.coset_shape.specs.Answers.{Reads};
-ghost use Rattle.coset_shape.specs.Sources.{source_item, MayCopy};
+ghost use Rattle.coset_shape.specs.Inputs.{state, GoesBehind, IsLent, ReadsAt, length_left};
 ghost use Rattle.coset_label.specs.Labels.{label};
 ghost use Rattle.coset_label.specs.Views.{label_seen};
 
 use coset_cbor::de::Pull;
 use coset_cbor::value::Value;
 use coset_shape::encode::{Encode, encode_to_vec};
+use coset_shape::input::Input;
 use coset_shape::traits::{FromPull, read_slice};
 use coset_shape::{AsCborValue, CborSerializable, Lawful, Result, Source};
 use std::alloc::{AllocError, Global};
@@ -28,14 +29,17 @@ pub enum Label {
     Text(String),
 }
 
-/// Reads a label.
-pub(crate) fn read_label(alloc: Global, source: Source<'_>) -> Result<Label>
-    ensures read { Reads label label_seen (source_item source.entry) result }
-    ensures memory { IfErr result (λ e. e ≡ OutOfMemory → MayCopy source.entry) }
+/// Reads a label where it stands.
+fn read_label(alloc: Global, input: &mut Input<'_>) -> Result<Label>
+    ensures shrinks { length_left (state input.new) ≤ length_left (state input.old) }
+    ensures strictly { OnOk result (GoesBehind (state input.old) (state input.new)) }
+    ensures reads { ReadsAt (state input.old) (state input.new)
+        (λ v. Reads label label_seen v result) }
+    ensures memory { IfErr result (λ e. e ≡ OutOfMemory → IsLent (state input.old)) }
 {
-    match source.integer() {
+    match input.integer() {
         Some(number) => Ok(Label::Int(i64::try_from(number)?)),
-        None => Ok(Label::Text(source.into_text(alloc, "int/tstr")?)),
+        None => Ok(Label::Text(input.text(alloc, "int/tstr")?)),
     }
 }
 
@@ -58,7 +62,7 @@ impl AsCborValue for Label {
         ensures read { Reads label label_seen (view value) result }
         ensures memory { IfErr result (λ e. e ≡ OutOfMemory → ⊥) }
     {
-        read_label(alloc, Source::Tree(value))
+        read_label(alloc, &mut Input::Tree(value))
     }
 
     fn to_cbor_value(self, _alloc: Global) -> Result<Value> {
@@ -88,7 +92,11 @@ impl Encode for Label {
 
 impl FromPull for Label {
     fn from_pull(alloc: Global, pull: Pull<'_>) -> Result<Label> {
-        read_label(alloc, Source::Lent(pull))
+        read_label(alloc, &mut Input::new(Source::Lent(pull)))
+    }
+
+    fn from_input(alloc: Global, input: &mut Input<'_>) -> Result<Label> {
+        read_label(alloc, input)
     }
 }
 

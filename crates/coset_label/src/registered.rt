@@ -1,10 +1,10 @@
 //! Labels that a registry assigns (RFC 8152, section 16).
 
-ghost use Rattle.std.specs.Prelude.{◌≡◌, IfErr, IfOk, is_some};
+ghost use Rattle.std.specs.Prelude.{◌≡◌, ◌≤◌, IfErr, IfOk, OnOk, is_some};
 ghost use Rattle.coset_value.specs.View.{view};
 ghost use Rattle.coset_shape.specs.declared.error.CoseError.TheVariants.{OutOfMemory};
 ghost use Rattle.coset_shape.specs.Answers.{Reads};
-ghost use Rattle.coset_shape.specs.Sources.{source_item, MayCopy};
+ghost use Rattle.coset_shape.specs.Inputs.{state, GoesBehind, IsLent, ReadsAt, length_left};
 ghost use Rattle.coset_label.specs.Labels.{registered_in, registered_or_private_in};
 ghost use Rattle.coset_label.specs.Views.{registered_seen, registered_or_private_seen};
 
@@ -12,6 +12,7 @@ use coset_cbor::de::Pull;
 use coset_cbor::value::Value;
 use coset_iana::{EnumI64, WithPrivateRange};
 use coset_shape::encode::{Encode, encode_to_vec};
+use coset_shape::input::Input;
 use coset_shape::traits::{FromPull, read_slice};
 use coset_shape::{AsCborValue, CborSerializable, CoseError, Lawful, Result, Source};
 use std::alloc::{AllocError, Global};
@@ -46,34 +47,38 @@ pub enum RegisteredLabelWithPrivate<T> {
 }
 
 /// Reads a label of a registry without a private range.
-pub(crate) fn read_registered<T: EnumI64 + Drop>(
+fn read_registered<T: EnumI64 + Drop>(
     alloc: Global,
-    source: Source<'_>,
+    input: &mut Input<'_>,
 ) -> Result<RegisteredLabel<T>>
-    ensures read { Reads (registered_in T.value_of) (registered_seen T.number)
-        (source_item source.entry) result }
-    ensures memory { IfErr result (λ e. e ≡ OutOfMemory → MayCopy source.entry) }
+    ensures shrinks { length_left (state input.new) ≤ length_left (state input.old) }
+    ensures strictly { OnOk result (GoesBehind (state input.old) (state input.new)) }
+    ensures reads { ReadsAt (state input.old) (state input.new)
+        (λ v. Reads (registered_in T.value_of) (registered_seen T.number) v result) }
+    ensures memory { IfErr result (λ e. e ≡ OutOfMemory → IsLent (state input.old)) }
 {
-    match source.integer() {
+    match input.integer() {
         Some(number) => match T::from_i64(i64::try_from(number)?) {
             Some(value) => Ok(RegisteredLabel::Assigned(value)),
             None => Err(CoseError::UnregisteredIanaValue),
         },
-        None => Ok(RegisteredLabel::Text(source.into_text(alloc, "int/tstr")?)),
+        None => Ok(RegisteredLabel::Text(input.text(alloc, "int/tstr")?)),
     }
 }
 
 /// Reads a label of a registry with a private range.
-pub(crate) fn read_registered_or_private<T: EnumI64 + WithPrivateRange + Drop>(
+fn read_registered_or_private<T: EnumI64 + WithPrivateRange + Drop>(
     alloc: Global,
-    source: Source<'_>,
+    input: &mut Input<'_>,
 ) -> Result<RegisteredLabelWithPrivate<T>>
-    ensures read { Reads (registered_or_private_in T.value_of T.is_private)
-        (registered_or_private_seen T.number) (source_item source.entry) result }
-    ensures memory { IfErr result (λ e. e ≡ OutOfMemory → MayCopy source.entry) }
+    ensures shrinks { length_left (state input.new) ≤ length_left (state input.old) }
+    ensures strictly { OnOk result (GoesBehind (state input.old) (state input.new)) }
+    ensures reads { ReadsAt (state input.old) (state input.new)
+        (λ v. Reads (registered_or_private_in T.value_of T.is_private) (registered_or_private_seen T.number) v result) }
+    ensures memory { IfErr result (λ e. e ≡ OutOfMemory → IsLent (state input.old)) }
 {
-    let Some(number) = source.integer() else {
-        return Ok(RegisteredLabelWithPrivate::Text(source.into_text(alloc, "int/tstr")?));
+    let Some(number) = input.integer() else {
+        return Ok(RegisteredLabelWithPrivate::Text(input.text(alloc, "int/tstr")?));
     };
     let number = i64::try_from(number)?;
     if let Some(value) = T::from_i64(number) {
@@ -106,7 +111,7 @@ impl<T: EnumI64 + Drop> AsCborValue for RegisteredLabel<T> {
             (view value) result }
         ensures memory { IfErr result (λ e. e ≡ OutOfMemory → ⊥) }
     {
-        read_registered(alloc, Source::Tree(value))
+        read_registered(alloc, &mut Input::Tree(value))
     }
 
     fn to_cbor_value(self, _alloc: Global) -> Result<Value> {
@@ -136,7 +141,11 @@ impl<T: EnumI64> Encode for RegisteredLabel<T> {
 
 impl<T: EnumI64 + Drop> FromPull for RegisteredLabel<T> {
     fn from_pull(alloc: Global, pull: Pull<'_>) -> Result<RegisteredLabel<T>> {
-        read_registered(alloc, Source::Lent(pull))
+        read_registered(alloc, &mut Input::new(Source::Lent(pull)))
+    }
+
+    fn from_input(alloc: Global, input: &mut Input<'_>) -> Result<RegisteredLabel<T>> {
+        read_registered(alloc, input)
     }
 }
 
@@ -170,7 +179,7 @@ impl<T: EnumI64 + WithPrivateRange + Drop> AsCborValue for RegisteredLabelWithPr
             (registered_or_private_seen T.number) (view value) result }
         ensures memory { IfErr result (λ e. e ≡ OutOfMemory → ⊥) }
     {
-        read_registered_or_private(alloc, Source::Tree(value))
+        read_registered_or_private(alloc, &mut Input::Tree(value))
     }
 
     fn to_cbor_value(self, _alloc: Global) -> Result<Value> {
@@ -202,7 +211,11 @@ impl<T: EnumI64 + WithPrivateRange> Encode for RegisteredLabelWithPrivate<T> {
 
 impl<T: EnumI64 + WithPrivateRange + Drop> FromPull for RegisteredLabelWithPrivate<T> {
     fn from_pull(alloc: Global, pull: Pull<'_>) -> Result<RegisteredLabelWithPrivate<T>> {
-        read_registered_or_private(alloc, Source::Lent(pull))
+        read_registered_or_private(alloc, &mut Input::new(Source::Lent(pull)))
+    }
+
+    fn from_input(alloc: Global, input: &mut Input<'_>) -> Result<RegisteredLabelWithPrivate<T>> {
+        read_registered_or_private(alloc, input)
     }
 }
 

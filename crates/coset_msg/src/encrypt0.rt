@@ -1,11 +1,11 @@
 //! Encrypted messages for receivers that know the key (RFC 8152, section 5.2).
 
-ghost use Rattle.std.specs.Prelude.{◌≡◌, ◌≢◌, ◌↔◌, IsTrue, IfOk, IfErr, IfSome, Some, None};
+ghost use Rattle.std.specs.Prelude.{◌≡◌, ◌≢◌, ◌↔◌, ◌≤◌, OnOk, IsTrue, IfOk, IfErr, IfSome, Some, None};
 ghost use Rattle.std.specs.Ordering.{on};
 ghost use Rattle.std.specs.Cmp.{on_equiv, on_per, partial_equiv_from_equiv};
 ghost use Rattle.coset_shape.specs.declared.error.CoseError.TheVariants.{OutOfMemory};
 ghost use Rattle.coset_shape.specs.Answers.{Reads, Writes};
-ghost use Rattle.coset_shape.specs.Sources.{source_item};
+ghost use Rattle.coset_shape.specs.Inputs.{state, GoesBehind, ReadsAt, length_left};
 ghost use Rattle.coset_shape.specs.InPlace.{Fills};
 ghost use Rattle.coset_core.specs.Messages.{unread};
 ghost use Rattle.coset_core.specs.Views.{header_seen};
@@ -21,6 +21,7 @@ use coset_core::{Bstr, Header, ProtectedHeader, fill_headers};
 use coset_shape::encode::{
     Encode, encode_three, encode_to_tagged_vec, encode_to_value, encode_to_vec,
 };
+use coset_shape::input::Input;
 use coset_shape::traits::{FromPull, read_slice, read_tagged_slice};
 use coset_shape::util::copy_bytes;
 use coset_shape::{
@@ -45,31 +46,43 @@ pub struct CoseEncrypt0 {
     pub ciphertext: Option<Vec<u8>>,
 }
 
-/// Reads the places into an empty message, from the last to the first.
-fn fill_encrypt0(message: &mut CoseEncrypt0, alloc: Global, source: Source<'_>) -> Result<()>
+/// What the error of another number of places asks for.
+const PLACES: &str = "array with 3 items";
+
+/// Reads the places into an empty message, and names the fault of the last that has one.
+fn fill_encrypt0(message: &mut CoseEncrypt0, alloc: Global, input: &mut Input<'_>) -> Result<()>
     requires empty { encrypt0_seen message.old ≡ empty_encrypt0 }
-    ensures { Fills encrypt0 (source_item source.entry) (encrypt0_seen message.new) result }
+    ensures shrinks { length_left (state input.new) ≤ length_left (state input.old) }
+    ensures strictly { OnOk result (GoesBehind (state input.old) (state input.new)) }
+    ensures fills { ReadsAt (state input.old) (state input.new)
+        (λ v. Fills encrypt0 v (encrypt0_seen message.new) result) }
 {
-    let (protected, unprotected, ciphertext) = source.into_three("array with 3 items")?;
-    message.ciphertext = ciphertext.into_bytes_or_nil(alloc, "bstr")?;
-    fill_headers(
+    let mut places = input.enter_array("array")?;
+    let headers = fill_headers(
         &mut message.protected,
         &mut message.unprotected,
         alloc,
-        protected,
-        unprotected,
-    )
+        &mut places,
+        input,
+        PLACES,
+    )?;
+    places.place(input, PLACES)?;
+    let ciphertext = input.bytes_or_nil(alloc, "bstr");
+    places.end(input, PLACES)?;
+    message.ciphertext = ciphertext?;
+    headers
 }
 
 /// Reads a message.
-fn read_encrypt0(alloc: Global, source: Source<'_>) -> Result<CoseEncrypt0>
-    ensures { Reads encrypt0 encrypt0_seen (source_item source.entry) result }
+fn read_encrypt0(alloc: Global, input: &mut Input<'_>) -> Result<CoseEncrypt0>
+    ensures shrinks { length_left (state input.new) ≤ length_left (state input.old) }
+    ensures strictly { OnOk result (GoesBehind (state input.old) (state input.new)) }
+    ensures reads { ReadsAt (state input.old) (state input.new)
+        (λ v. Reads encrypt0 encrypt0_seen v result) }
 {
     let mut message = CoseEncrypt0::new(alloc);
-    match fill_encrypt0(&mut message, alloc, source) {
-        Ok(()) => Ok(message),
-        Err(error) => Err(error),
-    }
+    fill_encrypt0(&mut message, alloc, input)?;
+    Ok(message)
 }
 
 impl CoseEncrypt0 {
@@ -223,7 +236,7 @@ impl AsCborValue for CoseEncrypt0 {
     ghost sound = { encrypt0_laws.sound };
 
     fn from_cbor_value(alloc: Global, value: Value) -> Result<CoseEncrypt0> {
-        read_encrypt0(alloc, Source::Tree(value))
+        read_encrypt0(alloc, &mut Input::Tree(value))
     }
 
     fn to_cbor_value(self, alloc: Global) -> Result<Value> {
@@ -255,7 +268,11 @@ impl Encode for CoseEncrypt0 {
 
 impl FromPull for CoseEncrypt0 {
     fn from_pull(alloc: Global, pull: Pull<'_>) -> Result<CoseEncrypt0> {
-        read_encrypt0(alloc, Source::Lent(pull))
+        read_encrypt0(alloc, &mut Input::new(Source::Lent(pull)))
+    }
+
+    fn from_input(alloc: Global, input: &mut Input<'_>) -> Result<CoseEncrypt0> {
+        read_encrypt0(alloc, input)
     }
 }
 

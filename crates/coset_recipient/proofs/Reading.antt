@@ -1,21 +1,20 @@
 -- Recipients read forward, from what their parts answer.
-use Rattle.std.proofs.Common.{◌≡◌, ◌⊎◌, ℕ, List, [], map, Result, Ok, Err, refl, sym, ap, subst, ◌∙◌, inl, inr}
+use Rattle.std.proofs.Common.{◌≡◌, ◌⊎◌, ℕ, List, [], map, Option, Result, Ok, Err, refl, sym, ap, subst, ◌∙◌, inl, inr}
 use Rattle.std.specs.Prelude.{IsErrAnd}
 use Rattle.coset_value.specs.Item.{Item, array, Items, no_items, item}
 use Rattle.coset_shape.specs.declared.error.CoseError.{CoseError}
 use Rattle.coset_shape.specs.declared.error.Refused.{Refused}
 use Rattle.coset_shape.specs.declared.input.InputItems.{InputItems}
-use Rattle.coset_shape.specs.declared.source.Source.{Source}
 use Rattle.coset_shape.specs.Errors.{UnlessMemory, answer}
 use Rattle.coset_shape.specs.InPlace.{Fills}
 use Rattle.coset_shape.specs.Inputs.{State, AreWithin, EntersArray}
 use Rattle.coset_shape.specs.Shape.{FirstMisfits, LastMisfits, PlacesFaults, bstr, list_of, or_nil, perhaps}
-use Rattle.coset_shape.specs.Sources.{Never, misfits_after, put_three, source_item}
+use Rattle.coset_shape.specs.Sources.{Never, misfits_after}
 use Rattle.coset_shape.proofs.InPlace.{not_filled}
-use Rattle.coset_core.specs.Headers.{header, protected}
+use Rattle.coset_core.specs.Headers.{HeaderSeen, ProtectedSeen, header, protected}
 use Rattle.coset_recipient.specs.Recipient.{RecipientSeen, recipients_of, each_of, empty_recipient, are_some, recipient, recipient_step}
 use Rattle.coset_recipient.specs.RecipientLaws.{each-again, recipient-made}
-use Rattle.coset_recipient.specs.RecipientReading.{FillsFirst, FillsLast, TakesThree}
+use Rattle.coset_recipient.specs.RecipientReading.{BeginsThree, FillsFirst, FillsLast}
 use Rattle.coset_recipient.specs.RecipientView.{recipient_seen, recipient-unrolled}
 use Rattle.coset_recipient.specs.declared.recipient.CoseRecipient.{CoseRecipient, out-CoseRecipient}
 
@@ -42,23 +41,24 @@ too_few m (item a (item b no_items)) h = tt
 too_few m (item a (item b (item c vs))) h = absurd h
 
 pub few_refused :
-    (vs : Items) (t z : State) (m : InputItems) (x : RecipientSeen) (r : Result (Unit {0}) Refused) (e : CoseError) (y : Refused) → IsErrAnd r (λ i. i ≡ y) → TakesThree vs t z m (Err e)
+    (vs : Items) (p : ProtectedSeen) (u : HeaderSeen) (c : Option (List ℕ)) (t z : State) (m : InputItems) (x : RecipientSeen) (r : Result (Unit {0}) Refused) (e : CoseError) (y : Refused) → IsErrAnd r (λ i. i ≡ y) → BeginsThree vs p u c t z m (Err e)
     → ((left : Items) × AreWithin m left t z) × Fills recipient (array vs) x (answer e r)
-few_refused vs t z m x r e y is p =
-    ((p.0, p.1), not_filled recipient x (array vs) r e y is (λ n. fault_made (array vs) e (inr (vs, refl, inl (too_few LastMisfits vs p.2, p.3)))))
+few_refused vs p u c t z m x r e y is b =
+    ((b.0, b.1), not_filled recipient x (array vs) r e y is (λ n. fault_made (array vs) e (inr (vs, refl, inl (too_few LastMisfits vs b.2, b.3)))))
 
 last_fault : (p u c : Item) (others : Items) (e : CoseError) → PlacesFaults (perhaps [] are_some (list_of recipient)) others e → (recipient_step recipient).faults (array (item p (item u (item c others)))) e
 last_fault p u c others e (inl f) = inr (item p (item u (item c others)), refl, inl f)
 last_fault p u c others e (inr f) = inr (item p (item u (item c others)), refl, inr (f.0, inr (inr (inr f.1))))
 
 pub last_refused :
-    (vs : Items) (s t z : State) (m n : InputItems) (q : Source × Source × Source) (x : RecipientSeen) (rs : List RecipientSeen) (r : Result (Unit {0}) Refused) (e : CoseError) (y : Refused) → IsErrAnd r (λ i. i ≡ y)
-    → TakesThree vs s z m (Ok q) → ((others : Items) → AreWithin m others s z → ((left : Items) × AreWithin n left t z) × FillsLast others rs (Err e)) → ((left : Items) × AreWithin n left t z) × Fills recipient (array vs) x (answer e r)
-last_refused vs s t z m n q x rs r e y is p last =
-    let h = last p.0 p.2 in (
+    (vs : Items) (p : ProtectedSeen) (u : HeaderSeen) (c : Option (List ℕ)) (s t z : State) (m n : InputItems) (first : Result (Unit {0}) CoseError) (x : RecipientSeen) (rs : List RecipientSeen) (r : Result (Unit {0}) Refused) (e : CoseError) (y : Refused)
+    → IsErrAnd r (λ i. i ≡ y) → BeginsThree vs p u c s z m (Ok first) → ((others : Items) → AreWithin m others s z → ((left : Items) × AreWithin n left t z) × FillsLast others rs (Err e))
+    → ((left : Items) × AreWithin n left t z) × Fills recipient (array vs) x (answer e r)
+last_refused vs p u c s t z m n first x rs r e y is b last =
+    let h = last b.3 b.5 in (
       h.0,
       not_filled recipient x (array vs) r e y is
-          (subst (λ ws. UnlessMemory e (recipient.faults (array ws))) (sym p.1) (λ k. fault_made (array (put_three q p.0)) e (last_fault (source_item q.0) (source_item q.1) (source_item q.2) p.0 e (h.1 k)))),
+          (subst (λ ws. UnlessMemory e (recipient.faults (array ws))) (sym b.4) (λ k. fault_made (array (item b.0 (item b.1 (item b.2 b.3)))) e (last_fault b.0 b.1 b.2 b.3 e (h.1 k)))),
     )
 
 last_fits : (vs : Items) (rs : List RecipientSeen) → FillsLast vs rs (Ok tt) → LastMisfits vs → ⊥
@@ -82,12 +82,11 @@ places_read p u c others x rs (Err e) last inside first =
     placed (inr (inr f)) = inr (inr (inl f))
 
 pub places_filled :
-    (vs : Items) (s t z : State) (m n : InputItems) (q : Source × Source × Source) (x : RecipientSeen) (rs : List RecipientSeen) (r : Result (Unit {0}) CoseError) → TakesThree vs s z m (Ok q)
-    → ((others : Items) → AreWithin m others s z → ((left : Items) × AreWithin n left t z) × FillsLast others rs (Ok tt)) → x.recipients ≡ recipients_of rs
-    → FillsFirst (source_item q.0) (source_item q.1) (source_item q.2) x.protected x.unprotected x.ciphertext r → ((left : Items) × AreWithin n left t z) × Fills recipient (array vs) x r
-places_filled vs s t z m n q x rs r p last inside first =
-    let h = last p.0 p.2 in
-    (h.0, subst (λ ws. Fills recipient (array ws) x r) (sym p.1) (places_read (source_item q.0) (source_item q.1) (source_item q.2) p.0 x rs r h.1 inside first))
+    (vs : Items) (s t z : State) (m n : InputItems) (x : RecipientSeen) (rs : List RecipientSeen) (r : Result (Unit {0}) CoseError) → BeginsThree vs x.protected x.unprotected x.ciphertext s z m (Ok r)
+    → ((others : Items) → AreWithin m others s z → ((left : Items) × AreWithin n left t z) × FillsLast others rs (Ok tt)) → x.recipients ≡ recipients_of rs → ((left : Items) × AreWithin n left t z) × Fills recipient (array vs) x r
+places_filled vs s t z m n x rs r b last inside =
+    let h = last b.3 b.5 in
+    (h.0, subst (λ ws. Fills recipient (array ws) x r) (sym b.4) (places_read b.0 b.1 b.2 b.3 x rs r h.1 inside b.6))
 
 -- ---- a recipient that holds nothing
 

@@ -1,11 +1,11 @@
 //! Encrypted messages with recipients (RFC 8152, section 5.1).
 
-ghost use Rattle.std.specs.Prelude.{◌≡◌, ◌≢◌, ◌↔◌, IsTrue, IfOk, IfErr, IfSome, Some, None};
+ghost use Rattle.std.specs.Prelude.{◌≡◌, ◌≢◌, ◌↔◌, ◌≤◌, OnOk, IsTrue, IfOk, IfErr, IfSome, Some, None};
 ghost use Rattle.std.specs.Ordering.{on};
 ghost use Rattle.std.specs.Cmp.{on_equiv, on_per, partial_equiv_from_equiv};
 ghost use Rattle.coset_shape.specs.declared.error.CoseError.TheVariants.{OutOfMemory};
 ghost use Rattle.coset_shape.specs.Answers.{Reads, Writes};
-ghost use Rattle.coset_shape.specs.Sources.{source_item};
+ghost use Rattle.coset_shape.specs.Inputs.{state, GoesBehind, ReadsAt, length_left};
 ghost use Rattle.coset_shape.specs.InPlace.{Fills};
 ghost use Rattle.coset_core.specs.Messages.{unread};
 ghost use Rattle.coset_core.specs.Views.{header_seen};
@@ -24,6 +24,7 @@ use coset_msg::enc_structure::additional_bytes;
 use coset_shape::encode::{
     Array, Encode, encode_four, encode_to_tagged_vec, encode_to_value, encode_to_vec,
 };
+use coset_shape::input::Input;
 use coset_shape::traits::{FromPull, read_slice, read_tagged_slice};
 use coset_shape::util::copy_bytes;
 use coset_shape::{
@@ -52,32 +53,46 @@ pub struct CoseEncrypt {
     pub recipients: Vec<CoseRecipient>,
 }
 
-/// Reads the places into an empty message, from the last to the first.
-fn fill_encrypt(message: &mut CoseEncrypt, alloc: Global, source: Source<'_>) -> Result<()>
+/// What the error of another number of places asks for.
+const PLACES: &str = "array with 4 items";
+
+/// Reads the places into an empty message, and names the fault of the last that has one.
+fn fill_encrypt(message: &mut CoseEncrypt, alloc: Global, input: &mut Input<'_>) -> Result<()>
     requires empty { encrypt_seen message.old ≡ empty_encrypt }
-    ensures { Fills encrypt (source_item source.entry) (encrypt_seen message.new) result }
+    ensures shrinks { length_left (state input.new) ≤ length_left (state input.old) }
+    ensures strictly { OnOk result (GoesBehind (state input.old) (state input.new)) }
+    ensures fills { ReadsAt (state input.old) (state input.new)
+        (λ v. Fills encrypt v (encrypt_seen message.new) result) }
 {
-    let (protected, unprotected, ciphertext, recipients) = source.into_four("array with 4 items")?;
-    message.recipients = read_recipients(alloc, recipients)?;
-    message.ciphertext = ciphertext.into_bytes_or_nil(alloc, "bstr")?;
-    fill_headers(
+    let mut places = input.enter_array("array")?;
+    let headers = fill_headers(
         &mut message.protected,
         &mut message.unprotected,
         alloc,
-        protected,
-        unprotected,
-    )
+        &mut places,
+        input,
+        PLACES,
+    )?;
+    places.place(input, PLACES)?;
+    let ciphertext = input.bytes_or_nil(alloc, "bstr");
+    places.place(input, PLACES)?;
+    let recipients = read_recipients(alloc, input);
+    places.end(input, PLACES)?;
+    message.recipients = recipients?;
+    message.ciphertext = ciphertext?;
+    headers
 }
 
 /// Reads a message.
-fn read_encrypt(alloc: Global, source: Source<'_>) -> Result<CoseEncrypt>
-    ensures { Reads encrypt encrypt_seen (source_item source.entry) result }
+fn read_encrypt(alloc: Global, input: &mut Input<'_>) -> Result<CoseEncrypt>
+    ensures shrinks { length_left (state input.new) ≤ length_left (state input.old) }
+    ensures strictly { OnOk result (GoesBehind (state input.old) (state input.new)) }
+    ensures reads { ReadsAt (state input.old) (state input.new)
+        (λ v. Reads encrypt encrypt_seen v result) }
 {
     let mut message = CoseEncrypt::new(alloc);
-    match fill_encrypt(&mut message, alloc, source) {
-        Ok(()) => Ok(message),
-        Err(error) => Err(error),
-    }
+    fill_encrypt(&mut message, alloc, input)?;
+    Ok(message)
 }
 
 impl CoseEncrypt {
@@ -236,7 +251,7 @@ impl AsCborValue for CoseEncrypt {
     ghost sound = { encrypt_laws.sound };
 
     fn from_cbor_value(alloc: Global, value: Value) -> Result<CoseEncrypt> {
-        read_encrypt(alloc, Source::Tree(value))
+        read_encrypt(alloc, &mut Input::Tree(value))
     }
 
     fn to_cbor_value(self, alloc: Global) -> Result<Value> {
@@ -275,7 +290,11 @@ impl Encode for CoseEncrypt {
 
 impl FromPull for CoseEncrypt {
     fn from_pull(alloc: Global, pull: Pull<'_>) -> Result<CoseEncrypt> {
-        read_encrypt(alloc, Source::Lent(pull))
+        read_encrypt(alloc, &mut Input::new(Source::Lent(pull)))
+    }
+
+    fn from_input(alloc: Global, input: &mut Input<'_>) -> Result<CoseEncrypt> {
+        read_encrypt(alloc, input)
     }
 }
 

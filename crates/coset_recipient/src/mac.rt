@@ -1,11 +1,11 @@
 //! Messages with a MAC and recipients (RFC 8152, section 6.1).
 
-ghost use Rattle.std.specs.Prelude.{◌≡◌, ◌≢◌, ◌↔◌, IsTrue, IfOk, IfErr, IfSome, Some, None};
+ghost use Rattle.std.specs.Prelude.{◌≡◌, ◌≢◌, ◌↔◌, ◌≤◌, OnOk, IsTrue, IfOk, IfErr, IfSome, Some, None};
 ghost use Rattle.std.specs.Ordering.{on};
 ghost use Rattle.std.specs.Cmp.{on_equiv, on_per, partial_equiv_from_equiv};
 ghost use Rattle.coset_shape.specs.declared.error.CoseError.TheVariants.{OutOfMemory};
 ghost use Rattle.coset_shape.specs.Answers.{Reads, Writes};
-ghost use Rattle.coset_shape.specs.Sources.{source_item};
+ghost use Rattle.coset_shape.specs.Inputs.{state, GoesBehind, ReadsAt, length_left};
 ghost use Rattle.coset_shape.specs.InPlace.{Fills};
 ghost use Rattle.coset_core.specs.Messages.{unread};
 ghost use Rattle.coset_core.specs.Views.{header_seen};
@@ -24,6 +24,7 @@ use coset_msg::mac_structure::authenticated_bytes;
 use coset_shape::encode::{
     Array, Encode, encode_five, encode_to_tagged_vec, encode_to_value, encode_to_vec,
 };
+use coset_shape::input::Input;
 use coset_shape::traits::{FromPull, read_slice, read_tagged_slice};
 use coset_shape::util::copy_bytes;
 use coset_shape::{
@@ -54,35 +55,49 @@ pub struct CoseMac {
     pub recipients: Vec<CoseRecipient>,
 }
 
-/// Reads the places into an empty message, from the last to the first.
-fn fill_mac(message: &mut CoseMac, alloc: Global, source: Source<'_>) -> Result<()>
+/// What the error of another number of places asks for.
+const PLACES: &str = "array with 5 items";
+
+/// Reads the places into an empty message, and names the fault of the last that has one.
+fn fill_mac(message: &mut CoseMac, alloc: Global, input: &mut Input<'_>) -> Result<()>
     requires empty { mac_seen message.old ≡ empty_mac }
-    ensures { Fills mac (source_item source.entry) (mac_seen message.new) result }
+    ensures shrinks { length_left (state input.new) ≤ length_left (state input.old) }
+    ensures strictly { OnOk result (GoesBehind (state input.old) (state input.new)) }
+    ensures fills { ReadsAt (state input.old) (state input.new)
+        (λ v. Fills mac v (mac_seen message.new) result) }
 {
-    let (protected, unprotected, payload, tag, recipients) = source.into_five(
-        "array with 5 items",
-    )?;
-    message.recipients = read_recipients(alloc, recipients)?;
-    message.tag = tag.into_bytes(alloc, "bstr")?;
-    message.payload = payload.into_bytes_or_nil(alloc, "bstr")?;
-    fill_headers(
+    let mut places = input.enter_array("array")?;
+    let headers = fill_headers(
         &mut message.protected,
         &mut message.unprotected,
         alloc,
-        protected,
-        unprotected,
-    )
+        &mut places,
+        input,
+        PLACES,
+    )?;
+    places.place(input, PLACES)?;
+    let payload = input.bytes_or_nil(alloc, "bstr");
+    places.place(input, PLACES)?;
+    let tag = input.bytes(alloc, "bstr");
+    places.place(input, PLACES)?;
+    let recipients = read_recipients(alloc, input);
+    places.end(input, PLACES)?;
+    message.recipients = recipients?;
+    message.tag = tag?;
+    message.payload = payload?;
+    headers
 }
 
 /// Reads a message.
-fn read_mac(alloc: Global, source: Source<'_>) -> Result<CoseMac>
-    ensures { Reads mac mac_seen (source_item source.entry) result }
+fn read_mac(alloc: Global, input: &mut Input<'_>) -> Result<CoseMac>
+    ensures shrinks { length_left (state input.new) ≤ length_left (state input.old) }
+    ensures strictly { OnOk result (GoesBehind (state input.old) (state input.new)) }
+    ensures reads { ReadsAt (state input.old) (state input.new)
+        (λ v. Reads mac mac_seen v result) }
 {
     let mut message = CoseMac::new(alloc);
-    match fill_mac(&mut message, alloc, source) {
-        Ok(()) => Ok(message),
-        Err(error) => Err(error),
-    }
+    fill_mac(&mut message, alloc, input)?;
+    Ok(message)
 }
 
 impl CoseMac {
@@ -245,7 +260,7 @@ impl AsCborValue for CoseMac {
     ghost sound = { mac_laws.sound };
 
     fn from_cbor_value(alloc: Global, value: Value) -> Result<CoseMac> {
-        read_mac(alloc, Source::Tree(value))
+        read_mac(alloc, &mut Input::Tree(value))
     }
 
     fn to_cbor_value(self, alloc: Global) -> Result<Value> {
@@ -286,7 +301,11 @@ impl Encode for CoseMac {
 
 impl FromPull for CoseMac {
     fn from_pull(alloc: Global, pull: Pull<'_>) -> Result<CoseMac> {
-        read_mac(alloc, Source::Lent(pull))
+        read_mac(alloc, &mut Input::new(Source::Lent(pull)))
+    }
+
+    fn from_input(alloc: Global, input: &mut Input<'_>) -> Result<CoseMac> {
+        read_mac(alloc, input)
     }
 }
 

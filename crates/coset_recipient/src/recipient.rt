@@ -10,16 +10,15 @@ ghost use Rattle.coset_shape.specs.Answers.{Reads, Writes};
 ghost use Rattle.coset_shape.specs.Encoding.{AppendsPlaces, Encodes, HasNoImage};
 ghost use Rattle.coset_shape.specs.Errors.{IsUnexpected, answer};
 ghost use Rattle.coset_shape.specs.InPlace.{BeginsNext, Fills, FillsEach, GetsOne, GetsPlace};
-ghost use Rattle.coset_shape.specs.Inputs.{State, state, length_left, input_size, items_size, items_turns, Stands, GoesBehind, AreWithin};
+ghost use Rattle.coset_shape.specs.Inputs.{State, state, length_left, input_size, items_size, items_turns, Stands, GoesBehind, AreWithin, ReadsAt};
 ghost use Rattle.coset_shape.specs.Shape.{images, list_of};
-ghost use Rattle.coset_shape.specs.Sources.{source_item};
 ghost use Rattle.coset_core.specs.Headers.{empty_header};
 ghost use Rattle.coset_core.specs.Messages.{unread};
 ghost use Rattle.coset_core.specs.Views.{header_seen, protected_seen};
 ghost use Rattle.coset_sign.specs.Calls.{AsksAbout};
 ghost use Rattle.coset_msg.specs.Presence.{AsksWherePresent, CreatesOf, TriesToCreateOf};
 ghost use Rattle.coset_recipient.specs.Recipient.{IsOfRecipient, and_recipient, are_none, empty_recipient, recipient as recipient_shape, recipient_image, recipient_structure, recipients_of, with_ciphertext};
-ghost use Rattle.coset_recipient.specs.RecipientReading.{FillsFirst, FillsLast, TakesPlace, TakesThree};
+ghost use Rattle.coset_recipient.specs.RecipientReading.{BeginsThree, FillsLast};
 ghost use Rattle.coset_recipient.specs.RecipientWriting.{Begins, last_places};
 ghost use Rattle.coset_recipient.specs.RecipientSame.{recipient_eq, recipient_eq_equiv, recipients_eq};
 ghost use Rattle.coset_recipient.specs.RecipientView.{recipient_seen};
@@ -27,7 +26,7 @@ ghost use Rattle.coset_recipient.specs.RecipientView.{recipient_seen};
 use coset_cbor::de::Pull;
 use coset_cbor::ser::write_array_head;
 use coset_cbor::value::Value;
-use coset_core::{Bstr, Header, ProtectedHeader, fill_headers};
+use coset_core::{Bstr, Header, ProtectedHeader, fill_protected_header, fill_unprotected_header};
 use coset_msg::EncryptionContext;
 use coset_msg::enc_structure::additional_bytes;
 use coset_shape::encode::{Encode, encode_to_value, encode_to_vec};
@@ -66,77 +65,48 @@ fn misfit() -> CoseError
     CoseError::UnexpectedItem("array", "array with 3 or 4 items")
 }
 
-/// The next place of a recipient's array.
-///
-/// # Errors
-/// `UnexpectedItem`: none is left.
-fn next_place<'a>(
-    members: &mut InputItems,
-    input: &mut Input<'a>,
-    error: &mut CoseError,
-) -> Result<Source<'a>, Refused>
-    ensures shrinks { length_left (state input.new) ≤ length_left (state input.old) }
-    ensures size { items_size members.new (state input.new) ≤ items_size members.old
-        (state input.old) }
-    ensures takes { (vs : Items) (z : State) → AreWithin members.old vs (state input.old) z
-        → TakesPlace vs (state input.new) z members.new (answer error.new result) }
-{
-    match keep_error(members.take(input), error)? {
-        Some(place) => Ok(place),
-        None => {
-            *error = misfit();
-            Err(Refused)
-        }
-    }
-}
-
-/// The first three places of a recipient's array. They are judged after the fourth.
+/// Reads the first three places of a recipient's array into empty ones. What reading them answers stands inside the answer,
+/// since the fourth is judged before them: it is the fault of the last of the three that has one.
 ///
 /// # Errors
 /// `UnexpectedItem`: there are fewer.
 #[inline(never)]
-fn take_three<'a>(
-    members: &mut InputItems,
-    input: &mut Input<'a>,
-    error: &mut CoseError,
-) -> Result<(Source<'a>, Source<'a>, Source<'a>), Refused>
-    ensures shrinks { length_left (state input.new) ≤ length_left (state input.old) }
-    ensures size { items_size members.new (state input.new) ≤ items_size members.old
-        (state input.old) }
-    ensures takes { (vs : Items) (z : State) → AreWithin members.old vs (state input.old) z
-        → TakesThree vs (state input.new) z members.new (answer error.new result) }
-{
-    let protected = next_place(members, input, error)?;
-    let unprotected = next_place(members, input, error)?;
-    let ciphertext = next_place(members, input, error)?;
-    Ok((protected, unprotected, ciphertext))
-}
-
-/// Reads the first three places of a recipient's array into empty ones, from the last to the first.
-///
-/// # Errors
-/// `OutOfMemory`, or the first fault found.
-#[inline(never)]
-fn fill_first(
+fn begin_places(
     protected: &mut ProtectedHeader,
     unprotected: &mut Header,
     ciphertext: &mut Option<Vec<u8>>,
     alloc: Global,
-    places: (Source<'_>, Source<'_>, Source<'_>),
-    error: &mut CoseError,
-) -> Result<(), Refused>
+    members: &mut InputItems,
+    input: &mut Input<'_>,
+) -> Result<Result<()>>
     requires protected { (protected_seen protected.old).header ≡ empty_header }
     requires unprotected { header_seen unprotected.old ≡ empty_header }
-    ensures { FillsFirst (source_item places.entry.0) (source_item places.entry.1)
-        (source_item places.entry.2) (protected_seen protected.new) (header_seen unprotected.new)
-        (option_map (λ b. b.items) ciphertext.new) (answer error.new result) }
+    ensures shrinks { length_left (state input.new) ≤ length_left (state input.old) }
+    ensures size { items_size members.new (state input.new) ≤ items_size members.old
+        (state input.old) }
+    ensures begins { (vs : Items) (z : State) → AreWithin members.old vs (state input.old) z
+        → BeginsThree vs (protected_seen protected.new) (header_seen unprotected.new)
+        (option_map (λ b. b.items) ciphertext.new) (state input.new) z members.new result }
 {
-    let (first, second, third) = places;
-    *ciphertext = keep_error(third.into_bytes_or_nil(alloc, "bstr / null"), error)?;
-    keep_error(
-        fill_headers(protected, unprotected, alloc, first, second),
-        error,
-    )
+    if !members.next(input) {
+        return Err(misfit());
+    }
+    let first = fill_protected_header(protected, alloc, input);
+    if !members.next(input) {
+        return Err(misfit());
+    }
+    let second = fill_unprotected_header(unprotected, alloc, input);
+    if !members.next(input) {
+        return Err(misfit());
+    }
+    match input.bytes_or_nil(alloc, "bstr / null") {
+        Ok(found) => *ciphertext = found,
+        Err(error) => return Ok(Err(error)),
+    }
+    match second {
+        Ok(()) => Ok(first),
+        Err(error) => Ok(Err(error)),
+    }
 }
 
 /// One more recipient, which holds nothing.
@@ -297,16 +267,19 @@ fn fill_places(
         × Fills recipient_shape (array vs) (recipient_seen recipient.new)
         (answer error.new result) }
 {
-    let places = take_three(members, input, error)?;
-    fill_last(&mut recipient.recipients, alloc, members, input, error)?;
-    fill_first(
-        &mut recipient.protected,
-        &mut recipient.unprotected,
-        &mut recipient.ciphertext,
-        alloc,
-        places,
+    let first = keep_error(
+        begin_places(
+            &mut recipient.protected,
+            &mut recipient.unprotected,
+            &mut recipient.ciphertext,
+            alloc,
+            members,
+            input,
+        ),
         error,
-    )
+    )?;
+    fill_last(&mut recipient.recipients, alloc, members, input, error)?;
+    keep_error(first, error)
 }
 
 /// Reads the fourth place of a recipient's array, if it is there, into an empty list.
@@ -340,27 +313,29 @@ fn fill_last(
 }
 
 /// Recipients, read from their array.
-pub(crate) fn read_recipients(alloc: Global, source: Source<'_>) -> Result<Vec<CoseRecipient>>
-    ensures { Reads (list_of recipient_shape) (λ all. map recipient_seen all.items)
-        (source_item source.entry) result }
+pub(crate) fn read_recipients(alloc: Global, input: &mut Input<'_>) -> Result<Vec<CoseRecipient>>
+    ensures shrinks { length_left (state input.new) ≤ length_left (state input.old) }
+    ensures reads { ReadsAt (state input.old) (state input.new)
+        (λ v. Reads (list_of recipient_shape) (λ all. map recipient_seen all.items) v result) }
 {
     let mut all = Vec::new(alloc);
-    let mut input = Input::new(source);
     let mut error = CoseError::OutOfMemory;
-    match fill_recipients(&mut all, alloc, &mut input, &mut error) {
+    match fill_recipients(&mut all, alloc, input, &mut error) {
         Ok(()) => Ok(all),
         Err(Refused) => Err(error),
     }
 }
 
 /// A recipient.
-fn read_recipient(alloc: Global, source: Source<'_>) -> Result<CoseRecipient>
-    ensures { Reads recipient_shape recipient_seen (source_item source.entry) result }
+fn read_recipient(alloc: Global, input: &mut Input<'_>) -> Result<CoseRecipient>
+    ensures shrinks { length_left (state input.new) ≤ length_left (state input.old) }
+    ensures strictly { OnOk result (GoesBehind (state input.old) (state input.new)) }
+    ensures reads { ReadsAt (state input.old) (state input.new)
+        (λ v. Reads recipient_shape recipient_seen v result) }
 {
     let mut recipient = CoseRecipient::new(alloc);
-    let mut input = Input::new(source);
     let mut error = CoseError::OutOfMemory;
-    match fill_recipient(&mut recipient, alloc, &mut input, &mut error) {
+    match fill_recipient(&mut recipient, alloc, input, &mut error) {
         Ok(()) => Ok(recipient),
         Err(Refused) => Err(error),
     }
@@ -702,7 +677,7 @@ impl AsCborValue for CoseRecipient {
     ghost sound = { recipient_laws.sound };
 
     fn from_cbor_value(alloc: Global, value: Value) -> Result<CoseRecipient> {
-        read_recipient(alloc, Source::Tree(value))
+        read_recipient(alloc, &mut Input::Tree(value))
     }
 
     fn to_cbor_value(self, alloc: Global) -> Result<Value> {
@@ -733,7 +708,11 @@ impl Encode for CoseRecipient {
 
 impl FromPull for CoseRecipient {
     fn from_pull(alloc: Global, pull: Pull<'_>) -> Result<CoseRecipient> {
-        read_recipient(alloc, Source::Lent(pull))
+        read_recipient(alloc, &mut Input::new(Source::Lent(pull)))
+    }
+
+    fn from_input(alloc: Global, input: &mut Input<'_>) -> Result<CoseRecipient> {
+        read_recipient(alloc, input)
     }
 }
 

@@ -1,15 +1,16 @@
 //! A reading: an array of fixed places.
 
-ghost use Rattle.std.specs.Prelude.{ℤ};
+ghost use Rattle.std.specs.Prelude.{◌≤◌, ℤ, OnOk};
+ghost use Rattle.coset_shape.specs.Inputs.{state, GoesBehind, ReadsAt, length_left};
 ghost use Rattle.coset_shape.specs.Answers.{Reads};
 ghost use Rattle.coset_shape.specs.Shape.{int64};
 ghost use Rattle.coset_shape.specs.ShapeLaws.{int64_laws};
-ghost use Rattle.coset_shape.specs.Sources.{source_item};
 ghost use Rattle.coset_sample.specs.Reading.{mark_seen, seen, reading};
 
 use coset_cbor::de::Pull;
 use coset_cbor::value::{Integer, Value};
 use coset_shape::encode::{Array, Encode, encode_three, encode_to_value, encode_to_vec};
+use coset_shape::input::Input;
 use coset_shape::list::read_list;
 use coset_shape::traits::{FromPull, read_slice, read_tagged_slice};
 use coset_shape::{
@@ -21,10 +22,12 @@ use std::alloc::Global;
 #[derive(Clone, Copy, Debug, PartialEq, Eq)]
 pub struct Mark(pub i64);
 
-fn read_mark(source: Source<'_>) -> Result<Mark>
-    ensures { Reads int64 mark_seen (source_item source.entry) result }
+fn read_mark(input: &mut Input<'_>) -> Result<Mark>
+    ensures shrinks { length_left (state input.new) ≤ length_left (state input.old) }
+    ensures strictly { OnOk result (GoesBehind (state input.old) (state input.new)) }
+    ensures reads { ReadsAt (state input.old) (state input.new) (λ v. Reads int64 mark_seen v result) }
 {
-    Ok(Mark(source.into_int64("int")?))
+    Ok(Mark(input.int64("int")?))
 }
 
 impl AsCborValue for Mark {
@@ -39,7 +42,7 @@ impl AsCborValue for Mark {
     ghost sound = { int64_laws.sound };
 
     fn from_cbor_value(_alloc: Global, value: Value) -> Result<Mark> {
-        read_mark(Source::Tree(value))
+        read_mark(&mut Input::Tree(value))
     }
 
     fn to_cbor_value(self, _alloc: Global) -> Result<Value> {
@@ -61,7 +64,11 @@ impl Encode for Mark {
 
 impl FromPull for Mark {
     fn from_pull(_alloc: Global, pull: Pull<'_>) -> Result<Mark> {
-        read_mark(Source::Lent(pull))
+        read_mark(&mut Input::new(Source::Lent(pull)))
+    }
+
+    fn from_input(_alloc: Global, input: &mut Input<'_>) -> Result<Mark> {
+        read_mark(input)
     }
 }
 
@@ -76,16 +83,27 @@ pub struct Reading {
     pub marks: Vec<Mark>,
 }
 
-/// Reads the places from the last to the first.
-fn read_reading(alloc: Global, source: Source<'_>) -> Result<Reading>
-    ensures { Reads reading seen (source_item source.entry) result }
+/// What the error of another number of places asks for.
+const THREE: &str = "array with 3 items";
+
+/// Reads the places from the first to the last, and names the fault of the last that has one.
+fn read_reading(alloc: Global, input: &mut Input<'_>) -> Result<Reading>
+    ensures shrinks { length_left (state input.new) ≤ length_left (state input.old) }
+    ensures strictly { OnOk result (GoesBehind (state input.old) (state input.new)) }
+    ensures reads { ReadsAt (state input.old) (state input.new) (λ v. Reads reading seen v result) }
 {
-    let (number, payload, marks) = source.into_three("array with 3 items")?;
-    let marks = read_list(alloc, marks, "array")?;
-    let payload = payload.into_bytes_or_nil(alloc, "bstr or nil")?;
-    let number = number.into_int64("int")?;
+    let mut places = input.enter_array("array")?;
+    places.place(input, THREE)?;
+    let number = input.int64("int");
+    places.place(input, THREE)?;
+    let payload = input.bytes_or_nil(alloc, "bstr or nil");
+    places.place(input, THREE)?;
+    let marks = read_list(alloc, input, "array");
+    places.end(input, THREE)?;
+    let marks = marks?;
+    let payload = payload?;
     Ok(Reading {
-        number,
+        number: number?,
         payload,
         marks,
     })
@@ -105,7 +123,7 @@ impl AsCborValue for Reading {
     ghost sound = { reading_laws.sound };
 
     fn from_cbor_value(alloc: Global, value: Value) -> Result<Reading> {
-        read_reading(alloc, Source::Tree(value))
+        read_reading(alloc, &mut Input::Tree(value))
     }
 
     fn to_cbor_value(self, alloc: Global) -> Result<Value> {
@@ -129,7 +147,11 @@ impl Encode for Reading {
 
 impl FromPull for Reading {
     fn from_pull(alloc: Global, pull: Pull<'_>) -> Result<Reading> {
-        read_reading(alloc, Source::Lent(pull))
+        read_reading(alloc, &mut Input::new(Source::Lent(pull)))
+    }
+
+    fn from_input(alloc: Global, input: &mut Input<'_>) -> Result<Reading> {
+        read_reading(alloc, input)
     }
 }
 

@@ -4,14 +4,16 @@
 //! report = [ sender : bstr, readings : [* reading] ]
 //! ```
 
+ghost use Rattle.std.specs.Prelude.{◌≤◌, OnOk};
 ghost use Rattle.coset_shape.specs.Answers.{Reads};
-ghost use Rattle.coset_shape.specs.Sources.{source_item};
+ghost use Rattle.coset_shape.specs.Inputs.{GoesBehind, ReadsAt, length_left, state};
 ghost use Rattle.coset_sample.specs.Report.{seen, report};
 
 use crate::reading::Reading;
 use coset_cbor::de::Pull;
 use coset_cbor::value::Value;
 use coset_shape::encode::{Array, Encode, encode_to_value, encode_two};
+use coset_shape::input::Input;
 use coset_shape::list::read_list;
 use coset_shape::traits::FromPull;
 use coset_shape::{AsCborValue, CborSerializable, Lawful, Result, Source};
@@ -26,13 +28,23 @@ pub struct Report {
     pub readings: Vec<Reading>,
 }
 
-/// Reads the places from the last to the first.
-fn read_report(alloc: Global, source: Source<'_>) -> Result<Report>
-    ensures { Reads report seen (source_item source.entry) result }
+/// What the error of another number of places asks for.
+const TWO: &str = "array with 2 items";
+
+/// Reads the places from the first to the last, and names the fault of the last that has one.
+fn read_report(alloc: Global, input: &mut Input<'_>) -> Result<Report>
+    ensures shrinks { length_left (state input.new) ≤ length_left (state input.old) }
+    ensures strictly { OnOk result (GoesBehind (state input.old) (state input.new)) }
+    ensures reads { ReadsAt (state input.old) (state input.new) (λ v. Reads report seen v result) }
 {
-    let (sender, readings) = source.into_two("array with 2 items")?;
-    let readings = read_list(alloc, readings, "array")?;
-    let sender = sender.into_bytes(alloc, "bstr")?;
+    let mut places = input.enter_array("array")?;
+    places.place(input, TWO)?;
+    let sender = input.bytes(alloc, "bstr");
+    places.place(input, TWO)?;
+    let readings = read_list(alloc, input, "array");
+    places.end(input, TWO)?;
+    let readings = readings?;
+    let sender = sender?;
     Ok(Report { sender, readings })
 }
 
@@ -50,7 +62,7 @@ impl AsCborValue for Report {
     ghost sound = { report_laws.sound };
 
     fn from_cbor_value(alloc: Global, value: Value) -> Result<Report> {
-        read_report(alloc, Source::Tree(value))
+        read_report(alloc, &mut Input::Tree(value))
     }
 
     fn to_cbor_value(self, alloc: Global) -> Result<Value> {
@@ -74,7 +86,11 @@ impl Encode for Report {
 
 impl FromPull for Report {
     fn from_pull(alloc: Global, pull: Pull<'_>) -> Result<Report> {
-        read_report(alloc, Source::Lent(pull))
+        read_report(alloc, &mut Input::new(Source::Lent(pull)))
+    }
+
+    fn from_input(alloc: Global, input: &mut Input<'_>) -> Result<Report> {
+        read_report(alloc, input)
     }
 }
 

@@ -4,20 +4,21 @@
 //! settings = { 1 => int, ? 2 => bstr, ? 4 => int, * int => any }
 //! ```
 
-ghost use Rattle.std.specs.Prelude.{◌≡◌, ℤ, not, IfOk, IfErr};
+ghost use Rattle.std.specs.Prelude.{◌≡◌, ◌≤◌, ◌<◌, ℤ, not, IfOk, IfErr, IsSome, OnErr, OnOk, option_map};
 ghost use Rattle.std.specs.Map.{keys_of};
 ghost use Rattle.coset_shape.specs.declared.error.CoseError.TheVariants.{OutOfMemory};
 ghost use Rattle.coset_shape.specs.Maps.{are_distinct};
 ghost use Rattle.coset_shape.specs.Answers.{Reads};
+ghost use Rattle.coset_shape.specs.Inputs.{GoesBehind, ReadsAt, length_left, state};
 ghost use Rattle.coset_shape.specs.Shape.{int64};
 ghost use Rattle.coset_shape.specs.ShapeLaws.{int64_laws};
-ghost use Rattle.coset_shape.specs.Sources.{source_item};
 ghost use Rattle.coset_sample.specs.Settings.{name_seen, names, seen, settings, so_far_seen};
 
 use coset_cbor::de::Pull;
 use coset_cbor::value::Value;
 use coset_shape::encode::{Encode, encode_to_tagged_vec, encode_to_value, encode_to_vec};
 use coset_shape::encode_map::MapEncoder;
+use coset_shape::input::{Input, InputPairs};
 use coset_shape::map::{Gather, read_map};
 use coset_shape::traits::FromPull;
 use coset_shape::{
@@ -29,6 +30,14 @@ use std::alloc::Global;
 /// A label: a number of 64 bits with a sign.
 #[derive(Clone, Copy, Debug, PartialEq, Eq, PartialOrd, Ord)]
 pub struct Name(pub i64);
+
+fn read_name(input: &mut Input<'_>) -> Result<Name>
+    ensures shrinks { length_left (state input.new) ≤ length_left (state input.old) }
+    ensures strictly { OnOk result (GoesBehind (state input.old) (state input.new)) }
+    ensures reads { ReadsAt (state input.old) (state input.new) (λ v. Reads int64 name_seen v result) }
+{
+    Ok(Name(input.int64("int")?))
+}
 
 impl AsCborValue for Name {
     ghost Seen = { ℤ };
@@ -42,7 +51,7 @@ impl AsCborValue for Name {
     ghost sound = { int64_laws.sound };
 
     fn from_cbor_value(_alloc: Global, value: Value) -> Result<Name> {
-        Ok(Name(Source::Tree(value).into_int64("int")?))
+        read_name(&mut Input::Tree(value))
     }
 
     fn to_cbor_value(self, _alloc: Global) -> Result<Value> {
@@ -73,6 +82,8 @@ struct SoFar {
 }
 
 impl Gather for SoFar {
+    type Label = Name;
+
     ghost use Rattle.coset_sample.specs.Settings.{fields, names_laws, fields_laws};
     ghost use Rattle.std.specs.Prelude.{Option, List, ℕ};
 
@@ -84,37 +95,46 @@ impl Gather for SoFar {
 
     ghost fields = { fields };
 
+    ghost named = { name_seen };
+
     ghost seen = { so_far_seen };
 
     ghost lawful_names = { names_laws };
 
     ghost lawful_fields = { fields_laws };
 
-    fn add(&mut self, alloc: Global, key: Source<'_>, value: Source<'_>) -> Result<()> {
-        let label = key.into_int64("int")?;
-        if label == 1 {
+    fn next_label(
+        alloc: Global,
+        pairs: &mut InputPairs,
+        input: &mut Input<'_>,
+    ) -> Result<Option<Name>> {
+        pairs.next_key(alloc, input)
+    }
+
+    fn add(&mut self, alloc: Global, label: Name, input: &mut Input<'_>) -> Result<()> {
+        if label.0 == 1 {
             if self.level.is_some() {
-                return Err(CoseError::DuplicateMapKey);
+                return Err(input.repeated());
             }
-            self.level = Some(value.into_int64("int")?);
+            self.level = Some(input.int64("int")?);
             return Ok(());
         }
-        if label == 2 {
+        if label.0 == 2 {
             if self.name.is_some() {
-                return Err(CoseError::DuplicateMapKey);
+                return Err(input.repeated());
             }
-            self.name = Some(value.into_bytes(alloc, "bstr")?);
+            self.name = Some(input.bytes(alloc, "bstr")?);
             return Ok(());
         }
-        if label == 4 {
+        if label.0 == 4 {
             if self.limit.is_some() {
-                return Err(CoseError::DuplicateMapKey);
+                return Err(input.repeated());
             }
-            self.limit = Some(value.into_int64("int")?);
+            self.limit = Some(input.int64("int")?);
             return Ok(());
         }
-        let value = value.into_value(alloc)?;
-        self.rest.push((Name(label), value))?;
+        let value = input.value(alloc)?;
+        self.rest.push((label, value))?;
         Ok(())
     }
 
@@ -127,8 +147,10 @@ impl Gather for SoFar {
     }
 }
 
-fn read_settings(alloc: Global, source: Source<'_>) -> Result<Settings>
-    ensures { Reads settings seen (source_item source.entry) result }
+fn read_settings(alloc: Global, input: &mut Input<'_>) -> Result<Settings>
+    ensures shrinks { length_left (state input.new) ≤ length_left (state input.old) }
+    ensures strictly { OnOk result (GoesBehind (state input.old) (state input.new)) }
+    ensures reads { ReadsAt (state input.old) (state input.new) (λ v. Reads settings seen v result) }
 {
     let mut so_far = SoFar {
         level: None,
@@ -136,7 +158,7 @@ fn read_settings(alloc: Global, source: Source<'_>) -> Result<Settings>
         limit: None,
         rest: Vec::new(alloc),
     };
-    read_map(alloc, source, &mut so_far)?;
+    read_map(alloc, input, &mut so_far)?;
     let SoFar {
         level,
         name,
@@ -168,7 +190,7 @@ impl AsCborValue for Settings {
     ghost sound = { settings_laws.sound };
 
     fn from_cbor_value(alloc: Global, value: Value) -> Result<Settings> {
-        read_settings(alloc, Source::Tree(value))
+        read_settings(alloc, &mut Input::Tree(value))
     }
 
     fn to_cbor_value(self, alloc: Global) -> Result<Value> {
@@ -184,6 +206,16 @@ impl Lawful for Settings {
     ghost use Rattle.coset_sample.specs.Settings.{settings_laws};
 
     ghost laws = { settings_laws };
+}
+
+impl FromPull for Name {
+    fn from_pull(_alloc: Global, pull: Pull<'_>) -> Result<Name> {
+        read_name(&mut Input::new(Source::Lent(pull)))
+    }
+
+    fn from_input(_alloc: Global, input: &mut Input<'_>) -> Result<Name> {
+        read_name(input)
+    }
 }
 
 impl Encode for Name {
@@ -213,7 +245,11 @@ impl Encode for Settings {
 
 impl FromPull for Settings {
     fn from_pull(alloc: Global, pull: Pull<'_>) -> Result<Settings> {
-        read_settings(alloc, Source::Lent(pull))
+        read_settings(alloc, &mut Input::new(Source::Lent(pull)))
+    }
+
+    fn from_input(alloc: Global, input: &mut Input<'_>) -> Result<Settings> {
+        read_settings(alloc, input)
     }
 }
 

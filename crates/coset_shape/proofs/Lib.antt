@@ -3,6 +3,7 @@ pub mod Described
 pub mod Refusals
 pub mod Lists
 pub mod Walking
+pub mod Gathering
 pub mod Pushing
 pub mod Distinct
 pub mod Encoding
@@ -11,3 +12,4 @@ pub mod Inputs
 pub mod InPlace
 pub mod Apart
 pub mod AsWritten
+pub mod Placed

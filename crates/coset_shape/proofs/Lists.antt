@@ -8,15 +8,11 @@ use Rattle.coset_value.specs.Item.{Item, array, Items, no_items, item}
 use Rattle.coset_value.specs.View.{view, items_view}
 use Rattle.coset_value.specs.declared.value.Value.{Value, Array, the_lemmas}
 use Rattle.coset_shape.specs.declared.error.CoseError.{CoseError}
-use Rattle.coset_shape.specs.Errors.{UnlessMemory}
 use Rattle.coset_shape.specs.Shape.{Shape, Each, EachFaults, blamed, images}
 use Rattle.coset_shape.specs.ShapeLaws.{both-some}
-use Rattle.coset_shape.specs.Lists.{Continues, EachWith, ReadsEach}
+use Rattle.coset_shape.specs.Lists.{Continues, EachWith}
 
 module _ {A : Type 0} (s : Shape A) where
-  pub begins : (all : Items) (so_far : List A) → so_far ≡ [] → Continues A s.describes s.faults all so_far all
-  begins all so_far e = rw e (record { ends = λ zs p. p; blames = λ e p. p })
-
   pub goes_on :
       (all old new : Items) (v : Item) (x : A) (xs ys : List A) → Continues A s.describes s.faults all xs old → old ≡ item v new → s.describes v x → ys ≡ xs ++ x ∷ []
       → Continues A s.describes s.faults all ys new
@@ -29,13 +25,6 @@ module _ {A : Type 0} (s : Shape A) where
   -- none is left
   pub all_read : (all left : Items) (xs : List A) → Continues A s.describes s.faults all xs left → left ≡ no_items → Each s.describes all xs
   all_read all left xs c n = subst (Each s.describes all) (append-nil xs) (c.ends [] (subst (λ vs. Each s.describes vs []) (sym n) tt))
-
-  -- the fault of a member is one of theirs
-  pub member_refused :
-      {T : Type 0} (seen : T → A) (w : Item) (all old new : Items) (xs : List A) (r : Result (Vec T Global) CoseError) (e : CoseError) → IsErrAnd r (λ f. f ≡ e) → Continues A s.describes s.faults all xs old
-      → old ≡ item w new → UnlessMemory e (s.faults w) → ReadsEach s seen all r
-  member_refused seen w all old new xs (Ok x) e is c q h = absurd is
-  member_refused seen w all old new xs (Err f) e is c q h = λ n. c.blames f (subst (λ vs. EachFaults s.faults vs f) (sym q) (inl (subst (s.faults w) (sym is) (h (λ m. n (is ∙ m))))))
 
   -- whatever their faults are
   pub each_blamed : (blames : CoseError → Type 0) (all : Items) (e f : CoseError) → blames f → EachFaults s.faults all e → EachFaults (blamed blames s).faults all f

@@ -1,10 +1,10 @@
 -- A map read pair by pair.
-use Rattle.std.proofs.Common.{◌≡◌, ◌⊎◌, List, [], Some, Bool, true, false, not, refl, sym, ◌∙◌, ap, subst, inl, inr, true≢false}
+use Rattle.std.proofs.Common.{◌≡◌, List, [], Some, Bool, true, false, not, refl, sym, ◌∙◌, ap, subst, inl, inr, true≢false}
 use Rattle.std.specs.Map.{keys_of}
 use Rattle.coset_value.specs.Item.{Item, Pairs, no_pairs, pair}
 use Rattle.coset_value.specs.Parts.{as_map}
 use Rattle.coset_shape.specs.declared.error.CoseError.{CoseError}
-use Rattle.coset_shape.specs.declared.error.CoseError.TheVariants.{DuplicateMapKey, OutOfMemory}
+use Rattle.coset_shape.specs.declared.error.CoseError.TheVariants.{DuplicateMapKey}
 use Rattle.coset_shape.specs.Maps.{Names, Fields, Entries, SoFar, Walks, TakesKey, RefusesKey, MapFaults, Twice, and_pairs, with_pair, are_distinct, labelled}
 use Rattle.coset_shape.specs.MapLaws.{LawfulNames, LawfulFields, so_far_none, so_far_more, so_far_all, so_far_twice, refuses_fault, key_fault, distinct_tested, and_pairs-with, and_pairs-none}
 
@@ -40,14 +40,6 @@ module _ {N A : Type 0} (n : Names N) (laws : LawfulNames N n) (fs : Fields N A)
       fault : RefusesKey n fs k w x e → MapFaults n fs (and_pairs (with_pair walk.done k w) new) e
       fault (inl g) = key_fault n fs walk.done k w e g new
       fault (inr g) = refuses_fault n laws fs fl walk.done k w g.0 x e walk.so_far g.1 g.2 new
-
-  -- the error that is answered where a pair is refused: of that pair, or of a label that repeats before it
-  pub first_stands :
-      (v : Item) (all old new : Pairs) (k w : Item) (x y : A × List (N × Item)) (e f : CoseError) → as_map v ≡ Some all → Walks N A n fs all x old → old ≡ pair k w new
-      → ((e ≡ OutOfMemory → ⊥) → RefusesKey n fs k w x e) → y ≡ x → ((f ≡ e) × (e ≡ OutOfMemory → ⊥)) ⊎ ((f ≡ DuplicateMapKey) × (are_distinct n.same (keys_of y.1) ≡ false)) → (labelled n fs).faults v f
-  first_stands v all old new k w x y e f m walk q r same (inl h) = subst ((labelled n fs).faults v) (sym h.0) (refuses v all old new k w x e m walk q (r h.1))
-  first_stands v all old new k w x y e f m walk q r same (inr h) =
-      subst ((labelled n fs).faults v) (sym h.0) (stumbles v all old x m walk (subst (λ z. are_distinct n.same (keys_of z.1) ≡ false) same h.1))
 
 -- what a test says of its negation
 pub not_true : (b c : Bool) → b ≡ not c → b ≡ true → c ≡ false

@@ -6,19 +6,18 @@ use Rattle.coset_value.specs.Parts.{as_array, as_map}
 use Rattle.coset_value.specs.View.{view, items_view, pairs_view}
 use Rattle.coset_cbor.specs.Cursors as bytes
 use Rattle.coset_cbor.specs.Cursors.{bytes_left, keys_and_values}
-use Rattle.coset_cbor.specs.declared.cursor.Places.{Places}
 use Rattle.coset_shape.specs.declared.error.CoseError.{CoseError}
-use Rattle.coset_shape.specs.declared.source.Source.{Source}
 use Rattle.coset_shape.specs.declared.input.Input.{Input}
 use Rattle.coset_shape.specs.declared.input.Input.TheVariants.{Tree, Lent}
 use Rattle.coset_shape.specs.declared.input.InputItems.{InputItems}
 use Rattle.coset_shape.specs.declared.input.InputItems.TheVariants as items
 use Rattle.coset_shape.specs.declared.input.InputPairs.{InputPairs}
 use Rattle.coset_shape.specs.declared.input.InputPairs.TheVariants as pairs
-use Rattle.coset_shape.specs.Errors.{IsUnexpected}
+use Rattle.coset_shape.specs.Errors.{IsUnexpected, UnlessMemory}
 use Rattle.coset_shape.specs.Kinds.{kind, Says}
 use Rattle.coset_shape.specs.OneOrMore.{Begins, BeginsWithNeither, SaysOnes}
-use Rattle.coset_shape.specs.Sources.{source_item}
+use Rattle.coset_shape.specs.Shape.{Shape, is_nil}
+use Rattle.coset_shape.specs.Sources.{IsMisfit}
 
 -- what is still to come: an item, or bytes
 pub data State : Type 0 where
@@ -46,6 +45,25 @@ PairsWithin (pairs.Lent p) ps s z = (b : List ℕ) × (a : List ℕ) × (s ≡ l
 
 -- ---- what reading answers
 
+-- the item that stood at s was read, and t is just behind it; P tells what was answered
+abbrev pub ReadsAt : State → State → (Item → Type 0) → Type 0
+ReadsAt s t P = (v : Item) (z : State) → Stands v s z → (t ≡ z) × P v
+
+-- what the item v holds was read, and t is behind it; or v holds nothing of the kind, and t is s as before
+abbrev pub TakesPart : {T P : Type 0} → (Item → Option P) → (T → P) → Item → State → State → State → Option T → Type 0
+TakesPart part seen v s t z (Some x) = (part v ≡ Some (seen x)) × (t ≡ z)
+TakesPart part seen v s t z None = (part v ≡ None) × (t ≡ s)
+
+-- the same of null, which holds nothing
+abbrev pub TakesNull : Item → State → State → State → Bool → Type 0
+TakesNull v s t z true = (is_nil v ≡ true) × (t ≡ z)
+TakesNull v s t z false = (is_nil v ≡ false) × (t ≡ s)
+
+-- what is still to come are lent bytes
+abbrev pub IsLent : State → Type 0
+IsLent (tree w) = ⊥
+IsLent (lent s) = ⊤
+
 -- the members of the array v stand at t; or v is no array and was passed
 abbrev pub EntersArray : List ℕ → Item → State → State → Result InputItems CoseError → Type 0
 EntersArray want v t z (Ok m) = (vs : Items) × (as_array v ≡ Some vs) × AreWithin m vs t z
@@ -67,25 +85,18 @@ abbrev pub Nexts : Items → State → State → InputItems → Bool → Type 0
 Nexts vs t z m true = (v : Item) × (others : Items) × (mid : State) × (vs ≡ item v others) × Stands v t mid × AreWithin m others mid z
 Nexts vs t z m false = (vs ≡ no_items) × AreWithin m no_items t z
 
--- the next of the members is this; or none is left
-abbrev pub TakesNext : Items → State → State → InputItems → Result (Option Source) CoseError → Type 0
-TakesNext vs t z m (Ok (Some s)) = (v : Item) × (others : Items) × (vs ≡ item v others) × (source_item s ≡ v) × AreWithin m others t z
-TakesNext vs t z m (Ok None) = (vs ≡ no_items) × AreWithin m no_items t z
-TakesNext vs t z m (Err e) = ⊥
+-- the next of the members stands at t; or none is left, the array was passed, and the error says with `want` that it has too few
+abbrev pub NextPlace : List ℕ → Items → State → State → InputItems → Result (Unit {0}) CoseError → Type 0
+NextPlace want vs t z m (Ok x) = (v : Item) × (others : Items) × (mid : State) × (vs ≡ item v others) × Stands v t mid × AreWithin m others mid z
+NextPlace want vs t z m (Err e) = (vs ≡ no_items) × (t ≡ z) × IsMisfit want e
 
--- the value of the next pair stands at t, whose key this is; or no pair is left
-abbrev pub NextsKey : Pairs → State → State → InputPairs → Result (Option Source) CoseError → Type 0
-NextsKey ps t z m (Ok (Some key)) =
-    (k : Item) × (v : Item) × (others : Pairs) × (mid : State) × (ps ≡ pair k v others) × (source_item key ≡ k) × Stands v t mid × PairsWithin m others mid z
-NextsKey ps t z m (Ok None) = (ps ≡ no_pairs) × PairsWithin m no_pairs t z
-NextsKey ps t z m (Err e) = ⊥
-
--- the same in bytes
-abbrev pub LentKey : Pairs → List ℕ → List ℕ → Places → Result (Option Source) CoseError → Type 0
-LentKey ps t a p (Ok (Some key)) =
-    (k : Item) × (v : Item) × (others : Pairs) × (mid : List ℕ) × (ps ≡ pair k v others) × (source_item key ≡ k) × bytes.Stands v t mid × bytes.AreWithin p (keys_and_values others) mid a
-LentKey ps t a p (Ok None) = (ps ≡ no_pairs) × bytes.AreWithin p (keys_and_values no_pairs) t a
-LentKey ps t a p (Err e) = ⊥
+-- the value of the next pair stands at t, whose key was read as this; or no pair is left; or the key is at fault, and the value was
+-- passed
+abbrev pub NextsKey : {K A : Type 0} → Shape A → (K → A) → Pairs → State → State → InputPairs → Result (Option K) CoseError → Type 0
+NextsKey s seen ps t z m (Ok (Some key)) =
+    (k : Item) × (v : Item) × (others : Pairs) × (mid : State) × (ps ≡ pair k v others) × s.describes k (seen key) × Stands v t mid × PairsWithin m others mid z
+NextsKey s seen ps t z m (Ok None) = (ps ≡ no_pairs) × PairsWithin m no_pairs t z
+NextsKey s seen ps t z m (Err e) = (k : Item) × (v : Item) × (others : Pairs) × (ps ≡ pair k v others) × PairsWithin m others t z × UnlessMemory e (s.faults k)
 
 -- ---- how far reading still goes
 

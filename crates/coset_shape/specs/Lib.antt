@@ -18,6 +18,7 @@ pub mod OneOrMore
 pub mod Lists
 pub mod Encoding
 pub mod Inputs
+pub mod Gathering
 pub mod InPlace
 pub mod Recursive
 pub mod RecursiveLaws

@@ -1,22 +1,27 @@
 //! Reading forward: an item is read where it stands, and who reads it goes just behind it, whatever is answered. So the
 //! bytes of what holds itself, as headers do, are passed once at whatever depth.
 
-ghost use Rattle.std.specs.Prelude.{◌≡◌, ◌≤◌, ◌<◌, List, ℕ, length, IfOk, IsOkAnd, IsSome, IsTrue, OnOk};
+ghost use Rattle.std.specs.Prelude.{◌≡◌, ◌≤◌, ◌<◌, List, ℕ, length, IfOk, IsOkAnd, IsSome, IsTrue, OnErr, OnOk};
 ghost use Rattle.coset_value.specs.Item.{Item, null, Items, no_items, Pairs, no_pairs};
 ghost use Rattle.coset_value.specs.View.{view};
-ghost use Rattle.coset_cbor.specs.Cursors.{bytes_left, keys_and_values, AreWithin as lent_within};
+ghost use Rattle.coset_cbor.specs.Cursors.{bytes_left, AreWithin as lent_within};
 ghost use Rattle.coset_cbor.specs.Grammar.{IsItem};
-ghost use Rattle.coset_shape.specs.Inputs.{State, tree, lent, state, Stands, GoesBehind, length_left, input_size, items_size, pairs_size, items_turns, pairs_turns, AreWithin, PairsWithin};
-ghost use Rattle.coset_shape.specs.Inputs.{EntersArray, EntersMap, EntersOnes, LentKey, Nexts, NextsKey, TakesNext};
+ghost use Rattle.coset_shape.specs.declared.input.InputItems.TheVariants as items;
+ghost use Rattle.coset_shape.specs.declared.input.InputPairs.TheVariants.{Lent};
+ghost use Rattle.coset_shape.specs.Answers.{Reads};
+ghost use Rattle.coset_shape.specs.Inputs.{State, tree, lent, state, Stands, GoesBehind, IsLent, length_left, input_size, items_size, pairs_size, items_turns, pairs_turns, AreWithin, PairsWithin};
+ghost use Rattle.coset_shape.specs.Inputs.{EntersArray, EntersMap, EntersOnes, NextPlace, Nexts, NextsKey};
 ghost use Rattle.coset_shape.specs.OneOrMore.{BeginsSo};
-ghost use Rattle.coset_shape.specs.Sources.{source_item};
+ghost use Rattle.coset_shape.specs.Sources.{IsMisfit, TakesEnd, source_item};
 
-use crate::error::Result;
+use crate::error::{CoseError, Result};
 use crate::one_or_more::{no_ones, tree_is_one};
 use crate::source::Source;
+use crate::traits::FromPull;
 use crate::util::{cbor_type_error, pull_type_error};
 use coset_cbor::cursor::{Cursor, Places};
 use coset_cbor::value::Value;
+use std::alloc::Global;
 use std::{mem, vec};
 
 /// An item that is read where it stands.
@@ -104,6 +109,13 @@ fn lent_is_one(places: Places, cursor: Cursor<'_>) -> Result<bool>
     Err(pull_type_error(cursor.take()?, "array or bstr value"))
 }
 
+/// The error of an array with too few places, or too many.
+fn misfit(want: &'static str) -> CoseError
+    ensures { IsMisfit want.now result }
+{
+    CoseError::UnexpectedItem("array", want)
+}
+
 impl<'a> Input<'a> {
     /// The item that is read.
     pub fn new(source: Source<'a>) -> Input<'a>
@@ -129,6 +141,7 @@ impl<'a> Input<'a> {
     /// None where an item stands there.
     pub fn take(&mut self) -> Result<Source<'a>>
         ensures shrinks { length_left (state self.new) ≤ length_left (state self.old) }
+        ensures strictly { OnOk result (GoesBehind (state self.old) (state self.new)) }
         ensures passes { (v : Item) (z : State) → Stands v (state self.old) z → (state self.new ≡ z)
             × IsOkAnd result (λ s. source_item s ≡ v) }
     {
@@ -224,6 +237,18 @@ impl<'a> Input<'a> {
     }
 }
 
+/// Whether one more of these items stands at the input.
+fn next_lent(places: &mut Places, input: &Input<'_>) -> bool
+    ensures there { IsTrue result → IsLent (state input.now) }
+    ensures nexts { (vs : Items) (z : State) → AreWithin (items.Lent places.old) vs (state input.now) z
+        → Nexts vs (state input.now) z (items.Lent places.new) result }
+{
+    match input {
+        Input::Lent(cursor) => places.next(cursor),
+        Input::Tree(_) => false,
+    }
+}
+
 impl InputItems {
     /// Whether one more member stands at the input, which is to be read next. It takes no memory.
     pub fn next(&mut self, input: &mut Input<'_>) -> bool
@@ -245,28 +270,48 @@ impl InputItems {
                 }
                 None => false,
             },
-            InputItems::Lent(places) => match input {
-                Input::Lent(cursor) => places.next(cursor),
-                Input::Tree(_) => false,
-            },
+            InputItems::Lent(places) => next_lent(places, input),
         }
     }
 
-    /// The next member, or `None` where none is left. It takes no memory.
+    /// Goes to the next member, which has to be there. It takes no memory.
     ///
     /// # Errors
-    /// None where the members of an array stand there.
-    pub fn take<'a>(&mut self, input: &mut Input<'a>) -> Result<Option<Source<'a>>>
+    /// `UnexpectedItem` with `want`: no member is left, and the array is passed.
+    pub fn place(&mut self, input: &mut Input<'_>, want: &'static str) -> Result<()>
         ensures shrinks { length_left (state input.new) ≤ length_left (state input.old) }
-        ensures size { items_size self.new (state input.new) ≤ items_size self.old
-            (state input.old) }
-        ensures takes { (vs : Items) (z : State) → AreWithin self.old vs (state input.old) z
-            → TakesNext vs (state input.new) z self.new result }
+        ensures size { OnOk result (input_size (state input.new)
+            ≤ items_size self.old (state input.old)) }
+        ensures left { OnOk result (items_size self.new (state input.new)
+            ≤ items_size self.old (state input.old)) }
+        ensures place { (vs : Items) (z : State) → AreWithin self.old vs (state input.old) z
+            → NextPlace want.now vs (state input.new) z self.new result }
     {
-        if !self.next(input) {
-            return Ok(None);
+        if self.next(input) {
+            return Ok(());
         }
-        Ok(Some(input.take()?))
+        self.finish(input);
+        Err(misfit(want))
+    }
+
+    /// Passes the array, whose members have to be read. It takes no memory.
+    ///
+    /// # Errors
+    /// `UnexpectedItem` with `want`: a member is left.
+    pub fn end(&mut self, input: &mut Input<'_>, want: &'static str) -> Result<()>
+        ensures shrinks { length_left (state input.new) ≤ length_left (state input.old) }
+        ensures end { (vs : Items) (z : State) → AreWithin self.old vs (state input.old) z
+            → (state input.new ≡ z) × TakesEnd want.now vs result }
+    {
+        let more = self.next(input);
+        if more {
+            input.pass();
+        }
+        self.finish(input);
+        if more {
+            return Err(misfit(want));
+        }
+        Ok(())
     }
 
     /// No members.
@@ -293,30 +338,64 @@ impl InputItems {
 }
 
 /// The next key of a map in bytes, whose value is then at the place.
-fn lent_key<'a>(places: &mut Places, cursor: &mut Cursor<'a>) -> Result<Option<Source<'a>>>
-    ensures shrinks { length (bytes_left cursor.new) ≤ length (bytes_left cursor.old) }
-    ensures strictly { IfOk result (λ o. IsSome o → length (bytes_left cursor.new) < length
-        (bytes_left cursor.old)) }
-    ensures nexts { (ps : Pairs) (a : List ℕ) → lent_within places.old (keys_and_values ps)
-        (bytes_left cursor.old) a
-        → LentKey ps (bytes_left cursor.new) a places.new result }
+fn lent_key<K: FromPull + Drop>(
+    alloc: Global,
+    places: &mut Places,
+    input: &mut Input<'_>,
+) -> Result<Option<K>>
+    ensures shrinks { length_left (state input.new) ≤ length_left (state input.old) }
+    ensures value { IfOk result (λ o. IsSome o
+        → input_size (state input.new) ≤ length_left (state input.old)) }
+    ensures turns { IfOk result (λ o. IsSome o
+        → length_left (state input.new) < length_left (state input.old)) }
+    ensures nexts { (ps : Pairs) (z : State) → PairsWithin (Lent places.old) ps (state input.old) z
+        → NextsKey K.shape K.seen ps (state input.new) z (Lent places.new) result }
 {
-    if !places.next(cursor) {
+    if !next_lent(places, input) {
         return Ok(None);
     }
-    let key = cursor.take()?;
-    places.next(cursor);
-    Ok(Some(Source::Lent(key)))
+    let key = K::from_input(alloc, input);
+    // A key has a value.
+    if !next_lent(places, input) {
+        return Ok(None);
+    }
+    match key {
+        Ok(key) => Ok(Some(key)),
+        Err(error) => {
+            input.pass();
+            Err(error)
+        }
+    }
+}
+
+/// The key of a pair of a value, whose value is then at the place.
+fn tree_key<K: FromPull>(
+    alloc: Global,
+    key: Value,
+    value: Value,
+    input: &mut Input<'_>,
+) -> Result<K>
+    ensures shrinks { length_left (state input.new) ≤ length_left (state input.old) }
+    ensures key { Reads K.shape K.seen (view key) result }
+    ensures ok { OnOk result (state input.new ≡ tree (view value)) }
+    ensures refused { OnErr result (state input.new ≡ tree null) }
+{
+    *input = Input::Tree(Value::Null);
+    let key = K::from_cbor_value(alloc, key)?;
+    *input = Input::Tree(value);
+    Ok(key)
 }
 
 impl InputPairs {
-    /// The next key, whose value then stands at the input, which is to be read next; or `None` where no pair is
-    /// left. It
-    /// takes no memory.
+    /// The next key, whose value then stands at the input, which is to be read next; or `None` where no pair is left.
     ///
     /// # Errors
-    /// None where the pairs of a map stand there.
-    pub fn next_key<'a>(&mut self, input: &mut Input<'a>) -> Result<Option<Source<'a>>>
+    /// `OutOfMemory`, or a fault of the key; its value is then passed.
+    pub fn next_key<K: FromPull + Drop>(
+        &mut self,
+        alloc: Global,
+        input: &mut Input<'_>,
+    ) -> Result<Option<K>>
         ensures shrinks { length_left (state input.new) ≤ length_left (state input.old) }
         ensures size { pairs_size self.new (state input.new) ≤ pairs_size self.old
             (state input.old) }
@@ -326,20 +405,14 @@ impl InputPairs {
         ensures turns { IfOk result (λ o. IsSome o → pairs_turns self.new (state input.new) <
             pairs_turns self.old (state input.old)) }
         ensures nexts { (ps : Pairs) (z : State) → PairsWithin self.old ps (state input.old) z
-            → NextsKey ps (state input.new) z self.new result }
+            → NextsKey K.shape K.seen ps (state input.new) z self.new result }
     {
         match self {
             InputPairs::Tree(pairs) => match pairs.next() {
-                Some((key, value)) => {
-                    *input = Input::Tree(value);
-                    Ok(Some(Source::Tree(key)))
-                }
+                Some((key, value)) => Ok(Some(tree_key(alloc, key, value, input)?)),
                 None => Ok(None),
             },
-            InputPairs::Lent(places) => match input {
-                Input::Lent(cursor) => lent_key(places, cursor),
-                Input::Tree(_) => Ok(None),
-            },
+            InputPairs::Lent(places) => lent_key(alloc, places, input),
         }
     }
 

@@ -5,12 +5,12 @@
 pub mod encode;
 pub mod encode_map;
 pub mod error;
+mod forward;
 pub mod input;
 pub mod laws;
 pub mod list;
 pub mod map;
 mod one_or_more;
-mod places;
 mod repeats;
 pub mod source;
 pub mod traits;

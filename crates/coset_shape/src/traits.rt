@@ -1,16 +1,19 @@
 //! How a type is read from CBOR and written to it.
 
-ghost use Rattle.std.specs.Prelude.{◌≡◌, ℕ, IfErr};
+ghost use Rattle.std.specs.Prelude.{◌≡◌, ◌≤◌, ℕ, IfErr, OnOk};
 ghost use Rattle.coset_value.specs.Item.{Item};
 ghost use Rattle.coset_value.specs.View.{view};
 ghost use Rattle.coset_cbor.specs.Pulls.{pull_item};
 ghost use Rattle.coset_shape.specs.declared.error.CoseError.{CoseError};
 ghost use Rattle.coset_shape.specs.declared.error.CoseError.TheVariants.{OutOfMemory};
 ghost use Rattle.coset_shape.specs.Answers.{Reads, Images, Writes, ReadsSlice, ReadsWhole, Untags, AllocatesForItems, RefusesSlice};
+ghost use Rattle.coset_shape.specs.Inputs.{GoesBehind, ReadsAt, length_left, state};
 ghost use Rattle.coset_shape.specs.Shape.{Shape, any, tagged};
 ghost use Rattle.coset_shape.specs.ShapeLaws.{Lawful as LawfulShape};
 
 use crate::error::{CoseError, Result};
+use crate::input::Input;
+use crate::source::Source;
 use crate::util::{ValueTryAs, pull_type_error};
 use coset_cbor::de::Pull;
 use coset_cbor::laws;
@@ -199,11 +202,31 @@ pub trait FromPull: AsCborValue {
     /// The same as [`AsCborValue::from_cbor_value`].
     fn from_pull(alloc: Global, pull: Pull<'_>) -> Result<Self>
         ensures { Reads Self.shape Self.seen (pull_item pull.entry) result };
+
+    /// Reads a value from the item that stands at the input, and leaves that just behind it, also where it is refused.
+    ///
+    /// # Errors
+    /// The same as [`AsCborValue::from_cbor_value`].
+    fn from_input(alloc: Global, input: &mut Input<'_>) -> Result<Self>
+        ensures shrinks { length_left (state input.new) ≤ length_left (state input.old) }
+        ensures strictly { OnOk result (GoesBehind (state input.old) (state input.new)) }
+        ensures reads { ReadsAt (state input.old) (state input.new)
+            (λ v. Reads Self.shape Self.seen v result) }
+    {
+        match input.take()? {
+            Source::Tree(value) => Self::from_cbor_value(alloc, value),
+            Source::Lent(pull) => Self::from_pull(alloc, pull),
+        }
+    }
 }
 
 impl FromPull for Value {
     fn from_pull(alloc: Global, pull: Pull<'_>) -> Result<Value> {
         Ok(pull.to_value(alloc)?)
+    }
+
+    fn from_input(alloc: Global, input: &mut Input<'_>) -> Result<Value> {
+        input.value(alloc)
     }
 }
 

@@ -1,13 +1,13 @@
 //! Messages with any number of signatures (RFC 8152, section 4.1).
 
-ghost use Rattle.std.specs.Prelude.{◌≡◌, ◌↔◌, ◌<◌, map, length, slice_get, IsTrue, IfOk, IfErr, Option, Some, None};
+ghost use Rattle.std.specs.Prelude.{◌≡◌, ◌≤◌, ◌↔◌, ◌<◌, OnOk, map, length, slice_get, IsTrue, IfOk, IfErr, Option, Some, None};
 ghost use Rattle.coset_value.specs.Item.{Item};
 ghost use Rattle.std.specs.Ordering.{on};
 ghost use Rattle.std.specs.Cmp.Lexicographic.{pointwise};
 ghost use Rattle.std.specs.Cmp.{on_equiv, on_per, partial_equiv_from_equiv};
 ghost use Rattle.coset_shape.specs.declared.error.CoseError.TheVariants.{OutOfMemory};
 ghost use Rattle.coset_shape.specs.Answers.{Reads, Writes};
-ghost use Rattle.coset_shape.specs.Sources.{source_item};
+ghost use Rattle.coset_shape.specs.Inputs.{state, GoesBehind, ReadsAt, length_left};
 ghost use Rattle.coset_shape.specs.InPlace.{Fills};
 ghost use Rattle.coset_core.specs.Headers.{SignatureSeen};
 ghost use Rattle.coset_core.specs.Messages.{unread};
@@ -25,6 +25,7 @@ use coset_core::{Bstr, CoseSignature, Header, ProtectedHeader, fill_headers};
 use coset_shape::encode::{
     Array, Encode, encode_four, encode_to_tagged_vec, encode_to_value, encode_to_vec,
 };
+use coset_shape::input::Input;
 use coset_shape::list::read_blamed_list;
 use coset_shape::traits::{FromPull, read_slice, read_tagged_slice};
 use coset_shape::util::copy_bytes;
@@ -54,34 +55,48 @@ pub struct CoseSign {
     pub signatures: Vec<CoseSignature>,
 }
 
-/// Reads the places into an empty message, from the last to the first. Of a signature with a fault is said that it is
-/// none.
-fn fill_sign(message: &mut CoseSign, alloc: Global, source: Source<'_>) -> Result<()>
+/// What the error of another number of places asks for.
+const PLACES: &str = "array with 4 items";
+
+/// Reads the places into an empty message, and names the fault of the last that has one. Of a signature with a fault is said
+/// that it is none.
+fn fill_sign(message: &mut CoseSign, alloc: Global, input: &mut Input<'_>) -> Result<()>
     requires empty { sign_seen message.old ≡ empty_sign }
-    ensures { Fills sign (source_item source.entry) (sign_seen message.new) result }
+    ensures shrinks { length_left (state input.new) ≤ length_left (state input.old) }
+    ensures strictly { OnOk result (GoesBehind (state input.old) (state input.new)) }
+    ensures fills { ReadsAt (state input.old) (state input.new)
+        (λ v. Fills sign v (sign_seen message.new) result) }
 {
-    let (protected, unprotected, payload, signatures) = source.into_four("array with 4 items")?;
-    let blame = ("non-signature", "map for COSE_Signature");
-    message.signatures = read_blamed_list(alloc, signatures, "array", blame)?;
-    message.payload = payload.into_bytes_or_nil(alloc, "bstr or nil")?;
-    fill_headers(
+    let mut places = input.enter_array("array")?;
+    let headers = fill_headers(
         &mut message.protected,
         &mut message.unprotected,
         alloc,
-        protected,
-        unprotected,
-    )
+        &mut places,
+        input,
+        PLACES,
+    )?;
+    places.place(input, PLACES)?;
+    let payload = input.bytes_or_nil(alloc, "bstr or nil");
+    places.place(input, PLACES)?;
+    let blame = ("non-signature", "map for COSE_Signature");
+    let signatures = read_blamed_list(alloc, input, "array", blame);
+    places.end(input, PLACES)?;
+    message.signatures = signatures?;
+    message.payload = payload?;
+    headers
 }
 
 /// Reads a message.
-fn read_sign(alloc: Global, source: Source<'_>) -> Result<CoseSign>
-    ensures { Reads sign sign_seen (source_item source.entry) result }
+fn read_sign(alloc: Global, input: &mut Input<'_>) -> Result<CoseSign>
+    ensures shrinks { length_left (state input.new) ≤ length_left (state input.old) }
+    ensures strictly { OnOk result (GoesBehind (state input.old) (state input.new)) }
+    ensures reads { ReadsAt (state input.old) (state input.new)
+        (λ v. Reads sign sign_seen v result) }
 {
     let mut message = CoseSign::new(alloc);
-    match fill_sign(&mut message, alloc, source) {
-        Ok(()) => Ok(message),
-        Err(error) => Err(error),
-    }
+    fill_sign(&mut message, alloc, input)?;
+    Ok(message)
 }
 
 impl CoseSign {
@@ -305,7 +320,7 @@ impl AsCborValue for CoseSign {
     ghost sound = { sign_laws.sound };
 
     fn from_cbor_value(alloc: Global, value: Value) -> Result<CoseSign> {
-        read_sign(alloc, Source::Tree(value))
+        read_sign(alloc, &mut Input::Tree(value))
     }
 
     fn to_cbor_value(self, alloc: Global) -> Result<Value> {
@@ -344,7 +359,11 @@ impl Encode for CoseSign {
 
 impl FromPull for CoseSign {
     fn from_pull(alloc: Global, pull: Pull<'_>) -> Result<CoseSign> {
-        read_sign(alloc, Source::Lent(pull))
+        read_sign(alloc, &mut Input::new(Source::Lent(pull)))
+    }
+
+    fn from_input(alloc: Global, input: &mut Input<'_>) -> Result<CoseSign> {
+        read_sign(alloc, input)
     }
 }
 

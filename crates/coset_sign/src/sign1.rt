@@ -1,11 +1,11 @@
 //! Messages with one signature (RFC 8152, section 4.2).
 
-ghost use Rattle.std.specs.Prelude.{◌≡◌, ◌↔◌, IsTrue, IfOk, IfErr, Some, None};
+ghost use Rattle.std.specs.Prelude.{◌≡◌, ◌≤◌, ◌↔◌, OnOk, IsTrue, IfOk, IfErr, Some, None};
 ghost use Rattle.std.specs.Ordering.{on};
 ghost use Rattle.std.specs.Cmp.{on_equiv, on_per, partial_equiv_from_equiv};
 ghost use Rattle.coset_shape.specs.declared.error.CoseError.TheVariants.{OutOfMemory};
 ghost use Rattle.coset_shape.specs.Answers.{Reads, Writes};
-ghost use Rattle.coset_shape.specs.Sources.{source_item};
+ghost use Rattle.coset_shape.specs.Inputs.{state, GoesBehind, ReadsAt, length_left};
 ghost use Rattle.coset_shape.specs.InPlace.{Fills};
 ghost use Rattle.coset_core.specs.Messages.{unread};
 ghost use Rattle.coset_core.specs.Views.{header_seen};
@@ -21,6 +21,7 @@ use coset_core::{Bstr, Header, ProtectedHeader, fill_headers};
 use coset_shape::encode::{
     Encode, encode_four, encode_to_tagged_vec, encode_to_value, encode_to_vec,
 };
+use coset_shape::input::Input;
 use coset_shape::traits::{FromPull, read_slice, read_tagged_slice};
 use coset_shape::util::copy_bytes;
 use coset_shape::{
@@ -46,32 +47,46 @@ pub struct CoseSign1 {
     pub signature: Vec<u8>,
 }
 
-/// Reads the places into an empty message, from the last to the first.
-fn fill_sign1(message: &mut CoseSign1, alloc: Global, source: Source<'_>) -> Result<()>
+/// What the error of another number of places asks for.
+const PLACES: &str = "array with 4 items";
+
+/// Reads the places into an empty message, and names the fault of the last that has one.
+fn fill_sign1(message: &mut CoseSign1, alloc: Global, input: &mut Input<'_>) -> Result<()>
     requires empty { sign1_seen message.old ≡ empty_sign1 }
-    ensures { Fills sign1 (source_item source.entry) (sign1_seen message.new) result }
+    ensures shrinks { length_left (state input.new) ≤ length_left (state input.old) }
+    ensures strictly { OnOk result (GoesBehind (state input.old) (state input.new)) }
+    ensures fills { ReadsAt (state input.old) (state input.new)
+        (λ v. Fills sign1 v (sign1_seen message.new) result) }
 {
-    let (protected, unprotected, payload, signature) = source.into_four("array with 4 items")?;
-    message.signature = signature.into_bytes(alloc, "bstr")?;
-    message.payload = payload.into_bytes_or_nil(alloc, "bstr or nil")?;
-    fill_headers(
+    let mut places = input.enter_array("array")?;
+    let headers = fill_headers(
         &mut message.protected,
         &mut message.unprotected,
         alloc,
-        protected,
-        unprotected,
-    )
+        &mut places,
+        input,
+        PLACES,
+    )?;
+    places.place(input, PLACES)?;
+    let payload = input.bytes_or_nil(alloc, "bstr or nil");
+    places.place(input, PLACES)?;
+    let signature = input.bytes(alloc, "bstr");
+    places.end(input, PLACES)?;
+    message.signature = signature?;
+    message.payload = payload?;
+    headers
 }
 
 /// Reads a message.
-fn read_sign1(alloc: Global, source: Source<'_>) -> Result<CoseSign1>
-    ensures { Reads sign1 sign1_seen (source_item source.entry) result }
+fn read_sign1(alloc: Global, input: &mut Input<'_>) -> Result<CoseSign1>
+    ensures shrinks { length_left (state input.new) ≤ length_left (state input.old) }
+    ensures strictly { OnOk result (GoesBehind (state input.old) (state input.new)) }
+    ensures reads { ReadsAt (state input.old) (state input.new)
+        (λ v. Reads sign1 sign1_seen v result) }
 {
     let mut message = CoseSign1::new(alloc);
-    match fill_sign1(&mut message, alloc, source) {
-        Ok(()) => Ok(message),
-        Err(error) => Err(error),
-    }
+    fill_sign1(&mut message, alloc, input)?;
+    Ok(message)
 }
 
 impl CoseSign1 {
@@ -237,7 +252,7 @@ impl AsCborValue for CoseSign1 {
     ghost sound = { sign1_laws.sound };
 
     fn from_cbor_value(alloc: Global, value: Value) -> Result<CoseSign1> {
-        read_sign1(alloc, Source::Tree(value))
+        read_sign1(alloc, &mut Input::Tree(value))
     }
 
     fn to_cbor_value(self, alloc: Global) -> Result<Value> {
@@ -277,7 +292,11 @@ impl Encode for CoseSign1 {
 
 impl FromPull for CoseSign1 {
     fn from_pull(alloc: Global, pull: Pull<'_>) -> Result<CoseSign1> {
-        read_sign1(alloc, Source::Lent(pull))
+        read_sign1(alloc, &mut Input::new(Source::Lent(pull)))
+    }
+
+    fn from_input(alloc: Global, input: &mut Input<'_>) -> Result<CoseSign1> {
+        read_sign1(alloc, input)
     }
 }
 

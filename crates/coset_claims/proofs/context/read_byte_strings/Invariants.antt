@@ -1,11 +1,14 @@
-use Rattle.std.proofs.Common.{map}
-use Rattle.coset_value.specs.Item.{items_count}
-use Rattle.coset_shape.specs.Sources.{members_left}
-use Rattle.coset_claims.proofs.ByteStrings.{ReadSoFar}
+use Rattle.std.proofs.Common.{◌≤◌, map}
+use Rattle.coset_value.specs.Item.{Items}
+use Rattle.coset_shape.specs.Inputs.{State, state, length_left, items_turns, AreWithin}
+use Rattle.coset_claims.proofs.ByteStrings.{Midway}
 use Rattle.coset_claims.proofs.context.read_byte_strings.Given as goal
 
-abbrev pub invariant-loop-member : goal.invariant-loop-member
-invariant-loop-member l = ReadSoFar (members_left l.initial.members) (map (λ b. b.items) l.all.items) (members_left l.members) l.fault
+abbrev pub invariant-loop-alloc : goal.invariant-loop-alloc
+invariant-loop-alloc l = record {
+  shrinks : length_left (state l.input) ≤ length_left (state l.fn.input);
+  reads : (vs : Items) (z : State) → AreWithin l.fn.members vs (state l.fn.input) z → Midway vs z l.members (state l.input) (map (λ b. b.items) l.all.items) l.fault;
+}
 
-abbrev pub decreases-loop-member : goal.decreases-loop-member
-decreases-loop-member l = items_count (members_left l.members)
+abbrev pub decreases-loop-alloc : goal.decreases-loop-alloc
+decreases-loop-alloc l = items_turns l.members (state l.input)

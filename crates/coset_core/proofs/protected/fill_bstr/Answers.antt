@@ -1,6 +1,5 @@
 use Rattle.std.proofs.Common.{ap, sym, subst}
 use Rattle.coset_shape.specs.Errors.{answer}
-use Rattle.coset_shape.specs.Sources.{source_item}
 use Rattle.coset_shape.specs.InPlace.{Fills}
 use Rattle.coset_core.specs.HeaderAgain.{bytes-is}
 use Rattle.coset_core.specs.Headers.{protected}
@@ -10,14 +9,16 @@ use Rattle.coset_core.proofs.Reading.{no_string}
 use Rattle.coset_shape.proofs.InPlace.{not_filled}
 use Rattle.coset_core.proofs.protected.fill_bstr.Goals as goal
 
-pub returns-in_err-bytes : goal.returns-in_err-bytes
-returns-in_err-bytes c =
-    not_filled protected _ (source_item c.args.source) c.from_residual.result c.string_bytes.new.error c.in_err-bytes.field-0.0 c.from_residual.ensures.1
-    (λ n. no_string 16 (source_item c.args.source) c.string_bytes.new.error (c.in_err-bytes.ensures.read n))
+pub returns-in_err-bytes-clause-fills : goal.returns-in_err-bytes-clause-fills
+returns-in_err-bytes-clause-fills c = λ v z stands.
+    let here = c.in_err-bytes.ensures.reads v z stands in
+    (here.0, not_filled protected _ v c.from_residual.result c.string_bytes.new.error c.in_err-bytes.field-0.0 c.from_residual.ensures.1 (λ n. no_string 16 v c.string_bytes.new.error (here.1 n)))
 
-pub returns : goal.returns
-returns c =
-    let v = source_item c.args.source in
-    let b = c.in_ok-bytes.bytes.items in
-    subst (λ w. Fills protected w (protected_seen c.fill_protected.new.protected) (answer c.fill_protected.new.error c.fill_protected.result)) (sym (bytes-is v b c.in_ok-bytes.ensures.read))
-    (c.fill_protected.ensures b (ap (λ p. p.original) (protected-made _)))
+pub returns-clause-fills : goal.returns-clause-fills
+returns-clause-fills c = λ v z stands.
+    let here = c.in_ok-bytes.ensures.reads v z stands in
+    let b = c.in_ok-bytes.bytes.items in (
+      here.0,
+      subst (λ w. Fills protected w (protected_seen c.fill_protected.new.protected) (answer c.fill_protected.new.error c.fill_protected.result)) (sym (bytes-is v b here.1))
+          (c.fill_protected.ensures b (ap (λ p. p.original) (protected-made _))),
+    )

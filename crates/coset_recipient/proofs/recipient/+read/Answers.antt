@@ -9,6 +9,7 @@ use Rattle.coset_shape.proofs.Inputs.{items_smaller}
 use Rattle.coset_shape.proofs.Lists.{all_read}
 use Rattle.coset_core.specs.Views.{header_seen, protected_seen}
 use Rattle.coset_recipient.specs.Recipient.{RecipientSeen, empty_recipient, recipient, recipients_of}
+use Rattle.coset_recipient.specs.RecipientReading.{BeginsThree}
 use Rattle.coset_recipient.specs.RecipientView.{recipient_seen, recipient-rolled}
 use Rattle.coset_recipient.specs.declared.recipient.CoseRecipient.{out-roll-CoseRecipient}
 use Rattle.coset_recipient.proofs.Reading.{few_refused, last_refused, none_inside, not_entered, places_filled}
@@ -53,32 +54,40 @@ fill_each-returns-clause-fills t c = λ vs z within.
       subst (λ xs. Each recipient.describes vs (map recipient_seen xs)) (sym next.place) (all_read recipient vs p.others (map recipient_seen c.loop-all.all.items) p.continues none.0),
     )
 
-pub fill_places-returns-in_err-places-clause-fills : goal.fill_places-returns-in_err-places-clause-fills
-fill_places-returns-in_err-places-clause-fills t c = λ vs z within.
-    few_refused vs (state c.take_three.new.input) z c.take_three.new.members _ c.from_residual.result c.take_three.new.error c.in_err-places.field-0.0 c.from_residual.ensures.1 (c.in_err-places.ensures.takes vs z within)
+pub fill_places-returns-in_err-first-clause-fills : goal.fill_places-returns-in_err-first-clause-fills
+fill_places-returns-in_err-first-clause-fills t c = λ vs z within.
+    let p = protected_seen c.begin_places.new.protected in
+    let u = header_seen c.begin_places.new.unprotected in
+    let o = option_map (λ b. b.items) c.begin_places.new.ciphertext in
+    let begins = subst (BeginsThree vs p u o (state c.begin_places.new.input) z c.begin_places.new.members) (sym c.keep_error.ensures.answers ∙ ap (answer c.keep_error.new.error) c.in_err-first.was) (c.begin_places.ensures.begins vs z within) in
+    few_refused vs p u o (state c.begin_places.new.input) z c.begin_places.new.members _ c.from_residual.result c.keep_error.new.error c.in_err-first.field-0.0 c.from_residual.ensures.1 begins
 
 pub fill_places-fill_last-requires : goal.fill_places-fill_last-requires
 fill_places-fill_last-requires t c =
-    let size = c.in_ok-places.ensures.size in
-    (omega (arith, size, c.decreases), none_inside c.args.recipient.now c.requires.empty)
+    let size = c.begin_places.ensures.size in
+    (omega (arith, size, c.decreases), ap (λ g. map recipient_seen g.recipients.items) (out-roll-CoseRecipient _) ∙ none_inside c.args.recipient.now c.requires.empty)
 
 pub fill_places-returns-in_err-fill_last-clause-fills : goal.fill_places-returns-in_err-fill_last-clause-fills
 fill_places-returns-in_err-fill_last-clause-fills t c = λ vs z within.
-    last_refused vs (state c.take_three.new.input) (state c.fill_last.new.input) z c.take_three.new.members c.fill_last.new.members c.in_ok-places.places _ (map recipient_seen c.fill_last.new.all.items) c.from_residual-in_err-fill_last.result
-    c.fill_last.new.error c.in_err-fill_last.field-0.0 c.from_residual-in_err-fill_last.ensures.1 (c.in_ok-places.ensures.takes vs z within) (λ others inside. c.in_err-fill_last.ensures.fills others z inside)
+    let p = protected_seen c.begin_places.new.protected in
+    let u = header_seen c.begin_places.new.unprotected in
+    let o = option_map (λ b. b.items) c.begin_places.new.ciphertext in
+    let begins = subst (BeginsThree vs p u o (state c.begin_places.new.input) z c.begin_places.new.members) (sym c.keep_error.ensures.answers ∙ ap (answer c.keep_error.new.error) c.in_ok-first.was) (c.begin_places.ensures.begins vs z within) in
+    last_refused vs p u o (state c.begin_places.new.input) (state c.fill_last.new.input) z c.begin_places.new.members c.fill_last.new.members c.in_ok-first.first _ (map recipient_seen c.fill_last.new.all.items) c.from_residual-in_err-fill_last.result
+    c.fill_last.new.error c.in_err-fill_last.field-0.0 c.from_residual-in_err-fill_last.ensures.1 begins (λ others inside. c.in_err-fill_last.ensures.fills others z inside)
 
 pub fill_places-returns-clause-fills : goal.fill_places-returns-clause-fills
 fill_places-returns-clause-fills t c = λ vs z within.
-    let p = protected_seen c.fill_first.new.protected in
-    let u = header_seen c.fill_first.new.unprotected in
-    let o = option_map (λ b. b.items) c.fill_first.new.ciphertext in
+    let p = protected_seen c.begin_places.new.protected in
+    let u = header_seen c.begin_places.new.unprotected in
+    let o = option_map (λ b. b.items) c.begin_places.new.ciphertext in
     let rs = map recipient_seen c.fill_last.new.all.items in
-    let r = answer c.fill_first.new.error c.fill_first.result in
+    let first = c.in_ok-first.first in
     let x : RecipientSeen = record { protected = p; unprotected = u; ciphertext = o; recipients = recipients_of rs } in
-    let seen = recipient-rolled _ ∙ ap (λ g. record { protected = p; unprotected = u; ciphertext = o; recipients = recipients_of (map recipient_seen g.recipients.items) }) (out-roll-CoseRecipient _) in
-    subst (λ y. ((left : Items) × AreWithin c.fill_last.new.members left (state c.fill_last.new.input) z) × Fills recipient (array vs) y r) (sym seen)
-    (places_filled vs (state c.take_three.new.input) (state c.fill_last.new.input) z c.take_three.new.members c.fill_last.new.members c.in_ok-places.places x rs r (c.in_ok-places.ensures.takes vs z within)
-    (λ others inside. c.in_ok-fill_last.ensures.fills others z inside) refl c.fill_first.ensures)
+    let begins = subst (BeginsThree vs p u o (state c.begin_places.new.input) z c.begin_places.new.members) (sym c.keep_error.ensures.answers ∙ ap (answer c.keep_error.new.error) c.in_ok-first.was) (c.begin_places.ensures.begins vs z within) in
+    let seen = recipient-rolled _ ∙ ap (λ g. record { protected = protected_seen g.protected; unprotected = header_seen g.unprotected; ciphertext = option_map (λ b. b.items) g.ciphertext; recipients = recipients_of rs }) (out-roll-CoseRecipient _) in
+    let read = places_filled vs (state c.begin_places.new.input) (state c.fill_last.new.input) z c.begin_places.new.members c.fill_last.new.members x rs first begins (λ others inside. c.in_ok-fill_last.ensures.fills others z inside) refl in
+    (read.0, subst (λ y. Fills recipient (array vs) y (answer c.keep_error-2.new.error c.keep_error-2.result)) (sym seen) (subst (Fills recipient (array vs) x) (sym c.keep_error-2.ensures.answers) read.1))
 
 pub fill_recipient-returns-in_err-members-clause-fills : goal.fill_recipient-returns-in_err-members-clause-fills
 fill_recipient-returns-in_err-members-clause-fills t c = λ v z stands.

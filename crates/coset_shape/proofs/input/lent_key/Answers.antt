@@ -1,12 +1,24 @@
-use Rattle.coset_cbor.specs.Cursors.{bytes_left, keys_and_values}
-use Rattle.coset_shape.specs.declared.source.Source.TheVariants.{Lent}
-use Rattle.coset_shape.proofs.Inputs.{key_none, key_next}
+use Rattle.coset_cbor.specs.Cursors.{keys_and_values}
+use Rattle.coset_shape.specs.Inputs.{state}
+use Rattle.coset_shape.proofs.Inputs.{key_none, key_behind, key_read, key_refused, key_without}
 use Rattle.coset_shape.proofs.input.lent_key.Goals as goal
 
-pub returns-then-not-next-clause-nexts : goal.returns-then-not-next-clause-nexts
-returns-then-not-next-clause-nexts c = λ ps a w. key_none ps (bytes_left c.args.cursor.now) a c.next.new.self (c.if-not-next.ensures (keys_and_values ps) a w)
+pub returns-then-not-next_lent-clause-nexts : goal.returns-then-not-next_lent-clause-nexts
+returns-then-not-next_lent-clause-nexts g c = λ ps z w. key_none g.K.AsCborValue.shape g.K.AsCborValue.seen ps (state c.args.input.now) z c.next_lent.new.places (c.if-not-next_lent.ensures.nexts (keys_and_values ps) z w)
 
-pub returns-clause-nexts : goal.returns-clause-nexts
-returns-clause-nexts c = λ ps a w.
-    key_next ps (bytes_left c.args.cursor.now) (bytes_left c.take.new.self) a c.next.new.self c.next-2.new.self (Lent c.in_ok-key.key) c.next-2.result (c.if-not-next.ensures (keys_and_values ps) a w)
-    (λ v z st. let h = c.in_ok-key.ensures.passes v z st in (h.0, h.1)) c.next-2.ensures
+pub returns-then-not-next_lent-2-clause-nexts : goal.returns-then-not-next_lent-2-clause-nexts
+returns-then-not-next_lent-2-clause-nexts g c = λ ps z w.
+    absurd (key_without g.K.AsCborValue.shape g.K.AsCborValue.seen ps (state c.args.input.now) (state c.from_input-key.new.input) z c.next_lent.new.places c.next_lent-2.new.places c.from_input-key.result
+    (c.if-not-next_lent.ensures.nexts (keys_and_values ps) z w) c.from_input-key.ensures.reads c.if-not-next_lent-2.ensures.nexts)
+
+pub returns-in-Ok-clause-nexts : goal.returns-in-Ok-clause-nexts
+returns-in-Ok-clause-nexts g c = λ ps z w.
+    key_read g.K.AsCborValue.shape g.K.AsCborValue.seen ps (state c.from_input-key.new.input) z c.next_lent-2.new.places c.in-Ok.key
+    (key_behind g.K.AsCborValue.shape g.K.AsCborValue.seen ps (state c.args.input.now) (state c.from_input-key.new.input) z c.next_lent.new.places c.next_lent-2.new.places _ (c.if-not-next_lent.ensures.nexts (keys_and_values ps) z w) c.in-Ok.ensures.reads
+    c.if-not-next_lent-2.ensures.nexts)
+
+pub returns-in-Err-clause-nexts : goal.returns-in-Err-clause-nexts
+returns-in-Err-clause-nexts g c = λ ps z w.
+    key_refused g.K.AsCborValue.shape g.K.AsCborValue.seen ps (state c.from_input-key.new.input) (state c.pass.new.self) z c.next_lent-2.new.places c.in-Err.error
+    (key_behind g.K.AsCborValue.shape g.K.AsCborValue.seen ps (state c.args.input.now) (state c.from_input-key.new.input) z c.next_lent.new.places c.next_lent-2.new.places _ (c.if-not-next_lent.ensures.nexts (keys_and_values ps) z w) c.in-Err.ensures.reads
+    c.if-not-next_lent-2.ensures.nexts) c.pass.ensures.passes

@@ -1,10 +1,43 @@
-use Rattle.coset_shape.specs.Sources.{source_item}
-use Rattle.coset_core.proofs.Messages.{headers_filled}
+use Rattle.std.proofs.Common.{Some, ap, ◌∙◌, inl, inr}
+use Rattle.coset_value.specs.Item.{item}
+use Rattle.coset_shape.specs.Inputs.{state}
+use Rattle.coset_shape.proofs.Placed.{placed, two_are}
+use Rattle.coset_core.proofs.Messages.{headers_filled, place_refused}
 use Rattle.coset_sign.specs.Sign1.{sign1_fields, sign1_places, sign1_places_laws}
 use Rattle.coset_sign.proofs.sign1.fill_sign1.Goals as goal
 
-pub returns : goal.returns
-returns c =
-    let p = c.in_ok-protected in
-    headers_filled sign1_places sign1_places_laws (source_item c.args.source) (source_item p.protected) (source_item p.unprotected) _ (sign1_fields _) c.fill_headers.result p.ensures (c.in_ok-message-2.ensures.read, (c.in_ok-message.ensures.read, tt))
-    c.fill_headers.ensures
+pub returns-in_err-message-clause-fills : goal.returns-in_err-message-clause-fills
+returns-in_err-message-clause-fills c = λ v z stands.
+    let array = c.in_ok-places.ensures.enters v z stands in
+    let begins = c.in_ok-headers.ensures.begins array.0 z array.2 in
+    let three = placed (state c.place.new.input) (state c.bytes_or_nil-payload.new.self) z c.place.new.self (c.in_ok-place.ensures.place begins.2 z begins.4) c.bytes_or_nil-payload.ensures.reads in
+    let four = placed (state c.place-2.new.input) (state c.bytes-signature.new.self) z c.place-2.new.self (c.in_ok-place-2.ensures.place three.others z three.within) c.in_err-message.ensures.reads in
+    let end = c.in_ok-end.ensures.end four.others z four.within in
+    let parts = array.1 ∙ ap Some (begins.3 ∙ ap (λ ws. item begins.0 (item begins.1 ws)) (two_are three.parts four.parts end.1)) in (
+      end.0,
+      place_refused sign1_places v begins.0 begins.1 _ (sign1_fields _) c.from_residual-in_err-message.result c.in_err-message.field-0.0 c.from_residual-in_err-message.ensures.1 parts (λ m. m tt)
+          (λ n. inr (inl (four.read n))),
+    )
+
+pub returns-in_err-message-2-clause-fills : goal.returns-in_err-message-2-clause-fills
+returns-in_err-message-2-clause-fills c = λ v z stands.
+    let array = c.in_ok-places.ensures.enters v z stands in
+    let begins = c.in_ok-headers.ensures.begins array.0 z array.2 in
+    let three = placed (state c.place.new.input) (state c.bytes_or_nil-payload.new.self) z c.place.new.self (c.in_ok-place.ensures.place begins.2 z begins.4) c.in_err-message-2.ensures.reads in
+    let four = placed (state c.place-2.new.input) (state c.bytes-signature.new.self) z c.place-2.new.self (c.in_ok-place-2.ensures.place three.others z three.within) c.in_ok-message.ensures.reads in
+    let end = c.in_ok-end.ensures.end four.others z four.within in
+    let parts = array.1 ∙ ap Some (begins.3 ∙ ap (λ ws. item begins.0 (item begins.1 ws)) (two_are three.parts four.parts end.1)) in (
+      end.0,
+      place_refused sign1_places v begins.0 begins.1 _ (sign1_fields _) c.from_residual-in_err-message-2.result c.in_err-message-2.field-0.0 c.from_residual-in_err-message-2.ensures.1 parts (λ m. m tt)
+          (λ n. inl (three.read n)),
+    )
+
+pub returns-clause-fills : goal.returns-clause-fills
+returns-clause-fills c = λ v z stands.
+    let array = c.in_ok-places.ensures.enters v z stands in
+    let begins = c.in_ok-headers.ensures.begins array.0 z array.2 in
+    let three = placed (state c.place.new.input) (state c.bytes_or_nil-payload.new.self) z c.place.new.self (c.in_ok-place.ensures.place begins.2 z begins.4) c.in_ok-message-2.ensures.reads in
+    let four = placed (state c.place-2.new.input) (state c.bytes-signature.new.self) z c.place-2.new.self (c.in_ok-place-2.ensures.place three.others z three.within) c.in_ok-message.ensures.reads in
+    let end = c.in_ok-end.ensures.end four.others z four.within in
+    let parts = array.1 ∙ ap Some (begins.3 ∙ ap (λ ws. item begins.0 (item begins.1 ws)) (two_are three.parts four.parts end.1)) in
+    (end.0, headers_filled sign1_places sign1_places_laws v begins.0 begins.1 _ (sign1_fields _) c.in_ok-headers.headers parts (three.read, (four.read, tt)) begins.5)

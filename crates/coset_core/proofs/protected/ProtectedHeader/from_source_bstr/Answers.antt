@@ -6,4 +6,6 @@ use Rattle.coset_core.specs.Views.{protected_seen}
 use Rattle.coset_core.proofs.protected.ProtectedHeader.from_source_bstr.Goals as goal
 
 pub returns-clause-refused : goal.returns-clause-refused
-returns-clause-refused c = refuses_item protected protected_laws.sound protected_seen (source_item c.args.source) c.read_protected.result c.read_protected.ensures
+returns-clause-refused c =
+    let read = c.read_protected.ensures.reads (source_item c.args.source) c.new.ensures.0 c.new.ensures.1 in
+    refuses_item protected protected_laws.sound protected_seen (source_item c.args.source) c.read_protected.result read.1

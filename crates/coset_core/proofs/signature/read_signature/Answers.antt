@@ -1,4 +1,0 @@
-use Rattle.coset_core.proofs.signature.read_signature.Goals as goal
-
-pub returns-in-Err : goal.returns-in-Err
-returns-in-Err c = (c.in-Err.ensures.fills _ _ c.new-input.ensures.1).1
