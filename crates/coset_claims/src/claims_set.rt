@@ -104,7 +104,8 @@ fn set_text(alloc: Global, field: &mut Option<String>, input: &mut Input<'_>) ->
         (TakesValue (optional tstr) v
         (option_map string_bytes field.old) (option_map string_bytes field.new))) }
     ensures refused { ReadsAt (state input.old) (state input.new) (λ v. IfErr result
-        (λ e. UnlessMemory e (RefusesValue (optional tstr) v (option_map string_bytes field.old)))) }
+        (λ e. UnlessMemory e (RefusesValue (optional tstr) v
+        (option_map string_bytes field.old)))) }
     ensures kept { OnErr result (field.new ≡ field.old) }
 {
     if field.is_some() {
@@ -121,7 +122,8 @@ fn set_timestamp(field: &mut Option<Timestamp>, input: &mut Input<'_>) -> Result
         (TakesValue (optional timestamp) v
         (option_map timestamp_seen field.old) (option_map timestamp_seen field.new))) }
     ensures refused { ReadsAt (state input.old) (state input.new) (λ v. IfErr result
-        (λ e. UnlessMemory e (RefusesValue (optional timestamp) v (option_map timestamp_seen field.old)))) }
+        (λ e. UnlessMemory e (RefusesValue (optional timestamp) v
+        (option_map timestamp_seen field.old)))) }
     ensures kept { OnErr result (field.new ≡ field.old) }
 {
     if field.is_some() {
@@ -138,7 +140,8 @@ fn set_bytes(alloc: Global, field: &mut Option<Vec<u8>>, input: &mut Input<'_>) 
         (TakesValue (optional bstr) v
         (option_map (λ b. b.items) field.old) (option_map (λ b. b.items) field.new))) }
     ensures refused { ReadsAt (state input.old) (state input.new) (λ v. IfErr result
-        (λ e. UnlessMemory e (RefusesValue (optional bstr) v (option_map (λ b. b.items) field.old)))) }
+        (λ e. UnlessMemory e (RefusesValue (optional bstr) v
+        (option_map (λ b. b.items) field.old)))) }
     ensures kept { OnErr result (field.new ≡ field.old) }
 {
     if field.is_some() {
@@ -240,7 +243,8 @@ impl Gather for ClaimsSet {
 fn read_claims(alloc: Global, input: &mut Input<'_>) -> Result<ClaimsSet>
     ensures shrinks { length_left (state input.new) ≤ length_left (state input.old) }
     ensures strictly { OnOk result (GoesBehind (state input.old) (state input.new)) }
-    ensures reads { ReadsAt (state input.old) (state input.new) (λ v. Reads claims claims_seen v result) }
+    ensures reads { ReadsAt (state input.old) (state input.new)
+        (λ v. Reads claims claims_seen v result) }
 {
     let mut claims = ClaimsSet::new(alloc);
     read_map(alloc, input, &mut claims)?;

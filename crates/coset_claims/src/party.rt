@@ -39,7 +39,8 @@ const NONCE: &str = "bstr / int / nil";
 fn read_nonce(alloc: Global, input: &mut Input<'_>) -> Result<Option<Nonce>>
     ensures shrinks { length_left (state input.new) ≤ length_left (state input.old) }
     ensures strictly { OnOk result (GoesBehind (state input.old) (state input.new)) }
-    ensures reads { ReadsAt (state input.old) (state input.new) (λ v. Reads nonce_or_nil (option_map nonce_seen) v result) }
+    ensures reads { ReadsAt (state input.old) (state input.new)
+        (λ v. Reads nonce_or_nil (option_map nonce_seen) v result) }
 {
     if input.null() {
         return Ok(None);
@@ -188,7 +189,8 @@ const THREE: &str = "array with 3 items";
 pub(crate) fn read_party(alloc: Global, input: &mut Input<'_>) -> Result<PartyInfo>
     ensures shrinks { length_left (state input.new) ≤ length_left (state input.old) }
     ensures strictly { OnOk result (GoesBehind (state input.old) (state input.new)) }
-    ensures reads { ReadsAt (state input.old) (state input.new) (λ v. Reads party party_seen v result) }
+    ensures reads { ReadsAt (state input.old) (state input.new)
+        (λ v. Reads party party_seen v result) }
 {
     let mut places = input.enter_array("array")?;
     places.place(input, THREE)?;

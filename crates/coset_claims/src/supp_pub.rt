@@ -74,7 +74,8 @@ fn read_other(
 pub(crate) fn read_supp_pub(alloc: Global, input: &mut Input<'_>) -> Result<SuppPubInfo>
     ensures shrinks { length_left (state input.new) ≤ length_left (state input.old) }
     ensures strictly { OnOk result (GoesBehind (state input.old) (state input.new)) }
-    ensures reads { ReadsAt (state input.old) (state input.new) (λ v. Reads supp_pub supp_pub_seen v result) }
+    ensures reads { ReadsAt (state input.old) (state input.new)
+        (λ v. Reads supp_pub supp_pub_seen v result) }
 {
     let mut places = input.enter_array("array")?;
     places.place(input, TWO_OR_THREE)?;

@@ -35,7 +35,8 @@ pub enum Timestamp {
 pub(crate) fn read_timestamp(input: &mut Input<'_>) -> Result<Timestamp>
     ensures shrinks { length_left (state input.new) ≤ length_left (state input.old) }
     ensures strictly { OnOk result (GoesBehind (state input.old) (state input.new)) }
-    ensures reads { ReadsAt (state input.old) (state input.new) (λ v. Reads timestamp timestamp_seen v result) }
+    ensures reads { ReadsAt (state input.old) (state input.new)
+        (λ v. Reads timestamp timestamp_seen v result) }
     ensures memory { ReadsAt (state input.old) (state input.new)
         (λ v. IfErr result (λ e. e ≡ OutOfMemory → ⊥)) }
 {

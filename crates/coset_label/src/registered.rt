@@ -74,7 +74,8 @@ fn read_registered_or_private<T: EnumI64 + WithPrivateRange + Drop>(
     ensures shrinks { length_left (state input.new) ≤ length_left (state input.old) }
     ensures strictly { OnOk result (GoesBehind (state input.old) (state input.new)) }
     ensures reads { ReadsAt (state input.old) (state input.new)
-        (λ v. Reads (registered_or_private_in T.value_of T.is_private) (registered_or_private_seen T.number) v result) }
+        (λ v. Reads (registered_or_private_in T.value_of T.is_private)
+        (registered_or_private_seen T.number) v result) }
     ensures memory { IfErr result (λ e. e ≡ OutOfMemory → IsLent (state input.old)) }
 {
     let Some(number) = input.integer() else {

@@ -25,7 +25,8 @@ pub struct Mark(pub i64);
 fn read_mark(input: &mut Input<'_>) -> Result<Mark>
     ensures shrinks { length_left (state input.new) ≤ length_left (state input.old) }
     ensures strictly { OnOk result (GoesBehind (state input.old) (state input.new)) }
-    ensures reads { ReadsAt (state input.old) (state input.new) (λ v. Reads int64 mark_seen v result) }
+    ensures reads { ReadsAt (state input.old) (state input.new)
+        (λ v. Reads int64 mark_seen v result) }
 {
     Ok(Mark(input.int64("int")?))
 }

@@ -34,7 +34,8 @@ pub struct Name(pub i64);
 fn read_name(input: &mut Input<'_>) -> Result<Name>
     ensures shrinks { length_left (state input.new) ≤ length_left (state input.old) }
     ensures strictly { OnOk result (GoesBehind (state input.old) (state input.new)) }
-    ensures reads { ReadsAt (state input.old) (state input.new) (λ v. Reads int64 name_seen v result) }
+    ensures reads { ReadsAt (state input.old) (state input.new)
+        (λ v. Reads int64 name_seen v result) }
 {
     Ok(Name(input.int64("int")?))
 }
@@ -150,7 +151,8 @@ impl Gather for SoFar {
 fn read_settings(alloc: Global, input: &mut Input<'_>) -> Result<Settings>
     ensures shrinks { length_left (state input.new) ≤ length_left (state input.old) }
     ensures strictly { OnOk result (GoesBehind (state input.old) (state input.new)) }
-    ensures reads { ReadsAt (state input.old) (state input.new) (λ v. Reads settings seen v result) }
+    ensures reads { ReadsAt (state input.old) (state input.new)
+        (λ v. Reads settings seen v result) }
 {
     let mut so_far = SoFar {
         level: None,

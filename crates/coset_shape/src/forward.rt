@@ -169,7 +169,8 @@ impl<'a> Input<'a> {
     pub fn int64(&mut self, want: &'static str) -> Result<i64>
         ensures shrinks { length_left (state self.new) ≤ length_left (state self.old) }
         ensures strictly { OnOk result (GoesBehind (state self.old) (state self.new)) }
-        ensures reads { ReadsAt (state self.old) (state self.new) (λ v. Reads int64 (λ n. n) v result) }
+        ensures reads { ReadsAt (state self.old) (state self.new)
+            (λ v. Reads int64 (λ n. n) v result) }
         ensures says { ReadsAt (state self.old) (state self.new) (λ v. IfErr result
             (λ e. (e ≡ OutOfRangeIntegerValue) ⊎ Says (kind v) want.now e)) }
     {

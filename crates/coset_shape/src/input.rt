@@ -240,7 +240,8 @@ impl<'a> Input<'a> {
 /// Whether one more of these items stands at the input.
 fn next_lent(places: &mut Places, input: &Input<'_>) -> bool
     ensures there { IsTrue result → IsLent (state input.now) }
-    ensures nexts { (vs : Items) (z : State) → AreWithin (items.Lent places.old) vs (state input.now) z
+    ensures nexts { (vs : Items) (z : State)
+        → AreWithin (items.Lent places.old) vs (state input.now) z
         → Nexts vs (state input.now) z (items.Lent places.new) result }
 {
     match input {

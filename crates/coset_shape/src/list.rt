@@ -70,7 +70,8 @@ pub fn read_blamed_list<T: FromPull + Drop>(
 ) -> Result<Vec<T>>
     ensures shrinks { length_left (state input.new) ≤ length_left (state input.old) }
     ensures reads { ReadsAt (state input.old) (state input.new)
-        (λ v. Reads (list_of (blamed IsUnexpected T.shape)) (λ all. map T.seen all.items) v result) }
+        (λ v. Reads (list_of (blamed IsUnexpected T.shape)) (λ all. map T.seen all.items) v
+        result) }
     ensures says { ReadsAt (state input.old) (state input.new)
         (λ v. IfErr result (λ e. as_array v ≡ None → Says (kind v) want.now e)) }
     ensures blames { ReadsAt (state input.old) (state input.new)
