@@ -50,7 +50,6 @@ pub use Rattle.coset_recipient.specs.RecipientView
 pub use Rattle.coset_recipient.specs.Mac
 pub use Rattle.coset_recipient.specs.Encrypt
 pub use Rattle.coset_recipient.specs.Structures
-pub use Rattle.coset_sign.specs.Same
 pub use Rattle.coset_cbor.specs.Faults
 pub use Rattle.coset_cbor.specs.Cost
 pub use Rattle.coset_cbor.specs.Members

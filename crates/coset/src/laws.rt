@@ -22,8 +22,8 @@ pub use coset_recipient::laws::{
     kept_with_recipients, recipients_hold_recipients, structures_as_written, structures_when_read,
 };
 pub use coset_shape::laws::{
-    image_is_described, one_value, reads_again, refused_as_bytes, refused_describes_nothing,
-    spellings_agree, stays_as_written, written_apart,
+    equal_as_seen, image_is_described, one_value, reads_again, refused_as_bytes,
+    refused_describes_nothing, spellings_agree, stays_as_written, written_apart,
 };
 pub use coset_sign::laws::{
     carried_as_written, each_signed_as_written, each_signed_when_read, one_signature_structure,

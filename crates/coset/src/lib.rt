@@ -27,14 +27,14 @@ pub use coset_key::{
     ToSec1OctetStringError,
 };
 pub use coset_recipient::{
-    Algorithm, AsCborValue, CallError, CborOrdering, CborSerializable, ContentType,
+    Algorithm, AsCborValue, CallError, CborOrdering, CborSerializable, Codec, ContentType,
     CoseCountersignature, CoseCountersignatureBuilder, CoseEncrypt, CoseEncrypt0,
     CoseEncrypt0Builder, CoseEncryptBuilder, CoseError, CoseMac, CoseMac0, CoseMac0Builder,
     CoseMacBuilder, CoseRecipient, CoseRecipientBuilder, CoseSign, CoseSign1, CoseSign1Builder,
     CoseSignBuilder, CoseSignature, CoseSignatureBuilder, Encode, EncryptionContext, EndOfFile,
     FromPull, Header, HeaderBuilder, KeyOperation, KeyType, Label, Lawful, MacContext,
     ProtectedBstr, ProtectedHeader, RegisteredLabel, RegisteredLabelWithPrivate, Result,
-    SignatureContext, TaggedCborSerializable, countersign_v2_structure_data,
+    SignatureContext, TaggedCborSerializable, TaggedCodec, countersign_v2_structure_data,
     countersign0_v2_structure_data, enc_structure_data, mac_structure_data, sig_structure_data,
     verify_countersignature,
 };

@@ -1,17 +1,21 @@
--- Whether two contexts are the same, or two parts of them, as tests that compute. They answer `true` exactly where they
--- are equal.
-use Rattle.std.specs.Prelude.{Bool, false, ◌&&◌, ◌==◌}
-use Rattle.std.specs.Ordering.{int_eq}
+-- That `==` of contexts and of their parts is equality of what contracts see.
+use Rattle.std.specs.Prelude.{◌≡◌, Bool, Decides, false, ◌&&◌, ◌==◌}
+use Rattle.std.specs.Ordering.{int_eq, on}
 use Rattle.std.specs.Option.{option_eq}
 use Rattle.std.specs.Cmp.{IsEquivalence, decided, signed_Decides, unsigned_Decides}
-use Rattle.std.specs.Cmp.Lexicographic.{pointwise, pointwise_decides, bytes_decides}
+use Rattle.std.specs.Cmp.Lexicographic.{pointwise, bytes_decides}
 use Rattle.std.proofs.Common.{ap, sym, true≢false}
 use Rattle.std.proofs.lemmas.Bool.Decides.{Decides-like, Decides-and}
-use Rattle.coset_core.specs.Same.{algorithm_eq, protected_eq}
-use Rattle.coset_core.specs.SameLaws.{IsEquality, option_eq-decides, algorithm_eq-decides, protected_eq-decides}
-use Rattle.coset_claims.specs.Party.{NonceSeen, nonce_integer, nonce_bytes, PartySeen}
-use Rattle.coset_claims.specs.SuppPub.{SuppPubSeen}
+use Rattle.coset_shape.specs.Told.{Tells, bstr_told, options_told}
+use Rattle.coset_core.specs.Same.{protected_eq}
+use Rattle.coset_core.specs.SameLaws.{IsEquality}
+use Rattle.coset_core.specs.Told.{protected_told}
+use Rattle.coset_core.specs.Views.{protected_seen}
+use Rattle.coset_claims.specs.Party.{NonceSeen, nonce_integer, nonce_bytes, nonce_seen, party_seen}
+use Rattle.coset_claims.specs.SuppPub.{supp_pub_seen}
 use Rattle.coset_claims.specs.Context.{ContextSeen}
+use Rattle.coset_claims.specs.declared.party.PartyInfo.{PartyInfo}
+use Rattle.coset_claims.specs.declared.supp_pub.SuppPubInfo.{SuppPubInfo}
 
 -- the same number, or the same bytes
 abbrev pub nonce_eq : NonceSeen → NonceSeen → Bool
@@ -29,61 +33,44 @@ nonce_eq-decides (nonce_integer i) (nonce_bytes b) = (λ e. absurd (true≢false
 nonce_eq-decides (nonce_bytes a) (nonce_integer j) = (λ e. absurd (true≢false (sym e)), λ e. absurd (cc))
 
 -- the same in each of its three places
-abbrev pub party_eq : PartySeen → PartySeen → Bool
+abbrev party_eq : PartyInfo → PartyInfo → Bool
 party_eq p q =
-    option_eq (pointwise ◌==◌) p.identity q.identity && (option_eq nonce_eq p.nonce q.nonce && option_eq (pointwise ◌==◌) p.other q.other)
+    option_eq (λ x y. pointwise ◌==◌ x.items y.items) p.identity q.identity
+    && (option_eq (on nonce_seen nonce_eq) p.nonce q.nonce && option_eq (λ x y. pointwise ◌==◌ x.items y.items) p.other q.other)
 
-pub party_eq-decides : IsEquality party_eq
-party_eq-decides p q =
+-- `==` is equality of what contracts see
+pub party_told : Tells party_seen party_eq
+party_told p q =
     Decides-like (party_eq p q)
     (λ e i. record { identity = e.0 i; nonce = e.1.0 i; other = e.1.1 i })
     (λ e. (ap (λ x. x.identity) e, (ap (λ x. x.nonce) e, ap (λ x. x.other) e)))
-    (Decides-and (option_eq (pointwise ◌==◌) p.identity q.identity) _ (option_eq-decides (pointwise ◌==◌) bytes_decides p.identity q.identity)
-    (Decides-and (option_eq nonce_eq p.nonce q.nonce) (option_eq (pointwise ◌==◌) p.other q.other) (option_eq-decides nonce_eq nonce_eq-decides p.nonce q.nonce)
-    (option_eq-decides (pointwise ◌==◌) bytes_decides p.other q.other)))
+    (Decides-and _ _ (bstr_told p.identity q.identity)
+    (Decides-and _ _ (options_told nonce_seen _ (λ x y. nonce_eq-decides (nonce_seen x) (nonce_seen y)) p.nonce q.nonce) (bstr_told p.other q.other)))
 
 -- the same length, the same protected header in header and bytes, and the same other bytes or none of either
-abbrev pub supp_pub_eq : SuppPubSeen → SuppPubSeen → Bool
+abbrev supp_pub_eq : SuppPubInfo → SuppPubInfo → Bool
 supp_pub_eq s t =
-    (s.key_data_length == t.key_data_length) && (protected_eq s.protected t.protected && option_eq (pointwise ◌==◌) s.other t.other)
+    (s.key_data_length == t.key_data_length)
+    && (on protected_seen protected_eq s.protected t.protected && option_eq (λ x y. pointwise ◌==◌ x.items y.items) s.other t.other)
 
-pub supp_pub_eq-decides : IsEquality supp_pub_eq
-supp_pub_eq-decides s t =
+pub supp_pub_told : Tells supp_pub_seen supp_pub_eq
+supp_pub_told s t =
     Decides-like (supp_pub_eq s t)
     (λ e i. record { key_data_length = e.0 i; protected = e.1.0 i; other = e.1.1 i })
     (λ e. (ap (λ x. x.key_data_length) e, (ap (λ x. x.protected) e, ap (λ x. x.other) e)))
-    (Decides-and (s.key_data_length == t.key_data_length) _ (unsigned_Decides s.key_data_length t.key_data_length)
-    (Decides-and (protected_eq s.protected t.protected) (option_eq (pointwise ◌==◌) s.other t.other) (protected_eq-decides s.protected t.protected)
-    (option_eq-decides (pointwise ◌==◌) bytes_decides s.other t.other)))
+    (Decides-and _ _ (unsigned_Decides s.key_data_length t.key_data_length)
+    (Decides-and _ _ (protected_told s.protected t.protected) (bstr_told s.other t.other)))
 
--- the same algorithm, the same parties, the same public information, and as many byte strings of private information,
--- each the same as its counterpart
-abbrev pub context_eq : ContextSeen → ContextSeen → Bool
-context_eq c d =
-    algorithm_eq c.algorithm_id d.algorithm_id
-    && (party_eq c.party_u_info d.party_u_info
-    && (party_eq c.party_v_info d.party_v_info && (supp_pub_eq c.supp_pub_info d.supp_pub_info && pointwise (pointwise ◌==◌) c.supp_priv_info d.supp_priv_info)))
-
-pub context_eq-decides : IsEquality context_eq
-context_eq-decides c d =
-    Decides-like (context_eq c d)
+-- two contexts are seen alike exactly where their parts are
+pub context_told : {p q r s t : Bool} {m n : ContextSeen} → Decides p (m.algorithm_id ≡ n.algorithm_id) → Decides q (m.party_u_info ≡ n.party_u_info)
+    → Decides r (m.party_v_info ≡ n.party_v_info) → Decides s (m.supp_pub_info ≡ n.supp_pub_info) → Decides t (m.supp_priv_info ≡ n.supp_priv_info)
+    → Decides (p && (q && (r && (s && t)))) (m ≡ n)
+context_told p q r s t =
+    Decides-like _
     (λ e i. record { algorithm_id = e.0 i; party_u_info = e.1.0 i; party_v_info = e.1.1.0 i; supp_pub_info = e.1.1.1.0 i; supp_priv_info = e.1.1.1.1 i })
     (λ e. (ap (λ x. x.algorithm_id) e, (ap (λ x. x.party_u_info) e, (ap (λ x. x.party_v_info) e, (ap (λ x. x.supp_pub_info) e, ap (λ x. x.supp_priv_info) e)))))
-    (Decides-and (algorithm_eq c.algorithm_id d.algorithm_id) _ (algorithm_eq-decides c.algorithm_id d.algorithm_id)
-    (Decides-and (party_eq c.party_u_info d.party_u_info) _ (party_eq-decides c.party_u_info d.party_u_info)
-    (Decides-and (party_eq c.party_v_info d.party_v_info) _ (party_eq-decides c.party_v_info d.party_v_info)
-    (Decides-and (supp_pub_eq c.supp_pub_info d.supp_pub_info) (pointwise (pointwise ◌==◌) c.supp_priv_info d.supp_priv_info) (supp_pub_eq-decides c.supp_pub_info d.supp_pub_info)
-    (pointwise_decides bytes_decides c.supp_priv_info d.supp_priv_info)))))
+    (Decides-and _ _ p (Decides-and _ _ q (Decides-and _ _ r (Decides-and _ _ s t))))
 
--- so they are reflexive, symmetric and transitive
+-- so it is reflexive, symmetric and transitive
 pub nonce_eq_equiv : IsEquivalence nonce_eq
 nonce_eq_equiv = decided nonce_eq nonce_eq-decides
-
-pub party_eq_equiv : IsEquivalence party_eq
-party_eq_equiv = decided party_eq party_eq-decides
-
-pub supp_pub_eq_equiv : IsEquivalence supp_pub_eq
-supp_pub_eq_equiv = decided supp_pub_eq supp_pub_eq-decides
-
-pub context_eq_equiv : IsEquivalence context_eq
-context_eq_equiv = decided context_eq context_eq-decides

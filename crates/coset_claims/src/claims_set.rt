@@ -1,37 +1,28 @@
 //! Claims sets: what a CBOR web token says of its subject (RFC 8392, sections 3 and 4).
 
-ghost use Rattle.std.specs.Prelude.{◌≡◌, ◌↔◌, ◌≤◌, ◌<◌, IsSome, ℕ, ◌==◌, not, map, option_map, string_bytes, IsTrue, IfOk, IfErr, OnOk, OnErr, Some};
+ghost use Rattle.std.specs.Prelude.{◌≡◌, ◌≤◌, ◌<◌, ◌==◌, not, option_map, string_bytes, IsTrue, IfOk, IfErr, OnOk, OnErr, Some};
 ghost use Rattle.std.specs.Map.{keys_of};
-ghost use Rattle.std.specs.Option.{option_eq};
-ghost use Rattle.std.specs.Ordering.{on};
-ghost use Rattle.std.specs.Cmp.{on_equiv, on_per, partial_equiv_from_equiv};
-ghost use Rattle.std.specs.Cmp.Lexicographic.{pointwise};
 ghost use Rattle.coset_value.specs.View.{view};
 ghost use Rattle.coset_iana.specs.CwtClaimName as claim_names;
 ghost use Rattle.coset_iana.specs.WithPrivateRange.{is_private_use};
 ghost use Rattle.coset_shape.specs.declared.error.CoseError.TheVariants.{OutOfMemory};
-ghost use Rattle.coset_shape.specs.Answers.{Reads};
 ghost use Rattle.coset_shape.specs.Errors.{UnlessMemory};
-ghost use Rattle.coset_shape.specs.Inputs.{GoesBehind, ReadsAt, length_left, state};
+ghost use Rattle.coset_shape.specs.Inputs.{ReadsAt, length_left, state};
 ghost use Rattle.coset_shape.specs.Maps.{Adds, Refuses, are_distinct, optional};
 ghost use Rattle.coset_shape.specs.Shape.{bstr, tstr};
 ghost use Rattle.coset_label.specs.Names.{assigned, phrase, private_use};
 ghost use Rattle.coset_core.specs.FieldValues.{TakesValue, RefusesValue};
-ghost use Rattle.coset_claims.specs.Timestamp.{timestamp, timestamp_eq, timestamp_seen};
-ghost use Rattle.coset_claims.specs.Claims.{IsOtherClaim, and_claim, claim_name, claims, claims_seen, entry_seen, fields, name_seen, names, no_claims, parts_of, same_name};
-ghost use Rattle.coset_claims.specs.ClaimsEquality.{claim_eq, claims_eq, claims_eq_equiv};
+ghost use Rattle.coset_claims.specs.Timestamp.{timestamp, timestamp_seen};
+ghost use Rattle.coset_claims.specs.Claims.{IsOtherClaim, and_claim, claim_name, claims, claims_seen, fields, name_seen, names, no_claims, parts_of, same_name};
 
 use crate::timestamp::{Timestamp, read_timestamp};
-use coset_cbor::de::Pull;
 use coset_cbor::value::Value;
 use coset_iana::{CwtClaimName, EnumI64};
 use coset_label::{ClaimName, RegisteredLabelWithPrivate};
-use coset_shape::encode::{Encode, encode_to_value, encode_to_vec};
 use coset_shape::encode_map::MapEncoder;
 use coset_shape::input::{Input, InputPairs};
 use coset_shape::map::{Gather, read_map};
-use coset_shape::traits::{FromPull, read_slice};
-use coset_shape::{AsCborValue, CborSerializable, CoseError, Lawful, Result, Source, has_repeats};
+use coset_shape::{Codec, Result, has_repeats};
 use std::alloc::{AllocError, Global};
 use std::marker::Model;
 
@@ -49,7 +40,7 @@ use std::marker::Model;
 ///     * (int / tstr) => any
 /// }
 /// ```
-#[derive(Debug, Drop)]
+#[derive(Debug, Drop, PartialEq, Eq)]
 pub struct ClaimsSet {
     /// Who issued the token (claim 1).
     pub issuer: Option<String>,
@@ -238,21 +229,12 @@ impl Gather for ClaimsSet {
     }
 }
 
-/// Reads a claims set.
-#[tactic(auto, unfolding(crate::specs::Claims::claims))]
-fn read_claims(alloc: Global, input: &mut Input<'_>) -> Result<ClaimsSet>
-    ensures shrinks { length_left (state input.new) ≤ length_left (state input.old) }
-    ensures strictly { OnOk result (GoesBehind (state input.old) (state input.new)) }
-    ensures reads { ReadsAt (state input.old) (state input.new)
-        (λ v. Reads claims claims_seen v result) }
-{
-    let mut claims = ClaimsSet::new(alloc);
-    read_map(alloc, input, &mut claims)?;
-    Ok(claims)
-}
-
-impl AsCborValue for ClaimsSet {
-    ghost use Rattle.coset_claims.specs.Claims.{ClaimsSeen};
+impl Codec for ClaimsSet {
+    ghost use Rattle.std.specs.Cmp.Lexicographic.{bytes_decides};
+    ghost use Rattle.coset_shape.specs.Told.{bstr_told, lists_told, options_told};
+    ghost use Rattle.coset_claims.specs.ClaimsEquality.{claim_eq-decides, claims_told};
+    ghost use Rattle.coset_claims.specs.Timestamp.{timestamp_eq-decides, timestamp_seen};
+    ghost use Rattle.coset_claims.specs.Claims.{ClaimsSeen, entry_seen};
     ghost use Rattle.coset_claims.specs.ClaimsLaws.{claims_laws};
 
     ghost Seen = { ClaimsSeen };
@@ -261,29 +243,26 @@ impl AsCborValue for ClaimsSet {
 
     ghost shape = { claims };
 
-    ghost unique = { claims_laws.unique };
-
-    ghost sound = { claims_laws.sound };
-
-    fn from_cbor_value(alloc: Global, value: Value) -> Result<ClaimsSet> {
-        read_claims(alloc, &mut Input::Tree(value))
-    }
-
-    fn to_cbor_value(self, alloc: Global) -> Result<Value> {
-        encode_to_value(alloc, &self)
-    }
-}
-
-impl Lawful for ClaimsSet {
-    ghost use Rattle.coset_claims.specs.ClaimsLaws.{claims_laws};
-
     ghost laws = { claims_laws };
-}
 
-impl Encode for ClaimsSet {
-    ghost image = { λ c. claims.image (claims_seen c) };
+    ghost equal = { λ a b. let text = options_told string_bytes _
+        (λ x y. bytes_decides (string_bytes x) (string_bytes y)) in
+        let time = options_told timestamp_seen _
+        (λ x y. timestamp_eq-decides (timestamp_seen x) (timestamp_seen y)) in
+        claims_told (text a.issuer b.issuer) (text a.subject b.subject) (text a.audience b.audience)
+        (time a.expiration_time b.expiration_time) (time a.not_before b.not_before)
+        (time a.issued_at b.issued_at) (bstr_told a.cwt_id b.cwt_id)
+        (lists_told entry_seen _ (λ x y. claim_eq-decides (entry_seen x) (entry_seen y))
+        a.rest.items b.rest.items) };
 
-    fn encode(&self, alloc: Global, out: &mut Vec<u8>) -> Result<()> {
+    #[tactic(auto, unfolding(crate::specs::Claims::claims))]
+    fn read(alloc: Global, input: &mut Input<'_>) -> Result<ClaimsSet> {
+        let mut claims = ClaimsSet::new(alloc);
+        read_map(alloc, input, &mut claims)?;
+        Ok(claims)
+    }
+
+    fn write(&self, alloc: Global, out: &mut Vec<u8>) -> Result<()> {
         let mut pairs = MapEncoder::new(alloc);
         pairs.optional(alloc, CwtClaimName::Iss.to_i64(), &self.issuer)?;
         pairs.optional(alloc, CwtClaimName::Sub.to_i64(), &self.subject)?;
@@ -294,26 +273,6 @@ impl Encode for ClaimsSet {
         pairs.optional(alloc, CwtClaimName::Cti.to_i64(), &self.cwt_id)?;
         pairs.rest(alloc, &self.rest)?;
         pairs.finish(out)
-    }
-}
-
-impl FromPull for ClaimsSet {
-    fn from_pull(alloc: Global, pull: Pull<'_>) -> Result<ClaimsSet> {
-        read_claims(alloc, &mut Input::new(Source::Lent(pull)))
-    }
-
-    fn from_input(alloc: Global, input: &mut Input<'_>) -> Result<ClaimsSet> {
-        read_claims(alloc, input)
-    }
-}
-
-impl CborSerializable for ClaimsSet {
-    fn from_slice(alloc: Global, s: &[u8]) -> Result<ClaimsSet> {
-        read_slice(alloc, s)
-    }
-
-    fn to_vec(self, alloc: Global) -> Result<Vec<u8>> {
-        encode_to_vec(alloc, &self)
     }
 }
 
@@ -346,65 +305,6 @@ impl ClaimsSet {
     {
         Ok(Clone::clone(self)?)
     }
-}
-
-/// Equality of every field; the rest is compared claim by claim, in order.
-impl PartialEq for ClaimsSet {
-    ghost eq = { on claims_seen claims_eq };
-
-    ghost laws = { on_per claims_seen (partial_equiv_from_equiv claims_eq_equiv) };
-
-    fn eq(&self, other: &ClaimsSet) -> bool
-        ensures answers { result ≡ claims_eq (claims_seen self.now) (claims_seen other.now) }
-        ensures equal { IsTrue result ↔ (claims_seen self.now ≡ claims_seen other.now) }
-    {
-        same(self, other)
-    }
-}
-
-impl Eq for ClaimsSet {
-    ghost laws = { on_equiv claims_seen claims_eq_equiv };
-}
-
-fn same_text(a: &Option<String>, b: &Option<String>) -> bool
-    ensures { result ≡ option_eq (pointwise ◌==◌) (option_map string_bytes a.now)
-        (option_map string_bytes b.now) }
-{
-    *a == *b
-}
-
-fn same_timestamp(a: &Option<Timestamp>, b: &Option<Timestamp>) -> bool
-    ensures { result ≡ option_eq timestamp_eq (option_map timestamp_seen a.now)
-        (option_map timestamp_seen b.now) }
-{
-    *a == *b
-}
-
-fn same_bytes(a: &Option<Vec<u8>>, b: &Option<Vec<u8>>) -> bool
-    ensures { result ≡ option_eq (pointwise ◌==◌) (option_map (λ s. s.items) a.now)
-        (option_map (λ s. s.items) b.now) }
-{
-    *a == *b
-}
-
-fn same_rest(a: &Vec<(ClaimName, Value)>, b: &Vec<(ClaimName, Value)>) -> bool
-    ensures { result ≡ pointwise claim_eq (map entry_seen a.now.items)
-        (map entry_seen b.now.items) }
-{
-    *a == *b
-}
-
-fn same(a: &ClaimsSet, b: &ClaimsSet) -> bool
-    ensures { result ≡ claims_eq (claims_seen a.now) (claims_seen b.now) }
-{
-    same_text(&a.issuer, &b.issuer)
-        && same_text(&a.subject, &b.subject)
-        && same_text(&a.audience, &b.audience)
-        && same_timestamp(&a.expiration_time, &b.expiration_time)
-        && same_timestamp(&a.not_before, &b.not_before)
-        && same_timestamp(&a.issued_at, &b.issued_at)
-        && same_bytes(&a.cwt_id, &b.cwt_id)
-        && same_rest(&a.rest, &b.rest)
 }
 
 /// Makes a [`ClaimsSet`], claim by claim. Contracts see it as the claims set that [`build`](ClaimsSetBuilder::build)

@@ -1,15 +1,12 @@
 //! The context of key derivation: what a key is derived for (RFC 8152, section 11.2).
 
-ghost use Rattle.std.specs.Prelude.{◌≡◌, ◌↔◌, ◌≤◌, ◌==◌, length, map, IsTrue, IfOk, IfErr, OnOk};
-ghost use Rattle.std.specs.Ordering.{on};
-ghost use Rattle.std.specs.Cmp.{on_equiv, on_per, partial_equiv_from_equiv};
-ghost use Rattle.std.specs.Cmp.Lexicographic.{pointwise};
+ghost use Rattle.std.specs.Prelude.{◌≡◌, ◌≤◌, length, map, IfOk, IfErr, OnOk};
 ghost use Rattle.coset_value.specs.Item.{Items};
 ghost use Rattle.coset_iana.specs.Algorithm as algorithms;
 ghost use Rattle.coset_shape.specs.declared.error.CoseError.TheVariants.{OutOfMemory};
 ghost use Rattle.coset_shape.specs.Answers.{Reads};
 ghost use Rattle.coset_shape.specs.Encoding.{AppendsPlaces, Encodes};
-ghost use Rattle.coset_shape.specs.Inputs.{AreWithin, GoesBehind, ReadsAt, State, length_left, state};
+ghost use Rattle.coset_shape.specs.Inputs.{AreWithin, ReadsAt, State, length_left, state};
 ghost use Rattle.coset_shape.specs.Sources.{source_item};
 ghost use Rattle.coset_shape.specs.Lists.{ReadsEach};
 ghost use Rattle.coset_shape.specs.Shape.{bstr, images};
@@ -17,20 +14,18 @@ ghost use Rattle.coset_label.specs.Names.{assigned};
 ghost use Rattle.coset_core.specs.Fields.{algorithm};
 ghost use Rattle.coset_core.specs.Views.{algorithm_seen};
 ghost use Rattle.coset_claims.specs.Context.{and_supp_priv_info, context, context_seen, empty_context, four_places_and};
-ghost use Rattle.coset_claims.specs.ContextSame.{context_eq, context_eq_equiv};
 ghost use Rattle.coset_claims.specs.Party.{party_seen};
 ghost use Rattle.coset_claims.specs.SuppPub.{supp_pub_seen};
 
-use crate::party::{PartyInfo, read_party};
-use crate::supp_pub::{SuppPubInfo, read_supp_pub};
-use coset_cbor::de::Pull;
+use crate::party::PartyInfo;
+use crate::supp_pub::SuppPubInfo;
 use coset_cbor::ser::{write_array_head, write_bytes};
 use coset_cbor::value::Value;
 use coset_core::{Algorithm, RegisteredLabelWithPrivate, iana};
-use coset_shape::encode::{Encode, encode_to_value, encode_to_vec};
+use coset_shape::encode::Encode;
 use coset_shape::input::{Input, InputItems};
-use coset_shape::traits::{FromPull, read_slice};
-use coset_shape::{AsCborValue, CborSerializable, CoseError, Lawful, Result, Source};
+use coset_shape::traits::FromPull;
+use coset_shape::{Codec, CoseError, Result, Source};
 use std::alloc::{AllocError, Global};
 use std::marker::Model;
 
@@ -49,7 +44,7 @@ use std::marker::Model;
 /// ```
 ///
 /// The RFC has at most one byte string of private information; any number is read and written.
-#[derive(Debug, Drop)]
+#[derive(Debug, Drop, PartialEq, Eq)]
 pub struct CoseKdfContext {
     algorithm_id: Algorithm,
     party_u_info: PartyInfo,
@@ -120,38 +115,10 @@ fn read_algorithm(alloc: Global, input: &mut Input<'_>) -> Result<Algorithm>
 /// What the error of too few places asks for.
 const FOUR: &str = "array with at least 4 items";
 
-/// Reads the places of a context from the first to the last, and names the fault of the last that has one.
-fn read_context(alloc: Global, input: &mut Input<'_>) -> Result<CoseKdfContext>
-    ensures shrinks { length_left (state input.new) ≤ length_left (state input.old) }
-    ensures strictly { OnOk result (GoesBehind (state input.old) (state input.new)) }
-    ensures reads { ReadsAt (state input.old) (state input.new)
-        (λ v. Reads context context_seen v result) }
-{
-    let mut places = input.enter_array("array")?;
-    places.place(input, FOUR)?;
-    let algorithm_id = read_algorithm(alloc, input);
-    places.place(input, FOUR)?;
-    let party_u_info = read_party(alloc, input);
-    places.place(input, FOUR)?;
-    let party_v_info = read_party(alloc, input);
-    places.place(input, FOUR)?;
-    let supp_pub_info = read_supp_pub(alloc, input);
-    let supp_priv_info = read_byte_strings(alloc, &mut places, input);
-    places.finish(input);
-    let supp_priv_info = supp_priv_info?;
-    let supp_pub_info = supp_pub_info?;
-    let party_v_info = party_v_info?;
-    let party_u_info = party_u_info?;
-    Ok(CoseKdfContext {
-        algorithm_id: algorithm_id?,
-        party_u_info,
-        party_v_info,
-        supp_pub_info,
-        supp_priv_info,
-    })
-}
-
-impl AsCborValue for CoseKdfContext {
+impl Codec for CoseKdfContext {
+    ghost use Rattle.coset_claims.specs.ContextSame.{context_told, party_told, supp_pub_told};
+    ghost use Rattle.coset_shape.specs.Told.{bytes_told, lists_told};
+    ghost use Rattle.coset_core.specs.Told.{algorithm_told};
     ghost use Rattle.coset_claims.specs.Context.{ContextSeen, context_laws};
 
     ghost Seen = { ContextSeen };
@@ -160,36 +127,57 @@ impl AsCborValue for CoseKdfContext {
 
     ghost shape = { context };
 
-    ghost unique = { context_laws.unique };
+    ghost laws = { context_laws };
 
-    ghost sound = { context_laws.sound };
+    ghost equal = { λ a b. context_told (algorithm_told a.algorithm_id b.algorithm_id)
+        (party_told a.party_u_info b.party_u_info) (party_told a.party_v_info b.party_v_info)
+        (supp_pub_told a.supp_pub_info b.supp_pub_info)
+        (lists_told (λ b. b.items) _ bytes_told a.supp_priv_info.items b.supp_priv_info.items) };
 
-    fn from_cbor_value(alloc: Global, value: Value) -> Result<CoseKdfContext> {
-        read_context(alloc, &mut Input::Tree(value))
+    /// Reads the places of a context from the first to the last, and names the fault of the last that has one.
+    fn read(alloc: Global, input: &mut Input<'_>) -> Result<CoseKdfContext> {
+        let mut places = input.enter_array("array")?;
+        places.place(input, FOUR)?;
+        let algorithm_id = read_algorithm(alloc, input);
+        places.place(input, FOUR)?;
+        let party_u_info = PartyInfo::read(alloc, input);
+        places.place(input, FOUR)?;
+        let party_v_info = PartyInfo::read(alloc, input);
+        places.place(input, FOUR)?;
+        let supp_pub_info = SuppPubInfo::read(alloc, input);
+        let supp_priv_info = read_byte_strings(alloc, &mut places, input);
+        places.finish(input);
+        let supp_priv_info = supp_priv_info?;
+        let supp_pub_info = supp_pub_info?;
+        let party_v_info = party_v_info?;
+        let party_u_info = party_u_info?;
+        Ok(CoseKdfContext {
+            algorithm_id: algorithm_id?,
+            party_u_info,
+            party_v_info,
+            supp_pub_info,
+            supp_priv_info,
+        })
     }
 
-    fn to_cbor_value(self, alloc: Global) -> Result<Value> {
-        encode_to_value(alloc, &self)
-    }
-}
-
-impl FromPull for CoseKdfContext {
-    fn from_pull(alloc: Global, pull: Pull<'_>) -> Result<CoseKdfContext> {
-        read_context(alloc, &mut Input::new(Source::Lent(pull)))
+    fn size_hint(&self) -> usize {
+        self.party_u_info
+            .room()
+            .saturating_add(self.party_v_info.room())
+            .saturating_add(self.supp_pub_info.room())
     }
 
-    fn from_input(alloc: Global, input: &mut Input<'_>) -> Result<CoseKdfContext> {
-        read_context(alloc, input)
-    }
-}
-
-impl CborSerializable for CoseKdfContext {
-    fn from_slice(alloc: Global, s: &[u8]) -> Result<CoseKdfContext> {
-        read_slice(alloc, s)
-    }
-
-    fn to_vec(self, alloc: Global) -> Result<Vec<u8>> {
-        encode_to_vec(alloc, &self)
+    #[tactic(auto, unfolding(coset_core::specs::Fields::algorithm))]
+    fn write(&self, alloc: Global, out: &mut Vec<u8>) -> Result<()> {
+        encode_four_and_more(
+            alloc,
+            &self.algorithm_id,
+            &self.party_u_info,
+            &self.party_v_info,
+            &self.supp_pub_info,
+            &self.supp_priv_info,
+            out,
+        )
     }
 }
 
@@ -231,36 +219,6 @@ fn encode_four_and_more<A: Encode, B: Encode, C: Encode, D: Encode>(
     Ok(())
 }
 
-impl Encode for CoseKdfContext {
-    ghost image = { λ c. context.image (context_seen c) };
-
-    fn room(&self) -> usize {
-        self.party_u_info
-            .room()
-            .saturating_add(self.party_v_info.room())
-            .saturating_add(self.supp_pub_info.room())
-    }
-
-    #[tactic(auto, unfolding(coset_core::specs::Fields::algorithm))]
-    fn encode(&self, alloc: Global, out: &mut Vec<u8>) -> Result<()> {
-        encode_four_and_more(
-            alloc,
-            &self.algorithm_id,
-            &self.party_u_info,
-            &self.party_v_info,
-            &self.supp_pub_info,
-            &self.supp_priv_info,
-            out,
-        )
-    }
-}
-
-impl Lawful for CoseKdfContext {
-    ghost use Rattle.coset_claims.specs.Context.{context_laws};
-
-    ghost laws = { context_laws };
-}
-
 /// The same as [`CoseKdfContext::clone`], for generic code.
 impl Clone for CoseKdfContext {
     ghost is_clone = { λ context copy. context_seen copy ≡ context_seen context };
@@ -287,43 +245,6 @@ impl CoseKdfContext {
     {
         Ok(Clone::clone(self)?)
     }
-}
-
-/// Equality of every field, the bytes that were kept of the protected header included.
-impl PartialEq for CoseKdfContext {
-    ghost eq = { on context_seen context_eq };
-
-    ghost laws = { on_per context_seen (partial_equiv_from_equiv context_eq_equiv) };
-
-    fn eq(&self, other: &CoseKdfContext) -> bool
-        ensures answers { result ≡ context_eq (context_seen self.now) (context_seen other.now) }
-        ensures equal { IsTrue result ↔ (context_seen self.now ≡ context_seen other.now) }
-    {
-        same_context(self, other)
-    }
-}
-
-impl Eq for CoseKdfContext {
-    ghost laws = { on_equiv context_seen context_eq_equiv };
-}
-
-/// Whether two contexts are the same, the bytes that were kept included.
-fn same_context(a: &CoseKdfContext, b: &CoseKdfContext) -> bool
-    ensures { result ≡ context_eq (context_seen a.now) (context_seen b.now) }
-{
-    a.algorithm_id == b.algorithm_id
-        && a.party_u_info == b.party_u_info
-        && a.party_v_info == b.party_v_info
-        && a.supp_pub_info == b.supp_pub_info
-        && same_byte_strings(&a.supp_priv_info, &b.supp_priv_info)
-}
-
-/// Whether two lists of byte strings are the same.
-fn same_byte_strings(all: &Vec<Vec<u8>>, others: &Vec<Vec<u8>>) -> bool
-    ensures { result ≡ pointwise (pointwise ◌==◌) (map (λ b. b.items) all.now.items)
-        (map (λ b. b.items) others.now.items) }
-{
-    *all == *others
 }
 
 /// Makes a [`CoseKdfContext`], part by part. Contracts see it as the context that

@@ -10,11 +10,11 @@ mod timestamp;
 pub use claims_set::{ClaimsSet, ClaimsSetBuilder};
 pub use context::{CoseKdfContext, CoseKdfContextBuilder};
 pub use coset_core::{
-    Algorithm, AsCborValue, Bstr, CallError, CborOrdering, CborSerializable, ClaimName,
+    Algorithm, AsCborValue, Bstr, CallError, CborOrdering, CborSerializable, ClaimName, Codec,
     ContentType, CoseError, CoseSignature, CoseSignatureBuilder, Encode, EndOfFile, FromPull,
     Header, HeaderBuilder, KeyOperation, KeyType, Label, Lawful, ProtectedBstr, ProtectedHeader,
-    RegisteredLabel, RegisteredLabelWithPrivate, Result, Source, TaggedCborSerializable, cbor,
-    has_repeats, iana, shape, util,
+    RegisteredLabel, RegisteredLabelWithPrivate, Result, Source, TaggedCborSerializable,
+    TaggedCodec, cbor, has_repeats, iana, shape, util,
 };
 pub use party::{Nonce, PartyInfo, PartyInfoBuilder};
 pub use supp_pub::{SuppPubInfo, SuppPubInfoBuilder};

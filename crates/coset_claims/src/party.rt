@@ -1,21 +1,19 @@
 //! The parties of a key agreement (RFC 8152, section 11.2).
 
 ghost use Rattle.std.specs.Prelude.{◌≡◌, ◌↔◌, ◌≤◌, IsTrue, IfOk, IfErr, OnOk, Some, option_map};
-ghost use Rattle.std.specs.Option.{option_eq};
 ghost use Rattle.std.specs.Ordering.{on};
 ghost use Rattle.std.specs.Cmp.{on_equiv, on_per, partial_equiv_from_equiv};
 ghost use Rattle.coset_shape.specs.declared.error.CoseError.TheVariants.{OutOfMemory};
 ghost use Rattle.coset_shape.specs.Answers.{Reads};
 ghost use Rattle.coset_shape.specs.Inputs.{GoesBehind, ReadsAt, length_left, state};
 ghost use Rattle.coset_claims.specs.Party.{empty_party, nonce, nonce_or_nil, nonce_seen, party, party_seen};
-ghost use Rattle.coset_claims.specs.ContextSame.{nonce_eq, nonce_eq_equiv, party_eq, party_eq_equiv};
+ghost use Rattle.coset_claims.specs.ContextSame.{nonce_eq, nonce_eq_equiv};
 
-use coset_cbor::de::Pull;
 use coset_cbor::value::Value;
-use coset_shape::encode::{Encode, encode_three, encode_to_value, encode_to_vec};
+use coset_shape::encode::{Encode, encode_three};
 use coset_shape::input::Input;
-use coset_shape::traits::{FromPull, read_slice};
-use coset_shape::{AsCborValue, CborSerializable, Lawful, Result, Source};
+use coset_shape::util::copy_bstr;
+use coset_shape::{Codec, Result};
 use std::alloc::{AllocError, Global};
 use std::marker::Model;
 
@@ -150,7 +148,7 @@ fn same_nonce(a: &Nonce, b: &Nonce) -> bool
 /// ```cddl
 /// PartyInfo = [ identity : bstr / nil, nonce : bstr / int / nil, other : bstr / nil ]
 /// ```
-#[derive(Debug, Drop)]
+#[derive(Debug, Drop, PartialEq, Eq)]
 pub struct PartyInfo {
     /// Who the party is.
     pub identity: Option<Vec<u8>>,
@@ -185,31 +183,8 @@ impl Default for PartyInfo {
 /// What the error of another number of places asks for.
 const THREE: &str = "array with 3 items";
 
-/// Reads the places of a party from the first to the last, and names the fault of the last that has one.
-pub(crate) fn read_party(alloc: Global, input: &mut Input<'_>) -> Result<PartyInfo>
-    ensures shrinks { length_left (state input.new) ≤ length_left (state input.old) }
-    ensures strictly { OnOk result (GoesBehind (state input.old) (state input.new)) }
-    ensures reads { ReadsAt (state input.old) (state input.new)
-        (λ v. Reads party party_seen v result) }
-{
-    let mut places = input.enter_array("array")?;
-    places.place(input, THREE)?;
-    let identity = input.bytes_or_nil(alloc, "bstr / nil");
-    places.place(input, THREE)?;
-    let nonce = read_nonce(alloc, input);
-    places.place(input, THREE)?;
-    let other = input.bytes_or_nil(alloc, "bstr / nil");
-    places.end(input, THREE)?;
-    let other = other?;
-    let nonce = nonce?;
-    Ok(PartyInfo {
-        identity: identity?,
-        nonce,
-        other,
-    })
-}
-
-impl AsCborValue for PartyInfo {
+impl Codec for PartyInfo {
+    ghost use Rattle.coset_claims.specs.ContextSame.{party_told};
     ghost use Rattle.coset_claims.specs.Party.{PartySeen, party_laws};
 
     ghost Seen = { PartySeen };
@@ -218,69 +193,39 @@ impl AsCborValue for PartyInfo {
 
     ghost shape = { party };
 
-    ghost unique = { party_laws.unique };
+    ghost laws = { party_laws };
 
-    ghost sound = { party_laws.sound };
+    ghost equal = { party_told };
 
-    fn from_cbor_value(alloc: Global, value: Value) -> Result<PartyInfo> {
-        read_party(alloc, &mut Input::Tree(value))
+    /// Reads the places of a party from the first to the last, and names the fault of the last that has one.
+    fn read(alloc: Global, input: &mut Input<'_>) -> Result<PartyInfo> {
+        let mut places = input.enter_array("array")?;
+        places.place(input, THREE)?;
+        let identity = input.bytes_or_nil(alloc, "bstr / nil");
+        places.place(input, THREE)?;
+        let nonce = read_nonce(alloc, input);
+        places.place(input, THREE)?;
+        let other = input.bytes_or_nil(alloc, "bstr / nil");
+        places.end(input, THREE)?;
+        let other = other?;
+        let nonce = nonce?;
+        Ok(PartyInfo {
+            identity: identity?,
+            nonce,
+            other,
+        })
     }
 
-    fn to_cbor_value(self, alloc: Global) -> Result<Value> {
-        encode_to_value(alloc, &self)
-    }
-}
-
-impl FromPull for PartyInfo {
-    fn from_pull(alloc: Global, pull: Pull<'_>) -> Result<PartyInfo> {
-        read_party(alloc, &mut Input::new(Source::Lent(pull)))
-    }
-
-    fn from_input(alloc: Global, input: &mut Input<'_>) -> Result<PartyInfo> {
-        read_party(alloc, input)
-    }
-}
-
-impl CborSerializable for PartyInfo {
-    fn from_slice(alloc: Global, s: &[u8]) -> Result<PartyInfo> {
-        read_slice(alloc, s)
-    }
-
-    fn to_vec(self, alloc: Global) -> Result<Vec<u8>> {
-        encode_to_vec(alloc, &self)
-    }
-}
-
-impl Encode for PartyInfo {
-    ghost image = { λ p. party.image (party_seen p) };
-
-    fn room(&self) -> usize {
+    fn size_hint(&self) -> usize {
         self.identity
             .room()
             .saturating_add(NoncePlace(&self.nonce).room())
             .saturating_add(self.other.room())
     }
 
-    fn encode(&self, alloc: Global, out: &mut Vec<u8>) -> Result<()> {
+    fn write(&self, alloc: Global, out: &mut Vec<u8>) -> Result<()> {
         let nonce = NoncePlace(&self.nonce);
         encode_three(alloc, &self.identity, &nonce, &self.other, out)
-    }
-}
-
-impl Lawful for PartyInfo {
-    ghost use Rattle.coset_claims.specs.Party.{party_laws};
-
-    ghost laws = { party_laws };
-}
-
-/// A copy of bytes that may be missing.
-pub(crate) fn copy_optional(bytes: &Option<Vec<u8>>) -> Result<Option<Vec<u8>>, AllocError>
-    ensures { IfOk result (λ o. option_map (λ b. b.items) o
-        ≡ option_map (λ b. b.items) bytes.now) }
-{
-    match bytes {
-        Some(bytes) => Ok(Some(Vec::from_slice(*bytes.allocator(), bytes)?)),
-        None => Ok(None),
     }
 }
 
@@ -300,9 +245,9 @@ impl Clone for PartyInfo {
 
     fn clone(&self) -> Result<PartyInfo, AllocError> {
         Ok(PartyInfo {
-            identity: copy_optional(&self.identity)?,
+            identity: copy_bstr(&self.identity)?,
             nonce: copy_nonce(&self.nonce)?,
-            other: copy_optional(&self.other)?,
+            other: copy_bstr(&self.other)?,
         })
     }
 }
@@ -318,39 +263,6 @@ impl PartyInfo {
     {
         Ok(Clone::clone(self)?)
     }
-}
-
-/// Equality of every field.
-impl PartialEq for PartyInfo {
-    ghost eq = { on party_seen party_eq };
-
-    ghost laws = { on_per party_seen (partial_equiv_from_equiv party_eq_equiv) };
-
-    fn eq(&self, other: &PartyInfo) -> bool
-        ensures answers { result ≡ party_eq (party_seen self.now) (party_seen other.now) }
-        ensures equal { IsTrue result ↔ (party_seen self.now ≡ party_seen other.now) }
-    {
-        same_party(self, other)
-    }
-}
-
-impl Eq for PartyInfo {
-    ghost laws = { on_equiv party_seen party_eq_equiv };
-}
-
-/// Whether two parties are the same.
-fn same_party(a: &PartyInfo, b: &PartyInfo) -> bool
-    ensures { result ≡ party_eq (party_seen a.now) (party_seen b.now) }
-{
-    a.identity == b.identity && same_nonces(&a.nonce, &b.nonce) && a.other == b.other
-}
-
-/// Whether two nonces are the same, or both missing.
-fn same_nonces(a: &Option<Nonce>, b: &Option<Nonce>) -> bool
-    ensures { result ≡ option_eq nonce_eq (option_map nonce_seen a.now)
-        (option_map nonce_seen b.now) }
-{
-    *a == *b
 }
 
 /// Makes a [`PartyInfo`], field by field. Contracts see it as the party that [`build`](PartyInfoBuilder::build) gives.

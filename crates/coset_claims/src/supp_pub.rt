@@ -1,25 +1,19 @@
 //! Public information that goes into a key's derivation beside the parties' (RFC 8152, section 11.2).
 
-ghost use Rattle.std.specs.Prelude.{◌≡◌, ◌↔◌, ◌≤◌, IsTrue, IfOk, IfErr, OnOk, Some, option_map};
+ghost use Rattle.std.specs.Prelude.{◌≡◌, ◌≤◌, IfOk, IfErr, Some};
 ghost use Rattle.coset_value.specs.Item.{Items};
-ghost use Rattle.std.specs.Ordering.{on};
-ghost use Rattle.std.specs.Cmp.{on_equiv, on_per, partial_equiv_from_equiv};
 ghost use Rattle.coset_shape.specs.declared.error.CoseError.TheVariants.{OutOfMemory};
-ghost use Rattle.coset_shape.specs.Answers.{Reads};
-ghost use Rattle.coset_shape.specs.Inputs.{AreWithin, GoesBehind, ReadsAt, State, length_left, state};
+ghost use Rattle.coset_shape.specs.Inputs.{AreWithin, State, length_left, state};
 ghost use Rattle.coset_core.specs.Messages.{unread};
 ghost use Rattle.coset_core.specs.Views.{header_seen};
 ghost use Rattle.coset_claims.specs.SuppPub.{ReadsOther, empty_supp_pub, supp_pub, supp_pub_seen};
-ghost use Rattle.coset_claims.specs.ContextSame.{supp_pub_eq, supp_pub_eq_equiv};
 
-use crate::party::copy_optional;
-use coset_cbor::de::Pull;
 use coset_cbor::value::Value;
 use coset_core::{Bstr, Header, ProtectedBstr, ProtectedHeader};
-use coset_shape::encode::{Encode, encode_three, encode_to_value, encode_to_vec, encode_two};
+use coset_shape::encode::{Encode, encode_three, encode_two};
 use coset_shape::input::{Input, InputItems};
-use coset_shape::traits::{FromPull, read_slice};
-use coset_shape::{AsCborValue, CborSerializable, Lawful, Result, Source};
+use coset_shape::util::copy_bstr;
+use coset_shape::{Codec, Result};
 use std::alloc::{AllocError, Global};
 use std::marker::Model;
 
@@ -28,7 +22,7 @@ use std::marker::Model;
 /// ```cddl
 /// SuppPubInfo = [ keyDataLength : uint, protected : empty_or_serialized_map, ? other : bstr ]
 /// ```
-#[derive(Debug, Drop)]
+#[derive(Debug, Drop, PartialEq, Eq)]
 pub struct SuppPubInfo {
     /// How many bits the derived key has: 0 to 2^64 - 1.
     pub key_data_length: u64,
@@ -70,30 +64,8 @@ fn read_other(
     Ok(Some(input.bytes(alloc, "bstr")?))
 }
 
-/// Reads the places from the first to the last, and names the fault of the last that has one.
-pub(crate) fn read_supp_pub(alloc: Global, input: &mut Input<'_>) -> Result<SuppPubInfo>
-    ensures shrinks { length_left (state input.new) ≤ length_left (state input.old) }
-    ensures strictly { OnOk result (GoesBehind (state input.old) (state input.new)) }
-    ensures reads { ReadsAt (state input.old) (state input.new)
-        (λ v. Reads supp_pub supp_pub_seen v result) }
-{
-    let mut places = input.enter_array("array")?;
-    places.place(input, TWO_OR_THREE)?;
-    let key_data_length = input.uint("int");
-    places.place(input, TWO_OR_THREE)?;
-    let protected = ProtectedBstr::from_input(alloc, input);
-    let other = read_other(alloc, &mut places, input);
-    places.end(input, TWO_OR_THREE)?;
-    let other = other?;
-    let ProtectedBstr(protected) = protected?;
-    Ok(SuppPubInfo {
-        key_data_length: key_data_length?,
-        protected,
-        other,
-    })
-}
-
-impl AsCborValue for SuppPubInfo {
+impl Codec for SuppPubInfo {
+    ghost use Rattle.coset_claims.specs.ContextSame.{supp_pub_told};
     ghost use Rattle.coset_claims.specs.SuppPub.{SuppPubSeen, supp_pub_laws};
 
     ghost Seen = { SuppPubSeen };
@@ -102,43 +74,29 @@ impl AsCborValue for SuppPubInfo {
 
     ghost shape = { supp_pub };
 
-    ghost unique = { supp_pub_laws.unique };
+    ghost laws = { supp_pub_laws };
 
-    ghost sound = { supp_pub_laws.sound };
+    ghost equal = { supp_pub_told };
 
-    fn from_cbor_value(alloc: Global, value: Value) -> Result<SuppPubInfo> {
-        read_supp_pub(alloc, &mut Input::Tree(value))
+    /// Reads the places from the first to the last, and names the fault of the last that has one.
+    fn read(alloc: Global, input: &mut Input<'_>) -> Result<SuppPubInfo> {
+        let mut places = input.enter_array("array")?;
+        places.place(input, TWO_OR_THREE)?;
+        let key_data_length = input.uint("int");
+        places.place(input, TWO_OR_THREE)?;
+        let protected = ProtectedBstr::read(alloc, input);
+        let other = read_other(alloc, &mut places, input);
+        places.end(input, TWO_OR_THREE)?;
+        let other = other?;
+        let ProtectedBstr(protected) = protected?;
+        Ok(SuppPubInfo {
+            key_data_length: key_data_length?,
+            protected,
+            other,
+        })
     }
 
-    fn to_cbor_value(self, alloc: Global) -> Result<Value> {
-        encode_to_value(alloc, &self)
-    }
-}
-
-impl FromPull for SuppPubInfo {
-    fn from_pull(alloc: Global, pull: Pull<'_>) -> Result<SuppPubInfo> {
-        read_supp_pub(alloc, &mut Input::new(Source::Lent(pull)))
-    }
-
-    fn from_input(alloc: Global, input: &mut Input<'_>) -> Result<SuppPubInfo> {
-        read_supp_pub(alloc, input)
-    }
-}
-
-impl CborSerializable for SuppPubInfo {
-    fn from_slice(alloc: Global, s: &[u8]) -> Result<SuppPubInfo> {
-        read_slice(alloc, s)
-    }
-
-    fn to_vec(self, alloc: Global) -> Result<Vec<u8>> {
-        encode_to_vec(alloc, &self)
-    }
-}
-
-impl Encode for SuppPubInfo {
-    ghost image = { λ s. supp_pub.image (supp_pub_seen s) };
-
-    fn room(&self) -> usize {
+    fn size_hint(&self) -> usize {
         let room = self
             .key_data_length
             .room()
@@ -149,19 +107,13 @@ impl Encode for SuppPubInfo {
         }
     }
 
-    fn encode(&self, alloc: Global, out: &mut Vec<u8>) -> Result<()> {
+    fn write(&self, alloc: Global, out: &mut Vec<u8>) -> Result<()> {
         let protected = Bstr(&self.protected);
         match &self.other {
             Some(other) => encode_three(alloc, &self.key_data_length, &protected, other, out),
             None => encode_two(alloc, &self.key_data_length, &protected, out),
         }
     }
-}
-
-impl Lawful for SuppPubInfo {
-    ghost use Rattle.coset_claims.specs.SuppPub.{supp_pub_laws};
-
-    ghost laws = { supp_pub_laws };
 }
 
 /// The same as [`SuppPubInfo::clone`], for generic code.
@@ -172,7 +124,7 @@ impl Clone for SuppPubInfo {
         Ok(SuppPubInfo {
             key_data_length: self.key_data_length,
             protected: Clone::clone(&self.protected)?,
-            other: copy_optional(&self.other)?,
+            other: copy_bstr(&self.other)?,
         })
     }
 }
@@ -188,31 +140,6 @@ impl SuppPubInfo {
     {
         Ok(Clone::clone(self)?)
     }
-}
-
-/// Equality of every field, the bytes that were kept of the protected header included.
-impl PartialEq for SuppPubInfo {
-    ghost eq = { on supp_pub_seen supp_pub_eq };
-
-    ghost laws = { on_per supp_pub_seen (partial_equiv_from_equiv supp_pub_eq_equiv) };
-
-    fn eq(&self, other: &SuppPubInfo) -> bool
-        ensures answers { result ≡ supp_pub_eq (supp_pub_seen self.now) (supp_pub_seen other.now) }
-        ensures equal { IsTrue result ↔ (supp_pub_seen self.now ≡ supp_pub_seen other.now) }
-    {
-        same_supp_pub(self, other)
-    }
-}
-
-impl Eq for SuppPubInfo {
-    ghost laws = { on_equiv supp_pub_seen supp_pub_eq_equiv };
-}
-
-/// Whether two are the same, the bytes that were kept included.
-fn same_supp_pub(a: &SuppPubInfo, b: &SuppPubInfo) -> bool
-    ensures { result ≡ supp_pub_eq (supp_pub_seen a.now) (supp_pub_seen b.now) }
-{
-    a.key_data_length == b.key_data_length && a.protected == b.protected && a.other == b.other
 }
 
 /// Makes a [`SuppPubInfo`], field by field. Contracts see it as the information that

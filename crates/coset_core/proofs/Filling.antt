@@ -17,7 +17,7 @@ use Rattle.coset_label.specs.declared.label.Label.{Label}
 use Rattle.coset_core.specs.Fields.{FieldsSeen, Versions, names, fields, parts_of, same_name, bars}
 use Rattle.coset_core.specs.FieldLaws.{names_laws, partial_fields_laws}
 use Rattle.coset_core.specs.Filling.{WalksTo, AtHeld, AtEnd, AtFault, FillsSome, FillsFields, IsDistinctRest, label_of}
-use Rattle.coset_core.specs.declared.header.Version.{Version}
+use Rattle.coset_core.specs.declared.header.reading.Version.{Version}
 
 -- the value of the next pair stands at t, whose label this is; or none is left; or the next pair's key is at fault
 abbrev pub NextsLabel : Pairs → State → State → InputPairs → Result (Option Label) CoseError → Type 0

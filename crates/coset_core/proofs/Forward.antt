@@ -27,8 +27,8 @@ use Rattle.coset_core.specs.Headers.{HeaderSeen, fields_in, counter_signatures_i
 use Rattle.coset_core.specs.ViewLaws.{header-opened}
 use Rattle.coset_core.specs.Views.{countersignature_seen, header_seen, signature_seen}
 use Rattle.coset_core.specs.declared.header.Header.{Header}
-use Rattle.coset_core.specs.declared.header.Version.{Version}
-use Rattle.coset_core.specs.declared.header.Version.TheVariants.{V1, V2}
+use Rattle.coset_core.specs.declared.header.reading.Version.{Version}
+use Rattle.coset_core.specs.declared.header.reading.Version.TheVariants.{V1, V2}
 use Rattle.coset_core.proofs.Putting.{none_held}
 use Rattle.coset_core.proofs.Reading.{no_string, header_whole}
 use Rattle.coset_shape.proofs.InPlace.{not_filled}

@@ -18,8 +18,8 @@ use Rattle.coset_core.specs.FieldsView.{counter_signatures_held, countersignatur
 use Rattle.coset_core.specs.Headers.{SignatureSeen, layered_protected, layered_signature}
 use Rattle.coset_core.specs.Views.{countersignature_seen, signature_seen}
 use Rattle.coset_core.specs.declared.header.Header.{Header}
-use Rattle.coset_core.specs.declared.header.Version.{Version}
-use Rattle.coset_core.specs.declared.header.Version.TheVariants.{V1, V2}
+use Rattle.coset_core.specs.declared.header.reading.Version.{Version}
+use Rattle.coset_core.specs.declared.header.reading.Version.TheVariants.{V1, V2}
 
 -- ---- a header's pairs
 

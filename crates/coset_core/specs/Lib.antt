@@ -21,4 +21,5 @@ pub mod Messages
 pub mod ViewLaws
 pub mod Same
 pub mod SameLaws
+pub mod Told
 pub mod Filling

@@ -15,7 +15,7 @@ ghost use Rattle.coset_shape.specs.Encoding.{AppendsItem};
 ghost use Rattle.std.specs.Option.{option_eq};
 ghost use Rattle.coset_core.specs.Same.{content_type_eq};
 
-use crate::header::{write_number, write_parameter};
+use crate::header::writing::{write_number, write_parameter};
 use coset_cbor::OutOfMemory;
 use coset_cbor::ser::write_text;
 use coset_iana::{EnumI64, HeaderParameter};

@@ -1,13 +1,11 @@
 //! Countersignatures of version 2: their shape is that of a signature, and what they are over is more than what those of
 //! label 7 are over. The shape, the structures and their contexts are this library's own, modelled on RFC 9338.
 
-ghost use Rattle.std.specs.Prelude.{◌≡◌, ◌≤◌, [], map, OnOk, IfOk, IfErr, IfSome, IsTrue, None, ◌↔◌, ◌+◌, ◌<◌};
+ghost use Rattle.std.specs.Prelude.{◌≡◌, [], map, OnOk, IfOk, IfErr, IfSome, IsTrue, None, ◌↔◌, ◌+◌, ◌<◌};
 ghost use Rattle.coset_shape.specs.declared.error.CoseError.TheVariants.{OutOfMemory};
 ghost use Rattle.coset_core.specs.Contents.{empty_signature};
 ghost use Rattle.coset_shape.specs.InPlace.{GetsOne};
 ghost use Rattle.coset_core.specs.Views.{countersignature_seen, header_seen, signature_seen};
-ghost use Rattle.coset_shape.specs.Answers.{Reads};
-ghost use Rattle.coset_shape.specs.Inputs.{state, GoesBehind, ReadsAt, length_left};
 ghost use Rattle.coset_core.specs.Headers.{signature as signature_shape, signatures_of, signatures_image};
 ghost use Rattle.coset_core.specs.Written.{AppendsSignatures, signature_array};
 ghost use Rattle.coset_shape.specs.Encoding.{HasNoImage, Encodes};
@@ -17,18 +15,17 @@ ghost use Rattle.coset_core.specs.Same.{signature_eq, signatures_eq};
 ghost use Rattle.coset_core.specs.SameLaws.{signature_eq_equiv};
 ghost use Rattle.coset_core.specs.Held.{held_in};
 
-use crate::header::{Header, copy_header, same_header, write_header};
+use crate::header::writing::write_header;
+use crate::header::{Header, copy_header, same_header};
 use crate::protected::{
     Bstr, ProtectedHeader, copy_protected, protected_from_header, same_protected, write_protected,
 };
-use crate::signature::{CoseSignature, Held, copy_into, held_by, make_room, read_signature};
-use coset_cbor::de::Pull;
+use crate::signature::{CoseSignature, Held, copy_into, held_by, make_room};
 use coset_cbor::ser::{write_array_head, write_bytes};
 use coset_cbor::value::Value;
-use coset_shape::encode::{Encode, encode_to_tagged_vec, encode_to_value, encode_to_vec};
+use coset_shape::encode::Encode;
 use coset_shape::input::Input;
-use coset_shape::traits::{FromPull, read_slice, read_tagged_slice};
-use coset_shape::{AsCborValue, CborSerializable, Lawful, Result, Source, TaggedCborSerializable};
+use coset_shape::{Codec, Result, TaggedCodec};
 use std::alloc::{AllocError, Global};
 use std::marker::Model;
 
@@ -138,17 +135,8 @@ impl CoseCountersignature {
     }
 }
 
-/// A countersignature.
-fn read_countersignature(alloc: Global, input: &mut Input<'_>) -> Result<CoseCountersignature>
-    ensures shrinks { length_left (state input.new) ≤ length_left (state input.old) }
-    ensures strictly { OnOk result (GoesBehind (state input.old) (state input.new)) }
-    ensures reads { ReadsAt (state input.old) (state input.new)
-        (λ v. Reads signature_shape countersignature_seen v result) }
-{
-    Ok(countersignature_of(read_signature(alloc, input)?))
-}
-
-impl AsCborValue for CoseCountersignature {
+impl Codec for CoseCountersignature {
+    ghost use Rattle.coset_core.specs.SameLaws.{signature_eq-decides};
     ghost use Rattle.coset_core.specs.Headers.{SignatureSeen};
     ghost use Rattle.coset_core.specs.HeaderLaws.{signature_laws};
 
@@ -158,72 +146,31 @@ impl AsCborValue for CoseCountersignature {
 
     ghost shape = { signature_shape };
 
-    ghost unique = { signature_laws.unique };
-
-    ghost sound = { signature_laws.sound };
-
-    fn from_cbor_value(alloc: Global, value: Value) -> Result<CoseCountersignature> {
-        read_countersignature(alloc, &mut Input::Tree(value))
-    }
-
-    fn to_cbor_value(self, alloc: Global) -> Result<Value> {
-        encode_to_value(alloc, &self)
-    }
-}
-
-impl Lawful for CoseCountersignature {
-    ghost use Rattle.coset_core.specs.HeaderLaws.{signature_laws};
-
     ghost laws = { signature_laws };
-}
 
-impl Encode for CoseCountersignature {
-    ghost image = { λ s. signature_shape.image (countersignature_seen s) };
+    ghost equal = { λ a b. signature_eq-decides (countersignature_seen a)
+        (countersignature_seen b) };
 
-    fn room(&self) -> usize {
+    fn read(alloc: Global, input: &mut Input<'_>) -> Result<CoseCountersignature> {
+        Ok(countersignature_of(CoseSignature::read(alloc, input)?))
+    }
+
+    fn size_hint(&self) -> usize {
         Bstr(&self.protected)
             .room()
             .saturating_add(self.unprotected.room())
             .saturating_add(self.signature.room())
     }
 
-    fn encode(&self, alloc: Global, out: &mut Vec<u8>) -> Result<()> {
+    fn write(&self, alloc: Global, out: &mut Vec<u8>) -> Result<()> {
         write_countersignature(alloc, self, out)
     }
 }
 
-impl FromPull for CoseCountersignature {
-    fn from_pull(alloc: Global, pull: Pull<'_>) -> Result<CoseCountersignature> {
-        read_countersignature(alloc, &mut Input::new(Source::Lent(pull)))
-    }
+impl TaggedCodec for CoseCountersignature {
+    ghost TAG_NUMBER = { 19 };
 
-    fn from_input(alloc: Global, input: &mut Input<'_>) -> Result<CoseCountersignature> {
-        read_countersignature(alloc, input)
-    }
-}
-
-impl CborSerializable for CoseCountersignature {
-    fn from_slice(alloc: Global, s: &[u8]) -> Result<CoseCountersignature> {
-        read_slice(alloc, s)
-    }
-
-    fn to_vec(self, alloc: Global) -> Result<Vec<u8>> {
-        encode_to_vec(alloc, &self)
-    }
-}
-
-impl TaggedCborSerializable for CoseCountersignature {
-    ghost TAG = { 19 };
-
-    const TAG: u64 = 19;
-
-    fn from_tagged_slice(alloc: Global, s: &[u8]) -> Result<CoseCountersignature> {
-        read_tagged_slice(alloc, 19, s)
-    }
-
-    fn to_tagged_vec(self, alloc: Global) -> Result<Vec<u8>> {
-        encode_to_tagged_vec(alloc, 19, &self)
-    }
+    const TAG_NUMBER: u64 = 19;
 }
 
 /// Appends the countersignatures, one after the other.

@@ -12,7 +12,8 @@ ghost use Rattle.coset_shape.specs.Inputs.{State, state, AreWithin, ReadsAt, len
 ghost use Rattle.coset_value.specs.Item.{Items};
 ghost use Rattle.coset_core.specs.Contents.{BeginsHeaders};
 
-use crate::header::{Header, LAYERS, fill_header};
+use crate::header::reading::fill_header;
+use crate::header::{Header, LAYERS};
 use crate::protected::{ProtectedHeader, fill_bstr};
 use coset_shape::error::Refused;
 use coset_shape::input::{Input, InputItems};

@@ -12,10 +12,10 @@ mod protected_bstr;
 mod signature;
 
 pub use coset_label::{
-    Algorithm, AsCborValue, CallError, CborOrdering, CborSerializable, ClaimName, ContentType,
-    CoseError, Encode, EndOfFile, FromPull, KeyOperation, KeyType, Label, Lawful, RegisteredLabel,
-    RegisteredLabelWithPrivate, Result, Source, TaggedCborSerializable, cbor, has_repeats, iana,
-    shape, util,
+    Algorithm, AsCborValue, CallError, CborOrdering, CborSerializable, ClaimName, Codec,
+    ContentType, CoseError, Encode, EndOfFile, FromPull, KeyOperation, KeyType, Label, Lawful,
+    RegisteredLabel, RegisteredLabelWithPrivate, Result, Source, TaggedCborSerializable,
+    TaggedCodec, cbor, has_repeats, iana, shape, util,
 };
 pub use countersignature::{CoseCountersignature, CoseCountersignatureBuilder};
 pub use header::{Header, HeaderBuilder};

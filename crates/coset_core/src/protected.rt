@@ -24,18 +24,19 @@ ghost use Rattle.coset_core.specs.Same.{protected_eq};
 ghost use Rattle.coset_core.specs.SameLaws.{protected_eq_equiv};
 ghost use Rattle.coset_shape.specs.Serialized.{fresh_bytes};
 
-use crate::header::{
-    Header, LAYERS, copy_header, fill_header, read_header, same_header, write_header,
-};
+use crate::header::reading::fill_header;
+use crate::header::writing::write_header;
+use crate::header::{Header, LAYERS, copy_header, same_header};
 use coset_cbor::de::Pull;
 use coset_cbor::ser::write_bytes;
 use coset_cbor::value::Value;
 use coset_cbor::{de, laws};
-use coset_shape::encode::{Encode, encode_to_value, encode_to_vec};
+use coset_shape::encode::Encode;
 use coset_shape::error::{Refused, keep_error};
 use coset_shape::input::Input;
-use coset_shape::traits::{FromPull, read_slice, whole_item};
-use coset_shape::{AsCborValue, CborSerializable, CoseError, Lawful, Result, Source};
+use coset_shape::traits::whole_item;
+use coset_shape::util::copy_bstr;
+use coset_shape::{Codec, CoseError, Result, Source};
 use std::alloc::{AllocError, Global};
 use std::borrow::CowSlice;
 
@@ -197,7 +198,8 @@ pub(crate) fn protected_from_header(header: Header) -> ProtectedHeader
     }
 }
 
-impl AsCborValue for ProtectedHeader {
+impl Codec for ProtectedHeader {
+    ghost use Rattle.coset_core.specs.Told.{protected_told};
     ghost use Rattle.coset_core.specs.Headers.{ProtectedSeen};
 
     ghost Seen = { ProtectedSeen };
@@ -206,55 +208,21 @@ impl AsCborValue for ProtectedHeader {
 
     ghost shape = { protected_map };
 
-    ghost unique = { protected_map_laws.unique };
-
-    ghost sound = { protected_map_laws.sound };
-
-    /// Reads the header from its map. No bytes are kept.
-    fn from_cbor_value(alloc: Global, value: Value) -> Result<ProtectedHeader> {
-        Ok(protected_from_header(read_header(alloc, &mut Input::Tree(value))?))
-    }
-
-    /// Writes the header's map, whatever bytes were kept.
-    fn to_cbor_value(self, alloc: Global) -> Result<Value> {
-        encode_to_value(alloc, &self)
-    }
-}
-
-impl Lawful for ProtectedHeader {
     ghost laws = { protected_map_laws };
-}
 
-impl Encode for ProtectedHeader {
-    ghost image = { λ p. protected_map.image (protected_seen p) };
+    ghost equal = { protected_told };
 
-    fn room(&self) -> usize {
+    fn read(alloc: Global, input: &mut Input<'_>) -> Result<ProtectedHeader> {
+        Ok(protected_from_header(Header::read(alloc, input)?))
+    }
+
+    fn size_hint(&self) -> usize {
         self.header.room()
     }
 
     /// Writes the header's map, whatever bytes were kept.
-    fn encode(&self, alloc: Global, out: &mut Vec<u8>) -> Result<()> {
+    fn write(&self, alloc: Global, out: &mut Vec<u8>) -> Result<()> {
         self.header.encode(alloc, out)
-    }
-}
-
-impl FromPull for ProtectedHeader {
-    fn from_pull(alloc: Global, pull: Pull<'_>) -> Result<ProtectedHeader> {
-        ProtectedHeader::from_input(alloc, &mut Input::new(Source::Lent(pull)))
-    }
-
-    fn from_input(alloc: Global, input: &mut Input<'_>) -> Result<ProtectedHeader> {
-        Ok(protected_from_header(read_header(alloc, input)?))
-    }
-}
-
-impl CborSerializable for ProtectedHeader {
-    fn from_slice(alloc: Global, s: &[u8]) -> Result<ProtectedHeader> {
-        read_slice(alloc, s)
-    }
-
-    fn to_vec(self, alloc: Global) -> Result<Vec<u8>> {
-        encode_to_vec(alloc, &self)
     }
 }
 
@@ -427,10 +395,7 @@ fn copy_kept(kept: &Option<Vec<u8>>, copy: &mut Option<Vec<u8>>) -> Result<(), A
     ensures { OnOk result (option_map (λ v. v.items) copy.new
         ≡ option_map (λ v. v.items) kept.now) }
 {
-    *copy = match kept {
-        Some(bytes) => Some(Vec::from_slice(*bytes.allocator(), bytes)?),
-        None => None,
-    };
+    *copy = copy_bstr(kept)?;
     Ok(())
 }
 

@@ -5,10 +5,9 @@ ghost use Rattle.coset_shape.specs.declared.error.CoseError.TheVariants.{OutOfMe
 ghost use Rattle.coset_core.specs.Contents.{empty_signature};
 ghost use Rattle.coset_shape.specs.InPlace.{BeginsNext, Fills, FillsEach, GetsOne, GetsPlace};
 ghost use Rattle.coset_core.specs.Views.{header_seen, protected_seen, signature_seen};
-ghost use Rattle.coset_shape.specs.Answers.{Reads};
 ghost use Rattle.coset_shape.specs.Errors.{IsUnexpected, answer, filled};
 ghost use Rattle.coset_value.specs.Item.{Item, array, Items, no_items, item};
-ghost use Rattle.coset_shape.specs.Inputs.{State, state, length_left, input_size, items_size, items_turns, Stands, GoesBehind, AreWithin, EntersArray, ReadsAt};
+ghost use Rattle.coset_shape.specs.Inputs.{State, state, length_left, input_size, items_size, items_turns, Stands, GoesBehind, AreWithin, EntersArray};
 ghost use Rattle.coset_core.specs.Filling.{BeginsPlaces, EndsPlaces};
 ghost use Rattle.coset_core.specs.Headers.{empty_header, layered_signature, signature as signature_shape, signatures_of, signatures_image};
 ghost use Rattle.coset_core.specs.Written.{AppendsSignatures, signature_array};
@@ -20,19 +19,19 @@ ghost use Rattle.coset_core.specs.SameLaws.{signature_eq_equiv};
 ghost use Rattle.coset_core.specs.Held.{header_count, held_in, signatures_in};
 
 use crate::countersignature::{CoseCountersignature, take_last_countersignature};
-use crate::header::{Header, LAYERS, copy_header, fill_header, same_header, write_header};
+use crate::header::reading::fill_header;
+use crate::header::writing::write_header;
+use crate::header::{Header, LAYERS, copy_header, same_header};
 use crate::protected::{
     Bstr, ProtectedHeader, copy_protected, fill_protected, protected_from_header, same_protected,
     string_bytes, write_protected,
 };
-use coset_cbor::de::Pull;
 use coset_cbor::ser::{write_array_head, write_bytes};
 use coset_cbor::value::Value;
-use coset_shape::encode::{Encode, encode_to_value, encode_to_vec};
+use coset_shape::encode::Encode;
 use coset_shape::error::{Refused, keep_error};
 use coset_shape::input::{Input, InputItems};
-use coset_shape::traits::{FromPull, read_slice};
-use coset_shape::{AsCborValue, CborSerializable, CoseError, Lawful, Result, Source};
+use coset_shape::{Codec, CoseError, Result};
 use std::alloc::{AllocError, Global};
 use std::marker::Model;
 
@@ -114,7 +113,8 @@ impl CoseSignature {
     }
 }
 
-impl AsCborValue for CoseSignature {
+impl Codec for CoseSignature {
+    ghost use Rattle.coset_core.specs.Told.{signature_told};
     ghost use Rattle.coset_core.specs.Headers.{SignatureSeen};
     ghost use Rattle.coset_core.specs.HeaderLaws.{signature_laws};
 
@@ -124,57 +124,28 @@ impl AsCborValue for CoseSignature {
 
     ghost shape = { signature_shape };
 
-    ghost unique = { signature_laws.unique };
-
-    ghost sound = { signature_laws.sound };
-
-    fn from_cbor_value(alloc: Global, value: Value) -> Result<CoseSignature> {
-        read_signature(alloc, &mut Input::Tree(value))
-    }
-
-    fn to_cbor_value(self, alloc: Global) -> Result<Value> {
-        encode_to_value(alloc, &self)
-    }
-}
-
-impl Lawful for CoseSignature {
-    ghost use Rattle.coset_core.specs.HeaderLaws.{signature_laws};
-
     ghost laws = { signature_laws };
-}
 
-impl Encode for CoseSignature {
-    ghost image = { λ s. signature_shape.image (signature_seen s) };
+    ghost equal = { signature_told };
 
-    fn room(&self) -> usize {
+    fn read(alloc: Global, input: &mut Input<'_>) -> Result<CoseSignature> {
+        let mut signed = CoseSignature::new(alloc);
+        let mut error = CoseError::OutOfMemory;
+        match fill_signature(&mut signed, alloc, input, LAYERS, &mut error) {
+            Ok(()) => Ok(signed),
+            Err(Refused) => Err(error),
+        }
+    }
+
+    fn size_hint(&self) -> usize {
         Bstr(&self.protected)
             .room()
             .saturating_add(self.unprotected.room())
             .saturating_add(self.signature.room())
     }
 
-    fn encode(&self, alloc: Global, out: &mut Vec<u8>) -> Result<()> {
+    fn write(&self, alloc: Global, out: &mut Vec<u8>) -> Result<()> {
         write_signature(alloc, self, out)
-    }
-}
-
-impl FromPull for CoseSignature {
-    fn from_pull(alloc: Global, pull: Pull<'_>) -> Result<CoseSignature> {
-        read_signature(alloc, &mut Input::new(Source::Lent(pull)))
-    }
-
-    fn from_input(alloc: Global, input: &mut Input<'_>) -> Result<CoseSignature> {
-        read_signature(alloc, input)
-    }
-}
-
-impl CborSerializable for CoseSignature {
-    fn from_slice(alloc: Global, s: &[u8]) -> Result<CoseSignature> {
-        read_slice(alloc, s)
-    }
-
-    fn to_vec(self, alloc: Global) -> Result<Vec<u8>> {
-        encode_to_vec(alloc, &self)
     }
 }
 
@@ -457,21 +428,6 @@ fn fill_places(
         return Err(Refused);
     }
     fill_protected(&mut signed.protected, alloc, layers, error)
-}
-
-/// A signature.
-pub(crate) fn read_signature(alloc: Global, input: &mut Input<'_>) -> Result<CoseSignature>
-    ensures shrinks { length_left (state input.new) ≤ length_left (state input.old) }
-    ensures strictly { OnOk result (GoesBehind (state input.old) (state input.new)) }
-    ensures reads { ReadsAt (state input.old) (state input.new)
-        (λ v. Reads signature_shape signature_seen v result) }
-{
-    let mut signed = CoseSignature::new(alloc);
-    let mut error = CoseError::OutOfMemory;
-    match fill_signature(&mut signed, alloc, input, LAYERS, &mut error) {
-        Ok(()) => Ok(signed),
-        Err(Refused) => Err(error),
-    }
 }
 
 /// Appends the signatures, one after the other.

@@ -1,43 +1,35 @@
--- Whether two keys are the same, as tests that compute. They answer `true` exactly where the keys are equal.
-use Rattle.std.specs.Prelude.{List, Bool, ◌&&◌, ◌==◌}
+-- `==` of keys is equality of what contracts see.
+use Rattle.std.specs.Prelude.{◌==◌, ◌&&◌, Bool}
+use Rattle.std.specs.Cmp.Lexicographic.{pointwise}
 use Rattle.std.specs.Option.{option_eq}
-use Rattle.std.specs.Cmp.{IsEquivalence, decided}
-use Rattle.std.specs.Cmp.Lexicographic.{pointwise, pointwise_decides, bytes_decides}
+use Rattle.std.specs.Ordering.{on}
 use Rattle.std.proofs.Common.{ap}
 use Rattle.std.proofs.lemmas.Bool.Decides.{Decides-like, Decides-and}
+use Rattle.coset_shape.specs.Told.{Tells, bytes_told, lists_told, options_told}
 use Rattle.coset_core.specs.Fields.{same_name}
 use Rattle.coset_core.specs.Same.{algorithm_eq, entry_eq}
-use Rattle.coset_core.specs.SameLaws.{IsEquality, option_eq-decides, algorithm_eq-decides, same_name-decides, entry_eq-decides}
-use Rattle.coset_key.specs.Keys.{KeySeen}
+use Rattle.coset_core.specs.SameLaws.{same_name-decides}
+use Rattle.coset_core.specs.Told.{algorithm_told, entry_told}
+use Rattle.coset_core.specs.Views.{algorithm_seen, entry_seen}
+use Rattle.coset_key.specs.Keys.{key_seen, kty_seen, operation_seen}
+use Rattle.coset_key.specs.declared.key.CoseKey.{CoseKey}
 
 -- each field the same; the lists have as many members, each the same as its counterpart
-abbrev pub key_eq : KeySeen → KeySeen → Bool
+abbrev key_eq : CoseKey → CoseKey → Bool
 key_eq k l =
-    same_name k.kty l.kty
-    && (pointwise ◌==◌ k.key_id l.key_id
-    && (option_eq algorithm_eq k.alg l.alg && (pointwise same_name k.key_ops l.key_ops && (pointwise ◌==◌ k.base_iv l.base_iv && pointwise entry_eq k.params l.params))))
+    on kty_seen same_name k.kty l.kty
+    && (pointwise ◌==◌ k.key_id.items l.key_id.items
+    && (option_eq (on algorithm_seen algorithm_eq) k.alg l.alg
+    && (pointwise (on operation_seen same_name) k.key_ops.keys l.key_ops.keys
+    && (pointwise ◌==◌ k.base_iv.items l.base_iv.items && pointwise (on entry_seen entry_eq) k.params.items l.params.items))))
 
-pub key_eq-decides : IsEquality key_eq
-key_eq-decides k l =
+pub key_told : Tells key_seen key_eq
+key_told k l =
     Decides-like (key_eq k l)
     (λ e i. record { kty = e.0 i; key_id = e.1.0 i; alg = e.1.1.0 i; key_ops = e.1.1.1.0 i; base_iv = e.1.1.1.1.0 i; params = e.1.1.1.1.1 i })
     (λ e. (ap (λ x. x.kty) e, (ap (λ x. x.key_id) e, (ap (λ x. x.alg) e, (ap (λ x. x.key_ops) e, (ap (λ x. x.base_iv) e, ap (λ x. x.params) e))))))
-    (Decides-and (same_name k.kty l.kty) _ (same_name-decides k.kty l.kty)
-    (Decides-and (pointwise ◌==◌ k.key_id l.key_id) _ (bytes_decides k.key_id l.key_id)
-    (Decides-and (option_eq algorithm_eq k.alg l.alg) _ (option_eq-decides algorithm_eq algorithm_eq-decides k.alg l.alg)
-    (Decides-and (pointwise same_name k.key_ops l.key_ops) _ (pointwise_decides same_name-decides k.key_ops l.key_ops)
-    (Decides-and (pointwise ◌==◌ k.base_iv l.base_iv) (pointwise entry_eq k.params l.params) (bytes_decides k.base_iv l.base_iv) (pointwise_decides entry_eq-decides k.params l.params))))))
-
--- as many keys, each the same as its counterpart
-abbrev pub key_set_eq : List KeySeen → List KeySeen → Bool
-key_set_eq = pointwise key_eq
-
-pub key_set_eq-decides : IsEquality key_set_eq
-key_set_eq-decides = pointwise_decides key_eq-decides
-
--- so they are reflexive, symmetric and transitive
-pub key_eq_equiv : IsEquivalence key_eq
-key_eq_equiv = decided key_eq key_eq-decides
-
-pub key_set_eq_equiv : IsEquivalence key_set_eq
-key_set_eq_equiv = decided key_set_eq key_set_eq-decides
+    (Decides-and _ _ (same_name-decides (kty_seen k.kty) (kty_seen l.kty))
+    (Decides-and _ _ (bytes_told k.key_id l.key_id)
+    (Decides-and _ _ (options_told algorithm_seen _ algorithm_told k.alg l.alg)
+    (Decides-and _ _ (lists_told operation_seen _ (λ x y. same_name-decides (operation_seen x) (operation_seen y)) k.key_ops.keys l.key_ops.keys)
+    (Decides-and _ _ (bytes_told k.base_iv l.base_iv) (lists_told entry_seen _ entry_told k.params.items l.params.items))))))

@@ -1,12 +1,8 @@
 //! Keys (RFC 8152, section 7).
 
-ghost use Rattle.std.specs.Prelude.{◌≡◌, ◌≢◌, ◌↔◌, ◌≤◌, ◌<◌, IsSome, IsTrue, not, length, map, option_map, Some, IsOk, OnOk, OnErr, IfOk, IfErr};
-ghost use Rattle.std.specs.Cmp.{on_equiv, on_per, partial_equiv_from_equiv};
-ghost use Rattle.std.specs.Cmp.Lexicographic.{pointwise};
+ghost use Rattle.std.specs.Prelude.{◌≡◌, ◌≤◌, ◌<◌, not, length, map, option_map, Some, IsOk, OnOk, OnErr, IfOk, IfErr};
 ghost use Rattle.std.specs.List.Sorted.{IsStableByKey};
 ghost use Rattle.std.specs.Map.{keys_of};
-ghost use Rattle.std.specs.Option.{option_eq};
-ghost use Rattle.std.specs.Ordering.{on};
 ghost use Rattle.coset_value.specs.Item.{boolean, bytes};
 ghost use Rattle.coset_value.specs.View.{view};
 ghost use Rattle.coset_iana.specs.Algorithm as algorithms;
@@ -15,10 +11,9 @@ ghost use Rattle.coset_iana.specs.KeyParameter as parameters;
 ghost use Rattle.coset_iana.specs.KeyType as kinds;
 ghost use Rattle.coset_iana.specs.declared.keys.KeyParameter.TheVariants as labels;
 ghost use Rattle.coset_shape.specs.declared.error.CoseError.TheVariants.{OutOfMemory};
-ghost use Rattle.coset_shape.specs.Answers.{Reads};
 ghost use Rattle.coset_shape.specs.Encoding.{AddsField, HasNoImage};
-ghost use Rattle.coset_shape.specs.Errors.{IsUnexpected, UnlessMemory};
-ghost use Rattle.coset_shape.specs.Inputs.{GoesBehind, ReadsAt, length_left, state};
+ghost use Rattle.coset_shape.specs.Errors.{UnlessMemory};
+ghost use Rattle.coset_shape.specs.Inputs.{ReadsAt, length_left, state};
 ghost use Rattle.coset_shape.specs.Maps.{Adds, Refuses, are_distinct, listed, optional};
 ghost use Rattle.coset_shape.specs.Shape.{filled_bstr};
 ghost use Rattle.coset_label.specs.Names.{assigned, number};
@@ -26,31 +21,26 @@ ghost use Rattle.coset_label.specs.Orderings.{name_cmp_by};
 ghost use Rattle.coset_label.specs.Views.{label_seen};
 ghost use Rattle.coset_core.specs.Fields.{algorithm, names, same_name};
 ghost use Rattle.coset_core.specs.FieldValues.{TakesValue, RefusesValue};
-ghost use Rattle.coset_core.specs.Same.{algorithm_eq, entry_eq};
-ghost use Rattle.coset_core.specs.Views.{algorithm_seen, entry_seen};
+ghost use Rattle.coset_core.specs.Views.{algorithm_seen};
 ghost use Rattle.coset_key.specs.Canonical.{Canonicalizes};
-ghost use Rattle.coset_key.specs.Equality.{key_eq, key_eq_equiv};
 ghost use Rattle.coset_key.specs.KeyBuilt.{and_operation, and_param, ec2_key, ec2_private_key, ml_dsa_key, okp_key, symmetric_key, with_algorithm, with_base_iv, with_key_id, with_kty, IsOtherLabel};
-ghost use Rattle.coset_key.specs.Keys.{empty_key, fields, key as key_shape, key_ops as key_ops_shape, key_seen, kty_seen, operation_seen, reserved};
+ghost use Rattle.coset_key.specs.Keys.{empty_key, fields, key as key_shape, key_ops as key_ops_shape, key_seen, kty_seen, operation_seen};
 ghost use Rattle.coset_key.specs.Reading.{IsFinished, nothing, so_far_seen};
 
-use crate::key_ops::{KeyOps, add_operation, same_key_ops, set_key_ops};
+use crate::key_ops::{KeyOps, add_operation, set_key_ops};
 use crate::ml_dsa::MlDsaVariant;
-use coset_cbor::de::Pull;
 use coset_cbor::value::Value;
 use coset_core::{
-    Algorithm, AsCborValue, CborOrdering, CborSerializable, CoseError, Encode, FromPull,
-    KeyOperation, KeyType, Label, Lawful, RegisteredLabel, RegisteredLabelWithPrivate, Result,
-    Source, has_repeats, iana,
+    Algorithm, CborOrdering, CoseError, Encode, FromPull, KeyOperation, KeyType, Label,
+    RegisteredLabel, RegisteredLabelWithPrivate, Result, has_repeats, iana,
 };
 use coset_iana::{
     AkpKeyParameter, Ec2KeyParameter, EllipticCurve, EnumI64, KeyParameter, SymmetricKeyParameter,
 };
-use coset_shape::encode::{encode_to_value, encode_to_vec};
+use coset_shape::Codec;
 use coset_shape::encode_map::MapEncoder;
 use coset_shape::input::{Input, InputPairs};
 use coset_shape::map::{Gather, read_map};
-use coset_shape::traits::read_slice;
 use std::alloc::{AllocError, Global};
 use std::collections::BTreeSet;
 use std::marker::Model;
@@ -67,7 +57,7 @@ use std::marker::Model;
 ///     * label => values
 /// }
 /// ```
-#[derive(Debug, Drop)]
+#[derive(Debug, Drop, PartialEq, Eq)]
 pub struct CoseKey {
     /// The type of the key (label 1), which decides what its `params` mean.
     pub kty: KeyType,
@@ -81,6 +71,22 @@ pub struct CoseKey {
     pub base_iv: Vec<u8>,
     /// The pairs of other labels, in order.
     pub params: Vec<(Label, Value)>,
+}
+
+/// The same as [`CoseKey::clone`], for generic code.
+impl Clone for CoseKey {
+    ghost is_clone = { λ key copy. key_seen copy ≡ key_seen key };
+
+    fn clone(&self) -> Result<CoseKey, AllocError> {
+        Ok(CoseKey {
+            kty: Clone::clone(&self.kty)?,
+            key_id: Vec::from_slice(*self.key_id.allocator(), &self.key_id)?,
+            alg: self.alg.clone()?,
+            key_ops: self.key_ops.clone()?,
+            base_iv: Vec::from_slice(*self.base_iv.allocator(), &self.base_iv)?,
+            params: self.params.clone()?,
+        })
+    }
 }
 
 impl CoseKey {
@@ -310,19 +316,8 @@ impl Gather for SoFar {
     }
 }
 
-/// Reads a key.
-fn read_key(alloc: Global, input: &mut Input<'_>) -> Result<CoseKey>
-    ensures shrinks { length_left (state input.new) ≤ length_left (state input.old) }
-    ensures strictly { OnOk result (GoesBehind (state input.old) (state input.new)) }
-    ensures reads { ReadsAt (state input.old) (state input.new)
-        (λ v. Reads key_shape key_seen v result) }
-{
-    let mut so_far = SoFar::new(alloc);
-    read_map(alloc, input, &mut so_far)?;
-    so_far.finish()
-}
-
-impl AsCborValue for CoseKey {
+impl Codec for CoseKey {
+    ghost use Rattle.coset_key.specs.Equality.{key_told};
     ghost use Rattle.coset_key.specs.Keys.{KeySeen};
     ghost use Rattle.coset_key.specs.KeyLaws.{key_laws};
 
@@ -332,36 +327,29 @@ impl AsCborValue for CoseKey {
 
     ghost shape = { key_shape };
 
-    ghost unique = { key_laws.unique };
+    ghost laws = { key_laws };
 
-    ghost sound = { key_laws.sound };
+    ghost equal = { key_told };
 
-    fn from_cbor_value(alloc: Global, value: Value) -> Result<CoseKey> {
-        read_key(alloc, &mut Input::Tree(value))
+    fn read(alloc: Global, input: &mut Input<'_>) -> Result<CoseKey> {
+        let mut so_far = SoFar::new(alloc);
+        read_map(alloc, input, &mut so_far)?;
+        so_far.finish()
     }
 
-    fn to_cbor_value(self, alloc: Global) -> Result<Value> {
-        encode_to_value(alloc, &self)
-    }
-}
-
-impl FromPull for CoseKey {
-    fn from_pull(alloc: Global, pull: Pull<'_>) -> Result<CoseKey> {
-        read_key(alloc, &mut Input::new(Source::Lent(pull)))
-    }
-
-    fn from_input(alloc: Global, input: &mut Input<'_>) -> Result<CoseKey> {
-        read_key(alloc, input)
-    }
-}
-
-impl CborSerializable for CoseKey {
-    fn from_slice(alloc: Global, s: &[u8]) -> Result<CoseKey> {
-        read_slice(alloc, s)
-    }
-
-    fn to_vec(self, alloc: Global) -> Result<Vec<u8>> {
-        encode_to_vec(alloc, &self)
+    fn write(&self, alloc: Global, out: &mut Vec<u8>) -> Result<()> {
+        if has_repeats(alloc, &self.params)? {
+            return Err(CoseError::DuplicateMapKey);
+        }
+        let mut pairs = MapEncoder::new(alloc);
+        write_field(&mut pairs, alloc, KeyParameter::Kty, &self.kty)?;
+        write_bytes(&mut pairs, alloc, KeyParameter::Kid, &self.key_id)?;
+        write_algorithm(&mut pairs, alloc, &self.alg)?;
+        write_key_ops(&mut pairs, alloc, &self.key_ops)?;
+        write_bytes(&mut pairs, alloc, KeyParameter::BaseIv, &self.base_iv)?;
+        pairs.rest(alloc, &self.params)?;
+        pairs.finish(out)?;
+        Ok(())
     }
 }
 
@@ -424,90 +412,6 @@ fn write_key_ops(
         return Ok(());
     }
     write_field(pairs, alloc, KeyParameter::KeyOps, &KeyOps(operations))
-}
-
-impl Encode for CoseKey {
-    ghost image = { λ k. key_shape.image (key_seen k) };
-
-    fn encode(&self, alloc: Global, out: &mut Vec<u8>) -> Result<()> {
-        if has_repeats(alloc, &self.params)? {
-            return Err(CoseError::DuplicateMapKey);
-        }
-        let mut pairs = MapEncoder::new(alloc);
-        write_field(&mut pairs, alloc, KeyParameter::Kty, &self.kty)?;
-        write_bytes(&mut pairs, alloc, KeyParameter::Kid, &self.key_id)?;
-        write_algorithm(&mut pairs, alloc, &self.alg)?;
-        write_key_ops(&mut pairs, alloc, &self.key_ops)?;
-        write_bytes(&mut pairs, alloc, KeyParameter::BaseIv, &self.base_iv)?;
-        pairs.rest(alloc, &self.params)?;
-        pairs.finish(out)?;
-        Ok(())
-    }
-}
-
-impl Lawful for CoseKey {
-    ghost use Rattle.coset_key.specs.KeyLaws.{key_laws};
-
-    ghost laws = { key_laws };
-}
-
-/// The same as [`CoseKey::clone`], for generic code.
-impl Clone for CoseKey {
-    ghost is_clone = { λ key copy. key_seen copy ≡ key_seen key };
-
-    fn clone(&self) -> Result<CoseKey, AllocError> {
-        Ok(CoseKey {
-            kty: Clone::clone(&self.kty)?,
-            key_id: Vec::from_slice(*self.key_id.allocator(), &self.key_id)?,
-            alg: self.alg.clone()?,
-            key_ops: self.key_ops.clone()?,
-            base_iv: Vec::from_slice(*self.base_iv.allocator(), &self.base_iv)?,
-            params: self.params.clone()?,
-        })
-    }
-}
-
-/// Equality of every field; the params are compared pair by pair, in order.
-impl PartialEq for CoseKey {
-    ghost eq = { on key_seen key_eq };
-
-    ghost laws = { on_per key_seen (partial_equiv_from_equiv key_eq_equiv) };
-
-    fn eq(&self, other: &CoseKey) -> bool
-        ensures answers { result ≡ key_eq (key_seen self.now) (key_seen other.now) }
-        ensures equal { IsTrue result ↔ (key_seen self.now ≡ key_seen other.now) }
-    {
-        same_key(self, other)
-    }
-}
-
-impl Eq for CoseKey {
-    ghost laws = { on_equiv key_seen key_eq_equiv };
-}
-
-fn same_key(a: &CoseKey, b: &CoseKey) -> bool
-    ensures { result ≡ key_eq (key_seen a.now) (key_seen b.now) }
-{
-    a.kty == b.kty
-        && a.key_id == b.key_id
-        && same_algorithm(&a.alg, &b.alg)
-        && same_key_ops(&a.key_ops, &b.key_ops)
-        && a.base_iv == b.base_iv
-        && same_params(&a.params, &b.params)
-}
-
-fn same_algorithm(a: &Option<Algorithm>, b: &Option<Algorithm>) -> bool
-    ensures { result ≡ option_eq algorithm_eq (option_map algorithm_seen a.now)
-        (option_map algorithm_seen b.now) }
-{
-    *a == *b
-}
-
-fn same_params(a: &Vec<(Label, Value)>, b: &Vec<(Label, Value)>) -> bool
-    ensures { result ≡ pointwise entry_eq (map entry_seen a.now.items)
-        (map entry_seen b.now.items) }
-{
-    *a == *b
 }
 
 /// Makes a [`CoseKey`], field by field. Contracts see it as the key that [`build`](CoseKeyBuilder::build) gives.

@@ -2,7 +2,6 @@
 
 ghost use Rattle.std.specs.Prelude.{◌≡◌, ◌≤◌, map, IfErr, OnOk, OnErr};
 ghost use Rattle.std.specs.BTreeSet.{insert_key};
-ghost use Rattle.std.specs.Cmp.Lexicographic.{pointwise};
 ghost use Rattle.coset_value.specs.Item.{Items};
 ghost use Rattle.coset_shape.specs.declared.error.CoseError.TheVariants.{OutOfMemory};
 ghost use Rattle.coset_shape.specs.Answers.{Reads};
@@ -10,7 +9,6 @@ ghost use Rattle.coset_shape.specs.Errors.{UnlessMemory};
 ghost use Rattle.coset_shape.specs.Inputs.{AreWithin, GoesBehind, ReadsAt, State, length_left, state};
 ghost use Rattle.coset_shape.specs.Maps.{listed};
 ghost use Rattle.coset_label.specs.Names.{name_cmp};
-ghost use Rattle.coset_core.specs.Fields.{same_name};
 ghost use Rattle.coset_core.specs.FieldValues.{TakesValue, RefusesValue};
 ghost use Rattle.coset_key.specs.Keys.{key_ops, operation, operation_seen};
 ghost use Rattle.coset_key.specs.Reading.{ReadsSet, operations_seen};
@@ -126,11 +124,4 @@ impl Encode for KeyOps<'_> {
         }
         Ok(())
     }
-}
-
-pub(crate) fn same_key_ops(a: &BTreeSet<KeyOperation>, b: &BTreeSet<KeyOperation>) -> bool
-    ensures { result ≡ pointwise same_name (map operation_seen a.now.keys)
-        (map operation_seen b.now.keys) }
-{
-    *a == *b
 }

@@ -9,11 +9,11 @@ mod ml_dsa;
 mod sec1;
 
 pub use coset_core::{
-    Algorithm, AsCborValue, Bstr, CallError, CborOrdering, CborSerializable, ClaimName,
+    Algorithm, AsCborValue, Bstr, CallError, CborOrdering, CborSerializable, ClaimName, Codec,
     ContentType, CoseError, CoseSignature, CoseSignatureBuilder, Encode, EndOfFile, FromPull,
     Header, HeaderBuilder, KeyOperation, KeyType, Label, Lawful, ProtectedBstr, ProtectedHeader,
-    RegisteredLabel, RegisteredLabelWithPrivate, Result, Source, TaggedCborSerializable, cbor,
-    has_repeats, iana, shape, util,
+    RegisteredLabel, RegisteredLabelWithPrivate, Result, Source, TaggedCborSerializable,
+    TaggedCodec, cbor, has_repeats, iana, shape, util,
 };
 pub use key::{CoseKey, CoseKeyBuilder};
 pub use key_set::CoseKeySet;

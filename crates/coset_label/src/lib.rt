@@ -13,8 +13,8 @@ pub use coset_cbor as cbor;
 pub use coset_iana as iana;
 pub use coset_shape as shape;
 pub use coset_shape::{
-    AsCborValue, CallError, CborSerializable, CoseError, Encode, EndOfFile, FromPull, Lawful,
-    Result, Source, TaggedCborSerializable, has_repeats, util,
+    AsCborValue, CallError, CborSerializable, Codec, CoseError, Encode, EndOfFile, FromPull,
+    Lawful, Result, Source, TaggedCborSerializable, TaggedCodec, has_repeats, util,
 };
 pub use label::Label;
 pub use names::{Algorithm, ClaimName, ContentType, KeyOperation, KeyType};

@@ -1,10 +1,8 @@
 //! Encrypted messages for receivers that know the key (RFC 8152, section 5.2).
 
-ghost use Rattle.std.specs.Prelude.{◌≡◌, ◌≢◌, ◌↔◌, ◌≤◌, OnOk, IsTrue, IfOk, IfErr, IfSome, Some, None};
-ghost use Rattle.std.specs.Ordering.{on};
-ghost use Rattle.std.specs.Cmp.{on_equiv, on_per, partial_equiv_from_equiv};
+ghost use Rattle.std.specs.Prelude.{◌≡◌, ◌≢◌, ◌≤◌, OnOk, IfOk, IfErr, IfSome, Some, None};
 ghost use Rattle.coset_shape.specs.declared.error.CoseError.TheVariants.{OutOfMemory};
-ghost use Rattle.coset_shape.specs.Answers.{Reads, Writes};
+ghost use Rattle.coset_shape.specs.Answers.{Writes};
 ghost use Rattle.coset_shape.specs.Inputs.{state, GoesBehind, ReadsAt, length_left};
 ghost use Rattle.coset_shape.specs.InPlace.{Fills};
 ghost use Rattle.coset_core.specs.Messages.{unread};
@@ -12,23 +10,16 @@ ghost use Rattle.coset_core.specs.Views.{header_seen};
 ghost use Rattle.coset_sign.specs.Calls.{AsksAbout};
 ghost use Rattle.coset_msg.specs.Encrypt0.{empty_encrypt0, encrypt0, encrypt0_seen, encrypt0_structure, with_ciphertext};
 ghost use Rattle.coset_msg.specs.Presence.{AsksWherePresent, CreatesOf, TriesToCreateOf};
-ghost use Rattle.coset_msg.specs.Equality.{encrypt0_eq, encrypt0_eq_equiv};
 
 use crate::enc_structure::{EncryptionContext, additional_bytes};
-use coset_cbor::de::Pull;
 use coset_cbor::value::Value;
 use coset_core::{Bstr, Header, ProtectedHeader, fill_headers};
-use coset_shape::encode::{
-    Encode, encode_three, encode_to_tagged_vec, encode_to_value, encode_to_vec,
-};
+use coset_shape::encode::{Encode, encode_three};
 use coset_shape::input::Input;
-use coset_shape::traits::{FromPull, read_slice, read_tagged_slice};
-use coset_shape::util::copy_bytes;
-use coset_shape::{
-    AsCborValue, CallError, CborSerializable, Lawful, Result, Source, TaggedCborSerializable,
-};
+use coset_shape::util::copy_bstr;
+use coset_shape::{CallError, Codec, Result, TaggedCodec};
 use coset_sign::calls::ask;
-use std::alloc::Global;
+use std::alloc::{AllocError, Global};
 use std::marker::Model;
 
 /// An encrypted message, for receivers that know the key: `COSE_Encrypt0` (RFC 8152, section 5.2).
@@ -36,7 +27,7 @@ use std::marker::Model;
 /// ```cddl
 /// COSE_Encrypt0 = [ Headers, ciphertext : bstr / nil ]
 /// ```
-#[derive(Debug, Drop)]
+#[derive(Debug, Drop, PartialEq, Eq)]
 pub struct CoseEncrypt0 {
     /// The header that is authenticated with the ciphertext.
     pub protected: ProtectedHeader,
@@ -71,18 +62,6 @@ fn fill_encrypt0(message: &mut CoseEncrypt0, alloc: Global, input: &mut Input<'_
     places.end(input, PLACES)?;
     message.ciphertext = ciphertext?;
     headers
-}
-
-/// Reads a message.
-fn read_encrypt0(alloc: Global, input: &mut Input<'_>) -> Result<CoseEncrypt0>
-    ensures shrinks { length_left (state input.new) ≤ length_left (state input.old) }
-    ensures strictly { OnOk result (GoesBehind (state input.old) (state input.new)) }
-    ensures reads { ReadsAt (state input.old) (state input.new)
-        (λ v. Reads encrypt0 encrypt0_seen v result) }
-{
-    let mut message = CoseEncrypt0::new(alloc);
-    fill_encrypt0(&mut message, alloc, input)?;
-    Ok(message)
 }
 
 impl CoseEncrypt0 {
@@ -184,45 +163,27 @@ impl CoseEncrypt0 {
         ensures copy { IfOk result (λ m. encrypt0_seen m ≡ encrypt0_seen self.now) }
         ensures memory { IfErr result (λ e. e ≡ OutOfMemory) }
     {
-        let ciphertext = match &self.ciphertext {
-            Some(ciphertext) => Some(copy_bytes(ciphertext)?),
-            None => None,
-        };
+        Ok(Clone::clone(self)?)
+    }
+}
+
+/// The same as [`CoseEncrypt0::clone`], for generic code.
+impl Clone for CoseEncrypt0 {
+    ghost is_clone = { λ message copy. encrypt0_seen copy ≡ encrypt0_seen message };
+
+    fn clone(&self) -> Result<CoseEncrypt0, AllocError> {
         Ok(CoseEncrypt0 {
-            protected: self.protected.clone()?,
-            unprotected: self.unprotected.clone()?,
-            ciphertext,
+            protected: Clone::clone(&self.protected)?,
+            unprotected: Clone::clone(&self.unprotected)?,
+            ciphertext: copy_bstr(&self.ciphertext)?,
         })
     }
 }
 
-/// Equality of every field, the bytes that were kept of the protected header included.
-impl PartialEq for CoseEncrypt0 {
-    ghost eq = { on encrypt0_seen encrypt0_eq };
-
-    ghost laws = { on_per encrypt0_seen (partial_equiv_from_equiv encrypt0_eq_equiv) };
-
-    fn eq(&self, other: &CoseEncrypt0) -> bool
-        ensures answers { result
-            ≡ encrypt0_eq (encrypt0_seen self.now) (encrypt0_seen other.now) }
-        ensures equal { IsTrue result ↔ (encrypt0_seen self.now ≡ encrypt0_seen other.now) }
-    {
-        same(self, other)
-    }
-}
-
-impl Eq for CoseEncrypt0 {
-    ghost laws = { on_equiv encrypt0_seen encrypt0_eq_equiv };
-}
-
-/// Whether two messages are the same, the bytes that were kept included.
-fn same(a: &CoseEncrypt0, b: &CoseEncrypt0) -> bool
-    ensures { result ≡ encrypt0_eq (encrypt0_seen a.now) (encrypt0_seen b.now) }
-{
-    a.protected == b.protected && a.unprotected == b.unprotected && a.ciphertext == b.ciphertext
-}
-
-impl AsCborValue for CoseEncrypt0 {
+impl Codec for CoseEncrypt0 {
+    ghost use Rattle.coset_msg.specs.Equality.{encrypt0_told};
+    ghost use Rattle.coset_shape.specs.Told.{bstr_told};
+    ghost use Rattle.coset_core.specs.Told.{header_told, protected_told};
     ghost use Rattle.coset_msg.specs.Encrypt0.{Encrypt0Seen, encrypt0_laws};
 
     ghost Seen = { Encrypt0Seen };
@@ -231,73 +192,35 @@ impl AsCborValue for CoseEncrypt0 {
 
     ghost shape = { encrypt0 };
 
-    ghost unique = { encrypt0_laws.unique };
-
-    ghost sound = { encrypt0_laws.sound };
-
-    fn from_cbor_value(alloc: Global, value: Value) -> Result<CoseEncrypt0> {
-        read_encrypt0(alloc, &mut Input::Tree(value))
-    }
-
-    fn to_cbor_value(self, alloc: Global) -> Result<Value> {
-        encode_to_value(alloc, &self)
-    }
-}
-
-impl Lawful for CoseEncrypt0 {
-    ghost use Rattle.coset_msg.specs.Encrypt0.{encrypt0_laws};
-
     ghost laws = { encrypt0_laws };
-}
 
-impl Encode for CoseEncrypt0 {
-    ghost image = { λ m. encrypt0.image (encrypt0_seen m) };
+    ghost equal = { λ a b. encrypt0_told (protected_told a.protected b.protected)
+        (header_told a.unprotected b.unprotected)
+        (bstr_told a.ciphertext b.ciphertext) };
 
-    fn room(&self) -> usize {
+    fn read(alloc: Global, input: &mut Input<'_>) -> Result<CoseEncrypt0> {
+        let mut message = CoseEncrypt0::new(alloc);
+        fill_encrypt0(&mut message, alloc, input)?;
+        Ok(message)
+    }
+
+    fn size_hint(&self) -> usize {
         Bstr(&self.protected)
             .room()
             .saturating_add(self.unprotected.room())
             .saturating_add(self.ciphertext.room())
     }
 
-    fn encode(&self, alloc: Global, out: &mut Vec<u8>) -> Result<()> {
+    fn write(&self, alloc: Global, out: &mut Vec<u8>) -> Result<()> {
         let protected = Bstr(&self.protected);
         encode_three(alloc, &protected, &self.unprotected, &self.ciphertext, out)
     }
 }
 
-impl FromPull for CoseEncrypt0 {
-    fn from_pull(alloc: Global, pull: Pull<'_>) -> Result<CoseEncrypt0> {
-        read_encrypt0(alloc, &mut Input::new(Source::Lent(pull)))
-    }
+impl TaggedCodec for CoseEncrypt0 {
+    ghost TAG_NUMBER = { 16 };
 
-    fn from_input(alloc: Global, input: &mut Input<'_>) -> Result<CoseEncrypt0> {
-        read_encrypt0(alloc, input)
-    }
-}
-
-impl CborSerializable for CoseEncrypt0 {
-    fn from_slice(alloc: Global, s: &[u8]) -> Result<CoseEncrypt0> {
-        read_slice(alloc, s)
-    }
-
-    fn to_vec(self, alloc: Global) -> Result<Vec<u8>> {
-        encode_to_vec(alloc, &self)
-    }
-}
-
-impl TaggedCborSerializable for CoseEncrypt0 {
-    ghost TAG = { 16 };
-
-    const TAG: u64 = 16;
-
-    fn from_tagged_slice(alloc: Global, s: &[u8]) -> Result<CoseEncrypt0> {
-        read_tagged_slice(alloc, 16, s)
-    }
-
-    fn to_tagged_vec(self, alloc: Global) -> Result<Vec<u8>> {
-        encode_to_tagged_vec(alloc, 16, &self)
-    }
+    const TAG_NUMBER: u64 = 16;
 }
 
 /// Makes a [`CoseEncrypt0`], field by field. Contracts see it as the message that [`build`](CoseEncrypt0Builder::build) gives.

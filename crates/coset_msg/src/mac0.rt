@@ -1,10 +1,8 @@
 //! Messages with a MAC for receivers that know the key (RFC 8152, section 6.2).
 
-ghost use Rattle.std.specs.Prelude.{◌≡◌, ◌≢◌, ◌↔◌, ◌≤◌, OnOk, IsTrue, IfOk, IfErr, IfSome, Some, None};
-ghost use Rattle.std.specs.Ordering.{on};
-ghost use Rattle.std.specs.Cmp.{on_equiv, on_per, partial_equiv_from_equiv};
+ghost use Rattle.std.specs.Prelude.{◌≡◌, ◌≢◌, ◌≤◌, OnOk, IfOk, IfErr, IfSome, Some, None};
 ghost use Rattle.coset_shape.specs.declared.error.CoseError.TheVariants.{OutOfMemory};
-ghost use Rattle.coset_shape.specs.Answers.{Reads, Writes};
+ghost use Rattle.coset_shape.specs.Answers.{Writes};
 ghost use Rattle.coset_shape.specs.Inputs.{state, GoesBehind, ReadsAt, length_left};
 ghost use Rattle.coset_shape.specs.InPlace.{Fills};
 ghost use Rattle.coset_core.specs.Messages.{unread};
@@ -12,23 +10,16 @@ ghost use Rattle.coset_core.specs.Views.{header_seen};
 ghost use Rattle.coset_sign.specs.Calls.{AsksAbout, Creates, TriesToCreate};
 ghost use Rattle.coset_msg.specs.Mac0.{empty_mac0, mac0, mac0_seen, mac0_structure, with_tag};
 ghost use Rattle.coset_msg.specs.Presence.{AsksWherePresent};
-ghost use Rattle.coset_msg.specs.Equality.{mac0_eq, mac0_eq_equiv};
 
 use crate::mac_structure::{MacContext, authenticated_bytes};
-use coset_cbor::de::Pull;
 use coset_cbor::value::Value;
 use coset_core::{Bstr, Header, ProtectedHeader, fill_headers};
-use coset_shape::encode::{
-    Encode, encode_four, encode_to_tagged_vec, encode_to_value, encode_to_vec,
-};
+use coset_shape::encode::{Encode, encode_four};
 use coset_shape::input::Input;
-use coset_shape::traits::{FromPull, read_slice, read_tagged_slice};
-use coset_shape::util::copy_bytes;
-use coset_shape::{
-    AsCborValue, CallError, CborSerializable, Lawful, Result, Source, TaggedCborSerializable,
-};
+use coset_shape::util::copy_bstr;
+use coset_shape::{CallError, Codec, Result, TaggedCodec};
 use coset_sign::calls::{ask, make};
-use std::alloc::Global;
+use std::alloc::{AllocError, Global};
 use std::marker::Model;
 
 /// A message with a MAC, for receivers that know the key: `COSE_Mac0` (RFC 8152, section 6.2).
@@ -36,7 +27,7 @@ use std::marker::Model;
 /// ```cddl
 /// COSE_Mac0 = [ Headers, payload : bstr / nil, tag : bstr ]
 /// ```
-#[derive(Debug, Drop)]
+#[derive(Debug, Drop, PartialEq, Eq)]
 pub struct CoseMac0 {
     /// The header that the MAC covers.
     pub protected: ProtectedHeader,
@@ -76,18 +67,6 @@ fn fill_mac0(message: &mut CoseMac0, alloc: Global, input: &mut Input<'_>) -> Re
     message.tag = tag?;
     message.payload = payload?;
     headers
-}
-
-/// Reads a message.
-fn read_mac0(alloc: Global, input: &mut Input<'_>) -> Result<CoseMac0>
-    ensures shrinks { length_left (state input.new) ≤ length_left (state input.old) }
-    ensures strictly { OnOk result (GoesBehind (state input.old) (state input.new)) }
-    ensures reads { ReadsAt (state input.old) (state input.new)
-        (λ v. Reads mac0 mac0_seen v result) }
-{
-    let mut message = CoseMac0::new(alloc);
-    fill_mac0(&mut message, alloc, input)?;
-    Ok(message)
 }
 
 impl CoseMac0 {
@@ -192,48 +171,28 @@ impl CoseMac0 {
         ensures copy { IfOk result (λ m. mac0_seen m ≡ mac0_seen self.now) }
         ensures memory { IfErr result (λ e. e ≡ OutOfMemory) }
     {
-        let payload = match &self.payload {
-            Some(payload) => Some(copy_bytes(payload)?),
-            None => None,
-        };
+        Ok(Clone::clone(self)?)
+    }
+}
+
+/// The same as [`CoseMac0::clone`], for generic code.
+impl Clone for CoseMac0 {
+    ghost is_clone = { λ message copy. mac0_seen copy ≡ mac0_seen message };
+
+    fn clone(&self) -> Result<CoseMac0, AllocError> {
         Ok(CoseMac0 {
-            protected: self.protected.clone()?,
-            unprotected: self.unprotected.clone()?,
-            payload,
-            tag: copy_bytes(&self.tag)?,
+            protected: Clone::clone(&self.protected)?,
+            unprotected: Clone::clone(&self.unprotected)?,
+            payload: copy_bstr(&self.payload)?,
+            tag: Vec::from_slice(*self.tag.allocator(), &self.tag)?,
         })
     }
 }
 
-/// Equality of every field, the bytes that were kept of the protected header included.
-impl PartialEq for CoseMac0 {
-    ghost eq = { on mac0_seen mac0_eq };
-
-    ghost laws = { on_per mac0_seen (partial_equiv_from_equiv mac0_eq_equiv) };
-
-    fn eq(&self, other: &CoseMac0) -> bool
-        ensures answers { result ≡ mac0_eq (mac0_seen self.now) (mac0_seen other.now) }
-        ensures equal { IsTrue result ↔ (mac0_seen self.now ≡ mac0_seen other.now) }
-    {
-        same(self, other)
-    }
-}
-
-impl Eq for CoseMac0 {
-    ghost laws = { on_equiv mac0_seen mac0_eq_equiv };
-}
-
-/// Whether two messages are the same, the bytes that were kept included.
-fn same(a: &CoseMac0, b: &CoseMac0) -> bool
-    ensures { result ≡ mac0_eq (mac0_seen a.now) (mac0_seen b.now) }
-{
-    a.protected == b.protected
-        && a.unprotected == b.unprotected
-        && a.payload == b.payload
-        && a.tag == b.tag
-}
-
-impl AsCborValue for CoseMac0 {
+impl Codec for CoseMac0 {
+    ghost use Rattle.coset_msg.specs.Equality.{mac0_told};
+    ghost use Rattle.coset_shape.specs.Told.{bytes_told, bstr_told};
+    ghost use Rattle.coset_core.specs.Told.{header_told, protected_told};
     ghost use Rattle.coset_msg.specs.Mac0.{Mac0Seen, mac0_laws};
 
     ghost Seen = { Mac0Seen };
@@ -242,29 +201,20 @@ impl AsCborValue for CoseMac0 {
 
     ghost shape = { mac0 };
 
-    ghost unique = { mac0_laws.unique };
-
-    ghost sound = { mac0_laws.sound };
-
-    fn from_cbor_value(alloc: Global, value: Value) -> Result<CoseMac0> {
-        read_mac0(alloc, &mut Input::Tree(value))
-    }
-
-    fn to_cbor_value(self, alloc: Global) -> Result<Value> {
-        encode_to_value(alloc, &self)
-    }
-}
-
-impl Lawful for CoseMac0 {
-    ghost use Rattle.coset_msg.specs.Mac0.{mac0_laws};
-
     ghost laws = { mac0_laws };
-}
 
-impl Encode for CoseMac0 {
-    ghost image = { λ m. mac0.image (mac0_seen m) };
+    ghost equal = { λ a b. mac0_told (protected_told a.protected b.protected)
+        (header_told a.unprotected b.unprotected)
+        (bstr_told a.payload b.payload)
+        (bytes_told a.tag b.tag) };
 
-    fn room(&self) -> usize {
+    fn read(alloc: Global, input: &mut Input<'_>) -> Result<CoseMac0> {
+        let mut message = CoseMac0::new(alloc);
+        fill_mac0(&mut message, alloc, input)?;
+        Ok(message)
+    }
+
+    fn size_hint(&self) -> usize {
         Bstr(&self.protected)
             .room()
             .saturating_add(self.unprotected.room())
@@ -272,7 +222,7 @@ impl Encode for CoseMac0 {
             .saturating_add(self.tag.room())
     }
 
-    fn encode(&self, alloc: Global, out: &mut Vec<u8>) -> Result<()> {
+    fn write(&self, alloc: Global, out: &mut Vec<u8>) -> Result<()> {
         let protected = Bstr(&self.protected);
         encode_four(
             alloc,
@@ -285,38 +235,10 @@ impl Encode for CoseMac0 {
     }
 }
 
-impl FromPull for CoseMac0 {
-    fn from_pull(alloc: Global, pull: Pull<'_>) -> Result<CoseMac0> {
-        read_mac0(alloc, &mut Input::new(Source::Lent(pull)))
-    }
+impl TaggedCodec for CoseMac0 {
+    ghost TAG_NUMBER = { 17 };
 
-    fn from_input(alloc: Global, input: &mut Input<'_>) -> Result<CoseMac0> {
-        read_mac0(alloc, input)
-    }
-}
-
-impl CborSerializable for CoseMac0 {
-    fn from_slice(alloc: Global, s: &[u8]) -> Result<CoseMac0> {
-        read_slice(alloc, s)
-    }
-
-    fn to_vec(self, alloc: Global) -> Result<Vec<u8>> {
-        encode_to_vec(alloc, &self)
-    }
-}
-
-impl TaggedCborSerializable for CoseMac0 {
-    ghost TAG = { 17 };
-
-    const TAG: u64 = 17;
-
-    fn from_tagged_slice(alloc: Global, s: &[u8]) -> Result<CoseMac0> {
-        read_tagged_slice(alloc, 17, s)
-    }
-
-    fn to_tagged_vec(self, alloc: Global) -> Result<Vec<u8>> {
-        encode_to_tagged_vec(alloc, 17, &self)
-    }
+    const TAG_NUMBER: u64 = 17;
 }
 
 /// Makes a [`CoseMac0`], field by field. Contracts see it as the message that [`build`](CoseMac0Builder::build) gives.

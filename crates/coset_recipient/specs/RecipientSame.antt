@@ -8,6 +8,9 @@ use Rattle.std.proofs.lemmas.Bool.{and_parts}
 use Rattle.std.proofs.lemmas.Bool.Decides.{Decides-like, Decides-and}
 use Rattle.coset_core.specs.Same.{header_eq, protected_eq}
 use Rattle.coset_core.specs.SameLaws.{IsEquality, option_eq-decides, header_eq-decides, protected_eq-decides}
+use Rattle.std.specs.Ordering.{on}
+use Rattle.coset_shape.specs.Told.{Tells}
+use Rattle.coset_recipient.specs.RecipientView.{recipient_seen}
 use Rattle.coset_recipient.specs.Recipient.{Recipients, no_recipients, recipient_and, RecipientSeen}
 
 -- as many, each with the same headers, the same ciphertext or none of either, and the same recipients as its counterpart
@@ -62,3 +65,7 @@ recipient_eq-decides r s =
 -- so it is reflexive, symmetric and transitive
 pub recipient_eq_equiv : IsEquivalence recipient_eq
 recipient_eq_equiv = decided recipient_eq recipient_eq-decides
+
+-- `==` is equality of what contracts see
+pub recipient_told : Tells recipient_seen (on recipient_seen recipient_eq)
+recipient_told r s = recipient_eq-decides (recipient_seen r) (recipient_seen s)

@@ -1,10 +1,8 @@
 //! Encrypted messages with recipients (RFC 8152, section 5.1).
 
-ghost use Rattle.std.specs.Prelude.{◌≡◌, ◌≢◌, ◌↔◌, ◌≤◌, OnOk, IsTrue, IfOk, IfErr, IfSome, Some, None};
-ghost use Rattle.std.specs.Ordering.{on};
-ghost use Rattle.std.specs.Cmp.{on_equiv, on_per, partial_equiv_from_equiv};
+ghost use Rattle.std.specs.Prelude.{◌≡◌, ◌≢◌, ◌≤◌, OnOk, IfOk, IfErr, IfSome, Some, None};
 ghost use Rattle.coset_shape.specs.declared.error.CoseError.TheVariants.{OutOfMemory};
-ghost use Rattle.coset_shape.specs.Answers.{Reads, Writes};
+ghost use Rattle.coset_shape.specs.Answers.{Writes};
 ghost use Rattle.coset_shape.specs.Inputs.{state, GoesBehind, ReadsAt, length_left};
 ghost use Rattle.coset_shape.specs.InPlace.{Fills};
 ghost use Rattle.coset_core.specs.Messages.{unread};
@@ -12,26 +10,19 @@ ghost use Rattle.coset_core.specs.Views.{header_seen};
 ghost use Rattle.coset_sign.specs.Calls.{AsksAbout};
 ghost use Rattle.coset_msg.specs.Presence.{AsksWherePresent, CreatesOf, TriesToCreateOf};
 ghost use Rattle.coset_recipient.specs.Encrypt.{and_encrypt_recipient, empty_encrypt, encrypt, encrypt_seen, encrypt_structure_of, with_ciphertext};
-ghost use Rattle.coset_recipient.specs.Equality.{encrypt_eq, encrypt_eq_equiv};
 ghost use Rattle.coset_recipient.specs.RecipientView.{recipient_seen};
 
-use crate::recipient::{CoseRecipient, copies, read_recipients, same_lists};
-use coset_cbor::de::Pull;
+use crate::recipient::{CoseRecipient, copy_recipient_list, read_recipients};
 use coset_cbor::value::Value;
 use coset_core::{Bstr, Header, ProtectedHeader, fill_headers};
 use coset_msg::EncryptionContext;
 use coset_msg::enc_structure::additional_bytes;
-use coset_shape::encode::{
-    Array, Encode, encode_four, encode_to_tagged_vec, encode_to_value, encode_to_vec,
-};
+use coset_shape::encode::{Array, Encode, encode_four};
 use coset_shape::input::Input;
-use coset_shape::traits::{FromPull, read_slice, read_tagged_slice};
-use coset_shape::util::copy_bytes;
-use coset_shape::{
-    AsCborValue, CallError, CborSerializable, Lawful, Result, Source, TaggedCborSerializable,
-};
+use coset_shape::util::copy_bstr;
+use coset_shape::{CallError, Codec, Result, TaggedCodec};
 use coset_sign::calls::ask;
-use std::alloc::Global;
+use std::alloc::{AllocError, Global};
 use std::marker::Model;
 
 /// An encrypted message, and recipients that come to the key: `COSE_Encrypt` (RFC 8152, section 5.1).
@@ -41,7 +32,7 @@ use std::marker::Model;
 /// ```
 ///
 /// A message without recipients is read and written too.
-#[derive(Debug, Drop)]
+#[derive(Debug, Drop, PartialEq, Eq)]
 pub struct CoseEncrypt {
     /// The header that is authenticated with the ciphertext.
     pub protected: ProtectedHeader,
@@ -81,18 +72,6 @@ fn fill_encrypt(message: &mut CoseEncrypt, alloc: Global, input: &mut Input<'_>)
     message.recipients = recipients?;
     message.ciphertext = ciphertext?;
     headers
-}
-
-/// Reads a message.
-fn read_encrypt(alloc: Global, input: &mut Input<'_>) -> Result<CoseEncrypt>
-    ensures shrinks { length_left (state input.new) ≤ length_left (state input.old) }
-    ensures strictly { OnOk result (GoesBehind (state input.old) (state input.new)) }
-    ensures reads { ReadsAt (state input.old) (state input.new)
-        (λ v. Reads encrypt encrypt_seen v result) }
-{
-    let mut message = CoseEncrypt::new(alloc);
-    fill_encrypt(&mut message, alloc, input)?;
-    Ok(message)
 }
 
 impl CoseEncrypt {
@@ -195,49 +174,30 @@ impl CoseEncrypt {
         ensures copy { IfOk result (λ m. encrypt_seen m ≡ encrypt_seen self.now) }
         ensures memory { IfErr result (λ e. e ≡ OutOfMemory) }
     {
-        let ciphertext = match &self.ciphertext {
-            Some(ciphertext) => Some(copy_bytes(ciphertext)?),
-            None => None,
-        };
+        Ok(Clone::clone(self)?)
+    }
+}
+
+/// The same as [`CoseEncrypt::clone`], for generic code.
+impl Clone for CoseEncrypt {
+    ghost is_clone = { λ message copy. encrypt_seen copy ≡ encrypt_seen message };
+
+    fn clone(&self) -> Result<CoseEncrypt, AllocError> {
         Ok(CoseEncrypt {
-            protected: self.protected.clone()?,
-            unprotected: self.unprotected.clone()?,
-            ciphertext,
-            recipients: copies(&self.recipients)?,
+            protected: Clone::clone(&self.protected)?,
+            unprotected: Clone::clone(&self.unprotected)?,
+            ciphertext: copy_bstr(&self.ciphertext)?,
+            recipients: copy_recipient_list(&self.recipients)?,
         })
     }
 }
 
-/// Equality of every field, the bytes that were kept of the protected headers included.
-impl PartialEq for CoseEncrypt {
-    ghost eq = { on encrypt_seen encrypt_eq };
-
-    ghost laws = { on_per encrypt_seen (partial_equiv_from_equiv encrypt_eq_equiv) };
-
-    fn eq(&self, other: &CoseEncrypt) -> bool
-        ensures answers { result
-            ≡ encrypt_eq (encrypt_seen self.now) (encrypt_seen other.now) }
-        ensures equal { IsTrue result ↔ (encrypt_seen self.now ≡ encrypt_seen other.now) }
-    {
-        same(self, other)
-    }
-}
-
-impl Eq for CoseEncrypt {
-    ghost laws = { on_equiv encrypt_seen encrypt_eq_equiv };
-}
-
-/// Whether two messages are the same, the bytes that were kept included.
-fn same(a: &CoseEncrypt, b: &CoseEncrypt) -> bool
-    ensures { result ≡ encrypt_eq (encrypt_seen a.now) (encrypt_seen b.now) }
-{
-    a.protected == b.protected
-        && a.unprotected == b.unprotected
-        && a.ciphertext == b.ciphertext
-        && same_lists(&a.recipients, &b.recipients)
-}
-
-impl AsCborValue for CoseEncrypt {
+impl Codec for CoseEncrypt {
+    ghost use Rattle.coset_recipient.specs.Equality.{encrypt_told};
+    ghost use Rattle.coset_recipient.specs.RecipientSame.{recipient_told};
+    ghost use Rattle.coset_recipient.specs.RecipientView.{recipient_seen};
+    ghost use Rattle.coset_shape.specs.Told.{bstr_told, lists_told};
+    ghost use Rattle.coset_core.specs.Told.{header_told, protected_told};
     ghost use Rattle.coset_recipient.specs.Encrypt.{EncryptSeen, encrypt_laws};
 
     ghost Seen = { EncryptSeen };
@@ -246,29 +206,20 @@ impl AsCborValue for CoseEncrypt {
 
     ghost shape = { encrypt };
 
-    ghost unique = { encrypt_laws.unique };
-
-    ghost sound = { encrypt_laws.sound };
-
-    fn from_cbor_value(alloc: Global, value: Value) -> Result<CoseEncrypt> {
-        read_encrypt(alloc, &mut Input::Tree(value))
-    }
-
-    fn to_cbor_value(self, alloc: Global) -> Result<Value> {
-        encode_to_value(alloc, &self)
-    }
-}
-
-impl Lawful for CoseEncrypt {
-    ghost use Rattle.coset_recipient.specs.Encrypt.{encrypt_laws};
-
     ghost laws = { encrypt_laws };
-}
 
-impl Encode for CoseEncrypt {
-    ghost image = { λ m. encrypt.image (encrypt_seen m) };
+    ghost equal = { λ a b. encrypt_told (protected_told a.protected b.protected)
+        (header_told a.unprotected b.unprotected)
+        (bstr_told a.ciphertext b.ciphertext)
+        (lists_told recipient_seen _ recipient_told a.recipients.items b.recipients.items) };
 
-    fn room(&self) -> usize {
+    fn read(alloc: Global, input: &mut Input<'_>) -> Result<CoseEncrypt> {
+        let mut message = CoseEncrypt::new(alloc);
+        fill_encrypt(&mut message, alloc, input)?;
+        Ok(message)
+    }
+
+    fn size_hint(&self) -> usize {
         Bstr(&self.protected)
             .room()
             .saturating_add(self.unprotected.room())
@@ -276,7 +227,7 @@ impl Encode for CoseEncrypt {
             .saturating_add(Array(&self.recipients).room())
     }
 
-    fn encode(&self, alloc: Global, out: &mut Vec<u8>) -> Result<()> {
+    fn write(&self, alloc: Global, out: &mut Vec<u8>) -> Result<()> {
         encode_four(
             alloc,
             &Bstr(&self.protected),
@@ -288,38 +239,10 @@ impl Encode for CoseEncrypt {
     }
 }
 
-impl FromPull for CoseEncrypt {
-    fn from_pull(alloc: Global, pull: Pull<'_>) -> Result<CoseEncrypt> {
-        read_encrypt(alloc, &mut Input::new(Source::Lent(pull)))
-    }
+impl TaggedCodec for CoseEncrypt {
+    ghost TAG_NUMBER = { 96 };
 
-    fn from_input(alloc: Global, input: &mut Input<'_>) -> Result<CoseEncrypt> {
-        read_encrypt(alloc, input)
-    }
-}
-
-impl CborSerializable for CoseEncrypt {
-    fn from_slice(alloc: Global, s: &[u8]) -> Result<CoseEncrypt> {
-        read_slice(alloc, s)
-    }
-
-    fn to_vec(self, alloc: Global) -> Result<Vec<u8>> {
-        encode_to_vec(alloc, &self)
-    }
-}
-
-impl TaggedCborSerializable for CoseEncrypt {
-    ghost TAG = { 96 };
-
-    const TAG: u64 = 96;
-
-    fn from_tagged_slice(alloc: Global, s: &[u8]) -> Result<CoseEncrypt> {
-        read_tagged_slice(alloc, 96, s)
-    }
-
-    fn to_tagged_vec(self, alloc: Global) -> Result<Vec<u8>> {
-        encode_to_tagged_vec(alloc, 96, &self)
-    }
+    const TAG_NUMBER: u64 = 96;
 }
 
 /// Makes a [`CoseEncrypt`], field by field. Contracts see it as the message that [`build`](CoseEncryptBuilder::build) gives.

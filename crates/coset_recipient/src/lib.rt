@@ -8,15 +8,16 @@ mod mac;
 mod recipient;
 
 pub use coset_msg::{
-    Algorithm, AsCborValue, Bstr, CallError, CborOrdering, CborSerializable, ClaimName,
+    Algorithm, AsCborValue, Bstr, CallError, CborOrdering, CborSerializable, ClaimName, Codec,
     ContentType, CoseCountersignature, CoseCountersignatureBuilder, CoseEncrypt0,
     CoseEncrypt0Builder, CoseError, CoseMac0, CoseMac0Builder, CoseSign, CoseSign1,
     CoseSign1Builder, CoseSignBuilder, CoseSignature, CoseSignatureBuilder, Encode,
     EncryptionContext, EndOfFile, FromPull, Header, HeaderBuilder, KeyOperation, KeyType, Label,
     Lawful, MacContext, ProtectedBstr, ProtectedHeader, RegisteredLabel,
-    RegisteredLabelWithPrivate, Result, SignatureContext, Source, TaggedCborSerializable, cbor,
-    countersign_v2_structure_data, countersign0_v2_structure_data, enc_structure_data, has_repeats,
-    iana, mac_structure_data, shape, sig_structure_data, util, verify_countersignature,
+    RegisteredLabelWithPrivate, Result, SignatureContext, Source, TaggedCborSerializable,
+    TaggedCodec, cbor, countersign_v2_structure_data, countersign0_v2_structure_data,
+    enc_structure_data, has_repeats, iana, mac_structure_data, shape, sig_structure_data, util,
+    verify_countersignature,
 };
 pub use encrypt::{CoseEncrypt, CoseEncryptBuilder};
 pub use mac::{CoseMac, CoseMacBuilder};

@@ -1,37 +1,28 @@
 //! Messages with a MAC and recipients (RFC 8152, section 6.1).
 
-ghost use Rattle.std.specs.Prelude.{◌≡◌, ◌≢◌, ◌↔◌, ◌≤◌, OnOk, IsTrue, IfOk, IfErr, IfSome, Some, None};
-ghost use Rattle.std.specs.Ordering.{on};
-ghost use Rattle.std.specs.Cmp.{on_equiv, on_per, partial_equiv_from_equiv};
+ghost use Rattle.std.specs.Prelude.{◌≡◌, ◌≢◌, ◌≤◌, OnOk, IfOk, IfErr, IfSome, Some, None};
 ghost use Rattle.coset_shape.specs.declared.error.CoseError.TheVariants.{OutOfMemory};
-ghost use Rattle.coset_shape.specs.Answers.{Reads, Writes};
+ghost use Rattle.coset_shape.specs.Answers.{Writes};
 ghost use Rattle.coset_shape.specs.Inputs.{state, GoesBehind, ReadsAt, length_left};
 ghost use Rattle.coset_shape.specs.InPlace.{Fills};
 ghost use Rattle.coset_core.specs.Messages.{unread};
 ghost use Rattle.coset_core.specs.Views.{header_seen};
 ghost use Rattle.coset_sign.specs.Calls.{AsksAbout, Creates, TriesToCreate};
 ghost use Rattle.coset_msg.specs.Presence.{AsksWherePresent};
-ghost use Rattle.coset_recipient.specs.Equality.{mac_eq, mac_eq_equiv};
 ghost use Rattle.coset_recipient.specs.Mac.{and_mac_recipient, empty_mac, mac, mac_seen, mac_structure_of, with_tag};
 ghost use Rattle.coset_recipient.specs.RecipientView.{recipient_seen};
 
-use crate::recipient::{CoseRecipient, copies, read_recipients, same_lists};
-use coset_cbor::de::Pull;
+use crate::recipient::{CoseRecipient, copy_recipient_list, read_recipients};
 use coset_cbor::value::Value;
 use coset_core::{Bstr, Header, ProtectedHeader, fill_headers};
 use coset_msg::MacContext;
 use coset_msg::mac_structure::authenticated_bytes;
-use coset_shape::encode::{
-    Array, Encode, encode_five, encode_to_tagged_vec, encode_to_value, encode_to_vec,
-};
+use coset_shape::encode::{Array, Encode, encode_five};
 use coset_shape::input::Input;
-use coset_shape::traits::{FromPull, read_slice, read_tagged_slice};
-use coset_shape::util::copy_bytes;
-use coset_shape::{
-    AsCborValue, CallError, CborSerializable, Lawful, Result, Source, TaggedCborSerializable,
-};
+use coset_shape::util::copy_bstr;
+use coset_shape::{CallError, Codec, Result, TaggedCodec};
 use coset_sign::calls::{ask, make};
-use std::alloc::Global;
+use std::alloc::{AllocError, Global};
 use std::marker::Model;
 
 /// A message with a MAC, and recipients that come to the key: `COSE_Mac` (RFC 8152, section 6.1).
@@ -41,7 +32,7 @@ use std::marker::Model;
 /// ```
 ///
 /// A message without recipients is read and written too.
-#[derive(Debug, Drop)]
+#[derive(Debug, Drop, PartialEq, Eq)]
 pub struct CoseMac {
     /// The header that the MAC covers.
     pub protected: ProtectedHeader,
@@ -86,18 +77,6 @@ fn fill_mac(message: &mut CoseMac, alloc: Global, input: &mut Input<'_>) -> Resu
     message.tag = tag?;
     message.payload = payload?;
     headers
-}
-
-/// Reads a message.
-fn read_mac(alloc: Global, input: &mut Input<'_>) -> Result<CoseMac>
-    ensures shrinks { length_left (state input.new) ≤ length_left (state input.old) }
-    ensures strictly { OnOk result (GoesBehind (state input.old) (state input.new)) }
-    ensures reads { ReadsAt (state input.old) (state input.new)
-        (λ v. Reads mac mac_seen v result) }
-{
-    let mut message = CoseMac::new(alloc);
-    fill_mac(&mut message, alloc, input)?;
-    Ok(message)
 }
 
 impl CoseMac {
@@ -203,50 +182,31 @@ impl CoseMac {
         ensures copy { IfOk result (λ m. mac_seen m ≡ mac_seen self.now) }
         ensures memory { IfErr result (λ e. e ≡ OutOfMemory) }
     {
-        let payload = match &self.payload {
-            Some(payload) => Some(copy_bytes(payload)?),
-            None => None,
-        };
+        Ok(Clone::clone(self)?)
+    }
+}
+
+/// The same as [`CoseMac::clone`], for generic code.
+impl Clone for CoseMac {
+    ghost is_clone = { λ message copy. mac_seen copy ≡ mac_seen message };
+
+    fn clone(&self) -> Result<CoseMac, AllocError> {
         Ok(CoseMac {
-            protected: self.protected.clone()?,
-            unprotected: self.unprotected.clone()?,
-            payload,
-            tag: copy_bytes(&self.tag)?,
-            recipients: copies(&self.recipients)?,
+            protected: Clone::clone(&self.protected)?,
+            unprotected: Clone::clone(&self.unprotected)?,
+            payload: copy_bstr(&self.payload)?,
+            tag: Vec::from_slice(*self.tag.allocator(), &self.tag)?,
+            recipients: copy_recipient_list(&self.recipients)?,
         })
     }
 }
 
-/// Equality of every field, the bytes that were kept of the protected headers included.
-impl PartialEq for CoseMac {
-    ghost eq = { on mac_seen mac_eq };
-
-    ghost laws = { on_per mac_seen (partial_equiv_from_equiv mac_eq_equiv) };
-
-    fn eq(&self, other: &CoseMac) -> bool
-        ensures answers { result ≡ mac_eq (mac_seen self.now) (mac_seen other.now) }
-        ensures equal { IsTrue result ↔ (mac_seen self.now ≡ mac_seen other.now) }
-    {
-        same(self, other)
-    }
-}
-
-impl Eq for CoseMac {
-    ghost laws = { on_equiv mac_seen mac_eq_equiv };
-}
-
-/// Whether two messages are the same, the bytes that were kept included.
-fn same(a: &CoseMac, b: &CoseMac) -> bool
-    ensures { result ≡ mac_eq (mac_seen a.now) (mac_seen b.now) }
-{
-    a.protected == b.protected
-        && a.unprotected == b.unprotected
-        && a.payload == b.payload
-        && a.tag == b.tag
-        && same_lists(&a.recipients, &b.recipients)
-}
-
-impl AsCborValue for CoseMac {
+impl Codec for CoseMac {
+    ghost use Rattle.coset_recipient.specs.Equality.{mac_told};
+    ghost use Rattle.coset_recipient.specs.RecipientSame.{recipient_told};
+    ghost use Rattle.coset_recipient.specs.RecipientView.{recipient_seen};
+    ghost use Rattle.coset_shape.specs.Told.{bytes_told, bstr_told, lists_told};
+    ghost use Rattle.coset_core.specs.Told.{header_told, protected_told};
     ghost use Rattle.coset_recipient.specs.Mac.{MacSeen, mac_laws};
 
     ghost Seen = { MacSeen };
@@ -255,29 +215,21 @@ impl AsCborValue for CoseMac {
 
     ghost shape = { mac };
 
-    ghost unique = { mac_laws.unique };
-
-    ghost sound = { mac_laws.sound };
-
-    fn from_cbor_value(alloc: Global, value: Value) -> Result<CoseMac> {
-        read_mac(alloc, &mut Input::Tree(value))
-    }
-
-    fn to_cbor_value(self, alloc: Global) -> Result<Value> {
-        encode_to_value(alloc, &self)
-    }
-}
-
-impl Lawful for CoseMac {
-    ghost use Rattle.coset_recipient.specs.Mac.{mac_laws};
-
     ghost laws = { mac_laws };
-}
 
-impl Encode for CoseMac {
-    ghost image = { λ m. mac.image (mac_seen m) };
+    ghost equal = { λ a b. mac_told (protected_told a.protected b.protected)
+        (header_told a.unprotected b.unprotected)
+        (bstr_told a.payload b.payload)
+        (bytes_told a.tag b.tag)
+        (lists_told recipient_seen _ recipient_told a.recipients.items b.recipients.items) };
 
-    fn room(&self) -> usize {
+    fn read(alloc: Global, input: &mut Input<'_>) -> Result<CoseMac> {
+        let mut message = CoseMac::new(alloc);
+        fill_mac(&mut message, alloc, input)?;
+        Ok(message)
+    }
+
+    fn size_hint(&self) -> usize {
         Bstr(&self.protected)
             .room()
             .saturating_add(self.unprotected.room())
@@ -286,7 +238,7 @@ impl Encode for CoseMac {
             .saturating_add(Array(&self.recipients).room())
     }
 
-    fn encode(&self, alloc: Global, out: &mut Vec<u8>) -> Result<()> {
+    fn write(&self, alloc: Global, out: &mut Vec<u8>) -> Result<()> {
         encode_five(
             alloc,
             &Bstr(&self.protected),
@@ -299,38 +251,10 @@ impl Encode for CoseMac {
     }
 }
 
-impl FromPull for CoseMac {
-    fn from_pull(alloc: Global, pull: Pull<'_>) -> Result<CoseMac> {
-        read_mac(alloc, &mut Input::new(Source::Lent(pull)))
-    }
+impl TaggedCodec for CoseMac {
+    ghost TAG_NUMBER = { 97 };
 
-    fn from_input(alloc: Global, input: &mut Input<'_>) -> Result<CoseMac> {
-        read_mac(alloc, input)
-    }
-}
-
-impl CborSerializable for CoseMac {
-    fn from_slice(alloc: Global, s: &[u8]) -> Result<CoseMac> {
-        read_slice(alloc, s)
-    }
-
-    fn to_vec(self, alloc: Global) -> Result<Vec<u8>> {
-        encode_to_vec(alloc, &self)
-    }
-}
-
-impl TaggedCborSerializable for CoseMac {
-    ghost TAG = { 97 };
-
-    const TAG: u64 = 97;
-
-    fn from_tagged_slice(alloc: Global, s: &[u8]) -> Result<CoseMac> {
-        read_tagged_slice(alloc, 97, s)
-    }
-
-    fn to_tagged_vec(self, alloc: Global) -> Result<Vec<u8>> {
-        encode_to_tagged_vec(alloc, 97, &self)
-    }
+    const TAG_NUMBER: u64 = 97;
 }
 
 /// Makes a [`CoseMac`], field by field. Contracts see it as the message that [`build`](CoseMacBuilder::build) gives.

@@ -2,7 +2,6 @@
 
 ghost use Rattle.std.specs.Prelude.{◌≡◌, ◌≢◌, ◌↔◌, ◌≤◌, ◌<◌, ◌+◌, [], length, map, option_map, IsTrue, IfOk, IfErr, IfSome, OnOk, OnErr, Some, None};
 ghost use Rattle.std.specs.Ordering.{on};
-ghost use Rattle.std.specs.Cmp.Lexicographic.{pointwise};
 ghost use Rattle.std.specs.Cmp.{on_equiv, on_per, partial_equiv_from_equiv};
 ghost use Rattle.coset_value.specs.Item.{Item, array, Items};
 ghost use Rattle.coset_shape.specs.declared.error.CoseError.TheVariants.{OutOfMemory};
@@ -23,17 +22,16 @@ ghost use Rattle.coset_recipient.specs.RecipientWriting.{Begins, last_places};
 ghost use Rattle.coset_recipient.specs.RecipientSame.{recipient_eq, recipient_eq_equiv, recipients_eq};
 ghost use Rattle.coset_recipient.specs.RecipientView.{recipient_seen};
 
-use coset_cbor::de::Pull;
 use coset_cbor::ser::write_array_head;
 use coset_cbor::value::Value;
 use coset_core::{Bstr, Header, ProtectedHeader, fill_protected_header, fill_unprotected_header};
 use coset_msg::EncryptionContext;
 use coset_msg::enc_structure::additional_bytes;
-use coset_shape::encode::{Encode, encode_to_value, encode_to_vec};
+use coset_shape::encode::Encode;
 use coset_shape::error::{Refused, keep_error};
 use coset_shape::input::{Input, InputItems};
-use coset_shape::traits::{FromPull, read_slice};
-use coset_shape::{AsCborValue, CallError, CborSerializable, CoseError, Lawful, Result, Source};
+use coset_shape::util::copy_bstr;
+use coset_shape::{CallError, Codec, CoseError, Result};
 use coset_sign::calls::ask;
 use std::alloc::{AllocError, Global};
 use std::marker::Model;
@@ -326,21 +324,6 @@ pub(crate) fn read_recipients(alloc: Global, input: &mut Input<'_>) -> Result<Ve
     }
 }
 
-/// A recipient.
-fn read_recipient(alloc: Global, input: &mut Input<'_>) -> Result<CoseRecipient>
-    ensures shrinks { length_left (state input.new) ≤ length_left (state input.old) }
-    ensures strictly { OnOk result (GoesBehind (state input.old) (state input.new)) }
-    ensures reads { ReadsAt (state input.old) (state input.new)
-        (λ v. Reads recipient_shape recipient_seen v result) }
-{
-    let mut recipient = CoseRecipient::new(alloc);
-    let mut error = CoseError::OutOfMemory;
-    match fill_recipient(&mut recipient, alloc, input, &mut error) {
-        Ok(()) => Ok(recipient),
-        Err(Refused) => Err(error),
-    }
-}
-
 /// Whether there are no recipients.
 fn are_none(all: &[CoseRecipient]) -> bool
     ensures { result ≡ are_none (recipients_of (map recipient_seen all.now)) }
@@ -435,10 +418,7 @@ fn copy_ciphertext(
     ensures { OnOk result (option_map (λ b. b.items) copy.new
         ≡ option_map (λ b. b.items) ciphertext.now) }
 {
-    *copy = match ciphertext {
-        Some(bytes) => Some(Vec::from_slice(*bytes.allocator(), bytes)?),
-        None => None,
-    };
+    *copy = copy_bstr(ciphertext)?;
     Ok(())
 }
 
@@ -503,23 +483,12 @@ fn same_recipient(a: &CoseRecipient, b: &CoseRecipient) -> bool
 }
 
 /// Copies of recipients, with the same bytes kept.
-///
-/// # Errors
-/// `OutOfMemory` alone.
-pub(crate) fn copies(all: &Vec<CoseRecipient>) -> Result<Vec<CoseRecipient>>
-    ensures copies { IfOk result (λ c. map recipient_seen c.items
-        ≡ map recipient_seen all.now.items) }
-    ensures memory { IfErr result (λ e. e ≡ OutOfMemory) }
+pub(crate) fn copy_recipient_list(
+    all: &Vec<CoseRecipient>,
+) -> Result<Vec<CoseRecipient>, AllocError>
+    ensures { IfOk result (λ c. map recipient_seen c.items ≡ map recipient_seen all.now.items) }
 {
     Ok(Clone::clone(all)?)
-}
-
-/// Whether two lists of recipients are the same, the bytes that were kept included.
-pub(crate) fn same_lists(all: &Vec<CoseRecipient>, others: &Vec<CoseRecipient>) -> bool
-    ensures { result ≡ pointwise recipient_eq (map recipient_seen all.now.items)
-        (map recipient_seen others.now.items) }
-{
-    all == others
 }
 
 impl CoseRecipient {
@@ -662,7 +631,8 @@ impl Eq for CoseRecipient {
     ghost laws = { on_equiv recipient_seen recipient_eq_equiv };
 }
 
-impl AsCborValue for CoseRecipient {
+impl Codec for CoseRecipient {
+    ghost use Rattle.coset_recipient.specs.RecipientSame.{recipient_told};
     ghost use Rattle.coset_recipient.specs.Recipient.{RecipientSeen};
     ghost use Rattle.coset_recipient.specs.RecipientLaws.{recipient_laws};
 
@@ -672,57 +642,28 @@ impl AsCborValue for CoseRecipient {
 
     ghost shape = { recipient_shape };
 
-    ghost unique = { recipient_laws.unique };
-
-    ghost sound = { recipient_laws.sound };
-
-    fn from_cbor_value(alloc: Global, value: Value) -> Result<CoseRecipient> {
-        read_recipient(alloc, &mut Input::Tree(value))
-    }
-
-    fn to_cbor_value(self, alloc: Global) -> Result<Value> {
-        encode_to_value(alloc, &self)
-    }
-}
-
-impl Lawful for CoseRecipient {
-    ghost use Rattle.coset_recipient.specs.RecipientLaws.{recipient_laws};
-
     ghost laws = { recipient_laws };
-}
 
-impl Encode for CoseRecipient {
-    ghost image = { λ r. recipient_shape.image (recipient_seen r) };
+    ghost equal = { recipient_told };
 
-    fn room(&self) -> usize {
+    fn read(alloc: Global, input: &mut Input<'_>) -> Result<CoseRecipient> {
+        let mut recipient = CoseRecipient::new(alloc);
+        let mut error = CoseError::OutOfMemory;
+        match fill_recipient(&mut recipient, alloc, input, &mut error) {
+            Ok(()) => Ok(recipient),
+            Err(Refused) => Err(error),
+        }
+    }
+
+    fn size_hint(&self) -> usize {
         Bstr(&self.protected)
             .room()
             .saturating_add(self.unprotected.room())
             .saturating_add(self.ciphertext.room())
     }
 
-    fn encode(&self, alloc: Global, out: &mut Vec<u8>) -> Result<()> {
+    fn write(&self, alloc: Global, out: &mut Vec<u8>) -> Result<()> {
         write_recipient(alloc, self, out)
-    }
-}
-
-impl FromPull for CoseRecipient {
-    fn from_pull(alloc: Global, pull: Pull<'_>) -> Result<CoseRecipient> {
-        read_recipient(alloc, &mut Input::new(Source::Lent(pull)))
-    }
-
-    fn from_input(alloc: Global, input: &mut Input<'_>) -> Result<CoseRecipient> {
-        read_recipient(alloc, input)
-    }
-}
-
-impl CborSerializable for CoseRecipient {
-    fn from_slice(alloc: Global, s: &[u8]) -> Result<CoseRecipient> {
-        read_slice(alloc, s)
-    }
-
-    fn to_vec(self, alloc: Global) -> Result<Vec<u8>> {
-        encode_to_vec(alloc, &self)
     }
 }
 

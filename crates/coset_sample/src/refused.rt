@@ -9,7 +9,6 @@ use crate::report::Report;
 use crate::settings::{Name, Settings};
 use coset_cbor::de::{EndOfFile, Error};
 use coset_cbor::value::Value;
-use coset_shape::traits::read_slice;
 use coset_shape::util::ValueTryAs;
 use coset_shape::{
     CallError, CborSerializable, CoseError, Result, TaggedCborSerializable, has_repeats,
@@ -49,6 +48,9 @@ const SETTINGS: [u8; 12] = *b"\xa3\x01\x05\x02\x42\x01\x02\x07\x82\x01\x61\x61";
 
 const REPORT: [u8; 11] = *b"\x82\x42\xaa\xbb\x81\x83\x05\x41\x01\x81\x01";
 
+/// A report under its tag.
+const TAGGED: [u8; 12] = *b"\xd9\x03\xea\x82\x42\xaa\xbb\x81\x83\x05\xf6\x80";
+
 const READING: [u8; 8] = *b"\x83\x05\x42\x01\x02\x82\x01\x20";
 
 /// How many calls there are.
@@ -58,7 +60,10 @@ const CALLS: usize = 7;
 fn is_answered(alloc: Global, labels: &[(Name, Value)], call: usize) -> Result<bool> {
     match call {
         0 => Ok(Settings::from_slice(alloc, &SETTINGS)?.rest.len() == 1),
-        1 => Ok(read_slice::<Settings>(alloc, &SETTINGS)?.rest.len() == 1),
+        1 => {
+            let written = Report::from_tagged_slice(alloc, &TAGGED)?.to_tagged_vec(alloc)?;
+            Ok(written.as_slice() == TAGGED.as_slice())
+        }
         2 => {
             let written = Settings::from_slice(alloc, &SETTINGS)?.to_vec(alloc)?;
             Ok(written.as_slice() == SETTINGS.as_slice())

@@ -1,4 +1,5 @@
-//! A report: an array of two places, the second of which holds another type's values.
+//! A report: an array of two places, the second of which holds another type's values. Its traits are written out one by
+//! one, as of a type that is no [`Codec`](coset_shape::Codec).
 //!
 //! ```cddl
 //! report = [ sender : bstr, readings : [* reading] ]
@@ -16,7 +17,7 @@ use coset_shape::encode::{Array, Encode, encode_to_value, encode_two};
 use coset_shape::input::Input;
 use coset_shape::list::read_list;
 use coset_shape::traits::FromPull;
-use coset_shape::{AsCborValue, CborSerializable, Lawful, Result, Source};
+use coset_shape::{AsCborValue, CborSerializable, Lawful, Result, Source, TaggedCborSerializable};
 use std::alloc::Global;
 
 /// A report: who sends it, and readings.
@@ -94,5 +95,11 @@ impl FromPull for Report {
     }
 }
 
-/// A report is read and written by the default bodies, by way of a value.
+/// A report is read and written by the default bodies, by way of a value; under its tag too.
 impl CborSerializable for Report {}
+
+impl TaggedCborSerializable for Report {
+    ghost TAG = { 1002 };
+
+    const TAG: u64 = 1002;
+}

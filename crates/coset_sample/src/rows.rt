@@ -5,7 +5,6 @@ use crate::report::Report;
 use crate::settings::{Name, Settings};
 use coset_cbor::de::read_value;
 use coset_cbor::value::Value;
-use coset_shape::traits::read_slice;
 use coset_shape::{AsCborValue, CborSerializable, CoseError, Result, TaggedCborSerializable};
 use std::alloc::Global;
 use std::test::*;
@@ -151,6 +150,44 @@ fn reports(rt: HostRuntime) -> std::result::Result<(), Fail> {
 }
 
 #[test]
+fn tagged_reports(rt: HostRuntime) -> std::result::Result<(), Fail> {
+    let alloc = rt.alloc();
+    let rows: [(&[u8], Expected); 5] = [
+        (
+            b"\xd9\x03\xea\x82\x41\xaa\x80",
+            Written(b"\x82\x41\xaa\x80"),
+        ),
+        (
+            b"\xd9\x03\xe8\x82\x41\xaa\x80",
+            Refused("got tag, expected other tag"),
+        ),
+        (b"\x82\x41\xaa\x80", Refused("got array, expected tag")),
+        (
+            b"\xd9\x03\xea\x82\x41\xaa\x80\x00",
+            Refused("extraneous data in CBOR input"),
+        ),
+        (
+            b"\xd9\x03\xea\x82\x41",
+            Refused("decode CBOR failure: Io(EndOfFile)"),
+        ),
+    ];
+    for (input, expected) in &rows {
+        let answer: Result<Report> = Report::from_tagged_slice(alloc, input);
+        assert!(rt; is_expected(alloc, answer, *expected)?);
+    }
+    let report = Report {
+        sender: vec![in alloc; 0xaa]?,
+        readings: Vec::new(alloc),
+    };
+    let written = report.to_tagged_vec(alloc).ok().ok_or("memory")?;
+    assert_eq!(rt;
+        written.as_slice(),
+        b"\xd9\x03\xea\x82\x41\xaa\x80".as_slice()
+    );
+    Ok(())
+}
+
+#[test]
 fn tagged_readings(rt: HostRuntime) -> std::result::Result<(), Fail> {
     let alloc = rt.alloc();
     let rows: [(&[u8], Expected); 6] = [
@@ -247,8 +284,8 @@ fn settings(rt: HostRuntime) -> std::result::Result<(), Fail> {
     for (input, expected) in &SETTINGS {
         let answer: Result<Settings> = Settings::from_slice(alloc, input);
         assert!(rt; is_expected(alloc, answer, *expected)?);
-        let lent: Result<Settings> = read_slice(alloc, input);
-        assert!(rt; is_expected(alloc, lent, *expected)?);
+        let tree: Result<Settings> = through_a_value(alloc, input);
+        assert!(rt; is_expected(alloc, tree, *expected)?);
     }
     let tagged: Result<Settings> = Settings::from_tagged_slice(alloc, b"\xd9\x03\xe9\xa1\x01\x05");
     assert!(rt; is_expected(alloc, tagged, Written(b"\xa1\x01\x05"))?);

@@ -4,59 +4,45 @@
 //! settings = { 1 => int, ? 2 => bstr, ? 4 => int, * int => any }
 //! ```
 
-ghost use Rattle.std.specs.Prelude.{◌≡◌, ◌≤◌, ◌<◌, ℤ, not, IfOk, IfErr, IsSome, OnErr, OnOk, option_map};
+ghost use Rattle.std.specs.Prelude.{◌≡◌, ◌<◌, ℤ, not, IfOk, IfErr};
 ghost use Rattle.std.specs.Map.{keys_of};
 ghost use Rattle.coset_shape.specs.declared.error.CoseError.TheVariants.{OutOfMemory};
 ghost use Rattle.coset_shape.specs.Maps.{are_distinct};
-ghost use Rattle.coset_shape.specs.Answers.{Reads};
-ghost use Rattle.coset_shape.specs.Inputs.{GoesBehind, ReadsAt, length_left, state};
 ghost use Rattle.coset_shape.specs.Shape.{int64};
 ghost use Rattle.coset_shape.specs.ShapeLaws.{int64_laws};
 ghost use Rattle.coset_sample.specs.Settings.{name_seen, names, seen, settings, so_far_seen};
 
-use coset_cbor::de::Pull;
 use coset_cbor::value::Value;
-use coset_shape::encode::{Encode, encode_to_tagged_vec, encode_to_value, encode_to_vec};
+use coset_shape::encode::Encode;
 use coset_shape::encode_map::MapEncoder;
 use coset_shape::input::{Input, InputPairs};
 use coset_shape::map::{Gather, read_map};
-use coset_shape::traits::FromPull;
-use coset_shape::{
-    AsCborValue, CborSerializable, CoseError, Lawful, Result, Source, TaggedCborSerializable,
-    has_repeats,
-};
+use coset_shape::{Codec, CoseError, Result, TaggedCodec, has_repeats};
 use std::alloc::Global;
 
 /// A label: a number of 64 bits with a sign.
 #[derive(Clone, Copy, Debug, PartialEq, Eq, PartialOrd, Ord)]
 pub struct Name(pub i64);
 
-fn read_name(input: &mut Input<'_>) -> Result<Name>
-    ensures shrinks { length_left (state input.new) ≤ length_left (state input.old) }
-    ensures strictly { OnOk result (GoesBehind (state input.old) (state input.new)) }
-    ensures reads { ReadsAt (state input.old) (state input.new)
-        (λ v. Reads int64 name_seen v result) }
-{
-    Ok(Name(input.int64("int")?))
-}
+impl Codec for Name {
+    ghost use Rattle.std.proofs.Common.{rules};
 
-impl AsCborValue for Name {
     ghost Seen = { ℤ };
 
     ghost seen = { name_seen };
 
     ghost shape = { int64 };
 
-    ghost unique = { int64_laws.unique };
+    ghost laws = { int64_laws };
 
-    ghost sound = { int64_laws.sound };
+    ghost equal = { Prim.search rules };
 
-    fn from_cbor_value(_alloc: Global, value: Value) -> Result<Name> {
-        read_name(&mut Input::Tree(value))
+    fn read(_alloc: Global, input: &mut Input<'_>) -> Result<Name> {
+        Ok(Name(input.int64("int")?))
     }
 
-    fn to_cbor_value(self, _alloc: Global) -> Result<Value> {
-        Ok(Value::from(self.0))
+    fn write(&self, alloc: Global, out: &mut Vec<u8>) -> Result<()> {
+        self.0.encode(alloc, out)
     }
 }
 
@@ -148,37 +134,14 @@ impl Gather for SoFar {
     }
 }
 
-fn read_settings(alloc: Global, input: &mut Input<'_>) -> Result<Settings>
-    ensures shrinks { length_left (state input.new) ≤ length_left (state input.old) }
-    ensures strictly { OnOk result (GoesBehind (state input.old) (state input.new)) }
-    ensures reads { ReadsAt (state input.old) (state input.new)
-        (λ v. Reads settings seen v result) }
-{
-    let mut so_far = SoFar {
-        level: None,
-        name: None,
-        limit: None,
-        rest: Vec::new(alloc),
-    };
-    read_map(alloc, input, &mut so_far)?;
-    let SoFar {
-        level,
-        name,
-        limit,
-        rest,
-    } = so_far;
-    let Some(level) = level else {
-        return Err(CoseError::UnexpectedItem("no level", "level"));
-    };
-    Ok(Settings {
-        level,
-        name,
-        limit,
-        rest,
-    })
-}
-
-impl AsCborValue for Settings {
+impl Codec for Settings {
+    ghost use Rattle.std.proofs.Common.{rules};
+    ghost use Rattle.std.specs.Cmp.{signed_Decides};
+    ghost use Rattle.std.specs.Prelude.{refl};
+    ghost use Rattle.coset_value.specs.SameLaws.{item_eq-decides};
+    ghost use Rattle.coset_value.specs.View.{view};
+    ghost use Rattle.coset_shape.specs.Told.{bstr_told, lists_told, part_told, parts_told};
+    ghost use Rattle.coset_sample.specs.Settings.{entry_seen};
     ghost use Rattle.coset_sample.specs.Settings.{Seen as SettingsSeen, settings_laws};
 
     ghost Seen = { SettingsSeen };
@@ -187,51 +150,42 @@ impl AsCborValue for Settings {
 
     ghost shape = { settings };
 
-    ghost unique = { settings_laws.unique };
-
-    ghost sound = { settings_laws.sound };
-
-    fn from_cbor_value(alloc: Global, value: Value) -> Result<Settings> {
-        read_settings(alloc, &mut Input::Tree(value))
-    }
-
-    fn to_cbor_value(self, alloc: Global) -> Result<Value> {
-        encode_to_value(alloc, &self)
-    }
-}
-
-impl Lawful for Name {
-    ghost laws = { int64_laws };
-}
-
-impl Lawful for Settings {
-    ghost use Rattle.coset_sample.specs.Settings.{settings_laws};
-
     ghost laws = { settings_laws };
-}
 
-impl FromPull for Name {
-    fn from_pull(_alloc: Global, pull: Pull<'_>) -> Result<Name> {
-        read_name(&mut Input::new(Source::Lent(pull)))
+    ghost equal = { λ a b. parts_told
+        (λ p. record { level = p.0; name = p.1.0; limit = p.1.1.0; rest = p.1.1.1 })
+        (λ x. (x.level, (x.name, (x.limit, x.rest)))) (λ x. refl)
+        (part_told (signed_Decides a.level b.level) (part_told (bstr_told a.name b.name)
+        (part_told (Prim.search rules) (lists_told entry_seen _
+        (λ x y. part_told (signed_Decides x.0.0 y.0.0) (item_eq-decides (view x.1) (view y.1)))
+        a.rest.items b.rest.items)))) };
+
+    fn read(alloc: Global, input: &mut Input<'_>) -> Result<Settings> {
+        let mut so_far = SoFar {
+            level: None,
+            name: None,
+            limit: None,
+            rest: Vec::new(alloc),
+        };
+        read_map(alloc, input, &mut so_far)?;
+        let SoFar {
+            level,
+            name,
+            limit,
+            rest,
+        } = so_far;
+        let Some(level) = level else {
+            return Err(CoseError::UnexpectedItem("no level", "level"));
+        };
+        Ok(Settings {
+            level,
+            name,
+            limit,
+            rest,
+        })
     }
 
-    fn from_input(_alloc: Global, input: &mut Input<'_>) -> Result<Name> {
-        read_name(input)
-    }
-}
-
-impl Encode for Name {
-    ghost image = { λ n. int64.image (name_seen n) };
-
-    fn encode(&self, alloc: Global, out: &mut Vec<u8>) -> Result<()> {
-        self.0.encode(alloc, out)
-    }
-}
-
-impl Encode for Settings {
-    ghost image = { λ s. settings.image (seen s) };
-
-    fn encode(&self, alloc: Global, out: &mut Vec<u8>) -> Result<()> {
+    fn write(&self, alloc: Global, out: &mut Vec<u8>) -> Result<()> {
         if has_repeats(alloc, &self.rest)? {
             return Err(CoseError::DuplicateMapKey);
         }
@@ -245,28 +199,8 @@ impl Encode for Settings {
     }
 }
 
-impl FromPull for Settings {
-    fn from_pull(alloc: Global, pull: Pull<'_>) -> Result<Settings> {
-        read_settings(alloc, &mut Input::new(Source::Lent(pull)))
-    }
+impl TaggedCodec for Settings {
+    ghost TAG_NUMBER = { 1001 };
 
-    fn from_input(alloc: Global, input: &mut Input<'_>) -> Result<Settings> {
-        read_settings(alloc, input)
-    }
-}
-
-impl CborSerializable for Settings {
-    fn to_vec(self, alloc: Global) -> Result<Vec<u8>> {
-        encode_to_vec(alloc, &self)
-    }
-}
-
-impl TaggedCborSerializable for Settings {
-    ghost TAG = { 1001 };
-
-    const TAG: u64 = 1001;
-
-    fn to_tagged_vec(self, alloc: Global) -> Result<Vec<u8>> {
-        encode_to_tagged_vec(alloc, 1001, &self)
-    }
+    const TAG_NUMBER: u64 = 1001;
 }

@@ -1,6 +1,6 @@
 //! Laws of every type that is read and written. Each is the contract of a function that does nothing.
 
-ghost use Rattle.std.specs.Prelude.{◌≡◌, ◌≤◌, List, Result, ℕ};
+ghost use Rattle.std.specs.Prelude.{◌≡◌, ◌↔◌, ◌≤◌, IsTrue, List, Result, ℕ};
 ghost use Rattle.coset_value.specs.Item.{Item, depth};
 ghost use Rattle.coset_cbor.specs.Grammar.{IsItem};
 ghost use Rattle.coset_shape.specs.Answers.{AllocatesForItems, Describes, Reads, ReadsSlice, RefusesItem};
@@ -10,6 +10,7 @@ ghost use Rattle.coset_shape.specs.Shape.{tagged};
 ghost use Rattle.coset_shape.specs.ShapeLaws.{Again};
 ghost use Rattle.coset_shape.specs.declared.error.CoseError.{CoseError};
 
+use crate::codec::Codec;
 use crate::traits::{AsCborValue, Lawful};
 use coset_cbor::laws::{
     least_heads_are_shortest, no_item_at_a_fault, one_item, shortest_is_in_range,
@@ -95,3 +96,8 @@ pub fn stays_as_written<T: Lawful>()
     one_item();
     written_apart::<T>();
 }
+
+/// `==` is equality of all that contracts see.
+pub fn equal_as_seen<T: Codec>()
+    ensures { (a b : T) → IsTrue (T.PartialEq.eq a b) ↔ (T.seen a ≡ T.seen b) }
+{}

@@ -2,6 +2,7 @@
 //! which items stand for which values.
 #![tactic(auto)]
 
+pub mod codec;
 pub mod encode;
 pub mod encode_map;
 pub mod error;
@@ -16,6 +17,7 @@ pub mod source;
 pub mod traits;
 pub mod util;
 
+pub use codec::{Codec, TaggedCodec};
 pub use coset_cbor as cbor;
 pub use coset_cbor::EndOfFile;
 pub use encode::Encode;

@@ -1,6 +1,6 @@
 //! Values of one kind, or the error that tells which kind was asked for; and arrays of what values are written as.
 
-ghost use Rattle.std.specs.Prelude.{◌≡◌, ◌⊎◌, ℕ, List, Ok, Err, None, Some, option_map, IfOk, IfErr, codes, string_bytes, MatchResult};
+ghost use Rattle.std.specs.Prelude.{◌≡◌, List, Ok, Err, Some, option_map, IfOk, IfErr, codes, string_bytes, MatchResult};
 ghost use Rattle.std.specs.Iterator.{IsFinite, Drains, Yields};
 ghost use Rattle.coset_value.specs.Item.{Item, array};
 ghost use Rattle.coset_value.specs.Parts.{as_integer, as_bytes, as_text, as_array, as_map, as_tag};
@@ -18,7 +18,7 @@ use crate::error::{CallError, CoseError, Result};
 use crate::traits::AsCborValue;
 use coset_cbor::de::Pull;
 use coset_cbor::value::{Integer, Value};
-use std::alloc::Global;
+use std::alloc::{AllocError, Global};
 
 /// The name of a value's kind in errors.
 fn kind_name(value: &Value) -> &'static str
@@ -258,13 +258,13 @@ where
     Ok(Value::Array(places))
 }
 
-/// A copy of bytes.
-///
-/// # Errors
-/// `OutOfMemory` alone.
-pub fn copy_bytes(bytes: &Vec<u8>) -> Result<Vec<u8>>
-    ensures copy { IfOk result (λ b. b.items ≡ bytes.now.items) }
-    ensures memory { IfErr result (λ e. e ≡ OutOfMemory) }
+/// A copy of a byte string that may be missing.
+pub fn copy_bstr(bytes: &Option<Vec<u8>>) -> Result<Option<Vec<u8>>, AllocError>
+    ensures { IfOk result (λ copy. option_map (λ b. b.items) copy
+        ≡ option_map (λ b. b.items) bytes.now) }
 {
-    Ok(Vec::from_slice(*bytes.allocator(), bytes)?)
+    match bytes {
+        Some(bytes) => Ok(Some(Vec::from_slice(*bytes.allocator(), bytes)?)),
+        None => Ok(None),
+    }
 }

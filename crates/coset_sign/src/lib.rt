@@ -10,12 +10,12 @@ mod signature;
 pub mod structure;
 
 pub use coset_core::{
-    Algorithm, AsCborValue, Bstr, CallError, CborOrdering, CborSerializable, ClaimName,
+    Algorithm, AsCborValue, Bstr, CallError, CborOrdering, CborSerializable, ClaimName, Codec,
     ContentType, CoseCountersignature, CoseCountersignatureBuilder, CoseError, CoseSignature,
     CoseSignatureBuilder, Encode, EndOfFile, FromPull, Header, HeaderBuilder, KeyOperation,
     KeyType, Label, Lawful, ProtectedBstr, ProtectedHeader, RegisteredLabel,
-    RegisteredLabelWithPrivate, Result, Source, TaggedCborSerializable, cbor, has_repeats, iana,
-    shape, util,
+    RegisteredLabelWithPrivate, Result, Source, TaggedCborSerializable, TaggedCodec, cbor,
+    has_repeats, iana, shape, util,
 };
 pub use countersign::{
     countersign_v2_structure_data, countersign0_v2_structure_data, verify_countersignature,

@@ -1,39 +1,27 @@
 //! Messages with any number of signatures (RFC 8152, section 4.1).
 
-ghost use Rattle.std.specs.Prelude.{◌≡◌, ◌≤◌, ◌↔◌, ◌<◌, OnOk, map, length, slice_get, IsTrue, IfOk, IfErr, Option, Some, None};
+ghost use Rattle.std.specs.Prelude.{◌≡◌, ◌≤◌, ◌<◌, OnOk, map, length, slice_get, IfOk, IfErr, Option, Some, None};
 ghost use Rattle.coset_value.specs.Item.{Item};
-ghost use Rattle.std.specs.Ordering.{on};
-ghost use Rattle.std.specs.Cmp.Lexicographic.{pointwise};
-ghost use Rattle.std.specs.Cmp.{on_equiv, on_per, partial_equiv_from_equiv};
 ghost use Rattle.coset_shape.specs.declared.error.CoseError.TheVariants.{OutOfMemory};
-ghost use Rattle.coset_shape.specs.Answers.{Reads, Writes};
+ghost use Rattle.coset_shape.specs.Answers.{Writes};
 ghost use Rattle.coset_shape.specs.Inputs.{state, GoesBehind, ReadsAt, length_left};
 ghost use Rattle.coset_shape.specs.InPlace.{Fills};
 ghost use Rattle.coset_core.specs.Headers.{SignatureSeen};
 ghost use Rattle.coset_core.specs.Messages.{unread};
-ghost use Rattle.coset_core.specs.Same.{signature_eq};
 ghost use Rattle.coset_core.specs.Views.{header_seen, signature_seen};
 ghost use Rattle.coset_sign.specs.Calls.{AsksAbout, Creates, TriesToCreate};
 ghost use Rattle.coset_sign.specs.Sign.{and_signature, empty_sign, sign, sign_seen, signed_with, signer_carried, signer_structure};
-ghost use Rattle.coset_sign.specs.Same.{sign_eq, sign_eq_equiv};
 
 use crate::calls::{ask, make};
 use crate::signature::{SignatureContext, signed_bytes};
-use coset_cbor::de::Pull;
 use coset_cbor::value::Value;
 use coset_core::{Bstr, CoseSignature, Header, ProtectedHeader, fill_headers};
-use coset_shape::encode::{
-    Array, Encode, encode_four, encode_to_tagged_vec, encode_to_value, encode_to_vec,
-};
+use coset_shape::encode::{Array, Encode, encode_four};
 use coset_shape::input::Input;
 use coset_shape::list::read_blamed_list;
-use coset_shape::traits::{FromPull, read_slice, read_tagged_slice};
-use coset_shape::util::copy_bytes;
-use coset_shape::{
-    AsCborValue, CallError, CborSerializable, CoseError, Lawful, Result, Source,
-    TaggedCborSerializable,
-};
-use std::alloc::Global;
+use coset_shape::util::copy_bstr;
+use coset_shape::{CallError, Codec, CoseError, Result, TaggedCodec};
+use std::alloc::{AllocError, Global};
 use std::marker::Model;
 
 /// A message with any number of signatures: `COSE_Sign` (RFC 8152, section 4.1).
@@ -43,7 +31,7 @@ use std::marker::Model;
 /// ```
 ///
 /// A message without signatures is read and written too.
-#[derive(Debug, Drop)]
+#[derive(Debug, Drop, PartialEq, Eq)]
 pub struct CoseSign {
     /// The header that each of the signatures covers.
     pub protected: ProtectedHeader,
@@ -85,18 +73,6 @@ fn fill_sign(message: &mut CoseSign, alloc: Global, input: &mut Input<'_>) -> Re
     message.signatures = signatures?;
     message.payload = payload?;
     headers
-}
-
-/// Reads a message.
-fn read_sign(alloc: Global, input: &mut Input<'_>) -> Result<CoseSign>
-    ensures shrinks { length_left (state input.new) ≤ length_left (state input.old) }
-    ensures strictly { OnOk result (GoesBehind (state input.old) (state input.new)) }
-    ensures reads { ReadsAt (state input.old) (state input.new)
-        (λ v. Reads sign sign_seen v result) }
-{
-    let mut message = CoseSign::new(alloc);
-    fill_sign(&mut message, alloc, input)?;
-    Ok(message)
 }
 
 impl CoseSign {
@@ -245,68 +221,35 @@ impl CoseSign {
         ensures copy { IfOk result (λ m. sign_seen m ≡ sign_seen self.now) }
         ensures memory { IfErr result (λ e. e ≡ OutOfMemory) }
     {
-        let payload = match &self.payload {
-            Some(payload) => Some(copy_bytes(payload)?),
-            None => None,
-        };
+        Ok(Clone::clone(self)?)
+    }
+}
+
+/// The same as [`CoseSign::clone`], for generic code.
+impl Clone for CoseSign {
+    ghost is_clone = { λ message copy. sign_seen copy ≡ sign_seen message };
+
+    fn clone(&self) -> Result<CoseSign, AllocError> {
         Ok(CoseSign {
-            protected: self.protected.clone()?,
-            unprotected: self.unprotected.clone()?,
-            payload,
+            protected: Clone::clone(&self.protected)?,
+            unprotected: Clone::clone(&self.unprotected)?,
+            payload: copy_bstr(&self.payload)?,
             signatures: copy_signatures(&self.signatures)?,
         })
     }
 }
 
-/// Equality of every field, the bytes that were kept of the protected headers included.
-impl PartialEq for CoseSign {
-    ghost eq = { on sign_seen sign_eq };
-
-    ghost laws = { on_per sign_seen (partial_equiv_from_equiv sign_eq_equiv) };
-
-    fn eq(&self, other: &CoseSign) -> bool
-        ensures answers { result ≡ sign_eq (sign_seen self.now) (sign_seen other.now) }
-        ensures equal { IsTrue result ↔ (sign_seen self.now ≡ sign_seen other.now) }
-    {
-        same(self, other)
-    }
-}
-
-impl Eq for CoseSign {
-    ghost laws = { on_equiv sign_seen sign_eq_equiv };
-}
-
-/// Whether two messages are the same, the bytes that were kept included.
-fn same(a: &CoseSign, b: &CoseSign) -> bool
-    ensures { result ≡ sign_eq (sign_seen a.now) (sign_seen b.now) }
-{
-    a.protected == b.protected
-        && a.unprotected == b.unprotected
-        && a.payload == b.payload
-        && same_signatures(&a.signatures, &b.signatures)
-}
-
-/// Whether two lists of signatures are the same, the bytes that were kept included.
-fn same_signatures(all: &Vec<CoseSignature>, others: &Vec<CoseSignature>) -> bool
-    ensures { result ≡ pointwise signature_eq (map signature_seen all.now.items)
-        (map signature_seen others.now.items) }
-{
-    all == others
-}
-
 /// Copies of the signatures, with the same bytes kept.
-///
-/// # Errors
-/// `OutOfMemory` alone.
-fn copy_signatures(all: &Vec<CoseSignature>) -> Result<Vec<CoseSignature>>
-    ensures copies { IfOk result (λ c. map signature_seen c.items
-        ≡ map signature_seen all.now.items) }
-    ensures memory { IfErr result (λ e. e ≡ OutOfMemory) }
+fn copy_signatures(all: &Vec<CoseSignature>) -> Result<Vec<CoseSignature>, AllocError>
+    ensures { IfOk result (λ c. map signature_seen c.items ≡ map signature_seen all.now.items) }
 {
     Ok(Clone::clone(all)?)
 }
 
-impl AsCborValue for CoseSign {
+impl Codec for CoseSign {
+    ghost use Rattle.coset_sign.specs.Same.{sign_told};
+    ghost use Rattle.coset_shape.specs.Told.{bstr_told, lists_told};
+    ghost use Rattle.coset_core.specs.Told.{header_told, protected_told, signature_told};
     ghost use Rattle.coset_sign.specs.Sign.{SignSeen, sign_laws};
 
     ghost Seen = { SignSeen };
@@ -315,29 +258,20 @@ impl AsCborValue for CoseSign {
 
     ghost shape = { sign };
 
-    ghost unique = { sign_laws.unique };
-
-    ghost sound = { sign_laws.sound };
-
-    fn from_cbor_value(alloc: Global, value: Value) -> Result<CoseSign> {
-        read_sign(alloc, &mut Input::Tree(value))
-    }
-
-    fn to_cbor_value(self, alloc: Global) -> Result<Value> {
-        encode_to_value(alloc, &self)
-    }
-}
-
-impl Lawful for CoseSign {
-    ghost use Rattle.coset_sign.specs.Sign.{sign_laws};
-
     ghost laws = { sign_laws };
-}
 
-impl Encode for CoseSign {
-    ghost image = { λ m. sign.image (sign_seen m) };
+    ghost equal = { λ a b. sign_told (protected_told a.protected b.protected)
+        (header_told a.unprotected b.unprotected)
+        (bstr_told a.payload b.payload)
+        (lists_told signature_seen _ signature_told a.signatures.items b.signatures.items) };
 
-    fn room(&self) -> usize {
+    fn read(alloc: Global, input: &mut Input<'_>) -> Result<CoseSign> {
+        let mut message = CoseSign::new(alloc);
+        fill_sign(&mut message, alloc, input)?;
+        Ok(message)
+    }
+
+    fn size_hint(&self) -> usize {
         Bstr(&self.protected)
             .room()
             .saturating_add(self.unprotected.room())
@@ -345,7 +279,7 @@ impl Encode for CoseSign {
             .saturating_add(Array(&self.signatures).room())
     }
 
-    fn encode(&self, alloc: Global, out: &mut Vec<u8>) -> Result<()> {
+    fn write(&self, alloc: Global, out: &mut Vec<u8>) -> Result<()> {
         encode_four(
             alloc,
             &Bstr(&self.protected),
@@ -357,38 +291,10 @@ impl Encode for CoseSign {
     }
 }
 
-impl FromPull for CoseSign {
-    fn from_pull(alloc: Global, pull: Pull<'_>) -> Result<CoseSign> {
-        read_sign(alloc, &mut Input::new(Source::Lent(pull)))
-    }
+impl TaggedCodec for CoseSign {
+    ghost TAG_NUMBER = { 98 };
 
-    fn from_input(alloc: Global, input: &mut Input<'_>) -> Result<CoseSign> {
-        read_sign(alloc, input)
-    }
-}
-
-impl CborSerializable for CoseSign {
-    fn from_slice(alloc: Global, s: &[u8]) -> Result<CoseSign> {
-        read_slice(alloc, s)
-    }
-
-    fn to_vec(self, alloc: Global) -> Result<Vec<u8>> {
-        encode_to_vec(alloc, &self)
-    }
-}
-
-impl TaggedCborSerializable for CoseSign {
-    ghost TAG = { 98 };
-
-    const TAG: u64 = 98;
-
-    fn from_tagged_slice(alloc: Global, s: &[u8]) -> Result<CoseSign> {
-        read_tagged_slice(alloc, 98, s)
-    }
-
-    fn to_tagged_vec(self, alloc: Global) -> Result<Vec<u8>> {
-        encode_to_tagged_vec(alloc, 98, &self)
-    }
+    const TAG_NUMBER: u64 = 98;
 }
 
 /// The signature with these bytes, under the same headers.

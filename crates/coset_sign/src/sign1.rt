@@ -1,33 +1,24 @@
 //! Messages with one signature (RFC 8152, section 4.2).
 
-ghost use Rattle.std.specs.Prelude.{◌≡◌, ◌≤◌, ◌↔◌, OnOk, IsTrue, IfOk, IfErr, Some, None};
-ghost use Rattle.std.specs.Ordering.{on};
-ghost use Rattle.std.specs.Cmp.{on_equiv, on_per, partial_equiv_from_equiv};
+ghost use Rattle.std.specs.Prelude.{◌≡◌, ◌≤◌, OnOk, IfOk, IfErr, Some, None};
 ghost use Rattle.coset_shape.specs.declared.error.CoseError.TheVariants.{OutOfMemory};
-ghost use Rattle.coset_shape.specs.Answers.{Reads, Writes};
+ghost use Rattle.coset_shape.specs.Answers.{Writes};
 ghost use Rattle.coset_shape.specs.Inputs.{state, GoesBehind, ReadsAt, length_left};
 ghost use Rattle.coset_shape.specs.InPlace.{Fills};
 ghost use Rattle.coset_core.specs.Messages.{unread};
 ghost use Rattle.coset_core.specs.Views.{header_seen};
 ghost use Rattle.coset_sign.specs.Calls.{AsksAbout, Creates, TriesToCreate};
 ghost use Rattle.coset_sign.specs.Sign1.{empty_sign1, sign1, sign1_seen, sign1_carried, sign1_structure, with_signature};
-ghost use Rattle.coset_sign.specs.Same.{sign1_eq, sign1_eq_equiv};
 
 use crate::calls::{ask, make};
 use crate::signature::{SignatureContext, signed_bytes};
-use coset_cbor::de::Pull;
 use coset_cbor::value::Value;
 use coset_core::{Bstr, Header, ProtectedHeader, fill_headers};
-use coset_shape::encode::{
-    Encode, encode_four, encode_to_tagged_vec, encode_to_value, encode_to_vec,
-};
+use coset_shape::encode::{Encode, encode_four};
 use coset_shape::input::Input;
-use coset_shape::traits::{FromPull, read_slice, read_tagged_slice};
-use coset_shape::util::copy_bytes;
-use coset_shape::{
-    AsCborValue, CallError, CborSerializable, Lawful, Result, Source, TaggedCborSerializable,
-};
-use std::alloc::Global;
+use coset_shape::util::copy_bstr;
+use coset_shape::{CallError, Codec, Result, TaggedCodec};
+use std::alloc::{AllocError, Global};
 use std::marker::Model;
 
 /// A message with one signature: `COSE_Sign1` (RFC 8152, section 4.2).
@@ -35,7 +26,7 @@ use std::marker::Model;
 /// ```cddl
 /// COSE_Sign1 = [ Headers, payload : bstr / nil, signature : bstr ]
 /// ```
-#[derive(Debug, Drop)]
+#[derive(Debug, Drop, PartialEq, Eq)]
 pub struct CoseSign1 {
     /// The header that the signature covers.
     pub protected: ProtectedHeader,
@@ -75,18 +66,6 @@ fn fill_sign1(message: &mut CoseSign1, alloc: Global, input: &mut Input<'_>) -> 
     message.signature = signature?;
     message.payload = payload?;
     headers
-}
-
-/// Reads a message.
-fn read_sign1(alloc: Global, input: &mut Input<'_>) -> Result<CoseSign1>
-    ensures shrinks { length_left (state input.new) ≤ length_left (state input.old) }
-    ensures strictly { OnOk result (GoesBehind (state input.old) (state input.new)) }
-    ensures reads { ReadsAt (state input.old) (state input.new)
-        (λ v. Reads sign1 sign1_seen v result) }
-{
-    let mut message = CoseSign1::new(alloc);
-    fill_sign1(&mut message, alloc, input)?;
-    Ok(message)
 }
 
 impl CoseSign1 {
@@ -197,48 +176,28 @@ impl CoseSign1 {
         ensures copy { IfOk result (λ m. sign1_seen m ≡ sign1_seen self.now) }
         ensures memory { IfErr result (λ e. e ≡ OutOfMemory) }
     {
-        let payload = match &self.payload {
-            Some(payload) => Some(copy_bytes(payload)?),
-            None => None,
-        };
+        Ok(Clone::clone(self)?)
+    }
+}
+
+/// The same as [`CoseSign1::clone`], for generic code.
+impl Clone for CoseSign1 {
+    ghost is_clone = { λ message copy. sign1_seen copy ≡ sign1_seen message };
+
+    fn clone(&self) -> Result<CoseSign1, AllocError> {
         Ok(CoseSign1 {
-            protected: self.protected.clone()?,
-            unprotected: self.unprotected.clone()?,
-            payload,
-            signature: copy_bytes(&self.signature)?,
+            protected: Clone::clone(&self.protected)?,
+            unprotected: Clone::clone(&self.unprotected)?,
+            payload: copy_bstr(&self.payload)?,
+            signature: Vec::from_slice(*self.signature.allocator(), &self.signature)?,
         })
     }
 }
 
-/// Equality of every field, the bytes that were kept of the protected header included.
-impl PartialEq for CoseSign1 {
-    ghost eq = { on sign1_seen sign1_eq };
-
-    ghost laws = { on_per sign1_seen (partial_equiv_from_equiv sign1_eq_equiv) };
-
-    fn eq(&self, other: &CoseSign1) -> bool
-        ensures answers { result ≡ sign1_eq (sign1_seen self.now) (sign1_seen other.now) }
-        ensures equal { IsTrue result ↔ (sign1_seen self.now ≡ sign1_seen other.now) }
-    {
-        same(self, other)
-    }
-}
-
-impl Eq for CoseSign1 {
-    ghost laws = { on_equiv sign1_seen sign1_eq_equiv };
-}
-
-/// Whether two messages are the same, the bytes that were kept included.
-fn same(a: &CoseSign1, b: &CoseSign1) -> bool
-    ensures { result ≡ sign1_eq (sign1_seen a.now) (sign1_seen b.now) }
-{
-    a.protected == b.protected
-        && a.unprotected == b.unprotected
-        && a.payload == b.payload
-        && a.signature == b.signature
-}
-
-impl AsCborValue for CoseSign1 {
+impl Codec for CoseSign1 {
+    ghost use Rattle.coset_sign.specs.Same.{sign1_told};
+    ghost use Rattle.coset_shape.specs.Told.{bytes_told, bstr_told};
+    ghost use Rattle.coset_core.specs.Told.{header_told, protected_told};
     ghost use Rattle.coset_sign.specs.Sign1.{Sign1Seen, sign1_laws};
 
     ghost Seen = { Sign1Seen };
@@ -247,29 +206,20 @@ impl AsCborValue for CoseSign1 {
 
     ghost shape = { sign1 };
 
-    ghost unique = { sign1_laws.unique };
-
-    ghost sound = { sign1_laws.sound };
-
-    fn from_cbor_value(alloc: Global, value: Value) -> Result<CoseSign1> {
-        read_sign1(alloc, &mut Input::Tree(value))
-    }
-
-    fn to_cbor_value(self, alloc: Global) -> Result<Value> {
-        encode_to_value(alloc, &self)
-    }
-}
-
-impl Lawful for CoseSign1 {
-    ghost use Rattle.coset_sign.specs.Sign1.{sign1_laws};
-
     ghost laws = { sign1_laws };
-}
 
-impl Encode for CoseSign1 {
-    ghost image = { λ m. sign1.image (sign1_seen m) };
+    ghost equal = { λ a b. sign1_told (protected_told a.protected b.protected)
+        (header_told a.unprotected b.unprotected)
+        (bstr_told a.payload b.payload)
+        (bytes_told a.signature b.signature) };
 
-    fn room(&self) -> usize {
+    fn read(alloc: Global, input: &mut Input<'_>) -> Result<CoseSign1> {
+        let mut message = CoseSign1::new(alloc);
+        fill_sign1(&mut message, alloc, input)?;
+        Ok(message)
+    }
+
+    fn size_hint(&self) -> usize {
         Bstr(&self.protected)
             .room()
             .saturating_add(self.unprotected.room())
@@ -277,7 +227,7 @@ impl Encode for CoseSign1 {
             .saturating_add(self.signature.room())
     }
 
-    fn encode(&self, alloc: Global, out: &mut Vec<u8>) -> Result<()> {
+    fn write(&self, alloc: Global, out: &mut Vec<u8>) -> Result<()> {
         let protected = Bstr(&self.protected);
         encode_four(
             alloc,
@@ -290,38 +240,10 @@ impl Encode for CoseSign1 {
     }
 }
 
-impl FromPull for CoseSign1 {
-    fn from_pull(alloc: Global, pull: Pull<'_>) -> Result<CoseSign1> {
-        read_sign1(alloc, &mut Input::new(Source::Lent(pull)))
-    }
+impl TaggedCodec for CoseSign1 {
+    ghost TAG_NUMBER = { 18 };
 
-    fn from_input(alloc: Global, input: &mut Input<'_>) -> Result<CoseSign1> {
-        read_sign1(alloc, input)
-    }
-}
-
-impl CborSerializable for CoseSign1 {
-    fn from_slice(alloc: Global, s: &[u8]) -> Result<CoseSign1> {
-        read_slice(alloc, s)
-    }
-
-    fn to_vec(self, alloc: Global) -> Result<Vec<u8>> {
-        encode_to_vec(alloc, &self)
-    }
-}
-
-impl TaggedCborSerializable for CoseSign1 {
-    ghost TAG = { 18 };
-
-    const TAG: u64 = 18;
-
-    fn from_tagged_slice(alloc: Global, s: &[u8]) -> Result<CoseSign1> {
-        read_tagged_slice(alloc, 18, s)
-    }
-
-    fn to_tagged_vec(self, alloc: Global) -> Result<Vec<u8>> {
-        encode_to_tagged_vec(alloc, 18, &self)
-    }
+    const TAG_NUMBER: u64 = 18;
 }
 
 /// Makes a [`CoseSign1`], field by field. Contracts see it as the message that [`build`](CoseSign1Builder::build) gives.

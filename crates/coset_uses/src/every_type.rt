@@ -1,6 +1,6 @@
 //! Every type that is read and written, named once: one that lacks a trait, or a law, wouldn't compile.
 
-ghost use Rattle.std.specs.Prelude.{◌≡◌, ◌≤◌, ℕ, List, Result};
+ghost use Rattle.std.specs.Prelude.{◌≡◌, ◌↔◌, ◌≤◌, IsTrue, ℕ, List, Result};
 ghost use Rattle.coset_value.specs.Item.{Item, depth};
 ghost use Rattle.coset_cbor.specs.Grammar.{IsItem};
 ghost use Rattle.coset_shape.specs.Answers.{AllocatesForItems, Describes, Reads, ReadsSlice, RefusesItem};
@@ -13,14 +13,14 @@ ghost use Rattle.coset_shape.specs.declared.error.CoseError.{CoseError};
 use coset::cbor::value::Value;
 use coset::cwt::{ClaimName, ClaimsSet, Timestamp};
 use coset::{
-    Algorithm, CborSerializable, ContentType, CoseCountersignature, CoseEncrypt, CoseEncrypt0,
-    CoseKdfContext, CoseKey, CoseKeySet, CoseMac, CoseMac0, CoseRecipient, CoseSign, CoseSign1,
-    CoseSignature, FromPull, Header, KeyOperation, KeyType, Label, Lawful, PartyInfo,
+    Algorithm, CborSerializable, Codec, ContentType, CoseCountersignature, CoseEncrypt,
+    CoseEncrypt0, CoseKdfContext, CoseKey, CoseKeySet, CoseMac, CoseMac0, CoseRecipient, CoseSign,
+    CoseSign1, CoseSignature, FromPull, Header, KeyOperation, KeyType, Label, Lawful, PartyInfo,
     ProtectedHeader, SuppPubInfo, TaggedCborSerializable,
 };
 use coset_shape::laws::{
-    image_is_described, one_value, reads_again, refused_as_bytes, refused_describes_nothing,
-    spellings_agree, stays_as_written, written_apart,
+    equal_as_seen, image_is_described, one_value, reads_again, refused_as_bytes,
+    refused_describes_nothing, spellings_agree, stays_as_written, written_apart,
 };
 use std::fmt;
 
@@ -84,6 +84,13 @@ pub fn keeps_the_law_of_items<T: Lawful + PartialEq + fmt::Debug>()
     image_is_described::<T>();
 }
 
+/// What holds besides of each type that is one trait: `==` is equality of all that contracts see.
+pub fn keeps_the_law_of_equality<T: Codec>()
+    ensures { (a b : T) → IsTrue (T.PartialEq.eq a b) ↔ (T.seen a ≡ T.seen b) }
+{
+    equal_as_seen::<T>();
+}
+
 /// The types.
 pub fn every_type_keeps_the_laws() {
     keeps_the_laws::<Value>();
@@ -118,4 +125,21 @@ pub fn every_type_keeps_the_laws() {
     keeps_the_laws_when_tagged::<CoseMac0>();
     keeps_the_laws_when_tagged::<CoseEncrypt>();
     keeps_the_laws_when_tagged::<CoseEncrypt0>();
+    keeps_the_law_of_equality::<Header>();
+    keeps_the_law_of_equality::<ProtectedHeader>();
+    keeps_the_law_of_equality::<CoseSignature>();
+    keeps_the_law_of_equality::<CoseCountersignature>();
+    keeps_the_law_of_equality::<CoseSign>();
+    keeps_the_law_of_equality::<CoseSign1>();
+    keeps_the_law_of_equality::<CoseMac>();
+    keeps_the_law_of_equality::<CoseMac0>();
+    keeps_the_law_of_equality::<CoseEncrypt>();
+    keeps_the_law_of_equality::<CoseEncrypt0>();
+    keeps_the_law_of_equality::<CoseRecipient>();
+    keeps_the_law_of_equality::<CoseKey>();
+    keeps_the_law_of_equality::<CoseKeySet>();
+    keeps_the_law_of_equality::<ClaimsSet>();
+    keeps_the_law_of_equality::<PartyInfo>();
+    keeps_the_law_of_equality::<SuppPubInfo>();
+    keeps_the_law_of_equality::<CoseKdfContext>();
 }

@@ -20,7 +20,7 @@ use Rattle.coset_shape.proofs.InPlace.{last_at, last_filled, one_filled_more, on
 use Rattle.coset_shape.proofs.Lists.{all_read}
 use Rattle.coset_core.proofs.Forward.{not_entered, one_iv_yet, so_far_none, so_far_more, ends, pairs_refused, counter_signatures_refused, not_kept, second_refused, one_filled, more_filled, places_refused, second_read, last_refused, places_filled, unprotected_refused, protected_refused}
 use Rattle.coset_core.proofs.+read.Goals as goal
-use Rattle.coset_core.proofs.+read.Goals.{header::fill_counter_signatures-then-one, header::fill_counter_signatures-else-one}
+use Rattle.coset_core.proofs.+read.Goals.{header::reading::fill_counter_signatures-then-one, header::reading::fill_counter_signatures-else-one}
 
 pub protected::fill_protected-returns-then-layers-eq0 : goal.protected::fill_protected-returns-then-layers-eq0
 protected::fill_protected-returns-then-layers-eq0 t c = λ b kept n. no_layer_left c.args.layers (bytes b) b c.if-layers-eq0.true refl
@@ -34,13 +34,13 @@ protected::fill_protected-returns t c = λ b kept.
     (protected_filled c.args.layers (c.args.layers - 1) b c.deref.result.now o (header_seen c.fill_content.new.header) (answer c.fill_content.new.error c.fill_content.result) (omega (arith, c.if-layers-eq0.false)) is
     (c.deref.ensures.value ∙ some-one held is) c.fill_content.ensures)
 
-pub header::fill_counter_signatures-returns-clause-fills : goal.header::fill_counter_signatures-returns-clause-fills
-header::fill_counter_signatures-returns-clause-fills t c = elim c.if-one.branch [
-  | header::fill_counter_signatures-then-one w ↦ λ v z stands.
+pub header::reading::fill_counter_signatures-returns-clause-fills : goal.header::reading::fill_counter_signatures-returns-clause-fills
+header::reading::fill_counter_signatures-returns-clause-fills t c = elim c.if-one.branch [
+  | header::reading::fill_counter_signatures-then-one w ↦ λ v z stands.
       let here = c.in_ok-one.ensures.enters v z stands in
       let read = w.fill_one-filled.ensures.fills here.0 z here.2 in
       (c.finish.ensures.passes read.0.0 z (rw (w.members-is, w.input-is) read.0.1), rw (w.all-is, w.filled-is, w.error-is) (one_filled (layered_signature c.args.layers) v here.0 _ _ here.1 (rw w.if-one.true at here.3) read.1))
-  | header::fill_counter_signatures-else-one w ↦ λ v z stands.
+  | header::reading::fill_counter_signatures-else-one w ↦ λ v z stands.
       let here = c.in_ok-one.ensures.enters v z stands in
       let read = w.fill_each-filled.ensures.fills here.0 z here.2 in
       (c.finish.ensures.passes read.0.0 z (rw (w.members-is, w.input-is) read.0.1), rw (w.all-is, w.filled-is, w.error-is) (more_filled (layered_signature c.args.layers) v here.0 _ _ here.1 (rw w.if-one.false at here.3) read.1))
@@ -84,27 +84,27 @@ signature::fill_each-returns-clause-fills t c = λ vs z within.
       subst (λ xs. Each (layered_signature c.args.layers).describes vs (map signature_seen xs)) (sym next.place) (all_read (layered_signature c.args.layers) vs p.others (map signature_seen c.loop-all.all.items) p.continues none.0),
     )
 
-pub header::fill_header-returns-in_err-begin_pairs-clause-fills : goal.header::fill_header-returns-in_err-begin_pairs-clause-fills
-header::fill_header-returns-in_err-begin_pairs-clause-fills t c = λ v z stands.
+pub header::reading::fill_header-returns-in_err-begin_pairs-clause-fills : goal.header::reading::fill_header-returns-in_err-begin_pairs-clause-fills
+header::reading::fill_header-returns-in_err-begin_pairs-clause-fills t c = λ v z stands.
     not_entered c.args.layers v _ (state c.begin_pairs.new.input) z c.from_residual.result c.begin_pairs.new.error c.in_err-begin_pairs.field-0.0 c.from_residual.ensures.1 (c.in_err-begin_pairs.ensures.enters v z stands)
 
-pub header::fill_pairs-loop-version-init : goal.header::fill_pairs-loop-version-init
-header::fill_pairs-loop-version-init t c = record {
+pub header::reading::fill_pairs-loop-version-init : goal.header::reading::fill_pairs-loop-version-init
+header::reading::fill_pairs-loop-version-init t c = record {
   one_iv = one_iv_yet c.args.header.now c.requires.empty;
   shrinks = omega arith;
   size = omega arith;
   fills = λ all z within. so_far_none c.args.layers all c.args.header.now (state c.args.input.now) z c.args.pairs.now c.requires.empty within;
 }
 
-pub header::fill_pairs-fill_counter_signatures-requires : goal.header::fill_pairs-fill_counter_signatures-requires
-header::fill_pairs-fill_counter_signatures-requires t c =
+pub header::reading::fill_pairs-fill_counter_signatures-requires : goal.header::reading::fill_pairs-fill_counter_signatures-requires
+header::reading::fill_pairs-fill_counter_signatures-requires t c =
     let next = rw c.in-Some.is at c.in_ok-version.ensures in
     let inner = next.value refl in
     let before = c.loop-version.invariant.size in
     (omega (arith, inner, before, c.decreases), ap (map signature_seen) c.new-read.ensures.items)
 
-pub header::fill_pairs-loop-version-preserved : goal.header::fill_pairs-loop-version-preserved
-header::fill_pairs-loop-version-preserved t c =
+pub header::reading::fill_pairs-loop-version-preserved : goal.header::reading::fill_pairs-loop-version-preserved
+header::reading::fill_pairs-loop-version-preserved t c =
     let next = rw c.in-Some.is at c.in_ok-version.ensures in
     let read = c.in_default-fill_counter_signatures.ensures in
     let keeps = c.in_ok-keep_signatures.ensures.keeps in
@@ -126,44 +126,44 @@ header::fill_pairs-loop-version-preserved t c =
           c.loop-version.pairs c.fill_fields.new.pairs (map signature_seen c.fill_counter_signatures.new.all.items) p (next.fills all p.left p.values z p.walks p.within).0 next.others (sym c.holds.ensures ∙ c.if-holds.false) read.fills keeps;
     }
 
-pub header::fill_pairs-loop-version-smaller : goal.header::fill_pairs-loop-version-smaller
-header::fill_pairs-loop-version-smaller t c =
+pub header::reading::fill_pairs-loop-version-smaller : goal.header::reading::fill_pairs-loop-version-smaller
+header::reading::fill_pairs-loop-version-smaller t c =
     let next = rw c.in-Some.is at c.in_ok-version.ensures in
     let one = next.turns refl in
     let behind = pairs_fewer c.fill_fields.new.pairs (state c.fill_fields.new.input) (state c.fill_counter_signatures.new.input) c.in_default-fill_counter_signatures.ensures.shrinks in
     omega (arith, one, behind)
 
-pub header::fill_pairs-returns-in_err-version-clause-fills : goal.header::fill_pairs-returns-in_err-version-clause-fills
-header::fill_pairs-returns-in_err-version-clause-fills t c = λ all z within.
+pub header::reading::fill_pairs-returns-in_err-version-clause-fills : goal.header::reading::fill_pairs-returns-in_err-version-clause-fills
+header::reading::fill_pairs-returns-in_err-version-clause-fills t c = λ all z within.
     let p = c.loop-version.invariant.fills all z within in
     pairs_refused c.args.layers all p.values z (fields_seen c.fill_fields.new.header) (state c.fill_fields.new.input) c.fill_fields.new.pairs _ c.from_residual.result c.fill_fields.new.error c.in_err-version.field-0.0 c.from_residual.ensures.1
     (c.in_err-version.ensures.fills all p.left p.values z p.walks p.within)
 
-pub header::fill_pairs-returns-then-holds-clause-fills : goal.header::fill_pairs-returns-then-holds-clause-fills
-header::fill_pairs-returns-then-holds-clause-fills t c = λ all z within.
+pub header::reading::fill_pairs-returns-then-holds-clause-fills : goal.header::reading::fill_pairs-returns-then-holds-clause-fills
+header::reading::fill_pairs-returns-then-holds-clause-fills t c = λ all z within.
     let next = rw c.in-Some.is at c.in_ok-version.ensures in
     let p = c.loop-version.invariant.fills all z within in
     second_refused c.in-Some.version c.args.layers all c.loop-version.header c.fill_fields.new.header (state c.loop-version.input) (state c.fill_fields.new.input) (state c.refuse_second.new.input) z c.loop-version.pairs c.fill_fields.new.pairs _
     (answer c.refuse_second.new.error c.refuse_second.result) p (next.fills all p.left p.values z p.walks p.within).0 next.others (sym c.holds.ensures ∙ c.if-holds.true) c.refuse_second.ensures.passes
 
-pub header::fill_pairs-returns-in-Err-clause-fills : goal.header::fill_pairs-returns-in-Err-clause-fills
-header::fill_pairs-returns-in-Err-clause-fills t c = λ all z within.
+pub header::reading::fill_pairs-returns-in-Err-clause-fills : goal.header::reading::fill_pairs-returns-in-Err-clause-fills
+header::reading::fill_pairs-returns-in-Err-clause-fills t c = λ all z within.
     let next = rw c.in-Some.is at c.in_ok-version.ensures in
     let p = c.loop-version.invariant.fills all z within in
     counter_signatures_refused c.in-Some.version c.args.layers all p.values (fields_seen c.fill_fields.new.header) (state c.fill_fields.new.input) (state c.fill_counter_signatures.new.input) z c.fill_fields.new.pairs
     (map signature_seen c.fill_counter_signatures.new.all.items) (header_seen c.fill_fields.new.header) (Err c.in-Err.refused) c.fill_counter_signatures.new.error c.in-Err.refused refl
     (next.fills all p.left p.values z p.walks p.within).0 c.in-Err.ensures.fills
 
-pub header::fill_pairs-returns-in_err-keep_signatures-clause-fills : goal.header::fill_pairs-returns-in_err-keep_signatures-clause-fills
-header::fill_pairs-returns-in_err-keep_signatures-clause-fills t c = λ all z within.
+pub header::reading::fill_pairs-returns-in_err-keep_signatures-clause-fills : goal.header::reading::fill_pairs-returns-in_err-keep_signatures-clause-fills
+header::reading::fill_pairs-returns-in_err-keep_signatures-clause-fills t c = λ all z within.
     let next = rw c.in-Some.is at c.in_ok-version.ensures in
     let p = c.loop-version.invariant.fills all z within in
     not_kept c.in-Some.version c.args.layers all p.values (fields_seen c.fill_fields.new.header) (state c.fill_fields.new.input) (state c.fill_counter_signatures.new.input) z c.fill_fields.new.pairs
     (map signature_seen c.fill_counter_signatures.new.all.items) _ c.from_residual-in_err-keep_signatures.result c.keep_signatures.new.error c.in_err-keep_signatures.field-0.0 c.from_residual-in_err-keep_signatures.ensures.1
     (next.fills all p.left p.values z p.walks p.within).0 c.in_default-fill_counter_signatures.ensures.fills c.in_err-keep_signatures.ensures.refused
 
-pub header::fill_pairs-returns-clause-fills : goal.header::fill_pairs-returns-clause-fills
-header::fill_pairs-returns-clause-fills t c = λ all z within.
+pub header::reading::fill_pairs-returns-clause-fills : goal.header::reading::fill_pairs-returns-clause-fills
+header::reading::fill_pairs-returns-clause-fills t c = λ all z within.
     let next = rw c.in_default.is at c.in_ok-version.ensures in
     let p = c.loop-version.invariant.fills all z within in
     ends c.args.layers all z c.loop-version.header c.fill_fields.new.header (state c.loop-version.input) (state c.fill_fields.new.input) c.loop-version.pairs c.fill_fields.new.pairs p (next.fills all p.left p.values z p.walks p.within) next.one_iv next.others

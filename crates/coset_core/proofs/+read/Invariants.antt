@@ -13,14 +13,14 @@ use Rattle.coset_core.proofs.+read.Given as goal
 abbrev layer : ℕ
 layer = 1180591620717411303424
 
-abbrev pub decreases-header::fill_header : goal.decreases-header::fill_header
-decreases-header::fill_header l = layer * l.layers + 8 * input_size (state l.input.now) + 2
+abbrev pub decreases-header::reading::fill_header : goal.decreases-header::reading::fill_header
+decreases-header::reading::fill_header l = layer * l.layers + 8 * input_size (state l.input.now) + 2
 
-abbrev pub decreases-header::fill_pairs : goal.decreases-header::fill_pairs
-decreases-header::fill_pairs l = layer * l.layers + 8 * pairs_size l.pairs.now (state l.input.now) + 4
+abbrev pub decreases-header::reading::fill_pairs : goal.decreases-header::reading::fill_pairs
+decreases-header::reading::fill_pairs l = layer * l.layers + 8 * pairs_size l.pairs.now (state l.input.now) + 4
 
-abbrev pub decreases-header::fill_counter_signatures : goal.decreases-header::fill_counter_signatures
-decreases-header::fill_counter_signatures l = layer * l.layers + 8 * input_size (state l.input.now) + 3
+abbrev pub decreases-header::reading::fill_counter_signatures : goal.decreases-header::reading::fill_counter_signatures
+decreases-header::reading::fill_counter_signatures l = layer * l.layers + 8 * input_size (state l.input.now) + 3
 
 abbrev pub decreases-signature::fill_one : goal.decreases-signature::fill_one
 decreases-signature::fill_one l = layer * l.layers + 8 * items_size l.members.now (state l.input.now) + 8
@@ -41,16 +41,16 @@ abbrev pub decreases-protected::fill_content : goal.decreases-protected::fill_co
 decreases-protected::fill_content l = layer * l.layers + 8 * length l.content.now + 10
 
 -- some pairs were read, and the others stand there
-abbrev pub invariant-header::fill_pairs-loop-version : goal.invariant-header::fill_pairs-loop-version
-invariant-header::fill_pairs-loop-version l = record {
+abbrev pub invariant-header::reading::fill_pairs-loop-version : goal.invariant-header::reading::fill_pairs-loop-version
+invariant-header::reading::fill_pairs-loop-version l = record {
   one_iv : HasOneIv (fields_seen l.header);
   shrinks : length_left (state l.input) ≤ length_left (state l.fn.input);
   size : pairs_size l.pairs (state l.input) ≤ pairs_size l.fn.pairs (state l.fn.input);
   fills : (all : Pairs) (z : State) → PairsWithin l.fn.pairs all (state l.fn.input) z → HeaderSoFar l.layers all l.header (state l.input) z l.pairs;
 }
 
-abbrev pub decreases-header::fill_pairs-loop-version : goal.decreases-header::fill_pairs-loop-version
-decreases-header::fill_pairs-loop-version l = pairs_turns l.pairs (state l.input)
+abbrev pub decreases-header::reading::fill_pairs-loop-version : goal.decreases-header::reading::fill_pairs-loop-version
+decreases-header::reading::fill_pairs-loop-version l = pairs_turns l.pairs (state l.input)
 
 -- the signatures so far are those of the items so far, and the others stand there
 abbrev pub invariant-signature::fill_each-loop-all : goal.invariant-signature::fill_each-loop-all

@@ -15,38 +15,38 @@ use Rattle.coset_core.proofs.Writing.{taken, around}
 use Rattle.coset_core.proofs.WritingHeaders.{passes, unencoded, string-put, signature-put, counter_signatures-put, map-put, unwritten-rest, unwritten-counter_signatures, unwritten-countersignatures, signatures-push, signatures-none}
 use Rattle.coset_core.proofs.+write.Goals as goal
 
-pub header::write_counter_signatures-returns-clause-ok : goal.header::write_counter_signatures-returns-clause-ok
-header::write_counter_signatures-returns-clause-ok t c =
+pub header::writing::write_counter_signatures-returns-clause-ok : goal.header::writing::write_counter_signatures-returns-clause-ok
+header::writing::write_counter_signatures-returns-clause-ok t c =
     let ss = c.args.signatures.now in
     counter_signatures-put labels.counter_signature (map signature_seen ss) _ _ _ _ _ (rw (length-map ss signature_seen) (search rules)) (sym (length-map ss signature_seen)) (omega arith)
     c.in_ok-write_parameter.ensures c.in_ok-write_counter_signatures_head.ensures.one c.in_ok-write_counter_signatures_head.ensures.array c.in_ok-write_signatures.ensures.ok
 
-pub header::write_countersignatures-returns-clause-ok : goal.header::write_countersignatures-returns-clause-ok
-header::write_countersignatures-returns-clause-ok t c =
+pub header::writing::write_countersignatures-returns-clause-ok : goal.header::writing::write_countersignatures-returns-clause-ok
+header::writing::write_countersignatures-returns-clause-ok t c =
     let ss = c.args.signatures.now in
     counter_signatures-put labels.countersignature_v2 (map countersignature_seen ss) _ _ _ _ _ (rw (length-map ss countersignature_seen) (search rules)) (sym (length-map ss countersignature_seen)) (omega arith)
     c.in_ok-write_parameter.ensures c.in_ok-write_counter_signatures_head.ensures.one c.in_ok-write_counter_signatures_head.ensures.array c.in_ok-write_each_countersignature.ensures.ok
 
-pub header::write_header-returns-in_err-ask_distinct : goal.header::write_header-returns-in_err-ask_distinct
-header::write_header-returns-in_err-ask_distinct t c =
+pub header::writing::write_header-returns-in_err-ask_distinct : goal.header::writing::write_header-returns-in_err-ask_distinct
+header::writing::write_header-returns-in_err-ask_distinct t c =
     let x = header_level (out-Header c.args.header.now) in
     unencoded c.from_residual.result c.in_err-ask_distinct.field-0.0 _ (header_image (header_seen c.args.header.now)) _ _ c.from_residual.ensures.1
     (λ e. ap header_image (header-opened c.args.header.now) ∙ unwritten-rest x e) (rw c.deref.ensures.value at c.in_err-ask_distinct.ensures.refused)
 
-pub header::write_header-returns-in_err-write_counter_signatures : goal.header::write_header-returns-in_err-write_counter_signatures
-header::write_header-returns-in_err-write_counter_signatures t c =
+pub header::writing::write_header-returns-in_err-write_counter_signatures : goal.header::writing::write_header-returns-in_err-write_counter_signatures
+header::writing::write_header-returns-in_err-write_counter_signatures t c =
     let x = header_level (out-Header c.args.header.now) in
     unencoded c.from_residual-in_err-write_counter_signatures.result c.in_err-write_counter_signatures.field-0.0 _ (header_image (header_seen c.args.header.now)) _ _ c.from_residual-in_err-write_counter_signatures.ensures.1
     (λ e. ap header_image (header-opened c.args.header.now) ∙ unwritten-counter_signatures x e) (rw c.deref-2.ensures.value at c.in_err-write_counter_signatures.ensures.refused)
 
-pub header::write_header-returns-in_err-write_countersignatures : goal.header::write_header-returns-in_err-write_countersignatures
-header::write_header-returns-in_err-write_countersignatures t c =
+pub header::writing::write_header-returns-in_err-write_countersignatures : goal.header::writing::write_header-returns-in_err-write_countersignatures
+header::writing::write_header-returns-in_err-write_countersignatures t c =
     let x = header_level (out-Header c.args.header.now) in
     unencoded c.from_residual-in_err-write_countersignatures.result c.in_err-write_countersignatures.field-0.0 _ (header_image (header_seen c.args.header.now)) _ _ c.from_residual-in_err-write_countersignatures.ensures.1
     (λ e. ap header_image (header-opened c.args.header.now) ∙ unwritten-countersignatures x e) (rw c.deref-3.ensures.value at c.in_err-write_countersignatures.ensures.refused)
 
-pub header::write_header-returns : goal.header::write_header-returns
-header::write_header-returns t c =
+pub header::writing::write_header-returns : goal.header::writing::write_header-returns
+header::writing::write_header-returns t c =
     let opened = header-opened c.args.header.now in
     subst (λ h. AppendsImage (header_image h) c.args.out.now.items c.write_rest.new.out.items) (sym opened)
     (map-put (header_level (out-Header c.args.header.now)) c.count.result _ _ _ _ _ _ _

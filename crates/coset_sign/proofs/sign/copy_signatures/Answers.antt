@@ -2,5 +2,5 @@ use Rattle.coset_core.specs.Views.{signature_seen}
 use Rattle.coset_sign.proofs.Copied.{each_copied}
 use Rattle.coset_sign.proofs.sign.copy_signatures.Goals as goal
 
-pub returns-clause-copies : goal.returns-clause-copies
-returns-clause-copies c = each_copied signature_seen c.args.all.now.items _ c.in_ok-clone.ensures.cases.0
+pub returns : goal.returns
+returns c = each_copied signature_seen c.args.all.now.items _ c.in_ok-clone.ensures.cases.0

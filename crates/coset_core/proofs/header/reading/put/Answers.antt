@@ -1,0 +1,90 @@
+use Rattle.std.proofs.Common.{◌≡◌, [], ◌∷◌, ◌++◌, map, refl, sym, ◌∙◌, ap, subst, not, rules}
+use Rattle.std.proofs.lemmas.List.{map_push}
+use Rattle.coset_shape.specs.Maps.{Adds, optional}
+use Rattle.coset_shape.specs.Shape.{any}
+use Rattle.coset_label.specs.Views.{label_seen}
+use Rattle.coset_core.specs.Fields.{HasOneIv, fields, names, parts_of}
+use Rattle.coset_core.specs.FieldsView.{fields_level, fields_seen}
+use Rattle.coset_core.specs.Views.{entry_seen}
+use Rattle.coset_core.specs.declared.header.Header.{out-Header, out-roll-Header}
+use Rattle.coset_core.proofs.Putting.{adds_rest, adds_alg, adds_crit, adds_content_type, adds_key_id, adds_iv, adds_partial_iv, adds_countersignature0_v2, refuses_crit, refuses_iv, refuses_partial_iv, stays_alone, swapped, filled, empty}
+use Rattle.coset_core.proofs.header.reading.put.Goals as goal
+
+pub returns-then-is_parameter-clause-takes : goal.returns-then-is_parameter-clause-takes
+returns-then-is_parameter-clause-takes c = λ o v z stands.
+    let here = c.set_algorithm.ensures.takes v z stands in
+    (here.0, adds_alg (label_seen c.args.label) v c.set_algorithm.result (fields_seen c.args.header.now) _ _ o (sym c.is_parameter.ensures ∙ c.if-is_parameter.true) here.1 (ap fields_level (out-roll-Header _)))
+
+pub returns-then-is_parameter-2-clause-takes : goal.returns-then-is_parameter-2-clause-takes
+returns-then-is_parameter-2-clause-takes c = λ o v z stands.
+    let here = c.set_critical.ensures.takes v z stands in
+    (here.0, adds_crit (label_seen c.args.label) v c.set_critical.result (fields_seen c.args.header.now) _ _ o (sym c.is_parameter-2.ensures ∙ c.if-is_parameter-2.true) here.1 (ap fields_level (out-roll-Header _)))
+
+pub returns-then-is_parameter-3-clause-takes : goal.returns-then-is_parameter-3-clause-takes
+returns-then-is_parameter-3-clause-takes c = λ o v z stands.
+    let here = c.set_content_type.ensures.takes v z stands in
+    (here.0, adds_content_type (label_seen c.args.label) v c.set_content_type.result (fields_seen c.args.header.now) _ _ o (sym c.is_parameter-3.ensures ∙ c.if-is_parameter-3.true) here.1 (ap fields_level (out-roll-Header _)))
+
+pub returns-then-is_parameter-4-clause-takes : goal.returns-then-is_parameter-4-clause-takes
+returns-then-is_parameter-4-clause-takes c = λ o v z stands.
+    let here = c.set_bytes.ensures.takes v z stands in
+    (here.0, adds_key_id (label_seen c.args.label) v c.set_bytes.result (fields_seen c.args.header.now) _ _ o (sym c.is_parameter-4.ensures ∙ c.if-is_parameter-4.true) here.1 (ap fields_level (out-roll-Header _)))
+
+pub returns-then-is_parameter-5-clause-takes : goal.returns-then-is_parameter-5-clause-takes
+returns-then-is_parameter-5-clause-takes c = λ o v z stands.
+    let here = c.set_iv.ensures.takes v z stands in
+    (here.0, adds_iv (label_seen c.args.label) v c.set_iv.result (fields_seen c.args.header.now) _ _ o (sym c.is_parameter-5.ensures ∙ c.if-is_parameter-5.true) here.1 (ap fields_level (out-roll-Header _)))
+
+pub returns-then-is_parameter-6-clause-takes : goal.returns-then-is_parameter-6-clause-takes
+returns-then-is_parameter-6-clause-takes c = λ o v z stands.
+    let here = c.set_iv-then-is_parameter-6.ensures.takes v z stands in
+    (here.0, adds_partial_iv (label_seen c.args.label) v c.set_iv-then-is_parameter-6.result (fields_seen c.args.header.now) _ _ o (sym c.is_parameter-6.ensures ∙ c.if-is_parameter-6.true) here.1 (ap fields_level (out-roll-Header _)))
+
+pub returns-then-is_parameter-7-clause-takes : goal.returns-then-is_parameter-7-clause-takes
+returns-then-is_parameter-7-clause-takes c = λ o v z stands.
+    let here = c.set_bstr.ensures.takes v z stands in
+    (here.0, adds_countersignature0_v2 (label_seen c.args.label) v c.set_bstr.result (fields_seen c.args.header.now) _ _ o (sym c.is_parameter-7.ensures ∙ c.if-is_parameter-7.true) here.1 (ap fields_level (out-roll-Header _)))
+
+pub returns-then-is_parameter-2-clause-refused : goal.returns-then-is_parameter-2-clause-refused
+returns-then-is_parameter-2-clause-refused c = λ o v z stands.
+    let here = c.set_critical.ensures.refused v z stands in
+    (here.0, refuses_crit (label_seen c.args.label) v c.set_critical.result (parts_of (fields_seen c.args.header.now, o)) (sym c.is_parameter-2.ensures ∙ c.if-is_parameter-2.true) here.1)
+
+pub returns-then-is_parameter-5-clause-refused : goal.returns-then-is_parameter-5-clause-refused
+returns-then-is_parameter-5-clause-refused c = λ o v z stands.
+    let here = c.set_iv.ensures.refused v z stands in (
+      here.0,
+      refuses_iv (label_seen c.args.label) v c.set_iv.result (parts_of (fields_seen c.args.header.now, o)) (not c.is_empty-barred.result) (sym c.is_parameter-5.ensures ∙ c.if-is_parameter-5.true)
+          (filled (out-Header c.args.header.now).partial_iv.items _ c.is_empty-barred.result refl (search rules)) here.1,
+    )
+
+pub returns-then-is_parameter-5-clause-one_iv : goal.returns-then-is_parameter-5-clause-one_iv
+returns-then-is_parameter-5-clause-one_iv c = subst (λ h. HasOneIv (fields_level h)) (sym (out-roll-Header _))
+    (stays_alone c.set_iv.result (out-Header c.args.header.now).iv c.set_iv.new.field (out-Header c.args.header.now).partial_iv.items (not c.is_empty-barred.result) c.set_iv.ensures.alone c.set_iv.ensures.kept
+    (empty (out-Header c.args.header.now).partial_iv.items _ c.is_empty-barred.result refl (search rules)) c.requires.one_iv)
+
+pub returns-then-is_parameter-6-clause-refused : goal.returns-then-is_parameter-6-clause-refused
+returns-then-is_parameter-6-clause-refused c = λ o v z stands.
+    let here = c.set_iv-then-is_parameter-6.ensures.refused v z stands in (
+      here.0,
+      refuses_partial_iv (label_seen c.args.label) v c.set_iv-then-is_parameter-6.result (parts_of (fields_seen c.args.header.now, o)) (not c.is_empty-barred-then-is_parameter-6.result) (sym c.is_parameter-6.ensures ∙ c.if-is_parameter-6.true)
+          (filled (out-Header c.args.header.now).iv.items _ c.is_empty-barred-then-is_parameter-6.result refl (search rules)) here.1,
+    )
+
+pub returns-then-is_parameter-6-clause-one_iv : goal.returns-then-is_parameter-6-clause-one_iv
+returns-then-is_parameter-6-clause-one_iv c = subst (λ h. HasOneIv (fields_level h)) (sym (out-roll-Header _))
+    (swapped
+    (stays_alone c.set_iv-then-is_parameter-6.result (out-Header c.args.header.now).partial_iv c.set_iv-then-is_parameter-6.new.field (out-Header c.args.header.now).iv.items (not c.is_empty-barred-then-is_parameter-6.result) c.set_iv-then-is_parameter-6.ensures.alone c.set_iv-then-is_parameter-6.ensures.kept
+    (empty (out-Header c.args.header.now).iv.items _ c.is_empty-barred-then-is_parameter-6.result refl (search rules)) (swapped c.requires.one_iv)))
+
+pub returns-clause-takes : goal.returns-clause-takes
+returns-clause-takes c = λ o v z stands.
+    let here = c.in_ok-value.ensures.reads v z stands in
+    let rest = (out-Header c.args.header.now).rest.items in
+    let pushed : map entry_seen c.push.new.self.items ≡ map entry_seen (rest ++ (c.args.label, c.in_ok-value.value) ∷ []) = ap (map entry_seen) c.in_ok-push.ensures.items in (
+      here.0,
+      subst (λ f. Adds names (fields (optional any) (optional any)) (label_seen c.args.label) v (parts_of (fields_seen c.args.header.now, o)) (parts_of (f, o))) (sym (ap fields_level (out-roll-Header _)))
+          (adds_rest (label_seen c.args.label) v (parts_of (fields_seen c.args.header.now, o)) _ (sym c.is_parameter.ensures ∙ c.if-is_parameter.false) (sym c.is_parameter-2.ensures ∙ c.if-is_parameter-2.false) (sym c.is_parameter-3.ensures ∙ c.if-is_parameter-3.false)
+          (sym c.is_parameter-4.ensures ∙ c.if-is_parameter-4.false) (sym c.is_parameter-5.ensures ∙ c.if-is_parameter-5.false) (sym c.is_parameter-6.ensures ∙ c.if-is_parameter-6.false) (sym c.is_parameter-7.ensures ∙ c.if-is_parameter-7.false) c.requires.other refl
+          (pushed ∙ map_push entry_seen rest (c.args.label, c.in_ok-value.value) ∙ ap (λ v. map entry_seen rest ++ (label_seen c.args.label, v) ∷ []) here.1)),
+    )

@@ -1,0 +1,211 @@
+//! The builder of headers (RFC 8152, section 3).
+
+ghost use Rattle.std.specs.Prelude.{◌≡◌, IfOk, IfErr, ◌<◌, Some, string_bytes};
+ghost use Rattle.coset_shape.specs.declared.error.CoseError.TheVariants as errors;
+ghost use Rattle.coset_core.specs.Views.{algorithm_seen, countersignature_seen, critical_seen, header_seen, signature_seen};
+ghost use Rattle.coset_core.specs.Fields.{algorithm};
+ghost use Rattle.coset_label.specs.Names.{number, word, assigned};
+ghost use Rattle.coset_iana.specs.Algorithm as algorithms;
+ghost use Rattle.coset_iana.specs.CoapContentFormat as content_formats;
+ghost use Rattle.coset_iana.specs.HeaderParameter as parameters;
+ghost use Rattle.coset_core.specs.Headers.{empty_header};
+ghost use Rattle.coset_value.specs.View.{view};
+ghost use Rattle.coset_core.specs.Built.{with_algorithm, and_critical, with_content_type, with_key_id, with_iv, with_partial_iv, with_countersignature0_v2, and_counter_signature, and_countersignature_v2, and_pair, IsOtherLabel};
+
+use crate::countersignature::CoseCountersignature;
+use crate::header::Header;
+use crate::signature::CoseSignature;
+use coset_cbor::value::Value;
+use coset_iana::{CoapContentFormat, HeaderParameter};
+use coset_label::{Algorithm, Label, RegisteredLabel, RegisteredLabelWithPrivate, iana};
+use coset_shape::Result;
+use std::alloc::Global;
+use std::marker::Model;
+
+/// Makes a [`Header`], field by field. Contracts see it as the header that [`build`](HeaderBuilder::build) gives.
+#[derive(Debug, Drop)]
+pub struct HeaderBuilder(Header);
+
+impl Model for HeaderBuilder {
+    ghost use Rattle.std.specs.Coded.{codes};
+    ghost use Rattle.coset_core.specs.contracts.header.Header as contracts;
+    ghost use Rattle.coset_core.specs.declared.header.Header.{Header};
+
+    ghost Value = { Header };
+
+    ghost coded = { Prim.hlevel (codes, contracts.the_row.coded) };
+
+    ghost view = { λ b. b.0 };
+
+    ghost inverse = { λ v. record { 0 = v } };
+}
+
+impl HeaderBuilder {
+    /// An empty header. It takes no memory.
+    pub fn new(alloc: Global) -> HeaderBuilder
+        ensures { header_seen result ≡ empty_header }
+    {
+        HeaderBuilder(Header::new(alloc))
+    }
+
+    /// The header that was made.
+    pub fn build(self) -> Header
+        ensures { result ≡ self }
+    {
+        self.0
+    }
+
+    /// Sets the algorithm (label 1).
+    pub fn algorithm(self, algorithm: iana::Algorithm) -> HeaderBuilder
+        ensures { header_seen result
+            ≡ with_algorithm (assigned (algorithms.number algorithm)) (header_seen self) }
+    {
+        self.algorithm_label(RegisteredLabelWithPrivate::Assigned(algorithm))
+    }
+
+    /// Sets the algorithm (label 1) to a label, which may be for private use, or a text.
+    pub fn algorithm_label(mut self, label: Algorithm) -> HeaderBuilder
+        ensures { header_seen result ≡ with_algorithm (algorithm_seen label) (header_seen self) }
+    {
+        self.0.alg = Some(label);
+        self
+    }
+
+    /// Adds a label that must be understood (label 2).
+    ///
+    /// # Errors
+    /// `OutOfMemory` alone.
+    pub fn add_critical(self, parameter: HeaderParameter) -> Result<HeaderBuilder>
+        ensures ok { IfOk result (λ b. header_seen b
+            ≡ and_critical (assigned (parameters.number parameter)) (header_seen self)) }
+        ensures memory { IfErr result (λ e. e ≡ errors.OutOfMemory) }
+    {
+        self.add_critical_label(RegisteredLabelWithPrivate::Assigned(parameter))
+    }
+
+    /// Adds a label that must be understood (label 2), which may be for private use, or a text.
+    ///
+    /// # Errors
+    /// `OutOfMemory` alone.
+    pub fn add_critical_label(
+        mut self,
+        label: RegisteredLabelWithPrivate<HeaderParameter>,
+    ) -> Result<HeaderBuilder>
+        ensures ok { IfOk result (λ b. header_seen b
+            ≡ and_critical (critical_seen label) (header_seen self)) }
+        ensures memory { IfErr result (λ e. e ≡ errors.OutOfMemory) }
+    {
+        self.0.crit.push(label)?;
+        Ok(self)
+    }
+
+    /// Sets the content type (label 3) to a format of CoAP.
+    pub fn content_format(mut self, format: CoapContentFormat) -> HeaderBuilder
+        ensures { header_seen result
+            ≡ with_content_type (number (content_formats.number format)) (header_seen self) }
+    {
+        self.0.content_type = Some(RegisteredLabel::Assigned(format));
+        self
+    }
+
+    /// Sets the content type (label 3) to a text. That it names a media type is asked where a header is read.
+    pub fn content_type(mut self, content_type: String) -> HeaderBuilder
+        ensures { header_seen result ≡ with_content_type (word (string_bytes content_type))
+            (header_seen self) }
+    {
+        self.0.content_type = Some(RegisteredLabel::Text(content_type));
+        self
+    }
+
+    /// Sets the key's identifier (label 4).
+    pub fn key_id(mut self, key_id: Vec<u8>) -> HeaderBuilder
+        ensures { header_seen result ≡ with_key_id key_id.items (header_seen self) }
+    {
+        self.0.key_id = key_id;
+        self
+    }
+
+    /// Sets the IV (label 5), and empties the Partial IV.
+    pub fn iv(mut self, iv: Vec<u8>) -> HeaderBuilder
+        ensures { header_seen result ≡ with_iv iv.items (header_seen self) }
+    {
+        self.0.iv = iv;
+        self.0.partial_iv.clear();
+        self
+    }
+
+    /// Sets the Partial IV (label 6), and empties the IV.
+    pub fn partial_iv(mut self, partial_iv: Vec<u8>) -> HeaderBuilder
+        ensures { header_seen result ≡ with_partial_iv partial_iv.items (header_seen self) }
+    {
+        self.0.partial_iv = partial_iv;
+        self.0.iv.clear();
+        self
+    }
+
+    /// Adds a counter signature (label 7).
+    ///
+    /// # Errors
+    /// `OutOfMemory` alone.
+    pub fn add_counter_signature(mut self, signature: CoseSignature) -> Result<HeaderBuilder>
+        ensures ok { IfOk result (λ b. header_seen b
+            ≡ and_counter_signature (signature_seen signature) (header_seen self)) }
+        ensures memory { IfErr result (λ e. e ≡ errors.OutOfMemory) }
+    {
+        self.0.counter_signatures.push(signature)?;
+        Ok(self)
+    }
+
+    /// Adds a countersignature of version 2 (label 11).
+    ///
+    /// # Errors
+    /// `OutOfMemory` alone.
+    pub fn add_countersignature_v2(
+        mut self,
+        signature: CoseCountersignature,
+    ) -> Result<HeaderBuilder>
+        ensures ok { IfOk result (λ b. header_seen b
+            ≡ and_countersignature_v2 (countersignature_seen signature) (header_seen self)) }
+        ensures memory { IfErr result (λ e. e ≡ errors.OutOfMemory) }
+    {
+        self.0.countersignatures_v2.push(signature)?;
+        Ok(self)
+    }
+
+    /// Sets the abbreviated countersignature of version 2 (label 12).
+    pub fn countersignature0_v2(mut self, signature: Vec<u8>) -> HeaderBuilder
+        ensures { header_seen result
+            ≡ with_countersignature0_v2 signature.items (header_seen self) }
+    {
+        self.0.countersignature0_v2 = Some(signature);
+        self
+    }
+
+    /// Adds a pair with a number as its label, which is none of 1 to 7, and neither 11 nor 12: those have calls of their
+    /// own. A header with a label twice isn't written (`DuplicateMapKey`).
+    ///
+    /// # Errors
+    /// `OutOfMemory` alone.
+    pub fn value(mut self, label: i64, value: Value) -> Result<HeaderBuilder>
+        requires { IsOtherLabel label }
+        ensures ok { IfOk result (λ b. header_seen b
+            ≡ and_pair (number label) (view value) (header_seen self)) }
+        ensures memory { IfErr result (λ e. e ≡ errors.OutOfMemory) }
+    {
+        self.0.rest.push((Label::Int(label), value))?;
+        Ok(self)
+    }
+
+    /// Adds a pair with a text as its label. A header with a label twice isn't written (`DuplicateMapKey`).
+    ///
+    /// # Errors
+    /// `OutOfMemory` alone.
+    pub fn text_value(mut self, label: String, value: Value) -> Result<HeaderBuilder>
+        ensures ok { IfOk result (λ b. header_seen b
+            ≡ and_pair (word (string_bytes label)) (view value) (header_seen self)) }
+        ensures memory { IfErr result (λ e. e ≡ errors.OutOfMemory) }
+    {
+        self.0.rest.push((Label::Text(label), value))?;
+        Ok(self)
+    }
+}

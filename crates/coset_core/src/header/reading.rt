@@ -1,0 +1,487 @@
+//! Reading headers.
+//!
+//! A header is filled where it stands, and an error is kept in one place for all that reads it, since what is answered by
+//! value takes its size in stack at each function that it passes, and input chooses how deep headers lie within one another.
+//! Each reader leaves the input just behind its item, whatever it answers, so that each byte is passed once at any depth. Of
+//! `layers` each byte string of a protected header takes one.
+
+ghost use Rattle.std.specs.Prelude.{MatchOption, ◌≡◌, [], map, option_map, OnOk, IfOk, IfErr, ◌⊎◌, ◌≤◌, ◌<◌, Option, true, false, IsSome, IsErrAnd, OnErr, Err, Some};
+ghost use Rattle.coset_shape.specs.declared.error.CoseError.TheVariants as errors;
+ghost use Rattle.coset_shape.specs.declared.error.CoseError.TheVariants.{DuplicateMapKey};
+ghost use Rattle.coset_shape.specs.InPlace.{Fills};
+ghost use Rattle.coset_core.specs.FieldsView.{fields_seen, signatures_held};
+ghost use Rattle.coset_core.specs.Views.{algorithm_seen, header_seen, signature_seen};
+ghost use Rattle.coset_shape.specs.Answers.{Reads};
+ghost use Rattle.coset_shape.specs.Errors.{IsUnexpected, UnlessMemory, answer, filled};
+ghost use Rattle.coset_core.specs.Fields.{FieldsSeen, Versions, algorithm, names, fields, parts_of, same_name, HasOneIv, bars};
+ghost use Rattle.coset_value.specs.Item.{Item, Pairs, dict};
+ghost use Rattle.coset_shape.specs.Inputs.{State, state, GoesBehind, ReadsAt, length_left, input_size, pairs_size, pairs_turns, PairsWithin, items_size, Stands, EntersMap, EntersOnes};
+ghost use Rattle.coset_shape.specs.Maps.{is_filled, optional, listed, Adds, Refuses};
+ghost use Rattle.coset_shape.specs.Shape.{any, bstr, filled_bstr, any_number, one_or_many};
+ghost use Rattle.coset_label.specs.Names.{number};
+ghost use Rattle.coset_label.specs.Views.{label_seen};
+ghost use Rattle.coset_shape.specs.declared.input.InputPairs.{InputPairs};
+ghost use Rattle.coset_iana.specs.HeaderParameter as parameters;
+ghost use Rattle.coset_core.specs.Filling.{FillsFields, FillsSome, Keeps, NamesNoVersion, WalksTo, held_of, label_of};
+ghost use Rattle.coset_core.specs.FieldValues.{TakesValue, RefusesValue};
+ghost use Rattle.coset_core.specs.Headers.{empty_header, layered_header, layered_signature};
+ghost use Rattle.coset_core.specs.Written.{one};
+
+use crate::content_type::set_content_type;
+use crate::countersignature::countersignatures_of;
+use crate::critical::set_critical;
+use crate::header::Header;
+use crate::header::writing::ask_distinct;
+use crate::signature::{CoseSignature, fill_each, fill_one, let_go};
+use coset_iana::{EnumI64, HeaderParameter};
+use coset_label::{Algorithm, Label};
+use coset_shape::error::{Refused, keep_error};
+use coset_shape::input::{Input, InputItems, InputPairs};
+use coset_shape::traits::FromPull;
+use coset_shape::{CoseError, Result};
+use std::alloc::Global;
+
+/// Whether the label is that of this parameter.
+fn is_parameter(label: &Label, parameter: HeaderParameter) -> bool
+    ensures { result ≡ same_name (number (parameters.number parameter)) (label_seen label.now) }
+{
+    match label {
+        Label::Int(number) => *number == parameter.to_i64(),
+        Label::Text(_) => false,
+    }
+}
+
+/// Reads an algorithm.
+#[tactic(auto, unfolding(crate::specs::Fields::algorithm))]
+fn read_algorithm(alloc: Global, input: &mut Input<'_>) -> Result<Algorithm>
+    ensures shrinks { length_left (state input.new) ≤ length_left (state input.old) }
+    ensures reads { ReadsAt (state input.old) (state input.new)
+        (λ v. Reads algorithm algorithm_seen v result) }
+{
+    Algorithm::from_input(alloc, input)
+}
+
+/// Sets the algorithm, where there is none yet.
+fn set_algorithm(alloc: Global, field: &mut Option<Algorithm>, input: &mut Input<'_>) -> Result<()>
+    ensures shrinks { length_left (state input.new) ≤ length_left (state input.old) }
+    ensures takes { ReadsAt (state input.old) (state input.new) (λ v. OnOk result
+        (TakesValue (optional algorithm) v
+        (option_map algorithm_seen field.old) (option_map algorithm_seen field.new))) }
+    ensures refused { ReadsAt (state input.old) (state input.new) (λ v. IfErr result
+        (λ e. UnlessMemory e (RefusesValue (optional algorithm) v
+        (option_map algorithm_seen field.old)))) }
+    ensures kept { OnErr result (field.new ≡ field.old) }
+{
+    if field.is_some() {
+        return Err(input.repeated());
+    }
+    *field = Some(read_algorithm(alloc, input)?);
+    Ok(())
+}
+
+/// Sets the bytes of a field, where there are none yet.
+fn set_bytes(alloc: Global, field: &mut Vec<u8>, input: &mut Input<'_>) -> Result<()>
+    ensures shrinks { length_left (state input.new) ≤ length_left (state input.old) }
+    ensures takes { ReadsAt (state input.old) (state input.new) (λ v. OnOk result
+        (TakesValue (listed filled_bstr) v field.old.items field.new.items)) }
+    ensures refused { ReadsAt (state input.old) (state input.new) (λ v. IfErr result
+        (λ e. UnlessMemory e (RefusesValue (listed filled_bstr) v field.old.items))) }
+    ensures kept { OnErr result (field.new ≡ field.old) }
+{
+    if !field.is_empty() {
+        return Err(input.repeated());
+    }
+    *field = input.filled_bytes(alloc)?;
+    Ok(())
+}
+
+/// Sets bytes that may be empty, where there are none yet.
+fn set_bstr(alloc: Global, field: &mut Option<Vec<u8>>, input: &mut Input<'_>) -> Result<()>
+    ensures shrinks { length_left (state input.new) ≤ length_left (state input.old) }
+    ensures takes { ReadsAt (state input.old) (state input.new) (λ v. OnOk result
+        (TakesValue (optional bstr) v
+        (option_map (λ b. b.items) field.old) (option_map (λ b. b.items) field.new))) }
+    ensures refused { ReadsAt (state input.old) (state input.new) (λ v. IfErr result
+        (λ e. UnlessMemory e (RefusesValue (optional bstr) v
+        (option_map (λ b. b.items) field.old)))) }
+    ensures kept { OnErr result (field.new ≡ field.old) }
+{
+    if field.is_some() {
+        return Err(input.repeated());
+    }
+    *field = Some(input.bytes(alloc, "bstr")?);
+    Ok(())
+}
+
+/// Sets IV or Partial IV, where it isn't there yet; `barred` tells whether the other is.
+fn set_iv(alloc: Global, field: &mut Vec<u8>, barred: bool, input: &mut Input<'_>) -> Result<()>
+    ensures shrinks { length_left (state input.new) ≤ length_left (state input.old) }
+    ensures takes { ReadsAt (state input.old) (state input.new) (λ v. OnOk result
+        (TakesValue (listed filled_bstr) v field.old.items field.new.items)) }
+    ensures alone { OnOk result (barred ≡ false) }
+    ensures refused { ReadsAt (state input.old) (state input.new) (λ v. IfErr result
+        (λ e. UnlessMemory e (λ f. RefusesValue (listed filled_bstr) v field.old.items f
+        ⊎ ((barred ≡ true) × IsUnexpected f)))) }
+    ensures kept { OnErr result (field.new ≡ field.old) }
+{
+    if !field.is_empty() {
+        return Err(input.repeated());
+    }
+    let bytes = input.filled_bytes(alloc)?;
+    if barred {
+        return Err(CoseError::UnexpectedItem(
+            "IV and partial-IV specified",
+            "only one of IV and partial IV",
+        ));
+    }
+    *field = bytes;
+    Ok(())
+}
+
+/// Takes one more value of a header, by its label, which is neither 7 nor 11, and goes behind it. Whether labels of the
+/// rest repeat isn't asked.
+///
+/// # Errors
+/// `OutOfMemory`; `DuplicateMapKey` where a field has a value already; a fault of its value; or `UnexpectedItem` where
+/// it is the second of IV and Partial IV. The header is then as before.
+fn put(header: &mut Header, alloc: Global, label: Label, input: &mut Input<'_>) -> Result<()>
+    requires other { NamesNoVersion (label_seen label) }
+    requires one_iv { HasOneIv (fields_seen header.old) }
+    ensures shrinks { length_left (state input.new) ≤ length_left (state input.old) }
+    ensures takes { (o : Versions (Option Item)) → ReadsAt (state input.old) (state input.new)
+        (λ v. OnOk result
+        (Adds names (fields (optional any) (optional any)) (label_seen label) v
+        (parts_of (fields_seen header.old, o)) (parts_of (fields_seen header.new, o)))) }
+    ensures refused { (o : Versions (Option Item)) → ReadsAt (state input.old) (state input.new)
+        (λ v. IfErr result (λ e. UnlessMemory e (λ f. Refuses names
+        (fields (optional any) (optional any)) (label_seen label) v
+        (parts_of (fields_seen header.old, o)) f
+        ⊎ bars (label_seen label) (parts_of (fields_seen header.old, o)) f))) }
+    ensures kept { OnErr result (fields_seen header.new ≡ fields_seen header.old) }
+    ensures one_iv { HasOneIv (fields_seen header.new) }
+    ensures others { signatures_held header.new ≡ signatures_held header.old }
+{
+    if is_parameter(&label, HeaderParameter::Alg) {
+        return set_algorithm(alloc, &mut header.alg, input);
+    }
+    if is_parameter(&label, HeaderParameter::Crit) {
+        return set_critical(alloc, &mut header.crit, input);
+    }
+    if is_parameter(&label, HeaderParameter::ContentType) {
+        return set_content_type(alloc, &mut header.content_type, input);
+    }
+    if is_parameter(&label, HeaderParameter::Kid) {
+        return set_bytes(alloc, &mut header.key_id, input);
+    }
+    if is_parameter(&label, HeaderParameter::Iv) {
+        let barred = !header.partial_iv.is_empty();
+        return set_iv(alloc, &mut header.iv, barred, input);
+    }
+    if is_parameter(&label, HeaderParameter::PartialIv) {
+        let barred = !header.iv.is_empty();
+        return set_iv(alloc, &mut header.partial_iv, barred, input);
+    }
+    if is_parameter(&label, HeaderParameter::CounterSignature0V2) {
+        return set_bstr(alloc, &mut header.countersignature0_v2, input);
+    }
+    let value = input.value(alloc)?;
+    header.rest.push((label, value))?;
+    Ok(())
+}
+
+/// A version of counter signatures: the values of its label hold them.
+#[derive(Clone, Copy)]
+pub(crate) enum Version {
+    /// Those of label 7 (RFC 8152, section 4.5).
+    V1,
+    /// Those of label 11.
+    V2,
+}
+
+/// The version whose counter signatures have this label, or `None` where it is another label.
+fn version_of(label: &Label) -> Option<Version>
+    ensures { MatchOption result (NamesNoVersion (label_seen label.now))
+        (λ version. same_name (label_of version) (label_seen label.now) ≡ true) }
+{
+    if is_parameter(label, HeaderParameter::CounterSignature) {
+        return Some(Version::V1);
+    }
+    if is_parameter(label, HeaderParameter::CounterSignatureV2) {
+        return Some(Version::V2);
+    }
+    None
+}
+
+/// Reads pairs into a header up to one that holds counter signatures, whose value then stands at the input; or all that
+/// are left. It says of which version they are.
+///
+/// # Errors
+/// `OutOfMemory`, or the fault of a pair, which is passed.
+fn fill_some(
+    header: &mut Header,
+    alloc: Global,
+    pairs: &mut InputPairs,
+    input: &mut Input<'_>,
+) -> Result<Option<Version>>
+    requires one_iv { HasOneIv (fields_seen header.old) }
+    ensures one_iv { HasOneIv (fields_seen header.new) }
+    ensures others { signatures_held header.new ≡ signatures_held header.old }
+    ensures shrinks { length_left (state input.new) ≤ length_left (state input.old) }
+    ensures size { pairs_size pairs.new (state input.new) ≤ pairs_size pairs.old (state input.old) }
+    ensures value { IfOk result (λ o. IsSome o → input_size (state input.new) ≤ pairs_size pairs.old
+        (state input.old)) }
+    ensures turns { IfOk result (λ o. IsSome o → pairs_turns pairs.new (state input.new) <
+        pairs_turns pairs.old (state input.old)) }
+    ensures fills { (all ps : Pairs) (o : Versions (Option Item)) (z : State)
+        → WalksTo all (fields_seen header.old) o ps → PairsWithin pairs.old ps (state input.old) z
+        → FillsSome all o z (fields_seen header.new) (state input.new) pairs.new result }
+{
+    while let Some(label) = pairs.next_key::<Label>(alloc, input)? {
+        if let Some(version) = version_of(&label) {
+            return Ok(Some(version));
+        }
+        put(header, alloc, label, input)?;
+    }
+    Ok(None)
+}
+
+/// The error of labels of the rest that repeat, or that there was no memory to ask for them. A value of counter signatures
+/// that stands at the input is passed.
+#[cold]
+fn refuse(
+    filled: Result<Option<Version>>,
+    input: &mut Input<'_>,
+    error: CoseError,
+) -> Result<Option<Version>>
+    ensures shrinks { length_left (state input.new) ≤ length_left (state input.old) }
+    ensures passes { (all : Pairs) (o : Versions (Option Item)) (f : FieldsSeen) (z : State)
+        (m : InputPairs) → FillsSome all o z f (state input.old) m filled
+        → (left : Pairs) × PairsWithin m left (state input.new) z }
+    ensures refused { IsErrAnd result (λ e. e ≡ error) }
+{
+    let Ok(at_value) = filled else {
+        return Err(error);
+    };
+    if at_value.is_some() {
+        input.pass();
+    }
+    Err(error)
+}
+
+/// As many pairs as [`fill_some`] reads. That no label of the rest repeats is asked before a fault is answered, before
+/// counter signatures are read, and in the end.
+///
+/// # Errors
+/// `OutOfMemory`, or the first fault of the pairs.
+#[inline(never)]
+fn fill_fields(
+    header: &mut Header,
+    alloc: Global,
+    pairs: &mut InputPairs,
+    input: &mut Input<'_>,
+    error: &mut CoseError,
+) -> Result<Option<Version>, Refused>
+    requires one_iv { HasOneIv (fields_seen header.old) }
+    ensures one_iv { HasOneIv (fields_seen header.new) }
+    ensures others { signatures_held header.new ≡ signatures_held header.old }
+    ensures shrinks { length_left (state input.new) ≤ length_left (state input.old) }
+    ensures size { pairs_size pairs.new (state input.new) ≤ pairs_size pairs.old (state input.old) }
+    ensures value { IfOk result (λ o. IsSome o → input_size (state input.new) ≤ pairs_size pairs.old
+        (state input.old)) }
+    ensures turns { IfOk result (λ o. IsSome o → pairs_turns pairs.new (state input.new) <
+        pairs_turns pairs.old (state input.old)) }
+    ensures fills { (all ps : Pairs) (o : Versions (Option Item)) (z : State)
+        → WalksTo all (fields_seen header.old) o ps → PairsWithin pairs.old ps (state input.old) z
+        → FillsFields all o z (fields_seen header.new) (state input.new) pairs.new
+        (answer error.new result) }
+{
+    let filled = fill_some(header, alloc, pairs, input);
+    let distinct = match ask_distinct(alloc, &header.rest) {
+        Ok(()) => filled,
+        Err(repeated) => refuse(filled, input, repeated),
+    };
+    keep_error(distinct, error)
+}
+
+/// The pairs of a map.
+///
+/// # Errors
+/// `UnexpectedItem`: the item is no map; it is passed.
+#[inline(never)]
+fn begin_pairs(
+    pairs: &mut InputPairs,
+    input: &mut Input<'_>,
+    error: &mut CoseError,
+) -> Result<(), Refused>
+    ensures shrinks { length_left (state input.new) ≤ length_left (state input.old) }
+    ensures strictly { OnOk result (GoesBehind (state input.old) (state input.new)) }
+    ensures deeper { OnOk result (pairs_size pairs.new (state input.new)
+        < input_size (state input.old)) }
+    ensures enters { (v : Item) (z : State) → Stands v (state input.old) z
+        → EntersMap v (state input.new) z (filled (λ _. pairs.new) error.new result) }
+{
+    *pairs = keep_error(input.enter_map(), error)?;
+    Ok(())
+}
+
+/// Reads a header into an empty one.
+///
+/// # Errors
+/// `OutOfMemory`, or the first fault found, from the first pair on.
+#[cycle(read)]
+pub(crate) fn fill_header(
+    header: &mut Header,
+    alloc: Global,
+    input: &mut Input<'_>,
+    layers: usize,
+    error: &mut CoseError,
+) -> Result<(), Refused>
+    requires empty { header_seen header.old ≡ empty_header }
+    ensures shrinks { length_left (state input.new) ≤ length_left (state input.old) }
+    ensures strictly { OnOk result (GoesBehind (state input.old) (state input.new)) }
+    ensures fills { (v : Item) (z : State) → Stands v (state input.old) z → (state input.new ≡ z)
+        × Fills (layered_header layers) v (header_seen header.new)
+        (answer error.new result) }
+{
+    let mut pairs = InputPairs::none();
+    begin_pairs(&mut pairs, input, error)?;
+    let filled = fill_pairs(header, alloc, &mut pairs, input, layers, error);
+    pairs.finish(input);
+    filled
+}
+
+/// Reads the pairs of a map into an empty header.
+///
+/// # Errors
+/// `OutOfMemory`, or the fault of the first pair that has one.
+#[cycle(read)]
+fn fill_pairs(
+    header: &mut Header,
+    alloc: Global,
+    pairs: &mut InputPairs,
+    input: &mut Input<'_>,
+    layers: usize,
+    error: &mut CoseError,
+) -> Result<(), Refused>
+    requires empty { header_seen header.old ≡ empty_header }
+    ensures shrinks { length_left (state input.new) ≤ length_left (state input.old) }
+    ensures fills { (all : Pairs) (z : State) → PairsWithin pairs.old all (state input.old) z
+        → ((left : Pairs) × PairsWithin pairs.new left (state input.new) z)
+        × Fills (layered_header layers) (dict all) (header_seen header.new)
+        (answer error.new result) }
+{
+    while let Some(version) = fill_fields(header, alloc, pairs, input, error)? {
+        if holds(header, version) {
+            return refuse_second(input, error);
+        }
+        let mut read = Vec::new(alloc);
+        if let Err(refused) = fill_counter_signatures(&mut read, alloc, input, layers, error) {
+            // In a call of its own: what drops a signature takes more stack than a level of reading.
+            let_go(read, Vec::new(alloc));
+            return Err(refused);
+        }
+        keep_signatures(header, version, alloc, read, error)?;
+    }
+    Ok(())
+}
+
+/// Whether the header holds counter signatures of this version.
+fn holds(header: &Header, version: Version) -> bool
+    ensures { result ≡ is_filled (held_of version header.now) }
+{
+    match version {
+        Version::V1 => !header.counter_signatures.is_empty(),
+        Version::V2 => !header.countersignatures_v2.is_empty(),
+    }
+}
+
+/// Keeps the counter signatures that were read as those of this version.
+///
+/// # Errors
+/// `OutOfMemory` alone.
+#[inline(never)]
+fn keep_signatures(
+    header: &mut Header,
+    version: Version,
+    alloc: Global,
+    read: Vec<CoseSignature>,
+    error: &mut CoseError,
+) -> Result<(), Refused>
+    ensures keeps { OnOk result
+        (Keeps version (map signature_seen read.items) header.old header.new) }
+    ensures refused { OnErr result (error.new ≡ errors.OutOfMemory) }
+    ensures kept { OnOk result (error.new ≡ error.old) }
+{
+    match version {
+        Version::V1 => header.counter_signatures = read,
+        Version::V2 => {
+            let all = keep_error(countersignatures_of(alloc, read), error)?;
+            header.countersignatures_v2 = all;
+        }
+    }
+    Ok(())
+}
+
+/// The error of a map with one of the labels 7 and 11 twice; the second value is passed.
+#[cold]
+#[inline(never)]
+fn refuse_second(input: &mut Input<'_>, error: &mut CoseError) -> Result<(), Refused>
+    ensures shrinks { length_left (state input.new) ≤ length_left (state input.old) }
+    ensures passes { (v : Item) (z : State) → Stands v (state input.old) z → (state input.new ≡ z)
+        × (answer error.new result ≡ Err DuplicateMapKey) }
+{
+    input.pass();
+    *error = CoseError::DuplicateMapKey;
+    Err(Refused)
+}
+
+/// The members of an array of one signature or of several, and whether it is the former.
+///
+/// # Errors
+/// `UnexpectedItem`: the item is neither; it is passed.
+#[inline(never)]
+fn begin_ones(
+    members: &mut InputItems,
+    input: &mut Input<'_>,
+    error: &mut CoseError,
+) -> Result<bool, Refused>
+    ensures shrinks { length_left (state input.new) ≤ length_left (state input.old) }
+    ensures deeper { OnOk result
+        (items_size members.new (state input.new) < input_size (state input.old)) }
+    ensures enters { (v : Item) (z : State) → Stands v (state input.old) z
+        → EntersOnes v (state input.new) z (filled (λ one. (one, members.new)) error.new result) }
+{
+    let (one, found) = keep_error(input.enter_ones(), error)?;
+    *members = found;
+    Ok(one)
+}
+
+/// Reads the value of label 7 or 11 into an empty list: one counter signature, or several.
+///
+/// # Errors
+/// `OutOfMemory`; `UnexpectedItem` where the item holds none; or the fault of the first that has one.
+#[cycle(read)]
+fn fill_counter_signatures(
+    all: &mut Vec<CoseSignature>,
+    alloc: Global,
+    input: &mut Input<'_>,
+    layers: usize,
+    error: &mut CoseError,
+) -> Result<(), Refused>
+    requires empty { map signature_seen all.old.items ≡ [] }
+    ensures shrinks { length_left (state input.new) ≤ length_left (state input.old) }
+    ensures fills { (v : Item) (z : State) → Stands v (state input.old) z
+        → (state input.new ≡ z) × Fills (one_or_many (any_number (layered_signature layers))) v
+        (map signature_seen all.new.items)
+        (answer error.new result) }
+{
+    let mut members = InputItems::none();
+    let one = begin_ones(&mut members, input, error)?;
+    let filled = if one {
+        fill_one(all, alloc, &mut members, input, layers, error)
+    } else {
+        fill_each(all, alloc, &mut members, input, layers, error)
+    };
+    members.finish(input);
+    filled
+}

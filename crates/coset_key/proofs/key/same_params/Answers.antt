@@ -1,8 +1,0 @@
-use Rattle.std.proofs.Common.{◌∙◌, sym}
-use Rattle.std.specs.Cmp.Derive.Mapped.{pointwise-map}
-use Rattle.coset_core.specs.Same.{entry_eq}
-use Rattle.coset_core.specs.Views.{entry_seen}
-use Rattle.coset_key.proofs.key.same_params.Goals as goal
-
-pub returns : goal.returns
-returns c = c.eq.ensures ∙ sym (pointwise-map entry_seen entry_eq c.args.a.now.items c.args.b.now.items)

@@ -1,0 +1,16 @@
+use Rattle.std.proofs.Common.{subst, option_map, map, ap, ◌∙◌, Some}
+use Rattle.coset_value.specs.Item.{array, bytes}
+use Rattle.coset_shape.specs.Encoding.{Encodes, five_places}
+use Rattle.coset_shape.specs.Shape.{bstr, or_nil, images}
+use Rattle.coset_shape.proofs.Encoding.{images-mapped}
+use Rattle.coset_core.specs.Headers.{header, protected}
+use Rattle.coset_recipient.specs.Mac.{mac_seen}
+use Rattle.coset_recipient.specs.Recipient.{recipient}
+use Rattle.coset_recipient.specs.RecipientView.{recipient_seen}
+use Rattle.coset_recipient.proofs.mac.CoseMacCodec.write.Goals as goal
+
+pub returns : goal.returns
+returns c =
+    let m = mac_seen c.args.self.now in
+    subst (λ o. Encodes (five_places (protected.image m.protected) (header.image m.unprotected) ((or_nil bstr).image m.payload) (Some (bytes m.tag)) (option_map array o)) c.args.out.now.items c.encode_five.new.out.items c.encode_five.result)
+    (images-mapped recipient.image recipient_seen c.deref.result.now ∙ ap (λ xs. images recipient.image (map recipient_seen xs)) c.deref.ensures.value) c.encode_five.ensures

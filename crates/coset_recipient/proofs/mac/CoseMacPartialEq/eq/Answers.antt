@@ -1,8 +1,0 @@
-use Rattle.std.proofs.Common.{◌∙◌, sym}
-use Rattle.coset_recipient.specs.Equality.{mac_eq-decides}
-use Rattle.coset_recipient.proofs.mac.CoseMacPartialEq.eq.Goals as goal
-
-pub returns-clause-equal : goal.returns-clause-equal
-returns-clause-equal c =
-    let decides = mac_eq-decides _ _ in
-    (λ e. decides.0 (sym c.same.ensures ∙ e), λ e. c.same.ensures ∙ decides.1 e)

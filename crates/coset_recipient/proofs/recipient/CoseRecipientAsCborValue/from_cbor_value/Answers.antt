@@ -1,5 +1,0 @@
-use Rattle.std.proofs.Common.{refl}
-use Rattle.coset_recipient.proofs.recipient.CoseRecipientAsCborValue.from_cbor_value.Goals as goal
-
-pub returns : goal.returns
-returns c = (c.read_recipient.ensures.reads _ _ (refl, refl)).1

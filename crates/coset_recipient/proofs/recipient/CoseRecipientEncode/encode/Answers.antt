@@ -1,8 +1,0 @@
-use Rattle.std.proofs.Common.{sym, subst}
-use Rattle.coset_shape.specs.Encoding.{Encodes}
-use Rattle.coset_recipient.specs.RecipientLaws.{recipient-written}
-use Rattle.coset_recipient.specs.RecipientView.{recipient_seen}
-use Rattle.coset_recipient.proofs.recipient.CoseRecipientEncode.encode.Goals as goal
-
-pub returns : goal.returns
-returns c = subst (λ o. Encodes o c.args.out.now.items c.write_recipient.new.out.items c.write_recipient.result) (sym (recipient-written (recipient_seen c.args.self.now))) c.write_recipient.ensures

@@ -1,6 +1,0 @@
-use Rattle.coset_recipient.specs.RecipientView.{recipient_seen}
-use Rattle.coset_sign.proofs.Copied.{each_copied}
-use Rattle.coset_recipient.proofs.recipient.copies.Goals as goal
-
-pub returns-clause-copies : goal.returns-clause-copies
-returns-clause-copies c = each_copied recipient_seen c.args.all.now.items _ c.in_ok-clone.ensures.cases.0
