@@ -1,3 +1,4 @@
 pub mod Reading
+pub mod Parcel
 pub mod Report
 pub mod Settings

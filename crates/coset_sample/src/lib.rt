@@ -4,6 +4,7 @@
 
 #[cfg(test)]
 mod kinds;
+pub mod parcel;
 pub mod reading;
 #[cfg(test)]
 mod refused;

@@ -1,5 +1,6 @@
 //! Worked rows: readings, reports and settings read both ways, written and tagged.
 
+use crate::parcel::Parcel;
 use crate::reading::Reading;
 use crate::report::Report;
 use crate::settings::{Name, Settings};
@@ -145,6 +146,45 @@ fn reports(rt: HostRuntime) -> std::result::Result<(), Fail> {
     let alloc = rt.alloc();
     for (input, expected) in &REPORTS {
         assert!(rt; reads::<Report>(alloc, input, *expected)?);
+    }
+    Ok(())
+}
+
+/// The last place that has a fault is named.
+const PARCELS: [(&[u8], Expected); 8] = [
+    (
+        b"\x84\x05\x41\xaa\x42\x01\x02\x82\x01\x20",
+        Written(b"\x84\x05\x41\xaa\x42\x01\x02\x82\x01\x20"),
+    ),
+    (
+        b"\x9f\x18\x05\x5f\x41\xaa\xff\xf6\x9f\xff\xff",
+        Written(b"\x84\x05\x41\xaa\xf6\x80"),
+    ),
+    (
+        b"\x83\x05\x40\xf6",
+        Refused("got array, expected array with 4 items"),
+    ),
+    (
+        b"\x85\x05\x40\xf6\x80\x00",
+        Refused("got array, expected array with 4 items"),
+    ),
+    (b"\x84\xf5\x40\xf6\x80", Refused("got bool, expected int")),
+    (b"\x84\xf5\x00\xf6\x80", Refused("got int, expected bstr")),
+    (
+        b"\x84\xf5\x00\x01\x80",
+        Refused("got int, expected bstr or nil"),
+    ),
+    (
+        b"\x84\xf5\x00\x01\x81\xf4",
+        Refused("got bool, expected int"),
+    ),
+];
+
+#[test]
+fn parcels(rt: HostRuntime) -> std::result::Result<(), Fail> {
+    let alloc = rt.alloc();
+    for (input, expected) in &PARCELS {
+        assert!(rt; reads::<Parcel>(alloc, input, *expected)?);
     }
     Ok(())
 }

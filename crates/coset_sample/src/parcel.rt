@@ -1,0 +1,80 @@
+//! A parcel: an array of four fixed places.
+//!
+//! ```cddl
+//! parcel = [ number : int, receiver : bstr, note : bstr / nil, marks : [* int] ]
+//! ```
+
+ghost use Rattle.coset_sample.specs.Parcel.{seen, parcel};
+
+use crate::reading::Mark;
+use coset_shape::encode::{Array, Encode, encode_four};
+use coset_shape::input::Input;
+use coset_shape::list::read_list;
+use coset_shape::{Codec, Result};
+use std::alloc::Global;
+
+/// A parcel: a number, who receives it, a note that may be missing, and marks.
+#[derive(Debug, Drop, PartialEq, Eq)]
+pub struct Parcel {
+    pub number: i64,
+    pub receiver: Vec<u8>,
+    pub note: Option<Vec<u8>>,
+    pub marks: Vec<Mark>,
+}
+
+/// What the error of another number of places asks for.
+const FOUR: &str = "array with 4 items";
+
+impl Codec for Parcel {
+    ghost use Rattle.coset_shape.specs.Told.{bstr_told, bytes_told, last_told, lists_told, part_told, parts_told};
+    ghost use Rattle.std.specs.Cmp.{signed_Decides};
+    ghost use Rattle.std.specs.Prelude.{refl};
+    ghost use Rattle.coset_sample.specs.Parcel.{Seen as ParcelSeen, of_parts, parcel_laws, parts};
+    ghost use Rattle.coset_sample.specs.Reading.{mark_seen};
+
+    ghost Seen = { ParcelSeen };
+
+    ghost seen = { seen };
+
+    ghost shape = { parcel };
+
+    ghost laws = { parcel_laws };
+
+    ghost equal = { λ a b. parts_told of_parts parts (λ x. refl)
+        (part_told (signed_Decides a.number b.number) (part_told (bytes_told a.receiver b.receiver)
+        (part_told (bstr_told a.note b.note) (last_told (lists_told mark_seen _
+        (λ x y. signed_Decides x.0 y.0) a.marks.items b.marks.items))))) };
+
+    fn read(alloc: Global, input: &mut Input<'_>) -> Result<Parcel> {
+        let mut places = input.enter_array("array")?;
+        places.place(input, FOUR)?;
+        let number = input.int64("int");
+        places.place(input, FOUR)?;
+        let receiver = input.bytes(alloc, "bstr");
+        places.place(input, FOUR)?;
+        let note = input.bytes_or_nil(alloc, "bstr or nil");
+        places.place(input, FOUR)?;
+        let marks = read_list(alloc, input, "array");
+        places.end(input, FOUR)?;
+        let marks = marks?;
+        let note = note?;
+        let receiver = receiver?;
+        Ok(Parcel {
+            number: number?,
+            receiver,
+            note,
+            marks,
+        })
+    }
+
+    fn write(&self, alloc: Global, out: &mut Vec<u8>) -> Result<()> {
+        encode_four(
+            alloc,
+            &self.number,
+            &self.receiver,
+            &self.note,
+            &Array(&self.marks),
+            out,
+        )
+    }
+}
