@@ -1,10 +1,9 @@
 //! Calls of `CoseMac` and its builder.
 
-use crate::asked::{Asked, No, and_missing};
-use crate::header;
 use coset::{CoseError, CoseMac, CoseMacBuilder, CoseRecipient, Result};
+use coset_lines::asked::{Asked, No, and_missing};
 use coset_lines::words::Words;
-use coset_lines::{mark, tell};
+use coset_lines::{header, mark, tell};
 use std::alloc::Global;
 
 /// Makes the call of that name.

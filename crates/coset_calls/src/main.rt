@@ -1,25 +1,17 @@
-//! `coset_calls`: makes the calls of messages, signatures, recipients and their builders, whose closures sign, verify, encrypt
-//! and decrypt, by their names, line by line, and tells what each gave.
+//! `coset_calls`: makes the calls of messages with a MAC, encrypted messages, recipients and their builders, whose closures
+//! authenticate, verify, encrypt and decrypt, by their names, line by line, and tells what each gave.
 //!
-//! A line is `TYPE::CALL WORD..`, the name of a call and what it is given, as hexadecimal, numbers and words; a call that
-//! is of no type is named alone. An empty line, and a comment, which begins with `#`, is answered by itself.
+//! A line is `TYPE::CALL WORD..`, the name of a call and what it is given, as hexadecimal, numbers and words. An empty line, and a comment, which begins with `#`, is answered by itself.
 //!
 //! What a call is given is made ready first. Then the call is made, between two marks (`coset_lines::mark`), so that a
 //! process that is refused a request for memory there is refused one of the call's own; and what it gave is told last.
 #![tactic(auto)]
 
-mod asked;
-mod countersign;
 mod encrypt;
 mod encrypt0;
-mod header;
 mod mac;
 mod mac0;
 mod recipient;
-mod sign;
-mod sign1;
-mod signature;
-mod structures;
 
 use coset::Result;
 use coset_lines::line::{Calls, answer_lines, unknown};
@@ -33,14 +25,6 @@ struct MessageCalls;
 impl Calls for MessageCalls {
     fn call(&self, alloc: Global, words: &Words<'_>) -> Result<String> {
         match words.word(0).split_once("::") {
-            Some(("CoseSign1" | "CoseSign1Builder", name)) => sign1::call(alloc, name, words),
-            Some(("CoseSign" | "CoseSignBuilder", name)) => sign::call(alloc, name, words),
-            Some(("CoseSignature" | "CoseSignatureBuilder", name)) => signature::call(
-                alloc, name, words,
-            ),
-            Some(("CoseCountersignature" | "CoseCountersignatureBuilder", name)) => {
-                signature::countersignature_call(alloc, name, words)
-            }
             Some(("CoseMac0" | "CoseMac0Builder", name)) => mac0::call(alloc, name, words),
             Some(("CoseMac" | "CoseMacBuilder", name)) => mac::call(alloc, name, words),
             Some(("CoseEncrypt0" | "CoseEncrypt0Builder", name)) => encrypt0::call(
@@ -50,7 +34,6 @@ impl Calls for MessageCalls {
             Some(("CoseRecipient" | "CoseRecipientBuilder", name)) => {
                 recipient::call(alloc, name, words)
             }
-            None => structures::call(alloc, words.word(0), words),
             _ => Err(unknown()),
         }
     }

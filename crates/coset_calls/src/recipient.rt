@@ -3,11 +3,10 @@
 ghost use Rattle.std.specs.Prelude.{IfOk};
 ghost use Rattle.coset_recipient.specs.Recipient.{IsOfRecipient};
 
-use crate::asked::{Asked, No, and_missing};
-use crate::header;
 use coset::{CoseError, CoseRecipient, CoseRecipientBuilder, EncryptionContext, Result};
+use coset_lines::asked::{Asked, No, and_missing};
 use coset_lines::words::Words;
-use coset_lines::{mark, tell};
+use coset_lines::{header, mark, tell};
 use std::alloc::Global;
 
 /// Makes the call of that name.

@@ -1,10 +1,9 @@
 //! Calls of `CoseSign` and its builder.
 
-use crate::asked::Asked;
-use crate::header;
 use coset::{CoseError, CoseSign, CoseSignBuilder, CoseSignature, Result};
+use coset_lines::asked::Asked;
 use coset_lines::words::Words;
-use coset_lines::{mark, tell};
+use coset_lines::{header, mark, tell};
 use std::alloc::Global;
 
 /// Makes the call of that name.

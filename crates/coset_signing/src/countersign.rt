@@ -1,13 +1,12 @@
 //! Calls about what countersignatures of version 2 are over.
 
-use crate::asked::Asked;
-use crate::header;
 use coset::{
     CoseCountersignature, CoseError, Result, countersign_v2_structure_data,
     countersign0_v2_structure_data, verify_countersignature,
 };
+use coset_lines::asked::Asked;
 use coset_lines::words::{Words, bytes};
-use coset_lines::{mark, tell};
+use coset_lines::{header, mark, tell};
 use std::alloc::Global;
 
 /// The other fields of what is countersigned: the words between commas, of which each spells one. `none` stands for no

@@ -1,7 +1,7 @@
 //! Closures that calls are given: what they answer, what they were handed, and how often they were called.
 
+use crate::tell;
 use coset::{CallError, CborSerializable, Result};
-use coset_lines::tell;
 use std::alloc::Global;
 
 /// That a closure refuses.

@@ -1,13 +1,13 @@
 //! Calls that are of no type: those that make the structures whose bytes are signed or authenticated, or go with a
 //! ciphertext, and those of countersignatures.
 
-use crate::{countersign, header};
+use crate::countersign;
 use coset::{
     CoseError, EncryptionContext, MacContext, ProtectedHeader, Result, SignatureContext,
     enc_structure_data, mac_structure_data, sig_structure_data,
 };
 use coset_lines::words::Words;
-use coset_lines::{mark, tell};
+use coset_lines::{header, mark, tell};
 use std::alloc::Global;
 
 /// Makes the call of that name.

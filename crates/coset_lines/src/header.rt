@@ -1,8 +1,8 @@
 //! Protected headers that calls are given.
 
+use crate::words::Words;
 use coset::cbor::value::Value;
 use coset::{CoseError, Header, Label, ProtectedHeader, Result};
-use coset_lines::words::Words;
 use std::alloc::Global;
 
 /// A protected header that was read from its byte string, which holds the bytes of the word at `place`; the word at

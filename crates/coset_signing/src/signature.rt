@@ -1,12 +1,11 @@
 //! Calls of `CoseSignature` and `CoseCountersignature`, and of their builders.
 
-use crate::header;
 use coset::{
     CoseCountersignature, CoseCountersignatureBuilder, CoseError, CoseSignature,
     CoseSignatureBuilder, Result,
 };
 use coset_lines::words::Words;
-use coset_lines::{mark, tell};
+use coset_lines::{header, mark, tell};
 use std::alloc::Global;
 
 /// Makes the call of `CoseSignature` or its builder of that name.
