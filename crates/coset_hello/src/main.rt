@@ -1,0 +1,62 @@
+//! Signs a message, writes it, reads it again and verifies it. The cryptography is yours: `sign` and `verify` stand where
+//! it goes, and keep nobody out.
+#![tactic(auto)]
+
+use coset::{CallError, CborSerializable, CoseSign1, CoseSign1Builder, HeaderBuilder, iana};
+use std::alloc::Global;
+use std::io;
+
+/// Why the key says no.
+#[derive(Clone, Copy, Debug)]
+struct Refused;
+
+/// A signature of these bytes: here their first one.
+fn sign(alloc: Global, tbs: &[u8]) -> Result<Vec<u8>, Refused> {
+    match tbs.first() {
+        Some(byte) => Vec::from_slice(alloc, &[*byte]).ok().ok_or(Refused),
+        None => Err(Refused),
+    }
+}
+
+/// Whether it is a signature of these bytes.
+fn verify(signature: &[u8], tbs: &[u8]) -> Result<(), Refused> {
+    match tbs.first() {
+        Some(byte) if signature == [*byte].as_slice() => Ok(()),
+        _ => Err(Refused),
+    }
+}
+
+/// A message that says hello, signed and written.
+fn sent(alloc: Global) -> Result<Vec<u8>, CallError<Refused>> {
+    let protected = HeaderBuilder::new(alloc)
+        .algorithm(iana::Algorithm::ES256)
+        .build();
+    let message = CoseSign1Builder::new(alloc)
+        .protected(protected)
+        .payload(Vec::from_slice(alloc, b"hello")?)
+        .try_create_signature(alloc, b"", move |tbs: &[u8]| sign(alloc, tbs))?
+        .build();
+    Ok(message.to_vec(alloc)?)
+}
+
+/// The payload of a message that is read and verified.
+fn received(alloc: Global, bytes: &[u8]) -> Result<Option<Vec<u8>>, CallError<Refused>> {
+    let message = CoseSign1::from_slice(alloc, bytes)?;
+    message.verify_signature(alloc, b"", move |signature: &[u8], tbs: &[u8]| {
+        verify(signature, tbs)
+    })?;
+    Ok(message.payload)
+}
+
+fn main(rt: HostRuntime) -> io::Result<()> {
+    let alloc = rt.alloc();
+    let Ok(bytes) = sent(alloc) else {
+        return println!(rt; "not signed");
+    };
+    println!(rt; "{} bytes sent", bytes.len())?;
+    match received(alloc, &bytes) {
+        Ok(Some(payload)) => println!(rt; "verified, with {} bytes of payload", payload.len()),
+        Ok(None) => println!(rt; "verified, without a payload"),
+        Err(_) => println!(rt; "refused"),
+    }
+}
