@@ -22,9 +22,10 @@ use std::alloc::Global;
 /// A type that is read and written straight, without a value in between.
 ///
 /// An implementer says how contracts see its values and its shape, as for [`AsCborValue`], has one reader and one writer,
-/// and proves two laws: of its shape in a line, from those of its parts, and of `==`, which the prover finds where it is
-/// derived. [`AsCborValue`], [`FromPull`], [`CborSerializable`], [`Encode`] and [`Lawful`] follow from these, and with
-/// [`TaggedCodec`] also [`TaggedCborSerializable`].
+/// and proves two laws, of its shape and of `==`: each in a line, from those of the parts (`ShapeLaws` and `Told` of
+/// `specs/`). That of a derived `==` the prover finds by itself where no part is a list. [`AsCborValue`], [`FromPull`],
+/// [`CborSerializable`], [`Encode`] and [`Lawful`] follow from these, and with [`TaggedCodec`] also
+/// [`TaggedCborSerializable`].
 pub trait Codec: Sized + Drop + PartialEq {
     /// What contracts see of a value: all of it but where it lies in memory.
     ghost Seen: { Type 0 };
