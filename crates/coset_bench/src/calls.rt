@@ -8,7 +8,6 @@ ghost use Rattle.std.specs.Prelude.{◌≡◌, ◌≤◌, ◌<◌, length, IfOk}
 
 use crate::fault::Fault;
 use crate::structured::Structured;
-use crate::timed::Timed;
 use coset_cbor::de::{EndOfFile, Error, Steps, check};
 use coset_key::{CborOrdering, CoseKey};
 use coset_shape::CborSerializable;
@@ -19,7 +18,7 @@ use std::sync::ledger::{Blank, Ledger};
 use std::time::{Duration, Instant};
 
 /// Reads the value, and drops it.
-pub fn time_read<T: Timed, R: AllocGlobal + Clock>(
+pub fn time_read<T: CborSerializable + Drop, R: AllocGlobal + Clock>(
     rt: &R,
     bytes: &[u8],
     calls: usize,
@@ -33,7 +32,7 @@ pub fn time_read<T: Timed, R: AllocGlobal + Clock>(
 }
 
 /// Refuses the bytes.
-pub fn time_refusal<T: Timed, R: AllocGlobal + Clock>(
+pub fn time_refusal<T: CborSerializable + Drop, R: AllocGlobal + Clock>(
     rt: &R,
     bytes: &[u8],
     calls: usize,
@@ -49,16 +48,16 @@ pub fn time_refusal<T: Timed, R: AllocGlobal + Clock>(
 }
 
 /// That many copies of the value.
-fn copies<T: Timed>(alloc: Global, value: &T, calls: usize) -> Result<Vec<T>, Fault> {
+fn copies<T: Clone + Drop>(alloc: Global, value: &T, calls: usize) -> Result<Vec<T>, Fault> {
     let mut copies = Vec::with_capacity(alloc, calls)?;
     for _ in 0..calls {
-        copies.push(value.copy()?)?;
+        copies.push(value.clone()?)?;
     }
     Ok(copies)
 }
 
 /// Writes a value that was read, and drops it and its text. The copies that are written are made before the time.
-pub fn time_write<T: Timed, R: AllocGlobal + Clock>(
+pub fn time_write<T: CborSerializable + Clone + Drop, R: AllocGlobal + Clock>(
     rt: &R,
     bytes: &[u8],
     calls: usize,
@@ -77,7 +76,7 @@ pub fn time_write<T: Timed, R: AllocGlobal + Clock>(
 }
 
 /// Copies a value that was read, and drops the copy.
-pub fn time_copy<T: Timed, R: AllocGlobal + Clock>(
+pub fn time_copy<T: CborSerializable + Clone + Drop, R: AllocGlobal + Clock>(
     rt: &R,
     bytes: &[u8],
     calls: usize,
@@ -85,19 +84,19 @@ pub fn time_copy<T: Timed, R: AllocGlobal + Clock>(
     let value = T::from_slice(rt.alloc(), bytes)?;
     let start = Instant::now(rt)?;
     for _ in 0..calls {
-        drop(value.copy()?);
+        drop(value.clone()?);
     }
     Ok(start.elapsed(rt)?)
 }
 
 /// Compares a value that was read with its copy.
-pub fn time_compare<T: Timed, R: AllocGlobal + Clock>(
+pub fn time_compare<T: CborSerializable + Clone + PartialEq + Drop, R: AllocGlobal + Clock>(
     rt: &R,
     bytes: &[u8],
     calls: usize,
 ) -> Result<Duration, Fault> {
     let value = T::from_slice(rt.alloc(), bytes)?;
-    let copy = value.copy()?;
+    let copy = value.clone()?;
     let start = Instant::now(rt)?;
     for _ in 0..calls {
         if value != copy {
@@ -125,7 +124,7 @@ pub fn time_canonicalize<R: AllocGlobal + Clock>(
 }
 
 /// Makes the structure of a message that was read.
-pub fn time_structure<T: Timed + Structured, R: AllocGlobal + Clock>(
+pub fn time_structure<T: CborSerializable + Structured + Drop, R: AllocGlobal + Clock>(
     rt: &R,
     bytes: &[u8],
     calls: usize,

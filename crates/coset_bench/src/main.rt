@@ -14,7 +14,6 @@ mod operation;
 mod run;
 mod structure;
 mod structured;
-mod timed;
 
 use command::Command;
 use std::process::ExitCode;
