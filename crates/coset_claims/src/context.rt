@@ -20,7 +20,6 @@ ghost use Rattle.coset_claims.specs.SuppPub.{supp_pub_seen};
 use crate::party::PartyInfo;
 use crate::supp_pub::SuppPubInfo;
 use coset_cbor::ser::{write_array_head, write_bytes};
-use coset_cbor::value::Value;
 use coset_core::{Algorithm, RegisteredLabelWithPrivate, iana};
 use coset_shape::encode::Encode;
 use coset_shape::input::{Input, InputItems};

@@ -8,7 +8,6 @@ ghost use Rattle.coset_core.specs.Messages.{unread};
 ghost use Rattle.coset_core.specs.Views.{header_seen};
 ghost use Rattle.coset_claims.specs.SuppPub.{ReadsOther, empty_supp_pub, supp_pub, supp_pub_seen};
 
-use coset_cbor::value::Value;
 use coset_core::{Bstr, Header, ProtectedBstr, ProtectedHeader};
 use coset_shape::encode::{Encode, encode_three, encode_two};
 use coset_shape::input::{Input, InputItems};

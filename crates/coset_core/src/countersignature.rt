@@ -22,7 +22,6 @@ use crate::protected::{
 };
 use crate::signature::{CoseSignature, Held, copy_into, held_by, make_room};
 use coset_cbor::ser::{write_array_head, write_bytes};
-use coset_cbor::value::Value;
 use coset_shape::encode::Encode;
 use coset_shape::input::Input;
 use coset_shape::{Codec, Result, TaggedCodec};

@@ -27,7 +27,6 @@ use crate::protected::{
     string_bytes, write_protected,
 };
 use coset_cbor::ser::{write_array_head, write_bytes};
-use coset_cbor::value::Value;
 use coset_shape::encode::Encode;
 use coset_shape::error::{Refused, keep_error};
 use coset_shape::input::{Input, InputItems};

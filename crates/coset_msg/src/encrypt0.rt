@@ -12,7 +12,6 @@ ghost use Rattle.coset_msg.specs.Encrypt0.{empty_encrypt0, encrypt0, encrypt0_se
 ghost use Rattle.coset_msg.specs.Presence.{AsksWherePresent, CreatesOf, TriesToCreateOf};
 
 use crate::enc_structure::{EncryptionContext, additional_bytes};
-use coset_cbor::value::Value;
 use coset_core::{Bstr, Header, ProtectedHeader, fill_headers};
 use coset_shape::encode::{Encode, encode_three};
 use coset_shape::input::Input;

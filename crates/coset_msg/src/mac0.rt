@@ -12,7 +12,6 @@ ghost use Rattle.coset_msg.specs.Mac0.{empty_mac0, mac0, mac0_seen, mac0_structu
 ghost use Rattle.coset_msg.specs.Presence.{AsksWherePresent};
 
 use crate::mac_structure::{MacContext, authenticated_bytes};
-use coset_cbor::value::Value;
 use coset_core::{Bstr, Header, ProtectedHeader, fill_headers};
 use coset_shape::encode::{Encode, encode_four};
 use coset_shape::input::Input;

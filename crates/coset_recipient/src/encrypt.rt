@@ -13,7 +13,6 @@ ghost use Rattle.coset_recipient.specs.Encrypt.{and_encrypt_recipient, empty_enc
 ghost use Rattle.coset_recipient.specs.RecipientView.{recipient_seen};
 
 use crate::recipient::{CoseRecipient, copy_recipient_list, read_recipients};
-use coset_cbor::value::Value;
 use coset_core::{Bstr, Header, ProtectedHeader, fill_headers};
 use coset_msg::EncryptionContext;
 use coset_msg::enc_structure::additional_bytes;

@@ -13,7 +13,6 @@ ghost use Rattle.coset_recipient.specs.Mac.{and_mac_recipient, empty_mac, mac, m
 ghost use Rattle.coset_recipient.specs.RecipientView.{recipient_seen};
 
 use crate::recipient::{CoseRecipient, copy_recipient_list, read_recipients};
-use coset_cbor::value::Value;
 use coset_core::{Bstr, Header, ProtectedHeader, fill_headers};
 use coset_msg::MacContext;
 use coset_msg::mac_structure::authenticated_bytes;

@@ -23,7 +23,6 @@ ghost use Rattle.coset_recipient.specs.RecipientSame.{recipient_eq, recipient_eq
 ghost use Rattle.coset_recipient.specs.RecipientView.{recipient_seen};
 
 use coset_cbor::ser::write_array_head;
-use coset_cbor::value::Value;
 use coset_core::{Bstr, Header, ProtectedHeader, fill_protected_header, fill_unprotected_header};
 use coset_msg::EncryptionContext;
 use coset_msg::enc_structure::additional_bytes;

@@ -14,7 +14,6 @@ ghost use Rattle.coset_sign.specs.Sign.{and_signature, empty_sign, sign, sign_se
 
 use crate::calls::{ask, make};
 use crate::signature::{SignatureContext, signed_bytes};
-use coset_cbor::value::Value;
 use coset_core::{Bstr, CoseSignature, Header, ProtectedHeader, fill_headers};
 use coset_shape::encode::{Array, Encode, encode_four};
 use coset_shape::input::Input;

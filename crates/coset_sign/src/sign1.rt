@@ -12,7 +12,6 @@ ghost use Rattle.coset_sign.specs.Sign1.{empty_sign1, sign1, sign1_seen, sign1_c
 
 use crate::calls::{ask, make};
 use crate::signature::{SignatureContext, signed_bytes};
-use coset_cbor::value::Value;
 use coset_core::{Bstr, Header, ProtectedHeader, fill_headers};
 use coset_shape::encode::{Encode, encode_four};
 use coset_shape::input::Input;
