@@ -6,6 +6,10 @@ pub use coset_cbor::laws::{
     nested_arrays_cost, no_item_at_a_fault, one_cost, one_item, one_shortest,
     only_the_end_in_a_front, shortest_is_encoding, shortest_is_in_range,
 };
+pub use coset_codec::laws::{
+    equal_as_seen, image_is_described, one_value, reads_again, refused_as_bytes,
+    refused_describes_nothing, spellings_agree, stays_as_written, written_apart,
+};
 pub use coset_core::laws::{headers_hold_signatures, kept_as_received, kept_as_written};
 pub use coset_iana::laws::{numbers_are_inverse, orders_are_by_number};
 pub use coset_key::laws::{
@@ -20,10 +24,6 @@ pub use coset_msg::laws::{
 };
 pub use coset_recipient::laws::{
     kept_with_recipients, recipients_hold_recipients, structures_as_written, structures_when_read,
-};
-pub use coset_shape::laws::{
-    equal_as_seen, image_is_described, one_value, reads_again, refused_as_bytes,
-    refused_describes_nothing, spellings_agree, stays_as_written, written_apart,
 };
 pub use coset_sign::laws::{
     carried_as_written, each_signed_as_written, each_signed_when_read, one_signature_structure,

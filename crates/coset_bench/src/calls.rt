@@ -9,8 +9,8 @@ ghost use Rattle.std.specs.Prelude.{◌≡◌, ◌≤◌, ◌<◌, length, IfOk}
 use crate::fault::Fault;
 use crate::structured::Structured;
 use coset_cbor::de::{EndOfFile, Error, Steps, check};
+use coset_codec::CborSerializable;
 use coset_key::{CborOrdering, CoseKey};
-use coset_shape::CborSerializable;
 use std::alloc::Global;
 use std::marker::Brand;
 use std::rt::Clock;

@@ -1,7 +1,7 @@
 //! Why nothing was timed.
 
 use coset_cbor::{EndOfFile, de};
-use coset_shape::CoseError;
+use coset_codec::CoseError;
 use std::alloc::{AllocError, AllocFailed};
 use std::{fmt, io};
 

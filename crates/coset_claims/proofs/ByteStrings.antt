@@ -1,12 +1,12 @@
 -- The byte strings behind the places of a context: how they are read and written.
 use Rattle.std.proofs.Common.{◌≡◌, ℕ, List, Option, Some, None, ◌∙◌}
 use Rattle.coset_value.specs.Item.{Items}
-use Rattle.coset_shape.specs.declared.error.CoseError.{CoseError}
-use Rattle.coset_shape.specs.declared.input.InputItems.{InputItems}
-use Rattle.coset_shape.specs.Inputs.{State, AreWithin}
-use Rattle.coset_shape.specs.Encoding.{AppendsPlaces}
-use Rattle.coset_shape.specs.Lists.{Continues}
-use Rattle.coset_shape.specs.Shape.{bstr, EachFaults}
+use Rattle.coset_codec.specs.declared.error.CoseError.{CoseError}
+use Rattle.coset_codec.specs.declared.read.input.InputItems.{InputItems}
+use Rattle.coset_codec.specs.Inputs.{State, AreWithin}
+use Rattle.coset_codec.specs.Encoding.{AppendsPlaces}
+use Rattle.coset_codec.specs.Lists.{Continues}
+use Rattle.coset_codec.specs.Shape.{bstr, EachFaults}
 
 -- Of all the items that should be byte strings, xs were read, and left are still to come; or one of them had a fault, so
 -- that they have it, and those of what is left are theirs too

@@ -1,8 +1,8 @@
 -- One more claim of the rest.
 use Rattle.std.proofs.Common.{◌≡◌, List, [], ◌∷◌, ◌++◌, Bool, ◌||◌, false, refl, sym, subst}
 use Rattle.coset_value.specs.Item.{Item}
-use Rattle.coset_shape.specs.Maps.{Adds, Where, is_core}
-use Rattle.coset_shape.specs.MapLaws.{flip}
+use Rattle.coset_codec.specs.Maps.{Adds, Where, is_core}
+use Rattle.coset_codec.specs.MapLaws.{flip}
 use Rattle.coset_label.specs.Names.{RegisteredName}
 use Rattle.coset_claims.specs.ClaimLabels as labels
 use Rattle.coset_claims.specs.Claims.{Fielded, fields, names, same_name}

@@ -2,14 +2,14 @@
 use Rattle.std.proofs.Common.{◌≡◌, ℕ, List, [], ◌∷◌, map, Option, Some, None, option_map, refl, ◌∙◌, ap, subst, true}
 use Rattle.std.specs.Prelude.{ℤ, Result, Ok, Err, IfErr, OnOk, is_some}
 use Rattle.coset_value.specs.Item.{Item, dict, Pairs, no_pairs, pair}
-use Rattle.coset_shape.specs.Encoding.{AddsAll, AddsField, AddsPairs, AppendsImage, AppendsItem, Encodes, HoldsPairs}
-use Rattle.coset_shape.specs.Maps.{Names, and_pairs, entries_image, field_shape_image, named_image}
-use Rattle.coset_shape.specs.Shape.{both, present_image}
-use Rattle.coset_shape.specs.declared.error.CoseError.{CoseError}
-use Rattle.coset_shape.specs.declared.error.CoseError.TheVariants.{OutOfMemory}
-use Rattle.coset_shape.specs.declared.encode_map.MapEncoder.{MapEncoder}
-use Rattle.coset_shape.proofs.EncodingMaps.{AddsFields, optional-seen}
-use Rattle.coset_shape.proofs.Pushing.{and_pairs-assoc, named_image-append}
+use Rattle.coset_codec.specs.Encoding.{AddsAll, AddsField, AddsPairs, AppendsImage, AppendsItem, Encodes, HoldsPairs}
+use Rattle.coset_codec.specs.Maps.{Names, and_pairs, entries_image, field_shape_image, named_image}
+use Rattle.coset_codec.specs.Shape.{both, present_image}
+use Rattle.coset_codec.specs.declared.error.CoseError.{CoseError}
+use Rattle.coset_codec.specs.declared.error.CoseError.TheVariants.{OutOfMemory}
+use Rattle.coset_codec.specs.declared.write.encode_map.MapEncoder.{MapEncoder}
+use Rattle.coset_codec.proofs.EncodingMaps.{AddsFields, optional-seen}
+use Rattle.coset_codec.proofs.Pushing.{and_pairs-assoc, named_image-append}
 use Rattle.coset_label.specs.Names.{RegisteredName, assigned, private_use, phrase}
 use Rattle.coset_claims.specs.Claims.{claim_name}
 use Rattle.coset_claims.specs.Timestamp.{timestamp, timestamp_seen}

@@ -3,11 +3,11 @@ use Rattle.std.proofs.Common.{◌≡◌, ◌≤◌, Option, Some, None, Result, 
 use Rattle.std.specs.Prelude.{ℕ, Vec}
 use Rattle.std.specs.Global.{Global}
 use Rattle.coset_value.specs.Item.{Items, no_items, item}
-use Rattle.coset_shape.specs.declared.error.CoseError.{CoseError}
-use Rattle.coset_shape.specs.declared.input.InputItems.{InputItems}
-use Rattle.coset_shape.specs.Errors.{UnlessMemory}
-use Rattle.coset_shape.specs.Inputs.{State, tree, lent, AreWithin, GoesBehind, length_left}
-use Rattle.coset_shape.specs.Shape.{IsEnd, LastMisfits}
+use Rattle.coset_codec.specs.declared.error.CoseError.{CoseError}
+use Rattle.coset_codec.specs.declared.read.input.InputItems.{InputItems}
+use Rattle.coset_codec.specs.Errors.{UnlessMemory}
+use Rattle.coset_codec.specs.Inputs.{State, tree, lent, AreWithin, GoesBehind, length_left}
+use Rattle.coset_codec.specs.Shape.{IsEnd, LastMisfits}
 use Rattle.coset_claims.specs.SuppPub.{ReadsOther, other_place}
 
 -- who is behind something stays so

@@ -9,8 +9,8 @@ use Rattle.coset_iana.specs.Registry.{first_numbered}
 use Rattle.coset_iana.specs.WithPrivateRange.{is_private_use}
 use Rattle.coset_iana.specs.declared.claims.CwtClaimName.{CwtClaimName}
 use Rattle.coset_iana.specs.declared.claims.TheConstants.{CWT_CLAIM_NAMES}
-use Rattle.coset_shape.specs.Maps.{Names, Fields, field, no_field, optional, labelled_freely}
-use Rattle.coset_shape.specs.Shape.{Shape, along, bstr, tstr}
+use Rattle.coset_codec.specs.Maps.{Names, Fields, field, no_field, optional, labelled_freely}
+use Rattle.coset_codec.specs.Shape.{Shape, along, bstr, tstr}
 use Rattle.coset_label.specs.Labels.{registered_or_private}
 use Rattle.coset_label.specs.Names.{RegisteredName, registered_cmp}
 use Rattle.coset_label.specs.Views.{registered_or_private_seen}

@@ -2,9 +2,9 @@
 use Rattle.std.proofs.Common.{◌≡◌, Some, false, refl, rules}
 use Rattle.std.specs.Prelude.{ℤ}
 use Rattle.coset_value.specs.Item.{integer}
-use Rattle.coset_shape.specs.MapLaws.{LawfulNames, LawfulFields, Flat, field_laws, labelled_laws, no_field_laws, optional_laws}
-use Rattle.coset_shape.specs.Shape.{bstr, tstr}
-use Rattle.coset_shape.specs.ShapeLaws.{Lawful, along_laws, bstr_laws, tstr_laws}
+use Rattle.coset_codec.specs.MapLaws.{LawfulNames, LawfulFields, Flat, field_laws, labelled_laws, no_field_laws, optional_laws}
+use Rattle.coset_codec.specs.Shape.{bstr, tstr}
+use Rattle.coset_codec.specs.ShapeLaws.{Lawful, along_laws, bstr_laws, tstr_laws}
 use Rattle.coset_label.specs.LabelLaws.{registered_or_private_laws}
 use Rattle.coset_label.specs.NameOrder.{registered_cmp-apart}
 use Rattle.coset_label.specs.Names.{RegisteredName, assigned}

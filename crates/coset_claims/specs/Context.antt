@@ -3,8 +3,8 @@ use Rattle.std.specs.Prelude.{ℕ, List, [], ◌∷◌, ◌++◌, Option, map, o
 use Rattle.coset_value.specs.Item.{Item, Items, array, item}
 use Rattle.coset_iana.specs.Algorithm as algorithms
 use Rattle.coset_iana.specs.declared.algorithms.Algorithm.TheVariants.{Reserved}
-use Rattle.coset_shape.specs.Shape.{Shape, along, both, bstr, array_of, ◌then◌, any_number}
-use Rattle.coset_shape.specs.ShapeLaws.{Lawful, along_laws, bstr_laws, array_of_laws, then_laws, any_number_laws}
+use Rattle.coset_codec.specs.Shape.{Shape, along, both, bstr, array_of, ◌then◌, any_number}
+use Rattle.coset_codec.specs.ShapeLaws.{Lawful, along_laws, bstr_laws, array_of_laws, then_laws, any_number_laws}
 use Rattle.coset_label.specs.Names.{RegisteredName, assigned}
 use Rattle.coset_core.specs.Fields.{algorithm}
 use Rattle.coset_core.specs.FieldLaws.{algorithm_laws}

@@ -3,12 +3,12 @@ use Rattle.std.specs.Prelude.{◌≡◌, ℕ, ℤ, pos, List, Option, Some, None
 use Rattle.std.specs.Global.{Global}
 use Rattle.std.proofs.Common.{true≢false}
 use Rattle.coset_value.specs.Item.{Items, no_items, item}
-use Rattle.coset_shape.specs.declared.error.CoseError.{CoseError}
-use Rattle.coset_shape.specs.declared.input.InputItems.{InputItems}
-use Rattle.coset_shape.specs.Answers.{Reads}
-use Rattle.coset_shape.specs.Inputs.{State, AreWithin}
-use Rattle.coset_shape.specs.Shape.{Shape, Places, along, uint, bstr, present, perhaps, array_of, ◌then◌}
-use Rattle.coset_shape.specs.ShapeLaws.{Lawful, along_laws, uint_laws, bstr_laws, present_laws, perhaps_laws, array_of_laws, then_laws}
+use Rattle.coset_codec.specs.declared.error.CoseError.{CoseError}
+use Rattle.coset_codec.specs.declared.read.input.InputItems.{InputItems}
+use Rattle.coset_codec.specs.Answers.{Reads}
+use Rattle.coset_codec.specs.Inputs.{State, AreWithin}
+use Rattle.coset_codec.specs.Shape.{Shape, Places, along, uint, bstr, present, perhaps, array_of, ◌then◌}
+use Rattle.coset_codec.specs.ShapeLaws.{Lawful, along_laws, uint_laws, bstr_laws, present_laws, perhaps_laws, array_of_laws, then_laws}
 use Rattle.coset_core.specs.Headers.{ProtectedSeen, protected}
 use Rattle.coset_core.specs.HeaderLaws.{protected_laws}
 use Rattle.coset_core.specs.Messages.{empty_protected}

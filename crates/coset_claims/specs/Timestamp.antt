@@ -7,8 +7,8 @@ use Rattle.coset_value.specs.Item.{Bits, Item, integer, float}
 use Rattle.coset_value.specs.Same.{bits_eq}
 use Rattle.coset_value.specs.SameLaws.{item_eq-decides}
 use Rattle.coset_value.specs.View.{bits_of}
-use Rattle.coset_shape.specs.Shape.{Shape, along, either, floating, int64}
-use Rattle.coset_shape.specs.ShapeLaws.{Lawful, along_laws, either_laws, floating_laws, int64_laws, some-one}
+use Rattle.coset_codec.specs.Shape.{Shape, along, either, floating, int64}
+use Rattle.coset_codec.specs.ShapeLaws.{Lawful, along_laws, either_laws, floating_laws, int64_laws, some-one}
 use Rattle.coset_label.specs.Labels.{is_integer}
 use Rattle.coset_core.specs.SameLaws.{IsEquality}
 use Rattle.coset_claims.specs.declared.timestamp.Timestamp.{Timestamp}

@@ -5,11 +5,11 @@ ghost use Rattle.std.specs.Map.{keys_of};
 ghost use Rattle.coset_value.specs.View.{view};
 ghost use Rattle.coset_iana.specs.CwtClaimName as claim_names;
 ghost use Rattle.coset_iana.specs.WithPrivateRange.{is_private_use};
-ghost use Rattle.coset_shape.specs.declared.error.CoseError.TheVariants.{OutOfMemory};
-ghost use Rattle.coset_shape.specs.Errors.{UnlessMemory};
-ghost use Rattle.coset_shape.specs.Inputs.{ReadsAt, length_left, state};
-ghost use Rattle.coset_shape.specs.Maps.{Adds, Refuses, are_distinct, optional};
-ghost use Rattle.coset_shape.specs.Shape.{bstr, tstr};
+ghost use Rattle.coset_codec.specs.declared.error.CoseError.TheVariants.{OutOfMemory};
+ghost use Rattle.coset_codec.specs.Errors.{UnlessMemory};
+ghost use Rattle.coset_codec.specs.Inputs.{ReadsAt, length_left, state};
+ghost use Rattle.coset_codec.specs.Maps.{Adds, Refuses, are_distinct, optional};
+ghost use Rattle.coset_codec.specs.Shape.{bstr, tstr};
 ghost use Rattle.coset_label.specs.Names.{assigned, phrase, private_use};
 ghost use Rattle.coset_core.specs.FieldValues.{TakesValue, RefusesValue};
 ghost use Rattle.coset_claims.specs.Timestamp.{timestamp, timestamp_seen};
@@ -17,12 +17,11 @@ ghost use Rattle.coset_claims.specs.Claims.{IsOtherClaim, and_claim, claim_name,
 
 use crate::timestamp::{Timestamp, read_timestamp};
 use coset_cbor::value::Value;
+use coset_codec::read::{Gather, Input, InputPairs, read_map};
+use coset_codec::write::MapEncoder;
+use coset_codec::{Codec, Result, has_repeats};
 use coset_iana::{CwtClaimName, EnumI64};
 use coset_label::{ClaimName, RegisteredLabelWithPrivate};
-use coset_shape::encode_map::MapEncoder;
-use coset_shape::input::{Input, InputPairs};
-use coset_shape::map::{Gather, read_map};
-use coset_shape::{Codec, Result, has_repeats};
 use std::alloc::{AllocError, Global};
 use std::marker::Model;
 
@@ -231,7 +230,7 @@ impl Gather for ClaimsSet {
 
 impl Codec for ClaimsSet {
     ghost use Rattle.std.specs.Cmp.Lexicographic.{bytes_decides};
-    ghost use Rattle.coset_shape.specs.Told.{bstr_told, lists_told, options_told};
+    ghost use Rattle.coset_codec.specs.Told.{bstr_told, lists_told, options_told};
     ghost use Rattle.coset_claims.specs.ClaimsEquality.{claim_eq-decides, claims_told};
     ghost use Rattle.coset_claims.specs.Timestamp.{timestamp_eq-decides, timestamp_seen};
     ghost use Rattle.coset_claims.specs.Claims.{ClaimsSeen, entry_seen};

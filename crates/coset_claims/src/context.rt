@@ -3,13 +3,13 @@
 ghost use Rattle.std.specs.Prelude.{◌≡◌, ◌≤◌, length, map, IfOk, IfErr, OnOk};
 ghost use Rattle.coset_value.specs.Item.{Items};
 ghost use Rattle.coset_iana.specs.Algorithm as algorithms;
-ghost use Rattle.coset_shape.specs.declared.error.CoseError.TheVariants.{OutOfMemory};
-ghost use Rattle.coset_shape.specs.Answers.{Reads};
-ghost use Rattle.coset_shape.specs.Encoding.{AppendsPlaces, Encodes};
-ghost use Rattle.coset_shape.specs.Inputs.{AreWithin, ReadsAt, State, length_left, state};
-ghost use Rattle.coset_shape.specs.Sources.{source_item};
-ghost use Rattle.coset_shape.specs.Lists.{ReadsEach};
-ghost use Rattle.coset_shape.specs.Shape.{bstr, images};
+ghost use Rattle.coset_codec.specs.declared.error.CoseError.TheVariants.{OutOfMemory};
+ghost use Rattle.coset_codec.specs.Answers.{Reads};
+ghost use Rattle.coset_codec.specs.Encoding.{AppendsPlaces, Encodes};
+ghost use Rattle.coset_codec.specs.Inputs.{AreWithin, ReadsAt, State, length_left, state};
+ghost use Rattle.coset_codec.specs.Sources.{source_item};
+ghost use Rattle.coset_codec.specs.Lists.{ReadsEach};
+ghost use Rattle.coset_codec.specs.Shape.{bstr, images};
 ghost use Rattle.coset_label.specs.Names.{assigned};
 ghost use Rattle.coset_core.specs.Fields.{algorithm};
 ghost use Rattle.coset_core.specs.Views.{algorithm_seen};
@@ -20,11 +20,11 @@ ghost use Rattle.coset_claims.specs.SuppPub.{supp_pub_seen};
 use crate::party::PartyInfo;
 use crate::supp_pub::SuppPubInfo;
 use coset_cbor::ser::{write_array_head, write_bytes};
+use coset_codec::read::{Input, InputItems};
+use coset_codec::traits::FromPull;
+use coset_codec::write::Encode;
+use coset_codec::{Codec, CoseError, Result, Source};
 use coset_core::{Algorithm, RegisteredLabelWithPrivate, iana};
-use coset_shape::encode::Encode;
-use coset_shape::input::{Input, InputItems};
-use coset_shape::traits::FromPull;
-use coset_shape::{Codec, CoseError, Result, Source};
 use std::alloc::{AllocError, Global};
 use std::marker::Model;
 
@@ -116,7 +116,7 @@ const FOUR: &str = "array with at least 4 items";
 
 impl Codec for CoseKdfContext {
     ghost use Rattle.coset_claims.specs.ContextSame.{context_told, party_told, supp_pub_told};
-    ghost use Rattle.coset_shape.specs.Told.{bytes_told, lists_told};
+    ghost use Rattle.coset_codec.specs.Told.{bytes_told, lists_told};
     ghost use Rattle.coset_core.specs.Told.{algorithm_told};
     ghost use Rattle.coset_claims.specs.Context.{ContextSeen, context_laws};
 

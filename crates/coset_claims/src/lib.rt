@@ -14,7 +14,7 @@ pub use coset_core::{
     ContentType, CoseError, CoseSignature, CoseSignatureBuilder, Encode, EndOfFile, FromPull,
     Header, HeaderBuilder, KeyOperation, KeyType, Label, Lawful, ProtectedBstr, ProtectedHeader,
     RegisteredLabel, RegisteredLabelWithPrivate, Result, Source, TaggedCborSerializable,
-    TaggedCodec, cbor, has_repeats, iana, shape, util,
+    TaggedCodec, cbor, codec, has_repeats, iana, util,
 };
 pub use party::{Nonce, PartyInfo, PartyInfoBuilder};
 pub use supp_pub::{SuppPubInfo, SuppPubInfoBuilder};

@@ -3,17 +3,17 @@
 ghost use Rattle.std.specs.Prelude.{◌≡◌, ◌↔◌, ◌≤◌, IsTrue, IfOk, IfErr, OnOk, Some, option_map};
 ghost use Rattle.std.specs.Ordering.{on};
 ghost use Rattle.std.specs.Cmp.{on_equiv, on_per, partial_equiv_from_equiv};
-ghost use Rattle.coset_shape.specs.declared.error.CoseError.TheVariants.{OutOfMemory};
-ghost use Rattle.coset_shape.specs.Answers.{Reads};
-ghost use Rattle.coset_shape.specs.Inputs.{GoesBehind, ReadsAt, length_left, state};
+ghost use Rattle.coset_codec.specs.declared.error.CoseError.TheVariants.{OutOfMemory};
+ghost use Rattle.coset_codec.specs.Answers.{Reads};
+ghost use Rattle.coset_codec.specs.Inputs.{GoesBehind, ReadsAt, length_left, state};
 ghost use Rattle.coset_claims.specs.Party.{empty_party, nonce, nonce_or_nil, nonce_seen, party, party_seen};
 ghost use Rattle.coset_claims.specs.ContextSame.{nonce_eq, nonce_eq_equiv};
 
 use coset_cbor::value::Value;
-use coset_shape::encode::{Encode, encode_three};
-use coset_shape::input::Input;
-use coset_shape::util::copy_bstr;
-use coset_shape::{Codec, Result};
+use coset_codec::read::Input;
+use coset_codec::util::copy_bstr;
+use coset_codec::write::{Encode, encode_three};
+use coset_codec::{Codec, Result};
 use std::alloc::{AllocError, Global};
 use std::marker::Model;
 

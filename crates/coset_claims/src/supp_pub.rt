@@ -2,17 +2,17 @@
 
 ghost use Rattle.std.specs.Prelude.{◌≡◌, ◌≤◌, IfOk, IfErr, Some};
 ghost use Rattle.coset_value.specs.Item.{Items};
-ghost use Rattle.coset_shape.specs.declared.error.CoseError.TheVariants.{OutOfMemory};
-ghost use Rattle.coset_shape.specs.Inputs.{AreWithin, State, length_left, state};
+ghost use Rattle.coset_codec.specs.declared.error.CoseError.TheVariants.{OutOfMemory};
+ghost use Rattle.coset_codec.specs.Inputs.{AreWithin, State, length_left, state};
 ghost use Rattle.coset_core.specs.Messages.{unread};
 ghost use Rattle.coset_core.specs.Views.{header_seen};
 ghost use Rattle.coset_claims.specs.SuppPub.{ReadsOther, empty_supp_pub, supp_pub, supp_pub_seen};
 
+use coset_codec::read::{Input, InputItems};
+use coset_codec::util::copy_bstr;
+use coset_codec::write::{Encode, encode_three, encode_two};
+use coset_codec::{Codec, Result};
 use coset_core::{Bstr, Header, ProtectedBstr, ProtectedHeader};
-use coset_shape::encode::{Encode, encode_three, encode_two};
-use coset_shape::input::{Input, InputItems};
-use coset_shape::util::copy_bstr;
-use coset_shape::{Codec, Result};
 use std::alloc::{AllocError, Global};
 use std::marker::Model;
 

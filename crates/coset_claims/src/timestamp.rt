@@ -4,17 +4,17 @@ ghost use Rattle.std.specs.Prelude.{◌≡◌, ◌↔◌, ◌≤◌, IsTrue, IfO
 ghost use Rattle.std.specs.Ordering.{on};
 ghost use Rattle.std.specs.Cmp.{on_equiv, on_per, partial_equiv_from_equiv};
 ghost use Rattle.coset_value.specs.View.{view};
-ghost use Rattle.coset_shape.specs.declared.error.CoseError.TheVariants.{OutOfMemory};
-ghost use Rattle.coset_shape.specs.Answers.{Reads};
-ghost use Rattle.coset_shape.specs.Inputs.{GoesBehind, ReadsAt, length_left, state};
+ghost use Rattle.coset_codec.specs.declared.error.CoseError.TheVariants.{OutOfMemory};
+ghost use Rattle.coset_codec.specs.Answers.{Reads};
+ghost use Rattle.coset_codec.specs.Inputs.{GoesBehind, ReadsAt, length_left, state};
 ghost use Rattle.coset_claims.specs.Timestamp.{timestamp, timestamp_eq, timestamp_eq_equiv, timestamp_seen};
 
 use coset_cbor::de::Pull;
 use coset_cbor::value::{Float, Value};
-use coset_shape::encode::Encode;
-use coset_shape::input::Input;
-use coset_shape::traits::FromPull;
-use coset_shape::{AsCborValue, Lawful, Result, Source};
+use coset_codec::read::Input;
+use coset_codec::traits::FromPull;
+use coset_codec::write::Encode;
+use coset_codec::{AsCborValue, Lawful, Result, Source};
 use std::alloc::{AllocError, Global};
 
 /// Seconds since 1970 began in UTC, without leap seconds (RFC 8392, section 2; RFC 8949, section 3.4.2).

@@ -3,14 +3,14 @@ use Rattle.std.proofs.Common.{◌≡◌, ◌⊎◌, true, false, Option, Some, N
 use Rattle.std.specs.Prelude.{IsErrAnd}
 use Rattle.coset_value.specs.Item.{Item, dict, Pairs, no_pairs, pair}
 use Rattle.std.specs.Map.{keys_of}
-use Rattle.coset_shape.specs.declared.error.CoseError.{CoseError}
-use Rattle.coset_shape.specs.declared.error.CoseError.TheVariants.{DuplicateMapKey}
-use Rattle.coset_shape.specs.declared.input.InputPairs.{InputPairs}
-use Rattle.coset_shape.specs.Errors.{UnlessMemory}
-use Rattle.coset_shape.specs.Inputs.{State, NextsKey, PairsWithin, ReadsAt}
-use Rattle.coset_shape.specs.Maps.{Adds, Refuses, RefusesKey, BarsKey, GatherFaults, are_distinct, optional}
-use Rattle.coset_shape.specs.Shape.{any}
-use Rattle.coset_shape.proofs.Walking.{goes_on, refuses, stumbles}
+use Rattle.coset_codec.specs.declared.error.CoseError.{CoseError}
+use Rattle.coset_codec.specs.declared.error.CoseError.TheVariants.{DuplicateMapKey}
+use Rattle.coset_codec.specs.declared.read.input.InputPairs.{InputPairs}
+use Rattle.coset_codec.specs.Errors.{UnlessMemory}
+use Rattle.coset_codec.specs.Inputs.{State, NextsKey, PairsWithin, ReadsAt}
+use Rattle.coset_codec.specs.Maps.{Adds, Refuses, RefusesKey, BarsKey, GatherFaults, are_distinct, optional}
+use Rattle.coset_codec.specs.Shape.{any}
+use Rattle.coset_codec.proofs.Walking.{goes_on, refuses, stumbles}
 use Rattle.coset_label.specs.Labels.{label}
 use Rattle.coset_label.specs.Views.{label_seen}
 use Rattle.coset_label.specs.declared.label.Label.{Label}

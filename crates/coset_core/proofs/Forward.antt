@@ -3,20 +3,20 @@ use Rattle.std.proofs.Common.{◌≡◌, ℕ, Bool, List, [], ◌∷◌, map, tr
 use Rattle.std.specs.Prelude.{IsErrAnd}
 use Rattle.coset_value.specs.Item.{Item, bytes, array, dict, Items, no_items, item, Pairs, no_pairs, pair}
 use Rattle.coset_value.specs.Parts.{as_array, as_bytes, as_map}
-use Rattle.coset_shape.specs.declared.error.CoseError.{CoseError}
-use Rattle.coset_shape.specs.declared.error.CoseError.TheVariants.{DuplicateMapKey, OutOfMemory}
-use Rattle.coset_shape.specs.declared.input.InputItems.{InputItems}
-use Rattle.coset_shape.specs.declared.input.InputPairs.{InputPairs}
-use Rattle.coset_shape.specs.declared.error.Refused.{Refused}
-use Rattle.coset_shape.specs.Errors.{UnlessMemory, IsUnexpected, answer}
-use Rattle.coset_shape.specs.Inputs.{State, Stands, AreWithin, PairsWithin, EntersMap, Nexts, ReadsAt}
-use Rattle.coset_shape.specs.Maps.{GatherFaults, labelled, SomePair, and_pairs, optional, listed, is_filled}
-use Rattle.coset_shape.specs.OneOrMore.{Begins}
-use Rattle.coset_shape.specs.Shape.{Shape, Each, any, bstr, any_number, one_or_more, one_or_many}
-use Rattle.coset_shape.proofs.Walking.{sets_out, goes_on, arrives, refuses}
+use Rattle.coset_codec.specs.declared.error.CoseError.{CoseError}
+use Rattle.coset_codec.specs.declared.error.CoseError.TheVariants.{DuplicateMapKey, OutOfMemory}
+use Rattle.coset_codec.specs.declared.read.input.InputItems.{InputItems}
+use Rattle.coset_codec.specs.declared.read.input.InputPairs.{InputPairs}
+use Rattle.coset_codec.specs.declared.error.Refused.{Refused}
+use Rattle.coset_codec.specs.Errors.{UnlessMemory, IsUnexpected, answer}
+use Rattle.coset_codec.specs.Inputs.{State, Stands, AreWithin, PairsWithin, EntersMap, Nexts, ReadsAt}
+use Rattle.coset_codec.specs.Maps.{GatherFaults, labelled, SomePair, and_pairs, optional, listed, is_filled}
+use Rattle.coset_codec.specs.OneOrMore.{Begins}
+use Rattle.coset_codec.specs.Shape.{Shape, Each, any, bstr, any_number, one_or_more, one_or_many}
+use Rattle.coset_codec.proofs.Walking.{sets_out, goes_on, arrives, refuses}
 use Rattle.coset_label.specs.Labels.{label}
 use Rattle.coset_core.specs.FieldLabels as labels
-use Rattle.coset_shape.specs.InPlace.{Fills, FillsEach}
+use Rattle.coset_codec.specs.InPlace.{Fills, FillsEach}
 use Rattle.coset_core.specs.Fields.{FieldsSeen, Versions, empty_fields, names, fields, parts_of, bars, HasOneIv, partial_header, HoldsSignatures, SomeCounterSignatures}
 use Rattle.coset_core.specs.FieldLaws.{names_laws, partial_fields_laws, join, barred_fault}
 use Rattle.coset_core.specs.FieldsView.{signatures_held, fields_seen, counter_signatures_held, countersignatures_held}
@@ -31,7 +31,7 @@ use Rattle.coset_core.specs.declared.header.reading.Version.{Version}
 use Rattle.coset_core.specs.declared.header.reading.Version.TheVariants.{V1, V2}
 use Rattle.coset_core.proofs.Putting.{none_held}
 use Rattle.coset_core.proofs.Reading.{no_string, header_whole}
-use Rattle.coset_shape.proofs.InPlace.{not_filled}
+use Rattle.coset_codec.proofs.InPlace.{not_filled}
 
 -- ---- a header's map
 

@@ -1,10 +1,10 @@
 -- A header's shape is the map of its fields with the signatures' shape in it.
 use Rattle.std.proofs.Common.{◌≡◌, ◌⊎◌, ℕ, zero, suc, List, [], ◌∷◌, Option, Some, None, Bool, true, false, option_map, refl, ap, sym, subst, ◌∙◌, inl, inr}
 use Rattle.coset_value.specs.Item.{Item, Items, no_items, item, Pairs, no_pairs, pair}
-use Rattle.coset_shape.specs.declared.error.CoseError.{CoseError}
-use Rattle.coset_shape.specs.Maps.{FieldShape, listed, optional, Where, SomePair, PairFaults, entries_image, may_write}
-use Rattle.coset_shape.specs.Serialized.{ContentDescribes, ContentFaults}
-use Rattle.coset_shape.specs.Shape.{Shape, Each, EachFaults, both, any, bstr, ◌then◌, end, one_or_array}
+use Rattle.coset_codec.specs.declared.error.CoseError.{CoseError}
+use Rattle.coset_codec.specs.Maps.{FieldShape, listed, optional, Where, SomePair, PairFaults, entries_image, may_write}
+use Rattle.coset_codec.specs.Serialized.{ContentDescribes, ContentFaults}
+use Rattle.coset_codec.specs.Shape.{Shape, Each, EachFaults, both, any, bstr, ◌then◌, end, one_or_array}
 use Rattle.coset_label.specs.Labels.{label}
 use Rattle.coset_label.specs.Names.{Name}
 use Rattle.coset_core.specs.FieldLabels as labels

@@ -8,11 +8,11 @@ use Rattle.coset_value.specs.declared.value.Value.{Value}
 use Rattle.coset_value.specs.declared.value.Value.TheVariants.{Bytes, rolls-Bytes}
 use Rattle.coset_value.specs.declared.value.Value.TheOpen.{Value-F}
 use Rattle.coset_value.specs.declared.value.Value.TheFolds.{fold-roll-Value}
-use Rattle.coset_shape.specs.declared.error.CoseError.{CoseError}
-use Rattle.coset_shape.specs.declared.error.CoseError.TheVariants.{DuplicateMapKey}
-use Rattle.coset_shape.specs.Answers.{Images}
-use Rattle.coset_shape.specs.Errors.{UnlessMemory}
-use Rattle.coset_shape.specs.Serialized.{content_bytes, fresh_bytes}
+use Rattle.coset_codec.specs.declared.error.CoseError.{CoseError}
+use Rattle.coset_codec.specs.declared.error.CoseError.TheVariants.{DuplicateMapKey}
+use Rattle.coset_codec.specs.Answers.{Images}
+use Rattle.coset_codec.specs.Errors.{UnlessMemory}
+use Rattle.coset_codec.specs.Serialized.{content_bytes, fresh_bytes}
 use Rattle.coset_core.specs.Headers.{HeaderSeen, ProtectedSeen, is_empty_header, header_image, protected_bytes, protected, LAYERS}
 use Rattle.coset_core.specs.HeaderWrites.{protected_image_is}
 use Rattle.coset_core.specs.Written.{AreShortest, HoldsShortest}

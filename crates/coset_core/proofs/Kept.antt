@@ -2,7 +2,7 @@
 use Rattle.std.proofs.Common.{◌≡◌, ℕ, List, Option, Some, None, option_map, refl, sym, ap, ◌∙◌}
 use Rattle.coset_value.specs.Item.{Item, bytes}
 use Rattle.coset_value.specs.Parts.{as_bytes}
-use Rattle.coset_shape.specs.ShapeLaws.{some-one}
+use Rattle.coset_codec.specs.ShapeLaws.{some-one}
 
 -- what a byte string holds which is that of o
 pub held_of : (o : Option (List ℕ)) (v : Item) (b : List ℕ) → option_map bytes o ≡ Some v → as_bytes v ≡ Some b → Some b ≡ o

@@ -12,3 +12,5 @@ pub mod Forward
 pub mod HeaderMap
 pub mod Messages
 pub mod Memory
+pub mod Structures
+pub mod Calling

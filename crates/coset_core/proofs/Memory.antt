@@ -1,10 +1,10 @@
 -- What can't be refused but for memory.
 use Rattle.std.proofs.Common.{◌≡◌, Option, Some, Result, Ok, Err, refl}
 use Rattle.std.specs.Prelude.{IfErr}
-use Rattle.coset_shape.specs.Encoding.{HasNoImage}
-use Rattle.coset_shape.specs.ShapeLaws.{some-none}
-use Rattle.coset_shape.specs.declared.error.CoseError.{CoseError}
-use Rattle.coset_shape.specs.declared.error.CoseError.TheVariants.{DecodeFailed, DuplicateMapKey, EncodeFailed, ExtraneousData, OutOfRangeIntegerValue, UnexpectedItem, UnregisteredIanaValue, UnregisteredIanaNonPrivateValue, OutOfMemory}
+use Rattle.coset_codec.specs.Encoding.{HasNoImage}
+use Rattle.coset_codec.specs.ShapeLaws.{some-none}
+use Rattle.coset_codec.specs.declared.error.CoseError.{CoseError}
+use Rattle.coset_codec.specs.declared.error.CoseError.TheVariants.{DecodeFailed, DuplicateMapKey, EncodeFailed, ExtraneousData, OutOfRangeIntegerValue, UnexpectedItem, UnregisteredIanaValue, UnregisteredIanaNonPrivateValue, OutOfMemory}
 
 only_memory : (e : CoseError) → ((e ≡ OutOfMemory → ⊥) → ⊥) → e ≡ OutOfMemory
 only_memory OutOfMemory h = refl

@@ -3,15 +3,15 @@ use Rattle.std.proofs.Common.{◌≡◌, ℕ, List, Some, Result, Ok, Err, sym, 
 use Rattle.std.specs.Prelude.{IsErrAnd, ⊤}
 use Rattle.coset_value.specs.Item.{Item, Items, item}
 use Rattle.coset_value.specs.Parts.{as_array}
-use Rattle.coset_shape.specs.AsWritten.{AsWritten, WhenRead, PlacesAsWritten, PlacesWhenRead}
-use Rattle.coset_shape.proofs.AsWritten.{array_as_written, array_when_read, then_as_written, then_when_read}
-use Rattle.coset_shape.specs.Serialized.{content_bytes}
-use Rattle.coset_shape.specs.declared.error.CoseError.{CoseError}
-use Rattle.coset_shape.specs.Errors.{UnlessMemory}
-use Rattle.coset_shape.specs.Shape.{Places, ◌then◌}
-use Rattle.coset_shape.specs.ShapeLaws.{LawfulPlaces}
+use Rattle.coset_codec.specs.AsWritten.{AsWritten, WhenRead, PlacesAsWritten, PlacesWhenRead}
+use Rattle.coset_codec.proofs.AsWritten.{array_as_written, array_when_read, then_as_written, then_when_read}
+use Rattle.coset_codec.specs.Serialized.{content_bytes}
+use Rattle.coset_codec.specs.declared.error.CoseError.{CoseError}
+use Rattle.coset_codec.specs.Errors.{UnlessMemory}
+use Rattle.coset_codec.specs.Shape.{Places, ◌then◌}
+use Rattle.coset_codec.specs.ShapeLaws.{LawfulPlaces}
 use Rattle.coset_core.specs.Contents.{FillsHeaders}
-use Rattle.coset_shape.specs.InPlace.{Fills}
+use Rattle.coset_codec.specs.InPlace.{Fills}
 use Rattle.coset_core.specs.Headers.{ProtectedSeen, header, header_image, is_empty_header, layered_protected, protected, protected_bytes}
 use Rattle.coset_core.specs.Messages.{Headed, headed}
 

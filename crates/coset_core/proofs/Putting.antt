@@ -2,10 +2,10 @@
 use Rattle.std.proofs.Common.{◌≡◌, ◌≢◌, ◌==◌, ℕ, Vec, Global, map, arith, not, length, List, [], ◌∷◌, ◌++◌, Option, Bool, ◌||◌, false, true, refl, sym, ap, ◌∙◌, subst, true≢false, ◌⊎◌, inl, inr, Result, Ok, Err}
 use Rattle.std.specs.Prelude.{IfErr, OnOk, OnErr}
 use Rattle.coset_value.specs.Item.{Item}
-use Rattle.coset_shape.specs.Maps.{Fields, optional, listed, Where, is_core, Adds, Refuses}
-use Rattle.coset_shape.specs.Errors.{UnlessMemory, IsUnexpected}
-use Rattle.coset_shape.specs.declared.error.CoseError.{CoseError}
-use Rattle.coset_shape.specs.Shape.{any, bstr, some_of, filled_bstr}
+use Rattle.coset_codec.specs.Maps.{Fields, optional, listed, Where, is_core, Adds, Refuses}
+use Rattle.coset_codec.specs.Errors.{UnlessMemory, IsUnexpected}
+use Rattle.coset_codec.specs.declared.error.CoseError.{CoseError}
+use Rattle.coset_codec.specs.Shape.{any, bstr, some_of, filled_bstr}
 use Rattle.coset_label.specs.Names.{Name, RegisteredName}
 use Rattle.coset_core.specs.FieldLabels as labels
 use Rattle.std.proofs.lemmas.Grind.{common_steps}

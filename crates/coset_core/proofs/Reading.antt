@@ -3,13 +3,13 @@ use Rattle.std.proofs.Common.{◌≡◌, ℕ, zero, suc, pred, List, Option, Som
 use Rattle.coset_value.specs.Item.{Item, bytes}
 use Rattle.coset_value.specs.Parts.{as_bytes}
 use Rattle.coset_cbor.specs.declared.de.Error.TheVariants.{RecursionLimitExceeded}
-use Rattle.coset_shape.specs.declared.error.CoseError.{CoseError}
-use Rattle.coset_shape.specs.declared.error.CoseError.TheVariants.{DecodeFailed}
-use Rattle.coset_shape.specs.Errors.{IsUnexpected}
-use Rattle.coset_shape.specs.InPlace.{Fills}
-use Rattle.coset_shape.specs.Serialized.{ContentDescribes, ContentFaults}
-use Rattle.coset_shape.specs.Maps.{listed}
-use Rattle.coset_shape.specs.Shape.{any_number, one_or_many}
+use Rattle.coset_codec.specs.declared.error.CoseError.{CoseError}
+use Rattle.coset_codec.specs.declared.error.CoseError.TheVariants.{DecodeFailed}
+use Rattle.coset_codec.specs.Errors.{IsUnexpected}
+use Rattle.coset_codec.specs.InPlace.{Fills}
+use Rattle.coset_codec.specs.Serialized.{ContentDescribes, ContentFaults}
+use Rattle.coset_codec.specs.Maps.{listed}
+use Rattle.coset_codec.specs.Shape.{any_number, one_or_many}
 use Rattle.coset_core.specs.Contents.{FillsContent}
 use Rattle.coset_core.specs.Fields.{FieldsSeen, map_with}
 use Rattle.coset_core.specs.HeaderReads.{header_read_with}

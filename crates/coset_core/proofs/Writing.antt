@@ -6,8 +6,8 @@ use Rattle.coset_value.specs.Item.{Item, array, items_count, pairs_count}
 use Rattle.coset_value.specs.Range.{AreInRange, ArePairsInRange}
 use Rattle.coset_value.specs.View.{items_of}
 use Rattle.coset_cbor.specs.Least.{least_head, least_encoding, least_encodings, least_pair_encodings}
-use Rattle.coset_shape.specs.Encoding.{AppendsItem}
-use Rattle.coset_shape.specs.Maps.{put_field, put_fields, named_image}
+use Rattle.coset_codec.specs.Encoding.{AppendsItem}
+use Rattle.coset_codec.specs.Maps.{put_field, put_fields, named_image}
 use Rattle.coset_label.specs.Labels.{label}
 use Rattle.coset_label.specs.Names.{Name, number, word, name_item, RegisteredName}
 use Rattle.coset_core.specs.FieldLabels as labels

@@ -7,15 +7,15 @@ use Rattle.std.proofs.lemmas.Grind.{common_steps}
 use Rattle.coset_value.specs.Item.{Item, bytes, array, dict, Items, no_items, item, pairs_count}
 use Rattle.coset_value.specs.View.{items_of}
 use Rattle.coset_cbor.specs.Least.{least_head, least_encoding, least_pair_encodings}
-use Rattle.coset_shape.specs.declared.error.CoseError.{CoseError}
-use Rattle.coset_shape.specs.declared.error.CoseError.TheVariants.{DuplicateMapKey}
-use Rattle.coset_shape.specs.Encoding.{AppendsItem, AppendsImage, Encodes}
-use Rattle.coset_shape.specs.Errors.{UnlessMemory}
-use Rattle.coset_shape.specs.Maps.{put_field, are_distinct, optional, listed}
-use Rattle.coset_shape.specs.Shape.{images, one_or_array, some_of, bstr, filled_bstr}
+use Rattle.coset_codec.specs.declared.error.CoseError.{CoseError}
+use Rattle.coset_codec.specs.declared.error.CoseError.TheVariants.{DuplicateMapKey}
+use Rattle.coset_codec.specs.Encoding.{AppendsItem, AppendsImage, Encodes}
+use Rattle.coset_codec.specs.Errors.{UnlessMemory}
+use Rattle.coset_codec.specs.Maps.{put_field, are_distinct, optional, listed}
+use Rattle.coset_codec.specs.Shape.{images, one_or_array, some_of, bstr, filled_bstr}
 use Rattle.coset_label.specs.Names.{Name, name_item, RegisteredName}
 use Rattle.coset_core.specs.FieldLabels as labels
-use Rattle.coset_shape.proofs.Encoding.{array-put as array-put-places, place-put, nothing-put, and_items, images-append, images-missing}
+use Rattle.coset_codec.proofs.Encoding.{array-put as array-put-places, place-put, nothing-put, and_items, images-append, images-missing}
 use Rattle.coset_core.specs.Fields.{FieldsSeen, Versions, same_name, algorithm, critical, content_type}
 use Rattle.coset_core.specs.Headers.{HeaderSeen, header_of, fields_in, counter_signatures_in, countersignatures_in, ProtectedSeen, SignatureSeen, Signatures, no_signatures, signature_and, signatures_of, are_none, counter_signatures_item, header_item, signatures_image, header_image, protected_bytes}
 use Rattle.coset_core.specs.HeaderWrites.{fields_put, images_signatures, signature_image_is, algorithm_image, critical_image, content_type_image, Puts, header_put, header_repeats}

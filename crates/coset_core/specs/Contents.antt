@@ -1,12 +1,12 @@
 -- What reading into headers answers: the content of a protected header's byte string, and two headers together.
 use Rattle.std.specs.Prelude.{◌≡◌, ◌⊎◌, ℕ, List, [], None, Result, Ok, Err}
 use Rattle.coset_value.specs.Item.{Item, Items, item}
-use Rattle.coset_shape.specs.declared.error.CoseError.{CoseError}
-use Rattle.coset_shape.specs.declared.input.InputItems.{InputItems}
-use Rattle.coset_shape.specs.Errors.{UnlessMemory}
-use Rattle.coset_shape.specs.Inputs.{State, AreWithin}
-use Rattle.coset_shape.specs.Serialized.{ContentDescribes, ContentFaults}
-use Rattle.coset_shape.specs.Sources.{IsMisfit, Never, misfits_after}
+use Rattle.coset_codec.specs.declared.error.CoseError.{CoseError}
+use Rattle.coset_codec.specs.declared.read.input.InputItems.{InputItems}
+use Rattle.coset_codec.specs.Errors.{UnlessMemory}
+use Rattle.coset_codec.specs.Inputs.{State, AreWithin}
+use Rattle.coset_codec.specs.Serialized.{ContentDescribes, ContentFaults}
+use Rattle.coset_codec.specs.Sources.{IsMisfit, Never, misfits_after}
 use Rattle.coset_core.specs.Headers.{HeaderSeen, ProtectedSeen, SignatureSeen, empty_header, layered_header, header, protected}
 
 -- the place holds the header that the bytes hold, with k layers left; or, out of memory aside, an error that tells of a

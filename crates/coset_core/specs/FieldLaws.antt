@@ -5,12 +5,12 @@ use Rattle.std.specs.List.{IsDistinct}
 use Rattle.std.specs.Map.{keys_of, lookup}
 use Rattle.coset_value.specs.Item.{Item, integer, Pairs, no_pairs, pair}
 use Rattle.coset_value.specs.Parts.{as_map}
-use Rattle.coset_shape.specs.Errors.{IsUnexpected}
-use Rattle.coset_shape.specs.Shape.{any, bstr, filled_bstr, some_of}
-use Rattle.coset_shape.specs.ShapeLaws.{Lawful, Again, some-one, along_laws, that_laws, any_laws, bstr_laws, filled_bstr_laws, some_of_laws}
-use Rattle.coset_shape.specs.Maps.{FieldShape, optional, listed, Named, HasLabel, SomePair, SoFar, Barred, and_pairs}
-use Rattle.coset_shape.specs.declared.error.CoseError.{CoseError}
-use Rattle.coset_shape.specs.MapLaws.{LawfulNames, LawfulFieldShape, LawfulFields, Flat, field_laws, no_field_laws, optional_laws, listed_laws, labelled_laws, new_of, not_new, has_label, lookup_none, lookup_later}
+use Rattle.coset_codec.specs.Errors.{IsUnexpected}
+use Rattle.coset_codec.specs.Shape.{any, bstr, filled_bstr, some_of}
+use Rattle.coset_codec.specs.ShapeLaws.{Lawful, Again, some-one, along_laws, that_laws, any_laws, bstr_laws, filled_bstr_laws, some_of_laws}
+use Rattle.coset_codec.specs.Maps.{FieldShape, optional, listed, Named, HasLabel, SomePair, SoFar, Barred, and_pairs}
+use Rattle.coset_codec.specs.declared.error.CoseError.{CoseError}
+use Rattle.coset_codec.specs.MapLaws.{LawfulNames, LawfulFieldShape, LawfulFields, Flat, field_laws, no_field_laws, optional_laws, listed_laws, labelled_laws, new_of, not_new, has_label, lookup_none, lookup_later}
 use Rattle.coset_label.specs.Names.{Name, number, RegisteredName}
 use Rattle.coset_label.specs.Labels.{label}
 use Rattle.coset_label.specs.LabelLaws.{label_laws, registered_laws, registered_or_private_laws}

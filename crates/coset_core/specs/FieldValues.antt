@@ -1,9 +1,9 @@
 -- A field that gets its value.
 use Rattle.std.specs.Prelude.{◌≡◌, ◌⊎◌, Some, None}
 use Rattle.coset_value.specs.Item.{Item}
-use Rattle.coset_shape.specs.Maps.{FieldShape}
-use Rattle.coset_shape.specs.declared.error.CoseError.{CoseError}
-use Rattle.coset_shape.specs.declared.error.CoseError.TheVariants.{DuplicateMapKey}
+use Rattle.coset_codec.specs.Maps.{FieldShape}
+use Rattle.coset_codec.specs.declared.error.CoseError.{CoseError}
+use Rattle.coset_codec.specs.declared.error.CoseError.TheVariants.{DuplicateMapKey}
 
 -- x says that there is no value yet, and y is what the value v makes
 abbrev pub TakesValue : {A : Type 0} → FieldShape A → Item → A → A → Type 0

@@ -12,9 +12,9 @@ use Rattle.coset_iana.specs.WithPrivateRange.{is_private_use}
 use Rattle.coset_iana.specs.declared.algorithms.TheConstants.{ALGORITHMS}
 use Rattle.coset_iana.specs.declared.content_formats.TheConstants.{COAP_CONTENT_FORMATS}
 use Rattle.coset_iana.specs.declared.headers.TheConstants.{HEADER_PARAMETERS}
-use Rattle.coset_shape.specs.Errors.{IsUnexpected}
-use Rattle.coset_shape.specs.Shape.{Shape, that, any, along, some_of, bstr, filled_bstr}
-use Rattle.coset_shape.specs.Maps.{Names, Fields, FieldShape, HasLabel, SomePair, Bars, field, no_field, optional, listed, labelled}
+use Rattle.coset_codec.specs.Errors.{IsUnexpected}
+use Rattle.coset_codec.specs.Shape.{Shape, that, any, along, some_of, bstr, filled_bstr}
+use Rattle.coset_codec.specs.Maps.{Names, Fields, FieldShape, HasLabel, SomePair, Bars, field, no_field, optional, listed, labelled}
 use Rattle.coset_label.specs.Names.{Name, number, word, RegisteredName, name_cmp}
 use Rattle.coset_label.specs.Labels.{label, registered, registered_or_private}
 use Rattle.coset_core.specs.FieldLabels as labels

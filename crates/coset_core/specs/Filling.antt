@@ -3,13 +3,13 @@ use Rattle.std.specs.Prelude.{◌≡◌, ◌⊎◌, ℕ, List, map, Bool, true, 
 use Rattle.std.specs.Map.{keys_of}
 use Rattle.coset_value.specs.Item.{Item, array, dict, Items, no_items, item, Pairs, no_pairs, pair}
 use Rattle.coset_value.specs.Parts.{as_bytes}
-use Rattle.coset_shape.specs.declared.error.CoseError.{CoseError}
-use Rattle.coset_shape.specs.declared.input.InputItems.{InputItems}
-use Rattle.coset_shape.specs.declared.input.InputPairs.{InputPairs}
-use Rattle.coset_shape.specs.Errors.{UnlessMemory}
-use Rattle.coset_shape.specs.Inputs.{State, Stands, AreWithin, PairsWithin}
-use Rattle.coset_shape.specs.Maps.{Walks, RefusesKey, BarsKey, GatherFaults, are_distinct, optional}
-use Rattle.coset_shape.specs.Shape.{any}
+use Rattle.coset_codec.specs.declared.error.CoseError.{CoseError}
+use Rattle.coset_codec.specs.declared.read.input.InputItems.{InputItems}
+use Rattle.coset_codec.specs.declared.read.input.InputPairs.{InputPairs}
+use Rattle.coset_codec.specs.Errors.{UnlessMemory}
+use Rattle.coset_codec.specs.Inputs.{State, Stands, AreWithin, PairsWithin}
+use Rattle.coset_codec.specs.Maps.{Walks, RefusesKey, BarsKey, GatherFaults, are_distinct, optional}
+use Rattle.coset_codec.specs.Shape.{any}
 use Rattle.coset_label.specs.Labels.{label}
 use Rattle.coset_label.specs.Names.{Name}
 use Rattle.coset_core.specs.FieldLabels as labels

@@ -2,11 +2,11 @@
 use Rattle.std.proofs.Common.{◌≡◌, ℕ, zero, suc, List, Option, Some, None, option_map, refl, sym, ap, ◌∙◌, subst, arith}
 use Rattle.coset_value.specs.Item.{Item, bytes, array, Items, no_items, item, depth, items_count}
 use Rattle.coset_value.specs.Parts.{as_bytes, as_array}
-use Rattle.coset_shape.specs.declared.error.CoseError.{CoseError}
-use Rattle.coset_shape.specs.Shape.{Shape, Places, fixed, bstr, ◌then◌, end, one_or_more, one_or_array, one_or_many}
-use Rattle.coset_shape.specs.ShapeLaws.{Again, AgainPlaces, Lawful, LawfulPlaces, some-one, both-some, array_of_laws, then_laws, bstr_laws, end_laws, one_or_many_laws}
-use Rattle.coset_shape.specs.Maps.{FieldShape}
-use Rattle.coset_shape.specs.MapLaws.{AgainFieldShape, LawfulFieldShape, Within}
+use Rattle.coset_codec.specs.declared.error.CoseError.{CoseError}
+use Rattle.coset_codec.specs.Shape.{Shape, Places, fixed, bstr, ◌then◌, end, one_or_more, one_or_array, one_or_many}
+use Rattle.coset_codec.specs.ShapeLaws.{Again, AgainPlaces, Lawful, LawfulPlaces, some-one, both-some, array_of_laws, then_laws, bstr_laws, end_laws, one_or_many_laws}
+use Rattle.coset_codec.specs.Maps.{FieldShape}
+use Rattle.coset_codec.specs.MapLaws.{AgainFieldShape, LawfulFieldShape, Within}
 use Rattle.coset_core.specs.Fields.{FieldsSeen, Versions, map_with}
 use Rattle.coset_core.specs.FieldLaws.{map_with_laws, split, join, image_with}
 use Rattle.coset_core.specs.Headers.{HeaderSeen, header_of, Signatures, no_signatures, signature_and, CounterSignaturesAre, IsHeader, AreSignatures, signed_array, told_by, counter_signatures_item, header_item, protected_item, signatures_image, header_image}

@@ -1,7 +1,7 @@
 -- The laws of the shapes of headers, protected headers and signatures, within however many layers.
 use Rattle.std.proofs.Common.{ℕ, zero, suc, refl}
-use Rattle.coset_shape.specs.ShapeLaws.{Lawful, along_laws}
-use Rattle.coset_shape.specs.SerializedLaws.{serialized_laws}
+use Rattle.coset_codec.specs.ShapeLaws.{Lawful, along_laws}
+use Rattle.coset_codec.specs.SerializedLaws.{serialized_laws}
 use Rattle.coset_core.specs.Headers.{HeaderSeen, ProtectedSeen, SignatureSeen, empty_header, is_empty_header, layered_header, protected_of, both_of, layered_protected, signature_of, places_of, layered_signature, LAYERS, header, protected, signature}
 use Rattle.coset_core.specs.HeaderUnique.{header_same}
 use Rattle.coset_core.specs.HeaderSound.{header_faultless}

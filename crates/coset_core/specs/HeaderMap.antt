@@ -1,8 +1,8 @@
 -- A header as the map of its fields, in which labels 7 and 11 hold signatures: `header_map` of RFC 8152, section 3, where label 7
 -- holds counter signatures (section 4.5). Those of label 11 are modelled on RFC 9338, section 3.1.
 use Rattle.std.specs.Prelude.{List, [], ◌∷◌}
-use Rattle.coset_shape.specs.Shape.{Shape, along}
-use Rattle.coset_shape.specs.Maps.{listed}
+use Rattle.coset_codec.specs.Shape.{Shape, along}
+use Rattle.coset_codec.specs.Maps.{listed}
 use Rattle.coset_core.specs.Fields.{FieldsSeen, Versions, map_with}
 use Rattle.coset_core.specs.Headers.{HeaderSeen, header_of, fields_in, counter_signatures_in, countersignatures_in, Signatures, no_signatures, signature_and, SignatureSeen, signatures_of}
 

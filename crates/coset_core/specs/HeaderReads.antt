@@ -2,10 +2,10 @@
 use Rattle.std.specs.Prelude.{None, ⊤}
 use Rattle.std.proofs.Common.{◌≡◌, ℕ, zero, suc, List, [], ◌∷◌, Option, Some, refl, ap, sym, subst, inl, inr}
 use Rattle.coset_value.specs.Item.{Item, Items, no_items, item, Pairs, no_pairs, pair}
-use Rattle.coset_shape.specs.Shape.{Shape, Each, EachFaults, fixed, bstr, ◌then◌, end, any_number, one_or_more, one_or_many}
-use Rattle.coset_shape.specs.Serialized.{ContentDescribes, ContentFaults}
-use Rattle.coset_shape.specs.declared.error.CoseError.{CoseError}
-use Rattle.coset_shape.specs.Maps.{listed, SomePair}
+use Rattle.coset_codec.specs.Shape.{Shape, Each, EachFaults, fixed, bstr, ◌then◌, end, any_number, one_or_more, one_or_many}
+use Rattle.coset_codec.specs.Serialized.{ContentDescribes, ContentFaults}
+use Rattle.coset_codec.specs.declared.error.CoseError.{CoseError}
+use Rattle.coset_codec.specs.Maps.{listed, SomePair}
 use Rattle.coset_core.specs.Fields.{FieldsSeen, Versions, map_with, partial_header, SomeCounterSignatures}
 use Rattle.coset_core.specs.FieldLaws.{split}
 use Rattle.coset_core.specs.Headers.{HeaderSeen, header_of, Signatures, no_signatures, ProtectedSeen, SignatureSeen, signatures_of, empty_header, CounterSignaturesAre, ContentIs, ProtectedIs, IsHeader, AreSignatures, signed_array, told_by, HeaderFaults, ProtectedFaults, counter_signatures_faults, layered_header, layered_protected, layered_signature}

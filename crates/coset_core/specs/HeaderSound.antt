@@ -2,10 +2,10 @@
 use Rattle.std.proofs.Common.{◌≡◌, ℕ, zero, suc, List, [], ◌∷◌, Option, Some, refl, subst, inl, inr}
 use Rattle.coset_value.specs.Item.{Item, Items, no_items, item}
 use Rattle.coset_cbor.proofs.Again.{encodings_differ}
-use Rattle.coset_shape.specs.declared.error.CoseError.{CoseError}
-use Rattle.coset_shape.specs.Serialized.{ContentFaults}
-use Rattle.coset_shape.specs.Shape.{EachFaults, one_or_more}
-use Rattle.coset_shape.specs.ShapeLaws.{some-one, some-none}
+use Rattle.coset_codec.specs.declared.error.CoseError.{CoseError}
+use Rattle.coset_codec.specs.Serialized.{ContentFaults}
+use Rattle.coset_codec.specs.Shape.{EachFaults, one_or_more}
+use Rattle.coset_codec.specs.ShapeLaws.{some-one, some-none}
 use Rattle.coset_core.specs.FieldLaws.{partial_header_laws, counter_signatures_found}
 use Rattle.coset_core.specs.Headers.{HeaderSeen, header_of, Signatures, no_signatures, signature_and, empty_header, CounterSignaturesAre, ContentIs, IsHeader, AreSignatures, signed_array, protected_item, header_image, HeaderFaults, ProtectedFaults, counter_signatures_faults}
 use Rattle.coset_core.specs.HeaderAgain.{fixed_laws, signed_laws, protected_again, header_again}

@@ -2,8 +2,8 @@
 use Rattle.std.proofs.Common.{◌≡◌, ℕ, zero, suc, List, [], ◌∷◌, Option, Some, None, refl, sym, ap, ◌∙◌, subst}
 use Rattle.coset_value.specs.Item.{Item, Items, no_items, item}
 use Rattle.coset_cbor.proofs.Again.{encodings_differ}
-use Rattle.coset_shape.specs.Shape.{one_or_more, bstr, ◌then◌, end}
-use Rattle.coset_shape.specs.ShapeLaws.{some-one, some-none}
+use Rattle.coset_codec.specs.Shape.{one_or_more, bstr, ◌then◌, end}
+use Rattle.coset_codec.specs.ShapeLaws.{some-one, some-none}
 use Rattle.coset_core.specs.Fields.{FieldsSeen, Versions}
 use Rattle.coset_core.specs.FieldLaws.{partial_header_laws}
 use Rattle.coset_core.specs.Headers.{HeaderSeen, header_of, Signatures, no_signatures, signature_and, empty_header, CounterSignaturesAre, ContentIs, IsHeader, AreSignatures, signed_array, told_by}

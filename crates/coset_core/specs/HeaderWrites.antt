@@ -2,10 +2,10 @@
 use Rattle.std.specs.Map.{keys_of}
 use Rattle.std.proofs.Common.{◌≡◌, ◌++◌, ℕ, zero, suc, List, [], ◌∷◌, Option, Some, None, true, false, option_map, refl, sym, ap, ◌∙◌}
 use Rattle.coset_value.specs.Item.{Item, bytes, dict, item}
-use Rattle.coset_shape.specs.Shape.{both, images, any, bstr, filled_bstr, some_of}
-use Rattle.coset_shape.specs.Maps.{optional, listed, put_fields, named_image, are_distinct}
-use Rattle.coset_shape.specs.Serialized.{content_bytes}
-use Rattle.coset_shape.specs.RestLaws.{some-entries, no-entries}
+use Rattle.coset_codec.specs.Shape.{both, images, any, bstr, filled_bstr, some_of}
+use Rattle.coset_codec.specs.Maps.{optional, listed, put_fields, named_image, are_distinct}
+use Rattle.coset_codec.specs.Serialized.{content_bytes}
+use Rattle.coset_codec.specs.RestLaws.{some-entries, no-entries}
 use Rattle.coset_label.specs.Labels.{label}
 use Rattle.coset_label.specs.Names.{Name, number, word, name_item, RegisteredName, assigned, private_use, phrase, as_name}
 use Rattle.coset_core.specs.FieldLabels as labels

@@ -6,11 +6,11 @@ use Rattle.coset_value.specs.Item.{Item, bytes, array, Items, no_items, item}
 use Rattle.coset_value.specs.Parts.{as_bytes}
 use Rattle.coset_cbor.specs.Grammar.{IsItem}
 use Rattle.coset_cbor.specs.declared.de.Error.TheVariants.{RecursionLimitExceeded}
-use Rattle.coset_shape.specs.Errors.{IsUnexpected}
-use Rattle.coset_shape.specs.Serialized.{ContentFaults, content_bytes, serialized_or_empty}
-use Rattle.coset_shape.specs.Shape.{Shape, both, fixed, along, array_of, ◌then◌, end, any_number, bstr, one_or_more, one_or_array, one_or_many}
-use Rattle.coset_shape.specs.declared.error.CoseError.{CoseError}
-use Rattle.coset_shape.specs.declared.error.CoseError.TheVariants.{DecodeFailed}
+use Rattle.coset_codec.specs.Errors.{IsUnexpected}
+use Rattle.coset_codec.specs.Serialized.{ContentFaults, content_bytes, serialized_or_empty}
+use Rattle.coset_codec.specs.Shape.{Shape, both, fixed, along, array_of, ◌then◌, end, any_number, bstr, one_or_more, one_or_array, one_or_many}
+use Rattle.coset_codec.specs.declared.error.CoseError.{CoseError}
+use Rattle.coset_codec.specs.declared.error.CoseError.TheVariants.{DecodeFailed}
 use Rattle.coset_core.specs.Fields.{FieldsSeen, Versions, empty_fields, partial_header, SomeCounterSignatures}
 
 -- ---- headers without their memory

@@ -23,3 +23,5 @@ pub mod Same
 pub mod SameLaws
 pub mod Told
 pub mod Filling
+pub mod Structure
+pub mod Calls

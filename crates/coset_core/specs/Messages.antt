@@ -1,7 +1,7 @@
 -- What messages and their signatures begin with: two headers (RFC 8152, section 3).
 use Rattle.std.specs.Prelude.{None}
-use Rattle.coset_shape.specs.Shape.{Shape, Places, array_of, ◌then◌}
-use Rattle.coset_shape.specs.ShapeLaws.{Lawful, LawfulPlaces, array_of_laws, then_laws}
+use Rattle.coset_codec.specs.Shape.{Shape, Places, array_of, ◌then◌}
+use Rattle.coset_codec.specs.ShapeLaws.{Lawful, LawfulPlaces, array_of_laws, then_laws}
 use Rattle.coset_core.specs.Headers.{HeaderSeen, ProtectedSeen, empty_header, header, protected}
 use Rattle.coset_core.specs.HeaderLaws.{header_laws, protected_laws}
 

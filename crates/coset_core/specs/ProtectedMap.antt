@@ -1,7 +1,7 @@
 -- A protected header as its map alone, outside a byte string: no bytes are kept.
 use Rattle.std.proofs.Common.{◌≡◌, None, sym, ◌∙◌}
-use Rattle.coset_shape.specs.Shape.{Shape}
-use Rattle.coset_shape.specs.ShapeLaws.{Again, Lawful}
+use Rattle.coset_codec.specs.Shape.{Shape}
+use Rattle.coset_codec.specs.ShapeLaws.{Again, Lawful}
 use Rattle.coset_core.specs.Headers.{HeaderSeen, ProtectedSeen, header}
 use Rattle.coset_core.specs.HeaderLaws.{header_laws}
 

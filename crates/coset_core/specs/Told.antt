@@ -1,6 +1,6 @@
 -- `==` of what messages, keys and claims are made of is equality of what contracts see.
 use Rattle.std.specs.Ordering.{on}
-use Rattle.coset_shape.specs.Told.{Tells}
+use Rattle.coset_codec.specs.Told.{Tells}
 use Rattle.coset_core.specs.Same.{algorithm_eq, entry_eq, header_eq, protected_eq, signature_eq}
 use Rattle.coset_core.specs.SameLaws.{algorithm_eq-decides, entry_eq-decides, header_eq-decides, protected_eq-decides, signature_eq-decides}
 use Rattle.coset_core.specs.Views.{algorithm_seen, entry_seen, header_seen, protected_seen, signature_seen}

@@ -5,7 +5,7 @@ use Rattle.coset_value.specs.Range.{AreInRange, ArePairsInRange}
 use Rattle.coset_value.specs.View.{items_of}
 use Rattle.coset_cbor.specs.Least.{least_encodings, least_pair_encodings}
 use Rattle.coset_cbor.specs.Shortest.{IsShortest}
-use Rattle.coset_shape.specs.Maps.{put_field, put_fields}
+use Rattle.coset_codec.specs.Maps.{put_field, put_fields}
 use Rattle.coset_label.specs.Names.{Name, name_item, RegisteredName, as_name}
 use Rattle.coset_core.specs.FieldLabels as labels
 use Rattle.coset_core.specs.Fields.{FieldsSeen, Versions}

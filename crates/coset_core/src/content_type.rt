@@ -2,27 +2,27 @@
 
 ghost use Rattle.std.specs.Prelude.{◌≡◌, ◌≤◌, [], option_map, OnOk, IfOk, IfErr, filter, length, ◌==◌, OnErr};
 ghost use Rattle.coset_core.specs.Views.{content_type_seen};
-ghost use Rattle.coset_shape.specs.Answers.{Reads};
-ghost use Rattle.coset_shape.specs.Errors.{IsUnexpected, UnlessMemory};
-ghost use Rattle.coset_shape.specs.Inputs.{state, ReadsAt, length_left};
+ghost use Rattle.coset_codec.specs.Answers.{Reads};
+ghost use Rattle.coset_codec.specs.Errors.{IsUnexpected, UnlessMemory};
+ghost use Rattle.coset_codec.specs.Inputs.{state, ReadsAt, length_left};
 ghost use Rattle.coset_core.specs.Fields.{IsMediaType, content_type};
-ghost use Rattle.coset_shape.specs.Maps.{optional, put_field};
+ghost use Rattle.coset_codec.specs.Maps.{optional, put_field};
 ghost use Rattle.coset_label.specs.Names.{name_item};
 ghost use Rattle.coset_core.specs.FieldLabels as labels;
 ghost use Rattle.coset_core.specs.FieldValues.{TakesValue, RefusesValue};
 ghost use Rattle.coset_core.specs.Written.{AppendsPairs};
-ghost use Rattle.coset_shape.specs.Encoding.{AppendsItem};
+ghost use Rattle.coset_codec.specs.Encoding.{AppendsItem};
 ghost use Rattle.std.specs.Option.{option_eq};
 ghost use Rattle.coset_core.specs.Same.{content_type_eq};
 
 use crate::header::writing::{write_number, write_parameter};
 use coset_cbor::OutOfMemory;
 use coset_cbor::ser::write_text;
+use coset_codec::read::Input;
+use coset_codec::traits::FromPull;
+use coset_codec::{CoseError, Result};
 use coset_iana::{EnumI64, HeaderParameter};
 use coset_label::{ContentType, RegisteredLabel};
-use coset_shape::input::Input;
-use coset_shape::traits::FromPull;
-use coset_shape::{CoseError, Result};
 use std::alloc::Global;
 
 /// How many of the text's bytes are `/`.

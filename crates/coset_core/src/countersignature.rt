@@ -2,13 +2,13 @@
 //! label 7 are over. The shape, the structures and their contexts are this library's own, modelled on RFC 9338.
 
 ghost use Rattle.std.specs.Prelude.{◌≡◌, [], map, OnOk, IfOk, IfErr, IfSome, IsTrue, None, ◌↔◌, ◌+◌, ◌<◌};
-ghost use Rattle.coset_shape.specs.declared.error.CoseError.TheVariants.{OutOfMemory};
+ghost use Rattle.coset_codec.specs.declared.error.CoseError.TheVariants.{OutOfMemory};
 ghost use Rattle.coset_core.specs.Contents.{empty_signature};
-ghost use Rattle.coset_shape.specs.InPlace.{GetsOne};
+ghost use Rattle.coset_codec.specs.InPlace.{GetsOne};
 ghost use Rattle.coset_core.specs.Views.{countersignature_seen, header_seen, signature_seen};
 ghost use Rattle.coset_core.specs.Headers.{signature as signature_shape, signatures_of, signatures_image};
 ghost use Rattle.coset_core.specs.Written.{AppendsSignatures, signature_array};
-ghost use Rattle.coset_shape.specs.Encoding.{HasNoImage, Encodes};
+ghost use Rattle.coset_codec.specs.Encoding.{HasNoImage, Encodes};
 ghost use Rattle.std.specs.Ordering.{on};
 ghost use Rattle.std.specs.Cmp.{on_equiv, on_per, partial_equiv_from_equiv};
 ghost use Rattle.coset_core.specs.Same.{signature_eq, signatures_eq};
@@ -22,9 +22,9 @@ use crate::protected::{
 };
 use crate::signature::{CoseSignature, Held, copy_into, held_by, make_room};
 use coset_cbor::ser::{write_array_head, write_bytes};
-use coset_shape::encode::Encode;
-use coset_shape::input::Input;
-use coset_shape::{Codec, Result, TaggedCodec};
+use coset_codec::read::Input;
+use coset_codec::write::Encode;
+use coset_codec::{Codec, Result, TaggedCodec};
 use std::alloc::{AllocError, Global};
 use std::marker::Model;
 

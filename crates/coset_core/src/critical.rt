@@ -2,28 +2,27 @@
 
 ghost use Rattle.std.specs.Prelude.{◌≡◌, ◌≤◌, [], map, OnOk, IfOk, IfErr, OnErr};
 ghost use Rattle.coset_core.specs.Views.{critical_seen};
-ghost use Rattle.coset_shape.specs.Answers.{Reads};
-ghost use Rattle.coset_shape.specs.Errors.{UnlessMemory};
-ghost use Rattle.coset_shape.specs.Inputs.{state, ReadsAt, length_left};
+ghost use Rattle.coset_codec.specs.Answers.{Reads};
+ghost use Rattle.coset_codec.specs.Errors.{UnlessMemory};
+ghost use Rattle.coset_codec.specs.Inputs.{state, ReadsAt, length_left};
 ghost use Rattle.coset_core.specs.Fields.{critical};
-ghost use Rattle.coset_shape.specs.Maps.{listed, put_field};
-ghost use Rattle.coset_shape.specs.Shape.{some_of};
+ghost use Rattle.coset_codec.specs.Maps.{listed, put_field};
+ghost use Rattle.coset_codec.specs.Shape.{some_of};
 ghost use Rattle.coset_label.specs.Views.{registered_or_private_seen};
 ghost use Rattle.coset_core.specs.FieldLabels as labels;
 ghost use Rattle.coset_core.specs.FieldValues.{TakesValue, RefusesValue};
 ghost use Rattle.coset_core.specs.Written.{AppendsItems, AppendsPairs, registered_item, critical_item};
-ghost use Rattle.coset_shape.specs.Encoding.{AppendsItem};
+ghost use Rattle.coset_codec.specs.Encoding.{AppendsItem};
 ghost use Rattle.std.specs.Cmp.Lexicographic.{pointwise};
 ghost use Rattle.coset_core.specs.Same.{critical_eq};
 
 use crate::header::writing::{write_number, write_parameter};
 use coset_cbor::OutOfMemory;
 use coset_cbor::ser::{write_array_head, write_text};
+use coset_codec::Result;
+use coset_codec::read::{Input, read_filled_list};
 use coset_iana::{EnumI64, HeaderParameter};
 use coset_label::RegisteredLabelWithPrivate;
-use coset_shape::Result;
-use coset_shape::input::Input;
-use coset_shape::list::read_filled_list;
 use std::alloc::Global;
 
 /// Reads the labels that must be understood.

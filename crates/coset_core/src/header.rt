@@ -1,7 +1,7 @@
 //! Headers: what is said of a message's content beside it (RFC 8152, sections 3 and 3.1).
 
 ghost use Rattle.std.specs.Prelude.{◌≡◌, map, option_map, OnOk, IfOk, IfErr, ◌<◌, Option, IsTrue, Err, ◌↔◌, Some};
-ghost use Rattle.coset_shape.specs.declared.error.CoseError.TheVariants as errors;
+ghost use Rattle.coset_codec.specs.declared.error.CoseError.TheVariants as errors;
 ghost use Rattle.coset_core.specs.FieldsView.{fields_seen, signatures_held};
 ghost use Rattle.coset_core.specs.Views.{algorithm_seen, entry_seen, header_seen};
 ghost use Rattle.coset_core.specs.Headers.{empty_header, is_empty_header, layered_header, header as header_shape};
@@ -21,12 +21,12 @@ use crate::header::reading::fill_header;
 use crate::header::writing::write_header;
 use crate::signature::{CoseSignature, Held, copy_signatures, let_held_go, same_signatures};
 use coset_cbor::value::Value;
+use coset_codec::error::Refused;
+use coset_codec::read::Input;
+use coset_codec::util::copy_bstr;
+use coset_codec::{Codec, CoseError, Result};
 use coset_iana::HeaderParameter;
 use coset_label::{Algorithm, ContentType, Label, RegisteredLabelWithPrivate};
-use coset_shape::error::Refused;
-use coset_shape::input::Input;
-use coset_shape::util::copy_bstr;
-use coset_shape::{Codec, CoseError, Result};
 use std::alloc::{AllocError, Global};
 
 mod builder;

@@ -7,17 +7,17 @@
 ghost use Rattle.std.specs.Prelude.{◌≡◌, ◌≤◌};
 ghost use Rattle.coset_core.specs.Headers.{empty_header, header as header_shape, protected as protected_shape};
 ghost use Rattle.coset_core.specs.Views.{header_seen, protected_seen};
-ghost use Rattle.coset_shape.specs.InPlace.{Fills};
-ghost use Rattle.coset_shape.specs.Inputs.{State, state, AreWithin, ReadsAt, length_left};
+ghost use Rattle.coset_codec.specs.InPlace.{Fills};
+ghost use Rattle.coset_codec.specs.Inputs.{State, state, AreWithin, ReadsAt, length_left};
 ghost use Rattle.coset_value.specs.Item.{Items};
 ghost use Rattle.coset_core.specs.Contents.{BeginsHeaders};
 
 use crate::header::reading::fill_header;
 use crate::header::{Header, LAYERS};
 use crate::protected::{ProtectedHeader, fill_bstr};
-use coset_shape::error::Refused;
-use coset_shape::input::{Input, InputItems};
-use coset_shape::{CoseError, Result};
+use coset_codec::error::Refused;
+use coset_codec::read::{Input, InputItems};
+use coset_codec::{CoseError, Result};
 use std::alloc::Global;
 
 /// Reads the first place of a message into an empty header, and keeps its bytes.

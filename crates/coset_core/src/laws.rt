@@ -1,9 +1,9 @@
 //! Laws of headers, which callers may cite. Each is the contract of a function that does nothing. What holds of each type
-//! that is read and written stands in `coset_shape::laws`.
+//! that is read and written stands in `coset_codec::laws`.
 
 ghost use Rattle.std.specs.Prelude.{◌≡◌, ◌↔◌, ℕ, List, Some};
 ghost use Rattle.coset_value.specs.Item.{Item, bytes};
-ghost use Rattle.coset_shape.specs.declared.error.CoseError.{CoseError};
+ghost use Rattle.coset_codec.specs.declared.error.CoseError.{CoseError};
 ghost use Rattle.coset_core.specs.HeaderMap.{header_map};
 ghost use Rattle.coset_core.specs.Headers.{HeaderSeen, ProtectedSeen, layered_header, protected, protected_bytes, signatures_within};
 

@@ -1,6 +1,7 @@
 //! Headers of COSE messages (RFC 8152, section 3).
 #![tactic(auto)]
 
+pub mod calls;
 mod content_type;
 mod countersignature;
 mod critical;
@@ -10,12 +11,13 @@ pub mod laws;
 mod protected;
 mod protected_bstr;
 mod signature;
+pub mod structure;
 
 pub use coset_label::{
     Algorithm, AsCborValue, CallError, CborOrdering, CborSerializable, ClaimName, Codec,
     ContentType, CoseError, Encode, EndOfFile, FromPull, KeyOperation, KeyType, Label, Lawful,
     RegisteredLabel, RegisteredLabelWithPrivate, Result, Source, TaggedCborSerializable,
-    TaggedCodec, cbor, has_repeats, iana, shape, util,
+    TaggedCodec, cbor, codec, has_repeats, iana, util,
 };
 pub use countersignature::{CoseCountersignature, CoseCountersignatureBuilder};
 pub use header::{Header, HeaderBuilder};

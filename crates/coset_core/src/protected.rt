@@ -1,28 +1,28 @@
 //! Protected headers: those that a signature covers, kept as they were read (RFC 8152, section 3).
 
 ghost use Rattle.std.specs.Prelude.{◌≡◌, ◌≤◌, option_map, OnOk, IfOk, IfErr, IsTrue, Some, None, ℕ, List, ◌↔◌};
-ghost use Rattle.coset_shape.specs.declared.error.CoseError.TheVariants.{OutOfMemory};
+ghost use Rattle.coset_codec.specs.declared.error.CoseError.TheVariants.{OutOfMemory};
 ghost use Rattle.coset_core.specs.Contents.{FillsContent};
-ghost use Rattle.coset_shape.specs.InPlace.{Fills};
+ghost use Rattle.coset_codec.specs.InPlace.{Fills};
 ghost use Rattle.coset_core.specs.Views.{header_seen, protected_seen};
-ghost use Rattle.coset_shape.specs.Answers.{Reads, Images, RefusesItem};
-ghost use Rattle.coset_shape.specs.Errors.{answer};
-ghost use Rattle.coset_shape.specs.Inputs.{state, GoesBehind, ReadsAt, length_left};
-ghost use Rattle.coset_shape.specs.Sources.{source_item};
+ghost use Rattle.coset_codec.specs.Answers.{Reads, Images, RefusesItem};
+ghost use Rattle.coset_codec.specs.Errors.{answer};
+ghost use Rattle.coset_codec.specs.Inputs.{state, GoesBehind, ReadsAt, length_left};
+ghost use Rattle.coset_codec.specs.Sources.{source_item};
 ghost use Rattle.coset_value.specs.Item.{bytes};
-ghost use Rattle.coset_shape.specs.Shape.{bstr};
+ghost use Rattle.coset_codec.specs.Shape.{bstr};
 ghost use Rattle.coset_core.specs.Headers.{empty_header, is_empty_header, protected_bytes, protected as protected_shape, layered_protected, header_image};
 ghost use Rattle.std.specs.Cow.{cow_slice_items};
 ghost use Rattle.coset_value.specs.View.{view};
 ghost use Rattle.coset_cbor.specs.Pulls.{pull_item};
 ghost use Rattle.coset_core.specs.ProtectedMap.{protected_map, protected_map_laws};
 ghost use Rattle.coset_core.specs.Written.{AreShortest, HoldsShortest};
-ghost use Rattle.coset_shape.specs.Encoding.{HasNoImage, Encodes};
+ghost use Rattle.coset_codec.specs.Encoding.{HasNoImage, Encodes};
 ghost use Rattle.std.specs.Ordering.{on};
 ghost use Rattle.std.specs.Cmp.{on_equiv, on_per, partial_equiv_from_equiv};
 ghost use Rattle.coset_core.specs.Same.{protected_eq};
 ghost use Rattle.coset_core.specs.SameLaws.{protected_eq_equiv};
-ghost use Rattle.coset_shape.specs.Serialized.{fresh_bytes};
+ghost use Rattle.coset_codec.specs.Serialized.{fresh_bytes};
 
 use crate::header::reading::fill_header;
 use crate::header::writing::write_header;
@@ -31,12 +31,12 @@ use coset_cbor::de::Pull;
 use coset_cbor::ser::write_bytes;
 use coset_cbor::value::Value;
 use coset_cbor::{de, laws};
-use coset_shape::encode::Encode;
-use coset_shape::error::{Refused, keep_error};
-use coset_shape::input::Input;
-use coset_shape::traits::whole_item;
-use coset_shape::util::copy_bstr;
-use coset_shape::{Codec, CoseError, Result, Source};
+use coset_codec::error::{Refused, keep_error};
+use coset_codec::read::Input;
+use coset_codec::traits::whole_item;
+use coset_codec::util::copy_bstr;
+use coset_codec::write::Encode;
+use coset_codec::{Codec, CoseError, Result, Source};
 use std::alloc::{AllocError, Global};
 use std::borrow::CowSlice;
 

@@ -4,9 +4,9 @@ ghost use Rattle.coset_core.specs.Headers.{protected};
 ghost use Rattle.coset_core.specs.Views.{protected_seen};
 
 use crate::protected::{Bstr, ProtectedHeader, read_protected};
-use coset_shape::encode::Encode;
-use coset_shape::input::Input;
-use coset_shape::{Codec, Result};
+use coset_codec::read::Input;
+use coset_codec::write::Encode;
+use coset_codec::{Codec, Result};
 use std::alloc::Global;
 
 /// A protected header as a type whose item is the byte string that stands for it in messages (RFC 8152, section 3). A

@@ -1,17 +1,17 @@
 //! Signatures: those of a message, and those that countersign (RFC 8152, sections 4.1 and 4.5).
 
 ghost use Rattle.std.specs.Prelude.{◌≡◌, [], map, option_map, OnOk, IfOk, IfErr, codes, ◌≤◌, ◌<◌, IsTrue, OnErr, None, ◌↔◌, ◌+◌, IfSome};
-ghost use Rattle.coset_shape.specs.declared.error.CoseError.TheVariants.{OutOfMemory};
+ghost use Rattle.coset_codec.specs.declared.error.CoseError.TheVariants.{OutOfMemory};
 ghost use Rattle.coset_core.specs.Contents.{empty_signature};
-ghost use Rattle.coset_shape.specs.InPlace.{BeginsNext, Fills, FillsEach, GetsOne, GetsPlace};
+ghost use Rattle.coset_codec.specs.InPlace.{BeginsNext, Fills, FillsEach, GetsOne, GetsPlace};
 ghost use Rattle.coset_core.specs.Views.{header_seen, protected_seen, signature_seen};
-ghost use Rattle.coset_shape.specs.Errors.{IsUnexpected, answer, filled};
+ghost use Rattle.coset_codec.specs.Errors.{IsUnexpected, answer, filled};
 ghost use Rattle.coset_value.specs.Item.{Item, array, Items, no_items, item};
-ghost use Rattle.coset_shape.specs.Inputs.{State, state, length_left, input_size, items_size, items_turns, Stands, GoesBehind, AreWithin, EntersArray};
+ghost use Rattle.coset_codec.specs.Inputs.{State, state, length_left, input_size, items_size, items_turns, Stands, GoesBehind, AreWithin, EntersArray};
 ghost use Rattle.coset_core.specs.Filling.{BeginsPlaces, EndsPlaces};
 ghost use Rattle.coset_core.specs.Headers.{empty_header, layered_signature, signature as signature_shape, signatures_of, signatures_image};
 ghost use Rattle.coset_core.specs.Written.{AppendsSignatures, signature_array};
-ghost use Rattle.coset_shape.specs.Encoding.{HasNoImage, Encodes};
+ghost use Rattle.coset_codec.specs.Encoding.{HasNoImage, Encodes};
 ghost use Rattle.std.specs.Ordering.{on};
 ghost use Rattle.std.specs.Cmp.{on_equiv, on_per, partial_equiv_from_equiv};
 ghost use Rattle.coset_core.specs.Same.{signature_eq, signatures_eq};
@@ -27,10 +27,10 @@ use crate::protected::{
     string_bytes, write_protected,
 };
 use coset_cbor::ser::{write_array_head, write_bytes};
-use coset_shape::encode::Encode;
-use coset_shape::error::{Refused, keep_error};
-use coset_shape::input::{Input, InputItems};
-use coset_shape::{Codec, CoseError, Result};
+use coset_codec::error::{Refused, keep_error};
+use coset_codec::read::{Input, InputItems};
+use coset_codec::write::Encode;
+use coset_codec::{Codec, CoseError, Result};
 use std::alloc::{AllocError, Global};
 use std::marker::Model;
 

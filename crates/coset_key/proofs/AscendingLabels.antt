@@ -8,10 +8,10 @@ use Rattle.std.specs.Ordering.{ordering_then, is_lt}
 use Rattle.std.proofs.lemmas.List.Elements.{All-from_recursion, recursion_from_All}
 use Rattle.std.proofs.lemmas.List.Sorted.{All-permutation, Contains-permutation}
 use Rattle.coset_value.specs.Item.{Item, dict, Pairs, pair, no_pairs}
-use Rattle.coset_shape.specs.MapLaws.{IsRest, rest_apart}
-use Rattle.coset_shape.specs.Maps.{Named, entries_image, may_write, named_image, put_field}
-use Rattle.coset_shape.specs.Shape.{both}
-use Rattle.coset_shape.specs.ShapeLaws.{some-one}
+use Rattle.coset_codec.specs.MapLaws.{IsRest, rest_apart}
+use Rattle.coset_codec.specs.Maps.{Named, entries_image, may_write, named_image, put_field}
+use Rattle.coset_codec.specs.Shape.{both}
+use Rattle.coset_codec.specs.ShapeLaws.{some-one}
 use Rattle.coset_label.specs.Labels.{label}
 use Rattle.coset_label.specs.Names.{Name, number, word, argument, encoded_length, head_length, name_cmp, name_item}
 use Rattle.coset_label.specs.Orderings.{name_cmp_by}

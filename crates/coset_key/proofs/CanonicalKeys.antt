@@ -9,9 +9,9 @@ use Rattle.std.proofs.lemmas.List.Sorted.{IsPermutation-map, IsPermutation-sym, 
 use Rattle.std.proofs.lemmas.Cmp.{eq_by_cmp_equiv}
 use Rattle.std.proofs.lemmas.Map.Keys.{IsDistinct-IsPermutation}
 use Rattle.coset_value.specs.Item.{Item}
-use Rattle.coset_shape.specs.MapLaws.{labelled_arranged, rest_distinct}
-use Rattle.coset_shape.specs.ReadAgain.{EncodesApart, again_reads}
-use Rattle.coset_shape.specs.ShapeLaws.{Again}
+use Rattle.coset_codec.specs.MapLaws.{labelled_arranged, rest_distinct}
+use Rattle.coset_codec.specs.ReadAgain.{EncodesApart, again_reads}
+use Rattle.coset_codec.specs.ShapeLaws.{Again}
 use Rattle.coset_label.specs.NameOrder.{name_cmp_total, canonical_cmp_total, name_cmp-apart, canonical_cmp-apart}
 use Rattle.coset_label.specs.Names.{Name, TellsApart}
 use Rattle.coset_label.specs.Orderings.{name_cmp_by}

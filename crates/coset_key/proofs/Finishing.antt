@@ -1,9 +1,9 @@
 -- Keys of which all pairs were read.
 use Rattle.std.proofs.Common.{Result, Ok, Err, subst, inr}
 use Rattle.coset_value.specs.Item.{Item}
-use Rattle.coset_shape.specs.Answers.{Reads}
-use Rattle.coset_shape.specs.Maps.{labelled}
-use Rattle.coset_shape.specs.declared.error.CoseError.{CoseError}
+use Rattle.coset_codec.specs.Answers.{Reads}
+use Rattle.coset_codec.specs.Maps.{labelled}
+use Rattle.coset_codec.specs.declared.error.CoseError.{CoseError}
 use Rattle.coset_core.specs.Fields.{names}
 use Rattle.coset_key.specs.Keys.{Parts, HasKeyType, fields, key, key_seen}
 use Rattle.coset_key.specs.Reading.{IsFinished}

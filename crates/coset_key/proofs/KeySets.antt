@@ -10,15 +10,15 @@ use Rattle.std.proofs.lemmas.Map.Lookups.{CmpEqualImpliesEq}
 use Rattle.std.proofs.lemmas.Map.Views.{tells_apart}
 use Rattle.coset_value.specs.Item.{Item, Items, no_items, item}
 use Rattle.coset_value.specs.Parts.{as_array}
-use Rattle.coset_shape.specs.Errors.{IsUnexpected, UnlessMemory}
-use Rattle.coset_shape.specs.Inputs.{State, AreWithin, Nexts, ReadsAt}
-use Rattle.coset_shape.specs.declared.input.InputItems.{InputItems}
+use Rattle.coset_codec.specs.Errors.{IsUnexpected, UnlessMemory}
+use Rattle.coset_codec.specs.Inputs.{State, AreWithin, Nexts, ReadsAt}
+use Rattle.coset_codec.specs.declared.read.input.InputItems.{InputItems}
 use Rattle.coset_key.specs.Reading.{ReadsSet}
-use Rattle.coset_shape.specs.declared.error.CoseError.{CoseError}
-use Rattle.coset_shape.specs.Sets.{IsSetOf, IsDistinctBy, HasMember, Repeats, set_of}
-use Rattle.coset_shape.specs.SetLaws.{set_has, set_push, distinct_push, set_of_none}
-use Rattle.coset_shape.specs.Shape.{Shape, Each, EachFaults}
-use Rattle.coset_shape.proofs.Encoding.{and_items}
+use Rattle.coset_codec.specs.declared.error.CoseError.{CoseError}
+use Rattle.coset_codec.specs.Sets.{IsSetOf, IsDistinctBy, HasMember, Repeats, set_of}
+use Rattle.coset_codec.specs.SetLaws.{set_has, set_push, distinct_push, set_of_none}
+use Rattle.coset_codec.specs.Shape.{Shape, Each, EachFaults}
+use Rattle.coset_codec.proofs.Encoding.{and_items}
 
 -- ---- as contracts see them
 

@@ -1,7 +1,7 @@
 -- The members of a list that an item describes.
 use Rattle.std.proofs.Common.{◌≡◌, ◌≤◌, ◌<◌, ℕ, zero, suc, List, [], ◌∷◌, length, get_or, subst, arith}
 use Rattle.coset_value.specs.Item.{Item, Items, no_items, item, depth, items_depth}
-use Rattle.coset_shape.specs.Shape.{Shape, Each}
+use Rattle.coset_codec.specs.Shape.{Shape, Each}
 
 -- each is described by an item of the list
 pub member_of :

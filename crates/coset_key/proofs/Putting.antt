@@ -2,9 +2,9 @@
 use Rattle.std.proofs.Common.{◌≡◌, [], ◌∷◌, ◌++◌, Bool, ◌||◌, false, true, refl, sym, ◌∙◌, subst, Result, Ok, Err}
 use Rattle.std.specs.Prelude.{IfErr, OnOk}
 use Rattle.coset_value.specs.Item.{Item}
-use Rattle.coset_shape.specs.Errors.{UnlessMemory}
-use Rattle.coset_shape.specs.Maps.{Where, is_core, Adds, Refuses}
-use Rattle.coset_shape.specs.declared.error.CoseError.{CoseError}
+use Rattle.coset_codec.specs.Errors.{UnlessMemory}
+use Rattle.coset_codec.specs.Maps.{Where, is_core, Adds, Refuses}
+use Rattle.coset_codec.specs.declared.error.CoseError.{CoseError}
 use Rattle.coset_label.specs.Names.{Name}
 use Rattle.coset_core.specs.FieldLaws.{names_laws, same_name-sym}
 use Rattle.coset_core.specs.Fields.{names, same_name}

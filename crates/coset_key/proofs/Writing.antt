@@ -1,11 +1,11 @@
 -- The fields of a key, written pair by pair.
 use Rattle.std.proofs.Common.{◌≡◌, ◌==◌, ℤ, List, [], ◌∷◌, length, Bool, true, false, Option, Some, None, option_map, refl, sym, ◌∙◌, ap, true≢false, arith}
 use Rattle.coset_value.specs.Item.{Item, Items, item, array}
-use Rattle.coset_shape.specs.Encoding.{AddsField}
-use Rattle.coset_shape.specs.Maps.{field_shape_image, is_filled}
-use Rattle.coset_shape.specs.Shape.{both, images, list_of}
-use Rattle.coset_shape.specs.declared.encode_map.MapEncoder.{MapEncoder}
-use Rattle.coset_shape.proofs.EncodingMaps.{nothing-added}
+use Rattle.coset_codec.specs.Encoding.{AddsField}
+use Rattle.coset_codec.specs.Maps.{field_shape_image, is_filled}
+use Rattle.coset_codec.specs.Shape.{both, images, list_of}
+use Rattle.coset_codec.specs.declared.write.encode_map.MapEncoder.{MapEncoder}
+use Rattle.coset_codec.proofs.EncodingMaps.{nothing-added}
 use Rattle.coset_label.specs.Names.{Name, number, word, name_item, RegisteredName, assigned, private_use, phrase}
 use Rattle.coset_core.specs.Fields.{algorithm}
 use Rattle.coset_key.specs.Keys.{operation, key_ops}

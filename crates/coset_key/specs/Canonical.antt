@@ -4,10 +4,10 @@ use Rattle.std.specs.List.{AllByRecursion}
 use Rattle.std.specs.List.Sorted.{IsPermutation, IsStrictlySortedBy}
 use Rattle.std.specs.Map.{keys_of}
 use Rattle.coset_value.specs.Item.{Item, Pairs, depth, dict}
-use Rattle.coset_shape.specs.Maps.{Named, is_core}
-use Rattle.coset_shape.specs.ReadAgain.{IsWritten, ReadsAgain}
-use Rattle.coset_shape.specs.declared.error.CoseError.{CoseError}
-use Rattle.coset_shape.specs.declared.error.CoseError.TheVariants.{OutOfMemory}
+use Rattle.coset_codec.specs.Maps.{Named, is_core}
+use Rattle.coset_codec.specs.ReadAgain.{IsWritten, ReadsAgain}
+use Rattle.coset_codec.specs.declared.error.CoseError.{CoseError}
+use Rattle.coset_codec.specs.declared.error.CoseError.TheVariants.{OutOfMemory}
 use Rattle.coset_label.specs.Labels.{label}
 use Rattle.coset_label.specs.Names.{Name, number}
 use Rattle.coset_label.specs.Orderings.{name_cmp_by}

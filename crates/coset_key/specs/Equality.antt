@@ -5,7 +5,7 @@ use Rattle.std.specs.Option.{option_eq}
 use Rattle.std.specs.Ordering.{on}
 use Rattle.std.proofs.Common.{ap}
 use Rattle.std.proofs.lemmas.Bool.Decides.{Decides-like, Decides-and}
-use Rattle.coset_shape.specs.Told.{Tells, bytes_told, lists_told, options_told}
+use Rattle.coset_codec.specs.Told.{Tells, bytes_told, lists_told, options_told}
 use Rattle.coset_core.specs.Fields.{same_name}
 use Rattle.coset_core.specs.Same.{algorithm_eq, entry_eq}
 use Rattle.coset_core.specs.SameLaws.{same_name-decides}

@@ -4,12 +4,12 @@ use Rattle.std.specs.Prelude.{ℤ, true}
 use Rattle.std.specs.Ordering.{is_eq}
 use Rattle.std.proofs.lemmas.Map.Lookups.{CmpEqualImpliesEq}
 use Rattle.coset_value.specs.Item.{Item, integer}
-use Rattle.coset_shape.specs.Errors.{IsUnexpected}
-use Rattle.coset_shape.specs.Maps.{listed}
-use Rattle.coset_shape.specs.MapLaws.{LawfulFieldShape, LawfulFields, Flat, field_laws, no_field_laws, optional_laws, listed_laws, labelled_laws}
-use Rattle.coset_shape.specs.SetLaws.{set_filled, set_of_laws}
-use Rattle.coset_shape.specs.Shape.{filled_bstr}
-use Rattle.coset_shape.specs.ShapeLaws.{Lawful, along_laws, that_laws, filled_bstr_laws, list_of_laws}
+use Rattle.coset_codec.specs.Errors.{IsUnexpected}
+use Rattle.coset_codec.specs.Maps.{listed}
+use Rattle.coset_codec.specs.MapLaws.{LawfulFieldShape, LawfulFields, Flat, field_laws, no_field_laws, optional_laws, listed_laws, labelled_laws}
+use Rattle.coset_codec.specs.SetLaws.{set_filled, set_of_laws}
+use Rattle.coset_codec.specs.Shape.{filled_bstr}
+use Rattle.coset_codec.specs.ShapeLaws.{Lawful, along_laws, that_laws, filled_bstr_laws, list_of_laws}
 use Rattle.coset_label.specs.LabelLaws.{registered_laws}
 use Rattle.coset_label.specs.Labels.{label}
 use Rattle.coset_label.specs.NameOrder.{name_cmp_total, name_cmp-apart}

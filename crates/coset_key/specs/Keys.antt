@@ -8,10 +8,10 @@ use Rattle.coset_iana.specs.declared.keys.KeyOperation as declared_operations
 use Rattle.coset_iana.specs.declared.keys.KeyType as declared_kinds
 use Rattle.coset_iana.specs.declared.keys.KeyType.TheVariants.{Reserved}
 use Rattle.coset_iana.specs.declared.keys.TheConstants.{KEY_TYPES, KEY_OPERATIONS}
-use Rattle.coset_shape.specs.Errors.{IsUnexpected}
-use Rattle.coset_shape.specs.Maps.{Fields, field, no_field, optional, listed, labelled}
-use Rattle.coset_shape.specs.Sets.{set_of}
-use Rattle.coset_shape.specs.Shape.{Shape, along, that, filled_bstr, list_of}
+use Rattle.coset_codec.specs.Errors.{IsUnexpected}
+use Rattle.coset_codec.specs.Maps.{Fields, field, no_field, optional, listed, labelled}
+use Rattle.coset_codec.specs.Sets.{set_of}
+use Rattle.coset_codec.specs.Shape.{Shape, along, that, filled_bstr, list_of}
 use Rattle.coset_label.specs.Labels.{registered}
 use Rattle.coset_label.specs.Names.{Name, number, RegisteredName, name_cmp}
 use Rattle.coset_label.specs.Views.{registered_seen}

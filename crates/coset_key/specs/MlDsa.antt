@@ -2,8 +2,8 @@
 use Rattle.std.specs.Prelude.{◌≡◌, Result, Ok, Err}
 use Rattle.coset_iana.specs.declared.algorithms.Algorithm.{Algorithm}
 use Rattle.coset_iana.specs.declared.algorithms.Algorithm.TheVariants.{ML_DSA_44, ML_DSA_65, ML_DSA_87}
-use Rattle.coset_shape.specs.declared.error.CoseError.{CoseError}
-use Rattle.coset_shape.specs.declared.error.CoseError.TheVariants.{OutOfRangeIntegerValue}
+use Rattle.coset_codec.specs.declared.error.CoseError.{CoseError}
+use Rattle.coset_codec.specs.declared.error.CoseError.TheVariants.{OutOfRangeIntegerValue}
 use Rattle.coset_key.specs.declared.ml_dsa.MlDsaVariant.{MlDsaVariant}
 use Rattle.coset_key.specs.declared.ml_dsa.MlDsaVariant.TheVariants.{MlDsa44, MlDsa65, MlDsa87}
 

@@ -4,10 +4,10 @@ use Rattle.std.specs.Global.{Global}
 use Rattle.std.specs.declared.cmp.Ordering.{Ordering}
 use Rattle.std.specs.declared.collections.BTreeSet.{BTreeSet}
 use Rattle.coset_value.specs.Item.{Items}
-use Rattle.coset_shape.specs.Errors.{IsUnexpected, UnlessMemory}
-use Rattle.coset_shape.specs.Sets.{IsSetOf, IsDistinctBy, Repeats}
-use Rattle.coset_shape.specs.Shape.{Shape, Each, EachFaults}
-use Rattle.coset_shape.specs.declared.error.CoseError.{CoseError}
+use Rattle.coset_codec.specs.Errors.{IsUnexpected, UnlessMemory}
+use Rattle.coset_codec.specs.Sets.{IsSetOf, IsDistinctBy, Repeats}
+use Rattle.coset_codec.specs.Shape.{Shape, Each, EachFaults}
+use Rattle.coset_codec.specs.declared.error.CoseError.{CoseError}
 use Rattle.coset_iana.specs.declared.keys.KeyOperation.{KeyOperation}
 use Rattle.coset_label.specs.Names.{Name}
 use Rattle.coset_label.specs.declared.registered.RegisteredLabel.{RegisteredLabel}

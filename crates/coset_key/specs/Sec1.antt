@@ -6,9 +6,9 @@ use Rattle.coset_value.specs.Item.{Item, bytes, boolean}
 use Rattle.coset_iana.specs.KeyType as kinds
 use Rattle.coset_iana.specs.declared.keys.EllipticCurve.{EllipticCurve}
 use Rattle.coset_iana.specs.declared.keys.KeyType.TheVariants.{EC2}
-use Rattle.coset_shape.specs.declared.error.CoseError.TheVariants as errors
-use Rattle.coset_shape.specs.declared.error.CallError.{CallError}
-use Rattle.coset_shape.specs.declared.error.CallError.TheVariants.{Coset, Caller}
+use Rattle.coset_codec.specs.declared.error.CoseError.TheVariants as errors
+use Rattle.coset_codec.specs.declared.error.CallError.{CallError}
+use Rattle.coset_codec.specs.declared.error.CallError.TheVariants.{Coset, Caller}
 use Rattle.coset_label.specs.Names.{Name, number}
 use Rattle.coset_core.specs.Fields.{same_name}
 use Rattle.coset_key.specs.Keys.{KeySeen, key_seen}

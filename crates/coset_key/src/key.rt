@@ -10,12 +10,12 @@ ghost use Rattle.coset_iana.specs.KeyOperation as operations;
 ghost use Rattle.coset_iana.specs.KeyParameter as parameters;
 ghost use Rattle.coset_iana.specs.KeyType as kinds;
 ghost use Rattle.coset_iana.specs.declared.keys.KeyParameter.TheVariants as labels;
-ghost use Rattle.coset_shape.specs.declared.error.CoseError.TheVariants.{OutOfMemory};
-ghost use Rattle.coset_shape.specs.Encoding.{AddsField, HasNoImage};
-ghost use Rattle.coset_shape.specs.Errors.{UnlessMemory};
-ghost use Rattle.coset_shape.specs.Inputs.{ReadsAt, length_left, state};
-ghost use Rattle.coset_shape.specs.Maps.{Adds, Refuses, are_distinct, listed, optional};
-ghost use Rattle.coset_shape.specs.Shape.{filled_bstr};
+ghost use Rattle.coset_codec.specs.declared.error.CoseError.TheVariants.{OutOfMemory};
+ghost use Rattle.coset_codec.specs.Encoding.{AddsField, HasNoImage};
+ghost use Rattle.coset_codec.specs.Errors.{UnlessMemory};
+ghost use Rattle.coset_codec.specs.Inputs.{ReadsAt, length_left, state};
+ghost use Rattle.coset_codec.specs.Maps.{Adds, Refuses, are_distinct, listed, optional};
+ghost use Rattle.coset_codec.specs.Shape.{filled_bstr};
 ghost use Rattle.coset_label.specs.Names.{assigned, number};
 ghost use Rattle.coset_label.specs.Orderings.{name_cmp_by};
 ghost use Rattle.coset_label.specs.Views.{label_seen};
@@ -30,6 +30,9 @@ ghost use Rattle.coset_key.specs.Reading.{IsFinished, nothing, so_far_seen};
 use crate::key_ops::{KeyOps, add_operation, set_key_ops};
 use crate::ml_dsa::MlDsaVariant;
 use coset_cbor::value::Value;
+use coset_codec::Codec;
+use coset_codec::read::{Gather, Input, InputPairs, read_map};
+use coset_codec::write::MapEncoder;
 use coset_core::{
     Algorithm, CborOrdering, CoseError, Encode, FromPull, KeyOperation, KeyType, Label,
     RegisteredLabel, RegisteredLabelWithPrivate, Result, has_repeats, iana,
@@ -37,10 +40,6 @@ use coset_core::{
 use coset_iana::{
     AkpKeyParameter, Ec2KeyParameter, EllipticCurve, EnumI64, KeyParameter, SymmetricKeyParameter,
 };
-use coset_shape::Codec;
-use coset_shape::encode_map::MapEncoder;
-use coset_shape::input::{Input, InputPairs};
-use coset_shape::map::{Gather, read_map};
 use std::alloc::{AllocError, Global};
 use std::collections::BTreeSet;
 use std::marker::Model;

@@ -3,19 +3,19 @@
 ghost use Rattle.std.specs.Prelude.{◌≡◌, ◌≤◌, map, IfErr, OnOk, OnErr};
 ghost use Rattle.std.specs.BTreeSet.{insert_key};
 ghost use Rattle.coset_value.specs.Item.{Items};
-ghost use Rattle.coset_shape.specs.declared.error.CoseError.TheVariants.{OutOfMemory};
-ghost use Rattle.coset_shape.specs.Answers.{Reads};
-ghost use Rattle.coset_shape.specs.Errors.{UnlessMemory};
-ghost use Rattle.coset_shape.specs.Inputs.{AreWithin, GoesBehind, ReadsAt, State, length_left, state};
-ghost use Rattle.coset_shape.specs.Maps.{listed};
+ghost use Rattle.coset_codec.specs.declared.error.CoseError.TheVariants.{OutOfMemory};
+ghost use Rattle.coset_codec.specs.Answers.{Reads};
+ghost use Rattle.coset_codec.specs.Errors.{UnlessMemory};
+ghost use Rattle.coset_codec.specs.Inputs.{AreWithin, GoesBehind, ReadsAt, State, length_left, state};
+ghost use Rattle.coset_codec.specs.Maps.{listed};
 ghost use Rattle.coset_label.specs.Names.{name_cmp};
 ghost use Rattle.coset_core.specs.FieldValues.{TakesValue, RefusesValue};
 ghost use Rattle.coset_key.specs.Keys.{key_ops, operation, operation_seen};
 ghost use Rattle.coset_key.specs.Reading.{ReadsSet, operations_seen};
 
 use coset_cbor::ser::write_array_head;
+use coset_codec::read::{Input, InputItems};
 use coset_core::{CoseError, Encode, FromPull, KeyOperation, Result};
-use coset_shape::input::{Input, InputItems};
 use std::alloc::Global;
 use std::collections::BTreeSet;
 
@@ -113,7 +113,7 @@ pub(crate) fn add_operation(
 pub(crate) struct KeyOps<'a>(pub(crate) &'a BTreeSet<KeyOperation>);
 
 impl Encode for KeyOps<'_> {
-    ghost use Rattle.coset_shape.specs.Shape.{list_of};
+    ghost use Rattle.coset_codec.specs.Shape.{list_of};
 
     ghost image = { λ s. (list_of operation).image (map operation_seen s.0.now.keys) };
 

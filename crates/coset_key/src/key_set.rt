@@ -1,15 +1,14 @@
 //! Sets of keys (RFC 8152, section 7).
 
 ghost use Rattle.std.specs.Prelude.{◌≡◌, [], IfOk, IfErr};
-ghost use Rattle.coset_shape.specs.declared.error.CoseError.TheVariants.{OutOfMemory};
+ghost use Rattle.coset_codec.specs.declared.error.CoseError.TheVariants.{OutOfMemory};
 ghost use Rattle.coset_key.specs.Keys.{key_set, key_set_seen};
 
 use crate::key::CoseKey;
+use coset_codec::Codec;
+use coset_codec::read::{Input, read_list};
+use coset_codec::write::Array;
 use coset_core::{Encode, Result};
-use coset_shape::Codec;
-use coset_shape::encode::Array;
-use coset_shape::input::Input;
-use coset_shape::list::read_list;
 use std::alloc::{AllocError, Global};
 
 /// Keys, in order: `COSE_KeySet` (RFC 8152, section 7).
@@ -52,7 +51,7 @@ impl CoseKeySet {
 impl Codec for CoseKeySet {
     ghost use Rattle.coset_key.specs.Equality.{key_told};
     ghost use Rattle.coset_key.specs.Keys.{key_seen};
-    ghost use Rattle.coset_shape.specs.Told.{lists_told};
+    ghost use Rattle.coset_codec.specs.Told.{lists_told};
     ghost use Rattle.std.specs.Prelude.{List};
     ghost use Rattle.coset_key.specs.Keys.{KeySeen};
     ghost use Rattle.coset_key.specs.KeyLaws.{key_set_laws};

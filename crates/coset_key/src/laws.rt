@@ -1,5 +1,5 @@
 //! Laws of keys, which callers may cite. Each is the contract of a function that does nothing. What holds of each type that
-//! is read and written stands in `coset_shape::laws`.
+//! is read and written stands in `coset_codec::laws`.
 
 ghost use Rattle.std.specs.Prelude.{◌≡◌, ◌≤◌, ℕ, Contains, List, Ok};
 ghost use Rattle.coset_value.specs.Item.{Item, depth};
@@ -10,10 +10,10 @@ ghost use Rattle.coset_key.specs.Keys.{KeySeen, key, key_set};
 ghost use Rattle.coset_key.specs.MlDsa.{algorithm_of};
 ghost use Rattle.coset_key.specs.Sec1.{IsMalformed, Point, Spells, key_point, octets, point_key};
 ghost use Rattle.coset_key.specs.declared.ml_dsa.MlDsaVariant.{MlDsaVariant};
-ghost use Rattle.coset_shape.specs.Answers.{Describes};
+ghost use Rattle.coset_codec.specs.Answers.{Describes};
 
 use crate::key::CoseKey;
-use coset_shape::laws::written_apart;
+use coset_codec::laws::written_apart;
 
 /// An octet string is that of at most one point, and of none where it is malformed. The key of a point has that point, so
 /// that the octet string that was read comes back.

@@ -1,8 +1,8 @@
 -- The laws of labels' shapes.
 use Rattle.std.proofs.Common.{◌≡◌, ◌⊎◌, ℕ, ℤ, List, Some, Bool, true, false, refl, sym, ◌∙◌, ap, inl, inr}
 use Rattle.coset_value.specs.Item.{Item, integer, text}
-use Rattle.coset_shape.specs.Shape.{either, that, int64, tstr}
-use Rattle.coset_shape.specs.ShapeLaws.{Lawful, along_laws, either_laws, that_laws, int64_laws, tstr_laws, some-one}
+use Rattle.coset_codec.specs.Shape.{either, that, int64, tstr}
+use Rattle.coset_codec.specs.ShapeLaws.{Lawful, along_laws, either_laws, that_laws, int64_laws, tstr_laws, some-one}
 use Rattle.coset_label.specs.Names.{Name, number, word, RegisteredName, assigned, private_use, phrase}
 use Rattle.coset_label.specs.Labels.{label, registered, registered_or_private, is_integer, is_known, holds, name_of, of_name, registered_name_of, of_registered_name, IsUnregistered, IsNotPrivate}
 

@@ -3,9 +3,9 @@ use Rattle.std.specs.Prelude.{◌≡◌, ◌⊎◌, ℕ, ℤ, List, Option, Some
 use Rattle.std.proofs.Common.{inl, inr}
 use Rattle.coset_value.specs.Item.{Item}
 use Rattle.coset_value.specs.Parts.{as_integer}
-use Rattle.coset_shape.specs.declared.error.CoseError.{CoseError}
-use Rattle.coset_shape.specs.declared.error.CoseError.TheVariants as errors
-use Rattle.coset_shape.specs.Shape.{Shape, along, either, that, int64, tstr}
+use Rattle.coset_codec.specs.declared.error.CoseError.{CoseError}
+use Rattle.coset_codec.specs.declared.error.CoseError.TheVariants as errors
+use Rattle.coset_codec.specs.Shape.{Shape, along, either, that, int64, tstr}
 use Rattle.coset_label.specs.Names.{Name, number, word, RegisteredName, assigned, private_use, phrase}
 
 abbrev pub is_integer : Item → Bool

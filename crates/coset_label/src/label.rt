@@ -2,18 +2,18 @@
 
 ghost use Rattle.std.specs.Prelude.{◌≡◌, ◌≤◌, IfOk, IfErr, OnOk};
 ghost use Rattle.coset_value.specs.View.{view};
-ghost use Rattle.coset_shape.specs.declared.error.CoseError.TheVariants.{OutOfMemory};
-ghost use Rattle.coset_shape.specs.Answers.{Reads};
-ghost use Rattle.coset_shape.specs.Inputs.{state, GoesBehind, IsLent, ReadsAt, length_left};
+ghost use Rattle.coset_codec.specs.declared.error.CoseError.TheVariants.{OutOfMemory};
+ghost use Rattle.coset_codec.specs.Answers.{Reads};
+ghost use Rattle.coset_codec.specs.Inputs.{state, GoesBehind, IsLent, ReadsAt, length_left};
 ghost use Rattle.coset_label.specs.Labels.{label};
 ghost use Rattle.coset_label.specs.Views.{label_seen};
 
 use coset_cbor::de::Pull;
 use coset_cbor::value::Value;
-use coset_shape::encode::{Encode, encode_to_vec};
-use coset_shape::input::Input;
-use coset_shape::traits::{FromPull, read_slice};
-use coset_shape::{AsCborValue, CborSerializable, Lawful, Result, Source};
+use coset_codec::read::Input;
+use coset_codec::traits::{FromPull, read_slice};
+use coset_codec::write::{Encode, encode_to_vec};
+use coset_codec::{AsCborValue, CborSerializable, Lawful, Result, Source};
 use std::alloc::{AllocError, Global};
 
 /// A label: an integer within 64 bits with a sign, or a text (RFC 8152, section 1.4).

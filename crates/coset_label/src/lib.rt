@@ -10,12 +10,12 @@ mod ordering;
 mod registered;
 
 pub use coset_cbor as cbor;
-pub use coset_iana as iana;
-pub use coset_shape as shape;
-pub use coset_shape::{
+pub use coset_codec as codec;
+pub use coset_codec::{
     AsCborValue, CallError, CborSerializable, Codec, CoseError, Encode, EndOfFile, FromPull,
     Lawful, Result, Source, TaggedCborSerializable, TaggedCodec, has_repeats, util,
 };
+pub use coset_iana as iana;
 pub use label::Label;
 pub use names::{Algorithm, ClaimName, ContentType, KeyOperation, KeyType};
 pub use ordering::CborOrdering;

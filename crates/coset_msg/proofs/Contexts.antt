@@ -4,7 +4,7 @@ use Rattle.std.specs.Prelude.{sum}
 use Rattle.coset_value.specs.Item.{Item, Items, no_items, item, array, bytes, text}
 use Rattle.coset_sign.specs.Countersigned.{countersign_text}
 use Rattle.coset_sign.specs.SignatureStructure.{context_text}
-use Rattle.coset_sign.specs.Structure.{byte_strings_and}
+use Rattle.coset_core.specs.Structure.{byte_strings_and}
 use Rattle.coset_sign.specs.declared.signature.SignatureContext.{SignatureContext}
 use Rattle.coset_sign.specs.declared.signature.SignatureContext.TheVariants as signatures
 use Rattle.coset_msg.specs.EncStructure.{enc_text}

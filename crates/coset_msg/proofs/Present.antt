@@ -5,9 +5,9 @@ use Rattle.std.specs.Prelude.{IsErrAnd}
 use Rattle.std.specs.Borrow.{Bor}
 use Rattle.std.specs.Fn.{Once}
 use Rattle.coset_value.specs.Item.{Item}
-use Rattle.coset_shape.specs.declared.error.CallError.{CallError}
-use Rattle.coset_shape.specs.declared.error.CallError.TheVariants.{Coset, Caller}
-use Rattle.coset_sign.specs.Calls.{AsksAbout}
+use Rattle.coset_codec.specs.declared.error.CallError.{CallError}
+use Rattle.coset_codec.specs.declared.error.CallError.TheVariants.{Coset, Caller}
+use Rattle.coset_core.specs.Calls.{AsksAbout}
 use Rattle.coset_msg.specs.Presence.{TriesToCreateOf}
 
 -- what holds of the one that is there

@@ -1,7 +1,7 @@
 -- Messages that were read, and that were read from what others are written as.
 use Rattle.std.proofs.Common.{option_map, sym, ap}
-use Rattle.coset_shape.specs.AsWritten.{AsWritten, WhenRead}
-use Rattle.coset_shape.specs.ShapeLaws.{some-none}
+use Rattle.coset_codec.specs.AsWritten.{AsWritten, WhenRead}
+use Rattle.coset_codec.specs.ShapeLaws.{some-none}
 use Rattle.coset_core.specs.Headers.{protected}
 use Rattle.coset_core.proofs.Messages.{KeepsBytes, KeptAsWritten, has_bytes, header_as_written, header_when_read}
 use Rattle.coset_msg.specs.EncStructure.{Encrypts, EncryptsSame, enc_structure}

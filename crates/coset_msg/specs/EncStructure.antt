@@ -2,7 +2,7 @@
 use Rattle.std.specs.Prelude.{◌≡◌, ℕ, List, [], ◌∷◌, Option, None, option_map, codes}
 use Rattle.coset_value.specs.Item.{Item}
 use Rattle.coset_core.specs.Headers.{ProtectedSeen, protected_bytes}
-use Rattle.coset_sign.specs.Structure.{structure}
+use Rattle.coset_core.specs.Structure.{structure}
 use Rattle.coset_msg.specs.declared.enc_structure.EncryptionContext.{EncryptionContext}
 use Rattle.coset_msg.specs.declared.enc_structure.EncryptionContext.TheVariants.{CoseEncrypt, CoseEncrypt0, EncRecipient, MacRecipient, RecRecipient}
 

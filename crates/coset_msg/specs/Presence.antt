@@ -3,11 +3,11 @@ use Rattle.std.specs.Prelude.{◌≡◌, ℕ, List, Option, Some, None, Result, 
 use Rattle.std.specs.Borrow.{Bor}
 use Rattle.std.specs.Fn.{Once, FnOnceReturns, FnOnceReturnsAtPair}
 use Rattle.coset_value.specs.Item.{Item}
-use Rattle.coset_shape.specs.declared.error.CallError.{CallError}
-use Rattle.coset_shape.specs.declared.error.CallError.TheVariants.{Coset, Caller}
-use Rattle.coset_shape.specs.declared.error.CoseError.{CoseError}
-use Rattle.coset_shape.specs.Encoding.{HasNoImage}
-use Rattle.coset_sign.specs.Calls.{AsksAbout, IsStructure}
+use Rattle.coset_codec.specs.declared.error.CallError.{CallError}
+use Rattle.coset_codec.specs.declared.error.CallError.TheVariants.{Coset, Caller}
+use Rattle.coset_codec.specs.declared.error.CoseError.{CoseError}
+use Rattle.coset_codec.specs.Encoding.{HasNoImage}
+use Rattle.coset_core.specs.Calls.{AsksAbout, IsStructure}
 
 -- Where it is missing, the answer is what `missing` gives, called once; else f is asked about these bytes and the
 -- structure of it

@@ -1,23 +1,23 @@
 //! Encrypted messages for receivers that know the key (RFC 8152, section 5.2).
 
 ghost use Rattle.std.specs.Prelude.{◌≡◌, ◌≢◌, ◌≤◌, OnOk, IfOk, IfErr, IfSome, Some, None};
-ghost use Rattle.coset_shape.specs.declared.error.CoseError.TheVariants.{OutOfMemory};
-ghost use Rattle.coset_shape.specs.Answers.{Writes};
-ghost use Rattle.coset_shape.specs.Inputs.{state, GoesBehind, ReadsAt, length_left};
-ghost use Rattle.coset_shape.specs.InPlace.{Fills};
+ghost use Rattle.coset_codec.specs.declared.error.CoseError.TheVariants.{OutOfMemory};
+ghost use Rattle.coset_codec.specs.Answers.{Writes};
+ghost use Rattle.coset_codec.specs.Inputs.{state, GoesBehind, ReadsAt, length_left};
+ghost use Rattle.coset_codec.specs.InPlace.{Fills};
 ghost use Rattle.coset_core.specs.Messages.{unread};
 ghost use Rattle.coset_core.specs.Views.{header_seen};
-ghost use Rattle.coset_sign.specs.Calls.{AsksAbout};
+ghost use Rattle.coset_core.specs.Calls.{AsksAbout};
 ghost use Rattle.coset_msg.specs.Encrypt0.{empty_encrypt0, encrypt0, encrypt0_seen, encrypt0_structure, with_ciphertext};
 ghost use Rattle.coset_msg.specs.Presence.{AsksWherePresent, CreatesOf, TriesToCreateOf};
 
 use crate::enc_structure::{EncryptionContext, additional_bytes};
+use coset_codec::read::Input;
+use coset_codec::util::copy_bstr;
+use coset_codec::write::{Encode, encode_three};
+use coset_codec::{CallError, Codec, Result, TaggedCodec};
+use coset_core::calls::ask;
 use coset_core::{Bstr, Header, ProtectedHeader, fill_headers};
-use coset_shape::encode::{Encode, encode_three};
-use coset_shape::input::Input;
-use coset_shape::util::copy_bstr;
-use coset_shape::{CallError, Codec, Result, TaggedCodec};
-use coset_sign::calls::ask;
 use std::alloc::{AllocError, Global};
 use std::marker::Model;
 
@@ -181,7 +181,7 @@ impl Clone for CoseEncrypt0 {
 
 impl Codec for CoseEncrypt0 {
     ghost use Rattle.coset_msg.specs.Equality.{encrypt0_told};
-    ghost use Rattle.coset_shape.specs.Told.{bstr_told};
+    ghost use Rattle.coset_codec.specs.Told.{bstr_told};
     ghost use Rattle.coset_core.specs.Told.{header_told, protected_told};
     ghost use Rattle.coset_msg.specs.Encrypt0.{Encrypt0Seen, encrypt0_laws};
 

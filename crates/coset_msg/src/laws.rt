@@ -2,8 +2,8 @@
 
 ghost use Rattle.std.specs.Prelude.{◌≡◌, ℕ, List};
 ghost use Rattle.coset_cbor.specs.Shortest.{IsShortest};
-ghost use Rattle.coset_shape.specs.AsWritten.{AsWritten, WhenRead};
-ghost use Rattle.coset_shape.specs.Shape.{tagged};
+ghost use Rattle.coset_codec.specs.AsWritten.{AsWritten, WhenRead};
+ghost use Rattle.coset_codec.specs.Shape.{tagged};
 ghost use Rattle.coset_core.specs.Headers.{protected_bytes};
 ghost use Rattle.coset_msg.specs.EncStructure.{Encrypts, EncryptsSame};
 ghost use Rattle.coset_msg.specs.Encrypt0.{encrypt0};

@@ -14,8 +14,8 @@ pub use coset_sign::{
     CoseSign1Builder, CoseSignBuilder, CoseSignature, CoseSignatureBuilder, Encode, EndOfFile,
     FromPull, Header, HeaderBuilder, KeyOperation, KeyType, Label, Lawful, ProtectedBstr,
     ProtectedHeader, RegisteredLabel, RegisteredLabelWithPrivate, Result, SignatureContext, Source,
-    TaggedCborSerializable, TaggedCodec, cbor, countersign_v2_structure_data,
-    countersign0_v2_structure_data, has_repeats, iana, shape, sig_structure_data, util,
+    TaggedCborSerializable, TaggedCodec, cbor, codec, countersign_v2_structure_data,
+    countersign0_v2_structure_data, has_repeats, iana, sig_structure_data, util,
     verify_countersignature,
 };
 pub use enc_structure::{EncryptionContext, enc_structure_data};

@@ -1,23 +1,23 @@
 //! Messages with a MAC for receivers that know the key (RFC 8152, section 6.2).
 
 ghost use Rattle.std.specs.Prelude.{◌≡◌, ◌≢◌, ◌≤◌, OnOk, IfOk, IfErr, IfSome, Some, None};
-ghost use Rattle.coset_shape.specs.declared.error.CoseError.TheVariants.{OutOfMemory};
-ghost use Rattle.coset_shape.specs.Answers.{Writes};
-ghost use Rattle.coset_shape.specs.Inputs.{state, GoesBehind, ReadsAt, length_left};
-ghost use Rattle.coset_shape.specs.InPlace.{Fills};
+ghost use Rattle.coset_codec.specs.declared.error.CoseError.TheVariants.{OutOfMemory};
+ghost use Rattle.coset_codec.specs.Answers.{Writes};
+ghost use Rattle.coset_codec.specs.Inputs.{state, GoesBehind, ReadsAt, length_left};
+ghost use Rattle.coset_codec.specs.InPlace.{Fills};
 ghost use Rattle.coset_core.specs.Messages.{unread};
 ghost use Rattle.coset_core.specs.Views.{header_seen};
-ghost use Rattle.coset_sign.specs.Calls.{AsksAbout, Creates, TriesToCreate};
+ghost use Rattle.coset_core.specs.Calls.{AsksAbout, Creates, TriesToCreate};
 ghost use Rattle.coset_msg.specs.Mac0.{empty_mac0, mac0, mac0_seen, mac0_structure, with_tag};
 ghost use Rattle.coset_msg.specs.Presence.{AsksWherePresent};
 
 use crate::mac_structure::{MacContext, authenticated_bytes};
+use coset_codec::read::Input;
+use coset_codec::util::copy_bstr;
+use coset_codec::write::{Encode, encode_four};
+use coset_codec::{CallError, Codec, Result, TaggedCodec};
+use coset_core::calls::{ask, make};
 use coset_core::{Bstr, Header, ProtectedHeader, fill_headers};
-use coset_shape::encode::{Encode, encode_four};
-use coset_shape::input::Input;
-use coset_shape::util::copy_bstr;
-use coset_shape::{CallError, Codec, Result, TaggedCodec};
-use coset_sign::calls::{ask, make};
 use std::alloc::{AllocError, Global};
 use std::marker::Model;
 
@@ -190,7 +190,7 @@ impl Clone for CoseMac0 {
 
 impl Codec for CoseMac0 {
     ghost use Rattle.coset_msg.specs.Equality.{mac0_told};
-    ghost use Rattle.coset_shape.specs.Told.{bytes_told, bstr_told};
+    ghost use Rattle.coset_codec.specs.Told.{bytes_told, bstr_told};
     ghost use Rattle.coset_core.specs.Told.{header_told, protected_told};
     ghost use Rattle.coset_msg.specs.Mac0.{Mac0Seen, mac0_laws};
 

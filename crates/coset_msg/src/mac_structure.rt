@@ -2,14 +2,14 @@
 
 ghost use Rattle.std.specs.Prelude.{◌≡◌, IfOk, IfErr};
 ghost use Rattle.coset_cbor.specs.Shortest.{IsShortest};
-ghost use Rattle.coset_shape.specs.declared.error.CoseError.TheVariants.{OutOfMemory};
-ghost use Rattle.coset_shape.specs.Answers.{Writes};
+ghost use Rattle.coset_codec.specs.declared.error.CoseError.TheVariants.{OutOfMemory};
+ghost use Rattle.coset_codec.specs.Answers.{Writes};
 ghost use Rattle.coset_core.specs.Views.{protected_seen};
 ghost use Rattle.coset_msg.specs.MacStructure.{mac_item, mac_structure};
 
+use coset_codec::Result;
 use coset_core::ProtectedHeader;
-use coset_shape::Result;
-use coset_sign::structure::structure_bytes;
+use coset_core::structure::structure_bytes;
 use std::alloc::Global;
 
 /// What a MAC is part of (RFC 8152, section 6.3). It stands in the bytes that are authenticated, so that those of one

@@ -5,9 +5,9 @@ use crate::spelled;
 use coset::cbor::value::Integer;
 use coset::cbor::{OutOfMemory, ser};
 use coset::{CoseError, Label, Result};
+use coset_codec::util::to_cbor_array;
 use coset_lines::words::Words;
 use coset_lines::{mark, tell};
-use coset_shape::util::to_cbor_array;
 use std::alloc::Global;
 
 /// Makes the call of that name: the vector; what is written.

@@ -2,15 +2,15 @@
 use Rattle.std.proofs.Common.{◌≡◌, ◌⊎◌, ℕ, List, [], map, Option, Result, Ok, Err, refl, sym, ap, subst, ◌∙◌, inl, inr}
 use Rattle.std.specs.Prelude.{IsErrAnd}
 use Rattle.coset_value.specs.Item.{Item, array, Items, no_items, item}
-use Rattle.coset_shape.specs.declared.error.CoseError.{CoseError}
-use Rattle.coset_shape.specs.declared.error.Refused.{Refused}
-use Rattle.coset_shape.specs.declared.input.InputItems.{InputItems}
-use Rattle.coset_shape.specs.Errors.{UnlessMemory, answer}
-use Rattle.coset_shape.specs.InPlace.{Fills}
-use Rattle.coset_shape.specs.Inputs.{State, AreWithin, EntersArray}
-use Rattle.coset_shape.specs.Shape.{FirstMisfits, LastMisfits, PlacesFaults, bstr, list_of, or_nil, perhaps}
-use Rattle.coset_shape.specs.Sources.{Never, misfits_after}
-use Rattle.coset_shape.proofs.InPlace.{not_filled}
+use Rattle.coset_codec.specs.declared.error.CoseError.{CoseError}
+use Rattle.coset_codec.specs.declared.error.Refused.{Refused}
+use Rattle.coset_codec.specs.declared.read.input.InputItems.{InputItems}
+use Rattle.coset_codec.specs.Errors.{UnlessMemory, answer}
+use Rattle.coset_codec.specs.InPlace.{Fills}
+use Rattle.coset_codec.specs.Inputs.{State, AreWithin, EntersArray}
+use Rattle.coset_codec.specs.Shape.{FirstMisfits, LastMisfits, PlacesFaults, bstr, list_of, or_nil, perhaps}
+use Rattle.coset_codec.specs.Sources.{Never, misfits_after}
+use Rattle.coset_codec.proofs.InPlace.{not_filled}
 use Rattle.coset_core.specs.Headers.{HeaderSeen, ProtectedSeen, header, protected}
 use Rattle.coset_recipient.specs.Recipient.{RecipientSeen, recipients_of, each_of, empty_recipient, are_some, recipient, recipient_step}
 use Rattle.coset_recipient.specs.RecipientLaws.{each-again, recipient-made}

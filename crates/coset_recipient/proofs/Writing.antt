@@ -2,10 +2,10 @@
 use Rattle.std.proofs.Common.{◌≡◌, ◌≢◌, ◌<◌, ◌+◌, ◌^◌, ◌++◌, ◌∙◌, ℕ, suc, List, [], ◌∷◌, true, false, true≢false, Option, Some, None, option_map, Result, Ok, Err, refl, sym, ap, subst, arith}
 use Rattle.coset_value.specs.Item.{Item, array, Items, no_items, item}
 use Rattle.coset_cbor.specs.Least.{least_head}
-use Rattle.coset_shape.specs.declared.error.CoseError.{CoseError}
-use Rattle.coset_shape.specs.Encoding.{AppendsImage, AppendsPlaces, Encodes}
-use Rattle.coset_shape.specs.Shape.{both, bstr, images, last_image, or_nil}
-use Rattle.coset_shape.proofs.Encoding.{array-put, nothing-put, place-put}
+use Rattle.coset_codec.specs.declared.error.CoseError.{CoseError}
+use Rattle.coset_codec.specs.Encoding.{AppendsImage, AppendsPlaces, Encodes}
+use Rattle.coset_codec.specs.Shape.{both, bstr, images, last_image, or_nil}
+use Rattle.coset_codec.proofs.Encoding.{array-put, nothing-put, place-put}
 use Rattle.coset_core.specs.Headers.{header, protected}
 use Rattle.coset_recipient.specs.Recipient.{Recipients, no_recipients, recipient_and, RecipientSeen, are_none, recipients_of, inside_place, recipient_array, recipient_image, recipients_image}
 use Rattle.coset_recipient.specs.RecipientWriting.{Begins, last_places}

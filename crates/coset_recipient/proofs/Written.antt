@@ -1,10 +1,10 @@
 -- Recipients, and messages that have them, that were read, and that were read from what others are written as.
 use Rattle.std.proofs.Common.{◌≡◌, List, [], ◌∷◌, false, sym, ◌∙◌, true≢false}
 use Rattle.std.specs.Prelude.{⊤}
-use Rattle.coset_shape.specs.AsWritten.{AsWritten, WhenRead, PlacesAsWritten, PlacesWhenRead}
-use Rattle.coset_shape.specs.Lists.{EachHas, EachWith}
-use Rattle.coset_shape.specs.Shape.{Shape, ◌then◌, end, bstr, or_nil, list_of, perhaps}
-use Rattle.coset_shape.proofs.AsWritten.{list_as_written, list_when_read, perhaps_as_written, perhaps_when_read, recursive_as_written, recursive_when_read, then_as_written, then_when_read}
+use Rattle.coset_codec.specs.AsWritten.{AsWritten, WhenRead, PlacesAsWritten, PlacesWhenRead}
+use Rattle.coset_codec.specs.Lists.{EachHas, EachWith}
+use Rattle.coset_codec.specs.Shape.{Shape, ◌then◌, end, bstr, or_nil, list_of, perhaps}
+use Rattle.coset_codec.proofs.AsWritten.{list_as_written, list_when_read, perhaps_as_written, perhaps_when_read, recursive_as_written, recursive_when_read, then_as_written, then_when_read}
 use Rattle.coset_core.proofs.Messages.{KeepsBytes, KeptAsWritten, header_as_written, message_as_written, message_when_read}
 use Rattle.coset_msg.proofs.Written.{authenticates_as_written, authenticates_when_read, encrypts_as_written, encrypts_when_read}
 use Rattle.coset_msg.specs.EncStructure.{Encrypts, EncryptsSame}

@@ -1,8 +1,8 @@
 -- COSE_Encrypt messages (RFC 8152, section 5.1).
 use Rattle.std.specs.Prelude.{ℕ, List, [], ◌∷◌, ◌++◌, Option, Some, None, map, option_map, refl}
 use Rattle.coset_value.specs.Item.{Item}
-use Rattle.coset_shape.specs.Shape.{Shape, Places, along, ◌then◌, end, bstr, list_of, or_nil}
-use Rattle.coset_shape.specs.ShapeLaws.{Lawful, LawfulPlaces, bytes_no_nil, along_laws, then_laws, end_laws, bstr_laws, list_of_laws, or_nil_laws}
+use Rattle.coset_codec.specs.Shape.{Shape, Places, along, ◌then◌, end, bstr, list_of, or_nil}
+use Rattle.coset_codec.specs.ShapeLaws.{Lawful, LawfulPlaces, bytes_no_nil, along_laws, then_laws, end_laws, bstr_laws, list_of_laws, or_nil_laws}
 use Rattle.coset_core.specs.Headers.{HeaderSeen, ProtectedSeen, empty_header}
 use Rattle.coset_core.specs.Messages.{Headed, headed, headed_laws, empty_protected}
 use Rattle.coset_core.specs.Views.{header_seen, protected_seen}

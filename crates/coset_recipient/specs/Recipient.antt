@@ -1,8 +1,8 @@
 -- Recipients (RFC 8152, section 5.1).
 use Rattle.std.specs.Prelude.{ℕ, List, [], ◌∷◌, Bool, true, false, Option, Some, None, option_map}
 use Rattle.coset_value.specs.Item.{Item, array, Items, no_items, item}
-use Rattle.coset_shape.specs.Recursive.{recursive}
-use Rattle.coset_shape.specs.Shape.{Shape, Places, along, both, ◌then◌, bstr, or_nil, perhaps, last_image, list_of}
+use Rattle.coset_codec.specs.Recursive.{recursive}
+use Rattle.coset_codec.specs.Shape.{Shape, Places, along, both, ◌then◌, bstr, or_nil, perhaps, last_image, list_of}
 use Rattle.coset_core.specs.Headers.{HeaderSeen, ProtectedSeen, empty_header, header, protected}
 use Rattle.coset_core.specs.Messages.{Headed, headed, empty_protected}
 use Rattle.coset_msg.specs.EncStructure.{enc_item}

@@ -1,9 +1,9 @@
 -- The laws of the shape of recipients.
 use Rattle.std.proofs.Common.{◌≡◌, ℕ, List, [], ◌∷◌, false, Option, option_map, refl, sym, ap, ◌∙◌, true≢false}
 use Rattle.coset_value.specs.Item.{array, Items, item}
-use Rattle.coset_shape.specs.RecursiveLaws.{Passes, Below, Step, along_passes, array_passes, then_passes, perhaps_passes, list_below, recursive_laws, recursive_step, step_recursive}
-use Rattle.coset_shape.specs.Shape.{Shape, both, bstr, or_nil, perhaps, last_image, list_of, images}
-use Rattle.coset_shape.specs.ShapeLaws.{Lawful, LawfulPlaces, along_laws, then_laws, bstr_laws, bytes_no_nil, or_nil_laws, perhaps_laws, list_of_laws}
+use Rattle.coset_codec.specs.RecursiveLaws.{Passes, Below, Step, along_passes, array_passes, then_passes, perhaps_passes, list_below, recursive_laws, recursive_step, step_recursive}
+use Rattle.coset_codec.specs.Shape.{Shape, both, bstr, or_nil, perhaps, last_image, list_of, images}
+use Rattle.coset_codec.specs.ShapeLaws.{Lawful, LawfulPlaces, along_laws, then_laws, bstr_laws, bytes_no_nil, or_nil_laws, perhaps_laws, list_of_laws}
 use Rattle.coset_core.specs.Headers.{header, protected}
 use Rattle.coset_core.specs.Messages.{headed_laws}
 use Rattle.coset_recipient.specs.Recipient.{Recipients, no_recipients, recipient_and, RecipientSeen, recipients_of, each_of, are_some, recipient_of, recipient_fields, recipient_places, recipient_with, recipient_step, inside_place, recipients_image, recipient_image, recipient_array, recipient}

@@ -1,12 +1,12 @@
 -- Reading a recipient forward: what is answered of its places.
 use Rattle.std.specs.Prelude.{◌≡◌, ◌⊎◌, ℕ, List, [], Option, Result, Ok, Err}
 use Rattle.coset_value.specs.Item.{Item, Items, no_items, item}
-use Rattle.coset_shape.specs.declared.error.CoseError.{CoseError}
-use Rattle.coset_shape.specs.declared.input.InputItems.{InputItems}
-use Rattle.coset_shape.specs.Errors.{IsUnexpected, UnlessMemory}
-use Rattle.coset_shape.specs.Inputs.{State, AreWithin}
-use Rattle.coset_shape.specs.Shape.{PlacesFaults, bstr, list_of, or_nil, perhaps}
-use Rattle.coset_shape.specs.Sources.{Never, misfits_after}
+use Rattle.coset_codec.specs.declared.error.CoseError.{CoseError}
+use Rattle.coset_codec.specs.declared.read.input.InputItems.{InputItems}
+use Rattle.coset_codec.specs.Errors.{IsUnexpected, UnlessMemory}
+use Rattle.coset_codec.specs.Inputs.{State, AreWithin}
+use Rattle.coset_codec.specs.Shape.{PlacesFaults, bstr, list_of, or_nil, perhaps}
+use Rattle.coset_codec.specs.Sources.{Never, misfits_after}
 use Rattle.coset_core.specs.Headers.{HeaderSeen, ProtectedSeen, header, protected}
 use Rattle.coset_recipient.specs.Recipient.{RecipientSeen, are_some, recipient}
 

@@ -9,7 +9,7 @@ use Rattle.std.proofs.lemmas.Bool.Decides.{Decides-like, Decides-and}
 use Rattle.coset_core.specs.Same.{header_eq, protected_eq}
 use Rattle.coset_core.specs.SameLaws.{IsEquality, option_eq-decides, header_eq-decides, protected_eq-decides}
 use Rattle.std.specs.Ordering.{on}
-use Rattle.coset_shape.specs.Told.{Tells}
+use Rattle.coset_codec.specs.Told.{Tells}
 use Rattle.coset_recipient.specs.RecipientView.{recipient_seen}
 use Rattle.coset_recipient.specs.Recipient.{Recipients, no_recipients, recipient_and, RecipientSeen}
 

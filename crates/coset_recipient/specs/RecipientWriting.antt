@@ -1,8 +1,8 @@
 -- Writing a recipient: what is answered of the first three places.
 use Rattle.std.specs.Prelude.{ℕ, List, Option, Result, Ok, Err}
 use Rattle.coset_value.specs.Item.{Items}
-use Rattle.coset_shape.specs.declared.error.CoseError.{CoseError}
-use Rattle.coset_shape.specs.Encoding.{AppendsImage, AppendsPlaces, HasNoImage}
+use Rattle.coset_codec.specs.declared.error.CoseError.{CoseError}
+use Rattle.coset_codec.specs.Encoding.{AppendsImage, AppendsPlaces, HasNoImage}
 use Rattle.coset_recipient.specs.Recipient.{Recipients, no_recipients, recipient_and, RecipientSeen, recipient_array, recipient_image}
 
 -- how many places follow the first three

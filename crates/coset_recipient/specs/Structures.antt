@@ -1,7 +1,7 @@
 -- What is authenticated of messages with recipients, and what goes with the ciphertexts of these and of their recipients
 -- (RFC 8152, sections 5.3 and 6.3).
 use Rattle.std.specs.Prelude.{⊤}
-use Rattle.coset_shape.specs.Lists.{EachHas, EachWith}
+use Rattle.coset_codec.specs.Lists.{EachHas, EachWith}
 use Rattle.coset_msg.specs.EncStructure.{Encrypts, EncryptsSame}
 use Rattle.coset_msg.specs.MacStructure.{Authenticates, AuthenticatesSame}
 use Rattle.coset_recipient.specs.Encrypt.{EncryptSeen}

@@ -1,26 +1,26 @@
 //! Encrypted messages with recipients (RFC 8152, section 5.1).
 
 ghost use Rattle.std.specs.Prelude.{◌≡◌, ◌≢◌, ◌≤◌, OnOk, IfOk, IfErr, IfSome, Some, None};
-ghost use Rattle.coset_shape.specs.declared.error.CoseError.TheVariants.{OutOfMemory};
-ghost use Rattle.coset_shape.specs.Answers.{Writes};
-ghost use Rattle.coset_shape.specs.Inputs.{state, GoesBehind, ReadsAt, length_left};
-ghost use Rattle.coset_shape.specs.InPlace.{Fills};
+ghost use Rattle.coset_codec.specs.declared.error.CoseError.TheVariants.{OutOfMemory};
+ghost use Rattle.coset_codec.specs.Answers.{Writes};
+ghost use Rattle.coset_codec.specs.Inputs.{state, GoesBehind, ReadsAt, length_left};
+ghost use Rattle.coset_codec.specs.InPlace.{Fills};
 ghost use Rattle.coset_core.specs.Messages.{unread};
 ghost use Rattle.coset_core.specs.Views.{header_seen};
-ghost use Rattle.coset_sign.specs.Calls.{AsksAbout};
+ghost use Rattle.coset_core.specs.Calls.{AsksAbout};
 ghost use Rattle.coset_msg.specs.Presence.{AsksWherePresent, CreatesOf, TriesToCreateOf};
 ghost use Rattle.coset_recipient.specs.Encrypt.{and_encrypt_recipient, empty_encrypt, encrypt, encrypt_seen, encrypt_structure_of, with_ciphertext};
 ghost use Rattle.coset_recipient.specs.RecipientView.{recipient_seen};
 
 use crate::recipient::{CoseRecipient, copy_recipient_list, read_recipients};
+use coset_codec::read::Input;
+use coset_codec::util::copy_bstr;
+use coset_codec::write::{Array, Encode, encode_four};
+use coset_codec::{CallError, Codec, Result, TaggedCodec};
+use coset_core::calls::ask;
 use coset_core::{Bstr, Header, ProtectedHeader, fill_headers};
 use coset_msg::EncryptionContext;
 use coset_msg::enc_structure::additional_bytes;
-use coset_shape::encode::{Array, Encode, encode_four};
-use coset_shape::input::Input;
-use coset_shape::util::copy_bstr;
-use coset_shape::{CallError, Codec, Result, TaggedCodec};
-use coset_sign::calls::ask;
 use std::alloc::{AllocError, Global};
 use std::marker::Model;
 
@@ -195,7 +195,7 @@ impl Codec for CoseEncrypt {
     ghost use Rattle.coset_recipient.specs.Equality.{encrypt_told};
     ghost use Rattle.coset_recipient.specs.RecipientSame.{recipient_told};
     ghost use Rattle.coset_recipient.specs.RecipientView.{recipient_seen};
-    ghost use Rattle.coset_shape.specs.Told.{bstr_told, lists_told};
+    ghost use Rattle.coset_codec.specs.Told.{bstr_told, lists_told};
     ghost use Rattle.coset_core.specs.Told.{header_told, protected_told};
     ghost use Rattle.coset_recipient.specs.Encrypt.{EncryptSeen, encrypt_laws};
 

@@ -3,9 +3,9 @@
 
 ghost use Rattle.std.specs.Prelude.{◌≡◌, ◌↔◌};
 ghost use Rattle.coset_value.specs.Item.{Item};
-ghost use Rattle.coset_shape.specs.AsWritten.{AsWritten, WhenRead};
-ghost use Rattle.coset_shape.specs.Shape.{tagged};
-ghost use Rattle.coset_shape.specs.declared.error.CoseError.{CoseError};
+ghost use Rattle.coset_codec.specs.AsWritten.{AsWritten, WhenRead};
+ghost use Rattle.coset_codec.specs.Shape.{tagged};
+ghost use Rattle.coset_codec.specs.declared.error.CoseError.{CoseError};
 ghost use Rattle.coset_core.specs.Headers.{protected_bytes};
 ghost use Rattle.coset_recipient.specs.Encrypt.{encrypt};
 ghost use Rattle.coset_recipient.specs.Mac.{mac};

@@ -15,8 +15,8 @@ pub use coset_msg::{
     EncryptionContext, EndOfFile, FromPull, Header, HeaderBuilder, KeyOperation, KeyType, Label,
     Lawful, MacContext, ProtectedBstr, ProtectedHeader, RegisteredLabel,
     RegisteredLabelWithPrivate, Result, SignatureContext, Source, TaggedCborSerializable,
-    TaggedCodec, cbor, countersign_v2_structure_data, countersign0_v2_structure_data,
-    enc_structure_data, has_repeats, iana, mac_structure_data, shape, sig_structure_data, util,
+    TaggedCodec, cbor, codec, countersign_v2_structure_data, countersign0_v2_structure_data,
+    enc_structure_data, has_repeats, iana, mac_structure_data, sig_structure_data, util,
     verify_countersignature,
 };
 pub use encrypt::{CoseEncrypt, CoseEncryptBuilder};

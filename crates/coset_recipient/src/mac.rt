@@ -1,26 +1,26 @@
 //! Messages with a MAC and recipients (RFC 8152, section 6.1).
 
 ghost use Rattle.std.specs.Prelude.{◌≡◌, ◌≢◌, ◌≤◌, OnOk, IfOk, IfErr, IfSome, Some, None};
-ghost use Rattle.coset_shape.specs.declared.error.CoseError.TheVariants.{OutOfMemory};
-ghost use Rattle.coset_shape.specs.Answers.{Writes};
-ghost use Rattle.coset_shape.specs.Inputs.{state, GoesBehind, ReadsAt, length_left};
-ghost use Rattle.coset_shape.specs.InPlace.{Fills};
+ghost use Rattle.coset_codec.specs.declared.error.CoseError.TheVariants.{OutOfMemory};
+ghost use Rattle.coset_codec.specs.Answers.{Writes};
+ghost use Rattle.coset_codec.specs.Inputs.{state, GoesBehind, ReadsAt, length_left};
+ghost use Rattle.coset_codec.specs.InPlace.{Fills};
 ghost use Rattle.coset_core.specs.Messages.{unread};
 ghost use Rattle.coset_core.specs.Views.{header_seen};
-ghost use Rattle.coset_sign.specs.Calls.{AsksAbout, Creates, TriesToCreate};
+ghost use Rattle.coset_core.specs.Calls.{AsksAbout, Creates, TriesToCreate};
 ghost use Rattle.coset_msg.specs.Presence.{AsksWherePresent};
 ghost use Rattle.coset_recipient.specs.Mac.{and_mac_recipient, empty_mac, mac, mac_seen, mac_structure_of, with_tag};
 ghost use Rattle.coset_recipient.specs.RecipientView.{recipient_seen};
 
 use crate::recipient::{CoseRecipient, copy_recipient_list, read_recipients};
+use coset_codec::read::Input;
+use coset_codec::util::copy_bstr;
+use coset_codec::write::{Array, Encode, encode_five};
+use coset_codec::{CallError, Codec, Result, TaggedCodec};
+use coset_core::calls::{ask, make};
 use coset_core::{Bstr, Header, ProtectedHeader, fill_headers};
 use coset_msg::MacContext;
 use coset_msg::mac_structure::authenticated_bytes;
-use coset_shape::encode::{Array, Encode, encode_five};
-use coset_shape::input::Input;
-use coset_shape::util::copy_bstr;
-use coset_shape::{CallError, Codec, Result, TaggedCodec};
-use coset_sign::calls::{ask, make};
 use std::alloc::{AllocError, Global};
 use std::marker::Model;
 
@@ -204,7 +204,7 @@ impl Codec for CoseMac {
     ghost use Rattle.coset_recipient.specs.Equality.{mac_told};
     ghost use Rattle.coset_recipient.specs.RecipientSame.{recipient_told};
     ghost use Rattle.coset_recipient.specs.RecipientView.{recipient_seen};
-    ghost use Rattle.coset_shape.specs.Told.{bytes_told, bstr_told, lists_told};
+    ghost use Rattle.coset_codec.specs.Told.{bytes_told, bstr_told, lists_told};
     ghost use Rattle.coset_core.specs.Told.{header_told, protected_told};
     ghost use Rattle.coset_recipient.specs.Mac.{MacSeen, mac_laws};
 

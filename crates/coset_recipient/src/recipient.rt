@@ -4,17 +4,17 @@ ghost use Rattle.std.specs.Prelude.{◌≡◌, ◌≢◌, ◌↔◌, ◌≤◌, 
 ghost use Rattle.std.specs.Ordering.{on};
 ghost use Rattle.std.specs.Cmp.{on_equiv, on_per, partial_equiv_from_equiv};
 ghost use Rattle.coset_value.specs.Item.{Item, array, Items};
-ghost use Rattle.coset_shape.specs.declared.error.CoseError.TheVariants.{OutOfMemory};
-ghost use Rattle.coset_shape.specs.Answers.{Reads, Writes};
-ghost use Rattle.coset_shape.specs.Encoding.{AppendsPlaces, Encodes, HasNoImage};
-ghost use Rattle.coset_shape.specs.Errors.{IsUnexpected, answer};
-ghost use Rattle.coset_shape.specs.InPlace.{BeginsNext, Fills, FillsEach, GetsOne, GetsPlace};
-ghost use Rattle.coset_shape.specs.Inputs.{State, state, length_left, input_size, items_size, items_turns, Stands, GoesBehind, AreWithin, ReadsAt};
-ghost use Rattle.coset_shape.specs.Shape.{images, list_of};
+ghost use Rattle.coset_codec.specs.declared.error.CoseError.TheVariants.{OutOfMemory};
+ghost use Rattle.coset_codec.specs.Answers.{Reads, Writes};
+ghost use Rattle.coset_codec.specs.Encoding.{AppendsPlaces, Encodes, HasNoImage};
+ghost use Rattle.coset_codec.specs.Errors.{IsUnexpected, answer};
+ghost use Rattle.coset_codec.specs.InPlace.{BeginsNext, Fills, FillsEach, GetsOne, GetsPlace};
+ghost use Rattle.coset_codec.specs.Inputs.{State, state, length_left, input_size, items_size, items_turns, Stands, GoesBehind, AreWithin, ReadsAt};
+ghost use Rattle.coset_codec.specs.Shape.{images, list_of};
 ghost use Rattle.coset_core.specs.Headers.{empty_header};
 ghost use Rattle.coset_core.specs.Messages.{unread};
 ghost use Rattle.coset_core.specs.Views.{header_seen, protected_seen};
-ghost use Rattle.coset_sign.specs.Calls.{AsksAbout};
+ghost use Rattle.coset_core.specs.Calls.{AsksAbout};
 ghost use Rattle.coset_msg.specs.Presence.{AsksWherePresent, CreatesOf, TriesToCreateOf};
 ghost use Rattle.coset_recipient.specs.Recipient.{IsOfRecipient, and_recipient, are_none, empty_recipient, recipient as recipient_shape, recipient_image, recipient_structure, recipients_of, with_ciphertext};
 ghost use Rattle.coset_recipient.specs.RecipientReading.{BeginsThree, FillsLast};
@@ -23,15 +23,15 @@ ghost use Rattle.coset_recipient.specs.RecipientSame.{recipient_eq, recipient_eq
 ghost use Rattle.coset_recipient.specs.RecipientView.{recipient_seen};
 
 use coset_cbor::ser::write_array_head;
+use coset_codec::error::{Refused, keep_error};
+use coset_codec::read::{Input, InputItems};
+use coset_codec::util::copy_bstr;
+use coset_codec::write::Encode;
+use coset_codec::{CallError, Codec, CoseError, Result};
+use coset_core::calls::ask;
 use coset_core::{Bstr, Header, ProtectedHeader, fill_protected_header, fill_unprotected_header};
 use coset_msg::EncryptionContext;
 use coset_msg::enc_structure::additional_bytes;
-use coset_shape::encode::Encode;
-use coset_shape::error::{Refused, keep_error};
-use coset_shape::input::{Input, InputItems};
-use coset_shape::util::copy_bstr;
-use coset_shape::{CallError, Codec, CoseError, Result};
-use coset_sign::calls::ask;
 use std::alloc::{AllocError, Global};
 use std::marker::Model;
 

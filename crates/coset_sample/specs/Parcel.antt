@@ -1,7 +1,7 @@
 -- A parcel: a number, who receives it, a note that may be missing, and marks.
 use Rattle.std.specs.Prelude.{ℕ, ℤ, List, Option, map, option_map, refl}
-use Rattle.coset_shape.specs.Shape.{Shape, along, array_of, ◌then◌, end, int64, bstr, or_nil, list_of}
-use Rattle.coset_shape.specs.ShapeLaws.{Lawful, bytes_no_nil, along_laws, array_of_laws, then_laws, end_laws, int64_laws, bstr_laws, or_nil_laws, list_of_laws}
+use Rattle.coset_codec.specs.Shape.{Shape, along, array_of, ◌then◌, end, int64, bstr, or_nil, list_of}
+use Rattle.coset_codec.specs.ShapeLaws.{Lawful, bytes_no_nil, along_laws, array_of_laws, then_laws, end_laws, int64_laws, bstr_laws, or_nil_laws, list_of_laws}
 use Rattle.coset_sample.specs.Reading.{mark_seen}
 use Rattle.coset_sample.specs.declared.parcel.Parcel.{Parcel}
 

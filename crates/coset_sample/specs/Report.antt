@@ -1,7 +1,7 @@
 -- A report: who sends it, and readings.
 use Rattle.std.specs.Prelude.{ℕ, List, map, refl}
-use Rattle.coset_shape.specs.Shape.{Shape, along, array_of, ◌then◌, end, bstr, list_of}
-use Rattle.coset_shape.specs.ShapeLaws.{Lawful, along_laws, array_of_laws, then_laws, end_laws, bstr_laws, list_of_laws}
+use Rattle.coset_codec.specs.Shape.{Shape, along, array_of, ◌then◌, end, bstr, list_of}
+use Rattle.coset_codec.specs.ShapeLaws.{Lawful, along_laws, array_of_laws, then_laws, end_laws, bstr_laws, list_of_laws}
 use Rattle.coset_sample.specs.Reading.{reading, reading_laws, Seen as ReadingSeen, seen as reading_seen}
 use Rattle.coset_sample.specs.declared.report.Report.{Report}
 

@@ -6,11 +6,11 @@ use Rattle.std.proofs.Common.{rules}
 use Rattle.coset_value.specs.Item.{Item, integer}
 use Rattle.coset_value.specs.View.{view}
 use Rattle.coset_value.specs.declared.value.Value.{Value}
-use Rattle.coset_shape.specs.Errors.{IsUnexpected}
-use Rattle.coset_shape.specs.Shape.{Shape, along, that, int64, bstr}
-use Rattle.coset_shape.specs.ShapeLaws.{Lawful, along_laws, that_laws, int64_laws, bstr_laws}
-use Rattle.coset_shape.specs.Maps.{Names, Fields, field, no_field, optional, labelled}
-use Rattle.coset_shape.specs.MapLaws.{LawfulNames, LawfulFields, Flat, field_laws, no_field_laws, optional_laws, labelled_laws}
+use Rattle.coset_codec.specs.Errors.{IsUnexpected}
+use Rattle.coset_codec.specs.Shape.{Shape, along, that, int64, bstr}
+use Rattle.coset_codec.specs.ShapeLaws.{Lawful, along_laws, that_laws, int64_laws, bstr_laws}
+use Rattle.coset_codec.specs.Maps.{Names, Fields, field, no_field, optional, labelled}
+use Rattle.coset_codec.specs.MapLaws.{LawfulNames, LawfulFields, Flat, field_laws, no_field_laws, optional_laws, labelled_laws}
 use Rattle.coset_sample.specs.declared.settings.Name.{Name}
 use Rattle.coset_sample.specs.declared.settings.Settings.{Settings}
 use Rattle.coset_sample.specs.declared.settings.SoFar.{SoFar}

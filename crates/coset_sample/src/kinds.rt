@@ -3,8 +3,8 @@
 
 use crate::reading::Mark;
 use coset_cbor::value::{Float, Value};
-use coset_shape::util::{ValueTryAs, cbor_type_error, to_cbor_array};
-use coset_shape::{CallError, CoseError, Result};
+use coset_codec::util::{ValueTryAs, cbor_type_error, to_cbor_array};
+use coset_codec::{CallError, CoseError, Result};
 use std::alloc::{AllocError, Global};
 use std::test::*;
 

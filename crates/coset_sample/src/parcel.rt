@@ -7,10 +7,9 @@
 ghost use Rattle.coset_sample.specs.Parcel.{seen, parcel};
 
 use crate::reading::Mark;
-use coset_shape::encode::{Array, Encode, encode_four};
-use coset_shape::input::Input;
-use coset_shape::list::read_list;
-use coset_shape::{Codec, Result};
+use coset_codec::read::{Input, read_list};
+use coset_codec::write::{Array, Encode, encode_four};
+use coset_codec::{Codec, Result};
 use std::alloc::Global;
 
 /// A parcel: a number, who receives it, a note that may be missing, and marks.
@@ -26,7 +25,7 @@ pub struct Parcel {
 const FOUR: &str = "array with 4 items";
 
 impl Codec for Parcel {
-    ghost use Rattle.coset_shape.specs.Told.{bstr_told, bytes_told, last_told, lists_told, part_told, parts_told};
+    ghost use Rattle.coset_codec.specs.Told.{bstr_told, bytes_told, last_told, lists_told, part_told, parts_told};
     ghost use Rattle.std.specs.Cmp.{signed_Decides};
     ghost use Rattle.std.specs.Prelude.{refl};
     ghost use Rattle.coset_sample.specs.Parcel.{Seen as ParcelSeen, of_parts, parcel_laws, parts};

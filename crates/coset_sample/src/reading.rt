@@ -1,14 +1,13 @@
 //! A reading: an array of fixed places.
 
 ghost use Rattle.std.specs.Prelude.{ℤ};
-ghost use Rattle.coset_shape.specs.Shape.{int64};
-ghost use Rattle.coset_shape.specs.ShapeLaws.{int64_laws};
+ghost use Rattle.coset_codec.specs.Shape.{int64};
+ghost use Rattle.coset_codec.specs.ShapeLaws.{int64_laws};
 ghost use Rattle.coset_sample.specs.Reading.{mark_seen, seen, reading};
 
-use coset_shape::encode::{Array, Encode, encode_three};
-use coset_shape::input::Input;
-use coset_shape::list::read_list;
-use coset_shape::{Codec, Result, TaggedCodec};
+use coset_codec::read::{Input, read_list};
+use coset_codec::write::{Array, Encode, encode_three};
+use coset_codec::{Codec, Result, TaggedCodec};
 use std::alloc::Global;
 
 /// A number of 64 bits with a sign.
@@ -52,7 +51,7 @@ pub struct Reading {
 const THREE: &str = "array with 3 items";
 
 impl Codec for Reading {
-    ghost use Rattle.coset_shape.specs.Told.{bstr_told, last_told, lists_told, part_told, parts_told};
+    ghost use Rattle.coset_codec.specs.Told.{bstr_told, last_told, lists_told, part_told, parts_told};
     ghost use Rattle.std.specs.Cmp.{signed_Decides};
     ghost use Rattle.std.specs.Prelude.{refl};
     ghost use Rattle.coset_sample.specs.Reading.{Seen as ReadingSeen, of_parts, parts, reading_laws};

@@ -9,8 +9,8 @@ use crate::report::Report;
 use crate::settings::{Name, Settings};
 use coset_cbor::de::{EndOfFile, Error};
 use coset_cbor::value::Value;
-use coset_shape::util::ValueTryAs;
-use coset_shape::{
+use coset_codec::util::ValueTryAs;
+use coset_codec::{
     CallError, CborSerializable, CoseError, Result, TaggedCborSerializable, has_repeats,
 };
 use std::alloc::{AllocError, Global};

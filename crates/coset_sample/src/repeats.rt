@@ -2,7 +2,7 @@
 
 use crate::settings::Name;
 use coset_cbor::value::Value;
-use coset_shape::has_repeats;
+use coset_codec::has_repeats;
 use std::alloc::{AllocError, Global};
 use std::test::*;
 

@@ -1,23 +1,22 @@
 //! A report: an array of two places, the second of which holds another type's values. Its traits are written out one by
-//! one, as of a type that is no [`Codec`](coset_shape::Codec).
+//! one, as of a type that is no [`Codec`](coset_codec::Codec).
 //!
 //! ```cddl
 //! report = [ sender : bstr, readings : [* reading] ]
 //! ```
 
 ghost use Rattle.std.specs.Prelude.{◌≤◌, OnOk};
-ghost use Rattle.coset_shape.specs.Answers.{Reads};
-ghost use Rattle.coset_shape.specs.Inputs.{GoesBehind, ReadsAt, length_left, state};
+ghost use Rattle.coset_codec.specs.Answers.{Reads};
+ghost use Rattle.coset_codec.specs.Inputs.{GoesBehind, ReadsAt, length_left, state};
 ghost use Rattle.coset_sample.specs.Report.{seen, report};
 
 use crate::reading::Reading;
 use coset_cbor::de::Pull;
 use coset_cbor::value::Value;
-use coset_shape::encode::{Array, Encode, encode_to_value, encode_two};
-use coset_shape::input::Input;
-use coset_shape::list::read_list;
-use coset_shape::traits::FromPull;
-use coset_shape::{AsCborValue, CborSerializable, Lawful, Result, Source, TaggedCborSerializable};
+use coset_codec::read::{Input, read_list};
+use coset_codec::traits::FromPull;
+use coset_codec::write::{Array, Encode, encode_to_value, encode_two};
+use coset_codec::{AsCborValue, CborSerializable, Lawful, Result, Source, TaggedCborSerializable};
 use std::alloc::Global;
 
 /// A report: who sends it, and readings.

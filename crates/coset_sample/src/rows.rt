@@ -6,7 +6,7 @@ use crate::report::Report;
 use crate::settings::{Name, Settings};
 use coset_cbor::de::read_value;
 use coset_cbor::value::Value;
-use coset_shape::{AsCborValue, CborSerializable, CoseError, Result, TaggedCborSerializable};
+use coset_codec::{AsCborValue, CborSerializable, CoseError, Result, TaggedCborSerializable};
 use std::alloc::Global;
 use std::test::*;
 

@@ -6,18 +6,16 @@
 
 ghost use Rattle.std.specs.Prelude.{◌≡◌, ◌<◌, ℤ, not, IfOk, IfErr};
 ghost use Rattle.std.specs.Map.{keys_of};
-ghost use Rattle.coset_shape.specs.declared.error.CoseError.TheVariants.{OutOfMemory};
-ghost use Rattle.coset_shape.specs.Maps.{are_distinct};
-ghost use Rattle.coset_shape.specs.Shape.{int64};
-ghost use Rattle.coset_shape.specs.ShapeLaws.{int64_laws};
+ghost use Rattle.coset_codec.specs.declared.error.CoseError.TheVariants.{OutOfMemory};
+ghost use Rattle.coset_codec.specs.Maps.{are_distinct};
+ghost use Rattle.coset_codec.specs.Shape.{int64};
+ghost use Rattle.coset_codec.specs.ShapeLaws.{int64_laws};
 ghost use Rattle.coset_sample.specs.Settings.{name_seen, names, seen, settings, so_far_seen};
 
 use coset_cbor::value::Value;
-use coset_shape::encode::Encode;
-use coset_shape::encode_map::MapEncoder;
-use coset_shape::input::{Input, InputPairs};
-use coset_shape::map::{Gather, read_map};
-use coset_shape::{Codec, CoseError, Result, TaggedCodec, has_repeats};
+use coset_codec::read::{Gather, Input, InputPairs, read_map};
+use coset_codec::write::{Encode, MapEncoder};
+use coset_codec::{Codec, CoseError, Result, TaggedCodec, has_repeats};
 use std::alloc::Global;
 
 /// A label: a number of 64 bits with a sign.
@@ -140,7 +138,7 @@ impl Codec for Settings {
     ghost use Rattle.std.specs.Prelude.{refl};
     ghost use Rattle.coset_value.specs.SameLaws.{item_eq-decides};
     ghost use Rattle.coset_value.specs.View.{view};
-    ghost use Rattle.coset_shape.specs.Told.{bstr_told, lists_told, part_told, parts_told};
+    ghost use Rattle.coset_codec.specs.Told.{bstr_told, lists_told, part_told, parts_told};
     ghost use Rattle.coset_sample.specs.Settings.{entry_seen};
     ghost use Rattle.coset_sample.specs.Settings.{Seen as SettingsSeen, settings_laws};
 

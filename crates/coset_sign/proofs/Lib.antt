@@ -1,4 +1,3 @@
-pub mod Structures
 pub mod Signatures
 mod Written
 pub mod Copied

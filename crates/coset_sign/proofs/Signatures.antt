@@ -3,7 +3,7 @@ use Rattle.std.proofs.Common.{◌≡◌, ℕ, List, length, cond, eqb, Option, S
 use Rattle.coset_cbor.specs.Shortest.{IsShortest}
 use Rattle.coset_sign.specs.declared.signature.SignatureContext.{SignatureContext}
 use Rattle.coset_sign.specs.declared.signature.SignatureContext.TheVariants.{CoseSignature, CoseSign1, CounterSignature}
-use Rattle.coset_sign.specs.Structure.{structure}
+use Rattle.coset_core.specs.Structure.{structure}
 use Rattle.coset_sign.specs.SignatureStructure.{context_text, signed_parts, signature_structure}
 
 -- ---- contexts, by the lengths of their texts

@@ -1,11 +1,11 @@
 -- A message that was read, and one that was read from what another is written as.
 use Rattle.std.proofs.Common.{◌≡◌, ℕ, List, [], ◌∷◌, Some, None, option_map, ap}
 use Rattle.std.specs.Prelude.{⊤}
-use Rattle.coset_shape.proofs.AsWritten.{bstr_as_written, list_as_written, list_when_read, or_nil_as_written, then_as_written, then_when_read}
-use Rattle.coset_shape.specs.AsWritten.{AsWritten, WhenRead}
-use Rattle.coset_shape.specs.Lists.{EachHas, EachWith}
-use Rattle.coset_shape.specs.Shape.{both, ◌then◌, end, bstr, or_nil, list_of}
-use Rattle.coset_shape.specs.ShapeLaws.{some-none}
+use Rattle.coset_codec.proofs.AsWritten.{bstr_as_written, list_as_written, list_when_read, or_nil_as_written, then_as_written, then_when_read}
+use Rattle.coset_codec.specs.AsWritten.{AsWritten, WhenRead}
+use Rattle.coset_codec.specs.Lists.{EachHas, EachWith}
+use Rattle.coset_codec.specs.Shape.{both, ◌then◌, end, bstr, or_nil, list_of}
+use Rattle.coset_codec.specs.ShapeLaws.{some-none}
 use Rattle.coset_core.specs.Headers.{ProtectedSeen, SignatureSeen, protected_bytes, places_of}
 use Rattle.coset_core.proofs.Messages.{HasBytes, KeepsBytes, KeptAsWritten, has_bytes, header_as_written, header_when_read, message_as_written, message_when_read, places_as_written}
 use Rattle.coset_sign.specs.SignatureStructure.{signature_structure}

@@ -1,10 +1,10 @@
 -- What countersignatures of version 2 are over. The structures are this library's own, modelled on RFC 9338, section 3.3.
 use Rattle.std.specs.Prelude.{ℕ, List, Option, Some, None, Bool, true, false, is_some, option_map, codes}
 use Rattle.coset_value.specs.Item.{Item, array, no_items, item}
-use Rattle.coset_shape.specs.Shape.{both}
+use Rattle.coset_codec.specs.Shape.{both}
 use Rattle.coset_core.specs.Headers.{ProtectedSeen, protected_bytes}
 use Rattle.coset_sign.specs.SignatureStructure.{signed_parts}
-use Rattle.coset_sign.specs.Structure.{byte_strings, structure_and}
+use Rattle.coset_core.specs.Structure.{byte_strings, structure_and}
 
 -- context : "CounterSignatureV2" / "CounterSignature0V2": with a signer's header, or without
 abbrev pub countersign_text : Bool → List ℕ

@@ -1,10 +1,10 @@
 -- COSE_Sign messages (RFC 8152, section 4.1).
 use Rattle.std.specs.Prelude.{◌≡◌, ℕ, List, [], ◌∷◌, ◌++◌, map, Option, Some, None, option_map, refl}
 use Rattle.coset_value.specs.Item.{Item}
-use Rattle.coset_shape.specs.Errors.{IsUnexpected}
-use Rattle.coset_shape.specs.Lists.{EachHas, EachWith}
-use Rattle.coset_shape.specs.Shape.{Shape, Places, along, blamed, list_of, ◌then◌, end, bstr, or_nil}
-use Rattle.coset_shape.specs.ShapeLaws.{Lawful, LawfulPlaces, bytes_no_nil, along_laws, blamed_laws, list_of_laws, then_laws, end_laws, bstr_laws, or_nil_laws}
+use Rattle.coset_codec.specs.Errors.{IsUnexpected}
+use Rattle.coset_codec.specs.Lists.{EachHas, EachWith}
+use Rattle.coset_codec.specs.Shape.{Shape, Places, along, blamed, list_of, ◌then◌, end, bstr, or_nil}
+use Rattle.coset_codec.specs.ShapeLaws.{Lawful, LawfulPlaces, bytes_no_nil, along_laws, blamed_laws, list_of_laws, then_laws, end_laws, bstr_laws, or_nil_laws}
 use Rattle.coset_core.specs.Headers.{HeaderSeen, ProtectedSeen, SignatureSeen, empty_header, signature}
 use Rattle.coset_core.specs.HeaderLaws.{signature_laws}
 use Rattle.coset_core.specs.Messages.{Headed, headed, headed_laws, empty_protected}

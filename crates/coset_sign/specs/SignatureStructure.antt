@@ -3,7 +3,7 @@ use Rattle.std.specs.Prelude.{ℕ, List, [], ◌∷◌, Option, Some, None, code
 use Rattle.coset_value.specs.Item.{Item}
 use Rattle.coset_sign.specs.declared.signature.SignatureContext.{SignatureContext}
 use Rattle.coset_sign.specs.declared.signature.SignatureContext.TheVariants.{CoseSignature, CoseSign1, CounterSignature}
-use Rattle.coset_sign.specs.Structure.{structure}
+use Rattle.coset_core.specs.Structure.{structure}
 
 -- context : "Signature" / "Signature1" / "CounterSignature"
 abbrev pub context_text : SignatureContext → List ℕ

@@ -1,7 +1,7 @@
 -- What is signed of headers that are kept as they were read (RFC 8152, section 4.4).
 use Rattle.std.specs.Prelude.{◌≡◌, ℕ, List, [], Option, Some, None, option_map}
 use Rattle.coset_value.specs.Item.{Item}
-use Rattle.coset_shape.specs.Shape.{both}
+use Rattle.coset_codec.specs.Shape.{both}
 use Rattle.coset_core.specs.Headers.{ProtectedSeen, protected_bytes}
 use Rattle.coset_sign.specs.SignatureStructure.{signature_structure}
 use Rattle.coset_sign.specs.declared.signature.SignatureContext.{SignatureContext}

@@ -3,20 +3,20 @@
 ghost use Rattle.std.specs.Prelude.{◌≡◌, ◌≢◌, [], map, option_map, is_some, IfOk, IfErr, Some, None};
 ghost use Rattle.std.specs.Option.{option_copied};
 ghost use Rattle.coset_cbor.specs.Shortest.{IsShortest};
-ghost use Rattle.coset_shape.specs.declared.error.CoseError.TheVariants.{OutOfMemory};
-ghost use Rattle.coset_shape.specs.Answers.{Writes};
+ghost use Rattle.coset_codec.specs.declared.error.CoseError.TheVariants.{OutOfMemory};
+ghost use Rattle.coset_codec.specs.Answers.{Writes};
 ghost use Rattle.coset_core.specs.Views.{countersignature_seen, protected_seen};
-ghost use Rattle.coset_sign.specs.Calls.{AsksAbout};
+ghost use Rattle.coset_core.specs.Calls.{AsksAbout};
 ghost use Rattle.coset_sign.specs.Countersigned.{countersign_structure, countersign_text, countersigned_item};
 ghost use Rattle.coset_sign.specs.SignatureStructure.{signed_parts};
-ghost use Rattle.coset_sign.specs.Structure.{BeginsStructure};
+ghost use Rattle.coset_core.specs.Structure.{BeginsStructure};
 
-use crate::calls::ask;
-use crate::structure::{begin_structure, byte_strings_room};
 use coset_cbor::laws::least_encoding_is_shortest;
+use coset_codec::write::{Array, Encode};
+use coset_codec::{CallError, Result};
+use coset_core::calls::ask;
+use coset_core::structure::{begin_structure, byte_strings_room};
 use coset_core::{CoseCountersignature, ProtectedHeader};
-use coset_shape::encode::{Array, Encode};
-use coset_shape::{CallError, Result};
 use std::alloc::Global;
 
 /// The beginning of the structure of these contents of protected headers, of which an abbreviated countersignature has no

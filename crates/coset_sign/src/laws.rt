@@ -2,9 +2,9 @@
 
 ghost use Rattle.std.specs.Prelude.{◌≡◌, ℕ, List, Option, None};
 ghost use Rattle.coset_cbor.specs.Shortest.{IsShortest};
-ghost use Rattle.coset_shape.specs.AsWritten.{AsWritten, WhenRead};
-ghost use Rattle.coset_shape.specs.Shape.{tagged};
-ghost use Rattle.coset_sign.specs.Structure.{structure};
+ghost use Rattle.coset_codec.specs.AsWritten.{AsWritten, WhenRead};
+ghost use Rattle.coset_codec.specs.Shape.{tagged};
+ghost use Rattle.coset_core.specs.Structure.{structure};
 ghost use Rattle.coset_sign.specs.SignatureStructure.{signature_structure};
 ghost use Rattle.coset_sign.specs.Sign1.{SamePayloadAndSignature, sign1, sign1_structure};
 ghost use Rattle.coset_sign.specs.Sign.{EachSigns, EachSignsSame, sign};

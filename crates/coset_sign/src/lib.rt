@@ -1,21 +1,19 @@
 //! Signatures (RFC 8152, section 4): the bytes that are signed.
 #![tactic(auto)]
 
-pub mod calls;
 mod countersign;
 pub mod laws;
 mod sign;
 mod sign1;
 mod signature;
-pub mod structure;
 
 pub use coset_core::{
     Algorithm, AsCborValue, Bstr, CallError, CborOrdering, CborSerializable, ClaimName, Codec,
     ContentType, CoseCountersignature, CoseCountersignatureBuilder, CoseError, CoseSignature,
     CoseSignatureBuilder, Encode, EndOfFile, FromPull, Header, HeaderBuilder, KeyOperation,
     KeyType, Label, Lawful, ProtectedBstr, ProtectedHeader, RegisteredLabel,
-    RegisteredLabelWithPrivate, Result, Source, TaggedCborSerializable, TaggedCodec, cbor,
-    has_repeats, iana, shape, util,
+    RegisteredLabelWithPrivate, Result, Source, TaggedCborSerializable, TaggedCodec, cbor, codec,
+    has_repeats, iana, util,
 };
 pub use countersign::{
     countersign_v2_structure_data, countersign0_v2_structure_data, verify_countersignature,

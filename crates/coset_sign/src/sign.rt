@@ -2,24 +2,23 @@
 
 ghost use Rattle.std.specs.Prelude.{◌≡◌, ◌≤◌, ◌<◌, OnOk, map, length, slice_get, IfOk, IfErr, Option, Some, None};
 ghost use Rattle.coset_value.specs.Item.{Item};
-ghost use Rattle.coset_shape.specs.declared.error.CoseError.TheVariants.{OutOfMemory};
-ghost use Rattle.coset_shape.specs.Answers.{Writes};
-ghost use Rattle.coset_shape.specs.Inputs.{state, GoesBehind, ReadsAt, length_left};
-ghost use Rattle.coset_shape.specs.InPlace.{Fills};
+ghost use Rattle.coset_codec.specs.declared.error.CoseError.TheVariants.{OutOfMemory};
+ghost use Rattle.coset_codec.specs.Answers.{Writes};
+ghost use Rattle.coset_codec.specs.Inputs.{state, GoesBehind, ReadsAt, length_left};
+ghost use Rattle.coset_codec.specs.InPlace.{Fills};
 ghost use Rattle.coset_core.specs.Headers.{SignatureSeen};
 ghost use Rattle.coset_core.specs.Messages.{unread};
 ghost use Rattle.coset_core.specs.Views.{header_seen, signature_seen};
-ghost use Rattle.coset_sign.specs.Calls.{AsksAbout, Creates, TriesToCreate};
+ghost use Rattle.coset_core.specs.Calls.{AsksAbout, Creates, TriesToCreate};
 ghost use Rattle.coset_sign.specs.Sign.{and_signature, empty_sign, sign, sign_seen, signed_with, signer_carried, signer_structure};
 
-use crate::calls::{ask, make};
 use crate::signature::{SignatureContext, signed_bytes};
+use coset_codec::read::{Input, read_blamed_list};
+use coset_codec::util::copy_bstr;
+use coset_codec::write::{Array, Encode, encode_four};
+use coset_codec::{CallError, Codec, CoseError, Result, TaggedCodec};
+use coset_core::calls::{ask, make};
 use coset_core::{Bstr, CoseSignature, Header, ProtectedHeader, fill_headers};
-use coset_shape::encode::{Array, Encode, encode_four};
-use coset_shape::input::Input;
-use coset_shape::list::read_blamed_list;
-use coset_shape::util::copy_bstr;
-use coset_shape::{CallError, Codec, CoseError, Result, TaggedCodec};
 use std::alloc::{AllocError, Global};
 use std::marker::Model;
 
@@ -247,7 +246,7 @@ fn copy_signatures(all: &Vec<CoseSignature>) -> Result<Vec<CoseSignature>, Alloc
 
 impl Codec for CoseSign {
     ghost use Rattle.coset_sign.specs.Same.{sign_told};
-    ghost use Rattle.coset_shape.specs.Told.{bstr_told, lists_told};
+    ghost use Rattle.coset_codec.specs.Told.{bstr_told, lists_told};
     ghost use Rattle.coset_core.specs.Told.{header_told, protected_told, signature_told};
     ghost use Rattle.coset_sign.specs.Sign.{SignSeen, sign_laws};
 

@@ -1,22 +1,22 @@
 //! Messages with one signature (RFC 8152, section 4.2).
 
 ghost use Rattle.std.specs.Prelude.{◌≡◌, ◌≤◌, OnOk, IfOk, IfErr, Some, None};
-ghost use Rattle.coset_shape.specs.declared.error.CoseError.TheVariants.{OutOfMemory};
-ghost use Rattle.coset_shape.specs.Answers.{Writes};
-ghost use Rattle.coset_shape.specs.Inputs.{state, GoesBehind, ReadsAt, length_left};
-ghost use Rattle.coset_shape.specs.InPlace.{Fills};
+ghost use Rattle.coset_codec.specs.declared.error.CoseError.TheVariants.{OutOfMemory};
+ghost use Rattle.coset_codec.specs.Answers.{Writes};
+ghost use Rattle.coset_codec.specs.Inputs.{state, GoesBehind, ReadsAt, length_left};
+ghost use Rattle.coset_codec.specs.InPlace.{Fills};
 ghost use Rattle.coset_core.specs.Messages.{unread};
 ghost use Rattle.coset_core.specs.Views.{header_seen};
-ghost use Rattle.coset_sign.specs.Calls.{AsksAbout, Creates, TriesToCreate};
+ghost use Rattle.coset_core.specs.Calls.{AsksAbout, Creates, TriesToCreate};
 ghost use Rattle.coset_sign.specs.Sign1.{empty_sign1, sign1, sign1_seen, sign1_carried, sign1_structure, with_signature};
 
-use crate::calls::{ask, make};
 use crate::signature::{SignatureContext, signed_bytes};
+use coset_codec::read::Input;
+use coset_codec::util::copy_bstr;
+use coset_codec::write::{Encode, encode_four};
+use coset_codec::{CallError, Codec, Result, TaggedCodec};
+use coset_core::calls::{ask, make};
 use coset_core::{Bstr, Header, ProtectedHeader, fill_headers};
-use coset_shape::encode::{Encode, encode_four};
-use coset_shape::input::Input;
-use coset_shape::util::copy_bstr;
-use coset_shape::{CallError, Codec, Result, TaggedCodec};
 use std::alloc::{AllocError, Global};
 use std::marker::Model;
 
@@ -195,7 +195,7 @@ impl Clone for CoseSign1 {
 
 impl Codec for CoseSign1 {
     ghost use Rattle.coset_sign.specs.Same.{sign1_told};
-    ghost use Rattle.coset_shape.specs.Told.{bytes_told, bstr_told};
+    ghost use Rattle.coset_codec.specs.Told.{bytes_told, bstr_told};
     ghost use Rattle.coset_core.specs.Told.{header_told, protected_told};
     ghost use Rattle.coset_sign.specs.Sign1.{Sign1Seen, sign1_laws};
 

@@ -3,15 +3,15 @@
 ghost use Rattle.std.specs.Prelude.{◌≡◌, option_map, IfOk, IfErr};
 ghost use Rattle.std.specs.Option.{option_copied};
 ghost use Rattle.coset_cbor.specs.Shortest.{IsShortest};
-ghost use Rattle.coset_shape.specs.declared.error.CoseError.TheVariants.{OutOfMemory};
-ghost use Rattle.coset_shape.specs.Answers.{Writes};
+ghost use Rattle.coset_codec.specs.declared.error.CoseError.TheVariants.{OutOfMemory};
+ghost use Rattle.coset_codec.specs.Answers.{Writes};
 ghost use Rattle.coset_core.specs.Views.{protected_seen};
 ghost use Rattle.coset_sign.specs.SignatureStructure.{signature_structure};
 ghost use Rattle.coset_sign.specs.Signed.{signed_item};
 
-use crate::structure::structure_bytes;
+use coset_codec::Result;
 use coset_core::ProtectedHeader;
-use coset_shape::Result;
+use coset_core::structure::structure_bytes;
 use std::alloc::Global;
 
 /// What a signature is part of (RFC 8152, section 4.4). It stands in the bytes that are signed, so that those of one

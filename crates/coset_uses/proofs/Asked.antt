@@ -4,18 +4,18 @@ use Rattle.std.proofs.Common.{◌≡◌, ◌↔◌, ◌∙◌, Bool, not, ℕ, L
 use Rattle.std.specs.Prelude.{IfErr, IfOk, IfSome, IsOk}
 use Rattle.std.specs.Borrow.{Bor}
 use Rattle.coset_value.specs.Item.{Item}
-use Rattle.coset_shape.specs.Answers.{Describes}
-use Rattle.coset_shape.specs.AsWritten.{WhenRead}
-use Rattle.coset_shape.specs.Encoding.{HasNoImage}
-use Rattle.coset_shape.specs.declared.error.CallError.{CallError}
-use Rattle.coset_shape.specs.declared.error.CallError.TheVariants.{Coset, Caller}
-use Rattle.coset_shape.specs.declared.error.CoseError.{CoseError}
-use Rattle.coset_shape.specs.declared.error.CoseError.TheVariants.{OutOfMemory}
+use Rattle.coset_codec.specs.Answers.{Describes}
+use Rattle.coset_codec.specs.AsWritten.{WhenRead}
+use Rattle.coset_codec.specs.Encoding.{HasNoImage}
+use Rattle.coset_codec.specs.declared.error.CallError.{CallError}
+use Rattle.coset_codec.specs.declared.error.CallError.TheVariants.{Coset, Caller}
+use Rattle.coset_codec.specs.declared.error.CoseError.{CoseError}
+use Rattle.coset_codec.specs.declared.error.CoseError.TheVariants.{OutOfMemory}
 use Rattle.coset_core.specs.Headers.{HeaderSeen}
 use Rattle.coset_msg.specs.EncStructure.{Encrypts}
 use Rattle.coset_msg.specs.declared.enc_structure.EncryptionContext.TheVariants.{CoseEncrypt0}
 use Rattle.coset_msg.specs.Encrypt0.{Encrypt0Seen, encrypt0, encrypt0_structure}
-use Rattle.coset_sign.specs.Calls.{IsStructure}
+use Rattle.coset_core.specs.Calls.{IsStructure}
 use Rattle.coset_sign.specs.Sign1.{Sign1Seen, sign1, sign1_carried, sign1_structure}
 use Rattle.coset_uses.specs.Exchange.{CarriesSame, IsSent}
 use Rattle.coset_uses.specs.Oscore.{IsDecrypted}

@@ -2,14 +2,14 @@
 use Rattle.std.proofs.Common.{◌≡◌, ℕ, ℤ, List, ◌++◌, Option, Some, None, Result, Ok, Err, true, option_map, refl, subst, inl, inr, sym, ap}
 use Rattle.std.specs.Prelude.{IfErr}
 use Rattle.coset_value.specs.Item.{Item, Items, array, bytes, dict, item, Pairs}
-use Rattle.coset_shape.specs.Encoding.{HasNoImage}
-use Rattle.coset_shape.specs.Maps.{entries_image, named_image}
-use Rattle.coset_shape.specs.ReadAgain.{IsWritten}
-use Rattle.coset_shape.specs.Shape.{both, bstr, tstr}
-use Rattle.coset_shape.specs.declared.error.CallError.{CallError}
-use Rattle.coset_shape.specs.declared.error.CallError.TheVariants.{Coset, Caller}
-use Rattle.coset_shape.specs.declared.error.CoseError.{CoseError}
-use Rattle.coset_shape.specs.declared.error.CoseError.TheVariants.{OutOfMemory}
+use Rattle.coset_codec.specs.Encoding.{HasNoImage}
+use Rattle.coset_codec.specs.Maps.{entries_image, named_image}
+use Rattle.coset_codec.specs.ReadAgain.{IsWritten}
+use Rattle.coset_codec.specs.Shape.{both, bstr, tstr}
+use Rattle.coset_codec.specs.declared.error.CallError.{CallError}
+use Rattle.coset_codec.specs.declared.error.CallError.TheVariants.{Coset, Caller}
+use Rattle.coset_codec.specs.declared.error.CoseError.{CoseError}
+use Rattle.coset_codec.specs.declared.error.CoseError.TheVariants.{OutOfMemory}
 use Rattle.coset_label.specs.Names.{RegisteredName, assigned}
 use Rattle.coset_core.specs.Built.{with_algorithm}
 use Rattle.coset_core.specs.Fields.{partial_header}

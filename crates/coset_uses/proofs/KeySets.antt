@@ -9,13 +9,13 @@ use Rattle.std.proofs.Common.{◌≡◌, ◌≤◌, ◌++◌, ℕ, List, [], ◌
 use Rattle.std.proofs.lemmas.List.Elements.{Contains-append_right}
 use Rattle.std.proofs.lemmas.Slice.Eq.{bytes_eq-Decides, slice_eq-Decides}
 use Rattle.coset_value.specs.Item.{Item, depth}
-use Rattle.coset_shape.specs.Answers.{Writes}
-use Rattle.coset_shape.specs.Errors.{UnlessMemory}
-use Rattle.coset_shape.specs.Lists.{EachWith}
-use Rattle.coset_shape.specs.ReadAgain.{ReadsAgain}
-use Rattle.coset_shape.specs.ShapeLaws.{some-none}
-use Rattle.coset_shape.specs.declared.error.CoseError.{CoseError}
-use Rattle.coset_shape.specs.declared.error.CoseError.TheVariants.{OutOfMemory}
+use Rattle.coset_codec.specs.Answers.{Writes}
+use Rattle.coset_codec.specs.Errors.{UnlessMemory}
+use Rattle.coset_codec.specs.Lists.{EachWith}
+use Rattle.coset_codec.specs.ReadAgain.{ReadsAgain}
+use Rattle.coset_codec.specs.ShapeLaws.{some-none}
+use Rattle.coset_codec.specs.declared.error.CoseError.{CoseError}
+use Rattle.coset_codec.specs.declared.error.CoseError.TheVariants.{OutOfMemory}
 use Rattle.coset_label.specs.declared.ordering.CborOrdering.{CborOrdering}
 use Rattle.coset_key.specs.Canonical.{AgreeButForOrder, CanonicalApart}
 use Rattle.coset_key.specs.Keys.{KeySeen, key}

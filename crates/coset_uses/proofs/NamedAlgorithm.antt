@@ -14,9 +14,9 @@ use Rattle.coset_iana.specs.Registry.{first_numbered}
 use Rattle.coset_iana.specs.declared.algorithms.Algorithm.{Algorithm}
 use Rattle.coset_iana.specs.declared.algorithms.Algorithm.TheVariants.{RS1}
 use Rattle.coset_iana.specs.declared.algorithms.TheConstants.{ALGORITHMS}
-use Rattle.coset_shape.specs.Answers.{Describes}
-use Rattle.coset_shape.specs.ReadAgain.{IsWritten}
-use Rattle.coset_shape.specs.ShapeLaws.{some-none, some-one}
+use Rattle.coset_codec.specs.Answers.{Describes}
+use Rattle.coset_codec.specs.ReadAgain.{IsWritten}
+use Rattle.coset_codec.specs.ShapeLaws.{some-none, some-one}
 use Rattle.coset_label.specs.Names.{number, assigned}
 use Rattle.coset_core.specs.Built.{with_algorithm}
 use Rattle.coset_core.specs.Fields.{algorithm, partial_header}

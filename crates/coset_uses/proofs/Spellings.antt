@@ -6,17 +6,17 @@ use Rattle.coset_value.specs.Range.{IsInRange}
 use Rattle.coset_cbor.specs.Grammar.{IsEncoding}
 use Rattle.coset_cbor.specs.Least.{least_encoding}
 use Rattle.coset_cbor.specs.Shortest.{IsShortest}
-use Rattle.coset_shape.specs.Answers.{Describes}
-use Rattle.coset_shape.specs.AsWritten.{AsWritten}
-use Rattle.coset_shape.specs.ReadAgain.{IsWritten}
-use Rattle.coset_shape.specs.Shape.{Shape}
-use Rattle.coset_shape.specs.declared.error.CallError.{CallError}
-use Rattle.coset_shape.specs.declared.error.CallError.TheVariants.{Coset}
-use Rattle.coset_shape.specs.declared.error.CoseError.{CoseError}
-use Rattle.coset_shape.specs.declared.error.CoseError.TheVariants.{DecodeFailed, DuplicateMapKey, EncodeFailed, ExtraneousData, OutOfRangeIntegerValue, UnexpectedItem, UnregisteredIanaValue, UnregisteredIanaNonPrivateValue, OutOfMemory}
-use Rattle.coset_shape.proofs.Whole.{OneItem, one_of}
-use Rattle.coset_shape.specs.ShapeLaws.{some-none, some-one}
-use Rattle.coset_sign.specs.Calls.{IsStructure}
+use Rattle.coset_codec.specs.Answers.{Describes}
+use Rattle.coset_codec.specs.AsWritten.{AsWritten}
+use Rattle.coset_codec.specs.ReadAgain.{IsWritten}
+use Rattle.coset_codec.specs.Shape.{Shape}
+use Rattle.coset_codec.specs.declared.error.CallError.{CallError}
+use Rattle.coset_codec.specs.declared.error.CallError.TheVariants.{Coset}
+use Rattle.coset_codec.specs.declared.error.CoseError.{CoseError}
+use Rattle.coset_codec.specs.declared.error.CoseError.TheVariants.{DecodeFailed, DuplicateMapKey, EncodeFailed, ExtraneousData, OutOfRangeIntegerValue, UnexpectedItem, UnregisteredIanaValue, UnregisteredIanaNonPrivateValue, OutOfMemory}
+use Rattle.coset_codec.proofs.Whole.{OneItem, one_of}
+use Rattle.coset_codec.specs.ShapeLaws.{some-none, some-one}
+use Rattle.coset_core.specs.Calls.{IsStructure}
 use Rattle.coset_sign.specs.Sign1.{Sign1Seen, sign1, sign1_carried, sign1_structure}
 use Rattle.coset_sign.specs.Signed.{SignsSame, or_empty}
 use Rattle.coset_sign.specs.declared.signature.SignatureContext.TheVariants.{CoseSign1}

@@ -2,11 +2,11 @@
 use Rattle.std.specs.Prelude.{◌≡◌, ℕ, List, Some}
 use Rattle.coset_value.specs.Item.{Item}
 use Rattle.coset_cbor.specs.Grammar.{IsItem}
-use Rattle.coset_shape.specs.Answers.{Describes}
-use Rattle.coset_shape.specs.ReadAgain.{IsWritten}
-use Rattle.coset_shape.specs.Shape.{Shape}
+use Rattle.coset_codec.specs.Answers.{Describes}
+use Rattle.coset_codec.specs.ReadAgain.{IsWritten}
+use Rattle.coset_codec.specs.Shape.{Shape}
 use Rattle.coset_claims.specs.Claims.{ClaimsSeen, claims}
-use Rattle.coset_sign.specs.Calls.{IsStructure}
+use Rattle.coset_core.specs.Calls.{IsStructure}
 use Rattle.coset_sign.specs.Sign1.{Sign1Seen, sign1, sign1_carried}
 
 -- the bytes are encodings of one item (RFC 8949, section 3)

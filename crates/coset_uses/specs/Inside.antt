@@ -1,6 +1,6 @@
 -- What stands inside what was read.
 use Rattle.coset_value.specs.Item.{Item}
-use Rattle.coset_shape.specs.Shape.{Shape}
+use Rattle.coset_codec.specs.Shape.{Shape}
 
 -- some item describes x
 abbrev pub IsDescribed : {A : Type 0} → Shape A → A → Type 0

@@ -1,8 +1,8 @@
 -- What a store holds of a set of keys.
 use Rattle.std.specs.Prelude.{ℕ, List}
-use Rattle.coset_shape.specs.Answers.{Describes}
-use Rattle.coset_shape.specs.Lists.{EachWith}
-use Rattle.coset_shape.specs.ReadAgain.{IsWritten}
+use Rattle.coset_codec.specs.Answers.{Describes}
+use Rattle.coset_codec.specs.Lists.{EachWith}
+use Rattle.coset_codec.specs.ReadAgain.{IsWritten}
 use Rattle.coset_label.specs.declared.ordering.CborOrdering.{CborOrdering}
 use Rattle.coset_key.specs.Canonical.{IsCanonicalOf}
 use Rattle.coset_key.specs.Keys.{KeySeen, key, key_set}

@@ -1,6 +1,6 @@
 -- A web token that is let in.
 use Rattle.std.specs.Prelude.{◌≡◌, ℕ, List, [], ◌∷◌, Some}
-use Rattle.coset_shape.specs.Answers.{Describes}
+use Rattle.coset_codec.specs.Answers.{Describes}
 use Rattle.coset_label.specs.Names.{RegisteredName}
 use Rattle.coset_core.specs.Headers.{fields_in}
 use Rattle.coset_claims.specs.Claims.{ClaimsSeen}

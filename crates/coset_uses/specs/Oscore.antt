@@ -1,8 +1,8 @@
 -- What goes with a request of OSCORE (RFC 8613), and the plaintext of an encrypted message (RFC 8152, section 5.3).
 use Rattle.std.specs.Prelude.{◌≡◌, ℕ, ℤ, pos, List, [], Some}
 use Rattle.coset_value.specs.Item.{Item, integer, bytes, array, no_items, item}
-use Rattle.coset_shape.specs.Answers.{Describes}
-use Rattle.coset_sign.specs.Calls.{IsStructure}
+use Rattle.coset_codec.specs.Answers.{Describes}
+use Rattle.coset_core.specs.Calls.{IsStructure}
 use Rattle.coset_msg.specs.Encrypt0.{Encrypt0Seen, encrypt0, encrypt0_structure}
 
 -- the `external_aad` of a request (RFC 8613, section 5.4): version 1, a list of the one algorithm, the identifier of who

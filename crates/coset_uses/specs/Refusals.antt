@@ -2,20 +2,20 @@
 -- `OutOfMemory`, which each of them may answer.
 use Rattle.std.specs.Prelude.{◌≡◌, ◌⊎◌, ◌++◌, ℕ, List, Option, Some, None}
 use Rattle.coset_value.specs.Item.{Item}
-use Rattle.coset_shape.specs.Answers.{Describes}
-use Rattle.coset_shape.specs.Encoding.{HasNoImage}
-use Rattle.coset_shape.specs.Errors.{IsUnexpected}
-use Rattle.coset_shape.specs.ReadAgain.{IsWritten}
-use Rattle.coset_shape.specs.declared.error.CallError.{CallError}
-use Rattle.coset_shape.specs.declared.error.CallError.TheVariants.{Coset, Caller}
-use Rattle.coset_shape.specs.declared.error.CoseError.{CoseError}
-use Rattle.coset_shape.specs.declared.error.CoseError.TheVariants.{OutOfMemory}
+use Rattle.coset_codec.specs.Answers.{Describes}
+use Rattle.coset_codec.specs.Encoding.{HasNoImage}
+use Rattle.coset_codec.specs.Errors.{IsUnexpected}
+use Rattle.coset_codec.specs.ReadAgain.{IsWritten}
+use Rattle.coset_codec.specs.declared.error.CallError.{CallError}
+use Rattle.coset_codec.specs.declared.error.CallError.TheVariants.{Coset, Caller}
+use Rattle.coset_codec.specs.declared.error.CoseError.{CoseError}
+use Rattle.coset_codec.specs.declared.error.CoseError.TheVariants.{OutOfMemory}
 use Rattle.coset_label.specs.Names.{RegisteredName}
 use Rattle.coset_core.specs.Built.{with_algorithm}
 use Rattle.coset_core.specs.Headers.{HeaderSeen, empty_header}
 use Rattle.coset_core.specs.Messages.{unread}
 use Rattle.coset_claims.specs.Claims.{ClaimsSeen, claims}
-use Rattle.coset_sign.specs.Calls.{IsStructure}
+use Rattle.coset_core.specs.Calls.{IsStructure}
 use Rattle.coset_sign.specs.Sign1.{Sign1Seen, empty_sign1, sign1, sign1_carried, with_signature}
 use Rattle.coset_msg.specs.Encrypt0.{Encrypt0Seen, encrypt0, encrypt0_structure}
 use Rattle.cwt_gate.specs.Gate.{IsRefused}

@@ -3,12 +3,12 @@
 ghost use Rattle.std.specs.Prelude.{◌≡◌, ◌↔◌, ◌≤◌, IsTrue, ℕ, List, Result};
 ghost use Rattle.coset_value.specs.Item.{Item, depth};
 ghost use Rattle.coset_cbor.specs.Grammar.{IsItem};
-ghost use Rattle.coset_shape.specs.Answers.{AllocatesForItems, Describes, Reads, ReadsSlice, RefusesItem};
-ghost use Rattle.coset_shape.specs.ReadAgain.{EncodesApart, ReadsAgain, StaysAsWritten};
-ghost use Rattle.coset_shape.specs.Refusals.{NamesWholeFault};
-ghost use Rattle.coset_shape.specs.Shape.{tagged};
-ghost use Rattle.coset_shape.specs.ShapeLaws.{Again};
-ghost use Rattle.coset_shape.specs.declared.error.CoseError.{CoseError};
+ghost use Rattle.coset_codec.specs.Answers.{AllocatesForItems, Describes, Reads, ReadsSlice, RefusesItem};
+ghost use Rattle.coset_codec.specs.ReadAgain.{EncodesApart, ReadsAgain, StaysAsWritten};
+ghost use Rattle.coset_codec.specs.Refusals.{NamesWholeFault};
+ghost use Rattle.coset_codec.specs.Shape.{tagged};
+ghost use Rattle.coset_codec.specs.ShapeLaws.{Again};
+ghost use Rattle.coset_codec.specs.declared.error.CoseError.{CoseError};
 
 use coset::cbor::value::Value;
 use coset::cwt::{ClaimName, ClaimsSet, Timestamp};
@@ -18,7 +18,7 @@ use coset::{
     CoseSign1, CoseSignature, FromPull, Header, KeyOperation, KeyType, Label, Lawful, PartyInfo,
     ProtectedHeader, SuppPubInfo, TaggedCborSerializable,
 };
-use coset_shape::laws::{
+use coset_codec::laws::{
     equal_as_seen, image_is_described, one_value, reads_again, refused_as_bytes,
     refused_describes_nothing, spellings_agree, stays_as_written, written_apart,
 };

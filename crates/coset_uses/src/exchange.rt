@@ -5,9 +5,9 @@
 //! verified is what was signed, so that a genuine token is never refused.
 
 ghost use Rattle.std.specs.Prelude.{◌≡◌, ℕ, List, Some, None, IfOk, IfErr, IfSome};
-ghost use Rattle.coset_shape.specs.declared.error.CoseError.TheVariants.{OutOfMemory};
-ghost use Rattle.coset_shape.specs.declared.error.CallError.TheVariants.{Coset};
-ghost use Rattle.coset_shape.specs.declared.error.CallError.{CallError};
+ghost use Rattle.coset_codec.specs.declared.error.CoseError.TheVariants.{OutOfMemory};
+ghost use Rattle.coset_codec.specs.declared.error.CallError.TheVariants.{Coset};
+ghost use Rattle.coset_codec.specs.declared.error.CallError.{CallError};
 ghost use Rattle.coset_core.specs.Views.{header_seen};
 ghost use Rattle.coset_sign.specs.Sign1.{sign1_seen};
 ghost use Rattle.coset_uses.specs.declared.exchange.Lost.TheVariants.{NotVerified};

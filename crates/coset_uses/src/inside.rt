@@ -2,9 +2,9 @@
 
 ghost use Rattle.std.specs.Prelude.{◌≡◌, ◌↔◌};
 ghost use Rattle.coset_value.specs.Item.{Item};
-ghost use Rattle.coset_shape.specs.AsWritten.{WhenRead};
-ghost use Rattle.coset_shape.specs.Lists.{EachHas};
-ghost use Rattle.coset_shape.specs.declared.error.CoseError.{CoseError};
+ghost use Rattle.coset_codec.specs.AsWritten.{WhenRead};
+ghost use Rattle.coset_codec.specs.Lists.{EachHas};
+ghost use Rattle.coset_codec.specs.declared.error.CoseError.{CoseError};
 ghost use Rattle.coset_core.specs.HeaderMap.{header_map};
 ghost use Rattle.coset_core.specs.Headers.{HeaderSeen, LAYERS, header, signatures_within};
 ghost use Rattle.coset_recipient.specs.Recipient.{each_of, recipient};

@@ -7,15 +7,15 @@ ghost use Rattle.std.specs.Prelude.{◌≡◌, ◌≤◌, ◌↔◌, ◌⊎◌, 
 ghost use Rattle.coset_value.specs.Item.{Item, depth};
 ghost use Rattle.coset_key.specs.Canonical.{AgreeButForOrder};
 ghost use Rattle.coset_key.specs.Keys.{KeySeen, key as key_shape, key_seen, key_set};
-ghost use Rattle.coset_shape.specs.Answers.{Describes, DescribesNothing, RefusesSlice, SliceFaults};
-ghost use Rattle.coset_shape.specs.Errors.{UnlessMemory};
-ghost use Rattle.coset_shape.specs.Lists.{EachWith};
-ghost use Rattle.coset_shape.specs.declared.error.CoseError.TheVariants.{OutOfMemory};
+ghost use Rattle.coset_codec.specs.Answers.{Describes, DescribesNothing, RefusesSlice, SliceFaults};
+ghost use Rattle.coset_codec.specs.Errors.{UnlessMemory};
+ghost use Rattle.coset_codec.specs.Lists.{EachWith};
+ghost use Rattle.coset_codec.specs.declared.error.CoseError.TheVariants.{OutOfMemory};
 ghost use Rattle.coset_uses.specs.KeySets.{AreStored, IsHeldOf, IsKeySet};
 
 use coset::{CborOrdering, CborSerializable, CoseKey, CoseKeySet, Result};
+use coset_codec::laws::one_value;
 use coset_key::laws::{canonical_keys_apart, canonical_keys_read_again, keys_of_a_set};
-use coset_shape::laws::one_value;
 use std::alloc::Global;
 
 /// The same ordering once more, for the next key.

@@ -6,13 +6,13 @@
 ghost use Rattle.std.specs.Prelude.{◌≡◌, ◌⊎◌, ◌↔◌, IfOk, IfErr, IsTrue};
 ghost use Rattle.coset_key.specs.Canonical.{AgreeButForOrder};
 ghost use Rattle.coset_key.specs.Keys.{KeySeen, key};
-ghost use Rattle.coset_shape.specs.Answers.{Describes};
+ghost use Rattle.coset_codec.specs.Answers.{Describes};
 ghost use Rattle.cwt_gate.specs.Gate.{IsRefused};
 ghost use Rattle.coset_uses.specs.Store.{IsStored};
 
 use coset::{CborOrdering, CborSerializable, CoseKey, Result};
+use coset_codec::laws::one_value;
 use coset_key::laws::{canonical_keys_apart, canonical_keys_read_again};
-use coset_shape::laws::one_value;
 use std::alloc::Global;
 
 /// The bytes that a store holds of a key: its shortest encoding, with its params in order.

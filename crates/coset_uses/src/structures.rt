@@ -1,6 +1,6 @@
 //! What the receiver of a message verifies or decrypts is what its sender signed, authenticated or encrypted.
 
-ghost use Rattle.coset_shape.specs.Shape.{tagged};
+ghost use Rattle.coset_codec.specs.Shape.{tagged};
 ghost use Rattle.coset_sign.specs.Sign.{EachSigns, EachSignsSame, sign};
 ghost use Rattle.coset_msg.specs.EncStructure.{Encrypts, EncryptsSame};
 ghost use Rattle.coset_msg.specs.MacStructure.{Authenticates, AuthenticatesSame};

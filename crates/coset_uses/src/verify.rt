@@ -1,9 +1,9 @@
 //! Verifying a web token (RFC 8392, section 7.2), however it was spelled on its way.
 
 ghost use Rattle.std.specs.Prelude.{◌≡◌, ℕ, List, IfOk, IfErr};
-ghost use Rattle.coset_shape.specs.declared.error.CoseError.TheVariants.{OutOfMemory};
-ghost use Rattle.coset_shape.specs.declared.error.CallError.TheVariants.{Coset};
-ghost use Rattle.coset_shape.specs.ReadAgain.{IsWritten};
+ghost use Rattle.coset_codec.specs.declared.error.CoseError.TheVariants.{OutOfMemory};
+ghost use Rattle.coset_codec.specs.declared.error.CallError.TheVariants.{Coset};
+ghost use Rattle.coset_codec.specs.ReadAgain.{IsWritten};
 ghost use Rattle.coset_claims.specs.Claims.{claims_seen};
 ghost use Rattle.coset_sign.specs.Sign1.{Sign1Seen, sign1, sign1_seen};
 ghost use Rattle.coset_uses.specs.Exchange.{CarriesSame, IsSent, IsSpelling, IsVerified, AreVerified};
@@ -15,7 +15,7 @@ use coset::{CallError, CborSerializable, CoseError, CoseSign1};
 use coset_cbor::laws::{
     least_heads_are_shortest, one_item, shortest_is_encoding, shortest_is_in_range,
 };
-use coset_shape::laws::spellings_agree;
+use coset_codec::laws::spellings_agree;
 use coset_sign::laws::{carried_as_written, signed_as_written, signed_when_read};
 use std::alloc::Global;
 

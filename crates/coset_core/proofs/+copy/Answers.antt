@@ -1,5 +1,5 @@
 use Rattle.std.proofs.Common.{◌-◌, map, ap, ◌∙◌, arith, rules}
-use Rattle.coset_shape.proofs.InPlace.{last_at, one_more_copied}
+use Rattle.coset_codec.proofs.InPlace.{last_at, one_more_copied}
 use Rattle.coset_core.specs.Contents.{empty_signature}
 use Rattle.coset_core.proofs.Signatures.{header_copied}
 use Rattle.coset_core.proofs.Writing.{taken}

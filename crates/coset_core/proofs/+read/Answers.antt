@@ -1,11 +1,11 @@
 use Rattle.std.proofs.Common.{◌≡◌, Some, Err, true, false, option_map, map, ap, sym, subst, refl, ◌∙◌, ◌-◌, arith, rules}
 use Rattle.coset_value.specs.Item.{Item, Items, array, bytes}
-use Rattle.coset_shape.specs.Inputs.{state, AreWithin}
-use Rattle.coset_shape.proofs.Inputs.{items_smaller, pairs_fewer, pairs_smaller}
-use Rattle.coset_shape.specs.Shape.{Each}
-use Rattle.coset_shape.specs.ShapeLaws.{some-one}
-use Rattle.coset_shape.specs.Errors.{answer, UnlessMemory}
-use Rattle.coset_shape.specs.InPlace.{Fills}
+use Rattle.coset_codec.specs.Inputs.{state, AreWithin}
+use Rattle.coset_codec.proofs.Inputs.{items_smaller, pairs_fewer, pairs_smaller}
+use Rattle.coset_codec.specs.Shape.{Each}
+use Rattle.coset_codec.specs.ShapeLaws.{some-one}
+use Rattle.coset_codec.specs.Errors.{answer, UnlessMemory}
+use Rattle.coset_codec.specs.InPlace.{Fills}
 use Rattle.coset_core.specs.Contents.{empty_signature}
 use Rattle.coset_core.specs.Fields.{HasOneIv}
 use Rattle.coset_core.specs.FieldsView.{fields_seen}
@@ -16,8 +16,8 @@ use Rattle.coset_core.specs.ViewLaws.{protected-made, protected-opened, signatur
 use Rattle.coset_core.specs.declared.protected.ProtectedHeader.{out-ProtectedHeader}
 use Rattle.coset_core.specs.declared.signature.CoseSignature.{out-roll-CoseSignature}
 use Rattle.coset_core.proofs.Reading.{no_layer_left, protected_filled}
-use Rattle.coset_shape.proofs.InPlace.{last_at, last_filled, one_filled_more, one_refused_more}
-use Rattle.coset_shape.proofs.Lists.{all_read}
+use Rattle.coset_codec.proofs.InPlace.{last_at, last_filled, one_filled_more, one_refused_more}
+use Rattle.coset_codec.proofs.Lists.{all_read}
 use Rattle.coset_core.proofs.Forward.{not_entered, one_iv_yet, so_far_none, so_far_more, ends, pairs_refused, counter_signatures_refused, not_kept, second_refused, one_filled, more_filled, places_refused, second_read, last_refused, places_filled, unprotected_refused, protected_refused}
 use Rattle.coset_core.proofs.+read.Goals as goal
 use Rattle.coset_core.proofs.+read.Goals.{header::reading::fill_counter_signatures-then-one, header::reading::fill_counter_signatures-else-one}

@@ -1,11 +1,11 @@
 use Rattle.std.proofs.Common.{ℕ, map, length, ◌+◌, ◌*◌, ◌≤◌}
 use Rattle.coset_value.specs.Item.{Items, Pairs}
-use Rattle.coset_shape.specs.Inputs.{State, state, length_left, input_size, items_size, pairs_size, items_turns, pairs_turns, AreWithin, PairsWithin}
+use Rattle.coset_codec.specs.Inputs.{State, state, length_left, input_size, items_size, pairs_size, items_turns, pairs_turns, AreWithin, PairsWithin}
 use Rattle.coset_core.specs.Fields.{HasOneIv}
 use Rattle.coset_core.specs.FieldsView.{fields_seen}
 use Rattle.coset_core.proofs.Forward.{HeaderSoFar}
 use Rattle.coset_core.specs.Views.{signature_seen}
-use Rattle.coset_shape.proofs.InPlace.{Filled}
+use Rattle.coset_codec.proofs.InPlace.{Filled}
 use Rattle.coset_core.specs.Headers.{SignatureSeen, layered_signature}
 use Rattle.coset_core.proofs.+read.Given as goal
 

@@ -1,7 +1,7 @@
 use Rattle.std.proofs.Common.{◌≡◌, option_map, map, take, drop, ◌+◌, None, sym, ap, ◌∙◌, arith, rules, subst}
 use Rattle.std.proofs.lemmas.List.{length-map}
 use Rattle.coset_value.specs.Item.{bytes}
-use Rattle.coset_shape.specs.Encoding.{AppendsItem, AppendsImage}
+use Rattle.coset_codec.specs.Encoding.{AppendsItem, AppendsImage}
 use Rattle.coset_core.specs.Headers.{header_image, signatures_image, signatures_of}
 use Rattle.coset_core.specs.FieldLabels as labels
 use Rattle.coset_core.specs.ViewLaws.{countersignature_level, countersignature-opened, header_level, header-opened, signature_level, signature-opened, protected-opened}

@@ -1,7 +1,7 @@
 //! The builder of headers (RFC 8152, section 3).
 
 ghost use Rattle.std.specs.Prelude.{◌≡◌, IfOk, IfErr, ◌<◌, Some, string_bytes};
-ghost use Rattle.coset_shape.specs.declared.error.CoseError.TheVariants as errors;
+ghost use Rattle.coset_codec.specs.declared.error.CoseError.TheVariants as errors;
 ghost use Rattle.coset_core.specs.Views.{algorithm_seen, countersignature_seen, critical_seen, header_seen, signature_seen};
 ghost use Rattle.coset_core.specs.Fields.{algorithm};
 ghost use Rattle.coset_label.specs.Names.{number, word, assigned};
@@ -16,9 +16,9 @@ use crate::countersignature::CoseCountersignature;
 use crate::header::Header;
 use crate::signature::CoseSignature;
 use coset_cbor::value::Value;
+use coset_codec::Result;
 use coset_iana::{CoapContentFormat, HeaderParameter};
 use coset_label::{Algorithm, Label, RegisteredLabel, RegisteredLabelWithPrivate, iana};
-use coset_shape::Result;
 use std::alloc::Global;
 use std::marker::Model;
 

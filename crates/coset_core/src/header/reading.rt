@@ -6,21 +6,21 @@
 //! `layers` each byte string of a protected header takes one.
 
 ghost use Rattle.std.specs.Prelude.{MatchOption, ◌≡◌, [], map, option_map, OnOk, IfOk, IfErr, ◌⊎◌, ◌≤◌, ◌<◌, Option, true, false, IsSome, IsErrAnd, OnErr, Err, Some};
-ghost use Rattle.coset_shape.specs.declared.error.CoseError.TheVariants as errors;
-ghost use Rattle.coset_shape.specs.declared.error.CoseError.TheVariants.{DuplicateMapKey};
-ghost use Rattle.coset_shape.specs.InPlace.{Fills};
+ghost use Rattle.coset_codec.specs.declared.error.CoseError.TheVariants as errors;
+ghost use Rattle.coset_codec.specs.declared.error.CoseError.TheVariants.{DuplicateMapKey};
+ghost use Rattle.coset_codec.specs.InPlace.{Fills};
 ghost use Rattle.coset_core.specs.FieldsView.{fields_seen, signatures_held};
 ghost use Rattle.coset_core.specs.Views.{algorithm_seen, header_seen, signature_seen};
-ghost use Rattle.coset_shape.specs.Answers.{Reads};
-ghost use Rattle.coset_shape.specs.Errors.{IsUnexpected, UnlessMemory, answer, filled};
+ghost use Rattle.coset_codec.specs.Answers.{Reads};
+ghost use Rattle.coset_codec.specs.Errors.{IsUnexpected, UnlessMemory, answer, filled};
 ghost use Rattle.coset_core.specs.Fields.{FieldsSeen, Versions, algorithm, names, fields, parts_of, same_name, HasOneIv, bars};
 ghost use Rattle.coset_value.specs.Item.{Item, Pairs, dict};
-ghost use Rattle.coset_shape.specs.Inputs.{State, state, GoesBehind, ReadsAt, length_left, input_size, pairs_size, pairs_turns, PairsWithin, items_size, Stands, EntersMap, EntersOnes};
-ghost use Rattle.coset_shape.specs.Maps.{is_filled, optional, listed, Adds, Refuses};
-ghost use Rattle.coset_shape.specs.Shape.{any, bstr, filled_bstr, any_number, one_or_many};
+ghost use Rattle.coset_codec.specs.Inputs.{State, state, GoesBehind, ReadsAt, length_left, input_size, pairs_size, pairs_turns, PairsWithin, items_size, Stands, EntersMap, EntersOnes};
+ghost use Rattle.coset_codec.specs.Maps.{is_filled, optional, listed, Adds, Refuses};
+ghost use Rattle.coset_codec.specs.Shape.{any, bstr, filled_bstr, any_number, one_or_many};
 ghost use Rattle.coset_label.specs.Names.{number};
 ghost use Rattle.coset_label.specs.Views.{label_seen};
-ghost use Rattle.coset_shape.specs.declared.input.InputPairs.{InputPairs};
+ghost use Rattle.coset_codec.specs.declared.read.input.InputPairs.{InputPairs};
 ghost use Rattle.coset_iana.specs.HeaderParameter as parameters;
 ghost use Rattle.coset_core.specs.Filling.{FillsFields, FillsSome, Keeps, NamesNoVersion, WalksTo, held_of, label_of};
 ghost use Rattle.coset_core.specs.FieldValues.{TakesValue, RefusesValue};
@@ -33,12 +33,12 @@ use crate::critical::set_critical;
 use crate::header::Header;
 use crate::header::writing::ask_distinct;
 use crate::signature::{CoseSignature, fill_each, fill_one, let_go};
+use coset_codec::error::{Refused, keep_error};
+use coset_codec::read::{Input, InputItems, InputPairs};
+use coset_codec::traits::FromPull;
+use coset_codec::{CoseError, Result};
 use coset_iana::{EnumI64, HeaderParameter};
 use coset_label::{Algorithm, Label};
-use coset_shape::error::{Refused, keep_error};
-use coset_shape::input::{Input, InputItems, InputPairs};
-use coset_shape::traits::FromPull;
-use coset_shape::{CoseError, Result};
 use std::alloc::Global;
 
 /// Whether the label is that of this parameter.

@@ -1,12 +1,12 @@
 //! Writing headers, straight from where their fields lie.
 
 ghost use Rattle.std.specs.Prelude.{◌≡◌, [], map, option_map, OnOk, IfErr, ◌≤◌, ◌<◌, Option, true, false, Err, ◌+◌, ◌≢◌, ◌++◌, Some};
-ghost use Rattle.coset_shape.specs.declared.error.CoseError.TheVariants.{DuplicateMapKey};
+ghost use Rattle.coset_codec.specs.declared.error.CoseError.TheVariants.{DuplicateMapKey};
 ghost use Rattle.coset_core.specs.FieldsView.{fields_seen};
 ghost use Rattle.coset_core.specs.Views.{algorithm_seen, countersignature_seen, entry_seen, header_seen, signature_seen};
-ghost use Rattle.coset_shape.specs.Errors.{UnlessMemory};
+ghost use Rattle.coset_codec.specs.Errors.{UnlessMemory};
 ghost use Rattle.coset_core.specs.Fields.{same_name};
-ghost use Rattle.coset_shape.specs.Maps.{put_field, are_distinct};
+ghost use Rattle.coset_codec.specs.Maps.{put_field, are_distinct};
 ghost use Rattle.coset_label.specs.Names.{number, name_item};
 ghost use Rattle.coset_label.specs.Views.{label_seen};
 ghost use Rattle.coset_iana.specs.HeaderParameter as parameters;
@@ -14,7 +14,7 @@ ghost use Rattle.coset_core.specs.FieldLabels as labels;
 ghost use Rattle.coset_core.specs.Headers.{signatures_of, signatures_image, header_image};
 ghost use Rattle.coset_value.specs.View.{view};
 ghost use Rattle.coset_core.specs.Written.{AppendsPairs, AppendsCounterSignatures, bytes_item, registered_item, filled_item, plain_fields, one, count_pairs};
-ghost use Rattle.coset_shape.specs.Encoding.{HasNoImage, AppendsItem, Encodes};
+ghost use Rattle.coset_codec.specs.Encoding.{HasNoImage, AppendsItem, Encodes};
 ghost use Rattle.std.specs.Map.{keys_of};
 ghost use Rattle.coset_cbor.specs.Least.{least_head};
 
@@ -28,9 +28,9 @@ use coset_cbor::ser::{
 };
 use coset_cbor::value::{Integer, Value};
 use coset_cbor::{OutOfMemory, laws};
+use coset_codec::{CoseError, Result, has_repeats};
 use coset_iana::{EnumI64, HeaderParameter};
 use coset_label::{Algorithm, Label};
-use coset_shape::{CoseError, Result, has_repeats};
 use std::alloc::Global;
 
 pub(crate) fn write_number(n: i64, out: &mut Vec<u8>) -> Result<(), OutOfMemory>

@@ -1,5 +1,5 @@
 use Rattle.std.proofs.Common.{◌+◌, ◌≡◌, suc, arith, length}
-use Rattle.coset_shape.proofs.Encoding.{place-put, array-put}
+use Rattle.coset_codec.proofs.Encoding.{place-put, array-put}
 use Rattle.coset_claims.proofs.ByteStrings.{as_many}
 use Rattle.coset_claims.proofs.context.encode_four_and_more.Goals as goal
 

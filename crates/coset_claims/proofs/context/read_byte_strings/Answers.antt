@@ -1,6 +1,6 @@
 use Rattle.std.proofs.Common.{map}
-use Rattle.coset_shape.specs.Shape.{bstr}
-use Rattle.coset_shape.proofs.Lists.{all_read}
+use Rattle.coset_codec.specs.Shape.{bstr}
+use Rattle.coset_codec.proofs.Lists.{all_read}
 use Rattle.coset_claims.proofs.ByteStrings.{ReadSoFar}
 use Rattle.coset_claims.proofs.context.read_byte_strings.Goals as goal
 

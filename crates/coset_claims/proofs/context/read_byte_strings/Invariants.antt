@@ -1,6 +1,6 @@
 use Rattle.std.proofs.Common.{◌≤◌, map}
 use Rattle.coset_value.specs.Item.{Items}
-use Rattle.coset_shape.specs.Inputs.{State, state, length_left, items_turns, AreWithin}
+use Rattle.coset_codec.specs.Inputs.{State, state, length_left, items_turns, AreWithin}
 use Rattle.coset_claims.proofs.ByteStrings.{Midway}
 use Rattle.coset_claims.proofs.context.read_byte_strings.Given as goal
 

@@ -1,9 +1,9 @@
 use Rattle.std.proofs.Common.{◌≡◌, ◌+◌, take, length, refl, sym, subst, arith}
 use Rattle.std.proofs.Math.Seq.{take-length}
 use Rattle.coset_value.specs.Item.{bytes}
-use Rattle.coset_shape.specs.Encoding.{AppendsPlaces}
-use Rattle.coset_shape.specs.Shape.{bstr, images}
-use Rattle.coset_shape.proofs.Encoding.{nothing-put, member-put, images-mapped, one_taken}
+use Rattle.coset_codec.specs.Encoding.{AppendsPlaces}
+use Rattle.coset_codec.specs.Shape.{bstr, images}
+use Rattle.coset_codec.proofs.Encoding.{nothing-put, member-put, images-mapped, one_taken}
 use Rattle.coset_claims.proofs.context.write_byte_strings.Goals as goal
 
 pub loop-bytes-init : goal.loop-bytes-init

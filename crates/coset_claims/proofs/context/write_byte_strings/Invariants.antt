@@ -1,6 +1,6 @@
 use Rattle.std.proofs.Common.{take}
-use Rattle.coset_shape.specs.Encoding.{AppendsPlaces}
-use Rattle.coset_shape.specs.Shape.{bstr, images}
+use Rattle.coset_codec.specs.Encoding.{AppendsPlaces}
+use Rattle.coset_codec.specs.Shape.{bstr, images}
 use Rattle.coset_claims.proofs.context.write_byte_strings.Given as goal
 
 abbrev pub invariant-loop-bytes : goal.invariant-loop-bytes

@@ -1,5 +1,5 @@
 use Rattle.std.proofs.Common.{ap, sym, ◌∙◌}
-use Rattle.coset_shape.specs.Serialized.{content_bytes}
+use Rattle.coset_codec.specs.Serialized.{content_bytes}
 use Rattle.coset_core.specs.Headers.{is_empty_header, header_image, layered_protected}
 use Rattle.coset_core.proofs.laws.kept_as_received.Goals as goal
 

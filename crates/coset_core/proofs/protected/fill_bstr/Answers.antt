@@ -1,12 +1,12 @@
 use Rattle.std.proofs.Common.{ap, sym, subst}
-use Rattle.coset_shape.specs.Errors.{answer}
-use Rattle.coset_shape.specs.InPlace.{Fills}
+use Rattle.coset_codec.specs.Errors.{answer}
+use Rattle.coset_codec.specs.InPlace.{Fills}
 use Rattle.coset_core.specs.HeaderAgain.{bytes-is}
 use Rattle.coset_core.specs.Headers.{protected}
 use Rattle.coset_core.specs.ViewLaws.{protected-made}
 use Rattle.coset_core.specs.Views.{protected_seen}
 use Rattle.coset_core.proofs.Reading.{no_string}
-use Rattle.coset_shape.proofs.InPlace.{not_filled}
+use Rattle.coset_codec.proofs.InPlace.{not_filled}
 use Rattle.coset_core.proofs.protected.fill_bstr.Goals as goal
 
 pub returns-in_err-bytes-clause-fills : goal.returns-in_err-bytes-clause-fills

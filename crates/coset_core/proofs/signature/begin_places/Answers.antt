@@ -1,4 +1,4 @@
-use Rattle.coset_shape.specs.Inputs.{state}
+use Rattle.coset_codec.specs.Inputs.{state}
 use Rattle.coset_core.proofs.Forward.{first_refused}
 use Rattle.coset_core.proofs.signature.begin_places.Goals as goal
 

@@ -1,4 +1,4 @@
-use Rattle.coset_shape.specs.Inputs.{state}
+use Rattle.coset_codec.specs.Inputs.{state}
 use Rattle.coset_core.proofs.Forward.{third_refused}
 use Rattle.coset_core.proofs.signature.end_places.Goals as goal
 

@@ -1,5 +1,5 @@
 use Rattle.std.proofs.Common.{map, pos, sym, subst, OnOk}
-use Rattle.coset_shape.specs.Encoding.{AddsField}
+use Rattle.coset_codec.specs.Encoding.{AddsField}
 use Rattle.coset_key.specs.Keys.{operation_seen}
 use Rattle.coset_key.proofs.KeySets.{no-keys, some-keys}
 use Rattle.coset_core.proofs.Memory.{refused_memory}

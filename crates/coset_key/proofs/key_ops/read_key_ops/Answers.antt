@@ -1,5 +1,5 @@
 use Rattle.std.proofs.Common.{inl}
-use Rattle.coset_shape.proofs.Placed.{passed_on}
+use Rattle.coset_codec.proofs.Placed.{passed_on}
 use Rattle.coset_label.specs.NameOrder.{name_cmp_total}
 use Rattle.coset_label.specs.Names.{name_cmp}
 use Rattle.coset_key.specs.KeyLaws.{names_exact}

@@ -1,6 +1,6 @@
 use Rattle.std.proofs.Common.{map, sym, ◌∙◌, ap, subst, arith}
-use Rattle.coset_shape.proofs.Walking.{not_true, not_false}
-use Rattle.coset_shape.specs.Inputs.{state}
+use Rattle.coset_codec.proofs.Walking.{not_true, not_false}
+use Rattle.coset_codec.specs.Inputs.{state}
 use Rattle.coset_label.specs.NameOrder.{name_cmp_total}
 use Rattle.coset_label.specs.Names.{name_cmp}
 use Rattle.coset_key.specs.KeyLaws.{names_exact}

@@ -1,6 +1,6 @@
 use Rattle.std.proofs.Common.{◌≤◌, map}
 use Rattle.coset_value.specs.Item.{Items}
-use Rattle.coset_shape.specs.Inputs.{State, state, length_left, items_turns, AreWithin}
+use Rattle.coset_codec.specs.Inputs.{State, state, length_left, items_turns, AreWithin}
 use Rattle.coset_label.specs.NameOrder.{name_cmp_total}
 use Rattle.coset_label.specs.Names.{name_cmp}
 use Rattle.coset_key.specs.KeyLaws.{names_exact}

@@ -1,5 +1,5 @@
 use Rattle.std.proofs.Common.{arith}
-use Rattle.coset_shape.specs.ShapeLaws.{as_array-depth}
+use Rattle.coset_codec.specs.ShapeLaws.{as_array-depth}
 use Rattle.coset_key.specs.Keys.{key}
 use Rattle.coset_key.proofs.Members.{member_of}
 use Rattle.coset_key.proofs.laws.keys_of_a_set.Goals as goal

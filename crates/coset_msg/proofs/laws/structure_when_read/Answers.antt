@@ -1,4 +1,4 @@
-use Rattle.coset_shape.proofs.AsWritten.{tagged_when_read}
+use Rattle.coset_codec.proofs.AsWritten.{tagged_when_read}
 use Rattle.coset_msg.specs.Encrypt0.{encrypt0}
 use Rattle.coset_msg.specs.Mac0.{mac0}
 use Rattle.coset_msg.proofs.Written.{encrypt0_when_read, mac0_when_read}

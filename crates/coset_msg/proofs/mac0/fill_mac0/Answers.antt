@@ -1,7 +1,7 @@
 use Rattle.std.proofs.Common.{Some, ap, ◌∙◌, inl, inr}
 use Rattle.coset_value.specs.Item.{item}
-use Rattle.coset_shape.specs.Inputs.{state}
-use Rattle.coset_shape.proofs.Placed.{placed, two_are}
+use Rattle.coset_codec.specs.Inputs.{state}
+use Rattle.coset_codec.proofs.Placed.{placed, two_are}
 use Rattle.coset_core.proofs.Messages.{headers_filled, place_refused}
 use Rattle.coset_msg.specs.Mac0.{mac0_fields, mac0_places, mac0_places_laws}
 use Rattle.coset_msg.proofs.mac0.fill_mac0.Goals as goal

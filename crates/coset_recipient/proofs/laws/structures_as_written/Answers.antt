@@ -1,4 +1,4 @@
-use Rattle.coset_shape.proofs.AsWritten.{tagged_as_written}
+use Rattle.coset_codec.proofs.AsWritten.{tagged_as_written}
 use Rattle.coset_recipient.specs.Encrypt.{encrypt}
 use Rattle.coset_recipient.specs.Mac.{mac}
 use Rattle.coset_recipient.proofs.Written.{encrypt_as_written, mac_as_written, recipient_as_written}

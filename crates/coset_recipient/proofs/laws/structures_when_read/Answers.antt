@@ -1,4 +1,4 @@
-use Rattle.coset_shape.proofs.AsWritten.{tagged_when_read}
+use Rattle.coset_codec.proofs.AsWritten.{tagged_when_read}
 use Rattle.coset_recipient.specs.Encrypt.{encrypt}
 use Rattle.coset_recipient.specs.Mac.{mac}
 use Rattle.coset_recipient.proofs.Written.{encrypt_when_read, mac_when_read, recipient_when_read}

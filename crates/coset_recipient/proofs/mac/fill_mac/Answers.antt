@@ -1,7 +1,7 @@
 use Rattle.std.proofs.Common.{Some, ap, ◌∙◌, inl, inr}
 use Rattle.coset_value.specs.Item.{item}
-use Rattle.coset_shape.specs.Inputs.{state}
-use Rattle.coset_shape.proofs.Placed.{placed, three_are}
+use Rattle.coset_codec.specs.Inputs.{state}
+use Rattle.coset_codec.proofs.Placed.{placed, three_are}
 use Rattle.coset_core.proofs.Messages.{headers_filled, place_refused}
 use Rattle.coset_recipient.specs.Mac.{mac_fields, mac_places, mac_places_laws}
 use Rattle.coset_recipient.proofs.mac.fill_mac.Goals as goal

@@ -1,6 +1,6 @@
 use Rattle.std.proofs.Common.{◌-◌, ◌∙◌, ap, arith, option_map, rules}
 use Rattle.coset_core.proofs.Writing.{taken}
-use Rattle.coset_shape.proofs.InPlace.{last_at, one_more_copied}
+use Rattle.coset_codec.proofs.InPlace.{last_at, one_more_copied}
 use Rattle.coset_recipient.specs.Recipient.{empty_recipient}
 use Rattle.coset_recipient.specs.RecipientView.{recipient_seen}
 use Rattle.coset_core.specs.Views.{header_seen, protected_seen}

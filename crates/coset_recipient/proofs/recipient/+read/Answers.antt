@@ -1,12 +1,12 @@
 use Rattle.std.proofs.Common.{codes, option_map, map, ap, sym, subst, refl, ◌∙◌, ◌-◌, arith, rules}
 use Rattle.coset_value.specs.Item.{Items, array}
-use Rattle.coset_shape.specs.Errors.{answer}
-use Rattle.coset_shape.specs.Inputs.{state, AreWithin}
-use Rattle.coset_shape.specs.InPlace.{Fills}
-use Rattle.coset_shape.specs.Shape.{Each}
-use Rattle.coset_shape.proofs.InPlace.{last_at, last_filled, one_filled_more, one_refused_more}
-use Rattle.coset_shape.proofs.Inputs.{items_smaller}
-use Rattle.coset_shape.proofs.Lists.{all_read}
+use Rattle.coset_codec.specs.Errors.{answer}
+use Rattle.coset_codec.specs.Inputs.{state, AreWithin}
+use Rattle.coset_codec.specs.InPlace.{Fills}
+use Rattle.coset_codec.specs.Shape.{Each}
+use Rattle.coset_codec.proofs.InPlace.{last_at, last_filled, one_filled_more, one_refused_more}
+use Rattle.coset_codec.proofs.Inputs.{items_smaller}
+use Rattle.coset_codec.proofs.Lists.{all_read}
 use Rattle.coset_core.specs.Views.{header_seen, protected_seen}
 use Rattle.coset_recipient.specs.Recipient.{RecipientSeen, empty_recipient, recipient, recipients_of}
 use Rattle.coset_recipient.specs.RecipientReading.{BeginsThree}

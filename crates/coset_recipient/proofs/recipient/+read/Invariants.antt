@@ -1,7 +1,7 @@
 use Rattle.std.proofs.Common.{map, ◌+◌, ◌*◌, ◌≤◌}
 use Rattle.coset_value.specs.Item.{Items}
-use Rattle.coset_shape.specs.Inputs.{State, state, length_left, input_size, items_size, items_turns, AreWithin}
-use Rattle.coset_shape.proofs.InPlace.{Filled}
+use Rattle.coset_codec.specs.Inputs.{State, state, length_left, input_size, items_size, items_turns, AreWithin}
+use Rattle.coset_codec.proofs.InPlace.{Filled}
 use Rattle.coset_recipient.specs.Recipient.{RecipientSeen, recipient}
 use Rattle.coset_recipient.specs.RecipientView.{recipient_seen}
 use Rattle.coset_recipient.proofs.recipient.+read.Given as goal

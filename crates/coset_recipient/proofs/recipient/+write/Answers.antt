@@ -1,10 +1,10 @@
 use Rattle.std.proofs.Common.{take, drop, map, length, sym, subst, ap, ◌∙◌, ◌+◌, ◌≡◌, arith}
 use Rattle.std.proofs.Math.Seq.{take-length}
 use Rattle.coset_core.proofs.Writing.{taken, around}
-use Rattle.coset_shape.specs.Encoding.{AppendsPlaces, HasNoImage}
-use Rattle.coset_shape.specs.Shape.{images}
-use Rattle.coset_shape.proofs.Encoding.{nothing-put, member-put, images-missing, array-encoded}
-use Rattle.coset_shape.proofs.Lists.{on_err}
+use Rattle.coset_codec.specs.Encoding.{AppendsPlaces, HasNoImage}
+use Rattle.coset_codec.specs.Shape.{images}
+use Rattle.coset_codec.proofs.Encoding.{nothing-put, member-put, images-missing, array-encoded}
+use Rattle.coset_codec.proofs.Lists.{on_err}
 use Rattle.coset_recipient.specs.Recipient.{are_none, recipient_image, recipients_of}
 use Rattle.coset_recipient.specs.RecipientView.{recipient_seen, recipient-unrolled}
 use Rattle.coset_recipient.proofs.Writing.{last_written, none_of, some_of, without_last}

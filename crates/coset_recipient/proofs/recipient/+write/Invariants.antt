@@ -1,6 +1,6 @@
 use Rattle.std.proofs.Common.{map, take}
-use Rattle.coset_shape.specs.Encoding.{AppendsPlaces}
-use Rattle.coset_shape.specs.Shape.{images}
+use Rattle.coset_codec.specs.Encoding.{AppendsPlaces}
+use Rattle.coset_codec.specs.Shape.{images}
 use Rattle.coset_recipient.specs.Recipient.{recipient_image}
 use Rattle.coset_recipient.specs.RecipientView.{recipient_seen}
 use Rattle.coset_recipient.proofs.recipient.+write.Given as goal

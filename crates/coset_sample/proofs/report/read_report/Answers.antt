@@ -1,6 +1,6 @@
 use Rattle.std.proofs.Common.{Some, ap, ◌∙◌, inl, inr}
-use Rattle.coset_shape.specs.Inputs.{state}
-use Rattle.coset_shape.proofs.Placed.{placed, passed_on, two_are}
+use Rattle.coset_codec.specs.Inputs.{state}
+use Rattle.coset_codec.proofs.Placed.{placed, passed_on, two_are}
 use Rattle.coset_sample.specs.Report.{seen, report}
 use Rattle.coset_sample.proofs.report.read_report.Goals as goal
 

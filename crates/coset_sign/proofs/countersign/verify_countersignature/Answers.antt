@@ -2,7 +2,7 @@ use Rattle.std.proofs.Common.{Some, map, subst, sym}
 use Rattle.coset_core.specs.ViewLaws.{countersignature-opened}
 use Rattle.coset_core.specs.Views.{protected_seen}
 use Rattle.coset_core.specs.declared.countersignature.CoseCountersignature.{out-CoseCountersignature}
-use Rattle.coset_sign.specs.Calls.{AsksAbout}
+use Rattle.coset_core.specs.Calls.{AsksAbout}
 use Rattle.coset_sign.specs.Countersigned.{countersigned_item}
 use Rattle.coset_sign.proofs.countersign.verify_countersignature.Goals as goal
 

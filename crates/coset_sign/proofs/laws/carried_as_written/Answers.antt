@@ -1,4 +1,4 @@
-use Rattle.coset_shape.proofs.AsWritten.{tagged_as_written}
+use Rattle.coset_codec.proofs.AsWritten.{tagged_as_written}
 use Rattle.coset_sign.specs.Sign1.{SamePayloadAndSignature, sign1}
 use Rattle.coset_sign.proofs.Written.{carries_as_written}
 use Rattle.coset_sign.proofs.laws.carried_as_written.Goals as goal

@@ -1,4 +1,4 @@
-use Rattle.coset_shape.proofs.AsWritten.{tagged_as_written}
+use Rattle.coset_codec.proofs.AsWritten.{tagged_as_written}
 use Rattle.coset_sign.specs.Sign.{sign}
 use Rattle.coset_sign.proofs.Written.{each_signs_as_written}
 use Rattle.coset_sign.proofs.laws.each_signed_as_written.Goals as goal

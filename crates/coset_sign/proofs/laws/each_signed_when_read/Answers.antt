@@ -1,4 +1,4 @@
-use Rattle.coset_shape.proofs.AsWritten.{tagged_when_read}
+use Rattle.coset_codec.proofs.AsWritten.{tagged_when_read}
 use Rattle.coset_sign.specs.Sign.{EachSigns, sign}
 use Rattle.coset_sign.proofs.Written.{each_signs_when_read}
 use Rattle.coset_sign.proofs.laws.each_signed_when_read.Goals as goal

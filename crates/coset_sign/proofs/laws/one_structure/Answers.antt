@@ -1,6 +1,6 @@
 use Rattle.std.proofs.Common.{[], refl}
-use Rattle.coset_sign.specs.Structure.{structure}
-use Rattle.coset_sign.proofs.Structures.{same_structure}
+use Rattle.coset_core.specs.Structure.{structure}
+use Rattle.coset_core.proofs.Structures.{same_structure}
 use Rattle.coset_sign.proofs.laws.one_structure.Goals as goal
 
 pub returns : goal.returns

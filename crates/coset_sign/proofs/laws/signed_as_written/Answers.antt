@@ -1,4 +1,4 @@
-use Rattle.coset_shape.proofs.AsWritten.{tagged_as_written}
+use Rattle.coset_codec.proofs.AsWritten.{tagged_as_written}
 use Rattle.coset_sign.specs.Sign1.{sign1}
 use Rattle.coset_sign.proofs.Written.{signs_as_written}
 use Rattle.coset_sign.proofs.laws.signed_as_written.Goals as goal

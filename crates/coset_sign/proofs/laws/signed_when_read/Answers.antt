@@ -1,4 +1,4 @@
-use Rattle.coset_shape.proofs.AsWritten.{tagged_when_read}
+use Rattle.coset_codec.proofs.AsWritten.{tagged_when_read}
 use Rattle.coset_sign.specs.Sign1.{sign1}
 use Rattle.coset_sign.proofs.Written.{has_signed}
 use Rattle.coset_sign.proofs.laws.signed_when_read.Goals as goal

@@ -1,9 +1,9 @@
 use Rattle.std.proofs.Common.{[]}
 use Rattle.std.specs.Prelude.{⊤}
-use Rattle.coset_shape.specs.AsWritten.{WhenRead}
-use Rattle.coset_shape.specs.Lists.{EachHas}
-use Rattle.coset_shape.specs.Shape.{bstr, list_of, or_nil, perhaps}
-use Rattle.coset_shape.proofs.AsWritten.{list_when_read, perhaps_when_read, then_when_read}
+use Rattle.coset_codec.specs.AsWritten.{WhenRead}
+use Rattle.coset_codec.specs.Lists.{EachHas}
+use Rattle.coset_codec.specs.Shape.{bstr, list_of, or_nil, perhaps}
+use Rattle.coset_codec.proofs.AsWritten.{list_when_read, perhaps_when_read, then_when_read}
 use Rattle.coset_core.proofs.Messages.{message_when_read}
 use Rattle.coset_recipient.specs.Recipient.{are_some, each_of, recipient, recipient_fields, recipient_places, recipient_step}
 use Rattle.coset_uses.specs.Inside.{IsDescribed}

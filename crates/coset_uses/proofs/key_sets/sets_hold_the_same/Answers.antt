@@ -1,9 +1,9 @@
 use Rattle.std.proofs.Common.{◌≡◌, ◌⊎◌, map, inl, inr, subst}
-use Rattle.coset_shape.specs.Answers.{DescribesNothing}
-use Rattle.coset_shape.specs.Errors.{UnlessMemory}
-use Rattle.coset_shape.specs.Lists.{EachWith}
-use Rattle.coset_shape.specs.declared.error.CoseError.{CoseError}
-use Rattle.coset_shape.proofs.Lists.{on_err}
+use Rattle.coset_codec.specs.Answers.{DescribesNothing}
+use Rattle.coset_codec.specs.Errors.{UnlessMemory}
+use Rattle.coset_codec.specs.Lists.{EachWith}
+use Rattle.coset_codec.specs.declared.error.CoseError.{CoseError}
+use Rattle.coset_codec.proofs.Lists.{on_err}
 use Rattle.coset_label.specs.declared.ordering.CborOrdering.TheVariants.{Lexicographic}
 use Rattle.coset_key.specs.Keys.{KeySeen, key_set}
 use Rattle.coset_uses.specs.KeySets.{IsHeldOf}

@@ -1,10 +1,10 @@
 use Rattle.std.proofs.Common.{◌≡◌, ◌∙◌, length, map, subst, arith}
 use Rattle.std.specs.Vec.Iter.{into_iter_items}
-use Rattle.coset_shape.specs.Answers.{DescribesNothing, SliceFaults}
-use Rattle.coset_shape.specs.Errors.{UnlessMemory}
-use Rattle.coset_shape.specs.Lists.{EachWith}
-use Rattle.coset_shape.specs.declared.error.CoseError.{CoseError}
-use Rattle.coset_shape.proofs.Lists.{moved, on_err, with-more}
+use Rattle.coset_codec.specs.Answers.{DescribesNothing, SliceFaults}
+use Rattle.coset_codec.specs.Errors.{UnlessMemory}
+use Rattle.coset_codec.specs.Lists.{EachWith}
+use Rattle.coset_codec.specs.declared.error.CoseError.{CoseError}
+use Rattle.coset_codec.proofs.Lists.{moved, on_err, with-more}
 use Rattle.coset_key.specs.Keys.{KeySeen, key_seen, key_set}
 use Rattle.coset_uses.specs.KeySets.{IsHeldOf}
 use Rattle.coset_uses.proofs.KeySets.{all_yielded, each-mapped, refused_for_memory}

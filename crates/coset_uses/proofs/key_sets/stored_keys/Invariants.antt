@@ -1,6 +1,6 @@
 use Rattle.std.proofs.Common.{◌≡◌, ◌++◌}
 use Rattle.std.specs.Vec.Iter.{into_iter_items}
-use Rattle.coset_shape.specs.Lists.{EachWith}
+use Rattle.coset_codec.specs.Lists.{EachWith}
 use Rattle.coset_key.specs.Keys.{key_seen}
 use Rattle.coset_uses.specs.KeySets.{IsHeldOf}
 use Rattle.coset_uses.proofs.key_sets.stored_keys.Given as goal

@@ -1,4 +1,4 @@
-use Rattle.coset_shape.specs.Shape.{tagged}
+use Rattle.coset_codec.specs.Shape.{tagged}
 use Rattle.coset_sign.specs.Sign.{sign}
 use Rattle.coset_msg.specs.Encrypt0.{encrypt0}
 use Rattle.coset_msg.specs.Mac0.{mac0}

@@ -1,7 +1,7 @@
 use Rattle.std.proofs.Common.{◌≡◌, of_calls, rules}
 use Rattle.coset_sign.specs.Sign1.{sign1_seen}
-use Rattle.coset_shape.specs.declared.error.CallError.TheVariants.{Coset}
-use Rattle.coset_shape.specs.declared.error.CoseError.TheVariants.{OutOfMemory}
+use Rattle.coset_codec.specs.declared.error.CallError.TheVariants.{Coset}
+use Rattle.coset_codec.specs.declared.error.CoseError.TheVariants.{OutOfMemory}
 use Rattle.coset_uses.specs.Refusals.{IsNotVerified}
 use Rattle.coset_uses.proofs.Asked.{accepted, memory_alone, not_verified}
 use Rattle.coset_uses.proofs.Refusing.{passed}

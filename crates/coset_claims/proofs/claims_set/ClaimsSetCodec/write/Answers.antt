@@ -2,12 +2,12 @@ use Rattle.std.proofs.Common.{◌≡◌, Some, map, rules, sym, ◌∙◌, subst
 use Rattle.std.specs.Prelude.{ℤ, string_bytes}
 use Rattle.coset_value.specs.Item.{integer}
 use Rattle.coset_value.specs.View.{view}
-use Rattle.coset_shape.specs.Encoding.{AddsAll}
-use Rattle.coset_shape.specs.Maps.{named_image}
-use Rattle.coset_shape.specs.RestLaws.{as_seen}
-use Rattle.coset_shape.specs.Shape.{bstr, tstr}
-use Rattle.coset_shape.proofs.Encoding.{passes}
-use Rattle.coset_shape.proofs.EncodingMaps.{field-put, no-field, rest-seen}
+use Rattle.coset_codec.specs.Encoding.{AddsAll}
+use Rattle.coset_codec.specs.Maps.{named_image}
+use Rattle.coset_codec.specs.RestLaws.{as_seen}
+use Rattle.coset_codec.specs.Shape.{bstr, tstr}
+use Rattle.coset_codec.proofs.Encoding.{passes}
+use Rattle.coset_codec.proofs.EncodingMaps.{field-put, no-field, rest-seen}
 use Rattle.coset_label.specs.Names.{assigned}
 use Rattle.coset_claims.specs.Claims.{claim_name, claims, name_seen, names}
 use Rattle.coset_claims.specs.Timestamp.{timestamp, timestamp_seen}

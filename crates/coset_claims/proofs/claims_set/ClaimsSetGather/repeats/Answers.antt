@@ -1,6 +1,6 @@
 use Rattle.std.proofs.Common.{refl}
 use Rattle.coset_value.specs.View.{view}
-use Rattle.coset_shape.specs.RestLaws.{if_ok, repeats-seen}
+use Rattle.coset_codec.specs.RestLaws.{if_ok, repeats-seen}
 use Rattle.coset_claims.specs.Claims.{name_seen, same_name}
 use Rattle.coset_claims.proofs.claims_set.ClaimsSetGather.repeats.Goals as goal
 

@@ -1,7 +1,7 @@
 use Rattle.std.proofs.Common.{Some, ap, ◌∙◌, inl, inr, arith}
 use Rattle.coset_value.specs.Item.{item}
-use Rattle.coset_shape.specs.Inputs.{state}
-use Rattle.coset_shape.proofs.Placed.{placed, passed_on}
+use Rattle.coset_codec.specs.Inputs.{state}
+use Rattle.coset_codec.proofs.Placed.{placed, passed_on}
 use Rattle.coset_claims.specs.Context.{context, context_seen}
 use Rattle.coset_claims.proofs.Places.{goes_further}
 use Rattle.coset_claims.proofs.context.CoseKdfContextCodec.read.Goals as goal

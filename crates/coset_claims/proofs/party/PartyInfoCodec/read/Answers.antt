@@ -1,6 +1,6 @@
 use Rattle.std.proofs.Common.{Some, ap, ◌∙◌, inl, inr}
-use Rattle.coset_shape.specs.Inputs.{state}
-use Rattle.coset_shape.proofs.Placed.{placed, passed_on, three_are}
+use Rattle.coset_codec.specs.Inputs.{state}
+use Rattle.coset_codec.proofs.Placed.{placed, passed_on, three_are}
 use Rattle.coset_claims.specs.Party.{party, party_seen}
 use Rattle.coset_claims.proofs.party.PartyInfoCodec.read.Goals as goal
 

@@ -1,7 +1,7 @@
 use Rattle.std.proofs.Common.{Some, ap, ◌∙◌, inl, inr}
 use Rattle.coset_value.specs.Item.{item}
-use Rattle.coset_shape.specs.Inputs.{state}
-use Rattle.coset_shape.proofs.Placed.{placed, passed_on}
+use Rattle.coset_codec.specs.Inputs.{state}
+use Rattle.coset_codec.proofs.Placed.{placed, passed_on}
 use Rattle.coset_claims.specs.SuppPub.{supp_pub, supp_pub_seen}
 use Rattle.coset_claims.proofs.Places.{other_behind, other_refused}
 use Rattle.coset_claims.proofs.supp_pub.SuppPubInfoCodec.read.Goals as goal

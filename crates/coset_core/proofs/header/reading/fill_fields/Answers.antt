@@ -1,5 +1,5 @@
 use Rattle.std.proofs.Common.{sym, subst}
-use Rattle.coset_shape.specs.Inputs.{state}
+use Rattle.coset_codec.specs.Inputs.{state}
 use Rattle.coset_core.specs.FieldsView.{fields_seen}
 use Rattle.coset_core.specs.Filling.{FillsFields}
 use Rattle.coset_core.proofs.Filling.{distinct, repeats}

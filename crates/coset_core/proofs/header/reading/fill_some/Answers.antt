@@ -1,6 +1,6 @@
 use Rattle.std.proofs.Common.{refl, ◌∙◌, arith}
-use Rattle.coset_shape.specs.Inputs.{state}
-use Rattle.coset_shape.proofs.Inputs.{pairs_fewer, pairs_smaller}
+use Rattle.coset_codec.specs.Inputs.{state}
+use Rattle.coset_codec.proofs.Inputs.{pairs_fewer, pairs_smaller}
 use Rattle.coset_core.specs.FieldsView.{fields_seen}
 use Rattle.coset_core.proofs.Filling.{at_held, at_end, at_key, on_value, at_value, stops}
 use Rattle.coset_core.proofs.header.reading.fill_some.Goals as goal

@@ -1,6 +1,6 @@
 use Rattle.std.proofs.Common.{◌≡◌, ◌≤◌, Option}
 use Rattle.coset_value.specs.Item.{Item, Pairs}
-use Rattle.coset_shape.specs.Inputs.{State, state, length_left, pairs_size, pairs_turns, PairsWithin}
+use Rattle.coset_codec.specs.Inputs.{State, state, length_left, pairs_size, pairs_turns, PairsWithin}
 use Rattle.coset_core.specs.Fields.{HasOneIv, Versions}
 use Rattle.coset_core.specs.FieldsView.{fields_seen, signatures_held}
 use Rattle.coset_core.specs.Filling.{WalksTo}

@@ -1,7 +1,7 @@
 use Rattle.std.proofs.Common.{◌≡◌, [], ◌∷◌, ◌++◌, map, refl, sym, ◌∙◌, ap, subst, not, rules}
 use Rattle.std.proofs.lemmas.List.{map_push}
-use Rattle.coset_shape.specs.Maps.{Adds, optional}
-use Rattle.coset_shape.specs.Shape.{any}
+use Rattle.coset_codec.specs.Maps.{Adds, optional}
+use Rattle.coset_codec.specs.Shape.{any}
 use Rattle.coset_label.specs.Views.{label_seen}
 use Rattle.coset_core.specs.Fields.{HasOneIv, fields, names, parts_of}
 use Rattle.coset_core.specs.FieldsView.{fields_level, fields_seen}

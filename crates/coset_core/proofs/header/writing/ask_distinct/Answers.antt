@@ -1,6 +1,6 @@
 use Rattle.std.proofs.Common.{refl}
 use Rattle.coset_value.specs.View.{view}
-use Rattle.coset_shape.specs.RestLaws.{repeated-seen, distinct-seen}
+use Rattle.coset_codec.specs.RestLaws.{repeated-seen, distinct-seen}
 use Rattle.coset_label.specs.Views.{label_seen}
 use Rattle.coset_core.specs.Fields.{same_name}
 use Rattle.coset_core.proofs.header.writing.ask_distinct.Goals as goal

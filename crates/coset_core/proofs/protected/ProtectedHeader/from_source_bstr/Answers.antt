@@ -1,5 +1,5 @@
-use Rattle.coset_shape.specs.Sources.{source_item}
-use Rattle.coset_shape.proofs.Refusals.{refuses_item}
+use Rattle.coset_codec.specs.Sources.{source_item}
+use Rattle.coset_codec.proofs.Refusals.{refuses_item}
 use Rattle.coset_core.specs.HeaderLaws.{protected_laws}
 use Rattle.coset_core.specs.Headers.{protected}
 use Rattle.coset_core.specs.Views.{protected_seen}

@@ -1,5 +1,5 @@
 use Rattle.std.proofs.Common.{sym, subst}
-use Rattle.coset_shape.specs.Encoding.{Encodes}
+use Rattle.coset_codec.specs.Encoding.{Encodes}
 use Rattle.coset_core.specs.Headers.{LAYERS}
 use Rattle.coset_core.specs.HeaderWrites.{signature_image_is}
 use Rattle.coset_core.specs.Views.{signature_seen}

@@ -1,5 +1,5 @@
 use Rattle.std.proofs.Common.{inl}
-use Rattle.coset_shape.proofs.Placed.{passed_on}
+use Rattle.coset_codec.proofs.Placed.{passed_on}
 use Rattle.coset_key.specs.Keys.{key, key_seen}
 use Rattle.coset_key.specs.Reading.{so_far_seen}
 use Rattle.coset_key.proofs.Finishing.{finished}

@@ -1,10 +1,10 @@
 use Rattle.std.proofs.Common.{map, refl, sym, ◌∙◌, subst, ap}
 use Rattle.coset_value.specs.View.{view}
-use Rattle.coset_shape.specs.Encoding.{AddsAll}
-use Rattle.coset_shape.specs.Maps.{named_image}
-use Rattle.coset_shape.specs.RestLaws.{as_seen, repeated-seen, distinct-seen, no-entries}
-use Rattle.coset_shape.proofs.Encoding.{passes}
-use Rattle.coset_shape.proofs.EncodingMaps.{no-field, field-put, map-written, rest-seen, unwritten}
+use Rattle.coset_codec.specs.Encoding.{AddsAll}
+use Rattle.coset_codec.specs.Maps.{named_image}
+use Rattle.coset_codec.specs.RestLaws.{as_seen, repeated-seen, distinct-seen, no-entries}
+use Rattle.coset_codec.proofs.Encoding.{passes}
+use Rattle.coset_codec.proofs.EncodingMaps.{no-field, field-put, map-written, rest-seen, unwritten}
 use Rattle.coset_label.specs.Labels.{label}
 use Rattle.coset_label.specs.Views.{label_seen}
 use Rattle.coset_core.specs.Fields.{names, same_name}

@@ -1,6 +1,6 @@
 use Rattle.std.proofs.Common.{◌≡◌, [], ◌∷◌, ◌++◌, map, option_map, refl, sym, ◌∙◌, ap}
 use Rattle.std.proofs.lemmas.List.{map_push}
-use Rattle.coset_shape.specs.Maps.{optional, listed}
+use Rattle.coset_codec.specs.Maps.{optional, listed}
 use Rattle.coset_label.specs.Views.{label_seen}
 use Rattle.coset_core.specs.FieldValues.{TakesValue, RefusesValue}
 use Rattle.coset_core.specs.Fields.{algorithm}

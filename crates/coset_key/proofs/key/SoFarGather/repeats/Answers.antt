@@ -1,6 +1,6 @@
 use Rattle.std.proofs.Common.{refl}
 use Rattle.coset_value.specs.View.{view}
-use Rattle.coset_shape.specs.RestLaws.{if_ok, repeats-seen}
+use Rattle.coset_codec.specs.RestLaws.{if_ok, repeats-seen}
 use Rattle.coset_label.specs.Views.{label_seen}
 use Rattle.coset_core.specs.Fields.{same_name}
 use Rattle.coset_key.proofs.key.SoFarGather.repeats.Goals as goal

@@ -1,10 +1,10 @@
 use Rattle.std.proofs.Common.{◌≡◌, ◌<◌, ◌^◌, [], ◌++◌, ◌∷◌, map, length, ◌+◌, sym, ◌∙◌, ap, subst, arith, append-nil}
 use Rattle.std.proofs.lemmas.List.{map_push, length_push, length-map}
 use Rattle.coset_cbor.specs.Least.{least_head}
-use Rattle.coset_shape.specs.Encoding.{AppendsPlaces}
-use Rattle.coset_shape.specs.Shape.{images}
-use Rattle.coset_shape.proofs.Encoding.{member-put, array-put, nothing-put}
-use Rattle.coset_shape.proofs.Lists.{moved}
+use Rattle.coset_codec.specs.Encoding.{AppendsPlaces}
+use Rattle.coset_codec.specs.Shape.{images}
+use Rattle.coset_codec.proofs.Encoding.{member-put, array-put, nothing-put}
+use Rattle.coset_codec.proofs.Lists.{moved}
 use Rattle.coset_key.specs.Keys.{operation, operation_seen}
 use Rattle.coset_key.proofs.key_ops.KeyOpsEncode.encode.Goals as goal
 

@@ -1,6 +1,6 @@
 use Rattle.std.proofs.Common.{◌≡◌, ◌++◌, map, length}
-use Rattle.coset_shape.specs.Encoding.{AppendsPlaces}
-use Rattle.coset_shape.specs.Shape.{images}
+use Rattle.coset_codec.specs.Encoding.{AppendsPlaces}
+use Rattle.coset_codec.specs.Shape.{images}
 use Rattle.coset_key.specs.Keys.{operation, operation_seen}
 use Rattle.coset_key.proofs.key_ops.KeyOpsEncode.encode.Given as goal
 

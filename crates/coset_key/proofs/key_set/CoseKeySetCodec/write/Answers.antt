@@ -1,8 +1,8 @@
 use Rattle.std.proofs.Common.{◌∙◌, ap, option_map, subst}
 use Rattle.coset_value.specs.Item.{array}
-use Rattle.coset_shape.specs.Encoding.{Encodes}
-use Rattle.coset_shape.specs.Shape.{images}
-use Rattle.coset_shape.proofs.Encoding.{images-mapped}
+use Rattle.coset_codec.specs.Encoding.{Encodes}
+use Rattle.coset_codec.specs.Shape.{images}
+use Rattle.coset_codec.proofs.Encoding.{images-mapped}
 use Rattle.coset_key.specs.Keys.{key, key_seen}
 use Rattle.coset_key.proofs.key_set.CoseKeySetCodec.write.Goals as goal
 

@@ -1,4 +1,4 @@
-use Rattle.coset_sign.specs.Calls.{AsksAbout}
+use Rattle.coset_core.specs.Calls.{AsksAbout}
 use Rattle.coset_msg.specs.Encrypt0.{encrypt0_seen, encrypt0_structure}
 use Rattle.coset_msg.proofs.Present.{if_there}
 use Rattle.coset_msg.proofs.encrypt0.CoseEncrypt0.decrypt.Goals as goal

@@ -1,4 +1,4 @@
-use Rattle.coset_shape.proofs.Placed.{passed_on}
+use Rattle.coset_codec.proofs.Placed.{passed_on}
 use Rattle.coset_msg.specs.Encrypt0.{encrypt0, encrypt0_seen}
 use Rattle.coset_msg.proofs.encrypt0.CoseEncrypt0Codec.read.Goals as goal
 

@@ -1,4 +1,4 @@
-use Rattle.coset_sign.specs.Calls.{AsksAbout}
+use Rattle.coset_core.specs.Calls.{AsksAbout}
 use Rattle.coset_msg.specs.Mac0.{mac0_seen, mac0_structure}
 use Rattle.coset_msg.proofs.Present.{if_there}
 use Rattle.coset_msg.proofs.mac0.CoseMac0.verify_tag.Goals as goal

@@ -1,5 +1,5 @@
 use Rattle.std.proofs.Common.{◌≡◌, Ok}
-use Rattle.coset_sign.specs.Calls.{Creates}
+use Rattle.coset_core.specs.Calls.{Creates}
 use Rattle.coset_msg.specs.Mac0.{mac0_seen, mac0_structure, with_tag}
 use Rattle.coset_msg.proofs.Present.{if_there}
 use Rattle.coset_msg.proofs.mac0.CoseMac0Builder.create_tag.Goals as goal

@@ -1,6 +1,6 @@
 use Rattle.std.proofs.Common.{◌≡◌, Ok, sym, ap, ◌∙◌}
-use Rattle.coset_sign.specs.Calls.{TriesToCreate}
-use Rattle.coset_sign.proofs.Calling.{passed_on}
+use Rattle.coset_core.specs.Calls.{TriesToCreate}
+use Rattle.coset_core.proofs.Calling.{passed_on}
 use Rattle.coset_msg.specs.Mac0.{mac0_seen, mac0_structure, with_tag}
 use Rattle.coset_msg.proofs.Present.{if_there}
 use Rattle.coset_msg.proofs.mac0.CoseMac0Builder.try_create_tag.Goals as goal

@@ -1,4 +1,4 @@
-use Rattle.coset_shape.proofs.Placed.{passed_on}
+use Rattle.coset_codec.proofs.Placed.{passed_on}
 use Rattle.coset_msg.specs.Mac0.{mac0, mac0_seen}
 use Rattle.coset_msg.proofs.mac0.CoseMac0Codec.read.Goals as goal
 

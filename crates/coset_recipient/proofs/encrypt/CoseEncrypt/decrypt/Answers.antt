@@ -1,4 +1,4 @@
-use Rattle.coset_sign.specs.Calls.{AsksAbout}
+use Rattle.coset_core.specs.Calls.{AsksAbout}
 use Rattle.coset_recipient.specs.Encrypt.{encrypt_seen, encrypt_structure_of}
 use Rattle.coset_msg.proofs.Present.{if_there}
 use Rattle.coset_recipient.proofs.encrypt.CoseEncrypt.decrypt.Goals as goal

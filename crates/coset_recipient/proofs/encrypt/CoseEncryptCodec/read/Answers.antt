@@ -1,4 +1,4 @@
-use Rattle.coset_shape.proofs.Placed.{passed_on}
+use Rattle.coset_codec.proofs.Placed.{passed_on}
 use Rattle.coset_recipient.specs.Encrypt.{encrypt, encrypt_seen}
 use Rattle.coset_recipient.proofs.encrypt.CoseEncryptCodec.read.Goals as goal
 

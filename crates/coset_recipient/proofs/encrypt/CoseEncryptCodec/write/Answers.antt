@@ -1,8 +1,8 @@
 use Rattle.std.proofs.Common.{subst, option_map, map, ap, ◌∙◌}
 use Rattle.coset_value.specs.Item.{array}
-use Rattle.coset_shape.specs.Encoding.{Encodes, four_places}
-use Rattle.coset_shape.specs.Shape.{bstr, or_nil, images}
-use Rattle.coset_shape.proofs.Encoding.{images-mapped}
+use Rattle.coset_codec.specs.Encoding.{Encodes, four_places}
+use Rattle.coset_codec.specs.Shape.{bstr, or_nil, images}
+use Rattle.coset_codec.proofs.Encoding.{images-mapped}
 use Rattle.coset_core.specs.Headers.{header, protected}
 use Rattle.coset_recipient.specs.Encrypt.{encrypt_seen}
 use Rattle.coset_recipient.specs.Recipient.{recipient}

@@ -1,4 +1,4 @@
-use Rattle.coset_sign.specs.Calls.{AsksAbout}
+use Rattle.coset_core.specs.Calls.{AsksAbout}
 use Rattle.coset_recipient.specs.Mac.{mac_seen, mac_structure_of}
 use Rattle.coset_msg.proofs.Present.{if_there}
 use Rattle.coset_recipient.proofs.mac.CoseMac.verify_tag.Goals as goal

@@ -1,5 +1,5 @@
 use Rattle.std.proofs.Common.{◌≡◌, Ok}
-use Rattle.coset_sign.specs.Calls.{Creates}
+use Rattle.coset_core.specs.Calls.{Creates}
 use Rattle.coset_recipient.specs.Mac.{mac_seen, mac_structure_of, with_tag}
 use Rattle.coset_msg.proofs.Present.{if_there}
 use Rattle.coset_recipient.proofs.mac.CoseMacBuilder.create_tag.Goals as goal

@@ -1,6 +1,6 @@
 use Rattle.std.proofs.Common.{◌≡◌, Ok, sym, ap, ◌∙◌}
-use Rattle.coset_sign.specs.Calls.{TriesToCreate}
-use Rattle.coset_sign.proofs.Calling.{passed_on}
+use Rattle.coset_core.specs.Calls.{TriesToCreate}
+use Rattle.coset_core.proofs.Calling.{passed_on}
 use Rattle.coset_recipient.specs.Mac.{mac_seen, mac_structure_of, with_tag}
 use Rattle.coset_msg.proofs.Present.{if_there}
 use Rattle.coset_recipient.proofs.mac.CoseMacBuilder.try_create_tag.Goals as goal

@@ -1,4 +1,4 @@
-use Rattle.coset_sign.specs.Calls.{AsksAbout}
+use Rattle.coset_core.specs.Calls.{AsksAbout}
 use Rattle.coset_recipient.specs.Recipient.{recipient_structure}
 use Rattle.coset_recipient.specs.RecipientView.{recipient_seen}
 use Rattle.coset_msg.proofs.Present.{if_there}

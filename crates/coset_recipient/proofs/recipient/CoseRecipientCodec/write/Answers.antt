@@ -1,5 +1,5 @@
 use Rattle.std.proofs.Common.{sym, subst}
-use Rattle.coset_shape.specs.Encoding.{Encodes}
+use Rattle.coset_codec.specs.Encoding.{Encodes}
 use Rattle.coset_recipient.specs.RecipientLaws.{recipient-written}
 use Rattle.coset_recipient.specs.RecipientView.{recipient_seen}
 use Rattle.coset_recipient.proofs.recipient.CoseRecipientCodec.write.Goals as goal

@@ -1,6 +1,6 @@
 use Rattle.std.proofs.Common.{Some, ap, ◌∙◌, inl, inr}
-use Rattle.coset_shape.specs.Inputs.{state}
-use Rattle.coset_shape.proofs.Placed.{placed, passed_on, four_are}
+use Rattle.coset_codec.specs.Inputs.{state}
+use Rattle.coset_codec.proofs.Placed.{placed, passed_on, four_are}
 use Rattle.coset_sample.specs.Parcel.{seen, parcel}
 use Rattle.coset_sample.proofs.parcel.ParcelCodec.read.Goals as goal
 

@@ -1,6 +1,6 @@
 use Rattle.std.proofs.Common.{Some, ap, ◌∙◌, inl, inr}
-use Rattle.coset_shape.specs.Inputs.{state}
-use Rattle.coset_shape.proofs.Placed.{placed, passed_on, three_are}
+use Rattle.coset_codec.specs.Inputs.{state}
+use Rattle.coset_codec.proofs.Placed.{placed, passed_on, three_are}
 use Rattle.coset_sample.specs.Reading.{seen, reading}
 use Rattle.coset_sample.proofs.reading.ReadingCodec.read.Goals as goal
 

@@ -1,8 +1,8 @@
 use Rattle.std.proofs.Common.{subst, option_map, map, ap, ◌∙◌}
 use Rattle.coset_value.specs.Item.{array}
-use Rattle.coset_shape.specs.Encoding.{Encodes, three_places}
-use Rattle.coset_shape.specs.Shape.{bstr, int64, or_nil, images}
-use Rattle.coset_shape.proofs.Encoding.{images-mapped}
+use Rattle.coset_codec.specs.Encoding.{Encodes, three_places}
+use Rattle.coset_codec.specs.Shape.{bstr, int64, or_nil, images}
+use Rattle.coset_codec.proofs.Encoding.{images-mapped}
 use Rattle.coset_sample.specs.Reading.{mark_seen, seen}
 use Rattle.coset_sample.proofs.reading.ReadingCodec.write.Goals as goal
 

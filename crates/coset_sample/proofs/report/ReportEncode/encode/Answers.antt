@@ -1,8 +1,8 @@
 use Rattle.std.proofs.Common.{subst, option_map, map, ap, ◌∙◌}
 use Rattle.coset_value.specs.Item.{array}
-use Rattle.coset_shape.specs.Encoding.{Encodes, two_places}
-use Rattle.coset_shape.specs.Shape.{bstr, images}
-use Rattle.coset_shape.proofs.Encoding.{images-mapped}
+use Rattle.coset_codec.specs.Encoding.{Encodes, two_places}
+use Rattle.coset_codec.specs.Shape.{bstr, images}
+use Rattle.coset_codec.proofs.Encoding.{images-mapped}
 use Rattle.coset_sample.specs.Reading.{reading, seen as reading_seen}
 use Rattle.coset_sample.specs.Report.{seen}
 use Rattle.coset_sample.proofs.report.ReportEncode.encode.Goals as goal

@@ -3,12 +3,12 @@ use Rattle.coset_value.specs.Item.{integer}
 use Rattle.std.specs.Prelude.{pos}
 use Rattle.std.specs.Ordering.{int_eq}
 use Rattle.coset_value.specs.View.{view}
-use Rattle.coset_shape.specs.Encoding.{AddsField, AddsAll}
-use Rattle.coset_shape.specs.Maps.{named_image}
-use Rattle.coset_shape.specs.RestLaws.{as_seen, repeated-seen, distinct-seen, no-entries}
-use Rattle.coset_shape.specs.Shape.{bstr, int64}
-use Rattle.coset_shape.proofs.Encoding.{passes}
-use Rattle.coset_shape.proofs.EncodingMaps.{no-field, field-put, map-written, optional-seen, rest-seen, unwritten, unwritten-fields, none-first, none-then}
+use Rattle.coset_codec.specs.Encoding.{AddsField, AddsAll}
+use Rattle.coset_codec.specs.Maps.{named_image}
+use Rattle.coset_codec.specs.RestLaws.{as_seen, repeated-seen, distinct-seen, no-entries}
+use Rattle.coset_codec.specs.Shape.{bstr, int64}
+use Rattle.coset_codec.proofs.Encoding.{passes}
+use Rattle.coset_codec.proofs.EncodingMaps.{no-field, field-put, map-written, optional-seen, rest-seen, unwritten, unwritten-fields, none-first, none-then}
 use Rattle.coset_sample.specs.Settings.{name_seen, names}
 use Rattle.coset_sample.proofs.settings.SettingsCodec.write.Goals as goal
 

@@ -1,7 +1,7 @@
 use Rattle.std.proofs.Common.{refl}
 use Rattle.std.specs.Ordering.{int_eq}
 use Rattle.coset_value.specs.View.{view}
-use Rattle.coset_shape.specs.RestLaws.{if_ok, repeats-seen}
+use Rattle.coset_codec.specs.RestLaws.{if_ok, repeats-seen}
 use Rattle.coset_sample.specs.Settings.{name_seen}
 use Rattle.coset_sample.proofs.settings.SoFarGather.repeats.Goals as goal
 

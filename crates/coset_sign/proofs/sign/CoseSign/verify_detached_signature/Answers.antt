@@ -1,8 +1,8 @@
 use Rattle.std.proofs.Common.{subst, sym, ap}
-use Rattle.coset_shape.specs.ShapeLaws.{some-one}
+use Rattle.coset_codec.specs.ShapeLaws.{some-one}
 use Rattle.coset_core.specs.ViewLaws.{signature-opened}
 use Rattle.coset_core.specs.Views.{signature_seen}
-use Rattle.coset_sign.specs.Calls.{AsksAbout}
+use Rattle.coset_core.specs.Calls.{AsksAbout}
 use Rattle.coset_sign.specs.Sign.{sign_seen, signer_structure}
 use Rattle.coset_sign.proofs.sign.CoseSign.verify_detached_signature.Goals as goal
 

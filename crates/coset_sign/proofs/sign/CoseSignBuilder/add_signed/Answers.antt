@@ -1,5 +1,5 @@
 use Rattle.std.proofs.Common.{subst, ap, ◌∙◌, ◌++◌, ◌∷◌, []}
-use Rattle.coset_shape.specs.Answers.{Writes}
+use Rattle.coset_codec.specs.Answers.{Writes}
 use Rattle.coset_core.specs.Views.{signature_seen}
 use Rattle.coset_sign.specs.Sign.{sign_seen, and_signature, signed_with}
 use Rattle.coset_sign.proofs.Calling.{signature_pushed}

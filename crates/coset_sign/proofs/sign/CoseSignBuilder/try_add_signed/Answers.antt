@@ -1,7 +1,8 @@
 use Rattle.std.proofs.Common.{◌≡◌, sym, ap, ◌∙◌, ◌++◌, ◌∷◌, []}
 use Rattle.coset_core.specs.Views.{signature_seen}
 use Rattle.coset_sign.specs.Sign.{sign_seen, and_signature, signed_with}
-use Rattle.coset_sign.proofs.Calling.{passed_on, signature_pushed}
+use Rattle.coset_core.proofs.Calling.{passed_on}
+use Rattle.coset_sign.proofs.Calling.{signature_pushed}
 use Rattle.coset_sign.proofs.sign.CoseSignBuilder.try_add_signed.Goals as goal
 
 pub returns-in_err-make : goal.returns-in_err-make

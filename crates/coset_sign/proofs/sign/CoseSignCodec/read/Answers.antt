@@ -1,4 +1,4 @@
-use Rattle.coset_shape.proofs.Placed.{passed_on}
+use Rattle.coset_codec.proofs.Placed.{passed_on}
 use Rattle.coset_sign.specs.Sign.{sign, sign_seen}
 use Rattle.coset_sign.proofs.sign.CoseSignCodec.read.Goals as goal
 

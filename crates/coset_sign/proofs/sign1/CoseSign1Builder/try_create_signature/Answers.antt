@@ -1,6 +1,6 @@
 use Rattle.std.proofs.Common.{◌≡◌, sym, ap, ◌∙◌}
 use Rattle.coset_sign.specs.Sign1.{sign1_seen, sign1_carried, with_signature}
-use Rattle.coset_sign.proofs.Calling.{passed_on}
+use Rattle.coset_core.proofs.Calling.{passed_on}
 use Rattle.coset_sign.proofs.sign1.CoseSign1Builder.try_create_signature.Goals as goal
 
 pub returns-in_err-signature : goal.returns-in_err-signature

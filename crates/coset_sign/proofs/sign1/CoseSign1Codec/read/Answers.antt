@@ -1,4 +1,4 @@
-use Rattle.coset_shape.proofs.Placed.{passed_on}
+use Rattle.coset_codec.proofs.Placed.{passed_on}
 use Rattle.coset_sign.specs.Sign1.{sign1, sign1_seen}
 use Rattle.coset_sign.proofs.sign1.CoseSign1Codec.read.Goals as goal
 

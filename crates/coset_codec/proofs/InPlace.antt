@@ -1,0 +1,73 @@
+-- Lists that are read into places, member by member.
+use Rattle.std.proofs.Common.{◌≡◌, ℕ, suc, List, [], ◌∷◌, ◌++◌, ◌+◌, length, map, take, slice_set, ◌-◌, ◌∙◌, true, Result, Ok, Err, refl, sym, ap, subst, inl, arith}
+use Rattle.std.proofs.lemmas.List.{map-append}
+use Rattle.std.specs.Prelude.{IsErrAnd}
+use Rattle.coset_value.specs.Item.{Item, Items}
+use Rattle.coset_codec.specs.declared.error.CoseError.{CoseError}
+use Rattle.coset_codec.specs.declared.error.Refused.{Refused}
+use Rattle.coset_codec.specs.declared.read.input.InputItems.{InputItems}
+use Rattle.coset_codec.specs.Errors.{UnlessMemory, answer}
+use Rattle.coset_codec.specs.InPlace.{Fills, FillsEach, GetsOne, BeginsNext}
+use Rattle.coset_codec.specs.Inputs.{State, Stands, AreWithin}
+use Rattle.coset_codec.specs.Lists.{Continues}
+use Rattle.coset_codec.specs.Shape.{Shape, EachFaults}
+use Rattle.coset_codec.proofs.Lists.{goes_on}
+
+-- an error that is passed on
+pub not_filled :
+    {A : Type 0} (s : Shape A) (x : A) (v : Item) (r : Result (Unit {0}) Refused) (e : CoseError) (w : Refused) → IsErrAnd r (λ f. f ≡ w) → UnlessMemory e (s.faults v) → Fills s v x (answer e r)
+not_filled s x v (Ok u) e w h n = absurd h
+not_filled s x v (Err f) e w h n = n
+
+-- ---- the last of a list that one more was pushed on
+
+last_set : {A : Type 0} (xs : List A) (x y : A) → slice_set (xs ++ x ∷ []) (length xs) y ≡ xs ++ y ∷ []
+last_set [] x y = refl
+last_set (z ∷ xs) x y = ap (λ zs. z ∷ zs) (last_set xs x y)
+
+one_longer : {A : Type 0} (old : List A) (x : A) → length (old ++ x ∷ []) ≡ suc (length old)
+one_longer [] x = refl
+one_longer (y ∷ old) x = ap suc (one_longer old x)
+
+module _ {T A : Type 0} (seen : T → A) (a : A) where
+  pub last_filled : (old new : List T) (n : ℕ) (y : T) → n ≡ length old → GetsOne seen a old new → map seen (slice_set new n y) ≡ map seen old ++ seen y ∷ []
+  last_filled old new n y e g = rw (e, g.1) (ap (map seen) (last_set old g.0 y) ∙ map-append seen old (y ∷ []))
+
+  pub last_at : (old new : List T) (n : ℕ) → n ≡ length new → GetsOne seen a old new → n - 1 ≡ length old
+  last_at old new n e g = let longer : length new ≡ suc (length old) = ap length g.1 ∙ one_longer old g.0 in omega (arith, longer, e)
+
+  -- one more is copied
+  pub one_more_copied :
+      (old new all : List T) (i n : ℕ) (x y : T) → map seen old ≡ map seen (take i all) → n ≡ length old → GetsOne seen a old new → map seen (take (i + 1) all) ≡ map seen (take i all) ++ seen x ∷ [] → seen y ≡ seen x
+      → map seen (slice_set new n y) ≡ map seen (take (i + 1) all)
+  one_more_copied old new all i n x y before at gets next same = last_filled old new n y at gets ∙ ((λ j. before j ++ same j ∷ []) ∙ sym next)
+
+-- ---- members that stand where they are read
+
+-- of the items vs all those before the others were read as xs, and the others stand there
+pub record Filled (A : Type 0) (s : Shape A) (vs : Items) (z : State) (m : InputItems) (t : State) (xs : List A) : Type 0 where
+  pub others : Items
+  pub continues : Continues A s.describes s.faults vs xs others
+  pub within : AreWithin m others t z
+
+module _ {A : Type 0} (s : Shape A) where
+  pub one_filled_more :
+      (vs : Items) (j t u z : State) (m n : InputItems) (xs ys : List A) (x : A) → (p : Filled A s vs z m j xs) → BeginsNext p.others t z n (Ok true) → ((v : Item) (y : State) → Stands v t y → (u ≡ y) × s.describes v x)
+      → ys ≡ xs ++ x ∷ [] → Filled A s vs z n u ys
+  one_filled_more vs j t u z m n xs ys x p b read e =
+      let here = read b.0 b.2 b.4 in
+      record {
+        others = b.1;
+        continues = goes_on s vs p.others b.1 b.0 x xs ys p.continues b.3 here.1 e;
+        within = subst (λ y. AreWithin n b.1 y z) (sym here.0) b.5;
+      }
+
+  pub one_refused_more :
+      (vs : Items) (j t u z : State) (m n : InputItems) (xs ys : List A) (x : A) (r : Result (Unit {0}) Refused) (e : CoseError) (y : Refused) → IsErrAnd r (λ i. i ≡ y) → (p : Filled A s vs z m j xs) → BeginsNext p.others t z n (Ok true)
+      → ((v : Item) (i : State) → Stands v t i → (u ≡ i) × UnlessMemory e (s.faults v)) → ((left : Items) × AreWithin n left u z) × FillsEach s vs ys (answer e r)
+  one_refused_more vs j t u z m n xs ys x (Ok i) e y is p b read = absurd is
+  one_refused_more vs j t u z m n xs ys x (Err i) e y is p b read =
+      let here = read b.0 b.2 b.4 in (
+        (b.1, subst (λ k. AreWithin n b.1 k z) (sym here.0) b.5),
+        (λ q. p.continues.blames e (subst (λ ws. EachFaults s.faults ws e) (sym b.3) (inl (here.1 q)))),
+      )

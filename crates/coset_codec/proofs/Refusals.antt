@@ -1,0 +1,78 @@
+-- How bytes that aren't one item are refused, and items that describe nothing.
+use Rattle.std.proofs.Common.{◌≡◌, ◌⊎◌, ◌<◌, ℕ, List, [], ◌++◌, Result, Ok, Err, length, take, drop, refl, sym, ap, ◌∙◌, inl, inr, append-nil, arith, take-append-drop, length-take-le}
+use Rattle.coset_value.specs.Item.{Item}
+use Rattle.coset_cbor.specs.Fronts.{AreBytes, HasNoItem}
+use Rattle.coset_cbor.specs.Grammar.{IsItem}
+use Rattle.coset_cbor.specs.Refused.{IsMemory, StandsIn}
+use Rattle.coset_cbor.specs.declared.de.EndOfFile.{EndOfFile}
+use Rattle.coset_cbor.specs.declared.de.Error.{Error}
+use Rattle.coset_codec.specs.declared.error.CoseError.{CoseError}
+use Rattle.coset_codec.specs.declared.error.CoseError.TheVariants.{DecodeFailed, DuplicateMapKey, EncodeFailed, ExtraneousData, OutOfRangeIntegerValue, UnexpectedItem, UnregisteredIanaValue, UnregisteredIanaNonPrivateValue, OutOfMemory}
+use Rattle.coset_codec.specs.Shape.{Shape}
+use Rattle.coset_codec.specs.Answers.{AllocatesForItems, Reads, ReadsSlice, RefusesItem}
+use Rattle.coset_codec.specs.Refusals.{NamesByteFault, NamesExtraneous, NamesWholeFault}
+use Rattle.coset_codec.proofs.Whole.{OneItem}
+
+-- memory ran out, or it is another error
+memory_or_not : (e : CoseError) → (e ≡ OutOfMemory) ⊎ (e ≡ OutOfMemory → ⊥)
+memory_or_not (DecodeFailed x) = inr (λ q. cc)
+memory_or_not DuplicateMapKey = inr (λ q. cc)
+memory_or_not EncodeFailed = inr (λ q. cc)
+memory_or_not ExtraneousData = inr (λ q. cc)
+memory_or_not OutOfRangeIntegerValue = inr (λ q. cc)
+memory_or_not (UnexpectedItem got want) = inr (λ q. cc)
+memory_or_not UnregisteredIanaValue = inr (λ q. cc)
+memory_or_not UnregisteredIanaNonPrivateValue = inr (λ q. cc)
+memory_or_not OutOfMemory = inl refl
+
+-- where a fault stands in bytes, no front of them is an item
+abbrev pub NoItemAtFault : Type 0
+NoItemAtFault = (s : List ℕ) (e : Error EndOfFile) → AreBytes s → (IsMemory e → ⊥) → StandsIn s e → HasNoItem s
+
+split : (n : ℕ) (s : List ℕ) → s ≡ take n s ++ drop n s
+split n s = sym (take-append-drop n s)
+
+-- bytes of which a proper front is an item are none
+front_alone : OneItem → (s : List ℕ) (n : ℕ) (v w : Item) → n < length s → IsItem (take n s) v → IsItem s w → ⊥
+front_alone one s n v w short front whole =
+    let same : s ≡ take n s = (one w v s (take n s) [] (drop n s) whole.0 front.0 (append-nil s ∙ split n s)).1 in
+    let long : length s ≡ length (take n s) = ap length same in
+    omega (arith, short, long, length-take-le n s (omega (arith, short)))
+
+module _ {A T : Type 0} (shape : Shape A) (seen : T → A) (s : List ℕ) where
+  no_whole : HasNoItem s → (v : Item) → IsItem s v → ⊥
+  no_whole none v is = none v s [] (sym (append-nil s)) is
+
+  names_byte_fault : (r : Result T CoseError) → ReadsSlice shape seen s r → AllocatesForItems s r → NamesByteFault s r
+  names_byte_fault (Ok x) read memory none = no_whole none read.0 read.1
+  names_byte_fault (Err e) read memory none =
+      elim (memory_or_not e) [
+        | inl m ↦ absurd (no_whole none (memory m).0 (memory m).1)
+        | inr m ↦
+            elim (read m) [
+              | inl f ↦ f
+              | inr g ↦ elim g [ inl x ↦ absurd (none x.2 (take x.1 s) (drop x.1 s) (split x.1 s) x.4) | inr x ↦ absurd (no_whole none x.0 x.1) ]
+            ]
+      ]
+
+  names_extraneous : OneItem → NoItemAtFault → (r : Result T CoseError) → ReadsSlice shape seen s r → AllocatesForItems s r → NamesExtraneous s r
+  names_extraneous one at_fault (Ok x) read memory bytes n v short front = absurd (front_alone one s n v read.0 short front read.1)
+  names_extraneous one at_fault (Err e) read memory bytes n v short front =
+      elim (memory_or_not e) [
+        | inl m ↦ absurd (front_alone one s n v (memory m).0 short front (memory m).1)
+        | inr m ↦
+            elim (read m) [
+              | inl f ↦ absurd (at_fault s f.0 bytes f.2 f.3 v (take n s) (drop n s) (split n s) front)
+              | inr g ↦ elim g [ inl x ↦ ap Err x.0 | inr x ↦ absurd (front_alone one s n v x.0 short front x.1) ]
+            ]
+      ]
+
+  pub names_whole_fault : OneItem → NoItemAtFault → (r : Result T CoseError) → ReadsSlice shape seen s r → AllocatesForItems s r → NamesWholeFault s r
+  names_whole_fault one at_fault r read memory = (names_byte_fault r read memory, names_extraneous one at_fault r read memory)
+
+-- an item that is refused, out of memory aside, describes nothing, where no fault stands in one that describes a value
+pub refuses_item :
+    {T A : Type 0} (shape : Shape A) → ((v : Item) (x : A) (e : CoseError) → shape.describes v x → shape.faults v e → ⊥) → (seen : T → A) (v : Item) (r : Result T CoseError) → Reads shape seen v r
+    → RefusesItem shape v r
+refuses_item shape sound seen v (Ok x) p = tt
+refuses_item shape sound seen v (Err e) p = λ n x d. sound v x e d (p n)

@@ -1,0 +1,57 @@
+-- Bytes that are one item, or none.
+use Rattle.std.specs.Prelude.{IsErrAnd}
+use Rattle.std.proofs.Common.{◌≡◌, ◌⊎◌, ℕ, List, [], ◌∷◌, ◌++◌, ◌+◌, suc, Result, Ok, Err, length, take, refl, sym, ap, subst, ◌∙◌, inr, append-nil, arith, length-append}
+use Rattle.std.proofs.Math.Seq.{take-append_seam}
+use Rattle.coset_value.specs.Item.{Item}
+use Rattle.coset_cbor.specs.Grammar.{IsEncoding, IsItem}
+use Rattle.coset_cbor.specs.Refused.{IsMemory, StandsIn}
+use Rattle.coset_cbor.specs.declared.de.EndOfFile.{EndOfFile}
+use Rattle.coset_cbor.specs.declared.de.Error.{Error}
+use Rattle.coset_cbor.specs.declared.de.Error.TheVariants as errors
+use Rattle.coset_codec.specs.declared.error.CoseError.{CoseError}
+use Rattle.coset_codec.specs.declared.error.CoseError.TheVariants.{ExtraneousData}
+use Rattle.coset_codec.specs.Errors.{decode_failure}
+use Rattle.coset_codec.specs.Answers.{IsByteFault, IsExtraneous, IsNoItem, IsOnlyItem, ReadsWhole}
+
+-- an answer that is an error of which this holds
+pub on_err : {T : Type 0} (it : T → Item) (s : List ℕ) (r : Result T CoseError) (W : CoseError → Type 0) → IsErrAnd r W → ((e : CoseError) → W e → (IsByteFault s e ⊎ IsExtraneous s e) × IsNoItem s) → ReadsWhole it s r
+on_err it s (Ok x) W h f = absurd h
+on_err it s (Err e) W h f = λ _. f e h
+
+pub no_whole : (s : List ℕ) → ((v : Item) (b rest : List ℕ) → s ≡ b ++ rest → IsItem b v → ⊥) → IsNoItem s
+no_whole s none v is = none v s [] (sym (append-nil s)) is
+
+-- a fault of the bytes, as the error of a failed decoding
+pub byte_fault : (s : List ℕ) (e : Error EndOfFile) → (IsMemory e → ⊥) → StandsIn s e → IsByteFault s (decode_failure e)
+byte_fault s (errors.Io x) n h = (errors.Io (record {}), refl, n, h)
+byte_fault s (errors.Syntax i) n h = (errors.Syntax i, refl, n, h)
+byte_fault s (errors.Semantic i t) n h = (errors.Semantic i t, refl, n, h)
+byte_fault s errors.RecursionLimitExceeded n h = (errors.RecursionLimitExceeded, refl, n, h)
+byte_fault s errors.OutOfMemory n h = absurd (n tt)
+
+-- bytes are the encoding of at most one item, and no encoding is a proper front of another
+abbrev pub OneItem : Type 0
+OneItem = (v w : Item) (b c x y : List ℕ) → IsEncoding v b → IsEncoding w c → b ++ x ≡ c ++ y → (v ≡ w) × (b ≡ c)
+
+pub extraneous : OneItem → (s b rest : List ℕ) (v : Item) → (length rest ≡ 0 → ⊥) → s ≡ b ++ rest → IsItem b v → (IsByteFault s ExtraneousData ⊎ IsExtraneous s ExtraneousData) × IsNoItem s
+extraneous one s b [] v t e is = absurd (t refl)
+extraneous one s b (x ∷ rest) v t e is =
+    let more : length s ≡ length b + suc (length rest) = ap length e ∙ length-append b (x ∷ rest) in
+    let front : take (length b) s ≡ b = ap (take (length b)) e ∙ take-append_seam b (x ∷ rest) in (
+      inr (refl, length b, v, omega (arith, more), subst (λ c. IsItem c v) (sym front) is),
+      λ w h.
+          let same : s ≡ b = (one w v s b [] (x ∷ rest) h.0 is.0 (append-nil s ∙ e)).1 in
+          let as_long : length s ≡ length b = ap length same in
+          absurd (omega (arith, more, as_long)),
+    )
+
+pub only_item : OneItem → (s b rest : List ℕ) (v : Item) → length rest ≡ 0 → s ≡ b ++ rest → IsItem b v → IsOnlyItem s v
+only_item one s b (x ∷ rest) v t e is = absurd (omega (arith, t))
+only_item one s b [] v t e is =
+    let same : s ≡ b = e ∙ append-nil b in
+    let whole : IsItem s v = subst (λ c. IsItem c v) (sym same) is in
+    (whole, λ w h. (one w v s s [] [] h.0 whole.0 refl).0)
+
+-- bytes are one item at most
+pub one_of : OneItem → (s : List ℕ) (v w : Item) → IsItem s v → IsItem s w → v ≡ w
+one_of one s v w p q = (one v w s s [] [] p.0 q.0 refl).0

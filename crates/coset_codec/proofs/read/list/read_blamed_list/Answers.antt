@@ -1,0 +1,14 @@
+use Rattle.std.proofs.Common.{inr}
+use Rattle.coset_codec.specs.Errors.{IsUnexpected}
+use Rattle.coset_codec.proofs.Lists.{each_blamed}
+use Rattle.coset_codec.proofs.read.list.read_blamed_list.Goals as goal
+
+pub returns-clause-reads : goal.returns-clause-reads
+returns-clause-reads g c = λ v z stands.
+    let here = c.in_ok-members.ensures.enters v z stands in
+    let read = c.in-Err.ensures.reads here.0 z here.2 in (
+      c.finish.ensures.passes read.0.0 z read.0.1,
+      λ other.
+          let told = c.blamed_error.ensures.blames (λ e. other (c.blamed_error.ensures.memory e)) in
+          inr (here.0, here.1, inr (λ m. m, each_blamed g.T.AsCborValue.shape IsUnexpected here.0 c.in-Err.error c.blamed_error.result told.0 (read.1 (λ e. other (c.blamed_error.ensures.memory e))))),
+    )

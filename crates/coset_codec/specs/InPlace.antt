@@ -1,0 +1,36 @@
+-- Reading into places that are there already, where what is read holds others of its own type.
+use Rattle.std.specs.Prelude.{◌≡◌, List, [], ◌∷◌, ◌++◌, Bool, true, false, Result, Ok, Err}
+use Rattle.coset_value.specs.Item.{Item, Items, no_items, item}
+use Rattle.coset_codec.specs.declared.error.CoseError.{CoseError}
+use Rattle.coset_codec.specs.declared.error.CoseError.TheVariants.{OutOfMemory}
+use Rattle.coset_codec.specs.declared.read.input.InputItems.{InputItems}
+use Rattle.coset_codec.specs.Errors.{UnlessMemory}
+use Rattle.coset_codec.specs.Inputs.{State, Stands, AreWithin}
+use Rattle.coset_codec.specs.Shape.{Shape, Each, EachFaults}
+
+-- Reading the item v into a place: it stands for x, which the place holds then, or, out of memory aside, an error that
+-- tells of a fault in v
+abbrev pub Fills : {A : Type 0} → Shape A → Item → A → Result (Unit {0}) CoseError → Type 0
+Fills s v x (Ok u) = s.describes v x
+Fills s v x (Err e) = UnlessMemory e (s.faults v)
+
+-- Reading items into a list: they stand for the values that it holds then, or, out of memory aside, an error that tells
+-- of a fault in one of them
+abbrev pub FillsEach : {A : Type 0} → Shape A → Items → List A → Result (Unit {0}) CoseError → Type 0
+FillsEach s vs xs (Ok u) = Each s.describes vs xs
+FillsEach s vs xs (Err e) = UnlessMemory e (EachFaults s.faults vs)
+
+-- one more, which is seen as this
+abbrev pub GetsOne : {T A : Type 0} → (T → A) → A → List T → List T → Type 0
+GetsOne {T} seen a old new = (x : T) × (new ≡ old ++ x ∷ []) × (seen x ≡ a)
+
+-- one more where there is one to be read, else none
+abbrev pub GetsPlace : {T A : Type 0} → (T → A) → A → List T → List T → Bool → Type 0
+GetsPlace seen a old new true = GetsOne seen a old new
+GetsPlace seen a old new false = new ≡ old
+
+-- the next of some members stands at t; or none is left; or it was passed, for which there was no memory
+abbrev pub BeginsNext : Items → State → State → InputItems → Result Bool CoseError → Type 0
+BeginsNext vs t z m (Ok true) = (v : Item) × (others : Items) × (mid : State) × (vs ≡ item v others) × Stands v t mid × AreWithin m others mid z
+BeginsNext vs t z m (Ok false) = (vs ≡ no_items) × AreWithin m no_items t z
+BeginsNext vs t z m (Err e) = (left : Items) × AreWithin m left t z × (e ≡ OutOfMemory)

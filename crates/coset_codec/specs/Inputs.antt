@@ -1,0 +1,133 @@
+-- Reading forward: what stands where something is read, in a tree or in lent bytes.
+use Rattle.std.specs.Prelude.{◌≡◌, ◌<◌, ◌⊎◌, ⊤, ℕ, List, length, codes, Bool, true, false, Option, Some, None, Result, Ok, Err}
+use Rattle.std.specs.Vec.Iter.{into_iter_items}
+use Rattle.coset_value.specs.Item.{Item, null, Items, no_items, item, items_count, items_depth, Pairs, no_pairs, pair, pairs_count, pairs_depth, depth}
+use Rattle.coset_value.specs.Parts.{as_array, as_map}
+use Rattle.coset_value.specs.View.{view, items_view, pairs_view}
+use Rattle.coset_cbor.specs.Cursors as bytes
+use Rattle.coset_cbor.specs.Cursors.{bytes_left, keys_and_values}
+use Rattle.coset_codec.specs.declared.error.CoseError.{CoseError}
+use Rattle.coset_codec.specs.declared.read.input.Input.{Input}
+use Rattle.coset_codec.specs.declared.read.input.Input.TheVariants.{Tree, Lent}
+use Rattle.coset_codec.specs.declared.read.input.InputItems.{InputItems}
+use Rattle.coset_codec.specs.declared.read.input.InputItems.TheVariants as items
+use Rattle.coset_codec.specs.declared.read.input.InputPairs.{InputPairs}
+use Rattle.coset_codec.specs.declared.read.input.InputPairs.TheVariants as pairs
+use Rattle.coset_codec.specs.Errors.{IsUnexpected, UnlessMemory}
+use Rattle.coset_codec.specs.Kinds.{kind, Says}
+use Rattle.coset_codec.specs.OneOrMore.{Begins, BeginsWithNeither, SaysOnes}
+use Rattle.coset_codec.specs.Shape.{Shape, is_nil}
+use Rattle.coset_codec.specs.Sources.{IsMisfit}
+
+-- what is still to come: an item, or bytes
+pub data State : Type 0 where
+  tree : Item → State
+  lent : List ℕ → State
+
+abbrev pub state : Input → State
+state (Tree v) = tree (view v)
+state (Lent c) = lent (bytes_left c)
+
+-- the item v stands at s, and z is what follows it; a tree leaves null
+abbrev pub Stands : Item → State → State → Type 0
+Stands v (tree w) z = (w ≡ v) × (z ≡ tree null)
+Stands v (lent s) z = (a : List ℕ) × (z ≡ lent a) × bytes.Stands v s a
+
+-- the members vs of an array are still to come at s, and z follows the array
+abbrev pub AreWithin : InputItems → Items → State → State → Type 0
+AreWithin (items.Tree it) vs s z = (items_view (into_iter_items it) ≡ vs) × (s ≡ tree null) × (z ≡ tree null)
+AreWithin (items.Lent p) vs s z = (b : List ℕ) × (a : List ℕ) × (s ≡ lent b) × (z ≡ lent a) × bytes.AreWithin p vs b a
+
+-- the pairs ps of a map are
+abbrev pub PairsWithin : InputPairs → Pairs → State → State → Type 0
+PairsWithin (pairs.Tree it) ps s z = (pairs_view (into_iter_items it) ≡ ps) × (s ≡ tree null) × (z ≡ tree null)
+PairsWithin (pairs.Lent p) ps s z = (b : List ℕ) × (a : List ℕ) × (s ≡ lent b) × (z ≡ lent a) × bytes.AreWithin p (keys_and_values ps) b a
+
+-- ---- what reading answers
+
+-- the item that stood at s was read, and t is just behind it; P tells what was answered
+abbrev pub ReadsAt : State → State → (Item → Type 0) → Type 0
+ReadsAt s t P = (v : Item) (z : State) → Stands v s z → (t ≡ z) × P v
+
+-- what the item v holds was read, and t is behind it; or v holds nothing of the kind, and t is s as before
+abbrev pub TakesPart : {T P : Type 0} → (Item → Option P) → (T → P) → Item → State → State → State → Option T → Type 0
+TakesPart part seen v s t z (Some x) = (part v ≡ Some (seen x)) × (t ≡ z)
+TakesPart part seen v s t z None = (part v ≡ None) × (t ≡ s)
+
+-- the same of null, which holds nothing
+abbrev pub TakesNull : Item → State → State → State → Bool → Type 0
+TakesNull v s t z true = (is_nil v ≡ true) × (t ≡ z)
+TakesNull v s t z false = (is_nil v ≡ false) × (t ≡ s)
+
+-- what is still to come are lent bytes
+abbrev pub IsLent : State → Type 0
+IsLent (tree w) = ⊥
+IsLent (lent s) = ⊤
+
+-- the members of the array v stand at t; or v is no array and was passed
+abbrev pub EntersArray : List ℕ → Item → State → State → Result InputItems CoseError → Type 0
+EntersArray want v t z (Ok m) = (vs : Items) × (as_array v ≡ Some vs) × AreWithin m vs t z
+EntersArray want v t z (Err e) = (t ≡ z) × (as_array v ≡ None) × IsUnexpected e × Says (kind v) want e
+
+-- the pairs of the map v stand at t; or v is no map and was passed
+abbrev pub EntersMap : Item → State → State → Result InputPairs CoseError → Type 0
+EntersMap v t z (Ok m) = (ps : Pairs) × (as_map v ≡ Some ps) × PairsWithin m ps t z
+EntersMap v t z (Err e) = (t ≡ z) × (as_map v ≡ None) × IsUnexpected e × Says (kind v) (codes "map") e
+
+-- the members of the array v stand at t, and begin with a byte string or else with an array; or v was passed, which is no
+-- array or begins with neither
+abbrev pub EntersOnes : Item → State → State → Result (Bool × InputItems) CoseError → Type 0
+EntersOnes v t z (Ok x) = (vs : Items) × (as_array v ≡ Some vs) × AreWithin x.1 vs t z × Begins vs x.0
+EntersOnes v t z (Err e) = (t ≡ z) × (((as_array v ≡ None) ⊎ ((vs : Items) × (as_array v ≡ Some vs) × BeginsWithNeither vs)) × IsUnexpected e × SaysOnes v e)
+
+-- the next of the members stands at t; or none is left
+abbrev pub Nexts : Items → State → State → InputItems → Bool → Type 0
+Nexts vs t z m true = (v : Item) × (others : Items) × (mid : State) × (vs ≡ item v others) × Stands v t mid × AreWithin m others mid z
+Nexts vs t z m false = (vs ≡ no_items) × AreWithin m no_items t z
+
+-- the next of the members stands at t; or none is left, the array was passed, and the error says with `want` that it has too few
+abbrev pub NextPlace : List ℕ → Items → State → State → InputItems → Result (Unit {0}) CoseError → Type 0
+NextPlace want vs t z m (Ok x) = (v : Item) × (others : Items) × (mid : State) × (vs ≡ item v others) × Stands v t mid × AreWithin m others mid z
+NextPlace want vs t z m (Err e) = (vs ≡ no_items) × (t ≡ z) × IsMisfit want e
+
+-- the value of the next pair stands at t, whose key was read as this; or no pair is left; or the key is at fault, and the value was
+-- passed
+abbrev pub NextsKey : {K A : Type 0} → Shape A → (K → A) → Pairs → State → State → InputPairs → Result (Option K) CoseError → Type 0
+NextsKey s seen ps t z m (Ok (Some key)) =
+    (k : Item) × (v : Item) × (others : Pairs) × (mid : State) × (ps ≡ pair k v others) × s.describes k (seen key) × Stands v t mid × PairsWithin m others mid z
+NextsKey s seen ps t z m (Ok None) = (ps ≡ no_pairs) × PairsWithin m no_pairs t z
+NextsKey s seen ps t z m (Err e) = (k : Item) × (v : Item) × (others : Pairs) × (ps ≡ pair k v others) × PairsWithin m others t z × UnlessMemory e (s.faults k)
+
+-- ---- how far reading still goes
+
+-- the bytes that are left
+abbrev pub length_left : State → ℕ
+length_left (tree w) = 0
+length_left (lent s) = length s
+
+-- how deep a tree is, or how many bytes are left
+abbrev pub input_size : State → ℕ
+input_size (tree w) = depth w
+input_size (lent s) = length s
+
+abbrev pub items_size : InputItems → State → ℕ
+items_size (items.Tree it) s = items_depth (items_view (into_iter_items it))
+items_size (items.Lent p) s = length_left s
+
+abbrev pub pairs_size : InputPairs → State → ℕ
+pairs_size (pairs.Tree it) s = pairs_depth (pairs_view (into_iter_items it))
+pairs_size (pairs.Lent p) s = length_left s
+
+-- how many turns there are at the most
+abbrev pub items_turns : InputItems → State → ℕ
+items_turns (items.Tree it) s = items_count (items_view (into_iter_items it))
+items_turns (items.Lent p) s = length_left s
+
+abbrev pub pairs_turns : InputPairs → State → ℕ
+pairs_turns (pairs.Tree it) s = pairs_count (pairs_view (into_iter_items it))
+pairs_turns (pairs.Lent p) s = length_left s
+
+-- of bytes some were passed
+abbrev pub GoesBehind : State → State → Type 0
+GoesBehind (tree w) t = ⊤
+GoesBehind (lent s) t = length_left t < length s

@@ -1,0 +1,40 @@
+-- Items of the kind that is asked for, and the errors that tell of another.
+use Rattle.std.specs.Prelude.{◌≡◌, ◌≢◌, ◌⊎◌, ℕ, List, [], codes, Option, Some, None, Result, Ok, Err}
+use Rattle.coset_value.specs.Item.{Item, integer, bytes, float, text, boolean, null, tag, array, dict}
+use Rattle.coset_value.specs.Parts.{as_bytes}
+use Rattle.coset_codec.specs.declared.error.CoseError.{CoseError}
+use Rattle.coset_codec.specs.declared.error.CoseError.TheVariants.{UnexpectedItem}
+use Rattle.coset_codec.specs.Errors.{IsUnexpected}
+
+-- the name of an item's kind in errors
+abbrev pub kind : Item → List ℕ
+kind (integer n) = codes "int"
+kind (bytes s) = codes "bstr"
+kind (float x) = codes "float"
+kind (text s) = codes "tstr"
+kind (boolean b) = codes "bool"
+kind null = codes "nul"
+kind (tag t v) = codes "tag"
+kind (array vs) = codes "array"
+kind (dict ps) = codes "map"
+
+-- the error is that an item isn't as its place asks, with these two texts: what it is, and what was asked for
+abbrev pub Says : List ℕ → List ℕ → CoseError → Type 0
+Says got want (UnexpectedItem g w) = (g.now ≡ got) × (w.now ≡ want)
+Says got want e = ⊥
+
+-- What the item holds, where `part` says that it is of the kind; else the error that names the kind that it has, and `want`
+abbrev pub TriesAs : {T A : Type 0} → (Item → Option A) → (T → A) → List ℕ → Item → Result T CoseError → Type 0
+TriesAs part seen want v (Ok x) = part v ≡ Some (seen x)
+TriesAs part seen want v (Err e) = (part v ≡ None) × IsUnexpected e × Says (kind v) want e
+
+-- What a byte string that isn't empty holds; else the error that names the item's kind, or an empty byte string
+abbrev pub TriesAsFilled : {T : Type 0} → (T → List ℕ) → Item → Result T CoseError → Type 0
+TriesAsFilled seen v (Ok x) = (as_bytes v ≡ Some (seen x)) × (seen x ≢ [])
+TriesAsFilled seen v (Err e) =
+    ((as_bytes v ≡ None) × IsUnexpected e × Says (kind v) (codes "bstr") e)
+    ⊎ ((as_bytes v ≡ Some []) × IsUnexpected e × Says (codes "empty bstr") (codes "non-empty bstr") e)
+
+-- the error's two texts, of an item that should be a byte string that isn't empty
+abbrev pub SaysFilled : Item → CoseError → Type 0
+SaysFilled v e = ((as_bytes v ≡ None) × Says (kind v) (codes "bstr") e) ⊎ ((as_bytes v ≡ Some []) × Says (codes "empty bstr") (codes "non-empty bstr") e)

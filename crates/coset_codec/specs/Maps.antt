@@ -1,0 +1,245 @@
+-- Maps whose keys are labels, no two of them one: some labels stand for a field each, and all other pairs are kept in
+-- order (RFC 8152, sections 1.4 and 3).
+use Rattle.std.specs.Prelude.{◌≡◌, ◌⊎◌, ◌&&◌, List, [], ◌∷◌, ◌++◌, Option, Some, None, Bool, true, false, not, filter, option_map, is_some, ⊤}
+use Rattle.std.specs.List.{IsDistinct, list_any, list_all}
+use Rattle.std.specs.Map.{keys_of, lookup}
+use Rattle.coset_value.specs.Item.{Item, dict, Pairs, no_pairs, pair}
+use Rattle.coset_value.specs.Parts.{as_map}
+use Rattle.coset_codec.specs.declared.error.CoseError.{CoseError}
+use Rattle.coset_codec.specs.declared.error.CoseError.TheVariants as errors
+use Rattle.coset_codec.specs.Errors.{IsUnexpected}
+use Rattle.coset_codec.specs.Shape.{Shape, both, present}
+
+-- which keys are labels, and the test whether two labels are one
+pub record Names (N : Type 0) : Type 1 where
+  pub shape : Shape N
+  pub same : N → N → Bool
+
+-- ---- the pairs by label
+
+-- the pairs, each with its key's label
+abbrev pub Named : {N : Type 0} → (Item → N → Type 0) → Pairs → List (N × Item) → Type 0
+Named r no_pairs [] = ⊤
+Named r no_pairs (e ∷ es) = ⊥
+Named r (pair k v ps) [] = ⊥
+Named r (pair k v ps) (e ∷ es) = r k e.0 × (v ≡ e.1) × Named r ps es
+
+abbrev pub named_image : {N : Type 0} → (N → Option Item) → List (N × Item) → Option Pairs
+named_image f [] = Some no_pairs
+named_image f (e ∷ es) = both (λ k ps. pair k e.1 ps) (f e.0) (named_image f es)
+
+-- a pair whose key is labelled l
+abbrev pub HasLabel : {N : Type 0} → (Item → N → Type 0) → N → Pairs → Type 0
+HasLabel r l no_pairs = ⊥
+HasLabel r l (pair k v ps) = r k l ⊎ HasLabel r l ps
+
+-- two keys with one label
+abbrev pub Twice : {N : Type 0} → (Item → N → Type 0) → Pairs → Type 0
+Twice r no_pairs = ⊥
+Twice {N} r (pair k v ps) = ((l : N) × r k l × HasLabel r l ps) ⊎ Twice r ps
+
+-- one of the pairs
+abbrev pub SomePair : (Item → Item → Type 0) → Pairs → Type 0
+SomePair P no_pairs = ⊥
+SomePair P (pair k v ps) = P k v ⊎ SomePair P ps
+
+-- ---- fields
+
+-- what a field makes of its value, or of there being none
+pub record FieldShape (A : Type 0) : Type 1 where
+  pub describes : Option Item → A → Type 0
+  pub image : A → Option (Option Item)
+  pub faults : Item → CoseError → Type 0
+
+abbrev pub FieldShapeDescribes : {A : Type 0} → A → (Item → A → Type 0) → Option Item → A → Type 0
+FieldShapeDescribes absent r (Some v) x = r v x
+FieldShapeDescribes absent r None x = x ≡ absent
+
+abbrev pub field_shape_image : Bool → Option Item → Option (Option Item)
+field_shape_image true o = option_map Some o
+field_shape_image false o = Some None
+
+-- Where there is no value, x is `absent`; `shows x` tells whether x is written
+abbrev pub field_shape : {A : Type 0} → A → (A → Bool) → Shape A → FieldShape A
+field_shape absent shows s = record {
+  describes = FieldShapeDescribes absent s.describes;
+  image = λ x. field_shape_image (shows x) (s.image x);
+  faults = s.faults;
+}
+
+-- a value that may be left out
+abbrev pub optional : {A : Type 0} → Shape A → FieldShape (Option A)
+optional s = field_shape None is_some (present s)
+
+abbrev pub is_filled : {A : Type 0} → List A → Bool
+is_filled [] = false
+is_filled (x ∷ xs) = true
+
+-- a list that is left out where it is empty, and only there
+abbrev pub listed : {A : Type 0} → Shape (List A) → FieldShape (List A)
+listed s = field_shape [] is_filled s
+
+-- P where the test holds, else Q
+abbrev pub Where : Bool → Type 0 → Type 0 → Type 0
+Where true P Q = P
+Where false P Q = Q
+
+-- Some fields, in the order in which they are written. Of a pair with label m and value v: `takes m v x y` says that
+-- x becomes y with it, `repeats m x` that x has the field of label m already, and `faults m v e` what is wrong with v
+pub record Fields (N A : Type 0) : Type 1 where
+  pub labels : List N
+  pub describes : List (N × Item) → A → Type 0
+  pub image : A → Option (List (N × Item))
+  pub takes : N → Item → A → A → Type 0
+  pub repeats : N → A → Type 0
+  pub faults : N → Item → CoseError → Type 0
+
+abbrev pub no_field : {N : Type 0} → Fields N (Unit {0})
+no_field = record {
+  labels = [];
+  describes = λ es x. ⊤;
+  image = λ x. Some [];
+  takes = λ m v x y. ⊥;
+  repeats = λ m x. ⊥;
+  faults = λ m v e. ⊥;
+}
+
+abbrev pub put_field : {N : Type 0} → N → Option Item → List (N × Item) → List (N × Item)
+put_field l (Some v) es = (l, v) ∷ es
+put_field l None es = es
+
+-- the fields that are there, in order
+abbrev pub put_fields : {N : Type 0} → List (N × Option Item) → List (N × Item)
+put_fields [] = []
+put_fields (f ∷ fs) = put_field f.0 f.1 (put_fields fs)
+
+-- ? l => h, and then the others
+abbrev pub field : {N A B : Type 0} → Names N → N → FieldShape A → Fields N B → Fields N (A × B)
+field n l h fs = record {
+  labels = l ∷ fs.labels;
+  describes = λ es x. h.describes (lookup (n.same l) es) x.0 × fs.describes es x.1;
+  image = λ x. both (put_field l) (h.image x.0) (fs.image x.1);
+  takes = λ m v x y. Where (n.same l m) (h.describes None x.0 × h.describes (Some v) y.0 × (x.1 ≡ y.1)) ((x.0 ≡ y.0) × fs.takes m v x.1 y.1);
+  repeats = λ m x. Where (n.same l m) (h.describes None x.0 → ⊥) (fs.repeats m x.1);
+  faults = λ m v e. Where (n.same l m) (h.faults v e) (fs.faults m v e);
+}
+
+-- ---- maps
+
+-- a label stands for a field
+abbrev pub is_core : {N : Type 0} → Names N → List N → N → Bool
+is_core n labels l = list_any (n.same l) labels
+
+-- the pairs whose labels stand for no field
+abbrev pub rest_of : {N : Type 0} → Names N → List N → List (N × Item) → List (N × Item)
+rest_of n labels es = filter (λ e. not (is_core n labels e.0)) es
+
+abbrev pub are_distinct : {N : Type 0} → (N → N → Bool) → List N → Bool
+are_distinct same [] = true
+are_distinct same (l ∷ ls) = list_all (λ m. not (same l m)) ls && are_distinct same ls
+
+-- Each key has a label, and no two have the same; the fields; and the rest
+pub record Entries (N A : Type 0) (n : Names N) (fs : Fields N A) (ps : Pairs) (x : A × List (N × Item)) : Type 0 where
+  pub entries : List (N × Item)
+  pub named : Named n.shape.describes ps entries
+  pub distinct : IsDistinct n.same (keys_of entries)
+  pub fields : fs.describes entries x.0
+  pub rest : x.1 ≡ rest_of n fs.labels entries
+
+-- What is wrong with a key, or with the value of a field
+abbrev pub PairFaults : {N A : Type 0} → Names N → Fields N A → CoseError → Item → Item → Type 0
+PairFaults {N} n fs e k v = n.shape.faults k e ⊎ ((m : N) × n.shape.describes k m × fs.faults m v e)
+
+abbrev pub MapFaults : {N A : Type 0} → Names N → Fields N A → Pairs → CoseError → Type 0
+MapFaults n fs ps e = SomePair (PairFaults n fs e) ps ⊎ (Twice n.shape.describes ps × (e ≡ errors.DuplicateMapKey))
+
+abbrev pub entries_image : {N : Type 0} → Names N → Bool → List (N × Item) → Option (List (N × Item)) → Option Item
+entries_image n true rest (Some es) = option_map dict (named_image n.shape.image (es ++ rest))
+entries_image n true rest None = None
+entries_image n false rest o = None
+
+-- Whether the rest may be written: where `checks` says that its labels are looked at, no two may be the same
+abbrev pub may_write : {N : Type 0} → Names N → Bool → List (N × Item) → Bool
+may_write n true rest = are_distinct n.same (keys_of rest)
+may_write n false rest = true
+
+abbrev pub labelled_by : {N A : Type 0} → Bool → Names N → Fields N A → Shape (A × List (N × Item))
+labelled_by {N} {A} checks n fs = record {
+  describes = λ v x. (ps : Pairs) × (as_map v ≡ Some ps) × Entries N A n fs ps x;
+  image = λ x. entries_image n (may_write n checks x.1) x.1 (fs.image x.0);
+  faults = λ v e. ((as_map v ≡ None) × IsUnexpected e) ⊎ ((ps : Pairs) × (as_map v ≡ Some ps) × MapFaults n fs ps e);
+}
+
+-- {fields, * label => any}, written only where no label of the rest stands twice
+abbrev pub labelled : {N A : Type 0} → Names N → Fields N A → Shape (A × List (N × Item))
+labelled n fs = labelled_by true n fs
+
+-- {fields, * label => any}, written whatever labels the rest has
+abbrev pub labelled_freely : {N A : Type 0} → Names N → Fields N A → Shape (A × List (N × Item))
+labelled_freely n fs = labelled_by false n fs
+
+-- ---- pair by pair
+
+-- one more pair at the end
+abbrev pub with_pair : Pairs → Item → Item → Pairs
+with_pair no_pairs k v = pair k v no_pairs
+with_pair (pair j w ps) k v = pair j w (with_pair ps k v)
+
+-- some pairs, and then others
+abbrev pub and_pairs : Pairs → Pairs → Pairs
+and_pairs no_pairs qs = qs
+and_pairs (pair k v ps) qs = pair k v (and_pairs ps qs)
+
+-- What the pairs so far make, before it was asked whether labels of the rest repeat
+pub record SoFar (N A : Type 0) (n : Names N) (fs : Fields N A) (ps : Pairs) (x : A × List (N × Item)) : Type 0 where
+  pub entries : List (N × Item)
+  pub named : Named n.shape.describes ps entries
+  pub once : IsDistinct n.same (keys_of (filter (λ e. is_core n fs.labels e.0) entries))
+  pub fields : fs.describes entries x.0
+  pub rest : x.1 ≡ rest_of n fs.labels entries
+
+-- with a pair of label m and value v, x becomes y
+abbrev pub Adds : {N A : Type 0} → Names N → Fields N A → N → Item → A × List (N × Item) → A × List (N × Item) → Type 0
+Adds n fs m v x y = Where (is_core n fs.labels m) (fs.takes m v x.0 y.0 × (y.1 ≡ x.1)) ((x.0 ≡ y.0) × (y.1 ≡ x.1 ++ (m, v) ∷ []))
+
+-- why x refuses a pair of label m and value v
+abbrev pub Refuses : {N A : Type 0} → Names N → Fields N A → N → Item → A × List (N × Item) → CoseError → Type 0
+Refuses n fs m v x e = Where (is_core n fs.labels m) ((fs.repeats m x.0 × (e ≡ errors.DuplicateMapKey)) ⊎ fs.faults m v e) ⊥
+
+-- of all the pairs some were read, which make x, and left are still to come
+pub record Walks (N A : Type 0) (n : Names N) (fs : Fields N A) (all : Pairs) (x : A × List (N × Item)) (left : Pairs) : Type 0 where
+  pub done : Pairs
+  pub parts : all ≡ and_pairs done left
+  pub so_far : SoFar N A n fs done x
+
+-- x takes the pair of this key and value and becomes y
+abbrev pub TakesKey : {N A : Type 0} → Names N → Fields N A → Item → Item → A × List (N × Item) → A × List (N × Item) → Type 0
+TakesKey {N} n fs k v x y = (m : N) × n.shape.describes k m × Adds n fs m v x y
+
+-- why x refuses the pair of this key and value
+abbrev pub RefusesKey : {N A : Type 0} → Names N → Fields N A → Item → Item → A × List (N × Item) → CoseError → Type 0
+RefusesKey {N} n fs k v x e = n.shape.faults k e ⊎ ((m : N) × n.shape.describes k m × Refuses n fs m v x e)
+
+-- why a label is refused for what was taken before it, whatever its value is
+abbrev pub Bars : Type 0 → Type 0 → Type 1
+Bars N A = N → A × List (N × Item) → CoseError → Type 0
+
+abbrev pub BarsKey : {N A : Type 0} → Names N → Bars N A → Item → A × List (N × Item) → CoseError → Type 0
+BarsKey {N} n bars k x e = (m : N) × n.shape.describes k m × bars m x e
+
+-- the first pairs make what bars the next one's label
+pub record Barred (N A : Type 0) (n : Names N) (fs : Fields N A) (bars : Bars N A) (ps : Pairs) (e : CoseError) : Type 0 where
+  pub key : Item
+  pub value : Item
+  pub left : Pairs
+  pub before : A × List (N × Item)
+  pub walked : Walks N A n fs ps before (pair key value left)
+  pub barred : BarsKey n bars key before e
+
+-- what is wrong with an item that is read pair by pair
+abbrev pub GatherFaults : {N A : Type 0} → Names N → Fields N A → Bars N A → Item → CoseError → Type 0
+GatherFaults {N} {A} n fs bars v e = (labelled n fs).faults v e ⊎ ((ps : Pairs) × (as_map v ≡ Some ps) × Barred N A n fs bars ps e)
+
+-- of an item's pairs some were taken, which made y of x; or it is no map, and none were
+abbrev pub Gathers : {N A : Type 0} → Names N → Fields N A → Item → A × List (N × Item) → A × List (N × Item) → Type 0
+Gathers {N} {A} n fs v x y = ((as_map v ≡ None) × (y ≡ x)) ⊎ ((ps : Pairs) × (left : Pairs) × (as_map v ≡ Some ps) × Walks N A n fs ps y left)

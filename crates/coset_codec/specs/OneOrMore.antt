@@ -1,0 +1,31 @@
+-- Arrays that hold one or several.
+use Rattle.std.specs.Prelude.{◌≡◌, ⊤, ℕ, List, Bool, true, false, codes, Some, None, Result, Ok, Err}
+use Rattle.coset_value.specs.Item.{Item, array, Items, no_items, item}
+use Rattle.coset_value.specs.Parts.{as_bytes, as_array}
+use Rattle.coset_codec.specs.declared.error.CoseError.{CoseError}
+use Rattle.coset_codec.specs.Errors.{IsUnexpected}
+use Rattle.coset_codec.specs.Kinds.{kind, Says}
+
+-- the error's two texts, of the members of an array that doesn't begin with a byte string or an array
+abbrev pub SaysFirst : Items → CoseError → Type 0
+SaysFirst no_items e = Says (codes "empty sig array") (codes "non-empty sig array") e
+SaysFirst (item v vs) e = Says (kind v) (codes "array or bstr value") e
+
+-- and of any item that holds none, or several of which the first is no array
+abbrev pub SaysOnes : Item → CoseError → Type 0
+SaysOnes (array vs) e = SaysFirst vs e
+SaysOnes v e = Says (kind v) (codes "array") e
+
+-- whether the members begin with a byte string or else with an array; or they begin with neither
+abbrev pub Begins : Items → Bool → Type 0
+Begins no_items b = ⊥
+Begins (item v vs) true = (s : List ℕ) × (as_bytes v ≡ Some s)
+Begins (item v vs) false = (ws : Items) × (as_array v ≡ Some ws)
+
+abbrev pub BeginsWithNeither : Items → Type 0
+BeginsWithNeither no_items = ⊤
+BeginsWithNeither (item v vs) = (as_bytes v ≡ None) × (as_array v ≡ None)
+
+abbrev pub BeginsSo : Items → Result Bool CoseError → Type 0
+BeginsSo vs (Ok b) = Begins vs b
+BeginsSo vs (Err e) = BeginsWithNeither vs × IsUnexpected e × SaysFirst vs e

@@ -1,0 +1,181 @@
+-- The laws of types that hold others of themselves, from those of the step: the shape is the step's over itself.
+use Rattle.std.proofs.Common.{◌≡◌, ◌≤◌, ◌+◌, ℕ, zero, suc, List, [], ◌∷◌, Bool, Option, refl, sym, ◌∙◌, inl, inr, arith}
+use Rattle.coset_value.specs.Item.{Item, Items, no_items, item}
+use Rattle.coset_codec.specs.declared.error.CoseError.{CoseError}
+use Rattle.coset_codec.specs.Recursive.{nested, recursive}
+use Rattle.coset_codec.specs.Shape.{Shape, Places, PlacesFaults, array_of, ◌then◌, along, Each, EachFaults, any_number, list_of, perhaps, LastDescribes, LastFaults}
+use Rattle.coset_codec.specs.ShapeLaws.{Again, Lawful}
+
+-- ---- shapes that pass on to others
+
+-- what s describes one of the shapes t does, and its faults are those of one
+pub record Passes (I : Type 0) (A : Type 0) (s : Shape A) (t : I → Shape A) : Type 0 where
+  pub describes : (v : Item) (x : A) → s.describes v x → (i : I) × (t i).describes v x
+  pub faults : (v : Item) (e : CoseError) → s.faults v e → (i : I) × (t i).faults v e
+
+-- the same of places, whose numbers are the same
+pub record PassesPlaces (I : Type 0) (A : Type 0) (s : Places A) (t : I → Places A) : Type 0 where
+  pub describes : (vs : Items) (x : A) → s.describes vs x → (i : I) × (t i).describes vs x
+  pub misfits : (i : I) (vs : Items) → s.misfits vs → (t i).misfits vs
+  pub fits : (i : I) (vs : Items) → (t i).misfits vs → s.misfits vs
+  pub faults : (vs : Items) (e : CoseError) → s.faults vs e → (i : I) × (t i).faults vs e
+
+-- two shapes alone
+abbrev pub Below : (A : Type 0) → Shape A → Shape A → Type 0
+Below A s t = Passes (Unit {0}) A s (λ i. t)
+
+pub below : {A : Type 0} (s t : Shape A) → ((v : Item) (x : A) → s.describes v x → t.describes v x) → ((v : Item) (e : CoseError) → s.faults v e → t.faults v e) → Below A s t
+below s t d f = record { describes = λ v x h. (tt, d v x h); faults = λ v e h. (tt, f v e h) }
+
+module _ {I : Type 0} (some : I) where
+  -- an array, by its places
+  faults_pass : {A : Type 0} (s : Places A) (t : I → Places A) → PassesPlaces I A s t → (vs : Items) (e : CoseError) → PlacesFaults s vs e → (i : I) × PlacesFaults (t i) vs e
+  faults_pass s t p vs e (inl h) = (some, inl (p.misfits some vs h.0, h.1))
+  faults_pass s t p vs e (inr h) = let g = p.faults vs e h.1 in (g.0, inr ((λ m. h.0 (p.fits g.0 vs m)), g.1))
+
+  array_faults : {A : Type 0} (s : Places A) (t : I → Places A) → PassesPlaces I A s t → (v : Item) (e : CoseError) → (array_of s).faults v e → (i : I) × (array_of (t i)).faults v e
+  array_faults s t p v e (inl h) = (some, inl h)
+  array_faults s t p v e (inr h) = let g = faults_pass s t p h.0 e h.2 in (g.0, inr (h.0, h.1, g.1))
+
+  pub array_passes : {A : Type 0} (s : Places A) (t : I → Places A) → PassesPlaces I A s t → Passes I A (array_of s) (λ i. array_of (t i))
+  array_passes s t p = record { describes = λ v x h. let g = p.describes h.0 x h.2 in (g.0, (h.0, h.1, g.1)); faults = array_faults s t p }
+
+  -- a place before others
+  module _ {A B : Type 0} (a : Shape A) (s : Places B) (t : I → Places B) (p : PassesPlaces I B s t) where
+    then_describes : (vs : Items) (x : A × B) → (a then s).describes vs x → (i : I) × (a then t i).describes vs x
+    then_describes no_items x h = absurd h
+    then_describes (item v vs) x h = let g = p.describes vs x.1 h.1 in (g.0, (h.0, g.1))
+
+    then_misfits : (i : I) (vs : Items) → (a then s).misfits vs → (a then t i).misfits vs
+    then_misfits i no_items h = h
+    then_misfits i (item v vs) h = p.misfits i vs h
+
+    then_fits : (i : I) (vs : Items) → (a then t i).misfits vs → (a then s).misfits vs
+    then_fits i no_items h = h
+    then_fits i (item v vs) h = p.fits i vs h
+
+    then_faults : (vs : Items) (e : CoseError) → (a then s).faults vs e → (i : I) × (a then t i).faults vs e
+    then_faults no_items e h = absurd h
+    then_faults (item v vs) e (inl h) = (some, inl h)
+    then_faults (item v vs) e (inr h) = let g = p.faults vs e h in (g.0, inr g.1)
+
+    pub then_passes : PassesPlaces I (A × B) (a then s) (λ i. a then t i)
+    then_passes = record { describes = then_describes; misfits = then_misfits; fits = then_fits; faults = then_faults }
+
+  -- a last place that may be missing
+  module _ {A : Type 0} (absent : A) (shows : A → Bool) (s : Shape A) (t : I → Shape A) (p : Passes I A s t) where
+    last_describes : (vs : Items) (x : A) → LastDescribes absent s.describes vs x → (i : I) × LastDescribes absent (t i).describes vs x
+    last_describes no_items x h = (some, h)
+    last_describes (item v no_items) x h = p.describes v x h
+    last_describes (item v (item w vs)) x h = absurd h
+
+    last_faults : (vs : Items) (e : CoseError) → LastFaults s.faults vs e → (i : I) × LastFaults (t i).faults vs e
+    last_faults no_items e h = absurd h
+    last_faults (item v vs) e h = p.faults v e h
+
+    pub perhaps_passes : PassesPlaces I A (perhaps absent shows s) (λ i. perhaps absent shows (t i))
+    perhaps_passes = record { describes = last_describes; misfits = λ i vs h. h; fits = λ i vs h. h; faults = last_faults }
+
+-- what is seen otherwise
+pub along_passes : {I A B : Type 0} (to : A → B) (from : B → A) (s : Shape A) (t : I → Shape A) → Passes I A s t → Passes I B (along to from s) (λ i. along to from (t i))
+along_passes to from s t p = record { describes = λ v x h. p.describes v (from x) h; faults = p.faults }
+
+-- a list, where each of its members passes on to the same shape
+module _ {A : Type 0} (s t : Shape A) (p : Below A s t) where
+  each_above : (vs : Items) (xs : List A) → Each s.describes vs xs → Each t.describes vs xs
+  each_above no_items [] h = h
+  each_above no_items (x ∷ xs) h = absurd h
+  each_above (item v vs) [] h = absurd h
+  each_above (item v vs) (x ∷ xs) h = ((p.describes v x h.0).1, each_above vs xs h.1)
+
+  each_faults_above : (vs : Items) (e : CoseError) → EachFaults s.faults vs e → EachFaults t.faults vs e
+  each_faults_above no_items e h = h
+  each_faults_above (item v vs) e (inl h) = inl (p.faults v e h).1
+  each_faults_above (item v vs) e (inr h) = inr (each_faults_above vs e h)
+
+  pub list_below : Below (List A) (list_of s) (list_of t)
+  list_below =
+      array_passes tt (any_number s) (λ i. any_number t)
+      (record { describes = λ vs x h. (tt, each_above vs x h); misfits = λ i vs h. h; fits = λ i vs h. h; faults = λ vs e h. (tt, each_faults_above vs e h) })
+
+-- ---- types that hold others of themselves
+
+-- What is asked of a step and of how values are written: the step's shape is lawful where that of the parts is; it
+-- describes no less where that of the parts doesn't; it needs no more than so many parts one inside another for an item
+-- that is finite; and a value is written as the step says where the parts are written so
+pub record Step (A : Type 0) (step : Shape A → Shape A) (image : A → Option Item) : Type 1 where
+  pub lawful : (s : Shape A) → Lawful A s → Lawful A (step s)
+  pub rises : (s t : Shape A) → Below A s t → Below A (step s) (step t)
+  pub gathers : (s : Shape A) (t : ℕ → Shape A) → Passes ℕ (List A) (list_of s) (λ n. list_of (t n)) → Passes ℕ A (step s) (λ n. step (t n))
+  pub written : (s : Shape A) → ((x : A) → s.image x ≡ image x) → (x : A) → (step s).image x ≡ image x
+
+module _ {A : Type 0} (step : Shape A → Shape A) (image : A → Option Item) (k : Step A step image) where
+  up : (n m : ℕ) → n ≤ m → Below A (nested step image n) (nested step image m)
+  up zero m h = below (nested step image zero) (nested step image m) (λ v x d. absurd d) (λ v e f. absurd f)
+  up (suc n) zero h = absurd (omega (arith, h))
+  up (suc n) (suc m) h = k.rises (nested step image n) (nested step image m) (up n m (omega (arith, h)))
+
+  lawful_nested : (n : ℕ) → Lawful A (nested step image n)
+  lawful_nested zero = record { unique = λ v x y p q. absurd p; again = λ v x p. absurd p; sound = λ v x e p f. p }
+  lawful_nested (suc n) = k.lawful (nested step image n) (lawful_nested n)
+
+  -- each is written so, however many there may be
+  pub written_nested : (n : ℕ) (x : A) → (nested step image n).image x ≡ image x
+  written_nested zero x = refl
+  written_nested (suc n) x = k.written (nested step image n) (written_nested n) x
+
+  -- an item stands for at most one, what was read is written and read again, and no fault stands where a value does
+  pub recursive_laws : Lawful A (recursive step image)
+  recursive_laws =
+      record {
+        unique = λ v x y p q.
+            let n = p.0 + q.0 in
+            (lawful_nested n).unique v x y ((up p.0 n (omega arith)).describes v x p.1).1 ((up q.0 n (omega arith)).describes v y q.1).1;
+        again = λ v x p.
+            let a : Again A (nested step image p.0) v x = (lawful_nested p.0).again v x p.1 in
+            record { image = a.image; is_image = sym (written_nested p.0 x) ∙ a.is_image; described = (p.0, a.described); shallow = a.shallow };
+        sound = λ v x e p f.
+            let n = p.0 + f.0 in
+            (lawful_nested n).sound v x e ((up p.0 n (omega arith)).describes v x p.1).1 ((up f.0 n (omega arith)).faults v e f.1).1;
+      }
+
+  -- some parts, each of so many one inside another, are all of the greatest number
+  each_gathered : (vs : Items) (xs : List A) → Each (recursive step image).describes vs xs → (n : ℕ) × Each (nested step image n).describes vs xs
+  each_gathered no_items [] h = (0, h)
+  each_gathered no_items (x ∷ xs) h = absurd h
+  each_gathered (item v vs) [] h = absurd h
+  each_gathered (item v vs) (x ∷ xs) h =
+      let g = each_gathered vs xs h.1 in
+      let n = h.0.0 + g.0 in
+      (n, (((up h.0.0 n (omega arith)).describes v x h.0.1).1, each_above (nested step image g.0) (nested step image n) (up g.0 n (omega arith)) vs xs g.1))
+
+  each_faults_gathered : (vs : Items) (e : CoseError) → EachFaults (recursive step image).faults vs e → (n : ℕ) × EachFaults (nested step image n).faults vs e
+  each_faults_gathered no_items e h = absurd h
+  each_faults_gathered (item v vs) e (inl h) = (h.0, inl h.1)
+  each_faults_gathered (item v vs) e (inr h) = let g = each_faults_gathered vs e h in (g.0, inr g.1)
+
+  list_gathered : Passes ℕ (List A) (list_of (recursive step image)) (λ n. list_of (nested step image n))
+  list_gathered =
+      array_passes 0 (any_number (recursive step image)) (λ n. any_number (nested step image n))
+      (record { describes = each_gathered; misfits = λ i vs h. h; fits = λ i vs h. h; faults = each_faults_gathered })
+
+  -- the step over it describes what it does, and has its faults
+  pub recursive_step : Below A (step (recursive step image)) (recursive step image)
+  recursive_step =
+      let g = k.gathers (recursive step image) (nested step image) list_gathered in
+      below (step (recursive step image)) (recursive step image) (λ v x h. let p = g.describes v x h in (suc p.0, p.1)) (λ v e h. let p = g.faults v e h in (suc p.0, p.1))
+
+  -- and nothing else
+  inside : (n : ℕ) → Below A (nested step image n) (recursive step image)
+  inside n = below (nested step image n) (recursive step image) (λ v x h. (n, h)) (λ v e h. (n, h))
+
+  described_by_step : (n : ℕ) (v : Item) (x : A) → (nested step image n).describes v x → (step (recursive step image)).describes v x
+  described_by_step zero v x h = absurd h
+  described_by_step (suc n) v x h = ((k.rises (nested step image n) (recursive step image) (inside n)).describes v x h).1
+
+  faulty_by_step : (n : ℕ) (v : Item) (e : CoseError) → (nested step image n).faults v e → (step (recursive step image)).faults v e
+  faulty_by_step zero v e h = absurd h
+  faulty_by_step (suc n) v e h = ((k.rises (nested step image n) (recursive step image) (inside n)).faults v e h).1
+
+  pub step_recursive : Below A (recursive step image) (step (recursive step image))
+  step_recursive = below (recursive step image) (step (recursive step image)) (λ v x h. described_by_step h.0 v x h.1) (λ v e h. faulty_by_step h.0 v e h.1)

@@ -1,0 +1,294 @@
+-- Which items of CBOR stand for which values of a type. A type's shape is put together from those of its parts, in the
+-- manner of CDDL (RFC 8610); the CDDL of each is in its comment. A value is seen without its memory: a `String` as its
+-- UTF-8 bytes, a struct as a record.
+use Rattle.std.specs.Prelude.{◌≡◌, ◌≢◌, ◌⊎◌, ℕ, ℤ, pos, ◌≤ℤ◌, List, [], ◌∷◌, Option, Some, None, Bool, true, false, option_map, FitsSigned, ⊤}
+use Rattle.std.proofs.Common.{inl, inr}
+use Rattle.std.specs.Int.{w64}
+use Rattle.coset_value.specs.Item.{Bits, Item, integer, bytes, float, text, null, tag, array, Items, no_items, item}
+use Rattle.coset_value.specs.Parts.{as_integer, as_bytes, as_text, as_array, as_tag}
+use Rattle.coset_cbor.specs.Scalars.{as_float}
+use Rattle.coset_codec.specs.declared.error.CoseError.{CoseError}
+use Rattle.coset_codec.specs.declared.error.CoseError.TheVariants as errors
+use Rattle.coset_codec.specs.Errors.{IsUnexpected}
+
+-- `describes v x`: the item v stands for x. `image x`: the item that x is written as, where there is one.
+-- `faults v e`: what the error e tells of stands in v
+pub record Shape (A : Type 0) : Type 1 where
+  pub describes : Item → A → Type 0
+  pub image : A → Option Item
+  pub faults : Item → CoseError → Type 0
+
+-- Which members of an array stand for which values. `misfits vs`: there are too few members, or too many
+pub record Places (A : Type 0) : Type 1 where
+  pub describes : Items → A → Type 0
+  pub image : A → Option Items
+  pub misfits : Items → Type 0
+  pub faults : Items → CoseError → Type 0
+
+-- two answers together, where there are both
+abbrev pub both : {A B C : Type 0} → (A → B → C) → Option A → Option B → Option C
+both f (Some a) (Some b) = Some (f a b)
+both f (Some a) None = None
+both f None o = None
+
+-- ---- items of one kind
+
+-- `part` gives what an item of the kind holds, and `made` the item that holds it
+abbrev pub kind_of : {A : Type 0} → (Item → Option A) → (A → Item) → Shape A
+kind_of part made = record {
+  describes = λ v x. part v ≡ Some x;
+  image = λ x. Some (made x);
+  faults = λ v e. (part v ≡ None) × IsUnexpected e;
+}
+
+-- int
+abbrev pub int : Shape ℤ
+int = kind_of as_integer integer
+
+-- bstr
+abbrev pub bstr : Shape (List ℕ)
+bstr = kind_of as_bytes bytes
+
+-- tstr
+abbrev pub tstr : Shape (List ℕ)
+tstr = kind_of as_text text
+
+-- float
+abbrev pub floating : Shape Bits
+floating = kind_of as_float float
+
+-- any
+abbrev pub any : Shape Item
+any = record { describes = λ v x. v ≡ x; image = Some; faults = λ v e. ⊥ }
+
+-- ---- conditions, names and choices
+
+-- Of what the shape describes only what meets P. `blames` are the errors that tell where it is not met
+abbrev pub that : {A : Type 0} → (CoseError → Type 0) → (A → Type 0) → Shape A → Shape A
+that {A} blames P s = record {
+  describes = λ v x. s.describes v x × P x;
+  image = s.image;
+  faults = λ v e. s.faults v e ⊎ (blames e × ((x : A) × s.describes v x × (P x → ⊥)));
+}
+
+abbrev pub IsOutOfRange : CoseError → Type 0
+IsOutOfRange e = e ≡ errors.OutOfRangeIntegerValue
+
+-- an integer of 64 bits with a sign
+abbrev pub int64 : Shape ℤ
+int64 = that IsOutOfRange (FitsSigned w64) int
+
+-- uint
+abbrev pub uint : Shape ℤ
+uint = that IsOutOfRange (λ i. pos 0 ≤ℤ i) int
+
+-- not the empty list
+abbrev pub IsFilled : {A : Type 0} → List A → Type 0
+IsFilled xs = xs ≢ []
+
+-- bstr .size (1..18446744073709551615)
+abbrev pub filled_bstr : Shape (List ℕ)
+filled_bstr = that IsUnexpected IsFilled bstr
+
+-- what the shape describes, seen as another type: `to` makes that of what the shape describes, and `from` is its
+-- inverse
+abbrev pub along : {A B : Type 0} → (A → B) → (B → A) → Shape A → Shape B
+along to from s = record { describes = λ v x. s.describes v (from x); image = λ x. s.image (from x); faults = s.faults }
+
+-- errors of the kind in place of any that the shape has
+abbrev pub blamed : {A : Type 0} → (CoseError → Type 0) → Shape A → Shape A
+blamed blames s = record {
+  describes = s.describes;
+  image = s.image;
+  faults = λ v e. blames e × ((f : CoseError) × s.faults v f);
+}
+
+-- what one of two shapes describes
+abbrev pub EitherDescribes : {A B : Type 0} → (A → Type 0) → (B → Type 0) → A ⊎ B → Type 0
+EitherDescribes P Q (inl x) = P x
+EitherDescribes P Q (inr y) = Q y
+
+-- `s / t`, where `is_first` tells the items of s from those of t
+abbrev pub either : {A B : Type 0} → (Item → Bool) → Shape A → Shape B → Shape (A ⊎ B)
+either is_first s t = record {
+  describes = λ v. EitherDescribes (λ x. (is_first v ≡ true) × s.describes v x) (λ y. (is_first v ≡ false) × t.describes v y);
+  image = elim [ inl x ↦ s.image x | inr y ↦ t.image y ];
+  faults = λ v e. ((is_first v ≡ true) × s.faults v e) ⊎ ((is_first v ≡ false) × t.faults v e);
+}
+
+-- whether it is null
+abbrev pub is_nil : Item → Bool
+is_nil null = true
+is_nil v = false
+
+abbrev pub as_nil : Item → Option (Unit {0})
+as_nil null = Some tt
+as_nil v = None
+
+-- nil
+abbrev pub nil : Shape (Unit {0})
+nil = kind_of as_nil (λ x. null)
+
+abbrev pub option_of : {A : Type 0} → Unit {0} ⊎ A → Option A
+option_of (inl x) = None
+option_of (inr x) = Some x
+
+abbrev pub sum_of : {A : Type 0} → Option A → Unit {0} ⊎ A
+sum_of None = inl tt
+sum_of (Some x) = inr x
+
+-- s / nil, where s describes no null
+abbrev pub or_nil : {A : Type 0} → Shape A → Shape (Option A)
+or_nil s = along option_of sum_of (either is_nil nil s)
+
+-- what s describes, as something that is there
+abbrev pub PresentDescribes : {A : Type 0} → (A → Type 0) → Option A → Type 0
+PresentDescribes P (Some x) = P x
+PresentDescribes P None = ⊥
+
+abbrev pub present_image : {A : Type 0} → (A → Option Item) → Option A → Option Item
+present_image f (Some x) = f x
+present_image f None = None
+
+abbrev pub present : {A : Type 0} → Shape A → Shape (Option A)
+present s = record { describes = λ v. PresentDescribes (s.describes v); image = present_image s.image; faults = s.faults }
+
+-- one value, of which is known which items stand for it, what it is written as, and what faults stand in an item for
+-- its type: so a type that holds itself is described by recursion on the value
+abbrev pub fixed : (Item → Type 0) → Option Item → (Item → CoseError → Type 0) → Shape (Unit {0})
+fixed P o faults = record { describes = λ v x. P v; image = λ x. o; faults = faults }
+
+-- #6.number(s)
+abbrev pub tagged : {A : Type 0} → ℕ → Shape A → Shape A
+tagged number s = record {
+  describes = λ v x. (w : Item) × (as_tag v ≡ Some (number, w)) × s.describes w x;
+  image = λ x. option_map (tag number) (s.image x);
+  faults = λ v e. ((as_tag v ≡ None) × IsUnexpected e) ⊎ ((t : ℕ) × (w : Item) × (as_tag v ≡ Some (t, w)) × (((t ≢ number) × IsUnexpected e) ⊎ ((t ≡ number) × s.faults w e)));
+}
+
+-- ---- arrays
+
+-- what is wrong with an array's members: that there are too few or too many; or, where there are as many as there have to
+-- be, what is wrong with one of them
+abbrev pub PlacesFaults : {A : Type 0} → Places A → Items → CoseError → Type 0
+PlacesFaults ps vs e = (ps.misfits vs × IsUnexpected e) ⊎ ((ps.misfits vs → ⊥) × ps.faults vs e)
+
+-- [places]
+abbrev pub array_of : {A : Type 0} → Places A → Shape A
+array_of ps = record {
+  describes = λ v x. (vs : Items) × (as_array v ≡ Some vs) × ps.describes vs x;
+  image = λ x. option_map array (ps.image x);
+  faults = λ v e. ((as_array v ≡ None) × IsUnexpected e) ⊎ ((vs : Items) × (as_array v ≡ Some vs) × PlacesFaults ps vs e);
+}
+
+-- no place
+abbrev pub IsEnd : Items → Type 0
+IsEnd no_items = ⊤
+IsEnd (item v vs) = ⊥
+
+abbrev pub end : Places (Unit {0})
+end = record { describes = λ vs x. IsEnd vs; image = λ x. Some no_items; misfits = λ vs. IsEnd vs → ⊥; faults = λ vs e. ⊥ }
+
+-- a place, and the places after it
+abbrev pub FirstDescribes : {A B : Type 0} → (Item → A → Type 0) → (Items → B → Type 0) → Items → A × B → Type 0
+FirstDescribes r rs no_items x = ⊥
+FirstDescribes r rs (item v vs) x = r v x.0 × rs vs x.1
+
+abbrev pub FirstMisfits : (Items → Type 0) → Items → Type 0
+FirstMisfits m no_items = ⊤
+FirstMisfits m (item v vs) = m vs
+
+abbrev pub FirstFaults : (Item → CoseError → Type 0) → (Items → CoseError → Type 0) → Items → CoseError → Type 0
+FirstFaults f fs no_items e = ⊥
+FirstFaults f fs (item v vs) e = f v e ⊎ fs vs e
+
+infixr 50 ◌then◌
+abbrev pub ◌then◌ : {A B : Type 0} → Shape A → Places B → Places (A × B)
+s then ps = record {
+  describes = FirstDescribes s.describes ps.describes;
+  image = λ x. both item (s.image x.0) (ps.image x.1);
+  misfits = FirstMisfits ps.misfits;
+  faults = FirstFaults s.faults ps.faults;
+}
+
+-- * s
+abbrev pub Each : {A : Type 0} → (Item → A → Type 0) → Items → List A → Type 0
+Each r no_items [] = ⊤
+Each r no_items (x ∷ xs) = ⊥
+Each r (item v vs) [] = ⊥
+Each r (item v vs) (x ∷ xs) = r v x × Each r vs xs
+
+abbrev pub images : {A : Type 0} → (A → Option Item) → List A → Option Items
+images f [] = Some no_items
+images f (x ∷ xs) = both item (f x) (images f xs)
+
+abbrev pub EachFaults : (Item → CoseError → Type 0) → Items → CoseError → Type 0
+EachFaults f no_items e = ⊥
+EachFaults f (item v vs) e = f v e ⊎ EachFaults f vs e
+
+abbrev pub any_number : {A : Type 0} → Shape A → Places (List A)
+any_number s = record { describes = Each s.describes; image = images s.image; misfits = λ vs. ⊥; faults = EachFaults s.faults }
+
+-- [* s]
+abbrev pub list_of : {A : Type 0} → Shape A → Shape (List A)
+list_of s = array_of (any_number s)
+
+-- [+ s]
+abbrev pub some_of : {A : Type 0} → Shape A → Shape (List A)
+some_of s = that IsUnexpected IsFilled (list_of s)
+
+-- ? s, as the last place. Where the place is missing, x is `absent`; `shows x` tells whether x is written
+abbrev pub LastDescribes : {A : Type 0} → A → (Item → A → Type 0) → Items → A → Type 0
+LastDescribes absent r no_items x = x ≡ absent
+LastDescribes absent r (item v no_items) x = r v x
+LastDescribes absent r (item v (item w vs)) x = ⊥
+
+abbrev pub last_image : Bool → Option Item → Option Items
+last_image true o = option_map (λ v. item v no_items) o
+last_image false o = Some no_items
+
+abbrev pub LastMisfits : Items → Type 0
+LastMisfits no_items = ⊥
+LastMisfits (item v vs) = IsEnd vs → ⊥
+
+abbrev pub LastFaults : (Item → CoseError → Type 0) → Items → CoseError → Type 0
+LastFaults f no_items e = ⊥
+LastFaults f (item v vs) e = f v e
+
+abbrev pub perhaps : {A : Type 0} → A → (A → Bool) → Shape A → Places A
+perhaps absent shows s = record {
+  describes = LastDescribes absent s.describes;
+  image = λ x. last_image (shows x) (s.image x);
+  misfits = LastMisfits;
+  faults = LastFaults s.faults;
+}
+
+-- What the shape describes, seen as what R relates it to, and written as that: a list that stands for a set is seen in
+-- order
+abbrev pub arranged : {A : Type 0} → (A → A → Type 0) → Shape A → Shape A
+arranged {A} R s = record {
+  describes = λ v y. (x : A) × s.describes v x × R x y;
+  image = s.image;
+  faults = s.faults;
+}
+
+-- ---- one, or a list of them
+
+-- Of an array that begins with a byte string, it alone; of one that begins with an array, its members
+abbrev pub one_or_more : Item → Option Items
+one_or_more (array (item (bytes b) vs)) = Some (item (array (item (bytes b) vs)) no_items)
+one_or_more (array (item (array ws) vs)) = Some (item (array ws) vs)
+one_or_more v = None
+
+-- one is written as itself, more as an array
+abbrev pub one_or_array : Items → Item
+one_or_array (item v no_items) = v
+one_or_array vs = array vs
+
+-- s / [+ s], where s describes arrays that begin with a byte string
+abbrev pub one_or_many : {A : Type 0} → Places A → Shape A
+one_or_many {A} ps = record {
+  describes = λ v x. (vs : Items) × (one_or_more v ≡ Some vs) × ps.describes vs x;
+  image = λ x. option_map one_or_array (ps.image x);
+  faults = λ v e. ((one_or_more v ≡ None) × IsUnexpected e) ⊎ ((vs : Items) × (one_or_more v ≡ Some vs) × PlacesFaults ps vs e);
+}

@@ -1,0 +1,143 @@
+//! The short way to a type of one's own: one trait, from which all others follow.
+
+ghost use Rattle.std.specs.Prelude.{◌≡◌, ◌↔◌, ◌≤◌, ℕ, IsTrue, OnOk};
+ghost use Rattle.coset_codec.specs.Answers.{Reads};
+ghost use Rattle.coset_codec.specs.Encoding.{Encodes};
+ghost use Rattle.coset_codec.specs.Inputs.{GoesBehind, ReadsAt, length_left, state};
+ghost use Rattle.coset_codec.specs.Shape.{Shape};
+ghost use Rattle.coset_codec.specs.ShapeLaws.{Lawful as LawfulShape};
+
+use crate::error::Result;
+use crate::read::{Input, Source};
+use crate::traits::{
+    AsCborValue, CborSerializable, FromPull, Lawful, TaggedCborSerializable, read_slice,
+    read_tagged_slice,
+};
+use crate::write::{Encode, encode_to_tagged_vec, encode_to_value, encode_to_vec};
+use coset_cbor::de::Pull;
+use coset_cbor::value::Value;
+use std::alloc::Global;
+
+/// A type that is read and written straight, without a value in between.
+///
+/// An implementer says how contracts see its values and its shape, as for [`AsCborValue`], has one reader and one writer,
+/// and proves two laws, of its shape and of `==`: each in a line, from those of the parts (`ShapeLaws` and `Told` of
+/// `specs/`). That of a derived `==` the prover finds by itself where no part is a list. [`AsCborValue`], [`FromPull`],
+/// [`CborSerializable`], [`Encode`] and [`Lawful`] follow from these, and with [`TaggedCodec`] also
+/// [`TaggedCborSerializable`].
+pub trait Codec: Sized + Drop + PartialEq {
+    /// What contracts see of a value: all of it but where it lies in memory.
+    ghost Seen: { Type 0 };
+
+    ghost seen: { Self → Seen };
+
+    /// Which items stand for which values, what a value is written as, and what may be wrong with an item.
+    ghost shape: { Shape Seen };
+
+    /// Reads a value from the item that stands at the input, and leaves that just behind it, also where it is refused.
+    ///
+    /// # Errors
+    /// `OutOfMemory`, or a fault that stands in the item; the item then describes no value.
+    fn read(alloc: Global, input: &mut Input<'_>) -> Result<Self>
+        ensures shrinks { length_left (state input.new) ≤ length_left (state input.old) }
+        ensures strictly { OnOk result (GoesBehind (state input.old) (state input.new)) }
+        ensures reads { ReadsAt (state input.old) (state input.new)
+            (λ v. Reads shape seen v result) };
+
+    /// About as many bytes as the encoding takes ([`Encode::room`]).
+    fn size_hint(&self) -> usize {
+        0
+    }
+
+    /// Appends the shortest encoding of the value's item (RFC 8949, section 4.2.1).
+    ///
+    /// # Errors
+    /// `OutOfMemory`, or `DuplicateMapKey`, only where the value has no item. What was appended before isn't taken
+    /// back.
+    fn write(&self, alloc: Global, out: &mut Vec<u8>) -> Result<()>
+        ensures { Encodes (shape.image (seen self.now)) out.old.items out.new.items result };
+
+    /// The laws of its shape.
+    ghost laws: { LawfulShape Seen shape };
+
+    /// `==` is equality of all that contracts see.
+    ghost equal: { (a b : Self) → IsTrue (Self.PartialEq.eq a b) ↔ (seen a ≡ seen b) };
+}
+
+/// A type that is also read and written under a tag of its own (RFC 8949, section 3.4).
+pub trait TaggedCodec: Codec {
+    ghost TAG_NUMBER: { ℕ };
+
+    /// The number of the tag.
+    const TAG_NUMBER: u64;
+}
+
+impl<T: Codec> AsCborValue for T {
+    ghost Seen = { T.Seen };
+
+    ghost seen = { T.seen };
+
+    ghost shape = { T.shape };
+
+    ghost unique = { T.Codec.laws.unique };
+
+    ghost sound = { T.Codec.laws.sound };
+
+    fn from_cbor_value(alloc: Global, value: Value) -> Result<T> {
+        T::read(alloc, &mut Input::Tree(value))
+    }
+
+    fn to_cbor_value(self, alloc: Global) -> Result<Value> {
+        encode_to_value(alloc, &self)
+    }
+}
+
+impl<T: Codec> Lawful for T {
+    ghost laws = { T.Codec.laws };
+}
+
+impl<T: Codec> Encode for T {
+    ghost image = { λ t. T.shape.image (T.seen t) };
+
+    fn room(&self) -> usize {
+        self.size_hint()
+    }
+
+    fn encode(&self, alloc: Global, out: &mut Vec<u8>) -> Result<()> {
+        self.write(alloc, out)
+    }
+}
+
+impl<T: Codec> FromPull for T {
+    fn from_pull(alloc: Global, pull: Pull<'_>) -> Result<T> {
+        T::read(alloc, &mut Input::new(Source::Lent(pull)))
+    }
+
+    fn from_input(alloc: Global, input: &mut Input<'_>) -> Result<T> {
+        T::read(alloc, input)
+    }
+}
+
+impl<T: Codec> CborSerializable for T {
+    fn from_slice(alloc: Global, s: &[u8]) -> Result<T> {
+        read_slice(alloc, s)
+    }
+
+    fn to_vec(self, alloc: Global) -> Result<Vec<u8>> {
+        encode_to_vec(alloc, &self)
+    }
+}
+
+impl<T: TaggedCodec> TaggedCborSerializable for T {
+    ghost TAG = { T.TAG_NUMBER };
+
+    const TAG: u64 = T::TAG_NUMBER;
+
+    fn from_tagged_slice(alloc: Global, s: &[u8]) -> Result<T> {
+        read_tagged_slice(alloc, T::TAG_NUMBER, s)
+    }
+
+    fn to_tagged_vec(self, alloc: Global) -> Result<Vec<u8>> {
+        encode_to_tagged_vec(alloc, T::TAG_NUMBER, &self)
+    }
+}

@@ -1,0 +1,21 @@
+//! What every type of COSE stands on: errors, the traits by which types are read and written, and the shapes that say
+//! which items stand for which values.
+#![tactic(auto)]
+
+pub mod codec;
+pub mod error;
+pub mod laws;
+pub mod read;
+mod repeats;
+pub mod traits;
+pub mod util;
+pub mod write;
+
+pub use codec::{Codec, TaggedCodec};
+pub use coset_cbor as cbor;
+pub use coset_cbor::EndOfFile;
+pub use error::{CallError, CoseError, Refused, Result};
+pub use read::Source;
+pub use repeats::has_repeats;
+pub use traits::{AsCborValue, CborSerializable, FromPull, Lawful, TaggedCborSerializable};
+pub use write::Encode;

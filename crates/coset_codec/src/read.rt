@@ -1,0 +1,13 @@
+//! Reading: items where they stand, in a tree or in bytes that were checked as a whole, and lists and maps of them.
+
+mod forward;
+mod input;
+mod list;
+mod map;
+mod one_or_more;
+mod source;
+
+pub use input::{Input, InputItems, InputPairs};
+pub use list::{read_blamed_list, read_filled_list, read_list};
+pub use map::{Gather, read_map};
+pub use source::Source;

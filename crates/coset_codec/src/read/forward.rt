@@ -1,0 +1,237 @@
+//! What an item holds, read where it stands. Who reads it leaves the input just behind it, also where it is refused; but
+//! what answers `None` or `false` leaves it where it stood.
+
+ghost use Rattle.std.specs.Prelude.{◌≡◌, ◌≤◌, ◌⊎◌, false, None, IfErr, IfSome, IsTrue, OnOk, option_map, pos, string_bytes};
+ghost use Rattle.coset_value.specs.Item.{Item};
+ghost use Rattle.coset_value.specs.Parts.{as_integer};
+ghost use Rattle.coset_value.specs.View.{bits_of, view};
+ghost use Rattle.coset_cbor.specs.Scalars.{as_float};
+ghost use Rattle.coset_codec.specs.declared.error.CoseError.TheVariants.{DuplicateMapKey, OutOfMemory, OutOfRangeIntegerValue};
+ghost use Rattle.coset_codec.specs.Answers.{Reads};
+ghost use Rattle.coset_codec.specs.Errors.{IsUnexpected, UnlessMemory};
+ghost use Rattle.coset_codec.specs.Inputs.{State, state, GoesBehind, IsLent, ReadsAt, Stands, TakesNull, TakesPart, length_left};
+ghost use Rattle.coset_codec.specs.Kinds.{Says, SaysFilled, kind};
+ghost use Rattle.coset_codec.specs.Shape.{bstr, filled_bstr, int64, or_nil, tstr, uint};
+ghost use Rattle.coset_codec.specs.Sources.{Copies};
+
+use crate::error::{CoseError, Result};
+use crate::read::Input;
+use crate::read::source::{tree_bytes, tree_text};
+use crate::util::pull_type_error;
+use coset_cbor::value::{Float, Integer, Value};
+use std::alloc::Global;
+use std::mem;
+
+impl<'a> Input<'a> {
+    /// The number of an integer, or `None` of any other item. It takes no memory.
+    pub fn integer(&mut self) -> Option<Integer>
+        ensures shrinks { length_left (state self.new) ≤ length_left (state self.old) }
+        ensures strictly { IfSome result (λ _. GoesBehind (state self.old) (state self.new)) }
+        ensures stays { result ≡ None → state self.new ≡ state self.old }
+        ensures reads { (v : Item) (z : State) → Stands v (state self.old) z
+            → TakesPart as_integer (λ n. n) v (state self.old) (state self.new) z result }
+    {
+        match self {
+            Input::Tree(value) => match value.as_integer() {
+                Some(number) => {
+                    *value = Value::Null;
+                    Some(number)
+                }
+                None => None,
+            },
+            Input::Lent(cursor) => cursor.integer(),
+        }
+    }
+
+    /// The width and bits of a float, or `None` of any other item. It takes no memory.
+    pub fn float(&mut self) -> Option<Float>
+        ensures shrinks { length_left (state self.new) ≤ length_left (state self.old) }
+        ensures strictly { IfSome result (λ _. GoesBehind (state self.old) (state self.new)) }
+        ensures stays { result ≡ None → state self.new ≡ state self.old }
+        ensures reads { (v : Item) (z : State) → Stands v (state self.old) z
+            → TakesPart as_float bits_of v (state self.old) (state self.new) z result }
+    {
+        match self {
+            Input::Tree(value) => {
+                let Value::Float(float) = value else {
+                    return None;
+                };
+                let float = *float;
+                *value = Value::Null;
+                Some(float)
+            }
+            Input::Lent(cursor) => cursor.float(),
+        }
+    }
+
+    /// Whether the item is null. It takes no memory.
+    pub fn null(&mut self) -> bool
+        ensures shrinks { length_left (state self.new) ≤ length_left (state self.old) }
+        ensures strictly { IsTrue result → GoesBehind (state self.old) (state self.new) }
+        ensures stays { result ≡ false → state self.new ≡ state self.old }
+        ensures reads { (v : Item) (z : State) → Stands v (state self.old) z
+            → TakesNull v (state self.old) (state self.new) z result }
+    {
+        match self {
+            Input::Tree(value) => value.is_null(),
+            Input::Lent(cursor) => cursor.null(),
+        }
+    }
+
+    /// The error that tells of an item of another kind than `want`, which is passed. It takes no memory.
+    pub fn type_error(&mut self, want: &'static str) -> CoseError
+        ensures shrinks { length_left (state self.new) ≤ length_left (state self.old) }
+        ensures tells { ReadsAt (state self.old) (state self.new) (λ v. IsUnexpected result
+            × Says (kind v) want.now result) }
+    {
+        match self.take() {
+            Ok(source) => source.type_error(want),
+            Err(error) => error,
+        }
+    }
+
+    /// The error of a label that stands twice in a map; its second value, which stands there, is passed. It takes no
+    /// memory.
+    #[cold]
+    pub fn repeated(&mut self) -> CoseError
+        ensures shrinks { length_left (state self.new) ≤ length_left (state self.old) }
+        ensures passes { ReadsAt (state self.old) (state self.new) (λ v. result ≡ DuplicateMapKey) }
+        ensures tells { result ≡ DuplicateMapKey }
+    {
+        self.pass();
+        CoseError::DuplicateMapKey
+    }
+
+    /// The item as a value.
+    ///
+    /// # Errors
+    /// `OutOfMemory` alone.
+    pub fn value(&mut self, alloc: Global) -> Result<Value>
+        ensures shrinks { length_left (state self.new) ≤ length_left (state self.old) }
+        ensures strictly { OnOk result (GoesBehind (state self.old) (state self.new)) }
+        ensures reads { ReadsAt (state self.old) (state self.new) (λ v. Copies view v result) }
+        ensures memory { IfErr result (λ e. e ≡ OutOfMemory → IsLent (state self.old)) }
+    {
+        match self {
+            Input::Tree(value) => Ok(mem::replace(value, Value::Null)),
+            Input::Lent(cursor) => Ok(cursor.value(alloc)?),
+        }
+    }
+
+    /// The bytes of a byte string.
+    ///
+    /// # Errors
+    /// `OutOfMemory`, of lent bytes alone; `UnexpectedItem` with `want`.
+    pub fn bytes(&mut self, alloc: Global, want: &'static str) -> Result<Vec<u8>>
+        ensures shrinks { length_left (state self.new) ≤ length_left (state self.old) }
+        ensures strictly { OnOk result (GoesBehind (state self.old) (state self.new)) }
+        ensures reads { ReadsAt (state self.old) (state self.new)
+            (λ v. Reads bstr (λ b. b.items) v result) }
+        ensures says { ReadsAt (state self.old) (state self.new)
+            (λ v. IfErr result (λ e. UnlessMemory e (Says (kind v) want.now))) }
+        ensures memory { IfErr result (λ e. e ≡ OutOfMemory → IsLent (state self.old)) }
+    {
+        match self {
+            Input::Tree(value) => tree_bytes(mem::replace(value, Value::Null), want),
+            Input::Lent(cursor) => match cursor.bytes(alloc)? {
+                Some(bytes) => Ok(bytes),
+                None => Err(pull_type_error(cursor.take()?, want)),
+            },
+        }
+    }
+
+    /// The text of a text string.
+    ///
+    /// # Errors
+    /// `OutOfMemory`, of lent bytes alone; `UnexpectedItem` with `want`.
+    pub fn text(&mut self, alloc: Global, want: &'static str) -> Result<String>
+        ensures shrinks { length_left (state self.new) ≤ length_left (state self.old) }
+        ensures strictly { OnOk result (GoesBehind (state self.old) (state self.new)) }
+        ensures reads { ReadsAt (state self.old) (state self.new)
+            (λ v. Reads tstr string_bytes v result) }
+        ensures says { ReadsAt (state self.old) (state self.new)
+            (λ v. IfErr result (λ e. UnlessMemory e (Says (kind v) want.now))) }
+        ensures memory { IfErr result (λ e. e ≡ OutOfMemory → IsLent (state self.old)) }
+    {
+        match self {
+            Input::Tree(value) => tree_text(mem::replace(value, Value::Null), want),
+            Input::Lent(cursor) => match cursor.text(alloc)? {
+                Some(text) => Ok(text),
+                None => Err(pull_type_error(cursor.take()?, want)),
+            },
+        }
+    }
+
+    /// An integer of 64 bits with a sign. It takes no memory.
+    ///
+    /// # Errors
+    /// `OutOfRangeIntegerValue` of another integer; `UnexpectedItem` with `want`.
+    pub fn int64(&mut self, want: &'static str) -> Result<i64>
+        ensures shrinks { length_left (state self.new) ≤ length_left (state self.old) }
+        ensures strictly { OnOk result (GoesBehind (state self.old) (state self.new)) }
+        ensures reads { ReadsAt (state self.old) (state self.new)
+            (λ v. Reads int64 (λ n. n) v result) }
+        ensures says { ReadsAt (state self.old) (state self.new) (λ v. IfErr result
+            (λ e. (e ≡ OutOfRangeIntegerValue) ⊎ Says (kind v) want.now e)) }
+    {
+        match self.integer() {
+            Some(number) => Ok(i64::try_from(number)?),
+            None => Err(self.type_error(want)),
+        }
+    }
+
+    /// An integer that isn't negative. It takes no memory.
+    ///
+    /// # Errors
+    /// `OutOfRangeIntegerValue` of a negative one; `UnexpectedItem` with `want`.
+    pub fn uint(&mut self, want: &'static str) -> Result<u64>
+        ensures shrinks { length_left (state self.new) ≤ length_left (state self.old) }
+        ensures strictly { OnOk result (GoesBehind (state self.old) (state self.new)) }
+        ensures reads { ReadsAt (state self.old) (state self.new)
+            (λ v. Reads uint (λ n. pos n) v result) }
+        ensures says { ReadsAt (state self.old) (state self.new) (λ v. IfErr result
+            (λ e. (e ≡ OutOfRangeIntegerValue) ⊎ Says (kind v) want.now e)) }
+    {
+        match self.integer() {
+            Some(number) => Ok(u64::try_from(number)?),
+            None => Err(self.type_error(want)),
+        }
+    }
+
+    /// The bytes of a byte string, or `None` of null.
+    ///
+    /// # Errors
+    /// `OutOfMemory`; `UnexpectedItem` with `want`.
+    pub fn bytes_or_nil(&mut self, alloc: Global, want: &'static str) -> Result<Option<Vec<u8>>>
+        ensures shrinks { length_left (state self.new) ≤ length_left (state self.old) }
+        ensures strictly { OnOk result (GoesBehind (state self.old) (state self.new)) }
+        ensures reads { ReadsAt (state self.old) (state self.new)
+            (λ v. Reads (or_nil bstr) (λ o. option_map (λ b. b.items) o) v result) }
+        ensures says { ReadsAt (state self.old) (state self.new)
+            (λ v. IfErr result (λ e. UnlessMemory e (Says (kind v) want.now))) }
+    {
+        if self.null() {
+            return Ok(None);
+        }
+        Ok(Some(self.bytes(alloc, want)?))
+    }
+
+    /// The bytes of a byte string that isn't empty.
+    ///
+    /// # Errors
+    /// `OutOfMemory`; `UnexpectedItem`, also of an empty one.
+    pub fn filled_bytes(&mut self, alloc: Global) -> Result<Vec<u8>>
+        ensures shrinks { length_left (state self.new) ≤ length_left (state self.old) }
+        ensures strictly { OnOk result (GoesBehind (state self.old) (state self.new)) }
+        ensures reads { ReadsAt (state self.old) (state self.new)
+            (λ v. Reads filled_bstr (λ b. b.items) v result) }
+        ensures says { ReadsAt (state self.old) (state self.new)
+            (λ v. IfErr result (λ e. UnlessMemory e (SaysFilled v))) }
+    {
+        let bytes = self.bytes(alloc, "bstr")?;
+        if bytes.is_empty() {
+            return Err(CoseError::UnexpectedItem("empty bstr", "non-empty bstr"));
+        }
+        Ok(bytes)
+    }
+}

@@ -1,0 +1,126 @@
+//! Lists, read member by member.
+
+ghost use Rattle.std.specs.Prelude.{◌≡◌, ◌≢◌, ◌≤◌, Some, None, map, IfErr, OnOk};
+ghost use Rattle.coset_value.specs.Item.{Items, no_items};
+ghost use Rattle.coset_value.specs.Parts.{as_array};
+ghost use Rattle.coset_codec.specs.declared.error.CoseError.TheVariants.{OutOfMemory};
+ghost use Rattle.coset_codec.specs.Answers.{Reads};
+ghost use Rattle.coset_codec.specs.Lists.{ReadsEach};
+ghost use Rattle.coset_codec.specs.Errors.{IsUnexpected, UnlessMemory};
+ghost use Rattle.coset_codec.specs.Inputs.{State, state, AreWithin, GoesBehind, ReadsAt, length_left};
+ghost use Rattle.coset_codec.specs.Kinds.{Says, kind};
+ghost use Rattle.coset_codec.specs.Shape.{blamed, list_of, some_of};
+
+use crate::error::{CoseError, Result};
+use crate::read::{Input, InputItems};
+use crate::traits::FromPull;
+use std::alloc::Global;
+
+/// Reads the members that are left, from the first on, as far as the first that has a fault.
+fn read_each<T: FromPull + Drop>(
+    alloc: Global,
+    members: &mut InputItems,
+    input: &mut Input<'_>,
+) -> Result<Vec<T>>
+    ensures shrinks { length_left (state input.new) ≤ length_left (state input.old) }
+    ensures reads { (vs : Items) (z : State) → AreWithin members.old vs (state input.old) z
+        → ((left : Items) × AreWithin members.new left (state input.new) z)
+        × ReadsEach T.shape T.seen vs result }
+{
+    let mut all = Vec::new(alloc);
+    while members.next(input) {
+        all.push(T::from_input(alloc, input)?)?;
+    }
+    Ok(all)
+}
+
+/// Reads an array whose members are of one type, from the first on.
+///
+/// # Errors
+/// `OutOfMemory`; `UnexpectedItem` with `want` where the item is no array; or the fault of the first member that has
+/// one.
+pub fn read_list<T: FromPull + Drop>(
+    alloc: Global,
+    input: &mut Input<'_>,
+    want: &'static str,
+) -> Result<Vec<T>>
+    ensures shrinks { length_left (state input.new) ≤ length_left (state input.old) }
+    ensures strictly { OnOk result (GoesBehind (state input.old) (state input.new)) }
+    ensures reads { ReadsAt (state input.old) (state input.new)
+        (λ v. Reads (list_of T.shape) (λ all. map T.seen all.items) v result) }
+    ensures says { ReadsAt (state input.old) (state input.new)
+        (λ v. IfErr result (λ e. as_array v ≡ None → Says (kind v) want.now e)) }
+{
+    let mut members = input.enter_array(want)?;
+    let all = read_each(alloc, &mut members, input);
+    members.finish(input);
+    all
+}
+
+/// Reads an array whose members are of one type, from the first on. Whatever is at fault with a member, it is
+/// `UnexpectedItem` with the two texts of `blame`.
+///
+/// # Errors
+/// `OutOfMemory`; or `UnexpectedItem`, with `want` where the item is no array.
+pub fn read_blamed_list<T: FromPull + Drop>(
+    alloc: Global,
+    input: &mut Input<'_>,
+    want: &'static str,
+    blame: (&'static str, &'static str),
+) -> Result<Vec<T>>
+    ensures shrinks { length_left (state input.new) ≤ length_left (state input.old) }
+    ensures reads { ReadsAt (state input.old) (state input.new)
+        (λ v. Reads (list_of (blamed IsUnexpected T.shape)) (λ all. map T.seen all.items) v
+        result) }
+    ensures says { ReadsAt (state input.old) (state input.new)
+        (λ v. IfErr result (λ e. as_array v ≡ None → Says (kind v) want.now e)) }
+    ensures blames { ReadsAt (state input.old) (state input.new)
+        (λ v. IfErr result (λ e. as_array v ≢ None
+        → UnlessMemory e (Says blame.entry.0.now blame.entry.1.now))) }
+{
+    let mut members = input.enter_array(want)?;
+    let all = read_each(alloc, &mut members, input);
+    members.finish(input);
+    match all {
+        Ok(all) => Ok(all),
+        Err(error) => Err(blamed_error(error, blame)),
+    }
+}
+
+/// The error with these two texts, in place of one that tells of another fault.
+fn blamed_error(error: CoseError, blame: (&'static str, &'static str)) -> CoseError
+    ensures memory { error ≡ OutOfMemory → result ≡ OutOfMemory }
+    ensures blames { UnlessMemory error (λ e. IsUnexpected result
+        × Says blame.entry.0.now blame.entry.1.now result) }
+{
+    match error {
+        CoseError::OutOfMemory => CoseError::OutOfMemory,
+        _ => CoseError::UnexpectedItem(blame.0, blame.1),
+    }
+}
+
+/// Reads such an array that isn't empty. An empty one is `UnexpectedItem` with these two texts.
+///
+/// # Errors
+/// The same as [`read_list`].
+pub fn read_filled_list<T: FromPull + Drop>(
+    alloc: Global,
+    input: &mut Input<'_>,
+    want: &'static str,
+    empty: (&'static str, &'static str),
+) -> Result<Vec<T>>
+    ensures shrinks { length_left (state input.new) ≤ length_left (state input.old) }
+    ensures reads { ReadsAt (state input.old) (state input.new)
+        (λ v. Reads (some_of T.shape) (λ all. map T.seen all.items) v result) }
+    ensures says { ReadsAt (state input.old) (state input.new)
+        (λ v. IfErr result (λ e. as_array v ≡ None → Says (kind v) want.now e)) }
+    ensures empty { ReadsAt (state input.old) (state input.new)
+        (λ v. IfErr result (λ e. as_array v ≡ Some no_items
+        → UnlessMemory e (Says empty.entry.0.now empty.entry.1.now))) }
+{
+    let all = read_list(alloc, input, want)?;
+    if all.is_empty() {
+        return Err(CoseError::UnexpectedItem(empty.0, empty.1));
+    }
+    Ok(all)
+}

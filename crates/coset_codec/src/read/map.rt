@@ -1,0 +1,144 @@
+//! Maps of labels, read pair by pair (RFC 8152, section 1.4).
+
+ghost use Rattle.std.specs.Prelude.{◌≡◌, ◌≤◌, ◌<◌, codes, ◌⊎◌, List, [], false, true, not, None, Ok, Err, IfOk, IfErr, IsSome, OnOk, OnErr};
+ghost use Rattle.std.specs.Map.{keys_of};
+ghost use Rattle.coset_value.specs.Item.{Item, Pairs};
+ghost use Rattle.coset_value.specs.Parts.{as_map};
+ghost use Rattle.coset_codec.specs.declared.error.CoseError.TheVariants.{OutOfMemory, DuplicateMapKey};
+ghost use Rattle.coset_codec.specs.Errors.{UnlessMemory};
+ghost use Rattle.coset_codec.specs.Gathering.{ReadsPairs};
+ghost use Rattle.coset_codec.specs.Inputs.{State, state, GoesBehind, NextsKey, PairsWithin, ReadsAt, length_left, pairs_turns};
+ghost use Rattle.coset_codec.specs.Kinds.{Says, kind};
+ghost use Rattle.coset_codec.specs.Maps.{Names, Fields, Adds, Refuses, Walks, are_distinct, labelled};
+ghost use Rattle.coset_codec.specs.MapLaws.{LawfulNames, LawfulFields};
+
+use crate::error::{CoseError, Result};
+use crate::read::{Input, InputPairs};
+use std::alloc::Global;
+
+/// What the pairs of a map make that were read so far: the fields that some labels stand for, and all other pairs in
+/// order.
+pub trait Gather: Sized {
+    /// A label.
+    type Label: Drop;
+
+    /// What contracts see of a label, and of the fields.
+    ghost Name: { Type 0 };
+
+    ghost Got: { Type 0 };
+
+    /// Which keys are labels, and the fields.
+    ghost names: { Names Name };
+
+    ghost fields: { Fields Name Got };
+
+    ghost named: { Self.Label → Name };
+
+    /// The fields, and the rest by label.
+    ghost seen: { Self → Got × List (Name × Item) };
+
+    /// The next label, whose value then stands at the input; or `None` where no pair is left.
+    ///
+    /// # Errors
+    /// The same as [`InputPairs::next_key`].
+    fn next_label(
+        alloc: Global,
+        pairs: &mut InputPairs,
+        input: &mut Input<'_>,
+    ) -> Result<Option<Self::Label>>
+        ensures shrinks { length_left (state input.new) ≤ length_left (state input.old) }
+        ensures turns { IfOk result (λ o. IsSome o → pairs_turns pairs.new (state input.new) <
+            pairs_turns pairs.old (state input.old)) }
+        ensures nexts { (ps : Pairs) (z : State) → PairsWithin pairs.old ps (state input.old) z
+            → NextsKey names.shape named ps (state input.new) z pairs.new result };
+
+    /// Takes one more value, by its label, and goes behind it. Whether a label of the rest repeats isn't asked.
+    ///
+    /// # Errors
+    /// `OutOfMemory`; `DuplicateMapKey` where a field has a value already; or a fault of its value. What was gathered
+    /// is then as before.
+    fn add(&mut self, alloc: Global, label: Self::Label, input: &mut Input<'_>) -> Result<()>
+        ensures shrinks { length_left (state input.new) ≤ length_left (state input.old) }
+        ensures takes { ReadsAt (state input.old) (state input.new) (λ v. OnOk result
+            (Adds names fields (named label) v (seen self.old) (seen self.new))) }
+        ensures refused { ReadsAt (state input.old) (state input.new) (λ v. IfErr result
+            (λ e. UnlessMemory e (Refuses names fields (named label) v (seen self.old)))) }
+        ensures kept { OnErr result (seen self.new ≡ seen self.old) };
+
+    /// Whether a label of the rest stands twice.
+    ///
+    /// # Errors
+    /// `OutOfMemory` alone.
+    fn repeats(&self, alloc: Global) -> Result<bool>
+        ensures repeats { IfOk result (λ b. b
+            ≡ not (are_distinct names.same (keys_of (seen self.now).1))) }
+        ensures memory { IfErr result (λ e. e ≡ OutOfMemory) };
+
+    ghost lawful_names: { LawfulNames Name names };
+
+    ghost lawful_fields: { LawfulFields Name Got names fields };
+}
+
+/// What to answer once pairs were read: a label of the rest that repeats comes before the fault behind it.
+///
+/// # Errors
+/// `OutOfMemory`; `DuplicateMapKey`; or the fault that was found.
+fn first_fault<G: Gather>(alloc: Global, so_far: &G, all: Result<()>) -> Result<()>
+    ensures read { OnOk result ((are_distinct G.names.same (keys_of (G.seen so_far.now).1) ≡ true)
+        × (all ≡ Ok tt)) }
+    ensures refused { IfErr result (λ e. UnlessMemory e (λ f. (all ≡ Err f)
+        ⊎ ((f ≡ DuplicateMapKey)
+        × (are_distinct G.names.same (keys_of (G.seen so_far.now).1) ≡ false)))) }
+{
+    if so_far.repeats(alloc)? {
+        return Err(CoseError::DuplicateMapKey);
+    }
+    all
+}
+
+/// Reads the pairs that are left. Where one is at fault, it is passed, and those before it stay gathered.
+///
+/// # Errors
+/// `OutOfMemory`; or the fault of the first pair that has one: of its key, then of its value.
+fn read_pairs<G: Gather>(
+    alloc: Global,
+    pairs: &mut InputPairs,
+    input: &mut Input<'_>,
+    so_far: &mut G,
+) -> Result<()>
+    ensures shrinks { length_left (state input.new) ≤ length_left (state input.old) }
+    ensures reads { (all ps : Pairs) (z : State)
+        → Walks _ _ G.names G.fields all (G.seen so_far.old) ps
+        → PairsWithin pairs.old ps (state input.old) z
+        → ReadsPairs G.names G.fields all (G.seen so_far.new) (state input.new) z pairs.new result }
+{
+    while let Some(label) = G::next_label(alloc, pairs, input)? {
+        so_far.add(alloc, label, input)?;
+    }
+    Ok(())
+}
+
+/// Reads a map into what gathers it, from the first pair on, and leaves the input behind it. Where a pair is at fault, those
+/// before it stay gathered.
+///
+/// # Errors
+/// `OutOfMemory`; `UnexpectedItem` where the item is no map; or the fault of the first pair that has one: of its
+/// key, then
+/// a label that stood before, then of its value.
+pub fn read_map<G: Gather>(alloc: Global, input: &mut Input<'_>, so_far: &mut G) -> Result<()>
+    requires fields { G.fields.describes [] (G.seen so_far.old).0 }
+    requires rest { (G.seen so_far.old).1 ≡ [] }
+    ensures shrinks { length_left (state input.new) ≤ length_left (state input.old) }
+    ensures strictly { OnOk result (GoesBehind (state input.old) (state input.new)) }
+    ensures read { ReadsAt (state input.old) (state input.new) (λ v. OnOk result
+        ((labelled G.names G.fields).describes v (G.seen so_far.new))) }
+    ensures refused { ReadsAt (state input.old) (state input.new) (λ v. IfErr result
+        (λ e. UnlessMemory e ((labelled G.names G.fields).faults v))) }
+    ensures says { ReadsAt (state input.old) (state input.new) (λ v. IfErr result
+        (λ e. as_map v ≡ None → Says (kind v) (codes "map") e)) }
+{
+    let mut pairs = input.enter_map()?;
+    let all = read_pairs(alloc, &mut pairs, input, so_far);
+    pairs.finish(input);
+    first_fault(alloc, so_far, all)
+}

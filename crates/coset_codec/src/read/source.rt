@@ -1,0 +1,55 @@
+//! One item, given in one of two ways: as a value, or as bytes that are lent.
+
+ghost use Rattle.std.specs.Prelude.{string_bytes};
+ghost use Rattle.coset_value.specs.Parts.{as_bytes, as_text};
+ghost use Rattle.coset_value.specs.View.{view};
+ghost use Rattle.coset_codec.specs.Errors.{IsUnexpected};
+ghost use Rattle.coset_codec.specs.Kinds.{TriesAs, Says, kind};
+ghost use Rattle.coset_codec.specs.Sources.{source_item};
+
+use crate::error::{CoseError, Result};
+use crate::util::{cbor_type_error, pull_type_error, type_error};
+use coset_cbor::de::Pull;
+use coset_cbor::value::Value;
+
+/// One item, read once: a tree that is used up, whose strings are moved, or bytes that are lent, whose strings are
+/// copied as they are read.
+#[derive(Drop)]
+pub enum Source<'a> {
+    /// A value.
+    Tree(Value),
+    /// A checked item in bytes.
+    Lent(Pull<'a>),
+}
+
+/// The bytes of a value that is a byte string.
+pub(crate) fn tree_bytes(value: Value, want: &'static str) -> Result<Vec<u8>>
+    ensures { TriesAs as_bytes (λ b. b.items) want.now (view value) result }
+{
+    match value {
+        Value::Bytes(bytes) => Ok(bytes),
+        other => cbor_type_error(&other, want),
+    }
+}
+
+/// The text of a value that is a text string.
+pub(crate) fn tree_text(value: Value, want: &'static str) -> Result<String>
+    ensures { TriesAs as_text string_bytes want.now (view value) result }
+{
+    match value {
+        Value::Text(text) => Ok(text),
+        other => cbor_type_error(&other, want),
+    }
+}
+
+impl Source<'_> {
+    /// The error that tells of an item of another kind than `want`.
+    pub fn type_error(&self, want: &'static str) -> CoseError
+        ensures { IsUnexpected result × Says (kind (source_item self.now)) want.now result }
+    {
+        match self {
+            Source::Tree(value) => type_error(value, want),
+            Source::Lent(pull) => pull_type_error(*pull, want),
+        }
+    }
+}

@@ -1,0 +1,267 @@
+//! How a type is read from CBOR and written to it.
+
+ghost use Rattle.std.specs.Prelude.{◌≡◌, ◌≤◌, ℕ, IfErr, OnOk};
+ghost use Rattle.coset_value.specs.Item.{Item};
+ghost use Rattle.coset_value.specs.View.{view};
+ghost use Rattle.coset_cbor.specs.Pulls.{pull_item};
+ghost use Rattle.coset_codec.specs.declared.error.CoseError.{CoseError};
+ghost use Rattle.coset_codec.specs.declared.error.CoseError.TheVariants.{OutOfMemory};
+ghost use Rattle.coset_codec.specs.Answers.{Reads, Images, Writes, ReadsSlice, ReadsWhole, Untags, AllocatesForItems, RefusesSlice};
+ghost use Rattle.coset_codec.specs.Inputs.{GoesBehind, ReadsAt, length_left, state};
+ghost use Rattle.coset_codec.specs.Shape.{Shape, any, tagged};
+ghost use Rattle.coset_codec.specs.ShapeLaws.{Lawful as LawfulShape};
+
+use crate::error::{CoseError, Result};
+use crate::read::{Input, Source};
+use crate::util::{ValueTryAs, pull_type_error};
+use coset_cbor::de::Pull;
+use coset_cbor::laws;
+use coset_cbor::ser::write_value;
+use coset_cbor::value::Value;
+use std::alloc::Global;
+
+/// A type whose values stand for items of CBOR.
+///
+/// An implementer says how contracts see its values (`Seen`, `seen`) and its shape: which items describe which values,
+/// what a value is written as, and which errors tell of a fault in an item. It proves that an item describes at most
+/// one value, and none where a fault stands in it.
+pub trait AsCborValue: Sized {
+    /// What contracts see of a value: all of it but where it lies in memory.
+    ghost Seen: { Type 0 };
+
+    ghost seen: { Self → Seen };
+
+    /// Which items stand for which values, what a value is written as, and what may be wrong with an item.
+    ghost shape: { Shape Seen };
+
+    /// Reads a value from an item.
+    ///
+    /// # Errors
+    /// `OutOfMemory`, or a fault that stands in the item; the item then describes no value.
+    fn from_cbor_value(alloc: Global, value: Value) -> Result<Self>
+        ensures { Reads shape seen (view value) result };
+
+    /// Makes the item that the value is written as.
+    ///
+    /// # Errors
+    /// `OutOfMemory`, or `DuplicateMapKey`, only where the value has no such item.
+    fn to_cbor_value(self, alloc: Global) -> Result<Value>
+        ensures { Images (shape.image (seen self)) view result };
+
+    /// An item describes at most one value.
+    ghost unique: { (v : Item) (x y : Seen) → shape.describes v x → shape.describes v y → x ≡ y };
+
+    /// Where a fault stands in an item, it describes no value.
+    ghost sound: { (v : Item) (x : Seen) (e : CoseError) → shape.describes v x → shape.faults v e
+        → ⊥ };
+}
+
+/// The one item that the bytes are, lent. It takes no memory.
+///
+/// # Errors
+/// Why they aren't one item within 256 levels (`DecodeFailed`), or that others follow it (`ExtraneousData`).
+pub fn whole_item(s: &[u8]) -> Result<Pull<'_>>
+    ensures whole { ReadsWhole pull_item s.now result }
+    ensures memory { IfErr result (λ e. e ≡ OutOfMemory → ⊥) }
+{
+    laws::one_item();
+    let (pull, rest) = Pull::new(s)?;
+    if !rest.is_empty() {
+        return Err(CoseError::ExtraneousData);
+    }
+    Ok(pull)
+}
+
+/// The one item that the bytes are.
+fn whole_value(alloc: Global, s: &[u8]) -> Result<Value>
+    ensures whole { ReadsWhole view s.now result }
+    ensures memory { AllocatesForItems s.now result }
+{
+    Ok(whole_item(s)?.to_value(alloc)?)
+}
+
+/// The shortest encoding of an item (RFC 8949, section 4.2.1).
+fn encoding_of(alloc: Global, value: &Value) -> Result<Vec<u8>>
+    ensures { Writes (Some (view value.now)) (λ b. b.items) result }
+{
+    let mut encoded = Vec::new(alloc);
+    write_value(value, &mut encoded)?;
+    Ok(encoded)
+}
+
+/// Reading from bytes, and writing to them.
+pub trait CborSerializable: AsCborValue {
+    /// Reads a value from the one item that the bytes are.
+    ///
+    /// # Errors
+    /// The first fault found: the bytes aren't an item within 256 levels (`DecodeFailed`), others follow it
+    /// (`ExtraneousData`), or a fault of the type stands in it; the bytes then describe no value. Or `OutOfMemory`, only
+    /// where the bytes are one item: others are refused without asking for memory.
+    fn from_slice(alloc: Global, s: &[u8]) -> Result<Self>
+        ensures read { ReadsSlice Self.shape Self.seen s.now result }
+        ensures refused { RefusesSlice Self.shape s.now result }
+        ensures memory { AllocatesForItems s.now result }
+    {
+        Self::from_cbor_value(alloc, whole_value(alloc, s)?)
+    }
+
+    /// Writes the value as the shortest encoding of its item (RFC 8949, section 4.2.1).
+    ///
+    /// # Errors
+    /// `OutOfMemory`, or `DuplicateMapKey`, only where the value has no item.
+    fn to_vec(self, alloc: Global) -> Result<Vec<u8>>
+        ensures { Writes (Self.shape.image (Self.seen self)) (λ b. b.items) result }
+    {
+        let value = self.to_cbor_value(alloc)?;
+        encoding_of(alloc, &value)
+    }
+}
+
+/// A type whose shape keeps the three laws: an item describes at most one value; what an item describes is written as an
+/// item that describes the same value and is no deeper; and where a fault stands in an item, it describes no value.
+///
+/// An implementer proves them in one line, from the laws of the parts that its shape is made of. What follows of each
+/// such type is said by the functions of [`laws`](crate::laws) over this trait.
+pub trait Lawful: AsCborValue {
+    /// The laws of its shape.
+    ghost laws: { LawfulShape Self.Seen Self.shape };
+}
+
+/// Reading and writing under a tag of the type's own (RFC 8949, section 3.4).
+pub trait TaggedCborSerializable: AsCborValue {
+    ghost TAG: { ℕ };
+
+    /// The number of the tag.
+    const TAG: u64;
+
+    /// Reads a value from the one item that the bytes are, a tag of this number on the item of the value.
+    ///
+    /// # Errors
+    /// The same as [`CborSerializable::from_slice`]; an item without a tag, or with another, is `UnexpectedItem`.
+    fn from_tagged_slice(alloc: Global, s: &[u8]) -> Result<Self>
+        ensures read { ReadsSlice (tagged TAG Self.shape) Self.seen s.now result }
+        ensures refused { RefusesSlice (tagged TAG Self.shape) s.now result }
+        ensures memory { AllocatesForItems s.now result }
+    {
+        let (number, value) = whole_value(alloc, s)?.try_as_tag()?;
+        if number != Self::TAG {
+            return Err(CoseError::UnexpectedItem("tag", "other tag"));
+        }
+        Self::from_cbor_value(alloc, Box::into_inner(value))
+    }
+
+    /// Writes the value as the shortest encoding of its item under the tag (RFC 8949, section 4.2.1).
+    ///
+    /// # Errors
+    /// The same as [`CborSerializable::to_vec`].
+    fn to_tagged_vec(self, alloc: Global) -> Result<Vec<u8>>
+        ensures { Writes ((tagged TAG Self.shape).image (Self.seen self)) (λ b. b.items) result }
+    {
+        let value = self.to_cbor_value(alloc)?;
+        encoding_of(alloc, &Value::Tag(Self::TAG, Box::new(alloc, value)?))
+    }
+}
+
+/// A value is read and written as it is.
+impl AsCborValue for Value {
+    ghost use Rattle.coset_codec.specs.ShapeLaws.{any_laws};
+
+    ghost Seen = { Item };
+
+    ghost seen = { view };
+
+    ghost shape = { any };
+
+    ghost unique = { any_laws.unique };
+
+    ghost sound = { any_laws.sound };
+
+    fn from_cbor_value(_alloc: Global, value: Value) -> Result<Value> {
+        Ok(value)
+    }
+
+    fn to_cbor_value(self, _alloc: Global) -> Result<Value> {
+        Ok(self)
+    }
+}
+
+impl CborSerializable for Value {}
+
+impl Lawful for Value {
+    ghost use Rattle.coset_codec.specs.ShapeLaws.{any_laws};
+
+    ghost laws = { any_laws };
+}
+
+/// A type that is read straight from lent bytes, without a value in between.
+pub trait FromPull: AsCborValue {
+    /// Reads a value from a lent item.
+    ///
+    /// # Errors
+    /// The same as [`AsCborValue::from_cbor_value`].
+    fn from_pull(alloc: Global, pull: Pull<'_>) -> Result<Self>
+        ensures { Reads Self.shape Self.seen (pull_item pull.entry) result };
+
+    /// Reads a value from the item that stands at the input, and leaves that just behind it, also where it is refused.
+    ///
+    /// # Errors
+    /// The same as [`AsCborValue::from_cbor_value`].
+    fn from_input(alloc: Global, input: &mut Input<'_>) -> Result<Self>
+        ensures shrinks { length_left (state input.new) ≤ length_left (state input.old) }
+        ensures strictly { OnOk result (GoesBehind (state input.old) (state input.new)) }
+        ensures reads { ReadsAt (state input.old) (state input.new)
+            (λ v. Reads Self.shape Self.seen v result) }
+    {
+        match input.take()? {
+            Source::Tree(value) => Self::from_cbor_value(alloc, value),
+            Source::Lent(pull) => Self::from_pull(alloc, pull),
+        }
+    }
+}
+
+impl FromPull for Value {
+    fn from_pull(alloc: Global, pull: Pull<'_>) -> Result<Value> {
+        Ok(pull.to_value(alloc)?)
+    }
+
+    fn from_input(alloc: Global, input: &mut Input<'_>) -> Result<Value> {
+        input.value(alloc)
+    }
+}
+
+/// What `from_slice` is made of for a type that is read from lent bytes. The answers are those of
+/// [`CborSerializable::from_slice`].
+///
+/// # Errors
+/// The same as [`CborSerializable::from_slice`].
+pub fn read_slice<T: FromPull>(alloc: Global, s: &[u8]) -> Result<T>
+    ensures read { ReadsSlice T.shape T.seen s.now result }
+    ensures refused { RefusesSlice T.shape s.now result }
+    ensures memory { AllocatesForItems s.now result }
+{
+    T::from_pull(alloc, whole_item(s)?)
+}
+
+/// The item under the tag of that number.
+fn item_under_tag(number: u64, pull: Pull<'_>) -> Result<Pull<'_>>
+    ensures { Untags number (pull_item pull.entry) (λ p. pull_item p) result }
+{
+    match pull.tag() {
+        Some((found, inner)) if found == number => Ok(inner),
+        Some(_) => Err(CoseError::UnexpectedItem("tag", "other tag")),
+        None => Err(pull_type_error(pull, "tag")),
+    }
+}
+
+/// What `from_tagged_slice` is made of for a type that is read from lent bytes, under the tag of that number. The
+/// answers are those of [`TaggedCborSerializable::from_tagged_slice`].
+///
+/// # Errors
+/// The same as [`TaggedCborSerializable::from_tagged_slice`].
+pub fn read_tagged_slice<T: FromPull>(alloc: Global, number: u64, s: &[u8]) -> Result<T>
+    ensures read { ReadsSlice (tagged number T.shape) T.seen s.now result }
+    ensures refused { RefusesSlice (tagged number T.shape) s.now result }
+    ensures memory { AllocatesForItems s.now result }
+{
+    T::from_pull(alloc, item_under_tag(number, whole_item(s)?)?)
+}

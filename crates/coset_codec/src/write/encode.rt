@@ -1,0 +1,296 @@
+//! Values written straight into bytes: each type's one writer.
+
+ghost use Rattle.std.specs.Prelude.{length, Option, Some, option_map, OnOk, IfErr};
+ghost use Rattle.coset_value.specs.Item.{Item, array, item, bytes, tag};
+ghost use Rattle.coset_value.specs.View.{view};
+ghost use Rattle.coset_codec.specs.Answers.{Images, Writes};
+ghost use Rattle.coset_codec.specs.Encoding.{AppendsPlaces, Encodes, HasNoImage, two_places, three_places, four_places, five_places};
+ghost use Rattle.coset_codec.specs.Shape.{images};
+
+use crate::error::Result;
+use coset_cbor::de::decode_encoded;
+use coset_cbor::laws;
+use coset_cbor::ser::{
+    write_array_head, write_bytes, write_integer, write_tag_head, write_text, write_value,
+};
+use coset_cbor::value::{Integer, Value};
+use std::alloc::Global;
+
+/// No head is longer (RFC 8949, section 3).
+const LONGEST_HEAD: usize = 9;
+
+/// A type that is written straight into bytes, without a value in between. From its one writer follow all that
+/// [`AsCborValue`](crate::AsCborValue) and [`CborSerializable`](crate::CborSerializable) write.
+pub trait Encode {
+    /// The item that a value is written as, where there is one.
+    ghost image: { Self → Option Item };
+
+    /// About as many bytes as the encoding takes: so many are reserved before it is written. It is a hint, of which
+    /// nothing is asked: 0 is right too, and what is written is the same.
+    fn room(&self) -> usize {
+        0
+    }
+
+    /// Appends the shortest encoding of the value's item (RFC 8949, section 4.2.1).
+    ///
+    /// # Errors
+    /// `OutOfMemory`, or `DuplicateMapKey`, only where the value has no item. What was appended before isn't taken
+    /// back.
+    fn encode(&self, alloc: Global, out: &mut Vec<u8>) -> Result<()>
+        ensures { Encodes (image self.now) out.old.items out.new.items result };
+}
+
+impl Encode for Value {
+    ghost image = { λ v. Some (view v) };
+
+    fn encode(&self, _alloc: Global, out: &mut Vec<u8>) -> Result<()> {
+        laws::shortest_is_in_range();
+        laws::least_heads_are_shortest();
+        Ok(write_value(self, out)?)
+    }
+}
+
+/// A number is an integer.
+impl Encode for i64 {
+    ghost use Rattle.coset_value.specs.Item.{integer};
+
+    ghost image = { λ n. Some (integer n) };
+
+    fn room(&self) -> usize {
+        LONGEST_HEAD
+    }
+
+    fn encode(&self, _alloc: Global, out: &mut Vec<u8>) -> Result<()> {
+        Ok(write_integer(Integer::from(*self), out)?)
+    }
+}
+
+/// A number without a sign is an integer.
+impl Encode for u64 {
+    ghost use Rattle.coset_value.specs.Item.{integer};
+    ghost use Rattle.std.specs.Prelude.{pos};
+
+    ghost image = { λ n. Some (integer (pos n)) };
+
+    fn room(&self) -> usize {
+        LONGEST_HEAD
+    }
+
+    fn encode(&self, _alloc: Global, out: &mut Vec<u8>) -> Result<()> {
+        Ok(write_integer(Integer::from(*self), out)?)
+    }
+}
+
+/// A `String` is a text string.
+impl Encode for String {
+    ghost use Rattle.coset_value.specs.Item.{text};
+    ghost use Rattle.std.specs.Prelude.{string_bytes};
+
+    ghost image = { λ s. Some (text (string_bytes s)) };
+
+    fn room(&self) -> usize {
+        self.len().saturating_add(LONGEST_HEAD)
+    }
+
+    fn encode(&self, _alloc: Global, out: &mut Vec<u8>) -> Result<()> {
+        Ok(write_text(self, out)?)
+    }
+}
+
+/// Bytes are a byte string.
+impl Encode for Vec<u8> {
+    ghost image = { λ b. Some (bytes b.items) };
+
+    fn room(&self) -> usize {
+        self.len().saturating_add(LONGEST_HEAD)
+    }
+
+    fn encode(&self, _alloc: Global, out: &mut Vec<u8>) -> Result<()> {
+        Ok(write_bytes(self, out)?)
+    }
+}
+
+/// Bytes that may be missing are a byte string or null.
+impl Encode for Option<Vec<u8>> {
+    ghost use Rattle.coset_codec.specs.Shape.{bstr, or_nil};
+
+    ghost image = { λ o. (or_nil bstr).image (option_map (λ b. b.items) o) };
+
+    fn room(&self) -> usize {
+        match self {
+            Some(content) => content.room(),
+            None => 1,
+        }
+    }
+
+    fn encode(&self, alloc: Global, out: &mut Vec<u8>) -> Result<()> {
+        match self {
+            Some(content) => content.encode(alloc, out),
+            None => Value::Null.encode(alloc, out),
+        }
+    }
+}
+
+/// The array of these, in order.
+#[derive(Clone, Copy)]
+pub struct Array<'a, T>(pub &'a [T]);
+
+impl<T: Encode> Encode for Array<'_, T> {
+    ghost image = { λ l. option_map array (images T.image l.0.now) };
+
+    fn room(&self) -> usize {
+        let mut room = LONGEST_HEAD;
+        for member in self.0 {
+            room = room.saturating_add(member.room());
+        }
+        room
+    }
+
+    fn encode(&self, alloc: Global, out: &mut Vec<u8>) -> Result<()> {
+        write_array_head(self.0.len(), out)?;
+        encode_members(alloc, self.0, out)
+    }
+}
+
+/// Appends these, one after the other.
+fn encode_members<T: Encode>(alloc: Global, members: &[T], out: &mut Vec<u8>) -> Result<()>
+    ensures ok { OnOk result (AppendsPlaces (images T.image members.now) (length members.now)
+        out.old.items out.new.items) }
+    ensures refused { IfErr result (HasNoImage (images T.image members.now)) }
+{
+    for member in members {
+        member.encode(alloc, out)?;
+    }
+    Ok(())
+}
+
+/// Appends the array of two places.
+///
+/// # Errors
+/// Those of the first place that has one.
+pub fn encode_two<A: Encode, B: Encode>(
+    alloc: Global,
+    a: &A,
+    b: &B,
+    out: &mut Vec<u8>,
+) -> Result<()>
+    ensures { Encodes (two_places (A.image a.now) (B.image b.now)) out.old.items out.new.items
+        result }
+{
+    write_array_head(2, out)?;
+    a.encode(alloc, out)?;
+    b.encode(alloc, out)?;
+    Ok(())
+}
+
+/// Appends the array of three places.
+///
+/// # Errors
+/// Those of the first place that has one.
+pub fn encode_three<A: Encode, B: Encode, C: Encode>(
+    alloc: Global,
+    a: &A,
+    b: &B,
+    c: &C,
+    out: &mut Vec<u8>,
+) -> Result<()>
+    ensures { Encodes (three_places (A.image a.now) (B.image b.now) (C.image c.now)) out.old.items
+        out.new.items result }
+{
+    write_array_head(3, out)?;
+    a.encode(alloc, out)?;
+    b.encode(alloc, out)?;
+    c.encode(alloc, out)?;
+    Ok(())
+}
+
+/// Appends the array of four places.
+///
+/// # Errors
+/// Those of the first place that has one.
+pub fn encode_four<A: Encode, B: Encode, C: Encode, D: Encode>(
+    alloc: Global,
+    a: &A,
+    b: &B,
+    c: &C,
+    d: &D,
+    out: &mut Vec<u8>,
+) -> Result<()>
+    ensures { Encodes (four_places (A.image a.now) (B.image b.now) (C.image c.now) (D.image d.now))
+        out.old.items out.new.items result }
+{
+    write_array_head(4, out)?;
+    a.encode(alloc, out)?;
+    b.encode(alloc, out)?;
+    c.encode(alloc, out)?;
+    d.encode(alloc, out)?;
+    Ok(())
+}
+
+/// Appends the array of five places.
+///
+/// # Errors
+/// Those of the first place that has one.
+pub fn encode_five<A: Encode, B: Encode, C: Encode, D: Encode, E: Encode>(
+    alloc: Global,
+    a: &A,
+    b: &B,
+    c: &C,
+    d: &D,
+    e: &E,
+    out: &mut Vec<u8>,
+) -> Result<()>
+    ensures { Encodes (five_places (A.image a.now) (B.image b.now) (C.image c.now) (D.image d.now)
+        (E.image e.now)) out.old.items out.new.items result }
+{
+    write_array_head(5, out)?;
+    a.encode(alloc, out)?;
+    b.encode(alloc, out)?;
+    c.encode(alloc, out)?;
+    d.encode(alloc, out)?;
+    e.encode(alloc, out)?;
+    Ok(())
+}
+
+/// What `to_vec` is made of. The answers are those of [`CborSerializable::to_vec`](crate::CborSerializable::to_vec).
+///
+/// # Errors
+/// The same as [`Encode::encode`].
+pub fn encode_to_vec<T: Encode>(alloc: Global, value: &T) -> Result<Vec<u8>>
+    ensures { Writes (T.image value.now) (λ b. b.items) result }
+{
+    laws::least_encoding_is_shortest();
+    let mut out = Vec::with_capacity(alloc, value.room())?;
+    value.encode(alloc, &mut out)?;
+    Ok(out)
+}
+
+/// What `to_tagged_vec` is made of, under the tag of that number.
+///
+/// # Errors
+/// The same as [`Encode::encode`].
+pub fn encode_to_tagged_vec<T: Encode>(alloc: Global, number: u64, value: &T) -> Result<Vec<u8>>
+    ensures { Writes (option_map (tag number) (T.image value.now)) (λ b. b.items) result }
+{
+    laws::least_encoding_is_shortest();
+    let mut out = Vec::with_capacity(alloc, value.room().saturating_add(LONGEST_HEAD))?;
+    write_tag_head(number, &mut out)?;
+    value.encode(alloc, &mut out)?;
+    Ok(out)
+}
+
+/// What `to_cbor_value` is made of: the value is written, and what was written is read.
+///
+/// # Errors
+/// The same as [`Encode::encode`].
+pub fn encode_to_value<T: Encode>(alloc: Global, value: &T) -> Result<Value>
+    ensures { Images (T.image value.now) view result }
+{
+    laws::shortest_is_encoding();
+    laws::one_item();
+    let encoded = encode_to_vec(alloc, value)?;
+    match decode_encoded(alloc, &encoded)? {
+        Some(read) => Ok(read),
+        None => unreachable!(),
+    }
+}

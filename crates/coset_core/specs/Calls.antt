@@ -1,0 +1,32 @@
+-- What calls answer that take a closure of the caller: it is called at most once, about a structure (RFC 8152, sections
+-- 4.4, 5.3 and 6.3), and an error of our own comes before it.
+use Rattle.std.specs.Prelude.{◌≡◌, ℕ, List, Option, Some, Result, Ok, Err}
+use Rattle.std.specs.Borrow.{Bor}
+use Rattle.std.specs.Fn.{Once, FnOnceReturnsAt, FnOnceReturnsAtPair}
+use Rattle.coset_value.specs.Item.{Item}
+use Rattle.coset_cbor.specs.Shortest.{IsShortest}
+use Rattle.coset_codec.specs.Encoding.{HasNoImage}
+use Rattle.coset_codec.specs.declared.error.CallError.{CallError}
+use Rattle.coset_codec.specs.declared.error.CallError.TheVariants.{Coset, Caller}
+use Rattle.coset_codec.specs.declared.error.CoseError.{CoseError}
+
+-- b is the shortest encoding of the structure, where there is one
+abbrev pub IsStructure : Option Item → List ℕ → Type 0
+IsStructure o b = (v : Item) × (o ≡ Some v) × IsShortest b v
+
+-- The answer is that of f, asked about these bytes and those of the structure; or there is no structure, or no memory
+abbrev pub AsksAbout : {F U E : Type 0} → Once F (Bor (List ℕ) × (Bor (List ℕ) × Unit {0})) (Result U E) → F → List ℕ → Option Item → Result U (CallError E) → Type 0
+AsksAbout g f s o (Ok u) = (b : List ℕ) × IsStructure o b × FnOnceReturnsAtPair g f s b (Ok u)
+AsksAbout g f s o (Err (Caller e)) = (b : List ℕ) × IsStructure o b × FnOnceReturnsAtPair g f s b (Err e)
+AsksAbout g f s o (Err (Coset e)) = HasNoImage o e
+
+-- f made what is stored of the bytes of the structure: `stores` tells how it is kept
+abbrev pub Creates : {F V B : Type 0} → Once F (Bor (List ℕ) × Unit {0}) V → F → Option Item → (V → B → Type 0) → Result B CoseError → Type 0
+Creates {V = V} g f o stores (Ok x) = (b : List ℕ) × (made : V) × IsStructure o b × FnOnceReturnsAt g f b made × stores made x
+Creates g f o stores (Err e) = HasNoImage o e
+
+-- the same of an f that may refuse
+abbrev pub TriesToCreate : {F V B E : Type 0} → Once F (Bor (List ℕ) × Unit {0}) (Result V E) → F → Option Item → (V → B → Type 0) → Result B (CallError E) → Type 0
+TriesToCreate {V = V} g f o stores (Ok x) = (b : List ℕ) × (made : V) × IsStructure o b × FnOnceReturnsAt g f b (Ok made) × stores made x
+TriesToCreate g f o stores (Err (Caller e)) = (b : List ℕ) × IsStructure o b × FnOnceReturnsAt g f b (Err e)
+TriesToCreate g f o stores (Err (Coset e)) = HasNoImage o e

@@ -1,0 +1,48 @@
+//! Closures of callers, which are asked about a structure or make something of it.
+
+ghost use Rattle.std.specs.Prelude.{◌≡◌, Option};
+ghost use Rattle.coset_value.specs.Item.{Item};
+ghost use Rattle.coset_codec.specs.Answers.{Writes};
+ghost use Rattle.coset_core.specs.Calls.{AsksAbout, TriesToCreate};
+
+use coset_codec::{CallError, Result};
+
+/// Asks `f` about these bytes and the structure that goes with them: a signature, and what it is over. It is asked once
+/// where the structure could be made, and not at all otherwise.
+///
+/// # Errors
+/// The structure's; or `Caller` with the error that `f` answers.
+pub fn ask<F, U, E>(bytes: &[u8], structure: Result<Vec<u8>>, f: F) -> Result<U, CallError<E>>
+where
+    F: FnOnce(&[u8], &[u8]) -> Result<U, E> + Drop,
+    E: Drop,
+    requires { F.IsAlwaysCallable f }
+    ensures { (o : Option Item) → Writes o (λ b. b.items) structure
+        → AsksAbout F.FnOnce f bytes.now o result }
+{
+    let structure = structure?;
+    match f(bytes, &structure) {
+        Ok(answer) => Ok(answer),
+        Err(error) => Err(CallError::Caller(error)),
+    }
+}
+
+/// What `f` makes of a structure: a signature of it. It is called once where the structure could be made, and not at
+/// all otherwise.
+///
+/// # Errors
+/// The structure's; or `Caller` with the error that `f` answers.
+pub fn make<F, V, E>(structure: Result<Vec<u8>>, f: F) -> Result<V, CallError<E>>
+where
+    F: FnOnce(&[u8]) -> Result<V, E> + Drop,
+    E: Drop,
+    requires { F.IsAlwaysCallable f }
+    ensures { (o : Option Item) → Writes o (λ b. b.items) structure
+        → TriesToCreate F.FnOnce f o (λ made given. made ≡ given) result }
+{
+    let structure = structure?;
+    match f(&structure) {
+        Ok(made) => Ok(made),
+        Err(error) => Err(CallError::Caller(error)),
+    }
+}
