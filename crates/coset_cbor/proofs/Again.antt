@@ -7,9 +7,8 @@ use Rattle.std.proofs.lemmas.Str.{is_utf8-from_IsUtf8}
 use Rattle.std.proofs.lemmas.List.{take_at, drop_at, length-append, append_cancel_right}
 use Rattle.std.proofs.lemmas.Nat.{from_be_bytes-to_be_bytes_2, from_be_bytes-to_be_bytes_4, from_be_bytes-to_be_bytes_8}
 use Rattle.coset_cbor.specs.declared.fault.Fault.{Fault}
-use Rattle.coset_cbor.specs.declared.head.Argument.{Argument}
-use Rattle.coset_cbor.specs.declared.head.Argument.TheVariants as places
-use Rattle.coset_cbor.specs.declared.head.Head.{Head}
+use Rattle.coset_cbor.specs.Heads.{Argument, HeadSeen}
+use Rattle.coset_cbor.specs.Heads as places
 use Rattle.coset_value.specs.Item.{half, single, double, Item, integer, bytes, float, text, boolean, null, tag, array, dict, Items, no_items, item, Pairs, no_pairs, pair, items_count, pairs_count, depth, items_depth, pairs_depth}
 use Rattle.coset_value.specs.View.{items_of, pairs_of}
 use Rattle.coset_cbor.specs.Grammar.{Place, within, one, two, four, eight, Holds, head_in, IsHead, IsHeaded, IsIndefinite, EachInOrder, IsStringContent, string_type, IsDefinite, IsStringEncoding, IsHeld, IsEncoding, AreEncodings, ArePairEncodings}
@@ -59,7 +58,7 @@ first_div m k lt = omega arith
 first_mod : (m k : ℕ) → k < 32 → (32 * m + k) % 32 ≡ k
 first_mod m k lt = omega arith
 
-abbrev pub head_of : ℕ → Argument → Head
+abbrev pub head_of : ℕ → Argument → HeadSeen
 head_of m a = record { major_type = major_type_of m; argument = a }
 
 -- the first byte of type m with low bits k

@@ -5,9 +5,8 @@ use Rattle.std.proofs.lemmas.List.{append-nil, take_at, drop_at, append_cancel_l
 use Rattle.coset_cbor.specs.declared.fault.Fault.TheVariants.{Simple}
 use Rattle.coset_cbor.specs.declared.head.MajorType.{MajorType}
 use Rattle.coset_cbor.specs.declared.head.MajorType.TheVariants as major_types
-use Rattle.coset_cbor.specs.declared.head.Argument.{Argument}
-use Rattle.coset_cbor.specs.declared.head.Argument.TheVariants as places
-use Rattle.coset_cbor.specs.declared.head.Head.{Head}
+use Rattle.coset_cbor.specs.Heads.{Argument, HeadSeen}
+use Rattle.coset_cbor.specs.Heads as places
 use Rattle.coset_value.specs.Item.{half, single, double, Item, integer, bytes, float, text, boolean, null, tag, array, dict, Items, no_items, item, Pairs, no_pairs, pair, items_count, pairs_count, items_depth, pairs_depth}
 use Rattle.coset_value.specs.View.{items_of, pairs_of}
 use Rattle.coset_value.specs.Parts.{as_array, as_map}
@@ -67,7 +66,7 @@ major_type_by inside left a major_types.Simple s x e = simple_major_type left a 
 
 -- what is read begins with a head of its kind
 record HasHead (b : List ℕ) (v : Item) : Type 0 where
-  head : Head × List ℕ
+  head : HeadSeen × List ℕ
   reads : head_at b ≡ Ok head
   major_type : item_major_type v ≡ head.0.major_type
 
@@ -84,10 +83,10 @@ has_head (suc d) b x e = head_from (things (item_at d)) b x e
 one_item_head : (b : List ℕ) → is_one_item b ≡ true → HasHead b (item_of b)
 one_item_head b one = has_head 256 b (item_of b, []) (one_item_read b one)
 
-pub one_item_major_type : (b : List ℕ) (h : Head × List ℕ) → is_one_item b ≡ true → head_at b ≡ Ok h → item_major_type (item_of b) ≡ h.0.major_type
+pub one_item_major_type : (b : List ℕ) (h : HeadSeen × List ℕ) → is_one_item b ≡ true → head_at b ≡ Ok h → item_major_type (item_of b) ≡ h.0.major_type
 one_item_major_type b h one e =
     let g = one_item_head b one in
-    g.major_type ∙ ap (λ (x : Head × List ℕ). x.0.major_type) (ok_is g.head h (sym g.reads ∙ e))
+    g.major_type ∙ ap (λ (x : HeadSeen × List ℕ). x.0.major_type) (ok_is g.head h (sym g.reads ∙ e))
 
 pub is_array : (v : Item) → ((vs : Items) × (v ≡ array vs)) ⊎ ((as_array v ≡ None) × (item_major_type v ≢ major_types.Array))
 is_array (integer (pos n)) = inr (refl, λ e. cc)
@@ -116,14 +115,14 @@ is_map (dict ps) = inl (ps, refl)
 -- ---- bytes behind a head
 
 -- what follows a head: all the members, or the members and the break
-held_parts : (m n : ℕ) (c b : List ℕ) (h : Head × List ℕ) → IsHeld m n c b → head_at b ≡ Ok h → ((number_of h.0.argument ≡ Some n) × (h.1 ≡ c)) ⊎ ((number_of h.0.argument ≡ None) × (h.1 ≡ c ++ 255 ∷ []))
+held_parts : (m n : ℕ) (c b : List ℕ) (h : HeadSeen × List ℕ) → IsHeld m n c b → head_at b ≡ Ok h → ((number_of h.0.argument ≡ Some n) × (h.1 ≡ c)) ⊎ ((number_of h.0.argument ≡ None) × (h.1 ≡ c ++ 255 ∷ []))
 held_parts m n c b h (inl is) e =
     let r = IsHeaded-again m n c b [] is in
     let same = ok_is (head_of m r.argument, c ++ []) h (sym r.reads ∙ ap head_at (append-nil b) ∙ e) in
-    inl (ap (λ (x : Head × List ℕ). number_of x.0.argument) (sym same) ∙ r.number, ap (λ (x : Head × List ℕ). x.1) (sym same) ∙ append-nil c)
+    inl (ap (λ (x : HeadSeen × List ℕ). number_of x.0.argument) (sym same) ∙ r.number, ap (λ (x : HeadSeen × List ℕ). x.1) (sym same) ∙ append-nil c)
 held_parts m n c b h (inr is) e =
     let same = ok_is (head_of m places.Indefinite, c ++ 255 ∷ []) h (sym (opening_again m (c ++ 255 ∷ [])) ∙ ap head_at (sym is) ∙ e) in
-    inr (ap (λ (x : Head × List ℕ). number_of x.0.argument) (sym same), ap (λ (x : Head × List ℕ). x.1) (sym same))
+    inr (ap (λ (x : HeadSeen × List ℕ). number_of x.0.argument) (sym same), ap (λ (x : HeadSeen × List ℕ). x.1) (sym same))
 
 fits_append : (b c : List ℕ) → IsBytes b → IsBytes c → IsBytes (b ++ c)
 fits_append [] c fits more i = more i
@@ -218,7 +217,7 @@ array_content b s one content = elim (is_array (item_of b)) [
   | inr a ↦ absurd (a.1 (one_item_major_type b content.head one content.reads ∙ content.major_type))
 ]
 
-pub no_array : (b : List ℕ) → is_one_item b ≡ true → ((h : Head × List ℕ) → head_at b ≡ Ok h → h.0.major_type ≢ major_types.Array) → None ≡ as_array (item_of b)
+pub no_array : (b : List ℕ) → is_one_item b ≡ true → ((h : HeadSeen × List ℕ) → head_at b ≡ Ok h → h.0.major_type ≢ major_types.Array) → None ≡ as_array (item_of b)
 no_array b one other = elim (is_array (item_of b)) [
   | inl a ↦ let h = one_item_head b one in absurd (other h.head h.reads (sym h.major_type ∙ ap item_major_type a.1))
   | inr a ↦ sym a.0
@@ -321,7 +320,7 @@ map_content b s one content = elim (is_map (item_of b)) [
   | inr a ↦ absurd (a.1 (one_item_major_type b content.head one content.reads ∙ content.major_type))
 ]
 
-pub no_map : (b : List ℕ) → is_one_item b ≡ true → ((h : Head × List ℕ) → head_at b ≡ Ok h → h.0.major_type ≢ major_types.Map) → None ≡ as_map (item_of b)
+pub no_map : (b : List ℕ) → is_one_item b ≡ true → ((h : HeadSeen × List ℕ) → head_at b ≡ Ok h → h.0.major_type ≢ major_types.Map) → None ≡ as_map (item_of b)
 no_map b one other = elim (is_map (item_of b)) [
   | inl a ↦ let h = one_item_head b one in absurd (other h.head h.reads (sym h.major_type ∙ ap item_major_type a.1))
   | inr a ↦ sym a.0

@@ -9,7 +9,7 @@ use Rattle.coset_value.specs.View.{items_of, pairs_of}
 use Rattle.coset_cbor.specs.declared.fault.Fault.{Fault}
 use Rattle.coset_cbor.specs.declared.fault.Fault.TheVariants.{End}
 use Rattle.coset_cbor.specs.declared.head.MajorType.TheVariants as major_types
-use Rattle.coset_cbor.specs.declared.head.Head.{Head}
+use Rattle.coset_cbor.specs.Heads.{HeadSeen}
 use Rattle.coset_cbor.specs.Grammar.{Place, within, one, two, four, eight, Holds, head_in, IsStringEncoding, IsHead, IsHeaded, IsEncoding, AreEncodings}
 use Rattle.coset_cbor.specs.Faults.{is_even, Opens, in_array, in_map, in_tag, in_open_array, in_open_map, Due, at_start, innermost, outer}
 use Rattle.coset_cbor.specs.Reading.{◌>>=◌, number_of, begins_break, times_at, until_at, pair_at, array_by, map_by, things, item_by, item_at}
@@ -157,28 +157,28 @@ pub opens_blocked : (o : List ℕ) (e : Bool) → Opens o e → (d : ℕ) (t : L
 unfolding item_at things
 opens_blocked o e (in_tag n p h) d t fits never x is =
     let r = IsHead-again 6 n p t h in
-    let whole : item_by (things (item_at d)) (length (p ++ t)) r.argument major_types.Tag t ≡ Ok x = sym (ap (λ (y : Result (Head × List ℕ) Fault). y >>= λ h. item_by (things (item_at d)) (length (p ++ t)) h.0.argument h.0.major_type h.1) r.reads) ∙ is in
+    let whole : item_by (things (item_at d)) (length (p ++ t)) r.argument major_types.Tag t ≡ Ok x = sym (ap (λ (y : Result (HeadSeen × List ℕ) Fault). y >>= λ h. item_by (things (item_at d)) (length (p ++ t)) h.0.argument h.0.major_type h.1) r.reads) ∙ is in
     let m = some_ok (length (p ++ t)) (number_of r.argument) (λ n. item_at d t >>= λ y. Ok (tag n y.0, y.1)) x whole in
     let w = bind_ok (item_at d t) (λ y. Ok (tag m.0 y.0, y.1)) x m.2 in
     never.0 w.0 w.1
 opens_blocked o e (in_array n vs c p lt encodings h) d t fits never x is =
     let r = IsHeaded-again 4 n c p t h in
-    let whole : (array_by (item_at d) (number_of r.argument) (c ++ t) >>= λ y. Ok (array (items_of y.0), y.1)) ≡ Ok x = sym (ap (λ (y : Result (Head × List ℕ) Fault). y >>= λ h. item_by (things (item_at d)) (length (p ++ t)) h.0.argument h.0.major_type h.1) r.reads) ∙ is in
+    let whole : (array_by (item_at d) (number_of r.argument) (c ++ t) >>= λ y. Ok (array (items_of y.0), y.1)) ≡ Ok x = sym (ap (λ (y : Result (HeadSeen × List ℕ) Fault). y >>= λ h. item_by (things (item_at d)) (length (p ++ t)) h.0.argument h.0.major_type h.1) r.reads) ∙ is in
     let w = bind_ok (array_by (item_at d) (number_of r.argument) (c ++ t)) (λ y. Ok (array (items_of y.0), y.1)) x whole in
     let g = guard_ok (ltb (length (c ++ t)) n) End (times_at (item_at d) n (c ++ t)) w.0 (ap (λ (k : Option ℕ). array_by (item_at d) k (c ++ t)) (sym r.number) ∙ w.1) in
     times_blocked d n vs c t w.0 (headed_fits 4 n c p t h fits) encodings lt never.0 g.1
 opens_blocked o e (in_map n vs c p lt encodings h) d t fits never x is =
     let r = IsHeaded-again 5 n c p t h in
-    let whole : (map_by (item_at d) (number_of r.argument) (c ++ t) >>= λ y. Ok (dict (pairs_of y.0), y.1)) ≡ Ok x = sym (ap (λ (y : Result (Head × List ℕ) Fault). y >>= λ h. item_by (things (item_at d)) (length (p ++ t)) h.0.argument h.0.major_type h.1) r.reads) ∙ is in
+    let whole : (map_by (item_at d) (number_of r.argument) (c ++ t) >>= λ y. Ok (dict (pairs_of y.0), y.1)) ≡ Ok x = sym (ap (λ (y : Result (HeadSeen × List ℕ) Fault). y >>= λ h. item_by (things (item_at d)) (length (p ++ t)) h.0.argument h.0.major_type h.1) r.reads) ∙ is in
     let w = bind_ok (map_by (item_at d) (number_of r.argument) (c ++ t)) (λ y. Ok (dict (pairs_of y.0), y.1)) x whole in
     let g = guard_ok (ltb (length (c ++ t) / 2) n) End (times_at (pair_at (item_at d)) n (c ++ t)) w.0 (ap (λ (k : Option ℕ). map_by (item_at d) k (c ++ t)) (sym r.number) ∙ w.1) in
     pairs_blocked d n vs c t w.0 (headed_fits 5 n c p t h fits) encodings lt never.0 g.1
 opens_blocked o e (in_open_array vs c encodings) d t fits never x is =
-    let whole : (until_at (item_at d) (length (c ++ t)) (c ++ t) >>= λ y. Ok (array (items_of y.0), y.1)) ≡ Ok x = sym (ap (λ (y : Result (Head × List ℕ) Fault). y >>= λ h. item_by (things (item_at d)) (suc (length (c ++ t))) h.0.argument h.0.major_type h.1) (opening_again 4 (c ++ t))) ∙ is in
+    let whole : (until_at (item_at d) (length (c ++ t)) (c ++ t) >>= λ y. Ok (array (items_of y.0), y.1)) ≡ Ok x = sym (ap (λ (y : Result (HeadSeen × List ℕ) Fault). y >>= λ h. item_by (things (item_at d)) (suc (length (c ++ t))) h.0.argument h.0.major_type h.1) (opening_again 4 (c ++ t))) ∙ is in
     let w = bind_ok (until_at (item_at d) (length (c ++ t)) (c ++ t)) (λ y. Ok (array (items_of y.0), y.1)) x whole in
     until_blocked d (length (c ++ t)) vs c t w.0 (λ i. fits (suc i)) encodings never.0 (never.1 refl) w.1
 opens_blocked o e (in_open_map vs c encodings) d t fits never x is =
-    let whole : (until_at (pair_at (item_at d)) (length (c ++ t)) (c ++ t) >>= λ y. Ok (dict (pairs_of y.0), y.1)) ≡ Ok x = sym (ap (λ (y : Result (Head × List ℕ) Fault). y >>= λ h. item_by (things (item_at d)) (suc (length (c ++ t))) h.0.argument h.0.major_type h.1) (opening_again 5 (c ++ t))) ∙ is in
+    let whole : (until_at (pair_at (item_at d)) (length (c ++ t)) (c ++ t) >>= λ y. Ok (dict (pairs_of y.0), y.1)) ≡ Ok x = sym (ap (λ (y : Result (HeadSeen × List ℕ) Fault). y >>= λ h. item_by (things (item_at d)) (suc (length (c ++ t))) h.0.argument h.0.major_type h.1) (opening_again 5 (c ++ t))) ∙ is in
     let w = bind_ok (until_at (pair_at (item_at d)) (length (c ++ t)) (c ++ t)) (λ y. Ok (dict (pairs_of y.0), y.1)) x whole in
     pairs_until_blocked d (length (c ++ t)) vs c t w.0 (λ i. fits (suc i)) encodings never.0 never.1 w.1
 

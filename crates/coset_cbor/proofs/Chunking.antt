@@ -8,9 +8,8 @@ use Rattle.coset_cbor.specs.declared.fault.Fault.{Fault}
 use Rattle.coset_cbor.specs.declared.fault.Fault.TheVariants.{End, Syntax, Simple}
 use Rattle.coset_cbor.specs.declared.head.MajorType.{MajorType}
 use Rattle.coset_cbor.specs.declared.head.MajorType.TheVariants as major_types
-use Rattle.coset_cbor.specs.declared.head.Argument.{Argument}
-use Rattle.coset_cbor.specs.declared.head.Argument.TheVariants as places
-use Rattle.coset_cbor.specs.declared.head.Head.{Head}
+use Rattle.coset_cbor.specs.Heads.{Argument, HeadSeen}
+use Rattle.coset_cbor.specs.Heads as places
 use Rattle.std.specs.Prelude.{pos, negsuc}
 use Rattle.coset_cbor.specs.Grammar.{IsHeaded, EachInOrder, joined_chunks, string_type, IsDefinite, IsIndefinite}
 use Rattle.coset_cbor.specs.Reading.{◌>>=◌, number_of, head_at, string_at, begins_chunk, chunk_at, until_at, chunks_at, any_string_by, simple_at, Inside, things, item_by, item_at}
@@ -240,13 +239,13 @@ other_read is_text inside left a major_types.Tag s v rest is e =
     other_is is_text (tag n.0 r.0.0) v r.0.1 rest (not_string is_text (tag n.0 r.0.0) refl refl) r.2
 other_read is_text inside left a major_types.Simple s v rest is e = simple_read is_text left a s v rest e
 
-pub no_string : (is_text : Bool) (b : List ℕ) (h : Head × List ℕ) → is_one_item b ≡ true → head_at b ≡ Ok h → begins_chunk is_text h.0.major_type ≡ false → as_string is_text (item_of b) ≡ None
+pub no_string : (is_text : Bool) (b : List ℕ) (h : HeadSeen × List ℕ) → is_one_item b ≡ true → head_at b ≡ Ok h → begins_chunk is_text h.0.major_type ≡ false → as_string is_text (item_of b) ≡ None
 no_string is_text b h is e major_type = other_read is_text (things (item_at 255)) (length b) h.0.argument h.0.major_type h.1 (item_of b) [] major_type (one_item_by b h is e)
 
 -- ---- the chunks of a string
 
 -- a string behind its length is its only chunk
-pub whole_chunk : (is_text : Bool) (b : List ℕ) (h : Head × List ℕ) (n : ℕ) → is_one_item b ≡ true → head_at b ≡ Ok h → begins_chunk is_text h.0.major_type ≡ true → number_of h.0.argument ≡ Some n → AreChunksOf is_text b b
+pub whole_chunk : (is_text : Bool) (b : List ℕ) (h : HeadSeen × List ℕ) (n : ℕ) → is_one_item b ≡ true → head_at b ≡ Ok h → begins_chunk is_text h.0.major_type ≡ true → number_of h.0.argument ≡ Some n → AreChunksOf is_text b b
 unfolding chunk_at
 whole_chunk is_text b h n is e major_type number =
     let fits = one_item_bytes b is in
@@ -285,7 +284,7 @@ record Between (is_text : Bool) (b s : List ℕ) : Type 0 where
   broken : IsIndefinite (string_type is_text) chunks b
   whole : as_string is_text (item_of b) ≡ Some (joined_chunks contents)
 
-between_of : (is_text : Bool) (b : List ℕ) (h : Head × List ℕ) → is_one_item b ≡ true → head_at b ≡ Ok h → begins_chunk is_text h.0.major_type ≡ true → number_of h.0.argument ≡ None → Between is_text b h.1
+between_of : (is_text : Bool) (b : List ℕ) (h : HeadSeen × List ℕ) → is_one_item b ≡ true → head_at b ≡ Ok h → begins_chunk is_text h.0.major_type ≡ true → number_of h.0.argument ≡ None → Between is_text b h.1
 unfolding chunks_at
 between_of is_text b h is e major_type number =
     let r = string_read is_text (things (item_at 255)) (length b) h.0.argument h.0.major_type h.1 (item_of b) major_type (one_item_by b h is e) in
@@ -308,7 +307,7 @@ between_of is_text b h is e major_type number =
       whole = r.is ∙ ap Some (sym content);
     }
 
-pub broken_chunks : (is_text : Bool) (b : List ℕ) (h : Head × List ℕ) (s : List ℕ) (last : ℕ) → is_one_item b ≡ true → head_at b ≡ Ok h → begins_chunk is_text h.0.major_type ≡ true → number_of h.0.argument ≡ None → h.1 ≡ s ++ last ∷ [] → AreChunksOf is_text b s
+pub broken_chunks : (is_text : Bool) (b : List ℕ) (h : HeadSeen × List ℕ) (s : List ℕ) (last : ℕ) → is_one_item b ≡ true → head_at b ≡ Ok h → begins_chunk is_text h.0.major_type ≡ true → number_of h.0.argument ≡ None → h.1 ≡ s ++ last ∷ [] → AreChunksOf is_text b s
 broken_chunks is_text b h s last is e major_type number parts =
     let t = between_of is_text b h is e major_type number in
     let same : t.chunks ≡ s = fronts_same t.chunks s 255 last (sym t.stops ∙ parts) in
@@ -323,7 +322,7 @@ broken_chunks is_text b h s last is e major_type number parts =
     }
 
 -- a break follows
-pub has_break : (is_text : Bool) (b : List ℕ) (h : Head × List ℕ) → is_one_item b ≡ true → head_at b ≡ Ok h → begins_chunk is_text h.0.major_type ≡ true → number_of h.0.argument ≡ None → length h.1 ≡ 0 → ⊥
+pub has_break : (is_text : Bool) (b : List ℕ) (h : HeadSeen × List ℕ) → is_one_item b ≡ true → head_at b ≡ Ok h → begins_chunk is_text h.0.major_type ≡ true → number_of h.0.argument ≡ None → length h.1 ≡ 0 → ⊥
 has_break is_text b h is e major_type number none =
     let t = between_of is_text b h is e major_type number in
     omega (arith, ap length t.stops, length-append t.chunks (255 ∷ []))

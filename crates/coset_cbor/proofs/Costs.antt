@@ -5,8 +5,8 @@ use Rattle.std.proofs.lemmas.List.{length-append, append-nil}
 use Rattle.std.proofs.Math.Nat.{max-zero}
 use Rattle.coset_value.specs.Item.{half, single, double, Item, integer, bytes, float, text, boolean, null, tag, array, dict, Items, no_items, item, Pairs, no_pairs, pair, items_count, pairs_count, depth, items_depth, pairs_depth}
 use Rattle.coset_cbor.specs.declared.fault.Fault.TheVariants.{End}
-use Rattle.coset_cbor.specs.declared.head.Argument.{Argument}
-use Rattle.coset_cbor.specs.declared.head.Argument.TheVariants as places
+use Rattle.coset_cbor.specs.Heads.{Argument}
+use Rattle.coset_cbor.specs.Heads as places
 use Rattle.coset_cbor.specs.Grammar.{within, two, four, eight, IsHeaded, EachInOrder, string_type, IsDefinite, IsStringEncoding, IsHeld, IsEncoding, AreEncodings, ArePairEncodings, IsItem}
 use Rattle.coset_cbor.specs.Reading.{Parse, number_of, head_at, string_at, chunk_at, times_at, pair_at, things, item_at}
 use Rattle.coset_cbor.specs.Cost.{content_cost, chunks_cost, IsStringCost, IsHeldCost, IsCost, AreCosts, ArePairCosts}

@@ -8,9 +8,8 @@ use Rattle.coset_cbor.specs.declared.fault.Fault.{Fault}
 use Rattle.coset_cbor.specs.declared.fault.Fault.TheVariants.{End}
 use Rattle.coset_cbor.specs.declared.head.MajorType.{MajorType}
 use Rattle.coset_cbor.specs.declared.head.MajorType.TheVariants as major_types
-use Rattle.coset_cbor.specs.declared.head.Argument.{Argument}
-use Rattle.coset_cbor.specs.declared.head.Argument.TheVariants as places
-use Rattle.coset_cbor.specs.declared.head.Head.{Head}
+use Rattle.coset_cbor.specs.Heads.{Argument, HeadSeen}
+use Rattle.coset_cbor.specs.Heads as places
 use Rattle.coset_value.specs.Item.{Item, array, dict, Items, no_items, item, items_count}
 use Rattle.coset_value.specs.View.{items_of, pairs_of}
 use Rattle.coset_value.specs.Parts.{as_array}
@@ -67,14 +66,14 @@ err_ok f y e = cc
 pub stands_head : (v : Item) (s a : List ℕ) (f : Fault) → Stands v s a → head_at s ≡ Err f → ⊥
 unfolding item_at
 stands_head v s a f whole e =
-    err_ok f (v, a) (sym (ap (λ (r : Result (Head × List ℕ) Fault). r >>= λ x. item_by (things (item_at 255)) (length s) x.0.argument x.0.major_type x.1) e) ∙ stands_read v s a whole)
+    err_ok f (v, a) (sym (ap (λ (r : Result (HeadSeen × List ℕ) Fault). r >>= λ x. item_by (things (item_at 255)) (length s) x.0.argument x.0.major_type x.1) e) ∙ stands_read v s a whole)
 
-pub stands_by : (v : Item) (s a : List ℕ) (h : Head × List ℕ) → Stands v s a → head_at s ≡ Ok h → item_by (things (item_at 255)) (length s) h.0.argument h.0.major_type h.1 ≡ Ok (v, a)
+pub stands_by : (v : Item) (s a : List ℕ) (h : HeadSeen × List ℕ) → Stands v s a → head_at s ≡ Ok h → item_by (things (item_at 255)) (length s) h.0.argument h.0.major_type h.1 ≡ Ok (v, a)
 unfolding item_at
 stands_by v s a h whole e =
-    sym (ap (λ (r : Result (Head × List ℕ) Fault). r >>= λ x. item_by (things (item_at 255)) (length s) x.0.argument x.0.major_type x.1) e) ∙ stands_read v s a whole
+    sym (ap (λ (r : Result (HeadSeen × List ℕ) Fault). r >>= λ x. item_by (things (item_at 255)) (length s) x.0.argument x.0.major_type x.1) e) ∙ stands_read v s a whole
 
-pub stands_major_type : (v : Item) (s a : List ℕ) (h : Head × List ℕ) → Stands v s a → head_at s ≡ Ok h → item_major_type v ≡ h.0.major_type
+pub stands_major_type : (v : Item) (s a : List ℕ) (h : HeadSeen × List ℕ) → Stands v s a → head_at s ≡ Ok h → item_major_type v ≡ h.0.major_type
 stands_major_type v s a h whole e = major_type_by (things (item_at 255)) (length s) h.0.argument h.0.major_type h.1 (v, a) (stands_by v s a h whole e)
 
 -- ---- members
@@ -158,12 +157,12 @@ array_by_major_type left g major_types.Map s v a fits k e = absurd cc
 array_by_major_type left g major_types.Tag s v a fits k e = absurd cc
 array_by_major_type left g major_types.Simple s v a fits k e = absurd cc
 
-pub array_read : (v : Item) (s a : List ℕ) (h : Head × List ℕ) (o : Option ℕ) → IsBytes s → Stands v s a → head_at s ≡ Ok h → h.0.major_type ≡ major_types.Array → o ≡ number_of h.0.argument → Entered v o h.1 a
+pub array_read : (v : Item) (s a : List ℕ) (h : HeadSeen × List ℕ) (o : Option ℕ) → IsBytes s → Stands v s a → head_at s ≡ Ok h → h.0.major_type ≡ major_types.Array → o ≡ number_of h.0.argument → Entered v o h.1 a
 array_read v s a h o fits whole e k number =
     subst (λ (p : Option ℕ). Entered v p h.1 a) (sym number)
     (array_by_major_type (length s) h.0.argument h.0.major_type h.1 v a (head_takes s h fits e).rest_fits k (stands_by v s a h whole e))
 
-pub no_array : (v : Item) (s a : List ℕ) (h : Head × List ℕ) → Stands v s a → head_at s ≡ Ok h → h.0.major_type ≢ major_types.Array → as_array v ≡ None
+pub no_array : (v : Item) (s a : List ℕ) (h : HeadSeen × List ℕ) → Stands v s a → head_at s ≡ Ok h → h.0.major_type ≢ major_types.Array → as_array v ≡ None
 no_array v s a h whole e k = elim (is_array v) [
   | inl x ↦ absurd (k (sym (stands_major_type v s a h whole e) ∙ ap item_major_type x.1))
   | inr x ↦ x.0
@@ -177,7 +176,7 @@ head_some m (places.Four n) f h = let l = ap length h.1 in omega (arith, l)
 head_some m (places.Eight n) f h = let l = ap length h.1 in omega (arith, l)
 head_some m places.Indefinite f h = let l = ap length h in omega (arith, l)
 
-pub head_shorter : (s : List ℕ) (h : Head × List ℕ) → IsBytes s → head_at s ≡ Ok h → length h.1 < length s
+pub head_shorter : (s : List ℕ) (h : HeadSeen × List ℕ) → IsBytes s → head_at s ≡ Ok h → length h.1 < length s
 head_shorter s h fits e =
     let t = head_takes s h fits e in
     let some = head_some (major_type_number h.0.major_type) h.0.argument t.front t.encoding in
@@ -296,12 +295,12 @@ map_by_major_type left g d major_types.Array s v a fits least_encoding twice k e
 map_by_major_type left g d major_types.Simple s v a fits least_encoding twice k e = absurd cc
 
 pub map_read :
-    (v : Item) (s a : List ℕ) (h : Head × List ℕ) (d : Option ℕ) → IsBytes s → length s < 2 ^ 64 → Stands v s a → head_at s ≡ Ok h → h.0.major_type ≡ major_types.Map → Doubles (number_of h.0.argument) d → EnteredMap v d h.1 a
+    (v : Item) (s a : List ℕ) (h : HeadSeen × List ℕ) (d : Option ℕ) → IsBytes s → length s < 2 ^ 64 → Stands v s a → head_at s ≡ Ok h → h.0.major_type ≡ major_types.Map → Doubles (number_of h.0.argument) d → EnteredMap v d h.1 a
 map_read v s a h d fits least_encoding whole e k twice =
     let shorter = head_shorter s h fits e in
     map_by_major_type (length s) h.0.argument d h.0.major_type h.1 v a (head_takes s h fits e).rest_fits (omega (arith, least_encoding, shorter)) twice k (stands_by v s a h whole e)
 
-pub no_map : (v : Item) (s a : List ℕ) (h : Head × List ℕ) → Stands v s a → head_at s ≡ Ok h → h.0.major_type ≢ major_types.Map → map_items v ≡ None
+pub no_map : (v : Item) (s a : List ℕ) (h : HeadSeen × List ℕ) → Stands v s a → head_at s ≡ Ok h → h.0.major_type ≢ major_types.Map → map_items v ≡ None
 no_map v s a h whole e k = elim (is_map v) [
   | inl x ↦ absurd (k (sym (stands_major_type v s a h whole e) ∙ ap item_major_type x.1))
   | inr x ↦ ap (option_map keys_and_values) x.0

@@ -10,9 +10,8 @@ use Rattle.coset_cbor.specs.declared.fault.Fault.{Fault}
 use Rattle.coset_cbor.specs.declared.fault.Fault.TheVariants.{End, Syntax, Simple}
 use Rattle.coset_cbor.specs.declared.head.MajorType.{MajorType}
 use Rattle.coset_cbor.specs.declared.head.MajorType.TheVariants as major_types
-use Rattle.coset_cbor.specs.declared.head.Argument.{Argument}
-use Rattle.coset_cbor.specs.declared.head.Argument.TheVariants as places
-use Rattle.coset_cbor.specs.declared.head.Head.{Head}
+use Rattle.coset_cbor.specs.Heads.{Argument, HeadSeen}
+use Rattle.coset_cbor.specs.Heads as places
 use Rattle.coset_cbor.specs.Grammar.{joined_chunks}
 use Rattle.coset_cbor.specs.Reading.{◌>>=◌, Parse, major_type_of, number_of, argument_at, argument_by, head_at, unless_none, is_string_content, string_at, begins_chunk, chunk_at, begins_break, times_at, until_at, chunks_at, any_string_by, pair_at, array_by, map_by, simple_at, Inside, nothing, things, item_by, item_from, item_at}
 use Rattle.coset_cbor.specs.Cost.{content_cost}
@@ -67,7 +66,7 @@ by_shorter info left s =
     shorter_choice (eqb info 31) s (Ok (places.Indefinite, s)) (Err (Syntax left)) (omega arith) tt)))))
 
 -- a head takes a byte at least
-abbrev IsHeadShorter : List ℕ → Result (Head × List ℕ) Fault → Type 0
+abbrev IsHeadShorter : List ℕ → Result (HeadSeen × List ℕ) Fault → Type 0
 IsHeadShorter s (Ok h) = suc (length h.1) ≤ length s
 IsHeadShorter s (Err f) = Unit {0}
 
@@ -80,7 +79,7 @@ unfolding head_at
 head_shorter [] = tt
 head_shorter (x ∷ s) = made_shorter x s (argument_by (x % 32) (suc (length s)) s) (by_shorter (x % 32) (suc (length s)) s)
 
-head_then : {B : Type 0} (s : List ℕ) (r : Result (Head × List ℕ) Fault) (f : Head × List ℕ → Result (B × List ℕ) Fault) (g : Head × List ℕ → ℕ) → IsHeadShorter s r → ((h : Head × List ℕ) → IsWithin (g h) h.1 (f h)) → IsWithin (after r (λ h. suc (g h))) s (r >>= f)
+head_then : {B : Type 0} (s : List ℕ) (r : Result (HeadSeen × List ℕ) Fault) (f : HeadSeen × List ℕ → Result (B × List ℕ) Fault) (g : HeadSeen × List ℕ → ℕ) → IsHeadShorter s r → ((h : HeadSeen × List ℕ) → IsWithin (g h) h.1 (f h)) → IsWithin (after r (λ h. suc (g h))) s (r >>= f)
 head_then {B} s (Ok h) f g le next = step (g h) (f h) (next h)
   where
     step : (j : ℕ) (r : Result (B × List ℕ) Fault) → IsWithin j h.1 r → IsWithin (suc j) s r

@@ -9,9 +9,8 @@ use Rattle.coset_cbor.specs.declared.fault.Fault.{Fault}
 use Rattle.coset_cbor.specs.declared.fault.Fault.TheVariants.{Simple}
 use Rattle.coset_cbor.specs.declared.head.MajorType.{MajorType}
 use Rattle.coset_cbor.specs.declared.head.MajorType.TheVariants as major_types
-use Rattle.coset_cbor.specs.declared.head.Argument.{Argument}
-use Rattle.coset_cbor.specs.declared.head.Argument.TheVariants as places
-use Rattle.coset_cbor.specs.declared.head.Head.{Head}
+use Rattle.coset_cbor.specs.Heads.{Argument, HeadSeen}
+use Rattle.coset_cbor.specs.Heads as places
 use Rattle.coset_cbor.specs.Reading.{◌>>=◌, number_of, unless_none, head_at, begins_chunk, any_string_by, simple_at, Inside, things, item_by, item_from, item_at}
 use Rattle.coset_cbor.specs.Grammar.{IsHead, IsHeaded, IsEncoding, IsItem}
 use Rattle.coset_cbor.specs.Scalars.{as_scalar, read_of, scalar_by, integer_by, tag_by}
@@ -26,18 +25,18 @@ abbrev done : Item × List ℕ → Result (Item × List ℕ) Fault
 done x = Ok x
 
 -- one item is what its head says
-pub one_item_by : (b : List ℕ) (h : Head × List ℕ) → is_one_item b ≡ true → head_at b ≡ Ok h → item_by (things (item_at 255)) (length b) h.0.argument h.0.major_type h.1 ≡ Ok (item_of b, [])
+pub one_item_by : (b : List ℕ) (h : HeadSeen × List ℕ) → is_one_item b ≡ true → head_at b ≡ Ok h → item_by (things (item_at 255)) (length b) h.0.argument h.0.major_type h.1 ≡ Ok (item_of b, [])
 unfolding item_at
 one_item_by b h one e =
     let whole : item_from (things (item_at 255)) b ≡ Ok (item_of b, []) = one_item_read b one in
-    sym (ap (λ (r : Result (Head × List ℕ) Fault). r >>= λ x. item_by (things (item_at 255)) (length b) x.0.argument x.0.major_type x.1) e) ∙ whole
+    sym (ap (λ (r : Result (HeadSeen × List ℕ) Fault). r >>= λ x. item_by (things (item_at 255)) (length b) x.0.argument x.0.major_type x.1) e) ∙ whole
 
 -- one item has a head
 pub one_item_head : (b : List ℕ) (f : Fault) → is_one_item b ≡ true → head_at b ≡ Err f → ⊥
 unfolding item_at
 one_item_head b f one e =
     let whole : item_from (things (item_at 255)) b ≡ Ok (item_of b, []) = one_item_read b one in
-    differ (sym (ap (λ (r : Result (Head × List ℕ) Fault). r >>= λ x. item_by (things (item_at 255)) (length b) x.0.argument x.0.major_type x.1) e) ∙ whole)
+    differ (sym (ap (λ (r : Result (HeadSeen × List ℕ) Fault). r >>= λ x. item_by (things (item_at 255)) (length b) x.0.argument x.0.major_type x.1) e) ∙ whole)
   where
     differ : ◌≡◌ {A = Result (Item × List ℕ) Fault} (Err f) (Ok (item_of b, [])) → ⊥
     differ e = cc
@@ -138,13 +137,13 @@ string_by is_text inside left a major_types.Tag s x k e = absurd cc
 string_by is_text inside left a major_types.Simple s x k e = absurd cc
 
 -- the string that a lent item is, read again, is its content
-pub string_read : (is_text : Bool) (b : List ℕ) (h : Head × List ℕ) (o : Option ℕ) (y : List ℕ × List ℕ) → is_one_item b ≡ true → head_at b ≡ Ok h → begins_chunk is_text h.0.major_type ≡ true → o ≡ number_of h.0.argument
+pub string_read : (is_text : Bool) (b : List ℕ) (h : HeadSeen × List ℕ) (o : Option ℕ) (y : List ℕ × List ℕ) → is_one_item b ≡ true → head_at b ≡ Ok h → begins_chunk is_text h.0.major_type ≡ true → o ≡ number_of h.0.argument
     → any_string_by is_text (length b) o h.1 ≡ Ok y → Some y.0 ≡ as_string is_text (item_of b)
 string_read is_text b h o y one e k number is =
     let r = string_by is_text (things (item_at 255)) (length b) h.0.argument h.0.major_type h.1 (item_of b, []) k (one_item_by b h one e) in
     ap (λ (z : List ℕ × List ℕ). Some z.0) (ok_is y r.0 (sym is ∙ ap (λ (p : Option ℕ). any_string_by is_text (length b) p h.1) number ∙ r.1)) ∙ r.2
 
-pub string_no_fault : (is_text : Bool) (b : List ℕ) (h : Head × List ℕ) (o : Option ℕ) (f : Fault) → is_one_item b ≡ true → head_at b ≡ Ok h → begins_chunk is_text h.0.major_type ≡ true → o ≡ number_of h.0.argument
+pub string_no_fault : (is_text : Bool) (b : List ℕ) (h : HeadSeen × List ℕ) (o : Option ℕ) (f : Fault) → is_one_item b ≡ true → head_at b ≡ Ok h → begins_chunk is_text h.0.major_type ≡ true → o ≡ number_of h.0.argument
     → any_string_by is_text (length b) o h.1 ≡ Err f → ⊥
 string_no_fault is_text b h o f one e k number is =
     let r = string_by is_text (things (item_at 255)) (length b) h.0.argument h.0.major_type h.1 (item_of b, []) k (one_item_by b h one e) in
@@ -217,7 +216,7 @@ pub record IsEnclosed (n : ℕ) (b s : List ℕ) : Type 0 where
   pub one : is_one_item s ≡ true
   pub item : item_of b ≡ tag n (item_of s)
 
-pub enclosed_item : (b : List ℕ) (h : Head × List ℕ) (n : ℕ) → is_one_item b ≡ true → head_at b ≡ Ok h → tag_by h.0.argument h.0.major_type ≡ Some n → IsEnclosed n b h.1
+pub enclosed_item : (b : List ℕ) (h : HeadSeen × List ℕ) (n : ℕ) → is_one_item b ≡ true → head_at b ≡ Ok h → tag_by h.0.argument h.0.major_type ≡ Some n → IsEnclosed n b h.1
 unfolding things
 enclosed_item b h n one e t =
     let w = tag_inside (things (item_at 255)) (length b) h.0.argument h.0.major_type h.1 (item_of b, []) n t (one_item_by b h one e) in

@@ -5,9 +5,8 @@ use Rattle.coset_cbor.specs.declared.fault.Fault.{Fault}
 use Rattle.coset_cbor.specs.declared.fault.Fault.TheVariants.{End, Syntax, Simple}
 use Rattle.coset_cbor.specs.declared.head.MajorType.{MajorType}
 use Rattle.coset_cbor.specs.declared.head.MajorType.TheVariants as major_types
-use Rattle.coset_cbor.specs.declared.head.Argument.{Argument}
-use Rattle.coset_cbor.specs.declared.head.Argument.TheVariants as places
-use Rattle.coset_cbor.specs.declared.head.Head.{Head}
+use Rattle.coset_cbor.specs.Heads.{Argument, HeadSeen}
+use Rattle.coset_cbor.specs.Heads as places
 use Rattle.coset_value.specs.Item.{half, single, double, Item, integer, bytes, float, boolean, null, tag, array, dict}
 use Rattle.coset_value.specs.View.{items_of, pairs_of}
 use Rattle.coset_cbor.specs.Reading.{◌>>=◌, number_of, unless_none, head_at, is_string_content, string_at, any_string_by, times_at, pair_at, simple_at, things, item_by, item_at}
@@ -144,11 +143,11 @@ behind_by major_types.Tag left n a s x fits number e =
     (y.0, deeper s y.0 fits y.1, y.2)
 behind_by major_types.Simple left n a s x fits number e = simple_rest left a s x e
 
-pub behind_head : (s : List ℕ) (h : Head × List ℕ) (n : ℕ) (t : List ℕ) (x : Item × List ℕ) → IsBytes s → head_at s ≡ Ok h → number_of h.0.argument ≡ Some n → t ≡ drop (bytes_behind h.0.major_type n) h.1 → item_at 256 s ≡ Ok x → IsPast (items_behind h.0.major_type n) t x.1
+pub behind_head : (s : List ℕ) (h : HeadSeen × List ℕ) (n : ℕ) (t : List ℕ) (x : Item × List ℕ) → IsBytes s → head_at s ≡ Ok h → number_of h.0.argument ≡ Some n → t ≡ drop (bytes_behind h.0.major_type n) h.1 → item_at 256 s ≡ Ok x → IsPast (items_behind h.0.major_type n) t x.1
 unfolding item_at
 behind_head s h n t x fits e number rest whole =
     let by : item_by (things (item_at 255)) (length s) h.0.argument h.0.major_type h.1 ≡ Ok x =
-    sym (ap (λ (r : Result (Head × List ℕ) Fault). r >>= λ y. item_by (things (item_at 255)) (length s) y.0.argument y.0.major_type y.1) e) ∙ whole in
+    sym (ap (λ (r : Result (HeadSeen × List ℕ) Fault). r >>= λ y. item_by (things (item_at 255)) (length s) y.0.argument y.0.major_type y.1) e) ∙ whole in
     subst (λ (r : List ℕ). IsPast (items_behind h.0.major_type n) r x.1) (sym rest)
     (behind_by h.0.major_type (length s) n h.0.argument h.1 x (head_takes s h fits e).rest_fits number by)
 

@@ -9,9 +9,8 @@ use Rattle.coset_cbor.specs.declared.fault.Fault.{Fault}
 use Rattle.coset_cbor.specs.declared.fault.Fault.TheVariants.{End, Syntax, Simple, Deep}
 use Rattle.coset_cbor.specs.declared.head.MajorType.{MajorType}
 use Rattle.coset_cbor.specs.declared.head.MajorType.TheVariants as major_types
-use Rattle.coset_cbor.specs.declared.head.Argument.{Argument}
-use Rattle.coset_cbor.specs.declared.head.Argument.TheVariants as places
-use Rattle.coset_cbor.specs.declared.head.Head.{Head}
+use Rattle.coset_cbor.specs.Heads.{Argument, HeadSeen}
+use Rattle.coset_cbor.specs.Heads as places
 use Rattle.coset_value.specs.Item.{Item, integer, bytes, tag, array, dict, Items, no_items, item, items_count}
 use Rattle.coset_value.specs.View.{items_of, pairs_of}
 use Rattle.coset_cbor.specs.Grammar.{Place, within, one, two, four, eight, Holds, head_in, IsHead, IsHeaded, EachInOrder, joined_chunks, string_type, IsDefinite, AreEncodings}
@@ -80,7 +79,7 @@ argument_fault x s f e =
 
 head_fault : (s : List ℕ) (f : Fault) → head_at s ≡ Err f → HeadFault s f
 unfolding head_at
-head_fault [] f e = inl (sym (fault_is {A = Head × List ℕ} End f e), inl refl)
+head_fault [] f e = inl (sym (fault_is {A = HeadSeen × List ℕ} End f e), inl refl)
 head_fault (x ∷ s) f e = argument_fault x s f (bind_made (argument_by (x % 32) (suc (length s)) s) (λ a. (record { major_type = major_type_of (x / 32); argument = a.0 }, a.1)) f e)
 
 -- ---- a fault inside what opens
@@ -187,12 +186,12 @@ string_fault d is_text s c t h r n f parts due split head e =
     type_four false = omega arith
     type_four true = omega arith
 
-first_major_type : (x : ℕ) (t : List ℕ) (h : Head × List ℕ) → head_at (x ∷ t) ≡ Ok h → h.0.major_type ≡ major_type_of (x / 32)
+first_major_type : (x : ℕ) (t : List ℕ) (h : HeadSeen × List ℕ) → head_at (x ∷ t) ≡ Ok h → h.0.major_type ≡ major_type_of (x / 32)
 unfolding head_at
 first_major_type x t h e =
     let r = bind_ok (argument_by (x % 32) (suc (length t)) t) (λ a. Ok (record { major_type = major_type_of (x / 32); argument = a.0 }, a.1)) h e in
-    let made : Head × List ℕ = (record { major_type = major_type_of (x / 32); argument = r.0.0 }, r.0.1) in
-    ap (λ (y : Head × List ℕ). y.0.major_type) (sym (ok_is made h r.2))
+    let made : HeadSeen × List ℕ = (record { major_type = major_type_of (x / 32); argument = r.0.0 }, r.0.1) in
+    ap (λ (y : HeadSeen × List ℕ). y.0.major_type) (sym (ok_is made h r.2))
 
 begins_chunk-type : (is_text : Bool) → begins_chunk is_text (major_type_of (string_type is_text)) ≡ true
 begins_chunk-type false = refl
@@ -205,7 +204,7 @@ bad_info_no_chunk is_text (x ∷ t) h =
     let high = h.1 in
     (λ e. omega arith, λ k. let le = k.1 in omega arith)
 
-other_no_chunk : (is_text : Bool) (t : List ℕ) (h : Head × List ℕ) → begins_break t ≡ false → head_at t ≡ Ok h → begins_chunk is_text h.0.major_type ≡ false → NoChunk is_text t
+other_no_chunk : (is_text : Bool) (t : List ℕ) (h : HeadSeen × List ℕ) → begins_break t ≡ false → head_at t ≡ Ok h → begins_chunk is_text h.0.major_type ≡ false → NoChunk is_text t
 unfolding head_at
 other_no_chunk is_text [] h goes e other = absurd cc
 other_no_chunk is_text (x ∷ t) h goes e other = (

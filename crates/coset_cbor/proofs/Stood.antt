@@ -12,9 +12,8 @@ use Rattle.coset_cbor.specs.declared.de.EndOfFile.{EndOfFile}
 use Rattle.coset_cbor.specs.declared.de.Error.{Error}
 use Rattle.coset_cbor.specs.declared.de.Error.TheVariants as errors
 use Rattle.coset_cbor.specs.declared.head.MajorType.TheVariants as major_types
-use Rattle.coset_cbor.specs.declared.head.Argument.{Argument}
-use Rattle.coset_cbor.specs.declared.head.Argument.TheVariants as places
-use Rattle.coset_cbor.specs.declared.head.Head.{Head}
+use Rattle.coset_cbor.specs.Heads.{Argument, HeadSeen}
+use Rattle.coset_cbor.specs.Heads as places
 use Rattle.coset_cbor.specs.Grammar.{IsHeaded, EachInOrder, IsDefinite, joined_chunks, string_type, IsItem}
 use Rattle.coset_cbor.specs.Faults.{Due, DueChunk, LacksArgument, LacksContent, Ends, NoItem, NoChunk, IsBadTextString, IsNotSupported, Nests}
 use Rattle.coset_cbor.specs.Refused.{IsMemory, StandsIn}
@@ -187,11 +186,11 @@ lacks_by inside left m n a s y none num (inr h) e =
     none.pairs h.1 r.0 (ap (λ (k : Option ℕ). inside.pairs k s) (sym num) ∙ r.1)
 
 -- what reading an item does with its head
-with_head : (d : ℕ) (t : List ℕ) (h : Head × List ℕ) (y : Item × List ℕ) → head_at t ≡ Ok h → item_at d t ≡ Ok y
+with_head : (d : ℕ) (t : List ℕ) (h : HeadSeen × List ℕ) (y : Item × List ℕ) → head_at t ≡ Ok h → item_at d t ≡ Ok y
     → ((item_by nothing (length t) h.0.argument h.0.major_type h.1 ≡ Ok y) ⊎ ((c : ℕ) × (item_by (things (item_at c)) (length t) h.0.argument h.0.major_type h.1 ≡ Ok y)))
 unfolding item_at
-with_head zero t h y e is = inl (sym (ap (λ (r : Result (Head × List ℕ) Fault). r >>= λ x. item_by nothing (length t) x.0.argument x.0.major_type x.1) e) ∙ is)
-with_head (suc d) t h y e is = inr (d, sym (ap (λ (r : Result (Head × List ℕ) Fault). r >>= λ x. item_by (things (item_at d)) (length t) x.0.argument x.0.major_type x.1) e) ∙ is)
+with_head zero t h y e is = inl (sym (ap (λ (r : Result (HeadSeen × List ℕ) Fault). r >>= λ x. item_by nothing (length t) x.0.argument x.0.major_type x.1) e) ∙ is)
+with_head (suc d) t h y e is = inr (d, sym (ap (λ (r : Result (HeadSeen × List ℕ) Fault). r >>= λ x. item_by (things (item_at d)) (length t) x.0.argument x.0.major_type x.1) e) ∙ is)
 
 content_blocked : (e : Bool) (t : List ℕ) → LacksContent t → (d : ℕ) → IsBlocked e d t
 content_blocked e t h d = (
@@ -238,11 +237,11 @@ abbrev NoChunkRead : Bool → List ℕ → Type 0
 NoChunkRead is_text t = ((x : List ℕ × List ℕ) → chunk_at is_text t ≡ Ok x → ⊥) × (begins_break t ≡ false)
 
 -- what reading a chunk does with its head
-chunk_with : (is_text : Bool) (t : List ℕ) (h : Head × List ℕ) (x : List ℕ × List ℕ) → head_at t ≡ Ok h → chunk_at is_text t ≡ Ok x
+chunk_with : (is_text : Bool) (t : List ℕ) (h : HeadSeen × List ℕ) (x : List ℕ × List ℕ) → head_at t ≡ Ok h → chunk_at is_text t ≡ Ok x
     → (begins_chunk is_text h.0.major_type ≡ true) × (n : ℕ) × (number_of h.0.argument ≡ Some n) × (string_at is_text (length t) n h.1 ≡ Ok x)
 unfolding chunk_at
 chunk_with is_text t h x e is =
-    let whole = sym (ap (λ (r : Result (Head × List ℕ) Fault). r >>= λ h. cond (begins_chunk is_text h.0.major_type) (unless_none (length t) (number_of h.0.argument) (λ n. string_at is_text (length t) n h.1)) (Err (Syntax (length t)))) e) ∙ is in
+    let whole = sym (ap (λ (r : Result (HeadSeen × List ℕ) Fault). r >>= λ h. cond (begins_chunk is_text h.0.major_type) (unless_none (length t) (number_of h.0.argument) (λ n. string_at is_text (length t) n h.1)) (Err (Syntax (length t)))) e) ∙ is in
     let g = guard_else (begins_chunk is_text h.0.major_type) (Syntax (length t)) _ x whole in
     let n = some_ok (length t) (number_of h.0.argument) (λ n. string_at is_text (length t) n h.1) x g.1 in
     (g.0, n.0, n.1, n.2)

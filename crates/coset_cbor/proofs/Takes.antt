@@ -10,9 +10,8 @@ use Rattle.coset_cbor.specs.declared.fault.Fault.{Fault}
 use Rattle.coset_cbor.specs.declared.fault.Fault.TheVariants.{End, Syntax, Simple}
 use Rattle.coset_cbor.specs.declared.head.MajorType.{MajorType}
 use Rattle.coset_cbor.specs.declared.head.MajorType.TheVariants as major_types
-use Rattle.coset_cbor.specs.declared.head.Argument.{Argument}
-use Rattle.coset_cbor.specs.declared.head.Argument.TheVariants as places
-use Rattle.coset_cbor.specs.declared.head.Head.{Head}
+use Rattle.coset_cbor.specs.Heads.{Argument, HeadSeen}
+use Rattle.coset_cbor.specs.Heads as places
 use Rattle.coset_value.specs.Item.{half, single, double, Item, integer, bytes, float, boolean, null, tag, array, dict, items_count, pairs_count, depth, items_depth, pairs_depth}
 use Rattle.coset_value.specs.View.{items_of, pairs_of}
 use Rattle.coset_cbor.specs.Grammar.{within, one, two, four, eight, head_in, IsHead, IsHeaded, IsIndefinite, EachInOrder, joined_chunks, IsStringContent, string_type, IsDefinite, IsStringEncoding, IsEncoding, AreEncodings, ArePairEncodings}
@@ -187,13 +186,13 @@ argument_by_takes info left s x fits e =
     plain m = refl
 
 -- what a head takes
-pub record HeadTakes (s : List ℕ) (x : Head × List ℕ) : Type 0 where
+pub record HeadTakes (s : List ℕ) (x : HeadSeen × List ℕ) : Type 0 where
   pub front : List ℕ
   pub encoding : IsArgumentEncoding (major_type_number x.0.major_type) x.0.argument front
   pub parts : s ≡ front ++ x.1
   pub rest_fits : IsBytes x.1
 
-pub head_takes : (s : List ℕ) (x : Head × List ℕ) → IsBytes s → head_at s ≡ Ok x → HeadTakes s x
+pub head_takes : (s : List ℕ) (x : HeadSeen × List ℕ) → IsBytes s → head_at s ≡ Ok x → HeadTakes s x
 unfolding head_at
 head_takes [] x fits e = absurd cc
 head_takes (b ∷ s) x fits e =
@@ -202,8 +201,8 @@ head_takes (b ∷ s) x fits e =
     let split : b ≡ 32 * (b / 32) + b % 32 = omega arith in
     let r = bind_ok (argument_by (b % 32) (suc (length s)) s) (λ a. Ok (record { major_type = major_type_of (b / 32); argument = a.0 }, a.1)) x e in
     let t = argument_by_takes (b % 32) (suc (length s)) s r.0 (IsBytes-rest b s fits) r.1 in
-    let made : Head × List ℕ = (record { major_type = major_type_of (b / 32); argument = r.0.0 }, r.0.1) in
-    subst (λ (y : Head × List ℕ). HeadTakes (b ∷ s) y) (ok_is made x r.2) (record {
+    let made : HeadSeen × List ℕ = (record { major_type = major_type_of (b / 32); argument = r.0.0 }, r.0.1) in
+    subst (λ (y : HeadSeen × List ℕ). HeadTakes (b ∷ s) y) (ok_is made x r.2) (record {
       front = b ∷ t.more;
       encoding = subst (λ (m : ℕ). IsArgumentEncoding m r.0.0 (b ∷ t.more)) (sym (major_type_number-major_type_of (b / 32) q)) (subst (λ (y : ℕ). IsArgumentEncoding (b / 32) r.0.0 (y ∷ t.more)) (sym split) (t.encoding (b / 32)));
       parts = ap (λ (y : List ℕ). b ∷ y) t.parts;

@@ -6,7 +6,7 @@ use Rattle.coset_value.specs.Item.{Item}
 use Rattle.coset_cbor.specs.declared.fault.Fault.{Fault}
 use Rattle.coset_cbor.specs.declared.head.MajorType.{MajorType}
 use Rattle.coset_cbor.specs.declared.head.MajorType.TheVariants as major_types
-use Rattle.coset_cbor.specs.declared.head.Argument.{Argument}
+use Rattle.coset_cbor.specs.Heads.{Argument}
 use Rattle.coset_cbor.specs.Reading.{Parse, number_of, head_at, string_at, begins_chunk, chunk_at, begins_break, pair_at, item_at}
 use Rattle.coset_cbor.specs.Cost.{content_cost}
 

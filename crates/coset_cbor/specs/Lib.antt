@@ -3,6 +3,7 @@ pub mod Definite
 pub mod Shortest
 pub mod Faults
 pub mod Refused
+pub mod Heads
 pub mod Reading
 pub mod Least
 pub mod Cost

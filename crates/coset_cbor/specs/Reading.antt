@@ -9,10 +9,9 @@ use Rattle.coset_cbor.specs.declared.fault.ReadError.{ReadError}
 use Rattle.coset_cbor.specs.declared.fault.ReadError.TheVariants as errors
 use Rattle.coset_cbor.specs.declared.head.MajorType.{MajorType}
 use Rattle.coset_cbor.specs.declared.head.MajorType.TheVariants as major_types
-use Rattle.coset_cbor.specs.declared.head.Argument.{Argument}
-use Rattle.coset_cbor.specs.declared.head.Argument.TheVariants as places
+use Rattle.coset_cbor.specs.Heads.{Argument, HeadSeen}
+use Rattle.coset_cbor.specs.Heads as places
 use Rattle.coset_cbor.specs.declared.head.Head.{Head}
-use Rattle.coset_cbor.specs.declared.head.Start.{Start}
 use Rattle.coset_value.specs.Item.{half, single, double, Item, integer, bytes, float, text, boolean, null, tag, array, dict}
 use Rattle.coset_value.specs.View.{items_of, pairs_of}
 use Rattle.coset_cbor.specs.Grammar.{joined_chunks}
@@ -61,7 +60,7 @@ argument_from info n =
     (if info == 27 then places.Eight n else
     places.Indefinite))))
 
-abbrev pub head_from : Start → Head
+abbrev pub head_from : Head → HeadSeen
 head_from s = record { major_type = s.major_type; argument = argument_from s.info s.number }
 
 -- a number in k bytes
@@ -78,7 +77,7 @@ argument_by info left s =
     (if info == 31 then Ok (places.Indefinite, s) else
     Err (Syntax left))))))
 
-unfoldable pub head_at : Parse Head
+unfoldable pub head_at : Parse HeadSeen
 head_at [] = Err End
 head_at (x ∷ s) = argument_by (x % 32) (suc (length s)) s >>= λ a. Ok (record { major_type = major_type_of (x / 32); argument = a.0 }, a.1)
 

@@ -4,7 +4,7 @@ use Rattle.coset_value.specs.Item.{Bits, Item, integer, bytes, float, text, bool
 use Rattle.coset_cbor.specs.declared.fault.Fault.{Fault}
 use Rattle.coset_cbor.specs.declared.head.MajorType.{MajorType}
 use Rattle.coset_cbor.specs.declared.head.MajorType.TheVariants as major_types
-use Rattle.coset_cbor.specs.declared.head.Argument.{Argument}
+use Rattle.coset_cbor.specs.Heads.{Argument}
 use Rattle.coset_cbor.specs.Reading.{number_of, simple_at}
 
 -- the item, where it is such

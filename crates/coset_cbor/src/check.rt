@@ -5,18 +5,18 @@ ghost use Rattle.coset_cbor.specs.Reading.{Answers, head_at, begins_break, strin
 ghost use Rattle.coset_cbor.specs.Counting.{Passes, PassesTo, after, content_steps, chunk_steps, string_steps, times_steps, until_steps, pair_steps, array_steps, map_steps, item_steps};
 
 use crate::fault::{Fault, end, syntax};
-use crate::head::{MajorType, Start, start_of};
+use crate::head::{Head, MajorType, head_of};
 use crate::steps::Steps;
 use crate::string::{after_break, bytes_at, is_text};
 use std::sync::ledger::Ledger;
 
 /// The head at the front and the bytes after it. It is a step.
 #[inline(always)]
-fn start<'a, L: Ledger>(bytes: &'a [u8], steps: &mut Steps<L>) -> Result<(Start, &'a [u8]), Fault>
+fn start<'a, L: Ledger>(bytes: &'a [u8], steps: &mut Steps<L>) -> Result<(Head, &'a [u8]), Fault>
     ensures head { Answers (λ x. (head_from x.0, x.1.now)) result (head_at bytes.now) }
     ensures steps { steps.new ≡ steps.old + after (head_at bytes.now) (λ _. 1) }
 {
-    let found = start_of(bytes)?;
+    let found = head_of(bytes)?;
     steps.tick();
     Ok(found)
 }
@@ -109,11 +109,11 @@ fn chunk<'a, L: Ledger>(
     ensures left { Passes result (chunk_at is_text bytes.now) }
     ensures steps { steps.new ≡ steps.old + chunk_steps is_text bytes.now }
 {
-    let (start, rest) = start(bytes, steps)?;
-    if !begins_chunk(is_text, start.major_type) {
+    let (head, rest) = start(bytes, steps)?;
+    if !begins_chunk(is_text, head.major_type) {
         return Err(Fault::Syntax(bytes.len()));
     }
-    match start.number() {
+    match head.number() {
         Some(count) => content(is_text, bytes.len(), count, rest, steps),
         None => Err(Fault::Syntax(bytes.len())),
     }
@@ -238,28 +238,28 @@ pub(crate) fn item<'a, L: Ledger>(
     ensures steps { steps.new ≡ steps.old + item_steps depth bytes.now }
 {
     let left = bytes.len();
-    let (start, rest) = start(bytes, steps)?;
-    match start.major_type {
-        MajorType::Unsigned | MajorType::Negative => match start.number() {
+    let (head, rest) = start(bytes, steps)?;
+    match head.major_type {
+        MajorType::Unsigned | MajorType::Negative => match head.number() {
             Some(_) => Ok(rest),
             None => Err(syntax(left)),
         },
-        MajorType::Bytes => string(false, left, start.number(), rest, steps),
-        MajorType::Text => string(true, left, start.number(), rest, steps),
+        MajorType::Bytes => string(false, left, head.number(), rest, steps),
+        MajorType::Text => string(true, left, head.number(), rest, steps),
         MajorType::Array => {
             if depth == 0 {
                 return Err(Fault::Deep);
             }
-            array(start.number(), rest, depth - 1, steps)
+            array(head.number(), rest, depth - 1, steps)
         }
         MajorType::Map => {
             if depth == 0 {
                 return Err(Fault::Deep);
             }
-            map(start.number(), rest, depth - 1, steps)
+            map(head.number(), rest, depth - 1, steps)
         }
         MajorType::Tag => {
-            if start.number().is_none() {
+            if head.number().is_none() {
                 return Err(syntax(left));
             }
             if depth == 0 {
@@ -267,7 +267,7 @@ pub(crate) fn item<'a, L: Ledger>(
             }
             enclosed_item(rest, depth - 1, steps)
         }
-        MajorType::Simple => simple_value(left, start.info, start.number, rest),
+        MajorType::Simple => simple_value(left, head.info, head.number, rest),
     }
 }
 

@@ -40,7 +40,7 @@ fn chunks_of(is_text: bool, bytes: &[u8]) -> Option<&[u8]>
     if !begins_chunk(is_text, head.major_type) {
         return None;
     }
-    match head.argument.number() {
+    match head.number() {
         Some(_) => Some(bytes),
         None => {
             let (_, chunks) = rest.split_last()?;

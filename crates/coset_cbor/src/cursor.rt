@@ -13,7 +13,7 @@ ghost use Rattle.coset_cbor.specs.Pulls.{pull_item, BeginsWith};
 ghost use Rattle.coset_cbor.specs.Refused.{IsMemory, StandsIn};
 
 use crate::de::{EndOfFile, Error};
-use crate::head::{MajorType, start_of};
+use crate::head::{MajorType, head_of};
 use crate::jump::jump;
 use crate::pull::Pull;
 use crate::string::after_break;
@@ -67,10 +67,10 @@ fn array_item(bytes: &[u8]) -> Option<(Places, &[u8])>
     ensures enters { (v : Item) (a : List ℕ) → Stands v bytes.now a
         → MatchOption result (as_array v ≡ None) (λ x. Enters as_array v x.1.now a x.0) }
 {
-    match start_of(bytes) {
-        Ok((start, rest)) => match start.major_type {
+    match head_of(bytes) {
+        Ok((head, rest)) => match head.major_type {
             MajorType::Array => {
-                let left = start.number();
+                let left = head.number();
                 Some((Places { left }, rest))
             }
             _ => None,
@@ -83,8 +83,8 @@ fn array_item(bytes: &[u8]) -> Option<(Places, &[u8])>
 fn major_type_of(bytes: &[u8]) -> Option<MajorType>
     ensures { (v : Item) (a : List ℕ) → Stands v bytes.now a → result ≡ Some (item_major_type v) }
 {
-    match start_of(bytes) {
-        Ok((start, _)) => Some(start.major_type),
+    match head_of(bytes) {
+        Ok((head, _)) => Some(head.major_type),
         Err(_) => None,
     }
 }
@@ -105,10 +105,10 @@ fn map_item(bytes: &[u8]) -> Option<(Places, &[u8])>
     ensures enters { (v : Item) (a : List ℕ) → Stands v bytes.now a
         → MatchOption result (map_items v ≡ None) (λ x. Enters map_items v x.1.now a x.0) }
 {
-    match start_of(bytes) {
-        Ok((start, rest)) => match start.major_type {
+    match head_of(bytes) {
+        Ok((head, rest)) => match head.major_type {
             MajorType::Map => {
-                let left = doubled(start.number());
+                let left = doubled(head.number());
                 Some((Places { left }, rest))
             }
             _ => None,

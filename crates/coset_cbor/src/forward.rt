@@ -14,7 +14,7 @@ use crate::check::begins_chunk;
 use crate::cursor::Cursor;
 use crate::de::{EndOfFile, Error, MAX_DEPTH, error_of};
 use crate::fault::ReadError;
-use crate::head::{head_of, start_of};
+use crate::head::head_of;
 use crate::memory::OutOfMemory;
 use crate::pull::{integer_of, scalar_of};
 use crate::read;
@@ -32,10 +32,10 @@ fn integer_at(bytes: &[u8]) -> Option<(Integer, &[u8])>
         → MatchOption result (as_integer v ≡ None)
         (λ x. (as_integer v ≡ Some x.0) × (x.1.now ≡ a)) }
 {
-    let Ok((start, rest)) = start_of(bytes) else {
+    let Ok((head, rest)) = head_of(bytes) else {
         return None;
     };
-    match integer_of(start) {
+    match integer_of(head) {
         Some(number) => Some((number, rest)),
         None => None,
     }
@@ -149,13 +149,13 @@ impl<'a> Cursor<'a> {
             → CopiesPart as_bytes (λ b. b.items) v (bytes_left self.old) (bytes_left self.new) a
             result }
     {
-        let Ok((start, rest)) = start_of(self.rest) else {
+        let Ok((head, rest)) = head_of(self.rest) else {
             return Ok(None);
         };
-        if !begins_chunk(false, start.major_type) {
+        if !begins_chunk(false, head.major_type) {
             return Ok(None);
         }
-        match byte_string(alloc, self.rest.len(), start.number(), rest) {
+        match byte_string(alloc, self.rest.len(), head.number(), rest) {
             Ok((found, rest)) => {
                 if self.rest.len() <= rest.len() {
                     return Ok(None);
@@ -183,13 +183,13 @@ impl<'a> Cursor<'a> {
             → CopiesPart as_text string_bytes v (bytes_left self.old) (bytes_left self.new) a
             result }
     {
-        let Ok((start, rest)) = start_of(self.rest) else {
+        let Ok((head, rest)) = head_of(self.rest) else {
             return Ok(None);
         };
-        if !begins_chunk(true, start.major_type) {
+        if !begins_chunk(true, head.major_type) {
             return Ok(None);
         }
-        match text_string(alloc, self.rest.len(), start.number(), rest) {
+        match text_string(alloc, self.rest.len(), head.number(), rest) {
             Ok((found, rest)) => {
                 if self.rest.len() <= rest.len() {
                     return Ok(None);

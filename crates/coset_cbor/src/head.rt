@@ -1,7 +1,8 @@
 //! Heads: the first bytes of an item.
 
-ghost use Rattle.std.specs.Prelude.{◌≡◌, ◌<◌, ◌/◌, length};
+ghost use Rattle.std.specs.Prelude.{◌≡◌, ◌<◌, ◌/◌, length, IfOk};
 ghost use Rattle.std.specs.Int.{w8, w16, w32, w64};
+ghost use Rattle.coset_cbor.specs.Heads.{Fits, One, Two, Four, Eight};
 ghost use Rattle.coset_cbor.specs.Reading.{Answers, major_type_of, head_at, argument_at, argument_by, argument_from, head_from, number_of};
 
 use crate::fault::{Fault, end, syntax};
@@ -19,33 +20,17 @@ pub(crate) enum MajorType {
     Simple,
 }
 
-/// The argument of a head, by where it stands.
-#[derive(Clone, Copy, Debug, PartialEq, Eq)]
-pub(crate) enum Argument {
-    Within(u8),
-    One(u8),
-    Two(u16),
-    Four(u32),
-    Eight(u64),
-    Indefinite,
-}
-
+/// A head (RFC 8949, section 3): the major type, the low five bits of the first byte, which say where the argument
+/// stands, and the argument, 0 where there is none.
 #[derive(Clone, Copy, Debug)]
 pub(crate) struct Head {
-    pub(crate) major_type: MajorType,
-    pub(crate) argument: Argument,
-}
-
-/// A head whose argument is a number beside the low five bits of the first byte, which say where it stands.
-#[derive(Clone, Copy, Debug)]
-pub(crate) struct Start {
     pub(crate) major_type: MajorType,
     pub(crate) info: u8,
     pub(crate) number: u64,
 }
 
-impl Start {
-    /// The number, where there is one.
+impl Head {
+    /// The argument, where there is one.
     #[inline(always)]
     pub(crate) fn number(self) -> Option<u64>
         ensures { result ≡ number_of (argument_from self.info self.number) }
@@ -54,22 +39,6 @@ impl Start {
             Some(self.number)
         } else {
             None
-        }
-    }
-}
-
-impl Argument {
-    /// The number, where there is one.
-    #[inline(always)]
-    pub(crate) fn number(self) -> Option<u64>
-        ensures { result ≡ number_of self }
-    {
-        match self {
-            Argument::Within(n) | Argument::One(n) => Some(u64::from(n)),
-            Argument::Two(n) => Some(u64::from(n)),
-            Argument::Four(n) => Some(u64::from(n)),
-            Argument::Eight(n) => Some(n),
-            Argument::Indefinite => None,
         }
     }
 }
@@ -94,8 +63,8 @@ impl MajorType {
 
 #[inline(always)]
 fn one_at(bytes: &[u8]) -> Result<(u8, &[u8]), Fault>
-    ensures { Answers (λ x. (Argument.One x.0, x.1.now)) result
-        (argument_at Argument.One w8 1 bytes.now) }
+    ensures { Answers (λ x. (One x.0, x.1.now)) result
+        (argument_at One w8 1 bytes.now) }
 {
     let Some((first, rest)) = bytes.split_first() else {
         return Err(end());
@@ -105,8 +74,8 @@ fn one_at(bytes: &[u8]) -> Result<(u8, &[u8]), Fault>
 
 #[inline(always)]
 fn two_at(bytes: &[u8]) -> Result<(u16, &[u8]), Fault>
-    ensures { Answers (λ x. (Argument.Two x.0, x.1.now)) result
-        (argument_at Argument.Two w16 2 bytes.now) }
+    ensures { Answers (λ x. (Two x.0, x.1.now)) result
+        (argument_at Two w16 2 bytes.now) }
 {
     if bytes.len() < 2 {
         return Err(end());
@@ -118,8 +87,8 @@ fn two_at(bytes: &[u8]) -> Result<(u16, &[u8]), Fault>
 
 #[inline(always)]
 fn four_at(bytes: &[u8]) -> Result<(u32, &[u8]), Fault>
-    ensures { Answers (λ x. (Argument.Four x.0, x.1.now)) result
-        (argument_at Argument.Four w32 4 bytes.now) }
+    ensures { Answers (λ x. (Four x.0, x.1.now)) result
+        (argument_at Four w32 4 bytes.now) }
 {
     if bytes.len() < 4 {
         return Err(end());
@@ -131,8 +100,8 @@ fn four_at(bytes: &[u8]) -> Result<(u32, &[u8]), Fault>
 
 #[inline(always)]
 fn eight_at(bytes: &[u8]) -> Result<(u64, &[u8]), Fault>
-    ensures { Answers (λ x. (Argument.Eight x.0, x.1.now)) result
-        (argument_at Argument.Eight w64 8 bytes.now) }
+    ensures { Answers (λ x. (Eight x.0, x.1.now)) result
+        (argument_at Eight w64 8 bytes.now) }
 {
     if bytes.len() < 8 {
         return Err(end());
@@ -144,40 +113,13 @@ fn eight_at(bytes: &[u8]) -> Result<(u64, &[u8]), Fault>
     Ok((number, rest))
 }
 
-/// The argument that the low five bits of a first byte announce. `left` is what was left at the head.
-#[inline(always)]
-fn argument_of(info: u8, left: usize, bytes: &[u8]) -> Result<(Argument, &[u8]), Fault>
-    ensures { Answers (λ x. (x.0, x.1.now)) result (argument_by info left bytes.now) }
-{
-    match info {
-        0..=23 => Ok((Argument::Within(info), bytes)),
-        24 => {
-            let (number, rest) = one_at(bytes)?;
-            Ok((Argument::One(number), rest))
-        }
-        25 => {
-            let (number, rest) = two_at(bytes)?;
-            Ok((Argument::Two(number), rest))
-        }
-        26 => {
-            let (number, rest) = four_at(bytes)?;
-            Ok((Argument::Four(number), rest))
-        }
-        27 => {
-            let (number, rest) = eight_at(bytes)?;
-            Ok((Argument::Eight(number), rest))
-        }
-        31 => Ok((Argument::Indefinite, bytes)),
-        _ => Err(syntax(left)),
-    }
-}
-
 /// The number that the low five bits of a first byte announce, 0 where there is none. `left` is what was left at the
 /// head.
 #[inline(always)]
 fn number_at(info: u8, left: usize, bytes: &[u8]) -> Result<(u64, &[u8]), Fault>
-    ensures { Answers (λ x. (argument_from info x.0, x.1.now)) result
+    ensures number { Answers (λ x. (argument_from info x.0, x.1.now)) result
         (argument_by info left bytes.now) }
+    ensures fits { IfOk result (λ x. Fits info x.0) }
 {
     if info < 24 {
         return Ok((u64::from(info), bytes));
@@ -205,27 +147,8 @@ fn number_at(info: u8, left: usize, bytes: &[u8]) -> Result<(u64, &[u8]), Fault>
 #[tactic(auto, unfolding(crate::specs::Reading::head_at))]
 #[inline(always)]
 pub(crate) fn head_of(bytes: &[u8]) -> Result<(Head, &[u8]), Fault>
-    ensures { Answers (λ x. (x.0, x.1.now)) result (head_at bytes.now) }
-{
-    let Some((first, rest)) = bytes.split_first() else {
-        return Err(end());
-    };
-    let major_type = MajorType::of(*first / 32);
-    let (argument, rest) = argument_of(*first % 32, bytes.len(), rest)?;
-    Ok((
-        Head {
-            major_type,
-            argument,
-        },
-        rest,
-    ))
-}
-
-/// The head at the front, its argument as a number, and the bytes after it.
-#[tactic(auto, unfolding(crate::specs::Reading::head_at))]
-#[inline(always)]
-pub(crate) fn start_of(bytes: &[u8]) -> Result<(Start, &[u8]), Fault>
-    ensures { Answers (λ x. (head_from x.0, x.1.now)) result (head_at bytes.now) }
+    ensures head { Answers (λ x. (head_from x.0, x.1.now)) result (head_at bytes.now) }
+    ensures fits { IfOk result (λ x. Fits x.0.info x.0.number) }
 {
     let Some((first, rest)) = bytes.split_first() else {
         return Err(end());
@@ -234,7 +157,7 @@ pub(crate) fn start_of(bytes: &[u8]) -> Result<(Start, &[u8]), Fault>
     let info = *first % 32;
     let (number, rest) = number_at(info, bytes.len(), rest)?;
     Ok((
-        Start {
+        Head {
             major_type,
             info,
             number,

@@ -6,7 +6,7 @@ ghost use Rattle.coset_value.specs.Item.{Item};
 ghost use Rattle.coset_cbor.specs.Reading.{item_at};
 ghost use Rattle.coset_cbor.specs.Jumps.{IsPast, items_behind, bytes_behind};
 
-use crate::head::{MajorType, start_of};
+use crate::head::{MajorType, head_of};
 
 /// How many items a head of that major type with that number announces; `None` where they are too many to count.
 #[inline(always)]
@@ -39,12 +39,12 @@ fn behind(bytes: &[u8]) -> Option<(u64, &[u8])>
     ensures { IfSome result (λ x. (v : Item × List ℕ) → item_at 256 bytes.now ≡ Ok v
         → IsPast x.0 x.1.now v.1) }
 {
-    let Ok((start, rest)) = start_of(bytes) else {
+    let Ok((head, rest)) = head_of(bytes) else {
         return None;
     };
-    let number = start.number()?;
-    let items = items_behind(start.major_type, number)?;
-    let content = bytes_behind(start.major_type, number);
+    let number = head.number()?;
+    let items = items_behind(head.major_type, number)?;
+    let content = bytes_behind(head.major_type, number);
     if (rest.len() as u64) < content {
         return None;
     }

@@ -1,7 +1,7 @@
 //! The members of a lent array or map, one after the other (RFC 8949, section 3.2.2).
 
 ghost use Rattle.std.specs.Prelude.{◌≡◌, ◌≢◌, ◌<◌, ◌++◌, ◌∷◌, [], List, ℕ, true, length, MatchOption};
-ghost use Rattle.coset_cbor.specs.declared.head.Head.{Head};
+ghost use Rattle.coset_cbor.specs.Heads.{HeadSeen};
 ghost use Rattle.coset_cbor.specs.Fronts.{HasNoItem};
 ghost use Rattle.coset_cbor.specs.Grammar.{IsHeld};
 ghost use Rattle.coset_cbor.specs.Reading.{head_at};
@@ -42,12 +42,12 @@ fn without_break(number: Option<u64>, bytes: &[u8]) -> &[u8]
 /// The bytes of the members, where the head is of that major type.
 fn content(major_type: MajorType, bytes: &[u8]) -> Option<&[u8]>
     ensures { MatchOption result
-        ((h : Head × List ℕ) → head_at bytes.now ≡ Ok h → h.0.major_type ≢ major_type)
+        ((h : HeadSeen × List ℕ) → head_at bytes.now ≡ Ok h → h.0.major_type ≢ major_type)
         (λ s. IsContent major_type bytes.now s.now) }
 {
     match head_of(bytes) {
         Ok((head, rest)) if head.major_type == major_type => {
-            Some(without_break(head.argument.number(), rest))
+            Some(without_break(head.number(), rest))
         }
         _ => None,
     }

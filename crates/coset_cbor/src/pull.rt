@@ -6,6 +6,7 @@ ghost use Rattle.coset_value.specs.Parts.{as_integer, as_bytes, as_text, as_bool
 ghost use Rattle.coset_value.specs.View.{view, bits_of};
 ghost use Rattle.coset_cbor.specs.Fronts.{HasNoItem};
 ghost use Rattle.coset_cbor.specs.Grammar.{IsHeaded, IsItem};
+ghost use Rattle.coset_cbor.specs.Heads.{Fits};
 ghost use Rattle.coset_cbor.specs.Reading.{argument_from, number_of};
 ghost use Rattle.coset_cbor.specs.Refused.{IsMemory, StandsIn};
 ghost use Rattle.coset_cbor.specs.Scalars.{as_scalar, as_float, scalar_by, integer_by, tag_by};
@@ -14,7 +15,7 @@ ghost use Rattle.coset_cbor.specs.Whole.{is_one_item};
 use crate::check::begins_chunk;
 use crate::de::{EndOfFile, Error, MAX_DEPTH, check};
 use crate::fault::ReadError;
-use crate::head::{Head, MajorType, Start, head_of, start_of};
+use crate::head::{Head, MajorType, head_of};
 use crate::memory::OutOfMemory;
 use crate::read;
 use crate::steps::Steps;
@@ -48,18 +49,20 @@ fn front_length<L: Ledger>(bytes: &[u8], blank: Blank) -> Result<usize, Error<En
 
 /// The value of an integer, a float or a simple value, as its head says.
 pub(crate) fn scalar_of(head: Head, left: usize, bytes: &[u8]) -> Option<Value>
-    ensures { option_map view result ≡ scalar_by left head.argument head.major_type bytes.now }
+    requires { Fits head.info head.number }
+    ensures { option_map view result
+        ≡ scalar_by left (argument_from head.info head.number) head.major_type bytes.now }
 {
     match head.major_type {
-        MajorType::Unsigned => match head.argument.number() {
+        MajorType::Unsigned => match head.number() {
             Some(n) => Some(Value::Integer(Integer::from(n))),
             None => None,
         },
-        MajorType::Negative => match head.argument.number() {
+        MajorType::Negative => match head.number() {
             Some(n) => Some(Value::Integer(read::negative_integer(n))),
             None => None,
         },
-        MajorType::Simple => match read::simple_value(left, head.argument, bytes) {
+        MajorType::Simple => match read::simple_value(left, head.info, head.number, bytes) {
             Ok((value, _)) => Some(value),
             Err(_) => None,
         },
@@ -68,16 +71,16 @@ pub(crate) fn scalar_of(head: Head, left: usize, bytes: &[u8]) -> Option<Value>
 }
 
 /// The number of an integer, as its head says.
-pub(crate) fn integer_of(start: Start) -> Option<Integer>
+pub(crate) fn integer_of(head: Head) -> Option<Integer>
     ensures { result
-        ≡ integer_by (number_of (argument_from start.info start.number)) start.major_type }
+        ≡ integer_by (number_of (argument_from head.info head.number)) head.major_type }
 {
-    match start.major_type {
-        MajorType::Unsigned => match start.number() {
+    match head.major_type {
+        MajorType::Unsigned => match head.number() {
             Some(n) => Some(Integer::from(n)),
             None => None,
         },
-        MajorType::Negative => match start.number() {
+        MajorType::Negative => match head.number() {
             Some(n) => Some(read::negative_integer(n)),
             None => None,
         },
@@ -87,10 +90,10 @@ pub(crate) fn integer_of(start: Start) -> Option<Integer>
 
 /// The number of a tag's head.
 fn tag_number(head: Head) -> Option<u64>
-    ensures { result ≡ tag_by head.argument head.major_type }
+    ensures { result ≡ tag_by (argument_from head.info head.number) head.major_type }
 {
     match head.major_type {
-        MajorType::Tag => head.argument.number(),
+        MajorType::Tag => head.number(),
         _ => None,
     }
 }
@@ -136,10 +139,10 @@ impl<'a> Pull<'a> {
     pub fn integer(&self) -> Option<Integer>
         ensures { result ≡ as_integer (pull_item self.now) }
     {
-        let Ok((start, _)) = start_of(self.bytes) else {
+        let Ok((head, _)) = head_of(self.bytes) else {
             return None;
         };
-        integer_of(start)
+        integer_of(head)
     }
 
     /// Which of `false` and `true` this is, and `None` of any other item (RFC 8949, section 3.3).
@@ -194,13 +197,13 @@ impl<'a> Pull<'a> {
     pub fn to_bytes(&self, alloc: Global) -> Result<Option<Vec<u8>>, OutOfMemory>
         ensures { IfOk result (λ o. option_map (λ b. b.items) o ≡ as_bytes (pull_item self.now)) }
     {
-        let Ok((start, rest)) = start_of(self.bytes) else {
+        let Ok((head, rest)) = head_of(self.bytes) else {
             return Ok(None);
         };
-        if !begins_chunk(false, start.major_type) {
+        if !begins_chunk(false, head.major_type) {
             return Ok(None);
         }
-        match byte_string(alloc, self.bytes.len(), start.number(), rest) {
+        match byte_string(alloc, self.bytes.len(), head.number(), rest) {
             Ok((found, _)) => Ok(Some(found)),
             Err(ReadError::Memory) => Err(OutOfMemory),
             Err(ReadError::Fault(_)) => unreachable!(),
@@ -214,13 +217,13 @@ impl<'a> Pull<'a> {
     pub fn to_text(&self, alloc: Global) -> Result<Option<String>, OutOfMemory>
         ensures { IfOk result (λ o. option_map string_bytes o ≡ as_text (pull_item self.now)) }
     {
-        let Ok((start, rest)) = start_of(self.bytes) else {
+        let Ok((head, rest)) = head_of(self.bytes) else {
             return Ok(None);
         };
-        if !begins_chunk(true, start.major_type) {
+        if !begins_chunk(true, head.major_type) {
             return Ok(None);
         }
-        match text_string(alloc, self.bytes.len(), start.number(), rest) {
+        match text_string(alloc, self.bytes.len(), head.number(), rest) {
             Ok((found, _)) => Ok(Some(found)),
             Err(ReadError::Memory) => Err(OutOfMemory),
             Err(ReadError::Fault(_)) => unreachable!(),

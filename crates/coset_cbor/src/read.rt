@@ -2,10 +2,11 @@
 
 ghost use Rattle.std.specs.Prelude.{◌≡◌, map, length, negsuc};
 ghost use Rattle.coset_value.specs.View.{view, pair_view};
-ghost use Rattle.coset_cbor.specs.Reading.{Answers, Gives, times_at, until_at, pair_at, array_by, map_by, simple_at, item_at};
+ghost use Rattle.coset_cbor.specs.Heads.{Fits};
+ghost use Rattle.coset_cbor.specs.Reading.{Answers, Gives, argument_from, times_at, until_at, pair_at, array_by, map_by, simple_at, item_at};
 
 use crate::fault::{Fault, ReadError};
-use crate::head::{Argument, MajorType, head_of, start_of};
+use crate::head::{Head, MajorType, head_of};
 use crate::string::{after_break, byte_string, text_string};
 use coset_value::{Float, Integer, Value};
 use std::alloc::Global;
@@ -23,22 +24,32 @@ pub(crate) fn negative_integer(n: u64) -> Integer
 /// A simple value or a float. `left` is what was left at the head.
 pub(crate) fn simple_value(
     left: usize,
-    argument: Argument,
+    info: u8,
+    number: u64,
     bytes: &[u8],
 ) -> Result<(Value, &[u8]), Fault>
-    ensures { Answers (λ x. (view x.0, x.1.now)) result (simple_at left argument bytes.now) }
+    requires { Fits info number }
+    ensures { Answers (λ x. (view x.0, x.1.now)) result
+        (simple_at left (argument_from info number) bytes.now) }
 {
-    match argument {
-        Argument::Within(20) => Ok((Value::Bool(false), bytes)),
-        Argument::Within(21) => Ok((Value::Bool(true), bytes)),
-        Argument::Within(22) => Ok((Value::Null, bytes)),
-        Argument::Within(_) => Err(Fault::Simple(left)),
-        Argument::One(n) if n < 32 => Err(Fault::Syntax(left)),
-        Argument::One(_) => Err(Fault::Simple(left)),
-        Argument::Two(bits) => Ok((Value::Float(Float::Half(bits)), bytes)),
-        Argument::Four(bits) => Ok((Value::Float(Float::Single(bits)), bytes)),
-        Argument::Eight(bits) => Ok((Value::Float(Float::Double(bits)), bytes)),
-        Argument::Indefinite => Err(Fault::Syntax(left)),
+    match info {
+        0..=23 => match number {
+            20 => Ok((Value::Bool(false), bytes)),
+            21 => Ok((Value::Bool(true), bytes)),
+            22 => Ok((Value::Null, bytes)),
+            _ => Err(Fault::Simple(left)),
+        },
+        24 => {
+            if number < 32 {
+                Err(Fault::Syntax(left))
+            } else {
+                Err(Fault::Simple(left))
+            }
+        }
+        25 => Ok((Value::Float(Float::Half(number as u16)), bytes)),
+        26 => Ok((Value::Float(Float::Single(number as u32)), bytes)),
+        27 => Ok((Value::Float(Float::Double(number)), bytes)),
+        _ => Err(Fault::Syntax(left)),
     }
 }
 
@@ -49,9 +60,9 @@ pub(crate) fn item(alloc: Global, bytes: &[u8], depth: usize) -> Result<(Value, 
     ensures { Gives (λ x. (view x.0, x.1.now)) result (item_at depth bytes.now) }
 {
     let left = bytes.len();
-    let (start, rest) = start_of(bytes)?;
-    let number = start.number();
-    match start.major_type {
+    let (head, rest) = head_of(bytes)?;
+    let number = head.number();
+    match head.major_type {
         MajorType::Unsigned => {
             let n = number.ok_or(ReadError::Fault(Fault::Syntax(left)))?;
             Ok((Value::Integer(Integer::from(n)), rest))
@@ -90,10 +101,7 @@ pub(crate) fn item(alloc: Global, bytes: &[u8], depth: usize) -> Result<(Value, 
             let (inside, rest) = item(alloc, rest, depth - 1)?;
             Ok((Value::Tag(n, Box::new(alloc, inside)?), rest))
         }
-        MajorType::Simple => {
-            let (head, rest) = head_of(bytes)?;
-            Ok(simple_value(left, head.argument, rest)?)
-        }
+        MajorType::Simple => Ok(simple_value(left, head.info, head.number, rest)?),
     }
 }
 

@@ -132,7 +132,7 @@ pub(crate) fn byte_chunk(bytes: &[u8]) -> Result<(&[u8], &[u8]), Fault>
     ensures { Answers (λ x. (x.0.now, x.1.now)) result (chunk_at false bytes.now) }
 {
     let (head, rest) = head_of(bytes)?;
-    match (head.major_type, head.argument.number()) {
+    match (head.major_type, head.number()) {
         (MajorType::Bytes, Some(count)) => bytes_at(bytes.len(), count, rest),
         _ => Err(Fault::Syntax(bytes.len())),
     }
@@ -144,7 +144,7 @@ pub(crate) fn text_chunk(bytes: &[u8]) -> Result<(&str, &[u8]), Fault>
     ensures { Answers (λ x. (x.0.now, x.1.now)) result (chunk_at true bytes.now) }
 {
     let (head, rest) = head_of(bytes)?;
-    match (head.major_type, head.argument.number()) {
+    match (head.major_type, head.number()) {
         (MajorType::Text, Some(count)) => text_at(bytes.len(), count, rest),
         _ => Err(Fault::Syntax(bytes.len())),
     }

@@ -83,8 +83,8 @@ pair-returns-clause-steps g t c = pair_steps_left (item_at c.args.depth) (item_s
 
 pub item-returns-else-depth-eq0-clause-left : goal.item-returns-else-depth-eq0-clause-left
 item-returns-else-depth-eq0-clause-left g t c =
-    array_passes c.array.result c.args.depth c.args.bytes.now (head_from c.in_ok-start.start, c.in_ok-start.rest.now) c.number-in-Array.result (omega arith) c.in_ok-start.ensures.head c.in-Array.is c.number-in-Array.ensures c.array.ensures.left
+    array_passes c.array.result c.args.depth c.args.bytes.now (head_from c.in_ok-head.head, c.in_ok-head.rest.now) c.number-in-Array.result (omega arith) c.in_ok-head.ensures.head c.in-Array.is c.number-in-Array.ensures c.array.ensures.left
 
 pub item-returns-else-depth-eq0-2-clause-left : goal.item-returns-else-depth-eq0-2-clause-left
 item-returns-else-depth-eq0-2-clause-left g t c =
-    map_passes c.map.result c.args.depth c.args.bytes.now (head_from c.in_ok-start.start, c.in_ok-start.rest.now) c.number-in-Map.result (omega arith) c.in_ok-start.ensures.head c.in-Map.is c.number-in-Map.ensures c.map.ensures.left
+    map_passes c.map.result c.args.depth c.args.bytes.now (head_from c.in_ok-head.head, c.in_ok-head.rest.now) c.number-in-Map.result (omega arith) c.in_ok-head.ensures.head c.in-Map.is c.number-in-Map.ensures c.map.ensures.left

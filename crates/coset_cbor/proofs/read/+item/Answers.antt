@@ -5,7 +5,7 @@ use Rattle.coset_value.specs.View.{view, pair_view}
 use Rattle.coset_cbor.specs.declared.fault.Fault.{Fault}
 use Rattle.coset_cbor.specs.declared.fault.ReadError.{ReadError}
 use Rattle.coset_cbor.specs.declared.fault.ReadError.TheVariants as errors
-use Rattle.coset_cbor.specs.declared.head.Head.{Head}
+use Rattle.coset_cbor.specs.Heads.{HeadSeen}
 use Rattle.coset_cbor.specs.declared.head.MajorType.TheVariants as major_types
 use Rattle.coset_cbor.specs.Reading.{◌>>=◌, number_of, head_at, head_from, array_by, item_by, FailsAs, things, times_at, until_at, pair_at, item_at}
 use Rattle.coset_cbor.proofs.Loops.{times_on, times_fails, times_done, until_on, until_fails, until_stops, until_ends, ok_rest}
@@ -13,13 +13,13 @@ use Rattle.coset_cbor.proofs.read.+item.Goals as goal
 
 -- the members of an array are at fault
 array_fails :
-    (d j : ℕ) (h : Head × List ℕ) (s : List ℕ) (e : ReadError) → d ≡ suc j → head_at s ≡ Ok h → h.0.major_type ≡ major_types.Array → FailsAs e (array_by (item_at j) (number_of h.0.argument) h.1)
+    (d j : ℕ) (h : HeadSeen × List ℕ) (s : List ℕ) (e : ReadError) → d ≡ suc j → head_at s ≡ Ok h → h.0.major_type ≡ major_types.Array → FailsAs e (array_by (item_at j) (number_of h.0.argument) h.1)
     → FailsAs e (item_at d s)
 unfolding item_at things
 array_fails zero j h s e z i k f = absurd (cc)
 array_fails (suc d) j h s errors.Memory z i k f = tt
 array_fails (suc d) j h s (errors.Fault f) z i k q =
-    ap (λ (r : Result (Head × List ℕ) Fault). r >>= λ x. item_by (things (item_at d)) (length s) x.0.argument x.0.major_type x.1) i
+    ap (λ (r : Result (HeadSeen × List ℕ) Fault). r >>= λ x. item_by (things (item_at d)) (length s) x.0.argument x.0.major_type x.1) i
     ∙ (ap (λ n. item_by (things (item_at d)) (length s) h.0.argument n h.1) k
     ∙ fails (subst (λ n. array_by (item_at n) (number_of h.0.argument) h.1 ≡ Err f) (ap pred (sym z)) q))
   where
@@ -29,8 +29,8 @@ array_fails (suc d) j h s (errors.Fault f) z i k q =
 pub item-returns-in_err-items-in-Array : goal.item-returns-in_err-items-in-Array
 item-returns-in_err-items-in-Array t c =
     let p = err_from_is_err_and c.from_residual-in_err-items-in-Array.result c.from_residual-in_err-items-in-Array.ensures.1 in
-    rw (p.1, p.2) (array_fails c.args.depth (c.args.depth - 1) (head_from c.in_ok-start.start, c.in_ok-start.rest.now) c.args.bytes.now c.in_err-items-in-Array.field-0.0 (omega (arith, c.if-depth-eq0.false)) c.in_ok-start.ensures c.in-Array.is
-    (subst (λ n. FailsAs c.in_err-items-in-Array.field-0.0 (array_by (item_at (c.args.depth - 1)) n c.in_ok-start.rest.now)) c.number-number.ensures c.in_err-items-in-Array.ensures))
+    rw (p.1, p.2) (array_fails c.args.depth (c.args.depth - 1) (head_from c.in_ok-head.head, c.in_ok-head.rest.now) c.args.bytes.now c.in_err-items-in-Array.field-0.0 (omega (arith, c.if-depth-eq0.false)) c.in_ok-head.ensures.head c.in-Array.is
+    (subst (λ n. FailsAs c.in_err-items-in-Array.field-0.0 (array_by (item_at (c.args.depth - 1)) n c.in_ok-head.rest.now)) c.number-number.ensures c.in_err-items-in-Array.ensures))
 
 pub items-returns-in_err-value : goal.items-returns-in_err-value
 items-returns-in_err-value t c =
