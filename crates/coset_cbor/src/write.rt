@@ -15,16 +15,7 @@ fn first_byte(major_type: MajorType, low: u8) -> u8
     requires { low < 32 }
     ensures { result ≡ 32 * major_type_number major_type + low }
 {
-    match major_type {
-        MajorType::Unsigned => low,
-        MajorType::Negative => 32 + low,
-        MajorType::Bytes => 64 + low,
-        MajorType::Text => 96 + low,
-        MajorType::Array => 128 + low,
-        MajorType::Map => 160 + low,
-        MajorType::Tag => 192 + low,
-        MajorType::Simple => 224 + low,
-    }
+    32 * (major_type as u8) + low
 }
 
 /// Writes a byte and some bytes, or nothing.
@@ -45,7 +36,8 @@ pub(crate) fn put_head(out: &mut Vec<u8>, major_type: MajorType, n: u64) -> Resu
     ensures kept { Extends out.old.items out.new.items }
 {
     if n < 24 {
-        put_two(out, first_byte(major_type, n as u8), &[])
+        out.push(first_byte(major_type, n as u8))?;
+        Ok(())
     } else if n < 0x100 {
         put_two(out, first_byte(major_type, 24), &[n as u8])
     } else if n < 0x1_0000 {
