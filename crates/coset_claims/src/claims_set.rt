@@ -11,13 +11,12 @@ ghost use Rattle.coset_codec.specs.Inputs.{ReadsAt, length_left, state};
 ghost use Rattle.coset_codec.specs.Maps.{Adds, Refuses, are_distinct, optional};
 ghost use Rattle.coset_codec.specs.Shape.{bstr, tstr};
 ghost use Rattle.coset_label.specs.Names.{assigned, phrase, private_use};
-ghost use Rattle.coset_core.specs.FieldValues.{TakesValue, RefusesValue};
 ghost use Rattle.coset_claims.specs.Timestamp.{timestamp, timestamp_seen};
 ghost use Rattle.coset_claims.specs.Claims.{IsOtherClaim, and_claim, claim_name, claims, claims_seen, fields, name_seen, names, no_claims, parts_of, same_name};
 
-use crate::timestamp::{Timestamp, read_timestamp};
+use crate::timestamp::Timestamp;
 use coset_cbor::value::Value;
-use coset_codec::read::{Gather, Input, InputPairs, read_map};
+use coset_codec::read::{Gather, Input, InputPairs, read_map, set_field};
 use coset_codec::write::MapEncoder;
 use coset_codec::{Codec, Result, has_repeats};
 use coset_iana::{CwtClaimName, EnumI64};
@@ -87,60 +86,6 @@ fn is_claim(name: &ClaimName, claim: CwtClaimName) -> bool
     }
 }
 
-/// Sets a text, where there is none yet.
-fn set_text(alloc: Global, field: &mut Option<String>, input: &mut Input<'_>) -> Result<()>
-    ensures shrinks { length_left (state input.new) ≤ length_left (state input.old) }
-    ensures takes { ReadsAt (state input.old) (state input.new) (λ v. OnOk result
-        (TakesValue (optional tstr) v
-        (option_map string_bytes field.old) (option_map string_bytes field.new))) }
-    ensures refused { ReadsAt (state input.old) (state input.new) (λ v. IfErr result
-        (λ e. UnlessMemory e (RefusesValue (optional tstr) v
-        (option_map string_bytes field.old)))) }
-    ensures kept { OnErr result (field.new ≡ field.old) }
-{
-    if field.is_some() {
-        return Err(input.repeated());
-    }
-    *field = Some(input.text(alloc, "tstr")?);
-    Ok(())
-}
-
-/// Sets a timestamp, where there is none yet.
-fn set_timestamp(field: &mut Option<Timestamp>, input: &mut Input<'_>) -> Result<()>
-    ensures shrinks { length_left (state input.new) ≤ length_left (state input.old) }
-    ensures takes { ReadsAt (state input.old) (state input.new) (λ v. OnOk result
-        (TakesValue (optional timestamp) v
-        (option_map timestamp_seen field.old) (option_map timestamp_seen field.new))) }
-    ensures refused { ReadsAt (state input.old) (state input.new) (λ v. IfErr result
-        (λ e. UnlessMemory e (RefusesValue (optional timestamp) v
-        (option_map timestamp_seen field.old)))) }
-    ensures kept { OnErr result (field.new ≡ field.old) }
-{
-    if field.is_some() {
-        return Err(input.repeated());
-    }
-    *field = Some(read_timestamp(input)?);
-    Ok(())
-}
-
-/// Sets a byte string, where there is none yet.
-fn set_bytes(alloc: Global, field: &mut Option<Vec<u8>>, input: &mut Input<'_>) -> Result<()>
-    ensures shrinks { length_left (state input.new) ≤ length_left (state input.old) }
-    ensures takes { ReadsAt (state input.old) (state input.new) (λ v. OnOk result
-        (TakesValue (optional bstr) v
-        (option_map (λ b. b.items) field.old) (option_map (λ b. b.items) field.new))) }
-    ensures refused { ReadsAt (state input.old) (state input.new) (λ v. IfErr result
-        (λ e. UnlessMemory e (RefusesValue (optional bstr) v
-        (option_map (λ b. b.items) field.old)))) }
-    ensures kept { OnErr result (field.new ≡ field.old) }
-{
-    if field.is_some() {
-        return Err(input.repeated());
-    }
-    *field = Some(input.bytes(alloc, "bstr")?);
-    Ok(())
-}
-
 /// Takes one more claim, by its name, and goes behind it. Whether names of the rest repeat isn't asked.
 ///
 /// # Errors
@@ -157,25 +102,25 @@ fn put(claims: &mut ClaimsSet, alloc: Global, name: ClaimName, input: &mut Input
     ensures kept { OnErr result (claims_seen claims.new ≡ claims_seen claims.old) }
 {
     if is_claim(&name, CwtClaimName::Iss) {
-        return set_text(alloc, &mut claims.issuer, input);
+        return set_field(alloc, &mut claims.issuer, input);
     }
     if is_claim(&name, CwtClaimName::Sub) {
-        return set_text(alloc, &mut claims.subject, input);
+        return set_field(alloc, &mut claims.subject, input);
     }
     if is_claim(&name, CwtClaimName::Aud) {
-        return set_text(alloc, &mut claims.audience, input);
+        return set_field(alloc, &mut claims.audience, input);
     }
     if is_claim(&name, CwtClaimName::Exp) {
-        return set_timestamp(&mut claims.expiration_time, input);
+        return set_field(alloc, &mut claims.expiration_time, input);
     }
     if is_claim(&name, CwtClaimName::Nbf) {
-        return set_timestamp(&mut claims.not_before, input);
+        return set_field(alloc, &mut claims.not_before, input);
     }
     if is_claim(&name, CwtClaimName::Iat) {
-        return set_timestamp(&mut claims.issued_at, input);
+        return set_field(alloc, &mut claims.issued_at, input);
     }
     if is_claim(&name, CwtClaimName::Cti) {
-        return set_bytes(alloc, &mut claims.cwt_id, input);
+        return set_field(alloc, &mut claims.cwt_id, input);
     }
     let value = input.value(alloc)?;
     claims.rest.push((name, value))?;

@@ -32,7 +32,7 @@ pub enum Timestamp {
 
 /// Reads a timestamp. It takes no memory.
 #[tactic(auto, unfolding(crate::specs::Timestamp::timestamp))]
-pub(crate) fn read_timestamp(input: &mut Input<'_>) -> Result<Timestamp>
+fn read_timestamp(input: &mut Input<'_>) -> Result<Timestamp>
     ensures shrinks { length_left (state input.new) ≤ length_left (state input.old) }
     ensures strictly { OnOk result (GoesBehind (state input.old) (state input.new)) }
     ensures reads { ReadsAt (state input.old) (state input.new)

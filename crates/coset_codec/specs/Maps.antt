@@ -79,6 +79,14 @@ is_filled (x ∷ xs) = true
 abbrev pub listed : {A : Type 0} → Shape (List A) → FieldShape (List A)
 listed s = field_shape [] is_filled s
 
+-- x says that there is no value yet, and y is what the value v makes
+abbrev pub TakesValue : {A : Type 0} → FieldShape A → Item → A → A → Type 0
+TakesValue h v x y = h.describes None x × h.describes (Some v) y
+
+-- x says that there is a value already, or something is wrong with v
+abbrev pub RefusesValue : {A : Type 0} → FieldShape A → Item → A → CoseError → Type 0
+RefusesValue h v x e = ((h.describes None x → ⊥) × (e ≡ errors.DuplicateMapKey)) ⊎ h.faults v e
+
 -- P where the test holds, else Q
 abbrev pub Where : Bool → Type 0 → Type 0 → Type 0
 Where true P Q = P

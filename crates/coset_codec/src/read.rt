@@ -1,5 +1,6 @@
 //! Reading: items where they stand, in a tree or in bytes that were checked as a whole, and lists and maps of them.
 
+mod field;
 mod forward;
 mod input;
 mod list;
@@ -7,6 +8,7 @@ mod map;
 mod one_or_more;
 mod source;
 
+pub use field::{Decode, set_field, set_filled};
 pub use input::{Input, InputItems, InputPairs};
 pub use list::{read_blamed_list, read_filled_list, read_list};
 pub use map::{Gather, read_map};

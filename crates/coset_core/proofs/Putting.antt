@@ -2,7 +2,7 @@
 use Rattle.std.proofs.Common.{◌≡◌, ◌≢◌, ◌==◌, ℕ, Vec, Global, map, arith, not, length, List, [], ◌∷◌, ◌++◌, Option, Bool, ◌||◌, false, true, refl, sym, ap, ◌∙◌, subst, true≢false, ◌⊎◌, inl, inr, Result, Ok, Err}
 use Rattle.std.specs.Prelude.{IfErr, OnOk, OnErr}
 use Rattle.coset_value.specs.Item.{Item}
-use Rattle.coset_codec.specs.Maps.{Fields, optional, listed, Where, is_core, Adds, Refuses}
+use Rattle.coset_codec.specs.Maps.{Fields, optional, listed, Where, is_core, Adds, Refuses, TakesValue, RefusesValue}
 use Rattle.coset_codec.specs.Errors.{UnlessMemory, IsUnexpected}
 use Rattle.coset_codec.specs.declared.error.CoseError.{CoseError}
 use Rattle.coset_codec.specs.Shape.{any, bstr, some_of, filled_bstr}
@@ -12,7 +12,6 @@ use Rattle.std.proofs.lemmas.Grind.{common_steps}
 use Rattle.coset_core.specs.Headers.{SignatureSeen, no_signatures, signatures_of}
 use Rattle.coset_core.specs.Filling.{NamesNoVersion}
 use Rattle.coset_core.specs.Fields.{algorithm, critical, content_type, FieldsSeen, Versions, Fielded, fields, names, same_name, bars, parts_of}
-use Rattle.coset_core.specs.FieldValues.{TakesValue, RefusesValue}
 use Rattle.coset_core.specs.FieldLaws.{names_laws, same_name-sym}
 
 -- none of nine tests passes
@@ -84,11 +83,11 @@ adds_countersignature0_v2 m v r f g a o h t e =
     (λ p. ((refl, (refl, (refl, (refl, (refl, (refl, (refl, (refl, (p.0, p.1, refl))))))))), refl))
 
 -- why a field's label is refused
-pub refuses_crit :
-    (m : Name) (v : Item) (r : Result (Unit {0}) CoseError) (x : Fielded (Option Item) × List (Name × Item)) → same_name labels.crit m ≡ true
-    → IfErr r (λ e. UnlessMemory e (RefusesValue (listed (some_of critical)) v x.0.1.0)) → IfErr r (λ e. UnlessMemory e (λ f. Refuses names F m v x f ⊎ bars m x f))
-refuses_crit m v (Ok u) x h t = t
-refuses_crit m v (Err e) x h t = λ n. inl (subst (λ l. Refuses names F l v x e) (names_laws.same_is labels.crit m h) (t n))
+pub refuses_at :
+    (l m : Name) (v : Item) (r : Result (Unit {0}) CoseError) (x : Fielded (Option Item) × List (Name × Item)) (P : CoseError → Type 0) → same_name l m ≡ true → IfErr r (λ e. UnlessMemory e P)
+    → ((e : CoseError) → P e → Refuses names F l v x e) → IfErr r (λ e. UnlessMemory e (λ f. Refuses names F m v x f ⊎ bars m x f))
+refuses_at l m v (Ok u) x P h t because = t
+refuses_at l m v (Err e) x P h t because = λ n. inl (subst (λ k. Refuses names F k v x e) (names_laws.same_is l m h) (because e (t n)))
 
 pub refuses_iv :
     (m : Name) (v : Item) (r : Result (Unit {0}) CoseError) (x : Fielded (Option Item) × List (Name × Item)) (b : Bool) → same_name labels.iv m ≡ true

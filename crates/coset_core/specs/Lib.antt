@@ -2,7 +2,6 @@ pub mod FieldLabels
 pub mod Fields
 pub mod FieldLaws
 pub mod FieldsView
-pub mod FieldValues
 pub mod Built
 pub mod Contents
 pub mod ProtectedMap

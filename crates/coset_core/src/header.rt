@@ -34,6 +34,7 @@ pub(crate) mod reading;
 pub(crate) mod writing;
 
 pub use builder::HeaderBuilder;
+pub use reading::is_parameter;
 
 /// About what a header takes beside its byte strings.
 const HEADS: usize = 24;

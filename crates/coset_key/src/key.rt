@@ -20,7 +20,6 @@ ghost use Rattle.coset_label.specs.Names.{assigned, number};
 ghost use Rattle.coset_label.specs.Orderings.{name_cmp_by};
 ghost use Rattle.coset_label.specs.Views.{label_seen};
 ghost use Rattle.coset_core.specs.Fields.{algorithm, names, same_name};
-ghost use Rattle.coset_core.specs.FieldValues.{TakesValue, RefusesValue};
 ghost use Rattle.coset_core.specs.Views.{algorithm_seen};
 ghost use Rattle.coset_key.specs.Canonical.{Canonicalizes};
 ghost use Rattle.coset_key.specs.KeyBuilt.{and_operation, and_param, ec2_key, ec2_private_key, ml_dsa_key, okp_key, symmetric_key, with_algorithm, with_base_iv, with_key_id, with_kty, IsOtherLabel};
@@ -31,11 +30,11 @@ use crate::key_ops::{KeyOps, add_operation, set_key_ops};
 use crate::ml_dsa::MlDsaVariant;
 use coset_cbor::value::Value;
 use coset_codec::Codec;
-use coset_codec::read::{Gather, Input, InputPairs, read_map};
+use coset_codec::read::{Gather, Input, InputPairs, read_map, set_field, set_filled};
 use coset_codec::write::MapEncoder;
 use coset_core::{
     Algorithm, CborOrdering, CoseError, Encode, FromPull, KeyOperation, KeyType, Label,
-    RegisteredLabel, RegisteredLabelWithPrivate, Result, has_repeats, iana,
+    RegisteredLabel, RegisteredLabelWithPrivate, Result, has_repeats, iana, is_parameter,
 };
 use coset_iana::{
     AkpKeyParameter, Ec2KeyParameter, EllipticCurve, EnumI64, KeyParameter, SymmetricKeyParameter,
@@ -144,53 +143,6 @@ struct SoFar {
     params: Vec<(Label, Value)>,
 }
 
-/// Whether the label is that of this parameter, of whatever registry.
-pub(crate) fn is_parameter<P: EnumI64 + Copy>(label: &Label, parameter: P) -> bool
-    ensures { result ≡ same_name (number (P.number parameter)) (label_seen label.now) }
-{
-    match label {
-        Label::Int(number) => *number == parameter.to_i64(),
-        Label::Text(_) => false,
-    }
-}
-
-/// Sets a field to what its value is read as, where it has none yet.
-fn set_field<T: FromPull + Drop>(
-    alloc: Global,
-    field: &mut Option<T>,
-    input: &mut Input<'_>,
-) -> Result<()>
-    ensures shrinks { length_left (state input.new) ≤ length_left (state input.old) }
-    ensures takes { ReadsAt (state input.old) (state input.new) (λ v. OnOk result
-        (TakesValue (optional T.shape) v
-        (option_map T.seen field.old) (option_map T.seen field.new))) }
-    ensures refused { ReadsAt (state input.old) (state input.new) (λ v. IfErr result
-        (λ e. UnlessMemory e (RefusesValue (optional T.shape) v (option_map T.seen field.old)))) }
-    ensures kept { OnErr result (field.new ≡ field.old) }
-{
-    if field.is_some() {
-        return Err(input.repeated());
-    }
-    *field = Some(T::from_input(alloc, input)?);
-    Ok(())
-}
-
-/// Sets the bytes of a field, where there are none yet.
-fn set_bytes(alloc: Global, field: &mut Vec<u8>, input: &mut Input<'_>) -> Result<()>
-    ensures shrinks { length_left (state input.new) ≤ length_left (state input.old) }
-    ensures takes { ReadsAt (state input.old) (state input.new) (λ v. OnOk result
-        (TakesValue (listed filled_bstr) v field.old.items field.new.items)) }
-    ensures refused { ReadsAt (state input.old) (state input.new) (λ v. IfErr result
-        (λ e. UnlessMemory e (RefusesValue (listed filled_bstr) v field.old.items))) }
-    ensures kept { OnErr result (field.new ≡ field.old) }
-{
-    if !field.is_empty() {
-        return Err(input.repeated());
-    }
-    *field = input.filled_bytes(alloc)?;
-    Ok(())
-}
-
 impl SoFar {
     /// Nothing. It takes no memory.
     fn new(alloc: Global) -> SoFar
@@ -225,7 +177,7 @@ impl SoFar {
             return set_field(alloc, &mut self.kty, input);
         }
         if is_parameter(&label, KeyParameter::Kid) {
-            return set_bytes(alloc, &mut self.key_id, input);
+            return set_filled(alloc, &mut self.key_id, input);
         }
         if is_parameter(&label, KeyParameter::Alg) {
             return set_field(alloc, &mut self.alg, input);
@@ -234,7 +186,7 @@ impl SoFar {
             return set_key_ops(alloc, &mut self.key_ops, input);
         }
         if is_parameter(&label, KeyParameter::BaseIv) {
-            return set_bytes(alloc, &mut self.base_iv, input);
+            return set_filled(alloc, &mut self.base_iv, input);
         }
         let value = input.value(alloc)?;
         self.params.push((label, value))?;

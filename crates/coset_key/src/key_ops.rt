@@ -7,9 +7,8 @@ ghost use Rattle.coset_codec.specs.declared.error.CoseError.TheVariants.{OutOfMe
 ghost use Rattle.coset_codec.specs.Answers.{Reads};
 ghost use Rattle.coset_codec.specs.Errors.{UnlessMemory};
 ghost use Rattle.coset_codec.specs.Inputs.{AreWithin, GoesBehind, ReadsAt, State, length_left, state};
-ghost use Rattle.coset_codec.specs.Maps.{listed};
+ghost use Rattle.coset_codec.specs.Maps.{RefusesValue, TakesValue, listed};
 ghost use Rattle.coset_label.specs.Names.{name_cmp};
-ghost use Rattle.coset_core.specs.FieldValues.{TakesValue, RefusesValue};
 ghost use Rattle.coset_key.specs.Keys.{key_ops, operation, operation_seen};
 ghost use Rattle.coset_key.specs.Reading.{ReadsSet, operations_seen};
 

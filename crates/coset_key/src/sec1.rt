@@ -9,9 +9,9 @@ ghost use Rattle.coset_key.specs.Keys.{key_seen};
 ghost use Rattle.coset_key.specs.Sec1.{GivesOctets, ParsesSec1, compressed, key_point, param, parse_sec1_error_text, point, point_key, to_sec1_error_text, uncompressed};
 ghost use Rattle.coset_key.specs.declared.sec1.ToSec1OctetStringError.TheVariants as errors;
 
-use crate::key::{CoseKey, CoseKeyBuilder, is_parameter};
+use crate::key::{CoseKey, CoseKeyBuilder};
 use coset_cbor::value::Value;
-use coset_core::{CallError, RegisteredLabel, Result, iana};
+use coset_core::{CallError, RegisteredLabel, Result, iana, is_parameter};
 use coset_iana::{Ec2KeyParameter, EllipticCurve};
 use std::alloc::{AllocError, AllocFailed, Global};
 use std::error::Error;

@@ -13,7 +13,7 @@ ghost use Rattle.coset_codec.specs.ShapeLaws.{int64_laws};
 ghost use Rattle.coset_sample.specs.Settings.{name_seen, names, seen, settings, so_far_seen};
 
 use coset_cbor::value::Value;
-use coset_codec::read::{Gather, Input, InputPairs, read_map};
+use coset_codec::read::{Gather, Input, InputPairs, read_map, set_field};
 use coset_codec::write::{Encode, MapEncoder};
 use coset_codec::{Codec, CoseError, Result, TaggedCodec, has_repeats};
 use std::alloc::Global;
@@ -98,25 +98,13 @@ impl Gather for SoFar {
 
     fn add(&mut self, alloc: Global, label: Name, input: &mut Input<'_>) -> Result<()> {
         if label.0 == 1 {
-            if self.level.is_some() {
-                return Err(input.repeated());
-            }
-            self.level = Some(input.int64("int")?);
-            return Ok(());
+            return set_field(alloc, &mut self.level, input);
         }
         if label.0 == 2 {
-            if self.name.is_some() {
-                return Err(input.repeated());
-            }
-            self.name = Some(input.bytes(alloc, "bstr")?);
-            return Ok(());
+            return set_field(alloc, &mut self.name, input);
         }
         if label.0 == 4 {
-            if self.limit.is_some() {
-                return Err(input.repeated());
-            }
-            self.limit = Some(input.int64("int")?);
-            return Ok(());
+            return set_field(alloc, &mut self.limit, input);
         }
         let value = input.value(alloc)?;
         self.rest.push((label, value))?;

@@ -16,14 +16,13 @@ ghost use Rattle.coset_codec.specs.Errors.{IsUnexpected, UnlessMemory, answer, f
 ghost use Rattle.coset_core.specs.Fields.{FieldsSeen, Versions, algorithm, names, fields, parts_of, same_name, HasOneIv, bars};
 ghost use Rattle.coset_value.specs.Item.{Item, Pairs, dict};
 ghost use Rattle.coset_codec.specs.Inputs.{State, state, GoesBehind, ReadsAt, length_left, input_size, pairs_size, pairs_turns, PairsWithin, items_size, Stands, EntersMap, EntersOnes};
-ghost use Rattle.coset_codec.specs.Maps.{is_filled, optional, listed, Adds, Refuses};
+ghost use Rattle.coset_codec.specs.Maps.{Adds, Refuses, RefusesValue, TakesValue, is_filled, optional, listed};
 ghost use Rattle.coset_codec.specs.Shape.{any, bstr, filled_bstr, any_number, one_or_many};
 ghost use Rattle.coset_label.specs.Names.{number};
 ghost use Rattle.coset_label.specs.Views.{label_seen};
 ghost use Rattle.coset_codec.specs.declared.read.input.InputPairs.{InputPairs};
 ghost use Rattle.coset_iana.specs.HeaderParameter as parameters;
 ghost use Rattle.coset_core.specs.Filling.{FillsFields, FillsSome, Keeps, NamesNoVersion, WalksTo, held_of, label_of};
-ghost use Rattle.coset_core.specs.FieldValues.{TakesValue, RefusesValue};
 ghost use Rattle.coset_core.specs.Headers.{empty_header, layered_header, layered_signature};
 ghost use Rattle.coset_core.specs.Written.{one};
 
@@ -34,83 +33,20 @@ use crate::header::Header;
 use crate::header::writing::ask_distinct;
 use crate::signature::{CoseSignature, fill_each, fill_one, let_go};
 use coset_codec::error::{Refused, keep_error};
-use coset_codec::read::{Input, InputItems, InputPairs};
-use coset_codec::traits::FromPull;
+use coset_codec::read::{Input, InputItems, InputPairs, set_field, set_filled};
 use coset_codec::{CoseError, Result};
 use coset_iana::{EnumI64, HeaderParameter};
 use coset_label::{Algorithm, Label};
 use std::alloc::Global;
 
-/// Whether the label is that of this parameter.
-fn is_parameter(label: &Label, parameter: HeaderParameter) -> bool
-    ensures { result ≡ same_name (number (parameters.number parameter)) (label_seen label.now) }
+/// Whether the label is that of this parameter, of whatever registry.
+pub fn is_parameter<P: EnumI64 + Copy>(label: &Label, parameter: P) -> bool
+    ensures { result ≡ same_name (number (P.number parameter)) (label_seen label.now) }
 {
     match label {
         Label::Int(number) => *number == parameter.to_i64(),
         Label::Text(_) => false,
     }
-}
-
-/// Reads an algorithm.
-#[tactic(auto, unfolding(crate::specs::Fields::algorithm))]
-fn read_algorithm(alloc: Global, input: &mut Input<'_>) -> Result<Algorithm>
-    ensures shrinks { length_left (state input.new) ≤ length_left (state input.old) }
-    ensures reads { ReadsAt (state input.old) (state input.new)
-        (λ v. Reads algorithm algorithm_seen v result) }
-{
-    Algorithm::from_input(alloc, input)
-}
-
-/// Sets the algorithm, where there is none yet.
-fn set_algorithm(alloc: Global, field: &mut Option<Algorithm>, input: &mut Input<'_>) -> Result<()>
-    ensures shrinks { length_left (state input.new) ≤ length_left (state input.old) }
-    ensures takes { ReadsAt (state input.old) (state input.new) (λ v. OnOk result
-        (TakesValue (optional algorithm) v
-        (option_map algorithm_seen field.old) (option_map algorithm_seen field.new))) }
-    ensures refused { ReadsAt (state input.old) (state input.new) (λ v. IfErr result
-        (λ e. UnlessMemory e (RefusesValue (optional algorithm) v
-        (option_map algorithm_seen field.old)))) }
-    ensures kept { OnErr result (field.new ≡ field.old) }
-{
-    if field.is_some() {
-        return Err(input.repeated());
-    }
-    *field = Some(read_algorithm(alloc, input)?);
-    Ok(())
-}
-
-/// Sets the bytes of a field, where there are none yet.
-fn set_bytes(alloc: Global, field: &mut Vec<u8>, input: &mut Input<'_>) -> Result<()>
-    ensures shrinks { length_left (state input.new) ≤ length_left (state input.old) }
-    ensures takes { ReadsAt (state input.old) (state input.new) (λ v. OnOk result
-        (TakesValue (listed filled_bstr) v field.old.items field.new.items)) }
-    ensures refused { ReadsAt (state input.old) (state input.new) (λ v. IfErr result
-        (λ e. UnlessMemory e (RefusesValue (listed filled_bstr) v field.old.items))) }
-    ensures kept { OnErr result (field.new ≡ field.old) }
-{
-    if !field.is_empty() {
-        return Err(input.repeated());
-    }
-    *field = input.filled_bytes(alloc)?;
-    Ok(())
-}
-
-/// Sets bytes that may be empty, where there are none yet.
-fn set_bstr(alloc: Global, field: &mut Option<Vec<u8>>, input: &mut Input<'_>) -> Result<()>
-    ensures shrinks { length_left (state input.new) ≤ length_left (state input.old) }
-    ensures takes { ReadsAt (state input.old) (state input.new) (λ v. OnOk result
-        (TakesValue (optional bstr) v
-        (option_map (λ b. b.items) field.old) (option_map (λ b. b.items) field.new))) }
-    ensures refused { ReadsAt (state input.old) (state input.new) (λ v. IfErr result
-        (λ e. UnlessMemory e (RefusesValue (optional bstr) v
-        (option_map (λ b. b.items) field.old)))) }
-    ensures kept { OnErr result (field.new ≡ field.old) }
-{
-    if field.is_some() {
-        return Err(input.repeated());
-    }
-    *field = Some(input.bytes(alloc, "bstr")?);
-    Ok(())
 }
 
 /// Sets IV or Partial IV, where it isn't there yet; `barred` tells whether the other is.
@@ -162,7 +98,7 @@ fn put(header: &mut Header, alloc: Global, label: Label, input: &mut Input<'_>) 
     ensures others { signatures_held header.new ≡ signatures_held header.old }
 {
     if is_parameter(&label, HeaderParameter::Alg) {
-        return set_algorithm(alloc, &mut header.alg, input);
+        return set_field(alloc, &mut header.alg, input);
     }
     if is_parameter(&label, HeaderParameter::Crit) {
         return set_critical(alloc, &mut header.crit, input);
@@ -171,7 +107,7 @@ fn put(header: &mut Header, alloc: Global, label: Label, input: &mut Input<'_>) 
         return set_content_type(alloc, &mut header.content_type, input);
     }
     if is_parameter(&label, HeaderParameter::Kid) {
-        return set_bytes(alloc, &mut header.key_id, input);
+        return set_filled(alloc, &mut header.key_id, input);
     }
     if is_parameter(&label, HeaderParameter::Iv) {
         let barred = !header.partial_iv.is_empty();
@@ -182,7 +118,7 @@ fn put(header: &mut Header, alloc: Global, label: Label, input: &mut Input<'_>) 
         return set_iv(alloc, &mut header.partial_iv, barred, input);
     }
     if is_parameter(&label, HeaderParameter::CounterSignature0V2) {
-        return set_bstr(alloc, &mut header.countersignature0_v2, input);
+        return set_field(alloc, &mut header.countersignature0_v2, input);
     }
     let value = input.value(alloc)?;
     header.rest.push((label, value))?;

@@ -1,19 +1,21 @@
 use Rattle.std.proofs.Common.{◌≡◌, [], ◌∷◌, ◌++◌, map, refl, sym, ◌∙◌, ap, subst, not, rules}
 use Rattle.std.proofs.lemmas.List.{map_push}
-use Rattle.coset_codec.specs.Maps.{Adds, optional}
+use Rattle.coset_codec.specs.Maps.{Adds, RefusesValue, optional}
 use Rattle.coset_codec.specs.Shape.{any}
 use Rattle.coset_label.specs.Views.{label_seen}
-use Rattle.coset_core.specs.Fields.{HasOneIv, fields, names, parts_of}
+use Rattle.coset_core.specs.FieldLabels as labels
+use Rattle.coset_core.specs.Fields.{HasOneIv, algorithm, fields, names, parts_of}
 use Rattle.coset_core.specs.FieldsView.{fields_level, fields_seen}
 use Rattle.coset_core.specs.Views.{entry_seen}
 use Rattle.coset_core.specs.declared.header.Header.{out-Header, out-roll-Header}
-use Rattle.coset_core.proofs.Putting.{adds_rest, adds_alg, adds_crit, adds_content_type, adds_key_id, adds_iv, adds_partial_iv, adds_countersignature0_v2, refuses_crit, refuses_iv, refuses_partial_iv, stays_alone, swapped, filled, empty}
+use Rattle.coset_core.proofs.Putting.{adds_rest, adds_alg, adds_crit, adds_content_type, adds_key_id, adds_iv, adds_partial_iv, adds_countersignature0_v2, refuses_at, refuses_iv, refuses_partial_iv, stays_alone, swapped, filled, empty}
 use Rattle.coset_core.proofs.header.reading.put.Goals as goal
 
 pub returns-then-is_parameter-clause-takes : goal.returns-then-is_parameter-clause-takes
+unfolding algorithm
 returns-then-is_parameter-clause-takes c = λ o v z stands.
-    let here = c.set_algorithm.ensures.takes v z stands in
-    (here.0, adds_alg (label_seen c.args.label) v c.set_algorithm.result (fields_seen c.args.header.now) _ _ o (sym c.is_parameter.ensures ∙ c.if-is_parameter.true) here.1 (ap fields_level (out-roll-Header _)))
+    let here = c.set_field.ensures.takes v z stands in
+    (here.0, adds_alg (label_seen c.args.label) v c.set_field.result (fields_seen c.args.header.now) _ _ o (sym c.is_parameter.ensures ∙ c.if-is_parameter.true) here.1 (ap fields_level (out-roll-Header _)))
 
 pub returns-then-is_parameter-2-clause-takes : goal.returns-then-is_parameter-2-clause-takes
 returns-then-is_parameter-2-clause-takes c = λ o v z stands.
@@ -27,8 +29,8 @@ returns-then-is_parameter-3-clause-takes c = λ o v z stands.
 
 pub returns-then-is_parameter-4-clause-takes : goal.returns-then-is_parameter-4-clause-takes
 returns-then-is_parameter-4-clause-takes c = λ o v z stands.
-    let here = c.set_bytes.ensures.takes v z stands in
-    (here.0, adds_key_id (label_seen c.args.label) v c.set_bytes.result (fields_seen c.args.header.now) _ _ o (sym c.is_parameter-4.ensures ∙ c.if-is_parameter-4.true) here.1 (ap fields_level (out-roll-Header _)))
+    let here = c.set_filled.ensures.takes v z stands in
+    (here.0, adds_key_id (label_seen c.args.label) v c.set_filled.result (fields_seen c.args.header.now) _ _ o (sym c.is_parameter-4.ensures ∙ c.if-is_parameter-4.true) here.1 (ap fields_level (out-roll-Header _)))
 
 pub returns-then-is_parameter-5-clause-takes : goal.returns-then-is_parameter-5-clause-takes
 returns-then-is_parameter-5-clause-takes c = λ o v z stands.
@@ -42,13 +44,22 @@ returns-then-is_parameter-6-clause-takes c = λ o v z stands.
 
 pub returns-then-is_parameter-7-clause-takes : goal.returns-then-is_parameter-7-clause-takes
 returns-then-is_parameter-7-clause-takes c = λ o v z stands.
-    let here = c.set_bstr.ensures.takes v z stands in
-    (here.0, adds_countersignature0_v2 (label_seen c.args.label) v c.set_bstr.result (fields_seen c.args.header.now) _ _ o (sym c.is_parameter-7.ensures ∙ c.if-is_parameter-7.true) here.1 (ap fields_level (out-roll-Header _)))
+    let here = c.set_field-then-is_parameter-7.ensures.takes v z stands in
+    (here.0, adds_countersignature0_v2 (label_seen c.args.label) v c.set_field-then-is_parameter-7.result (fields_seen c.args.header.now) _ _ o (sym c.is_parameter-7.ensures ∙ c.if-is_parameter-7.true) here.1 (ap fields_level (out-roll-Header _)))
+
+pub returns-then-is_parameter-clause-refused : goal.returns-then-is_parameter-clause-refused
+unfolding algorithm
+returns-then-is_parameter-clause-refused c = λ o v z stands.
+    let here = c.set_field.ensures.refused v z stands in (
+      here.0,
+      refuses_at labels.alg (label_seen c.args.label) v c.set_field.result (parts_of (fields_seen c.args.header.now, o)) (RefusesValue (optional algorithm) v (fields_seen c.args.header.now).alg) (sym c.is_parameter.ensures ∙ c.if-is_parameter.true) here.1
+          (λ e p. p),
+    )
 
 pub returns-then-is_parameter-2-clause-refused : goal.returns-then-is_parameter-2-clause-refused
 returns-then-is_parameter-2-clause-refused c = λ o v z stands.
     let here = c.set_critical.ensures.refused v z stands in
-    (here.0, refuses_crit (label_seen c.args.label) v c.set_critical.result (parts_of (fields_seen c.args.header.now, o)) (sym c.is_parameter-2.ensures ∙ c.if-is_parameter-2.true) here.1)
+    (here.0, refuses_at labels.crit (label_seen c.args.label) v c.set_critical.result (parts_of (fields_seen c.args.header.now, o)) _ (sym c.is_parameter-2.ensures ∙ c.if-is_parameter-2.true) here.1 (λ e p. p))
 
 pub returns-then-is_parameter-5-clause-refused : goal.returns-then-is_parameter-5-clause-refused
 returns-then-is_parameter-5-clause-refused c = λ o v z stands.

@@ -1,8 +1,7 @@
 use Rattle.std.proofs.Common.{◌≡◌, [], ◌∷◌, ◌++◌, map, option_map, refl, sym, ◌∙◌, ap}
 use Rattle.std.proofs.lemmas.List.{map_push}
-use Rattle.coset_codec.specs.Maps.{optional, listed}
+use Rattle.coset_codec.specs.Maps.{RefusesValue, TakesValue, optional, listed}
 use Rattle.coset_label.specs.Views.{label_seen}
-use Rattle.coset_core.specs.FieldValues.{TakesValue, RefusesValue}
 use Rattle.coset_core.specs.Fields.{algorithm}
 use Rattle.coset_core.specs.Views.{algorithm_seen, entry_seen}
 use Rattle.coset_key.specs.KeyLabels as labels

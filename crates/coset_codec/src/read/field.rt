@@ -1,0 +1,137 @@
+//! Fields of a map: labels that may stand in it once, each with a value of one type.
+
+ghost use Rattle.std.specs.Prelude.{◌≡◌, ◌≤◌, IfErr, OnErr, OnOk, option_map};
+ghost use Rattle.coset_codec.specs.Answers.{Reads};
+ghost use Rattle.coset_codec.specs.Errors.{UnlessMemory};
+ghost use Rattle.coset_codec.specs.Inputs.{ReadsAt, length_left, state};
+ghost use Rattle.coset_codec.specs.Maps.{RefusesValue, TakesValue, listed, optional};
+ghost use Rattle.coset_codec.specs.Shape.{Shape, filled_bstr};
+
+use crate::error::Result;
+use crate::read::Input;
+use crate::traits::FromPull;
+use std::alloc::Global;
+
+/// A type that is read from the item that stands at an input: every [`FromPull`] type, bytes, texts and numbers. It is to
+/// reading what [`Encode`](crate::Encode) is to writing.
+pub trait Decode: Sized {
+    /// What contracts see of a value, and which items stand for which values.
+    ghost Seen: { Type 0 };
+
+    ghost seen: { Self → Seen };
+
+    ghost shape: { Shape Seen };
+
+    /// Reads a value from the item that stands at the input, and leaves that just behind it, also where it is refused.
+    ///
+    /// # Errors
+    /// `OutOfMemory`, or a fault that stands in the item.
+    fn decode(alloc: Global, input: &mut Input<'_>) -> Result<Self>
+        ensures shrinks { length_left (state input.new) ≤ length_left (state input.old) }
+        ensures reads { ReadsAt (state input.old) (state input.new)
+            (λ v. Reads shape seen v result) };
+}
+
+impl<T: FromPull> Decode for T {
+    ghost Seen = { T.Seen };
+
+    ghost seen = { T.seen };
+
+    ghost shape = { T.shape };
+
+    fn decode(alloc: Global, input: &mut Input<'_>) -> Result<T> {
+        T::from_input(alloc, input)
+    }
+}
+
+/// Bytes are those of a byte string.
+impl Decode for Vec<u8> {
+    ghost use Rattle.std.specs.Prelude.{List, ℕ};
+    ghost use Rattle.coset_codec.specs.Shape.{bstr};
+
+    ghost Seen = { List ℕ };
+
+    ghost seen = { λ b. b.items };
+
+    ghost shape = { bstr };
+
+    fn decode(alloc: Global, input: &mut Input<'_>) -> Result<Vec<u8>> {
+        input.bytes(alloc, "bstr")
+    }
+}
+
+/// A `String` is the text of a text string.
+impl Decode for String {
+    ghost use Rattle.std.specs.Prelude.{List, ℕ, string_bytes};
+    ghost use Rattle.coset_codec.specs.Shape.{tstr};
+
+    ghost Seen = { List ℕ };
+
+    ghost seen = { string_bytes };
+
+    ghost shape = { tstr };
+
+    fn decode(alloc: Global, input: &mut Input<'_>) -> Result<String> {
+        input.text(alloc, "tstr")
+    }
+}
+
+/// A number is an integer of 64 bits with a sign.
+impl Decode for i64 {
+    ghost use Rattle.std.specs.Prelude.{ℤ};
+    ghost use Rattle.coset_codec.specs.Shape.{int64};
+
+    ghost Seen = { ℤ };
+
+    ghost seen = { λ n. n };
+
+    ghost shape = { int64 };
+
+    fn decode(_alloc: Global, input: &mut Input<'_>) -> Result<i64> {
+        input.int64("int")
+    }
+}
+
+/// Sets a field to what its value is read as, and goes behind that.
+///
+/// # Errors
+/// `OutOfMemory`; `DuplicateMapKey` where the field has a value already; or a fault of its value. The field is then as
+/// before.
+pub fn set_field<T: Decode + Drop>(
+    alloc: Global,
+    field: &mut Option<T>,
+    input: &mut Input<'_>,
+) -> Result<()>
+    ensures shrinks { length_left (state input.new) ≤ length_left (state input.old) }
+    ensures takes { ReadsAt (state input.old) (state input.new) (λ v. OnOk result
+        (TakesValue (optional T.shape) v
+        (option_map T.seen field.old) (option_map T.seen field.new))) }
+    ensures refused { ReadsAt (state input.old) (state input.new) (λ v. IfErr result
+        (λ e. UnlessMemory e (RefusesValue (optional T.shape) v (option_map T.seen field.old)))) }
+    ensures kept { OnErr result (field.new ≡ field.old) }
+{
+    if field.is_some() {
+        return Err(input.repeated());
+    }
+    *field = Some(T::decode(alloc, input)?);
+    Ok(())
+}
+
+/// Sets bytes, which are absent where they are empty, to those of a value that isn't, and goes behind that.
+///
+/// # Errors
+/// The same as [`set_field`]; an empty byte string is `UnexpectedItem`.
+pub fn set_filled(alloc: Global, field: &mut Vec<u8>, input: &mut Input<'_>) -> Result<()>
+    ensures shrinks { length_left (state input.new) ≤ length_left (state input.old) }
+    ensures takes { ReadsAt (state input.old) (state input.new) (λ v. OnOk result
+        (TakesValue (listed filled_bstr) v field.old.items field.new.items)) }
+    ensures refused { ReadsAt (state input.old) (state input.new) (λ v. IfErr result
+        (λ e. UnlessMemory e (RefusesValue (listed filled_bstr) v field.old.items))) }
+    ensures kept { OnErr result (field.new ≡ field.old) }
+{
+    if !field.is_empty() {
+        return Err(input.repeated());
+    }
+    *field = input.filled_bytes(alloc)?;
+    Ok(())
+}
