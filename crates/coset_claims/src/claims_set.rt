@@ -1,6 +1,6 @@
 //! Claims sets: what a CBOR web token says of its subject (RFC 8392, sections 3 and 4).
 
-ghost use Rattle.std.specs.Prelude.{◌≡◌, ◌≤◌, ◌<◌, ◌==◌, not, option_map, string_bytes, IsTrue, IfOk, IfErr, OnOk, OnErr, Some};
+ghost use Rattle.std.specs.Prelude.{◌≡◌, ◌≤◌, ◌<◌, ◌==◌, not, string_bytes, IsTrue, IfOk, IfErr, OnOk, OnErr, Some};
 ghost use Rattle.std.specs.Map.{keys_of};
 ghost use Rattle.coset_value.specs.View.{view};
 ghost use Rattle.coset_iana.specs.CwtClaimName as claim_names;
@@ -8,10 +8,9 @@ ghost use Rattle.coset_iana.specs.WithPrivateRange.{is_private_use};
 ghost use Rattle.coset_codec.specs.declared.error.CoseError.TheVariants.{OutOfMemory};
 ghost use Rattle.coset_codec.specs.Errors.{UnlessMemory};
 ghost use Rattle.coset_codec.specs.Inputs.{ReadsAt, length_left, state};
-ghost use Rattle.coset_codec.specs.Maps.{Adds, Refuses, are_distinct, optional};
-ghost use Rattle.coset_codec.specs.Shape.{bstr, tstr};
+ghost use Rattle.coset_codec.specs.Maps.{Adds, Refuses, are_distinct};
 ghost use Rattle.coset_label.specs.Names.{assigned, phrase, private_use};
-ghost use Rattle.coset_claims.specs.Timestamp.{timestamp, timestamp_seen};
+ghost use Rattle.coset_claims.specs.Timestamp.{timestamp_seen};
 ghost use Rattle.coset_claims.specs.Claims.{IsOtherClaim, and_claim, claim_name, claims, claims_seen, fields, name_seen, names, no_claims, parts_of, same_name};
 
 use crate::timestamp::Timestamp;

@@ -1,5 +1,5 @@
 -- That a derived `==` is equality of what contracts see of a value, from the same of its parts.
-use Rattle.std.specs.Prelude.{◌≡◌, ◌==◌, Bool, Decides, List, [], ◌∷◌, Option, Some, None, ℕ, map, option_map, refl, true, false, ◌&&◌}
+use Rattle.std.specs.Prelude.{◌≡◌, ◌==◌, Bool, Decides, List, [], ◌∷◌, Some, None, ℕ, map, option_map, refl, ◌&&◌}
 use Rattle.std.specs.Option.{option_eq}
 use Rattle.std.specs.Cmp.Lexicographic.{pointwise, bytes_decides}
 use Rattle.std.proofs.Common.{Vec, Global, ◌∙◌, ap, sym, true≢false}

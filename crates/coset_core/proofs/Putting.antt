@@ -1,14 +1,13 @@
 -- A pair of a header, by its label.
-use Rattle.std.proofs.Common.{◌≡◌, ◌≢◌, ◌==◌, ℕ, Vec, Global, map, arith, not, length, List, [], ◌∷◌, ◌++◌, Option, Bool, ◌||◌, false, true, refl, sym, ap, ◌∙◌, subst, true≢false, ◌⊎◌, inl, inr, Result, Ok, Err}
-use Rattle.std.specs.Prelude.{IfErr, OnOk, OnErr}
+use Rattle.std.proofs.Common.{◌≡◌, ℕ, map, List, [], ◌∷◌, ◌++◌, Option, Bool, ◌||◌, false, true, refl, sym, ◌∙◌, subst, ◌⊎◌, inl, inr, Result, Ok, Err}
+use Rattle.std.specs.Prelude.{IfErr, OnOk}
 use Rattle.coset_value.specs.Item.{Item}
-use Rattle.coset_codec.specs.Maps.{Fields, optional, listed, Where, is_core, Adds, Refuses, TakesValue, RefusesValue}
-use Rattle.coset_codec.specs.Errors.{UnlessMemory, IsUnexpected}
+use Rattle.coset_codec.specs.Maps.{Fields, optional, listed, Where, is_core, Adds, Refuses, TakesValue}
+use Rattle.coset_codec.specs.Errors.{UnlessMemory}
 use Rattle.coset_codec.specs.declared.error.CoseError.{CoseError}
 use Rattle.coset_codec.specs.Shape.{any, bstr, some_of, filled_bstr}
 use Rattle.coset_label.specs.Names.{Name, RegisteredName}
 use Rattle.coset_core.specs.FieldLabels as labels
-use Rattle.std.proofs.lemmas.Grind.{common_steps}
 use Rattle.coset_core.specs.Headers.{SignatureSeen, no_signatures, signatures_of}
 use Rattle.coset_core.specs.Filling.{NamesNoVersion}
 use Rattle.coset_core.specs.Fields.{algorithm, critical, content_type, FieldsSeen, Versions, Fielded, fields, names, same_name, bars, parts_of}
@@ -85,42 +84,9 @@ adds_countersignature0_v2 m v r f g a o h t e =
 -- why a field's label is refused
 pub refuses_at :
     (l m : Name) (v : Item) (r : Result (Unit {0}) CoseError) (x : Fielded (Option Item) × List (Name × Item)) (P : CoseError → Type 0) → same_name l m ≡ true → IfErr r (λ e. UnlessMemory e P)
-    → ((e : CoseError) → P e → Refuses names F l v x e) → IfErr r (λ e. UnlessMemory e (λ f. Refuses names F m v x f ⊎ bars m x f))
+    → ((e : CoseError) → P e → Refuses names F l v x e ⊎ bars m x e) → IfErr r (λ e. UnlessMemory e (λ f. Refuses names F m v x f ⊎ bars m x f))
 refuses_at l m v (Ok u) x P h t because = t
-refuses_at l m v (Err e) x P h t because = λ n. inl (subst (λ k. Refuses names F k v x e) (names_laws.same_is l m h) (because e (t n)))
-
-pub refuses_iv :
-    (m : Name) (v : Item) (r : Result (Unit {0}) CoseError) (x : Fielded (Option Item) × List (Name × Item)) (b : Bool) → same_name labels.iv m ≡ true
-    → (b ≡ true → x.0.1.1.1.1.1.0 ≢ []) → IfErr r (λ e. UnlessMemory e (λ f. RefusesValue (listed filled_bstr) v x.0.1.1.1.1.0 f ⊎ ((b ≡ true) × IsUnexpected f)))
-    → IfErr r (λ e. UnlessMemory e (λ f. Refuses names F m v x f ⊎ bars m x f))
-refuses_iv m v (Ok u) x b h some t = t
-refuses_iv m v (Err e) x b h some t = λ n. elim (t n) [ inl g ↦ inl (subst (λ l. Refuses names F l v x e) (names_laws.same_is labels.iv m h) g) | inr g ↦ inr (inl (h, some g.0, g.1)) ]
-
-pub refuses_partial_iv :
-    (m : Name) (v : Item) (r : Result (Unit {0}) CoseError) (x : Fielded (Option Item) × List (Name × Item)) (b : Bool) → same_name labels.partial_iv m ≡ true
-    → (b ≡ true → x.0.1.1.1.1.0 ≢ []) → IfErr r (λ e. UnlessMemory e (λ f. RefusesValue (listed filled_bstr) v x.0.1.1.1.1.1.0 f ⊎ ((b ≡ true) × IsUnexpected f)))
-    → IfErr r (λ e. UnlessMemory e (λ f. Refuses names F m v x f ⊎ bars m x f))
-refuses_partial_iv m v (Ok u) x b h some t = t
-refuses_partial_iv m v (Err e) x b h some t = λ n. elim (t n) [ inl g ↦ inl (subst (λ l. Refuses names F l v x e) (names_laws.same_is labels.partial_iv m h) g) | inr g ↦ inr (inr (h, some g.0, g.1)) ]
-
--- one of IV and Partial IV stays alone
-pub stays_alone :
-    (r : Result (Unit {0}) CoseError) (old new : Vec ℕ Global) (other : List ℕ) (b : Bool) → OnOk r (b ≡ false) → OnErr r (new ≡ old) → (b ≡ false → other ≡ []) → (old.items ≡ []) ⊎ (other ≡ [])
-    → (new.items ≡ []) ⊎ (other ≡ [])
-stays_alone (Ok u) old new other b a k none h = inr (none a)
-stays_alone (Err e) old new other b a k none (inl h) = inl (ap (λ v. v.items) k ∙ h)
-stays_alone (Err e) old new other b a k none (inr h) = inr h
-
-pub filled : (xs : List ℕ) (b c : Bool) → b ≡ not c → c ≡ (length xs == 0) → b ≡ true → xs ≢ []
-filled [] b c e h t = absurd (true≢false (sym t ∙ (e ∙ ap not h)))
-filled (x ∷ xs) b c e h t = λ n. absurd (cc)
-
-some-length : (x : ℕ) (xs : List ℕ) → (length (x ∷ xs) == 0) ≡ false
-some-length x xs = grind (arith, common_steps)
-
-pub empty : (xs : List ℕ) (b c : Bool) → b ≡ not c → c ≡ (length xs == 0) → b ≡ false → xs ≡ []
-empty [] b c e h t = refl
-empty (x ∷ xs) b c e h t = absurd (true≢false (sym (e ∙ ap not (h ∙ some-length x xs)) ∙ t))
+refuses_at l m v (Err e) x P h t because = λ n. elim (because e (t n)) [ inl g ↦ inl (subst (λ k. Refuses names F k v x e) (names_laws.same_is l m h) g) | inr g ↦ inr g ]
 
 pub swapped : {A B : Type 0} → A ⊎ B → B ⊎ A
 swapped (inl x) = inr x

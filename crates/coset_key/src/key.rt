@@ -19,7 +19,7 @@ ghost use Rattle.coset_codec.specs.Shape.{filled_bstr};
 ghost use Rattle.coset_label.specs.Names.{assigned, number};
 ghost use Rattle.coset_label.specs.Orderings.{name_cmp_by};
 ghost use Rattle.coset_label.specs.Views.{label_seen};
-ghost use Rattle.coset_core.specs.Fields.{algorithm, names, same_name};
+ghost use Rattle.coset_core.specs.Fields.{algorithm, names};
 ghost use Rattle.coset_core.specs.Views.{algorithm_seen};
 ghost use Rattle.coset_key.specs.Canonical.{Canonicalizes};
 ghost use Rattle.coset_key.specs.KeyBuilt.{and_operation, and_param, ec2_key, ec2_private_key, ml_dsa_key, okp_key, symmetric_key, with_algorithm, with_base_iv, with_key_id, with_kty, IsOtherLabel};
@@ -33,7 +33,7 @@ use coset_codec::Codec;
 use coset_codec::read::{Gather, Input, InputPairs, read_map, set_field, set_filled};
 use coset_codec::write::MapEncoder;
 use coset_core::{
-    Algorithm, CborOrdering, CoseError, Encode, FromPull, KeyOperation, KeyType, Label,
+    Algorithm, CborOrdering, CoseError, Encode, KeyOperation, KeyType, Label,
     RegisteredLabel, RegisteredLabelWithPrivate, Result, has_repeats, iana, is_parameter,
 };
 use coset_iana::{

@@ -5,23 +5,21 @@
 //! Each reader leaves the input just behind its item, whatever it answers, so that each byte is passed once at any depth. Of
 //! `layers` each byte string of a protected header takes one.
 
-ghost use Rattle.std.specs.Prelude.{MatchOption, ◌≡◌, [], map, option_map, OnOk, IfOk, IfErr, ◌⊎◌, ◌≤◌, ◌<◌, Option, true, false, IsSome, IsErrAnd, OnErr, Err, Some};
+ghost use Rattle.std.specs.Prelude.{MatchOption, ◌≡◌, ◌≢◌, [], map, OnOk, IfOk, IfErr, ◌⊎◌, ◌≤◌, ◌<◌, Option, true, false, IsSome, IsErrAnd, OnErr, Err, Some};
 ghost use Rattle.coset_codec.specs.declared.error.CoseError.TheVariants as errors;
 ghost use Rattle.coset_codec.specs.declared.error.CoseError.TheVariants.{DuplicateMapKey};
 ghost use Rattle.coset_codec.specs.InPlace.{Fills};
 ghost use Rattle.coset_core.specs.FieldsView.{fields_seen, signatures_held};
-ghost use Rattle.coset_core.specs.Views.{algorithm_seen, header_seen, signature_seen};
-ghost use Rattle.coset_codec.specs.Answers.{Reads};
+ghost use Rattle.coset_core.specs.Views.{header_seen, signature_seen};
 ghost use Rattle.coset_codec.specs.Errors.{IsUnexpected, UnlessMemory, answer, filled};
-ghost use Rattle.coset_core.specs.Fields.{FieldsSeen, Versions, algorithm, names, fields, parts_of, same_name, HasOneIv, bars};
+ghost use Rattle.coset_core.specs.Fields.{FieldsSeen, Versions, names, fields, parts_of, same_name, HasOneIv, bars};
 ghost use Rattle.coset_value.specs.Item.{Item, Pairs, dict};
 ghost use Rattle.coset_codec.specs.Inputs.{State, state, GoesBehind, ReadsAt, length_left, input_size, pairs_size, pairs_turns, PairsWithin, items_size, Stands, EntersMap, EntersOnes};
 ghost use Rattle.coset_codec.specs.Maps.{Adds, Refuses, RefusesValue, TakesValue, is_filled, optional, listed};
-ghost use Rattle.coset_codec.specs.Shape.{any, bstr, filled_bstr, any_number, one_or_many};
+ghost use Rattle.coset_codec.specs.Shape.{any, filled_bstr, any_number, one_or_many};
 ghost use Rattle.coset_label.specs.Names.{number};
 ghost use Rattle.coset_label.specs.Views.{label_seen};
 ghost use Rattle.coset_codec.specs.declared.read.input.InputPairs.{InputPairs};
-ghost use Rattle.coset_iana.specs.HeaderParameter as parameters;
 ghost use Rattle.coset_core.specs.Filling.{FillsFields, FillsSome, Keeps, NamesNoVersion, WalksTo, held_of, label_of};
 ghost use Rattle.coset_core.specs.Headers.{empty_header, layered_header, layered_signature};
 ghost use Rattle.coset_core.specs.Written.{one};
@@ -36,7 +34,7 @@ use coset_codec::error::{Refused, keep_error};
 use coset_codec::read::{Input, InputItems, InputPairs, set_field, set_filled};
 use coset_codec::{CoseError, Result};
 use coset_iana::{EnumI64, HeaderParameter};
-use coset_label::{Algorithm, Label};
+use coset_label::Label;
 use std::alloc::Global;
 
 /// Whether the label is that of this parameter, of whatever registry.
@@ -49,29 +47,26 @@ pub fn is_parameter<P: EnumI64 + Copy>(label: &Label, parameter: P) -> bool
     }
 }
 
-/// Sets IV or Partial IV, where it isn't there yet; `barred` tells whether the other is.
-fn set_iv(alloc: Global, field: &mut Vec<u8>, barred: bool, input: &mut Input<'_>) -> Result<()>
+/// Sets IV or Partial IV, where neither it nor the other is there yet.
+fn set_iv(alloc: Global, field: &mut Vec<u8>, other: &Vec<u8>, input: &mut Input<'_>) -> Result<()>
+    requires one { (field.old.items ≡ []) ⊎ (other.now.items ≡ []) }
     ensures shrinks { length_left (state input.new) ≤ length_left (state input.old) }
     ensures takes { ReadsAt (state input.old) (state input.new) (λ v. OnOk result
         (TakesValue (listed filled_bstr) v field.old.items field.new.items)) }
-    ensures alone { OnOk result (barred ≡ false) }
     ensures refused { ReadsAt (state input.old) (state input.new) (λ v. IfErr result
         (λ e. UnlessMemory e (λ f. RefusesValue (listed filled_bstr) v field.old.items f
-        ⊎ ((barred ≡ true) × IsUnexpected f)))) }
+        ⊎ ((other.now.items ≢ []) × IsUnexpected f)))) }
     ensures kept { OnErr result (field.new ≡ field.old) }
+    ensures one { (field.new.items ≡ []) ⊎ (other.now.items ≡ []) }
 {
-    if !field.is_empty() {
-        return Err(input.repeated());
+    if other.is_empty() {
+        return set_filled(alloc, field, input);
     }
-    let bytes = input.filled_bytes(alloc)?;
-    if barred {
-        return Err(CoseError::UnexpectedItem(
-            "IV and partial-IV specified",
-            "only one of IV and partial IV",
-        ));
-    }
-    *field = bytes;
-    Ok(())
+    input.filled_bytes(alloc)?;
+    Err(CoseError::UnexpectedItem(
+        "IV and partial-IV specified",
+        "only one of IV and partial IV",
+    ))
 }
 
 /// Takes one more value of a header, by its label, which is neither 7 nor 11, and goes behind it. Whether labels of the
@@ -110,12 +105,10 @@ fn put(header: &mut Header, alloc: Global, label: Label, input: &mut Input<'_>) 
         return set_filled(alloc, &mut header.key_id, input);
     }
     if is_parameter(&label, HeaderParameter::Iv) {
-        let barred = !header.partial_iv.is_empty();
-        return set_iv(alloc, &mut header.iv, barred, input);
+        return set_iv(alloc, &mut header.iv, &header.partial_iv, input);
     }
     if is_parameter(&label, HeaderParameter::PartialIv) {
-        let barred = !header.iv.is_empty();
-        return set_iv(alloc, &mut header.partial_iv, barred, input);
+        return set_iv(alloc, &mut header.partial_iv, &header.iv, input);
     }
     if is_parameter(&label, HeaderParameter::CounterSignature0V2) {
         return set_field(alloc, &mut header.countersignature0_v2, input);

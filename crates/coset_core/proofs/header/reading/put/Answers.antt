@@ -1,4 +1,4 @@
-use Rattle.std.proofs.Common.{◌≡◌, [], ◌∷◌, ◌++◌, map, refl, sym, ◌∙◌, ap, subst, not, rules}
+use Rattle.std.proofs.Common.{◌≡◌, [], ◌∷◌, ◌++◌, map, refl, sym, ◌∙◌, ap, subst, inl, inr}
 use Rattle.std.proofs.lemmas.List.{map_push}
 use Rattle.coset_codec.specs.Maps.{Adds, RefusesValue, optional}
 use Rattle.coset_codec.specs.Shape.{any}
@@ -8,7 +8,7 @@ use Rattle.coset_core.specs.Fields.{HasOneIv, algorithm, fields, names, parts_of
 use Rattle.coset_core.specs.FieldsView.{fields_level, fields_seen}
 use Rattle.coset_core.specs.Views.{entry_seen}
 use Rattle.coset_core.specs.declared.header.Header.{out-Header, out-roll-Header}
-use Rattle.coset_core.proofs.Putting.{adds_rest, adds_alg, adds_crit, adds_content_type, adds_key_id, adds_iv, adds_partial_iv, adds_countersignature0_v2, refuses_at, refuses_iv, refuses_partial_iv, stays_alone, swapped, filled, empty}
+use Rattle.coset_core.proofs.Putting.{adds_rest, adds_alg, adds_crit, adds_content_type, adds_key_id, adds_iv, adds_partial_iv, adds_countersignature0_v2, refuses_at, swapped}
 use Rattle.coset_core.proofs.header.reading.put.Goals as goal
 
 pub returns-then-is_parameter-clause-takes : goal.returns-then-is_parameter-clause-takes
@@ -53,40 +53,33 @@ returns-then-is_parameter-clause-refused c = λ o v z stands.
     let here = c.set_field.ensures.refused v z stands in (
       here.0,
       refuses_at labels.alg (label_seen c.args.label) v c.set_field.result (parts_of (fields_seen c.args.header.now, o)) (RefusesValue (optional algorithm) v (fields_seen c.args.header.now).alg) (sym c.is_parameter.ensures ∙ c.if-is_parameter.true) here.1
-          (λ e p. p),
+          (λ e p. inl p),
     )
 
 pub returns-then-is_parameter-2-clause-refused : goal.returns-then-is_parameter-2-clause-refused
 returns-then-is_parameter-2-clause-refused c = λ o v z stands.
     let here = c.set_critical.ensures.refused v z stands in
-    (here.0, refuses_at labels.crit (label_seen c.args.label) v c.set_critical.result (parts_of (fields_seen c.args.header.now, o)) _ (sym c.is_parameter-2.ensures ∙ c.if-is_parameter-2.true) here.1 (λ e p. p))
+    (here.0, refuses_at labels.crit (label_seen c.args.label) v c.set_critical.result (parts_of (fields_seen c.args.header.now, o)) _ (sym c.is_parameter-2.ensures ∙ c.if-is_parameter-2.true) here.1 (λ e p. inl p))
 
 pub returns-then-is_parameter-5-clause-refused : goal.returns-then-is_parameter-5-clause-refused
 returns-then-is_parameter-5-clause-refused c = λ o v z stands.
-    let here = c.set_iv.ensures.refused v z stands in (
-      here.0,
-      refuses_iv (label_seen c.args.label) v c.set_iv.result (parts_of (fields_seen c.args.header.now, o)) (not c.is_empty-barred.result) (sym c.is_parameter-5.ensures ∙ c.if-is_parameter-5.true)
-          (filled (out-Header c.args.header.now).partial_iv.items _ c.is_empty-barred.result refl (search rules)) here.1,
-    )
+    let here = c.set_iv.ensures.refused v z stands in
+    let named = sym c.is_parameter-5.ensures ∙ c.if-is_parameter-5.true in
+    (here.0, refuses_at labels.iv (label_seen c.args.label) v c.set_iv.result (parts_of (fields_seen c.args.header.now, o)) _ named here.1 (λ e p. elim p [ inl g ↦ inl g | inr g ↦ inr (inl (named, g.0, g.1)) ]))
 
 pub returns-then-is_parameter-5-clause-one_iv : goal.returns-then-is_parameter-5-clause-one_iv
-returns-then-is_parameter-5-clause-one_iv c = subst (λ h. HasOneIv (fields_level h)) (sym (out-roll-Header _))
-    (stays_alone c.set_iv.result (out-Header c.args.header.now).iv c.set_iv.new.field (out-Header c.args.header.now).partial_iv.items (not c.is_empty-barred.result) c.set_iv.ensures.alone c.set_iv.ensures.kept
-    (empty (out-Header c.args.header.now).partial_iv.items _ c.is_empty-barred.result refl (search rules)) c.requires.one_iv)
+returns-then-is_parameter-5-clause-one_iv c = subst (λ h. HasOneIv (fields_level h)) (sym (out-roll-Header _)) c.set_iv.ensures.one
 
 pub returns-then-is_parameter-6-clause-refused : goal.returns-then-is_parameter-6-clause-refused
 returns-then-is_parameter-6-clause-refused c = λ o v z stands.
-    let here = c.set_iv-then-is_parameter-6.ensures.refused v z stands in (
+    let here = c.set_iv-then-is_parameter-6.ensures.refused v z stands in
+    let named = sym c.is_parameter-6.ensures ∙ c.if-is_parameter-6.true in (
       here.0,
-      refuses_partial_iv (label_seen c.args.label) v c.set_iv-then-is_parameter-6.result (parts_of (fields_seen c.args.header.now, o)) (not c.is_empty-barred-then-is_parameter-6.result) (sym c.is_parameter-6.ensures ∙ c.if-is_parameter-6.true)
-          (filled (out-Header c.args.header.now).iv.items _ c.is_empty-barred-then-is_parameter-6.result refl (search rules)) here.1,
+      refuses_at labels.partial_iv (label_seen c.args.label) v c.set_iv-then-is_parameter-6.result (parts_of (fields_seen c.args.header.now, o)) _ named here.1 (λ e p. elim p [ inl g ↦ inl g | inr g ↦ inr (inr (named, g.0, g.1)) ]),
     )
 
 pub returns-then-is_parameter-6-clause-one_iv : goal.returns-then-is_parameter-6-clause-one_iv
-returns-then-is_parameter-6-clause-one_iv c = subst (λ h. HasOneIv (fields_level h)) (sym (out-roll-Header _))
-    (swapped
-    (stays_alone c.set_iv-then-is_parameter-6.result (out-Header c.args.header.now).partial_iv c.set_iv-then-is_parameter-6.new.field (out-Header c.args.header.now).iv.items (not c.is_empty-barred-then-is_parameter-6.result) c.set_iv-then-is_parameter-6.ensures.alone c.set_iv-then-is_parameter-6.ensures.kept
-    (empty (out-Header c.args.header.now).iv.items _ c.is_empty-barred-then-is_parameter-6.result refl (search rules)) (swapped c.requires.one_iv)))
+returns-then-is_parameter-6-clause-one_iv c = subst (λ h. HasOneIv (fields_level h)) (sym (out-roll-Header _)) (swapped c.set_iv-then-is_parameter-6.ensures.one)
 
 pub returns-clause-takes : goal.returns-clause-takes
 returns-clause-takes c = λ o v z stands.
