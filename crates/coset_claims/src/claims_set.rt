@@ -16,12 +16,18 @@ ghost use Rattle.coset_claims.specs.Claims.{IsOtherClaim, and_claim, claim_name,
 use crate::timestamp::Timestamp;
 use coset_cbor::value::Value;
 use coset_codec::read::{Gather, Input, InputPairs, read_map, set_field};
-use coset_codec::write::MapEncoder;
+use coset_codec::write::{Encode, write_optional, write_pairs_head, write_rest};
 use coset_codec::{Codec, Result, has_repeats};
 use coset_iana::{CwtClaimName, EnumI64};
 use coset_label::{ClaimName, RegisteredLabelWithPrivate};
 use std::alloc::{AllocError, Global};
 use std::marker::Model;
+
+/// About what a claims set takes beside its strings and other claims.
+const HEADS: usize = 40;
+
+/// About what another claim takes, a name and a short value.
+const CLAIM: usize = 8;
 
 /// A claims set (RFC 8392, section 1.1).
 ///
@@ -72,6 +78,14 @@ impl ClaimsSet {
             cwt_id: None,
             rest: Vec::new(alloc),
         }
+    }
+}
+
+/// About what a value takes, where there is one.
+fn room<T: Encode>(value: &Option<T>) -> usize {
+    match value {
+        Some(value) => value.room(),
+        None => 0,
     }
 }
 
@@ -205,17 +219,35 @@ impl Codec for ClaimsSet {
         Ok(claims)
     }
 
+    /// Enough where the values of the other claims are short.
+    fn size_hint(&self) -> usize {
+        HEADS
+            .saturating_add(room(&self.issuer))
+            .saturating_add(room(&self.subject))
+            .saturating_add(room(&self.audience))
+            .saturating_add(room(&self.cwt_id))
+            .saturating_add(self.rest.len().saturating_mul(CLAIM))
+    }
+
     fn write(&self, alloc: Global, out: &mut Vec<u8>) -> Result<()> {
-        let mut pairs = MapEncoder::new(alloc);
-        pairs.optional(alloc, CwtClaimName::Iss.to_i64(), &self.issuer)?;
-        pairs.optional(alloc, CwtClaimName::Sub.to_i64(), &self.subject)?;
-        pairs.optional(alloc, CwtClaimName::Aud.to_i64(), &self.audience)?;
-        pairs.optional(alloc, CwtClaimName::Exp.to_i64(), &self.expiration_time)?;
-        pairs.optional(alloc, CwtClaimName::Nbf.to_i64(), &self.not_before)?;
-        pairs.optional(alloc, CwtClaimName::Iat.to_i64(), &self.issued_at)?;
-        pairs.optional(alloc, CwtClaimName::Cti.to_i64(), &self.cwt_id)?;
-        pairs.rest(alloc, &self.rest)?;
-        pairs.finish(out)
+        let there = [
+            self.issuer.is_some(),
+            self.subject.is_some(),
+            self.audience.is_some(),
+            self.expiration_time.is_some(),
+            self.not_before.is_some(),
+            self.issued_at.is_some(),
+            self.cwt_id.is_some(),
+        ];
+        write_pairs_head(&there, &self.rest, out)?;
+        write_optional(alloc, CwtClaimName::Iss.to_i64(), &self.issuer, out)?;
+        write_optional(alloc, CwtClaimName::Sub.to_i64(), &self.subject, out)?;
+        write_optional(alloc, CwtClaimName::Aud.to_i64(), &self.audience, out)?;
+        write_optional(alloc, CwtClaimName::Exp.to_i64(), &self.expiration_time, out)?;
+        write_optional(alloc, CwtClaimName::Nbf.to_i64(), &self.not_before, out)?;
+        write_optional(alloc, CwtClaimName::Iat.to_i64(), &self.issued_at, out)?;
+        write_optional(alloc, CwtClaimName::Cti.to_i64(), &self.cwt_id, out)?;
+        write_rest(alloc, &self.rest, out)
     }
 }
 

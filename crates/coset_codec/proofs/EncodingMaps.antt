@@ -1,28 +1,24 @@
 -- Maps that are written pair by pair.
-use Rattle.std.proofs.Common.{◌≡◌, ℕ, ℤ, ◌+◌, ◌<◌, List, [], ◌∷◌, ◌++◌, map, take, drop, get_or, length, Bool, true, false, Option, Some, None, option_map, refl, sym, ◌∙◌, ap, subst, append-nil, append_assoc, arith}
-use Rattle.std.specs.Prelude.{is_some}
-use Rattle.std.proofs.lemmas.List.{take_more, map_push, map-append, take-append-drop}
+use Rattle.std.proofs.Common.{◌≡◌, ℕ, suc, ℤ, ◌+◌, ◌<◌, ◌^◌, List, [], ◌∷◌, ◌++◌, map, take, drop, get_or, length, Bool, true, false, Option, Some, None, option_map, refl, sym, ◌∙◌, ap, subst, append-nil, append_assoc, arith}
+use Rattle.std.specs.Prelude.{◌==◌, is_some, filter, not, Result, Ok, Err, OnOk, IfErr}
+use Rattle.std.proofs.lemmas.Grind.{common_steps}
+use Rattle.std.proofs.lemmas.List.{take_more, map_push, map-append, take-append-drop, length-append, length-map}
 use Rattle.std.specs.Map.{keys_of}
 use Rattle.coset_value.specs.Item.{Item, integer, dict, Pairs, no_pairs, pair, pairs_count}
 use Rattle.coset_value.specs.Range.{ArePairsInRange}
-use Rattle.coset_cbor.specs.Least.{least_encoding, least_pair_encodings}
-use Rattle.coset_codec.specs.Encoding.{AppendsItem, AppendsImage, HoldsPairs, AddsPairs, AddsAll, AddsField}
-use Rattle.coset_codec.specs.MapLaws.{and_pairs-none}
-use Rattle.coset_codec.specs.Maps.{Names, field_shape_image, named_image, and_pairs, put_field, are_distinct, entries_image, may_write}
-use Rattle.coset_codec.specs.RestLaws.{some-entries}
+use Rattle.coset_cbor.specs.Least.{least_head, least_encoding, least_pair_encodings}
+use Rattle.coset_codec.specs.declared.error.CoseError.{CoseError}
+use Rattle.coset_codec.specs.Encoding.{AppendsItem, AppendsImage, Encodes, HasNoImage, AppendsPairs, AppendsAll, AppendsField}
+use Rattle.coset_codec.specs.Maps.{Names, field_shape_image, named_image, and_pairs, put_field, are_distinct, entries_image, may_write, is_filled}
+use Rattle.coset_codec.specs.RestLaws.{as_seen}
 use Rattle.coset_codec.specs.Shape.{both, present_image}
-use Rattle.coset_codec.specs.declared.write.encode_map.MapEncoder.{MapEncoder}
-use Rattle.coset_codec.proofs.Pushing.{and_pairs-assoc, named_image-append, named_image-none}
+use Rattle.coset_codec.proofs.Pushing.{named_image-append, named_image-none}
 
 -- ---- pairs behind others
 
 least_pair_encodings-and : (ps qs : Pairs) → least_pair_encodings (and_pairs ps qs) ≡ least_pair_encodings ps ++ least_pair_encodings qs
 least_pair_encodings-and no_pairs qs = refl
 least_pair_encodings-and (pair k v ps) qs = rw (least_pair_encodings-and ps qs) (sym (append_assoc (least_encoding k) (least_encoding v ++ least_pair_encodings ps) (least_pair_encodings qs) ∙ ap (λ s. least_encoding k ++ s) (append_assoc (least_encoding v) (least_pair_encodings ps) (least_pair_encodings qs))))
-
-pairs_count-and : (ps qs : Pairs) → pairs_count (and_pairs ps qs) ≡ pairs_count ps + pairs_count qs
-pairs_count-and no_pairs qs = omega arith
-pairs_count-and (pair k v ps) qs = let rest = pairs_count-and ps qs in omega arith
 
 in_range-and : (ps qs : Pairs) → ArePairsInRange ps → ArePairsInRange qs → ArePairsInRange (and_pairs ps qs)
 in_range-and no_pairs qs h k = k
@@ -32,39 +28,80 @@ in_range-and (pair j v ps) qs h k = (h.0, h.1, in_range-and ps qs h.2 k)
 pub item-is : {v : Item} {old new : List ℕ} → AppendsImage (Some v) old new → AppendsItem old new v
 item-is {v} {old} {new} p = let same : p.0 ≡ v = cc in subst (AppendsItem old new) same p.2
 
--- one more pair
-pub pair-added : (old new : MapEncoder) (k v : Item) (mid : List ℕ) → new.count ≡ old.count + 1 → AppendsItem old.encoded.items mid k → AppendsItem mid new.encoded.items v → AddsPairs old new (pair k v no_pairs)
-pair-added old new k v mid count key value qs h =
-    let all = pairs_count-and qs (pair k v no_pairs) in
-    let so_far = h.count in
-    record {
-      count = omega (arith, count, so_far, all);
-      in_range = in_range-and qs (pair k v no_pairs) h.in_range (key.in_range, value.in_range, tt);
-      parts =
-          value.parts ∙ (ap (λ s. s ++ least_encoding v) (key.parts ∙ ap (λ s. s ++ least_encoding k) h.parts)
-          ∙ (append_assoc (least_pair_encodings qs) (least_encoding k) (least_encoding v) ∙ (ap (λ s. least_pair_encodings qs ++ (least_encoding k ++ s)) (sym (append-nil (least_encoding v))) ∙ sym (least_pair_encodings-and qs (pair k v no_pairs)))));
-    }
+-- a key, and its value
+pub pair-added : {old mid new : List ℕ} (k v : Item) → AppendsItem old mid k → AppendsItem mid new v → AppendsPairs old new (pair k v no_pairs)
+pair-added {old} {mid} {new} k v key value = record {
+  in_range = (key.in_range, value.in_range, tt);
+  parts =
+      value.parts ∙ (ap (λ s. s ++ least_encoding v) key.parts
+      ∙ (append_assoc old (least_encoding k) (least_encoding v) ∙ ap (λ s. old ++ (least_encoding k ++ s)) (sym (append-nil (least_encoding v)))));
+}
 
-pub nothing-added : (t : MapEncoder) → AddsPairs t t no_pairs
-nothing-added t qs h = subst (HoldsPairs t) (sym (and_pairs-none qs)) h
+pub field-written : {T : Type 0} (r : Result T CoseError) (i : ℤ) (o : Option Item) {old mid : List ℕ} (new : List ℕ) → AppendsItem old mid (integer i) → Encodes o mid new r → OnOk r (AppendsField i (option_map Some o) old new)
+field-written (Ok x) i o new key value = (Some value.0, ap (option_map Some) value.1, pair-added (integer i) value.0 key value.2)
+field-written (Err e) i o new key value = tt
 
-then-added : (old mid new : MapEncoder) (ps qs : Pairs) → AddsPairs old mid ps → AddsPairs mid new qs → AddsPairs old new (and_pairs ps qs)
-then-added old mid new ps qs p q rs h = subst (HoldsPairs new) (and_pairs-assoc rs ps qs) (q (and_pairs rs ps) (p rs h))
+pub nothing-added : (s : List ℕ) → AppendsPairs s s no_pairs
+nothing-added s = record { in_range = tt; parts = sym (append-nil s) }
+
+then-added : {old mid new : List ℕ} (ps qs : Pairs) → AppendsPairs old mid ps → AppendsPairs mid new qs → AppendsPairs old new (and_pairs ps qs)
+then-added {old} {mid} {new} ps qs p q = record {
+  in_range = in_range-and ps qs p.in_range q.in_range;
+  parts =
+      q.parts ∙ (ap (λ s. s ++ least_pair_encodings qs) p.parts
+      ∙ (append_assoc old (least_pair_encodings ps) (least_pair_encodings qs) ∙ ap (λ s. old ++ s) (sym (least_pair_encodings-and ps qs))));
+}
 
 -- ---- the fields of a map, and the rest
 
-abbrev pub AddsFields : {N : Type 0} → (N → Option Item) → Option (List (N × Item)) → MapEncoder → MapEncoder → Type 0
-AddsFields {N} f o old new = (es : List (N × Item)) × (o ≡ Some es) × AddsAll (named_image f es) old new
+-- new is old, and then the pairs of those fields that are there
+pub record AppendsFields (N : Type 0) (f : N → Option Item) (o : Option (List (N × Item))) (there : List Bool) (old new : List ℕ) : Type 0 where
+  pub entries : List (N × Item)
+  pub image : o ≡ Some entries
+  pub count : length entries ≡ length (filter (λ b. b) there)
+  pub appended : AppendsAll (named_image f entries) old new
 
-pub no-field : {N : Type 0} (f : N → Option Item) (t : MapEncoder) → AddsFields f (Some []) t t
-no-field f t = ([], refl, (no_pairs, refl, nothing-added t))
+pub no-field : {N : Type 0} (f : N → Option Item) (s : List ℕ) → AppendsFields N f (Some []) [] s s
+no-field f s = record { entries = []; image = refl; count = refl; appended = (no_pairs, refl, nothing-added s) }
 
 pub field-put :
-    {N : Type 0} (f : N → Option Item) {l : N} {i : ℤ} {o : Option (Option Item)} {os : Option (List (N × Item))} {old mid new : MapEncoder} → f l ≡ Some (integer i) → AddsField i o old mid → AddsFields f os mid new
-    → AddsFields f (both (put_field l) o os) old new
-field-put {N} f {l} {i} {o} {os} {old} {mid} {new} label (None, e, p) (es, d, (ps, c, q)) = (es, (λ j. both (put_field l) (e j) (d j)), (ps, c, then-added old mid new no_pairs ps p q))
-field-put {N} f {l} {i} {o} {os} {old} {mid} {new} label (Some v, e, p) (es, d, (ps, c, q)) =
-    ((l, v) ∷ es, (λ j. both (put_field l) (e j) (d j)), (pair (integer i) v ps, (λ j. both (λ k qs. pair k v qs) (label j) (c j)), then-added old mid new (pair (integer i) v no_pairs) ps p q))
+    {N : Type 0} (f : N → Option Item) {l : N} {i : ℤ} (b : Bool) (o : Option Item) {os : Option (List (N × Item))} {there : List Bool} {old mid new : List ℕ} → f l ≡ Some (integer i) → AppendsField i (field_shape_image b o) old mid
+    → AppendsFields N f os there mid new → AppendsFields N f (both (put_field l) (field_shape_image b o) os) (b ∷ there) old new
+field-put {N} f {l} {i} true (Some w) label (Some v, e, p) more = record {
+  entries = (l, v) ∷ more.entries;
+  image = λ j. both (put_field l) (e j) (more.image j);
+  count = ap suc more.count;
+  appended = (pair (integer i) v more.appended.0, (λ j. both (λ k qs. pair k v qs) (label j) (more.appended.1 j)), then-added (pair (integer i) v no_pairs) more.appended.0 p more.appended.2);
+}
+field-put f true (Some w) label (None, e, p) more = absurd (cc)
+field-put f true None label (q, e, p) more = absurd (cc)
+field-put {N} f {l} false o label (None, e, p) more = record {
+  entries = more.entries;
+  image = λ j. both (put_field l) (e j) (more.image j);
+  count = more.count;
+  appended = (more.appended.0, more.appended.1, then-added no_pairs more.appended.0 p more.appended.2);
+}
+field-put f false o label (Some v, e, p) more = absurd (cc)
+
+-- a field that may be left out, as it is seen
+pub optional-seen :
+    {X Y : Type 0} (see : X → Y) (f : Y → Option Item) (o : Option X) → field_shape_image (is_some o) (present_image (λ x. f (see x)) o) ≡ field_shape_image (is_some (option_map see o)) (present_image f (option_map see o))
+optional-seen see f (Some x) = refl
+optional-seen see f None = refl
+
+pub optional-put :
+    {N X Y : Type 0} (f : N → Option Item) (see : X → Y) (g : Y → Option Item) (x : Option X) {l : N} {i : ℤ} {os : Option (List (N × Item))} {there : List Bool} {old mid new : List ℕ} → f l ≡ Some (integer i)
+    → AppendsField i (field_shape_image (is_some x) (present_image (λ y. g (see y)) x)) old mid → AppendsFields N f os there mid new
+    → AppendsFields N f (both (put_field l) (field_shape_image (is_some (option_map see x)) (present_image g (option_map see x))) os) (is_some x ∷ there) old new
+optional-put f see g (Some y) label put more = field-put f true (g (see y)) label put more
+optional-put f see g None label put more = field-put f false None label put more
+
+-- a list that is left out where it is empty
+pub listed-put :
+    {N X : Type 0} (f : N → Option Item) (g : List X → Option Item) (xs : List X) (b : Bool) {l : N} {i : ℤ} {os : Option (List (N × Item))} {there : List Bool} {old mid new : List ℕ} → is_filled xs ≡ b → f l ≡ Some (integer i)
+    → AppendsField i (field_shape_image (is_filled xs) (g xs)) old mid → AppendsFields N f os there mid new → AppendsFields N f (both (put_field l) (field_shape_image (is_filled xs) (g xs)) os) (b ∷ there) old new
+listed-put {N} f g xs b {l} {os} {there} {old} {new} told label put more =
+    subst (λ c. AppendsFields N f (both (put_field l) (field_shape_image (is_filled xs) (g xs)) os) (c ∷ there) old new) told (field-put f (is_filled xs) (g xs) label put more)
 
 -- the pairs of the rest, as their labels are seen
 pub rest-seen :
@@ -72,16 +109,81 @@ pub rest-seen :
 rest-seen see view f [] = refl
 rest-seen see view f (x ∷ xs) = ap (λ o. both (λ k ps. pair k (view x.1) ps) (f (see x.0)) o) (rest-seen see view f xs)
 
--- no pairs at first, the fields, the rest: the map is written
+-- as many pairs as there are labels
+named-count : {N : Type 0} (f : N → Option Item) (es : List (N × Item)) (ps : Pairs) → named_image f es ≡ Some ps → pairs_count ps ≡ length es
+named-count f [] ps e = let none : no_pairs ≡ ps = cc in ap pairs_count (sym none)
+named-count f (x ∷ es) ps e = by (f x.0) (named_image f es) (named-count f es) e
+  where
+    by : (k : Option Item) (o : Option Pairs) → ((qs : Pairs) → o ≡ Some qs → pairs_count qs ≡ length es) → both (λ j qs. pair j x.1 qs) k o ≡ Some ps → pairs_count ps ≡ suc (length es)
+    by (Some k) (Some qs) more h = let same : pair k x.1 qs ≡ ps = cc in ap pairs_count (sym same) ∙ ap suc (more qs refl)
+    by (Some k) None more h = absurd (cc)
+    by None o more h = absurd (cc)
+
+-- no map where a pair of the rest has no label
+unwritten : {N : Type 0} (n : Names N) (b : Bool) (rest : List (N × Item)) (o : Option (List (N × Item))) → named_image n.shape.image rest ≡ None → entries_image n b rest o ≡ None
+unwritten n true rest None e = refl
+unwritten n false rest o e = refl
+unwritten {N} n true rest (Some es) e = rw (none es) refl
+  where
+    none : (es : List (N × Item)) → named_image n.shape.image (es ++ rest) ≡ None
+    none [] = e
+    none (x ∷ es) = last (n.shape.image x.0) (none es)
+      where
+        last : (k : Option Item) → named_image n.shape.image (es ++ rest) ≡ None → both (λ j ps. pair j x.1 ps) k (named_image n.shape.image (es ++ rest)) ≡ None
+        last (Some k) h = rw h refl
+        last None h = refl
+
+-- A head, which counts the fields that are there and the rest; these fields; and the rest: they are the map, where it may
+-- be written
 pub map-written :
-    {N : Type 0} (n : Names N) (rest : List (N × Item)) {o : Option (List (N × Item))} {start mid last : MapEncoder} (old new : List ℕ) → are_distinct n.same (keys_of rest) ≡ true → HoldsPairs start no_pairs → AddsFields n.shape.image o start mid
-    → AddsAll (named_image n.shape.image rest) mid last → ((ps : Pairs) → HoldsPairs last ps → AppendsItem old new (dict ps)) → AppendsImage (entries_image n (may_write n true rest) rest o) old new
-map-written n rest {o} {start} {mid} {last} old new distinct first fields more written =
-    let all = then-added start mid last fields.2.0 more.0 fields.2.2 more.2 in (
-      dict (and_pairs fields.2.0 more.0),
-      sym (some-entries n rest fields.0 o distinct fields.1) ∙ ap (option_map dict) (named_image-append n.shape.image fields.0 rest fields.2.0 more.0 fields.2.1 more.1),
-      written (and_pairs fields.2.0 more.0) (all no_pairs first),
+    {N L V T : Type 0} (n : Names N) (see : L → N) (view : V → Item) (xs : List (L × V)) {o : Option (List (N × Item))} (b : Bool) (there : List Bool) {head mid : List ℕ} (old new : List ℕ) (r : Result T CoseError) → b ≡ true
+    → length (filter (λ b. b) there) + length xs < 2 ^ 64
+    → head ≡ old ++ least_head 5 (length (filter (λ b. b) there) + length xs)
+    → AppendsFields N n.shape.image o there head mid
+    → OnOk r (AppendsAll (named_image (λ l. n.shape.image (see l)) (map (λ x. (x.0, view x.1)) xs)) mid new)
+    → IfErr r (HasNoImage (named_image (λ l. n.shape.image (see l)) (map (λ x. (x.0, view x.1)) xs)))
+    → Encodes (entries_image n b (map (as_seen see view) xs) o) old new r
+map-written n see view xs {o} b there old new (Ok x) may small first fields (qs, d, q) refused =
+    let es = fields.entries in
+    let ps = fields.appended.0 in
+    let rest = map (as_seen see view) xs in
+    let all = then-added ps qs fields.appended.2 q in
+    let image : named_image n.shape.image (es ++ rest) ≡ Some (and_pairs ps qs) = named_image-append n.shape.image es rest ps qs fields.appended.1 (sym (rest-seen see view n.shape.image xs) ∙ d) in
+    let count : pairs_count (and_pairs ps qs) ≡ length (filter (λ b. b) there) + length xs = named-count n.shape.image (es ++ rest) (and_pairs ps qs) image ∙ (length-append es rest ∙ (λ i. fields.count i + length-map xs (as_seen see view) i)) in (
+      dict (and_pairs ps qs),
+      (λ i. entries_image n (may i) rest (fields.image i)) ∙ ap (option_map dict) image,
+      record {
+        in_range = (subst (λ k. k < 2 ^ 64) (sym count) small, all.in_range);
+        parts =
+            all.parts ∙ (ap (λ s. s ++ least_pair_encodings (and_pairs ps qs)) first
+            ∙ (append_assoc old (least_head 5 (length (filter (λ b. b) there) + length xs)) (least_pair_encodings (and_pairs ps qs)) ∙ ap (λ k. old ++ (least_head 5 k ++ least_pair_encodings (and_pairs ps qs))) (sym count)));
+      },
     )
+map-written n see view xs {o} b there old new (Err e) may small first fields rest refused =
+    λ m. let none = refused m in (none.0, unwritten n b (map (as_seen see view) xs) o (sym (rest-seen see view n.shape.image xs) ∙ none.1))
+
+-- ---- which fields are there
+
+-- a list is there where it isn't empty
+pub filled-there : {X : Type 0} (xs : List X) (b : Bool) → b ≡ (length xs == 0) → is_filled xs ≡ not b
+filled-there [] b e = sym (ap not e)
+filled-there (x ∷ xs) b e = sym (ap not e ∙ grind (arith, common_steps))
+
+pub filled-seen : {X Y : Type 0} (see : X → Y) (xs : List X) (b : Bool) → b ≡ (length xs == 0) → is_filled (map see xs) ≡ not b
+filled-seen see xs b e = filled-there (map see xs) b (e ∙ ap (λ n. n == 0) (sym (length-map xs see)))
+
+-- a field that isn't
+pub left-out : (l : ℤ) (s : List ℕ) (b : Bool) (o : Option Item) → b ≡ false → AppendsField l (field_shape_image b o) s s
+left-out l s b o e = (None, ap (λ c. field_shape_image c o) e, nothing-added s)
+
+-- where every value has an item, each field has
+pub optional-has : {X : Type 0} (f : X → Option Item) → ((x : X) → f x ≡ None → ⊥) → (o : Option X) → field_shape_image (is_some o) (present_image f o) ≡ None → ⊥
+optional-has f has (Some x) e = go (f x) (has x) e
+  where
+    go : (q : Option Item) → (q ≡ None → ⊥) → option_map Some q ≡ None → ⊥
+    go (Some v) h e = absurd (cc)
+    go None h e = h refl
+optional-has f has None e = absurd (cc)
 
 -- ---- a row of pairs
 
@@ -89,12 +191,12 @@ pub taken : {X Y : Type 0} (see : X → Y) (xs : List X) (i : ℕ) (x : X) → i
 taken see xs i x lt is = ap (map see) (take_more xs i x lt) ∙ (map_push see (take i xs) (get_or xs i x) ∙ ap (λ y. map see (take i xs) ++ see y ∷ []) (sym is))
 
 pub row-added :
-    {L V : Type 0} (f : L → Option Item) (see : L × V → L × Item) (xs : List (L × V)) (i : ℕ) (x : L × V) (old mid new : MapEncoder) → i < length xs → x ≡ get_or xs i x → AddsAll (named_image f (map see (take i xs))) old mid
-    → AddsAll (named_image f (see x ∷ [])) mid new → AddsAll (named_image f (map see (take (i + 1) xs))) old new
-row-added f see xs i x old mid new lt is p q = (
+    {L V : Type 0} (f : L → Option Item) (see : L × V → L × Item) (xs : List (L × V)) (i : ℕ) (x : L × V) {old mid new : List ℕ} → i < length xs → x ≡ get_or xs i x → AppendsAll (named_image f (map see (take i xs))) old mid
+    → AppendsAll (named_image f (see x ∷ [])) mid new → AppendsAll (named_image f (map see (take (i + 1) xs))) old new
+row-added f see xs i x lt is p q = (
   and_pairs p.0 q.0,
   ap (named_image f) (taken see xs i x lt is) ∙ named_image-append f (map see (take i xs)) (see x ∷ []) p.0 q.0 p.1 q.1,
-  then-added old mid new p.0 q.0 p.2 q.2,
+  then-added p.0 q.0 p.2 q.2,
 )
 
 pub around :
@@ -109,43 +211,5 @@ pub row-none :
 row-none f view xs i x lt is e =
     ap (named_image f) (around (λ e. (e.0, view e.1)) xs i x lt is) ∙ named_image-none f (map (λ e. (e.0, view e.1)) (take i xs)) (map (λ e. (e.0, view e.1)) (drop (i + 1) xs)) x.0 (view x.1) e
 
-pub label-added : {o : Option Item} {v : Item} {old new : MapEncoder} → ((k : Item) × (o ≡ Some k) × AddsPairs old new (pair k v no_pairs)) → AddsAll (both (λ k ps. pair k v ps) o (Some no_pairs)) old new
-label-added {o} {v} {old} {new} p = (pair p.0 v no_pairs, ap (λ q. both (λ k ps. pair k v ps) q (Some no_pairs)) p.1, p.2)
-
--- a field that may be left out, as it is seen
-pub optional-seen :
-    {X Y : Type 0} (see : X → Y) (f : Y → Option Item) (o : Option X) → field_shape_image (is_some o) (present_image (λ x. f (see x)) o) ≡ field_shape_image (is_some (option_map see o)) (present_image f (option_map see o))
-optional-seen see f (Some x) = refl
-optional-seen see f None = refl
-
--- no map where a pair of the rest has no label
-pub unwritten : {N : Type 0} (n : Names N) (rest : List (N × Item)) (o : Option (List (N × Item))) → named_image n.shape.image rest ≡ None → entries_image n (may_write n true rest) rest o ≡ None
-unwritten {N} n rest o e = by (may_write n true rest) o
-  where
-    none : (es : List (N × Item)) → named_image n.shape.image (es ++ rest) ≡ None
-    none [] = e
-    none (x ∷ es) = last (n.shape.image x.0) (none es)
-      where
-        last : (k : Option Item) → named_image n.shape.image (es ++ rest) ≡ None → both (λ j ps. pair j x.1 ps) k (named_image n.shape.image (es ++ rest)) ≡ None
-        last (Some k) h = rw h refl
-        last None h = refl
-
-    by : (b : Bool) (q : Option (List (N × Item))) → entries_image n b rest q ≡ None
-    by true (Some es) = rw (none es) refl
-    by true None = refl
-    by false q = refl
-
--- nor where a field has none
-pub unwritten-fields : {N : Type 0} (n : Names N) (rest : List (N × Item)) (o : Option (List (N × Item))) → o ≡ None → entries_image n (may_write n true rest) rest o ≡ None
-unwritten-fields {N} n rest o e = ap (entries_image n (may_write n true rest) rest) e ∙ by (may_write n true rest)
-  where
-    by : (b : Bool) → entries_image n b rest None ≡ None
-    by true = refl
-    by false = refl
-
-pub none-first : {N : Type 0} (l : N) (o : Option (Option Item)) (os : Option (List (N × Item))) → o ≡ None → both (put_field l) o os ≡ None
-none-first l o os e = ap (λ q. both (put_field l) q os) e
-
-pub none-then : {N : Type 0} (l : N) (o : Option (Option Item)) (os : Option (List (N × Item))) → os ≡ None → both (put_field l) o os ≡ None
-none-then l (Some q) os e = ap (both (put_field l) (Some q)) e
-none-then l None os e = refl
+pub label-added : {o : Option Item} {v : Item} {old mid new : List ℕ} → AppendsImage o old mid → AppendsItem mid new v → AppendsAll (both (λ k ps. pair k v ps) o (Some no_pairs)) old new
+label-added {o} {v} p q = (pair p.0 v no_pairs, ap (λ k. both (λ k ps. pair k v ps) k (Some no_pairs)) p.1, pair-added p.0 v p.2 q)

@@ -1,13 +1,11 @@
 -- What the calls answer that write straight into bytes.
 use Rattle.std.specs.Prelude.{◌≡◌, ℕ, ℤ, List, ◌++◌, Option, Some, None, Result, Ok, Err, option_map}
-use Rattle.coset_value.specs.Item.{Item, Items, items_count, integer, Pairs, no_pairs, pair, pairs_count, array, item, no_items}
+use Rattle.coset_value.specs.Item.{Item, Items, items_count, integer, Pairs, no_pairs, pair, array, item, no_items}
 use Rattle.coset_value.specs.Range.{IsInRange, AreInRange, ArePairsInRange}
 use Rattle.coset_cbor.specs.Least.{least_encoding, least_encodings, least_pair_encodings}
 use Rattle.coset_codec.specs.declared.error.CoseError.{CoseError}
 use Rattle.coset_codec.specs.declared.error.CoseError.TheVariants.{DuplicateMapKey}
 use Rattle.coset_codec.specs.Errors.{UnlessMemory}
-use Rattle.coset_codec.specs.Maps.{and_pairs}
-use Rattle.coset_codec.specs.declared.write.encode_map.MapEncoder.{MapEncoder}
 use Rattle.coset_codec.specs.Shape.{both}
 
 -- new is old, and then the shortest encoding of the item, which CBOR can hold
@@ -52,25 +50,20 @@ five_places a b c d e = option_map array (both item a (both item b (both item c 
 
 -- ---- maps
 
--- the pairs that were written so far
-pub record HoldsPairs (t : MapEncoder) (ps : Pairs) : Type 0 where
-  pub count : t.count ≡ pairs_count ps
+-- new is old, and then the shortest encodings of these pairs
+pub record AppendsPairs (old new : List ℕ) (ps : Pairs) : Type 0 where
   pub in_range : ArePairsInRange ps
-  pub parts : t.encoded.items ≡ least_pair_encodings ps
+  pub parts : new ≡ old ++ least_pair_encodings ps
 
--- these pairs came behind those that were there
-abbrev pub AddsPairs : MapEncoder → MapEncoder → Pairs → Type 0
-AddsPairs old new ps = (qs : Pairs) → HoldsPairs old qs → HoldsPairs new (and_pairs qs ps)
-
--- the pairs, where they have items, came behind those that were there
-abbrev pub AddsAll : Option Pairs → MapEncoder → MapEncoder → Type 0
-AddsAll o old new = (ps : Pairs) × (o ≡ Some ps) × AddsPairs old new ps
+-- new is old, and then the pairs, which have items
+abbrev pub AppendsAll : Option Pairs → List ℕ → List ℕ → Type 0
+AppendsAll o old new = (ps : Pairs) × (o ≡ Some ps) × AppendsPairs old new ps
 
 -- the pair of that number, where there is a value
 abbrev pub pair_of : ℤ → Option Item → Pairs
 pair_of l (Some v) = pair (integer l) v no_pairs
 pair_of l None = no_pairs
 
--- the pair of that number came behind the others, where the field is there
-abbrev pub AddsField : ℤ → Option (Option Item) → MapEncoder → MapEncoder → Type 0
-AddsField l o old new = (q : Option Item) × (o ≡ Some q) × AddsPairs old new (pair_of l q)
+-- new is old, and then the pair of that number, where the field is there
+abbrev pub AppendsField : ℤ → Option (Option Item) → List ℕ → List ℕ → Type 0
+AppendsField l o old new = (q : Option Item) × (o ≡ Some q) × AppendsPairs old new (pair_of l q)

@@ -1,10 +1,10 @@
 //! Writing: items appended to bytes, straight from where values lie.
 
 mod encode;
-mod encode_map;
+mod map;
 
 pub use encode::{
     Array, Encode, encode_five, encode_four, encode_three, encode_to_tagged_vec, encode_to_value,
     encode_to_vec, encode_two,
 };
-pub use encode_map::MapEncoder;
+pub use map::{write_field, write_filled, write_optional, write_pairs_head, write_rest};

@@ -1,37 +1,24 @@
 -- The fields of a key, written pair by pair.
-use Rattle.std.proofs.Common.{◌≡◌, ◌==◌, ℤ, List, [], ◌∷◌, length, Bool, true, false, Option, Some, None, option_map, refl, sym, ◌∙◌, ap, true≢false, arith}
+use Rattle.std.proofs.Common.{◌≡◌, List, [], ◌∷◌, length, map, not, Bool, true, false, Some, None, option_map, refl, sym, ap, arith}
 use Rattle.coset_value.specs.Item.{Item, Items, item, array}
-use Rattle.coset_codec.specs.Encoding.{AddsField}
 use Rattle.coset_codec.specs.Maps.{field_shape_image, is_filled}
 use Rattle.coset_codec.specs.Shape.{both, images, list_of}
-use Rattle.coset_codec.specs.declared.write.encode_map.MapEncoder.{MapEncoder}
-use Rattle.coset_codec.proofs.EncodingMaps.{nothing-added}
 use Rattle.coset_label.specs.Names.{Name, number, word, name_item, RegisteredName, assigned, private_use, phrase}
 use Rattle.coset_core.specs.Fields.{algorithm}
 use Rattle.coset_key.specs.Keys.{operation, key_ops}
 
--- a field that is left out
-pub left_out : (l : ℤ) (t : MapEncoder) (b : Bool) (o : Option Item) → b ≡ false → AddsField l (field_shape_image b o) t t
-left_out l t b o e = (None, ap (λ c. field_shape_image c o) e, nothing-added t)
-
-pub empty_left_out : {A : Type 0} (xs : List A) → xs ≡ [] → is_filled xs ≡ false
-empty_left_out [] e = refl
-empty_left_out (x ∷ xs) e = absurd (cc)
-
-pub filled_written : {A : Type 0} (xs : List A) → (xs ≡ [] → ⊥) → is_filled xs ≡ true
-filled_written [] e = absurd (e refl)
-filled_written (x ∷ xs) e = refl
+-- a set is there where it isn't empty
+pub set-there : {K N : Type 0} (seen : K → N) (ks : List K) (b : Bool) → (b ≡ true → length ks ≡ 0) → (length ks ≡ 0 → b ≡ true) → is_filled (map seen ks) ≡ not b
+set-there seen [] b none all = sym (ap not (all refl))
+set-there seen (k ∷ ks) true none all = let e = none refl in absurd (omega (arith, e))
+set-there seen (k ∷ ks) false none all = refl
 
 -- an algorithm has an item
-pub algorithm_image : (n : RegisteredName) → (v : Item) × (algorithm.image n ≡ Some v)
+pub algorithm-has : (n : RegisteredName) → algorithm.image n ≡ None → ⊥
 unfolding algorithm
-algorithm_image (assigned i) = (_, refl)
-algorithm_image (private_use i) = (_, refl)
-algorithm_image (phrase s) = (_, refl)
-
-pub no-length : {A : Type 0} (xs : List A) (b : Bool) → b ≡ (length xs == 0) → b ≡ true → xs ≡ []
-no-length [] b e h = refl
-no-length (x ∷ xs) b e h = absurd (true≢false (sym h ∙ (e ∙ grind arith)))
+algorithm-has (assigned i) e = absurd (cc)
+algorithm-has (private_use i) e = absurd (cc)
+algorithm-has (phrase s) e = absurd (cc)
 
 -- ---- key operations
 

@@ -11,7 +11,7 @@ ghost use Rattle.coset_iana.specs.KeyParameter as parameters;
 ghost use Rattle.coset_iana.specs.KeyType as kinds;
 ghost use Rattle.coset_iana.specs.declared.keys.KeyParameter.TheVariants as labels;
 ghost use Rattle.coset_codec.specs.declared.error.CoseError.TheVariants.{OutOfMemory};
-ghost use Rattle.coset_codec.specs.Encoding.{AddsField, HasNoImage};
+ghost use Rattle.coset_codec.specs.Encoding.{AppendsField};
 ghost use Rattle.coset_codec.specs.Errors.{UnlessMemory};
 ghost use Rattle.coset_codec.specs.Inputs.{ReadsAt, length_left, state};
 ghost use Rattle.coset_codec.specs.Maps.{Adds, Refuses, are_distinct, listed, optional};
@@ -31,7 +31,9 @@ use crate::ml_dsa::MlDsaVariant;
 use coset_cbor::value::Value;
 use coset_codec::Codec;
 use coset_codec::read::{Gather, Input, InputPairs, read_map, set_field, set_filled};
-use coset_codec::write::MapEncoder;
+use coset_codec::write::{
+    write_field, write_filled, write_optional, write_pairs_head, write_rest,
+};
 use coset_core::{
     Algorithm, CborOrdering, CoseError, Encode, KeyOperation, KeyType, Label,
     RegisteredLabel, RegisteredLabelWithPrivate, Result, has_repeats, iana, is_parameter,
@@ -42,6 +44,12 @@ use coset_iana::{
 use std::alloc::{AllocError, Global};
 use std::collections::BTreeSet;
 use std::marker::Model;
+
+/// About what a key takes beside its byte strings and params.
+const HEADS: usize = 24;
+
+/// About what a param takes: a label, and a coordinate of 32 bytes.
+const PARAM: usize = 40;
 
 /// A key: `COSE_Key` (RFC 8152, section 7).
 ///
@@ -288,81 +296,50 @@ impl Codec for CoseKey {
         so_far.finish()
     }
 
+    /// Enough where coordinates have at most 32 bytes and key operations are few.
+    fn size_hint(&self) -> usize {
+        HEADS
+            .saturating_add(self.key_id.len())
+            .saturating_add(self.base_iv.len())
+            .saturating_add(self.params.len().saturating_mul(PARAM))
+    }
+
     fn write(&self, alloc: Global, out: &mut Vec<u8>) -> Result<()> {
         if has_repeats(alloc, &self.params)? {
             return Err(CoseError::DuplicateMapKey);
         }
-        let mut pairs = MapEncoder::new(alloc);
-        write_field(&mut pairs, alloc, KeyParameter::Kty, &self.kty)?;
-        write_bytes(&mut pairs, alloc, KeyParameter::Kid, &self.key_id)?;
-        write_algorithm(&mut pairs, alloc, &self.alg)?;
-        write_key_ops(&mut pairs, alloc, &self.key_ops)?;
-        write_bytes(&mut pairs, alloc, KeyParameter::BaseIv, &self.base_iv)?;
-        pairs.rest(alloc, &self.params)?;
-        pairs.finish(out)?;
-        Ok(())
-    }
-}
-
-/// Appends the pair of this parameter's label and this value.
-fn write_field<T: Encode>(
-    pairs: &mut MapEncoder,
-    alloc: Global,
-    parameter: KeyParameter,
-    value: &T,
-) -> Result<()>
-    ensures ok { OnOk result (AddsField (parameters.number parameter)
-        (option_map Some (T.image value.now)) pairs.old pairs.new) }
-    ensures refused { IfErr result (HasNoImage (T.image value.now)) }
-{
-    pairs.field(alloc, parameter.to_i64(), value)
-}
-
-/// Appends the pair of this parameter's label and these bytes, where there are any.
-fn write_bytes(
-    pairs: &mut MapEncoder,
-    alloc: Global,
-    parameter: KeyParameter,
-    bytes: &Vec<u8>,
-) -> Result<()>
-    ensures ok { OnOk result (AddsField (parameters.number parameter)
-        ((listed filled_bstr).image bytes.now.items) pairs.old pairs.new) }
-    ensures memory { IfErr result (λ e. e ≡ OutOfMemory) }
-{
-    if bytes.is_empty() {
-        return Ok(());
-    }
-    write_field(pairs, alloc, parameter, bytes)
-}
-
-/// Appends the pair of the algorithm, where there is one.
-#[tactic(auto, unfolding(coset_core::specs::Fields::algorithm))]
-fn write_algorithm(pairs: &mut MapEncoder, alloc: Global, alg: &Option<Algorithm>) -> Result<()>
-    ensures ok { OnOk result (AddsField (parameters.number labels.Alg)
-        ((optional algorithm).image (option_map algorithm_seen alg.now)) pairs.old pairs.new) }
-    ensures memory { IfErr result (λ e. e ≡ OutOfMemory) }
-{
-    match alg {
-        Some(alg) => write_field(pairs, alloc, KeyParameter::Alg, alg),
-        None => Ok(()),
+        let there = [
+            true,
+            !self.key_id.is_empty(),
+            self.alg.is_some(),
+            !self.key_ops.is_empty(),
+            !self.base_iv.is_empty(),
+        ];
+        write_pairs_head(&there, &self.params, out)?;
+        write_field(alloc, KeyParameter::Kty.to_i64(), &self.kty, out)?;
+        write_filled(alloc, KeyParameter::Kid.to_i64(), &self.key_id, out)?;
+        write_optional(alloc, KeyParameter::Alg.to_i64(), &self.alg, out)?;
+        write_key_ops(alloc, &self.key_ops, out)?;
+        write_filled(alloc, KeyParameter::BaseIv.to_i64(), &self.base_iv, out)?;
+        write_rest(alloc, &self.params, out)
     }
 }
 
 /// Appends the pair of the key operations, where there are any.
 fn write_key_ops(
-    pairs: &mut MapEncoder,
     alloc: Global,
     operations: &BTreeSet<KeyOperation>,
+    out: &mut Vec<u8>,
 ) -> Result<()>
-    ensures ok { OnOk result (AddsField (parameters.number labels.KeyOps)
-        ((listed key_ops_shape).image (map operation_seen operations.now.keys)) pairs.old
-        pairs.new) }
+    ensures ok { OnOk result (AppendsField (parameters.number labels.KeyOps)
+        ((listed key_ops_shape).image (map operation_seen operations.now.keys)) out.old.items
+        out.new.items) }
     ensures memory { IfErr result (λ e. e ≡ OutOfMemory) }
 {
     if operations.is_empty() {
         return Ok(());
     }
-    write_field(pairs, alloc, KeyParameter::KeyOps, &KeyOps(operations))
+    write_field(alloc, KeyParameter::KeyOps.to_i64(), &KeyOps(operations), out)
 }
 
 /// Makes a [`CoseKey`], field by field. Contracts see it as the key that [`build`](CoseKeyBuilder::build) gives.

@@ -14,7 +14,7 @@ ghost use Rattle.coset_sample.specs.Settings.{name_seen, names, seen, settings, 
 
 use coset_cbor::value::Value;
 use coset_codec::read::{Gather, Input, InputPairs, read_map, set_field};
-use coset_codec::write::{Encode, MapEncoder};
+use coset_codec::write::{Encode, write_field, write_optional, write_pairs_head, write_rest};
 use coset_codec::{Codec, CoseError, Result, TaggedCodec, has_repeats};
 use std::alloc::Global;
 
@@ -175,13 +175,11 @@ impl Codec for Settings {
         if has_repeats(alloc, &self.rest)? {
             return Err(CoseError::DuplicateMapKey);
         }
-        let mut pairs = MapEncoder::new(alloc);
-        pairs.field(alloc, 1, &self.level)?;
-        pairs.optional(alloc, 2, &self.name)?;
-        pairs.optional(alloc, 4, &self.limit)?;
-        pairs.rest(alloc, &self.rest)?;
-        pairs.finish(out)?;
-        Ok(())
+        write_pairs_head(&[true, self.name.is_some(), self.limit.is_some()], &self.rest, out)?;
+        write_field(alloc, 1, &self.level, out)?;
+        write_optional(alloc, 2, &self.name, out)?;
+        write_optional(alloc, 4, &self.limit, out)?;
+        write_rest(alloc, &self.rest, out)
     }
 }
 

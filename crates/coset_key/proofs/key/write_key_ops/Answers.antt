@@ -1,20 +1,23 @@
-use Rattle.std.proofs.Common.{map, pos, sym, subst, OnOk}
-use Rattle.coset_codec.specs.Encoding.{AddsField}
-use Rattle.coset_key.specs.Keys.{operation_seen}
-use Rattle.coset_key.proofs.KeySets.{no-keys, some-keys}
+use Rattle.std.proofs.Common.{◌≡◌, ℤ, Some, option_map, map, not, pos, sym, ap, ◌∙◌, subst, OnOk, rules, to_z, of_z, w64}
+use Rattle.coset_codec.specs.Encoding.{AppendsField}
+use Rattle.coset_codec.specs.Shape.{list_of}
+use Rattle.coset_codec.proofs.EncodingMaps.{left-out}
+use Rattle.coset_key.specs.Keys.{operation, operation_seen}
 use Rattle.coset_core.proofs.Memory.{refused_memory}
-use Rattle.coset_key.proofs.Writing.{left_out, empty_left_out, filled_written, key_ops_image, key_ops_list}
+use Rattle.coset_key.proofs.Writing.{set-there, key_ops_image, key_ops_list}
 use Rattle.coset_key.proofs.key.write_key_ops.Goals as goal
 
 pub returns-then-is_empty-clause-ok : goal.returns-then-is_empty-clause-ok
 returns-then-is_empty-clause-ok c =
-    left_out (pos 4) c.args.pairs.now _ _ (empty_left_out (map operation_seen c.args.operations.now.keys) (no-keys operation_seen c.args.operations.now.keys (c.is_empty.ensures.0 c.if-is_empty.true)))
+    left-out (pos 4) c.args.out.now.items _ _ (set-there operation_seen c.args.operations.now.keys c.is_empty.result c.is_empty.ensures.0 c.is_empty.ensures.1 ∙ ap not c.if-is_empty.true)
 
 pub returns-clause-ok : goal.returns-clause-ok
 returns-clause-ok c =
     let ns = map operation_seen c.args.operations.now.keys in
-    subst (λ o. OnOk c.write_field.result (AddsField (pos 4) o c.args.pairs.now c.write_field.new.pairs)) (sym (key_ops_list ns (filled_written ns (some-keys operation_seen c.args.operations.now.keys _ c.is_empty.ensures.1 c.if-is_empty.false))))
-    c.write_field.ensures.ok
+    let back : to_z w64 (of_z w64 c.to_i64.result) ≡ c.to_i64.result = search rules in
+    let filled = set-there operation_seen c.args.operations.now.keys c.is_empty.result c.is_empty.ensures.0 c.is_empty.ensures.1 ∙ ap not c.if-is_empty.false in
+    subst (λ o. OnOk c.write_field.result (AppendsField (pos 4) o c.args.out.now.items c.write_field.new.out.items)) (sym (key_ops_list ns filled))
+    (subst (λ (l : ℤ). OnOk c.write_field.result (AppendsField l (option_map Some ((list_of operation).image ns)) c.args.out.now.items c.write_field.new.out.items)) (back ∙ c.to_i64.ensures) c.write_field.ensures.ok)
 
 pub returns-clause-memory : goal.returns-clause-memory
 returns-clause-memory c =

@@ -1,14 +1,16 @@
-use Rattle.std.proofs.Common.{map, refl, sym, ◌∙◌, subst, ap}
+use Rattle.std.proofs.Common.{◌≡◌, ℤ, Some, true, map, refl, sym, ◌∙◌, ap, rules}
+use Rattle.coset_value.specs.Item.{integer}
 use Rattle.coset_value.specs.View.{view}
-use Rattle.coset_codec.specs.Encoding.{AddsAll}
-use Rattle.coset_codec.specs.Maps.{named_image}
 use Rattle.coset_codec.specs.RestLaws.{as_seen, repeated-seen, distinct-seen, no-entries}
+use Rattle.coset_codec.specs.Shape.{filled_bstr}
 use Rattle.coset_codec.proofs.Encoding.{passes}
-use Rattle.coset_codec.proofs.EncodingMaps.{no-field, field-put, map-written, rest-seen, unwritten}
-use Rattle.coset_label.specs.Labels.{label}
+use Rattle.coset_codec.proofs.EncodingMaps.{no-field, field-put, optional-put, listed-put, optional-has, filled-there, map-written}
+use Rattle.coset_label.specs.Names.{number}
 use Rattle.coset_label.specs.Views.{label_seen}
-use Rattle.coset_core.specs.Fields.{names, same_name}
-use Rattle.coset_key.specs.Keys.{key, key_type}
+use Rattle.coset_core.specs.Fields.{algorithm, names, same_name}
+use Rattle.coset_core.specs.Views.{algorithm_seen}
+use Rattle.coset_key.specs.Keys.{key, key_type, key_ops, kty_seen, operation_seen}
+use Rattle.coset_key.proofs.Writing.{algorithm-has, set-there}
 use Rattle.coset_key.proofs.key.CoseKeyCodec.write.Goals as goal
 
 pub returns-then-branch : goal.returns-then-branch
@@ -17,24 +19,26 @@ returns-then-branch c =
     let params = map (as_seen label_seen view) c.args.self.now.params.items in
     λ _. (refl, no-entries names params _ (repeated-seen label_seen view _ same_name (λ x y. refl) c.in_ok-has_repeats.field-0 c.args.self.now.params.items (rw c.deref.ensures.value at c.in_ok-has_repeats.ensures.answer) c.if-branch.true))
 
-pub returns-in_err-rest : goal.returns-in_err-rest
-unfolding key
-returns-in_err-rest c =
-    let params = map (as_seen label_seen view) c.args.self.now.params.items in
-    passes c.from_residual-in_err-rest.result _ _ c.from_residual-in_err-rest.ensures.1 c.in_err-rest.ensures.refused
-    (λ e. unwritten names params _ (sym (rest-seen label_seen view label.image c.args.self.now.params.items) ∙ (ap (λ xs. named_image (λ l. label.image (label_seen l)) (map (λ e. (e.0, view e.1)) xs)) (sym c.deref-2.ensures.value) ∙ e)))
+pub returns-in_err-write_optional : goal.returns-in_err-write_optional
+unfolding algorithm
+returns-in_err-write_optional c =
+    passes c.from_residual-in_err-write_optional.result _ _ c.from_residual-in_err-write_optional.ensures.1 c.in_err-write_optional.ensures.refused
+    (λ e. absurd (optional-has (λ l. algorithm.image (algorithm_seen l)) (λ l. algorithm-has (algorithm_seen l)) c.args.self.now.alg e))
 
 pub returns : goal.returns
-unfolding key key_type
+unfolding key key_type algorithm
 returns c =
-    let params = map (as_seen label_seen view) c.args.self.now.params.items in
-    let distinct = distinct-seen label_seen view _ same_name (λ x y. refl) c.in_ok-has_repeats.field-0 c.args.self.now.params.items (rw c.deref.ensures.value at c.in_ok-has_repeats.ensures.answer) c.if-branch.false in
-    let more = subst (λ o. AddsAll o c.write_bytes-2.new.pairs c.rest.new.self)
-    (ap (λ xs. named_image (λ l. label.image (label_seen l)) (map (λ e. (e.0, view e.1)) xs)) c.deref-2.ensures.value ∙ rest-seen label_seen view label.image c.args.self.now.params.items) c.in_ok-rest.ensures.ok in
-    map-written names params _ _ distinct c.new-pairs.ensures
-    (field-put names.shape.image refl c.in_ok-write_field.ensures.ok
-    (field-put names.shape.image refl c.in_ok-write_bytes.ensures.ok
-    (field-put names.shape.image refl c.in_ok-write_algorithm.ensures.ok
-    (field-put names.shape.image refl c.in_ok-write_key_ops.ensures.ok
-    (field-put names.shape.image refl c.in_ok-write_bytes-2.ensures.ok
-    (no-field names.shape.image c.write_bytes-2.new.pairs)))))) more c.in_ok-finish.ensures.ok
+    let k = c.args.self.now in
+    let distinct = distinct-seen label_seen view _ same_name (λ x y. refl) c.in_ok-has_repeats.field-0 k.params.items (rw c.deref.ensures.value at c.in_ok-has_repeats.ensures.answer) c.if-branch.false in
+    let f = names.shape.image in
+    let named : (i j : ℤ) → i ≡ j → f (number j) ≡ Some (integer i) = λ i j e. ap (λ k. Some (integer k)) (sym e) in
+    map-written names label_seen view k.params.items _ _ _ _ c.write_rest.result distinct
+    (rw (c.deref-2.ensures.value, c.is_some.ensures) at c.in_ok-write_pairs_head.ensures.fits)
+    (rw (c.deref-2.ensures.value, c.is_some.ensures) at c.in_ok-write_pairs_head.ensures.ok)
+    (field-put f true (key_type.image (kty_seen k.kty)) (named _ _ ((search rules) ∙ c.to_i64.ensures)) c.in_ok-write_field.ensures.ok
+    (listed-put f filled_bstr.image k.key_id.items _ (filled-there k.key_id.items c.is_empty.result (search rules)) (named _ _ ((search rules) ∙ c.to_i64-2.ensures)) c.in_ok-write_filled.ensures.ok
+    (optional-put f algorithm_seen algorithm.image k.alg (named _ _ ((search rules) ∙ c.to_i64-3.ensures)) c.in_ok-write_optional.ensures.ok
+    (listed-put f key_ops.image (map operation_seen k.key_ops.keys) _ (set-there operation_seen k.key_ops.keys c.is_empty-2.result c.is_empty-2.ensures.0 c.is_empty-2.ensures.1) refl c.in_ok-write_key_ops.ensures.ok
+    (listed-put f filled_bstr.image k.base_iv.items _ (filled-there k.base_iv.items c.is_empty-3.result (search rules)) (named _ _ ((search rules) ∙ c.to_i64-4.ensures)) c.in_ok-write_filled-2.ensures.ok
+    (no-field f c.write_filled-2.new.out.items))))))
+    (rw c.deref-3.ensures.value at c.write_rest.ensures.ok) (rw c.deref-3.ensures.value at c.write_rest.ensures.refused)

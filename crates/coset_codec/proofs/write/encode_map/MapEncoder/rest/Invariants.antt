@@ -1,8 +1,0 @@
-use Rattle.std.proofs.Common.{map, take}
-use Rattle.coset_value.specs.View.{view}
-use Rattle.coset_codec.specs.Encoding.{AddsAll}
-use Rattle.coset_codec.specs.Maps.{named_image}
-use Rattle.coset_codec.proofs.write.encode_map.MapEncoder.rest.Given as goal
-
-abbrev pub invariant-loop-label : goal.invariant-loop-label
-invariant-loop-label g l = AddsAll (named_image g.L.Encode.image (map (λ e. (e.0, view e.1)) (take l.label-index l.rest))) l.initial.self l.self

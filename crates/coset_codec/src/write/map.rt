@@ -1,0 +1,121 @@
+//! Maps written straight into bytes: a head, which says how many pairs there are, and then pair by pair.
+
+ghost use Rattle.coset_codec.specs.declared.error.CoseError.TheVariants.{OutOfMemory as out_of_memory};
+ghost use Rattle.std.specs.Prelude.{◌≡◌, ◌+◌, ◌++◌, ◌<◌, ◌^◌, OnOk, IfErr, Some, option_map, is_some, filter, length, map};
+ghost use Rattle.coset_value.specs.View.{view};
+ghost use Rattle.coset_cbor.specs.Least.{least_head};
+ghost use Rattle.coset_codec.specs.Encoding.{AppendsAll, AppendsField, HasNoImage};
+ghost use Rattle.coset_codec.specs.Maps.{field_shape_image, listed, named_image};
+ghost use Rattle.coset_codec.specs.Shape.{filled_bstr, present_image};
+
+use crate::error::Result;
+use crate::write::Encode;
+use coset_cbor::OutOfMemory;
+use coset_cbor::ser::write_map_head;
+use coset_cbor::value::Value;
+use std::alloc::Global;
+
+/// How many of these are true.
+fn count_true(there: &[bool]) -> usize
+    ensures { result ≡ length (filter (λ b. b) there.now) }
+{
+    there.iter().filter(|b| **b).count()
+}
+
+/// Appends the head of the map of those fields that are there, as `there` says of each, and of the rest.
+pub fn write_pairs_head<L>(
+    there: &[bool],
+    rest: &[(L, Value)],
+    out: &mut Vec<u8>,
+) -> Result<(), OutOfMemory>
+    ensures ok { OnOk result (out.new.items ≡ out.old.items
+        ++ least_head 5 (length (filter (λ b. b) there.now) + length rest.now)) }
+    ensures fits { OnOk result
+        (length (filter (λ b. b) there.now) + length rest.now < 2 ^ 64) }
+{
+    match count_true(there).checked_add(rest.len()) {
+        Some(count) => write_map_head(count, out),
+        None => Err(OutOfMemory),
+    }
+}
+
+/// Appends the pair of this number and value.
+///
+/// # Errors
+/// Those of the value.
+pub fn write_field<T: Encode>(
+    alloc: Global,
+    label: i64,
+    value: &T,
+    out: &mut Vec<u8>,
+) -> Result<()>
+    ensures ok { OnOk result
+        (AppendsField label (option_map Some (T.image value.now)) out.old.items out.new.items) }
+    ensures refused { IfErr result (HasNoImage (T.image value.now)) }
+{
+    label.encode(alloc, out)?;
+    value.encode(alloc, out)
+}
+
+/// Appends the pair of this number, where there is a value.
+///
+/// # Errors
+/// Those of the value.
+pub fn write_optional<T: Encode>(
+    alloc: Global,
+    label: i64,
+    value: &Option<T>,
+    out: &mut Vec<u8>,
+) -> Result<()>
+    ensures ok { OnOk result (AppendsField label (field_shape_image (is_some value.now)
+        (present_image T.image value.now)) out.old.items out.new.items) }
+    ensures refused { IfErr result
+        (HasNoImage (field_shape_image (is_some value.now) (present_image T.image value.now))) }
+{
+    match value {
+        Some(value) => write_field(alloc, label, value, out),
+        None => Ok(()),
+    }
+}
+
+/// Appends the pair of this number and these bytes, where there are any.
+///
+/// # Errors
+/// `OutOfMemory` alone.
+pub fn write_filled(
+    alloc: Global,
+    label: i64,
+    bytes: &Vec<u8>,
+    out: &mut Vec<u8>,
+) -> Result<()>
+    ensures ok { OnOk result (AppendsField label ((listed filled_bstr).image bytes.now.items)
+        out.old.items out.new.items) }
+    ensures memory { IfErr result (λ e. e ≡ out_of_memory) }
+{
+    if bytes.is_empty() {
+        return Ok(());
+    }
+    write_field(alloc, label, bytes, out)
+}
+
+/// Appends the pairs of the rest.
+///
+/// # Errors
+/// Those of the first label that has one.
+pub fn write_rest<L: Encode>(
+    alloc: Global,
+    rest: &[(L, Value)],
+    out: &mut Vec<u8>,
+) -> Result<()>
+    ensures ok { OnOk result
+        (AppendsAll (named_image L.image (map (λ e. (e.0, view e.1)) rest.now)) out.old.items
+        out.new.items) }
+    ensures refused { IfErr result
+        (HasNoImage (named_image L.image (map (λ e. (e.0, view e.1)) rest.now))) }
+{
+    for (label, value) in rest {
+        label.encode(alloc, out)?;
+        value.encode(alloc, out)?;
+    }
+    Ok(())
+}
