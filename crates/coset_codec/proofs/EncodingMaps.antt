@@ -3,13 +3,12 @@ use Rattle.std.proofs.Common.{◌≡◌, ℕ, suc, ℤ, ◌+◌, ◌<◌, ◌^�
 use Rattle.std.specs.Prelude.{◌==◌, is_some, filter, not, Result, Ok, Err, OnOk, IfErr}
 use Rattle.std.proofs.lemmas.Grind.{common_steps}
 use Rattle.std.proofs.lemmas.List.{take_more, map_push, map-append, take-append-drop, length-append, length-map}
-use Rattle.std.specs.Map.{keys_of}
 use Rattle.coset_value.specs.Item.{Item, integer, dict, Pairs, no_pairs, pair, pairs_count}
 use Rattle.coset_value.specs.Range.{ArePairsInRange}
 use Rattle.coset_cbor.specs.Least.{least_head, least_encoding, least_pair_encodings}
 use Rattle.coset_codec.specs.declared.error.CoseError.{CoseError}
 use Rattle.coset_codec.specs.Encoding.{AppendsItem, AppendsImage, Encodes, HasNoImage, AppendsPairs, AppendsAll, AppendsField}
-use Rattle.coset_codec.specs.Maps.{Names, field_shape_image, named_image, and_pairs, put_field, are_distinct, entries_image, may_write, is_filled}
+use Rattle.coset_codec.specs.Maps.{Names, field_shape_image, named_image, and_pairs, put_field, entries_image, is_filled}
 use Rattle.coset_codec.specs.RestLaws.{as_seen}
 use Rattle.coset_codec.specs.Shape.{both, present_image}
 use Rattle.coset_codec.proofs.Pushing.{named_image-append, named_image-none}

@@ -1,10 +1,10 @@
 -- The rest of a map as it lies in memory, and as contracts see it: whether its labels repeat, and what it is written as.
-use Rattle.std.proofs.Common.{◌≡◌, ◌&&◌, List, [], ◌∷◌, ◌++◌, map, Option, Some, None, Bool, true, false, not, option_map, refl, sym, ◌∙◌, ap}
+use Rattle.std.proofs.Common.{◌≡◌, ◌&&◌, List, [], ◌∷◌, map, Option, None, Bool, true, false, not, refl, sym, ◌∙◌, ap}
 use Rattle.std.specs.Prelude.{Result, Ok, Err, IfOk}
 use Rattle.std.specs.List.{list_all}
 use Rattle.std.specs.Map.{keys_of}
-use Rattle.coset_value.specs.Item.{Item, dict}
-use Rattle.coset_codec.specs.Maps.{Names, are_distinct, entries_image, may_write, named_image}
+use Rattle.coset_value.specs.Item.{Item}
+use Rattle.coset_codec.specs.Maps.{Names, are_distinct, entries_image, may_write}
 
 -- what holds of each answer holds of the answer
 pub if_ok : {T E : Type 0} (r : Result T E) (P Q : T → Type 0) → ((x : T) → P x → Q x) → IfOk r P → IfOk r Q
@@ -42,9 +42,3 @@ module _ {K N V : Type 0} (seen : K → N) (view : V → Item) (eq : K → K →
 -- no map is written where labels of the rest repeat and that is looked at
 pub no-entries : {N : Type 0} (n : Names N) (rest : List (N × Item)) (o : Option (List (N × Item))) → are_distinct n.same (keys_of rest) ≡ false → entries_image n (may_write n true rest) rest o ≡ None
 no-entries n rest o e = ap (λ b. entries_image n b rest o) e
-
--- else the map of the fields and the rest
-pub some-entries :
-    {N : Type 0} (n : Names N) (rest es : List (N × Item)) (o : Option (List (N × Item))) → are_distinct n.same (keys_of rest) ≡ true → o ≡ Some es
-    → option_map dict (named_image n.shape.image (es ++ rest)) ≡ entries_image n (may_write n true rest) rest o
-some-entries n rest es o e p = rw (e, p) refl

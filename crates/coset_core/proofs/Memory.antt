@@ -1,6 +1,6 @@
 -- What can't be refused but for memory.
-use Rattle.std.proofs.Common.{◌≡◌, Option, Some, Result, Ok, Err, refl}
-use Rattle.std.specs.Prelude.{IfErr}
+use Rattle.std.proofs.Common.{◌≡◌, Option, Some, None, Result, Ok, Err, refl, ◌∙◌}
+use Rattle.std.specs.Prelude.{IfErr, IsErrAnd}
 use Rattle.coset_codec.specs.Encoding.{HasNoImage}
 use Rattle.coset_codec.specs.ShapeLaws.{some-none}
 use Rattle.coset_codec.specs.declared.error.CoseError.{CoseError}
@@ -18,6 +18,14 @@ only_memory UnregisteredIanaValue h = absurd (h (λ q. absurd (cc)))
 only_memory UnregisteredIanaNonPrivateValue h = absurd (h (λ q. absurd (cc)))
 
 -- of what has an item, only memory is refused
+pub never_none : {T A : Type 0} (r : Result T CoseError) (o : Option A) → (o ≡ None → ⊥) → IfErr r (HasNoImage o) → IfErr r (λ e. e ≡ OutOfMemory)
+never_none (Ok t) o has h = tt
+never_none (Err e) o has h = only_memory e (λ n. has (h n).1)
+
 pub refused_memory : {T A : Type 0} (r : Result T CoseError) (o : Option A) (x : A) → o ≡ Some x → IfErr r (HasNoImage o) → IfErr r (λ e. e ≡ OutOfMemory)
-refused_memory (Ok t) o x is h = tt
-refused_memory (Err e) o x is h = only_memory e (λ n. some-none is (h n).1)
+refused_memory r o x is h = never_none r o (some-none is) h
+
+-- and passed on
+pub passed_memory : {T A : Type 0} (r : Result T CoseError) (f : CoseError) (o : Option A) → IsErrAnd r (λ e. e ≡ f) → (o ≡ None → ⊥) → HasNoImage o f → IfErr r (λ e. e ≡ OutOfMemory)
+passed_memory (Ok t) f o same has h = tt
+passed_memory (Err e) f o same has h = same ∙ only_memory f (λ n. has (h n).1)

@@ -1,26 +1,36 @@
 -- Headers and signatures, part by part.
-use Rattle.std.specs.Prelude.{◌==◌, ◌≢◌, not, Bool, true, false, is_some, Result, Ok, Err, IfErr, IsErrAnd}
+use Rattle.std.specs.Prelude.{◌==◌, ◌≢◌, not, filter, true, false, is_some, Result, Ok, Err, IfErr, OnOk, IsErrAnd}
 use Rattle.std.specs.Map.{keys_of}
-use Rattle.std.proofs.Common.{◌≡◌, ℕ, Option, Some, None, option_map, true≢false, ◌+◌, ◌<◌, ◌^◌, List, [], ◌∷◌, ◌++◌, map, length, refl, sym, ◌∙◌, ap, subst, append-nil, append_assoc, arith}
-use Rattle.std.proofs.lemmas.List.{length-append}
-use Rattle.std.proofs.lemmas.Grind.{common_steps}
-use Rattle.coset_value.specs.Item.{Item, bytes, array, dict, Items, no_items, item, pairs_count}
-use Rattle.coset_value.specs.View.{items_of}
-use Rattle.coset_cbor.specs.Least.{least_head, least_encoding, least_pair_encodings}
+use Rattle.std.proofs.Common.{◌≡◌, ℕ, ℤ, Option, Some, None, option_map, true≢false, ◌+◌, ◌<◌, ◌^◌, List, [], ◌∷◌, ◌++◌, map, length, refl, sym, ◌∙◌, ap, subst, append-nil, arith}
+use Rattle.std.proofs.lemmas.List.{length-append, length-map}
+use Rattle.coset_value.specs.Item.{Item, integer, bytes, array, Items, no_items, item}
+use Rattle.coset_value.specs.View.{items_of, view}
+use Rattle.coset_value.specs.declared.value.Value.{Value}
+use Rattle.coset_cbor.specs.Least.{least_head, least_encoding}
+use Rattle.coset_iana.specs.HeaderParameter as parameters
+use Rattle.coset_iana.specs.declared.headers.HeaderParameter.{HeaderParameter}
+use Rattle.coset_iana.specs.declared.headers.HeaderParameter.TheVariants.{CounterSignature, CounterSignatureV2, CounterSignature0V2}
 use Rattle.coset_codec.specs.declared.error.CoseError.{CoseError}
 use Rattle.coset_codec.specs.declared.error.CoseError.TheVariants.{DuplicateMapKey}
-use Rattle.coset_codec.specs.Encoding.{AppendsItem, AppendsImage, Encodes}
+use Rattle.coset_codec.specs.Encoding.{AppendsItem, AppendsImage, AppendsField, AppendsAll, Encodes, HasNoImage}
 use Rattle.coset_codec.specs.Errors.{UnlessMemory}
-use Rattle.coset_codec.specs.Maps.{put_field, are_distinct, optional, listed}
-use Rattle.coset_codec.specs.Shape.{images, one_or_array, some_of, bstr, filled_bstr}
-use Rattle.coset_label.specs.Names.{Name, name_item, RegisteredName}
-use Rattle.coset_core.specs.FieldLabels as labels
+use Rattle.coset_codec.specs.Maps.{are_distinct, entries_image, field_shape_image, is_filled, may_write, named_image, optional}
+use Rattle.coset_codec.specs.RestLaws.{no-entries}
+use Rattle.coset_codec.specs.Shape.{any, both, bstr, filled_bstr, images, one_or_array, present_image, some_of}
 use Rattle.coset_codec.proofs.Encoding.{array-put as array-put-places, place-put, nothing-put, and_items, images-append, images-missing}
-use Rattle.coset_core.specs.Fields.{FieldsSeen, Versions, same_name, algorithm, critical, content_type}
+use Rattle.coset_codec.proofs.EncodingMaps.{AppendsFields, no-field, field-put, filled-seen, filled-there, map-written, pair-added}
+use Rattle.coset_label.specs.Labels.{label}
+use Rattle.coset_label.specs.Names.{Name, number, word, RegisteredName, assigned, private_use, phrase}
+use Rattle.coset_label.specs.Views.{label_seen}
+use Rattle.coset_label.specs.declared.label.Label.{Label}
+use Rattle.coset_core.specs.Fields.{FieldsSeen, same_name, names, fields, parts_of, partial_header, algorithm, critical, content_type}
 use Rattle.coset_core.specs.Headers.{HeaderSeen, header_of, fields_in, counter_signatures_in, countersignatures_in, ProtectedSeen, SignatureSeen, Signatures, no_signatures, signature_and, signatures_of, are_none, counter_signatures_item, header_item, signatures_image, header_image, protected_bytes}
-use Rattle.coset_core.specs.HeaderWrites.{fields_put, images_signatures, signature_image_is, algorithm_image, critical_image, content_type_image, Puts, header_put, header_repeats}
-use Rattle.coset_core.specs.Written.{AppendsItems, AppendsPairs, AppendsCounterSignatures, AppendsSignatures, entry_pairs, registered_item, bytes_item, critical_item, filled_item, header_fields, plain_fields, one, count_pairs, signature_array}
-use Rattle.coset_core.proofs.Writing.{some_mapped, items-push, array-put, pairs-then, pair-put, count-entries, image-entries}
+use Rattle.coset_core.specs.HeaderWrites.{images_signatures, signature_image_is}
+use Rattle.coset_core.specs.ViewLaws.{HeaderLevel, header_level}
+use Rattle.coset_core.specs.Views.{algorithm_seen, content_type_seen, countersignature_seen, critical_seen, entry_seen, signature_seen}
+use Rattle.coset_core.specs.Written.{AppendsItems, AppendsFirst, AppendsCounterSignatures, AppendsSignatures, are_there, count_pairs, signature_array}
+use Rattle.coset_core.proofs.Signatures.{are_none_of}
+use Rattle.coset_core.proofs.Writing.{items-push, array-put}
 
 -- an error passed on that says of P what another is asked to say of Q
 pub passes : {T : Type 0} (r : Result T CoseError) (f : CoseError) (P Q : Type 0) → IsErrAnd r (λ e. e ≡ f) → (P → Q) → UnlessMemory f (λ g. (g ≡ DuplicateMapKey) × P) → IfErr r (λ e. UnlessMemory e (λ g. (g ≡ DuplicateMapKey) × Q))
@@ -82,145 +92,130 @@ one_or_array-put (v ∷ []) n old head new h count small alone several p = recor
 one_or_array-put (v ∷ w ∷ vs) n old head new h count small alone several p = array-put (v ∷ w ∷ vs) n old head new count small (several (λ e. absurd (omega (arith, e, count)))) p
 
 pub counter_signatures-put :
-    (label : Name) (ss : List SignatureSeen) (n : ℕ) (old mid head new : List ℕ) → not (length ss == 0) ≡ true → n ≡ length ss → n < 2 ^ 64 → AppendsItem old mid (name_item label) → (n ≡ 1 → head ≡ mid)
+    (label : HeaderParameter) (ss : List SignatureSeen) (n : ℕ) (old mid head new : List ℕ) → not (length ss == 0) ≡ true → n ≡ length ss → n < 2 ^ 64 → AppendsItem old mid (integer (parameters.number label)) → (n ≡ 1 → head ≡ mid)
     → (n ≢ 1 → head ≡ mid ++ least_head 4 n) → AppendsSignatures head new ss → AppendsCounterSignatures label old new (signatures_of ss)
 counter_signatures-put label [] n old mid head new h count small name alone several p = absurd (true≢false (sym h))
 counter_signatures-put label (s ∷ ss) n old mid head new h count small name alone several p = (
   Some (one_or_array (items_of p.0)),
   ap (option_map (λ vs. Some (one_or_array vs))) p.1,
-  pair-put old mid new label (one_or_array (items_of p.0)) name (one_or_array-put p.0 n mid head new (rw p.2 h) (count ∙ sym p.2) small alone several p.3),
+  pair-added (integer (parameters.number label)) (one_or_array (items_of p.0)) name (one_or_array-put p.0 n mid head new (rw p.2 h) (count ∙ sym p.2) small alone several p.3),
 )
 
--- ---- what the fields are written as
+-- the value of label 7, or 11, is there where there are signatures
+signatures-there : (ss : Signatures) (q : Option Items) (o : Option Item) → counter_signatures_item ss q ≡ Some o → is_some o ≡ not (are_none ss)
+signatures-there no_signatures q None e = refl
+signatures-there no_signatures q (Some v) e = absurd (cc)
+signatures-there (signature_and b p u s more) (Some vs) (Some v) e = refl
+signatures-there (signature_and b p u s more) (Some vs) None e = absurd (cc)
+signatures-there (signature_and b p u s more) None o e = absurd (cc)
 
-algorithm-put : (o : Option RegisteredName) → (optional algorithm).image o ≡ Some (option_map registered_item o)
-algorithm-put None = refl
-algorithm-put (Some x) = ap (option_map Some) (algorithm_image x)
+any-image : (o : Option Item) → field_shape_image (is_some o) (present_image (λ v. Some v) o) ≡ Some o
+any-image (Some v) = refl
+any-image None = refl
 
-each-critical : (xs : List RegisteredName) → images critical.image xs ≡ Some (items_of (map registered_item xs))
-each-critical [] = refl
-each-critical (x ∷ xs) = rw (critical_image x, each-critical xs) refl
+-- ---- values that always have an item
 
-critical-put : (xs : List RegisteredName) → (listed (some_of critical)).image xs ≡ Some (critical_item xs)
-critical-put [] = refl
-critical-put (x ∷ xs) = ap (λ o. option_map Some (option_map array o)) (each-critical (x ∷ xs))
+pub algorithm-has : (x : RegisteredName) → algorithm.image x ≡ None → ⊥
+unfolding algorithm
+algorithm-has (assigned i) e = absurd (cc)
+algorithm-has (private_use i) e = absurd (cc)
+algorithm-has (phrase s) e = absurd (cc)
 
-content_type-put : (o : Option Name) → (optional content_type).image o ≡ Some (option_map name_item o)
-content_type-put None = refl
-content_type-put (Some x) = ap (option_map Some) (content_type_image x)
+pub critical-has : (x : RegisteredName) → critical.image x ≡ None → ⊥
+unfolding critical
+critical-has (assigned i) e = absurd (cc)
+critical-has (private_use i) e = absurd (cc)
+critical-has (phrase s) e = absurd (cc)
 
-filled-put : (b : List ℕ) → (listed filled_bstr).image b ≡ Some (filled_item b)
-filled-put [] = refl
-filled-put (c ∷ b) = refl
+pub content_type-has : (x : Name) → content_type.image x ≡ None → ⊥
+unfolding content_type
+content_type-has (number i) e = absurd (cc)
+content_type-has (word s) e = absurd (cc)
 
-bytes-put : (o : Option (List ℕ)) → (optional bstr).image o ≡ Some (bytes_item o)
-bytes-put None = refl
-bytes-put (Some b) = refl
-
-pub puts :
-    (f : FieldsSeen) → Puts f (option_map registered_item f.alg) (critical_item f.crit) (option_map name_item f.content_type) (filled_item f.key_id) (filled_item f.iv) (filled_item f.partial_iv)
-    (bytes_item f.countersignature0_v2)
-puts f = record {
-  alg = algorithm-put f.alg;
-  crit = critical-put f.crit;
-  content_type = content_type-put f.content_type;
-  key_id = filled-put f.key_id;
-  iv = filled-put f.iv;
-  partial_iv = filled-put f.partial_iv;
-  countersignature0_v2 = bytes-put f.countersignature0_v2;
-}
-
--- ---- how many there are
-
-put-count : (n : Name) (o : Option Item) (es : List (Name × Item)) → length (put_field n o es) ≡ one (is_some o) + length es
-put-count n None es = omega arith
-put-count n (Some v) es = omega arith
-
-count-fields :
-    (a b t k i p : Option Item) (o : Versions (Option Item)) (q : Option Item)
-    → length (fields_put a b t k i p o q)
-    ≡ one (is_some a) + (one (is_some b) + (one (is_some t) + (one (is_some k) + (one (is_some i) + (one (is_some p) + (one (is_some o.0) + (one (is_some o.1) + (one (is_some q) + 0))))))))
-count-fields a b t k i p o q = simp put-count
-
-is_some-critical : (xs : List RegisteredName) → is_some (critical_item xs) ≡ not (length xs == 0)
-is_some-critical [] = refl
-is_some-critical (x ∷ xs) = grind (arith, common_steps)
-
-is_some-filled : (b : List ℕ) → is_some (filled_item b) ≡ not (length b == 0)
-is_some-filled [] = refl
-is_some-filled (c ∷ b) = grind (arith, common_steps)
-
-abbrev is_there : Option (Option Item) → Bool
-is_there (Some (Some v)) = true
-is_there o = false
-
-is_some-counter_signatures : (ss : Signatures) (o : Option Item) → counter_signatures_item ss (signatures_image ss) ≡ Some o → is_some o ≡ not (are_none ss)
-is_some-counter_signatures ss o e = there o ∙ (sym (ap is_there e) ∙ named ss o e)
+images-has : {X : Type 0} (f : X → Option Item) → ((x : X) → f x ≡ None → ⊥) → (xs : List X) → images f xs ≡ None → ⊥
+images-has f has [] e = absurd (cc)
+images-has f has (x ∷ xs) e = go (f x) (images f xs) (has x) (images-has f has xs) e
   where
-    there : (o : Option Item) → is_some o ≡ is_there (Some o)
-    there (Some v) = refl
-    there None = refl
+    go : (o : Option Item) (vs : Option Items) → (o ≡ None → ⊥) → (vs ≡ None → ⊥) → both item o vs ≡ None → ⊥
+    go (Some v) (Some vs) a b h = absurd (cc)
+    go (Some v) None a b h = b refl
+    go None vs a b h = a refl
 
-    some : (q : Option Items) (o : Option Item) → option_map (λ vs. Some (one_or_array vs)) q ≡ Some o → is_there (option_map (λ vs. Some (one_or_array vs)) q) ≡ true
-    some (Some vs) o e = refl
-    some None o e = absurd (true≢false (sym (ap is_some e)))
-
-    named : (ss : Signatures) (o : Option Item) → counter_signatures_item ss (signatures_image ss) ≡ Some o → is_there (counter_signatures_item ss (signatures_image ss)) ≡ not (are_none ss)
-    named no_signatures o e = refl
-    named (signature_and b p u s more) o e = some (signatures_image (signature_and b p u s more)) o e
-
-count-all :
-    (f : FieldsSeen) (ss ts : Signatures) (o : Versions (Option Item)) → counter_signatures_item ss (signatures_image ss) ≡ Some o.0 → counter_signatures_item ts (signatures_image ts) ≡ Some o.1
-    → length (header_fields f o) + length f.rest ≡ count_pairs (header_of f ss ts)
-count-all f ss ts o e g =
-    let a : is_some (option_map registered_item f.alg) ≡ is_some f.alg = some_mapped registered_item f.alg in
-    let t : is_some (option_map name_item f.content_type) ≡ is_some f.content_type = some_mapped name_item f.content_type in
-    let q : is_some (bytes_item f.countersignature0_v2) ≡ is_some f.countersignature0_v2 = some_mapped bytes f.countersignature0_v2 in
-    rw (count-fields, a, t, q, is_some-critical f.crit, is_some-filled f.key_id, is_some-filled f.iv, is_some-filled f.partial_iv, is_some-counter_signatures ss o.0 e, is_some-counter_signatures ts o.1 g) (omega arith)
+pub list-has : {X : Type 0} (f : X → Option Item) → ((x : X) → f x ≡ None → ⊥) → (xs : List X) → option_map array (images f xs) ≡ None → ⊥
+list-has f has xs e = go (images f xs) (images-has f has xs) e
+  where
+    go : (vs : Option Items) → (vs ≡ None → ⊥) → option_map array vs ≡ None → ⊥
+    go (Some vs) h e = absurd (cc)
+    go None h e = h refl
 
 -- ---- headers
 
--- the pairs of labels 7, 11 and 12 come behind the other fields
-last-fields : (f : FieldsSeen) (o : Versions (Option Item)) → plain_fields f ++ (put_field labels.counter_signature o.0 [] ++ (put_field labels.countersignature_v2 o.1 [] ++ put_field labels.countersignature0_v2 (bytes_item f.countersignature0_v2) [])) ≡ header_fields f o
-last-fields f o =
-    front labels.alg (option_map registered_item f.alg) _ _ _ (front labels.crit (critical_item f.crit) _ _ _ (front labels.content_type (option_map name_item f.content_type) _ _ _
-    (front labels.kid (filled_item f.key_id) _ _ _ (front labels.iv (filled_item f.iv) _ _ _ (front labels.partial_iv (filled_item f.partial_iv) _ _ _
-    (front labels.counter_signature o.0 _ _ _ (front labels.countersignature_v2 o.1 _ _ _ refl)))))))
-  where
-    front : (n : Name) (v : Option Item) (es gs ds : List (Name × Item)) → es ++ ds ≡ gs → put_field n v es ++ ds ≡ put_field n v gs
-    front n None es gs ds e = e
-    front n (Some w) es gs ds e = ap (λ fs. (n, w) ∷ fs) e
+seen-there : {X Y : Type 0} (see : X → Y) (o : Option X) → is_some (option_map see o) ≡ is_some o
+seen-there see (Some x) = refl
+seen-there see None = refl
 
--- a head and pairs are a map
-dict-put :
-    (es : List (Name × Item)) (n : ℕ) (old head new : List ℕ) → n ≡ length es → n < 2 ^ 64 → head ≡ old ++ least_head 5 n → AppendsPairs head new es → AppendsItem old new (dict (entry_pairs es))
-dict-put es n old head new count small first p =
-    let same : pairs_count (entry_pairs es) ≡ n = count-entries es ∙ sym count in
-    record {
-      in_range = (rw same small, p.in_range);
-      parts = rw (p.parts, first, same) (append_assoc old (least_head 5 n) (least_pair_encodings (entry_pairs es)));
-    }
+-- the pair of a field, as it is seen
+pub field-seen : {i j : ℤ} {o p : Option (Option Item)} (old new : List ℕ) → i ≡ j → o ≡ p → AppendsField i o old new → AppendsField j p old new
+field-seen {j} {o} old new e h put = subst (λ q. AppendsField j q old new) h (subst (λ (i : ℤ). AppendsField i o old new) e put)
+
+-- the fields of a header in memory
+pub fields-there :
+    (x : HeaderLevel)
+    → is_some x.alg ∷ not (length x.crit.items == 0) ∷ is_some x.content_type ∷ not (length x.key_id.items == 0) ∷ not (length x.iv.items == 0) ∷ not (length x.partial_iv.items == 0)
+    ∷ not (length x.counter_signatures.items == 0) ∷ not (length x.countersignatures_v2.items == 0) ∷ is_some x.countersignature0_v2 ∷ []
+    ≡ are_there (header_level x)
+fields-there x = sym (λ i.
+    seen-there algorithm_seen x.alg i ∷ filled-seen critical_seen x.crit.items _ refl i ∷ seen-there content_type_seen x.content_type i ∷ filled-there x.key_id.items _ refl i
+    ∷ filled-there x.iv.items _ refl i ∷ filled-there x.partial_iv.items _ refl i ∷ not (are_none_of signature_seen x.counter_signatures.items i)
+    ∷ not (are_none_of countersignature_seen x.countersignatures_v2.items i) ∷ seen-there (λ b. b.items) x.countersignature0_v2 i ∷ [])
 
 -- a head, the first six fields, the pairs of labels 7, 11 and 12, and the rest are the header's map
 pub map-put :
-    (h : HeaderSeen) (n : ℕ) (old head mid s7 s11 s12 new : List ℕ) → are_distinct same_name (keys_of (fields_in h).rest) ≡ true → n ≡ count_pairs h → n < 2 ^ 64 → head ≡ old ++ least_head 5 n
-    → AppendsPairs head mid (plain_fields (fields_in h)) → AppendsCounterSignatures labels.counter_signature mid s7 (counter_signatures_in h)
-    → AppendsCounterSignatures labels.countersignature_v2 s7 s11 (countersignatures_in h)
-    → AppendsPairs s11 s12 (put_field labels.countersignature0_v2 (bytes_item (fields_in h).countersignature0_v2) []) → AppendsPairs s12 new (fields_in h).rest → AppendsImage (header_image h) old new
-map-put (header_of f ss ts) n old head mid s7 s11 s12 new distinct count small first plain counter_signatures countersignatures abbreviated rest =
-    let o : Versions (Option Item) = (counter_signatures.0, countersignatures.0) in
-    let behind = pairs-then mid s7 s12 _ _ counter_signatures.2 (pairs-then s7 s11 s12 _ _ countersignatures.2 abbreviated) in
-    let fields : AppendsPairs head s12 (header_fields f o) = subst (AppendsPairs head s12) (last-fields f o) (pairs-then head mid s12 (plain_fields f) _ plain behind) in
-    let all = pairs-then head s12 new (header_fields f o) f.rest fields rest in
-    let long : n ≡ length (header_fields f o ++ f.rest) = count ∙ (sym (count-all f ss ts o counter_signatures.1 countersignatures.1) ∙ sym (length-append (header_fields f o) f.rest)) in (
-      dict (entry_pairs (header_fields f o ++ f.rest)),
-      (λ i. header_item f (counter_signatures.1 i) (countersignatures.1 i)) ∙ (header_put f _ _ _ _ _ _ o _ (puts f) distinct ∙ ap (option_map dict) (image-entries (header_fields f o ++ f.rest))),
-      dict-put (header_fields f o ++ f.rest) n old head new long small first all,
-    )
+    {T : Type 0} (f : FieldsSeen) (ss ts : Signatures) (xs : List (Label × Value)) (old head mid s7 s11 s12 new : List ℕ) (r : Result T CoseError)
+    → f.rest ≡ map entry_seen xs
+    → are_distinct same_name (keys_of (map entry_seen xs)) ≡ true
+    → count_pairs (header_of f ss ts) < 2 ^ 64
+    → head ≡ old ++ least_head 5 (count_pairs (header_of f ss ts))
+    → AppendsFirst head mid f
+    → AppendsCounterSignatures CounterSignature mid s7 ss
+    → AppendsCounterSignatures CounterSignatureV2 s7 s11 ts
+    → AppendsField (parameters.number CounterSignature0V2) ((optional bstr).image f.countersignature0_v2) s11 s12
+    → OnOk r (AppendsAll (named_image (λ l. label.image (label_seen l)) (map (λ x. (x.0, view x.1)) xs)) s12 new)
+    → IfErr r (HasNoImage (named_image (λ l. label.image (label_seen l)) (map (λ x. (x.0, view x.1)) xs)))
+    → Encodes (header_image (header_of f ss ts)) old new r
+unfolding partial_header
+map-put f ss ts xs old head mid s7 s11 s12 new r rest distinct small first six seven eleven twelve ok refused =
+    let o = seven.0 in
+    let p = eleven.0 in
+    let there = is_some f.alg ∷ is_filled f.crit ∷ is_some f.content_type ∷ is_filled f.key_id ∷ is_filled f.iv ∷ is_filled f.partial_iv ∷ is_some o ∷ is_some p ∷ is_some f.countersignature0_v2 ∷ [] in
+    let told : are_there (header_of f ss ts) ≡ there = λ i.
+    is_some f.alg ∷ is_filled f.crit ∷ is_some f.content_type ∷ is_filled f.key_id ∷ is_filled f.iv ∷ is_filled f.partial_iv
+    ∷ sym (signatures-there ss (signatures_image ss) o seven.1) i ∷ sym (signatures-there ts (signatures_image ts) p eleven.1) i ∷ is_some f.countersignature0_v2 ∷ [] in
+    let count : count_pairs (header_of f ss ts) ≡ length (filter (λ b. b) there) + length xs = λ i. length (filter (λ b. b) (told i)) + (ap length rest ∙ length-map xs entry_seen) i in
+    let fields_appended : AppendsFields Name label.image ((fields (optional any) (optional any)).image (parts_of (f, (o, p))).0) there head s12 =
+    (field-put label.image (is_some f.alg) (present_image algorithm.image f.alg) refl six.alg
+    (field-put label.image (is_filled f.crit) ((some_of critical).image f.crit) refl six.crit
+    (field-put label.image (is_some f.content_type) (present_image content_type.image f.content_type) refl six.content_type
+    (field-put label.image (is_filled f.key_id) (filled_bstr.image f.key_id) refl six.key_id
+    (field-put label.image (is_filled f.iv) (filled_bstr.image f.iv) refl six.iv
+    (field-put label.image (is_filled f.partial_iv) (filled_bstr.image f.partial_iv) refl six.partial_iv
+    (field-put label.image (is_some o) (present_image (λ v. Some v) o) refl (o, any-image o, seven.2)
+    (field-put label.image (is_some p) (present_image (λ v. Some v) p) refl (p, any-image p, eleven.2)
+    (field-put label.image (is_some f.countersignature0_v2) (present_image bstr.image f.countersignature0_v2) refl twelve
+    (no-field label.image s12)))))))))) in
+    subst (λ i. Encodes i old new r) (λ i. header_item f (sym seven.1 i) (sym eleven.1 i))
+    (subst (λ es. Encodes (entries_image names (may_write names true es) es ((fields (optional any) (optional any)).image (parts_of (f, (o, p))).0)) old new r) (sym rest)
+    (map-written names label_seen view xs (may_write names true (map entry_seen xs)) there old new r distinct (subst (λ k. k < 2 ^ 64) count small) (first ∙ ap (λ k. old ++ least_head 5 k) count) fields_appended ok refused))
 
 -- no map is written where a label of the rest repeats, or signatures of either version can't be written
 pub unwritten-rest : (h : HeaderSeen) → are_distinct same_name (keys_of (fields_in h).rest) ≡ false → header_image h ≡ None
-unwritten-rest (header_of f ss ts) e = header_repeats f (counter_signatures_item ss (signatures_image ss)) (counter_signatures_item ts (signatures_image ts)) e
+unfolding partial_header
+unwritten-rest (header_of f ss ts) e = by (counter_signatures_item ss (signatures_image ss)) (counter_signatures_item ts (signatures_image ts))
+  where
+    by : (o p : Option (Option Item)) → header_item f o p ≡ None
+    by (Some o) (Some p) = no-entries names f.rest _ e
+    by (Some o) None = refl
+    by None p = refl
 
 none_item : (ss : Signatures) → signatures_image ss ≡ None → counter_signatures_item ss (signatures_image ss) ≡ None
 none_item no_signatures e = absurd (true≢false (ap is_some e))

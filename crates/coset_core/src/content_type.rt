@@ -1,26 +1,18 @@
 //! Content types of headers: formats of CoAP, or media types (RFC 8152, section 3.1).
 
-ghost use Rattle.std.specs.Prelude.{◌≡◌, ◌≤◌, [], option_map, OnOk, IfOk, IfErr, filter, length, ◌==◌, OnErr};
+ghost use Rattle.std.specs.Prelude.{◌≡◌, ◌≤◌, option_map, OnOk, IfOk, IfErr, filter, length, ◌==◌, OnErr};
 ghost use Rattle.coset_core.specs.Views.{content_type_seen};
 ghost use Rattle.coset_codec.specs.Answers.{Reads};
 ghost use Rattle.coset_codec.specs.Errors.{IsUnexpected, UnlessMemory};
 ghost use Rattle.coset_codec.specs.Inputs.{state, ReadsAt, length_left};
 ghost use Rattle.coset_core.specs.Fields.{IsMediaType, content_type};
-ghost use Rattle.coset_codec.specs.Maps.{RefusesValue, TakesValue, optional, put_field};
-ghost use Rattle.coset_label.specs.Names.{name_item};
-ghost use Rattle.coset_core.specs.FieldLabels as labels;
-ghost use Rattle.coset_core.specs.Written.{AppendsPairs};
-ghost use Rattle.coset_codec.specs.Encoding.{AppendsItem};
+ghost use Rattle.coset_codec.specs.Maps.{RefusesValue, TakesValue, optional};
 ghost use Rattle.std.specs.Option.{option_eq};
 ghost use Rattle.coset_core.specs.Same.{content_type_eq};
 
-use crate::header::writing::{write_number, write_parameter};
-use coset_cbor::OutOfMemory;
-use coset_cbor::ser::write_text;
 use coset_codec::read::Input;
 use coset_codec::traits::FromPull;
 use coset_codec::{CoseError, Result};
-use coset_iana::{EnumI64, HeaderParameter};
 use coset_label::{ContentType, RegisteredLabel};
 use std::alloc::Global;
 
@@ -87,33 +79,6 @@ pub(crate) fn set_content_type(
         return Err(input.repeated());
     }
     *field = Some(read_content_type(alloc, input)?);
-    Ok(())
-}
-
-fn write_content_type(content_type: &ContentType, out: &mut Vec<u8>) -> Result<(), OutOfMemory>
-    ensures { OnOk result
-        (AppendsItem out.old.items out.new.items (name_item (content_type_seen content_type.now))) }
-{
-    match content_type {
-        RegisteredLabel::Assigned(value) => write_number(value.to_i64(), out),
-        RegisteredLabel::Text(text) => write_text(text, out),
-    }
-}
-
-/// Appends the pair of the content type, where there is one.
-pub(crate) fn write_content_type_field(
-    content_type: &Option<ContentType>,
-    out: &mut Vec<u8>,
-) -> Result<(), OutOfMemory>
-    ensures { OnOk result
-        (AppendsPairs out.old.items out.new.items
-        (put_field labels.content_type
-        (option_map name_item (option_map content_type_seen content_type.now)) [])) }
-{
-    if let Some(content_type) = content_type {
-        write_parameter(HeaderParameter::ContentType, out)?;
-        write_content_type(content_type, out)?;
-    }
     Ok(())
 }
 

@@ -43,12 +43,7 @@ pub fn write_pairs_head<L>(
 ///
 /// # Errors
 /// Those of the value.
-pub fn write_field<T: Encode>(
-    alloc: Global,
-    label: i64,
-    value: &T,
-    out: &mut Vec<u8>,
-) -> Result<()>
+pub fn write_field<T: Encode>(alloc: Global, label: i64, value: &T, out: &mut Vec<u8>) -> Result<()>
     ensures ok { OnOk result
         (AppendsField label (option_map Some (T.image value.now)) out.old.items out.new.items) }
     ensures refused { IfErr result (HasNoImage (T.image value.now)) }
@@ -82,12 +77,7 @@ pub fn write_optional<T: Encode>(
 ///
 /// # Errors
 /// `OutOfMemory` alone.
-pub fn write_filled(
-    alloc: Global,
-    label: i64,
-    bytes: &Vec<u8>,
-    out: &mut Vec<u8>,
-) -> Result<()>
+pub fn write_filled(alloc: Global, label: i64, bytes: &Vec<u8>, out: &mut Vec<u8>) -> Result<()>
     ensures ok { OnOk result (AppendsField label ((listed filled_bstr).image bytes.now.items)
         out.old.items out.new.items) }
     ensures memory { IfErr result (λ e. e ≡ out_of_memory) }
@@ -102,11 +92,7 @@ pub fn write_filled(
 ///
 /// # Errors
 /// Those of the first label that has one.
-pub fn write_rest<L: Encode>(
-    alloc: Global,
-    rest: &[(L, Value)],
-    out: &mut Vec<u8>,
-) -> Result<()>
+pub fn write_rest<L: Encode>(alloc: Global, rest: &[(L, Value)], out: &mut Vec<u8>) -> Result<()>
     ensures ok { OnOk result
         (AppendsAll (named_image L.image (map (λ e. (e.0, view e.1)) rest.now)) out.old.items
         out.new.items) }

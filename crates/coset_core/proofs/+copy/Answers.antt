@@ -2,7 +2,7 @@ use Rattle.std.proofs.Common.{◌-◌, map, ap, ◌∙◌, arith, rules}
 use Rattle.coset_codec.proofs.InPlace.{last_at, one_more_copied}
 use Rattle.coset_core.specs.Contents.{empty_signature}
 use Rattle.coset_core.proofs.Signatures.{header_copied}
-use Rattle.coset_core.proofs.Writing.{taken}
+use Rattle.coset_codec.proofs.EncodingMaps.{taken}
 use Rattle.coset_core.specs.Views.{countersignature_seen, signature_seen}
 use Rattle.coset_core.specs.FieldsView.{fields_level}
 use Rattle.coset_core.specs.ViewLaws.{HeaderLevel}

@@ -1,9 +1,12 @@
-use Rattle.std.proofs.Common.{◌≡◌, option_map, map, take, drop, ◌+◌, None, sym, ap, ◌∙◌, arith, rules, subst}
+use Rattle.std.proofs.Common.{◌≡◌, option_map, map, take, drop, ◌+◌, ◌++◌, ◌<◌, ◌^◌, None, refl, sym, ap, ◌∙◌, arith, rules, subst}
 use Rattle.std.proofs.lemmas.List.{length-map}
 use Rattle.coset_value.specs.Item.{bytes}
-use Rattle.coset_codec.specs.Encoding.{AppendsItem, AppendsImage}
-use Rattle.coset_core.specs.Headers.{header_image, signatures_image, signatures_of}
-use Rattle.coset_core.specs.FieldLabels as labels
+use Rattle.coset_iana.specs.declared.headers.HeaderParameter.TheVariants.{CounterSignature, CounterSignatureV2}
+use Rattle.coset_cbor.specs.Least.{least_head}
+use Rattle.coset_codec.specs.Encoding.{AppendsItem, AppendsImage, Encodes}
+use Rattle.coset_codec.specs.Shape.{bstr}
+use Rattle.coset_codec.proofs.EncodingMaps.{optional-seen}
+use Rattle.coset_core.specs.Headers.{header_image, signatures_image, signatures_of, fields_in, counter_signatures_in, countersignatures_in}
 use Rattle.coset_core.specs.ViewLaws.{countersignature_level, countersignature-opened, header_level, header-opened, signature_level, signature-opened, protected-opened}
 use Rattle.coset_core.specs.Views.{countersignature_seen, header_seen, protected_seen, signature_seen}
 use Rattle.coset_core.specs.Written.{AppendsSignatures, signature_array, count_pairs}
@@ -11,20 +14,20 @@ use Rattle.coset_core.specs.declared.countersignature.CoseCountersignature.{out-
 use Rattle.coset_core.specs.declared.header.Header.{out-Header}
 use Rattle.coset_core.specs.declared.signature.CoseSignature.{out-CoseSignature}
 use Rattle.coset_core.proofs.Keeping.{protected_bytes-read, protected_bytes-fresh}
-use Rattle.coset_core.proofs.Writing.{taken, around}
-use Rattle.coset_core.proofs.WritingHeaders.{passes, unencoded, string-put, signature-put, counter_signatures-put, map-put, unwritten-rest, unwritten-counter_signatures, unwritten-countersignatures, signatures-push, signatures-none}
+use Rattle.coset_codec.proofs.EncodingMaps.{taken, around}
+use Rattle.coset_core.proofs.WritingHeaders.{field-seen, passes, unencoded, string-put, signature-put, counter_signatures-put, map-put, unwritten-rest, unwritten-counter_signatures, unwritten-countersignatures, signatures-push, signatures-none}
 use Rattle.coset_core.proofs.+write.Goals as goal
 
 pub header::writing::write_counter_signatures-returns-clause-ok : goal.header::writing::write_counter_signatures-returns-clause-ok
 header::writing::write_counter_signatures-returns-clause-ok t c =
     let ss = c.args.signatures.now in
-    counter_signatures-put labels.counter_signature (map signature_seen ss) _ _ _ _ _ (rw (length-map ss signature_seen) (search rules)) (sym (length-map ss signature_seen)) (omega arith)
+    counter_signatures-put CounterSignature (map signature_seen ss) _ _ _ _ _ (rw (length-map ss signature_seen) (search rules)) (sym (length-map ss signature_seen)) (omega arith)
     c.in_ok-write_parameter.ensures c.in_ok-write_counter_signatures_head.ensures.one c.in_ok-write_counter_signatures_head.ensures.array c.in_ok-write_signatures.ensures.ok
 
 pub header::writing::write_countersignatures-returns-clause-ok : goal.header::writing::write_countersignatures-returns-clause-ok
 header::writing::write_countersignatures-returns-clause-ok t c =
     let ss = c.args.signatures.now in
-    counter_signatures-put labels.countersignature_v2 (map countersignature_seen ss) _ _ _ _ _ (rw (length-map ss countersignature_seen) (search rules)) (sym (length-map ss countersignature_seen)) (omega arith)
+    counter_signatures-put CounterSignatureV2 (map countersignature_seen ss) _ _ _ _ _ (rw (length-map ss countersignature_seen) (search rules)) (sym (length-map ss countersignature_seen)) (omega arith)
     c.in_ok-write_parameter.ensures c.in_ok-write_counter_signatures_head.ensures.one c.in_ok-write_counter_signatures_head.ensures.array c.in_ok-write_each_countersignature.ensures.ok
 
 pub header::writing::write_header-returns-in_err-ask_distinct : goal.header::writing::write_header-returns-in_err-ask_distinct
@@ -47,15 +50,20 @@ header::writing::write_header-returns-in_err-write_countersignatures t c =
 
 pub header::writing::write_header-returns : goal.header::writing::write_header-returns
 header::writing::write_header-returns t c =
+    let x = out-Header c.args.header.now in
     let opened = header-opened c.args.header.now in
-    subst (λ h. AppendsImage (header_image h) c.args.out.now.items c.write_rest.new.out.items) (sym opened)
-    (map-put (header_level (out-Header c.args.header.now)) c.count.result _ _ _ _ _ _ _
-    (rw c.deref.ensures.value at c.in_ok-ask_distinct.ensures.ok) (c.count.ensures ∙ ap count_pairs opened) (omega arith) c.in_ok-write_map_head.ensures.ok
-    c.in_ok-write_fields.ensures
+    let h = header_level x in
+    let abbreviated = field-seen _ _ ((search rules) ∙ c.to_i64-label.ensures) (optional-seen (λ b. b.items) bstr.image x.countersignature0_v2) c.in_ok-write_optional.ensures.ok in
+    subst (λ h. Encodes (header_image h) c.args.out.now.items c.write_rest.new.out.items c.write_rest.result) (sym opened)
+    (map-put (fields_in h) (counter_signatures_in h) (countersignatures_in h) x.rest.items _ _ _ _ _ _ _ c.write_rest.result refl
+    (rw c.deref.ensures.value at c.in_ok-ask_distinct.ensures.ok)
+    (subst (λ h. count_pairs h < 2 ^ 64) opened c.in_ok-write_head.ensures.fits)
+    (subst (λ h. c.write_head.new.out.items ≡ c.args.out.now.items ++ least_head 5 (count_pairs h)) opened c.in_ok-write_head.ensures.ok)
+    c.in_ok-write_fields.ensures.ok
     (rw c.deref-2.ensures.value at c.in_ok-write_counter_signatures.ensures.ok)
     (rw c.deref-3.ensures.value at c.in_ok-write_countersignatures.ensures.ok)
-    c.in_ok-write_bstr_field.ensures
-    (rw c.deref-4.ensures.value at c.in_ok-write_rest.ensures))
+    abbreviated
+    (rw c.deref-4.ensures.value at c.write_rest.ensures.ok) (rw c.deref-4.ensures.value at c.write_rest.ensures.refused))
 
 pub signature::write_signature-returns : goal.signature::write_signature-returns
 signature::write_signature-returns t c =

@@ -22,7 +22,6 @@ ghost use Rattle.coset_label.specs.Views.{label_seen};
 ghost use Rattle.coset_codec.specs.declared.read.input.InputPairs.{InputPairs};
 ghost use Rattle.coset_core.specs.Filling.{FillsFields, FillsSome, Keeps, NamesNoVersion, WalksTo, held_of, label_of};
 ghost use Rattle.coset_core.specs.Headers.{empty_header, layered_header, layered_signature};
-ghost use Rattle.coset_core.specs.Written.{one};
 
 use crate::content_type::set_content_type;
 use crate::countersignature::countersignatures_of;

@@ -1,5 +1,5 @@
 use Rattle.std.proofs.Common.{◌-◌, ◌∙◌, ap, arith, option_map, rules}
-use Rattle.coset_core.proofs.Writing.{taken}
+use Rattle.coset_codec.proofs.EncodingMaps.{taken}
 use Rattle.coset_codec.proofs.InPlace.{last_at, one_more_copied}
 use Rattle.coset_recipient.specs.Recipient.{empty_recipient}
 use Rattle.coset_recipient.specs.RecipientView.{recipient_seen}

@@ -1,6 +1,6 @@
 use Rattle.std.proofs.Common.{take, drop, map, length, sym, subst, ap, ◌∙◌, ◌+◌, ◌≡◌, arith}
 use Rattle.std.proofs.Math.Seq.{take-length}
-use Rattle.coset_core.proofs.Writing.{taken, around}
+use Rattle.coset_codec.proofs.EncodingMaps.{taken, around}
 use Rattle.coset_codec.specs.Encoding.{AppendsPlaces, HasNoImage}
 use Rattle.coset_codec.specs.Shape.{images}
 use Rattle.coset_codec.proofs.Encoding.{nothing-put, member-put, images-missing, array-encoded}
