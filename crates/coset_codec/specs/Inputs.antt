@@ -15,7 +15,6 @@ use Rattle.coset_codec.specs.declared.read.input.InputPairs.{InputPairs}
 use Rattle.coset_codec.specs.declared.read.input.InputPairs.TheVariants as pairs
 use Rattle.coset_codec.specs.Errors.{IsUnexpected, UnlessMemory}
 use Rattle.coset_codec.specs.Kinds.{kind, Says}
-use Rattle.coset_codec.specs.OneOrMore.{Begins, BeginsWithNeither, SaysOnes}
 use Rattle.coset_codec.specs.Shape.{Shape, is_nil}
 use Rattle.coset_codec.specs.Sources.{IsMisfit}
 
@@ -73,12 +72,6 @@ EntersArray want v t z (Err e) = (t ≡ z) × (as_array v ≡ None) × IsUnexpec
 abbrev pub EntersMap : Item → State → State → Result InputPairs CoseError → Type 0
 EntersMap v t z (Ok m) = (ps : Pairs) × (as_map v ≡ Some ps) × PairsWithin m ps t z
 EntersMap v t z (Err e) = (t ≡ z) × (as_map v ≡ None) × IsUnexpected e × Says (kind v) (codes "map") e
-
--- the members of the array v stand at t, and begin with a byte string or else with an array; or v was passed, which is no
--- array or begins with neither
-abbrev pub EntersOnes : Item → State → State → Result (Bool × InputItems) CoseError → Type 0
-EntersOnes v t z (Ok x) = (vs : Items) × (as_array v ≡ Some vs) × AreWithin x.1 vs t z × Begins vs x.0
-EntersOnes v t z (Err e) = (t ≡ z) × (((as_array v ≡ None) ⊎ ((vs : Items) × (as_array v ≡ Some vs) × BeginsWithNeither vs)) × IsUnexpected e × SaysOnes v e)
 
 -- the next of the members stands at t; or none is left
 abbrev pub Nexts : Items → State → State → InputItems → Bool → Type 0

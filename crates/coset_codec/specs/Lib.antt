@@ -15,7 +15,6 @@ pub mod ReadAgain
 pub mod AsWritten
 pub mod Kinds
 pub mod Sources
-pub mod OneOrMore
 pub mod Lists
 pub mod Encoding
 pub mod Inputs

@@ -5,7 +5,6 @@ mod forward;
 mod input;
 mod list;
 mod map;
-mod one_or_more;
 mod source;
 
 pub use field::{Decode, set_field, set_filled};

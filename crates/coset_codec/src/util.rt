@@ -78,7 +78,7 @@ fn pull_kind_name(pull: Pull<'_>) -> &'static str
 }
 
 /// The error that tells of a lent item of another kind than `want`.
-pub(crate) fn pull_type_error(pull: Pull<'_>, want: &'static str) -> CoseError
+pub fn pull_type_error(pull: Pull<'_>, want: &'static str) -> CoseError
     ensures { IsUnexpected result × Says (kind (pull_item pull.entry)) want.now result }
 {
     CoseError::UnexpectedItem(pull_kind_name(pull), want)

@@ -11,7 +11,7 @@ use Rattle.coset_codec.specs.declared.error.Refused.{Refused}
 use Rattle.coset_codec.specs.Errors.{UnlessMemory, IsUnexpected, answer}
 use Rattle.coset_codec.specs.Inputs.{State, Stands, AreWithin, PairsWithin, EntersMap, Nexts, ReadsAt}
 use Rattle.coset_codec.specs.Maps.{GatherFaults, labelled, SomePair, and_pairs, optional, listed, is_filled}
-use Rattle.coset_codec.specs.OneOrMore.{Begins}
+use Rattle.coset_core.specs.OneOrMore.{Begins}
 use Rattle.coset_codec.specs.Shape.{Shape, Each, any, bstr, any_number, one_or_more, one_or_many}
 use Rattle.coset_codec.proofs.Walking.{sets_out, goes_on, arrives, refuses}
 use Rattle.coset_label.specs.Labels.{label}

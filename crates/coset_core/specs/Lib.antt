@@ -22,5 +22,6 @@ pub mod Same
 pub mod SameLaws
 pub mod Told
 pub mod Filling
+pub mod OneOrMore
 pub mod Structure
 pub mod Calls

@@ -8,6 +8,7 @@ mod critical;
 mod header;
 mod headers;
 pub mod laws;
+mod one_or_more;
 mod protected;
 mod protected_bstr;
 mod signature;

@@ -10,12 +10,10 @@ ghost use Rattle.coset_codec.specs.declared.read.input.InputItems.TheVariants as
 ghost use Rattle.coset_codec.specs.declared.read.input.InputPairs.TheVariants.{Lent};
 ghost use Rattle.coset_codec.specs.Answers.{Reads};
 ghost use Rattle.coset_codec.specs.Inputs.{State, tree, lent, state, Stands, GoesBehind, IsLent, length_left, input_size, items_size, pairs_size, items_turns, pairs_turns, AreWithin, PairsWithin};
-ghost use Rattle.coset_codec.specs.Inputs.{EntersArray, EntersMap, EntersOnes, NextPlace, Nexts, NextsKey};
-ghost use Rattle.coset_codec.specs.OneOrMore.{BeginsSo};
+ghost use Rattle.coset_codec.specs.Inputs.{EntersArray, EntersMap, NextPlace, Nexts, NextsKey};
 ghost use Rattle.coset_codec.specs.Sources.{IsMisfit, TakesEnd, source_item};
 
 use crate::error::{CoseError, Result};
-use crate::read::one_or_more::{no_ones, tree_is_one};
 use crate::read::source::Source;
 use crate::traits::FromPull;
 use crate::util::{cbor_type_error, pull_type_error};
@@ -73,40 +71,6 @@ fn tree_pairs(value: Value) -> Result<InputPairs>
         Value::Map(pairs) => Ok(InputPairs::Tree(pairs.into_iter())),
         other => cbor_type_error(&other, "map"),
     }
-}
-
-/// The members of a value that is an array, and whether they begin with a byte string, or else with an array.
-fn tree_ones(value: Value) -> Result<(bool, InputItems)>
-    ensures deeper { IfOk result (λ x. (s : State)
-        → items_size x.1 s < input_size (tree (view value))) }
-    ensures enters { EntersOnes (view value) (tree null) (tree null) result }
-{
-    match value {
-        Value::Array(members) => {
-            let one = tree_is_one(&members)?;
-            Ok((one, InputItems::Tree(members.into_iter())))
-        }
-        other => cbor_type_error(&other, "array"),
-    }
-}
-
-/// Whether the members that are still to come begin with a byte string, or else with an array.
-fn lent_is_one(places: Places, cursor: Cursor<'_>) -> Result<bool>
-    ensures { (vs : Items) (a : List ℕ) → lent_within places vs (bytes_left cursor.entry) a
-        → BeginsSo vs result }
-{
-    let mut places = places;
-    let mut cursor = cursor;
-    if !places.next(&cursor) {
-        return Err(no_ones());
-    }
-    if cursor.is_bytes() {
-        return Ok(true);
-    }
-    if cursor.is_array() {
-        return Ok(false);
-    }
-    Err(pull_type_error(cursor.take()?, "array or bstr value"))
 }
 
 /// The error of an array with too few places, or too many.
@@ -182,36 +146,6 @@ impl<'a> Input<'a> {
                 Some(places) => Ok(InputItems::Lent(places)),
                 None => Err(pull_type_error(cursor.take()?, want)),
             },
-        }
-    }
-
-    /// Goes to the first member of an array that begins with a byte string, or else with an array, and says
-    /// whether it is
-    /// the first of these. It takes no memory.
-    ///
-    /// # Errors
-    /// `UnexpectedItem`: the item is another; it is passed.
-    pub fn enter_ones(&mut self) -> Result<(bool, InputItems)>
-        ensures shrinks { length_left (state self.new) ≤ length_left (state self.old) }
-        ensures deeper { IfOk result (λ x. items_size x.1 (state self.new) < input_size
-            (state self.old)) }
-        ensures enters { (v : Item) (z : State) → Stands v (state self.old) z
-            → EntersOnes v (state self.new) z result }
-    {
-        match self {
-            Input::Tree(value) => tree_ones(mem::replace(value, Value::Null)),
-            Input::Lent(cursor) => {
-                let Some(places) = cursor.array() else {
-                    return Err(pull_type_error(cursor.take()?, "array"));
-                };
-                match lent_is_one(places, *cursor) {
-                    Ok(one) => Ok((one, InputItems::Lent(places))),
-                    Err(error) => {
-                        places.finish(cursor);
-                        Err(error)
-                    }
-                }
-            }
         }
     }
 

@@ -14,7 +14,7 @@ ghost use Rattle.coset_core.specs.Views.{header_seen, signature_seen};
 ghost use Rattle.coset_codec.specs.Errors.{IsUnexpected, UnlessMemory, answer, filled};
 ghost use Rattle.coset_core.specs.Fields.{FieldsSeen, Versions, names, fields, parts_of, same_name, HasOneIv, bars};
 ghost use Rattle.coset_value.specs.Item.{Item, Pairs, dict};
-ghost use Rattle.coset_codec.specs.Inputs.{State, state, GoesBehind, ReadsAt, length_left, input_size, pairs_size, pairs_turns, PairsWithin, items_size, Stands, EntersMap, EntersOnes};
+ghost use Rattle.coset_codec.specs.Inputs.{State, state, GoesBehind, ReadsAt, length_left, input_size, pairs_size, pairs_turns, PairsWithin, items_size, Stands, EntersMap};
 ghost use Rattle.coset_codec.specs.Maps.{Adds, Refuses, RefusesValue, TakesValue, is_filled, optional, listed};
 ghost use Rattle.coset_codec.specs.Shape.{any, filled_bstr, any_number, one_or_many};
 ghost use Rattle.coset_label.specs.Names.{number};
@@ -22,12 +22,14 @@ ghost use Rattle.coset_label.specs.Views.{label_seen};
 ghost use Rattle.coset_codec.specs.declared.read.input.InputPairs.{InputPairs};
 ghost use Rattle.coset_core.specs.Filling.{FillsFields, FillsSome, Keeps, NamesNoVersion, WalksTo, held_of, label_of};
 ghost use Rattle.coset_core.specs.Headers.{empty_header, layered_header, layered_signature};
+ghost use Rattle.coset_core.specs.OneOrMore.{EntersOnes};
 
 use crate::content_type::set_content_type;
 use crate::countersignature::countersignatures_of;
 use crate::critical::set_critical;
 use crate::header::Header;
 use crate::header::writing::ask_distinct;
+use crate::one_or_more::enter_ones;
 use crate::signature::{CoseSignature, fill_each, fill_one, let_go};
 use coset_codec::error::{Refused, keep_error};
 use coset_codec::read::{Input, InputItems, InputPairs, set_field, set_filled};
@@ -379,7 +381,7 @@ fn begin_ones(
     ensures enters { (v : Item) (z : State) → Stands v (state input.old) z
         → EntersOnes v (state input.new) z (filled (λ one. (one, members.new)) error.new result) }
 {
-    let (one, found) = keep_error(input.enter_ones(), error)?;
+    let (one, found) = keep_error(enter_ones(input), error)?;
     *members = found;
     Ok(one)
 }

@@ -1,8 +1,8 @@
 use Rattle.std.proofs.Common.{rules, sym, subst, false}
 use Rattle.coset_value.specs.View.{items_view}
-use Rattle.coset_codec.specs.OneOrMore.{Begins}
+use Rattle.coset_core.specs.OneOrMore.{Begins}
 use Rattle.coset_codec.proofs.Lists.{begins_with}
-use Rattle.coset_codec.proofs.read.one_or_more.tree_is_one.Goals as goal
+use Rattle.coset_core.proofs.one_or_more.tree_is_one.Goals as goal
 
 pub returns-then-is_some-2 : goal.returns-then-is_some-2
 returns-then-is_some-2 c =

@@ -1,9 +1,11 @@
 -- Arrays that hold one or several.
-use Rattle.std.specs.Prelude.{◌≡◌, ⊤, ℕ, List, Bool, true, false, codes, Some, None, Result, Ok, Err}
+use Rattle.std.specs.Prelude.{◌≡◌, ◌⊎◌, ⊤, ℕ, List, Bool, true, false, codes, Some, None, Result, Ok, Err}
 use Rattle.coset_value.specs.Item.{Item, array, Items, no_items, item}
 use Rattle.coset_value.specs.Parts.{as_bytes, as_array}
 use Rattle.coset_codec.specs.declared.error.CoseError.{CoseError}
+use Rattle.coset_codec.specs.declared.read.input.InputItems.{InputItems}
 use Rattle.coset_codec.specs.Errors.{IsUnexpected}
+use Rattle.coset_codec.specs.Inputs.{State, AreWithin}
 use Rattle.coset_codec.specs.Kinds.{kind, Says}
 
 -- the error's two texts, of the members of an array that doesn't begin with a byte string or an array
@@ -29,3 +31,9 @@ BeginsWithNeither (item v vs) = (as_bytes v ≡ None) × (as_array v ≡ None)
 abbrev pub BeginsSo : Items → Result Bool CoseError → Type 0
 BeginsSo vs (Ok b) = Begins vs b
 BeginsSo vs (Err e) = BeginsWithNeither vs × IsUnexpected e × SaysFirst vs e
+
+-- the members of the array v stand at t, and begin with a byte string or else with an array; or v was passed, which is no
+-- array or begins with neither
+abbrev pub EntersOnes : Item → State → State → Result (Bool × InputItems) CoseError → Type 0
+EntersOnes v t z (Ok x) = (vs : Items) × (as_array v ≡ Some vs) × AreWithin x.1 vs t z × Begins vs x.0
+EntersOnes v t z (Err e) = (t ≡ z) × (((as_array v ≡ None) ⊎ ((vs : Items) × (as_array v ≡ Some vs) × BeginsWithNeither vs)) × IsUnexpected e × SaysOnes v e)

@@ -1,0 +1,103 @@
+//! Arrays that hold one or several: one that begins with a byte string is one, and one that begins with an array holds
+//! several.
+
+ghost use Rattle.std.specs.Prelude.{◌≤◌, ◌<◌, IfOk, List, ℕ};
+ghost use Rattle.coset_value.specs.Item.{Item, Items, no_items, null};
+ghost use Rattle.coset_value.specs.View.{items_view, view};
+ghost use Rattle.coset_cbor.specs.Cursors.{bytes_left, AreWithin as lent_within};
+ghost use Rattle.coset_codec.specs.Errors.{IsUnexpected};
+ghost use Rattle.coset_codec.specs.Inputs.{State, Stands, input_size, items_size, length_left, state, tree};
+ghost use Rattle.coset_core.specs.OneOrMore.{BeginsSo, EntersOnes, SaysFirst};
+
+use coset_cbor::cursor::{Cursor, Places};
+use coset_cbor::value::Value;
+use coset_codec::read::{Input, InputItems};
+use coset_codec::util::{cbor_type_error, pull_type_error};
+use coset_codec::{CoseError, Result};
+use std::mem;
+
+/// The error of an array without members.
+fn no_ones() -> CoseError
+    ensures { IsUnexpected result × SaysFirst no_items result }
+{
+    CoseError::UnexpectedItem("empty sig array", "non-empty sig array")
+}
+
+/// Whether the members begin with a byte string, or else with an array.
+fn tree_is_one(members: &Vec<Value>) -> Result<bool>
+    ensures { BeginsSo (items_view members.now.items) result }
+{
+    let Some(first) = members.first() else {
+        return Err(no_ones());
+    };
+    if first.as_bytes().is_some() {
+        Ok(true)
+    } else if first.as_array().is_some() {
+        Ok(false)
+    } else {
+        cbor_type_error(first, "array or bstr value")
+    }
+}
+
+/// The members of a value that is an array, and whether they begin with a byte string, or else with an array.
+fn tree_ones(value: Value) -> Result<(bool, InputItems)>
+    ensures deeper { IfOk result (λ x. (s : State)
+        → items_size x.1 s < input_size (tree (view value))) }
+    ensures enters { EntersOnes (view value) (tree null) (tree null) result }
+{
+    match value {
+        Value::Array(members) => {
+            let one = tree_is_one(&members)?;
+            Ok((one, InputItems::Tree(members.into_iter())))
+        }
+        other => cbor_type_error(&other, "array"),
+    }
+}
+
+/// Whether the members that are still to come begin with a byte string, or else with an array.
+fn lent_is_one(places: Places, cursor: Cursor<'_>) -> Result<bool>
+    ensures { (vs : Items) (a : List ℕ) → lent_within places vs (bytes_left cursor.entry) a
+        → BeginsSo vs result }
+{
+    let mut places = places;
+    let mut cursor = cursor;
+    if !places.next(&cursor) {
+        return Err(no_ones());
+    }
+    if cursor.is_bytes() {
+        return Ok(true);
+    }
+    if cursor.is_array() {
+        return Ok(false);
+    }
+    Err(pull_type_error(cursor.take()?, "array or bstr value"))
+}
+
+/// Goes to the first member of an array that begins with a byte string, or else with an array, and says whether it is the
+/// first of these. It takes no memory.
+///
+/// # Errors
+/// `UnexpectedItem`: the item is another; it is passed.
+pub(crate) fn enter_ones(input: &mut Input<'_>) -> Result<(bool, InputItems)>
+    ensures shrinks { length_left (state input.new) ≤ length_left (state input.old) }
+    ensures deeper { IfOk result (λ x. items_size x.1 (state input.new) < input_size
+        (state input.old)) }
+    ensures enters { (v : Item) (z : State) → Stands v (state input.old) z
+        → EntersOnes v (state input.new) z result }
+{
+    match input {
+        Input::Tree(value) => tree_ones(mem::replace(value, Value::Null)),
+        Input::Lent(cursor) => {
+            let Some(places) = cursor.array() else {
+                return Err(pull_type_error(cursor.take()?, "array"));
+            };
+            match lent_is_one(places, *cursor) {
+                Ok(one) => Ok((one, InputItems::Lent(places))),
+                Err(error) => {
+                    places.finish(cursor);
+                    Err(error)
+                }
+            }
+        }
+    }
+}
