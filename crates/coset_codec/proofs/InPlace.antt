@@ -7,7 +7,7 @@ use Rattle.coset_codec.specs.declared.error.CoseError.{CoseError}
 use Rattle.coset_codec.specs.declared.error.Refused.{Refused}
 use Rattle.coset_codec.specs.declared.read.input.InputItems.{InputItems}
 use Rattle.coset_codec.specs.Errors.{UnlessMemory, answer}
-use Rattle.coset_codec.specs.InPlace.{Fills, FillsEach, GetsOne, BeginsNext}
+use Rattle.coset_codec.specs.InPlace.{Fills, FillsEach, BeginsNext}
 use Rattle.coset_codec.specs.Inputs.{State, Stands, AreWithin}
 use Rattle.coset_codec.specs.Lists.{Continues}
 use Rattle.coset_codec.specs.Shape.{Shape, EachFaults}
@@ -29,18 +29,18 @@ one_longer : {A : Type 0} (old : List A) (x : A) → length (old ++ x ∷ []) �
 one_longer [] x = refl
 one_longer (y ∷ old) x = ap suc (one_longer old x)
 
-module _ {T A : Type 0} (seen : T → A) (a : A) where
-  pub last_filled : (old new : List T) (n : ℕ) (y : T) → n ≡ length old → GetsOne seen a old new → map seen (slice_set new n y) ≡ map seen old ++ seen y ∷ []
-  last_filled old new n y e g = rw (e, g.1) (ap (map seen) (last_set old g.0 y) ∙ map-append seen old (y ∷ []))
-
-  pub last_at : (old new : List T) (n : ℕ) → n ≡ length new → GetsOne seen a old new → n - 1 ≡ length old
-  last_at old new n e g = let longer : length new ≡ suc (length old) = ap length g.1 ∙ one_longer old g.0 in omega (arith, longer, e)
+module _ {T A : Type 0} (seen : T → A) where
+  pub last_filled : (old new : List T) (n : ℕ) (x y : T) → n ≡ length new → new ≡ old ++ x ∷ [] → map seen (slice_set new (n - 1) y) ≡ map seen old ++ seen y ∷ []
+  last_filled old new n x y e g =
+      let longer : length new ≡ suc (length old) = ap length g ∙ one_longer old x in
+      let at : n - 1 ≡ length old = omega (arith, longer, e) in
+      rw (at, g) (ap (map seen) (last_set old x y) ∙ map-append seen old (y ∷ []))
 
   -- one more is copied
   pub one_more_copied :
-      (old new all : List T) (i n : ℕ) (x y : T) → map seen old ≡ map seen (take i all) → n ≡ length old → GetsOne seen a old new → map seen (take (i + 1) all) ≡ map seen (take i all) ++ seen x ∷ [] → seen y ≡ seen x
-      → map seen (slice_set new n y) ≡ map seen (take (i + 1) all)
-  one_more_copied old new all i n x y before at gets next same = last_filled old new n y at gets ∙ ((λ j. before j ++ same j ∷ []) ∙ sym next)
+      (old new all : List T) (i n : ℕ) (a x y : T) → map seen old ≡ map seen (take i all) → n ≡ length new → new ≡ old ++ a ∷ [] → map seen (take (i + 1) all) ≡ map seen (take i all) ++ seen x ∷ [] → seen y ≡ seen x
+      → map seen (slice_set new (n - 1) y) ≡ map seen (take (i + 1) all)
+  one_more_copied old new all i n a x y before e gets next same = last_filled old new n a y e gets ∙ ((λ j. before j ++ same j ∷ []) ∙ sym next)
 
 -- ---- members that stand where they are read
 

@@ -20,14 +20,14 @@ abbrev pub FillsEach : {A : Type 0} → Shape A → Items → List A → Result 
 FillsEach s vs xs (Ok u) = Each s.describes vs xs
 FillsEach s vs xs (Err e) = UnlessMemory e (EachFaults s.faults vs)
 
--- one more, which is seen as this
-abbrev pub GetsOne : {T A : Type 0} → (T → A) → A → List T → List T → Type 0
-GetsOne {T} seen a old new = (x : T) × (new ≡ old ++ x ∷ []) × (seen x ≡ a)
+-- one more, which is empty
+abbrev pub GetsOne : {T : Type 0} → (T → Type 0) → List T → List T → Type 0
+GetsOne {T} is_empty old new = (x : T) × (new ≡ old ++ x ∷ []) × is_empty x
 
 -- one more where there is one to be read, else none
-abbrev pub GetsPlace : {T A : Type 0} → (T → A) → A → List T → List T → Bool → Type 0
-GetsPlace seen a old new true = GetsOne seen a old new
-GetsPlace seen a old new false = new ≡ old
+abbrev pub GetsPlace : {T : Type 0} → (T → Type 0) → List T → List T → Bool → Type 0
+GetsPlace is_empty old new true = GetsOne is_empty old new
+GetsPlace is_empty old new false = new ≡ old
 
 -- the next of some members stands at t; or none is left; or it was passed, for which there was no memory
 abbrev pub BeginsNext : Items → State → State → InputItems → Result Bool CoseError → Type 0

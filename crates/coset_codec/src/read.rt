@@ -2,13 +2,15 @@
 
 mod field;
 mod forward;
+mod in_place;
 mod input;
 mod list;
 mod map;
 mod source;
 
 pub use field::{Decode, set_field, set_filled};
-pub use input::{Input, InputItems, InputPairs};
+pub use in_place::{InPlace, copy_bstr_to, make_room, next_place, push_empty};
+pub use input::{Input, InputItems, InputPairs, misfit};
 pub use list::{read_blamed_list, read_filled_list, read_list};
 pub use map::{Gather, read_map};
 pub use source::Source;

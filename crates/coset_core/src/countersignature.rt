@@ -4,7 +4,6 @@
 ghost use Rattle.std.specs.Prelude.{◌≡◌, [], map, OnOk, IfOk, IfErr, IfSome, IsTrue, None, ◌↔◌, ◌+◌, ◌<◌};
 ghost use Rattle.coset_codec.specs.declared.error.CoseError.TheVariants.{OutOfMemory};
 ghost use Rattle.coset_core.specs.Contents.{empty_signature};
-ghost use Rattle.coset_codec.specs.InPlace.{GetsOne};
 ghost use Rattle.coset_core.specs.Views.{countersignature_seen, header_seen, signature_seen};
 ghost use Rattle.coset_core.specs.Headers.{signature as signature_shape, signatures_of, signatures_image};
 ghost use Rattle.coset_core.specs.Written.{AppendsSignatures, signature_array};
@@ -20,9 +19,9 @@ use crate::header::{Header, copy_header, same_header};
 use crate::protected::{
     Bstr, ProtectedHeader, copy_protected, protected_from_header, same_protected, write_protected,
 };
-use crate::signature::{CoseSignature, Held, copy_into, held_by, make_room};
+use crate::signature::{CoseSignature, Held, copy_into, held_by};
 use coset_cbor::ser::{write_array_head, write_bytes};
-use coset_codec::read::Input;
+use coset_codec::read::{InPlace, Input, make_room, push_empty};
 use coset_codec::write::Encode;
 use coset_codec::{Codec, Result, TaggedCodec};
 use std::alloc::{AllocError, Global};
@@ -207,14 +206,12 @@ fn write_countersignature(
     Ok(())
 }
 
-/// One more countersignature, which holds nothing.
-#[inline(never)]
-fn push_empty(alloc: Global, all: &mut Vec<CoseCountersignature>) -> Result<(), AllocError>
-    ensures { OnOk result
-        (GetsOne countersignature_seen empty_signature all.old.items all.new.items) }
-{
-    all.push(CoseCountersignature::new(alloc))?;
-    Ok(())
+impl InPlace for CoseCountersignature {
+    ghost is_empty = { λ s. countersignature_seen s ≡ empty_signature };
+
+    fn empty(alloc: Global) -> CoseCountersignature {
+        CoseCountersignature::new(alloc)
+    }
 }
 
 /// Copies countersignatures into a list, in place of those that it holds.
@@ -228,7 +225,7 @@ pub(crate) fn copy_countersignatures(
 {
     make_room(copies, all.len())?;
     for signature in all {
-        push_empty(*copies.allocator(), copies)?;
+        push_empty(copies)?;
         let last = copies.len() - 1;
         copy_countersignature(signature, &mut copies[last])?;
     }

@@ -250,7 +250,7 @@ fn copy_fields(header: &Header, copy: &mut Header) -> Result<(), AllocError>
 
 /// Copies a header into another.
 #[cycle(copy)]
-pub(crate) fn copy_header(header: &Header, copy: &mut Header) -> Result<(), AllocError>
+pub fn copy_header(header: &Header, copy: &mut Header) -> Result<(), AllocError>
     ensures { OnOk result (header_seen copy.new ≡ header_seen header.now) }
 {
     copy_fields(header, copy)?;

@@ -21,8 +21,8 @@ pub use coset_label::{
     TaggedCodec, cbor, codec, has_repeats, iana, util,
 };
 pub use countersignature::{CoseCountersignature, CoseCountersignatureBuilder};
-pub use header::{Header, HeaderBuilder, is_parameter};
+pub use header::{Header, HeaderBuilder, copy_header, is_parameter};
 pub use headers::{fill_headers, fill_protected_header, fill_unprotected_header};
-pub use protected::{Bstr, ProtectedHeader};
+pub use protected::{Bstr, ProtectedHeader, copy_protected};
 pub use protected_bstr::ProtectedBstr;
 pub use signature::{CoseSignature, CoseSignatureBuilder};

@@ -32,9 +32,8 @@ use coset_cbor::ser::write_bytes;
 use coset_cbor::value::Value;
 use coset_cbor::{de, laws};
 use coset_codec::error::{Refused, keep_error};
-use coset_codec::read::Input;
+use coset_codec::read::{Input, copy_bstr_to};
 use coset_codec::traits::whole_item;
-use coset_codec::util::copy_bstr;
 use coset_codec::write::Encode;
 use coset_codec::{Codec, CoseError, Result, Source};
 use std::alloc::{AllocError, Global};
@@ -389,25 +388,15 @@ fn fresh_bytes(alloc: Global, header: &Header) -> Result<Vec<u8>>
     Ok(bytes)
 }
 
-/// Copies bytes that were kept, if any.
-#[inline(never)]
-fn copy_kept(kept: &Option<Vec<u8>>, copy: &mut Option<Vec<u8>>) -> Result<(), AllocError>
-    ensures { OnOk result (option_map (λ v. v.items) copy.new
-        ≡ option_map (λ v. v.items) kept.now) }
-{
-    *copy = copy_bstr(kept)?;
-    Ok(())
-}
-
 /// Copies a protected header into another, with the bytes that it keeps.
 #[cycle(copy)]
-pub(crate) fn copy_protected(
+pub fn copy_protected(
     protected: &ProtectedHeader,
     copy: &mut ProtectedHeader,
 ) -> Result<(), AllocError>
     ensures { OnOk result (protected_seen copy.new ≡ protected_seen protected.now) }
 {
-    copy_kept(&protected.original_data, &mut copy.original_data)?;
+    copy_bstr_to(&protected.original_data, &mut copy.original_data)?;
     copy_header(&protected.header, &mut copy.header)
 }
 

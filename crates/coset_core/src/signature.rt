@@ -3,9 +3,9 @@
 ghost use Rattle.std.specs.Prelude.{◌≡◌, [], map, option_map, OnOk, IfOk, IfErr, codes, ◌≤◌, ◌<◌, IsTrue, OnErr, None, ◌↔◌, ◌+◌, IfSome};
 ghost use Rattle.coset_codec.specs.declared.error.CoseError.TheVariants.{OutOfMemory};
 ghost use Rattle.coset_core.specs.Contents.{empty_signature};
-ghost use Rattle.coset_codec.specs.InPlace.{BeginsNext, Fills, FillsEach, GetsOne, GetsPlace};
+ghost use Rattle.coset_codec.specs.InPlace.{Fills, FillsEach};
 ghost use Rattle.coset_core.specs.Views.{header_seen, protected_seen, signature_seen};
-ghost use Rattle.coset_codec.specs.Errors.{IsUnexpected, answer, filled};
+ghost use Rattle.coset_codec.specs.Errors.{answer, filled};
 ghost use Rattle.coset_value.specs.Item.{Item, array, Items, no_items, item};
 ghost use Rattle.coset_codec.specs.Inputs.{State, state, length_left, input_size, items_size, items_turns, Stands, GoesBehind, AreWithin, EntersArray};
 ghost use Rattle.coset_core.specs.Filling.{BeginsPlaces, EndsPlaces};
@@ -28,7 +28,7 @@ use crate::protected::{
 };
 use coset_cbor::ser::{write_array_head, write_bytes};
 use coset_codec::error::{Refused, keep_error};
-use coset_codec::read::{Input, InputItems};
+use coset_codec::read::{InPlace, Input, InputItems, make_room, misfit, next_place, push_empty};
 use coset_codec::write::Encode;
 use coset_codec::{Codec, CoseError, Result};
 use std::alloc::{AllocError, Global};
@@ -50,6 +50,9 @@ pub struct CoseSignature {
     /// The signature's bytes.
     pub signature: Vec<u8>,
 }
+
+/// What the error of another number of places asks for.
+const PLACES: &str = "array with 3 items";
 
 impl CoseSignature {
     /// A signature of no bytes with empty headers. It takes no memory.
@@ -148,77 +151,12 @@ impl Codec for CoseSignature {
     }
 }
 
-/// One more signature, which holds nothing.
-#[inline(never)]
-fn push_empty(alloc: Global, all: &mut Vec<CoseSignature>) -> Result<(), AllocError>
-    ensures { OnOk result
-        (GetsOne signature_seen empty_signature all.old.items all.new.items) }
-{
-    all.push(CoseSignature::new(alloc))?;
-    Ok(())
-}
+impl InPlace for CoseSignature {
+    ghost is_empty = { λ s. signature_seen s ≡ empty_signature };
 
-/// One more signature, which holds nothing. The first takes room for itself alone.
-fn add_signature(
-    alloc: Global,
-    all: &mut Vec<CoseSignature>,
-    error: &mut CoseError,
-) -> Result<(), Refused>
-    ensures ok { OnOk result
-        (GetsOne signature_seen empty_signature all.old.items all.new.items) }
-    ensures refused { OnErr result (error.new ≡ OutOfMemory) }
-{
-    let is_first = all.is_empty();
-    if is_first && all.reserve_exact(1).is_err() || push_empty(alloc, all).is_err() {
-        *error = CoseError::OutOfMemory;
-        return Err(Refused);
+    fn empty(alloc: Global) -> CoseSignature {
+        CoseSignature::new(alloc)
     }
-    Ok(())
-}
-
-/// Whether one more signature stands at the input, for which one more that holds nothing is there then.
-///
-/// # Errors
-/// `OutOfMemory`; the signature is then passed.
-#[inline(never)]
-fn next_signature(
-    alloc: Global,
-    all: &mut Vec<CoseSignature>,
-    members: &mut InputItems,
-    input: &mut Input<'_>,
-    error: &mut CoseError,
-) -> Result<bool, Refused>
-    ensures shrinks { length_left (state input.new) ≤ length_left (state input.old) }
-    ensures size { items_size members.new (state input.new) ≤ items_size members.old
-        (state input.old) }
-    ensures member { IfOk result (λ b. IsTrue b
-        → input_size (state input.new) ≤ items_size members.old
-        (state input.old)) }
-    ensures turns { IfOk result (λ b. IsTrue b → (t : State) → GoesBehind (state input.new) t
-        → items_turns members.new t < items_turns members.old (state input.old)) }
-    ensures place { IfOk result
-        (GetsPlace signature_seen empty_signature all.old.items all.new.items) }
-    ensures next { (vs : Items) (z : State) → AreWithin members.old vs (state input.old) z
-        → BeginsNext vs (state input.new) z members.new (answer error.new result) }
-{
-    if !members.next(input) {
-        return Ok(false);
-    }
-    match add_signature(alloc, all, error) {
-        Ok(()) => Ok(true),
-        Err(Refused) => {
-            input.pass();
-            Err(Refused)
-        }
-    }
-}
-
-/// The error of an array that hasn't three places.
-#[cold]
-fn misfit() -> CoseError
-    ensures { IsUnexpected result }
-{
-    CoseError::UnexpectedItem("array", "array with 3 items")
 }
 
 /// Reads the first place of a signature's array, a byte string that is kept; the second then stands at the input. It says
@@ -245,12 +183,12 @@ fn begin_places(
         why.new (answer error.new result) }
 {
     if !members.next(input) {
-        *error = misfit();
+        *error = misfit(PLACES);
         return Err(Refused);
     }
     let first = string_bytes(alloc, input, why);
     if !members.next(input) {
-        *error = misfit();
+        *error = misfit(PLACES);
         return Err(Refused);
     }
     match first {
@@ -281,13 +219,13 @@ fn end_places(
     ensures kept { OnOk result (error.new ≡ error.old) }
 {
     if !members.next(input) {
-        *error = misfit();
+        *error = misfit(PLACES);
         return Err(Refused);
     }
     let last = string_bytes(alloc, input, error);
     if members.next(input) {
         input.pass();
-        *error = misfit();
+        *error = misfit(PLACES);
         return Err(Refused);
     }
     *signature = last?;
@@ -315,7 +253,10 @@ pub(crate) fn fill_one(
         (map signature_seen all.new.items)
         (answer error.new result) }
 {
-    add_signature(alloc, all, error)?;
+    if push_empty(all).is_err() {
+        *error = CoseError::OutOfMemory;
+        return Err(Refused);
+    }
     let last = all.len() - 1;
     fill_places(&mut all[last], alloc, members, input, layers, error)
 }
@@ -340,7 +281,7 @@ pub(crate) fn fill_each(
         × FillsEach (layered_signature layers) vs (map signature_seen all.new.items)
         (answer error.new result) }
 {
-    while next_signature(alloc, all, members, input, error)? {
+    while next_place(all, members, input, error)? {
         let last = all.len() - 1;
         fill_signature(&mut all[last], alloc, input, layers, error)?;
     }
@@ -460,15 +401,6 @@ fn write_signature(alloc: Global, signature: &CoseSignature, out: &mut Vec<u8>) 
     Ok(())
 }
 
-/// Empties a list, and makes room for that many.
-#[inline(never)]
-pub(crate) fn make_room<T: Drop>(copies: &mut Vec<T>, count: usize) -> Result<(), AllocError>
-    ensures { copies.new.items ≡ [] }
-{
-    copies.clear();
-    copies.reserve_exact(count)
-}
-
 /// Copies bytes.
 #[inline(never)]
 pub(crate) fn copy_into(bytes: &Vec<u8>, copy: &mut Vec<u8>) -> Result<(), AllocError>
@@ -488,7 +420,7 @@ pub(crate) fn copy_signatures(
 {
     make_room(copies, all.len())?;
     for signature in all {
-        push_empty(*copies.allocator(), copies)?;
+        push_empty(copies)?;
         let last = copies.len() - 1;
         copy_signature(signature, &mut copies[last])?;
     }

@@ -7,8 +7,8 @@ ghost use Rattle.coset_value.specs.Item.{Item, array, Items};
 ghost use Rattle.coset_codec.specs.declared.error.CoseError.TheVariants.{OutOfMemory};
 ghost use Rattle.coset_codec.specs.Answers.{Reads, Writes};
 ghost use Rattle.coset_codec.specs.Encoding.{AppendsPlaces, Encodes, HasNoImage};
-ghost use Rattle.coset_codec.specs.Errors.{IsUnexpected, answer};
-ghost use Rattle.coset_codec.specs.InPlace.{BeginsNext, Fills, FillsEach, GetsOne, GetsPlace};
+ghost use Rattle.coset_codec.specs.Errors.{answer};
+ghost use Rattle.coset_codec.specs.InPlace.{Fills, FillsEach};
 ghost use Rattle.coset_codec.specs.Inputs.{State, state, length_left, input_size, items_size, items_turns, Stands, GoesBehind, AreWithin, ReadsAt};
 ghost use Rattle.coset_codec.specs.Shape.{images, list_of};
 ghost use Rattle.coset_core.specs.Headers.{empty_header};
@@ -24,12 +24,16 @@ ghost use Rattle.coset_recipient.specs.RecipientView.{recipient_seen};
 
 use coset_cbor::ser::write_array_head;
 use coset_codec::error::{Refused, keep_error};
-use coset_codec::read::{Input, InputItems};
-use coset_codec::util::copy_bstr;
+use coset_codec::read::{
+    InPlace, Input, InputItems, copy_bstr_to, make_room, misfit, next_place, push_empty,
+};
 use coset_codec::write::Encode;
 use coset_codec::{CallError, Codec, CoseError, Result};
 use coset_core::calls::ask;
-use coset_core::{Bstr, Header, ProtectedHeader, fill_protected_header, fill_unprotected_header};
+use coset_core::{
+    Bstr, Header, ProtectedHeader, copy_header, copy_protected, fill_protected_header,
+    fill_unprotected_header,
+};
 use coset_msg::EncryptionContext;
 use coset_msg::enc_structure::additional_bytes;
 use std::alloc::{AllocError, Global};
@@ -54,13 +58,8 @@ pub struct CoseRecipient {
     pub recipients: Vec<CoseRecipient>,
 }
 
-/// The error of an array that hasn't three or four places.
-#[cold]
-fn misfit() -> CoseError
-    ensures { IsUnexpected result }
-{
-    CoseError::UnexpectedItem("array", "array with 3 or 4 items")
-}
+/// What the error of another number of places asks for.
+const PLACES: &str = "array with 3 or 4 items";
 
 /// Reads the first three places of a recipient's array into empty ones. What reading them answers stands inside the answer,
 /// since the fourth is judged before them: it is the fault of the last of the three that has one.
@@ -86,15 +85,15 @@ fn begin_places(
         (option_map (λ b. b.items) ciphertext.new) (state input.new) z members.new result }
 {
     if !members.next(input) {
-        return Err(misfit());
+        return Err(misfit(PLACES));
     }
     let first = fill_protected_header(protected, alloc, input);
     if !members.next(input) {
-        return Err(misfit());
+        return Err(misfit(PLACES));
     }
     let second = fill_unprotected_header(unprotected, alloc, input);
     if !members.next(input) {
-        return Err(misfit());
+        return Err(misfit(PLACES));
     }
     match input.bytes_or_nil(alloc, "bstr / null") {
         Ok(found) => *ciphertext = found,
@@ -106,68 +105,11 @@ fn begin_places(
     }
 }
 
-/// One more recipient, which holds nothing.
-#[inline(never)]
-fn push_empty(alloc: Global, all: &mut Vec<CoseRecipient>) -> Result<(), AllocError>
-    ensures { OnOk result
-        (GetsOne recipient_seen empty_recipient all.old.items all.new.items) }
-{
-    all.push(CoseRecipient::new(alloc))?;
-    Ok(())
-}
+impl InPlace for CoseRecipient {
+    ghost is_empty = { λ r. recipient_seen r ≡ empty_recipient };
 
-/// One more recipient, which holds nothing. The first takes room for itself alone.
-fn add_recipient(
-    alloc: Global,
-    all: &mut Vec<CoseRecipient>,
-    error: &mut CoseError,
-) -> Result<(), Refused>
-    ensures ok { OnOk result
-        (GetsOne recipient_seen empty_recipient all.old.items all.new.items) }
-    ensures refused { OnErr result (error.new ≡ OutOfMemory) }
-{
-    let is_first = all.is_empty();
-    if is_first && all.reserve_exact(1).is_err() || push_empty(alloc, all).is_err() {
-        *error = CoseError::OutOfMemory;
-        return Err(Refused);
-    }
-    Ok(())
-}
-
-/// Whether one more recipient stands at the input, for which one more that holds nothing is there then.
-///
-/// # Errors
-/// `OutOfMemory`; the recipient is then passed.
-#[inline(never)]
-fn next_recipient(
-    alloc: Global,
-    all: &mut Vec<CoseRecipient>,
-    members: &mut InputItems,
-    input: &mut Input<'_>,
-    error: &mut CoseError,
-) -> Result<bool, Refused>
-    ensures shrinks { length_left (state input.new) ≤ length_left (state input.old) }
-    ensures size { items_size members.new (state input.new) ≤ items_size members.old
-        (state input.old) }
-    ensures member { IfOk result (λ b. IsTrue b
-        → input_size (state input.new) ≤ items_size members.old
-        (state input.old)) }
-    ensures turns { IfOk result (λ b. IsTrue b → (t : State) → GoesBehind (state input.new) t
-        → items_turns members.new t < items_turns members.old (state input.old)) }
-    ensures place { IfOk result
-        (GetsPlace recipient_seen empty_recipient all.old.items all.new.items) }
-    ensures next { (vs : Items) (z : State) → AreWithin members.old vs (state input.old) z
-        → BeginsNext vs (state input.new) z members.new (answer error.new result) }
-{
-    if !members.next(input) {
-        return Ok(false);
-    }
-    match add_recipient(alloc, all, error) {
-        Ok(()) => Ok(true),
-        Err(Refused) => {
-            input.pass();
-            Err(Refused)
-        }
+    fn empty(alloc: Global) -> CoseRecipient {
+        CoseRecipient::new(alloc)
     }
 }
 
@@ -214,7 +156,7 @@ fn fill_each(
         × FillsEach recipient_shape vs (map recipient_seen all.new.items)
         (answer error.new result) }
 {
-    while next_recipient(alloc, all, members, input, error)? {
+    while next_place(all, members, input, error)? {
         let last = all.len() - 1;
         fill_recipient(&mut all[last], alloc, input, error)?;
     }
@@ -303,7 +245,7 @@ fn fill_last(
     let filled = fill_recipients(all, alloc, input, error);
     if members.next(input) {
         input.pass();
-        *error = misfit();
+        *error = misfit(PLACES);
         return Err(Refused);
     }
     filled
@@ -390,46 +332,6 @@ fn write_each(alloc: Global, all: &[CoseRecipient], out: &mut Vec<u8>) -> Result
     Ok(())
 }
 
-/// Copies a protected header, with the bytes that it keeps.
-#[inline(never)]
-fn copy_protected(protected: &ProtectedHeader, copy: &mut ProtectedHeader) -> Result<(), AllocError>
-    ensures { OnOk result (protected_seen copy.new ≡ protected_seen protected.now) }
-{
-    *copy = Clone::clone(protected)?;
-    Ok(())
-}
-
-/// Copies an unprotected header.
-#[inline(never)]
-fn copy_header(header: &Header, copy: &mut Header) -> Result<(), AllocError>
-    ensures { OnOk result (header_seen copy.new ≡ header_seen header.now) }
-{
-    *copy = Clone::clone(header)?;
-    Ok(())
-}
-
-/// Copies bytes that may not be there.
-#[inline(never)]
-fn copy_ciphertext(
-    ciphertext: &Option<Vec<u8>>,
-    copy: &mut Option<Vec<u8>>,
-) -> Result<(), AllocError>
-    ensures { OnOk result (option_map (λ b. b.items) copy.new
-        ≡ option_map (λ b. b.items) ciphertext.now) }
-{
-    *copy = copy_bstr(ciphertext)?;
-    Ok(())
-}
-
-/// Empties a list, and makes room for that many.
-#[inline(never)]
-fn make_room(copies: &mut Vec<CoseRecipient>, count: usize) -> Result<(), AllocError>
-    ensures { copies.new.items ≡ [] }
-{
-    copies.clear();
-    copies.reserve_exact(count)
-}
-
 /// Copies recipients into a list, in place of those that it holds.
 #[cycle(copy)]
 fn copy_recipients(all: &[CoseRecipient], copies: &mut Vec<CoseRecipient>) -> Result<(), AllocError>
@@ -437,7 +339,7 @@ fn copy_recipients(all: &[CoseRecipient], copies: &mut Vec<CoseRecipient>) -> Re
 {
     make_room(copies, all.len())?;
     for recipient in all {
-        push_empty(*copies.allocator(), copies)?;
+        push_empty(copies)?;
         let last = copies.len() - 1;
         copy_recipient(recipient, &mut copies[last])?;
     }
@@ -451,7 +353,7 @@ fn copy_recipient(recipient: &CoseRecipient, copy: &mut CoseRecipient) -> Result
 {
     copy_protected(&recipient.protected, &mut copy.protected)?;
     copy_header(&recipient.unprotected, &mut copy.unprotected)?;
-    copy_ciphertext(&recipient.ciphertext, &mut copy.ciphertext)?;
+    copy_bstr_to(&recipient.ciphertext, &mut copy.ciphertext)?;
     copy_recipients(&recipient.recipients, &mut copy.recipients)
 }
 

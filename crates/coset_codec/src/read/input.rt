@@ -74,7 +74,8 @@ fn tree_pairs(value: Value) -> Result<InputPairs>
 }
 
 /// The error of an array with too few places, or too many.
-fn misfit(want: &'static str) -> CoseError
+#[cold]
+pub fn misfit(want: &'static str) -> CoseError
     ensures { IsMisfit want.now result }
 {
     CoseError::UnexpectedItem("array", want)

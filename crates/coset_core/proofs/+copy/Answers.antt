@@ -1,6 +1,5 @@
 use Rattle.std.proofs.Common.{◌-◌, map, ap, ◌∙◌, arith, rules}
-use Rattle.coset_codec.proofs.InPlace.{last_at, one_more_copied}
-use Rattle.coset_core.specs.Contents.{empty_signature}
+use Rattle.coset_codec.proofs.InPlace.{one_more_copied}
 use Rattle.coset_core.proofs.Signatures.{header_copied}
 use Rattle.coset_codec.proofs.EncodingMaps.{taken}
 use Rattle.coset_core.specs.Views.{countersignature_seen, signature_seen}
@@ -18,10 +17,12 @@ header::copy_header-returns t c =
 
 pub signature::copy_signatures-loop-signature-preserved : goal.signature::copy_signatures-loop-signature-preserved
 signature::copy_signatures-loop-signature-preserved t c =
-    let at = last_at signature_seen empty_signature c.loop-signature.copies.items c.push_empty.new.all.items c.len-last.result (search rules) c.in_ok-push_empty.ensures in
-    one_more_copied signature_seen empty_signature c.loop-signature.copies.items c.push_empty.new.all.items c.args.all.now c.loop-signature.signature-index (c.len-last.result - 1) _ c.copy_signature.new.copy c.loop-signature.invariant at c.in_ok-push_empty.ensures (taken signature_seen c.args.all.now c.loop-signature.signature-index c.signature-item.result (omega arith) c.signature-item.is) c.in_ok-copy_signature.ensures
+    let gets = c.in_ok-push_empty.ensures in
+    one_more_copied signature_seen c.loop-signature.copies.items c.push_empty.new.all.items c.args.all.now c.loop-signature.signature-index c.len-last.result gets.0 _ c.copy_signature.new.copy c.loop-signature.invariant (search rules) gets.1
+    (taken signature_seen c.args.all.now c.loop-signature.signature-index c.signature-item.result (omega arith) c.signature-item.is) c.in_ok-copy_signature.ensures
 
 pub countersignature::copy_countersignatures-loop-signature-preserved : goal.countersignature::copy_countersignatures-loop-signature-preserved
 countersignature::copy_countersignatures-loop-signature-preserved t c =
-    let at = last_at countersignature_seen empty_signature c.loop-signature.copies.items c.push_empty.new.all.items c.len-last.result (search rules) c.in_ok-push_empty.ensures in
-    one_more_copied countersignature_seen empty_signature c.loop-signature.copies.items c.push_empty.new.all.items c.args.all.now c.loop-signature.signature-index (c.len-last.result - 1) _ c.copy_countersignature.new.copy c.loop-signature.invariant at c.in_ok-push_empty.ensures (taken countersignature_seen c.args.all.now c.loop-signature.signature-index c.signature-item.result (omega arith) c.signature-item.is) c.in_ok-copy_countersignature.ensures
+    let gets = c.in_ok-push_empty.ensures in
+    one_more_copied countersignature_seen c.loop-signature.copies.items c.push_empty.new.all.items c.args.all.now c.loop-signature.signature-index c.len-last.result gets.0 _ c.copy_countersignature.new.copy c.loop-signature.invariant (search rules) gets.1
+    (taken countersignature_seen c.args.all.now c.loop-signature.signature-index c.signature-item.result (omega arith) c.signature-item.is) c.in_ok-copy_countersignature.ensures

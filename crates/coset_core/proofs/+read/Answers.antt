@@ -16,7 +16,7 @@ use Rattle.coset_core.specs.ViewLaws.{protected-made, protected-opened, signatur
 use Rattle.coset_core.specs.declared.protected.ProtectedHeader.{out-ProtectedHeader}
 use Rattle.coset_core.specs.declared.signature.CoseSignature.{out-roll-CoseSignature}
 use Rattle.coset_core.proofs.Reading.{no_layer_left, protected_filled}
-use Rattle.coset_codec.proofs.InPlace.{last_at, last_filled, one_filled_more, one_refused_more}
+use Rattle.coset_codec.proofs.InPlace.{last_filled, one_filled_more, one_refused_more}
 use Rattle.coset_codec.proofs.Lists.{all_read}
 use Rattle.coset_core.proofs.Forward.{not_entered, one_iv_yet, so_far_none, so_far_more, ends, pairs_refused, counter_signatures_refused, not_kept, second_refused, one_filled, more_filled, places_refused, second_read, last_refused, places_filled, unprotected_refused, protected_refused}
 use Rattle.coset_core.proofs.+read.Goals as goal
@@ -48,8 +48,7 @@ header::reading::fill_counter_signatures-returns-clause-fills t c = elim c.if-on
 
 pub signature::fill_each-loop-all-preserved : goal.signature::fill_each-loop-all-preserved
 signature::fill_each-loop-all-preserved t c =
-    let next = rw c.if-branch.true at c.in_ok-next_signature.ensures in
-    let at = last_at signature_seen empty_signature c.loop-all.all.items c.next_signature.new.all.items c.len-last.result (search rules) next.place in
+    let next = rw c.if-branch.true at c.in_ok-next_place.ensures in
     let read = c.in_ok-fill_signature.ensures.shrinks in
     record {
       shrinks =
@@ -57,27 +56,27 @@ signature::fill_each-loop-all-preserved t c =
           let before = c.loop-all.invariant.shrinks in
           omega (arith, read, one, before);
       size =
-          let behind = items_smaller c.next_signature.new.members (state c.next_signature.new.input) (state c.fill_signature.new.input) read in
+          let behind = items_smaller c.next_place.new.members (state c.next_place.new.input) (state c.fill_signature.new.input) read in
           let one = next.size in
           let before = c.loop-all.invariant.size in
           omega (arith, behind, one, before);
       fills = λ vs z within.
           let p = c.loop-all.invariant.fills vs z within in
-          one_filled_more (layered_signature c.args.layers) vs (state c.loop-all.input) (state c.next_signature.new.input) (state c.fill_signature.new.input) z c.loop-all.members c.next_signature.new.members (map signature_seen c.loop-all.all.items) _
+          one_filled_more (layered_signature c.args.layers) vs (state c.loop-all.input) (state c.next_place.new.input) (state c.fill_signature.new.input) z c.loop-all.members c.next_place.new.members (map signature_seen c.loop-all.all.items) _
           (signature_seen c.fill_signature.new.signed) p (next.next p.others z p.within) c.in_ok-fill_signature.ensures.fills
-          (last_filled signature_seen empty_signature c.loop-all.all.items c.next_signature.new.all.items (c.len-last.result - 1) c.fill_signature.new.signed at next.place);
+          (last_filled signature_seen c.loop-all.all.items c.next_place.new.all.items c.len-last.result next.place.0 c.fill_signature.new.signed (search rules) next.place.1);
     }
 
 pub signature::fill_each-returns-in_err-fill_signature-clause-fills : goal.signature::fill_each-returns-in_err-fill_signature-clause-fills
 signature::fill_each-returns-in_err-fill_signature-clause-fills t c = λ vs z within.
-    let next = rw c.if-branch.true at c.in_ok-next_signature.ensures in
+    let next = rw c.if-branch.true at c.in_ok-next_place.ensures in
     let p = c.loop-all.invariant.fills vs z within in
-    one_refused_more (layered_signature c.args.layers) vs (state c.loop-all.input) (state c.next_signature.new.input) (state c.fill_signature.new.input) z c.loop-all.members c.next_signature.new.members (map signature_seen c.loop-all.all.items) _
+    one_refused_more (layered_signature c.args.layers) vs (state c.loop-all.input) (state c.next_place.new.input) (state c.fill_signature.new.input) z c.loop-all.members c.next_place.new.members (map signature_seen c.loop-all.all.items) _
     (signature_seen c.fill_signature.new.signed) c.from_residual-in_err-fill_signature.result c.fill_signature.new.error c.in_err-fill_signature.field-0.0 c.from_residual-in_err-fill_signature.ensures.1 p (next.next p.others z p.within) c.in_err-fill_signature.ensures.fills
 
 pub signature::fill_each-returns-clause-fills : goal.signature::fill_each-returns-clause-fills
 signature::fill_each-returns-clause-fills t c = λ vs z within.
-    let next = rw c.if-branch.false at c.in_ok-next_signature.ensures in
+    let next = rw c.if-branch.false at c.in_ok-next_place.ensures in
     let p = c.loop-all.invariant.fills vs z within in
     let none = next.next p.others z p.within in (
       (_, none.1),

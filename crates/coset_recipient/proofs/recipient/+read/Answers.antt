@@ -4,11 +4,11 @@ use Rattle.coset_codec.specs.Errors.{answer}
 use Rattle.coset_codec.specs.Inputs.{state, AreWithin}
 use Rattle.coset_codec.specs.InPlace.{Fills}
 use Rattle.coset_codec.specs.Shape.{Each}
-use Rattle.coset_codec.proofs.InPlace.{last_at, last_filled, one_filled_more, one_refused_more}
+use Rattle.coset_codec.proofs.InPlace.{last_filled, one_filled_more, one_refused_more}
 use Rattle.coset_codec.proofs.Inputs.{items_smaller}
 use Rattle.coset_codec.proofs.Lists.{all_read}
 use Rattle.coset_core.specs.Views.{header_seen, protected_seen}
-use Rattle.coset_recipient.specs.Recipient.{RecipientSeen, empty_recipient, recipient, recipients_of}
+use Rattle.coset_recipient.specs.Recipient.{RecipientSeen, recipient, recipients_of}
 use Rattle.coset_recipient.specs.RecipientReading.{BeginsThree}
 use Rattle.coset_recipient.specs.RecipientView.{recipient_seen, recipient-rolled}
 use Rattle.coset_recipient.specs.declared.recipient.CoseRecipient.{out-roll-CoseRecipient}
@@ -17,8 +17,7 @@ use Rattle.coset_recipient.proofs.recipient.+read.Goals as goal
 
 pub fill_each-loop-all-preserved : goal.fill_each-loop-all-preserved
 fill_each-loop-all-preserved t c =
-    let next = rw c.if-branch.true at c.in_ok-next_recipient.ensures in
-    let at = last_at recipient_seen empty_recipient c.loop-all.all.items c.next_recipient.new.all.items c.len-last.result (search rules) next.place in
+    let next = rw c.if-branch.true at c.in_ok-next_place.ensures in
     let read = c.in_ok-fill_recipient.ensures.shrinks in
     record {
       shrinks =
@@ -26,28 +25,28 @@ fill_each-loop-all-preserved t c =
           let before = c.loop-all.invariant.shrinks in
           omega (arith, read, one, before);
       size =
-          let behind = items_smaller c.next_recipient.new.members (state c.next_recipient.new.input) (state c.fill_recipient.new.input) read in
+          let behind = items_smaller c.next_place.new.members (state c.next_place.new.input) (state c.fill_recipient.new.input) read in
           let one = next.size in
           let before = c.loop-all.invariant.size in
           omega (arith, behind, one, before);
       fills = λ vs z within.
           let p = c.loop-all.invariant.fills vs z within in
-          one_filled_more recipient vs (state c.loop-all.input) (state c.next_recipient.new.input) (state c.fill_recipient.new.input) z c.loop-all.members c.next_recipient.new.members (map recipient_seen c.loop-all.all.items) _
+          one_filled_more recipient vs (state c.loop-all.input) (state c.next_place.new.input) (state c.fill_recipient.new.input) z c.loop-all.members c.next_place.new.members (map recipient_seen c.loop-all.all.items) _
           (recipient_seen c.fill_recipient.new.recipient) p (next.next p.others z p.within) c.in_ok-fill_recipient.ensures.fills
-          (last_filled recipient_seen empty_recipient c.loop-all.all.items c.next_recipient.new.all.items (c.len-last.result - 1) c.fill_recipient.new.recipient at next.place);
+          (last_filled recipient_seen c.loop-all.all.items c.next_place.new.all.items c.len-last.result next.place.0 c.fill_recipient.new.recipient (search rules) next.place.1);
     }
 
 pub fill_each-returns-in_err-fill_recipient-clause-fills : goal.fill_each-returns-in_err-fill_recipient-clause-fills
 fill_each-returns-in_err-fill_recipient-clause-fills t c = λ vs z within.
-    let next = rw c.if-branch.true at c.in_ok-next_recipient.ensures in
+    let next = rw c.if-branch.true at c.in_ok-next_place.ensures in
     let p = c.loop-all.invariant.fills vs z within in
-    one_refused_more recipient vs (state c.loop-all.input) (state c.next_recipient.new.input) (state c.fill_recipient.new.input) z c.loop-all.members c.next_recipient.new.members (map recipient_seen c.loop-all.all.items) _
+    one_refused_more recipient vs (state c.loop-all.input) (state c.next_place.new.input) (state c.fill_recipient.new.input) z c.loop-all.members c.next_place.new.members (map recipient_seen c.loop-all.all.items) _
     (recipient_seen c.fill_recipient.new.recipient) c.from_residual-in_err-fill_recipient.result c.fill_recipient.new.error c.in_err-fill_recipient.field-0.0 c.from_residual-in_err-fill_recipient.ensures.1 p (next.next p.others z p.within)
     c.in_err-fill_recipient.ensures.fills
 
 pub fill_each-returns-clause-fills : goal.fill_each-returns-clause-fills
 fill_each-returns-clause-fills t c = λ vs z within.
-    let next = rw c.if-branch.false at c.in_ok-next_recipient.ensures in
+    let next = rw c.if-branch.false at c.in_ok-next_place.ensures in
     let p = c.loop-all.invariant.fills vs z within in
     let none = next.next p.others z p.within in (
       (_, none.1),

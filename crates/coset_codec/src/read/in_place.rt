@@ -1,0 +1,89 @@
+//! Lists of what holds lists of its own kind, as a recipient holds recipients. Input chooses how deep these lie, and what
+//! is answered by value takes its size in stack at each level: so a member is made empty at its place in the list, and
+//! is filled there.
+
+ghost use Rattle.std.specs.Prelude.{◌≡◌, ◌≤◌, ◌<◌, [], option_map, IfOk, IsTrue, OnOk};
+ghost use Rattle.coset_value.specs.Item.{Items};
+ghost use Rattle.coset_codec.specs.Errors.{answer};
+ghost use Rattle.coset_codec.specs.InPlace.{BeginsNext, GetsOne, GetsPlace};
+ghost use Rattle.coset_codec.specs.Inputs.{State, state, AreWithin, GoesBehind, input_size, items_size, items_turns, length_left};
+
+use crate::error::{CoseError, Refused};
+use crate::read::{Input, InputItems};
+use crate::util::copy_bstr;
+use std::alloc::{AllocError, Global};
+
+/// A type whose values are made empty, and are filled where they stand.
+pub trait InPlace: Sized + Drop {
+    /// What holds of an empty value.
+    ghost is_empty: { Self → Type 0 };
+
+    /// An empty value. It takes no memory.
+    fn empty(alloc: Global) -> Self
+        ensures { is_empty result };
+}
+
+/// One more member at the end of a list, an empty one. The first takes room for itself alone.
+#[inline(never)]
+pub fn push_empty<T: InPlace>(all: &mut Vec<T>) -> Result<(), AllocError>
+    ensures { OnOk result (GetsOne T.is_empty all.old.items all.new.items) }
+{
+    if all.is_empty() {
+        all.reserve_exact(1)?;
+    }
+    let empty = T::empty(*all.allocator());
+    all.push(empty)?;
+    Ok(())
+}
+
+/// Whether one more member stands at the input, for which an empty one is the last of the list then.
+///
+/// # Errors
+/// `OutOfMemory`; what stands at the input is then passed.
+#[inline(never)]
+pub fn next_place<T: InPlace>(
+    all: &mut Vec<T>,
+    members: &mut InputItems,
+    input: &mut Input<'_>,
+    error: &mut CoseError,
+) -> Result<bool, Refused>
+    ensures shrinks { length_left (state input.new) ≤ length_left (state input.old) }
+    ensures size { items_size members.new (state input.new) ≤ items_size members.old
+        (state input.old) }
+    ensures member { IfOk result (λ b. IsTrue b
+        → input_size (state input.new) ≤ items_size members.old (state input.old)) }
+    ensures turns { IfOk result (λ b. IsTrue b → (t : State) → GoesBehind (state input.new) t
+        → items_turns members.new t < items_turns members.old (state input.old)) }
+    ensures place { IfOk result (GetsPlace T.is_empty all.old.items all.new.items) }
+    ensures next { (vs : Items) (z : State) → AreWithin members.old vs (state input.old) z
+        → BeginsNext vs (state input.new) z members.new (answer error.new result) }
+{
+    if !members.next(input) {
+        return Ok(false);
+    }
+    if push_empty(all).is_err() {
+        input.pass();
+        *error = CoseError::OutOfMemory;
+        return Err(Refused);
+    }
+    Ok(true)
+}
+
+/// Empties a list, and makes room for that many members.
+#[inline(never)]
+pub fn make_room<T: Drop>(copies: &mut Vec<T>, count: usize) -> Result<(), AllocError>
+    ensures { copies.new.items ≡ [] }
+{
+    copies.clear();
+    copies.reserve_exact(count)
+}
+
+/// Copies bytes that may be missing to where the copy stands.
+#[inline(never)]
+pub fn copy_bstr_to(bytes: &Option<Vec<u8>>, copy: &mut Option<Vec<u8>>) -> Result<(), AllocError>
+    ensures { OnOk result (option_map (λ b. b.items) copy.new
+        ≡ option_map (λ b. b.items) bytes.now) }
+{
+    *copy = copy_bstr(bytes)?;
+    Ok(())
+}
