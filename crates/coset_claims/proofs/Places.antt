@@ -1,5 +1,5 @@
 -- Places of an array that were passed.
-use Rattle.std.proofs.Common.{◌≡◌, ◌≤◌, Option, Some, None, Result, Ok, Err, sym, subst, arith}
+use Rattle.std.proofs.Common.{◌≡◌, ◌≤◌, Option, Result, Err, sym, subst, arith}
 use Rattle.std.specs.Prelude.{ℕ, Vec}
 use Rattle.std.specs.Global.{Global}
 use Rattle.coset_value.specs.Item.{Items, no_items, item}

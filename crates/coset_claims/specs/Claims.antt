@@ -1,5 +1,5 @@
 -- Claims sets (RFC 8392, sections 3 and 4).
-use Rattle.std.specs.Prelude.{◌≡◌, ◌⊎◌, ℕ, ℤ, pos, int_lt, List, [], ◌∷◌, ◌++◌, Option, Some, None, Bool, true, is_some, map, option_map, string_bytes}
+use Rattle.std.specs.Prelude.{◌≡◌, ◌⊎◌, ℕ, ℤ, pos, int_lt, List, [], ◌∷◌, ◌++◌, Option, None, Bool, true, is_some, map, option_map, string_bytes}
 use Rattle.std.specs.Ordering.{is_eq}
 use Rattle.coset_value.specs.Item.{Item}
 use Rattle.coset_value.specs.View.{view}

@@ -1,5 +1,5 @@
 -- Public information that goes into a key's derivation beside the parties' (RFC 8152, section 11.2).
-use Rattle.std.specs.Prelude.{◌≡◌, ℕ, ℤ, pos, List, Option, Some, None, Result, Ok, Err, Vec, IsOkAnd, false, is_some, option_map, unsigned_abs, refl}
+use Rattle.std.specs.Prelude.{◌≡◌, ℕ, ℤ, pos, List, Option, Some, None, Result, Vec, IsOkAnd, false, is_some, option_map, unsigned_abs, refl}
 use Rattle.std.specs.Global.{Global}
 use Rattle.std.proofs.Common.{true≢false}
 use Rattle.coset_value.specs.Item.{Items, no_items, item}

@@ -35,8 +35,8 @@ use coset_codec::write::{
     write_field, write_filled, write_optional, write_pairs_head, write_rest,
 };
 use coset_core::{
-    Algorithm, CborOrdering, CoseError, Encode, KeyOperation, KeyType, Label,
-    RegisteredLabel, RegisteredLabelWithPrivate, Result, has_repeats, iana, is_parameter,
+    Algorithm, CborOrdering, CoseError, Encode, KeyOperation, KeyType, Label, RegisteredLabel,
+    RegisteredLabelWithPrivate, Result, has_repeats, iana, is_parameter,
 };
 use coset_iana::{
     AkpKeyParameter, Ec2KeyParameter, EllipticCurve, EnumI64, KeyParameter, SymmetricKeyParameter,
