@@ -14,8 +14,7 @@ ghost use Rattle.coset_codec.specs.declared.error.CoseError.TheVariants.{OutOfMe
 ghost use Rattle.coset_codec.specs.Encoding.{AppendsField};
 ghost use Rattle.coset_codec.specs.Errors.{UnlessMemory};
 ghost use Rattle.coset_codec.specs.Inputs.{ReadsAt, length_left, state};
-ghost use Rattle.coset_codec.specs.Maps.{Adds, Refuses, are_distinct, listed, optional};
-ghost use Rattle.coset_codec.specs.Shape.{filled_bstr};
+ghost use Rattle.coset_codec.specs.Maps.{Adds, Refuses, are_distinct, listed};
 ghost use Rattle.coset_label.specs.Names.{assigned, number};
 ghost use Rattle.coset_label.specs.Orderings.{name_cmp_by};
 ghost use Rattle.coset_label.specs.Views.{label_seen};
@@ -31,9 +30,7 @@ use crate::ml_dsa::MlDsaVariant;
 use coset_cbor::value::Value;
 use coset_codec::Codec;
 use coset_codec::read::{Gather, Input, InputPairs, read_map, set_field, set_filled};
-use coset_codec::write::{
-    write_field, write_filled, write_optional, write_pairs_head, write_rest,
-};
+use coset_codec::write::{write_field, write_filled, write_optional, write_pairs_head, write_rest};
 use coset_core::{
     Algorithm, CborOrdering, CoseError, Encode, KeyOperation, KeyType, Label, RegisteredLabel,
     RegisteredLabelWithPrivate, Result, has_repeats, iana, is_parameter,
@@ -339,7 +336,12 @@ fn write_key_ops(
     if operations.is_empty() {
         return Ok(());
     }
-    write_field(alloc, KeyParameter::KeyOps.to_i64(), &KeyOps(operations), out)
+    write_field(
+        alloc,
+        KeyParameter::KeyOps.to_i64(),
+        &KeyOps(operations),
+        out,
+    )
 }
 
 /// Makes a [`CoseKey`], field by field. Contracts see it as the key that [`build`](CoseKeyBuilder::build) gives.
