@@ -243,7 +243,12 @@ impl Codec for ClaimsSet {
         write_optional(alloc, CwtClaimName::Iss.to_i64(), &self.issuer, out)?;
         write_optional(alloc, CwtClaimName::Sub.to_i64(), &self.subject, out)?;
         write_optional(alloc, CwtClaimName::Aud.to_i64(), &self.audience, out)?;
-        write_optional(alloc, CwtClaimName::Exp.to_i64(), &self.expiration_time, out)?;
+        write_optional(
+            alloc,
+            CwtClaimName::Exp.to_i64(),
+            &self.expiration_time,
+            out,
+        )?;
         write_optional(alloc, CwtClaimName::Nbf.to_i64(), &self.not_before, out)?;
         write_optional(alloc, CwtClaimName::Iat.to_i64(), &self.issued_at, out)?;
         write_optional(alloc, CwtClaimName::Cti.to_i64(), &self.cwt_id, out)?;

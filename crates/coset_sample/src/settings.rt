@@ -175,7 +175,11 @@ impl Codec for Settings {
         if has_repeats(alloc, &self.rest)? {
             return Err(CoseError::DuplicateMapKey);
         }
-        write_pairs_head(&[true, self.name.is_some(), self.limit.is_some()], &self.rest, out)?;
+        write_pairs_head(
+            &[true, self.name.is_some(), self.limit.is_some()],
+            &self.rest,
+            out,
+        )?;
         write_field(alloc, 1, &self.level, out)?;
         write_optional(alloc, 2, &self.name, out)?;
         write_optional(alloc, 4, &self.limit, out)?;
