@@ -1,5 +1,5 @@
 -- Reading forward: what stands where something is read, in a tree or in lent bytes.
-use Rattle.std.specs.Prelude.{◌≡◌, ◌<◌, ◌⊎◌, ⊤, ℕ, List, length, codes, Bool, true, false, Option, Some, None, Result, Ok, Err}
+use Rattle.std.specs.Prelude.{◌≡◌, ◌<◌, ⊤, ℕ, List, length, codes, Bool, true, false, Option, Some, None, Result, Ok, Err}
 use Rattle.std.specs.Vec.Iter.{into_iter_items}
 use Rattle.coset_value.specs.Item.{Item, null, Items, no_items, item, items_count, items_depth, Pairs, no_pairs, pair, pairs_count, pairs_depth, depth}
 use Rattle.coset_value.specs.Parts.{as_array, as_map}

@@ -1,13 +1,13 @@
 //! Signatures: those of a message, and those that countersign (RFC 8152, sections 4.1 and 4.5).
 
-ghost use Rattle.std.specs.Prelude.{◌≡◌, [], map, option_map, OnOk, IfOk, IfErr, codes, ◌≤◌, ◌<◌, IsTrue, OnErr, None, ◌↔◌, ◌+◌, IfSome};
+ghost use Rattle.std.specs.Prelude.{◌≡◌, [], map, option_map, OnOk, IfOk, IfErr, codes, ◌≤◌, ◌<◌, IsTrue, None, ◌↔◌, ◌+◌, IfSome};
 ghost use Rattle.coset_codec.specs.declared.error.CoseError.TheVariants.{OutOfMemory};
 ghost use Rattle.coset_core.specs.Contents.{empty_signature};
 ghost use Rattle.coset_codec.specs.InPlace.{Fills, FillsEach};
 ghost use Rattle.coset_core.specs.Views.{header_seen, protected_seen, signature_seen};
 ghost use Rattle.coset_codec.specs.Errors.{answer, filled};
 ghost use Rattle.coset_value.specs.Item.{Item, array, Items, no_items, item};
-ghost use Rattle.coset_codec.specs.Inputs.{State, state, length_left, input_size, items_size, items_turns, Stands, GoesBehind, AreWithin, EntersArray};
+ghost use Rattle.coset_codec.specs.Inputs.{State, state, length_left, input_size, items_size, Stands, GoesBehind, AreWithin, EntersArray};
 ghost use Rattle.coset_core.specs.Filling.{BeginsPlaces, EndsPlaces};
 ghost use Rattle.coset_core.specs.Headers.{empty_header, layered_signature, signature as signature_shape, signatures_of, signatures_image};
 ghost use Rattle.coset_core.specs.Written.{AppendsSignatures, signature_array};

@@ -1,6 +1,6 @@
 //! Recipients: who can decrypt a message, or check its MAC, and how they come to the key (RFC 8152, section 5.1).
 
-ghost use Rattle.std.specs.Prelude.{◌≡◌, ◌≢◌, ◌↔◌, ◌≤◌, ◌<◌, ◌+◌, [], length, map, option_map, IsTrue, IfOk, IfErr, IfSome, OnOk, OnErr, Some, None};
+ghost use Rattle.std.specs.Prelude.{◌≡◌, ◌≢◌, ◌↔◌, ◌≤◌, ◌<◌, ◌+◌, [], length, map, option_map, IsTrue, IfOk, IfErr, IfSome, OnOk, Some, None};
 ghost use Rattle.std.specs.Ordering.{on};
 ghost use Rattle.std.specs.Cmp.{on_equiv, on_per, partial_equiv_from_equiv};
 ghost use Rattle.coset_value.specs.Item.{Item, array, Items};
@@ -9,7 +9,7 @@ ghost use Rattle.coset_codec.specs.Answers.{Reads, Writes};
 ghost use Rattle.coset_codec.specs.Encoding.{AppendsPlaces, Encodes, HasNoImage};
 ghost use Rattle.coset_codec.specs.Errors.{answer};
 ghost use Rattle.coset_codec.specs.InPlace.{Fills, FillsEach};
-ghost use Rattle.coset_codec.specs.Inputs.{State, state, length_left, input_size, items_size, items_turns, Stands, GoesBehind, AreWithin, ReadsAt};
+ghost use Rattle.coset_codec.specs.Inputs.{State, state, length_left, items_size, Stands, GoesBehind, AreWithin, ReadsAt};
 ghost use Rattle.coset_codec.specs.Shape.{images, list_of};
 ghost use Rattle.coset_core.specs.Headers.{empty_header};
 ghost use Rattle.coset_core.specs.Messages.{unread};

@@ -4,7 +4,6 @@
 ghost use Rattle.std.specs.Prelude.{◌≡◌, ◌≤◌, ◌<◌, List, ℕ, length, IfOk, IsOkAnd, IsSome, IsTrue, OnErr, OnOk};
 ghost use Rattle.coset_value.specs.Item.{Item, null, Items, no_items, Pairs, no_pairs};
 ghost use Rattle.coset_value.specs.View.{view};
-ghost use Rattle.coset_cbor.specs.Cursors.{bytes_left, AreWithin as lent_within};
 ghost use Rattle.coset_cbor.specs.Grammar.{IsItem};
 ghost use Rattle.coset_codec.specs.declared.read.input.InputItems.TheVariants as items;
 ghost use Rattle.coset_codec.specs.declared.read.input.InputPairs.TheVariants.{Lent};

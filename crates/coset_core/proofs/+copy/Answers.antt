@@ -1,4 +1,4 @@
-use Rattle.std.proofs.Common.{◌-◌, map, ap, ◌∙◌, arith, rules}
+use Rattle.std.proofs.Common.{map, ap, ◌∙◌, arith, rules}
 use Rattle.coset_codec.proofs.InPlace.{one_more_copied}
 use Rattle.coset_core.proofs.Signatures.{header_copied}
 use Rattle.coset_codec.proofs.EncodingMaps.{taken}

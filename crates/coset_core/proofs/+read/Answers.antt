@@ -6,7 +6,6 @@ use Rattle.coset_codec.specs.Shape.{Each}
 use Rattle.coset_codec.specs.ShapeLaws.{some-one}
 use Rattle.coset_codec.specs.Errors.{answer, UnlessMemory}
 use Rattle.coset_codec.specs.InPlace.{Fills}
-use Rattle.coset_core.specs.Contents.{empty_signature}
 use Rattle.coset_core.specs.Fields.{HasOneIv}
 use Rattle.coset_core.specs.FieldsView.{fields_seen}
 use Rattle.coset_core.specs.HeaderAgain.{array-is}
