@@ -1,6 +1,6 @@
 -- Reading a recipient forward: what is answered of its places.
 use Rattle.std.specs.Prelude.{◌≡◌, ◌⊎◌, ℕ, List, [], Option, Result, Ok, Err}
-use Rattle.coset_value.specs.Item.{Item, Items, no_items, item}
+use Rattle.coset_value.specs.Item.{Item, Items, item}
 use Rattle.coset_codec.specs.declared.error.CoseError.{CoseError}
 use Rattle.coset_codec.specs.declared.read.input.InputItems.{InputItems}
 use Rattle.coset_codec.specs.Errors.{IsUnexpected, UnlessMemory}

@@ -1,4 +1,4 @@
-use Rattle.std.proofs.Common.{◌-◌, ◌∙◌, ap, arith, option_map, rules}
+use Rattle.std.proofs.Common.{◌∙◌, ap, arith, option_map, rules}
 use Rattle.coset_codec.proofs.EncodingMaps.{taken}
 use Rattle.coset_codec.proofs.InPlace.{one_more_copied}
 use Rattle.coset_recipient.specs.RecipientView.{recipient_seen}

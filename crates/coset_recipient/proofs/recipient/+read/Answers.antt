@@ -1,7 +1,7 @@
-use Rattle.std.proofs.Common.{codes, option_map, map, ap, sym, subst, refl, ◌∙◌, ◌-◌, arith, rules}
-use Rattle.coset_value.specs.Item.{Items, array}
+use Rattle.std.proofs.Common.{codes, option_map, map, ap, sym, subst, refl, ◌∙◌, arith, rules}
+use Rattle.coset_value.specs.Item.{array}
 use Rattle.coset_codec.specs.Errors.{answer}
-use Rattle.coset_codec.specs.Inputs.{state, AreWithin}
+use Rattle.coset_codec.specs.Inputs.{state}
 use Rattle.coset_codec.specs.InPlace.{Fills}
 use Rattle.coset_codec.specs.Shape.{Each}
 use Rattle.coset_codec.proofs.InPlace.{last_filled, one_filled_more, one_refused_more}
