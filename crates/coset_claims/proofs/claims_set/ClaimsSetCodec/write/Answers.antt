@@ -1,4 +1,4 @@
-use Rattle.std.proofs.Common.{◌≡◌, Some, true, map, rules, sym, ◌∙◌, ap, refl}
+use Rattle.std.proofs.Common.{◌≡◌, Some, true, rules, sym, ◌∙◌, ap, refl}
 use Rattle.std.specs.Prelude.{ℤ, string_bytes}
 use Rattle.coset_value.specs.Item.{integer}
 use Rattle.coset_value.specs.View.{view}
