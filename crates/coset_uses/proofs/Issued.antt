@@ -1,5 +1,5 @@
 -- Why a message that is to be sent isn't, and a token of claims.
-use Rattle.std.proofs.Common.{◌≡◌, ℕ, ℤ, List, ◌++◌, Option, Some, None, Result, Ok, Err, true, option_map, refl, subst, inl, inr, sym, ap}
+use Rattle.std.proofs.Common.{◌≡◌, ℕ, ℤ, List, [], ◌∷◌, ◌++◌, Option, Some, None, Result, Ok, Err, true, option_map, refl, subst, inl, inr, sym, ap}
 use Rattle.std.specs.Prelude.{IfErr}
 use Rattle.coset_value.specs.Item.{Item, Items, array, bytes, dict, item, Pairs}
 use Rattle.coset_codec.specs.Encoding.{HasNoImage}
@@ -10,14 +10,14 @@ use Rattle.coset_codec.specs.declared.error.CallError.{CallError}
 use Rattle.coset_codec.specs.declared.error.CallError.TheVariants.{Coset, Caller}
 use Rattle.coset_codec.specs.declared.error.CoseError.{CoseError}
 use Rattle.coset_codec.specs.declared.error.CoseError.TheVariants.{OutOfMemory}
-use Rattle.coset_label.specs.Names.{RegisteredName, assigned}
+use Rattle.coset_label.specs.Names.{RegisteredName, assigned, private_use, phrase}
 use Rattle.coset_core.specs.Built.{with_algorithm}
 use Rattle.coset_core.specs.Fields.{partial_header}
 use Rattle.coset_core.specs.Headers.{HeaderSeen, empty_header, layered_header, layered_protected, protected_bytes}
 use Rattle.coset_core.specs.Messages.{unread}
 use Rattle.coset_claims.specs.Claims.{ClaimsSeen, Fielded, claim_name, claims, fields, names, parts_of}
 use Rattle.coset_claims.specs.Timestamp.{TimestampSeen, fractional_seconds, timestamp, whole_seconds}
-use Rattle.coset_claims.proofs.ClaimWriting.{field-has, rest-has}
+use Rattle.coset_codec.proofs.EncodingMaps.{optional-has}
 use Rattle.coset_sign.specs.SignatureStructure.{signature_structure}
 use Rattle.coset_sign.specs.Sign1.{sign1, sign1_carried, with_signature}
 use Rattle.coset_sign.specs.declared.signature.SignatureContext.TheVariants.{CoseSign1}
@@ -61,12 +61,22 @@ moment-has (fractional_seconds x) e = absurd (cc)
 
 fields-have : (x : Fielded) → fields.image x ≡ None → ⊥
 fields-have x =
-    both-has _ _ _ (field-has _ text-has x.0)
-    (both-has _ _ _ (field-has _ text-has x.1.0)
-    (both-has _ _ _ (field-has _ text-has x.1.1.0)
-    (both-has _ _ _ (field-has _ moment-has x.1.1.1.0)
-    (both-has _ _ _ (field-has _ moment-has x.1.1.1.1.0)
-    (both-has _ _ _ (field-has _ moment-has x.1.1.1.1.1.0) (both-has _ _ _ (field-has _ bytes-have x.1.1.1.1.1.1.0) (λ e. absurd (cc))))))))
+    both-has _ _ _ (optional-has _ text-has x.0)
+    (both-has _ _ _ (optional-has _ text-has x.1.0)
+    (both-has _ _ _ (optional-has _ text-has x.1.1.0)
+    (both-has _ _ _ (optional-has _ moment-has x.1.1.1.0)
+    (both-has _ _ _ (optional-has _ moment-has x.1.1.1.1.0)
+    (both-has _ _ _ (optional-has _ moment-has x.1.1.1.1.1.0) (both-has _ _ _ (optional-has _ bytes-have x.1.1.1.1.1.1.0) (λ e. absurd (cc))))))))
+
+name-has : (l : RegisteredName) → claim_name.image l ≡ None → ⊥
+unfolding claim_name
+name-has (assigned i) e = absurd (cc)
+name-has (private_use i) e = absurd (cc)
+name-has (phrase s) e = absurd (cc)
+
+rest-has : (es : List (RegisteredName × Item)) → named_image claim_name.image es ≡ None → ⊥
+rest-has [] e = absurd (cc)
+rest-has (x ∷ es) e = both-has _ _ _ (name-has x.0) (rest-has es) e
 
 entries-have : (rest : List (RegisteredName × Item)) (o : Option (List (RegisteredName × Item))) → (o ≡ None → ⊥) → entries_image names true rest o ≡ None → ⊥
 entries-have rest None h e = h refl
