@@ -1,5 +1,5 @@
 #!/usr/bin/env python3
-"""Writes the hostile messages and keys whose times and stack docs/SPEED.md tells: `hostile.py FOLDER`."""
+"""Writes the hostile messages and keys whose times and stack README.md here tells: `hostile.py FOLDER`."""
 
 import itertools
 import sys

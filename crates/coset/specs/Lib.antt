@@ -10,6 +10,7 @@ pub use Rattle.coset_cbor.specs.Pulls
 pub use Rattle.coset_codec.specs.Errors
 pub use Rattle.coset_codec.specs.Shape
 pub use Rattle.coset_codec.specs.ShapeLaws
+pub use Rattle.coset_codec.specs.PerhapsTagged
 pub use Rattle.coset_codec.specs.Maps
 pub use Rattle.coset_codec.specs.Answers
 pub use Rattle.coset_codec.specs.Refusals

@@ -4,7 +4,7 @@
 //!
 //! Who signs makes a [`CoseSign1`] (its builder's `create_signature` signs it with a closure), and writes it with
 //! `to_vec` of [`CborSerializable`], or `to_tagged_vec` of [`TaggedCborSerializable`]. Who verifies reads it with
-//! `from_slice` or `from_tagged_slice`, and calls `verify_signature` with a closure, which is given the signature and
+//! `from_slice`, `from_tagged_slice` or, whether it is tagged or not, `from_any_slice`, and calls `verify_signature` with a closure, which is given the signature and
 //! what it is over: the bytes as they were received. Somebody else's signature over a message stands in its header as a
 //! [`CoseCountersignature`], which [`verify_countersignature`] verifies. A message with a MAC ([`CoseMac0`]) is made by
 //! `create_tag` and verified by `verify_tag`, an encrypted one ([`CoseEncrypt0`]) is made by `create_ciphertext` and read

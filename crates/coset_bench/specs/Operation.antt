@@ -1,11 +1,13 @@
 -- The names of operations.
 use Rattle.std.specs.Prelude.{ℕ, List, ◌++◌, codes}
 use Rattle.coset_bench.specs.declared.kind.Kind.{Kind}
-use Rattle.coset_bench.specs.declared.kind.Kind.TheVariants.{Value, Header, Countersignature, Sign1, Sign, Mac0, Mac, Encrypt0, Encrypt, Recipient, Key, KeySet, Claims, Kdf}
+use Rattle.coset_bench.specs.declared.kind.Kind.TheVariants.{Value, Header, Countersignature, Sign1, Sign, Mac0, Mac, Encrypt0, Encrypt, Recipient, Key, KeySet}
+use Rattle.coset_bench.specs.declared.kind.Kind.TheVariants.{Claims, Kdf}
 use Rattle.coset_bench.specs.declared.structure.Structure.{Structure}
 use Rattle.coset_bench.specs.declared.structure.Structure.TheVariants.{CountersignatureTbs, Sign1Tbs, SignTbs, Mac0Tbm, MacTbm, Encrypt0Aad, EncryptAad}
 use Rattle.coset_bench.specs.declared.operation.Operation.{Operation}
-use Rattle.coset_bench.specs.declared.operation.Operation.TheVariants.{Check, Read, Write, Make, Sign1Refused, Sign1Copy, Sign1Compare, RecipientRefused, RecipientCopy, RecipientCompare, KeyCanonicalize}
+use Rattle.coset_bench.specs.declared.operation.Operation.TheVariants.{Check, Read, Write, Make, Sign1Refused, Sign1Copy, Sign1Compare, RecipientRefused}
+use Rattle.coset_bench.specs.declared.operation.Operation.TheVariants.{RecipientCopy, RecipientCompare, KeyCanonicalize}
 
 -- the name of the operation that reads a type
 abbrev pub kind_name : Kind → List ℕ

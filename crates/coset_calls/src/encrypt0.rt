@@ -1,5 +1,6 @@
 //! Calls of `CoseEncrypt0` and its builder.
 
+use crate::given;
 use coset::{CoseEncrypt0, CoseEncrypt0Builder, CoseError, Result};
 use coset_lines::asked::{Asked, No, and_missing};
 use coset_lines::words::Words;
@@ -14,8 +15,12 @@ pub fn call(alloc: Global, name: &str, words: &Words<'_>) -> Result<String> {
     match name {
         "decrypt" => decrypt(alloc, words),
         "decrypt_ciphertext" => decrypt_ciphertext(alloc, words),
+        "decrypt_detached" => decrypt_detached(alloc, words),
+        "aad" => aad(alloc, words),
         "create_ciphertext" => create_ciphertext(alloc, words),
         "try_create_ciphertext" => try_create_ciphertext(alloc, words),
+        "create_detached_ciphertext" => create_detached_ciphertext(alloc, words),
+        "try_create_detached_ciphertext" => try_create_detached_ciphertext(alloc, words),
         "build" => build(alloc, words),
         "to_vec_with" => tell::written(alloc, message(alloc, words, 1, 2)?),
         _ => Err(CoseError::UnexpectedItem("name", "call of CoseEncrypt0")),
@@ -70,6 +75,36 @@ fn decrypt_ciphertext(alloc: Global, words: &Words<'_>) -> Result<String> {
     and_missing(alloc, asked.opened(alloc, answer)?, missed)
 }
 
+/// `yes` or `no`; the message; the ciphertext that is sent apart; `external_aad`; the plaintext that the closure makes;
+/// what becomes of the header.
+fn decrypt_detached(alloc: Global, words: &Words<'_>) -> Result<String> {
+    let message = message(alloc, words, 2, 6)?;
+    let ciphertext = words.bytes(alloc, 3)?;
+    let external_aad = words.bytes(alloc, 4)?;
+    let plaintext = words.made(alloc, 1, 5)?;
+    let mut asked = Asked::new(alloc)?;
+    let count = &mut asked;
+    mark::begin(alloc);
+    let answer = message.decrypt_detached(
+        alloc,
+        &ciphertext,
+        &external_aad,
+        move |ciphertext, structure| count.try_make(ciphertext, structure, plaintext),
+    );
+    mark::end(alloc);
+    asked.opened(alloc, answer)
+}
+
+/// The message; `external_aad`; what becomes of the header.
+fn aad(alloc: Global, words: &Words<'_>) -> Result<String> {
+    let message = message(alloc, words, 1, 3)?;
+    let external_aad = words.bytes(alloc, 2)?;
+    mark::begin(alloc);
+    let answer = message.aad(alloc, &external_aad);
+    mark::end(alloc);
+    tell::bytes(alloc, answer)
+}
+
 /// What was built, where the builder was made.
 fn built<E: Drop>(
     made: std::result::Result<CoseEncrypt0Builder, E>,
@@ -80,16 +115,21 @@ fn built<E: Drop>(
     }
 }
 
-/// The message; the plaintext; `external_aad`; the ciphertext that the closure makes; what becomes of the header.
-fn create_ciphertext(alloc: Global, words: &Words<'_>) -> Result<String> {
+/// A builder with the message's headers.
+fn with_headers(alloc: Global, message: CoseEncrypt0) -> CoseEncrypt0Builder {
     let CoseEncrypt0 {
         protected,
         unprotected,
         ciphertext: _,
-    } = message(alloc, words, 1, 5)?;
-    let builder = CoseEncrypt0Builder::new(alloc)
+    } = message;
+    CoseEncrypt0Builder::new(alloc)
         .protected(protected.header)
-        .unprotected(unprotected);
+        .unprotected(unprotected)
+}
+
+/// The message; the plaintext; `external_aad`; the ciphertext that the closure makes; what becomes of the header.
+fn create_ciphertext(alloc: Global, words: &Words<'_>) -> Result<String> {
+    let builder = with_headers(alloc, message(alloc, words, 1, 5)?);
     let plaintext = words.bytes(alloc, 2)?;
     let external_aad = words.bytes(alloc, 3)?;
     let ciphertext = words.bytes(alloc, 4)?;
@@ -108,14 +148,7 @@ fn create_ciphertext(alloc: Global, words: &Words<'_>) -> Result<String> {
 
 /// `yes` or `no`, and the same.
 fn try_create_ciphertext(alloc: Global, words: &Words<'_>) -> Result<String> {
-    let CoseEncrypt0 {
-        protected,
-        unprotected,
-        ciphertext: _,
-    } = message(alloc, words, 2, 6)?;
-    let builder = CoseEncrypt0Builder::new(alloc)
-        .protected(protected.header)
-        .unprotected(unprotected);
+    let builder = with_headers(alloc, message(alloc, words, 2, 6)?);
     let plaintext = words.bytes(alloc, 3)?;
     let external_aad = words.bytes(alloc, 4)?;
     let ciphertext = words.made(alloc, 1, 5)?;
@@ -130,6 +163,45 @@ fn try_create_ciphertext(alloc: Global, words: &Words<'_>) -> Result<String> {
     );
     mark::end(alloc);
     asked.tried(alloc, built(answer))
+}
+
+/// The message; the plaintext; `external_aad`; the ciphertext that the closure makes; what becomes of the header. It is
+/// told what the call answers: the ciphertext, which isn't put into the message.
+fn create_detached_ciphertext(alloc: Global, words: &Words<'_>) -> Result<String> {
+    let builder = with_headers(alloc, message(alloc, words, 1, 5)?);
+    let plaintext = words.bytes(alloc, 2)?;
+    let external_aad = words.bytes(alloc, 3)?;
+    let ciphertext = words.bytes(alloc, 4)?;
+    let mut asked = Asked::new(alloc)?;
+    let count = &mut asked;
+    mark::begin(alloc);
+    let answer = builder.create_detached_ciphertext(
+        alloc,
+        &plaintext,
+        &external_aad,
+        move |plaintext, structure| count.make(plaintext, structure, ciphertext),
+    );
+    mark::end(alloc);
+    given::sealed(alloc, &asked, answer)
+}
+
+/// `yes` or `no`, and the same.
+fn try_create_detached_ciphertext(alloc: Global, words: &Words<'_>) -> Result<String> {
+    let builder = with_headers(alloc, message(alloc, words, 2, 6)?);
+    let plaintext = words.bytes(alloc, 3)?;
+    let external_aad = words.bytes(alloc, 4)?;
+    let ciphertext = words.made(alloc, 1, 5)?;
+    let mut asked = Asked::new(alloc)?;
+    let count = &mut asked;
+    mark::begin(alloc);
+    let answer = builder.try_create_detached_ciphertext(
+        alloc,
+        &plaintext,
+        &external_aad,
+        move |plaintext, structure| count.try_make(plaintext, structure, ciphertext),
+    );
+    mark::end(alloc);
+    asked.opened(alloc, answer)
 }
 
 /// The message; what becomes of the header.

@@ -1,5 +1,6 @@
 //! Calls of `CoseMac` and its builder.
 
+use crate::given;
 use coset::{CoseError, CoseMac, CoseMacBuilder, CoseRecipient, Result};
 use coset_lines::asked::{Asked, No, and_missing};
 use coset_lines::words::Words;
@@ -14,8 +15,13 @@ pub fn call(alloc: Global, name: &str, words: &Words<'_>) -> Result<String> {
     match name {
         "verify_tag" => verify_tag(alloc, words),
         "verify_payload_tag" => verify_payload_tag(alloc, words),
+        "verify_detached_tag" => verify_detached_tag(alloc, words),
+        "tbm" => tbm(alloc, words),
+        "tbm_detached" => tbm_detached(alloc, words),
         "create_tag" => create_tag(alloc, words),
         "try_create_tag" => try_create_tag(alloc, words),
+        "create_detached_tag" => create_detached_tag(alloc, words),
+        "try_create_detached_tag" => try_create_detached_tag(alloc, words),
         "add_recipient" => add_recipient(alloc, words),
         "build" => build(alloc, words),
         "to_vec_with" => tell::written(alloc, message(alloc, words, 1, 2)?),
@@ -74,6 +80,43 @@ fn verify_payload_tag(alloc: Global, words: &Words<'_>) -> Result<String> {
     );
     mark::end(alloc);
     and_missing(alloc, asked.judged(alloc, answer)?, missed)
+}
+
+/// `yes` or `no`; the message; the payload that is sent apart; `external_aad`; what becomes of the header.
+fn verify_detached_tag(alloc: Global, words: &Words<'_>) -> Result<String> {
+    let says_yes = words.says_yes(1)?;
+    let message = message(alloc, words, 2, 5)?;
+    let payload = words.bytes(alloc, 3)?;
+    let external_aad = words.bytes(alloc, 4)?;
+    let mut asked = Asked::new(alloc)?;
+    let count = &mut asked;
+    mark::begin(alloc);
+    let answer = message.verify_detached_tag(alloc, &payload, &external_aad, move |tag, tbm| {
+        count.judge(tag, tbm, says_yes)
+    });
+    mark::end(alloc);
+    asked.judged(alloc, answer)
+}
+
+/// The message; `external_aad`; what becomes of the header.
+fn tbm(alloc: Global, words: &Words<'_>) -> Result<String> {
+    let message = message(alloc, words, 1, 3)?;
+    let external_aad = words.bytes(alloc, 2)?;
+    mark::begin(alloc);
+    let answer = message.tbm(alloc, &external_aad);
+    mark::end(alloc);
+    given::perhaps(alloc, answer)
+}
+
+/// The message; the payload that is sent apart; `external_aad`; what becomes of the header.
+fn tbm_detached(alloc: Global, words: &Words<'_>) -> Result<String> {
+    let message = message(alloc, words, 1, 4)?;
+    let payload = words.bytes(alloc, 2)?;
+    let external_aad = words.bytes(alloc, 3)?;
+    mark::begin(alloc);
+    let answer = message.tbm_detached(alloc, &payload, &external_aad);
+    mark::end(alloc);
+    tell::bytes(alloc, answer)
 }
 
 /// What was built, where the builder was made.
@@ -145,6 +188,52 @@ fn try_create_tag(alloc: Global, words: &Words<'_>) -> Result<String> {
     let count = &mut asked;
     mark::begin(alloc);
     let answer = builder.try_create_tag(alloc, &external_aad, move |tbm| {
+        count.try_make(&[], tbm, tag)
+    });
+    mark::end(alloc);
+    asked.tried(alloc, built(answer))
+}
+
+/// A builder with the message's headers and recipients, and with its payload where it has one.
+///
+/// # Errors
+/// `OutOfMemory` alone.
+fn with_payload(alloc: Global, mut message: CoseMac) -> Result<CoseMacBuilder> {
+    let payload = message.payload.take();
+    let builder = filled(alloc, message)?;
+    match payload {
+        Some(payload) => Ok(builder.payload(payload)),
+        None => Ok(builder),
+    }
+}
+
+/// The message; the payload that is sent apart; `external_aad`; the tag that the closure makes; what becomes of the
+/// header.
+fn create_detached_tag(alloc: Global, words: &Words<'_>) -> Result<String> {
+    let builder = with_payload(alloc, message(alloc, words, 1, 5)?)?;
+    let payload = words.bytes(alloc, 2)?;
+    let external_aad = words.bytes(alloc, 3)?;
+    let tag = words.bytes(alloc, 4)?;
+    let mut asked = Asked::new(alloc)?;
+    let count = &mut asked;
+    mark::begin(alloc);
+    let answer = builder.create_detached_tag(alloc, &payload, &external_aad, move |tbm| {
+        count.make(&[], tbm, tag)
+    });
+    mark::end(alloc);
+    asked.made(alloc, built(answer))
+}
+
+/// `yes` or `no`, and the same.
+fn try_create_detached_tag(alloc: Global, words: &Words<'_>) -> Result<String> {
+    let builder = with_payload(alloc, message(alloc, words, 2, 6)?)?;
+    let payload = words.bytes(alloc, 3)?;
+    let external_aad = words.bytes(alloc, 4)?;
+    let tag = words.made(alloc, 1, 5)?;
+    let mut asked = Asked::new(alloc)?;
+    let count = &mut asked;
+    mark::begin(alloc);
+    let answer = builder.try_create_detached_tag(alloc, &payload, &external_aad, move |tbm| {
         count.try_make(&[], tbm, tag)
     });
     mark::end(alloc);

@@ -9,6 +9,7 @@
 
 mod encrypt;
 mod encrypt0;
+mod given;
 mod mac;
 mod mac0;
 mod recipient;

@@ -17,6 +17,7 @@ pub fn call(alloc: Global, name: &str, words: &Words<'_>) -> Result<String> {
     match name {
         "decrypt" => decrypt(alloc, words),
         "decrypt_ciphertext" => decrypt_ciphertext(alloc, words),
+        "aad" => aad(alloc, words),
         "create_ciphertext" => create_ciphertext(alloc, words),
         "try_create_ciphertext" => try_create_ciphertext(alloc, words),
         "add_recipient" => add_recipient(alloc, words),
@@ -35,6 +36,15 @@ fn recipient_context(word: &str) -> Result<EncryptionContext>
         "MacRecipient" => Ok(EncryptionContext::MacRecipient),
         "RecRecipient" => Ok(EncryptionContext::RecRecipient),
         _ => Err(CoseError::UnexpectedItem("word", "context of a recipient")),
+    }
+}
+
+/// The context of that name, whatever it is of.
+fn any_context(word: &str) -> Result<EncryptionContext> {
+    match word {
+        "CoseEncrypt" => Ok(EncryptionContext::CoseEncrypt),
+        "CoseEncrypt0" => Ok(EncryptionContext::CoseEncrypt0),
+        _ => recipient_context(word),
     }
 }
 
@@ -96,6 +106,17 @@ fn decrypt_ciphertext(alloc: Global, words: &Words<'_>) -> Result<String> {
     );
     mark::end(alloc);
     and_missing(alloc, asked.opened(alloc, answer)?, missed)
+}
+
+/// The recipient; the context, whatever it is of; `external_aad`; what becomes of the header.
+fn aad(alloc: Global, words: &Words<'_>) -> Result<String> {
+    let recipient = recipient(alloc, words, 1, 4)?;
+    let context = any_context(words.word(2))?;
+    let external_aad = words.bytes(alloc, 3)?;
+    mark::begin(alloc);
+    let answer = recipient.aad(alloc, context, &external_aad);
+    mark::end(alloc);
+    tell::bytes(alloc, answer)
 }
 
 /// What was built, where the builder was made.

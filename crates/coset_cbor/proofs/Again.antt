@@ -1,5 +1,6 @@
 -- What is an encoding of a value is read as that value.
-use Rattle.std.proofs.Common.{◌≡◌, ℕ, zero, suc, ◌+◌, ◌*◌, ◌/◌, ◌%◌, ◌^◌, ◌<◌, ◌≤◌, Bool, true, false, ltb, eqb, List, [], ◌∷◌, ◌++◌, length, Some, None, Result, Ok, refl, sym, ap, subst, ◌∙◌, append_assoc, arith, inl, inr}
+use Rattle.std.proofs.Common.{◌≡◌, ℕ, zero, suc, ◌+◌, ◌*◌, ◌/◌, ◌%◌, ◌^◌, ◌<◌, ◌≤◌, Bool, true, false, ltb, eqb, List, [], ◌∷◌, ◌++◌, length, Some, None}
+use Rattle.std.proofs.Common.{Result, Ok, refl, sym, ap, subst, ◌∙◌, append_assoc, arith, inl, inr}
 use Rattle.std.specs.Prelude.{pos, negsuc}
 use Rattle.std.specs.Int.{Width, w8, w16, w32, w64, byte_len, from_be_bytes, to_be_bytes}
 use Rattle.std.proofs.lemmas.Bool.{lt-ltb, le-ltb, ne_eqb}
@@ -9,10 +10,14 @@ use Rattle.std.proofs.lemmas.Nat.{from_be_bytes-to_be_bytes_2, from_be_bytes-to_
 use Rattle.coset_cbor.specs.declared.fault.Fault.{Fault}
 use Rattle.coset_cbor.specs.Heads.{Argument, HeadSeen}
 use Rattle.coset_cbor.specs.Heads as places
-use Rattle.coset_value.specs.Item.{half, single, double, Item, integer, bytes, float, text, boolean, null, tag, array, dict, Items, no_items, item, Pairs, no_pairs, pair, items_count, pairs_count, depth, items_depth, pairs_depth}
+use Rattle.coset_value.specs.Item.{half, single, double, Item, integer, bytes, float, text, boolean, null, tag, array, dict, Items, no_items, item, Pairs}
+use Rattle.coset_value.specs.Item.{no_pairs, pair, items_count, pairs_count, depth, items_depth, pairs_depth}
 use Rattle.coset_value.specs.View.{items_of, pairs_of}
-use Rattle.coset_cbor.specs.Grammar.{Place, within, one, two, four, eight, Holds, head_in, IsHead, IsHeaded, IsIndefinite, EachInOrder, IsStringContent, string_type, IsDefinite, IsStringEncoding, IsHeld, IsEncoding, AreEncodings, ArePairEncodings}
-use Rattle.coset_cbor.specs.Reading.{◌>>=◌, Parse, major_type_of, number_of, argument_at, argument_by, head_at, is_string_content, string_at, begins_chunk, chunk_at, begins_break, times_at, until_at, chunks_at, any_string_by, pair_at, array_by, map_by, Inside, nothing, things, item_from, item_at}
+use Rattle.coset_cbor.specs.Grammar.{Place, within, one, two, four, eight, Holds, head_in, IsHead, IsHeaded, IsIndefinite, EachInOrder, IsStringContent}
+use Rattle.coset_cbor.specs.Grammar.{string_type, IsDefinite, IsStringEncoding, IsHeld, IsEncoding, AreEncodings, ArePairEncodings}
+use Rattle.coset_cbor.specs.Reading.{◌>>=◌, Parse, major_type_of, number_of, argument_at, argument_by, head_at, is_string_content, string_at, begins_chunk}
+use Rattle.coset_cbor.specs.Reading.{chunk_at, begins_break, times_at, until_at, chunks_at, any_string_by, pair_at, array_by, map_by, Inside, nothing, things}
+use Rattle.coset_cbor.specs.Reading.{item_from, item_at}
 
 -- ---- heads
 
@@ -32,7 +37,8 @@ wide32 = record { len = λ n. refl; again = λ n lt. from_be_bytes-to_be_bytes_4
 pub wide64 : IsWide w64 (2 ^ 64)
 wide64 = record { len = λ n. refl; again = λ n lt. from_be_bytes-to_be_bytes_8 n lt }
 
-argument_again : (place : ℕ → Argument) (w : Width) (limit : ℕ) (wide : IsWide w limit) (n : ℕ) (rest : List ℕ) → n < limit → argument_at place w (byte_len w) (to_be_bytes w n ++ rest) ≡ Ok (place n, rest)
+argument_again : (place : ℕ → Argument) (w : Width) (limit : ℕ) (wide : IsWide w limit) (n : ℕ) (rest : List ℕ) → n < limit
+    → argument_at place w (byte_len w) (to_be_bytes w n ++ rest) ≡ Ok (place n, rest)
 argument_again place w limit wide n rest lt =
     let len = wide.len n in
     let long : ltb (length (to_be_bytes w n ++ rest)) (byte_len w) ≡ false = le-ltb _ _ (omega (arith, length-append (to_be_bytes w n) rest)) in
@@ -193,13 +199,15 @@ pub record ReadsAgain {A : Type 0} (R : A → List ℕ → Type 0) (read : Parse
 pub regroup : (c d b rest : List ℕ) → b ≡ c ++ d → b ++ rest ≡ c ++ (d ++ rest)
 regroup c d b rest e = ap (λ (x : List ℕ). x ++ rest) e ∙ append_assoc c d rest
 
-pub times_again : {A : Type 0} (R : A → List ℕ → Type 0) (read : Parse A) (reads : ReadsAgain R read) (xs : List A) (b rest : List ℕ) → EachInOrder R xs b → times_at read (length xs) (b ++ rest) ≡ Ok (xs, rest)
+pub times_again : {A : Type 0} (R : A → List ℕ → Type 0) (read : Parse A) (reads : ReadsAgain R read) (xs : List A) (b rest : List ℕ) → EachInOrder R xs b
+    → times_at read (length xs) (b ++ rest) ≡ Ok (xs, rest)
 unfolding times_at
 times_again R read reads [] b rest h = ap (λ (x : List ℕ). Ok ([], x ++ rest)) h
 times_again R read reads (x ∷ xs) b rest h =
     ap (times_at read (suc (length xs))) (regroup h.0 h.1 b rest h.4) ∙ rw (reads.again x h.0 (h.1 ++ rest) h.2, times_again R read reads xs h.1 rest h.3) refl
 
-pub until_again : {A : Type 0} (R : A → List ℕ → Type 0) (read : Parse A) (reads : ReadsAgain R read) (turns : ℕ) (xs : List A) (b rest : List ℕ) → EachInOrder R xs b → length b < turns → until_at read turns (b ++ 255 ∷ rest) ≡ Ok (xs, rest)
+pub until_again : {A : Type 0} (R : A → List ℕ → Type 0) (read : Parse A) (reads : ReadsAgain R read) (turns : ℕ) (xs : List A) (b rest : List ℕ)
+    → EachInOrder R xs b → length b < turns → until_at read turns (b ++ 255 ∷ rest) ≡ Ok (xs, rest)
 unfolding until_at
 until_again R read reads zero xs b rest h lt = absurd (omega arith)
 until_again R read reads (suc turns) [] b rest h lt = ap (λ (x : List ℕ). until_at read (suc turns) (x ++ 255 ∷ rest)) h
@@ -208,10 +216,12 @@ until_again R read reads (suc turns) (x ∷ xs) b rest h lt =
     let goes = no_break h.0 (h.1 ++ 255 ∷ rest) g in
     let size : length b ≡ length h.0 + length h.1 = ap length h.4 ∙ length-append h.0 h.1 in
     let some : length h.0 ≡ suc (length g.more) = ap length g.parts in
-    ap (until_at read (suc turns)) (regroup h.0 h.1 b (255 ∷ rest) h.4) ∙ rw (goes, reads.again x h.0 (h.1 ++ 255 ∷ rest) h.2, until_again R read reads turns xs h.1 rest h.3 (omega arith)) refl
+    ap (until_at read (suc turns)) (regroup h.0 h.1 b (255 ∷ rest) h.4)
+    ∙ rw (goes, reads.again x h.0 (h.1 ++ 255 ∷ rest) h.2, until_again R read reads turns xs h.1 rest h.3 (omega arith)) refl
 
 -- each takes at least a byte
-pub EachInOrder-long : {A : Type 0} (R : A → List ℕ → Type 0) (begins : (x : A) (c : List ℕ) → R x c → Begins c) (xs : List A) (b : List ℕ) → EachInOrder R xs b → length xs ≤ length b
+pub EachInOrder-long : {A : Type 0} (R : A → List ℕ → Type 0) (begins : (x : A) (c : List ℕ) → R x c → Begins c) (xs : List A) (b : List ℕ) → EachInOrder R xs b
+    → length xs ≤ length b
 EachInOrder-long R begins [] b h = omega arith
 EachInOrder-long R begins (x ∷ xs) b h =
     let g = begins x h.0 h.2 in
@@ -257,15 +267,23 @@ AreEncodings-EachInOrder : (d : ℕ) (vs : Items) (b : List ℕ) → AreEncoding
 AreEncodings-EachInOrder d no_items b h lt = h
 AreEncodings-EachInOrder d (item v vs) b h lt = (h.0, h.1, (h.2, omega arith), AreEncodings-EachInOrder d vs h.1 h.3 (omega arith), h.4)
 
-ArePairEncodings-EachInOrder : (d : ℕ) (ps : Pairs) (b : List ℕ) → ArePairEncodings ps b → pairs_depth ps < d → EachInOrder (IsPairEncodingBelow d) (pair_list_of ps) b
+ArePairEncodings-EachInOrder : (d : ℕ) (ps : Pairs) (b : List ℕ) → ArePairEncodings ps b → pairs_depth ps < d
+    → EachInOrder (IsPairEncodingBelow d) (pair_list_of ps) b
 ArePairEncodings-EachInOrder d no_pairs b h lt = h
-ArePairEncodings-EachInOrder d (pair k v ps) b h lt =
-    (h.0 ++ h.1, h.2, (h.0, h.1, (h.3, omega arith), (h.4, omega arith), refl), ArePairEncodings-EachInOrder d ps h.2 h.5 (omega arith), h.6 ∙ sym (append_assoc h.0 h.1 h.2))
+ArePairEncodings-EachInOrder d (pair k v ps) b h lt = (
+  h.0 ++ h.1,
+  h.2,
+  (h.0, h.1, (h.3, omega arith), (h.4, omega arith), refl),
+  ArePairEncodings-EachInOrder d ps h.2 h.5 (omega arith),
+  h.6
+      ∙ sym (append_assoc h.0 h.1 h.2),
+)
 
 pub pair_reads : (d : ℕ) (read : Parse Item) → ReadsAgain (IsEncodingBelow d) read → ReadsAgain (IsPairEncodingBelow d) (pair_at read)
 pair_reads d read reads = record {
   again = λ p c rest h.
-      ap (pair_at read) (ap (λ (x : List ℕ). x ++ rest) h.4 ∙ append_assoc h.0 h.1 rest) ∙ rw (reads.again p.0 h.0 (h.1 ++ rest) h.2, reads.again p.1 h.1 rest h.3) refl;
+      ap (pair_at read) (ap (λ (x : List ℕ). x ++ rest) h.4 ∙ append_assoc h.0 h.1 rest)
+      ∙ rw (reads.again p.0 h.0 (h.1 ++ rest) h.2, reads.again p.1 h.1 rest h.3) refl;
   begins = λ p c h. begins_append h.0 h.1 c h.4 (IsEncoding-begins p.0 h.0 h.2.0);
 }
 
@@ -274,8 +292,10 @@ pub record InsideAgain (d : ℕ) (inside : Inside) : Type 0 where
   pub one : (v : Item) (c rest : List ℕ) → IsEncoding v c → depth v < d → inside.one (c ++ rest) ≡ Ok (v, rest)
   pub items : (vs : Items) (c rest : List ℕ) → AreEncodings vs c → items_depth vs < d → inside.items (Some (items_count vs)) (c ++ rest) ≡ Ok (list_of vs, rest)
   pub items_until : (vs : Items) (c rest : List ℕ) → AreEncodings vs c → items_depth vs < d → inside.items None (c ++ 255 ∷ rest) ≡ Ok (list_of vs, rest)
-  pub pairs : (ps : Pairs) (c rest : List ℕ) → ArePairEncodings ps c → pairs_depth ps < d → inside.pairs (Some (pairs_count ps)) (c ++ rest) ≡ Ok (pair_list_of ps, rest)
-  pub pairs_until : (ps : Pairs) (c rest : List ℕ) → ArePairEncodings ps c → pairs_depth ps < d → inside.pairs None (c ++ 255 ∷ rest) ≡ Ok (pair_list_of ps, rest)
+  pub pairs : (ps : Pairs) (c rest : List ℕ) → ArePairEncodings ps c → pairs_depth ps < d
+      → inside.pairs (Some (pairs_count ps)) (c ++ rest) ≡ Ok (pair_list_of ps, rest)
+  pub pairs_until : (ps : Pairs) (c rest : List ℕ) → ArePairEncodings ps c → pairs_depth ps < d
+      → inside.pairs None (c ++ 255 ∷ rest) ≡ Ok (pair_list_of ps, rest)
 
 nothing_again : InsideAgain 0 nothing
 nothing_again = record {
@@ -299,14 +319,18 @@ things_again d read reads =
           let each = AreEncodings-EachInOrder d vs c h lt in
           let long : length (list_of vs) ≤ length c = EachInOrder-long (IsEncodingBelow d) reads.begins (list_of vs) c each in
           let enough : ltb (length (c ++ rest)) (length (list_of vs)) ≡ false = le-ltb _ _ (omega (arith, length-append c rest)) in
-          ap (λ (n : ℕ). array_by read (Some n) (c ++ rest)) (sym (length-list_of vs)) ∙ rw enough (times_again (IsEncodingBelow d) read reads (list_of vs) c rest each);
-      items_until = λ vs c rest h lt. until_again (IsEncodingBelow d) read reads (length (c ++ 255 ∷ rest)) (list_of vs) c rest (AreEncodings-EachInOrder d vs c h lt) (within_turns c rest);
+          ap (λ (n : ℕ). array_by read (Some n) (c ++ rest)) (sym (length-list_of vs))
+          ∙ rw enough (times_again (IsEncodingBelow d) read reads (list_of vs) c rest each);
+      items_until = λ vs c rest h lt. until_again (IsEncodingBelow d) read reads (length (c ++ 255 ∷ rest)) (list_of vs) c rest
+          (AreEncodings-EachInOrder d vs c h lt) (within_turns c rest);
       pairs = λ ps c rest h lt.
           let each = ArePairEncodings-EachInOrder d ps c h lt in
           let long : length (pair_list_of ps) * 2 ≤ length c = pairs_long d (pair_list_of ps) c each in
           let enough : ltb (length (c ++ rest) / 2) (length (pair_list_of ps)) ≡ false = le-ltb _ _ (omega (arith, length-append c rest)) in
-          ap (λ (n : ℕ). map_by read (Some n) (c ++ rest)) (sym (length-pair_list_of ps)) ∙ rw enough (times_again (IsPairEncodingBelow d) (pair_at read) pair_readers (pair_list_of ps) c rest each);
-      pairs_until = λ ps c rest h lt. until_again (IsPairEncodingBelow d) (pair_at read) pair_readers (length (c ++ 255 ∷ rest)) (pair_list_of ps) c rest (ArePairEncodings-EachInOrder d ps c h lt) (within_turns c rest);
+          ap (λ (n : ℕ). map_by read (Some n) (c ++ rest)) (sym (length-pair_list_of ps))
+          ∙ rw enough (times_again (IsPairEncodingBelow d) (pair_at read) pair_readers (pair_list_of ps) c rest each);
+      pairs_until = λ ps c rest h lt. until_again (IsPairEncodingBelow d) (pair_at read) pair_readers (length (c ++ 255 ∷ rest)) (pair_list_of ps) c rest
+          (ArePairEncodings-EachInOrder d ps c h lt) (within_turns c rest);
     }
   where
     pairs_long : (d : ℕ) (ps : List (Item × Item)) (b : List ℕ) → EachInOrder (IsPairEncodingBelow d) ps b → length ps * 2 ≤ length b
@@ -351,17 +375,24 @@ IsStringEncoding-again is_text left s b rest (inr h) =
       string = rw (all, h.2) refl;
     }
 
-from_again : (d : ℕ) (inside : Inside) → InsideAgain d inside → (v : Item) (b rest : List ℕ) → IsEncoding v b → depth v ≤ d → item_from inside (b ++ rest) ≡ Ok (v, rest)
+from_again : (d : ℕ) (inside : Inside) → InsideAgain d inside → (v : Item) (b rest : List ℕ) → IsEncoding v b → depth v ≤ d
+    → item_from inside (b ++ rest) ≡ Ok (v, rest)
 from_again d inside inner (integer (pos n)) b rest h le = let r = IsHead-again 0 n b rest h in rw (r.reads, r.number) refl
 from_again d inside inner (integer (negsuc n)) b rest h le = let r = IsHead-again 1 n b rest h in rw (r.reads, r.number) refl
 from_again d inside inner (bytes s) b rest h le = let r = IsStringEncoding-again false (length (b ++ rest)) s b rest h in rw (r.reads, r.string) refl
-from_again d inside inner (float (half n)) b rest h le = let r = head_again two 7 n rest h.0 in ap (λ (x : List ℕ). item_from inside (x ++ rest)) h.1 ∙ rw r refl
-from_again d inside inner (float (single n)) b rest h le = let r = head_again four 7 n rest h.0 in ap (λ (x : List ℕ). item_from inside (x ++ rest)) h.1 ∙ rw r refl
-from_again d inside inner (float (double n)) b rest h le = let r = head_again eight 7 n rest h.0 in ap (λ (x : List ℕ). item_from inside (x ++ rest)) h.1 ∙ rw r refl
+from_again d inside inner (float (half n)) b rest h le = let r = head_again two 7 n rest h.0 in ap (λ (x : List ℕ). item_from inside (x ++ rest)) h.1
+    ∙ rw r refl
+from_again d inside inner (float (single n)) b rest h le = let r = head_again four 7 n rest h.0 in ap (λ (x : List ℕ). item_from inside (x ++ rest)) h.1
+    ∙ rw r refl
+from_again d inside inner (float (double n)) b rest h le = let r = head_again eight 7 n rest h.0 in ap (λ (x : List ℕ). item_from inside (x ++ rest)) h.1
+    ∙ rw r refl
 from_again d inside inner (text s) b rest h le = let r = IsStringEncoding-again true (length (b ++ rest)) s b rest h in rw (r.reads, r.string) refl
-from_again d inside inner (boolean false) b rest h le = let r = head_again within 7 20 rest (omega arith) in ap (λ (x : List ℕ). item_from inside (x ++ rest)) h ∙ rw r refl
-from_again d inside inner (boolean true) b rest h le = let r = head_again within 7 21 rest (omega arith) in ap (λ (x : List ℕ). item_from inside (x ++ rest)) h ∙ rw r refl
-from_again d inside inner null b rest h le = let r = head_again within 7 22 rest (omega arith) in ap (λ (x : List ℕ). item_from inside (x ++ rest)) h ∙ rw r refl
+from_again d inside inner (boolean false) b rest h le = let r = head_again within 7 20 rest (omega arith) in ap (λ (x : List ℕ). item_from inside (x ++ rest)) h
+    ∙ rw r refl
+from_again d inside inner (boolean true) b rest h le = let r = head_again within 7 21 rest (omega arith) in ap (λ (x : List ℕ). item_from inside (x ++ rest)) h
+    ∙ rw r refl
+from_again d inside inner null b rest h le = let r = head_again within 7 22 rest (omega arith) in ap (λ (x : List ℕ). item_from inside (x ++ rest)) h
+    ∙ rw r refl
 from_again d inside inner (tag t v) b rest h le =
     let r = IsHeaded-again 6 t h.0 b rest h.2 in
     rw (r.reads, r.number, inner.one v h.0 rest h.1 (omega arith)) refl
@@ -369,18 +400,25 @@ from_again d inside inner (array vs) b rest (c, h, inl e) le =
     let r = IsHeaded-again 4 (items_count vs) c b rest e in
     rw (r.reads, r.number, inner.items vs c rest h (omega arith), items_of-list_of vs) refl
 from_again d inside inner (array vs) b rest (c, h, inr e) le =
-    ap (item_from inside) (broken_is 4 c b rest e) ∙ rw (opening_again 4 (c ++ 255 ∷ rest), inner.items_until vs c rest h (omega arith), items_of-list_of vs) refl
+    ap (item_from inside) (broken_is 4 c b rest e) ∙ rw
+    (opening_again 4 (c ++ 255 ∷ rest), inner.items_until vs c rest h (omega arith), items_of-list_of vs) refl
 from_again d inside inner (dict ps) b rest (c, h, inl e) le =
     let r = IsHeaded-again 5 (pairs_count ps) c b rest e in
     rw (r.reads, r.number, inner.pairs ps c rest h (omega arith), pairs_of-pair_list_of ps) refl
 from_again d inside inner (dict ps) b rest (c, h, inr e) le =
-    ap (item_from inside) (broken_is 5 c b rest e) ∙ rw (opening_again 5 (c ++ 255 ∷ rest), inner.pairs_until ps c rest h (omega arith), pairs_of-pair_list_of ps) refl
+    ap (item_from inside) (broken_is 5 c b rest e) ∙ rw
+    (opening_again 5 (c ++ 255 ∷ rest), inner.pairs_until ps c rest h (omega arith), pairs_of-pair_list_of ps) refl
 
 -- An encoding of a value that is at most d deep is read as that value, whatever follows.
 pub item_again : (d : ℕ) (v : Item) (b rest : List ℕ) → IsEncoding v b → depth v ≤ d → item_at d (b ++ rest) ≡ Ok (v, rest)
 unfolding item_at
 item_again zero v b rest h le = from_again 0 nothing nothing_again v b rest h le
-item_again (suc d) v b rest h le = from_again (suc d) (things (item_at d)) (things_again (suc d) (item_at d) (record { again = λ v c rest h. item_again d v c rest h.0 (omega arith); begins = λ v c h. IsEncoding-begins v c h.0 })) v b rest h le
+item_again (suc d) v b rest h le = from_again (suc d) (things (item_at d))
+    (things_again (suc d) (item_at d) (record {
+      again = λ v c rest h. item_again d v c rest h.0 (omega arith);
+      begins =
+          λ v c h. IsEncoding-begins v c h.0;
+    })) v b rest h le
 
 abbrev done : Item × List ℕ → Result (Item × List ℕ) Fault
 done x = Ok x

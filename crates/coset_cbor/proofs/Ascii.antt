@@ -18,7 +18,8 @@ four_below a b c d k lt =
     (omega arith, omega arith, omega arith, omega arith)
 
 pub eight_ascii : (s : List ℕ) → length s ≡ 8
-    → bit_or (bit_or (bit_or (bit_or (get_or s 0 0) (get_or s 1 0)) (get_or s 2 0)) (get_or s 3 0)) (bit_or (bit_or (bit_or (get_or s 4 0) (get_or s 5 0)) (get_or s 6 0)) (get_or s 7 0)) < 128
+    → bit_or (bit_or (bit_or (bit_or (get_or s 0 0) (get_or s 1 0)) (get_or s 2 0)) (get_or s 3 0))
+    (bit_or (bit_or (bit_or (get_or s 4 0) (get_or s 5 0)) (get_or s 6 0)) (get_or s 7 0)) < 128
     → (i : ℕ) → get_or s i 0 < 128
 eight_ascii s len lt i =
     let front = bit_or (bit_or (bit_or (get_or s 0 0) (get_or s 1 0)) (get_or s 2 0)) (get_or s 3 0) in
@@ -43,7 +44,8 @@ eight_ascii s len lt i =
         let none = get_or_past s (suc (suc (suc (suc (suc (suc (suc (suc i)))))))) 0 (omega arith) in
         omega arith
 
-pub four_ascii : (s : List ℕ) → length s ≡ 4 → bit_or (bit_or (bit_or (get_or s 0 0) (get_or s 1 0)) (get_or s 2 0)) (get_or s 3 0) < 128 → (i : ℕ) → get_or s i 0 < 128
+pub four_ascii : (s : List ℕ) → length s ≡ 4 → bit_or (bit_or (bit_or (get_or s 0 0) (get_or s 1 0)) (get_or s 2 0)) (get_or s 3 0) < 128 → (i : ℕ)
+    → get_or s i 0 < 128
 four_ascii s len lt i = at i (four_below (get_or s 0 0) (get_or s 1 0) (get_or s 2 0) (get_or s 3 0) 128 lt)
   where
     at : (i : ℕ) → (get_or s 0 0 < 128) × (get_or s 1 0 < 128) × (get_or s 2 0 < 128) × (get_or s 3 0 < 128) → get_or s i 0 < 128
@@ -54,7 +56,8 @@ four_ascii s len lt i = at i (four_below (get_or s 0 0) (get_or s 1 0) (get_or s
     at (suc (suc (suc (suc i)))) p = let none = get_or_past s (suc (suc (suc (suc i)))) 0 (omega arith) in omega arith
 
 -- a step of several
-pub ascii_on : (k : ℕ) (b rest front after : List ℕ) → front ≡ take k rest → after ≡ drop k rest → IsAscii front → (IsAscii rest → IsAscii b) → IsAscii after → IsAscii b
+pub ascii_on : (k : ℕ) (b rest front after : List ℕ) → front ≡ take k rest → after ≡ drop k rest → IsAscii front → (IsAscii rest → IsAscii b) → IsAscii after
+    → IsAscii b
 ascii_on k b rest front after e d first goes more =
     goes (subst (λ (s : List ℕ). IsAscii s) (take-append-drop k rest)
     (IsAscii-append (take k rest) (drop k rest) (subst (λ (s : List ℕ). IsAscii s) e first) (subst (λ (s : List ℕ). IsAscii s) d more)))

@@ -1,5 +1,6 @@
 -- The bytes behind the head of an array or a map are its members, and the first of them stands at the front.
-use Rattle.std.proofs.Common.{◌≡◌, ℕ, zero, suc, ◌<◌, true, false, eqb, ltb, List, [], ◌∷◌, ◌++◌, length, Some, None, Ok, refl, sym, ap, subst, ◌∙◌, arith, inl, inr, ◌⊎◌}
+use Rattle.std.proofs.Common.{◌≡◌, ℕ, zero, suc, ◌<◌, true, false, eqb, ltb, List, [], ◌∷◌, ◌++◌, length, Some, None, Ok, refl, sym, ap, subst, ◌∙◌, arith, inl}
+use Rattle.std.proofs.Common.{inr, ◌⊎◌}
 use Rattle.std.specs.Prelude.{◌≢◌, pos, negsuc, unwrap_or}
 use Rattle.std.proofs.lemmas.List.{append-nil, take_at, drop_at, append_cancel_left, append_cancel_right}
 use Rattle.coset_cbor.specs.declared.fault.Fault.TheVariants.{Simple}
@@ -7,7 +8,8 @@ use Rattle.coset_cbor.specs.declared.head.MajorType.{MajorType}
 use Rattle.coset_cbor.specs.declared.head.MajorType.TheVariants as major_types
 use Rattle.coset_cbor.specs.Heads.{Argument, HeadSeen}
 use Rattle.coset_cbor.specs.Heads as places
-use Rattle.coset_value.specs.Item.{half, single, double, Item, integer, bytes, float, text, boolean, null, tag, array, dict, Items, no_items, item, Pairs, no_pairs, pair, items_count, pairs_count, items_depth, pairs_depth}
+use Rattle.coset_value.specs.Item.{half, single, double, Item, integer, bytes, float, text, boolean, null, tag, array, dict, Items, no_items, item, Pairs}
+use Rattle.coset_value.specs.Item.{no_pairs, pair, items_count, pairs_count, items_depth, pairs_depth}
 use Rattle.coset_value.specs.View.{items_of, pairs_of}
 use Rattle.coset_value.specs.Parts.{as_array, as_map}
 use Rattle.coset_cbor.specs.Grammar.{IsHeld, IsEncoding, AreEncodings, ArePairEncodings, IsItem}
@@ -39,7 +41,8 @@ simple_major_type left (places.Four n) s x e = major_type_made (float (single n)
 simple_major_type left (places.Eight n) s x e = major_type_made (float (double n), s) x e
 simple_major_type left places.Indefinite s x e = absurd cc
 
-pub major_type_by : (inside : Inside) (left : ℕ) (a : Argument) (k : MajorType) (s : List ℕ) (x : Item × List ℕ) → item_by inside left a k s ≡ Ok x → item_major_type x.0 ≡ k
+pub major_type_by : (inside : Inside) (left : ℕ) (a : Argument) (k : MajorType) (s : List ℕ) (x : Item × List ℕ) → item_by inside left a k s ≡ Ok x
+    → item_major_type x.0 ≡ k
 major_type_by inside left a major_types.Unsigned s x e =
     let n = some_ok left (number_of a) (λ n. Ok (integer (pos n), s)) x e in
     major_type_made (integer (pos n.0), s) x n.2
@@ -115,7 +118,8 @@ is_map (dict ps) = inl (ps, refl)
 -- ---- bytes behind a head
 
 -- what follows a head: all the members, or the members and the break
-held_parts : (m n : ℕ) (c b : List ℕ) (h : HeadSeen × List ℕ) → IsHeld m n c b → head_at b ≡ Ok h → ((number_of h.0.argument ≡ Some n) × (h.1 ≡ c)) ⊎ ((number_of h.0.argument ≡ None) × (h.1 ≡ c ++ 255 ∷ []))
+held_parts : (m n : ℕ) (c b : List ℕ) (h : HeadSeen × List ℕ) → IsHeld m n c b → head_at b ≡ Ok h → ((number_of h.0.argument ≡ Some n) × (h.1 ≡ c))
+    ⊎ ((number_of h.0.argument ≡ None) × (h.1 ≡ c ++ 255 ∷ []))
 held_parts m n c b h (inl is) e =
     let r = IsHeaded-again m n c b [] is in
     let same = ok_is (head_of m r.argument, c ++ []) h (sym r.reads ∙ ap head_at (append-nil b) ∙ e) in
@@ -178,7 +182,8 @@ array_inside : (b : List ℕ) (vs : Items) → item_of (array_around b) ≡ arra
 array_inside b vs e one =
     let is : IsItem (array_around b) (array vs) = subst (λ (v : Item). IsItem (array_around b) v) e (one_item_is (array_around b) one) in
     let low = is.1 in
-    let same : b ≡ is.0.0 = elim (held_parts 4 (items_count vs) is.0.0 (array_around b) (head_of 4 places.Indefinite, b ++ 255 ∷ []) is.0.2 (opening_again 4 (b ++ 255 ∷ []))) [
+    let same : b ≡ is.0.0 = elim (held_parts 4 (items_count vs) is.0.0 (array_around b) (head_of 4 places.Indefinite, b ++ 255 ∷ []) is.0.2
+    (opening_again 4 (b ++ 255 ∷ []))) [
       | inl p ↦ absurd (cc (p.0))
       | inr p ↦ append_cancel_right b is.0.0 (255 ∷ []) p.1
     ] in
@@ -208,7 +213,8 @@ array_content b s one content = elim (is_array (item_of b)) [
       let is : IsItem b (array a.0) = subst (λ (v : Item). IsItem b v) a.1 (one_item_is b one) in
       let low = is.1 in
       let held = content_held 4 (items_count a.0) major_types.Array is.0.0 b s (one_item_bytes b one) is.0.2 content in
-      let made = array_made s a.0 (subst (λ (x : List ℕ). AreEncodings a.0 x) (sym held.0) is.0.1) (omega arith) (subst (λ (x : List ℕ). IsBytes x) (sym held.0) held.1) in
+      let made = array_made s a.0 (subst (λ (x : List ℕ). AreEncodings a.0 x) (sym held.0) is.0.1) (omega arith)
+      (subst (λ (x : List ℕ). IsBytes x) (sym held.0) held.1) in
       record {
         one = made.0;
         seen = ap (λ (vs : Items). Some vs) made.1 ∙ ap as_array (sym a.1);
@@ -217,7 +223,8 @@ array_content b s one content = elim (is_array (item_of b)) [
   | inr a ↦ absurd (a.1 (one_item_major_type b content.head one content.reads ∙ content.major_type))
 ]
 
-pub no_array : (b : List ℕ) → is_one_item b ≡ true → ((h : HeadSeen × List ℕ) → head_at b ≡ Ok h → h.0.major_type ≢ major_types.Array) → None ≡ as_array (item_of b)
+pub no_array : (b : List ℕ) → is_one_item b ≡ true → ((h : HeadSeen × List ℕ) → head_at b ≡ Ok h → h.0.major_type ≢ major_types.Array)
+    → None ≡ as_array (item_of b)
 no_array b one other = elim (is_array (item_of b)) [
   | inl a ↦ let h = one_item_head b one in absurd (other h.head h.reads (sym h.major_type ∙ ap item_major_type a.1))
   | inr a ↦ sym a.0
@@ -239,12 +246,14 @@ pub record FirstItem (b rest : List ℕ) (v : Item) : Type 0 where
   pub others : is_one_item (array_around rest) ≡ true
   pub seen : items_in b ≡ item v (items_in rest)
 
-first_of : (b f rest : List ℕ) (v : Item) (vs : Items) → AreEncodings vs b → items_depth vs < 256 → IsBytes b → items_in b ≡ vs → b ≡ f ++ rest → IsItem f v → FirstItem b rest v
+first_of : (b f rest : List ℕ) (v : Item) (vs : Items) → AreEncodings vs b → items_depth vs < 256 → IsBytes b → items_in b ≡ vs → b ≡ f ++ rest → IsItem f v
+    → FirstItem b rest v
 first_of b f rest v no_items encodings low fits seen e is = absurd (no_empty v f rest (sym encodings ∙ e) is.0)
 first_of b f rest v (item w ws) encodings low fits seen e is =
     let same = encodings_differ v w f encodings.0 rest encodings.1 is.0 encodings.2 (sym e ∙ encodings.4) in
     let after : encodings.1 ≡ rest = append_cancel_left f encodings.1 rest (ap (λ (s : List ℕ). s ++ encodings.1) same.1 ∙ sym encodings.4 ∙ e) in
-    let made = array_made rest ws (subst (λ (s : List ℕ). AreEncodings ws s) after encodings.3) (omega arith) (fits_back f rest (subst (λ (s : List ℕ). IsBytes s) e fits)) in
+    let made = array_made rest ws (subst (λ (s : List ℕ). AreEncodings ws s) after encodings.3) (omega arith)
+    (fits_back f rest (subst (λ (s : List ℕ). IsBytes s) e fits)) in
     record { others = made.0; seen = seen ∙ ap (λ (x : Item). item x ws) (sym same.0) ∙ ap (item v) (sym made.1) }
 
 pub first_item : (b f rest : List ℕ) (v : Item) → is_one_item (array_around b) ≡ true → b ≡ f ++ rest → IsItem f v → FirstItem b rest v
@@ -281,7 +290,8 @@ map_inside : (b : List ℕ) (ps : Pairs) → item_of (map_around b) ≡ dict ps 
 map_inside b ps e one =
     let is : IsItem (map_around b) (dict ps) = subst (λ (v : Item). IsItem (map_around b) v) e (one_item_is (map_around b) one) in
     let low = is.1 in
-    let same : b ≡ is.0.0 = elim (held_parts 5 (pairs_count ps) is.0.0 (map_around b) (head_of 5 places.Indefinite, b ++ 255 ∷ []) is.0.2 (opening_again 5 (b ++ 255 ∷ []))) [
+    let same : b ≡ is.0.0 = elim (held_parts 5 (pairs_count ps) is.0.0 (map_around b) (head_of 5 places.Indefinite, b ++ 255 ∷ []) is.0.2
+    (opening_again 5 (b ++ 255 ∷ []))) [
       | inl p ↦ absurd (cc (p.0))
       | inr p ↦ append_cancel_right b is.0.0 (255 ∷ []) p.1
     ] in
@@ -311,7 +321,8 @@ map_content b s one content = elim (is_map (item_of b)) [
       let is : IsItem b (dict a.0) = subst (λ (v : Item). IsItem b v) a.1 (one_item_is b one) in
       let low = is.1 in
       let held = content_held 5 (pairs_count a.0) major_types.Map is.0.0 b s (one_item_bytes b one) is.0.2 content in
-      let made = map_made s a.0 (subst (λ (x : List ℕ). ArePairEncodings a.0 x) (sym held.0) is.0.1) (omega arith) (subst (λ (x : List ℕ). IsBytes x) (sym held.0) held.1) in
+      let made = map_made s a.0 (subst (λ (x : List ℕ). ArePairEncodings a.0 x) (sym held.0) is.0.1) (omega arith)
+      (subst (λ (x : List ℕ). IsBytes x) (sym held.0) held.1) in
       record {
         one = made.0;
         seen = ap (λ (ps : Pairs). Some ps) made.1 ∙ ap as_map (sym a.1);
@@ -331,7 +342,8 @@ pub record FirstPair (b rest : List ℕ) (k v : Item) : Type 0 where
   pub others : is_one_item (map_around rest) ≡ true
   pub seen : pairs_in b ≡ pair k v (pairs_in rest)
 
-first_pair_of : (b f mid g rest : List ℕ) (k v : Item) (ps : Pairs) → ArePairEncodings ps b → pairs_depth ps < 256 → IsBytes b → pairs_in b ≡ ps → b ≡ f ++ mid → mid ≡ g ++ rest → IsItem f k → IsItem g v → FirstPair b rest k v
+first_pair_of : (b f mid g rest : List ℕ) (k v : Item) (ps : Pairs) → ArePairEncodings ps b → pairs_depth ps < 256 → IsBytes b → pairs_in b ≡ ps → b ≡ f ++ mid
+    → mid ≡ g ++ rest → IsItem f k → IsItem g v → FirstPair b rest k v
 first_pair_of b f mid g rest k v no_pairs encodings low fits seen e d is and = absurd (no_empty k f mid (sym encodings ∙ e) is.0)
 first_pair_of b f mid g rest k v (pair x y ps) (c, i, j, key, value, more, parts) low fits seen e d is and =
     let first = encodings_differ k x f c mid (i ++ j) is.0 key (sym e ∙ parts) in
@@ -340,12 +352,18 @@ first_pair_of b f mid g rest k v (pair x y ps) (c, i, j, key, value, more, parts
     let end : j ≡ rest = append_cancel_left g j rest (ap (λ (s : List ℕ). s ++ j) second.1 ∙ after ∙ d) in
     let left = fits_back g rest (subst (λ (s : List ℕ). IsBytes s) d (fits_back f mid (subst (λ (s : List ℕ). IsBytes s) e fits))) in
     let made = map_made rest ps (subst (λ (s : List ℕ). ArePairEncodings ps s) end more) (omega arith) left in
-    record { others = made.0; seen = seen ∙ ap (λ (z : Item). pair z y ps) (sym first.0) ∙ ap (λ (z : Item). pair k z ps) (sym second.0) ∙ ap (pair k v) (sym made.1) }
+    record {
+      others = made.0;
+      seen = seen ∙ ap (λ (z : Item). pair z y ps) (sym first.0) ∙ ap (λ (z : Item). pair k z ps) (sym second.0)
+          ∙ ap (pair k v) (sym made.1);
+    }
 
-pub first_pair : (b f mid g rest : List ℕ) (k v : Item) → is_one_item (map_around b) ≡ true → b ≡ f ++ mid → mid ≡ g ++ rest → IsItem f k → IsItem g v → FirstPair b rest k v
+pub first_pair : (b f mid g rest : List ℕ) (k v : Item) → is_one_item (map_around b) ≡ true → b ≡ f ++ mid → mid ≡ g ++ rest → IsItem f k → IsItem g v
+    → FirstPair b rest k v
 first_pair b f mid g rest k v one e d is and = let a = are_pairs b one in first_pair_of b f mid g rest k v a.pairs a.encodings a.low a.fits a.seen e d is and
 
-none_key : (b : List ℕ) (ps : Pairs) → ArePairEncodings ps b → pairs_depth ps < 256 → ((v : Item) (f rest : List ℕ) → b ≡ f ++ rest → IsItem f v → ⊥) → ps ≡ no_pairs
+none_key : (b : List ℕ) (ps : Pairs) → ArePairEncodings ps b → pairs_depth ps < 256 → ((v : Item) (f rest : List ℕ) → b ≡ f ++ rest → IsItem f v → ⊥)
+    → ps ≡ no_pairs
 none_key b no_pairs encodings low none = refl
 none_key b (pair x y ps) (c, i, j, key, value, more, parts) low none = absurd (none x c (i ++ j) parts (key, omega arith))
 
@@ -353,7 +371,8 @@ none_key b (pair x y ps) (c, i, j, key, value, more, parts) low none = absurd (n
 pub no_first_key : (b : List ℕ) → is_one_item (map_around b) ≡ true → ((v : Item) (f rest : List ℕ) → b ≡ f ++ rest → IsItem f v → ⊥) → pairs_in b ≡ no_pairs
 no_first_key b one none = let a = are_pairs b one in a.seen ∙ none_key b a.pairs a.encodings a.low none
 
-value_of : (b f mid : List ℕ) (k : Item) (ps : Pairs) → ArePairEncodings ps b → pairs_depth ps < 256 → b ≡ f ++ mid → IsItem f k → ((v : Item) (g rest : List ℕ) → mid ≡ g ++ rest → IsItem g v → ⊥) → ⊥
+value_of : (b f mid : List ℕ) (k : Item) (ps : Pairs) → ArePairEncodings ps b → pairs_depth ps < 256 → b ≡ f ++ mid → IsItem f k
+    → ((v : Item) (g rest : List ℕ) → mid ≡ g ++ rest → IsItem g v → ⊥) → ⊥
 value_of b f mid k no_pairs encodings low e is none = no_empty k f mid (sym encodings ∙ e) is.0
 value_of b f mid k (pair x y ps) (c, i, j, key, value, more, parts) low e is none =
     let first = encodings_differ k x f c mid (i ++ j) is.0 key (sym e ∙ parts) in
@@ -361,7 +380,8 @@ value_of b f mid k (pair x y ps) (c, i, j, key, value, more, parts) low e is non
     none y i j (sym after) (value, omega arith)
 
 -- a value stands behind each key
-pub has_value : (b f mid : List ℕ) (k : Item) → is_one_item (map_around b) ≡ true → b ≡ f ++ mid → IsItem f k → ((v : Item) (g rest : List ℕ) → mid ≡ g ++ rest → IsItem g v → ⊥) → ⊥
+pub has_value : (b f mid : List ℕ) (k : Item) → is_one_item (map_around b) ≡ true → b ≡ f ++ mid → IsItem f k
+    → ((v : Item) (g rest : List ℕ) → mid ≡ g ++ rest → IsItem g v → ⊥) → ⊥
 has_value b f mid k one e is none = let a = are_pairs b one in value_of b f mid k a.pairs a.encodings a.low e is none
 
 -- ---- bytes are encodings of these members alone
@@ -381,10 +401,12 @@ only_pairs no_pairs (pair x y qs) b h k = absurd (no_empty x k.0 (k.1 ++ k.2) (s
 only_pairs (pair x y ps) no_pairs b h k = absurd (no_empty x h.0 (h.1 ++ h.2) (sym k ∙ h.6) h.3)
 only_pairs (pair x y ps) (pair z w qs) b h k =
     let first = encodings_differ x z h.0 k.0 (h.1 ++ h.2) (k.1 ++ k.2) h.3 k.3 (sym h.6 ∙ k.6) in
-    let after : h.1 ++ h.2 ≡ k.1 ++ k.2 = append_cancel_left k.0 (h.1 ++ h.2) (k.1 ++ k.2) (ap (λ (s : List ℕ). s ++ (h.1 ++ h.2)) (sym first.1) ∙ sym h.6 ∙ k.6) in
+    let after : h.1 ++ h.2 ≡ k.1 ++ k.2 = append_cancel_left k.0 (h.1 ++ h.2) (k.1 ++ k.2)
+    (ap (λ (s : List ℕ). s ++ (h.1 ++ h.2)) (sym first.1) ∙ sym h.6 ∙ k.6) in
     let second = encodings_differ y w h.1 k.1 h.2 k.2 h.4 k.4 after in
     let end : h.2 ≡ k.2 = append_cancel_left k.1 h.2 k.2 (ap (λ (s : List ℕ). s ++ h.2) (sym second.1) ∙ after) in
-    ap (λ (v : Item). pair v y ps) first.0 ∙ ap (λ (v : Item). pair z v ps) second.0 ∙ ap (pair z w) (only_pairs ps qs k.2 (subst (λ (s : List ℕ). ArePairEncodings ps s) end h.5) k.5)
+    ap (λ (v : Item). pair v y ps) first.0 ∙ ap (λ (v : Item). pair z v ps) second.0
+    ∙ ap (pair z w) (only_pairs ps qs k.2 (subst (λ (s : List ℕ). ArePairEncodings ps s) end h.5) k.5)
 
 pub items_alone : (b : List ℕ) → is_one_item (array_around b) ≡ true → AreEncodings (items_in b) b × ((vs : Items) → AreEncodings vs b → vs ≡ items_in b)
 items_alone b one =
@@ -402,14 +424,22 @@ pairs_alone b one =
 
 items_begin : (b : List ℕ) (vs : Items) → AreEncodings vs b → items_depth vs < 256 → 0 < length b → BeginsItem b
 items_begin b no_items encodings low some = let none = ap length encodings in absurd (omega arith)
-items_begin b (item w ws) encodings low some = record { item = w; front = encodings.0; rest = encodings.1; parts = encodings.4; is_item = (encodings.2, omega arith) }
+items_begin b (item w ws) encodings low some = record {
+  item = w;
+  front = encodings.0;
+  rest = encodings.1;
+  parts = encodings.4;
+  is_item =
+      (encodings.2, omega arith);
+}
 
 pub item_begins : (b : List ℕ) → is_one_item (array_around b) ≡ true → 0 < length b → BeginsItem b
 item_begins b one some = let a = are_items b one in items_begin b a.items a.encodings a.low some
 
 keys_begin : (b : List ℕ) (ps : Pairs) → ArePairEncodings ps b → pairs_depth ps < 256 → 0 < length b → BeginsItem b
 keys_begin b no_pairs encodings low some = let none = ap length encodings in absurd (omega arith)
-keys_begin b (pair x y ps) (c, i, j, key, value, more, parts) low some = record { item = x; front = c; rest = i ++ j; parts = parts; is_item = (key, omega arith) }
+keys_begin b (pair x y ps) (c, i, j, key, value, more, parts) low some =
+    record { item = x; front = c; rest = i ++ j; parts = parts; is_item = (key, omega arith) }
 
 pub key_begins : (b : List ℕ) → is_one_item (map_around b) ≡ true → 0 < length b → BeginsItem b
 key_begins b one some = let a = are_pairs b one in keys_begin b a.pairs a.encodings a.low some

@@ -1,10 +1,12 @@
 -- Where a fault stands, nothing is read.
-use Rattle.std.proofs.Common.{◌≡◌, ℕ, zero, suc, ◌+◌, ◌*◌, ◌/◌, ◌%◌, ◌^◌, ◌<◌, ◌≤◌, Bool, true, false, ltb, List, [], ◌∷◌, ◌++◌, length, Option, Result, Ok, refl, sym, ap, subst, ◌∙◌, append_assoc, add-zero, add-one, arith, inl, inr, ◌⊎◌}
+use Rattle.std.proofs.Common.{◌≡◌, ℕ, zero, suc, ◌+◌, ◌*◌, ◌/◌, ◌%◌, ◌^◌, ◌<◌, ◌≤◌, Bool, true, false, ltb, List, [], ◌∷◌, ◌++◌, length, Option, Result, Ok}
+use Rattle.std.proofs.Common.{refl, sym, ap, subst, ◌∙◌, append_assoc, add-zero, add-one, arith, inl, inr, ◌⊎◌}
 use Rattle.std.specs.Prelude.{not, pos, negsuc}
 use Rattle.std.specs.Int.{w8, w16, w32, w64, to_be_bytes}
 use Rattle.std.proofs.lemmas.Bool.{false≢true}
 use Rattle.std.proofs.lemmas.List.{length-append, append-nil, append_cancel_left}
-use Rattle.coset_value.specs.Item.{half, single, double, Item, Items, no_items, item, items_count, pairs_count, depth, array, dict, tag, integer, bytes, float, text, boolean, null}
+use Rattle.coset_value.specs.Item.{half, single, double, Item, Items, no_items, item, items_count, pairs_count, depth, array, dict, tag, integer, bytes, float}
+use Rattle.coset_value.specs.Item.{text, boolean, null}
 use Rattle.coset_value.specs.View.{items_of, pairs_of}
 use Rattle.coset_cbor.specs.declared.fault.Fault.{Fault}
 use Rattle.coset_cbor.specs.declared.fault.Fault.TheVariants.{End}
@@ -13,7 +15,8 @@ use Rattle.coset_cbor.specs.Heads.{HeadSeen}
 use Rattle.coset_cbor.specs.Grammar.{Place, within, one, two, four, eight, Holds, head_in, IsStringEncoding, IsHead, IsHeaded, IsEncoding, AreEncodings}
 use Rattle.coset_cbor.specs.Faults.{is_even, Opens, in_array, in_map, in_tag, in_open_array, in_open_map, Due, at_start, innermost, outer}
 use Rattle.coset_cbor.specs.Reading.{◌>>=◌, number_of, begins_break, times_at, until_at, pair_at, array_by, map_by, things, item_by, item_at}
-use Rattle.coset_cbor.proofs.Again.{Begins, begins_append, IsHead-begins, IsEncoding-begins, IsHeaded-begins, IsHead-again, IsHeaded-again, opening_again, no_break, regroup, encodings_differ, item_again}
+use Rattle.coset_cbor.proofs.Again.{Begins, begins_append, IsHead-begins, IsEncoding-begins, IsHeaded-begins, IsHead-again, IsHeaded-again, opening_again}
+use Rattle.coset_cbor.proofs.Again.{no_break, regroup, encodings_differ, item_again}
 use Rattle.coset_cbor.proofs.Takes.{IsBytes, bind_ok, ok_is, guard_ok, some_ok, chosen, item_takes}
 
 -- nothing is read
@@ -33,7 +36,8 @@ encoding_read d v c rest x fits h e =
 
 -- ---- one after the other
 
-until_blocked : (d turns : ℕ) (vs : Items) (c t : List ℕ) (x : List Item × List ℕ) → IsBytes (c ++ t) → AreEncodings vs c → NoRead d t → begins_break t ≡ false → until_at (item_at d) turns (c ++ t) ≡ Ok x → ⊥
+until_blocked : (d turns : ℕ) (vs : Items) (c t : List ℕ) (x : List Item × List ℕ) → IsBytes (c ++ t) → AreEncodings vs c → NoRead d t → begins_break t ≡ false
+    → until_at (item_at d) turns (c ++ t) ≡ Ok x → ⊥
 unfolding until_at
 until_blocked d zero vs c t x fits h never goes e = cc
 until_blocked d (suc turns) no_items c t x fits h never goes e =
@@ -56,7 +60,8 @@ until_blocked d (suc turns) (item v vs) c t x fits h never goes e =
           until_blocked d turns vs h.1 t q.0 (IsBytes-append h.0 (h.1 ++ t) fits') h.3 never goes (ap (until_at (item_at d) turns) (sym rest) ∙ q.1)
     ]
 
-times_blocked : (d n : ℕ) (vs : Items) (c t : List ℕ) (x : List Item × List ℕ) → IsBytes (c ++ t) → AreEncodings vs c → items_count vs < n → NoRead d t → times_at (item_at d) n (c ++ t) ≡ Ok x → ⊥
+times_blocked : (d n : ℕ) (vs : Items) (c t : List ℕ) (x : List Item × List ℕ) → IsBytes (c ++ t) → AreEncodings vs c → items_count vs < n → NoRead d t
+    → times_at (item_at d) n (c ++ t) ≡ Ok x → ⊥
 unfolding times_at
 times_blocked d zero vs c t x fits h lt never e = omega arith
 times_blocked d (suc n) no_items c t x fits h lt never e =
@@ -77,13 +82,15 @@ times_blocked d (suc n) (item v vs) c t x fits h lt never e =
 no_key : (d : ℕ) (t : List ℕ) (x : (Item × Item) × List ℕ) → NoRead d t → pair_at (item_at d) t ≡ Ok x → ⊥
 no_key d t x never e = let r = bind_ok (item_at d t) (λ k. item_at d k.1 >>= λ v. Ok ((k.0, v.0), v.1)) x e in never r.0 r.1
 
-no_value : (d : ℕ) (v : Item) (c t : List ℕ) (x : (Item × Item) × List ℕ) → IsBytes (c ++ t) → IsEncoding v c → NoRead d t → pair_at (item_at d) (c ++ t) ≡ Ok x → ⊥
+no_value : (d : ℕ) (v : Item) (c t : List ℕ) (x : (Item × Item) × List ℕ) → IsBytes (c ++ t) → IsEncoding v c → NoRead d t → pair_at (item_at d) (c ++ t) ≡ Ok x
+    → ⊥
 no_value d v c t x fits h never e =
     let r = bind_ok (item_at d (c ++ t)) (λ k. item_at d k.1 >>= λ v. Ok ((k.0, v.0), v.1)) x e in
     let q = bind_ok (item_at d r.0.1) (λ v. Ok ((r.0.0, v.0), v.1)) x r.2 in
     never q.0 (ap (item_at d) (sym (encoding_read d v c t r.0 fits h r.1)) ∙ q.1)
 
-pair_read : (d : ℕ) (v w : Item) (c e rest : List ℕ) (x : (Item × Item) × List ℕ) → IsBytes (c ++ (e ++ rest)) → IsEncoding v c → IsEncoding w e → pair_at (item_at d) (c ++ (e ++ rest)) ≡ Ok x → x.1 ≡ rest
+pair_read : (d : ℕ) (v w : Item) (c e rest : List ℕ) (x : (Item × Item) × List ℕ) → IsBytes (c ++ (e ++ rest)) → IsEncoding v c → IsEncoding w e
+    → pair_at (item_at d) (c ++ (e ++ rest)) ≡ Ok x → x.1 ≡ rest
 pair_read d v w c e rest x fits h k is =
     let r = bind_ok (item_at d (c ++ (e ++ rest))) (λ k. item_at d k.1 >>= λ v. Ok ((k.0, v.0), v.1)) x is in
     let q = bind_ok (item_at d r.0.1) (λ v. Ok ((r.0.0, v.0), v.1)) x r.2 in
@@ -91,7 +98,8 @@ pair_read d v w c e rest x fits h k is =
     let value = encoding_read d w e rest q.0 (IsBytes-append c (e ++ rest) fits) k (ap (item_at d) (sym key) ∙ q.1) in
     ap (λ (y : (Item × Item) × List ℕ). y.1) (sym (ok_is ((r.0.0, q.0.0), q.0.1) x q.2)) ∙ value
 
-pairs_blocked : (d n : ℕ) (vs : Items) (c t : List ℕ) (x : List (Item × Item) × List ℕ) → IsBytes (c ++ t) → AreEncodings vs c → items_count vs < 2 * n → NoRead d t → times_at (pair_at (item_at d)) n (c ++ t) ≡ Ok x → ⊥
+pairs_blocked : (d n : ℕ) (vs : Items) (c t : List ℕ) (x : List (Item × Item) × List ℕ) → IsBytes (c ++ t) → AreEncodings vs c → items_count vs < 2 * n
+    → NoRead d t → times_at (pair_at (item_at d)) n (c ++ t) ≡ Ok x → ⊥
 unfolding times_at
 pairs_blocked d zero vs c t x fits h lt never e = omega arith
 pairs_blocked d (suc n) no_items c t x fits h lt never e =
@@ -111,23 +119,27 @@ pairs_blocked d (suc n) (item v (item w vs)) c t x fits h lt never e =
     let r = bind_ok (pair_at (item_at d) s) (λ x. times_at (pair_at (item_at d)) n x.1 >>= λ xs. Ok (x.0 ∷ xs.0, xs.1)) x whole in
     let q = bind_ok (times_at (pair_at (item_at d)) n r.0.1) (λ xs. Ok (r.0.0 ∷ xs.0, xs.1)) x r.2 in
     let rest = pair_read d v w h.0 h.3.0 (h.3.1 ++ t) r.0 fits' h.2 h.3.2 r.1 in
-    pairs_blocked d n vs h.3.1 t q.0 (IsBytes-append h.3.0 (h.3.1 ++ t) (IsBytes-append h.0 (h.3.0 ++ (h.3.1 ++ t)) fits')) h.3.3 (omega arith) never (ap (times_at (pair_at (item_at d)) n) (sym rest) ∙ q.1)
+    pairs_blocked d n vs h.3.1 t q.0 (IsBytes-append h.3.0 (h.3.1 ++ t) (IsBytes-append h.0 (h.3.0 ++ (h.3.1 ++ t)) fits')) h.3.3 (omega arith) never
+    (ap (times_at (pair_at (item_at d)) n) (sym rest) ∙ q.1)
 
-pairs_until_blocked : (d turns : ℕ) (vs : Items) (c t : List ℕ) (x : List (Item × Item) × List ℕ) → IsBytes (c ++ t) → AreEncodings vs c → NoRead d t → (is_even (items_count vs) ≡ true → begins_break t ≡ false) → until_at (pair_at (item_at d)) turns (c ++ t) ≡ Ok x → ⊥
+pairs_until_blocked : (d turns : ℕ) (vs : Items) (c t : List ℕ) (x : List (Item × Item) × List ℕ) → IsBytes (c ++ t) → AreEncodings vs c → NoRead d t
+    → (is_even (items_count vs) ≡ true → begins_break t ≡ false) → until_at (pair_at (item_at d)) turns (c ++ t) ≡ Ok x → ⊥
 unfolding until_at
 pairs_until_blocked d zero vs c t x fits h never goes e = cc
 pairs_until_blocked d (suc turns) no_items c t x fits h never goes e =
     let whole : until_at (pair_at (item_at d)) (suc turns) t ≡ Ok x = ap (λ (s : List ℕ). until_at (pair_at (item_at d)) (suc turns) (s ++ t)) (sym h) ∙ e in
     elim (chosen (begins_break t) _ _ _ whole) [
       | inl a ↦ false≢true (sym (goes refl) ∙ a.0)
-      | inr a ↦ let r = bind_ok (pair_at (item_at d) t) (λ x. until_at (pair_at (item_at d)) turns x.1 >>= λ xs. Ok (x.0 ∷ xs.0, xs.1)) x a.1 in no_key d t r.0 never r.1
+      | inr a ↦ let r = bind_ok (pair_at (item_at d) t) (λ x. until_at (pair_at (item_at d)) turns x.1 >>= λ xs. Ok (x.0 ∷ xs.0, xs.1)) x a.1 in
+          no_key d t r.0 never r.1
     ]
 pairs_until_blocked d (suc turns) (item v no_items) c t x fits h never goes e =
     let parts : c ++ t ≡ h.0 ++ t = ap (λ (s : List ℕ). s ++ t) (h.4 ∙ ap (λ (s : List ℕ). h.0 ++ s) h.3 ∙ append-nil h.0) in
     let whole : until_at (pair_at (item_at d)) (suc turns) (h.0 ++ t) ≡ Ok x = ap (until_at (pair_at (item_at d)) (suc turns)) (sym parts) ∙ e in
     elim (chosen (begins_break (h.0 ++ t)) _ _ _ whole) [
       | inl a ↦ false≢true (sym (no_break h.0 t (IsEncoding-begins v h.0 h.2)) ∙ a.0)
-      | inr a ↦ let r = bind_ok (pair_at (item_at d) (h.0 ++ t)) (λ x. until_at (pair_at (item_at d)) turns x.1 >>= λ xs. Ok (x.0 ∷ xs.0, xs.1)) x a.1 in no_value d v h.0 t r.0 (subst IsBytes parts fits) h.2 never r.1
+      | inr a ↦ let r = bind_ok (pair_at (item_at d) (h.0 ++ t)) (λ x. until_at (pair_at (item_at d)) turns x.1 >>= λ xs. Ok (x.0 ∷ xs.0, xs.1)) x a.1 in
+          no_value d v h.0 t r.0 (subst IsBytes parts fits) h.2 never r.1
     ]
 pairs_until_blocked d (suc turns) (item v (item w vs)) c t x fits h never goes e =
     let s = h.0 ++ (h.3.0 ++ (h.3.1 ++ t)) in
@@ -157,28 +169,40 @@ pub opens_blocked : (o : List ℕ) (e : Bool) → Opens o e → (d : ℕ) (t : L
 unfolding item_at things
 opens_blocked o e (in_tag n p h) d t fits never x is =
     let r = IsHead-again 6 n p t h in
-    let whole : item_by (things (item_at d)) (length (p ++ t)) r.argument major_types.Tag t ≡ Ok x = sym (ap (λ (y : Result (HeadSeen × List ℕ) Fault). y >>= λ h. item_by (things (item_at d)) (length (p ++ t)) h.0.argument h.0.major_type h.1) r.reads) ∙ is in
+    let whole : item_by (things (item_at d)) (length (p ++ t)) r.argument major_types.Tag t ≡ Ok x =
+    sym (ap (λ (y : Result (HeadSeen × List ℕ) Fault). y >>= λ h. item_by (things (item_at d)) (length (p ++ t)) h.0.argument h.0.major_type h.1) r.reads)
+    ∙ is in
     let m = some_ok (length (p ++ t)) (number_of r.argument) (λ n. item_at d t >>= λ y. Ok (tag n y.0, y.1)) x whole in
     let w = bind_ok (item_at d t) (λ y. Ok (tag m.0 y.0, y.1)) x m.2 in
     never.0 w.0 w.1
 opens_blocked o e (in_array n vs c p lt encodings h) d t fits never x is =
     let r = IsHeaded-again 4 n c p t h in
-    let whole : (array_by (item_at d) (number_of r.argument) (c ++ t) >>= λ y. Ok (array (items_of y.0), y.1)) ≡ Ok x = sym (ap (λ (y : Result (HeadSeen × List ℕ) Fault). y >>= λ h. item_by (things (item_at d)) (length (p ++ t)) h.0.argument h.0.major_type h.1) r.reads) ∙ is in
+    let whole : (array_by (item_at d) (number_of r.argument) (c ++ t) >>= λ y. Ok (array (items_of y.0), y.1)) ≡ Ok x =
+    sym (ap (λ (y : Result (HeadSeen × List ℕ) Fault). y >>= λ h. item_by (things (item_at d)) (length (p ++ t)) h.0.argument h.0.major_type h.1) r.reads)
+    ∙ is in
     let w = bind_ok (array_by (item_at d) (number_of r.argument) (c ++ t)) (λ y. Ok (array (items_of y.0), y.1)) x whole in
-    let g = guard_ok (ltb (length (c ++ t)) n) End (times_at (item_at d) n (c ++ t)) w.0 (ap (λ (k : Option ℕ). array_by (item_at d) k (c ++ t)) (sym r.number) ∙ w.1) in
+    let g = guard_ok (ltb (length (c ++ t)) n) End (times_at (item_at d) n (c ++ t)) w.0
+    (ap (λ (k : Option ℕ). array_by (item_at d) k (c ++ t)) (sym r.number) ∙ w.1) in
     times_blocked d n vs c t w.0 (headed_fits 4 n c p t h fits) encodings lt never.0 g.1
 opens_blocked o e (in_map n vs c p lt encodings h) d t fits never x is =
     let r = IsHeaded-again 5 n c p t h in
-    let whole : (map_by (item_at d) (number_of r.argument) (c ++ t) >>= λ y. Ok (dict (pairs_of y.0), y.1)) ≡ Ok x = sym (ap (λ (y : Result (HeadSeen × List ℕ) Fault). y >>= λ h. item_by (things (item_at d)) (length (p ++ t)) h.0.argument h.0.major_type h.1) r.reads) ∙ is in
+    let whole : (map_by (item_at d) (number_of r.argument) (c ++ t) >>= λ y. Ok (dict (pairs_of y.0), y.1)) ≡ Ok x =
+    sym (ap (λ (y : Result (HeadSeen × List ℕ) Fault). y >>= λ h. item_by (things (item_at d)) (length (p ++ t)) h.0.argument h.0.major_type h.1) r.reads)
+    ∙ is in
     let w = bind_ok (map_by (item_at d) (number_of r.argument) (c ++ t)) (λ y. Ok (dict (pairs_of y.0), y.1)) x whole in
-    let g = guard_ok (ltb (length (c ++ t) / 2) n) End (times_at (pair_at (item_at d)) n (c ++ t)) w.0 (ap (λ (k : Option ℕ). map_by (item_at d) k (c ++ t)) (sym r.number) ∙ w.1) in
+    let g = guard_ok (ltb (length (c ++ t) / 2) n) End (times_at (pair_at (item_at d)) n (c ++ t)) w.0
+    (ap (λ (k : Option ℕ). map_by (item_at d) k (c ++ t)) (sym r.number) ∙ w.1) in
     pairs_blocked d n vs c t w.0 (headed_fits 5 n c p t h fits) encodings lt never.0 g.1
 opens_blocked o e (in_open_array vs c encodings) d t fits never x is =
-    let whole : (until_at (item_at d) (length (c ++ t)) (c ++ t) >>= λ y. Ok (array (items_of y.0), y.1)) ≡ Ok x = sym (ap (λ (y : Result (HeadSeen × List ℕ) Fault). y >>= λ h. item_by (things (item_at d)) (suc (length (c ++ t))) h.0.argument h.0.major_type h.1) (opening_again 4 (c ++ t))) ∙ is in
+    let whole : (until_at (item_at d) (length (c ++ t)) (c ++ t) >>= λ y. Ok (array (items_of y.0), y.1)) ≡ Ok x =
+    sym (ap (λ (y : Result (HeadSeen × List ℕ) Fault). y >>= λ h. item_by (things (item_at d)) (suc (length (c ++ t))) h.0.argument h.0.major_type h.1)
+    (opening_again 4 (c ++ t))) ∙ is in
     let w = bind_ok (until_at (item_at d) (length (c ++ t)) (c ++ t)) (λ y. Ok (array (items_of y.0), y.1)) x whole in
     until_blocked d (length (c ++ t)) vs c t w.0 (λ i. fits (suc i)) encodings never.0 (never.1 refl) w.1
 opens_blocked o e (in_open_map vs c encodings) d t fits never x is =
-    let whole : (until_at (pair_at (item_at d)) (length (c ++ t)) (c ++ t) >>= λ y. Ok (dict (pairs_of y.0), y.1)) ≡ Ok x = sym (ap (λ (y : Result (HeadSeen × List ℕ) Fault). y >>= λ h. item_by (things (item_at d)) (suc (length (c ++ t))) h.0.argument h.0.major_type h.1) (opening_again 5 (c ++ t))) ∙ is in
+    let whole : (until_at (pair_at (item_at d)) (length (c ++ t)) (c ++ t) >>= λ y. Ok (dict (pairs_of y.0), y.1)) ≡ Ok x =
+    sym (ap (λ (y : Result (HeadSeen × List ℕ) Fault). y >>= λ h. item_by (things (item_at d)) (suc (length (c ++ t))) h.0.argument h.0.major_type h.1)
+    (opening_again 5 (c ++ t))) ∙ is in
     let w = bind_ok (until_at (pair_at (item_at d)) (length (c ++ t)) (c ++ t)) (λ y. Ok (dict (pairs_of y.0), y.1)) x whole in
     pairs_until_blocked d (length (c ++ t)) vs c t w.0 (λ i. fits (suc i)) encodings never.0 never.1 w.1
 
@@ -207,7 +231,8 @@ due_blocked c k e (outer o q j f g p r) d t fits h =
     let parts = append_assoc o q t in
     let inner : IsBytes (q ++ t) = IsBytes-append o (q ++ t) (subst IsBytes parts fits) in
     let ih = due_blocked q (suc j) f r d t inner h in
-    let whole = opens_blocked o g p (d + suc j) (q ++ t) (subst IsBytes parts fits) (ih, λ even. begins_no_break q t (Due-begins q (suc j) f r (omega arith))) in
+    let whole = opens_blocked o g p (d + suc j) (q ++ t) (subst IsBytes parts fits)
+    (ih, λ even. begins_no_break q t (Due-begins q (suc j) f r (omega arith))) in
     let depth_is : suc (d + suc j) ≡ d + suc (suc j) = omega arith in
     subst (λ (n : ℕ). NoRead n ((o ++ q) ++ t)) depth_is (subst (λ (s : List ℕ). NoRead (suc (d + suc j)) s) (sym parts) whole)
 
@@ -245,10 +270,38 @@ sized k more e low j lt is = let same : k ≡ j = omega arith in subst (λ (i : 
 
 head_in_starts : (p : Place) (m n : ℕ) → Holds p n → HeadStarts m (head_in p m n)
 head_in_starts within m n h = record { info = n; more = []; parts = refl; low = omega arith; argument = λ j lt is. absurd (omega arith) }
-head_in_starts one m n h = record { info = 24; more = to_be_bytes w8 n; parts = refl; low = omega arith; argument = sized 0 (to_be_bytes w8 n) refl (omega arith) }
-head_in_starts two m n h = record { info = 25; more = to_be_bytes w16 n; parts = refl; low = omega arith; argument = sized 1 (to_be_bytes w16 n) refl (omega arith) }
-head_in_starts four m n h = record { info = 26; more = to_be_bytes w32 n; parts = refl; low = omega arith; argument = sized 2 (to_be_bytes w32 n) refl (omega arith) }
-head_in_starts eight m n h = record { info = 27; more = to_be_bytes w64 n; parts = refl; low = omega arith; argument = sized 3 (to_be_bytes w64 n) refl (omega arith) }
+head_in_starts one m n h = record {
+  info = 24;
+  more = to_be_bytes w8 n;
+  parts = refl;
+  low = omega arith;
+  argument =
+      sized 0 (to_be_bytes w8 n) refl (omega arith);
+}
+head_in_starts two m n h = record {
+  info = 25;
+  more = to_be_bytes w16 n;
+  parts = refl;
+  low = omega arith;
+  argument =
+      sized 1 (to_be_bytes w16 n) refl (omega arith);
+}
+head_in_starts four m n h = record {
+  info = 26;
+  more = to_be_bytes w32 n;
+  parts = refl;
+  low = omega arith;
+  argument =
+      sized 2 (to_be_bytes w32 n) refl (omega arith);
+}
+head_in_starts eight m n h = record {
+  info = 27;
+  more = to_be_bytes w64 n;
+  parts = refl;
+  low = omega arith;
+  argument =
+      sized 3 (to_be_bytes w64 n) refl (omega arith);
+}
 
 head_starts : (m n : ℕ) (h : List ℕ) → IsHead m n h → HeadStarts m h
 head_starts m n h is = subst (HeadStarts m) (sym is.spelled) (head_in_starts is.place m n is.holds)
@@ -307,13 +360,64 @@ encoding_starts : (v : Item) (b : List ℕ) → IsEncoding v b → Starts v b
 encoding_starts (integer (pos n)) b h = from_head (integer (pos n)) 0 b (omega arith) (head_starts 0 n b h) (λ ge. absurd (omega arith))
 encoding_starts (integer (negsuc n)) b h = from_head (integer (negsuc n)) 1 b (omega arith) (head_starts 1 n b h) (λ ge. absurd (omega arith))
 encoding_starts (bytes s) b h = string_starts (bytes s) false s b h
-encoding_starts (float (half n)) b h = record { first = 0xF9; more = to_be_bytes w16 n; parts = h.1; is_first = record { major_type = inr (inr (inr (omega arith, omega arith))); argument = λ j lt e. sized 1 (to_be_bytes w16 n) refl (omega arith) j lt (omega arith); nests = λ ge hi. absurd (omega arith) } }
-encoding_starts (float (single n)) b h = record { first = 0xFA; more = to_be_bytes w32 n; parts = h.1; is_first = record { major_type = inr (inr (inr (omega arith, omega arith))); argument = λ j lt e. sized 2 (to_be_bytes w32 n) refl (omega arith) j lt (omega arith); nests = λ ge hi. absurd (omega arith) } }
-encoding_starts (float (double n)) b h = record { first = 0xFB; more = to_be_bytes w64 n; parts = h.1; is_first = record { major_type = inr (inr (inr (omega arith, omega arith))); argument = λ j lt e. sized 3 (to_be_bytes w64 n) refl (omega arith) j lt (omega arith); nests = λ ge hi. absurd (omega arith) } }
+encoding_starts (float (half n)) b h = record {
+  first = 0xF9;
+  more = to_be_bytes w16 n;
+  parts = h.1;
+  is_first =
+      record {
+        major_type = inr (inr (inr (omega arith, omega arith)));
+        argument =
+            λ j lt e. sized 1 (to_be_bytes w16 n) refl (omega arith) j lt (omega arith);
+        nests = λ ge hi. absurd (omega arith);
+      };
+}
+encoding_starts (float (single n)) b h = record {
+  first = 0xFA;
+  more = to_be_bytes w32 n;
+  parts = h.1;
+  is_first =
+      record {
+        major_type = inr (inr (inr (omega arith, omega arith)));
+        argument =
+            λ j lt e. sized 2 (to_be_bytes w32 n) refl (omega arith) j lt (omega arith);
+        nests = λ ge hi. absurd (omega arith);
+      };
+}
+encoding_starts (float (double n)) b h = record {
+  first = 0xFB;
+  more = to_be_bytes w64 n;
+  parts = h.1;
+  is_first =
+      record {
+        major_type = inr (inr (inr (omega arith, omega arith)));
+        argument =
+            λ j lt e. sized 3 (to_be_bytes w64 n) refl (omega arith) j lt (omega arith);
+        nests = λ ge hi. absurd (omega arith);
+      };
+}
 encoding_starts (text s) b h = string_starts (text s) true s b h
-encoding_starts (boolean false) b h = record { first = 0xF4; more = []; parts = h; is_first = record { major_type = inr (inr (inl (omega arith, omega arith))); argument = λ j lt e. absurd (omega arith); nests = λ ge hi. absurd (omega arith) } }
-encoding_starts (boolean true) b h = record { first = 0xF5; more = []; parts = h; is_first = record { major_type = inr (inr (inl (omega arith, omega arith))); argument = λ j lt e. absurd (omega arith); nests = λ ge hi. absurd (omega arith) } }
-encoding_starts null b h = record { first = 0xF6; more = []; parts = h; is_first = record { major_type = inr (inr (inl (omega arith, omega arith))); argument = λ j lt e. absurd (omega arith); nests = λ ge hi. absurd (omega arith) } }
+encoding_starts (boolean false) b h = record {
+  first = 0xF4;
+  more = [];
+  parts = h;
+  is_first =
+      record { major_type = inr (inr (inl (omega arith, omega arith))); argument = λ j lt e. absurd (omega arith); nests = λ ge hi. absurd (omega arith) };
+}
+encoding_starts (boolean true) b h = record {
+  first = 0xF5;
+  more = [];
+  parts = h;
+  is_first =
+      record { major_type = inr (inr (inl (omega arith, omega arith))); argument = λ j lt e. absurd (omega arith); nests = λ ge hi. absurd (omega arith) };
+}
+encoding_starts null b h = record {
+  first = 0xF6;
+  more = [];
+  parts = h;
+  is_first =
+      record { major_type = inr (inr (inl (omega arith, omega arith))); argument = λ j lt e. absurd (omega arith); nests = λ ge hi. absurd (omega arith) };
+}
 encoding_starts (tag n v) b h = from_head (tag n v) 6 b (omega arith) (headed_starts 6 n h.0 b h.2) (λ ge. omega arith)
 encoding_starts (array vs) b (c, h, inl e) = from_head (array vs) 4 b (omega arith) (headed_starts 4 (items_count vs) c b e) (λ ge. omega arith)
 encoding_starts (array vs) b (c, h, inr e) = from_opening (array vs) 4 c b (omega arith) (omega arith) e (λ ge. omega arith)
@@ -321,7 +425,8 @@ encoding_starts (dict ps) b (c, h, inl e) = from_head (dict ps) 5 b (omega arith
 encoding_starts (dict ps) b (c, h, inr e) = from_opening (dict ps) 5 c b (omega arith) (omega arith) e (λ ge. omega arith)
 
 -- what is read begins so
-pub read_starts : (d : ℕ) (t : List ℕ) (y : Item × List ℕ) → IsBytes t → item_at d t ≡ Ok y → (x : ℕ) × (more : List ℕ) × (t ≡ x ∷ more) × IsFirst y.0 x more × (depth y.0 ≤ d)
+pub read_starts : (d : ℕ) (t : List ℕ) (y : Item × List ℕ) → IsBytes t → item_at d t ≡ Ok y → (x : ℕ) × (more : List ℕ) × (t ≡ x ∷ more) × IsFirst y.0 x more
+    × (depth y.0 ≤ d)
 read_starts d t y fits e =
     let k = item_takes d t y fits e in
     let s = encoding_starts y.0 k.front k.encoding.0 in

@@ -1,5 +1,6 @@
 -- Chunks of a string, one after the other.
-use Rattle.std.proofs.Common.{◌≡◌, ℕ, zero, suc, ◌+◌, ◌*◌, ◌≤◌, Bool, true, false, List, [], ◌∷◌, ◌++◌, length, take, Some, None, Result, Ok, Err, refl, sym, ap, ap₂, subst, ◌∙◌, append_assoc, eqb, ltb, arith, inl, inr}
+use Rattle.std.proofs.Common.{◌≡◌, ℕ, zero, suc, ◌+◌, ◌*◌, ◌≤◌, Bool, true, false, List, [], ◌∷◌, ◌++◌, length, take, Some, None, Result, Ok, Err, refl, sym}
+use Rattle.std.proofs.Common.{ap, ap₂, subst, ◌∙◌, append_assoc, eqb, ltb, arith, inl, inr}
 use Rattle.std.proofs.lemmas.List.{append-nil, append_cancel_right, length-append, take_at}
 use Rattle.coset_value.specs.Item.{half, single, double, Item, integer, bytes, float, text, boolean, null, tag, array, dict}
 use Rattle.coset_value.specs.Parts.{as_bytes, as_text}
@@ -12,11 +13,13 @@ use Rattle.coset_cbor.specs.Heads.{Argument, HeadSeen}
 use Rattle.coset_cbor.specs.Heads as places
 use Rattle.std.specs.Prelude.{pos, negsuc}
 use Rattle.coset_cbor.specs.Grammar.{IsHeaded, EachInOrder, joined_chunks, string_type, IsDefinite, IsIndefinite}
-use Rattle.coset_cbor.specs.Reading.{◌>>=◌, number_of, head_at, string_at, begins_chunk, chunk_at, until_at, chunks_at, any_string_by, simple_at, Inside, things, item_by, item_at}
+use Rattle.coset_cbor.specs.Reading.{◌>>=◌, number_of, head_at, string_at, begins_chunk, chunk_at, until_at, chunks_at, any_string_by, simple_at, Inside}
+use Rattle.coset_cbor.specs.Reading.{things, item_by, item_at}
 use Rattle.coset_cbor.specs.Whole.{are_bytes, is_one_item, item_of}
 use Rattle.coset_cbor.specs.StringChunks.{as_string, chunks_read, is_all_read, contents_or_none, are_chunks, chunk_contents, AreChunksOf}
 use Rattle.coset_cbor.proofs.Again.{EachInOrder-long, chunk_again, chunk_reads, until_again}
-use Rattle.coset_cbor.proofs.Takes.{IsBytes, IsBytes-take, IsBytes-rest, bind_ok, done, ok_is, chosen, some_ok, head_takes, none_head, major_type_number, chunk_type, chunk_takes, until_take}
+use Rattle.coset_cbor.proofs.Takes.{IsBytes, IsBytes-take, IsBytes-rest, bind_ok, done, ok_is, chosen, some_ok, head_takes, none_head, major_type_number}
+use Rattle.coset_cbor.proofs.Takes.{chunk_type, chunk_takes, until_take}
 use Rattle.coset_cbor.proofs.Heads.{one_item_by}
 use Rattle.coset_cbor.proofs.Whole.{both, are_bytes_is, are_bytes_from, one_item_bytes}
 
@@ -47,7 +50,8 @@ chunks_are is_text b e =
     let h = both (are_bytes b) (is_all_read (chunks_read is_text b)) e in
     let fits = are_bytes_is b h.0 in
     let contents = contents_or_none (chunks_read is_text b) in
-    let t = until_take (IsDefinite is_text) (chunk_at is_text) (chunk_takes is_text) (suc (length b)) (b ++ 255 ∷ []) (contents, []) (IsBytes-append b (255 ∷ []) fits break_fits) (all_read (chunks_read is_text b) h.1) in
+    let t = until_take (IsDefinite is_text) (chunk_at is_text) (chunk_takes is_text) (suc (length b)) (b ++ 255 ∷ []) (contents, [])
+    (IsBytes-append b (255 ∷ []) fits break_fits) (all_read (chunks_read is_text b) h.1) in
     record {
       fits = fits;
       each = subst (λ (c : List ℕ). EachInOrder (IsDefinite is_text) contents c) (sym (append_cancel_right b t.front (255 ∷ []) t.parts)) t.encoding;
@@ -83,7 +87,8 @@ none_read : (is_text : Bool) → chunk_at is_text [] ≡ failed End
 unfolding chunk_at head_at
 none_read is_text = refl
 
-first_read : (is_text : Bool) (x : List ℕ) (xs : List (List ℕ)) (b : List ℕ) → (h : EachInOrder (IsDefinite is_text) (x ∷ xs) b) → chunk_at is_text b ≡ done (x, h.1)
+first_read : (is_text : Bool) (x : List ℕ) (xs : List (List ℕ)) (b : List ℕ) → (h : EachInOrder (IsDefinite is_text) (x ∷ xs) b)
+    → chunk_at is_text b ≡ done (x, h.1)
 first_read is_text x xs b h = ap (chunk_at is_text) h.4 ∙ chunk_again is_text x h.0 h.1 h.2
 
 pub record NextChunk (is_text : Bool) (b s rest : List ℕ) : Type 0 where
@@ -100,7 +105,8 @@ headed_on m n x s c d b parts same h = record {
   parts = parts ∙ ap (λ (y : List ℕ). y ++ d) (h.parts ∙ ap (λ (y : List ℕ). h.head ++ y) same) ∙ append_assoc h.head s d;
 }
 
-next_of : (is_text : Bool) (ss : List (List ℕ)) (b s rest : List ℕ) → IsBytes b → EachInOrder (IsDefinite is_text) ss b → chunk_at is_text b ≡ Ok (s, rest) → NextChunk is_text b s rest
+next_of : (is_text : Bool) (ss : List (List ℕ)) (b s rest : List ℕ) → IsBytes b → EachInOrder (IsDefinite is_text) ss b → chunk_at is_text b ≡ Ok (s, rest)
+    → NextChunk is_text b s rest
 next_of is_text [] b s rest fits h e = absurd (apart (s, rest) End (sym e ∙ ap (chunk_at is_text) h ∙ none_read is_text))
 next_of is_text (x ∷ xs) b s rest fits h e =
     let same = ok_is (x, h.1) (s, rest) (sym (first_read is_text x xs b h) ∙ e) in
@@ -114,7 +120,8 @@ next_of is_text (x ∷ xs) b s rest fits h e =
       chunks = chunks_from is_text xs rest (chunk_takes is_text b (s, rest) fits e).rest_fits others;
       counted = chunks_long is_text xs rest others;
       contents = cc;
-      headed = subst (λ (y : List ℕ). IsHeaded (string_type is_text) (length y) (s ++ rest) b) first (subst (λ (c : List ℕ). IsHeaded (string_type is_text) (length x) (s ++ c) b) after head);
+      headed = subst (λ (y : List ℕ). IsHeaded (string_type is_text) (length y) (s ++ rest) b) first
+          (subst (λ (c : List ℕ). IsHeaded (string_type is_text) (length x) (s ++ c) b) after head);
     }
 
 pub next_chunk : (is_text : Bool) (b s rest : List ℕ) → are_chunks is_text b ≡ true → chunk_at is_text b ≡ Ok (s, rest) → NextChunk is_text b s rest
@@ -132,7 +139,8 @@ no_chunk is_text b f are e = end_of is_text (chunk_contents is_text b) b f (chun
 
 -- bytes are these chunks alone
 pub chunks_alone : (is_text : Bool) (b : List ℕ) → are_chunks is_text b ≡ true
-    → EachInOrder (IsDefinite is_text) (chunk_contents is_text b) b × ((ss : List (List ℕ)) → EachInOrder (IsDefinite is_text) ss b → ss ≡ chunk_contents is_text b)
+    → EachInOrder (IsDefinite is_text) (chunk_contents is_text b) b
+    × ((ss : List (List ℕ)) → EachInOrder (IsDefinite is_text) ss b → ss ≡ chunk_contents is_text b)
 chunks_alone is_text b are = ((chunks_are is_text b are).each, λ ss h. sym (contents_are is_text ss b h))
 
 -- ---- the item that stands behind a head
@@ -159,7 +167,8 @@ record StringRead (is_text : Bool) (left : ℕ) (a : Argument) (s : List ℕ) (v
 abbrev string_made : Bool → List ℕ × List ℕ → Result (Item × List ℕ) Fault
 string_made is_text x = Ok (string_item is_text x.0, x.1)
 
-string_read_of : (is_text : Bool) (left : ℕ) (a : Argument) (s : List ℕ) (v : Item) → (any_string_by is_text left (number_of a) s >>= string_made is_text) ≡ Ok (v, []) → StringRead is_text left a s v
+string_read_of : (is_text : Bool) (left : ℕ) (a : Argument) (s : List ℕ) (v : Item)
+    → (any_string_by is_text left (number_of a) s >>= string_made is_text) ≡ Ok (v, []) → StringRead is_text left a s v
 string_read_of is_text left a s v e =
     let r = bind_ok (any_string_by is_text left (number_of a) s) (string_made is_text) (v, []) e in
     let same = ok_is (string_item is_text r.0.0, r.0.1) (v, []) r.2 in
@@ -170,7 +179,8 @@ string_read_of is_text left a s v e =
       is = ap (as_string is_text) (sym value) ∙ as_string-string_item is_text r.0.0;
     }
 
-string_read : (is_text : Bool) (inside : Inside) (left : ℕ) (a : Argument) (k : MajorType) (s : List ℕ) (v : Item) → begins_chunk is_text k ≡ true → item_by inside left a k s ≡ Ok (v, []) → StringRead is_text left a s v
+string_read : (is_text : Bool) (inside : Inside) (left : ℕ) (a : Argument) (k : MajorType) (s : List ℕ) (v : Item) → begins_chunk is_text k ≡ true
+    → item_by inside left a k s ≡ Ok (v, []) → StringRead is_text left a s v
 string_read false inside left a major_types.Bytes s v is e = string_read_of false left a s v e
 string_read true inside left a major_types.Text s v is e = string_read_of true left a s v e
 string_read true inside left a major_types.Bytes s v is e = absurd cc
@@ -186,10 +196,12 @@ not_string : (is_text : Bool) (v : Item) → as_bytes v ≡ None → as_text v �
 not_string false v e f = e
 not_string true v e f = f
 
-other_is : (is_text : Bool) (w v : Item) (s rest : List ℕ) → as_string is_text w ≡ None → done {A = Item × List ℕ} (w, s) ≡ done {A = Item × List ℕ} (v, rest) → as_string is_text v ≡ None
+other_is : (is_text : Bool) (w v : Item) (s rest : List ℕ) → as_string is_text w ≡ None → done {A = Item × List ℕ} (w, s) ≡ done {A = Item × List ℕ} (v, rest)
+    → as_string is_text v ≡ None
 other_is is_text w v s rest none e = ap (λ (p : Item × List ℕ). as_string is_text p.0) (sym (ok_is (w, s) (v, rest) e)) ∙ none
 
-simple_read : (is_text : Bool) (left : ℕ) (a : Argument) (s : List ℕ) (v : Item) (rest : List ℕ) → simple_at left a s ≡ Ok (v, rest) → as_string is_text v ≡ None
+simple_read : (is_text : Bool) (left : ℕ) (a : Argument) (s : List ℕ) (v : Item) (rest : List ℕ) → simple_at left a s ≡ Ok (v, rest)
+    → as_string is_text v ≡ None
 simple_read is_text left (places.Within n) s v rest e =
     elim (chosen (eqb n 20) _ _ _ e) [
       | inl c ↦ other_is is_text (boolean false) v s rest (not_string is_text (boolean false) refl refl) c.1
@@ -212,7 +224,8 @@ simple_read is_text left (places.Eight n) s v rest e = other_is is_text (float (
 simple_read is_text left places.Indefinite s v rest e = absurd (item_apart (v, rest) (Syntax left) (sym e))
 
 -- behind a head of another kind stands no string of this one
-pub other_read : (is_text : Bool) (inside : Inside) (left : ℕ) (a : Argument) (k : MajorType) (s : List ℕ) (v : Item) (rest : List ℕ) → begins_chunk is_text k ≡ false → item_by inside left a k s ≡ Ok (v, rest) → as_string is_text v ≡ None
+pub other_read : (is_text : Bool) (inside : Inside) (left : ℕ) (a : Argument) (k : MajorType) (s : List ℕ) (v : Item) (rest : List ℕ)
+    → begins_chunk is_text k ≡ false → item_by inside left a k s ≡ Ok (v, rest) → as_string is_text v ≡ None
 other_read is_text inside left a major_types.Unsigned s v rest is e =
     let n = some_ok left (number_of a) (λ n. Ok (integer (pos n), s)) (v, rest) e in
     other_is is_text (integer (pos n.0)) v s rest (not_string is_text (integer (pos n.0)) refl refl) n.2
@@ -239,13 +252,16 @@ other_read is_text inside left a major_types.Tag s v rest is e =
     other_is is_text (tag n.0 r.0.0) v r.0.1 rest (not_string is_text (tag n.0 r.0.0) refl refl) r.2
 other_read is_text inside left a major_types.Simple s v rest is e = simple_read is_text left a s v rest e
 
-pub no_string : (is_text : Bool) (b : List ℕ) (h : HeadSeen × List ℕ) → is_one_item b ≡ true → head_at b ≡ Ok h → begins_chunk is_text h.0.major_type ≡ false → as_string is_text (item_of b) ≡ None
-no_string is_text b h is e major_type = other_read is_text (things (item_at 255)) (length b) h.0.argument h.0.major_type h.1 (item_of b) [] major_type (one_item_by b h is e)
+pub no_string : (is_text : Bool) (b : List ℕ) (h : HeadSeen × List ℕ) → is_one_item b ≡ true → head_at b ≡ Ok h → begins_chunk is_text h.0.major_type ≡ false
+    → as_string is_text (item_of b) ≡ None
+no_string is_text b h is e major_type = other_read is_text (things (item_at 255)) (length b) h.0.argument h.0.major_type h.1 (item_of b) [] major_type
+    (one_item_by b h is e)
 
 -- ---- the chunks of a string
 
 -- a string behind its length is its only chunk
-pub whole_chunk : (is_text : Bool) (b : List ℕ) (h : HeadSeen × List ℕ) (n : ℕ) → is_one_item b ≡ true → head_at b ≡ Ok h → begins_chunk is_text h.0.major_type ≡ true → number_of h.0.argument ≡ Some n → AreChunksOf is_text b b
+pub whole_chunk : (is_text : Bool) (b : List ℕ) (h : HeadSeen × List ℕ) (n : ℕ) → is_one_item b ≡ true → head_at b ≡ Ok h
+    → begins_chunk is_text h.0.major_type ≡ true → number_of h.0.argument ≡ Some n → AreChunksOf is_text b b
 unfolding chunk_at
 whole_chunk is_text b h n is e major_type number =
     let fits = one_item_bytes b is in
@@ -284,7 +300,8 @@ record Between (is_text : Bool) (b s : List ℕ) : Type 0 where
   broken : IsIndefinite (string_type is_text) chunks b
   whole : as_string is_text (item_of b) ≡ Some (joined_chunks contents)
 
-between_of : (is_text : Bool) (b : List ℕ) (h : HeadSeen × List ℕ) → is_one_item b ≡ true → head_at b ≡ Ok h → begins_chunk is_text h.0.major_type ≡ true → number_of h.0.argument ≡ None → Between is_text b h.1
+between_of : (is_text : Bool) (b : List ℕ) (h : HeadSeen × List ℕ) → is_one_item b ≡ true → head_at b ≡ Ok h → begins_chunk is_text h.0.major_type ≡ true
+    → number_of h.0.argument ≡ None → Between is_text b h.1
 unfolding chunks_at
 between_of is_text b h is e major_type number =
     let r = string_read is_text (things (item_at 255)) (length b) h.0.argument h.0.major_type h.1 (item_of b) major_type (one_item_by b h is e) in
@@ -296,7 +313,8 @@ between_of is_text b h is e major_type number =
     let head = head_takes b h (one_item_bytes b is) e in
     let t = until_take (IsDefinite is_text) (chunk_at is_text) (chunk_takes is_text) (length h.1) h.1 u.0 head.rest_fits u.1 in
     let stops : h.1 ≡ t.front ++ 255 ∷ [] = t.parts ∙ ap (λ (c : List ℕ). t.front ++ 255 ∷ c) ends in
-    let opening : head.front ≡ (32 * string_type is_text + 31) ∷ [] = none_head (major_type_number h.0.major_type) h.0.argument head.front head.encoding number ∙ ap (λ (m : ℕ). (32 * m + 31) ∷ []) (chunk_type is_text h.0.major_type major_type) in
+    let opening : head.front ≡ (32 * string_type is_text + 31) ∷ [] = none_head (major_type_number h.0.major_type) h.0.argument head.front head.encoding number
+    ∙ ap (λ (m : ℕ). (32 * m + 31) ∷ []) (chunk_type is_text h.0.major_type major_type) in
     record {
       contents = u.0.0;
       chunks = t.front;
@@ -307,7 +325,8 @@ between_of is_text b h is e major_type number =
       whole = r.is ∙ ap Some (sym content);
     }
 
-pub broken_chunks : (is_text : Bool) (b : List ℕ) (h : HeadSeen × List ℕ) (s : List ℕ) (last : ℕ) → is_one_item b ≡ true → head_at b ≡ Ok h → begins_chunk is_text h.0.major_type ≡ true → number_of h.0.argument ≡ None → h.1 ≡ s ++ last ∷ [] → AreChunksOf is_text b s
+pub broken_chunks : (is_text : Bool) (b : List ℕ) (h : HeadSeen × List ℕ) (s : List ℕ) (last : ℕ) → is_one_item b ≡ true → head_at b ≡ Ok h
+    → begins_chunk is_text h.0.major_type ≡ true → number_of h.0.argument ≡ None → h.1 ≡ s ++ last ∷ [] → AreChunksOf is_text b s
 broken_chunks is_text b h s last is e major_type number parts =
     let t = between_of is_text b h is e major_type number in
     let same : t.chunks ≡ s = fronts_same t.chunks s 255 last (sym t.stops ∙ parts) in
@@ -317,12 +336,17 @@ broken_chunks is_text b h s last is e major_type number parts =
       chunks = chunks_from is_text t.contents s (IsBytes-front s last (subst (λ (c : List ℕ). IsBytes c) parts t.fits)) each;
       counted = chunks_long is_text t.contents s each;
       held = inr (subst (λ (c : List ℕ). IsIndefinite (string_type is_text) c b) same t.broken);
-      contents = inr (s, subst (λ (ss : List (List ℕ)). EachInOrder (IsDefinite is_text) ss s) (sym contents) each, subst (λ (c : List ℕ). IsIndefinite (string_type is_text) c b) same t.broken);
+      contents = inr (
+        s,
+        subst (λ (ss : List (List ℕ)). EachInOrder (IsDefinite is_text) ss s) (sym contents) each,
+        subst (λ (c : List ℕ). IsIndefinite (string_type is_text) c b) same t.broken,
+      );
       whole = t.whole ∙ ap Some (ap joined_chunks (sym contents));
     }
 
 -- a break follows
-pub has_break : (is_text : Bool) (b : List ℕ) (h : HeadSeen × List ℕ) → is_one_item b ≡ true → head_at b ≡ Ok h → begins_chunk is_text h.0.major_type ≡ true → number_of h.0.argument ≡ None → length h.1 ≡ 0 → ⊥
+pub has_break : (is_text : Bool) (b : List ℕ) (h : HeadSeen × List ℕ) → is_one_item b ≡ true → head_at b ≡ Ok h → begins_chunk is_text h.0.major_type ≡ true
+    → number_of h.0.argument ≡ None → length h.1 ≡ 0 → ⊥
 has_break is_text b h is e major_type number none =
     let t = between_of is_text b h is e major_type number in
     omega (arith, ap length t.stops, length-append t.chunks (255 ∷ []))

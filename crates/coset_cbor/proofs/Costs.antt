@@ -1,17 +1,23 @@
 -- A check of an encoding takes the steps that it costs.
-use Rattle.std.proofs.Common.{◌≡◌, ℕ, zero, suc, ◌+◌, ◌*◌, ◌/◌, ◌<◌, ◌≤◌, Bool, true, false, ltb, List, [], ◌∷◌, ◌++◌, replicate, length, Some, None, Ok, refl, sym, ap, subst, ◌∙◌, append_assoc, arith, inl, inr}
+use Rattle.std.proofs.Common.{◌≡◌, ℕ, zero, suc, ◌+◌, ◌*◌, ◌/◌, ◌<◌, ◌≤◌, Bool, true, false, ltb, List, [], ◌∷◌, ◌++◌, replicate, length, Some, None, Ok, refl}
+use Rattle.std.proofs.Common.{sym, ap, subst, ◌∙◌, append_assoc, arith, inl, inr}
 use Rattle.std.specs.Prelude.{pos, negsuc}
 use Rattle.std.proofs.lemmas.List.{length-append, append-nil}
 use Rattle.std.proofs.Math.Nat.{max-zero}
-use Rattle.coset_value.specs.Item.{half, single, double, Item, integer, bytes, float, text, boolean, null, tag, array, dict, Items, no_items, item, Pairs, no_pairs, pair, items_count, pairs_count, depth, items_depth, pairs_depth}
+use Rattle.coset_value.specs.Item.{half, single, double, Item, integer, bytes, float, text, boolean, null, tag, array, dict, Items, no_items, item, Pairs}
+use Rattle.coset_value.specs.Item.{no_pairs, pair, items_count, pairs_count, depth, items_depth, pairs_depth}
 use Rattle.coset_cbor.specs.declared.fault.Fault.TheVariants.{End}
 use Rattle.coset_cbor.specs.Heads.{Argument}
 use Rattle.coset_cbor.specs.Heads as places
-use Rattle.coset_cbor.specs.Grammar.{within, two, four, eight, IsHeaded, EachInOrder, string_type, IsDefinite, IsStringEncoding, IsHeld, IsEncoding, AreEncodings, ArePairEncodings, IsItem}
+use Rattle.coset_cbor.specs.Grammar.{within, two, four, eight, IsHeaded, EachInOrder, string_type, IsDefinite, IsStringEncoding, IsHeld, IsEncoding}
+use Rattle.coset_cbor.specs.Grammar.{AreEncodings, ArePairEncodings, IsItem}
 use Rattle.coset_cbor.specs.Reading.{Parse, number_of, head_at, string_at, chunk_at, times_at, pair_at, things, item_at}
 use Rattle.coset_cbor.specs.Cost.{content_cost, chunks_cost, IsStringCost, IsHeldCost, IsCost, AreCosts, ArePairCosts}
-use Rattle.coset_cbor.specs.Counting.{after, content_steps, chunk_steps, times_steps, until_steps, string_steps, pair_steps, StepsInside, no_steps, steps_of, steps_from, item_steps}
-use Rattle.coset_cbor.proofs.Again.{head_of, IsHead-again, IsHeaded-again, head_again, opening_again, begins_chunk-type, string_again, chunk_again, chunk_reads, Begins, no_break, regroup, IsEncoding-begins, ReadsAgain, within_turns, broken_is, list_of, length-list_of, pair_list_of, length-pair_list_of, IsEncodingBelow, IsPairEncodingBelow, encodings_differ, pair_reads, things_again, item_again}
+use Rattle.coset_cbor.specs.Counting.{after, content_steps, chunk_steps, times_steps, until_steps, string_steps, pair_steps, StepsInside, no_steps, steps_of}
+use Rattle.coset_cbor.specs.Counting.{steps_from, item_steps}
+use Rattle.coset_cbor.proofs.Again.{head_of, IsHead-again, IsHeaded-again, head_again, opening_again, begins_chunk-type, string_again, chunk_again, chunk_reads}
+use Rattle.coset_cbor.proofs.Again.{Begins, no_break, regroup, IsEncoding-begins, ReadsAgain, within_turns, broken_is, list_of, length-list_of, pair_list_of}
+use Rattle.coset_cbor.proofs.Again.{length-pair_list_of, IsEncodingBelow, IsPairEncodingBelow, encodings_differ, pair_reads, things_again, item_again}
 use Rattle.coset_cbor.proofs.Takes.{guard_ok}
 
 -- ---- every encoding has a cost, and what has a cost is an encoding
@@ -78,7 +84,8 @@ mutual
 
 -- ---- strings
 
-content_exact : (is_text : Bool) (left : ℕ) (s rest : List ℕ) → string_at is_text left (length s) (s ++ rest) ≡ Ok (s, rest) → content_steps is_text left (length s) (s ++ rest) ≡ content_cost is_text s
+content_exact : (is_text : Bool) (left : ℕ) (s rest : List ℕ) → string_at is_text left (length s) (s ++ rest) ≡ Ok (s, rest)
+    → content_steps is_text left (length s) (s ++ rest) ≡ content_cost is_text s
 unfolding content_steps
 content_exact is_text left s rest e = rw e refl
 
@@ -86,7 +93,13 @@ chunk_exact : (is_text : Bool) (s c rest : List ℕ) → IsDefinite is_text s c 
 unfolding chunk_steps
 chunk_exact is_text s c rest h =
     let r = IsHeaded-again (string_type is_text) (length s) s c rest h.1 in
-    rw (r.reads, begins_chunk-type is_text, r.number, content_exact is_text (length (c ++ rest)) s rest (string_again is_text (length (c ++ rest)) s rest h.0)) refl
+    rw (
+      r.reads,
+      begins_chunk-type is_text,
+      r.number,
+      content_exact is_text (length (c ++ rest)) s rest
+          (string_again is_text (length (c ++ rest)) s rest h.0),
+    ) refl
 
 -- ---- one after the other
 
@@ -100,14 +113,16 @@ record IsExact {A : Type 0} (R : A → List ℕ → ℕ → Type 0) (one : Parse
   exact : (x : A) (c rest : List ℕ) (k : ℕ) → R x c k → st (c ++ rest) ≡ k
   begins : (x : A) (c : List ℕ) (k : ℕ) → R x c k → Begins c
 
-times_exact : {A : Type 0} (R : A → List ℕ → ℕ → Type 0) (one : Parse A) (st : List ℕ → ℕ) (h : IsExact R one st) (xs : List A) (b rest : List ℕ) (k : ℕ) → EachCost R xs b k → times_steps one st (length xs) (b ++ rest) ≡ k
+times_exact : {A : Type 0} (R : A → List ℕ → ℕ → Type 0) (one : Parse A) (st : List ℕ → ℕ) (h : IsExact R one st) (xs : List A) (b rest : List ℕ) (k : ℕ)
+    → EachCost R xs b k → times_steps one st (length xs) (b ++ rest) ≡ k
 unfolding times_steps
 times_exact R one st h [] b rest k e = sym e.1
 times_exact R one st h (x ∷ xs) b rest k e =
     ap (times_steps one st (suc (length xs))) (regroup e.0 e.1 b rest e.6)
     ∙ rw (h.reads x e.0 (e.1 ++ rest) e.2 e.4, h.exact x e.0 (e.1 ++ rest) e.2 e.4, times_exact R one st h xs e.1 rest e.3 e.5) (sym e.7)
 
-until_exact : {A : Type 0} (R : A → List ℕ → ℕ → Type 0) (one : Parse A) (st : List ℕ → ℕ) (h : IsExact R one st) (turns : ℕ) (xs : List A) (b rest : List ℕ) (k : ℕ) → EachCost R xs b k → length b < turns
+until_exact : {A : Type 0} (R : A → List ℕ → ℕ → Type 0) (one : Parse A) (st : List ℕ → ℕ) (h : IsExact R one st) (turns : ℕ) (xs : List A) (b rest : List ℕ)
+    (k : ℕ) → EachCost R xs b k → length b < turns
     → until_steps one st turns (b ++ 255 ∷ rest) ≡ suc k
 unfolding until_steps
 until_exact R one st h zero xs b rest k e lt = absurd (omega arith)
@@ -134,9 +149,19 @@ chunk_is_exact is_text = record {
   begins = λ s c k h. (chunk_reads is_text).begins s c h.0;
 }
 
-chunks_each : (is_text : Bool) (ss : List (List ℕ)) (c : List ℕ) → EachInOrder (IsDefinite is_text) ss c → EachCost (ChunkCost is_text) ss c (chunks_cost is_text ss)
+chunks_each : (is_text : Bool) (ss : List (List ℕ)) (c : List ℕ) → EachInOrder (IsDefinite is_text) ss c
+    → EachCost (ChunkCost is_text) ss c (chunks_cost is_text ss)
 chunks_each is_text [] c h = (h, refl)
-chunks_each is_text (s ∷ ss) c h = (h.0, h.1, suc (content_cost is_text s), chunks_cost is_text ss, (h.2, refl), chunks_each is_text ss h.1 h.3, h.4, omega arith)
+chunks_each is_text (s ∷ ss) c h = (
+  h.0,
+  h.1,
+  suc (content_cost is_text s),
+  chunks_cost is_text ss,
+  (h.2, refl),
+  chunks_each is_text ss h.1 h.3,
+  h.4,
+  omega arith,
+)
 
 -- what a check of a string takes
 record StringExact (is_text : Bool) (left : ℕ) (k : ℕ) (b : List ℕ) : Type 0 where
@@ -148,9 +173,16 @@ record StringExact (is_text : Bool) (left : ℕ) (k : ℕ) (b : List ℕ) : Type
 string_exact : (is_text : Bool) (left : ℕ) (s b rest : List ℕ) (k : ℕ) → IsStringCost is_text s b k → StringExact is_text left k (b ++ rest)
 string_exact is_text left s b rest k (inl h) =
     let r = IsHeaded-again (string_type is_text) (length s) s b rest h.0.1 in
-    record { argument = r.argument; more = s ++ rest; reads = r.reads; steps = rw r.number (ap suc (content_exact is_text left s rest (string_again is_text left s rest h.0.0)) ∙ sym h.1) }
+    record {
+      argument = r.argument;
+      more = s ++ rest;
+      reads = r.reads;
+      steps =
+          rw r.number (ap suc (content_exact is_text left s rest (string_again is_text left s rest h.0.0)) ∙ sym h.1);
+    }
 string_exact is_text left s b rest k (inr h) =
-    let all = until_exact (ChunkCost is_text) (chunk_at is_text) (chunk_steps is_text) (chunk_is_exact is_text) (length (h.1 ++ 255 ∷ rest)) h.0 h.1 rest (chunks_cost is_text h.0) (chunks_each is_text h.0 h.1 h.3) (within_turns h.1 rest) in
+    let all = until_exact (ChunkCost is_text) (chunk_at is_text) (chunk_steps is_text) (chunk_is_exact is_text) (length (h.1 ++ 255 ∷ rest)) h.0 h.1 rest
+    (chunks_cost is_text h.0) (chunks_each is_text h.0 h.1 h.3) (within_turns h.1 rest) in
     record {
       argument = places.Indefinite;
       more = h.1 ++ 255 ∷ rest;
@@ -206,14 +238,16 @@ encoding_reads d = record { again = λ v c rest h. item_again d v c rest h.0 (le
 pair_encoding : (d : ℕ) (p : Item × Item) (b : List ℕ) (k : ℕ) → PairCostBelow d p b k → IsPairEncodingBelow d p b
 pair_encoding d p b k h = (h.0, h.1, (cost_encoding p.0 h.0 h.2 h.4.0, h.4.1), (cost_encoding p.1 h.1 h.3 h.5.0, h.5.1), h.6)
 
-item_is_exact : (d : ℕ) (st : List ℕ → ℕ) → ((v : Item) (c rest : List ℕ) (k : ℕ) → IsCost v c k → depth v ≤ d → st (c ++ rest) ≡ k) → IsExact (CostBelow (suc d)) (item_at d) st
+item_is_exact : (d : ℕ) (st : List ℕ → ℕ) → ((v : Item) (c rest : List ℕ) (k : ℕ) → IsCost v c k → depth v ≤ d → st (c ++ rest) ≡ k)
+    → IsExact (CostBelow (suc d)) (item_at d) st
 item_is_exact d st h = record {
   reads = λ v c rest k e. (encoding_reads d).again v c rest (cost_encoding v c k e.0, e.1);
   exact = λ v c rest k e. h v c rest k e.0 (let le = e.1 in omega arith);
   begins = λ v c k e. IsEncoding-begins v c (cost_encoding v c k e.0);
 }
 
-pair_is_exact : (d : ℕ) (st : List ℕ → ℕ) → IsExact (CostBelow (suc d)) (item_at d) st → IsExact (PairCostBelow (suc d)) (pair_at (item_at d)) (pair_steps (item_at d) st)
+pair_is_exact : (d : ℕ) (st : List ℕ → ℕ) → IsExact (CostBelow (suc d)) (item_at d) st
+    → IsExact (PairCostBelow (suc d)) (pair_at (item_at d)) (pair_steps (item_at d) st)
 unfolding pair_steps
 pair_is_exact d st h =
     let reads = pair_reads (suc d) (item_at d) (encoding_reads d) in
@@ -233,13 +267,20 @@ things_exact d st h =
     record {
       one = λ v c rest k e lt. h.exact v c rest k (e, lt);
       items = λ vs c rest k e lt.
-          let g = guard_ok (ltb (length (c ++ rest)) (items_count vs)) End (times_at (item_at d) (items_count vs) (c ++ rest)) (list_of vs, rest) (inner.items vs c rest (costs_encodings vs c k e) lt) in
-          rw g.0 (ap (λ (n : ℕ). times_steps (item_at d) st n (c ++ rest)) (sym (length-list_of vs)) ∙ times_exact (CostBelow (suc d)) (item_at d) st h (list_of vs) c rest k (costs_each (suc d) vs c k e lt));
-      items_until = λ vs c rest k e lt. until_exact (CostBelow (suc d)) (item_at d) st h (length (c ++ 255 ∷ rest)) (list_of vs) c rest k (costs_each (suc d) vs c k e lt) (within_turns c rest);
+          let g = guard_ok (ltb (length (c ++ rest)) (items_count vs)) End (times_at (item_at d) (items_count vs) (c ++ rest)) (list_of vs, rest)
+          (inner.items vs c rest (costs_encodings vs c k e) lt) in
+          rw g.0 (ap (λ (n : ℕ). times_steps (item_at d) st n (c ++ rest)) (sym (length-list_of vs))
+          ∙ times_exact (CostBelow (suc d)) (item_at d) st h (list_of vs) c rest k (costs_each (suc d) vs c k e lt));
+      items_until = λ vs c rest k e lt. until_exact (CostBelow (suc d)) (item_at d) st h (length (c ++ 255 ∷ rest)) (list_of vs) c rest k
+          (costs_each (suc d) vs c k e lt) (within_turns c rest);
       pairs = λ ps c rest k e lt.
-          let g = guard_ok (ltb (length (c ++ rest) / 2) (pairs_count ps)) End (times_at (pair_at (item_at d)) (pairs_count ps) (c ++ rest)) (pair_list_of ps, rest) (inner.pairs ps c rest (pair_costs_encodings ps c k e) lt) in
-          rw g.0 (ap (λ (n : ℕ). times_steps (pair_at (item_at d)) (pair_steps (item_at d) st) n (c ++ rest)) (sym (length-pair_list_of ps)) ∙ times_exact (PairCostBelow (suc d)) (pair_at (item_at d)) (pair_steps (item_at d) st) pair_h (pair_list_of ps) c rest k (pair_costs_each (suc d) ps c k e lt));
-      pairs_until = λ ps c rest k e lt. until_exact (PairCostBelow (suc d)) (pair_at (item_at d)) (pair_steps (item_at d) st) pair_h (length (c ++ 255 ∷ rest)) (pair_list_of ps) c rest k (pair_costs_each (suc d) ps c k e lt) (within_turns c rest);
+          let g = guard_ok (ltb (length (c ++ rest) / 2) (pairs_count ps)) End (times_at (pair_at (item_at d)) (pairs_count ps) (c ++ rest))
+          (pair_list_of ps, rest) (inner.pairs ps c rest (pair_costs_encodings ps c k e) lt) in
+          rw g.0 (ap (λ (n : ℕ). times_steps (pair_at (item_at d)) (pair_steps (item_at d) st) n (c ++ rest)) (sym (length-pair_list_of ps))
+          ∙ times_exact (PairCostBelow (suc d)) (pair_at (item_at d)) (pair_steps (item_at d) st) pair_h (pair_list_of ps) c rest k
+          (pair_costs_each (suc d) ps c k e lt));
+      pairs_until = λ ps c rest k e lt. until_exact (PairCostBelow (suc d)) (pair_at (item_at d)) (pair_steps (item_at d) st) pair_h (length (c ++ 255 ∷ rest))
+          (pair_list_of ps) c rest k (pair_costs_each (suc d) ps c k e lt) (within_turns c rest);
     }
 
 two_more : (j k : ℕ) → k ≡ 2 + j → suc (suc j) ≡ k
@@ -249,13 +290,19 @@ from_exact : (d : ℕ) (st : StepsInside) → InsideExact d st → (v : Item) (b
 from_exact d st inner (integer (pos n)) b rest k h le = let r = IsHead-again 0 n b rest h.0 in rw r.reads (sym h.1)
 from_exact d st inner (integer (negsuc n)) b rest k h le = let r = IsHead-again 1 n b rest h.0 in rw r.reads (sym h.1)
 from_exact d st inner (bytes s) b rest k h le = let r = string_exact false (length (b ++ rest)) s b rest k h in rw r.reads r.steps
-from_exact d st inner (float (half n)) b rest k h le = let r = head_again two 7 n rest h.0.0 in ap (λ (x : List ℕ). steps_from st (x ++ rest)) h.0.1 ∙ rw r (sym h.1)
-from_exact d st inner (float (single n)) b rest k h le = let r = head_again four 7 n rest h.0.0 in ap (λ (x : List ℕ). steps_from st (x ++ rest)) h.0.1 ∙ rw r (sym h.1)
-from_exact d st inner (float (double n)) b rest k h le = let r = head_again eight 7 n rest h.0.0 in ap (λ (x : List ℕ). steps_from st (x ++ rest)) h.0.1 ∙ rw r (sym h.1)
+from_exact d st inner (float (half n)) b rest k h le = let r = head_again two 7 n rest h.0.0 in ap (λ (x : List ℕ). steps_from st (x ++ rest)) h.0.1
+    ∙ rw r (sym h.1)
+from_exact d st inner (float (single n)) b rest k h le = let r = head_again four 7 n rest h.0.0 in ap (λ (x : List ℕ). steps_from st (x ++ rest)) h.0.1
+    ∙ rw r (sym h.1)
+from_exact d st inner (float (double n)) b rest k h le = let r = head_again eight 7 n rest h.0.0 in ap (λ (x : List ℕ). steps_from st (x ++ rest)) h.0.1
+    ∙ rw r (sym h.1)
 from_exact d st inner (text s) b rest k h le = let r = string_exact true (length (b ++ rest)) s b rest k h in rw r.reads r.steps
-from_exact d st inner (boolean false) b rest k h le = let r = head_again within 7 20 rest (omega arith) in ap (λ (x : List ℕ). steps_from st (x ++ rest)) h.0 ∙ rw r (sym h.1)
-from_exact d st inner (boolean true) b rest k h le = let r = head_again within 7 21 rest (omega arith) in ap (λ (x : List ℕ). steps_from st (x ++ rest)) h.0 ∙ rw r (sym h.1)
-from_exact d st inner null b rest k h le = let r = head_again within 7 22 rest (omega arith) in ap (λ (x : List ℕ). steps_from st (x ++ rest)) h.0 ∙ rw r (sym h.1)
+from_exact d st inner (boolean false) b rest k h le = let r = head_again within 7 20 rest (omega arith) in ap (λ (x : List ℕ). steps_from st (x ++ rest)) h.0
+    ∙ rw r (sym h.1)
+from_exact d st inner (boolean true) b rest k h le = let r = head_again within 7 21 rest (omega arith) in ap (λ (x : List ℕ). steps_from st (x ++ rest)) h.0
+    ∙ rw r (sym h.1)
+from_exact d st inner null b rest k h le = let r = head_again within 7 22 rest (omega arith) in ap (λ (x : List ℕ). steps_from st (x ++ rest)) h.0
+    ∙ rw r (sym h.1)
 from_exact d st inner (tag t v) b rest k h le =
     let r = IsHeaded-again 6 t h.0 b rest h.3 in
     rw (r.reads, r.number, inner.one v h.0 rest h.1 h.2 (omega arith)) (sym h.4)
@@ -274,7 +321,8 @@ from_exact d st inner (dict ps) b rest k (c, j, h, inr e) le =
 pub item_exact : (d : ℕ) (v : Item) (b rest : List ℕ) (k : ℕ) → IsCost v b k → depth v ≤ d → item_steps d (b ++ rest) ≡ k
 unfolding item_steps
 item_exact zero v b rest k h le = from_exact 0 no_steps nothing_exact v b rest k h le
-item_exact (suc d) v b rest k h le = from_exact (suc d) (steps_of (item_at d) (item_steps d)) (things_exact d (item_steps d) (item_is_exact d (item_steps d) (λ v c rest k e le. item_exact d v c rest k e le))) v b rest k h le
+item_exact (suc d) v b rest k h le = from_exact (suc d) (steps_of (item_at d) (item_steps d))
+    (things_exact d (item_steps d) (item_is_exact d (item_steps d) (λ v c rest k e le. item_exact d v c rest k e le))) v b rest k h le
 
 pub one_cost_lem : (v : Item) (b : List ℕ) (j k : ℕ) → IsCost v b j → IsCost v b k → j ≡ k
 one_cost_lem v b j k h i = sym (item_exact (depth v) v b [] j h (omega arith)) ∙ item_exact (depth v) v b [] k i (omega arith)

@@ -1,5 +1,6 @@
 -- Items that stand at the front, and the members of an array behind its head.
-use Rattle.std.proofs.Common.{◌≡◌, ◌≢◌, ℕ, zero, suc, ◌+◌, ◌<◌, ◌≤◌, true, false, ltb, List, [], ◌∷◌, ◌++◌, length, drop, ◌-◌, inl, inr, ◌⊎◌, Option, Some, None, Result, Ok, Err, option_map, refl, sym, ap, subst, ◌∙◌, arith}
+use Rattle.std.proofs.Common.{◌≡◌, ◌≢◌, ℕ, zero, suc, ◌+◌, ◌<◌, ◌≤◌, true, false, ltb, List, [], ◌∷◌, ◌++◌, length, drop, ◌-◌, inl, inr, ◌⊎◌, Option, Some}
+use Rattle.std.proofs.Common.{None, Result, Ok, Err, option_map, refl, sym, ap, subst, ◌∙◌, arith}
 use Rattle.std.proofs.lemmas.List.{length-append}
 use Rattle.std.proofs.lemmas.Bool.{true≢false, ltb-false}
 use Rattle.std.specs.Prelude.{◌/◌, ◌^◌}
@@ -66,12 +67,15 @@ err_ok f y e = cc
 pub stands_head : (v : Item) (s a : List ℕ) (f : Fault) → Stands v s a → head_at s ≡ Err f → ⊥
 unfolding item_at
 stands_head v s a f whole e =
-    err_ok f (v, a) (sym (ap (λ (r : Result (HeadSeen × List ℕ) Fault). r >>= λ x. item_by (things (item_at 255)) (length s) x.0.argument x.0.major_type x.1) e) ∙ stands_read v s a whole)
+    err_ok f (v, a) (sym (ap (λ (r : Result (HeadSeen × List ℕ) Fault). r >>= λ x. item_by (things (item_at 255)) (length s) x.0.argument x.0.major_type x.1) e)
+    ∙ stands_read v s a whole)
 
-pub stands_by : (v : Item) (s a : List ℕ) (h : HeadSeen × List ℕ) → Stands v s a → head_at s ≡ Ok h → item_by (things (item_at 255)) (length s) h.0.argument h.0.major_type h.1 ≡ Ok (v, a)
+pub stands_by : (v : Item) (s a : List ℕ) (h : HeadSeen × List ℕ) → Stands v s a → head_at s ≡ Ok h
+    → item_by (things (item_at 255)) (length s) h.0.argument h.0.major_type h.1 ≡ Ok (v, a)
 unfolding item_at
 stands_by v s a h whole e =
-    sym (ap (λ (r : Result (HeadSeen × List ℕ) Fault). r >>= λ x. item_by (things (item_at 255)) (length s) x.0.argument x.0.major_type x.1) e) ∙ stands_read v s a whole
+    sym (ap (λ (r : Result (HeadSeen × List ℕ) Fault). r >>= λ x. item_by (things (item_at 255)) (length s) x.0.argument x.0.major_type x.1) e)
+    ∙ stands_read v s a whole
 
 pub stands_major_type : (v : Item) (s a : List ℕ) (h : HeadSeen × List ℕ) → Stands v s a → head_at s ≡ Ok h → item_major_type v ≡ h.0.major_type
 stands_major_type v s a h whole e = major_type_by (things (item_at 255)) (length s) h.0.argument h.0.major_type h.1 (v, a) (stands_by v s a h whole e)
@@ -85,7 +89,8 @@ deeper s x fits e =
     let low = t.encoding.1 in
     (t.front, t.parts, (t.encoding.0, omega arith))
 
-members_times : (n : ℕ) (s : List ℕ) (x : List Item × List ℕ) → IsBytes s → times_at (item_at 255) n s ≡ Ok x → (n ≡ items_count (items_of x.0)) × AreAt (items_of x.0) s x.1
+members_times : (n : ℕ) (s : List ℕ) (x : List Item × List ℕ) → IsBytes s → times_at (item_at 255) n s ≡ Ok x → (n ≡ items_count (items_of x.0))
+    × AreAt (items_of x.0) s x.1
 unfolding times_at AreAt
 members_times zero s x fits e =
     let same = ok_is ([], s) x e in
@@ -121,7 +126,8 @@ some_is m n e = cc
 none_some : (n : ℕ) → ◌≡◌ {A = Option ℕ} None (Some n) → ⊥
 none_some n e = cc
 
-within_by : (o : Option ℕ) (s : List ℕ) (y : List Item × List ℕ) → IsBytes s → (things (item_at 255)).items o s ≡ Ok y → AreWithin (record { left = o }) (items_of y.0) s y.1
+within_by : (o : Option ℕ) (s : List ℕ) (y : List Item × List ℕ) → IsBytes s → (things (item_at 255)).items o s ≡ Ok y
+    → AreWithin (record { left = o }) (items_of y.0) s y.1
 unfolding things
 within_by None s y fits e = record {
   definite = λ n is. absurd (none_some n is);
@@ -140,14 +146,16 @@ pub record Entered (v : Item) (o : Option ℕ) (s a : List ℕ) : Type 0 where
   pub is_array : as_array v ≡ Some members
   pub within : AreWithin (record { left = o }) members s a
 
-array_by_major_type : (left : ℕ) (g : Argument) (k : MajorType) (s : List ℕ) (v : Item) (a : List ℕ) → IsBytes s → k ≡ major_types.Array → item_by (things (item_at 255)) left g k s ≡ Ok (v, a) → Entered v (number_of g) s a
+array_by_major_type : (left : ℕ) (g : Argument) (k : MajorType) (s : List ℕ) (v : Item) (a : List ℕ) → IsBytes s → k ≡ major_types.Array
+    → item_by (things (item_at 255)) left g k s ≡ Ok (v, a) → Entered v (number_of g) s a
 array_by_major_type left g major_types.Array s v a fits k e =
     let r = bind_ok ((things (item_at 255)).items (number_of g) s) (λ y. Ok (array (items_of y.0), y.1)) (v, a) e in
     let same = ok_is (array (items_of r.0.0), r.0.1) (v, a) r.2 in
     record {
       members = items_of r.0.0;
       is_array = ap (λ (x : Item × List ℕ). as_array x.0) (sym same);
-      within = subst (λ (b : List ℕ). AreWithin (record { left = number_of g }) (items_of r.0.0) s b) (ap rest_of same) (within_by (number_of g) s r.0 fits r.1);
+      within = subst (λ (b : List ℕ). AreWithin (record { left = number_of g }) (items_of r.0.0) s b) (ap rest_of same)
+          (within_by (number_of g) s r.0 fits r.1);
     }
 array_by_major_type left g major_types.Unsigned s v a fits k e = absurd cc
 array_by_major_type left g major_types.Negative s v a fits k e = absurd cc
@@ -157,7 +165,8 @@ array_by_major_type left g major_types.Map s v a fits k e = absurd cc
 array_by_major_type left g major_types.Tag s v a fits k e = absurd cc
 array_by_major_type left g major_types.Simple s v a fits k e = absurd cc
 
-pub array_read : (v : Item) (s a : List ℕ) (h : HeadSeen × List ℕ) (o : Option ℕ) → IsBytes s → Stands v s a → head_at s ≡ Ok h → h.0.major_type ≡ major_types.Array → o ≡ number_of h.0.argument → Entered v o h.1 a
+pub array_read : (v : Item) (s a : List ℕ) (h : HeadSeen × List ℕ) (o : Option ℕ) → IsBytes s → Stands v s a → head_at s ≡ Ok h
+    → h.0.major_type ≡ major_types.Array → o ≡ number_of h.0.argument → Entered v o h.1 a
 array_read v s a h o fits whole e k number =
     subst (λ (p : Option ℕ). Entered v p h.1 a) (sym number)
     (array_by_major_type (length s) h.0.argument h.0.major_type h.1 v a (head_takes s h fits e).rest_fits k (stands_by v s a h whole e))
@@ -213,7 +222,8 @@ unfolding AreAt
 pair_stands s y vs a fits p h =
     (p.mid, deeper s (y.0.0, p.mid) fits p.key, (y.1, deeper p.mid (y.0.1, y.1) (rest_fits s (y.0.0, p.mid) fits p.key) p.value, h))
 
-pairs_times : (n : ℕ) (s : List ℕ) (x : List Entry × List ℕ) → IsBytes s → times_at (pair_at (item_at 255)) n s ≡ Ok x → (n + n ≡ items_count (keys_and_values (pairs_of x.0))) × AreAt (keys_and_values (pairs_of x.0)) s x.1
+pairs_times : (n : ℕ) (s : List ℕ) (x : List Entry × List ℕ) → IsBytes s → times_at (pair_at (item_at 255)) n s ≡ Ok x
+    → (n + n ≡ items_count (keys_and_values (pairs_of x.0))) × AreAt (keys_and_values (pairs_of x.0)) s x.1
 unfolding times_at AreAt
 pairs_times zero s x fits e =
     let same = ok_is ([], s) x e in
@@ -225,10 +235,12 @@ pairs_times (suc n) s x fits e =
     let others = pairs_times n a.0.1 b.0 (pair_fits s a.0 fits p) b.1 in
     let made : List Entry × List ℕ = (a.0.0 ∷ b.0.0, b.0.1) in
     let count = others.0 in
-    subst (λ (y : List Entry × List ℕ). (suc n + suc n ≡ items_count (keys_and_values (pairs_of y.0))) × AreAt (keys_and_values (pairs_of y.0)) s y.1) (ok_is made x b.2)
+    subst (λ (y : List Entry × List ℕ). (suc n + suc n ≡ items_count (keys_and_values (pairs_of y.0))) × AreAt (keys_and_values (pairs_of y.0)) s y.1)
+    (ok_is made x b.2)
     (omega (arith, count), pair_stands s a.0 (keys_and_values (pairs_of b.0.0)) b.0.1 fits p others.1)
 
-pairs_until : (turns : ℕ) (s : List ℕ) (x : List Entry × List ℕ) → IsBytes s → until_at (pair_at (item_at 255)) turns s ≡ Ok x → AreAt (keys_and_values (pairs_of x.0)) s (255 ∷ x.1)
+pairs_until : (turns : ℕ) (s : List ℕ) (x : List Entry × List ℕ) → IsBytes s → until_at (pair_at (item_at 255)) turns s ≡ Ok x
+    → AreAt (keys_and_values (pairs_of x.0)) s (255 ∷ x.1)
 unfolding until_at AreAt
 pairs_until zero s x fits e = absurd cc
 pairs_until (suc turns) s x fits e = elim (chosen (begins_break s) _ _ _ e) [
@@ -276,7 +288,8 @@ pub record EnteredMap (v : Item) (o : Option ℕ) (s a : List ℕ) : Type 0 wher
   pub within : AreWithin (record { left = o }) members s a
 
 map_by_major_type :
-    (left : ℕ) (g : Argument) (d : Option ℕ) (k : MajorType) (s : List ℕ) (v : Item) (a : List ℕ) → IsBytes s → length s < 2 ^ 64 → Doubles (number_of g) d → k ≡ major_types.Map
+    (left : ℕ) (g : Argument) (d : Option ℕ) (k : MajorType) (s : List ℕ) (v : Item) (a : List ℕ) → IsBytes s → length s < 2 ^ 64 → Doubles (number_of g) d
+    → k ≡ major_types.Map
     → item_by (things (item_at 255)) left g k s ≡ Ok (v, a) → EnteredMap v d s a
 map_by_major_type left g d major_types.Map s v a fits least_encoding twice k e =
     let r = bind_ok ((things (item_at 255)).pairs (number_of g) s) (λ y. Ok (dict (pairs_of y.0), y.1)) (v, a) e in
@@ -284,7 +297,8 @@ map_by_major_type left g d major_types.Map s v a fits least_encoding twice k e =
     record {
       members = keys_and_values (pairs_of r.0.0);
       is_map = ap (λ (x : Item × List ℕ). map_items x.0) (sym same);
-      within = subst (λ (b : List ℕ). AreWithin (record { left = d }) (keys_and_values (pairs_of r.0.0)) s b) (ap rest_of same) (pairs_within (number_of g) d s r.0 fits least_encoding twice r.1);
+      within = subst (λ (b : List ℕ). AreWithin (record { left = d }) (keys_and_values (pairs_of r.0.0)) s b) (ap rest_of same)
+          (pairs_within (number_of g) d s r.0 fits least_encoding twice r.1);
     }
 map_by_major_type left g d major_types.Unsigned s v a fits least_encoding twice k e = absurd cc
 map_by_major_type left g d major_types.Negative s v a fits least_encoding twice k e = absurd cc
@@ -295,10 +309,12 @@ map_by_major_type left g d major_types.Array s v a fits least_encoding twice k e
 map_by_major_type left g d major_types.Simple s v a fits least_encoding twice k e = absurd cc
 
 pub map_read :
-    (v : Item) (s a : List ℕ) (h : HeadSeen × List ℕ) (d : Option ℕ) → IsBytes s → length s < 2 ^ 64 → Stands v s a → head_at s ≡ Ok h → h.0.major_type ≡ major_types.Map → Doubles (number_of h.0.argument) d → EnteredMap v d h.1 a
+    (v : Item) (s a : List ℕ) (h : HeadSeen × List ℕ) (d : Option ℕ) → IsBytes s → length s < 2 ^ 64 → Stands v s a → head_at s ≡ Ok h
+    → h.0.major_type ≡ major_types.Map → Doubles (number_of h.0.argument) d → EnteredMap v d h.1 a
 map_read v s a h d fits least_encoding whole e k twice =
     let shorter = head_shorter s h fits e in
-    map_by_major_type (length s) h.0.argument d h.0.major_type h.1 v a (head_takes s h fits e).rest_fits (omega (arith, least_encoding, shorter)) twice k (stands_by v s a h whole e)
+    map_by_major_type (length s) h.0.argument d h.0.major_type h.1 v a (head_takes s h fits e).rest_fits (omega (arith, least_encoding, shorter)) twice k
+    (stands_by v s a h whole e)
 
 pub no_map : (v : Item) (s a : List ℕ) (h : HeadSeen × List ℕ) → Stands v s a → head_at s ≡ Ok h → h.0.major_type ≢ major_types.Map → map_items v ≡ None
 no_map v s a h whole e k = elim (is_map v) [
@@ -342,7 +358,8 @@ counted_next (item v vs) s a n some count at = (
   },
 )
 
-pub next_counted : (vs : Items) (s a : List ℕ) (p : Places) (n : ℕ) → p.left ≡ Some n → n ≢ 0 → AreWithin p vs s a → Member vs s a (record { left = Some (n - 1) })
+pub next_counted : (vs : Items) (s a : List ℕ) (p : Places) (n : ℕ) → p.left ≡ Some n → n ≢ 0 → AreWithin p vs s a
+    → Member vs s a (record { left = Some (n - 1) })
 next_counted vs s a p n is some w = let d = w.definite n is in counted_next vs s a n some d.0 d.1
 
 broken_next : (vs : Items) (s a : List ℕ) (p : Places) → p.left ≡ None → begins_break s ≡ false → AreAt vs s (255 ∷ a) → Member vs s a p
@@ -368,7 +385,8 @@ broken_end (item v vs) s a e at = absurd (no_item_at_break v s at.0 at.1 e)
 pub next_more : (vs : Items) (s a : List ℕ) (p : Places) → p.left ≡ None → begins_break s ≡ false → AreWithin p vs s a → Member vs s a p
 next_more vs s a p none e w = broken_next vs s a p none e (w.indefinite none)
 
-pub next_end : (vs : Items) (s a : List ℕ) (p : Places) → p.left ≡ None → begins_break s ≡ true → AreWithin p vs s a → (vs ≡ no_items) × AreWithin p no_items s a
+pub next_end : (vs : Items) (s a : List ℕ) (p : Places) → p.left ≡ None → begins_break s ≡ true → AreWithin p vs s a → (vs ≡ no_items)
+    × AreWithin p no_items s a
 next_end vs s a p none e w =
     let is = broken_end vs s a e (w.indefinite none) in
     (is, subst (λ (ws : Items). AreWithin p ws s a) is w)

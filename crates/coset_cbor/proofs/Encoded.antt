@@ -1,7 +1,8 @@
 -- Bytes that are an encoding, whatever its item's depth.
 use Rattle.std.proofs.Common.{◌≡◌, ℕ, suc, ◌+◌, ◌<◌, ◌≤◌, List, [], ◌∷◌, ◌++◌, length, Result, Ok, Err, refl, sym, ap, subst, ◌∙◌, inl, inr, arith}
 use Rattle.std.proofs.lemmas.List.{length-append, append-nil}
-use Rattle.coset_value.specs.Item.{Item, integer, bytes, float, text, boolean, null, tag, array, dict, Items, no_items, item, Pairs, no_pairs, pair, items_count, pairs_count, depth, items_depth, pairs_depth}
+use Rattle.coset_value.specs.Item.{Item, integer, bytes, float, text, boolean, null, tag, array, dict, Items, no_items, item, Pairs, no_pairs, pair}
+use Rattle.coset_value.specs.Item.{items_count, pairs_count, depth, items_depth, pairs_depth}
 use Rattle.coset_cbor.specs.declared.fault.Fault.{Fault}
 use Rattle.coset_cbor.specs.Grammar.{IsHeaded, IsHeld, IsEncoding, AreEncodings, ArePairEncodings}
 use Rattle.coset_cbor.specs.Reading.{item_at}

@@ -1,5 +1,6 @@
 -- What the head of a lent item says of the item.
-use Rattle.std.proofs.Common.{◌≡◌, ℕ, ◌≤◌, Bool, true, false, eqb, ltb, List, [], ◌++◌, length, Option, Some, None, Result, Ok, Err, refl, sym, ap, subst, ◌∙◌, arith, inl, inr}
+use Rattle.std.proofs.Common.{◌≡◌, ℕ, ◌≤◌, Bool, true, false, eqb, ltb, List, [], ◌++◌, length, Option, Some, None, Result, Ok, Err, refl, sym, ap, subst, ◌∙◌}
+use Rattle.std.proofs.Common.{arith, inl, inr}
 use Rattle.std.proofs.lemmas.List.{append-nil}
 use Rattle.std.specs.Prelude.{pos, negsuc, option_map}
 use Rattle.coset_value.specs.Item.{Item, depth, integer, bytes, float, half, single, double, boolean, null, tag, array, dict}
@@ -11,7 +12,8 @@ use Rattle.coset_cbor.specs.declared.head.MajorType.{MajorType}
 use Rattle.coset_cbor.specs.declared.head.MajorType.TheVariants as major_types
 use Rattle.coset_cbor.specs.Heads.{Argument, HeadSeen}
 use Rattle.coset_cbor.specs.Heads as places
-use Rattle.coset_cbor.specs.Reading.{◌>>=◌, number_of, unless_none, head_at, begins_chunk, any_string_by, simple_at, Inside, things, item_by, item_from, item_at}
+use Rattle.coset_cbor.specs.Reading.{◌>>=◌, number_of, unless_none, head_at, begins_chunk, any_string_by, simple_at, Inside, things, item_by, item_from}
+use Rattle.coset_cbor.specs.Reading.{item_at}
 use Rattle.coset_cbor.specs.Grammar.{IsHead, IsHeaded, IsEncoding, IsItem}
 use Rattle.coset_cbor.specs.Scalars.{as_scalar, read_of, scalar_by, integer_by, tag_by}
 use Rattle.coset_cbor.specs.Whole.{is_one_item, item_of}
@@ -25,7 +27,8 @@ abbrev done : Item × List ℕ → Result (Item × List ℕ) Fault
 done x = Ok x
 
 -- one item is what its head says
-pub one_item_by : (b : List ℕ) (h : HeadSeen × List ℕ) → is_one_item b ≡ true → head_at b ≡ Ok h → item_by (things (item_at 255)) (length b) h.0.argument h.0.major_type h.1 ≡ Ok (item_of b, [])
+pub one_item_by : (b : List ℕ) (h : HeadSeen × List ℕ) → is_one_item b ≡ true → head_at b ≡ Ok h
+    → item_by (things (item_at 255)) (length b) h.0.argument h.0.major_type h.1 ≡ Ok (item_of b, [])
 unfolding item_at
 one_item_by b h one e =
     let whole : item_from (things (item_at 255)) b ≡ Ok (item_of b, []) = one_item_read b one in
@@ -43,7 +46,8 @@ one_item_head b f one e =
 
 -- ---- items that hold no other bytes
 
-number_scalar : (left : ℕ) (o : Option ℕ) (f : ℕ → Item) (s : List ℕ) (x : Item × List ℕ) → ((n : ℕ) → as_scalar (f n) ≡ Some (f n)) → unless_none left o (λ n. Ok (f n, s)) ≡ Ok x → option_map f o ≡ as_scalar x.0
+number_scalar : (left : ℕ) (o : Option ℕ) (f : ℕ → Item) (s : List ℕ) (x : Item × List ℕ) → ((n : ℕ) → as_scalar (f n) ≡ Some (f n))
+    → unless_none left o (λ n. Ok (f n, s)) ≡ Ok x → option_map f o ≡ as_scalar x.0
 number_scalar left o f s x is e =
     let n = some_ok left o (λ n. Ok (f n, s)) x e in
     ap (option_map f) n.1 ∙ sym (is n.0) ∙ ap (λ (y : Item × List ℕ). as_scalar y.0) (ok_is (f n.0, s) x n.2)
@@ -75,7 +79,8 @@ made_is r f x e =
     let y = bind_ok r (λ y. Ok (f y.0, y.1)) x e in
     (y.0.0, ap (λ (z : Item × List ℕ). z.0) (sym (ok_is (f y.0.0, y.0.1) x y.2)))
 
-pub scalar_is : (inside : Inside) (left : ℕ) (a : Argument) (k : MajorType) (s : List ℕ) (x : Item × List ℕ) → item_by inside left a k s ≡ Ok x → scalar_by left a k s ≡ as_scalar x.0
+pub scalar_is : (inside : Inside) (left : ℕ) (a : Argument) (k : MajorType) (s : List ℕ) (x : Item × List ℕ) → item_by inside left a k s ≡ Ok x
+    → scalar_by left a k s ≡ as_scalar x.0
 scalar_is inside left a major_types.Unsigned s x e = number_scalar left (number_of a) (λ n. integer (pos n)) s x (λ n. refl) e
 scalar_is inside left a major_types.Negative s x e = number_scalar left (number_of a) (λ n. integer (negsuc n)) s x (λ n. refl) e
 scalar_is inside left a major_types.Bytes s x e = ap as_scalar (sym (made_is (any_string_by false left (number_of a) s) bytes x e).1)
@@ -89,7 +94,8 @@ scalar_is inside left a major_types.Simple s x e = simple_scalar left a s x e
 
 -- ---- integers
 
-pub integer_is : (inside : Inside) (left : ℕ) (a : Argument) (k : MajorType) (s : List ℕ) (x : Item × List ℕ) → item_by inside left a k s ≡ Ok x → integer_by (number_of a) k ≡ as_integer x.0
+pub integer_is : (inside : Inside) (left : ℕ) (a : Argument) (k : MajorType) (s : List ℕ) (x : Item × List ℕ) → item_by inside left a k s ≡ Ok x
+    → integer_by (number_of a) k ≡ as_integer x.0
 integer_is inside left a major_types.Unsigned s x e =
     let n = some_ok left (number_of a) (λ n. Ok (integer (pos n), s)) x e in
     ap (option_map (λ (n : ℕ). pos n)) n.1 ∙ ap (λ (y : Item × List ℕ). as_integer y.0) (ok_is (integer (pos n.0), s) x n.2)
@@ -119,14 +125,23 @@ integer_is inside left a major_types.Simple s x e = no_integer x.0 (simple_major
 
 -- ---- strings
 
-pub string_by : (is_text : Bool) (inside : Inside) (left : ℕ) (a : Argument) (k : MajorType) (s : List ℕ) (x : Item × List ℕ) → begins_chunk is_text k ≡ true → item_by inside left a k s ≡ Ok x
+pub string_by : (is_text : Bool) (inside : Inside) (left : ℕ) (a : Argument) (k : MajorType) (s : List ℕ) (x : Item × List ℕ) → begins_chunk is_text k ≡ true
+    → item_by inside left a k s ≡ Ok x
     → (y : List ℕ × List ℕ) × (any_string_by is_text left (number_of a) s ≡ Ok y) × (Some y.0 ≡ as_string is_text x.0) × (y.1 ≡ x.1)
 string_by false inside left a major_types.Bytes s x k e =
-    let r = bind_ok (any_string_by false left (number_of a) s) (λ y. Ok (bytes y.0, y.1)) x e in
-    (r.0, r.1, ap (λ (z : Item × List ℕ). as_string false z.0) (ok_is (bytes r.0.0, r.0.1) x r.2), ap (λ (z : Item × List ℕ). z.1) (ok_is (bytes r.0.0, r.0.1) x r.2))
+    let r = bind_ok (any_string_by false left (number_of a) s) (λ y. Ok (bytes y.0, y.1)) x e in (
+      r.0,
+      r.1,
+      ap (λ (z : Item × List ℕ). as_string false z.0) (ok_is (bytes r.0.0, r.0.1) x r.2),
+      ap (λ (z : Item × List ℕ). z.1) (ok_is (bytes r.0.0, r.0.1) x r.2),
+    )
 string_by true inside left a major_types.Text s x k e =
-    let r = bind_ok (any_string_by true left (number_of a) s) (λ y. Ok (Item.text y.0, y.1)) x e in
-    (r.0, r.1, ap (λ (z : Item × List ℕ). as_string true z.0) (ok_is (Item.text r.0.0, r.0.1) x r.2), ap (λ (z : Item × List ℕ). z.1) (ok_is (Item.text r.0.0, r.0.1) x r.2))
+    let r = bind_ok (any_string_by true left (number_of a) s) (λ y. Ok (Item.text y.0, y.1)) x e in (
+      r.0,
+      r.1,
+      ap (λ (z : Item × List ℕ). as_string true z.0) (ok_is (Item.text r.0.0, r.0.1) x r.2),
+      ap (λ (z : Item × List ℕ). z.1) (ok_is (Item.text r.0.0, r.0.1) x r.2),
+    )
 string_by true inside left a major_types.Bytes s x k e = absurd cc
 string_by false inside left a major_types.Text s x k e = absurd cc
 string_by is_text inside left a major_types.Unsigned s x k e = absurd cc
@@ -137,13 +152,15 @@ string_by is_text inside left a major_types.Tag s x k e = absurd cc
 string_by is_text inside left a major_types.Simple s x k e = absurd cc
 
 -- the string that a lent item is, read again, is its content
-pub string_read : (is_text : Bool) (b : List ℕ) (h : HeadSeen × List ℕ) (o : Option ℕ) (y : List ℕ × List ℕ) → is_one_item b ≡ true → head_at b ≡ Ok h → begins_chunk is_text h.0.major_type ≡ true → o ≡ number_of h.0.argument
+pub string_read : (is_text : Bool) (b : List ℕ) (h : HeadSeen × List ℕ) (o : Option ℕ) (y : List ℕ × List ℕ) → is_one_item b ≡ true → head_at b ≡ Ok h
+    → begins_chunk is_text h.0.major_type ≡ true → o ≡ number_of h.0.argument
     → any_string_by is_text (length b) o h.1 ≡ Ok y → Some y.0 ≡ as_string is_text (item_of b)
 string_read is_text b h o y one e k number is =
     let r = string_by is_text (things (item_at 255)) (length b) h.0.argument h.0.major_type h.1 (item_of b, []) k (one_item_by b h one e) in
     ap (λ (z : List ℕ × List ℕ). Some z.0) (ok_is y r.0 (sym is ∙ ap (λ (p : Option ℕ). any_string_by is_text (length b) p h.1) number ∙ r.1)) ∙ r.2
 
-pub string_no_fault : (is_text : Bool) (b : List ℕ) (h : HeadSeen × List ℕ) (o : Option ℕ) (f : Fault) → is_one_item b ≡ true → head_at b ≡ Ok h → begins_chunk is_text h.0.major_type ≡ true → o ≡ number_of h.0.argument
+pub string_no_fault : (is_text : Bool) (b : List ℕ) (h : HeadSeen × List ℕ) (o : Option ℕ) (f : Fault) → is_one_item b ≡ true → head_at b ≡ Ok h
+    → begins_chunk is_text h.0.major_type ≡ true → o ≡ number_of h.0.argument
     → any_string_by is_text (length b) o h.1 ≡ Err f → ⊥
 string_no_fault is_text b h o f one e k number is =
     let r = string_by is_text (things (item_at 255)) (length b) h.0.argument h.0.major_type h.1 (item_of b, []) k (one_item_by b h one e) in
@@ -155,9 +172,12 @@ string_no_fault is_text b h o f one e k number is =
 -- ---- tags
 
 -- what a head that is no tag's says
-pub no_tag : (inside : Inside) (left : ℕ) (a : Argument) (k : MajorType) (s : List ℕ) (x : Item × List ℕ) → tag_by a k ≡ None → item_by inside left a k s ≡ Ok x → None ≡ as_tag x.0
-no_tag inside left a major_types.Unsigned s x t e = let n = some_ok left (number_of a) (λ n. Ok (integer (pos n), s)) x e in ap (λ (y : Item × List ℕ). as_tag y.0) (ok_is (integer (pos n.0), s) x n.2)
-no_tag inside left a major_types.Negative s x t e = let n = some_ok left (number_of a) (λ n. Ok (integer (negsuc n), s)) x e in ap (λ (y : Item × List ℕ). as_tag y.0) (ok_is (integer (negsuc n.0), s) x n.2)
+pub no_tag : (inside : Inside) (left : ℕ) (a : Argument) (k : MajorType) (s : List ℕ) (x : Item × List ℕ) → tag_by a k ≡ None → item_by inside left a k s ≡ Ok x
+    → None ≡ as_tag x.0
+no_tag inside left a major_types.Unsigned s x t e = let n = some_ok left (number_of a) (λ n. Ok (integer (pos n), s)) x e in
+    ap (λ (y : Item × List ℕ). as_tag y.0) (ok_is (integer (pos n.0), s) x n.2)
+no_tag inside left a major_types.Negative s x t e = let n = some_ok left (number_of a) (λ n. Ok (integer (negsuc n), s)) x e in
+    ap (λ (y : Item × List ℕ). as_tag y.0) (ok_is (integer (negsuc n.0), s) x n.2)
 no_tag inside left a major_types.Bytes s x t e = ap as_tag (sym (made_is (any_string_by false left (number_of a) s) bytes x e).1)
 no_tag inside left a major_types.Text s x t e = ap as_tag (sym (made_is (any_string_by true left (number_of a) s) Item.text x e).1)
 no_tag inside left a major_types.Array s x t e = ap as_tag (sym (made_is (inside.items (number_of a) s) (λ vs. array (items_of vs)) x e).1)
@@ -182,7 +202,8 @@ no_tag inside left a major_types.Simple s x t e = as_scalar_tag x.0 (sym (simple
     as_scalar_tag (dict ps) h = refl
 
 -- what a tag's head says: what is read inside
-tag_inside : (inside : Inside) (left : ℕ) (a : Argument) (k : MajorType) (s : List ℕ) (x : Item × List ℕ) (n : ℕ) → tag_by a k ≡ Some n → item_by inside left a k s ≡ Ok x → (w : Item × List ℕ) × (inside.one s ≡ Ok w) × (x ≡ (tag n w.0, w.1))
+tag_inside : (inside : Inside) (left : ℕ) (a : Argument) (k : MajorType) (s : List ℕ) (x : Item × List ℕ) (n : ℕ) → tag_by a k ≡ Some n
+    → item_by inside left a k s ≡ Ok x → (w : Item × List ℕ) × (inside.one s ≡ Ok w) × (x ≡ (tag n w.0, w.1))
 tag_inside inside left a major_types.Unsigned s x n t e = absurd cc
 tag_inside inside left a major_types.Negative s x n t e = absurd cc
 tag_inside inside left a major_types.Bytes s x n t e = absurd cc
@@ -216,7 +237,8 @@ pub record IsEnclosed (n : ℕ) (b s : List ℕ) : Type 0 where
   pub one : is_one_item s ≡ true
   pub item : item_of b ≡ tag n (item_of s)
 
-pub enclosed_item : (b : List ℕ) (h : HeadSeen × List ℕ) (n : ℕ) → is_one_item b ≡ true → head_at b ≡ Ok h → tag_by h.0.argument h.0.major_type ≡ Some n → IsEnclosed n b h.1
+pub enclosed_item : (b : List ℕ) (h : HeadSeen × List ℕ) (n : ℕ) → is_one_item b ≡ true → head_at b ≡ Ok h → tag_by h.0.argument h.0.major_type ≡ Some n
+    → IsEnclosed n b h.1
 unfolding things
 enclosed_item b h n one e t =
     let w = tag_inside (things (item_at 255)) (length b) h.0.argument h.0.major_type h.1 (item_of b, []) n t (one_item_by b h one e) in

@@ -1,5 +1,6 @@
 -- Passing over an item that is known to stand there, its parts not tested again.
-use Rattle.std.proofs.Common.{◌≡◌, ℕ, zero, suc, ◌+◌, ◌-◌, ◌/◌, ◌<◌, Bool, true, false, cond, eqb, ltb, List, [], ◌∷◌, ◌++◌, length, take, drop, Option, Some, Result, Ok, Err, refl, sym, ap, subst, ◌∙◌, arith, inl, inr}
+use Rattle.std.proofs.Common.{◌≡◌, ℕ, zero, suc, ◌+◌, ◌-◌, ◌/◌, ◌<◌, Bool, true, false, cond, eqb, ltb, List, [], ◌∷◌, ◌++◌, length, take, drop, Option, Some}
+use Rattle.std.proofs.Common.{Result, Ok, Err, refl, sym, ap, subst, ◌∙◌, arith, inl, inr}
 use Rattle.std.specs.Prelude.{pos, negsuc}
 use Rattle.coset_cbor.specs.declared.fault.Fault.{Fault}
 use Rattle.coset_cbor.specs.declared.fault.Fault.TheVariants.{End, Syntax, Simple}
@@ -9,7 +10,8 @@ use Rattle.coset_cbor.specs.Heads.{Argument, HeadSeen}
 use Rattle.coset_cbor.specs.Heads as places
 use Rattle.coset_value.specs.Item.{half, single, double, Item, integer, bytes, float, boolean, null, tag, array, dict}
 use Rattle.coset_value.specs.View.{items_of, pairs_of}
-use Rattle.coset_cbor.specs.Reading.{◌>>=◌, number_of, unless_none, head_at, is_string_content, string_at, any_string_by, times_at, pair_at, simple_at, things, item_by, item_at}
+use Rattle.coset_cbor.specs.Reading.{◌>>=◌, number_of, unless_none, head_at, is_string_content, string_at, any_string_by, times_at, pair_at, simple_at, things}
+use Rattle.coset_cbor.specs.Reading.{item_by, item_at}
 use Rattle.coset_cbor.specs.Grammar.{IsItem}
 use Rattle.coset_cbor.specs.Whole.{is_one_item, item_of}
 use Rattle.coset_cbor.specs.Jumps.{IsPast, items_behind, bytes_behind, BeginsItem}
@@ -37,7 +39,8 @@ past_append (suc m) n k s t a e (x, r, p) q =
     subst (λ (i : ℕ). IsPast i s a) same (x, r, past_append m n (m + n) x.1 t a refl p q)
 
 -- the first of them is passed, but for what is behind its head
-pub past_step : (todo more : ℕ) (s t a : List ℕ) → 0 < todo → ((x : Item × List ℕ) → item_at 256 s ≡ Ok x → IsPast more t x.1) → IsPast todo s a → IsPast (todo - 1 + more) t a
+pub past_step : (todo more : ℕ) (s t a : List ℕ) → 0 < todo → ((x : Item × List ℕ) → item_at 256 s ≡ Ok x → IsPast more t x.1) → IsPast todo s a
+    → IsPast (todo - 1 + more) t a
 unfolding IsPast
 past_step zero more s t a lt inner p = absurd (omega arith)
 past_step (suc n) more s t a lt inner (x, e, p) = past_append more n (suc n - 1 + more) t x.1 a (omega arith) (inner x e) p
@@ -112,20 +115,24 @@ simple_rest left (places.Eight n) s x e = ap rest_of (ok_is (float (double n), s
 simple_rest left places.Indefinite s x e = absurd cc
 
 -- what was made of what was read leaves the same
-made_rest : {A : Type 0} (r : Result (A × List ℕ) Fault) (f : A → Item) (x : Item × List ℕ) → (r >>= λ y. Ok (f y.0, y.1)) ≡ Ok x → (y : A × List ℕ) × (r ≡ Ok y) × (y.1 ≡ x.1)
+made_rest : {A : Type 0} (r : Result (A × List ℕ) Fault) (f : A → Item) (x : Item × List ℕ) → (r >>= λ y. Ok (f y.0, y.1)) ≡ Ok x → (y : A × List ℕ)
+    × (r ≡ Ok y) × (y.1 ≡ x.1)
 made_rest r f x e =
     let y = bind_ok r (λ y. Ok (f y.0, y.1)) x e in
     (y.0, y.1, ap rest_of (ok_is (f y.0.0, y.0.1) x y.2))
 
-behind_by : (k : MajorType) (left n : ℕ) (a : Argument) (s : List ℕ) (x : Item × List ℕ) → IsBytes s → number_of a ≡ Some n → item_by (things (item_at 255)) left a k s ≡ Ok x → IsPast (items_behind k n) (drop (bytes_behind k n) s) x.1
+behind_by : (k : MajorType) (left n : ℕ) (a : Argument) (s : List ℕ) (x : Item × List ℕ) → IsBytes s → number_of a ≡ Some n
+    → item_by (things (item_at 255)) left a k s ≡ Ok x → IsPast (items_behind k n) (drop (bytes_behind k n) s) x.1
 unfolding IsPast things
 behind_by major_types.Unsigned left n a s x fits number e = number_rest left (number_of a) (λ n. integer (pos n)) s x e
 behind_by major_types.Negative left n a s x fits number e = number_rest left (number_of a) (λ n. integer (negsuc n)) s x e
 behind_by major_types.Bytes left n a s x fits number e =
-    let y = made_rest (any_string_by false left (Some n) s) bytes x (ap (λ (o : Option ℕ). any_string_by false left o s >>= λ y. Ok (bytes y.0, y.1)) (sym number) ∙ e) in
+    let y = made_rest (any_string_by false left (Some n) s) bytes x
+    (ap (λ (o : Option ℕ). any_string_by false left o s >>= λ y. Ok (bytes y.0, y.1)) (sym number) ∙ e) in
     string_rest false left n s y.0 y.1 ∙ y.2
 behind_by major_types.Text left n a s x fits number e =
-    let y = made_rest (any_string_by true left (Some n) s) Item.text x (ap (λ (o : Option ℕ). any_string_by true left o s >>= λ y. Ok (Item.text y.0, y.1)) (sym number) ∙ e) in
+    let y = made_rest (any_string_by true left (Some n) s) Item.text x
+    (ap (λ (o : Option ℕ). any_string_by true left o s >>= λ y. Ok (Item.text y.0, y.1)) (sym number) ∙ e) in
     string_rest true left n s y.0 y.1 ∙ y.2
 behind_by major_types.Array left n a s x fits number e =
     let y = made_rest (cond (ltb (length s) n) (Err End) (times_at (item_at 255) n s)) (λ vs. array (items_of vs)) x
@@ -143,7 +150,8 @@ behind_by major_types.Tag left n a s x fits number e =
     (y.0, deeper s y.0 fits y.1, y.2)
 behind_by major_types.Simple left n a s x fits number e = simple_rest left a s x e
 
-pub behind_head : (s : List ℕ) (h : HeadSeen × List ℕ) (n : ℕ) (t : List ℕ) (x : Item × List ℕ) → IsBytes s → head_at s ≡ Ok h → number_of h.0.argument ≡ Some n → t ≡ drop (bytes_behind h.0.major_type n) h.1 → item_at 256 s ≡ Ok x → IsPast (items_behind h.0.major_type n) t x.1
+pub behind_head : (s : List ℕ) (h : HeadSeen × List ℕ) (n : ℕ) (t : List ℕ) (x : Item × List ℕ) → IsBytes s → head_at s ≡ Ok h → number_of h.0.argument ≡ Some n
+    → t ≡ drop (bytes_behind h.0.major_type n) h.1 → item_at 256 s ≡ Ok x → IsPast (items_behind h.0.major_type n) t x.1
 unfolding item_at
 behind_head s h n t x fits e number rest whole =
     let by : item_by (things (item_at 255)) (length s) h.0.argument h.0.major_type h.1 ≡ Ok x =
@@ -159,16 +167,19 @@ pub record IsSplit (b f rest : List ℕ) : Type 0 where
   pub parts : b ≡ f ++ rest
   pub is_item : IsItem f (item_of f)
 
-pub jumped : (b rest f r : List ℕ) → IsBytes b → BeginsItem b → ((x : Item × List ℕ) → item_at 256 b ≡ Ok x → rest ≡ x.1) → f ≡ take (length b - length rest) b → r ≡ drop (length b - length rest) b → IsSplit b f r
+pub jumped : (b rest f r : List ℕ) → IsBytes b → BeginsItem b → ((x : Item × List ℕ) → item_at 256 b ≡ Ok x → rest ≡ x.1) → f ≡ take (length b - length rest) b
+    → r ≡ drop (length b - length rest) b → IsSplit b f r
 jumped b rest f r fits begins is front back =
     let x : Item × List ℕ = (begins.item, begins.rest) in
     let read : item_at 256 b ≡ Ok x = ap (item_at 256) begins.parts ∙ item_again 256 begins.item begins.front begins.rest begins.is_item.0 begins.is_item.1 in
     let same : rest ≡ begins.rest = is x read in
     let long : length begins.front ≡ length b - length rest = omega (arith, ap length begins.parts ∙ length-append begins.front begins.rest, ap length same) in
     let whole : f ≡ begins.front = front ∙ ap (take (length b - length rest)) begins.parts ∙ take_at begins.front begins.rest (length b - length rest) long in
-    let one = one_item_from f begins.item (subst (λ (c : List ℕ). IsBytes c) (sym front) (IsBytes-take (length b - length rest) b fits)) (subst (λ (c : List ℕ). IsItem c begins.item) (sym whole) begins.is_item) in
+    let one = one_item_from f begins.item (subst (λ (c : List ℕ). IsBytes c) (sym front) (IsBytes-take (length b - length rest) b fits))
+    (subst (λ (c : List ℕ). IsItem c begins.item) (sym whole) begins.is_item) in
     record {
       one = one;
-      parts = sym (take-append-drop (length b - length rest) b) ∙ ap (λ (c : List ℕ). c ++ drop (length b - length rest) b) (sym front) ∙ ap (λ (c : List ℕ). f ++ c) (sym back);
+      parts = sym (take-append-drop (length b - length rest) b) ∙ ap (λ (c : List ℕ). c ++ drop (length b - length rest) b) (sym front)
+          ∙ ap (λ (c : List ℕ). f ++ c) (sym back);
       is_item = one_item_is f one;
     }

@@ -1,5 +1,6 @@
 -- What grows at its end.
-use Rattle.std.proofs.Common.{◌≡◌, ℕ, suc, Box, ◌+◌, ◌<◌, Vec, Global, Result, rules, List, [], ◌∷◌, ◌++◌, map, take, length, get_or, refl, sym, ap, subst, ◌∙◌, append_assoc}
+use Rattle.std.proofs.Common.{◌≡◌, ℕ, suc, Box, ◌+◌, ◌<◌, Vec, Global, Result, rules, List, [], ◌∷◌, ◌++◌, map, take, length, get_or, refl, sym, ap, subst, ◌∙◌}
+use Rattle.std.proofs.Common.{append_assoc}
 use Rattle.std.proofs.lemmas.List.{append-nil, take_more, map_push}
 use Rattle.std.proofs.lemmas.Result.{on_ok_weaker}
 use Rattle.std.specs.Prelude.{OnOk}
@@ -11,54 +12,71 @@ use Rattle.coset_cbor.specs.Least.{least_head, least_encoding, least_encodings, 
 
 pub least_encodings-push : (vs : List Item) (v : Item) → least_encodings (items_of (vs ++ v ∷ [])) ≡ least_encodings (items_of vs) ++ least_encoding v
 least_encodings-push [] v = append-nil (least_encoding v)
-least_encodings-push (w ∷ vs) v = ap (λ (x : List ℕ). least_encoding w ++ x) (least_encodings-push vs v) ∙ sym (append_assoc (least_encoding w) (least_encodings (items_of vs)) (least_encoding v))
+least_encodings-push (w ∷ vs) v = ap (λ (x : List ℕ). least_encoding w ++ x) (least_encodings-push vs v)
+    ∙ sym (append_assoc (least_encoding w) (least_encodings (items_of vs)) (least_encoding v))
 
-pub least_pair_encodings-push : (ps : List (Item × Item)) (p : Item × Item) → least_pair_encodings (pairs_of (ps ++ p ∷ [])) ≡ least_pair_encodings (pairs_of ps) ++ (least_encoding p.0 ++ least_encoding p.1)
+pub least_pair_encodings-push : (ps : List (Item × Item)) (p : Item × Item)
+    → least_pair_encodings (pairs_of (ps ++ p ∷ [])) ≡ least_pair_encodings (pairs_of ps) ++ (least_encoding p.0 ++ least_encoding p.1)
 least_pair_encodings-push [] p = ap (λ (x : List ℕ). least_encoding p.0 ++ x) (append-nil (least_encoding p.1))
 least_pair_encodings-push (q ∷ ps) p = ap (λ (x : List ℕ). least_encoding q.0 ++ (least_encoding q.1 ++ x)) (least_pair_encodings-push ps p) ∙ simp append_assoc
 
-pub item_put : (xs : List Value) (i : ℕ) (x : Value) (old middle new : List ℕ) → i < length xs → x ≡ get_or xs i x → middle ≡ old ++ least_encodings (items_view (take i xs)) → new ≡ middle ++ least_encoding (view x)
+pub item_put : (xs : List Value) (i : ℕ) (x : Value) (old middle new : List ℕ) → i < length xs → x ≡ get_or xs i x
+    → middle ≡ old ++ least_encodings (items_view (take i xs)) → new ≡ middle ++ least_encoding (view x)
     → new ≡ old ++ least_encodings (items_view (take (i + 1) xs))
 item_put xs i x old middle new lt is so_far put =
     let more : take (i + 1) xs ≡ take i xs ++ x ∷ [] = take_more xs i x lt ∙ ap (λ (y : Value). take i xs ++ y ∷ []) (sym is) in
     let total : least_encodings (items_view (take (i + 1) xs)) ≡ least_encodings (items_view (take i xs)) ++ least_encoding (view x) =
-    ap (λ (ys : List Value). least_encodings (items_view ys)) more ∙ ap (λ (zs : List Item). least_encodings (items_of zs)) (map_push view (take i xs) x) ∙ least_encodings-push (map view (take i xs)) (view x) in
-    put ∙ ap (λ (s : List ℕ). s ++ least_encoding (view x)) so_far ∙ append_assoc old (least_encodings (items_view (take i xs))) (least_encoding (view x)) ∙ ap (λ (s : List ℕ). old ++ s) (sym total)
+    ap (λ (ys : List Value). least_encodings (items_view ys)) more ∙ ap (λ (zs : List Item). least_encodings (items_of zs)) (map_push view (take i xs) x)
+    ∙ least_encodings-push (map view (take i xs)) (view x) in
+    put ∙ ap (λ (s : List ℕ). s ++ least_encoding (view x)) so_far ∙ append_assoc old (least_encodings (items_view (take i xs))) (least_encoding (view x))
+    ∙ ap (λ (s : List ℕ). old ++ s) (sym total)
 
-pub pair_put : (xs : List (Value × Value)) (i : ℕ) (x : Value × Value) (old middle half new : List ℕ) → i < length xs → x ≡ get_or xs i x → middle ≡ old ++ least_pair_encodings (pairs_view (take i xs)) → half ≡ middle ++ least_encoding (view x.0) → new ≡ half ++ least_encoding (view x.1)
+pub pair_put : (xs : List (Value × Value)) (i : ℕ) (x : Value × Value) (old middle half new : List ℕ) → i < length xs → x ≡ get_or xs i x
+    → middle ≡ old ++ least_pair_encodings (pairs_view (take i xs)) → half ≡ middle ++ least_encoding (view x.0) → new ≡ half ++ least_encoding (view x.1)
     → new ≡ old ++ least_pair_encodings (pairs_view (take (i + 1) xs))
 pair_put xs i x old middle half new lt is so_far key put =
     let more : take (i + 1) xs ≡ take i xs ++ x ∷ [] = take_more xs i x lt ∙ ap (λ (y : Value × Value). take i xs ++ y ∷ []) (sym is) in
     let both = least_encoding (view x.0) ++ least_encoding (view x.1) in
     let total : least_pair_encodings (pairs_view (take (i + 1) xs)) ≡ least_pair_encodings (pairs_view (take i xs)) ++ both =
-    ap (λ (ys : List (Value × Value)). least_pair_encodings (pairs_view ys)) more ∙ ap (λ (zs : List (Item × Item)). least_pair_encodings (pairs_of zs)) (map_push pair_view (take i xs) x) ∙ least_pair_encodings-push (map pair_view (take i xs)) (pair_view x) in
-    let all : new ≡ middle ++ both = put ∙ ap (λ (s : List ℕ). s ++ least_encoding (view x.1)) key ∙ append_assoc middle (least_encoding (view x.0)) (least_encoding (view x.1)) in
-    all ∙ ap (λ (s : List ℕ). s ++ both) so_far ∙ append_assoc old (least_pair_encodings (pairs_view (take i xs))) both ∙ ap (λ (s : List ℕ). old ++ s) (sym total)
+    ap (λ (ys : List (Value × Value)). least_pair_encodings (pairs_view ys)) more
+    ∙ ap (λ (zs : List (Item × Item)). least_pair_encodings (pairs_of zs)) (map_push pair_view (take i xs) x)
+    ∙ least_pair_encodings-push (map pair_view (take i xs)) (pair_view x) in
+    let all : new ≡ middle ++ both = put ∙ ap (λ (s : List ℕ). s ++ least_encoding (view x.1)) key
+    ∙ append_assoc middle (least_encoding (view x.0)) (least_encoding (view x.1)) in
+    all ∙ ap (λ (s : List ℕ). s ++ both) so_far ∙ append_assoc old (least_pair_encodings (pairs_view (take i xs))) both
+    ∙ ap (λ (s : List ℕ). old ++ s) (sym total)
 
 in_range-push : (vs : List Item) (v : Item) → AreInRange (items_of vs) → IsInRange v → AreInRange (items_of (vs ++ v ∷ []))
 in_range-push [] v h k = (k, tt)
 in_range-push (w ∷ vs) v h k = (h.0, in_range-push vs v h.1 k)
 
-pairs_in_range-push : (ps : List (Item × Item)) (p : Item × Item) → ArePairsInRange (pairs_of ps) → IsInRange p.0 → IsInRange p.1 → ArePairsInRange (pairs_of (ps ++ p ∷ []))
+pairs_in_range-push : (ps : List (Item × Item)) (p : Item × Item) → ArePairsInRange (pairs_of ps) → IsInRange p.0 → IsInRange p.1
+    → ArePairsInRange (pairs_of (ps ++ p ∷ []))
 pairs_in_range-push [] p h k l = (k, l, tt)
 pairs_in_range-push (q ∷ ps) p h k l = (h.0, h.1, pairs_in_range-push ps p h.2 k l)
 
-pub item_in_range : (xs : List Value) (i : ℕ) (x : Value) → i < length xs → x ≡ get_or xs i x → AreInRange (items_view (take i xs)) → IsInRange (view x) → AreInRange (items_view (take (i + 1) xs))
+pub item_in_range : (xs : List Value) (i : ℕ) (x : Value) → i < length xs → x ≡ get_or xs i x → AreInRange (items_view (take i xs)) → IsInRange (view x)
+    → AreInRange (items_view (take (i + 1) xs))
 item_in_range xs i x lt is so_far here =
     let more : take (i + 1) xs ≡ take i xs ++ x ∷ [] = take_more xs i x lt ∙ ap (λ (y : Value). take i xs ++ y ∷ []) (sym is) in
-    let views : items_view (take (i + 1) xs) ≡ items_of (map view (take i xs) ++ view x ∷ []) = ap items_view more ∙ ap items_of (map_push view (take i xs) x) in
+    let views : items_view (take (i + 1) xs) ≡ items_of (map view (take i xs) ++ view x ∷ []) = ap items_view more
+    ∙ ap items_of (map_push view (take i xs) x) in
     subst AreInRange (sym views) (in_range-push (map view (take i xs)) (view x) so_far here)
 
-pub pair_in_range : (xs : List (Value × Value)) (i : ℕ) (x : Value × Value) → i < length xs → x ≡ get_or xs i x → ArePairsInRange (pairs_view (take i xs)) → IsInRange (view x.0) → IsInRange (view x.1)
+pub pair_in_range : (xs : List (Value × Value)) (i : ℕ) (x : Value × Value) → i < length xs → x ≡ get_or xs i x → ArePairsInRange (pairs_view (take i xs))
+    → IsInRange (view x.0) → IsInRange (view x.1)
     → ArePairsInRange (pairs_view (take (i + 1) xs))
 pair_in_range xs i x lt is so_far key value =
     let more : take (i + 1) xs ≡ take i xs ++ x ∷ [] = take_more xs i x lt ∙ ap (λ (y : Value × Value). take i xs ++ y ∷ []) (sym is) in
-    let views : pairs_view (take (i + 1) xs) ≡ pairs_of (map pair_view (take i xs) ++ pair_view x ∷ []) = ap pairs_view more ∙ ap pairs_of (map_push pair_view (take i xs) x) in
+    let views : pairs_view (take (i + 1) xs) ≡ pairs_of (map pair_view (take i xs) ++ pair_view x ∷ []) = ap pairs_view more
+    ∙ ap pairs_of (map_push pair_view (take i xs) x) in
     subst ArePairsInRange (sym views) (pairs_in_range-push (map pair_view (take i xs)) (pair_view x) so_far key value)
 
-pub headed_put : {A B : Type 0} (r : Result A B) (m n k : ℕ) (body old middle new whole : List ℕ) → whole ≡ least_head m k ++ body → n ≡ k → middle ≡ old ++ least_head m n → OnOk r (new ≡ middle ++ body) → OnOk r (new ≡ old ++ whole)
+pub headed_put : {A B : Type 0} (r : Result A B) (m n k : ℕ) (body old middle new whole : List ℕ) → whole ≡ least_head m k ++ body → n ≡ k
+    → middle ≡ old ++ least_head m n → OnOk r (new ≡ middle ++ body) → OnOk r (new ≡ old ++ whole)
 headed_put r m n k body old middle new whole is same head put =
-    on_ok_weaker r (λ e. e ∙ ap (λ (s : List ℕ). s ++ body) (head ∙ ap (λ (j : ℕ). old ++ least_head m j) same) ∙ append_assoc old (least_head m k) body ∙ ap (λ (s : List ℕ). old ++ s) (sym is)) put
+    on_ok_weaker r (λ e. e ∙ ap (λ (s : List ℕ). s ++ body) (head ∙ ap (λ (j : ℕ). old ++ least_head m j) same) ∙ append_assoc old (least_head m k) body
+    ∙ ap (λ (s : List ℕ). old ++ s) (sym is)) put
 
 pub items_count-items_view : (vs : List Value) → items_count (items_view vs) ≡ length vs
 items_count-items_view [] = refl

@@ -12,19 +12,23 @@ use Rattle.coset_cbor.specs.Grammar.{joined_chunks}
 abbrev pub with_front : {A : Type 0} → List A → Result (List A × List ℕ) Fault → Result (List A × List ℕ) Fault
 with_front front read = read >>= λ x. Ok (front ++ x.0, x.1)
 
-regroup : {A : Type 0} (front : List A) (a : A) (read : Result (List A × List ℕ) Fault) → with_front front (read >>= λ x. Ok (a ∷ x.0, x.1)) ≡ with_front (front ++ a ∷ []) read
+regroup : {A : Type 0} (front : List A) (a : A) (read : Result (List A × List ℕ) Fault)
+    → with_front front (read >>= λ x. Ok (a ∷ x.0, x.1)) ≡ with_front (front ++ a ∷ []) read
 regroup {A} front a (Ok x) = ap (λ (xs : List A). Ok (xs, x.1)) (simp append_assoc)
 regroup front a (Err f) = refl
 
-pub times_on : {A : Type 0} (one : Parse A) (front : List A) (count i : ℕ) (s : List ℕ) (a : A) (after : List ℕ) (total : Result (List A × List ℕ) Fault) → i < count → one s ≡ Ok (a, after)
+pub times_on : {A : Type 0} (one : Parse A) (front : List A) (count i : ℕ) (s : List ℕ) (a : A) (after : List ℕ) (total : Result (List A × List ℕ) Fault)
+    → i < count → one s ≡ Ok (a, after)
     → with_front front (times_at one (count - i) s) ≡ total → with_front (front ++ a ∷ []) (times_at one (count - (i + 1)) after) ≡ total
 unfolding times_at
 times_on one front count i s a after total lt h so_far =
     let k : count - i ≡ suc (count - (i + 1)) = omega arith in
-    let step : with_front front (times_at one (count - i) s) ≡ with_front (front ++ a ∷ []) (times_at one (count - (i + 1)) after) = rw (k, h) (regroup front a (times_at one (count - (i + 1)) after)) in
+    let step : with_front front (times_at one (count - i) s) ≡ with_front (front ++ a ∷ []) (times_at one (count - (i + 1)) after) =
+    rw (k, h) (regroup front a (times_at one (count - (i + 1)) after)) in
     sym step ∙ so_far
 
-pub times_fails : {A : Type 0} (one : Parse A) (e : ReadError) (front : List A) (count i : ℕ) (s : List ℕ) (total : Result (List A × List ℕ) Fault) → i < count → FailsAs e (one s)
+pub times_fails : {A : Type 0} (one : Parse A) (e : ReadError) (front : List A) (count i : ℕ) (s : List ℕ) (total : Result (List A × List ℕ) Fault) → i < count
+    → FailsAs e (one s)
     → with_front front (times_at one (count - i) s) ≡ total → FailsAs e total
 unfolding times_at
 times_fails one errors.Memory front count i s total lt h so_far = tt
@@ -33,22 +37,26 @@ times_fails one (errors.Fault f) front count i s total lt h so_far =
     let step : with_front front (times_at one (count - i) s) ≡ Err f = rw (k, h) refl in
     sym so_far ∙ step
 
-pub times_done : {A : Type 0} (one : Parse A) (front : List A) (count i : ℕ) (s : List ℕ) (total : Result (List A × List ℕ) Fault) → count ≤ i → with_front front (times_at one (count - i) s) ≡ total → total ≡ Ok (front, s)
+pub times_done : {A : Type 0} (one : Parse A) (front : List A) (count i : ℕ) (s : List ℕ) (total : Result (List A × List ℕ) Fault) → count ≤ i
+    → with_front front (times_at one (count - i) s) ≡ total → total ≡ Ok (front, s)
 unfolding times_at
 times_done {A} one front count i s total le so_far =
     let k : count - i ≡ 0 = omega arith in
     let step : with_front front (times_at one (count - i) s) ≡ Ok (front, s) = rw k (ap (λ (xs : List A). Ok (xs, s)) (append-nil front)) in
     sym so_far ∙ step
 
-pub until_on : {A : Type 0} (one : Parse A) (front : List A) (turns i : ℕ) (s : List ℕ) (a : A) (after : List ℕ) (total : Result (List A × List ℕ) Fault) → i < turns → begins_break s ≡ false → one s ≡ Ok (a, after)
+pub until_on : {A : Type 0} (one : Parse A) (front : List A) (turns i : ℕ) (s : List ℕ) (a : A) (after : List ℕ) (total : Result (List A × List ℕ) Fault)
+    → i < turns → begins_break s ≡ false → one s ≡ Ok (a, after)
     → with_front front (until_at one (turns - i) s) ≡ total → with_front (front ++ a ∷ []) (until_at one (turns - (i + 1)) after) ≡ total
 unfolding until_at
 until_on one front turns i s a after total lt goes h so_far =
     let k : turns - i ≡ suc (turns - (i + 1)) = omega arith in
-    let step : with_front front (until_at one (turns - i) s) ≡ with_front (front ++ a ∷ []) (until_at one (turns - (i + 1)) after) = rw (k, goes, h) (regroup front a (until_at one (turns - (i + 1)) after)) in
+    let step : with_front front (until_at one (turns - i) s) ≡ with_front (front ++ a ∷ []) (until_at one (turns - (i + 1)) after) =
+    rw (k, goes, h) (regroup front a (until_at one (turns - (i + 1)) after)) in
     sym step ∙ so_far
 
-pub until_fails : {A : Type 0} (one : Parse A) (e : ReadError) (front : List A) (turns i : ℕ) (s : List ℕ) (total : Result (List A × List ℕ) Fault) → i < turns → begins_break s ≡ false → FailsAs e (one s)
+pub until_fails : {A : Type 0} (one : Parse A) (e : ReadError) (front : List A) (turns i : ℕ) (s : List ℕ) (total : Result (List A × List ℕ) Fault) → i < turns
+    → begins_break s ≡ false → FailsAs e (one s)
     → with_front front (until_at one (turns - i) s) ≡ total → FailsAs e total
 unfolding until_at
 until_fails one errors.Memory front turns i s total lt goes h so_far = tt
@@ -57,15 +65,18 @@ until_fails one (errors.Fault f) front turns i s total lt goes h so_far =
     let step : with_front front (until_at one (turns - i) s) ≡ Err f = rw (k, goes, h) refl in
     sym so_far ∙ step
 
-pub until_stops : {A : Type 0} (one : Parse A) (front : List A) (turns i : ℕ) (s : List ℕ) (total : Result (List A × List ℕ) Fault) → i < turns → begins_break s ≡ true
+pub until_stops : {A : Type 0} (one : Parse A) (front : List A) (turns i : ℕ) (s : List ℕ) (total : Result (List A × List ℕ) Fault) → i < turns
+    → begins_break s ≡ true
     → with_front front (until_at one (turns - i) s) ≡ total → total ≡ Ok (front, drop 1 s)
 unfolding until_at
 until_stops {A} one front turns i s total lt stops so_far =
     let k : turns - i ≡ suc (turns - (i + 1)) = omega arith in
-    let step : with_front front (until_at one (turns - i) s) ≡ Ok (front, drop 1 s) = rw (k, stops) (ap (λ (xs : List A). Ok (xs, drop 1 s)) (append-nil front)) in
+    let step : with_front front (until_at one (turns - i) s) ≡ Ok (front, drop 1 s) =
+    rw (k, stops) (ap (λ (xs : List A). Ok (xs, drop 1 s)) (append-nil front)) in
     sym so_far ∙ step
 
-pub until_ends : {A : Type 0} (one : Parse A) (front : List A) (turns i : ℕ) (s : List ℕ) (total : Result (List A × List ℕ) Fault) → turns ≤ i → with_front front (until_at one (turns - i) s) ≡ total → total ≡ Err End
+pub until_ends : {A : Type 0} (one : Parse A) (front : List A) (turns i : ℕ) (s : List ℕ) (total : Result (List A × List ℕ) Fault) → turns ≤ i
+    → with_front front (until_at one (turns - i) s) ≡ total → total ≡ Err End
 unfolding until_at
 until_ends one front turns i s total le so_far =
     let k : turns - i ≡ 0 = omega arith in
@@ -86,7 +97,8 @@ joined_chunks-push (p ∷ parts) part = ap (λ (s : List ℕ). p ++ s) (joined_c
 abbrev pub join : List (List ℕ) × List ℕ → Result (List ℕ × List ℕ) Fault
 join x = Ok (joined_chunks x.0, x.1)
 
-pub joins : (read : Result (List (List ℕ) × List ℕ) Fault) (parts : List (List ℕ)) (s whole after : List ℕ) → read ≡ Ok (parts, s) → joined_chunks parts ≡ whole → s ≡ after
+pub joins : (read : Result (List (List ℕ) × List ℕ) Fault) (parts : List (List ℕ)) (s whole after : List ℕ) → read ≡ Ok (parts, s) → joined_chunks parts ≡ whole
+    → s ≡ after
     → (read >>= join) ≡ Ok (whole, after)
 joins read parts s whole after e f g = rw (e, f, g) refl
 

@@ -1,5 +1,6 @@
 -- What an item holds that stands at the front, by its head.
-use Rattle.std.proofs.Common.{◌≡◌, ◌≢◌, ℕ, ℤ, ◌<◌, List, ◌∷◌, ◌++◌, length, Bool, true, false, eqb, ltb, Option, Some, None, Result, Ok, Err, sym, subst, ap, ◌∙◌, inl, inr}
+use Rattle.std.proofs.Common.{◌≡◌, ◌≢◌, ℕ, ℤ, ◌<◌, List, ◌∷◌, ◌++◌, length, Bool, true, false, eqb, ltb, Option, Some, None, Result, Ok, Err, sym, subst, ap}
+use Rattle.std.proofs.Common.{◌∙◌, inl, inr}
 use Rattle.std.specs.Prelude.{pos, negsuc}
 use Rattle.coset_value.specs.Item.{Item, integer, float, boolean, null, half, single, double}
 use Rattle.coset_value.specs.Parts.{as_integer}
@@ -43,9 +44,12 @@ simple_behind left (places.Four n) s x e = behind (float (single n)) s x e
 simple_behind left (places.Eight n) s x e = behind (float (double n)) s x e
 simple_behind left places.Indefinite s x e = absurd cc
 
-scalar_behind : (inside : Inside) (left : ℕ) (g : Argument) (k : MajorType) (s : List ℕ) (x : Item × List ℕ) (w : Item) → item_by inside left g k s ≡ Ok x → scalar_by left g k s ≡ Some w → s ≡ x.1
-scalar_behind inside left g major_types.Unsigned s x w e is = let n = some_ok left (number_of g) (λ n. Ok (integer (pos n), s)) x e in behind (integer (pos n.0)) s x n.2
-scalar_behind inside left g major_types.Negative s x w e is = let n = some_ok left (number_of g) (λ n. Ok (integer (negsuc n), s)) x e in behind (integer (negsuc n.0)) s x n.2
+scalar_behind : (inside : Inside) (left : ℕ) (g : Argument) (k : MajorType) (s : List ℕ) (x : Item × List ℕ) (w : Item) → item_by inside left g k s ≡ Ok x
+    → scalar_by left g k s ≡ Some w → s ≡ x.1
+scalar_behind inside left g major_types.Unsigned s x w e is = let n = some_ok left (number_of g) (λ n. Ok (integer (pos n), s)) x e in
+    behind (integer (pos n.0)) s x n.2
+scalar_behind inside left g major_types.Negative s x w e is = let n = some_ok left (number_of g) (λ n. Ok (integer (negsuc n), s)) x e in
+    behind (integer (negsuc n.0)) s x n.2
 scalar_behind inside left g major_types.Bytes s x w e is = absurd cc
 scalar_behind inside left g major_types.Text s x w e is = absurd cc
 scalar_behind inside left g major_types.Array s x w e is = absurd cc
@@ -54,18 +58,25 @@ scalar_behind inside left g major_types.Tag s x w e is = absurd cc
 scalar_behind inside left g major_types.Simple s x w e is = simple_behind left g s x e
 
 pub scalar_read :
-    (v : Item) (s a : List ℕ) (h : HeadSeen × List ℕ) (w : Item) → Stands v s a → head_at s ≡ Ok h → Some w ≡ scalar_by (length s) h.0.argument h.0.major_type h.1 → (as_scalar v ≡ Some w) × (h.1 ≡ a)
+    (v : Item) (s a : List ℕ) (h : HeadSeen × List ℕ) (w : Item) → Stands v s a → head_at s ≡ Ok h
+    → Some w ≡ scalar_by (length s) h.0.argument h.0.major_type h.1 → (as_scalar v ≡ Some w) × (h.1 ≡ a)
 scalar_read v s a h w whole e is =
     let by = stands_by v s a h whole e in
-    let inside = things (item_at 255) in
-    (sym (is ∙ scalar_is inside (length s) h.0.argument h.0.major_type h.1 (v, a) by), scalar_behind inside (length s) h.0.argument h.0.major_type h.1 (v, a) w by (sym is))
+    let inside = things (item_at 255) in (
+      sym (is ∙ scalar_is inside (length s) h.0.argument h.0.major_type h.1 (v, a) by),
+      scalar_behind inside (length s) h.0.argument h.0.major_type h.1 (v, a) w by (sym is),
+    )
 
-pub no_scalar : (v : Item) (s a : List ℕ) (h : HeadSeen × List ℕ) → Stands v s a → head_at s ≡ Ok h → None ≡ scalar_by (length s) h.0.argument h.0.major_type h.1 → as_scalar v ≡ None
+pub no_scalar : (v : Item) (s a : List ℕ) (h : HeadSeen × List ℕ) → Stands v s a → head_at s ≡ Ok h
+    → None ≡ scalar_by (length s) h.0.argument h.0.major_type h.1 → as_scalar v ≡ None
 no_scalar v s a h whole e is = sym (is ∙ scalar_is (things (item_at 255)) (length s) h.0.argument h.0.major_type h.1 (v, a) (stands_by v s a h whole e))
 
-integer_behind : (inside : Inside) (left : ℕ) (g : Argument) (k : MajorType) (s : List ℕ) (x : Item × List ℕ) (n : ℤ) → item_by inside left g k s ≡ Ok x → integer_by (number_of g) k ≡ Some n → s ≡ x.1
-integer_behind inside left g major_types.Unsigned s x i e is = let n = some_ok left (number_of g) (λ n. Ok (integer (pos n), s)) x e in behind (integer (pos n.0)) s x n.2
-integer_behind inside left g major_types.Negative s x i e is = let n = some_ok left (number_of g) (λ n. Ok (integer (negsuc n), s)) x e in behind (integer (negsuc n.0)) s x n.2
+integer_behind : (inside : Inside) (left : ℕ) (g : Argument) (k : MajorType) (s : List ℕ) (x : Item × List ℕ) (n : ℤ) → item_by inside left g k s ≡ Ok x
+    → integer_by (number_of g) k ≡ Some n → s ≡ x.1
+integer_behind inside left g major_types.Unsigned s x i e is = let n = some_ok left (number_of g) (λ n. Ok (integer (pos n), s)) x e in
+    behind (integer (pos n.0)) s x n.2
+integer_behind inside left g major_types.Negative s x i e is = let n = some_ok left (number_of g) (λ n. Ok (integer (negsuc n), s)) x e in
+    behind (integer (negsuc n.0)) s x n.2
 integer_behind inside left g major_types.Bytes s x i e is = absurd cc
 integer_behind inside left g major_types.Text s x i e is = absurd cc
 integer_behind inside left g major_types.Array s x i e is = absurd cc
@@ -74,13 +85,17 @@ integer_behind inside left g major_types.Tag s x i e is = absurd cc
 integer_behind inside left g major_types.Simple s x i e is = absurd cc
 
 pub integer_read :
-    (v : Item) (s a : List ℕ) (h : HeadSeen × List ℕ) (n : ℤ) → Stands v s a → head_at s ≡ Ok h → Some n ≡ integer_by (number_of h.0.argument) h.0.major_type → (as_integer v ≡ Some n) × (h.1 ≡ a)
+    (v : Item) (s a : List ℕ) (h : HeadSeen × List ℕ) (n : ℤ) → Stands v s a → head_at s ≡ Ok h → Some n ≡ integer_by (number_of h.0.argument) h.0.major_type
+    → (as_integer v ≡ Some n) × (h.1 ≡ a)
 integer_read v s a h n whole e is =
     let by = stands_by v s a h whole e in
-    let inside = things (item_at 255) in
-    (sym (is ∙ integer_is inside (length s) h.0.argument h.0.major_type h.1 (v, a) by), integer_behind inside (length s) h.0.argument h.0.major_type h.1 (v, a) n by (sym is))
+    let inside = things (item_at 255) in (
+      sym (is ∙ integer_is inside (length s) h.0.argument h.0.major_type h.1 (v, a) by),
+      integer_behind inside (length s) h.0.argument h.0.major_type h.1 (v, a) n by (sym is),
+    )
 
-pub no_integer : (v : Item) (s a : List ℕ) (h : HeadSeen × List ℕ) → Stands v s a → head_at s ≡ Ok h → None ≡ integer_by (number_of h.0.argument) h.0.major_type → as_integer v ≡ None
+pub no_integer : (v : Item) (s a : List ℕ) (h : HeadSeen × List ℕ) → Stands v s a → head_at s ≡ Ok h → None ≡ integer_by (number_of h.0.argument) h.0.major_type
+    → as_integer v ≡ None
 no_integer v s a h whole e is = sym (is ∙ integer_is (things (item_at 255)) (length s) h.0.argument h.0.major_type h.1 (v, a) (stands_by v s a h whole e))
 
 -- ---- null
@@ -106,7 +121,8 @@ no_null v s a rest x whole e other is = other (first x 246 rest a (sym e ∙ nul
 
 -- a string that was read is what the item holds, and what follows it is what follows the item
 pub string_there :
-    (is_text : Bool) (v : Item) (s a : List ℕ) (h : HeadSeen × List ℕ) (o : Option ℕ) (y : List ℕ × List ℕ) → Stands v s a → head_at s ≡ Ok h → begins_chunk is_text h.0.major_type ≡ true → o ≡ number_of h.0.argument
+    (is_text : Bool) (v : Item) (s a : List ℕ) (h : HeadSeen × List ℕ) (o : Option ℕ) (y : List ℕ × List ℕ) → Stands v s a → head_at s ≡ Ok h
+    → begins_chunk is_text h.0.major_type ≡ true → o ≡ number_of h.0.argument
     → any_string_by is_text (length s) o h.1 ≡ Ok y → (Some y.0 ≡ as_string is_text v) × (y.1 ≡ a)
 string_there is_text v s a h o y whole e k number is =
     let by = stands_by v s a h whole e in
@@ -115,7 +131,8 @@ string_there is_text v s a h o y whole e k number is =
     (ap (λ (z : List ℕ × List ℕ). Some z.0) same ∙ r.2, ap rest_of same ∙ r.3)
 
 pub string_no_fault_there :
-    (is_text : Bool) (v : Item) (s a : List ℕ) (h : HeadSeen × List ℕ) (o : Option ℕ) (f : Fault) → Stands v s a → head_at s ≡ Ok h → begins_chunk is_text h.0.major_type ≡ true → o ≡ number_of h.0.argument
+    (is_text : Bool) (v : Item) (s a : List ℕ) (h : HeadSeen × List ℕ) (o : Option ℕ) (f : Fault) → Stands v s a → head_at s ≡ Ok h
+    → begins_chunk is_text h.0.major_type ≡ true → o ≡ number_of h.0.argument
     → any_string_by is_text (length s) o h.1 ≡ Err f → ⊥
 string_no_fault_there is_text v s a h o f whole e k number is =
     let r = string_by is_text (things (item_at 255)) (length s) h.0.argument h.0.major_type h.1 (v, a) k (stands_by v s a h whole e) in
@@ -124,8 +141,10 @@ string_no_fault_there is_text v s a h o f whole e k number is =
     differ : (y : List ℕ × List ℕ) → ◌≡◌ {A = Result (List ℕ × List ℕ) Fault} (Err f) (Ok y) → ⊥
     differ y e = cc
 
-pub no_string_there : (is_text : Bool) (v : Item) (s a : List ℕ) (h : HeadSeen × List ℕ) → Stands v s a → head_at s ≡ Ok h → begins_chunk is_text h.0.major_type ≡ false → as_string is_text v ≡ None
-no_string_there is_text v s a h whole e k = other_read is_text (things (item_at 255)) (length s) h.0.argument h.0.major_type h.1 v a k (stands_by v s a h whole e)
+pub no_string_there : (is_text : Bool) (v : Item) (s a : List ℕ) (h : HeadSeen × List ℕ) → Stands v s a → head_at s ≡ Ok h
+    → begins_chunk is_text h.0.major_type ≡ false → as_string is_text v ≡ None
+no_string_there is_text v s a h whole e k = other_read is_text (things (item_at 255)) (length s) h.0.argument h.0.major_type h.1 v a k
+    (stands_by v s a h whole e)
 
 -- ---- an item as it is
 

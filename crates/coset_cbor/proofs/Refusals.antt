@@ -1,5 +1,6 @@
 -- Where nothing is read, the fault stands.
-use Rattle.std.proofs.Common.{◌≡◌, ℕ, zero, suc, ◌+◌, ◌*◌, ◌/◌, ◌%◌, ◌^◌, ◌<◌, ◌≤◌, Bool, true, false, cond, ltb, eqb, List, [], ◌∷◌, ◌++◌, length, take, Option, Some, None, Result, Ok, Err, refl, sym, ap, subst, ◌∙◌, append_assoc, arith, inl, inr, ◌⊎◌}
+use Rattle.std.proofs.Common.{◌≡◌, ℕ, zero, suc, ◌+◌, ◌*◌, ◌/◌, ◌%◌, ◌^◌, ◌<◌, ◌≤◌, Bool, true, false, cond, ltb, eqb, List, [], ◌∷◌, ◌++◌, length, take}
+use Rattle.std.proofs.Common.{Option, Some, None, Result, Ok, Err, refl, sym, ap, subst, ◌∙◌, append_assoc, arith, inl, inr, ◌⊎◌}
 use Rattle.std.specs.Prelude.{pos, negsuc, not}
 use Rattle.std.specs.Str.{IsUtf8}
 use Rattle.std.proofs.lemmas.Bool.{ltb-false, eqb-true, eqb-false, cases_lt}
@@ -13,12 +14,18 @@ use Rattle.coset_cbor.specs.Heads.{Argument, HeadSeen}
 use Rattle.coset_cbor.specs.Heads as places
 use Rattle.coset_value.specs.Item.{Item, integer, bytes, tag, array, dict, Items, no_items, item, items_count}
 use Rattle.coset_value.specs.View.{items_of, pairs_of}
-use Rattle.coset_cbor.specs.Grammar.{Place, within, one, two, four, eight, Holds, head_in, IsHead, IsHeaded, EachInOrder, joined_chunks, string_type, IsDefinite, AreEncodings}
-use Rattle.coset_cbor.specs.Reading.{◌>>=◌, Parse, major_type_of, number_of, argument_by, head_at, unless_none, is_string_content, string_at, begins_chunk, chunk_at, begins_break, times_at, until_at, chunks_at, any_string_by, pair_at, simple_at, Inside, nothing, things, item_by, item_from, item_at}
+use Rattle.coset_cbor.specs.Grammar.{Place, within, one, two, four, eight, Holds, head_in, IsHead, IsHeaded, EachInOrder, joined_chunks, string_type}
+use Rattle.coset_cbor.specs.Grammar.{IsDefinite, AreEncodings}
+use Rattle.coset_cbor.specs.Reading.{◌>>=◌, Parse, major_type_of, number_of, argument_by, head_at, unless_none, is_string_content, string_at, begins_chunk}
+use Rattle.coset_cbor.specs.Reading.{chunk_at, begins_break, times_at, until_at, chunks_at, any_string_by, pair_at, simple_at, Inside, nothing, things, item_by}
+use Rattle.coset_cbor.specs.Reading.{item_from, item_at}
 use Rattle.std.proofs.lemmas.Bool.{ltb-true, false≢true}
-use Rattle.coset_cbor.specs.Faults.{is_even, Opens, in_array, in_map, in_tag, in_open_array, in_open_map, Due, at_start, innermost, outer, DueChunk, IsDue, LacksContent, Ends, HasBadInfo, HasNoLength, IsLowSimple, BeginsBreak, NoItem, NoChunk, IsBadTextString, IsNotSupported, Nests, Stands}
+use Rattle.coset_cbor.specs.Faults.{is_even, Opens, in_array, in_map, in_tag, in_open_array, in_open_map, Due, at_start, innermost, outer, DueChunk, IsDue}
+use Rattle.coset_cbor.specs.Faults.{LacksContent, Ends, HasBadInfo, HasNoLength, IsLowSimple, BeginsBreak, NoItem, NoChunk, IsBadTextString, IsNotSupported}
+use Rattle.coset_cbor.specs.Faults.{Nests, Stands}
 use Rattle.coset_cbor.proofs.Again.{IsEncodingBelow, IsPairEncodingBelow, Begins, IsEncoding-begins, begins_append, IsHeaded-begins, type_low}
-use Rattle.coset_cbor.proofs.Takes.{IsBytes, bind_ok, chosen, ok_is, major_type_number, chunk_type, option_cases, number_head, none_head, head_takes, IsSoundReader, item_takes, chunk_takes, pair_takes, IsArgumentEncoding}
+use Rattle.coset_cbor.proofs.Takes.{IsBytes, bind_ok, chosen, ok_is, major_type_number, chunk_type, option_cases, number_head, none_head, head_takes}
+use Rattle.coset_cbor.proofs.Takes.{IsSoundReader, item_takes, chunk_takes, pair_takes, IsArgumentEncoding}
 
 -- ---- steps that failed
 
@@ -80,7 +87,8 @@ argument_fault x s f e =
 head_fault : (s : List ℕ) (f : Fault) → head_at s ≡ Err f → HeadFault s f
 unfolding head_at
 head_fault [] f e = inl (sym (fault_is {A = HeadSeen × List ℕ} End f e), inl refl)
-head_fault (x ∷ s) f e = argument_fault x s f (bind_made (argument_by (x % 32) (suc (length s)) s) (λ a. (record { major_type = major_type_of (x / 32); argument = a.0 }, a.1)) f e)
+head_fault (x ∷ s) f e = argument_fault x s f (bind_made (argument_by (x % 32) (suc (length s)) s)
+    (λ a. (record { major_type = major_type_of (x / 32); argument = a.0 }, a.1)) f e)
 
 -- ---- a fault inside what opens
 
@@ -130,7 +138,8 @@ no_item_flag e f t nb (inr (inr (inl h))) = inr (inr (inl h))
 no_item_flag e f t (inl nb) (inr (inr (inr h))) = inr (inr (inr (h.0, nb)))
 no_item_flag e f t (inr nb) (inr (inr (inr h))) = absurd (false≢true (sym nb ∙ breaks t h.0))
 
-nest_item : (o : List ℕ) (f : Bool) → Opens o f → (s c t : List ℕ) → NoBreakAt f s → s ≡ c ++ t → (d : ℕ) (e : Bool) → Due c d e → NoItem e t → (k : ℕ) × (g : Bool) × Due (o ++ c) k g × NoItem g t
+nest_item : (o : List ℕ) (f : Bool) → Opens o f → (s c t : List ℕ) → NoBreakAt f s → s ≡ c ++ t → (d : ℕ) (e : Bool) → Due c d e → NoItem e t → (k : ℕ)
+    × (g : Bool) × Due (o ++ c) k g × NoItem g t
 nest_item o f p s c t nb parts d e due h =
     let n = due_nest o f p c d e due in
     elim n.is [
@@ -146,7 +155,8 @@ nest d o f p s nb End h = (o ++ h.0, h.1, moved o h.0 h.1 s h.2, (is_due_nest o 
 nest d o f p s nb (Syntax left) (c, t, parts, len, inl h) = (o ++ c, t, moved o c t s parts, len, inl (nest_item o f p s c t nb parts h.0 h.1 h.2 h.3))
 nest d o f p s nb (Syntax left) (c, t, parts, len, inr (inl h)) = (o ++ c, t, moved o c t s parts, len, inr (inl (h.0, chunk_nest o f p h.0 c h.1, h.2)))
 nest d o f p s nb (Syntax left) (c, t, parts, len, inr (inr h)) = (o ++ c, t, moved o c t s parts, len, inr (inr (is_due_nest o f p c h.0, h.1)))
-nest d o f p s nb (Simple left) h = let n = due_nest o f p h.0 h.4.0 h.4.1 h.4.2 in (o ++ h.0, h.1, moved o h.0 h.1 s h.2, h.3, (suc h.4.0, n.flag, n.due, h.4.3))
+nest d o f p s nb (Simple left) h = let n = due_nest o f p h.0 h.4.0 h.4.1 h.4.2 in
+    (o ++ h.0, h.1, moved o h.0 h.1 s h.2, h.3, (suc h.4.0, n.flag, n.due, h.4.3))
 nest d o f p s nb Deep h = let n = due_nest o f p h.0 d h.3.0 h.3.1 in (o ++ h.0, h.1, moved o h.0 h.1 s h.2, (n.flag, n.due, h.3.2))
 
 -- ---- strings
@@ -156,13 +166,21 @@ not_sound false s e = absurd cc
 not_sound true s e = (refl, λ u. false≢true (sym e ∙ is_utf8-from_IsUtf8 s u))
 
 -- a definite string, h and what follows it, at t
-string_fault : (d : ℕ) (is_text : Bool) (s c t h r : List ℕ) (n : ℕ) (f : Fault) → s ≡ c ++ t → IsDue c → t ≡ h ++ r → IsHead (string_type is_text) n h → string_at is_text (length t) n r ≡ Err f → Stands d s f
+string_fault : (d : ℕ) (is_text : Bool) (s c t h r : List ℕ) (n : ℕ) (f : Fault) → s ≡ c ++ t → IsDue c → t ≡ h ++ r → IsHead (string_type is_text) n h
+    → string_at is_text (length t) n r ≡ Err f → Stands d s f
 unfolding string_at
 string_fault d is_text s c t h r n f parts due split head e =
     elim (chosen (ltb (length r) n) _ _ _ e) [
       | inl a ↦
           let least_encoding : length r < n = ltb-true _ _ a.0 in
-          let lack : LacksContent t = record { m = string_type is_text; n = n; rest = r; headed = record { head = h; is_head = head; parts = split }; lacks = inl (type_two is_text, type_four is_text, least_encoding) } in
+          let lack : LacksContent t = record {
+            m = string_type is_text;
+            n = n;
+            rest = r;
+            headed = record { head = h; is_head = head; parts = split };
+            lacks =
+                inl (type_two is_text, type_four is_text, least_encoding);
+          } in
           let is : End ≡ f = fault_is {A = List ℕ × List ℕ} End f a.1 in
           subst (λ (g : Fault). Stands d s g) is (c, t, parts, (due, inr (inr lack)))
       | inr a ↦
@@ -173,7 +191,8 @@ string_fault d is_text s c t h r n f parts due split head e =
                 let bad = not_sound is_text (take n r) b.0 in
                 let is : Syntax (length t) ≡ f = fault_is {A = List ℕ × List ℕ} (Syntax (length t)) f b.1 in
                 let head3 : IsHead 3 n h = subst (λ (x : Bool). IsHead (string_type x) n h) bad.0 head in
-                let bad_text : IsBadTextString t = record { n = n; rest = r; headed = record { head = h; is_head = head3; parts = split }; there = long; bad = bad.1 } in
+                let bad_text : IsBadTextString t = record
+                { n = n; rest = r; headed = record { head = h; is_head = head3; parts = split }; there = long; bad = bad.1 } in
                 subst (λ (g : Fault). Stands d s g) is (c, t, parts, refl, inr (inr (due, bad_text)))
           ]
     ]
@@ -204,7 +223,8 @@ bad_info_no_chunk is_text (x ∷ t) h =
     let high = h.1 in
     (λ e. omega arith, λ k. let le = k.1 in omega arith)
 
-other_no_chunk : (is_text : Bool) (t : List ℕ) (h : HeadSeen × List ℕ) → begins_break t ≡ false → head_at t ≡ Ok h → begins_chunk is_text h.0.major_type ≡ false → NoChunk is_text t
+other_no_chunk : (is_text : Bool) (t : List ℕ) (h : HeadSeen × List ℕ) → begins_break t ≡ false → head_at t ≡ Ok h → begins_chunk is_text h.0.major_type ≡ false
+    → NoChunk is_text t
 unfolding head_at
 other_no_chunk is_text [] h goes e other = absurd cc
 other_no_chunk is_text (x ∷ t) h goes e other = (
@@ -221,10 +241,12 @@ none_no_chunk is_text t front more m goes parts is =
       λ k. let le = k.1 in omega arith,
     )
 
-chunk_fault : (d : ℕ) (is_text : Bool) (s c t : List ℕ) (f : Fault) → s ≡ c ++ t → DueChunk is_text c → IsBytes t → begins_break t ≡ false → chunk_at is_text t ≡ Err f → Stands d s f
+chunk_fault : (d : ℕ) (is_text : Bool) (s c t : List ℕ) (f : Fault) → s ≡ c ++ t → DueChunk is_text c → IsBytes t → begins_break t ≡ false
+    → chunk_at is_text t ≡ Err f → Stands d s f
 unfolding chunk_at
 chunk_fault d is_text s c t f parts due fits goes e =
-    elim (bind_err (head_at t) (λ h. cond (begins_chunk is_text h.0.major_type) (unless_none (length t) (number_of h.0.argument) (λ n. string_at is_text (length t) n h.1)) (Err (Syntax (length t)))) f e) [
+    elim (bind_err (head_at t) (λ h. cond (begins_chunk is_text h.0.major_type)
+    (unless_none (length t) (number_of h.0.argument) (λ n. string_at is_text (length t) n h.1)) (Err (Syntax (length t)))) f e) [
       | inl a ↦ elim (head_fault t f a) [
         | inl b ↦ subst (λ (g : Fault). Stands d s g) (sym b.0) (c, t, parts, (inr (is_text, due), b.1))
         | inr b ↦ subst (λ (g : Fault). Stands d s g) (sym b.0) (c, t, parts, refl, inr (inl (is_text, due, bad_info_no_chunk is_text t b.1)))
@@ -232,16 +254,20 @@ chunk_fault d is_text s c t f parts due fits goes e =
       | inr a ↦
           let h = a.0 in
           let head = head_takes t h fits a.1 in
-          let syntax = λ (bad : NoChunk is_text t) (is : Syntax (length t) ≡ f). subst (λ (g : Fault). Stands d s g) is (c, t, parts, refl, inr (inl (is_text, due, bad))) in
+          let syntax = λ (bad : NoChunk is_text t) (is : Syntax (length t) ≡ f). subst (λ (g : Fault). Stands d s g) is
+          (c, t, parts, refl, inr (inl (is_text, due, bad))) in
           elim (chosen (begins_chunk is_text h.0.major_type) _ _ _ a.2) [
             | inr b ↦ syntax (other_no_chunk is_text t h goes a.1 b.0) (fault_is {A = List ℕ × List ℕ} (Syntax (length t)) f b.1)
             | inl b ↦ elim (option_cases (number_of h.0.argument)) [
               | inl none ↦
-                  syntax (none_no_chunk is_text t head.front h.1 (major_type_number h.0.major_type) goes head.parts (none_head (major_type_number h.0.major_type) h.0.argument head.front head.encoding none))
-                  (fault_is {A = List ℕ × List ℕ} (Syntax (length t)) f (ap (λ (o : Option ℕ). unless_none (length t) o (λ n. string_at is_text (length t) n h.1)) (sym none) ∙ b.1))
+                  syntax (none_no_chunk is_text t head.front h.1 (major_type_number h.0.major_type) goes head.parts
+                  (none_head (major_type_number h.0.major_type) h.0.argument head.front head.encoding none))
+                  (fault_is {A = List ℕ × List ℕ} (Syntax (length t)) f
+                  (ap (λ (o : Option ℕ). unless_none (length t) o (λ n. string_at is_text (length t) n h.1)) (sym none) ∙ b.1))
               | inr some ↦
                   let is = number_head (major_type_number h.0.major_type) some.0 h.0.argument head.front head.encoding some.1 in
-                  string_fault d is_text s c t head.front h.1 some.0 f parts (inr (is_text, due)) head.parts (subst (λ (m : ℕ). IsHead m some.0 head.front) (chunk_type is_text h.0.major_type b.0) is)
+                  string_fault d is_text s c t head.front h.1 some.0 f parts (inr (is_text, due)) head.parts
+                  (subst (λ (m : ℕ). IsHead m some.0 head.front) (chunk_type is_text h.0.major_type b.0) is)
                   (ap (λ (o : Option ℕ). unless_none (length t) o (λ n. string_at is_text (length t) n h.1)) (sym some.1) ∙ b.1)
             ]
           ]
@@ -268,7 +294,8 @@ stopped_later R s c t x h parts p = record {
   left_fits = p.left_fits;
 }
 
-pub times_fault : {A : Type 0} (R : A → List ℕ → Type 0) (read : Parse A) → IsSoundReader R read → (n : ℕ) (s : List ℕ) (f : Fault) → IsBytes s → times_at read n s ≡ Err f → (p : Stopped R s) × (length p.passed < n) × (read p.left ≡ Err f)
+pub times_fault : {A : Type 0} (R : A → List ℕ → Type 0) (read : Parse A) → IsSoundReader R read → (n : ℕ) (s : List ℕ) (f : Fault) → IsBytes s
+    → times_at read n s ≡ Err f → (p : Stopped R s) × (length p.passed < n) × (read p.left ≡ Err f)
 unfolding times_at stopped_later
 times_fault R read sound zero s f fits e = absurd cc
 times_fault R read sound (suc n) s f fits e =
@@ -281,10 +308,12 @@ times_fault R read sound (suc n) s f fits e =
           (stopped_later R s t.front a.0.1 a.0.0 t.encoding t.parts later.0, omega arith, later.2)
     ]
 
-pub until_fault : {A : Type 0} (R : A → List ℕ → Type 0) (read : Parse A) → IsSoundReader R read → ((x : A) (c : List ℕ) → R x c → Begins c) → (turns : ℕ) (s : List ℕ) (f : Fault) → IsBytes s → length s ≤ turns → until_at read turns s ≡ Err f
+pub until_fault : {A : Type 0} (R : A → List ℕ → Type 0) (read : Parse A) → IsSoundReader R read → ((x : A) (c : List ℕ) → R x c → Begins c)
+    → (turns : ℕ) (s : List ℕ) (f : Fault) → IsBytes s → length s ≤ turns → until_at read turns s ≡ Err f
     → (p : Stopped R s) × (((p.left ≡ []) × (f ≡ End)) ⊎ ((begins_break p.left ≡ false) × (read p.left ≡ Err f)))
 unfolding until_at stopped_later
-until_fault {A} R read sound begins zero [] f fits le e = (record { passed = []; front = []; encodings = refl; left = []; parts = refl; left_fits = fits }, inl (refl, sym (fault_is {A = List A × List ℕ} End f e)))
+until_fault {A} R read sound begins zero [] f fits le e =
+    (record { passed = []; front = []; encodings = refl; left = []; parts = refl; left_fits = fits }, inl (refl, sym (fault_is {A = List A × List ℕ} End f e)))
 until_fault R read sound begins zero (x ∷ s) f fits le e = absurd (omega arith)
 until_fault {A} R read sound begins (suc turns) s f fits le e =
     elim (chosen (begins_break s) _ _ _ e) [
@@ -296,7 +325,8 @@ until_fault {A} R read sound begins (suc turns) s f fits le e =
             let g = begins a.0.0 t.front t.encoding in
             let some : length t.front ≡ suc (length g.more) = ap length g.parts in
             let size : length s ≡ length t.front + length a.0.1 = ap length t.parts ∙ length-append t.front a.0.1 in
-            let later = until_fault R read sound begins turns a.0.1 f t.rest_fits (omega arith) (bind_made (until_at read turns a.0.1) (λ xs. (a.0.0 ∷ xs.0, xs.1)) f a.2) in
+            let later = until_fault R read sound begins turns a.0.1 f t.rest_fits (omega arith)
+            (bind_made (until_at read turns a.0.1) (λ xs. (a.0.0 ∷ xs.0, xs.1)) f a.2) in
             (stopped_later R s t.front a.0.1 a.0.0 t.encoding t.parts later.0, later.1)
       ]
     ]
@@ -348,7 +378,8 @@ abbrev flat : List (Item × Item) → Items → Items
 flat [] tail = tail
 flat (p ∷ ps) tail = item p.0 (item p.1 (flat ps tail))
 
-flat_encodings : (d : ℕ) (ps : List (Item × Item)) (tail : Items) (b c : List ℕ) → EachInOrder (IsPairEncodingBelow d) ps b → AreEncodings tail c → AreEncodings (flat ps tail) (b ++ c)
+flat_encodings : (d : ℕ) (ps : List (Item × Item)) (tail : Items) (b c : List ℕ) → EachInOrder (IsPairEncodingBelow d) ps b → AreEncodings tail c
+    → AreEncodings (flat ps tail) (b ++ c)
 flat_encodings d [] tail b c h k = subst (λ (x : List ℕ). AreEncodings tail (x ++ c)) (sym h) k
 flat_encodings d (p ∷ ps) tail b c h k =
     let q = h.2 in (
@@ -379,13 +410,17 @@ behind : (d : ℕ) (h s c t : List ℕ) (e : Bool) (f : Fault) → Opens (h ++ c
 behind d h s c t e f opens parts nb stands = subst (λ (x : List ℕ). Stands (suc d) x f) (sym (moved h c t s parts)) (nest d (h ++ c) e opens t nb f stands)
 
 ends_there : (d : ℕ) (h s c t : List ℕ) (e : Bool) (f : Fault) → Opens (h ++ c) e → s ≡ c ++ t → t ≡ [] → f ≡ End → Stands (suc d) (h ++ s) f
-ends_there d h s c t e f opens parts left is = subst (λ (g : Fault). Stands (suc d) (h ++ s) g) (sym is) (h ++ c, t, moved h c t s parts, (inl (1, e, innermost (h ++ c) e opens), inl left))
+ends_there d h s c t e f opens parts left is = subst (λ (g : Fault). Stands (suc d) (h ++ s) g) (sym is)
+    (h ++ c, t, moved h c t s parts, (inl (1, e, innermost (h ++ c) e opens), inl left))
 
-lacking : (d m n : ℕ) (h s : List ℕ) (f : Fault) → IsHead m n h → ((2 ≤ m) × (m ≤ 4) × (length s < n)) ⊎ ((m ≡ 5) × (length s < 2 * n)) → End ≡ f → Stands d (h ++ s) f
-lacking d m n h s f is lack e = subst (λ (g : Fault). Stands d (h ++ s) g) e ([], h ++ s, refl, (inl (0, false, at_start), inr (inr (record { m = m; n = n; rest = s; headed = opened h s m n is; lacks = lack }))))
+lacking : (d m n : ℕ) (h s : List ℕ) (f : Fault) → IsHead m n h → ((2 ≤ m) × (m ≤ 4) × (length s < n)) ⊎ ((m ≡ 5) × (length s < 2 * n)) → End ≡ f
+    → Stands d (h ++ s) f
+lacking d m n h s f is lack e = subst (λ (g : Fault). Stands d (h ++ s) g) e
+    ([], h ++ s, refl, (inl (0, false, at_start), inr (inr (record { m = m; n = n; rest = s; headed = opened h s m n is; lacks = lack }))))
 
 -- a key or a value that isn't read, behind pairs
-pair_fault : (d : ℕ) (read : Parse Item) → IsSoundReader (IsEncodingBelow (suc d)) read → Faults d read → (h s : List ℕ) (f : Fault) (p : Stopped (IsPairEncodingBelow (suc d)) s) (e : Bool)
+pair_fault : (d : ℕ) (read : Parse Item) → IsSoundReader (IsEncodingBelow (suc d)) read → Faults d read
+    → (h s : List ℕ) (f : Fault) (p : Stopped (IsPairEncodingBelow (suc d)) s) (e : Bool)
     → ((vs : Items) (c : List ℕ) → AreEncodings vs c → items_count vs ≡ 2 * length p.passed → Opens (h ++ c) e) → NoBreakAt e p.left
     → ((vs : Items) (c : List ℕ) → AreEncodings vs c → items_count vs ≡ 2 * length p.passed + 1 → is_even (items_count vs) ≡ false → Opens (h ++ c) false)
     → pair_at read p.left ≡ Err f → Stands (suc d) (h ++ s) f
@@ -393,7 +428,8 @@ pair_fault d read sound faults h s f p e at_key nb at_value bad =
     elim (bind_err (read p.left) (λ k. read k.1 >>= λ v. Ok ((k.0, v.0), v.1)) f bad) [
       | inl a ↦
           let encodings : AreEncodings (flat p.passed no_items) (p.front ++ []) = flat_encodings (suc d) p.passed no_items p.front [] p.encodings refl in
-          let encodings' : AreEncodings (flat p.passed no_items) p.front = subst (λ (x : List ℕ). AreEncodings (flat p.passed no_items) x) (append-nil p.front) encodings in
+          let encodings' : AreEncodings (flat p.passed no_items) p.front =
+          subst (λ (x : List ℕ). AreEncodings (flat p.passed no_items) x) (append-nil p.front) encodings in
           let count : items_count (flat p.passed no_items) ≡ 2 * length p.passed = flat_count p.passed no_items ∙ omega arith in
           behind d h s p.front p.left e f (at_key (flat p.passed no_items) p.front encodings' count) p.parts nb (faults p.left f p.left_fits a)
       | inr a ↦
@@ -403,7 +439,9 @@ pair_fault d read sound faults h s f p e at_key nb at_value bad =
           let tail_encoding : AreEncodings tail k.front = (k.front, [], k.encoding.0, refl, sym (append-nil k.front)) in
           let encodings = flat_encodings (suc d) p.passed tail p.front k.front p.encodings tail_encoding in
           let parts : s ≡ (p.front ++ k.front) ++ a.0.1 = p.parts ∙ ap (λ (x : List ℕ). p.front ++ x) k.parts ∙ sym (append_assoc p.front k.front a.0.1) in
-          behind d h s (p.front ++ k.front) a.0.1 false f (at_value (flat p.passed tail) (p.front ++ k.front) encodings (flat_count p.passed tail) (flat_even p.passed tail)) parts (inl refl) (faults a.0.1 f k.rest_fits failed_value)
+          behind d h s (p.front ++ k.front) a.0.1 false f
+          (at_value (flat p.passed tail) (p.front ++ k.front) encodings (flat_count p.passed tail) (flat_even p.passed tail)) parts (inl refl)
+          (faults a.0.1 f k.rest_fits failed_value)
     ]
 
 things_fault : (d : ℕ) (read : Parse Item) → IsSoundReader (IsEncodingBelow (suc d)) read → Faults d read → InsideFaults (suc d) (things read)
@@ -418,7 +456,9 @@ things_fault d read sound faults =
             let p = times_fault (IsEncodingBelow (suc d)) read sound n s f fits a.1 in
             let less = p.1 in
             let count = count_of p.0.passed in
-            behind d h s p.0.front p.0.left false f (in_array n (items_of p.0.passed) p.0.front (h ++ p.0.front) (omega arith) (encodings_of (suc d) p.0.passed p.0.front p.0.encodings) (opened h p.0.front 4 n is)) p.0.parts (inl refl) (faults p.0.left f p.0.left_fits p.2)
+            behind d h s p.0.front p.0.left false f (in_array n (items_of p.0.passed) p.0.front (h ++ p.0.front) (omega arith)
+            (encodings_of (suc d) p.0.passed p.0.front p.0.encodings) (opened h p.0.front 4 n is)) p.0.parts (inl refl)
+            (faults p.0.left f p.0.left_fits p.2)
       ];
       items_until = λ s f fits e.
           let p = until_fault (IsEncodingBelow (suc d)) read sound (λ v c h. IsEncoding-begins v c h.0) (length s) s f fits (omega arith) e in
@@ -432,15 +472,21 @@ things_fault d read sound faults =
         | inr a ↦
             let p = times_fault (IsPairEncodingBelow (suc d)) (pair_at read) pairs_sound n s f fits a.1 in
             let less = p.1 in
-            pair_fault d read sound faults h s f p.0 false (λ vs c t k. in_map n vs c (h ++ c) (omega arith) t (opened h c 5 n is)) (inl refl) (λ vs c t k odd. in_map n vs c (h ++ c) (omega arith) t (opened h c 5 n is)) p.2
+            pair_fault d read sound faults h s f p.0 false (λ vs c t k. in_map n vs c (h ++ c) (omega arith) t (opened h c 5 n is)) (inl refl)
+            (λ vs c t k odd. in_map n vs c (h ++ c) (omega arith) t (opened h c 5 n is)) p.2
       ];
       pairs_until = λ s f fits e.
-          let p = until_fault (IsPairEncodingBelow (suc d)) (pair_at read) pairs_sound (λ v c h. begins_append h.0 h.1 c h.4 (IsEncoding-begins v.0 h.0 h.2.0)) (length s) s f fits (omega arith) e in
-          let encodings : AreEncodings (flat p.0.passed no_items) (p.0.front ++ []) = flat_encodings (suc d) p.0.passed no_items p.0.front [] p.0.encodings refl in
-          let encodings' : AreEncodings (flat p.0.passed no_items) p.0.front = subst (λ (x : List ℕ). AreEncodings (flat p.0.passed no_items) x) (append-nil p.0.front) encodings in
+          let p = until_fault (IsPairEncodingBelow (suc d)) (pair_at read) pairs_sound (λ v c h. begins_append h.0 h.1 c h.4 (IsEncoding-begins v.0 h.0 h.2.0))
+          (length s) s f fits (omega arith) e in
+          let encodings : AreEncodings (flat p.0.passed no_items) (p.0.front ++ []) =
+          flat_encodings (suc d) p.0.passed no_items p.0.front [] p.0.encodings refl in
+          let encodings' : AreEncodings (flat p.0.passed no_items) p.0.front =
+          subst (λ (x : List ℕ). AreEncodings (flat p.0.passed no_items) x) (append-nil p.0.front) encodings in
           elim p.1 [
             | inl a ↦ ends_there d (0xBF ∷ []) s p.0.front p.0.left _ f (in_open_map (flat p.0.passed no_items) p.0.front encodings') p.0.parts a.0 a.1
-            | inr a ↦ pair_fault d read sound faults (0xBF ∷ []) s f p.0 true (λ vs c t k. subst (λ (b : Bool). Opens (0xBF ∷ c) b) (ap is_even k ∙ even_double (length p.0.passed)) (in_open_map vs c t)) (inr a.0) (λ vs c t k odd. subst (λ (b : Bool). Opens (0xBF ∷ c) b) odd (in_open_map vs c t)) a.1
+            | inr a ↦ pair_fault d read sound faults (0xBF ∷ []) s f p.0 true
+                (λ vs c t k. subst (λ (b : Bool). Opens (0xBF ∷ c) b) (ap is_even k ∙ even_double (length p.0.passed)) (in_open_map vs c t)) (inr a.0)
+                (λ vs c t k odd. subst (λ (b : Bool). Opens (0xBF ∷ c) b) odd (in_open_map vs c t)) a.1
           ];
     }
   where
@@ -450,21 +496,25 @@ things_fault d read sound faults =
 
 -- ---- items
 
-no_length : (d m : ℕ) (s front r : List ℕ) (f : Fault) → (m ≡ 0) ⊎ ((m ≡ 1) ⊎ (m ≡ 6)) → s ≡ front ++ r → front ≡ (32 * m + 31) ∷ [] → Syntax (length s) ≡ f → Stands d s f
+no_length : (d m : ℕ) (s front r : List ℕ) (f : Fault) → (m ≡ 0) ⊎ ((m ≡ 1) ⊎ (m ≡ 6)) → s ≡ front ++ r → front ≡ (32 * m + 31) ∷ [] → Syntax (length s) ≡ f
+    → Stands d s f
 no_length d m s front r f major_type parts is e =
     let all : s ≡ (32 * m + 31) ∷ r = parts ∙ ap (λ (y : List ℕ). y ++ r) is in
     let q : (32 * m + 31) / 32 ≡ m = omega arith in
     let bad : HasNoLength ((32 * m + 31) ∷ r) = (omega arith, subst (λ (k : ℕ). (k ≡ 0) ⊎ ((k ≡ 1) ⊎ (k ≡ 6))) (sym q) major_type) in
     subst (λ (g : Fault). Stands d s g) e ([], s, refl, refl, inl (0, false, at_start, inr (inl (subst (λ (y : List ℕ). HasNoLength y) (sym all) bad))))
 
-number_fault : {A : Type 0} (d m : ℕ) (s front r : List ℕ) (f : Fault) (a : Argument) (read : ℕ → Result A Fault) → (m ≡ 0) ⊎ ((m ≡ 1) ⊎ (m ≡ 6)) → s ≡ front ++ r → IsArgumentEncoding m a front
+number_fault : {A : Type 0} (d m : ℕ) (s front r : List ℕ) (f : Fault) (a : Argument) (read : ℕ → Result A Fault) → (m ≡ 0) ⊎ ((m ≡ 1) ⊎ (m ≡ 6))
+    → s ≡ front ++ r → IsArgumentEncoding m a front
     → unless_none (length s) (number_of a) read ≡ Err f → ((n : ℕ) → IsHead m n front → read n ≡ Err f → Stands d s f) → Stands d s f
 number_fault {A} d m s front r f a read major_type parts shown e later = elim (option_cases (number_of a)) [
-  | inl none ↦ no_length d m s front r f major_type parts (none_head m a front shown none) (fault_is {A = A} (Syntax (length s)) f (ap (λ (o : Option ℕ). unless_none (length s) o read) (sym none) ∙ e))
+  | inl none ↦ no_length d m s front r f major_type parts (none_head m a front shown none)
+      (fault_is {A = A} (Syntax (length s)) f (ap (λ (o : Option ℕ). unless_none (length s) o read) (sym none) ∙ e))
   | inr some ↦ later some.0 (number_head m some.0 a front shown some.1) (ap (λ (o : Option ℕ). unless_none (length s) o read) (sym some.1) ∙ e)
 ]
 
-any_string_fault : (d : ℕ) (is_text : Bool) (s front r : List ℕ) (f : Fault) (a : Argument) → IsBytes r → s ≡ front ++ r → IsArgumentEncoding (string_type is_text) a front → any_string_by is_text (length s) (number_of a) r ≡ Err f → Stands d s f
+any_string_fault : (d : ℕ) (is_text : Bool) (s front r : List ℕ) (f : Fault) (a : Argument) → IsBytes r → s ≡ front ++ r
+    → IsArgumentEncoding (string_type is_text) a front → any_string_by is_text (length s) (number_of a) r ≡ Err f → Stands d s f
 unfolding chunks_at
 any_string_fault d is_text s front r f a fits parts shown e = elim (option_cases (number_of a)) [
   | inr some ↦
@@ -472,11 +522,24 @@ any_string_fault d is_text s front r f a fits parts shown e = elim (option_cases
       (ap (λ (o : Option ℕ). any_string_by is_text (length s) o r) (sym some.1) ∙ e)
   | inl none ↦
       let e' : chunks_at is_text r ≡ Err f = ap (λ (o : Option ℕ). any_string_by is_text (length s) o r) (sym none) ∙ e in
-      let p = until_fault (IsDefinite is_text) (chunk_at is_text) (chunk_takes is_text) (λ v c h. IsHeaded-begins (string_type is_text) (length v) v c (type_low is_text) h.1) (length r) r f fits (omega arith) (bind_made (until_at (chunk_at is_text) (length r) r) (λ y. (joined_chunks y.0, y.1)) f e') in
+      let p = until_fault (IsDefinite is_text) (chunk_at is_text) (chunk_takes is_text)
+      (λ v c h. IsHeaded-begins (string_type is_text) (length v) v c (type_low is_text) h.1) (length r) r f fits (omega arith)
+      (bind_made (until_at (chunk_at is_text) (length r) r) (λ y. (joined_chunks y.0, y.1)) f e') in
       let first = 32 * string_type is_text + 31 in
       let c = first ∷ p.0.front in
-      let due : DueChunk is_text c = record { before = []; level = 0; flag = false; due = at_start; chunks = p.0.passed; encodings = p.0.front; are_chunks = p.0.encodings; parts = refl } in
-      let all : s ≡ c ++ p.0.left = parts ∙ ap (λ (y : List ℕ). y ++ r) (none_head (string_type is_text) a front shown none) ∙ ap (λ (y : List ℕ). first ∷ y) p.0.parts in
+      let due : DueChunk is_text c = record {
+        before = [];
+        level = 0;
+        flag = false;
+        due = at_start;
+        chunks = p.0.passed;
+        encodings = p.0.front;
+        are_chunks =
+            p.0.encodings;
+        parts = refl;
+      } in
+      let all : s ≡ c ++ p.0.left = parts ∙ ap (λ (y : List ℕ). y ++ r) (none_head (string_type is_text) a front shown none)
+      ∙ ap (λ (y : List ℕ). first ∷ y) p.0.parts in
       elim p.1 [
         | inl b ↦ subst (λ (g : Fault). Stands d s g) (sym b.1) (c, p.0.left, all, (inr (is_text, due), inl b.0))
         | inr b ↦ chunk_fault d is_text s c p.0.left f all due p.0.left_fits b.0 b.1
@@ -492,7 +555,8 @@ not_supported d s f bad e = subst (λ (g : Fault). Stands d s g) e ([], s, refl,
 no_item : (d : ℕ) (s : List ℕ) (f : Fault) → NoItem false s → Syntax (length s) ≡ f → Stands d s f
 no_item d s f bad e = subst (λ (g : Fault). Stands d s g) e ([], s, refl, refl, inl (0, false, at_start, bad))
 
-simple_fault : (d : ℕ) (s front r : List ℕ) (f : Fault) (a : Argument) → s ≡ front ++ r → IsArgumentEncoding 7 a front → simple_at (length s) a r ≡ Err f → Stands d s f
+simple_fault : (d : ℕ) (s front r : List ℕ) (f : Fault) (a : Argument) → s ≡ front ++ r → IsArgumentEncoding 7 a front → simple_at (length s) a r ≡ Err f
+    → Stands d s f
 simple_fault d s front r f (places.Within n) parts h e =
     elim (chosen (eqb n 20) _ _ _ e) [
       | inl a ↦ absurd (cc (a.1))
@@ -536,7 +600,8 @@ simple_fault d s front r f places.Indefinite parts h e =
     let bad : BeginsBreak (255 ∷ r) = refl in
     no_item d s f (inr (inr (inr (subst (λ (y : List ℕ). BeginsBreak y) (sym all) bad, refl)))) (fault_is {A = Item × List ℕ} (Syntax (length s)) f e)
 
-by_fault : (d : ℕ) (inside : Inside) → InsideFaults d inside → (s front r : List ℕ) (f : Fault) (a : Argument) (k : MajorType) → IsBytes r → s ≡ front ++ r → IsArgumentEncoding (major_type_number k) a front → item_by inside (length s) a k r ≡ Err f → Stands d s f
+by_fault : (d : ℕ) (inside : Inside) → InsideFaults d inside → (s front r : List ℕ) (f : Fault) (a : Argument) (k : MajorType) → IsBytes r → s ≡ front ++ r
+    → IsArgumentEncoding (major_type_number k) a front → item_by inside (length s) a k r ≡ Err f → Stands d s f
 by_fault d inside inner s front r f a major_types.Unsigned fits parts h e =
     number_fault d 0 s front r f a (λ n. Ok (integer (pos n), r)) (inl refl) parts h e (λ n is bad. absurd cc)
 by_fault d inside inner s front r f a major_types.Negative fits parts h e =
@@ -552,7 +617,8 @@ by_fault d inside inner s front r f a major_types.Array fits parts h e =
           let all : s ≡ 0x9F ∷ r = parts ∙ ap (λ (y : List ℕ). y ++ r) (none_head 4 a front h none) in
           subst (λ (y : List ℕ). Stands d y f) (sym all) (inner.items_until r f fits (ap (λ (o : Option ℕ). inside.items o r) (sym none) ∙ e'))
       | inr some ↦
-          subst (λ (y : List ℕ). Stands d y f) (sym parts) (inner.items some.0 front r f (number_head 4 some.0 a front h some.1) fits (ap (λ (o : Option ℕ). inside.items o r) (sym some.1) ∙ e'))
+          subst (λ (y : List ℕ). Stands d y f) (sym parts)
+          (inner.items some.0 front r f (number_head 4 some.0 a front h some.1) fits (ap (λ (o : Option ℕ). inside.items o r) (sym some.1) ∙ e'))
     ]
 by_fault d inside inner s front r f a major_types.Map fits parts h e =
     let e' = bind_made (inside.pairs (number_of a) r) (λ y. (dict (pairs_of y.0), y.1)) f e in
@@ -561,7 +627,8 @@ by_fault d inside inner s front r f a major_types.Map fits parts h e =
           let all : s ≡ 0xBF ∷ r = parts ∙ ap (λ (y : List ℕ). y ++ r) (none_head 5 a front h none) in
           subst (λ (y : List ℕ). Stands d y f) (sym all) (inner.pairs_until r f fits (ap (λ (o : Option ℕ). inside.pairs o r) (sym none) ∙ e'))
       | inr some ↦
-          subst (λ (y : List ℕ). Stands d y f) (sym parts) (inner.pairs some.0 front r f (number_head 5 some.0 a front h some.1) fits (ap (λ (o : Option ℕ). inside.pairs o r) (sym some.1) ∙ e'))
+          subst (λ (y : List ℕ). Stands d y f) (sym parts)
+          (inner.pairs some.0 front r f (number_head 5 some.0 a front h some.1) fits (ap (λ (o : Option ℕ). inside.pairs o r) (sym some.1) ∙ e'))
     ]
 by_fault d inside inner s front r f a major_types.Tag fits parts h e =
     number_fault d 6 s front r f a (λ n. inside.one r >>= λ y. Ok (tag n y.0, y.1)) (inr (inr refl)) parts h e (λ n is bad.
@@ -590,4 +657,5 @@ sound_below d s x fits e =
 pub item_fault : (d : ℕ) → Faults d (item_at d)
 unfolding item_at
 item_fault zero s f fits e = from_fault 0 nothing nothing_faults s f fits e
-item_fault (suc d) s f fits e = from_fault (suc d) (things (item_at d)) (things_fault d (item_at d) (sound_below d) (λ s f fits e. item_fault d s f fits e)) s f fits e
+item_fault (suc d) s f fits e = from_fault (suc d) (things (item_at d))
+    (things_fault d (item_at d) (sound_below d) (λ s f fits e. item_fault d s f fits e)) s f fits e

@@ -3,7 +3,8 @@ use Rattle.std.proofs.Common.{◌≡◌, ℕ, ◌^◌, ◌+◌, ◌<◌, ◌≤�
 use Rattle.std.specs.Prelude.{pos, negsuc}
 use Rattle.std.proofs.lemmas.Bool.{lt-ltb, le-ltb, cases_lt, ltb-true, cond_both}
 use Rattle.std.proofs.lemmas.List.{length-append}
-use Rattle.coset_value.specs.Item.{half, single, double, Item, integer, bytes, float, text, boolean, null, tag, array, dict, Items, no_items, item, Pairs, no_pairs, pair, items_count, pairs_count}
+use Rattle.coset_value.specs.Item.{half, single, double, Item, integer, bytes, float, text, boolean, null, tag, array, dict, Items, no_items, item, Pairs}
+use Rattle.coset_value.specs.Item.{no_pairs, pair, items_count, pairs_count}
 use Rattle.coset_value.specs.Range.{IsInRange, AreInRange, ArePairsInRange}
 use Rattle.coset_cbor.specs.Grammar.{Place, within, one, two, four, eight, Holds, head_in, IsHead, IsHeaded, IsEncoding, AreEncodings, ArePairEncodings}
 use Rattle.coset_cbor.specs.Definite.{IsDefiniteEncoding, AreDefiniteEncodings, AreDefinitePairs}
@@ -149,13 +150,15 @@ mutual
 
   least_encodings_least : (vs : Items) (b : List ℕ) → AreDefiniteEncodings vs b → IsLeast (least_encodings vs) b
   least_encodings_least no_items b h = least_is [] b h
-  least_encodings_least (item v vs) b h = least_append (least_encoding v) (least_encodings vs) h.0 h.1 b (least_encoding_least v h.0 h.2) (least_encodings_least vs h.1 h.3) h.4
+  least_encodings_least (item v vs) b h = least_append (least_encoding v) (least_encodings vs) h.0 h.1 b (least_encoding_least v h.0 h.2)
+      (least_encodings_least vs h.1 h.3) h.4
 
   least_pair_encodings_least : (ps : Pairs) (b : List ℕ) → AreDefinitePairs ps b → IsLeast (least_pair_encodings ps) b
   least_pair_encodings_least no_pairs b h = least_is [] b h
   least_pair_encodings_least (pair k v ps) b h =
       least_append (least_encoding k) (least_encoding v ++ least_pair_encodings ps) h.0 (h.1 ++ h.2) b (least_encoding_least k h.0 h.3)
-      (least_append (least_encoding v) (least_pair_encodings ps) h.1 h.2 (h.1 ++ h.2) (least_encoding_least v h.1 h.4) (least_pair_encodings_least ps h.2 h.5) refl) h.6
+      (least_append (least_encoding v) (least_pair_encodings ps) h.1 h.2 (h.1 ++ h.2) (least_encoding_least v h.1 h.4)
+      (least_pair_encodings_least ps h.2 h.5) refl) h.6
 
 -- ---- it is a definite encoding
 
@@ -187,7 +190,11 @@ mutual
   least_encoding_definite null h = refl
   least_encoding_definite (tag t v) h = (least_encoding v, least_encoding_definite v h.1, least_headed 6 t (least_encoding v) h.0)
   least_encoding_definite (array vs) h = (least_encodings vs, least_encodings_definite vs h.1, least_headed 4 (items_count vs) (least_encodings vs) h.0)
-  least_encoding_definite (dict ps) h = (least_pair_encodings ps, least_pair_encodings_definite ps h.1, least_headed 5 (pairs_count ps) (least_pair_encodings ps) h.0)
+  least_encoding_definite (dict ps) h = (
+    least_pair_encodings ps,
+    least_pair_encodings_definite ps h.1,
+    least_headed 5 (pairs_count ps) (least_pair_encodings ps) h.0,
+  )
 
   least_encodings_definite : (vs : Items) → AreInRange vs → AreDefiniteEncodings vs (least_encodings vs)
   least_encodings_definite no_items h = refl
@@ -195,7 +202,15 @@ mutual
 
   least_pair_encodings_definite : (ps : Pairs) → ArePairsInRange ps → AreDefinitePairs ps (least_pair_encodings ps)
   least_pair_encodings_definite no_pairs h = refl
-  least_pair_encodings_definite (pair k v ps) h = (least_encoding k, least_encoding v, least_pair_encodings ps, least_encoding_definite k h.0, least_encoding_definite v h.1, least_pair_encodings_definite ps h.2, refl)
+  least_pair_encodings_definite (pair k v ps) h = (
+    least_encoding k,
+    least_encoding v,
+    least_pair_encodings ps,
+    least_encoding_definite k h.0,
+    least_encoding_definite v h.1,
+    least_pair_encodings_definite ps h.2,
+    refl,
+  )
 
 -- The encoding with the least heads is the shortest encoding.
 pub least_is_shortest : (v : Item) → IsInRange v → IsShortest (least_encoding v) v
@@ -224,7 +239,15 @@ mutual
 
   definite_pairs_are_encodings : (ps : Pairs) (b : List ℕ) → AreDefinitePairs ps b → ArePairEncodings ps b
   definite_pairs_are_encodings no_pairs b h = h
-  definite_pairs_are_encodings (pair k v ps) b h = (h.0, h.1, h.2, definite_is_encoding k h.0 h.3, definite_is_encoding v h.1 h.4, definite_pairs_are_encodings ps h.2 h.5, h.6)
+  definite_pairs_are_encodings (pair k v ps) b h = (
+    h.0,
+    h.1,
+    h.2,
+    definite_is_encoding k h.0 h.3,
+    definite_is_encoding v h.1 h.4,
+    definite_pairs_are_encodings ps h.2 h.5,
+    h.6,
+  )
 
 -- ---- it is of an item in range
 

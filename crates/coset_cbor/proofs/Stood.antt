@@ -1,5 +1,6 @@
 -- Where a fault stands, no front is an item; in a proper front of an item only its end stands.
-use Rattle.std.proofs.Common.{◌≡◌, ◌≢◌, ℕ, zero, suc, ◌+◌, ◌*◌, ◌/◌, ◌%◌, ◌^◌, ◌<◌, ◌≤◌, Bool, true, false, cond, ltb, List, [], ◌∷◌, ◌++◌, length, take, drop, Option, Some, None, Result, Ok, Err, refl, sym, ap, subst, ◌∙◌, append_assoc, arith, inl, inr, ◌⊎◌}
+use Rattle.std.proofs.Common.{◌≡◌, ◌≢◌, ℕ, zero, suc, ◌+◌, ◌*◌, ◌/◌, ◌%◌, ◌^◌, ◌<◌, ◌≤◌, Bool, true, false, cond, ltb, List, [], ◌∷◌, ◌++◌, length, take, drop}
+use Rattle.std.proofs.Common.{Option, Some, None, Result, Ok, Err, refl, sym, ap, subst, ◌∙◌, append_assoc, arith, inl, inr, ◌⊎◌}
 use Rattle.std.specs.Str.{IsUtf8}
 use Rattle.std.proofs.lemmas.Bool.{ltb-false, ne_eqb, false≢true}
 use Rattle.std.proofs.lemmas.Str.{IsUtf8-from_is_utf8}
@@ -18,7 +19,8 @@ use Rattle.coset_cbor.specs.Grammar.{IsHeaded, EachInOrder, IsDefinite, joined_c
 use Rattle.coset_cbor.specs.Faults.{Due, DueChunk, LacksArgument, LacksContent, Ends, NoItem, NoChunk, IsBadTextString, IsNotSupported, Nests}
 use Rattle.coset_cbor.specs.Refused.{IsMemory, StandsIn}
 use Rattle.coset_cbor.specs.Fronts.{HasNoItem, IsEndOfInput}
-use Rattle.coset_cbor.specs.Reading.{◌>>=◌, major_type_of, number_of, head_at, unless_none, is_string_content, string_at, begins_chunk, chunk_at, begins_break, until_at, chunks_at, any_string_by, times_at, pair_at, Inside, nothing, things, item_by, item_at}
+use Rattle.coset_cbor.specs.Reading.{◌>>=◌, major_type_of, number_of, head_at, unless_none, is_string_content, string_at, begins_chunk, chunk_at, begins_break}
+use Rattle.coset_cbor.specs.Reading.{until_at, chunks_at, any_string_by, times_at, pair_at, Inside, nothing, things, item_by, item_at}
 use Rattle.coset_cbor.proofs.Again.{IsHeaded-begins, IsHead-again, opening_again, head_of, no_break, regroup, chunk_again, chunk_reads, item_again}
 use Rattle.coset_cbor.proofs.Takes.{IsBytes, bind_ok, ok_is, guard_ok, guard_else, some_ok, chosen, chunk_takes}
 use Rattle.coset_cbor.proofs.Blocks.{NoRead, IsBlocked, IsBytes-append, due_blocked, no_read_below, read_starts, IsFirst, HeadStarts, headed_starts}
@@ -34,7 +36,8 @@ first_of [] = 0
 first_of (x ∷ s) = x
 
 -- no item begins with this byte, whatever follows
-first_blocked : (e : Bool) (x : ℕ) (t : List ℕ) → IsBytes (x ∷ t) → x ≢ 255 → ((d : ℕ) (v : Item) → IsFirst v x t → depth v ≤ d → ⊥) → (d : ℕ) → IsBlocked e d (x ∷ t)
+first_blocked : (e : Bool) (x : ℕ) (t : List ℕ) → IsBytes (x ∷ t) → x ≢ 255 → ((d : ℕ) (v : Item) → IsFirst v x t → depth v ≤ d → ⊥) → (d : ℕ)
+    → IsBlocked e d (x ∷ t)
 first_blocked e x t fits other bad d = (
   λ y is.
       let s = read_starts d (x ∷ t) y fits is in
@@ -58,34 +61,44 @@ no_item_blocked e [] fits (inl h) d = absurd h
 no_item_blocked e (x ∷ t) fits (inl h) d =
     let low = h.0 in
     let high = h.1 in
-    first_blocked e x t fits (λ is. omega arith) (λ d v f le. major_type_bad v x t f (λ k. let a = k.1 in omega arith) (λ k. let a = k.2 in omega arith) (λ k. let a = k.0 in let b = k.1 in omega arith) (λ k. let a = k.0 in let b = k.1 in omega arith)) d
+    first_blocked e x t fits (λ is. omega arith) (λ d v f le. major_type_bad v x t f (λ k. let a = k.1 in omega arith) (λ k. let a = k.2 in omega arith)
+    (λ k. let a = k.0 in let b = k.1 in omega arith) (λ k. let a = k.0 in let b = k.1 in omega arith)) d
 no_item_blocked e [] fits (inr (inl h)) d = absurd h
 no_item_blocked e (x ∷ t) fits (inr (inl h)) d =
     let info = h.0 in
     let types : (x / 32 ≤ 1) ⊎ (x / 32 ≡ 6) = elim h.1 [ inl a ↦ inl (omega arith) | inr (inl a) ↦ inl (omega arith) | inr (inr a) ↦ inr a ] in
     first_blocked e x t fits (λ is. elim types [ inl a ↦ omega arith | inr a ↦ omega arith ])
-    (λ d v f le. major_type_bad v x t f (λ k. let a = k.1 in omega arith) (λ k. let a = k.0 in let b = k.1 in elim types [ inl c ↦ omega arith | inr c ↦ omega arith ]) (λ k. let a = k.0 in let b = k.1 in omega arith) (λ k. let a = k.0 in let b = k.1 in omega arith)) d
+    (λ d v f le. major_type_bad v x t f (λ k. let a = k.1 in omega arith)
+    (λ k. let a = k.0 in let b = k.1 in elim types [ inl c ↦ omega arith | inr c ↦ omega arith ]) (λ k. let a = k.0 in let b = k.1 in omega arith)
+    (λ k. let a = k.0 in let b = k.1 in omega arith)) d
 no_item_blocked e [] fits (inr (inr (inl h))) d = absurd h
 no_item_blocked e (x ∷ []) fits (inr (inr (inl h))) d = absurd h
 no_item_blocked e (x ∷ y ∷ t) fits (inr (inr (inl h))) d =
     let is = h.0 in
-    first_blocked e x (y ∷ t) fits (λ e. omega arith) (λ d v f le. major_type_bad v x (y ∷ t) f (λ k. let a = k.0 in omega arith) (λ k. let a = k.1 in omega arith) (λ k. let a = k.1 in omega arith) (λ k. let a = k.0 in omega arith)) d
+    first_blocked e x (y ∷ t) fits (λ e. omega arith) (λ d v f le. major_type_bad v x (y ∷ t) f (λ k. let a = k.0 in omega arith)
+    (λ k. let a = k.1 in omega arith) (λ k. let a = k.1 in omega arith) (λ k. let a = k.0 in omega arith)) d
 no_item_blocked e [] fits (inr (inr (inr h))) d = absurd h.0
 no_item_blocked e (x ∷ t) fits (inr (inr (inr h))) d = (
   λ y is.
       let s = read_starts d (x ∷ t) y fits is in
       let first : s.0 ≡ 255 = sym (ap first_of s.2) ∙ h.0 in
-      major_type_bad y.0 s.0 s.1 s.3 (λ k. let a = k.0 in omega arith) (λ k. let a = k.1 in omega arith) (λ k. let a = k.1 in omega arith) (λ k. let a = k.1 in omega arith),
+      major_type_bad y.0 s.0 s.1 s.3 (λ k. let a = k.0 in omega arith) (λ k. let a = k.1 in omega arith) (λ k. let a = k.1 in omega arith)
+      (λ k. let a = k.1 in omega arith),
   λ even. absurd (false≢true (sym h.1 ∙ even)),
 )
 
 not_supported_blocked : (e : Bool) (t : List ℕ) → IsBytes t → IsNotSupported t → (d : ℕ) → IsBlocked e d t
 not_supported_blocked e [] fits h d = absurd h
 not_supported_blocked e (x ∷ t) fits h d =
-    let range : ((224 ≤ x) × (x ≤ 243)) ⊎ ((247 ≤ x) × (x ≤ 248)) = elim h [ inl a ↦ inl a | inr (inl a) ↦ inr (omega arith, omega arith) | inr (inr a) ↦ let is = a.0 in inr (omega arith, omega arith) ] in
+    let range : ((224 ≤ x) × (x ≤ 243)) ⊎ ((247 ≤ x) × (x ≤ 248)) =
+    elim h [ inl a ↦ inl a | inr (inl a) ↦ inr (omega arith, omega arith) | inr (inr a) ↦ let is = a.0 in inr (omega arith, omega arith) ] in
     elim range [
-      | inl r ↦ let lo = r.0 in let hi = r.1 in first_blocked e x t fits (λ e. omega arith) (λ d v f le. major_type_bad v x t f (λ k. let a = k.0 in omega arith) (λ k. let a = k.1 in omega arith) (λ k. let a = k.0 in omega arith) (λ k. let a = k.0 in omega arith)) d
-      | inr r ↦ let lo = r.0 in let hi = r.1 in first_blocked e x t fits (λ e. omega arith) (λ d v f le. major_type_bad v x t f (λ k. let a = k.0 in omega arith) (λ k. let a = k.1 in omega arith) (λ k. let a = k.1 in omega arith) (λ k. let a = k.0 in omega arith)) d
+      | inl r ↦ let lo = r.0 in let hi = r.1 in first_blocked e x t fits (λ e. omega arith)
+          (λ d v f le. major_type_bad v x t f (λ k. let a = k.0 in omega arith) (λ k. let a = k.1 in omega arith) (λ k. let a = k.0 in omega arith)
+          (λ k. let a = k.0 in omega arith)) d
+      | inr r ↦ let lo = r.0 in let hi = r.1 in first_blocked e x t fits (λ e. omega arith)
+          (λ d v f le. major_type_bad v x t f (λ k. let a = k.0 in omega arith) (λ k. let a = k.1 in omega arith) (λ k. let a = k.1 in omega arith)
+          (λ k. let a = k.0 in omega arith)) d
     ]
 
 nests_blocked : (e : Bool) (t : List ℕ) → IsBytes t → Nests t → IsBlocked e 0 t
@@ -144,7 +157,8 @@ head_is m n rest t h =
     let r = IsHead-again m n h.head rest h.is_head in
     record { argument = r.argument; reads = ap head_at h.parts ∙ r.reads; number = r.number }
 
-string_by_blocked : (is_text : Bool) (left n : ℕ) (o : Option ℕ) (s : List ℕ) (f : List ℕ → Item) (y : Item × List ℕ) → o ≡ Some n → NoString is_text n s → (any_string_by is_text left o s >>= λ x. Ok (f x.0, x.1)) ≡ Ok y → ⊥
+string_by_blocked : (is_text : Bool) (left n : ℕ) (o : Option ℕ) (s : List ℕ) (f : List ℕ → Item) (y : Item × List ℕ) → o ≡ Some n → NoString is_text n s
+    → (any_string_by is_text left o s >>= λ x. Ok (f x.0, x.1)) ≡ Ok y → ⊥
 string_by_blocked is_text left n o s f y num never e =
     let r = bind_ok (any_string_by is_text left o s) (λ x. Ok (f x.0, x.1)) y e in
     never left r.0 (ap (λ (k : Option ℕ). any_string_by is_text left k s) (sym num) ∙ r.1)
@@ -171,9 +185,11 @@ things_members n s d = record {
       omega arith;
 }
 
-lacks_by : (inside : Inside) (left m n : ℕ) (a : Argument) (s : List ℕ) (y : Item × List ℕ) → NoMembers n s inside → number_of a ≡ Some n → ((2 ≤ m) × (m ≤ 4) × (length s < n)) ⊎ ((m ≡ 5) × (length s < 2 * n)) → item_by inside left a (major_type_of m) s ≡ Ok y → ⊥
+lacks_by : (inside : Inside) (left m n : ℕ) (a : Argument) (s : List ℕ) (y : Item × List ℕ) → NoMembers n s inside → number_of a ≡ Some n
+    → ((2 ≤ m) × (m ≤ 4) × (length s < n)) ⊎ ((m ≡ 5) × (length s < 2 * n)) → item_by inside left a (major_type_of m) s ≡ Ok y → ⊥
 lacks_by inside left (suc (suc zero)) n a s y none num (inl h) e = string_by_blocked false left n (number_of a) s bytes y num (short_string false n s h.2) e
-lacks_by inside left (suc (suc (suc zero))) n a s y none num (inl h) e = string_by_blocked true left n (number_of a) s Item.text y num (short_string true n s h.2) e
+lacks_by inside left (suc (suc (suc zero))) n a s y none num (inl h) e =
+    string_by_blocked true left n (number_of a) s Item.text y num (short_string true n s h.2) e
 lacks_by inside left (suc (suc (suc (suc zero)))) n a s y none num (inl h) e =
     let r = bind_ok (inside.items (number_of a) s) (λ x. Ok (array (items_of x.0), x.1)) y e in
     none.items h.2 r.0 (ap (λ (k : Option ℕ). inside.items k s) (sym num) ∙ r.1)
@@ -187,10 +203,16 @@ lacks_by inside left m n a s y none num (inr h) e =
 
 -- what reading an item does with its head
 with_head : (d : ℕ) (t : List ℕ) (h : HeadSeen × List ℕ) (y : Item × List ℕ) → head_at t ≡ Ok h → item_at d t ≡ Ok y
-    → ((item_by nothing (length t) h.0.argument h.0.major_type h.1 ≡ Ok y) ⊎ ((c : ℕ) × (item_by (things (item_at c)) (length t) h.0.argument h.0.major_type h.1 ≡ Ok y)))
+    → ((item_by nothing (length t) h.0.argument h.0.major_type h.1 ≡ Ok y)
+    ⊎ ((c : ℕ) × (item_by (things (item_at c)) (length t) h.0.argument h.0.major_type h.1 ≡ Ok y)))
 unfolding item_at
-with_head zero t h y e is = inl (sym (ap (λ (r : Result (HeadSeen × List ℕ) Fault). r >>= λ x. item_by nothing (length t) x.0.argument x.0.major_type x.1) e) ∙ is)
-with_head (suc d) t h y e is = inr (d, sym (ap (λ (r : Result (HeadSeen × List ℕ) Fault). r >>= λ x. item_by (things (item_at d)) (length t) x.0.argument x.0.major_type x.1) e) ∙ is)
+with_head zero t h y e is = inl (sym (ap (λ (r : Result (HeadSeen × List ℕ) Fault). r >>= λ x. item_by nothing (length t) x.0.argument x.0.major_type x.1) e)
+    ∙ is)
+with_head (suc d) t h y e is = inr (
+  d,
+  sym (ap (λ (r : Result (HeadSeen × List ℕ) Fault). r >>= λ x. item_by (things (item_at d))
+      (length t) x.0.argument x.0.major_type x.1) e) ∙ is,
+)
 
 content_blocked : (e : Bool) (t : List ℕ) → LacksContent t → (d : ℕ) → IsBlocked e d t
 content_blocked e t h d = (
@@ -241,7 +263,8 @@ chunk_with : (is_text : Bool) (t : List ℕ) (h : HeadSeen × List ℕ) (x : Lis
     → (begins_chunk is_text h.0.major_type ≡ true) × (n : ℕ) × (number_of h.0.argument ≡ Some n) × (string_at is_text (length t) n h.1 ≡ Ok x)
 unfolding chunk_at
 chunk_with is_text t h x e is =
-    let whole = sym (ap (λ (r : Result (HeadSeen × List ℕ) Fault). r >>= λ h. cond (begins_chunk is_text h.0.major_type) (unless_none (length t) (number_of h.0.argument) (λ n. string_at is_text (length t) n h.1)) (Err (Syntax (length t)))) e) ∙ is in
+    let whole = sym (ap (λ (r : Result (HeadSeen × List ℕ) Fault). r >>= λ h. cond (begins_chunk is_text h.0.major_type)
+    (unless_none (length t) (number_of h.0.argument) (λ n. string_at is_text (length t) n h.1)) (Err (Syntax (length t)))) e) ∙ is in
     let g = guard_else (begins_chunk is_text h.0.major_type) (Syntax (length t)) _ x whole in
     let n = some_ok (length t) (number_of h.0.argument) (λ n. string_at is_text (length t) n h.1) x g.1 in
     (g.0, n.0, n.1, n.2)
@@ -260,7 +283,13 @@ chunk_first is_text t x fits e =
     }
 
 first_parts : (m : ℕ) (x : ℕ) (t : List ℕ) → HeadStarts m (x ∷ t) → (k : ℕ) × (x ≡ 32 * m + k) × (k ≤ 27) × ((j : ℕ) → j < 4 → k ≡ 24 + j → 2 ^ j ≤ length t)
-first_parts m x t h = (h.info, ap first_of h.parts, h.low, λ j lt is. let long = h.argument j lt is in let same = ap (λ (s : List ℕ). length (rest_of s)) h.parts in omega arith)
+first_parts m x t h = (
+  h.info,
+  ap first_of h.parts,
+  h.low,
+  λ j lt is. let long = h.argument j lt is in let same =
+      ap (λ (s : List ℕ). length (rest_of s)) h.parts in omega arith,
+)
 
 no_chunk_read : (is_text : Bool) (t : List ℕ) → IsBytes t → NoChunk is_text t → NoChunkRead is_text t
 no_chunk_read is_text [] fits h = absurd h
@@ -310,7 +339,8 @@ content_chunk is_text t h = (λ x e. lacks x e h.lacks, (content_blocked true t 
         let r = head_is h.m h.n h.rest t h.headed in
         let w = chunk_with is_text t (head_of h.m r.argument, h.rest) x r.reads e in
         elim k [
-          | inl k ↦ short_string is_text h.n h.rest k.2 (length t) x (ap (λ (n : ℕ). string_at is_text (length t) n h.rest) (same w.1 h.n (sym w.2 ∙ r.number)) ∙ w.3)
+          | inl k ↦ short_string is_text h.n h.rest k.2 (length t) x
+              (ap (λ (n : ℕ). string_at is_text (length t) n h.rest) (same w.1 h.n (sym w.2 ∙ r.number)) ∙ w.3)
           | inr k ↦ false≢true (sym (map_no_chunk is_text) ∙ ap (λ (m : ℕ). begins_chunk is_text (major_type_of m)) (sym k.0) ∙ w.0)
         ]
 
@@ -336,7 +366,8 @@ ends_chunk is_text t fits (inr (inl h)) = argument_chunk is_text t fits h
 ends_chunk is_text t fits (inr (inr h)) = content_chunk is_text t h
 
 -- chunks, and then no chunk
-chunks_blocked : (is_text : Bool) (turns : ℕ) (ss : List (List ℕ)) (c t : List ℕ) (x : List (List ℕ) × List ℕ) → EachInOrder (IsDefinite is_text) ss c → NoChunkRead is_text t → until_at (chunk_at is_text) turns (c ++ t) ≡ Ok x → ⊥
+chunks_blocked : (is_text : Bool) (turns : ℕ) (ss : List (List ℕ)) (c t : List ℕ) (x : List (List ℕ) × List ℕ) → EachInOrder (IsDefinite is_text) ss c
+    → NoChunkRead is_text t → until_at (chunk_at is_text) turns (c ++ t) ≡ Ok x → ⊥
 unfolding until_at
 chunks_blocked is_text zero ss c t x h never e = cc
 chunks_blocked is_text (suc turns) [] c t x h never e =
@@ -362,7 +393,8 @@ abbrev made : (List ℕ → Item) → List ℕ × List ℕ → Result (Item × L
 made f x = Ok (f x.0, x.1)
 
 -- an indefinite string whose next chunk can't be there
-opening_blocked : (is_text : Bool) (e : Bool) (ss : List (List ℕ)) (c t : List ℕ) → EachInOrder (IsDefinite is_text) ss c → NoChunkRead is_text t → (d : ℕ) → IsBlocked e d ((32 * string_type is_text + 31) ∷ (c ++ t))
+opening_blocked : (is_text : Bool) (e : Bool) (ss : List (List ℕ)) (c t : List ℕ) → EachInOrder (IsDefinite is_text) ss c → NoChunkRead is_text t → (d : ℕ)
+    → IsBlocked e d ((32 * string_type is_text + 31) ∷ (c ++ t))
 unfolding chunks_at
 opening_blocked is_text e ss c t h never d = (by_type is_text h never, λ even. other is_text)
   where
@@ -370,7 +402,8 @@ opening_blocked is_text e ss c t h never d = (by_type is_text h never, λ even. 
     other false = refl
     other true = refl
 
-    joins : (b : Bool) (f : List ℕ → Item) (y : Item × List ℕ) → EachInOrder (IsDefinite b) ss c → NoChunkRead b t → (chunks_at b (c ++ t) >>= made f) ≡ Ok y → ⊥
+    joins : (b : Bool) (f : List ℕ → Item) (y : Item × List ℕ) → EachInOrder (IsDefinite b) ss c → NoChunkRead b t → (chunks_at b (c ++ t) >>= made f) ≡ Ok y
+        → ⊥
     joins b f y h never is =
         let r = bind_ok (chunks_at b (c ++ t)) (made f) y is in
         let q = bind_ok (until_at (chunk_at b) (length (c ++ t)) (c ++ t)) (λ x. Ok (joined_chunks x.0, x.1)) r.0 r.1 in
@@ -395,23 +428,31 @@ stood_item s c t k e fits parts due h =
 stood_chunk : (s c t : List ℕ) (is_text : Bool) → IsBytes s → s ≡ c ++ t → DueChunk is_text c → NoChunkRead is_text t → NoRead 256 s
 stood_chunk s c t is_text fits parts due never =
     let rest = (32 * string_type is_text + 31) ∷ (due.encodings ++ t) in
-    let whole : s ≡ due.before ++ rest = parts ∙ ap (λ (z : List ℕ). z ++ t) due.parts ∙ append_assoc due.before ((32 * string_type is_text + 31) ∷ due.encodings) t in
+    let whole : s ≡ due.before ++ rest = parts ∙ ap (λ (z : List ℕ). z ++ t) due.parts
+    ∙ append_assoc due.before ((32 * string_type is_text + 31) ∷ due.encodings) t in
     stood_item s due.before rest due.level due.flag fits whole due.due (opening_blocked is_text due.flag due.chunks due.encodings t due.are_chunks never 256)
 
 tail_fits : (s c t : List ℕ) → IsBytes s → s ≡ c ++ t → IsBytes t
 tail_fits s c t fits parts = IsBytes-append c t (subst IsBytes parts fits)
 
 stood : (s : List ℕ) (e : Error EndOfFile) → IsBytes s → (IsMemory e → ⊥) → StandsIn s e → NoRead 256 s
-stood s (errors.Io x) fits other (c, t, parts, (inl due, ends)) = stood_item s c t due.0 due.1 fits parts due.2 (ends_blocked due.1 t (tail_fits s c t fits parts) ends 256)
-stood s (errors.Io x) fits other (c, t, parts, (inr due, ends)) = stood_chunk s c t due.0 fits parts due.1 (ends_chunk due.0 t (tail_fits s c t fits parts) ends)
-stood s (errors.Syntax i) fits other (c, t, parts, at, inl h) = stood_item s c t h.0 h.1 fits parts h.2 (no_item_blocked h.1 t (tail_fits s c t fits parts) h.3 256)
-stood s (errors.Syntax i) fits other (c, t, parts, at, inr (inl h)) = stood_chunk s c t h.0 fits parts h.1 (no_chunk_read h.0 t (tail_fits s c t fits parts) h.2)
-stood s (errors.Syntax i) fits other (c, t, parts, at, inr (inr (inl due, bad))) = stood_item s c t due.0 due.1 fits parts due.2 (bad_text_blocked due.1 t bad 256)
+stood s (errors.Io x) fits other (c, t, parts, (inl due, ends)) =
+    stood_item s c t due.0 due.1 fits parts due.2 (ends_blocked due.1 t (tail_fits s c t fits parts) ends 256)
+stood s (errors.Io x) fits other (c, t, parts, (inr due, ends)) =
+    stood_chunk s c t due.0 fits parts due.1 (ends_chunk due.0 t (tail_fits s c t fits parts) ends)
+stood s (errors.Syntax i) fits other (c, t, parts, at, inl h) =
+    stood_item s c t h.0 h.1 fits parts h.2 (no_item_blocked h.1 t (tail_fits s c t fits parts) h.3 256)
+stood s (errors.Syntax i) fits other (c, t, parts, at, inr (inl h)) =
+    stood_chunk s c t h.0 fits parts h.1 (no_chunk_read h.0 t (tail_fits s c t fits parts) h.2)
+stood s (errors.Syntax i) fits other (c, t, parts, at, inr (inr (inl due, bad))) =
+    stood_item s c t due.0 due.1 fits parts due.2 (bad_text_blocked due.1 t bad 256)
 stood s (errors.Syntax i) fits other (c, t, parts, at, inr (inr (inr due, bad))) = stood_chunk s c t due.0 fits parts due.1 (bad_text_chunk due.0 t bad)
 stood s (errors.Semantic None told) fits other h = absurd h
-stood s (errors.Semantic (Some i) told) fits other (is, c, t, parts, at, h) = stood_item s c t h.0 h.1 fits parts h.2 (not_supported_blocked h.1 t (tail_fits s c t fits parts) h.3 256)
+stood s (errors.Semantic (Some i) told) fits other (is, c, t, parts, at, h) =
+    stood_item s c t h.0 h.1 fits parts h.2 (not_supported_blocked h.1 t (tail_fits s c t fits parts) h.3 256)
 stood s errors.RecursionLimitExceeded fits other (c, t, parts, h) =
-    subst (λ (z : List ℕ). NoRead 256 z) (sym parts) (due_blocked c 256 h.0 h.1 0 t (subst IsBytes parts fits) (nests_blocked h.0 t (tail_fits s c t fits parts) h.2))
+    subst (λ (z : List ℕ). NoRead 256 z) (sym parts) (due_blocked c 256 h.0 h.1 0 t (subst IsBytes parts fits)
+    (nests_blocked h.0 t (tail_fits s c t fits parts) h.2))
 stood s errors.OutOfMemory fits other h = absurd (other tt)
 
 -- Where a fault stands, no front is an item.
@@ -461,10 +502,13 @@ on b s d c t whole parts = whole ∙ ap (λ (z : List ℕ). z ++ d) parts ∙ ap
 stands_on : (b s d : List ℕ) (e : Error EndOfFile) → b ≡ s ++ d → StandsIn s e → IsEndOfInput e ⊎ StandsIn b e
 stands_on b s d (errors.Io x) whole h = inl tt
 stands_on b s d (errors.Syntax i) whole (c, t, parts, at, inl h) = inr (c, t ++ d, on b s d c t whole parts, at, inl (h.0, h.1, h.2, no_item_on h.1 t d h.3))
-stands_on b s d (errors.Syntax i) whole (c, t, parts, at, inr (inl h)) = inr (c, t ++ d, on b s d c t whole parts, at, inr (inl (h.0, h.1, no_chunk_on h.0 t d h.2)))
-stands_on b s d (errors.Syntax i) whole (c, t, parts, at, inr (inr (due, bad))) = inr (c, t ++ d, on b s d c t whole parts, at, inr (inr (due, bad_text_on t d bad)))
+stands_on b s d (errors.Syntax i) whole (c, t, parts, at, inr (inl h)) =
+    inr (c, t ++ d, on b s d c t whole parts, at, inr (inl (h.0, h.1, no_chunk_on h.0 t d h.2)))
+stands_on b s d (errors.Syntax i) whole (c, t, parts, at, inr (inr (due, bad))) =
+    inr (c, t ++ d, on b s d c t whole parts, at, inr (inr (due, bad_text_on t d bad)))
 stands_on b s d (errors.Semantic None told) whole h = absurd h
-stands_on b s d (errors.Semantic (Some i) told) whole (is, c, t, parts, at, h) = inr (is, c, t ++ d, on b s d c t whole parts, at, (h.0, h.1, h.2, not_supported_on t d h.3))
+stands_on b s d (errors.Semantic (Some i) told) whole (is, c, t, parts, at, h) =
+    inr (is, c, t ++ d, on b s d c t whole parts, at, (h.0, h.1, h.2, not_supported_on t d h.3))
 stands_on b s d errors.RecursionLimitExceeded whole (c, t, parts, h) = inr (c, t ++ d, on b s d c t whole parts, (h.0, h.1, nests_on t d h.2))
 stands_on b s d errors.OutOfMemory whole h = inr tt
 

@@ -10,6 +10,7 @@ use Rattle.coset_cbor.specs.StringChunks.{chunk_contents}
 abbrev pub chunks_bytes : ByteChunks → List ℕ
 chunks_bytes c = c.bytes.now
 
+-- the bytes that are still to come, of a text string
 abbrev pub text_chunks_bytes : TextChunks → List ℕ
 text_chunks_bytes c = c.bytes.now
 

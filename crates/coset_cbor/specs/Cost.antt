@@ -2,8 +2,10 @@
 -- for each byte of the content of a text string (which is walked, to see that it is UTF-8), and the sum over the parts.
 -- The bytes of a byte string are passed over.
 use Rattle.std.specs.Prelude.{◌≡◌, ℕ, suc, ◌+◌, ◌⊎◌, Bool, true, false, List, [], ◌∷◌, ◌++◌, length}
-use Rattle.coset_value.specs.Item.{Item, integer, bytes, float, text, boolean, null, tag, array, dict, Items, no_items, item, Pairs, no_pairs, pair, items_count, pairs_count}
-use Rattle.coset_cbor.specs.Grammar.{IsHeaded, IsIndefinite, EachInOrder, joined_chunks, string_type, IsDefinite, IsIntegerEncoding, IsFloatEncoding, IsBoolEncoding}
+use Rattle.coset_value.specs.Item.{Item, integer, bytes, float, text, boolean, null, tag, array, dict, Items, no_items, item, Pairs, no_pairs, pair}
+use Rattle.coset_value.specs.Item.{items_count, pairs_count}
+use Rattle.coset_cbor.specs.Grammar.{IsHeaded, IsIndefinite, EachInOrder, joined_chunks, string_type, IsDefinite, IsIntegerEncoding, IsFloatEncoding}
+use Rattle.coset_cbor.specs.Grammar.{IsBoolEncoding}
 
 -- the content of a string
 abbrev pub content_cost : Bool → List ℕ → ℕ
@@ -18,7 +20,8 @@ chunks_cost is_text (s ∷ ss) = suc (content_cost is_text s + chunks_cost is_te
 -- b is the string s whole, or in chunks between an opening and a break; and reading it takes k steps
 abbrev pub IsStringCost : Bool → List ℕ → List ℕ → ℕ → Type 0
 IsStringCost is_text s b k = (IsDefinite is_text s b × (k ≡ suc (content_cost is_text s)))
-    ⊎ ((ss : List (List ℕ)) × (c : List ℕ) × (joined_chunks ss ≡ s) × EachInOrder (IsDefinite is_text) ss c × IsIndefinite (string_type is_text) c b × (k ≡ 2 + chunks_cost is_text ss))
+    ⊎ ((ss : List (List ℕ)) × (c : List ℕ) × (joined_chunks ss ≡ s) × EachInOrder (IsDefinite is_text) ss c × IsIndefinite (string_type is_text) c b
+    × (k ≡ 2 + chunks_cost is_text ss))
 
 -- b holds s, which takes j steps, behind a head, or between an opening and a break; and reading it takes k steps
 abbrev pub IsHeldCost : ℕ → ℕ → List ℕ → List ℕ → ℕ → ℕ → Type 0

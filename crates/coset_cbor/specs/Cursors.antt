@@ -24,6 +24,7 @@ abbrev pub keys_and_values : Pairs → Items
 keys_and_values no_pairs = no_items
 keys_and_values (pair k v ps) = item k (item v (keys_and_values ps))
 
+-- the items that a map gives: each key, and then its value
 abbrev pub map_items : Item → Option Items
 map_items v = option_map keys_and_values (as_map v)
 

@@ -1,6 +1,7 @@
 -- The definite encoding of a value: no indefinite length at any level (RFC 8949, section 4.2.1, its second rule).
 use Rattle.std.specs.Prelude.{◌≡◌, ℕ, true, false, List, [], ◌∷◌, ◌++◌}
-use Rattle.coset_value.specs.Item.{Item, integer, bytes, float, text, boolean, null, tag, array, dict, Items, no_items, item, Pairs, no_pairs, pair, items_count, pairs_count}
+use Rattle.coset_value.specs.Item.{Item, integer, bytes, float, text, boolean, null, tag, array, dict, Items, no_items, item, Pairs, no_pairs, pair}
+use Rattle.coset_value.specs.Item.{items_count, pairs_count}
 use Rattle.coset_cbor.specs.Grammar.{IsHeaded, IsDefinite, IsIntegerEncoding, IsFloatEncoding, IsBoolEncoding}
 
 abbrev mutual
@@ -24,4 +25,5 @@ abbrev mutual
   -- b are definite encodings of the keys and values, pair by pair
   pub AreDefinitePairs : Pairs → List ℕ → Type 0
   AreDefinitePairs no_pairs b = b ≡ []
-  AreDefinitePairs (pair k v ps) b = (c : List ℕ) × (d : List ℕ) × (e : List ℕ) × IsDefiniteEncoding k c × IsDefiniteEncoding v d × AreDefinitePairs ps e × (b ≡ c ++ (d ++ e))
+  AreDefinitePairs (pair k v ps) b = (c : List ℕ) × (d : List ℕ) × (e : List ℕ) × IsDefiniteEncoding k c × IsDefiniteEncoding v d × AreDefinitePairs ps e
+      × (b ≡ c ++ (d ++ e))

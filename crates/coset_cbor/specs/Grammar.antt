@@ -3,7 +3,8 @@
 use Rattle.std.specs.Prelude.{◌≡◌, ℕ, ◌+◌, ◌*◌, ◌^◌, ◌<◌, ◌≤◌, ◌⊎◌, ⊤, ℤ, pos, negsuc, Bool, true, false, List, [], ◌∷◌, ◌++◌, length}
 use Rattle.std.specs.Int.{w8, w16, w32, w64, to_be_bytes}
 use Rattle.std.specs.Str.{IsUtf8}
-use Rattle.coset_value.specs.Item.{Bits, half, single, double, Item, integer, bytes, float, text, boolean, null, tag, array, dict, Items, no_items, item, Pairs, no_pairs, pair, items_count, pairs_count, depth}
+use Rattle.coset_value.specs.Item.{Bits, half, single, double, Item, integer, bytes, float, text, boolean, null, tag, array, dict, Items, no_items, item, Pairs}
+use Rattle.coset_value.specs.Item.{no_pairs, pair, items_count, pairs_count, depth}
 
 -- ---- heads (RFC 8949, section 3)
 
@@ -50,6 +51,7 @@ abbrev pub EachInOrder : {A : Type 0} → (A → List ℕ → Type 0) → List A
 EachInOrder R [] b = b ≡ []
 EachInOrder R (x ∷ xs) b = (c : List ℕ) × (d : List ℕ) × R x c × EachInOrder R xs d × (b ≡ c ++ d)
 
+-- the contents of chunks, one after the other
 abbrev pub joined_chunks : List (List ℕ) → List ℕ
 joined_chunks [] = []
 joined_chunks (x ∷ xs) = x ++ joined_chunks xs
@@ -70,7 +72,8 @@ IsDefinite is_text s b = IsStringContent is_text s × IsHeaded (string_type is_t
 -- b is s behind its length, or s in chunks, each behind its own length (and in a text string each UTF-8 by itself), up
 -- to the break
 abbrev pub IsStringEncoding : Bool → List ℕ → List ℕ → Type 0
-IsStringEncoding is_text s b = IsDefinite is_text s b ⊎ ((ss : List (List ℕ)) × (c : List ℕ) × (joined_chunks ss ≡ s) × EachInOrder (IsDefinite is_text) ss c × IsIndefinite (string_type is_text) c b)
+IsStringEncoding is_text s b = IsDefinite is_text s b ⊎
+    ((ss : List (List ℕ)) × (c : List ℕ) × (joined_chunks ss ≡ s) × EachInOrder (IsDefinite is_text) ss c × IsIndefinite (string_type is_text) c b)
 
 -- ---- items
 

@@ -4,12 +4,15 @@ use Rattle.std.specs.Prelude.{◌≡◌, ℕ, ◌^◌, ℤ, pos, negsuc, Bool, t
 use Rattle.std.specs.Int.{w16, w32, w64, to_be_bytes}
 use Rattle.coset_cbor.specs.declared.head.MajorType.{MajorType}
 use Rattle.coset_cbor.specs.declared.head.MajorType.TheVariants as major_types
-use Rattle.coset_value.specs.Item.{Bits, half, single, double, Item, integer, bytes, float, text, boolean, null, tag, array, dict, Items, no_items, item, Pairs, no_pairs, pair, items_count, pairs_count}
+use Rattle.coset_value.specs.Item.{Bits, half, single, double, Item, integer, bytes, float, text, boolean, null, tag, array, dict, Items, no_items, item, Pairs}
+use Rattle.coset_value.specs.Item.{no_pairs, pair, items_count, pairs_count}
 use Rattle.coset_cbor.specs.Grammar.{Place, within, one, two, four, eight, head_in}
 
 abbrev pub least_place : ℕ → Place
-least_place n = if nat_lt n 24 then within else (if nat_lt n (2 ^ 8) then one else (if nat_lt n (2 ^ 16) then two else (if nat_lt n (2 ^ 32) then four else eight)))
+least_place n = if nat_lt n 24 then within else (if nat_lt n (2 ^ 8) then one
+    else (if nat_lt n (2 ^ 16) then two else (if nat_lt n (2 ^ 32) then four else eight)))
 
+-- the head of least width with this major type and argument
 unfoldable pub least_head : ℕ → ℕ → List ℕ
 least_head m n = head_in (least_place n) m n
 

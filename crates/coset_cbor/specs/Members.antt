@@ -11,6 +11,7 @@ use Rattle.coset_cbor.specs.Between.{items_in, pairs_in}
 abbrev pub items_bytes : lent_items.Items → List ℕ
 items_bytes it = it.rest.now
 
+-- the bytes that are still to come, of a map
 abbrev pub pairs_bytes : lent_pairs.Pairs → List ℕ
 pairs_bytes it = it.rest.now
 

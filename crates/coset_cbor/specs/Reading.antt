@@ -1,6 +1,7 @@
 -- What reading from left to right gives, as a function on lists: the value and what is left, or the first fault.
 -- Only contracts of private functions cite it. That it agrees with the grammar is proved in proofs/.
-use Rattle.std.specs.Prelude.{◌≡◌, ℕ, zero, suc, ◌/◌, ◌%◌, List, [], ◌∷◌, length, take, drop, Bool, true, false, not, Option, Some, None, Result, Ok, Err, nat_lt, ◌==◌, if◌then◌else◌, pos, negsuc}
+use Rattle.std.specs.Prelude.{◌≡◌, ℕ, zero, suc, ◌/◌, ◌%◌, List, [], ◌∷◌, length, take, drop, Bool, true, false, not, Option, Some, None, Result, Ok, Err}
+use Rattle.std.specs.Prelude.{nat_lt, ◌==◌, if◌then◌else◌, pos, negsuc}
 use Rattle.std.specs.Int.{Width, w8, w16, w32, w64, from_be_bytes}
 use Rattle.std.specs.Str.{is_utf8}
 use Rattle.coset_cbor.specs.declared.fault.Fault.{Fault}
@@ -38,8 +39,12 @@ Answers view (Err f) read = read ≡ Err f
 abbrev pub Parse : Type 0 → Type 0
 Parse A = List ℕ → Result (A × List ℕ) Fault
 
+-- the major type of a number from 0 to 7
 abbrev pub major_type_of : ℕ → MajorType
-major_type_of n = if n == 0 then major_types.Unsigned else (if n == 1 then major_types.Negative else (if n == 2 then major_types.Bytes else (if n == 3 then major_types.Text else (if n == 4 then major_types.Array else (if n == 5 then major_types.Map else (if n == 6 then major_types.Tag else major_types.Simple))))))
+major_type_of n = if n == 0 then major_types.Unsigned else
+    (if n == 1 then major_types.Negative else (if n == 2 then major_types.Bytes
+    else (if n == 3 then major_types.Text else (if n == 4 then major_types.Array
+    else (if n == 5 then major_types.Map else (if n == 6 then major_types.Tag else major_types.Simple))))))
 
 -- the number of an argument, where there is one
 abbrev pub number_of : Argument → Option ℕ
@@ -93,7 +98,8 @@ unless_none left (Some n) read = read n
 
 -- n bytes, which are text where is_text says so; left is what was left at the head
 unfoldable pub string_at : Bool → ℕ → ℕ → Parse (List ℕ)
-string_at is_text left n s = if nat_lt (length s) n then Err End else (if is_string_content is_text (take n s) then Ok (take n s, drop n s) else Err (Syntax left))
+string_at is_text left n s = if nat_lt (length s) n then Err End
+    else (if is_string_content is_text (take n s) then Ok (take n s, drop n s) else Err (Syntax left))
 
 abbrev pub begins_chunk : Bool → MajorType → Bool
 begins_chunk is_text major_types.Unsigned = false
@@ -154,7 +160,8 @@ map_by one (Some n) s = if nat_lt (length s / 2) n then Err End else times_at (p
 -- ---- items
 
 abbrev pub simple_at : ℕ → Argument → Parse Item
-simple_at left (places.Within n) s = if n == 20 then Ok (boolean false, s) else (if n == 21 then Ok (boolean true, s) else (if n == 22 then Ok (null, s) else Err (Simple left)))
+simple_at left (places.Within n) s = if n == 20 then Ok (boolean false, s)
+    else (if n == 21 then Ok (boolean true, s) else (if n == 22 then Ok (null, s) else Err (Simple left)))
 simple_at left (places.One n) s = if nat_lt n 32 then Err (Syntax left) else Err (Simple left)
 simple_at left (places.Two n) s = Ok (float (half n), s)
 simple_at left (places.Four n) s = Ok (float (single n), s)

@@ -17,7 +17,8 @@ IsMemory errors.OutOfMemory = ⊤
 abbrev pub StandsIn : List ℕ → Error EndOfFile → Type 0
 StandsIn s (errors.Io x) = (c : List ℕ) × (t : List ℕ) × (s ≡ c ++ t) × EndAt c t
 StandsIn s (errors.Syntax i) = (c : List ℕ) × (t : List ℕ) × (s ≡ c ++ t) × (i ≡ length c) × SyntaxAt c t
-StandsIn s (errors.Semantic (Some i) told) = (told.now ≡ codes "unsupported simple value") × (c : List ℕ) × (t : List ℕ) × (s ≡ c ++ t) × (i ≡ length c) × SimpleAt c t
+StandsIn s (errors.Semantic (Some i) told) = (told.now ≡ codes "unsupported simple value") × (c : List ℕ) × (t : List ℕ) × (s ≡ c ++ t) × (i ≡ length c)
+    × SimpleAt c t
 StandsIn s (errors.Semantic None told) = ⊥
 StandsIn s errors.RecursionLimitExceeded = (c : List ℕ) × (t : List ℕ) × (s ≡ c ++ t) × DeepAt 256 c t
 StandsIn s errors.OutOfMemory = ⊤

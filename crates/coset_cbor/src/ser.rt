@@ -49,6 +49,7 @@ pub fn write_value(value: &Value, out: &mut Vec<u8>) -> Result<(), OutOfMemory>
 ///
 /// # Errors
 /// The same as [`write_value`].
+#[inline(always)]
 pub fn write_array_head(count: usize, out: &mut Vec<u8>) -> Result<(), OutOfMemory>
     ensures ok { OnOk result (out.new.items ≡ out.old.items ++ least_head 4 count) }
     ensures refused { OnErr result (out.new.items ≡ out.old.items) }
@@ -62,6 +63,7 @@ pub fn write_array_head(count: usize, out: &mut Vec<u8>) -> Result<(), OutOfMemo
 ///
 /// # Errors
 /// The same as [`write_value`].
+#[inline(always)]
 pub fn write_map_head(count: usize, out: &mut Vec<u8>) -> Result<(), OutOfMemory>
     ensures ok { OnOk result (out.new.items ≡ out.old.items ++ least_head 5 count) }
     ensures refused { OnErr result (out.new.items ≡ out.old.items) }
@@ -76,6 +78,7 @@ pub fn write_map_head(count: usize, out: &mut Vec<u8>) -> Result<(), OutOfMemory
 ///
 /// # Errors
 /// The same as [`write_value`].
+#[inline(always)]
 pub fn write_tag_head(number: u64, out: &mut Vec<u8>) -> Result<(), OutOfMemory>
     ensures ok { OnOk result (out.new.items ≡ out.old.items ++ least_head 6 number) }
     ensures refused { OnErr result (out.new.items ≡ out.old.items) }
@@ -89,6 +92,7 @@ pub fn write_tag_head(number: u64, out: &mut Vec<u8>) -> Result<(), OutOfMemory>
 ///
 /// # Errors
 /// The same as [`write_value`].
+#[inline(always)]
 pub fn write_bytes(content: &[u8], out: &mut Vec<u8>) -> Result<(), OutOfMemory>
     ensures ok { OnOk result (out.new.items ≡ out.old.items ++ least_encoding (bytes content.now)) }
     ensures in_range { OnOk result (IsInRange (bytes content.now)) }
@@ -103,6 +107,7 @@ pub fn write_bytes(content: &[u8], out: &mut Vec<u8>) -> Result<(), OutOfMemory>
 ///
 /// # Errors
 /// The same as [`write_value`].
+#[inline(always)]
 pub fn write_text(content: &str, out: &mut Vec<u8>) -> Result<(), OutOfMemory>
     ensures ok { OnOk result (out.new.items ≡ out.old.items ++ least_encoding (text content.now)) }
     ensures in_range { OnOk result (IsInRange (text content.now)) }
@@ -117,6 +122,7 @@ pub fn write_text(content: &str, out: &mut Vec<u8>) -> Result<(), OutOfMemory>
 ///
 /// # Errors
 /// The same as [`write_value`].
+#[inline(always)]
 pub fn write_integer(n: Integer, out: &mut Vec<u8>) -> Result<(), OutOfMemory>
     ensures ok { OnOk result (out.new.items ≡ out.old.items ++ least_encoding (integer n)) }
     ensures in_range { OnOk result (IsInRange (integer n)) }
@@ -128,6 +134,7 @@ pub fn write_integer(n: Integer, out: &mut Vec<u8>) -> Result<(), OutOfMemory>
 }
 
 /// The answer of a call that wrote. Where memory ran out, what it left behind the first bytes is taken back.
+#[inline(always)]
 fn settle(
     written: Result<(), AllocError>,
     before: usize,

@@ -3,7 +3,8 @@ use Rattle.std.proofs.Common.{◌≡◌, ℕ, List, [], ◌∷◌, Option, Some,
 use Rattle.std.specs.List.{AllZip}
 use Rattle.coset_core.proofs.Copies.{Copied}
 
-pub option_copied : {A B : Type 0} (f : A → B) (R : A → A → Type 0) → ((x y : A) → R x y → f y ≡ f x) → (o p : Option A) → Copied R o p → option_map f p ≡ option_map f o
+pub option_copied : {A B : Type 0} (f : A → B) (R : A → A → Type 0) → ((x y : A) → R x y → f y ≡ f x) → (o p : Option A) → Copied R o p
+    → option_map f p ≡ option_map f o
 option_copied f R same None None c = refl
 option_copied f R same None (Some y) c = absurd c
 option_copied f R same (Some x) None c = absurd c

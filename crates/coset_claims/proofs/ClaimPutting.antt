@@ -10,16 +10,20 @@ use Rattle.coset_claims.specs.ClaimsLaws.{names_laws}
 
 -- none of seven tests passes
 none :
-    (a b c d e f g : Bool) → a ≡ false → b ≡ false → c ≡ false → d ≡ false → e ≡ false → f ≡ false → g ≡ false → (a || (b || (c || (d || (e || (f || (g || false))))))) ≡ false
+    (a b c d e f g : Bool) → a ≡ false → b ≡ false → c ≡ false → d ≡ false → e ≡ false → f ≡ false → g ≡ false
+    → (a || (b || (c || (d || (e || (f || (g || false))))))) ≡ false
 none a b c d e f g h1 h2 h3 h4 h5 h6 h7 = rw (h1, h2, h3, h4, h5, h6, h7) refl
 
 -- a claim whose name is none of the fields' goes to the rest
 pub adds_rest :
-    (m : RegisteredName) (v : Item) (x y : Fielded × List (RegisteredName × Item)) → same_name labels.iss m ≡ false → same_name labels.sub m ≡ false → same_name labels.aud m ≡ false → same_name labels.exp m ≡ false
+    (m : RegisteredName) (v : Item) (x y : Fielded × List (RegisteredName × Item)) → same_name labels.iss m ≡ false → same_name labels.sub m ≡ false
+    → same_name labels.aud m ≡ false → same_name labels.exp m ≡ false
     → same_name labels.nbf m ≡ false → same_name labels.iat m ≡ false → same_name labels.cti m ≡ false → x.0 ≡ y.0 → y.1 ≡ x.1 ++ (m, v) ∷ []
     → Adds names fields m v x y
 adds_rest m v x y h1 h2 h3 h4 h5 h6 h7 same rest =
-    let other : is_core names fields.labels m ≡ false = none _ _ _ _ _ _ _ (turn labels.iss h1) (turn labels.sub h2) (turn labels.aud h3) (turn labels.exp h4) (turn labels.nbf h5) (turn labels.iat h6) (turn labels.cti h7) in
+    let other : is_core names fields.labels m ≡ false =
+    none _ _ _ _ _ _ _ (turn labels.iss h1) (turn labels.sub h2) (turn labels.aud h3) (turn labels.exp h4) (turn labels.nbf h5) (turn labels.iat h6)
+    (turn labels.cti h7) in
     subst (λ b. Where b (fields.takes m v x.0 y.0 × (y.1 ≡ x.1)) ((x.0 ≡ y.0) × (y.1 ≡ x.1 ++ (m, v) ∷ []))) (sym other) (same, rest)
   where
     turn : (l : RegisteredName) → same_name l m ≡ false → same_name m l ≡ false

@@ -16,12 +16,14 @@ goes_further (tree w) t u g h = tt
 goes_further (lent s) t u g h = omega (arith, g, h)
 
 -- what is left behind the last place, and that nothing is wrong with the number of places where nothing is
-pub other_behind : (vs : Items) (t z : State) (m : InputItems) (r : Result (Option (Vec ℕ Global)) CoseError) → ReadsOther vs t z m r → (left : Items) × AreWithin m left t z × (left ≡ no_items → LastMisfits vs → ⊥)
+pub other_behind : (vs : Items) (t z : State) (m : InputItems) (r : Result (Option (Vec ℕ Global)) CoseError) → ReadsOther vs t z m r → (left : Items)
+    × AreWithin m left t z × (left ≡ no_items → LastMisfits vs → ⊥)
 other_behind no_items t z m r p = (no_items, p.0, λ none misfit. misfit)
 other_behind (item v vs) t z m r p = (vs, p.0, λ none misfit. misfit (subst IsEnd (sym none) tt))
 
 -- the last place is at fault
 pub other_refused :
-    (vs : Items) (t z : State) (m : InputItems) (e : CoseError) → ReadsOther vs t z m (Err e) → (left : Items) × AreWithin m left t z × (left ≡ no_items → (LastMisfits vs → ⊥) × UnlessMemory e (other_place.faults vs))
+    (vs : Items) (t z : State) (m : InputItems) (e : CoseError) → ReadsOther vs t z m (Err e) → (left : Items) × AreWithin m left t z
+    × (left ≡ no_items → (LastMisfits vs → ⊥) × UnlessMemory e (other_place.faults vs))
 other_refused no_items t z m e p = absurd p.1
 other_refused (item v vs) t z m e p = (vs, p.0, λ none. (λ misfit. misfit (subst IsEnd (sym none) tt), λ n. p.1 n))

@@ -75,12 +75,14 @@ claim_name = registered_or_private (λ i. is_some (first_numbered claim_names.nu
 abbrev pub same_name : RegisteredName → RegisteredName → Bool
 same_name a b = is_eq (registered_cmp a b)
 
+-- claim names are compared as their numbers and texts are
 abbrev pub names : Names RegisteredName
 names = record { shape = claim_name; same = same_name }
 
 -- the registered claims, in the order of their numbers
 abbrev pub Fielded : Type 0
-Fielded = Option (List ℕ) × (Option (List ℕ) × (Option (List ℕ) × (Option TimestampSeen × (Option TimestampSeen × (Option TimestampSeen × (Option (List ℕ) × Unit {0}))))))
+Fielded = Option (List ℕ) × (Option (List ℕ) × (Option (List ℕ)
+    × (Option TimestampSeen × (Option TimestampSeen × (Option TimestampSeen × (Option (List ℕ) × Unit {0}))))))
 
 -- ? 1 => tstr, ? 2 => tstr, ? 3 => tstr, ? 4 => timestamp, ? 5 => timestamp, ? 6 => timestamp, ? 7 => bstr
 abbrev pub fields : Fields RegisteredName Fielded

@@ -56,7 +56,8 @@ context = along context_of context_places (array_of (algorithm then party then p
 pub context_laws : Lawful ContextSeen context
 context_laws =
     along_laws context_of context_places (λ x. refl) _
-    (array_of_laws _ (then_laws _ _ algorithm_laws (then_laws _ _ party_laws (then_laws _ _ party_laws (then_laws _ _ supp_pub_laws (any_number_laws bstr bstr_laws))))))
+    (array_of_laws _ (then_laws _ _ algorithm_laws (then_laws _ _ party_laws
+    (then_laws _ _ party_laws (then_laws _ _ supp_pub_laws (any_number_laws bstr bstr_laws))))))
 
 -- with one byte string more behind the others
 abbrev pub and_supp_priv_info : List ℕ → ContextSeen → ContextSeen

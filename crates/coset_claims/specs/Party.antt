@@ -3,7 +3,8 @@ use Rattle.std.specs.Prelude.{◌≡◌, ◌⊎◌, ℕ, ℤ, List, Option, Some
 use Rattle.std.proofs.Common.{inl, inr, ap, sym}
 use Rattle.coset_value.specs.Item.{Item, integer, bytes}
 use Rattle.coset_codec.specs.Shape.{Shape, along, either, int64, bstr, is_nil, or_nil, array_of, ◌then◌, end}
-use Rattle.coset_codec.specs.ShapeLaws.{Lawful, some-one, along_laws, either_laws, int64_laws, bstr_laws, bytes_no_nil, or_nil_laws, array_of_laws, then_laws, end_laws}
+use Rattle.coset_codec.specs.ShapeLaws.{Lawful, some-one, along_laws, either_laws, int64_laws, bstr_laws, bytes_no_nil, or_nil_laws, array_of_laws, then_laws}
+use Rattle.coset_codec.specs.ShapeLaws.{end_laws}
 use Rattle.coset_label.specs.Labels.{is_integer}
 use Rattle.coset_claims.specs.declared.party.Nonce.{Nonce}
 use Rattle.coset_claims.specs.declared.party.Nonce.TheVariants.{Bytes, Integer}

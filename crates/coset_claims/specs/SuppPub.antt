@@ -56,7 +56,8 @@ missing (Some b) e = absurd (true≢false e)
 pub supp_pub_laws : Lawful SuppPubSeen supp_pub
 supp_pub_laws =
     along_laws supp_pub_of supp_pub_places (λ x. refl) _
-    (array_of_laws _ (then_laws _ _ uint_laws (then_laws _ _ protected_laws (perhaps_laws None is_some refl missing (present bstr) (present_laws bstr bstr_laws)))))
+    (array_of_laws _ (then_laws _ _ uint_laws (then_laws _ _ protected_laws
+    (perhaps_laws None is_some refl missing (present bstr) (present_laws bstr bstr_laws)))))
 
 -- ---- what its reader and its writer are made of
 

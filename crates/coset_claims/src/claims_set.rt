@@ -1,7 +1,7 @@
 //! Claims sets: what a CBOR web token says of its subject (RFC 8392, sections 3 and 4).
 
-ghost use Rattle.std.specs.Prelude.{◌≡◌, ◌≤◌, ◌<◌, ◌==◌, not, string_bytes, IsTrue, IfOk, IfErr, OnOk, OnErr, Some};
-ghost use Rattle.std.specs.Map.{keys_of};
+ghost use Rattle.std.specs.Prelude.{◌≡◌, ◌≤◌, ◌<◌, ◌==◌, not, string_bytes, IsTrue, IfOk, IfErr, OnOk, OnErr, Some, option_map};
+ghost use Rattle.std.specs.Map.{keys_of, lookup};
 ghost use Rattle.coset_value.specs.View.{view};
 ghost use Rattle.coset_iana.specs.CwtClaimName as claim_names;
 ghost use Rattle.coset_iana.specs.WithPrivateRange.{is_private_use};
@@ -17,7 +17,7 @@ use crate::timestamp::Timestamp;
 use coset_cbor::value::Value;
 use coset_codec::read::{Gather, Input, InputPairs, read_map, set_field};
 use coset_codec::write::{Encode, write_optional, write_pairs_head, write_rest};
-use coset_codec::{Codec, Result, has_repeats};
+use coset_codec::{Codec, Result, find_value, has_repeats};
 use coset_iana::{CwtClaimName, EnumI64};
 use coset_label::{ClaimName, RegisteredLabelWithPrivate};
 use std::alloc::{AllocError, Global};
@@ -284,6 +284,15 @@ impl ClaimsSet {
         ensures memory { IfErr result (λ e. e ≡ OutOfMemory) }
     {
         Ok(Clone::clone(self)?)
+    }
+
+    /// The value of the first claim of `rest` with this name; `None` where none has it. The claims that have a field (1 to
+    /// 7) aren't among the rest of a claims set that was read (RFC 8392, section 3.1).
+    pub fn get(&self, name: &ClaimName) -> Option<&Value>
+        ensures { option_map (λ v. view v.now) result ≡ lookup (same_name (name_seen name.now))
+            (claims_seen self.now).rest }
+    {
+        find_value(&self.rest, name)
     }
 }
 

@@ -6,7 +6,8 @@ use Rattle.coset_codec.specs.AsWritten.{AsWritten, WhenRead, PlacesAsWritten, Pl
 use Rattle.coset_codec.specs.Lists.{EachHas, EachWith}
 use Rattle.coset_codec.specs.Recursive.{nested, recursive}
 use Rattle.coset_codec.specs.RecursiveLaws.{Step, written_nested}
-use Rattle.coset_codec.specs.Shape.{Shape, Places, both, array_of, ◌then◌, any_number, list_of, images, Each, perhaps, last_image, LastDescribes, tagged, bstr, or_nil}
+use Rattle.coset_codec.specs.Shape.{Shape, Places, both, array_of, ◌then◌, any_number, list_of, images, Each, perhaps, last_image, LastDescribes, tagged, bstr}
+use Rattle.coset_codec.specs.Shape.{or_nil}
 use Rattle.coset_codec.specs.ShapeLaws.{some-one, bstr_laws, bytes_no_nil, or_nil_laws}
 
 -- ---- under a tag
@@ -43,13 +44,15 @@ module _ {A : Type 0} (ps : Places A) where
   array_when_read P h v x d = h d.0 x d.2
 
 -- a place of an array that was written, and those behind it
-place_written : (o : Option Item) (os : Option Items) (vs : Items) → both item o os ≡ Some vs → (u : Item) × (us : Items) × (o ≡ Some u) × (os ≡ Some us) × (vs ≡ item u us)
+place_written : (o : Option Item) (os : Option Items) (vs : Items) → both item o os ≡ Some vs → (u : Item) × (us : Items) × (o ≡ Some u) × (os ≡ Some us)
+    × (vs ≡ item u us)
 place_written None os vs e = absurd (cc)
 place_written (Some u) None vs e = absurd (cc)
 place_written (Some u) (Some us) vs e = (u, us, refl, refl, sym (some-one refl e))
 
 module _ {A B : Type 0} (s : Shape A) (ps : Places B) where
-  pub then_as_written : (R : A → A → Type 0) (Q : B → B → Type 0) → AsWritten s R → PlacesAsWritten ps Q → PlacesAsWritten (s then ps) (λ x y. R x.0 y.0 × Q x.1 y.1)
+  pub then_as_written : (R : A → A → Type 0) (Q : B → B → Type 0) → AsWritten s R → PlacesAsWritten ps Q
+      → PlacesAsWritten (s then ps) (λ x y. R x.0 y.0 × Q x.1 y.1)
   then_as_written R Q one more vs x y e d =
       let p = place_written (s.image x.0) (ps.image x.1) vs e in
       let both_read = subst (λ ws. (s then ps).describes ws y) p.4 d in
@@ -100,7 +103,8 @@ module _ {A : Type 0} (absent : A) (shows : A → Bool) (s : Shape A) where
 
   -- where it is written, and where it isn't
   last_as_written :
-      (R : A → A → Type 0) → AsWritten s R → (x y : A) → (shows x ≡ false → R x absent) → (vs : Items) (b : Bool) → shows x ≡ b → last_image b (s.image x) ≡ Some vs
+      (R : A → A → Type 0) → AsWritten s R → (x y : A) → (shows x ≡ false → R x absent) → (vs : Items) (b : Bool) → shows x ≡ b
+      → last_image b (s.image x) ≡ Some vs
       → LastDescribes absent s.describes vs y → R x y
   last_as_written R h x y hidden vs true is e d =
       let p = shown_as_written (s.image x) vs e in h p.0 x y p.1 (subst (λ ws. LastDescribes absent s.describes ws y) p.2 d)
@@ -123,7 +127,8 @@ module _ {A : Type 0} (step : Shape A → Shape A) (image : A → Option Item) w
   nested_as_written R h zero v x y e d = absurd d
   nested_as_written R h (suc n) v x y e d = h (nested step image n) (nested_as_written R h n) v x y e d
 
-  pub recursive_as_written : Step A step image → (R : A → A → Type 0) → ((s : Shape A) → AsWritten s R → AsWritten (step s) R) → AsWritten (recursive step image) R
+  pub recursive_as_written : Step A step image → (R : A → A → Type 0) → ((s : Shape A) → AsWritten s R → AsWritten (step s) R)
+      → AsWritten (recursive step image) R
   recursive_as_written k R h v x y e d = nested_as_written R h d.0 v x y (written_nested step image k d.0 x ∙ e) d.1
 
   nested_when_read : (P : A → Type 0) → ((s : Shape A) → WhenRead s P → WhenRead (step s) P) → (n : ℕ) → WhenRead (nested step image n) P
@@ -139,6 +144,7 @@ pub bstr_as_written : AsWritten bstr (λ s t. t ≡ s)
 bstr_as_written v s t e d = bstr_laws.unique v t s d (subst (λ w. bstr.describes w s) (some-one refl e) refl)
 
 pub or_nil_as_written : AsWritten (or_nil bstr) (λ p q. q ≡ p)
-or_nil_as_written v None q e d = (or_nil_laws bstr bytes_no_nil bstr_laws).unique v q None d (subst (λ w. (or_nil bstr).describes w None) (some-one refl e) (refl, refl))
+or_nil_as_written v None q e d = (or_nil_laws bstr bytes_no_nil bstr_laws).unique v q None d
+    (subst (λ w. (or_nil bstr).describes w None) (some-one refl e) (refl, refl))
 or_nil_as_written v (Some s) q e d =
     (or_nil_laws bstr bytes_no_nil bstr_laws).unique v q (Some s) d (subst (λ w. (or_nil bstr).describes w (Some s)) (some-one refl e) (refl, refl))

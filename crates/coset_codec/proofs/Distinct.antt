@@ -1,5 +1,6 @@
 -- Whether keys are distinct: by each beside those after it, and by a sort.
-use Rattle.std.proofs.Common.{◌≡◌, ◌+◌, ◌-◌, ◌≤◌, List, [], ◌∷◌, Bool, true, false, not, ◌&&◌, ◌||◌, Option, Some, Ordering, Less, Equal, Greater, is_eq, is_lt, Decides, IsPermutation, IsSorted, map, length, get_or, take, drop, refl, sym, ap, ◌∙◌, subst, arith, true≢false}
+use Rattle.std.proofs.Common.{◌≡◌, ◌+◌, ◌-◌, ◌≤◌, List, [], ◌∷◌, Bool, true, false, not, ◌&&◌, ◌||◌, Option, Some, Ordering, Less, Equal, Greater, is_eq, is_lt}
+use Rattle.std.proofs.Common.{Decides, IsPermutation, IsSorted, map, length, get_or, take, drop, refl, sym, ap, ◌∙◌, subst, arith, true≢false}
 use Rattle.std.specs.Cmp.{IsTotalOrder}
 use Rattle.std.specs.List.{IsDistinct, AllByRecursion, IsAllAdjacentAnswer, list_any, list_all}
 use Rattle.std.specs.List.Sorted.{IsSortedByKey}
@@ -30,7 +31,8 @@ module _ {K V : Type 0} (eq : K → K → Bool) where
   differs_from_all k (p ∷ ps) = ap (λ b. not (eq k p.0) && b) (differs_from_all k ps) ∙ neither (eq k p.0) _
 
   -- Where the first key is equal to one after it, the keys aren't distinct; else they are where those after it are.
-  pub are_distinct_more : {b : Bool} (ps : List (K × V)) (d : K × V) (found : Bool) → 1 ≤ length ps → found ≡ list_any (λ p. eq (get_or ps 0 d).0 p.0) (after_first ps) → found ≡ b
+  pub are_distinct_more : {b : Bool} (ps : List (K × V)) (d : K × V) (found : Bool) → 1 ≤ length ps
+      → found ≡ list_any (λ p. eq (get_or ps 0 d).0 p.0) (after_first ps) → found ≡ b
       → are_distinct eq (keys_of ps) ≡ (not b && are_distinct eq (keys_of (after_first ps)))
   are_distinct_more [] d found h e was = absurd (omega arith)
   are_distinct_more (p ∷ ps) d found h e was = rw (← was, e, take_rest (p ∷ ps) 1) (ap (λ b. b && are_distinct eq (keys_of ps)) (differs_from_all p.0 ps))
@@ -53,7 +55,8 @@ module _ {K : Type 0} (eq : K → K → Bool) where
   pub are_distinct-IsPermutation : ((x y : K) → eq x y ≡ eq y x) → (xs ys : List K) → IsPermutation xs ys → are_distinct eq xs ≡ are_distinct eq ys
   are_distinct-IsPermutation flips xs ys moved =
       same_from_decides _ _ (Decides-are_distinct xs)
-      (Decides-like _ (IsDistinct-IsPermutation eq flips ys xs (IsPermutation-sym xs ys moved)) (IsDistinct-IsPermutation eq flips xs ys moved) (Decides-are_distinct ys))
+      (Decides-like _ (IsDistinct-IsPermutation eq flips ys xs (IsPermutation-sym xs ys moved)) (IsDistinct-IsPermutation eq flips xs ys moved)
+      (Decides-are_distinct ys))
 
   differs_from_read : {R : Type 0} (f : R → K) (k : K) (rs : List R) → list_all (λ m. not (eq k m)) (map f rs) ≡ list_all (λ r. not (eq k (f r))) rs
   differs_from_read f k [] = refl
@@ -79,7 +82,8 @@ Less-from_is_lt Greater e = absurd (true≢false e)
 
 -- sorted values are distinct exactly where each is less than the next, which r tells
 Decides-by_neighbours :
-    {K : Type 0} {cmp : K → K → Ordering} (o : IsTotalOrder cmp) (ks : List K) (r : Bool) → IsSorted cmp ks → IsAllAdjacentAnswer (λ x y b. b ≡ is_lt (cmp x y)) ks r → Decides r (IsDistinct (eq_by_cmp cmp) ks)
+    {K : Type 0} {cmp : K → K → Ordering} (o : IsTotalOrder cmp) (ks : List K) (r : Bool) → IsSorted cmp ks
+    → IsAllAdjacentAnswer (λ x y b. b ≡ is_lt (cmp x y)) ks r → Decides r (IsDistinct (eq_by_cmp cmp) ks)
 unfolding IsDistinct
 Decides-by_neighbours o [] true s h = (λ e. tt, λ d. refl)
 Decides-by_neighbours o [] false s h = absurd (omega (arith, h.1))
@@ -90,13 +94,16 @@ Decides-by_neighbours {K} {cmp} o (k ∷ ks) false s h =
     let y = get_or (k ∷ ks) (h.0 + 1) k in (
       λ e. absurd (true≢false (sym e)),
       λ d. h.2 k
-          ∙ less_from_order (cmp x y) (cmp y x) (o.antisymm x y) (s h.0 k (omega arith) h.1) (apart_from_distinct (eq_by_cmp cmp) (k ∷ ks) h.0 (h.0 + 1) k d (omega arith) h.1),
+          ∙ less_from_order (cmp x y) (cmp y x) (o.antisymm x y) (s h.0 k (omega arith) h.1)
+          (apart_from_distinct (eq_by_cmp cmp) (k ∷ ks) h.0 (h.0 + 1) k d (omega arith) h.1),
     )
 
 -- f reads the keys ks from the values rs, as references are read. A sort put these in order, and r tells whether each is
 -- then less than the next, by the partial order that agrees with the order.
-module _ {R K : Type 0} (f : R → K) {cmp : K → K → Ordering} (o : IsTotalOrder cmp) (eq : K → K → Bool) (ties : (x y : K) → eq x y ≡ is_eq (cmp x y)) (partial : K → K → Option Ordering) (agrees : (x y : K) → partial x y ≡ Some (cmp x y)) where
-  pub are_distinct-sorted : (rs sorted : List R) (ks : List K) (r : Bool) → map f rs ≡ ks → IsPermutation rs sorted → IsSortedByKey f cmp sorted → IsAllAdjacentAnswer (λ x y b. b ≡ partial_lt partial (f x) (f y)) sorted r
+module _ {R K : Type 0} (f : R → K) {cmp : K → K → Ordering} (o : IsTotalOrder cmp) (eq : K → K → Bool) (ties : (x y : K) → eq x y ≡ is_eq (cmp x y))
+    (partial : K → K → Option Ordering) (agrees : (x y : K) → partial x y ≡ Some (cmp x y)) where
+  pub are_distinct-sorted : (rs sorted : List R) (ks : List K) (r : Bool) → map f rs ≡ ks → IsPermutation rs sorted → IsSortedByKey f cmp sorted
+      → IsAllAdjacentAnswer (λ x y b. b ≡ partial_lt partial (f x) (f y)) sorted r
       → r ≡ are_distinct eq ks
   are_distinct-sorted rs sorted ks r read moved s h =
       let order = on_total f o in

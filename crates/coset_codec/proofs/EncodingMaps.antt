@@ -1,5 +1,6 @@
 -- Maps that are written pair by pair.
-use Rattle.std.proofs.Common.{◌≡◌, ℕ, suc, ℤ, ◌+◌, ◌<◌, ◌^◌, List, [], ◌∷◌, ◌++◌, map, take, drop, get_or, length, Bool, true, false, Option, Some, None, option_map, refl, sym, ◌∙◌, ap, subst, append-nil, append_assoc, arith}
+use Rattle.std.proofs.Common.{◌≡◌, ℕ, suc, ℤ, ◌+◌, ◌<◌, ◌^◌, List, [], ◌∷◌, ◌++◌, map, take, drop, get_or, length, Bool, true, false, Option, Some, None}
+use Rattle.std.proofs.Common.{option_map, refl, sym, ◌∙◌, ap, subst, append-nil, append_assoc, arith}
 use Rattle.std.specs.Prelude.{◌==◌, is_some, filter, not, Result, Ok, Err, OnOk, IfErr}
 use Rattle.std.proofs.lemmas.Grind.{common_steps}
 use Rattle.std.proofs.lemmas.List.{take_more, map_push, map-append, take-append-drop, length-append, length-map}
@@ -17,7 +18,9 @@ use Rattle.coset_codec.proofs.Pushing.{named_image-append, named_image-none}
 
 least_pair_encodings-and : (ps qs : Pairs) → least_pair_encodings (and_pairs ps qs) ≡ least_pair_encodings ps ++ least_pair_encodings qs
 least_pair_encodings-and no_pairs qs = refl
-least_pair_encodings-and (pair k v ps) qs = rw (least_pair_encodings-and ps qs) (sym (append_assoc (least_encoding k) (least_encoding v ++ least_pair_encodings ps) (least_pair_encodings qs) ∙ ap (λ s. least_encoding k ++ s) (append_assoc (least_encoding v) (least_pair_encodings ps) (least_pair_encodings qs))))
+least_pair_encodings-and (pair k v ps) qs = rw (least_pair_encodings-and ps qs)
+    (sym (append_assoc (least_encoding k) (least_encoding v ++ least_pair_encodings ps) (least_pair_encodings qs)
+    ∙ ap (λ s. least_encoding k ++ s) (append_assoc (least_encoding v) (least_pair_encodings ps) (least_pair_encodings qs))))
 
 in_range-and : (ps qs : Pairs) → ArePairsInRange ps → ArePairsInRange qs → ArePairsInRange (and_pairs ps qs)
 in_range-and no_pairs qs h k = k
@@ -36,7 +39,8 @@ pair-added {old} {mid} {new} k v key value = record {
       ∙ (append_assoc old (least_encoding k) (least_encoding v) ∙ ap (λ s. old ++ (least_encoding k ++ s)) (sym (append-nil (least_encoding v)))));
 }
 
-pub field-written : {T : Type 0} (r : Result T CoseError) (i : ℤ) (o : Option Item) {old mid : List ℕ} (new : List ℕ) → AppendsItem old mid (integer i) → Encodes o mid new r → OnOk r (AppendsField i (option_map Some o) old new)
+pub field-written : {T : Type 0} (r : Result T CoseError) (i : ℤ) (o : Option Item) {old mid : List ℕ} (new : List ℕ) → AppendsItem old mid (integer i)
+    → Encodes o mid new r → OnOk r (AppendsField i (option_map Some o) old new)
 field-written (Ok x) i o new key value = (Some value.0, ap (option_map Some) value.1, pair-added (integer i) value.0 key value.2)
 field-written (Err e) i o new key value = tt
 
@@ -64,13 +68,18 @@ pub no-field : {N : Type 0} (f : N → Option Item) (s : List ℕ) → AppendsFi
 no-field f s = record { entries = []; image = refl; count = refl; appended = (no_pairs, refl, nothing-added s) }
 
 pub field-put :
-    {N : Type 0} (f : N → Option Item) {l : N} {i : ℤ} (b : Bool) (o : Option Item) {os : Option (List (N × Item))} {there : List Bool} {old mid new : List ℕ} → f l ≡ Some (integer i) → AppendsField i (field_shape_image b o) old mid
+    {N : Type 0} (f : N → Option Item) {l : N} {i : ℤ} (b : Bool) (o : Option Item) {os : Option (List (N × Item))} {there : List Bool} {old mid new : List ℕ}
+    → f l ≡ Some (integer i) → AppendsField i (field_shape_image b o) old mid
     → AppendsFields N f os there mid new → AppendsFields N f (both (put_field l) (field_shape_image b o) os) (b ∷ there) old new
 field-put {N} f {l} {i} true (Some w) label (Some v, e, p) more = record {
   entries = (l, v) ∷ more.entries;
   image = λ j. both (put_field l) (e j) (more.image j);
   count = ap suc more.count;
-  appended = (pair (integer i) v more.appended.0, (λ j. both (λ k qs. pair k v qs) (label j) (more.appended.1 j)), then-added (pair (integer i) v no_pairs) more.appended.0 p more.appended.2);
+  appended = (
+    pair (integer i) v more.appended.0,
+    (λ j. both (λ k qs. pair k v qs) (label j) (more.appended.1 j)),
+    then-added (pair (integer i) v no_pairs) more.appended.0 p more.appended.2,
+  );
 }
 field-put f true (Some w) label (None, e, p) more = absurd (cc)
 field-put f true None label (q, e, p) more = absurd (cc)
@@ -84,27 +93,34 @@ field-put f false o label (Some v, e, p) more = absurd (cc)
 
 -- a field that may be left out, as it is seen
 pub optional-seen :
-    {X Y : Type 0} (see : X → Y) (f : Y → Option Item) (o : Option X) → field_shape_image (is_some o) (present_image (λ x. f (see x)) o) ≡ field_shape_image (is_some (option_map see o)) (present_image f (option_map see o))
+    {X Y : Type 0} (see : X → Y) (f : Y → Option Item) (o : Option X)
+    → field_shape_image (is_some o) (present_image (λ x. f (see x)) o) ≡ field_shape_image (is_some (option_map see o)) (present_image f (option_map see o))
 optional-seen see f (Some x) = refl
 optional-seen see f None = refl
 
 pub optional-put :
-    {N X Y : Type 0} (f : N → Option Item) (see : X → Y) (g : Y → Option Item) (x : Option X) {l : N} {i : ℤ} {os : Option (List (N × Item))} {there : List Bool} {old mid new : List ℕ} → f l ≡ Some (integer i)
+    {N X Y : Type 0} (f : N → Option Item) (see : X → Y) (g : Y → Option Item) (x : Option X) {l : N} {i : ℤ} {os : Option (List (N × Item))}
+    {there : List Bool} {old mid new : List ℕ} → f l ≡ Some (integer i)
     → AppendsField i (field_shape_image (is_some x) (present_image (λ y. g (see y)) x)) old mid → AppendsFields N f os there mid new
-    → AppendsFields N f (both (put_field l) (field_shape_image (is_some (option_map see x)) (present_image g (option_map see x))) os) (is_some x ∷ there) old new
+    → AppendsFields N f (both (put_field l) (field_shape_image (is_some (option_map see x)) (present_image g (option_map see x))) os)
+    (is_some x ∷ there) old new
 optional-put f see g (Some y) label put more = field-put f true (g (see y)) label put more
 optional-put f see g None label put more = field-put f false None label put more
 
 -- a list that is left out where it is empty
 pub listed-put :
-    {N X : Type 0} (f : N → Option Item) (g : List X → Option Item) (xs : List X) (b : Bool) {l : N} {i : ℤ} {os : Option (List (N × Item))} {there : List Bool} {old mid new : List ℕ} → is_filled xs ≡ b → f l ≡ Some (integer i)
-    → AppendsField i (field_shape_image (is_filled xs) (g xs)) old mid → AppendsFields N f os there mid new → AppendsFields N f (both (put_field l) (field_shape_image (is_filled xs) (g xs)) os) (b ∷ there) old new
+    {N X : Type 0} (f : N → Option Item) (g : List X → Option Item) (xs : List X) (b : Bool) {l : N} {i : ℤ} {os : Option (List (N × Item))} {there : List Bool}
+    {old mid new : List ℕ} → is_filled xs ≡ b → f l ≡ Some (integer i)
+    → AppendsField i (field_shape_image (is_filled xs) (g xs)) old mid → AppendsFields N f os there mid new
+    → AppendsFields N f (both (put_field l) (field_shape_image (is_filled xs) (g xs)) os) (b ∷ there) old new
 listed-put {N} f g xs b {l} {os} {there} {old} {new} told label put more =
-    subst (λ c. AppendsFields N f (both (put_field l) (field_shape_image (is_filled xs) (g xs)) os) (c ∷ there) old new) told (field-put f (is_filled xs) (g xs) label put more)
+    subst (λ c. AppendsFields N f (both (put_field l) (field_shape_image (is_filled xs) (g xs)) os) (c ∷ there) old new) told
+    (field-put f (is_filled xs) (g xs) label put more)
 
 -- the pairs of the rest, as their labels are seen
 pub rest-seen :
-    {L V N : Type 0} (see : L → N) (view : V → Item) (f : N → Option Item) (xs : List (L × V)) → named_image (λ l. f (see l)) (map (λ x. (x.0, view x.1)) xs) ≡ named_image f (map (λ x. (see x.0, view x.1)) xs)
+    {L V N : Type 0} (see : L → N) (view : V → Item) (f : N → Option Item) (xs : List (L × V))
+    → named_image (λ l. f (see l)) (map (λ x. (x.0, view x.1)) xs) ≡ named_image f (map (λ x. (see x.0, view x.1)) xs)
 rest-seen see view f [] = refl
 rest-seen see view f (x ∷ xs) = ap (λ o. both (λ k ps. pair k (view x.1) ps) (f (see x.0)) o) (rest-seen see view f xs)
 
@@ -113,13 +129,15 @@ named-count : {N : Type 0} (f : N → Option Item) (es : List (N × Item)) (ps :
 named-count f [] ps e = let none : no_pairs ≡ ps = cc in ap pairs_count (sym none)
 named-count f (x ∷ es) ps e = by (f x.0) (named_image f es) (named-count f es) e
   where
-    by : (k : Option Item) (o : Option Pairs) → ((qs : Pairs) → o ≡ Some qs → pairs_count qs ≡ length es) → both (λ j qs. pair j x.1 qs) k o ≡ Some ps → pairs_count ps ≡ suc (length es)
+    by : (k : Option Item) (o : Option Pairs) → ((qs : Pairs) → o ≡ Some qs → pairs_count qs ≡ length es) → both (λ j qs. pair j x.1 qs) k o ≡ Some ps
+        → pairs_count ps ≡ suc (length es)
     by (Some k) (Some qs) more h = let same : pair k x.1 qs ≡ ps = cc in ap pairs_count (sym same) ∙ ap suc (more qs refl)
     by (Some k) None more h = absurd (cc)
     by None o more h = absurd (cc)
 
 -- no map where a pair of the rest has no label
-unwritten : {N : Type 0} (n : Names N) (b : Bool) (rest : List (N × Item)) (o : Option (List (N × Item))) → named_image n.shape.image rest ≡ None → entries_image n b rest o ≡ None
+unwritten : {N : Type 0} (n : Names N) (b : Bool) (rest : List (N × Item)) (o : Option (List (N × Item))) → named_image n.shape.image rest ≡ None
+    → entries_image n b rest o ≡ None
 unwritten n true rest None e = refl
 unwritten n false rest o e = refl
 unwritten {N} n true rest (Some es) e = rw (none es) refl
@@ -128,14 +146,16 @@ unwritten {N} n true rest (Some es) e = rw (none es) refl
     none [] = e
     none (x ∷ es) = last (n.shape.image x.0) (none es)
       where
-        last : (k : Option Item) → named_image n.shape.image (es ++ rest) ≡ None → both (λ j ps. pair j x.1 ps) k (named_image n.shape.image (es ++ rest)) ≡ None
+        last : (k : Option Item) → named_image n.shape.image (es ++ rest) ≡ None
+            → both (λ j ps. pair j x.1 ps) k (named_image n.shape.image (es ++ rest)) ≡ None
         last (Some k) h = rw h refl
         last None h = refl
 
 -- A head, which counts the fields that are there and the rest; these fields; and the rest: they are the map, where it may
 -- be written
 pub map-written :
-    {N L V T : Type 0} (n : Names N) (see : L → N) (view : V → Item) (xs : List (L × V)) {o : Option (List (N × Item))} (b : Bool) (there : List Bool) {head mid : List ℕ} (old new : List ℕ) (r : Result T CoseError) → b ≡ true
+    {N L V T : Type 0} (n : Names N) (see : L → N) (view : V → Item) (xs : List (L × V)) {o : Option (List (N × Item))} (b : Bool) (there : List Bool)
+    {head mid : List ℕ} (old new : List ℕ) (r : Result T CoseError) → b ≡ true
     → length (filter (λ b. b) there) + length xs < 2 ^ 64
     → head ≡ old ++ least_head 5 (length (filter (λ b. b) there) + length xs)
     → AppendsFields N n.shape.image o there head mid
@@ -147,15 +167,18 @@ map-written n see view xs {o} b there old new (Ok x) may small first fields (qs,
     let ps = fields.appended.0 in
     let rest = map (as_seen see view) xs in
     let all = then-added ps qs fields.appended.2 q in
-    let image : named_image n.shape.image (es ++ rest) ≡ Some (and_pairs ps qs) = named_image-append n.shape.image es rest ps qs fields.appended.1 (sym (rest-seen see view n.shape.image xs) ∙ d) in
-    let count : pairs_count (and_pairs ps qs) ≡ length (filter (λ b. b) there) + length xs = named-count n.shape.image (es ++ rest) (and_pairs ps qs) image ∙ (length-append es rest ∙ (λ i. fields.count i + length-map xs (as_seen see view) i)) in (
+    let image : named_image n.shape.image (es ++ rest) ≡ Some (and_pairs ps qs) =
+    named_image-append n.shape.image es rest ps qs fields.appended.1 (sym (rest-seen see view n.shape.image xs) ∙ d) in
+    let count : pairs_count (and_pairs ps qs) ≡ length (filter (λ b. b) there) + length xs = named-count n.shape.image (es ++ rest) (and_pairs ps qs) image
+    ∙ (length-append es rest ∙ (λ i. fields.count i + length-map xs (as_seen see view) i)) in (
       dict (and_pairs ps qs),
       (λ i. entries_image n (may i) rest (fields.image i)) ∙ ap (option_map dict) image,
       record {
         in_range = (subst (λ k. k < 2 ^ 64) (sym count) small, all.in_range);
         parts =
             all.parts ∙ (ap (λ s. s ++ least_pair_encodings (and_pairs ps qs)) first
-            ∙ (append_assoc old (least_head 5 (length (filter (λ b. b) there) + length xs)) (least_pair_encodings (and_pairs ps qs)) ∙ ap (λ k. old ++ (least_head 5 k ++ least_pair_encodings (and_pairs ps qs))) (sym count)));
+            ∙ (append_assoc old (least_head 5 (length (filter (λ b. b) there) + length xs)) (least_pair_encodings (and_pairs ps qs))
+            ∙ ap (λ k. old ++ (least_head 5 k ++ least_pair_encodings (and_pairs ps qs))) (sym count)));
       },
     )
 map-written n see view xs {o} b there old new (Err e) may small first fields rest refused =
@@ -176,7 +199,8 @@ pub left-out : (l : ℤ) (s : List ℕ) (b : Bool) (o : Option Item) → b ≡ f
 left-out l s b o e = (None, ap (λ c. field_shape_image c o) e, nothing-added s)
 
 -- where every value has an item, each field has
-pub optional-has : {X : Type 0} (f : X → Option Item) → ((x : X) → f x ≡ None → ⊥) → (o : Option X) → field_shape_image (is_some o) (present_image f o) ≡ None → ⊥
+pub optional-has : {X : Type 0} (f : X → Option Item) → ((x : X) → f x ≡ None → ⊥) → (o : Option X) → field_shape_image (is_some o) (present_image f o) ≡ None
+    → ⊥
 optional-has f has (Some x) e = go (f x) (has x) e
   where
     go : (q : Option Item) → (q ≡ None → ⊥) → option_map Some q ≡ None → ⊥
@@ -186,11 +210,13 @@ optional-has f has None e = absurd (cc)
 
 -- ---- a row of pairs
 
-pub taken : {X Y : Type 0} (see : X → Y) (xs : List X) (i : ℕ) (x : X) → i < length xs → x ≡ get_or xs i x → map see (take (i + 1) xs) ≡ map see (take i xs) ++ see x ∷ []
+pub taken : {X Y : Type 0} (see : X → Y) (xs : List X) (i : ℕ) (x : X) → i < length xs → x ≡ get_or xs i x
+    → map see (take (i + 1) xs) ≡ map see (take i xs) ++ see x ∷ []
 taken see xs i x lt is = ap (map see) (take_more xs i x lt) ∙ (map_push see (take i xs) (get_or xs i x) ∙ ap (λ y. map see (take i xs) ++ see y ∷ []) (sym is))
 
 pub row-added :
-    {L V : Type 0} (f : L → Option Item) (see : L × V → L × Item) (xs : List (L × V)) (i : ℕ) (x : L × V) {old mid new : List ℕ} → i < length xs → x ≡ get_or xs i x → AppendsAll (named_image f (map see (take i xs))) old mid
+    {L V : Type 0} (f : L → Option Item) (see : L × V → L × Item) (xs : List (L × V)) (i : ℕ) (x : L × V) {old mid new : List ℕ} → i < length xs
+    → x ≡ get_or xs i x → AppendsAll (named_image f (map see (take i xs))) old mid
     → AppendsAll (named_image f (see x ∷ [])) mid new → AppendsAll (named_image f (map see (take (i + 1) xs))) old new
 row-added f see xs i x lt is p q = (
   and_pairs p.0 q.0,
@@ -199,16 +225,21 @@ row-added f see xs i x lt is p q = (
 )
 
 pub around :
-    {X Y : Type 0} (see : X → Y) (xs : List X) (i : ℕ) (x : X) → i < length xs → x ≡ get_or xs i x → map see xs ≡ map see (take i xs) ++ see x ∷ map see (drop (i + 1) xs)
+    {X Y : Type 0} (see : X → Y) (xs : List X) (i : ℕ) (x : X) → i < length xs → x ≡ get_or xs i x
+    → map see xs ≡ map see (take i xs) ++ see x ∷ map see (drop (i + 1) xs)
 around see xs i x lt is =
     let after = map see (drop (i + 1) xs) in
     ap (map see) (sym (take-append-drop (i + 1) xs))
-    ∙ (map-append see (take (i + 1) xs) (drop (i + 1) xs) ∙ (ap (λ ys. ys ++ after) (taken see xs i x lt is) ∙ append_assoc (map see (take i xs)) (see x ∷ []) after))
+    ∙ (map-append see (take (i + 1) xs) (drop (i + 1) xs)
+    ∙ (ap (λ ys. ys ++ after) (taken see xs i x lt is) ∙ append_assoc (map see (take i xs)) (see x ∷ []) after))
 
 pub row-none :
-    {L V : Type 0} (f : L → Option Item) (view : V → Item) (xs : List (L × V)) (i : ℕ) (x : L × V) → i < length xs → x ≡ get_or xs i x → f x.0 ≡ None → named_image f (map (λ e. (e.0, view e.1)) xs) ≡ None
+    {L V : Type 0} (f : L → Option Item) (view : V → Item) (xs : List (L × V)) (i : ℕ) (x : L × V) → i < length xs → x ≡ get_or xs i x → f x.0 ≡ None
+    → named_image f (map (λ e. (e.0, view e.1)) xs) ≡ None
 row-none f view xs i x lt is e =
-    ap (named_image f) (around (λ e. (e.0, view e.1)) xs i x lt is) ∙ named_image-none f (map (λ e. (e.0, view e.1)) (take i xs)) (map (λ e. (e.0, view e.1)) (drop (i + 1) xs)) x.0 (view x.1) e
+    ap (named_image f) (around (λ e. (e.0, view e.1)) xs i x lt is)
+    ∙ named_image-none f (map (λ e. (e.0, view e.1)) (take i xs)) (map (λ e. (e.0, view e.1)) (drop (i + 1) xs)) x.0 (view x.1) e
 
-pub label-added : {o : Option Item} {v : Item} {old mid new : List ℕ} → AppendsImage o old mid → AppendsItem mid new v → AppendsAll (both (λ k ps. pair k v ps) o (Some no_pairs)) old new
+pub label-added : {o : Option Item} {v : Item} {old mid new : List ℕ} → AppendsImage o old mid → AppendsItem mid new v
+    → AppendsAll (both (λ k ps. pair k v ps) o (Some no_pairs)) old new
 label-added {o} {v} p q = (pair p.0 v no_pairs, ap (λ k. both (λ k ps. pair k v ps) k (Some no_pairs)) p.1, pair-added p.0 v p.2 q)

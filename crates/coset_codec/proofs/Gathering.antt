@@ -22,15 +22,18 @@ pub record Midway (N A : Type 0) (n : Names N) (fs : Fields N A) (all : Pairs) (
   pub within : PairsWithin m left t z
 
 module _ {K N A : Type 0} (n : Names N) (laws : LawfulNames N n) (fs : Fields N A) (fl : LawfulFields N A n fs) (named : K → N) (all : Pairs) where
-  pub at_end : (x : A × List (N × Item)) (s t z : State) (m k : InputPairs) → (w : Midway N A n fs all x s z m) → NextsKey n.shape named w.left t z k (Ok None) → ReadsPairs n fs all x t z k (Ok tt)
+  pub at_end : (x : A × List (N × Item)) (s t z : State) (m k : InputPairs) → (w : Midway N A n fs all x s z m) → NextsKey n.shape named w.left t z k (Ok None)
+      → ReadsPairs n fs all x t z k (Ok tt)
   at_end x s t z m k w h = (subst (Walks N A n fs all x) h.0 w.walks, h.1)
 
-  pub at_key : (x : A × List (N × Item)) (s t z : State) (m k : InputPairs) (e : CoseError) → (w : Midway N A n fs all x s z m) → NextsKey n.shape named w.left t z k (Err e) → AtPair N A n fs all x t z k e
+  pub at_key : (x : A × List (N × Item)) (s t z : State) (m k : InputPairs) (e : CoseError) → (w : Midway N A n fs all x s z m)
+      → NextsKey n.shape named w.left t z k (Err e) → AtPair N A n fs all x t z k e
   at_key x s t z m k e w h =
       record { key = h.0; value = h.1; others = h.2; walks = subst (Walks N A n fs all x) h.3 w.walks; within = h.4; faulty = λ i. inl (h.5 i) }
 
   pub on_value :
-      (x y : A × List (N × Item)) (s t u z : State) (m k : InputPairs) (l : K) → (w : Midway N A n fs all x s z m) → NextsKey n.shape named w.left t z k (Ok (Some l)) → ReadsAt t u (λ v. Adds n fs (named l) v x y)
+      (x y : A × List (N × Item)) (s t u z : State) (m k : InputPairs) (l : K) → (w : Midway N A n fs all x s z m)
+      → NextsKey n.shape named w.left t z k (Ok (Some l)) → ReadsAt t u (λ v. Adds n fs (named l) v x y)
       → Midway N A n fs all y u z k
   on_value x y s t u z m k l w h takes =
       let here = takes h.1 h.3 h.6 in
@@ -41,7 +44,8 @@ module _ {K N A : Type 0} (n : Names N) (laws : LawfulNames N n) (fs : Fields N 
       }
 
   pub at_value :
-      (x y : A × List (N × Item)) (s t u z : State) (m k : InputPairs) (l : K) (e : CoseError) → (w : Midway N A n fs all x s z m) → NextsKey n.shape named w.left t z k (Ok (Some l)) → y ≡ x
+      (x y : A × List (N × Item)) (s t u z : State) (m k : InputPairs) (l : K) (e : CoseError) → (w : Midway N A n fs all x s z m)
+      → NextsKey n.shape named w.left t z k (Ok (Some l)) → y ≡ x
       → ReadsAt t u (λ v. UnlessMemory e (Refuses n fs (named l) v x)) → AtPair N A n fs all y u z k e
   at_value x y s t u z m k l e w h same refused =
       let here = refused h.1 h.3 h.6 in
@@ -55,30 +59,36 @@ module _ {K N A : Type 0} (n : Names N) (laws : LawfulNames N n) (fs : Fields N 
       })
 
   -- an error that is passed on
-  pub stops : (x : A × List (N × Item)) (t z : State) (k : InputPairs) (r : Result (Unit {0}) CoseError) (e : CoseError) → IsErrAnd r (λ i. i ≡ e) → AtPair N A n fs all x t z k e → ReadsPairs n fs all x t z k r
+  pub stops : (x : A × List (N × Item)) (t z : State) (k : InputPairs) (r : Result (Unit {0}) CoseError) (e : CoseError) → IsErrAnd r (λ i. i ≡ e)
+      → AtPair N A n fs all x t z k e → ReadsPairs n fs all x t z k r
   stops x t z k (Ok u) e h a = absurd h
   stops x t z k (Err i) e h a = subst (AtPair N A n fs all x t z k) (sym h) a
 
   -- how far reading came, and what is left
-  walked : (x : A × List (N × Item)) (t z : State) (k : InputPairs) (r : Result (Unit {0}) CoseError) → ReadsPairs n fs all x t z k r → (left : Pairs) × Walks N A n fs all x left
+  walked : (x : A × List (N × Item)) (t z : State) (k : InputPairs) (r : Result (Unit {0}) CoseError) → ReadsPairs n fs all x t z k r → (left : Pairs)
+      × Walks N A n fs all x left
   walked x t z k (Ok u) w = (no_pairs, w.0)
   walked x t z k (Err e) w = (pair w.key w.value w.others, w.walks)
 
-  pub left_behind : (x : A × List (N × Item)) (t z : State) (k : InputPairs) (r : Result (Unit {0}) CoseError) → ReadsPairs n fs all x t z k r → (left : Pairs) × PairsWithin k left t z
+  pub left_behind : (x : A × List (N × Item)) (t z : State) (k : InputPairs) (r : Result (Unit {0}) CoseError) → ReadsPairs n fs all x t z k r → (left : Pairs)
+      × PairsWithin k left t z
   left_behind x t z k (Ok u) w = (no_pairs, w.1)
   left_behind x t z k (Err e) w = (w.others, w.within)
 
   -- what is answered in the end, of all the pairs of a map
   pub all_read :
-      (v : Item) (x : A × List (N × Item)) (t z : State) (k : InputPairs) (r q : Result (Unit {0}) CoseError) → as_map v ≡ Some all → ReadsPairs n fs all x t z k r
+      (v : Item) (x : A × List (N × Item)) (t z : State) (k : InputPairs) (r q : Result (Unit {0}) CoseError) → as_map v ≡ Some all
+      → ReadsPairs n fs all x t z k r
       → OnOk q ((are_distinct n.same (keys_of x.1) ≡ true) × (r ≡ Ok tt)) → OnOk q ((labelled n fs).describes v x)
   all_read v x t z k r (Ok u) m w h = arrives n laws fs fl v all no_pairs x m (subst (ReadsPairs n fs all x t z k) h.1 w).0 refl h.0
   all_read v x t z k r (Err e) m w h = tt
 
   -- the error of the pair that is refused, or of a label that repeats before it
   pub first_stands :
-      (v : Item) (x : A × List (N × Item)) (t z : State) (k : InputPairs) (r q : Result (Unit {0}) CoseError) → as_map v ≡ Some all → ReadsPairs n fs all x t z k r
-      → IfErr q (λ e. UnlessMemory e (λ f. (r ≡ Err f) ⊎ ((f ≡ DuplicateMapKey) × (are_distinct n.same (keys_of x.1) ≡ false)))) → IfErr q (λ e. UnlessMemory e ((labelled n fs).faults v))
+      (v : Item) (x : A × List (N × Item)) (t z : State) (k : InputPairs) (r q : Result (Unit {0}) CoseError) → as_map v ≡ Some all
+      → ReadsPairs n fs all x t z k r
+      → IfErr q (λ e. UnlessMemory e (λ f. (r ≡ Err f) ⊎ ((f ≡ DuplicateMapKey) × (are_distinct n.same (keys_of x.1) ≡ false))))
+      → IfErr q (λ e. UnlessMemory e ((labelled n fs).faults v))
   first_stands v x t z k r (Ok u) m w h = tt
   first_stands v x t z k r (Err e) m w h = λ i. fault i (h i)
     where

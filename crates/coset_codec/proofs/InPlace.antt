@@ -1,5 +1,6 @@
 -- Lists that are read into places, member by member.
-use Rattle.std.proofs.Common.{◌≡◌, ℕ, suc, List, [], ◌∷◌, ◌++◌, ◌+◌, length, map, take, slice_set, ◌-◌, ◌∙◌, true, Result, Ok, Err, refl, sym, ap, subst, inl, arith}
+use Rattle.std.proofs.Common.{◌≡◌, ℕ, suc, List, [], ◌∷◌, ◌++◌, ◌+◌, length, map, take, slice_set, ◌-◌, ◌∙◌, true, Result, Ok, Err, refl, sym, ap, subst, inl}
+use Rattle.std.proofs.Common.{arith}
 use Rattle.std.proofs.lemmas.List.{map-append}
 use Rattle.std.specs.Prelude.{IsErrAnd}
 use Rattle.coset_value.specs.Item.{Item, Items}
@@ -15,7 +16,8 @@ use Rattle.coset_codec.proofs.Lists.{goes_on}
 
 -- an error that is passed on
 pub not_filled :
-    {A : Type 0} (s : Shape A) (x : A) (v : Item) (r : Result (Unit {0}) Refused) (e : CoseError) (w : Refused) → IsErrAnd r (λ f. f ≡ w) → UnlessMemory e (s.faults v) → Fills s v x (answer e r)
+    {A : Type 0} (s : Shape A) (x : A) (v : Item) (r : Result (Unit {0}) Refused) (e : CoseError) (w : Refused) → IsErrAnd r (λ f. f ≡ w)
+    → UnlessMemory e (s.faults v) → Fills s v x (answer e r)
 not_filled s x v (Ok u) e w h n = absurd h
 not_filled s x v (Err f) e w h n = n
 
@@ -30,7 +32,8 @@ one_longer [] x = refl
 one_longer (y ∷ old) x = ap suc (one_longer old x)
 
 module _ {T A : Type 0} (seen : T → A) where
-  pub last_filled : (old new : List T) (n : ℕ) (x y : T) → n ≡ length new → new ≡ old ++ x ∷ [] → map seen (slice_set new (n - 1) y) ≡ map seen old ++ seen y ∷ []
+  pub last_filled : (old new : List T) (n : ℕ) (x y : T) → n ≡ length new → new ≡ old ++ x ∷ []
+      → map seen (slice_set new (n - 1) y) ≡ map seen old ++ seen y ∷ []
   last_filled old new n x y e g =
       let longer : length new ≡ suc (length old) = ap length g ∙ one_longer old x in
       let at : n - 1 ≡ length old = omega (arith, longer, e) in
@@ -38,7 +41,8 @@ module _ {T A : Type 0} (seen : T → A) where
 
   -- one more is copied
   pub one_more_copied :
-      (old new all : List T) (i n : ℕ) (a x y : T) → map seen old ≡ map seen (take i all) → n ≡ length new → new ≡ old ++ a ∷ [] → map seen (take (i + 1) all) ≡ map seen (take i all) ++ seen x ∷ [] → seen y ≡ seen x
+      (old new all : List T) (i n : ℕ) (a x y : T) → map seen old ≡ map seen (take i all) → n ≡ length new → new ≡ old ++ a ∷ []
+      → map seen (take (i + 1) all) ≡ map seen (take i all) ++ seen x ∷ [] → seen y ≡ seen x
       → map seen (slice_set new (n - 1) y) ≡ map seen (take (i + 1) all)
   one_more_copied old new all i n a x y before e gets next same = last_filled old new n a y e gets ∙ ((λ j. before j ++ same j ∷ []) ∙ sym next)
 
@@ -52,7 +56,8 @@ pub record Filled (A : Type 0) (s : Shape A) (vs : Items) (z : State) (m : Input
 
 module _ {A : Type 0} (s : Shape A) where
   pub one_filled_more :
-      (vs : Items) (j t u z : State) (m n : InputItems) (xs ys : List A) (x : A) → (p : Filled A s vs z m j xs) → BeginsNext p.others t z n (Ok true) → ((v : Item) (y : State) → Stands v t y → (u ≡ y) × s.describes v x)
+      (vs : Items) (j t u z : State) (m n : InputItems) (xs ys : List A) (x : A) → (p : Filled A s vs z m j xs) → BeginsNext p.others t z n (Ok true)
+      → ((v : Item) (y : State) → Stands v t y → (u ≡ y) × s.describes v x)
       → ys ≡ xs ++ x ∷ [] → Filled A s vs z n u ys
   one_filled_more vs j t u z m n xs ys x p b read e =
       let here = read b.0 b.2 b.4 in
@@ -63,8 +68,10 @@ module _ {A : Type 0} (s : Shape A) where
       }
 
   pub one_refused_more :
-      (vs : Items) (j t u z : State) (m n : InputItems) (xs ys : List A) (x : A) (r : Result (Unit {0}) Refused) (e : CoseError) (y : Refused) → IsErrAnd r (λ i. i ≡ y) → (p : Filled A s vs z m j xs) → BeginsNext p.others t z n (Ok true)
-      → ((v : Item) (i : State) → Stands v t i → (u ≡ i) × UnlessMemory e (s.faults v)) → ((left : Items) × AreWithin n left u z) × FillsEach s vs ys (answer e r)
+      (vs : Items) (j t u z : State) (m n : InputItems) (xs ys : List A) (x : A) (r : Result (Unit {0}) Refused) (e : CoseError) (y : Refused)
+      → IsErrAnd r (λ i. i ≡ y) → (p : Filled A s vs z m j xs) → BeginsNext p.others t z n (Ok true)
+      → ((v : Item) (i : State) → Stands v t i → (u ≡ i) × UnlessMemory e (s.faults v)) → ((left : Items) × AreWithin n left u z)
+      × FillsEach s vs ys (answer e r)
   one_refused_more vs j t u z m n xs ys x (Ok i) e y is p b read = absurd is
   one_refused_more vs j t u z m n xs ys x (Err i) e y is p b read =
       let here = read b.0 b.2 b.4 in (

@@ -11,7 +11,8 @@ use Rattle.coset_codec.specs.declared.read.input.InputItems.TheVariants as items
 use Rattle.coset_codec.specs.declared.read.input.InputPairs.{InputPairs}
 use Rattle.coset_codec.specs.declared.read.input.InputPairs.TheVariants as pairs
 use Rattle.coset_codec.specs.Answers.{Reads}
-use Rattle.coset_codec.specs.Inputs.{State, tree, lent, length_left, input_size, items_size, items_turns, pairs_size, pairs_turns, IsLent, GoesBehind, Stands, AreWithin, PairsWithin, Nexts, NextsKey}
+use Rattle.coset_codec.specs.Inputs.{State, tree, lent, length_left, input_size, items_size, items_turns, pairs_size, pairs_turns, IsLent, GoesBehind, Stands}
+use Rattle.coset_codec.specs.Inputs.{AreWithin, PairsWithin, Nexts, NextsKey}
 use Rattle.coset_codec.specs.Shape.{Shape}
 
 lent_is : (s t : List ℕ) → lent s ≡ lent t → s ≡ t
@@ -20,7 +21,8 @@ lent_is s t e = cc
 -- ---- members
 
 by_lent :
-    (p q : Places) (s : List ℕ) (more : Bool) → ((vs : Items) (a : List ℕ) → bytes.AreWithin p vs s a → bytes.Nexts vs s a q more) → (vs : Items) (z : State) → AreWithin (items.Lent p) vs (lent s) z
+    (p q : Places) (s : List ℕ) (more : Bool) → ((vs : Items) (a : List ℕ) → bytes.AreWithin p vs s a → bytes.Nexts vs s a q more) → (vs : Items) (z : State)
+    → AreWithin (items.Lent p) vs (lent s) z
     → Nexts vs (lent s) z (items.Lent q) more
 by_lent p q s true next vs z (b, a, at, end, w) =
     let r = next vs a (subst (λ (x : List ℕ). bytes.AreWithin p vs x a) (sym (lent_is s b at)) w) in
@@ -30,7 +32,8 @@ by_lent p q s false next vs z (b, a, at, end, w) =
     (r.0, (s, a, refl, end, r.1))
 
 pub lent_next :
-    (p q : Places) (k : Cursor) (more : Bool) → ((vs : Items) (a : List ℕ) → bytes.AreWithin p vs (bytes_left k) a → bytes.Nexts vs (bytes_left k) a q more) → (vs : Items) (z : State)
+    (p q : Places) (k : Cursor) (more : Bool) → ((vs : Items) (a : List ℕ) → bytes.AreWithin p vs (bytes_left k) a → bytes.Nexts vs (bytes_left k) a q more)
+    → (vs : Items) (z : State)
     → AreWithin (items.Lent p) vs (lent (bytes_left k)) z → Nexts vs (lent (bytes_left k)) z (items.Lent q) more
 lent_next p q k more next vs z w = by_lent p q (bytes_left k) more next vs z w
 
@@ -77,7 +80,8 @@ flat_none no_pairs e = refl
 flat_none (pair k v ps) e = absurd cc
 
 module _ {K A : Type 0} (shape : Shape A) (seen : K → A) where
-  pub key_none : (ps : Pairs) (s z : State) (p : Places) → Nexts (keys_and_values ps) s z (items.Lent p) false → NextsKey shape seen ps s z (pairs.Lent p) (Ok None)
+  pub key_none : (ps : Pairs) (s z : State) (p : Places) → Nexts (keys_and_values ps) s z (items.Lent p) false
+      → NextsKey shape seen ps s z (pairs.Lent p) (Ok None)
   key_none ps s z p n = (flat_none ps n.0, n.1)
 
   -- a key that was read, and behind it its value
@@ -92,7 +96,8 @@ module _ {K A : Type 0} (shape : Shape A) (seen : K → A) where
     pub within : PairsWithin (pairs.Lent q) others mid z
 
   value_behind :
-      (k v : Item) (qs : Pairs) (t z : State) (q : Places) (r : Result K CoseError) (others : Items) → item v (keys_and_values qs) ≡ others → Reads shape seen k r → Nexts others t z (items.Lent q) true → Behind (pair k v qs) t z q r
+      (k v : Item) (qs : Pairs) (t z : State) (q : Places) (r : Result K CoseError) (others : Items) → item v (keys_and_values qs) ≡ others
+      → Reads shape seen k r → Nexts others t z (items.Lent q) true → Behind (pair k v qs) t z q r
   value_behind k v qs t z q r others e reads n =
       let same = item_is n.0 v n.1 (keys_and_values qs) (sym (e ∙ n.3)) in
       record {
@@ -107,7 +112,8 @@ module _ {K A : Type 0} (shape : Shape A) (seen : K → A) where
       }
 
   pub key_behind :
-      (ps : Pairs) (s t z : State) (p q : Places) (r : Result K CoseError) → Nexts (keys_and_values ps) s z (items.Lent p) true → ((v : Item) (y : State) → Stands v s y → (t ≡ y) × Reads shape seen v r)
+      (ps : Pairs) (s t z : State) (p q : Places) (r : Result K CoseError) → Nexts (keys_and_values ps) s z (items.Lent p) true
+      → ((v : Item) (y : State) → Stands v s y → (t ≡ y) × Reads shape seen v r)
       → ((vs : Items) (y : State) → AreWithin (items.Lent p) vs t y → Nexts vs t y (items.Lent q) true) → Behind ps t z q r
   key_behind no_pairs s t z p q r n reads next = absurd (none n.3)
     where
@@ -122,11 +128,20 @@ module _ {K A : Type 0} (shape : Shape A) (seen : K → A) where
   pub key_read : (ps : Pairs) (t z : State) (q : Places) (key : K) → Behind ps t z q (Ok key) → NextsKey shape seen ps t z (pairs.Lent q) (Ok (Some key))
   key_read ps t z q key x = (x.key, x.value, x.others, x.mid, x.parts, x.reads, x.stands, x.within)
 
-  pub key_refused : (ps : Pairs) (t u z : State) (q : Places) (e : CoseError) → Behind ps t z q (Err e) → ((v : Item) (y : State) → Stands v t y → u ≡ y) → NextsKey shape seen ps u z (pairs.Lent q) (Err e)
-  key_refused ps t u z q e x passes = (x.key, x.value, x.others, x.parts, subst (λ (y : State). PairsWithin (pairs.Lent q) x.others y z) (sym (passes x.value x.mid x.stands)) x.within, x.reads)
+  pub key_refused : (ps : Pairs) (t u z : State) (q : Places) (e : CoseError) → Behind ps t z q (Err e) → ((v : Item) (y : State) → Stands v t y → u ≡ y)
+      → NextsKey shape seen ps u z (pairs.Lent q) (Err e)
+  key_refused ps t u z q e x passes = (
+    x.key,
+    x.value,
+    x.others,
+    x.parts,
+    subst (λ (y : State). PairsWithin (pairs.Lent q) x.others y z) (sym (passes x.value x.mid x.stands)) x.within,
+    x.reads,
+  )
 
   -- behind a key stands its value
-  pub key_without : (ps : Pairs) (s t z : State) (p q : Places) (r : Result K CoseError) → Nexts (keys_and_values ps) s z (items.Lent p) true → ((v : Item) (y : State) → Stands v s y → (t ≡ y) × Reads shape seen v r)
+  pub key_without : (ps : Pairs) (s t z : State) (p q : Places) (r : Result K CoseError) → Nexts (keys_and_values ps) s z (items.Lent p) true
+      → ((v : Item) (y : State) → Stands v s y → (t ≡ y) × Reads shape seen v r)
       → ((vs : Items) (y : State) → AreWithin (items.Lent p) vs t y → Nexts vs t y (items.Lent q) false) → ⊥
   key_without no_pairs s t z p q r n reads next = none n.3
     where

@@ -13,3 +13,4 @@ pub mod InPlace
 pub mod Apart
 pub mod AsWritten
 pub mod Placed
+pub mod Finding

@@ -1,5 +1,6 @@
 -- A list read member by member.
-use Rattle.std.proofs.Common.{◌≡◌, ◌++◌, List, [], ◌∷◌, Option, Some, Result, Ok, Err, refl, sym, ◌∙◌, ap, subst, inr, inl, append_assoc, append-nil, slice_get, rules}
+use Rattle.std.proofs.Common.{◌≡◌, ◌++◌, List, [], ◌∷◌, Option, Some, Result, Ok, Err, refl, sym, ◌∙◌, ap, subst, inr, inl, append_assoc, append-nil, slice_get}
+use Rattle.std.proofs.Common.{rules}
 use Rattle.std.proofs.lemmas.Option.{none-some}
 use Rattle.std.specs.Prelude.{IsErrAnd, IfErr, Vec}
 use Rattle.std.specs.Global.{Global}
@@ -14,11 +15,13 @@ use Rattle.coset_codec.specs.Lists.{Continues, EachWith}
 
 module _ {A : Type 0} (s : Shape A) where
   pub goes_on :
-      (all old new : Items) (v : Item) (x : A) (xs ys : List A) → Continues A s.describes s.faults all xs old → old ≡ item v new → s.describes v x → ys ≡ xs ++ x ∷ []
+      (all old new : Items) (v : Item) (x : A) (xs ys : List A) → Continues A s.describes s.faults all xs old → old ≡ item v new → s.describes v x
+      → ys ≡ xs ++ x ∷ []
       → Continues A s.describes s.faults all ys new
   goes_on all old new v x xs ys c e d q =
       record {
-        ends = λ zs p. subst (Each s.describes all) (sym (ap (λ ws. ws ++ zs) q ∙ append_assoc xs (x ∷ []) zs)) (c.ends (x ∷ zs) (subst (λ vs. Each s.describes vs (x ∷ zs)) (sym e) (d, p)));
+        ends = λ zs p. subst (Each s.describes all) (sym (ap (λ ws. ws ++ zs) q ∙ append_assoc xs (x ∷ []) zs))
+            (c.ends (x ∷ zs) (subst (λ vs. Each s.describes vs (x ∷ zs)) (sym e) (d, p)));
         blames = λ f p. c.blames f (subst (λ vs. EachFaults s.faults vs f) (sym e) (inr p));
       }
 
@@ -27,13 +30,15 @@ module _ {A : Type 0} (s : Shape A) where
   all_read all left xs c n = subst (Each s.describes all) (append-nil xs) (c.ends [] (subst (λ vs. Each s.describes vs []) (sym n) tt))
 
   -- whatever their faults are
-  pub each_blamed : (blames : CoseError → Type 0) (all : Items) (e f : CoseError) → blames f → EachFaults s.faults all e → EachFaults (blamed blames s).faults all f
+  pub each_blamed : (blames : CoseError → Type 0) (all : Items) (e f : CoseError) → blames f → EachFaults s.faults all e
+      → EachFaults (blamed blames s).faults all f
   each_blamed blames no_items e f b h = h
   each_blamed blames (item v vs) e f b (inl h) = inl (b, (e, h))
   each_blamed blames (item v vs) e f b (inr h) = inr (each_blamed blames vs e f b h)
 
 -- one more of each
-pub with-more : {A B : Type 0} (R : A → B → Type 0) (xs : List A) (ys : List B) (x : A) (y : B) → EachWith R xs ys → R x y → EachWith R (xs ++ x ∷ []) (ys ++ y ∷ [])
+pub with-more : {A B : Type 0} (R : A → B → Type 0) (xs : List A) (ys : List B) (x : A) (y : B) → EachWith R xs ys → R x y
+    → EachWith R (xs ++ x ∷ []) (ys ++ y ∷ [])
 with-more R [] [] x y h r = (r, tt)
 with-more R (a ∷ xs) (b ∷ ys) x y h r = (h.0, with-more R xs ys x y h.1 r)
 with-more R [] (b ∷ ys) x y h r = absurd h
@@ -43,7 +48,8 @@ with-more R (a ∷ xs) [] x y h r = absurd h
 abbrev pub IsImage : {A : Type 0} → (A → Option Item) → A → Value → Type 0
 IsImage image x v = image x ≡ Some (view v)
 
-pub images-all : {A : Type 0} (image : A → Option Item) (xs : List A) (vs : List Value) → EachWith (IsImage image) xs vs → images image xs ≡ Some (items_view vs)
+pub images-all : {A : Type 0} (image : A → Option Item) (xs : List A) (vs : List Value) → EachWith (IsImage image) xs vs
+    → images image xs ≡ Some (items_view vs)
 images-all image [] [] h = refl
 images-all image (x ∷ xs) (v ∷ vs) h = both-some item (image x) (images image xs) (view v) (items_view vs) h.0 (images-all image xs vs h.1)
 images-all image [] (v ∷ vs) h = absurd h
@@ -55,7 +61,8 @@ on_err (Ok x) e Q h q = tt
 on_err (Err f) e Q h q = subst Q (sym h) q
 
 -- one call more
-pub yields-more : {S A : Type 0} (steps : S → Option A → S → Type 0) (s t u : S) (xs : List A) (x : A) → Yields steps s xs t → steps t (Some x) u → Yields steps s (xs ++ x ∷ []) u
+pub yields-more : {S A : Type 0} (steps : S → Option A → S → Type 0) (s t u : S) (xs : List A) (x : A) → Yields steps s xs t → steps t (Some x) u
+    → Yields steps s (xs ++ x ∷ []) u
 yields-more steps s t u [] x e h = (u, subst (λ r. steps r (Some x) u) (sym e) h, refl)
 yields-more steps s t u (y ∷ ys) x p h = (p.0, p.1, yields-more steps p.0 t u ys x p.2 h)
 

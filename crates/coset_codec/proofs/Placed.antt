@@ -19,7 +19,8 @@ pub record Placed (Q : Item → Type 0) (vs : Items) (m : InputItems) (s z : Sta
   pub within : AreWithin m others s z
 
 pub placed :
-    (t u z : State) (n : InputItems) {Q : Item → Type 0} {vs : Items} → (v : Item) × (others : Items) × (mid : State) × (vs ≡ item v others) × Stands v t mid × AreWithin n others mid z → ReadsAt t u Q → Placed Q vs n u z
+    (t u z : State) (n : InputItems) {Q : Item → Type 0} {vs : Items} → (v : Item) × (others : Items) × (mid : State) × (vs ≡ item v others) × Stands v t mid
+    × AreWithin n others mid z → ReadsAt t u Q → Placed Q vs n u z
 placed t u z n p reads =
     let here = reads p.0 p.2 p.4 in
     record { first = p.0; others = p.1; parts = p.3; read = here.1; within = subst (λ (y : State). AreWithin n p.1 y z) (sym here.0) p.5 }
@@ -28,11 +29,13 @@ placed t u z n p reads =
 pub two_are : {vs ws none : Items} {v w : Item} → vs ≡ item v ws → ws ≡ item w none → none ≡ no_items → vs ≡ item v (item w no_items)
 two_are {v = v} {w = w} p q e = p ∙ ap (item v) (q ∙ ap (item w) e)
 
-pub three_are : {vs ws us none : Items} {v w u : Item} → vs ≡ item v ws → ws ≡ item w us → us ≡ item u none → none ≡ no_items → vs ≡ item v (item w (item u no_items))
+pub three_are : {vs ws us none : Items} {v w u : Item} → vs ≡ item v ws → ws ≡ item w us → us ≡ item u none → none ≡ no_items
+    → vs ≡ item v (item w (item u no_items))
 three_are {v = v} p q r e = p ∙ ap (item v) (two_are q r e)
 
 pub four_are :
-    {vs ws us ts none : Items} {v w u t : Item} → vs ≡ item v ws → ws ≡ item w us → us ≡ item u ts → ts ≡ item t none → none ≡ no_items → vs ≡ item v (item w (item u (item t no_items)))
+    {vs ws us ts none : Items} {v w u t : Item} → vs ≡ item v ws → ws ≡ item w us → us ≡ item u ts → ts ≡ item t none → none ≡ no_items
+    → vs ≡ item v (item w (item u (item t no_items)))
 four_are {v = v} p q r s e = p ∙ ap (item v) (three_are q r s e)
 
 pub five_are :
@@ -41,10 +44,12 @@ pub five_are :
 five_are {v = v} p q r s o e = p ∙ ap (item v) (four_are q r s o e)
 
 -- an error that is passed on
-pub passed_on : {T A : Type 0} (s : Shape A) (seen : T → A) (v : Item) (r : Result T CoseError) (e : CoseError) → IsErrAnd r (λ f. f ≡ e) → UnlessMemory e (s.faults v) → Reads s seen v r
+pub passed_on : {T A : Type 0} (s : Shape A) (seen : T → A) (v : Item) (r : Result T CoseError) (e : CoseError) → IsErrAnd r (λ f. f ≡ e)
+    → UnlessMemory e (s.faults v) → Reads s seen v r
 passed_on s seen v (Ok x) e is h = absurd is
 passed_on s seen v (Err f) e is h = λ n. subst (s.faults v) (sym is) (h (λ m. n (is ∙ m)))
 
-pub passed_into : {A : Type 0} (s : Shape A) (x : A) (v : Item) (r : Result (Unit {0}) CoseError) (e : CoseError) → IsErrAnd r (λ f. f ≡ e) → UnlessMemory e (s.faults v) → Fills s v x r
+pub passed_into : {A : Type 0} (s : Shape A) (x : A) (v : Item) (r : Result (Unit {0}) CoseError) (e : CoseError) → IsErrAnd r (λ f. f ≡ e)
+    → UnlessMemory e (s.faults v) → Fills s v x r
 passed_into s x v (Ok u) e is h = absurd is
 passed_into s x v (Err f) e is h = λ n. subst (s.faults v) (sym is) (h (λ m. n (is ∙ m)))

@@ -9,15 +9,19 @@ and_pairs-assoc no_pairs qs rs = refl
 and_pairs-assoc (pair k v ps) qs rs = ap (pair k v) (and_pairs-assoc ps qs rs)
 
 module _ {N : Type 0} (f : N → Option Item) where
-  both-is : (o : Option Item) (q : Option Pairs) (v : Item) (k : Item) (ps : Pairs) → o ≡ Some k → q ≡ Some ps → both (λ j qs. pair j v qs) o q ≡ Some (pair k v ps)
+  both-is : (o : Option Item) (q : Option Pairs) (v : Item) (k : Item) (ps : Pairs) → o ≡ Some k → q ≡ Some ps
+      → both (λ j qs. pair j v qs) o q ≡ Some (pair k v ps)
   both-is o q v k ps p r = rw (p, r) refl
 
   -- some, and then others
-  pub named_image-append : (es fs : List (N × Item)) (ps qs : Pairs) → named_image f es ≡ Some ps → named_image f fs ≡ Some qs → named_image f (es ++ fs) ≡ Some (and_pairs ps qs)
+  pub named_image-append : (es fs : List (N × Item)) (ps qs : Pairs) → named_image f es ≡ Some ps → named_image f fs ≡ Some qs
+      → named_image f (es ++ fs) ≡ Some (and_pairs ps qs)
   named_image-append [] fs ps qs p q = let h : no_pairs ≡ ps = cc in q ∙ ap (λ rs. Some (and_pairs rs qs)) h
   named_image-append (e ∷ es) fs ps qs p q = go (λ ts b. named_image-append es fs ts qs b q) (f e.0) (named_image f es) refl refl p
     where
-      go : ((ts : Pairs) → named_image f es ≡ Some ts → named_image f (es ++ fs) ≡ Some (and_pairs ts qs)) → (o : Option Item) (r : Option Pairs) → f e.0 ≡ o → named_image f es ≡ r → both (λ k ts. pair k e.1 ts) o r ≡ Some ps → both (λ k ts. pair k e.1 ts) (f e.0) (named_image f (es ++ fs)) ≡ Some (and_pairs ps qs)
+      go : ((ts : Pairs) → named_image f es ≡ Some ts → named_image f (es ++ fs) ≡ Some (and_pairs ts qs)) → (o : Option Item) (r : Option Pairs) → f e.0 ≡ o
+          → named_image f es ≡ r → both (λ k ts. pair k e.1 ts) o r ≡ Some ps
+          → both (λ k ts. pair k e.1 ts) (f e.0) (named_image f (es ++ fs)) ≡ Some (and_pairs ps qs)
       go ih (Some k) (Some ts) a b h =
           let same : pair k e.1 ts ≡ ps = cc in
           both-is (f e.0) (named_image f (es ++ fs)) e.1 k (and_pairs ts qs) a (ih ts b) ∙ ap (λ rs. Some (and_pairs rs qs)) same

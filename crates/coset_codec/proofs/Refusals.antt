@@ -1,5 +1,6 @@
 -- How bytes that aren't one item are refused, and items that describe nothing.
-use Rattle.std.proofs.Common.{◌≡◌, ◌⊎◌, ◌<◌, ℕ, List, [], ◌++◌, Result, Ok, Err, length, take, drop, refl, sym, ap, ◌∙◌, inl, inr, append-nil, arith, take-append-drop, length-take-le}
+use Rattle.std.proofs.Common.{◌≡◌, ◌⊎◌, ◌<◌, ℕ, List, [], ◌++◌, Result, Ok, Err, length, take, drop, refl, sym, ap, ◌∙◌, inl, inr, append-nil, arith}
+use Rattle.std.proofs.Common.{take-append-drop, length-take-le}
 use Rattle.coset_value.specs.Item.{Item}
 use Rattle.coset_cbor.specs.Fronts.{AreBytes, HasNoItem}
 use Rattle.coset_cbor.specs.Grammar.{IsItem}
@@ -7,7 +8,8 @@ use Rattle.coset_cbor.specs.Refused.{IsMemory, StandsIn}
 use Rattle.coset_cbor.specs.declared.de.EndOfFile.{EndOfFile}
 use Rattle.coset_cbor.specs.declared.de.Error.{Error}
 use Rattle.coset_codec.specs.declared.error.CoseError.{CoseError}
-use Rattle.coset_codec.specs.declared.error.CoseError.TheVariants.{DecodeFailed, DuplicateMapKey, EncodeFailed, ExtraneousData, OutOfRangeIntegerValue, UnexpectedItem, UnregisteredIanaValue, UnregisteredIanaNonPrivateValue, OutOfMemory}
+use Rattle.coset_codec.specs.declared.error.CoseError.TheVariants.{DecodeFailed, DuplicateMapKey, EncodeFailed, ExtraneousData, OutOfRangeIntegerValue}
+use Rattle.coset_codec.specs.declared.error.CoseError.TheVariants.{UnexpectedItem, UnregisteredIanaValue, UnregisteredIanaNonPrivateValue, OutOfMemory}
 use Rattle.coset_codec.specs.Shape.{Shape}
 use Rattle.coset_codec.specs.Answers.{AllocatesForItems, Reads, ReadsSlice, RefusesItem}
 use Rattle.coset_codec.specs.Refusals.{NamesByteFault, NamesExtraneous, NamesWholeFault}
@@ -72,7 +74,8 @@ module _ {A T : Type 0} (shape : Shape A) (seen : T → A) (s : List ℕ) where
 
 -- an item that is refused, out of memory aside, describes nothing, where no fault stands in one that describes a value
 pub refuses_item :
-    {T A : Type 0} (shape : Shape A) → ((v : Item) (x : A) (e : CoseError) → shape.describes v x → shape.faults v e → ⊥) → (seen : T → A) (v : Item) (r : Result T CoseError) → Reads shape seen v r
+    {T A : Type 0} (shape : Shape A) → ((v : Item) (x : A) (e : CoseError) → shape.describes v x → shape.faults v e → ⊥)
+    → (seen : T → A) (v : Item) (r : Result T CoseError) → Reads shape seen v r
     → RefusesItem shape v r
 refuses_item shape sound seen v (Ok x) p = tt
 refuses_item shape sound seen v (Err e) p = λ n x d. sound v x e d (p n)

@@ -1,6 +1,7 @@
 -- Bytes that are one item, or none.
 use Rattle.std.specs.Prelude.{IsErrAnd}
-use Rattle.std.proofs.Common.{◌≡◌, ◌⊎◌, ℕ, List, [], ◌∷◌, ◌++◌, ◌+◌, suc, Result, Ok, Err, length, take, refl, sym, ap, subst, ◌∙◌, inr, append-nil, arith, length-append}
+use Rattle.std.proofs.Common.{◌≡◌, ◌⊎◌, ℕ, List, [], ◌∷◌, ◌++◌, ◌+◌, suc, Result, Ok, Err, length, take, refl, sym, ap, subst, ◌∙◌, inr, append-nil, arith}
+use Rattle.std.proofs.Common.{length-append}
 use Rattle.std.proofs.Math.Seq.{take-append_seam}
 use Rattle.coset_value.specs.Item.{Item}
 use Rattle.coset_cbor.specs.Grammar.{IsEncoding, IsItem}
@@ -14,7 +15,8 @@ use Rattle.coset_codec.specs.Errors.{decode_failure}
 use Rattle.coset_codec.specs.Answers.{IsByteFault, IsExtraneous, IsNoItem, IsOnlyItem, ReadsWhole}
 
 -- an answer that is an error of which this holds
-pub on_err : {T : Type 0} (it : T → Item) (s : List ℕ) (r : Result T CoseError) (W : CoseError → Type 0) → IsErrAnd r W → ((e : CoseError) → W e → (IsByteFault s e ⊎ IsExtraneous s e) × IsNoItem s) → ReadsWhole it s r
+pub on_err : {T : Type 0} (it : T → Item) (s : List ℕ) (r : Result T CoseError) (W : CoseError → Type 0) → IsErrAnd r W
+    → ((e : CoseError) → W e → (IsByteFault s e ⊎ IsExtraneous s e) × IsNoItem s) → ReadsWhole it s r
 on_err it s (Ok x) W h f = absurd h
 on_err it s (Err e) W h f = λ _. f e h
 
@@ -33,7 +35,8 @@ byte_fault s errors.OutOfMemory n h = absurd (n tt)
 abbrev pub OneItem : Type 0
 OneItem = (v w : Item) (b c x y : List ℕ) → IsEncoding v b → IsEncoding w c → b ++ x ≡ c ++ y → (v ≡ w) × (b ≡ c)
 
-pub extraneous : OneItem → (s b rest : List ℕ) (v : Item) → (length rest ≡ 0 → ⊥) → s ≡ b ++ rest → IsItem b v → (IsByteFault s ExtraneousData ⊎ IsExtraneous s ExtraneousData) × IsNoItem s
+pub extraneous : OneItem → (s b rest : List ℕ) (v : Item) → (length rest ≡ 0 → ⊥) → s ≡ b ++ rest → IsItem b v
+    → (IsByteFault s ExtraneousData ⊎ IsExtraneous s ExtraneousData) × IsNoItem s
 extraneous one s b [] v t e is = absurd (t refl)
 extraneous one s b (x ∷ rest) v t e is =
     let more : length s ≡ length b + suc (length rest) = ap length e ∙ length-append b (x ∷ rest) in

@@ -1,6 +1,6 @@
 -- What the calls answer that read and write: by the shape of the type, and by how its values are seen.
 use Rattle.std.specs.Prelude.{◌≡◌, ◌≢◌, ◌⊎◌, ◌<◌, ℕ, List, Option, Some, None, Result, Ok, Err, length, take, ⊤, IfErr}
-use Rattle.coset_value.specs.Item.{Item}
+use Rattle.coset_value.specs.Item.{Item, Items}
 use Rattle.coset_value.specs.Parts.{as_tag}
 use Rattle.coset_cbor.specs.Grammar.{IsItem}
 use Rattle.coset_cbor.specs.Refused.{IsMemory, StandsIn}
@@ -10,12 +10,18 @@ use Rattle.coset_cbor.specs.declared.de.Error.{Error}
 use Rattle.coset_codec.specs.declared.error.CoseError.{CoseError}
 use Rattle.coset_codec.specs.declared.error.CoseError.TheVariants.{DecodeFailed, DuplicateMapKey, ExtraneousData, OutOfMemory}
 use Rattle.coset_codec.specs.Errors.{IsUnexpected, UnlessMemory}
-use Rattle.coset_codec.specs.Shape.{Shape}
+use Rattle.coset_codec.specs.Shape.{Places, PlacesFaults, Shape}
 
 -- Reading the item v: a value that v stands for, or, out of memory aside, an error that tells of a fault in v
 abbrev pub Reads : {T A : Type 0} → Shape A → (T → A) → Item → Result T CoseError → Type 0
 Reads s seen v (Ok x) = s.describes v (seen x)
 Reads s seen v (Err e) = UnlessMemory e (s.faults v)
+
+-- Reading the members vs of an array: values that they stand for, or, out of memory aside, an error that tells that they are
+-- too few or too many, or, where they are not, of a fault in one of them
+abbrev pub ReadsPlaces : {T A : Type 0} → Places A → (T → A) → Items → Result T CoseError → Type 0
+ReadsPlaces ps seen vs (Ok x) = ps.describes vs (seen x)
+ReadsPlaces ps seen vs (Err e) = UnlessMemory e (PlacesFaults ps vs)
 
 -- Making the item that a value is written as: that item, or, out of memory aside, that there is none
 abbrev pub Images : {V : Type 0} → Option Item → (V → Item) → Result V CoseError → Type 0

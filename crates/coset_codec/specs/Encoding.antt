@@ -39,12 +39,15 @@ Encodes image old new (Err e) = HasNoImage image e
 abbrev pub two_places : Option Item → Option Item → Option Item
 two_places a b = option_map array (both item a (both item b (Some no_items)))
 
+-- the array of three elements, where each has an item
 abbrev pub three_places : Option Item → Option Item → Option Item → Option Item
 three_places a b c = option_map array (both item a (both item b (both item c (Some no_items))))
 
+-- the array of four elements, where each has an item
 abbrev pub four_places : Option Item → Option Item → Option Item → Option Item → Option Item
 four_places a b c d = option_map array (both item a (both item b (both item c (both item d (Some no_items)))))
 
+-- the array of five elements, where each has an item
 abbrev pub five_places : Option Item → Option Item → Option Item → Option Item → Option Item → Option Item
 five_places a b c d e = option_map array (both item a (both item b (both item c (both item d (both item e (Some no_items))))))
 

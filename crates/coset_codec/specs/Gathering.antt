@@ -8,7 +8,8 @@ use Rattle.coset_codec.specs.Inputs.{State, PairsWithin}
 use Rattle.coset_codec.specs.Maps.{Names, Fields, Walks, RefusesKey}
 
 -- of all the pairs those before one make x, and that one was passed, which is at fault
-pub record AtPair (N A : Type 0) (n : Names N) (fs : Fields N A) (all : Pairs) (x : A × List (N × Item)) (t z : State) (m : InputPairs) (e : CoseError) : Type 0 where
+pub record AtPair (N A : Type 0) (n : Names N) (fs : Fields N A) (all : Pairs) (x : A × List (N × Item)) (t z : State) (m : InputPairs)
+    (e : CoseError) : Type 0 where
   pub key : Item
   pub value : Item
   pub others : Pairs

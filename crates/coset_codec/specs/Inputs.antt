@@ -23,6 +23,7 @@ pub data State : Type 0 where
   tree : Item → State
   lent : List ℕ → State
 
+-- what an input has before it
 abbrev pub state : Input → State
 state (Tree v) = tree (view v)
 state (Lent c) = lent (bytes_left c)
@@ -103,10 +104,12 @@ abbrev pub input_size : State → ℕ
 input_size (tree w) = depth w
 input_size (lent s) = length s
 
+-- how much is still to be read of an array: its reader ends, since this falls
 abbrev pub items_size : InputItems → State → ℕ
 items_size (items.Tree it) s = items_depth (items_view (into_iter_items it))
 items_size (items.Lent p) s = length_left s
 
+-- how much is still to be read of a map
 abbrev pub pairs_size : InputPairs → State → ℕ
 pairs_size (pairs.Tree it) s = pairs_depth (pairs_view (into_iter_items it))
 pairs_size (pairs.Lent p) s = length_left s
@@ -116,6 +119,7 @@ abbrev pub items_turns : InputItems → State → ℕ
 items_turns (items.Tree it) s = items_count (items_view (into_iter_items it))
 items_turns (items.Lent p) s = length_left s
 
+-- how many pairs of a map can still come
 abbrev pub pairs_turns : InputPairs → State → ℕ
 pairs_turns (pairs.Tree it) s = pairs_count (pairs_view (into_iter_items it))
 pairs_turns (pairs.Lent p) s = length_left s

@@ -1,6 +1,7 @@
 pub mod Errors
 pub mod Shape
 pub mod ShapeLaws
+pub mod PerhapsTagged
 pub mod Told
 pub mod Sets
 pub mod SetLaws

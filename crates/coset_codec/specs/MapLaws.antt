@@ -4,7 +4,8 @@ use Rattle.std.specs.Cmp.{both_ways}
 use Rattle.std.specs.List.{IsDistinct, AllByRecursion, list_all}
 use Rattle.std.specs.List.Sorted.{IsPermutation}
 use Rattle.std.specs.Map.{keys_of, lookup}
-use Rattle.std.proofs.Common.{◌≡◌, ◌⊎◌, ◌≤◌, ℕ, List, [], ◌∷◌, ◌++◌, Option, Some, None, Bool, true, false, not, cond, option_map, refl, sym, ◌∙◌, ap, subst, inl, inr, arith, true≢false}
+use Rattle.std.proofs.Common.{◌≡◌, ◌⊎◌, ◌≤◌, ℕ, List, [], ◌∷◌, ◌++◌, Option, Some, None, Bool, true, false, not, cond, option_map, refl, sym, ◌∙◌, ap, subst}
+use Rattle.std.proofs.Common.{inl, inr, arith, true≢false}
 use Rattle.std.proofs.lemmas.Bool.{or_parts, or_left, or_right, and_parts, not-true, not-false, false_from_ne_true}
 use Rattle.std.proofs.lemmas.List.Elements.{All-from_recursion, filter-append, recursion_from_All}
 use Rattle.std.proofs.lemmas.List.Sorted.{All-permutation, IsPermutation-map, IsPermutation-refl}
@@ -16,7 +17,9 @@ use Rattle.coset_codec.specs.declared.error.CoseError.{CoseError}
 use Rattle.coset_codec.specs.declared.error.CoseError.TheVariants.{DuplicateMapKey}
 use Rattle.coset_codec.specs.Shape.{Shape, present}
 use Rattle.coset_codec.specs.ShapeLaws.{Again, Lawful, some-one, some-none, both-some, present_laws}
-use Rattle.coset_codec.specs.Maps.{Names, Named, named_image, HasLabel, Twice, SomePair, FieldShape, field_shape, optional, is_filled, listed, Where, Fields, no_field, put_field, field, is_core, rest_of, are_distinct, Entries, PairFaults, MapFaults, may_write, labelled_by, with_pair, and_pairs, SoFar, Adds, Refuses}
+use Rattle.coset_codec.specs.Maps.{Names, Named, named_image, HasLabel, Twice, SomePair, FieldShape, field_shape, optional, is_filled, listed, Where, Fields}
+use Rattle.coset_codec.specs.Maps.{no_field, put_field, field, is_core, rest_of, are_distinct, Entries, PairFaults, MapFaults, may_write, labelled_by}
+use Rattle.coset_codec.specs.Maps.{with_pair, and_pairs, SoFar, Adds, Refuses}
 
 -- ---- lists and tests
 
@@ -71,7 +74,8 @@ pub lookup_new : {N X : Type 0} (t : N → Bool) (es : List (N × X)) (m : N) (v
 lookup_new t [] m v n h = rw h refl
 lookup_new t (e ∷ es) m v n h = go (lookup_new t es m v) (t e.0) n
   where
-    go : (lookup t es ≡ None → t m ≡ true → lookup t (es ++ (m, v) ∷ []) ≡ Some v) → (b : Bool) → cond b (Some e.1) (lookup t es) ≡ None → cond b (Some e.1) (lookup t (es ++ (m, v) ∷ [])) ≡ Some v
+    go : (lookup t es ≡ None → t m ≡ true → lookup t (es ++ (m, v) ∷ []) ≡ Some v) → (b : Bool) → cond b (Some e.1) (lookup t es) ≡ None
+        → cond b (Some e.1) (lookup t (es ++ (m, v) ∷ [])) ≡ Some v
     go ih true k = cc
     go ih false k = ih k h
 
@@ -118,7 +122,8 @@ pub record LawfulFieldShape (A : Type 0) (h : FieldShape A) : Type 0 where
   pub sound : (v : Item) (x : A) (e : CoseError) → h.describes (Some v) x → h.faults v e → ⊥
   pub told : (v : Item) (x : A) → h.describes (Some v) x → h.describes None x → ⊥
 
-module _ {A : Type 0} (absent : A) (shows : A → Bool) (hidden : shows absent ≡ false) (shown : (x : A) → shows x ≡ false → x ≡ absent) (s : Shape A) (never : (v : Item) → s.describes v absent → ⊥) (l : Lawful A s) where
+module _ {A : Type 0} (absent : A) (shows : A → Bool) (hidden : shows absent ≡ false) (shown : (x : A) → shows x ≡ false → x ≡ absent) (s : Shape A)
+    (never : (v : Item) → s.describes v absent → ⊥) (l : Lawful A s) where
   -- a value, or `absent`
   field_shape_unique : (o : Option Item) (x y : A) → (field_shape absent shows s).describes o x → (field_shape absent shows s).describes o y → x ≡ y
   field_shape_unique (Some v) x y p q = l.unique v x y p q
@@ -127,7 +132,8 @@ module _ {A : Type 0} (absent : A) (shows : A → Bool) (hidden : shows absent �
   field_shape_told : (v : Item) (x : A) → s.describes v x → x ≡ absent → ⊥
   field_shape_told v x p q = never v (subst (s.describes v) q p)
 
-  field_shape_again : (d : ℕ) (o : Option Item) (x : A) → Within d o → (field_shape absent shows s).describes o x → AgainFieldShape A (field_shape absent shows s) d x
+  field_shape_again : (d : ℕ) (o : Option Item) (x : A) → Within d o → (field_shape absent shows s).describes o x
+      → AgainFieldShape A (field_shape absent shows s) d x
   field_shape_again d (Some v) x w p = go (shows x) refl
     where
       go : (b : Bool) → shows x ≡ b → AgainFieldShape A (field_shape absent shows s) d x
@@ -200,7 +206,8 @@ pub record LawfulFields (N A : Type 0) (n : Names N) (fs : Fields N A) : Type 0 
   pub again : (d : ℕ) (es : List (N × Item)) (x : A) → AllByRecursion (λ e. depth e.1 ≤ d) es → fs.describes es x → AgainFields N A n fs d x
   pub sound : (es : List (N × Item)) (x : A) (m : N) (v : Item) (e : CoseError) → fs.describes es x → lookup (n.same m) es ≡ Some v → fs.faults m v e → ⊥
   pub other : (es : List (N × Item)) (x : A) (m : N) (v : Item) → is_core n fs.labels m ≡ false → fs.describes es x → fs.describes (es ++ (m, v) ∷ []) x
-  pub takes : (es : List (N × Item)) (x y : A) (m : N) (v : Item) → lookup (n.same m) es ≡ None → fs.describes es x → fs.takes m v x y → fs.describes (es ++ (m, v) ∷ []) y
+  pub takes : (es : List (N × Item)) (x y : A) (m : N) (v : Item) → lookup (n.same m) es ≡ None → fs.describes es x → fs.takes m v x y
+      → fs.describes (es ++ (m, v) ∷ []) y
   pub fresh : (es : List (N × Item)) (x y : A) (m : N) (v : Item) → fs.describes es x → fs.takes m v x y → lookup (n.same m) es ≡ None
   pub repeated : (es : List (N × Item)) (x : A) (m : N) → fs.describes es x → fs.repeats m x → lookup (n.same m) es ≡ None → ⊥
 
@@ -219,7 +226,8 @@ some_last : (P : Item → Item → Type 0) (ps : Pairs) (k v : Item) (more : Pai
 some_last P no_pairs k v more h = inl h
 some_last P (pair j w ps) k v more h = inr (some_last P ps k v more h)
 
-pub key_fault : {N A : Type 0} (n : Names N) (fs : Fields N A) (ps : Pairs) (k v : Item) (e : CoseError) → n.shape.faults k e → (more : Pairs) → MapFaults n fs (and_pairs (with_pair ps k v) more) e
+pub key_fault : {N A : Type 0} (n : Names N) (fs : Fields N A) (ps : Pairs) (k v : Item) (e : CoseError) → n.shape.faults k e → (more : Pairs)
+    → MapFaults n fs (and_pairs (with_pair ps k v) more) e
 key_fault n fs ps k v e f more = inl (some_last (PairFaults n fs e) ps k v more (inl f))
 
 module _ {N : Type 0} (r : Item → N → Type 0) where
@@ -264,7 +272,8 @@ module _ {N : Type 0} (n : Names N) where
   new_of l [] h = tt
   new_of l (e ∷ es) h = go (new_of l es) (n.same l e.0) refl h
     where
-      go : (lookup (n.same l) es ≡ None → IsNew n l es) → (b : Bool) → n.same l e.0 ≡ b → cond b (Some e.1) (lookup (n.same l) es) ≡ None → (n.same l e.0 ≡ false) × IsNew n l es
+      go : (lookup (n.same l) es ≡ None → IsNew n l es) → (b : Bool) → n.same l e.0 ≡ b → cond b (Some e.1) (lookup (n.same l) es) ≡ None
+          → (n.same l e.0 ≡ false) × IsNew n l es
       go ih true q k = absurd (cc)
       go ih false q k = (q, ih k)
 
@@ -284,7 +293,8 @@ module _ {N : Type 0} (n : Names N) where
   -- what is kept as the rest
   pub rest_apart : (labels : List N) (es : List (N × Item)) → IsRest n labels (rest_of n labels es)
   rest_apart labels es =
-      all_map (λ e. not (is_core n labels e.0) ≡ true) (λ e. is_core n labels e.0 ≡ false) (λ e q. not-true (is_core n labels e.0) q) (rest_of n labels es) (filter_passing (λ e. not (is_core n labels e.0)) es)
+      all_map (λ e. not (is_core n labels e.0) ≡ true) (λ e. is_core n labels e.0 ≡ false) (λ e q. not-true (is_core n labels e.0) q) (rest_of n labels es)
+      (filter_passing (λ e. not (is_core n labels e.0)) es)
 
   rest_again : (labels : List N) (cs rs : List (N × Item)) → IsCore n labels cs → IsRest n labels rs → rs ≡ rest_of n labels (cs ++ rs)
   rest_again labels cs rs c r =
@@ -323,7 +333,8 @@ module _ {N : Type 0} (n : Names N) where
   pub distinct_tested : (ls : List N) → are_distinct n.same ls ≡ true → IsDistinct n.same ls
   unfolding IsDistinct
   distinct_tested [] h = tt
-  distinct_tested (l ∷ ls) h = let k = and_parts (list_all (λ m. not (n.same l m)) ls) (are_distinct n.same ls) h in (new_tested l ls k.0, distinct_tested ls k.1)
+  distinct_tested (l ∷ ls) h = let k = and_parts (list_all (λ m. not (n.same l m)) ls) (are_distinct n.same ls) h in
+      (new_tested l ls k.0, distinct_tested ls k.1)
 
   -- the rest may be written where its labels are distinct
   may_write_distinct : (checks : Bool) (rest : List (N × Item)) → IsDistinct n.same (keys_of rest) → may_write n checks rest ≡ true
@@ -344,7 +355,8 @@ module _ {N : Type 0} (n : Names N) (laws : LawfulNames N n) where
   -- and answers the same the other way round
   same_flips : (l m : N) → n.same l m ≡ n.same m l
   same_flips l m =
-      both_ways (n.same l m) (n.same m l) (λ h. subst (λ k. n.same k l ≡ true) (laws.same_is l m h) (laws.same_self l)) (λ h. subst (λ k. n.same k m ≡ true) (laws.same_is m l h) (laws.same_self m))
+      both_ways (n.same l m) (n.same m l) (λ h. subst (λ k. n.same k l ≡ true) (laws.same_is l m h) (laws.same_self l))
+      (λ h. subst (λ k. n.same k m ≡ true) (laws.same_is m l h) (laws.same_self m))
 
   -- the label of a field is no label of the rest
   pub core_apart : (labels : List N) (l m : N) → is_core n labels l ≡ false → is_core n labels m ≡ true → l ≡ m → ⊥
@@ -366,7 +378,8 @@ module _ {N : Type 0} (n : Names N) (laws : LawfulNames N n) where
   new_rest labels l (e ∷ es) p h = (core_rest labels l e.0 p h.0, new_rest labels l es p h.1)
 
   -- a label that no pair has, and then a pair with it
-  pub distinct_snoc : (es : List (N × Item)) (m : N) (v : Item) → IsDistinct n.same (keys_of es) → IsNew n m es → IsDistinct n.same (keys_of (es ++ (m, v) ∷ []))
+  pub distinct_snoc : (es : List (N × Item)) (m : N) (v : Item) → IsDistinct n.same (keys_of es) → IsNew n m es
+      → IsDistinct n.same (keys_of (es ++ (m, v) ∷ []))
   unfolding IsDistinct
   distinct_snoc [] m v d a = (tt, tt)
   distinct_snoc (e ∷ es) m v d a = (new_append n e.0 es ((m, v) ∷ []) d.0 (flip m e.0 a.0, tt), distinct_snoc es m v d.1 a.1)
@@ -387,7 +400,8 @@ module _ {N : Type 0} (n : Names N) (laws : LawfulNames N n) where
         repeated = λ es x m p r h. r;
       }
 
-  module _ {A B : Type 0} (l : N) (flat : Flat N n l) (h : FieldShape A) (hl : LawfulFieldShape A h) (fs : Fields N B) (fl : LawfulFields N B n fs) (new : is_core n fs.labels l ≡ false) where
+  module _ {A B : Type 0} (l : N) (flat : Flat N n l) (h : FieldShape A) (hl : LawfulFieldShape A h) (fs : Fields N B) (fl : LawfulFields N B n fs)
+      (new : is_core n fs.labels l ≡ false) where
     -- a label that is no field's is not l, and none of the other fields'
     others : (m : N) → is_core n (l ∷ fs.labels) m ≡ false → (n.same l m ≡ false) × (is_core n fs.labels m ≡ false)
     others m c = let k : (n.same m l ≡ false) × (is_core n fs.labels m ≡ false) = or_parts (n.same m l) (is_core n fs.labels m) c in (flip m l k.0, k.1)
@@ -396,7 +410,8 @@ module _ {N : Type 0} (n : Names N) (laws : LawfulNames N n) where
     rests es k = all_map (λ e. is_core n (l ∷ fs.labels) e.0 ≡ false) (λ e. is_core n fs.labels e.0 ≡ false) (λ e q. (others e.0 q).1) es k
 
     cores : (es : List (N × Item)) → IsCore n fs.labels es → IsCore n (l ∷ fs.labels) es
-    cores es c = all_map (λ e. is_core n fs.labels e.0 ≡ true) (λ e. is_core n (l ∷ fs.labels) e.0 ≡ true) (λ e q. or_right (n.same e.0 l) (is_core n fs.labels e.0) q) es c
+    cores es c = all_map (λ e. is_core n fs.labels e.0 ≡ true) (λ e. is_core n (l ∷ fs.labels) e.0 ≡ true)
+        (λ e q. or_right (n.same e.0 l) (is_core n fs.labels e.0) q) es c
 
     is_field : is_core n (l ∷ fs.labels) l ≡ true
     is_field = or_left (n.same l l) (is_core n fs.labels l) (laws.same_self l)
@@ -406,32 +421,39 @@ module _ {N : Type 0} (n : Names N) (laws : LawfulNames N n) where
     not_other m q = subst (λ k. is_core n fs.labels k ≡ false) (laws.same_is l m q) new
 
     -- a pair of no field before the others
-    field_frame : (m : N) (v : Item) (es : List (N × Item)) (x : A × B) → is_core n (l ∷ fs.labels) m ≡ false → (field n l h fs).describes es x → (field n l h fs).describes ((m, v) ∷ es) x
+    field_frame : (m : N) (v : Item) (es : List (N × Item)) (x : A × B) → is_core n (l ∷ fs.labels) m ≡ false → (field n l h fs).describes es x
+        → (field n l h fs).describes ((m, v) ∷ es) x
     field_frame m v es x c p = (rw (others m c).0 p.0, fl.frame m v es x.1 (others m c).1 p.1)
 
     -- what is written
     put_described :
-        (o : Option Item) (cs : List (N × Item)) (x : A × B) → h.describes o x.0 → IsCore n fs.labels cs → ((more : List (N × Item)) → IsRest n fs.labels more → fs.describes (cs ++ more) x.1)
+        (o : Option Item) (cs : List (N × Item)) (x : A × B) → h.describes o x.0 → IsCore n fs.labels cs
+        → ((more : List (N × Item)) → IsRest n fs.labels more → fs.describes (cs ++ more) x.1)
         → (more : List (N × Item)) → IsRest n (l ∷ fs.labels) more → (field n l h fs).describes (put_field l o cs ++ more) x
     put_described (Some v) cs x p c d more k = (rw (laws.same_self l) p, fl.frame l v (cs ++ more) x.1 new (d more (rests more k)))
-    put_described None cs x p c d more k =
-        (rw (lookup_none n l (cs ++ more) (new_append n l cs more (new_core fs.labels l cs new c) (new_rest (l ∷ fs.labels) l more is_field k))) p, d more (rests more k))
+    put_described None cs x p c d more k = (
+      rw (lookup_none n l (cs ++ more) (new_append n l cs more (new_core fs.labels l cs new c) (new_rest (l ∷ fs.labels) l more is_field k))) p,
+      d more (rests more k),
+    )
 
     put_core : (o : Option Item) (cs : List (N × Item)) → IsCore n fs.labels cs → IsCore n (l ∷ fs.labels) (put_field l o cs)
     put_core (Some v) cs c = (is_field, cores cs c)
     put_core None cs c = cores cs c
 
-    put_distinct : (o : Option Item) (cs : List (N × Item)) → IsCore n fs.labels cs → IsDistinct n.same (keys_of cs) → IsDistinct n.same (keys_of (put_field l o cs))
+    put_distinct : (o : Option Item) (cs : List (N × Item)) → IsCore n fs.labels cs → IsDistinct n.same (keys_of cs)
+        → IsDistinct n.same (keys_of (put_field l o cs))
     unfolding IsDistinct
     put_distinct (Some v) cs c d = (new_core fs.labels l cs new c, d)
     put_distinct None cs c d = d
 
-    put_writable : (d : ℕ) (o : Option Item) (cs : List (N × Item)) → Within d o → AllByRecursion (Writable N n d) cs → AllByRecursion (Writable N n d) (put_field l o cs)
+    put_writable : (d : ℕ) (o : Option Item) (cs : List (N × Item)) → Within d o → AllByRecursion (Writable N n d) cs
+        → AllByRecursion (Writable N n d) (put_field l o cs)
     put_writable d (Some v) cs w k =
         (record { key = flat.key; is_image = flat.is_image; described = flat.described; shallow_key = omega (arith, flat.is_flat); shallow = w }, k)
     put_writable d None cs w k = k
 
-    field_again : (d : ℕ) (es : List (N × Item)) (x : A × B) → AllByRecursion (λ e. depth e.1 ≤ d) es → (field n l h fs).describes es x → AgainFields N (A × B) n (field n l h fs) d x
+    field_again : (d : ℕ) (es : List (N × Item)) (x : A × B) → AllByRecursion (λ e. depth e.1 ≤ d) es → (field n l h fs).describes es x
+        → AgainFields N (A × B) n (field n l h fs) d x
     field_again d es x w p =
         let a : AgainFieldShape A h d x.0 = hl.again d (lookup (n.same l) es) x.0 (lookup_within n d l es w) p.0 in
         let b : AgainFields N B n fs d x.1 = fl.again d es x.1 w p.1 in
@@ -445,31 +467,39 @@ module _ {N : Type 0} (n : Names N) (laws : LawfulNames N n) where
         }
 
     -- faults
-    field_sound : (es : List (N × Item)) (x : A × B) (m : N) (v : Item) (e : CoseError) → (field n l h fs).describes es x → lookup (n.same m) es ≡ Some v → (field n l h fs).faults m v e → ⊥
+    field_sound : (es : List (N × Item)) (x : A × B) (m : N) (v : Item) (e : CoseError) → (field n l h fs).describes es x → lookup (n.same m) es ≡ Some v
+        → (field n l h fs).faults m v e → ⊥
     field_sound es x m v e p q f =
         by_where (n.same l m) f
         (λ c g. hl.sound v x.0 e (subst (λ o. h.describes o x.0) (ap (λ k. lookup (n.same k) es) (laws.same_is l m c) ∙ q) p.0) g)
         (λ c g. fl.sound es x.1 m v e p.1 q g)
 
     -- one more pair at the end
-    field_other : (es : List (N × Item)) (x : A × B) (m : N) (v : Item) → is_core n (l ∷ fs.labels) m ≡ false → (field n l h fs).describes es x → (field n l h fs).describes (es ++ (m, v) ∷ []) x
+    field_other : (es : List (N × Item)) (x : A × B) (m : N) (v : Item) → is_core n (l ∷ fs.labels) m ≡ false → (field n l h fs).describes es x
+        → (field n l h fs).describes (es ++ (m, v) ∷ []) x
     field_other es x m v c p = (rw (lookup_other (n.same l) es m v (others m c).0) p.0, fl.other es x.1 m v (others m c).1 p.1)
 
     -- a pair of this field, and one of another
     take_here :
-        (es : List (N × Item)) (x y : A × B) (m : N) (v : Item) → lookup (n.same m) es ≡ None → (field n l h fs).describes es x → n.same l m ≡ true → h.describes (Some v) y.0 → x.1 ≡ y.1
+        (es : List (N × Item)) (x y : A × B) (m : N) (v : Item) → lookup (n.same m) es ≡ None → (field n l h fs).describes es x → n.same l m ≡ true
+        → h.describes (Some v) y.0 → x.1 ≡ y.1
         → (field n l h fs).describes (es ++ (m, v) ∷ []) y
     take_here es x y m v k p c q r =
         let e : lookup (n.same l) es ≡ None = ap (λ j. lookup (n.same j) es) (laws.same_is l m c) ∙ k in
         (rw (lookup_new (n.same l) es m v e c) q, subst (fs.describes (es ++ (m, v) ∷ [])) r (fl.other es x.1 m v (not_other m c) p.1))
 
     take_there :
-        (es : List (N × Item)) (x y : A × B) (m : N) (v : Item) → lookup (n.same m) es ≡ None → (field n l h fs).describes es x → n.same l m ≡ false → x.0 ≡ y.0 → fs.takes m v x.1 y.1
+        (es : List (N × Item)) (x y : A × B) (m : N) (v : Item) → lookup (n.same m) es ≡ None → (field n l h fs).describes es x → n.same l m ≡ false → x.0 ≡ y.0
+        → fs.takes m v x.1 y.1
         → (field n l h fs).describes (es ++ (m, v) ∷ []) y
-    take_there es x y m v k p c q r = (rw (lookup_other (n.same l) es m v c) (subst (h.describes (lookup (n.same l) es)) q p.0), fl.takes es x.1 y.1 m v k p.1 r)
+    take_there es x y m v k p c q r = (
+      rw (lookup_other (n.same l) es m v c) (subst (h.describes (lookup (n.same l) es)) q p.0),
+      fl.takes es x.1 y.1 m v k p.1 r,
+    )
 
     field_takes :
-        (es : List (N × Item)) (x y : A × B) (m : N) (v : Item) → lookup (n.same m) es ≡ None → (field n l h fs).describes es x → (field n l h fs).takes m v x y → (field n l h fs).describes (es ++ (m, v) ∷ []) y
+        (es : List (N × Item)) (x y : A × B) (m : N) (v : Item) → lookup (n.same m) es ≡ None → (field n l h fs).describes es x → (field n l h fs).takes m v x y
+        → (field n l h fs).describes (es ++ (m, v) ∷ []) y
     field_takes es x y m v k p t = by_where (n.same l m) t (λ c g. take_here es x y m v k p c g.1 g.2) (λ c g. take_there es x y m v k p c g.0 g.1)
 
     -- where none is described, none is there
@@ -477,13 +507,15 @@ module _ {N : Type 0} (n : Names N) (laws : LawfulNames N n) where
     none_there (Some v) x p q = absurd (hl.told v x p q)
     none_there None x p q = refl
 
-    field_fresh : (es : List (N × Item)) (x y : A × B) (m : N) (v : Item) → (field n l h fs).describes es x → (field n l h fs).takes m v x y → lookup (n.same m) es ≡ None
+    field_fresh : (es : List (N × Item)) (x y : A × B) (m : N) (v : Item) → (field n l h fs).describes es x → (field n l h fs).takes m v x y
+        → lookup (n.same m) es ≡ None
     field_fresh es x y m v p t =
         by_where (n.same l m) t
         (λ c g. ap (λ j. lookup (n.same j) es) (sym (laws.same_is l m c)) ∙ none_there (lookup (n.same l) es) x.0 p.0 g.0)
         (λ c g. fl.fresh es x.1 y.1 m v p.1 g.1)
 
-    field_repeated : (es : List (N × Item)) (x : A × B) (m : N) → (field n l h fs).describes es x → (field n l h fs).repeats m x → lookup (n.same m) es ≡ None → ⊥
+    field_repeated : (es : List (N × Item)) (x : A × B) (m : N) → (field n l h fs).describes es x → (field n l h fs).repeats m x → lookup (n.same m) es ≡ None
+        → ⊥
     field_repeated es x m p r k =
         by_where (n.same l m) r
         (λ c g. g (subst (λ o. h.describes o x.0) (ap (λ j. lookup (n.same j) es) (laws.same_is l m c) ∙ k) p.0))
@@ -506,22 +538,26 @@ module _ {N : Type 0} (n : Names N) (laws : LawfulNames N n) where
 
   -- fields, and then others
   distinct_append :
-      (labels : List N) (cs rs : List (N × Item)) → IsCore n labels cs → IsRest n labels rs → IsDistinct n.same (keys_of cs) → IsDistinct n.same (keys_of rs) → IsDistinct n.same (keys_of (cs ++ rs))
+      (labels : List N) (cs rs : List (N × Item)) → IsCore n labels cs → IsRest n labels rs → IsDistinct n.same (keys_of cs) → IsDistinct n.same (keys_of rs)
+      → IsDistinct n.same (keys_of (cs ++ rs))
   unfolding IsDistinct
   distinct_append labels [] rs c r p q = q
   distinct_append labels (e ∷ cs) rs c r p q = (new_append n e.0 cs rs p.0 (new_rest labels e.0 rs c.0 r), distinct_append labels cs rs c.1 r p.1 q)
 
   -- a label that no pair has among those that pass, and that no other could have
-  new_filtered : (t : N × Item → Bool) (l : N) → ((e : N × Item) → t e ≡ false → n.same l e.0 ≡ false) → (es : List (N × Item)) → IsNew n l (filter t es) → IsNew n l es
+  new_filtered : (t : N × Item → Bool) (l : N) → ((e : N × Item) → t e ≡ false → n.same l e.0 ≡ false) → (es : List (N × Item)) → IsNew n l (filter t es)
+      → IsNew n l es
   new_filtered t l f [] h = tt
   new_filtered t l f (e ∷ es) h = go (new_filtered t l f es) (t e) refl h
     where
-      go : (IsNew n l (filter t es) → IsNew n l es) → (b : Bool) → t e ≡ b → IsNew n l (cond b (e ∷ filter t es) (filter t es)) → (n.same l e.0 ≡ false) × IsNew n l es
+      go : (IsNew n l (filter t es) → IsNew n l es) → (b : Bool) → t e ≡ b → IsNew n l (cond b (e ∷ filter t es) (filter t es)) → (n.same l e.0 ≡ false)
+          × IsNew n l es
       go ih true q k = (k.0, ih k.1)
       go ih false q k = (f e q, ih k)
 
   -- a field's label is new if it is among the fields, and another if it is among the rest
-  pub new_field : (labels : List N) (l : N) (es : List (N × Item)) → is_core n labels l ≡ true → IsNew n l (filter (λ e. is_core n labels e.0) es) → IsNew n l es
+  pub new_field : (labels : List N) (l : N) (es : List (N × Item)) → is_core n labels l ≡ true → IsNew n l (filter (λ e. is_core n labels e.0) es)
+      → IsNew n l es
   new_field labels l es c h = new_filtered (λ e. is_core n labels e.0) l (λ e q. core_rest labels l e.0 c q) es h
 
   pub new_other : (labels : List N) (l : N) (es : List (N × Item)) → is_core n labels l ≡ false → IsNew n l (rest_of n labels es) → IsNew n l es
@@ -529,7 +565,8 @@ module _ {N : Type 0} (n : Names N) (laws : LawfulNames N n) where
 
   -- so where the labels of the fields are distinct, and those of the rest, all are
   distinct_both :
-      (labels : List N) (es : List (N × Item)) → IsDistinct n.same (keys_of (filter (λ e. is_core n labels e.0) es)) → IsDistinct n.same (keys_of (rest_of n labels es)) → IsDistinct n.same (keys_of es)
+      (labels : List N) (es : List (N × Item)) → IsDistinct n.same (keys_of (filter (λ e. is_core n labels e.0) es))
+      → IsDistinct n.same (keys_of (rest_of n labels es)) → IsDistinct n.same (keys_of es)
   unfolding IsDistinct
   distinct_both labels [] p q = tt
   distinct_both labels (e ∷ es) p q = go (is_core n labels e.0) refl (distinct_both labels es) p q
@@ -540,7 +577,8 @@ module _ {N : Type 0} (n : Names N) (laws : LawfulNames N n) where
       rests : List (N × Item)
       rests = rest_of n labels es
 
-      go : (b : Bool) → is_core n labels e.0 ≡ b → (IsDistinct n.same (keys_of cores) → IsDistinct n.same (keys_of rests) → IsDistinct n.same (keys_of es)) → IsDistinct n.same (keys_of (cond b (e ∷ cores) cores))
+      go : (b : Bool) → is_core n labels e.0 ≡ b → (IsDistinct n.same (keys_of cores) → IsDistinct n.same (keys_of rests) → IsDistinct n.same (keys_of es))
+          → IsDistinct n.same (keys_of (cond b (e ∷ cores) cores))
           → IsDistinct n.same (keys_of (cond (not b) (e ∷ rests) rests)) → IsNew n e.0 es × IsDistinct n.same (keys_of es)
       go true c ih p q = (new_field labels e.0 es c p.0, ih p.1 q)
       go false c ih p q = (new_other labels e.0 es c q.0, ih p q.1)
@@ -591,7 +629,8 @@ module _ {N : Type 0} (n : Names N) (laws : LawfulNames N n) where
   unfolding IsDistinct
   not_distinct no_pairs es p t d = t
   not_distinct (pair k v ps) [] p t d = p
-  not_distinct (pair k v ps) (e ∷ es) p (inl g) d = not_new ps es e.0 p.2 (subst (λ m. HasLabel n.shape.describes m ps) (laws.shape.unique k g.0 e.0 g.1 p.0) g.2) d.0
+  not_distinct (pair k v ps) (e ∷ es) p (inl g) d = not_new ps es e.0 p.2
+      (subst (λ m. HasLabel n.shape.describes m ps) (laws.shape.unique k g.0 e.0 g.1 p.0) g.2) d.0
   not_distinct (pair k v ps) (e ∷ es) p (inr g) d = not_distinct ps es p.2 g d.1
 
   -- and what is not new is a label of the pairs
@@ -618,7 +657,8 @@ module _ {N : Type 0} (n : Names N) (laws : LawfulNames N n) where
       go false q ih = inl (e.0, p.0, has_label ps es e.0 p.2 (λ a. true≢false (sym (tested_new n e.0 (keys_of es) a) ∙ q)))
 
   -- what is found among some pairs is found among them and one with another label before them
-  pub lookup_later : (e : N × Item) (es : List (N × Item)) (m : N) (v : Item) → IsNew n e.0 es → lookup (n.same m) es ≡ Some v → lookup (n.same m) (e ∷ es) ≡ Some v
+  pub lookup_later : (e : N × Item) (es : List (N × Item)) (m : N) (v : Item) → IsNew n e.0 es → lookup (n.same m) es ≡ Some v
+      → lookup (n.same m) (e ∷ es) ≡ Some v
   lookup_later e es m v a q = go (n.same m e.0) refl
     where
       go : (b : Bool) → n.same m e.0 ≡ b → cond b (Some e.1) (lookup (n.same m) es) ≡ Some v
@@ -636,7 +676,8 @@ module _ {N : Type 0} (n : Names N) (laws : LawfulNames N n) where
 
     -- no fault stands in a pair, where the labels are distinct and what a look-up finds has none
     pairs_sound :
-        (e : CoseError) (ps : Pairs) (es : List (N × Item)) → Named n.shape.describes ps es → IsDistinct n.same (keys_of es) → ((m : N) (v : Item) → lookup (n.same m) es ≡ Some v → fs.faults m v e → ⊥)
+        (e : CoseError) (ps : Pairs) (es : List (N × Item)) → Named n.shape.describes ps es → IsDistinct n.same (keys_of es)
+        → ((m : N) (v : Item) → lookup (n.same m) es ≡ Some v → fs.faults m v e → ⊥)
         → SomePair (PairFaults n fs e) ps → ⊥
     unfolding IsDistinct
     pairs_sound e no_pairs es p d s f = f
@@ -652,7 +693,8 @@ module _ {N : Type 0} (n : Names N) (laws : LawfulNames N n) where
     entries_sound ps x e p (inr f) = not_distinct ps p.entries p.named f.0 p.distinct
 
     -- the fields, and the rest in any order: they are written as an item that stands for them
-    entries_arranged : (ps : Pairs) (x : A × List (N × Item)) (rs : List (N × Item)) → Entries N A n fs ps x → IsPermutation x.1 rs → Again (A × List (N × Item)) (labelled_by checks n fs) (dict ps) (x.0, rs)
+    entries_arranged : (ps : Pairs) (x : A × List (N × Item)) (rs : List (N × Item)) → Entries N A n fs ps x → IsPermutation x.1 rs
+        → Again (A × List (N × Item)) (labelled_by checks n fs) (dict ps) (x.0, rs)
     entries_arranged ps x rs p moved =
         record {
           image = dict all.pairs;
@@ -675,25 +717,30 @@ module _ {N : Type 0} (n : Names N) (laws : LawfulNames N n) where
         writable = named_writable (pairs_depth ps) ps p.entries (omega arith) p.named
 
         core : AgainFields N A n fs (pairs_depth ps) x.0
-        core = fl.again (pairs_depth ps) p.entries x.0 (all_map (Writable N n (pairs_depth ps)) (λ e. depth e.1 ≤ pairs_depth ps) (λ e w. w.shallow) p.entries writable) p.fields
+        core = fl.again (pairs_depth ps) p.entries x.0
+            (all_map (Writable N n (pairs_depth ps)) (λ e. depth e.1 ≤ pairs_depth ps) (λ e w. w.shallow) p.entries writable) p.fields
 
         rest : IsRest n fs.labels rs
         rest = all_moved (λ e. is_core n fs.labels e.0 ≡ false) x.1 rs moved (subst (IsRest n fs.labels) (sym p.rest) (rest_apart n fs.labels p.entries))
 
         distinct : IsDistinct n.same (keys_of rs)
-        distinct = IsDistinct-IsPermutation n.same same_flips (keys_of x.1) (keys_of rs) (IsPermutation-map (λ e. e.0) x.1 rs moved) (rest_distinct n fs.labels p.entries x.1 p.rest p.distinct)
+        distinct = IsDistinct-IsPermutation n.same same_flips (keys_of x.1) (keys_of rs) (IsPermutation-map (λ e. e.0) x.1 rs moved)
+            (rest_distinct n fs.labels p.entries x.1 p.rest p.distinct)
 
         writable_rest : AllByRecursion (Writable N n (pairs_depth ps)) rs
         writable_rest =
             all_moved (Writable N n (pairs_depth ps)) x.1 rs moved
-            (subst (AllByRecursion (Writable N n (pairs_depth ps))) (sym p.rest) (all_filter (Writable N n (pairs_depth ps)) (λ e. not (is_core n fs.labels e.0)) p.entries writable))
+            (subst (AllByRecursion (Writable N n (pairs_depth ps))) (sym p.rest)
+            (all_filter (Writable N n (pairs_depth ps)) (λ e. not (is_core n fs.labels e.0)) p.entries writable))
 
         all : Written N n (pairs_depth ps) (core.entries ++ rs)
         all = written (pairs_depth ps) (core.entries ++ rs) (all_append (Writable N n (pairs_depth ps)) core.entries rs core.writable writable_rest)
 
     -- so what a map stands for is written with its rest in any order
-    pub labelled_arranged : (v : Item) (x : A × List (N × Item)) (rs : List (N × Item)) → (labelled_by checks n fs).describes v x → IsPermutation x.1 rs → Again (A × List (N × Item)) (labelled_by checks n fs) v (x.0, rs)
-    labelled_arranged v x rs p moved = subst (λ w. Again (A × List (N × Item)) (labelled_by checks n fs) w (x.0, rs)) (as_map-is v p.0 p.1) (entries_arranged p.0 x rs p.2 moved)
+    pub labelled_arranged : (v : Item) (x : A × List (N × Item)) (rs : List (N × Item)) → (labelled_by checks n fs).describes v x → IsPermutation x.1 rs
+        → Again (A × List (N × Item)) (labelled_by checks n fs) v (x.0, rs)
+    labelled_arranged v x rs p moved = subst (λ w. Again (A × List (N × Item)) (labelled_by checks n fs) w (x.0, rs)) (as_map-is v p.0 p.1)
+        (entries_arranged p.0 x rs p.2 moved)
 
     labelled_again : (v : Item) (x : A × List (N × Item)) → (labelled_by checks n fs).describes v x → Again (A × List (N × Item)) (labelled_by checks n fs) v x
     labelled_again v x p = labelled_arranged v x x.1 p (IsPermutation-refl x.1)
@@ -703,7 +750,11 @@ module _ {N : Type 0} (n : Names N) (laws : LawfulNames N n) where
         record {
           unique = λ v x y p q. entries_unique p.0 x y p.2 (subst (λ ps. Entries N A n fs ps y) (some-one q.1 p.1) q.2);
           again = labelled_again;
-          sound = λ v x e p f. elim f [ inl g ↦ some-none p.1 g.0 | inr g ↦ entries_sound g.0 x e (subst (λ ps. Entries N A n fs ps x) (some-one p.1 g.1) p.2) g.2 ];
+          sound = λ v x e p f. elim f [
+            | inl g ↦ some-none p.1 g.0
+            | inr g ↦ entries_sound g.0 x e
+                (subst (λ ps. Entries N A n fs ps x) (some-one p.1 g.1) p.2) g.2
+          ];
         }
 
   module _ {A : Type 0} (fs : Fields N A) (fl : LawfulFields N A n fs) where
@@ -714,19 +765,22 @@ module _ {N : Type 0} (n : Names N) (laws : LawfulNames N n) where
 
     -- one more, of a field or of the rest
     more_field :
-        (ps : Pairs) (k v : Item) (m : N) (x y : A × List (N × Item)) → SoFar N A n fs ps x → n.shape.describes k m → is_core n fs.labels m ≡ true → fs.takes m v x.0 y.0 × (y.1 ≡ x.1) → SoFar N A n fs (with_pair ps k v) y
+        (ps : Pairs) (k v : Item) (m : N) (x y : A × List (N × Item)) → SoFar N A n fs ps x → n.shape.describes k m → is_core n fs.labels m ≡ true
+        → fs.takes m v x.0 y.0 × (y.1 ≡ x.1) → SoFar N A n fs (with_pair ps k v) y
     more_field ps k v m x y s q c t =
         let new : lookup (n.same m) s.entries ≡ None = fl.fresh s.entries x.0 y.0 m v s.fields t.0 in
         record {
           entries = s.entries ++ (m, v) ∷ [];
           named = named_snoc n.shape.describes ps s.entries k v m s.named q;
-          once = rw (filter_kept (λ e. is_core n fs.labels e.0) s.entries (m, v) c) (distinct_snoc _ m v s.once (new_filter n (λ e. is_core n fs.labels e.0) m s.entries (new_of n m s.entries new)));
+          once = rw (filter_kept (λ e. is_core n fs.labels e.0) s.entries (m, v) c)
+              (distinct_snoc _ m v s.once (new_filter n (λ e. is_core n fs.labels e.0) m s.entries (new_of n m s.entries new)));
           fields = fl.takes s.entries x.0 y.0 m v new s.fields t.0;
           rest = t.1 ∙ (s.rest ∙ sym (filter_left (λ e. not (is_core n fs.labels e.0)) s.entries (m, v) (ap not c)));
         }
 
     more_rest :
-        (ps : Pairs) (k v : Item) (m : N) (x y : A × List (N × Item)) → SoFar N A n fs ps x → n.shape.describes k m → is_core n fs.labels m ≡ false → (x.0 ≡ y.0) × (y.1 ≡ x.1 ++ (m, v) ∷ [])
+        (ps : Pairs) (k v : Item) (m : N) (x y : A × List (N × Item)) → SoFar N A n fs ps x → n.shape.describes k m → is_core n fs.labels m ≡ false
+        → (x.0 ≡ y.0) × (y.1 ≡ x.1 ++ (m, v) ∷ [])
         → SoFar N A n fs (with_pair ps k v) y
     more_rest ps k v m x y s q c t =
         record {
@@ -737,7 +791,8 @@ module _ {N : Type 0} (n : Names N) (laws : LawfulNames N n) where
           rest = t.1 ∙ (ap (λ r. r ++ (m, v) ∷ []) s.rest ∙ sym (filter_kept (λ e. not (is_core n fs.labels e.0)) s.entries (m, v) (ap not c)));
         }
 
-    pub so_far_more : (ps : Pairs) (k v : Item) (m : N) (x y : A × List (N × Item)) → SoFar N A n fs ps x → n.shape.describes k m → Adds n fs m v x y → SoFar N A n fs (with_pair ps k v) y
+    pub so_far_more : (ps : Pairs) (k v : Item) (m : N) (x y : A × List (N × Item)) → SoFar N A n fs ps x → n.shape.describes k m → Adds n fs m v x y
+        → SoFar N A n fs (with_pair ps k v) y
     so_far_more ps k v m x y s q a = by_where (is_core n fs.labels m) a (more_field ps k v m x y s q) (more_rest ps k v m x y s q)
 
     -- all of them
@@ -752,21 +807,25 @@ module _ {N : Type 0} (n : Names N) (laws : LawfulNames N n) where
         }
 
     -- or a label of the rest stands twice, whatever pairs come after
-    pub so_far_twice : (ps : Pairs) (x : A × List (N × Item)) → SoFar N A n fs ps x → are_distinct n.same (keys_of x.1) ≡ false → (more : Pairs) → Twice n.shape.describes (and_pairs ps more)
+    pub so_far_twice : (ps : Pairs) (x : A × List (N × Item)) → SoFar N A n fs ps x → are_distinct n.same (keys_of x.1) ≡ false → (more : Pairs)
+        → Twice n.shape.describes (and_pairs ps more)
     so_far_twice ps x s h more =
         twice_and n.shape.describes ps more
         (twice ps s.entries s.named (λ d. true≢false (sym (tested_distinct n (keys_of x.1) (rest_distinct n fs.labels s.entries x.1 s.rest d)) ∙ h)))
 
     -- what is refused is at fault, whatever pairs come after
     refused :
-        (ps : Pairs) (k v : Item) (m : N) (x : A × List (N × Item)) (e : CoseError) → SoFar N A n fs ps x → n.shape.describes k m → (fs.repeats m x.0 × (e ≡ DuplicateMapKey)) ⊎ fs.faults m v e → (more : Pairs)
+        (ps : Pairs) (k v : Item) (m : N) (x : A × List (N × Item)) (e : CoseError) → SoFar N A n fs ps x → n.shape.describes k m
+        → (fs.repeats m x.0 × (e ≡ DuplicateMapKey)) ⊎ fs.faults m v e → (more : Pairs)
         → MapFaults n fs (and_pairs (with_pair ps k v) more) e
     refused ps k v m x e s q (inl f) more =
-        let label : HasLabel n.shape.describes m ps = has_label ps s.entries m s.named (λ a. fl.repeated s.entries x.0 m s.fields f.0 (lookup_none n m s.entries a)) in
+        let label : HasLabel n.shape.describes m ps = has_label ps s.entries m s.named
+        (λ a. fl.repeated s.entries x.0 m s.fields f.0 (lookup_none n m s.entries a)) in
         inr (twice_last n.shape.describes ps k v m more label q, f.1)
     refused ps k v m x e s q (inr f) more = inl (some_last (PairFaults n fs e) ps k v more (inr (m, q, f)))
 
     pub refuses_fault :
-        (ps : Pairs) (k v : Item) (m : N) (x : A × List (N × Item)) (e : CoseError) → SoFar N A n fs ps x → n.shape.describes k m → Refuses n fs m v x e → (more : Pairs)
+        (ps : Pairs) (k v : Item) (m : N) (x : A × List (N × Item)) (e : CoseError) → SoFar N A n fs ps x → n.shape.describes k m → Refuses n fs m v x e
+        → (more : Pairs)
         → MapFaults n fs (and_pairs (with_pair ps k v) more) e
     refuses_fault ps k v m x e s q r more = by_where (is_core n fs.labels m) r (λ c g. refused ps k v m x e s q g more) (λ c g. absurd g)

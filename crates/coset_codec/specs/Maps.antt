@@ -24,6 +24,7 @@ Named r no_pairs (e ∷ es) = ⊥
 Named r (pair k v ps) [] = ⊥
 Named r (pair k v ps) (e ∷ es) = r k e.0 × (v ≡ e.1) × Named r ps es
 
+-- the pairs that labels and values are written as, where each label is written
 abbrev pub named_image : {N : Type 0} → (N → Option Item) → List (N × Item) → Option Pairs
 named_image f [] = Some no_pairs
 named_image f (e ∷ es) = both (λ k ps. pair k e.1 ps) (f e.0) (named_image f es)
@@ -55,6 +56,7 @@ abbrev pub FieldShapeDescribes : {A : Type 0} → A → (Item → A → Type 0) 
 FieldShapeDescribes absent r (Some v) x = r v x
 FieldShapeDescribes absent r None x = x ≡ absent
 
+-- the value that a field is written as, where it is there; nothing where it is absent
 abbrev pub field_shape_image : Bool → Option Item → Option (Option Item)
 field_shape_image true o = option_map Some o
 field_shape_image false o = Some None
@@ -142,6 +144,7 @@ is_core n labels l = list_any (n.same l) labels
 abbrev pub rest_of : {N : Type 0} → Names N → List N → List (N × Item) → List (N × Item)
 rest_of n labels es = filter (λ e. not (is_core n labels e.0)) es
 
+-- no two of these are the same by that test
 abbrev pub are_distinct : {N : Type 0} → (N → N → Bool) → List N → Bool
 are_distinct same [] = true
 are_distinct same (l ∷ ls) = list_all (λ m. not (same l m)) ls && are_distinct same ls

@@ -3,7 +3,8 @@ use Rattle.std.proofs.Common.{◌≡◌, ◌≤◌, ◌+◌, ℕ, zero, suc, Lis
 use Rattle.coset_value.specs.Item.{Item, Items, no_items, item}
 use Rattle.coset_codec.specs.declared.error.CoseError.{CoseError}
 use Rattle.coset_codec.specs.Recursive.{nested, recursive}
-use Rattle.coset_codec.specs.Shape.{Shape, Places, PlacesFaults, array_of, ◌then◌, along, Each, EachFaults, any_number, list_of, perhaps, LastDescribes, LastFaults}
+use Rattle.coset_codec.specs.Shape.{Shape, Places, PlacesFaults, array_of, ◌then◌, along, Each, EachFaults, any_number, list_of, perhaps, LastDescribes}
+use Rattle.coset_codec.specs.Shape.{LastFaults}
 use Rattle.coset_codec.specs.ShapeLaws.{Again, Lawful}
 
 -- ---- shapes that pass on to others
@@ -24,16 +25,19 @@ pub record PassesPlaces (I : Type 0) (A : Type 0) (s : Places A) (t : I → Plac
 abbrev pub Below : (A : Type 0) → Shape A → Shape A → Type 0
 Below A s t = Passes (Unit {0}) A s (λ i. t)
 
-pub below : {A : Type 0} (s t : Shape A) → ((v : Item) (x : A) → s.describes v x → t.describes v x) → ((v : Item) (e : CoseError) → s.faults v e → t.faults v e) → Below A s t
+pub below : {A : Type 0} (s t : Shape A) → ((v : Item) (x : A) → s.describes v x → t.describes v x) → ((v : Item) (e : CoseError) → s.faults v e → t.faults v e)
+    → Below A s t
 below s t d f = record { describes = λ v x h. (tt, d v x h); faults = λ v e h. (tt, f v e h) }
 
 module _ {I : Type 0} (some : I) where
   -- an array, by its places
-  faults_pass : {A : Type 0} (s : Places A) (t : I → Places A) → PassesPlaces I A s t → (vs : Items) (e : CoseError) → PlacesFaults s vs e → (i : I) × PlacesFaults (t i) vs e
+  faults_pass : {A : Type 0} (s : Places A) (t : I → Places A) → PassesPlaces I A s t → (vs : Items) (e : CoseError) → PlacesFaults s vs e → (i : I)
+      × PlacesFaults (t i) vs e
   faults_pass s t p vs e (inl h) = (some, inl (p.misfits some vs h.0, h.1))
   faults_pass s t p vs e (inr h) = let g = p.faults vs e h.1 in (g.0, inr ((λ m. h.0 (p.fits g.0 vs m)), g.1))
 
-  array_faults : {A : Type 0} (s : Places A) (t : I → Places A) → PassesPlaces I A s t → (v : Item) (e : CoseError) → (array_of s).faults v e → (i : I) × (array_of (t i)).faults v e
+  array_faults : {A : Type 0} (s : Places A) (t : I → Places A) → PassesPlaces I A s t → (v : Item) (e : CoseError) → (array_of s).faults v e → (i : I)
+      × (array_of (t i)).faults v e
   array_faults s t p v e (inl h) = (some, inl h)
   array_faults s t p v e (inr h) = let g = faults_pass s t p h.0 e h.2 in (g.0, inr (h.0, h.1, g.1))
 
@@ -77,7 +81,8 @@ module _ {I : Type 0} (some : I) where
     perhaps_passes = record { describes = last_describes; misfits = λ i vs h. h; fits = λ i vs h. h; faults = last_faults }
 
 -- what is seen otherwise
-pub along_passes : {I A B : Type 0} (to : A → B) (from : B → A) (s : Shape A) (t : I → Shape A) → Passes I A s t → Passes I B (along to from s) (λ i. along to from (t i))
+pub along_passes : {I A B : Type 0} (to : A → B) (from : B → A) (s : Shape A) (t : I → Shape A) → Passes I A s t
+    → Passes I B (along to from s) (λ i. along to from (t i))
 along_passes to from s t p = record { describes = λ v x h. p.describes v (from x) h; faults = p.faults }
 
 -- a list, where each of its members passes on to the same shape
@@ -163,7 +168,8 @@ module _ {A : Type 0} (step : Shape A → Shape A) (image : A → Option Item) (
   pub recursive_step : Below A (step (recursive step image)) (recursive step image)
   recursive_step =
       let g = k.gathers (recursive step image) (nested step image) list_gathered in
-      below (step (recursive step image)) (recursive step image) (λ v x h. let p = g.describes v x h in (suc p.0, p.1)) (λ v e h. let p = g.faults v e h in (suc p.0, p.1))
+      below (step (recursive step image)) (recursive step image) (λ v x h. let p = g.describes v x h in (suc p.0, p.1))
+      (λ v e h. let p = g.faults v e h in (suc p.0, p.1))
 
   -- and nothing else
   inside : (n : ℕ) → Below A (nested step image n) (recursive step image)

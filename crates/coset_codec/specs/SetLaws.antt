@@ -1,12 +1,14 @@
 -- What holds of sets: of a list there is one set, which grows by `insert_key` as the list does at its end; and the laws
 -- of the shapes of sets.
-use Rattle.std.proofs.Common.{◌≡◌, ◌⊎◌, ◌≤◌, ℕ, suc, List, [], ◌∷◌, ◌++◌, length, get_or, All, Contains, refl, sym, ◌∙◌, ap, ap₂, subst, true, false, true≢false, length-append, inl, inr, arith, Ordering, Less, Equal, Greater}
+use Rattle.std.proofs.Common.{◌≡◌, ◌⊎◌, ◌≤◌, ℕ, suc, List, [], ◌∷◌, ◌++◌, length, get_or, All, Contains, refl, sym, ◌∙◌, ap, ap₂, subst, true, false}
+use Rattle.std.proofs.Common.{true≢false, length-append, inl, inr, arith, Ordering, Less, Equal, Greater}
 use Rattle.std.specs.Cmp.{IsTotalOrder, both_ways}
 use Rattle.std.specs.Ordering.{eq_by_cmp, match_ordering, ordering_reverse}
 use Rattle.std.specs.List.Sorted.{IsStrictlySortedBy}
 use Rattle.std.specs.List.{list_any}
 use Rattle.std.specs.BTreeSet.{BTreeSet, insert_key}
-use Rattle.std.proofs.lemmas.List.Elements.{All-nil, All-cons, All-weaker, All-contains, All-contains_itself, Contains-append_left, Contains-append_right, Contains-append_cases, Contains-push, Contains-push_cases, recursion_from_All, All-from_recursion}
+use Rattle.std.proofs.lemmas.List.Elements.{All-nil, All-cons, All-weaker, All-contains, All-contains_itself, Contains-append_left, Contains-append_right}
+use Rattle.std.proofs.lemmas.List.Elements.{Contains-append_cases, Contains-push, Contains-push_cases, recursion_from_All, All-from_recursion}
 use Rattle.std.proofs.lemmas.Cmp.{eq_by_cmp_equiv}
 use Rattle.std.proofs.lemmas.List.{get_or_append_left}
 use Rattle.std.proofs.Math.Seq.{get_or-append_seam}
@@ -63,8 +65,16 @@ module _ {A : Type 0} {cmp : A → A → Ordering} (o : IsTotalOrder cmp) (exact
       above : All (λ y. cmp x y ≡ Less) xs
       above = All-after_first cmp x xs s
 
-      by : IsStrictlySortedBy cmp (insert_key cmp xs k) → (r : Ordering) → cmp k x ≡ r → IsStrictlySortedBy cmp (match_ordering r (k ∷ x ∷ xs) (x ∷ xs) (x ∷ insert_key cmp xs k))
-      by rest Less p = ((p, recursion_from_All (λ y. cmp k y ≡ Less) xs (All-weaker (λ y. cmp x y ≡ Less) (λ y. cmp k y ≡ Less) (λ y. o.trans k x y p) xs above)), s)
+      by : IsStrictlySortedBy cmp (insert_key cmp xs k) → (r : Ordering) → cmp k x ≡ r
+          → IsStrictlySortedBy cmp (match_ordering r (k ∷ x ∷ xs) (x ∷ xs) (x ∷ insert_key cmp xs k))
+      by rest Less p = (
+        (
+          p,
+          recursion_from_All (λ y. cmp k y ≡ Less) xs
+              (All-weaker (λ y. cmp x y ≡ Less) (λ y. cmp k y ≡ Less) (λ y. o.trans k x y p) xs above),
+        ),
+        s,
+      )
       by rest Equal p = s
       by rest Greater p =
           let q : cmp x k ≡ Less = o.antisymm x k ∙ ap ordering_reverse p in
@@ -81,7 +91,8 @@ module _ {A : Type 0} {cmp : A → A → Ordering} (o : IsTotalOrder cmp) (exact
   Contains-insert_key [] k x (inr e) = (0, omega arith, e)
   Contains-insert_key (y ∷ ys) k x h = by (Contains-insert_key ys k x) (cmp k y) refl h
     where
-      by : (Contains ys x ⊎ (k ≡ x) → Contains (insert_key cmp ys k) x) → (r : Ordering) → cmp k y ≡ r → Contains (y ∷ ys) x ⊎ (k ≡ x) → Contains (match_ordering r (k ∷ y ∷ ys) (y ∷ ys) (y ∷ insert_key cmp ys k)) x
+      by : (Contains ys x ⊎ (k ≡ x) → Contains (insert_key cmp ys k) x) → (r : Ordering) → cmp k y ≡ r → Contains (y ∷ ys) x ⊎ (k ≡ x)
+          → Contains (match_ordering r (k ∷ y ∷ ys) (y ∷ ys) (y ∷ insert_key cmp ys k)) x
       by later Less p (inl c) = Contains-append_right (k ∷ []) (y ∷ ys) x c
       by later Less p (inr e) = (0, omega arith, e)
       by later Equal p (inl c) = c
@@ -99,13 +110,15 @@ module _ {A : Type 0} {cmp : A → A → Ordering} (o : IsTotalOrder cmp) (exact
       record {
         sorted = IsStrictlySortedBy-insert_key ys k m.sorted;
         members = λ x. (
-          (λ c. elim (Contains-insert_key_cases ys k x c) [ inl d ↦ Contains-append_left xs (k ∷ []) x ((m.members x).0 d) | inr e ↦ subst (Contains (xs ++ k ∷ [])) e (Contains-push xs k) ]),
+          (λ c. elim (Contains-insert_key_cases ys k x c)
+              [ inl d ↦ Contains-append_left xs (k ∷ []) x ((m.members x).0 d) | inr e ↦ subst (Contains (xs ++ k ∷ [])) e (Contains-push xs k) ]),
           λ c. Contains-insert_key ys k x (elim (Contains-push_cases xs k x c) [ inl d ↦ inl ((m.members x).1 d) | inr e ↦ inr e ]),
         );
       }
 
   -- a new key leaves a list with no repeats
-  pub distinct_push : (xs ys : List A) (k : A) → IsSetOf cmp xs ys → IsDistinctBy cmp xs → list_any (eq_by_cmp cmp k) ys ≡ false → IsDistinctBy cmp (xs ++ k ∷ [])
+  pub distinct_push : (xs ys : List A) (k : A) → IsSetOf cmp xs ys → IsDistinctBy cmp xs → list_any (eq_by_cmp cmp k) ys ≡ false
+      → IsDistinctBy cmp (xs ++ k ∷ [])
   distinct_push xs ys k m d h = IsDistinct-push (eq_by_cmp_equiv o) xs k d (sym (set_has xs ys m k) ∙ h)
 
   -- a key that is there already repeats, whatever comes after it
@@ -137,7 +150,8 @@ module _ {A : Type 0} (s : Shape A) where
   each_has (item v vs) [] p = absurd p
   each_has (item v vs) (x ∷ xs) p =
       let d = items_depth (item v vs) in
-      All-cons (HasItem d) x xs (v, p.0, omega arith) (All-weaker (HasItem (items_depth vs)) (HasItem d) (λ y h. (h.0, h.1, omega (arith, h.2))) xs (each_has vs xs p.1))
+      All-cons (HasItem d) x xs (v, p.0, omega arith) (All-weaker (HasItem (items_depth vs)) (HasItem d) (λ y h. (h.0, h.1, omega (arith, h.2))) xs
+      (each_has vs xs p.1))
 
   -- items of them all, one for each
   each_of : (d : ℕ) (xs : List A) → All (HasItem d) xs → (vs : Items) × Each s.describes vs xs × (items_depth vs ≤ d)
@@ -187,7 +201,8 @@ module _ {A : Type 0} (cmp : A → A → Ordering) (o : IsTotalOrder cmp) (exact
       let vs : Items = p.0.0.0 in
       let deep : suc (items_depth vs) ≡ depth v = as_array-depth v vs p.0.0.1 in
       let us = each_of s (items_depth vs) ys (All-set (HasItem s (items_depth vs)) xs ys m (each_has s vs xs p.0.0.2)) in
-      let a : Again (List A) (distinct_of cmp s) (array us.0) ys = distinct_of_laws.again (array us.0) ys (((us.0, refl, us.1), set_filled xs ys p.0.1 m), set_distinct xs ys m) in
+      let a : Again (List A) (distinct_of cmp s) (array us.0) ys =
+      distinct_of_laws.again (array us.0) ys (((us.0, refl, us.1), set_filled xs ys p.0.1 m), set_distinct xs ys m) in
       record { image = a.image; is_image = a.is_image; described = a.described; shallow = omega (arith, a.shallow, deep, us.2) }
 
   pub set_of_laws : Lawful (List A) (set_of cmp s)

@@ -146,6 +146,7 @@ abbrev pub PresentDescribes : {A : Type 0} → (A → Type 0) → Option A → T
 PresentDescribes P (Some x) = P x
 PresentDescribes P None = ⊥
 
+-- the item that f makes of what is there
 abbrev pub present_image : {A : Type 0} → (A → Option Item) → Option A → Option Item
 present_image f (Some x) = f x
 present_image f None = None
@@ -163,7 +164,8 @@ abbrev pub tagged : {A : Type 0} → ℕ → Shape A → Shape A
 tagged number s = record {
   describes = λ v x. (w : Item) × (as_tag v ≡ Some (number, w)) × s.describes w x;
   image = λ x. option_map (tag number) (s.image x);
-  faults = λ v e. ((as_tag v ≡ None) × IsUnexpected e) ⊎ ((t : ℕ) × (w : Item) × (as_tag v ≡ Some (t, w)) × (((t ≢ number) × IsUnexpected e) ⊎ ((t ≡ number) × s.faults w e)));
+  faults = λ v e. ((as_tag v ≡ None) × IsUnexpected e)
+      ⊎ ((t : ℕ) × (w : Item) × (as_tag v ≡ Some (t, w)) × (((t ≢ number) × IsUnexpected e) ⊎ ((t ≡ number) × s.faults w e)));
 }
 
 -- ---- arrays
@@ -218,6 +220,7 @@ Each r no_items (x ∷ xs) = ⊥
 Each r (item v vs) [] = ⊥
 Each r (item v vs) (x ∷ xs) = r v x × Each r vs xs
 
+-- the items that f makes of these, where there is one of each
 abbrev pub images : {A : Type 0} → (A → Option Item) → List A → Option Items
 images f [] = Some no_items
 images f (x ∷ xs) = both item (f x) (images f xs)

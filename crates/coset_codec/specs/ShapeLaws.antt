@@ -1,10 +1,14 @@
 -- What holds of each shape: an item stands for at most one value; what was read is written as an item that is read to
 -- the same value and is no deeper; and no fault stands in an item that stands for a value.
-use Rattle.std.proofs.Common.{◌≡◌, ◌⊎◌, ◌≤◌, ℕ, suc, max, ℤ, List, [], ◌∷◌, Option, Some, None, Bool, true, false, option_map, refl, sym, ◌∙◌, ap, subst, inl, inr, arith, true≢false}
+use Rattle.std.proofs.Common.{◌≡◌, ◌⊎◌, ◌≤◌, ℕ, suc, max, ℤ, List, [], ◌∷◌, Option, Some, None, Bool, true, false, option_map, refl, sym, ◌∙◌, ap, subst, inl}
+use Rattle.std.proofs.Common.{inr, arith, true≢false}
 use Rattle.coset_value.specs.Item.{Item, integer, bytes, float, text, boolean, null, tag, array, dict, Items, no_items, item, depth, items_depth, items_count}
 use Rattle.coset_value.specs.Parts.{as_array, as_tag}
 use Rattle.coset_codec.specs.declared.error.CoseError.{CoseError}
-use Rattle.coset_codec.specs.Shape.{Shape, Places, PlacesFaults, both, kind_of, int, bstr, tstr, floating, any, that, int64, uint, filled_bstr, along, blamed, either, is_nil, nil, option_of, sum_of, or_nil, present, fixed, tagged, array_of, end, ◌then◌, Each, images, EachFaults, any_number, list_of, some_of, perhaps, LastDescribes, LastMisfits, LastFaults, last_image, arranged, one_or_more, one_or_array, one_or_many}
+use Rattle.coset_codec.specs.Shape.{Shape, Places, PlacesFaults, both, kind_of, int, bstr, tstr, floating, any, that, int64, uint, filled_bstr, along, blamed}
+use Rattle.coset_codec.specs.Shape.{either, is_nil, nil, option_of, sum_of, or_nil, present, fixed, tagged, array_of, end, ◌then◌, Each, images, EachFaults}
+use Rattle.coset_codec.specs.Shape.{any_number, list_of, some_of, perhaps, LastDescribes, LastMisfits, LastFaults, last_image, arranged, one_or_more}
+use Rattle.coset_codec.specs.Shape.{one_or_array, one_or_many}
 
 -- x is written as an item that stands for x and is no deeper than v
 pub record Again (A : Type 0) (s : Shape A) (v : Item) (x : A) : Type 0 where
@@ -154,7 +158,8 @@ option-back (Some x) = refl
 -- what s writes is never null
 pub or_nil_laws : {A : Type 0} (s : Shape A) → ((x : A) (w : Item) → s.image x ≡ Some w → is_nil w ≡ false) → Lawful A s → Lawful (Option A) (or_nil s)
 or_nil_laws s no_null l =
-    along_laws option_of sum_of option-back (either is_nil nil s) (either_laws is_nil nil s nil_laws l (λ v x w f d e. let h : null ≡ w = some-one refl e in ap is_nil (sym h)) (λ v x w f d e. no_null x w e))
+    along_laws option_of sum_of option-back (either is_nil nil s)
+    (either_laws is_nil nil s nil_laws l (λ v x w f d e. let h : null ≡ w = some-one refl e in ap is_nil (sym h)) (λ v x w f d e. no_null x w e))
 
 -- a byte string is never null
 pub bytes_no_nil : (x : List ℕ) (w : Item) → bstr.image x ≡ Some w → is_nil w ≡ false
@@ -185,7 +190,8 @@ pub fixed_laws :
 fixed_laws P o faults again sound =
     record {
       unique = λ v x y p q. refl;
-      again = λ v x p. let a : (w : Item) × (o ≡ Some w) × P w × (depth w ≤ depth v) = again v p in record { image = a.0; is_image = a.1; described = a.2; shallow = a.3 };
+      again = λ v x p. let a : (w : Item) × (o ≡ Some w) × P w × (depth w ≤ depth v) = again v p in
+          record { image = a.0; is_image = a.1; described = a.2; shallow = a.3 };
       sound = λ v x e p f. sound v e p f;
     }
 
@@ -207,7 +213,13 @@ tagged_laws {A} number s l =
       again = λ v x p.
           let a : Again A s p.0 x = l.again p.0 x p.2 in
           let d : suc (depth p.0) ≡ depth v = as_tag-depth v number p.0 p.1 in
-          record { image = tag number a.image; is_image = mapped-some (tag number) (s.image x) a.image a.is_image; described = (a.image, refl, a.described); shallow = omega (arith, a.shallow, d) };
+          record {
+            image = tag number a.image;
+            is_image = mapped-some (tag number) (s.image x) a.image a.is_image;
+            described =
+                (a.image, refl, a.described);
+            shallow = omega (arith, a.shallow, d);
+          };
       sound = λ v x e p f.
           elim f [
             | inl g ↦ some-none p.1 g.0
@@ -237,14 +249,21 @@ array_of_again : {A : Type 0} (ps : Places A) → LawfulPlaces A ps → (v : Ite
 array_of_again {A} ps l v x p =
     let a : AgainPlaces A ps p.0 x = l.again p.0 x p.2 in
     let d : suc (items_depth p.0) ≡ depth v = as_array-depth v p.0 p.1 in
-    record { image = array a.image; is_image = mapped-some array (ps.image x) a.image a.is_image; described = (a.image, refl, a.described); shallow = omega (arith, a.shallow, d) }
+    record {
+      image = array a.image;
+      is_image = mapped-some array (ps.image x) a.image a.is_image;
+      described = (a.image, refl, a.described);
+      shallow =
+          omega (arith, a.shallow, d);
+    }
 
 -- no fault stands in members that stand for a value
 places_sound : {A : Type 0} (ps : Places A) → LawfulPlaces A ps → (vs : Items) (x : A) (e : CoseError) → ps.describes vs x → PlacesFaults ps vs e → ⊥
 places_sound ps l vs x e d (inl m) = l.fits vs x d m.0
 places_sound ps l vs x e d (inr f) = l.sound vs x e d f.1
 
-array_of_sound : {A : Type 0} (ps : Places A) → LawfulPlaces A ps → (v : Item) (x : A) (e : CoseError) → (array_of ps).describes v x → (array_of ps).faults v e → ⊥
+array_of_sound : {A : Type 0} (ps : Places A) → LawfulPlaces A ps → (v : Item) (x : A) (e : CoseError) → (array_of ps).describes v x → (array_of ps).faults v e
+    → ⊥
 array_of_sound ps l v x e p (inl f) = some-none p.1 f.0
 array_of_sound ps l v x e p (inr f) = places_sound ps l f.0 x e (subst (λ vs. ps.describes vs x) (some-one p.1 f.1) p.2) f.2
 
@@ -257,6 +276,13 @@ end_again (item v vs) x p = absurd p
 
 pub end_laws : LawfulPlaces (Unit {0}) end
 end_laws = record { unique = λ vs x y p q. refl; again = end_again; fits = λ vs x p m. m p; sound = λ vs x e p f. f }
+
+-- a place more fits where those behind it do
+pub fits_behind :
+    {A B : Type 0} (s : Shape A) (ps : Places B) → ((vs : Items) (x : B) → ps.describes vs x → ps.misfits vs → ⊥) → (vs : Items) (x : A × B)
+    → (s then ps).describes vs x → (s then ps).misfits vs → ⊥
+fits_behind s ps fits no_items x p m = p
+fits_behind s ps fits (item v vs) x p m = fits vs x.1 p.1 m
 
 module _ {A B : Type 0} (s : Shape A) (ps : Places B) (l : Lawful A s) (ls : LawfulPlaces B ps) where
   then_unique : (vs : Items) (x y : A × B) → (s then ps).describes vs x → (s then ps).describes vs y → x ≡ y
@@ -275,17 +301,13 @@ module _ {A B : Type 0} (s : Shape A) (ps : Places B) (l : Lawful A s) (ls : Law
         shallow = omega (arith, a.shallow, b.shallow);
       }
 
-  then_fits : (vs : Items) (x : A × B) → (s then ps).describes vs x → (s then ps).misfits vs → ⊥
-  then_fits no_items x p m = p
-  then_fits (item v vs) x p m = ls.fits vs x.1 p.1 m
-
   then_sound : (vs : Items) (x : A × B) (e : CoseError) → (s then ps).describes vs x → (s then ps).faults vs e → ⊥
   then_sound no_items x e p f = f
   then_sound (item v vs) x e p (inl f) = l.sound v x.0 e p.0 f
   then_sound (item v vs) x e p (inr f) = ls.sound vs x.1 e p.1 f
 
   pub then_laws : LawfulPlaces (A × B) (s then ps)
-  then_laws = record { unique = then_unique; again = then_again; fits = then_fits; sound = then_sound }
+  then_laws = record { unique = then_unique; again = then_again; fits = fits_behind s ps ls.fits; sound = then_sound }
 
 module _ {A : Type 0} (s : Shape A) (l : Lawful A s) where
   each_unique : (vs : Items) (x y : List A) → Each s.describes vs x → Each s.describes vs y → x ≡ y
@@ -325,7 +347,8 @@ module _ {A : Type 0} (s : Shape A) (l : Lawful A s) where
   pub some_of_laws : Lawful (List A) (some_of s)
   some_of_laws = that_laws _ _ (list_of s) list_of_laws
 
-module _ {A : Type 0} (absent : A) (shows : A → Bool) (hidden : shows absent ≡ false) (shown : (x : A) → shows x ≡ false → x ≡ absent) (s : Shape A) (l : Lawful A s) where
+module _ {A : Type 0} (absent : A) (shows : A → Bool) (hidden : shows absent ≡ false) (shown : (x : A) → shows x ≡ false → x ≡ absent) (s : Shape A)
+    (l : Lawful A s) where
   last_unique : (vs : Items) (x y : A) → LastDescribes absent s.describes vs x → LastDescribes absent s.describes vs y → x ≡ y
   last_unique no_items x y p q = p ∙ sym q
   last_unique (item v no_items) x y p q = l.unique v x y p q
@@ -376,7 +399,8 @@ arranged_laws {A} R s one itself again l =
 
 -- ---- one, or a list of them
 
-one_or_array-depth : (v : Item) (vs ws : Items) → one_or_more v ≡ Some vs → items_depth ws ≤ items_depth vs → items_count ws ≡ items_count vs → depth (one_or_array ws) ≤ depth v
+one_or_array-depth : (v : Item) (vs ws : Items) → one_or_more v ≡ Some vs → items_depth ws ≤ items_depth vs → items_count ws ≡ items_count vs
+    → depth (one_or_array ws) ≤ depth v
 one_or_array-depth (array (item (bytes b) us)) vs no_items p d c =
     let h : item (array (item (bytes b) us)) no_items ≡ vs = cc in
     let one : items_count vs ≡ 1 = ap items_count (sym h) in
@@ -403,14 +427,16 @@ one_or_array-depth _ vs ws p d c = absurd (cc)
 -- one that is written as itself is told from an array of more, and as many are written as were read
 pub one_or_many_laws :
     {A : Type 0} (ps : Places A)
-    → ((vs ws : Items) (x : A) → ps.describes vs x → ps.describes ws x → ps.image x ≡ Some ws → (one_or_more (one_or_array ws) ≡ Some ws) × (items_count ws ≡ items_count vs))
+    → ((vs ws : Items) (x : A) → ps.describes vs x → ps.describes ws x → ps.image x ≡ Some ws → (one_or_more (one_or_array ws) ≡ Some ws)
+    × (items_count ws ≡ items_count vs))
     → LawfulPlaces A ps → Lawful A (one_or_many ps)
 one_or_many_laws {A} ps told l =
     record {
       unique = λ v x y p q. l.unique p.0 x y p.2 (subst (λ vs. ps.describes vs y) (some-one q.1 p.1) q.2);
       again = λ v x p.
           let a : AgainPlaces A ps p.0 x = l.again p.0 x p.2 in
-          let t : (one_or_more (one_or_array a.image) ≡ Some a.image) × (items_count a.image ≡ items_count p.0) = told p.0 a.image x p.2 a.described a.is_image in
+          let t : (one_or_more (one_or_array a.image) ≡ Some a.image) × (items_count a.image ≡ items_count p.0) =
+          told p.0 a.image x p.2 a.described a.is_image in
           record {
             image = one_or_array a.image;
             is_image = mapped-some one_or_array (ps.image x) a.image a.is_image;

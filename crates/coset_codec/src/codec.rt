@@ -10,8 +10,8 @@ ghost use Rattle.coset_codec.specs.ShapeLaws.{Lawful as LawfulShape};
 use crate::error::Result;
 use crate::read::{Input, Source};
 use crate::traits::{
-    AsCborValue, CborSerializable, FromPull, Lawful, TaggedCborSerializable, read_slice,
-    read_tagged_slice,
+    AsCborValue, CborSerializable, FromPull, Lawful, TaggedCborSerializable, read_any_slice,
+    read_slice, read_tagged_slice,
 };
 use crate::write::{Encode, encode_to_tagged_vec, encode_to_value, encode_to_vec};
 use coset_cbor::de::Pull;
@@ -135,6 +135,10 @@ impl<T: TaggedCodec> TaggedCborSerializable for T {
 
     fn from_tagged_slice(alloc: Global, s: &[u8]) -> Result<T> {
         read_tagged_slice(alloc, T::TAG_NUMBER, s)
+    }
+
+    fn from_any_slice(alloc: Global, s: &[u8]) -> Result<T> {
+        read_any_slice(alloc, T::TAG_NUMBER, s)
     }
 
     fn to_tagged_vec(self, alloc: Global) -> Result<Vec<u8>> {

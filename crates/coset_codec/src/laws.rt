@@ -1,9 +1,10 @@
 //! Laws of every type that is read and written. Each is the contract of a function that does nothing.
 
-ghost use Rattle.std.specs.Prelude.{◌≡◌, ◌↔◌, ◌≤◌, IsTrue, List, Result, ℕ};
+ghost use Rattle.std.specs.Prelude.{◌≡◌, ◌↔◌, ◌≤◌, ◌⊎◌, IsTrue, List, Result, ℕ};
 ghost use Rattle.coset_value.specs.Item.{Item, depth};
 ghost use Rattle.coset_cbor.specs.Grammar.{IsItem};
 ghost use Rattle.coset_codec.specs.Answers.{AllocatesForItems, Describes, Reads, ReadsSlice, RefusesItem};
+ghost use Rattle.coset_codec.specs.PerhapsTagged.{DescribesNoTag, perhaps_tagged};
 ghost use Rattle.coset_codec.specs.ReadAgain.{EncodesApart, ImagesApart, ReadsAgain, StaysAsWritten};
 ghost use Rattle.coset_codec.specs.Refusals.{NamesWholeFault};
 ghost use Rattle.coset_codec.specs.Shape.{tagged};
@@ -73,6 +74,22 @@ pub fn reads_again<T: Lawful>()
     ensures items { (v : Item) (x : T.Seen) → T.shape.describes v x → depth v ≤ 256
         → ReadsAgain T.shape x }
 {}
+
+/// What is read plain or under a tag, as `from_any_slice` does, is what is described plain or under the tag: all that is
+/// under the tag, and where the type describes no such tag itself, all that is plain. It is written and read again as
+/// itself.
+pub fn plain_or_tagged<T: Lawful>()
+    ensures either { (n : ℕ) (s : List ℕ) (x : T.Seen) → Describes (perhaps_tagged n T.shape) s x
+        → Describes T.shape s x ⊎ Describes (tagged n T.shape) s x }
+    ensures tagged { (n : ℕ) (s : List ℕ) (x : T.Seen) → Describes (tagged n T.shape) s x
+        → Describes (perhaps_tagged n T.shape) s x }
+    ensures plain { (n : ℕ) (s : List ℕ) (x : T.Seen) → DescribesNoTag n T.shape
+        → Describes T.shape s x → Describes (perhaps_tagged n T.shape) s x }
+    ensures again { (n : ℕ) (s : List ℕ) (x : T.Seen) → Describes (perhaps_tagged n T.shape) s x
+        → ReadsAgain T.shape x }
+{
+    reads_again::<T>();
+}
 
 /// Values that were read are written, both plain or both under one tag, as equal bytes, or as equal items, exactly
 /// where they are equal. Each may have come from bytes, under a tag or without, from a tree, from a lent item or as a

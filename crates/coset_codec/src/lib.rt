@@ -4,6 +4,7 @@
 
 pub mod codec;
 pub mod error;
+mod find;
 pub mod laws;
 pub mod read;
 mod repeats;
@@ -15,6 +16,7 @@ pub use codec::{Codec, TaggedCodec};
 pub use coset_cbor as cbor;
 pub use coset_cbor::EndOfFile;
 pub use error::{CallError, CoseError, Refused, Result};
+pub use find::find_value;
 pub use read::Source;
 pub use repeats::has_repeats;
 pub use traits::{AsCborValue, CborSerializable, FromPull, Lawful, TaggedCborSerializable};

@@ -6,6 +6,7 @@ mod in_place;
 mod input;
 mod list;
 mod map;
+mod places;
 mod source;
 
 pub use field::{Decode, set_field, set_filled};
@@ -13,4 +14,5 @@ pub use in_place::{InPlace, copy_bstr_to, make_room, next_place, push_empty};
 pub use input::{Input, InputItems, InputPairs, misfit};
 pub use list::{read_blamed_list, read_filled_list, read_list};
 pub use map::{Gather, read_map};
+pub use places::{DecodePlaces, decode_array, decode_four, decode_three, decode_two};
 pub use source::Source;

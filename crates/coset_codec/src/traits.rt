@@ -8,6 +8,7 @@ ghost use Rattle.coset_codec.specs.declared.error.CoseError.{CoseError};
 ghost use Rattle.coset_codec.specs.declared.error.CoseError.TheVariants.{OutOfMemory};
 ghost use Rattle.coset_codec.specs.Answers.{Reads, Images, Writes, ReadsSlice, ReadsWhole, Untags, AllocatesForItems, RefusesSlice};
 ghost use Rattle.coset_codec.specs.Inputs.{GoesBehind, ReadsAt, length_left, state};
+ghost use Rattle.coset_codec.specs.PerhapsTagged.{perhaps_tagged, untagged};
 ghost use Rattle.coset_codec.specs.Shape.{Shape, any, tagged};
 ghost use Rattle.coset_codec.specs.ShapeLaws.{Lawful as LawfulShape};
 
@@ -127,6 +128,22 @@ pub trait Lawful: AsCborValue {
     ghost laws: { LawfulShape Self.Seen Self.shape };
 }
 
+/// What a tag of that number encloses, and any other value as it is.
+fn value_without_tag(number: u64, value: Value) -> Value
+    ensures { view result ≡ untagged number (view value) }
+{
+    match value {
+        Value::Tag(found, inner) => {
+            if found == number {
+                Box::into_inner(inner)
+            } else {
+                Value::Tag(found, inner)
+            }
+        }
+        other => other,
+    }
+}
+
 /// Reading and writing under a tag of the type's own (RFC 8949, section 3.4).
 pub trait TaggedCborSerializable: AsCborValue {
     ghost TAG: { ℕ };
@@ -148,6 +165,21 @@ pub trait TaggedCborSerializable: AsCborValue {
             return Err(CoseError::UnexpectedItem("tag", "other tag"));
         }
         Self::from_cbor_value(alloc, Box::into_inner(value))
+    }
+
+    /// Reads a value from the one item that the bytes are: from what a tag of this number encloses, or where the item is
+    /// no such tag, from the item itself. So who takes both forms of a message (`COSE_Tagged_Message` and
+    /// `COSE_Untagged_Message` of RFC 8152, section 2) asks once.
+    ///
+    /// # Errors
+    /// The same as [`CborSerializable::from_slice`]: where the item is a tag of this number, a fault of what it encloses.
+    fn from_any_slice(alloc: Global, s: &[u8]) -> Result<Self>
+        ensures read { ReadsSlice (perhaps_tagged TAG Self.shape) Self.seen s.now result }
+        ensures refused { RefusesSlice (perhaps_tagged TAG Self.shape) s.now result }
+        ensures memory { AllocatesForItems s.now result }
+    {
+        let value = whole_value(alloc, s)?;
+        Self::from_cbor_value(alloc, value_without_tag(Self::TAG, value))
     }
 
     /// Writes the value as the shortest encoding of its item under the tag (RFC 8949, section 4.2.1).
@@ -264,4 +296,27 @@ pub fn read_tagged_slice<T: FromPull>(alloc: Global, number: u64, s: &[u8]) -> R
     ensures memory { AllocatesForItems s.now result }
 {
     T::from_pull(alloc, item_under_tag(number, whole_item(s)?)?)
+}
+
+/// What the tag of that number encloses, and any other item as it is.
+fn item_without_tag(number: u64, pull: Pull<'_>) -> Pull<'_>
+    ensures { pull_item result ≡ untagged number (pull_item pull.entry) }
+{
+    match pull.tag() {
+        Some((found, inner)) if found == number => inner,
+        _ => pull,
+    }
+}
+
+/// What `from_any_slice` is made of for a type that is read from lent bytes, plain or under the tag of that number. The
+/// answers are those of [`TaggedCborSerializable::from_any_slice`].
+///
+/// # Errors
+/// The same as [`TaggedCborSerializable::from_any_slice`].
+pub fn read_any_slice<T: FromPull>(alloc: Global, number: u64, s: &[u8]) -> Result<T>
+    ensures read { ReadsSlice (perhaps_tagged number T.shape) T.seen s.now result }
+    ensures refused { RefusesSlice (perhaps_tagged number T.shape) s.now result }
+    ensures memory { AllocatesForItems s.now result }
+{
+    T::from_pull(alloc, item_without_tag(number, whole_item(s)?))
 }

@@ -22,8 +22,10 @@ abbrev with_second : (h : Header) (ts : Signatures) → HeaderSeen
 with_second h ts = header_of (fields_level (out-Header h)) (signatures_of (map signature_seen (out-Header h).counter_signatures.items)) ts
 
 pub counter_signature-added :
-    (h : Header) (x : HeaderLevel) (s : CoseSignature) → fields_level x ≡ fields_level (out-Header h) → x.counter_signatures.items ≡ (out-Header h).counter_signatures.items ++ s ∷ []
-    → x.countersignatures_v2.items ≡ (out-Header h).countersignatures_v2.items → header_seen (roll-Header x) ≡ and_counter_signature (signature_seen s) (header_seen h)
+    (h : Header) (x : HeaderLevel) (s : CoseSignature) → fields_level x ≡ fields_level (out-Header h)
+    → x.counter_signatures.items ≡ (out-Header h).counter_signatures.items ++ s ∷ []
+    → x.countersignatures_v2.items ≡ (out-Header h).countersignatures_v2.items
+    → header_seen (roll-Header x) ≡ and_counter_signature (signature_seen s) (header_seen h)
 counter_signature-added h x s fields pushed others =
     let old : List CoseSignature = (out-Header h).counter_signatures.items in
     header-made x
@@ -33,8 +35,10 @@ counter_signature-added h x s fields pushed others =
     ∙ sym (ap (and_counter_signature (signature_seen s)) (header-opened h))
 
 pub countersignature-added :
-    (h : Header) (x : HeaderLevel) (s : CoseCountersignature) → fields_level x ≡ fields_level (out-Header h) → x.counter_signatures.items ≡ (out-Header h).counter_signatures.items
-    → x.countersignatures_v2.items ≡ (out-Header h).countersignatures_v2.items ++ s ∷ [] → header_seen (roll-Header x) ≡ and_countersignature_v2 (countersignature_seen s) (header_seen h)
+    (h : Header) (x : HeaderLevel) (s : CoseCountersignature) → fields_level x ≡ fields_level (out-Header h)
+    → x.counter_signatures.items ≡ (out-Header h).counter_signatures.items
+    → x.countersignatures_v2.items ≡ (out-Header h).countersignatures_v2.items ++ s ∷ []
+    → header_seen (roll-Header x) ≡ and_countersignature_v2 (countersignature_seen s) (header_seen h)
 countersignature-added h x s fields others pushed =
     let old : List CoseCountersignature = (out-Header h).countersignatures_v2.items in
     header-made x

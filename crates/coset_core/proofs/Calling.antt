@@ -8,7 +8,8 @@ use Rattle.coset_codec.specs.declared.error.CallError.{CallError}
 use Rattle.coset_codec.specs.declared.error.CallError.TheVariants.{Coset, Caller}
 use Rattle.coset_core.specs.Calls.{TriesToCreate}
 
-module _ {F V A B E : Type 0} (g : Once F (Bor (List ℕ) × Unit {0}) (Result V E)) (f : F) (o : Option Item) (kept : V → A → Type 0) (stores : V → B → Type 0) where
+module _ {F V A B E : Type 0} (g : Once F (Bor (List ℕ) × Unit {0}) (Result V E)) (f : F) (o : Option Item) (kept : V → A → Type 0)
+    (stores : V → B → Type 0) where
   refused : (e : CallError E) → TriesToCreate g f o kept (Err e) → TriesToCreate g f o stores (Err e)
   refused (Caller e) h = h
   refused (Coset e) h = h

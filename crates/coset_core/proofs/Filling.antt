@@ -30,7 +30,8 @@ pub record SoFar (all : Pairs) (o : Versions (Option Item)) (f : FieldsSeen) (t 
   pub within : PairsWithin m left t z
 
 pub at_held :
-    (version : Version) (all : Pairs) (o : Versions (Option Item)) (f : FieldsSeen) (s t z : State) (m n : InputPairs) (l : Label) → (w : SoFar all o f s z m) → NextsLabel w.left t z n (Ok (Some l)) → same_name (label_of version) (label_seen l) ≡ true
+    (version : Version) (all : Pairs) (o : Versions (Option Item)) (f : FieldsSeen) (s t z : State) (m n : InputPairs) (l : Label) → (w : SoFar all o f s z m)
+    → NextsLabel w.left t z n (Ok (Some l)) → same_name (label_of version) (label_seen l) ≡ true
     → AtHeld version all o f t z n
 at_held version all o f s t z m n l w h named = record {
   key = h.0;
@@ -43,11 +44,13 @@ at_held version all o f s t z m n l w h named = record {
   within = h.7;
 }
 
-pub at_end : (all : Pairs) (o : Versions (Option Item)) (f : FieldsSeen) (s t z : State) (m n : InputPairs) → (w : SoFar all o f s z m) → NextsLabel w.left t z n (Ok None) → AtEnd all o f t z n
+pub at_end : (all : Pairs) (o : Versions (Option Item)) (f : FieldsSeen) (s t z : State) (m n : InputPairs) → (w : SoFar all o f s z m)
+    → NextsLabel w.left t z n (Ok None) → AtEnd all o f t z n
 at_end all o f s t z m n w h = record { walks = subst (WalksTo all f o) h.0 w.walks; within = h.1 }
 
 pub at_key :
-    (all : Pairs) (o : Versions (Option Item)) (f : FieldsSeen) (s t z : State) (m n : InputPairs) (e : CoseError) → (w : SoFar all o f s z m) → NextsLabel w.left t z n (Err e) → AtFault all o f t z n e
+    (all : Pairs) (o : Versions (Option Item)) (f : FieldsSeen) (s t z : State) (m n : InputPairs) (e : CoseError) → (w : SoFar all o f s z m)
+    → NextsLabel w.left t z n (Err e) → AtFault all o f t z n e
 at_key all o f s t z m n e w h = record {
   key = h.0;
   value = h.1;
@@ -59,19 +62,23 @@ at_key all o f s t z m n e w h = record {
 
 -- a value that was read, and one that was refused
 pub on_value :
-    (all : Pairs) (o : Versions (Option Item)) (f g : FieldsSeen) (s t u z : State) (m n : InputPairs) (l : Label) → (w : SoFar all o f s z m) → NextsLabel w.left t z n (Ok (Some l))
+    (all : Pairs) (o : Versions (Option Item)) (f g : FieldsSeen) (s t u z : State) (m n : InputPairs) (l : Label) → (w : SoFar all o f s z m)
+    → NextsLabel w.left t z n (Ok (Some l))
     → ReadsAt t u (λ v. Adds names (fields (optional any) (optional any)) (label_seen l) v (parts_of (f, o)) (parts_of (g, o))) → SoFar all o g u z n
 on_value all o f g s t u z m n l w h takes =
     let here = takes h.1 h.3 h.6 in
     record {
       left = h.2;
-      walks = goes_on names names_laws (fields (optional any) (optional any)) partial_fields_laws all w.left h.2 h.0 h.1 (parts_of (f, o)) (parts_of (g, o)) w.walks h.4 (label_seen l, h.5, here.1);
+      walks = goes_on names names_laws (fields (optional any) (optional any)) partial_fields_laws all w.left h.2 h.0 h.1 (parts_of (f, o))
+          (parts_of (g, o)) w.walks h.4 (label_seen l, h.5, here.1);
       within = subst (λ y. PairsWithin n h.2 y z) (sym here.0) h.7;
     }
 
 pub at_value :
-    (all : Pairs) (o : Versions (Option Item)) (f g : FieldsSeen) (s t u z : State) (m n : InputPairs) (l : Label) (e : CoseError) → (w : SoFar all o f s z m) → NextsLabel w.left t z n (Ok (Some l)) → g ≡ f
-    → ReadsAt t u (λ v. UnlessMemory e (λ i. Refuses names (fields (optional any) (optional any)) (label_seen l) v (parts_of (f, o)) i ⊎ bars (label_seen l) (parts_of (f, o)) i)) → AtFault all o g u z n e
+    (all : Pairs) (o : Versions (Option Item)) (f g : FieldsSeen) (s t u z : State) (m n : InputPairs) (l : Label) (e : CoseError) → (w : SoFar all o f s z m)
+    → NextsLabel w.left t z n (Ok (Some l)) → g ≡ f
+    → ReadsAt t u (λ v. UnlessMemory e (λ i. Refuses names (fields (optional any) (optional any)) (label_seen l) v (parts_of (f, o)) i
+    ⊎ bars (label_seen l) (parts_of (f, o)) i)) → AtFault all o g u z n e
 at_value all o f g s t u z m n l e w h same refused =
     let here = refused h.1 h.3 h.6 in
     subst (λ x. AtFault all o x u z n e) (sym same) (record {
@@ -91,20 +98,23 @@ at_value all o f g s t u z m n l e w h same refused =
 
 -- an error that is passed on
 pub stops :
-    (all : Pairs) (o : Versions (Option Item)) (f : FieldsSeen) (t z : State) (n : InputPairs) (r : Result (Option Version) CoseError) (e : CoseError) → IsErrAnd r (λ x. x ≡ e) → AtFault all o f t z n e → FillsSome all o z f t n r
+    (all : Pairs) (o : Versions (Option Item)) (f : FieldsSeen) (t z : State) (n : InputPairs) (r : Result (Option Version) CoseError) (e : CoseError)
+    → IsErrAnd r (λ x. x ≡ e) → AtFault all o f t z n e → FillsSome all o z f t n r
 stops all o f t z n (Ok b) e h a = absurd h
 stops all o f t z n (Err x) e h a = subst (AtFault all o f t z n) (sym h) a
 
 -- ---- labels of the rest that repeat
 
-walked : (all : Pairs) (o : Versions (Option Item)) (f : FieldsSeen) (t z : State) (m : InputPairs) (r : Result (Option Version) CoseError) → FillsSome all o z f t m r → (left : Pairs) × WalksTo all f o left
+walked : (all : Pairs) (o : Versions (Option Item)) (f : FieldsSeen) (t z : State) (m : InputPairs) (r : Result (Option Version) CoseError)
+    → FillsSome all o z f t m r → (left : Pairs) × WalksTo all f o left
 walked all o f t z m (Ok (Some version)) s = (pair s.key s.value s.others, s.walks)
 walked all o f t z m (Ok None) s = (no_pairs, s.walks)
 walked all o f t z m (Err e) s = (pair s.key s.value s.others, s.walks)
 
 -- they don't
 pub distinct :
-    (all : Pairs) (o : Versions (Option Item)) (f : FieldsSeen) (t z : State) (m : InputPairs) (r : Result (Option Version) CoseError) → FillsSome all o z f t m r → IsDistinctRest f → FillsFields all o z f t m r
+    (all : Pairs) (o : Versions (Option Item)) (f : FieldsSeen) (t z : State) (m : InputPairs) (r : Result (Option Version) CoseError)
+    → FillsSome all o z f t m r → IsDistinctRest f → FillsFields all o z f t m r
 distinct all o f t z m (Ok (Some version)) s d = (s, d)
 distinct all o f t z m (Ok None) s d = (s, d)
 distinct all o f t z m (Err e) s d = (s.others, s.within, λ i. fault (s.faulty i))
@@ -112,18 +122,22 @@ distinct all o f t z m (Err e) s d = (s.others, s.within, λ i. fault (s.faulty 
     fault :
         RefusesKey names (fields (optional any) (optional any)) s.key s.value (parts_of (f, o)) e ⊎ BarsKey names bars s.key (parts_of (f, o)) e
         → GatherFaults names (fields (optional any) (optional any)) bars (dict all) e
-    fault (inl g) = inl (refuses names names_laws (fields (optional any) (optional any)) partial_fields_laws (dict all) all (pair s.key s.value s.others) s.others s.key s.value (parts_of (f, o)) e refl s.walks refl g)
+    fault (inl g) = inl (refuses names names_laws (fields (optional any) (optional any)) partial_fields_laws (dict all) all
+        (pair s.key s.value s.others) s.others s.key s.value (parts_of (f, o)) e refl s.walks refl g)
     fault (inr g) = inr (all, refl, record { key = s.key; value = s.value; left = s.others; before = parts_of (f, o); walked = s.walks; barred = g })
 
 -- they do, or there was no memory to ask
 pub repeats :
-    (all : Pairs) (o : Versions (Option Item)) (f : FieldsSeen) (s t z : State) (m : InputPairs) (r q : Result (Option Version) CoseError) (e : CoseError) → FillsSome all o z f s m r
-    → UnlessMemory e (λ i. (i ≡ DuplicateMapKey) × (are_distinct same_name (keys_of f.rest) ≡ false)) → ((left : Pairs) × PairsWithin m left t z) × IsErrAnd q (λ i. i ≡ e) → FillsFields all o z f t m q
+    (all : Pairs) (o : Versions (Option Item)) (f : FieldsSeen) (s t z : State) (m : InputPairs) (r q : Result (Option Version) CoseError) (e : CoseError)
+    → FillsSome all o z f s m r
+    → UnlessMemory e (λ i. (i ≡ DuplicateMapKey) × (are_distinct same_name (keys_of f.rest) ≡ false)) → ((left : Pairs) × PairsWithin m left t z)
+    × IsErrAnd q (λ i. i ≡ e) → FillsFields all o z f t m q
 repeats all o f s t z m r (Ok b) e w named p = absurd p.1
 repeats all o f s t z m r (Err i) e w named p =
     (p.0.0, p.0.1, subst (λ x. UnlessMemory x (GatherFaults names (fields (optional any) (optional any)) bars (dict all))) (sym p.1) (λ n. fault (named n)))
   where
-    fault : (e ≡ DuplicateMapKey) × (are_distinct same_name (keys_of f.rest) ≡ false) → GatherFaults names (fields (optional any) (optional any)) bars (dict all) e
+    fault : (e ≡ DuplicateMapKey) × (are_distinct same_name (keys_of f.rest) ≡ false)
+        → GatherFaults names (fields (optional any) (optional any)) bars (dict all) e
     fault h =
         let k = walked all o f s z m r w in
         subst (GatherFaults names (fields (optional any) (optional any)) bars (dict all)) (sym h.0)

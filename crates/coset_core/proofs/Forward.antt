@@ -1,5 +1,6 @@
 -- Headers and signatures read forward, from what their parts answer.
-use Rattle.std.proofs.Common.{◌≡◌, ℕ, Bool, List, [], ◌∷◌, map, true, false, true≢false, Option, Some, None, Result, Ok, Err, refl, sym, ap, subst, ◌∙◌, inl, inr}
+use Rattle.std.proofs.Common.{◌≡◌, ℕ, Bool, List, [], ◌∷◌, map, true, false, true≢false, Option, Some, None, Result, Ok, Err, refl, sym, ap, subst, ◌∙◌, inl}
+use Rattle.std.proofs.Common.{inr}
 use Rattle.std.specs.Prelude.{IsErrAnd}
 use Rattle.coset_value.specs.Item.{Item, bytes, array, dict, Items, no_items, item, Pairs, no_pairs, pair}
 use Rattle.coset_value.specs.Parts.{as_array, as_bytes, as_map}
@@ -17,13 +18,16 @@ use Rattle.coset_codec.proofs.Walking.{sets_out, goes_on, arrives, refuses}
 use Rattle.coset_label.specs.Labels.{label}
 use Rattle.coset_core.specs.FieldLabels as labels
 use Rattle.coset_codec.specs.InPlace.{Fills, FillsEach}
-use Rattle.coset_core.specs.Fields.{FieldsSeen, Versions, empty_fields, names, fields, parts_of, bars, HasOneIv, partial_header, HoldsSignatures, SomeCounterSignatures}
+use Rattle.coset_core.specs.Fields.{FieldsSeen, Versions, empty_fields, names, fields, parts_of, bars, HasOneIv, partial_header, HoldsSignatures}
+use Rattle.coset_core.specs.Fields.{SomeCounterSignatures}
 use Rattle.coset_core.specs.FieldLaws.{names_laws, partial_fields_laws, join, barred_fault}
 use Rattle.coset_core.specs.FieldsView.{signatures_held, fields_seen, counter_signatures_held, countersignatures_held}
-use Rattle.coset_core.specs.Filling.{WalksTo, AtHeld, AtEnd, FillsFields, IsDistinctRest, Keeps, BeginsPlaces, EndsPlaces, FirstPlace, label_of, at_version, with_version, held, held_of}
+use Rattle.coset_core.specs.Filling.{WalksTo, AtHeld, AtEnd, FillsFields, IsDistinctRest, Keeps, BeginsPlaces, EndsPlaces, FirstPlace, label_of, at_version}
+use Rattle.coset_core.specs.Filling.{with_version, held, held_of}
 use Rattle.coset_core.specs.HeaderAgain.{array-is, bytes-is, never_none}
 use Rattle.coset_core.specs.HeaderReads.{partial_header_fault, counter_signatures_fault}
-use Rattle.coset_core.specs.Headers.{HeaderSeen, fields_in, counter_signatures_in, countersignatures_in, SignatureSeen, empty_header, layered_header, layered_protected, layered_signature, signatures_within}
+use Rattle.coset_core.specs.Headers.{HeaderSeen, fields_in, counter_signatures_in, countersignatures_in, SignatureSeen, empty_header, layered_header}
+use Rattle.coset_core.specs.Headers.{layered_protected, layered_signature, signatures_within}
 use Rattle.coset_core.specs.ViewLaws.{header-opened}
 use Rattle.coset_core.specs.Views.{countersignature_seen, header_seen, signature_seen}
 use Rattle.coset_core.specs.declared.header.Header.{Header}
@@ -41,7 +45,8 @@ unfolding partial_header
 no_map v e m u = inl (inl (m, u))
 
 pub not_entered :
-    (k : ℕ) (v : Item) (h : HeaderSeen) (t z : State) (r : Result (Unit {0}) Refused) (e : CoseError) (y : Refused) → IsErrAnd r (λ f. f ≡ y) → EntersMap v t z (Err e) → (t ≡ z) × Fills (layered_header k) v h (answer e r)
+    (k : ℕ) (v : Item) (h : HeaderSeen) (t z : State) (r : Result (Unit {0}) Refused) (e : CoseError) (y : Refused) → IsErrAnd r (λ f. f ≡ y)
+    → EntersMap v t z (Err e) → (t ≡ z) × Fills (layered_header k) v h (answer e r)
 not_entered k v h t z r e y is m = (m.0, not_filled (layered_header k) h v r e y is (λ _. partial_header_fault k v e (no_map v e m.1 m.2)))
 
 -- an empty header, of whose pairs none was read
@@ -60,7 +65,8 @@ one_iv_yet h e = inl (ap (λ f. f.iv) (fields_opened h e))
 set_out : (h : Header) (all : Pairs) → header_seen h ≡ empty_header → WalksTo all (fields_seen h) (None, None) all
 set_out h all e =
     subst (λ f. WalksTo all f (None, None) all) (sym (fields_opened h e))
-    (sets_out names names_laws (fields (optional any) (optional any)) partial_fields_laws all (parts_of (empty_fields, (None, None))) (refl, (refl, (refl, (refl, (refl, (refl, (refl, (refl, (refl, tt))))))))) refl)
+    (sets_out names names_laws (fields (optional any) (optional any)) partial_fields_laws all (parts_of (empty_fields, (None, None)))
+    (refl, (refl, (refl, (refl, (refl, (refl, (refl, (refl, (refl, tt))))))))) refl)
 
 -- a fault of the pairs
 gather_fault : (v : Item) (e : CoseError) → GatherFaults names (fields (optional any) (optional any)) bars v e → partial_header.faults v e
@@ -81,7 +87,8 @@ pub record HeaderSoFar (k : ℕ) (all : Pairs) (h : Header) (t z : State) (m : I
   pub second : (listed (signatures_within k)).describes values.1 (held h).1
 
 -- none was read
-pub so_far_none : (k : ℕ) (all : Pairs) (h : Header) (t z : State) (m : InputPairs) → header_seen h ≡ empty_header → PairsWithin m all t z → HeaderSoFar k all h t z m
+pub so_far_none : (k : ℕ) (all : Pairs) (h : Header) (t z : State) (m : InputPairs) → header_seen h ≡ empty_header → PairsWithin m all t z
+    → HeaderSoFar k all h t z m
 so_far_none k all h t z m e within = record {
   values = (None, None);
   left = all;
@@ -93,24 +100,35 @@ so_far_none k all h t z m e within = record {
 
 -- the next pairs are at fault
 pub pairs_refused :
-    (k : ℕ) (all : Pairs) (o : Versions (Option Item)) (z : State) (f : FieldsSeen) (t : State) (m : InputPairs) (h : HeaderSeen) (r : Result (Unit {0}) Refused) (e : CoseError) (y : Refused) → IsErrAnd r (λ i. i ≡ y)
+    (k : ℕ) (all : Pairs) (o : Versions (Option Item)) (z : State) (f : FieldsSeen) (t : State) (m : InputPairs) (h : HeaderSeen)
+    (r : Result (Unit {0}) Refused) (e : CoseError) (y : Refused) → IsErrAnd r (λ i. i ≡ y)
     → FillsFields all o z f t m (Err e) → Passed m t z × Fills (layered_header k) (dict all) h (answer e r)
-pairs_refused k all o z f t m h r e y is p = ((p.0, p.1), not_filled (layered_header k) h (dict all) r e y is (λ n. partial_header_fault k (dict all) e (gather_fault (dict all) e (p.2 n))))
+pairs_refused k all o z f t m h r e y is p = (
+  (p.0, p.1),
+  not_filled (layered_header k) h (dict all) r e y is (λ n. partial_header_fault k (dict all) e (gather_fault (dict all) e (p.2 n))),
+)
 
 -- all pairs were read
-unread_all : (all : Pairs) (o : Versions (Option Item)) (f : FieldsSeen) (t z : State) (m : InputPairs) → AtEnd all o f t z m → IsDistinctRest f → HasOneIv f → partial_header.describes (dict all) (f, o)
+unread_all : (all : Pairs) (o : Versions (Option Item)) (f : FieldsSeen) (t z : State) (m : InputPairs) → AtEnd all o f t z m → IsDistinctRest f → HasOneIv f
+    → partial_header.describes (dict all) (f, o)
 unfolding partial_header
-unread_all all o f t z m p d one = (arrives names names_laws (fields (optional any) (optional any)) partial_fields_laws (dict all) all no_pairs (parts_of (f, o)) refl p.walks refl d, one)
+unread_all all o f t z m p d one = (
+  arrives names names_laws (fields (optional any) (optional any)) partial_fields_laws (dict all) all no_pairs
+      (parts_of (f, o)) refl p.walks refl d,
+  one,
+)
 
 pub ends :
-    (k : ℕ) (all : Pairs) (z : State) (g h : Header) (s t : State) (m n : InputPairs) → (p : HeaderSoFar k all g s z m) → FillsFields all p.values z (fields_seen h) t n (Ok None) → HasOneIv (fields_seen h) → signatures_held h ≡ signatures_held g
+    (k : ℕ) (all : Pairs) (z : State) (g h : Header) (s t : State) (m n : InputPairs) → (p : HeaderSoFar k all g s z m)
+    → FillsFields all p.values z (fields_seen h) t n (Ok None) → HasOneIv (fields_seen h) → signatures_held h ≡ signatures_held g
     → Passed n t z × (layered_header k).describes (dict all) (header_seen h)
 ends k all z g h s t m n p q one same =
     let first = subst (λ xs. (listed (signatures_within k)).describes p.values.0 (map signature_seen xs)) (sym (ap (λ x. x.0) same)) p.first in
     let second = subst (λ xs. (listed (signatures_within k)).describes p.values.1 (map countersignature_seen xs)) (sym (ap (λ x. x.1) same)) p.second in (
       (no_pairs, q.0.within),
       header_whole k (dict all) (header_seen h) (fields_seen h) (held h).0 (held h).1
-          (join (listed (signatures_within k)) (listed (signatures_within k)) (dict all) (fields_seen h) p.values (held h) (unread_all all p.values (fields_seen h) t z n q.0 q.1 one) first second) (header-opened h),
+          (join (listed (signatures_within k)) (listed (signatures_within k)) (dict all) (fields_seen h) p.values (held h)
+          (unread_all all p.values (fields_seen h) t z n q.0 q.1 one) first second) (header-opened h),
     )
 
 -- one of some pairs
@@ -122,23 +140,33 @@ named : (version : Version) (key : Item) → label.describes key (label_of versi
 named V1 key h = inl h
 named V2 key h = inr h
 
-held_there : (version : Version) (all : Pairs) (o : Versions (Option Item)) (f : FieldsSeen) (t z : State) (m : InputPairs) → (s : AtHeld version all o f t z m) → SomeCounterSignatures (λ u. u ≡ s.value) (dict all)
-held_there version all o f t z m s =
-    (all, refl, subst (SomePair (λ j w. HoldsSignatures j × (w ≡ s.value))) (sym s.walks.parts) (some_there (λ j w. HoldsSignatures j × (w ≡ s.value)) s.walks.done s.others s.key s.value (named version s.key s.held, refl)))
+held_there : (version : Version) (all : Pairs) (o : Versions (Option Item)) (f : FieldsSeen) (t z : State) (m : InputPairs) → (s : AtHeld version all o f t z m)
+    → SomeCounterSignatures (λ u. u ≡ s.value) (dict all)
+held_there version all o f t z m s = (
+  all,
+  refl,
+  subst (SomePair (λ j w. HoldsSignatures j × (w ≡ s.value))) (sym s.walks.parts)
+      (some_there (λ j w. HoldsSignatures j × (w ≡ s.value)) s.walks.done s.others s.key s.value (named version s.key s.held, refl)),
+)
 
 -- the value was refused, or there was no memory to keep what was read of it
 pub counter_signatures_refused :
-    (version : Version) (k : ℕ) (all : Pairs) (o : Versions (Option Item)) (f : FieldsSeen) (t u z : State) (m : InputPairs) (xs : List SignatureSeen) (h : HeaderSeen) (r : Result (Unit {0}) Refused) (e : CoseError) (y : Refused)
-    → IsErrAnd r (λ i. i ≡ y) → AtHeld version all o f t z m → ((w : Item) (x : State) → Stands w t x → (u ≡ x) × Fills (signatures_within k) w xs (Err e)) → Passed m u z × Fills (layered_header k) (dict all) h (answer e r)
+    (version : Version) (k : ℕ) (all : Pairs) (o : Versions (Option Item)) (f : FieldsSeen) (t u z : State) (m : InputPairs) (xs : List SignatureSeen)
+    (h : HeaderSeen) (r : Result (Unit {0}) Refused) (e : CoseError) (y : Refused)
+    → IsErrAnd r (λ i. i ≡ y) → AtHeld version all o f t z m → ((w : Item) (x : State) → Stands w t x → (u ≡ x) × Fills (signatures_within k) w xs (Err e))
+    → Passed m u z × Fills (layered_header k) (dict all) h (answer e r)
 counter_signatures_refused version k all o f t u z m xs h r e y is s read =
     let here = read s.value s.mid s.stands in (
       (s.others, subst (λ x. PairsWithin m s.others x z) (sym here.0) s.within),
-      not_filled (layered_header k) h (dict all) r e y is (λ n. counter_signatures_fault k (dict all) s.value e (held_there version all o f t z m s) (here.1 n)),
+      not_filled (layered_header k) h (dict all) r e y is
+          (λ n. counter_signatures_fault k (dict all) s.value e (held_there version all o f t z m s) (here.1 n)),
     )
 
 pub not_kept :
-    (version : Version) (k : ℕ) (all : Pairs) (o : Versions (Option Item)) (f : FieldsSeen) (t u z : State) (m : InputPairs) (xs : List SignatureSeen) (h : HeaderSeen) (r : Result (Unit {0}) Refused) (e : CoseError) (y : Refused)
-    → IsErrAnd r (λ i. i ≡ y) → AtHeld version all o f t z m → ((w : Item) (x : State) → Stands w t x → (u ≡ x) × (signatures_within k).describes w xs) → e ≡ OutOfMemory → Passed m u z × Fills (layered_header k) (dict all) h (answer e r)
+    (version : Version) (k : ℕ) (all : Pairs) (o : Versions (Option Item)) (f : FieldsSeen) (t u z : State) (m : InputPairs) (xs : List SignatureSeen)
+    (h : HeaderSeen) (r : Result (Unit {0}) Refused) (e : CoseError) (y : Refused)
+    → IsErrAnd r (λ i. i ≡ y) → AtHeld version all o f t z m → ((w : Item) (x : State) → Stands w t x → (u ≡ x) × (signatures_within k).describes w xs)
+    → e ≡ OutOfMemory → Passed m u z × Fills (layered_header k) (dict all) h (answer e r)
 not_kept version k all o f t u z m xs h r e y is s read memory =
     let here = read s.value s.mid s.stands in (
       (s.others, subst (λ x. PairsWithin m s.others x z) (sym here.0) s.within),
@@ -147,13 +175,16 @@ not_kept version k all o f t u z m xs h r e y is s read memory =
 
 -- the value was read, and is kept
 taken :
-    (version : Version) (all : Pairs) (f : FieldsSeen) (o : Versions (Option Item)) (key value : Item) (others : Pairs) → WalksTo all f o (pair key value others) → label.describes key (label_of version) → at_version version o ≡ None
+    (version : Version) (all : Pairs) (f : FieldsSeen) (o : Versions (Option Item)) (key value : Item) (others : Pairs)
+    → WalksTo all f o (pair key value others) → label.describes key (label_of version) → at_version version o ≡ None
     → WalksTo all f (with_version version (Some value) o) others
 taken V1 all f o key value others w h none =
-    goes_on names names_laws (fields (optional any) (optional any)) partial_fields_laws all (pair key value others) others key value (parts_of (f, o)) (parts_of (f, (Some value, o.1))) w refl
+    goes_on names names_laws (fields (optional any) (optional any)) partial_fields_laws all (pair key value others) others key value (parts_of (f, o))
+    (parts_of (f, (Some value, o.1))) w refl
     (labels.counter_signature, h, ((refl, (refl, (refl, (refl, (refl, (refl, (none, refl, refl))))))), refl))
 taken V2 all f o key value others w h none =
-    goes_on names names_laws (fields (optional any) (optional any)) partial_fields_laws all (pair key value others) others key value (parts_of (f, o)) (parts_of (f, (o.0, Some value))) w refl
+    goes_on names names_laws (fields (optional any) (optional any)) partial_fields_laws all (pair key value others) others key value (parts_of (f, o))
+    (parts_of (f, (o.0, Some value))) w refl
     (labels.countersignature_v2, h, ((refl, (refl, (refl, (refl, (refl, (refl, (refl, (none, refl, refl)))))))), refl))
 
 never_empty : (k : ℕ) (w : Item) → (signatures_within k).describes w [] → ⊥
@@ -170,8 +201,10 @@ no_value k (Some w) [] d e = absurd (never_empty k w d)
 no_value k (Some w) (x ∷ xs) d e = absurd (true≢false e)
 
 pub so_far_more :
-    (version : Version) (k : ℕ) (all : Pairs) (g h i : Header) (s t u z : State) (m n : InputPairs) (xs : List SignatureSeen) → (p : HeaderSoFar k all g s z m) → AtHeld version all p.values (fields_seen h) t z n → signatures_held h ≡ signatures_held g
-    → is_filled (held_of version h) ≡ false → ((w : Item) (y : State) → Stands w t y → (u ≡ y) × (signatures_within k).describes w xs) → Keeps version xs h i → HeaderSoFar k all i u z n
+    (version : Version) (k : ℕ) (all : Pairs) (g h i : Header) (s t u z : State) (m n : InputPairs) (xs : List SignatureSeen) → (p : HeaderSoFar k all g s z m)
+    → AtHeld version all p.values (fields_seen h) t z n → signatures_held h ≡ signatures_held g
+    → is_filled (held_of version h) ≡ false → ((w : Item) (y : State) → Stands w t y → (u ≡ y) × (signatures_within k).describes w xs) → Keeps version xs h i
+    → HeaderSoFar k all i u z n
 so_far_more V1 k all g h i s t u z m n xs p at same empty read kept =
     let here = read at.value at.mid at.stands in
     let first = subst (λ ys. (listed (signatures_within k)).describes p.values.0 (map signature_seen ys)) (sym (ap (λ x. x.0) same)) p.first in
@@ -179,7 +212,8 @@ so_far_more V1 k all g h i s t u z m n xs p at same empty read kept =
     record {
       values = (Some at.value, p.values.1);
       left = at.others;
-      walks = subst (λ f. WalksTo all f (Some at.value, p.values.1) at.others) (sym kept.fields) (taken V1 all (fields_seen h) p.values at.key at.value at.others at.walks at.held (no_value k p.values.0 (held h).0 first empty));
+      walks = subst (λ f. WalksTo all f (Some at.value, p.values.1) at.others) (sym kept.fields)
+          (taken V1 all (fields_seen h) p.values at.key at.value at.others at.walks at.held (no_value k p.values.0 (held h).0 first empty));
       within = subst (λ y. PairsWithin n at.others y z) (sym here.0) at.within;
       first = subst (λ x. (listed (signatures_within k)).describes (Some at.value) x.0) (sym kept.signatures) here.1;
       second = subst (λ x. (listed (signatures_within k)).describes p.values.1 x.1) (sym kept.signatures) second;
@@ -191,7 +225,8 @@ so_far_more V2 k all g h i s t u z m n xs p at same empty read kept =
     record {
       values = (p.values.0, Some at.value);
       left = at.others;
-      walks = subst (λ f. WalksTo all f (p.values.0, Some at.value) at.others) (sym kept.fields) (taken V2 all (fields_seen h) p.values at.key at.value at.others at.walks at.held (no_value k p.values.1 (held h).1 second empty));
+      walks = subst (λ f. WalksTo all f (p.values.0, Some at.value) at.others) (sym kept.fields)
+          (taken V2 all (fields_seen h) p.values at.key at.value at.others at.walks at.held (no_value k p.values.1 (held h).1 second empty));
       within = subst (λ y. PairsWithin n at.others y z) (sym here.0) at.within;
       first = subst (λ x. (listed (signatures_within k)).describes p.values.0 x.0) (sym kept.signatures) first;
       second = subst (λ x. (listed (signatures_within k)).describes (Some at.value) x.1) (sym kept.signatures) here.1;
@@ -202,30 +237,40 @@ some_value : (k : ℕ) (o : Option Item) (xs : List SignatureSeen) → (listed (
 some_value k None xs d e none = absurd (true≢false (sym e ∙ ap is_filled d))
 some_value k (Some w) xs d e none = absurd (cc)
 
-repeated : (version : Version) (all : Pairs) (f : FieldsSeen) (o : Versions (Option Item)) (key value : Item) (others : Pairs) → WalksTo all f o (pair key value others) → label.describes key (label_of version) → (at_version version o ≡ None → ⊥)
+repeated : (version : Version) (all : Pairs) (f : FieldsSeen) (o : Versions (Option Item)) (key value : Item) (others : Pairs)
+    → WalksTo all f o (pair key value others) → label.describes key (label_of version) → (at_version version o ≡ None → ⊥)
     → (labelled names (fields (optional any) (optional any))).faults (dict all) DuplicateMapKey
 repeated V1 all f o key value others w h some =
-    refuses names names_laws (fields (optional any) (optional any)) partial_fields_laws (dict all) all (pair key value others) others key value (parts_of (f, o)) DuplicateMapKey refl w refl (inr (labels.counter_signature, h, inl (some, refl)))
+    refuses names names_laws (fields (optional any) (optional any)) partial_fields_laws (dict all) all (pair key value others) others key value
+    (parts_of (f, o)) DuplicateMapKey refl w refl (inr (labels.counter_signature, h, inl (some, refl)))
 repeated V2 all f o key value others w h some =
-    refuses names names_laws (fields (optional any) (optional any)) partial_fields_laws (dict all) all (pair key value others) others key value (parts_of (f, o)) DuplicateMapKey refl w refl (inr (labels.countersignature_v2, h, inl (some, refl)))
+    refuses names names_laws (fields (optional any) (optional any)) partial_fields_laws (dict all) all (pair key value others) others key value
+    (parts_of (f, o)) DuplicateMapKey refl w refl (inr (labels.countersignature_v2, h, inl (some, refl)))
 
 pub second_refused :
-    (version : Version) (k : ℕ) (all : Pairs) (g h : Header) (s t u z : State) (m n : InputPairs) (x : HeaderSeen) (r : Result (Unit {0}) CoseError) → (p : HeaderSoFar k all g s z m) → AtHeld version all p.values (fields_seen h) t z n → signatures_held h ≡ signatures_held g
-    → is_filled (held_of version h) ≡ true → ((w : Item) (y : State) → Stands w t y → (u ≡ y) × (r ≡ Err DuplicateMapKey)) → Passed n u z × Fills (layered_header k) (dict all) x r
+    (version : Version) (k : ℕ) (all : Pairs) (g h : Header) (s t u z : State) (m n : InputPairs) (x : HeaderSeen) (r : Result (Unit {0}) CoseError)
+    → (p : HeaderSoFar k all g s z m) → AtHeld version all p.values (fields_seen h) t z n → signatures_held h ≡ signatures_held g
+    → is_filled (held_of version h) ≡ true → ((w : Item) (y : State) → Stands w t y → (u ≡ y) × (r ≡ Err DuplicateMapKey)) → Passed n u z
+    × Fills (layered_header k) (dict all) x r
 second_refused version k all g h s t u z m n x r p at same filled read =
     let here = read at.value at.mid at.stands in (
       (at.others, subst (λ y. PairsWithin n at.others y z) (sym here.0) at.within),
       subst (Fills (layered_header k) (dict all) x) (sym here.1)
-          (λ _. partial_header_fault k (dict all) DuplicateMapKey (gather_fault (dict all) DuplicateMapKey (inl (repeated version all (fields_seen h) p.values at.key at.value at.others at.walks at.held (there version filled))))),
+          (λ _. partial_header_fault k (dict all) DuplicateMapKey
+          (gather_fault (dict all) DuplicateMapKey
+          (inl (repeated version all (fields_seen h) p.values at.key at.value at.others at.walks at.held (there version filled))))),
     )
   where
     there : (version : Version) → is_filled (held_of version h) ≡ true → at_version version p.values ≡ None → ⊥
-    there V1 filled = some_value k p.values.0 (held h).0 (subst (λ ys. (listed (signatures_within k)).describes p.values.0 (map signature_seen ys)) (sym (ap (λ x. x.0) same)) p.first) filled
-    there V2 filled = some_value k p.values.1 (held h).1 (subst (λ ys. (listed (signatures_within k)).describes p.values.1 (map countersignature_seen ys)) (sym (ap (λ x. x.1) same)) p.second) filled
+    there V1 filled = some_value k p.values.0 (held h).0
+        (subst (λ ys. (listed (signatures_within k)).describes p.values.0 (map signature_seen ys)) (sym (ap (λ x. x.0) same)) p.first) filled
+    there V2 filled = some_value k p.values.1 (held h).1
+        (subst (λ ys. (listed (signatures_within k)).describes p.values.1 (map countersignature_seen ys)) (sym (ap (λ x. x.1) same)) p.second) filled
 
 -- ---- one, or several
 
-ones_of : {A : Type 0} (s : Shape A) (v : Item) (vs : Items) (xs : List A) (r : Result (Unit {0}) CoseError) → one_or_more v ≡ Some vs → FillsEach s vs xs r → Fills (one_or_many (any_number s)) v xs r
+ones_of : {A : Type 0} (s : Shape A) (v : Item) (vs : Items) (xs : List A) (r : Result (Unit {0}) CoseError) → one_or_more v ≡ Some vs → FillsEach s vs xs r
+    → Fills (one_or_many (any_number s)) v xs r
 ones_of s v vs xs (Ok u) e p = (vs, e, p)
 ones_of s v vs xs (Err i) e p = λ n. inr (vs, e, inr (λ m. m, p n))
 
@@ -240,25 +285,30 @@ begins_more (item (array ws) vs) b = refl
 begins_more (item _ vs) b = absurd (cc)
 
 pub one_filled :
-    {A : Type 0} (s : Shape A) (v : Item) (vs : Items) (xs : List A) (r : Result (Unit {0}) CoseError) → as_array v ≡ Some vs → Begins vs true → FillsEach s (item (array vs) no_items) xs r
+    {A : Type 0} (s : Shape A) (v : Item) (vs : Items) (xs : List A) (r : Result (Unit {0}) CoseError) → as_array v ≡ Some vs → Begins vs true
+    → FillsEach s (item (array vs) no_items) xs r
     → Fills (one_or_many (any_number s)) v xs r
 one_filled s v vs xs r e b p = ones_of s v (item (array vs) no_items) xs r (ap one_or_more (array-is v vs e) ∙ begins_one vs b) p
 
 pub more_filled :
-    {A : Type 0} (s : Shape A) (v : Item) (vs : Items) (xs : List A) (r : Result (Unit {0}) CoseError) → as_array v ≡ Some vs → Begins vs false → FillsEach s vs xs r → Fills (one_or_many (any_number s)) v xs r
+    {A : Type 0} (s : Shape A) (v : Item) (vs : Items) (xs : List A) (r : Result (Unit {0}) CoseError) → as_array v ≡ Some vs → Begins vs false
+    → FillsEach s vs xs r → Fills (one_or_many (any_number s)) v xs r
 more_filled s v vs xs r e b p = ones_of s v vs xs r (ap one_or_more (array-is v vs e) ∙ begins_more vs b) p
 
 -- ---- a signature's places
 
 pub places_refused :
-    (k : ℕ) (vs : Items) (t z : State) (m : InputItems) (o : Option (List ℕ)) (f : CoseError) (x : SignatureSeen) (r : Result (Unit {0}) Refused) (e : CoseError) (y : Refused) → IsErrAnd r (λ i. i ≡ y) → BeginsPlaces vs t z m o f (Err e)
+    (k : ℕ) (vs : Items) (t z : State) (m : InputItems) (o : Option (List ℕ)) (f : CoseError) (x : SignatureSeen) (r : Result (Unit {0}) Refused)
+    (e : CoseError) (y : Refused) → IsErrAnd r (λ i. i ≡ y) → BeginsPlaces vs t z m o f (Err e)
     → ((left : Items) × AreWithin m left t z) × Fills (layered_signature k) (array vs) x (answer e r)
 places_refused k vs t z m o f x r e y is b = ((b.0, b.1), not_filled (layered_signature k) x (array vs) r e y is (b.2 k))
 
 -- the first place was read, and is no byte string
 pub first_refused :
-    (vs : Items) (s t x z : State) (m n : InputItems) (e : CoseError) → Nexts vs s z m true → ReadsAt s t (λ v. UnlessMemory e (bstr.faults v)) → ((us : Items) → AreWithin m us t z → Nexts us x z n true)
-    → (w : Item) × (u : Item) × (others : Items) × (mid : State) × (vs ≡ item w (item u others)) × Stands u x mid × AreWithin n others mid z × ((k : ℕ) → UnlessMemory e ((layered_protected k).faults w))
+    (vs : Items) (s t x z : State) (m n : InputItems) (e : CoseError) → Nexts vs s z m true → ReadsAt s t (λ v. UnlessMemory e (bstr.faults v))
+    → ((us : Items) → AreWithin m us t z → Nexts us x z n true)
+    → (w : Item) × (u : Item) × (others : Items) × (mid : State) × (vs ≡ item w (item u others)) × Stands u x mid × AreWithin n others mid z
+    × ((k : ℕ) → UnlessMemory e ((layered_protected k).faults w))
 first_refused vs s t x z m n e p read next =
     let here = read p.0 p.2 p.4 in
     let b = next p.1 (subst (λ y. AreWithin m p.1 y z) (sym here.0) p.5) in
@@ -275,7 +325,8 @@ pub record Second (vs : Items) (o : Option (List ℕ)) (f : CoseError) (b : Bool
   pub holds : P second
 
 pub second_read :
-    (vs : Items) (t u z : State) (m : InputItems) (o : Option (List ℕ)) (f : CoseError) (b : Bool) (P : Item → Type 0) → BeginsPlaces vs t z m o f (Ok b) → ((v : Item) (y : State) → Stands v t y → (u ≡ y) × P v)
+    (vs : Items) (t u z : State) (m : InputItems) (o : Option (List ℕ)) (f : CoseError) (b : Bool) (P : Item → Type 0) → BeginsPlaces vs t z m o f (Ok b)
+    → ((v : Item) (y : State) → Stands v t y → (u ≡ y) × P v)
     → Second vs o f b u z m P
 second_read vs t u z m o f b P q read =
     let here = read q.1 q.3 q.5 in
@@ -283,7 +334,8 @@ second_read vs t u z m o f b P q read =
 
 -- the third place is the last, and no byte string
 pub third_refused :
-    (vs : Items) (s t x z : State) (m n : InputItems) (b : List ℕ) (r : Result (Unit {0}) Refused) (e : CoseError) (y : Refused) → IsErrAnd r (λ i. i ≡ y) → Nexts vs s z m true → ReadsAt s t (λ v. UnlessMemory e (bstr.faults v))
+    (vs : Items) (s t x z : State) (m n : InputItems) (b : List ℕ) (r : Result (Unit {0}) Refused) (e : CoseError) (y : Refused) → IsErrAnd r (λ i. i ≡ y)
+    → Nexts vs s z m true → ReadsAt s t (λ v. UnlessMemory e (bstr.faults v))
     → ((us : Items) → AreWithin m us t z → Nexts us x z n false) → EndsPlaces vs x z n b (answer e r)
 third_refused vs s t x z m n b (Ok u) e y is p read none = absurd is
 third_refused vs s t x z m n b (Err f) e y is p read none =
@@ -297,21 +349,26 @@ third_refused vs s t x z m n b (Err f) e y is p read none =
     )
 
 pub last_refused :
-    (k : ℕ) (vs : Items) (u w z : State) (m n : InputItems) (o : Option (List ℕ)) (f : CoseError) (i : Bool) (P : Item → Type 0) (b : List ℕ) (x : SignatureSeen) (r : Result (Unit {0}) Refused) (e : CoseError) (y : Refused)
-    → IsErrAnd r (λ j. j ≡ y) → (s : Second vs o f i u z m P) → EndsPlaces s.others w z n b (Err e) → ((left : Items) × AreWithin n left w z) × Fills (layered_signature k) (array vs) x (answer e r)
+    (k : ℕ) (vs : Items) (u w z : State) (m n : InputItems) (o : Option (List ℕ)) (f : CoseError) (i : Bool) (P : Item → Type 0) (b : List ℕ)
+    (x : SignatureSeen) (r : Result (Unit {0}) Refused) (e : CoseError) (y : Refused)
+    → IsErrAnd r (λ j. j ≡ y) → (s : Second vs o f i u z m P) → EndsPlaces s.others w z n b (Err e) → ((left : Items) × AreWithin n left w z)
+    × Fills (layered_signature k) (array vs) x (answer e r)
 last_refused k vs u w z m n o f i P b x r e y is s p = (
   (p.0, p.1),
-  not_filled (layered_signature k) x (array vs) r e y is (subst (λ ws. UnlessMemory e ((layered_signature k).faults (array ws))) (sym s.is) (p.2 s.first s.second k)),
+  not_filled (layered_signature k) x (array vs) r e y is
+      (subst (λ ws. UnlessMemory e ((layered_signature k).faults (array ws))) (sym s.is) (p.2 s.first s.second k)),
 )
 
 -- all places, of which the last is a byte string
-all_places : (vs : Items) (o : Option (List ℕ)) (f : CoseError) (i : Bool) (u w z : State) (m n : InputItems) (P : Item → Type 0) (b : List ℕ) → (s : Second vs o f i u z m P) → (p : EndsPlaces s.others w z n b (Ok tt))
+all_places : (vs : Items) (o : Option (List ℕ)) (f : CoseError) (i : Bool) (u w z : State) (m n : InputItems) (P : Item → Type 0) (b : List ℕ)
+    → (s : Second vs o f i u z m P) → (p : EndsPlaces s.others w z n b (Ok tt))
     → vs ≡ item s.first (item s.second (item p.0 no_items))
 all_places vs o f i u w z m n P b s p = s.is ∙ ap (λ ws. item s.first (item s.second ws)) p.1
 
 -- the second place was refused
 pub unprotected_refused :
-    (k : ℕ) (vs : Items) (u w z : State) (m n : InputItems) (o : Option (List ℕ)) (f : CoseError) (i : Bool) (b : List ℕ) (x : SignatureSeen) (r : Result (Unit {0}) Refused) (e g : CoseError) (y : Refused)
+    (k : ℕ) (vs : Items) (u w z : State) (m n : InputItems) (o : Option (List ℕ)) (f : CoseError) (i : Bool) (b : List ℕ) (x : SignatureSeen)
+    (r : Result (Unit {0}) Refused) (e g : CoseError) (y : Refused)
     → IsErrAnd r (λ j. j ≡ y) → g ≡ e → (s : Second vs o f i u z m (λ v. UnlessMemory e ((layered_header k).faults v))) → EndsPlaces s.others w z n b (Ok tt)
     → ((left : Items) × AreWithin n left w z) × Fills (layered_signature k) (array vs) x (answer g r)
 unprotected_refused k vs u w z m n o f i b x r e g y is same s p =
@@ -319,12 +376,14 @@ unprotected_refused k vs u w z m n o f i b x r e g y is same s p =
       (no_items, p.3),
       not_filled (layered_signature k) x (array vs) r g y is
           (subst (λ h. UnlessMemory h ((layered_signature k).faults (array vs))) (sym same)
-          (subst (λ ws. UnlessMemory e ((layered_signature k).faults (array ws))) (sym all) (λ h. inr (item s.first (item s.second (item p.0 no_items)), refl, inr (λ j. j tt, inr (inl (s.holds h))))))),
+          (subst (λ ws. UnlessMemory e ((layered_signature k).faults (array ws))) (sym all)
+          (λ h. inr (item s.first (item s.second (item p.0 no_items)), refl, inr (λ j. j tt, inr (inl (s.holds h))))))),
     )
 
 -- the first place is no byte string
 pub protected_refused :
-    (k : ℕ) (vs : Items) (u w z : State) (m n : InputItems) (o : Option (List ℕ)) (f : CoseError) (P : Item → Type 0) (b : List ℕ) (x : SignatureSeen) → (s : Second vs o f false u z m P)
+    (k : ℕ) (vs : Items) (u w z : State) (m n : InputItems) (o : Option (List ℕ)) (f : CoseError) (P : Item → Type 0) (b : List ℕ) (x : SignatureSeen)
+    → (s : Second vs o f false u z m P)
     → EndsPlaces s.others w z n b (Ok tt) → ((left : Items) × AreWithin n left w z) × Fills (layered_signature k) (array vs) x (Err f)
 protected_refused k vs u w z m n o f P b x s p = (
   (no_items, p.3),
@@ -333,7 +392,8 @@ protected_refused k vs u w z m n o f P b x s p = (
 )
 
 signature_filled :
-    (k : ℕ) (a b c : Item) (x : SignatureSeen) (r : Result (Unit {0}) CoseError) → (layered_header k).describes b x.unprotected → as_bytes c ≡ Some x.signature → Fills (layered_protected k) a x.protected r
+    (k : ℕ) (a b c : Item) (x : SignatureSeen) (r : Result (Unit {0}) CoseError) → (layered_header k).describes b x.unprotected → as_bytes c ≡ Some x.signature
+    → Fills (layered_protected k) a x.protected r
     → Fills (layered_signature k) (array (item a (item b (item c no_items)))) x r
 signature_filled k a b c x (Ok u) h s p = (item a (item b (item c no_items)), refl, (p, (h, (s, tt))))
 signature_filled k a b c x (Err e) h s p = λ n. inr (item a (item b (item c no_items)), refl, inr (λ m. m tt, inl (p n)))
@@ -341,7 +401,8 @@ signature_filled k a b c x (Err e) h s p = λ n. inr (item a (item b (item c no_
 pub places_filled :
     (k : ℕ) (vs : Items) (u w z : State) (m n : InputItems) (o : Option (List ℕ)) (f : CoseError) (x : SignatureSeen) (r : Result (Unit {0}) CoseError)
     → (s : Second vs o f true u z m (λ v. (layered_header k).describes v x.unprotected)) → EndsPlaces s.others w z n x.signature (Ok tt)
-    → ((b : List ℕ) → o ≡ Some b → Fills (layered_protected k) (bytes b) x.protected r) → ((left : Items) × AreWithin n left w z) × Fills (layered_signature k) (array vs) x r
+    → ((b : List ℕ) → o ≡ Some b → Fills (layered_protected k) (bytes b) x.protected r) → ((left : Items) × AreWithin n left w z)
+    × Fills (layered_signature k) (array vs) x r
 places_filled k vs u w z m n o f x r s p q =
     let first = subst (λ v. Fills (layered_protected k) v x.protected r) (sym (bytes-is s.first s.kept.0 s.kept.1)) (q s.kept.0 s.kept.2) in
     let all = all_places vs o f true u w z m n (λ v. (layered_header k).describes v x.unprotected) x.signature s p in (

@@ -13,7 +13,9 @@ use Rattle.coset_core.specs.Fields.{FieldsSeen, Versions, same_name, names, fiel
 use Rattle.coset_core.specs.HeaderMap.{each_of, header_with, header_parts, header_map}
 use Rattle.coset_core.specs.HeaderReads.{signed_as, ProtectedOf, header_read_with, faults_read, protected_faults, unprotected_faults}
 use Rattle.coset_core.specs.HeaderWrites.{images_signatures}
-use Rattle.coset_core.specs.Headers.{HeaderSeen, header_of, Signatures, no_signatures, signature_and, ProtectedSeen, SignatureSeen, signatures_of, empty_header, CounterSignaturesAre, ContentIs, IsHeader, AreSignatures, signed_array, told_by, counter_signatures_item, header_item, signatures_image, counter_signatures_faults, layered_header, layered_protected, layered_signature, signatures_within}
+use Rattle.coset_core.specs.Headers.{HeaderSeen, header_of, Signatures, no_signatures, signature_and, ProtectedSeen, SignatureSeen, signatures_of, empty_header}
+use Rattle.coset_core.specs.Headers.{CounterSignaturesAre, ContentIs, IsHeader, AreSignatures, signed_array, told_by, counter_signatures_item, header_item}
+use Rattle.coset_core.specs.Headers.{signatures_image, counter_signatures_faults, layered_header, layered_protected, layered_signature, signatures_within}
 
 -- ---- signatures and lists
 

@@ -22,10 +22,12 @@ pub protected_bytes-read : (p : ProtectedSeen) (b : List ℕ) → p.original ≡
 protected_bytes-read p b e = ap (λ o. content_bytes is_empty_header header_image o p.header) e
 
 -- else those of the header
-pub protected_bytes-fresh : (p : ProtectedSeen) (h : HeaderSeen) → p.original ≡ None → p.header ≡ h → protected_bytes p ≡ fresh_bytes (is_empty_header h) (header_image h)
+pub protected_bytes-fresh : (p : ProtectedSeen) (h : HeaderSeen) → p.original ≡ None → p.header ≡ h
+    → protected_bytes p ≡ fresh_bytes (is_empty_header h) (header_image h)
 protected_bytes-fresh p h e same = (λ i. content_bytes is_empty_header header_image (e i) (same i))
 
-pub shortest-fresh_bytes : (p : ProtectedSeen) (h : HeaderSeen) (b : List ℕ) → p.original ≡ None → p.header ≡ h → AreShortest None h b → AreShortest p.original p.header b
+pub shortest-fresh_bytes : (p : ProtectedSeen) (h : HeaderSeen) (b : List ℕ) → p.original ≡ None → p.header ≡ h → AreShortest None h b
+    → AreShortest p.original p.header b
 shortest-fresh_bytes p h b e same least_encoding = subst (λ o. AreShortest o p.header b) (sym e) (subst (λ g. AreShortest None g b) (sym same) least_encoding)
 
 -- the string of them
@@ -43,7 +45,8 @@ string-holds p b least_encoding = subst (HoldsShortest p.original p.header) (sym
 
 -- an error passed on that says that there are no such bytes
 pub no-string :
-    (r : Result Value CoseError) (f : CoseError) (p : ProtectedSeen) (o : Option (List ℕ)) → IsErrAnd r (λ e. e ≡ f) → protected_bytes p ≡ o → UnlessMemory f (λ g. (g ≡ DuplicateMapKey) × (o ≡ None))
+    (r : Result Value CoseError) (f : CoseError) (p : ProtectedSeen) (o : Option (List ℕ)) → IsErrAnd r (λ e. e ≡ f) → protected_bytes p ≡ o
+    → UnlessMemory f (λ g. (g ≡ DuplicateMapKey) × (o ≡ None))
     → Images (protected.image p) view r
 no-string (Ok x) f p o same e tells = absurd same
 no-string (Err d) f p o same e tells = λ other. let told = tells (λ m. other (same ∙ m)) in (same ∙ told.0, string-of p None (e ∙ told.1))

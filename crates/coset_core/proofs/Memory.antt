@@ -4,7 +4,8 @@ use Rattle.std.specs.Prelude.{IfErr, IsErrAnd}
 use Rattle.coset_codec.specs.Encoding.{HasNoImage}
 use Rattle.coset_codec.specs.ShapeLaws.{some-none}
 use Rattle.coset_codec.specs.declared.error.CoseError.{CoseError}
-use Rattle.coset_codec.specs.declared.error.CoseError.TheVariants.{DecodeFailed, DuplicateMapKey, EncodeFailed, ExtraneousData, OutOfRangeIntegerValue, UnexpectedItem, UnregisteredIanaValue, UnregisteredIanaNonPrivateValue, OutOfMemory}
+use Rattle.coset_codec.specs.declared.error.CoseError.TheVariants.{DecodeFailed, DuplicateMapKey, EncodeFailed, ExtraneousData, OutOfRangeIntegerValue}
+use Rattle.coset_codec.specs.declared.error.CoseError.TheVariants.{UnexpectedItem, UnregisteredIanaValue, UnregisteredIanaNonPrivateValue, OutOfMemory}
 
 only_memory : (e : CoseError) → ((e ≡ OutOfMemory → ⊥) → ⊥) → e ≡ OutOfMemory
 only_memory OutOfMemory h = refl
@@ -26,6 +27,7 @@ pub refused_memory : {T A : Type 0} (r : Result T CoseError) (o : Option A) (x :
 refused_memory r o x is h = never_none r o (some-none is) h
 
 -- and passed on
-pub passed_memory : {T A : Type 0} (r : Result T CoseError) (f : CoseError) (o : Option A) → IsErrAnd r (λ e. e ≡ f) → (o ≡ None → ⊥) → HasNoImage o f → IfErr r (λ e. e ≡ OutOfMemory)
+pub passed_memory : {T A : Type 0} (r : Result T CoseError) (f : CoseError) (o : Option A) → IsErrAnd r (λ e. e ≡ f) → (o ≡ None → ⊥) → HasNoImage o f
+    → IfErr r (λ e. e ≡ OutOfMemory)
 passed_memory (Ok t) f o same has h = tt
 passed_memory (Err e) f o same has h = same ∙ only_memory f (λ n. has (h n).1)

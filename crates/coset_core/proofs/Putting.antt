@@ -21,12 +21,17 @@ none a b c d e f g h i h1 h2 h3 h4 h5 h6 h7 h8 h9 = rw (h1, h2, h3, h4, h5, h6, 
 
 -- a pair whose label is none of the fields' goes to the rest
 pub adds_rest :
-    (m : Name) (v : Item) (x y : Fielded (Option Item) × List (Name × Item)) → same_name labels.alg m ≡ false → same_name labels.crit m ≡ false → same_name labels.content_type m ≡ false → same_name labels.kid m ≡ false
-    → same_name labels.iv m ≡ false → same_name labels.partial_iv m ≡ false → same_name labels.countersignature0_v2 m ≡ false → NamesNoVersion m → x.0 ≡ y.0 → y.1 ≡ x.1 ++ (m, v) ∷ []
+    (m : Name) (v : Item) (x y : Fielded (Option Item) × List (Name × Item)) → same_name labels.alg m ≡ false → same_name labels.crit m ≡ false
+    → same_name labels.content_type m ≡ false → same_name labels.kid m ≡ false
+    → same_name labels.iv m ≡ false → same_name labels.partial_iv m ≡ false → same_name labels.countersignature0_v2 m ≡ false → NamesNoVersion m → x.0 ≡ y.0
+    → y.1 ≡ x.1 ++ (m, v) ∷ []
     → Adds names (fields (optional any) (optional any)) m v x y
 adds_rest m v x y h1 h2 h3 h4 h5 h6 h9 others same rest =
-    let other : is_core names (fields (optional any) (optional any)).labels m ≡ false = none _ _ _ _ _ _ _ _ _ (turn labels.alg h1) (turn labels.crit h2) (turn labels.content_type h3) (turn labels.kid h4) (turn labels.iv h5) (turn labels.partial_iv h6) (turn labels.counter_signature others.0) (turn labels.countersignature_v2 others.1) (turn labels.countersignature0_v2 h9) in
-    subst (λ b. Where b ((fields (optional any) (optional any)).takes m v x.0 y.0 × (y.1 ≡ x.1)) ((x.0 ≡ y.0) × (y.1 ≡ x.1 ++ (m, v) ∷ []))) (sym other) (same, rest)
+    let other : is_core names (fields (optional any) (optional any)).labels m ≡ false =
+    none _ _ _ _ _ _ _ _ _ (turn labels.alg h1) (turn labels.crit h2) (turn labels.content_type h3) (turn labels.kid h4) (turn labels.iv h5)
+    (turn labels.partial_iv h6) (turn labels.counter_signature others.0) (turn labels.countersignature_v2 others.1) (turn labels.countersignature0_v2 h9) in
+    subst (λ b. Where b ((fields (optional any) (optional any)).takes m v x.0 y.0 × (y.1 ≡ x.1)) ((x.0 ≡ y.0) × (y.1 ≡ x.1 ++ (m, v) ∷ []))) (sym other)
+    (same, rest)
   where
     turn : (l : Name) → same_name l m ≡ false → same_name m l ≡ false
     turn l h = same_name-sym m l ∙ h
@@ -38,44 +43,59 @@ F = fields (optional any) (optional any)
 
 -- the field of this label is put, where what was asked of its value makes the others what they were
 adds_at :
-    (l m : Name) (v : Item) (r : Result (Unit {0}) CoseError) (f g k : FieldsSeen) (o : Versions (Option Item)) (P : Type 0) → same_name l m ≡ true → OnOk r P → g ≡ k
+    (l m : Name) (v : Item) (r : Result (Unit {0}) CoseError) (f g k : FieldsSeen) (o : Versions (Option Item)) (P : Type 0) → same_name l m ≡ true → OnOk r P
+    → g ≡ k
     → (P → Adds names F l v (parts_of (f, o)) (parts_of (k, o))) → OnOk r (Adds names F m v (parts_of (f, o)) (parts_of (g, o)))
 adds_at l m v (Ok u) f g k o P h t e put =
-    subst (λ n. Adds names F n v (parts_of (f, o)) (parts_of (g, o))) (names_laws.same_is l m h) (subst (λ x. Adds names F l v (parts_of (f, o)) (parts_of (x, o))) (sym e) (put t))
+    subst (λ n. Adds names F n v (parts_of (f, o)) (parts_of (g, o))) (names_laws.same_is l m h)
+    (subst (λ x. Adds names F l v (parts_of (f, o)) (parts_of (x, o))) (sym e) (put t))
 adds_at l m v (Err x) f g k o P h t e put = t
 
 pub adds_alg :
-    (m : Name) (v : Item) (r : Result (Unit {0}) CoseError) (f g : FieldsSeen) (a : Option RegisteredName) (o : Versions (Option Item)) → same_name labels.alg m ≡ true → OnOk r (TakesValue (optional algorithm) v f.alg a)
+    (m : Name) (v : Item) (r : Result (Unit {0}) CoseError) (f g : FieldsSeen) (a : Option RegisteredName) (o : Versions (Option Item))
+    → same_name labels.alg m ≡ true → OnOk r (TakesValue (optional algorithm) v f.alg a)
     → g ≡ record f { alg = a } → OnOk r (Adds names F m v (parts_of (f, o)) (parts_of (g, o)))
-adds_alg m v r f g a o h t e = adds_at labels.alg m v r f g (record f { alg = a }) o (TakesValue (optional algorithm) v f.alg a) h t e (λ p. ((p.0, p.1, refl), refl))
+adds_alg m v r f g a o h t e = adds_at labels.alg m v r f g (record f { alg = a }) o (TakesValue (optional algorithm) v f.alg a) h t e
+    (λ p. ((p.0, p.1, refl), refl))
 
 pub adds_crit :
-    (m : Name) (v : Item) (r : Result (Unit {0}) CoseError) (f g : FieldsSeen) (a : List RegisteredName) (o : Versions (Option Item)) → same_name labels.crit m ≡ true → OnOk r (TakesValue (listed (some_of critical)) v f.crit a)
+    (m : Name) (v : Item) (r : Result (Unit {0}) CoseError) (f g : FieldsSeen) (a : List RegisteredName) (o : Versions (Option Item))
+    → same_name labels.crit m ≡ true → OnOk r (TakesValue (listed (some_of critical)) v f.crit a)
     → g ≡ record f { crit = a } → OnOk r (Adds names F m v (parts_of (f, o)) (parts_of (g, o)))
-adds_crit m v r f g a o h t e = adds_at labels.crit m v r f g (record f { crit = a }) o (TakesValue (listed (some_of critical)) v f.crit a) h t e (λ p. ((refl, (p.0, p.1, refl)), refl))
+adds_crit m v r f g a o h t e = adds_at labels.crit m v r f g (record f { crit = a }) o (TakesValue (listed (some_of critical)) v f.crit a) h t e
+    (λ p. ((refl, (p.0, p.1, refl)), refl))
 
 pub adds_content_type :
-    (m : Name) (v : Item) (r : Result (Unit {0}) CoseError) (f g : FieldsSeen) (a : Option Name) (o : Versions (Option Item)) → same_name labels.content_type m ≡ true → OnOk r (TakesValue (optional content_type) v f.content_type a)
+    (m : Name) (v : Item) (r : Result (Unit {0}) CoseError) (f g : FieldsSeen) (a : Option Name) (o : Versions (Option Item))
+    → same_name labels.content_type m ≡ true → OnOk r (TakesValue (optional content_type) v f.content_type a)
     → g ≡ record f { content_type = a } → OnOk r (Adds names F m v (parts_of (f, o)) (parts_of (g, o)))
-adds_content_type m v r f g a o h t e = adds_at labels.content_type m v r f g (record f { content_type = a }) o (TakesValue (optional content_type) v f.content_type a) h t e (λ p. ((refl, (refl, (p.0, p.1, refl))), refl))
+adds_content_type m v r f g a o h t e = adds_at labels.content_type m v r f g (record f { content_type = a }) o
+    (TakesValue (optional content_type) v f.content_type a) h t e (λ p. ((refl, (refl, (p.0, p.1, refl))), refl))
 
 pub adds_key_id :
-    (m : Name) (v : Item) (r : Result (Unit {0}) CoseError) (f g : FieldsSeen) (a : List ℕ) (o : Versions (Option Item)) → same_name labels.kid m ≡ true → OnOk r (TakesValue (listed filled_bstr) v f.key_id a)
+    (m : Name) (v : Item) (r : Result (Unit {0}) CoseError) (f g : FieldsSeen) (a : List ℕ) (o : Versions (Option Item)) → same_name labels.kid m ≡ true
+    → OnOk r (TakesValue (listed filled_bstr) v f.key_id a)
     → g ≡ record f { key_id = a } → OnOk r (Adds names F m v (parts_of (f, o)) (parts_of (g, o)))
-adds_key_id m v r f g a o h t e = adds_at labels.kid m v r f g (record f { key_id = a }) o (TakesValue (listed filled_bstr) v f.key_id a) h t e (λ p. ((refl, (refl, (refl, (p.0, p.1, refl)))), refl))
+adds_key_id m v r f g a o h t e = adds_at labels.kid m v r f g (record f { key_id = a }) o (TakesValue (listed filled_bstr) v f.key_id a) h t e
+    (λ p. ((refl, (refl, (refl, (p.0, p.1, refl)))), refl))
 
 pub adds_iv :
-    (m : Name) (v : Item) (r : Result (Unit {0}) CoseError) (f g : FieldsSeen) (a : List ℕ) (o : Versions (Option Item)) → same_name labels.iv m ≡ true → OnOk r (TakesValue (listed filled_bstr) v f.iv a)
+    (m : Name) (v : Item) (r : Result (Unit {0}) CoseError) (f g : FieldsSeen) (a : List ℕ) (o : Versions (Option Item)) → same_name labels.iv m ≡ true
+    → OnOk r (TakesValue (listed filled_bstr) v f.iv a)
     → g ≡ record f { iv = a } → OnOk r (Adds names F m v (parts_of (f, o)) (parts_of (g, o)))
-adds_iv m v r f g a o h t e = adds_at labels.iv m v r f g (record f { iv = a }) o (TakesValue (listed filled_bstr) v f.iv a) h t e (λ p. ((refl, (refl, (refl, (refl, (p.0, p.1, refl))))), refl))
+adds_iv m v r f g a o h t e = adds_at labels.iv m v r f g (record f { iv = a }) o (TakesValue (listed filled_bstr) v f.iv a) h t e
+    (λ p. ((refl, (refl, (refl, (refl, (p.0, p.1, refl))))), refl))
 
 pub adds_partial_iv :
-    (m : Name) (v : Item) (r : Result (Unit {0}) CoseError) (f g : FieldsSeen) (a : List ℕ) (o : Versions (Option Item)) → same_name labels.partial_iv m ≡ true → OnOk r (TakesValue (listed filled_bstr) v f.partial_iv a)
+    (m : Name) (v : Item) (r : Result (Unit {0}) CoseError) (f g : FieldsSeen) (a : List ℕ) (o : Versions (Option Item)) → same_name labels.partial_iv m ≡ true
+    → OnOk r (TakesValue (listed filled_bstr) v f.partial_iv a)
     → g ≡ record f { partial_iv = a } → OnOk r (Adds names F m v (parts_of (f, o)) (parts_of (g, o)))
-adds_partial_iv m v r f g a o h t e = adds_at labels.partial_iv m v r f g (record f { partial_iv = a }) o (TakesValue (listed filled_bstr) v f.partial_iv a) h t e (λ p. ((refl, (refl, (refl, (refl, (refl, (p.0, p.1, refl)))))), refl))
+adds_partial_iv m v r f g a o h t e = adds_at labels.partial_iv m v r f g (record f { partial_iv = a }) o
+    (TakesValue (listed filled_bstr) v f.partial_iv a) h t e (λ p. ((refl, (refl, (refl, (refl, (refl, (p.0, p.1, refl)))))), refl))
 
 pub adds_countersignature0_v2 :
-    (m : Name) (v : Item) (r : Result (Unit {0}) CoseError) (f g : FieldsSeen) (a : Option (List ℕ)) (o : Versions (Option Item)) → same_name labels.countersignature0_v2 m ≡ true → OnOk r (TakesValue (optional bstr) v f.countersignature0_v2 a)
+    (m : Name) (v : Item) (r : Result (Unit {0}) CoseError) (f g : FieldsSeen) (a : Option (List ℕ)) (o : Versions (Option Item))
+    → same_name labels.countersignature0_v2 m ≡ true → OnOk r (TakesValue (optional bstr) v f.countersignature0_v2 a)
     → g ≡ record f { countersignature0_v2 = a } → OnOk r (Adds names F m v (parts_of (f, o)) (parts_of (g, o)))
 adds_countersignature0_v2 m v r f g a o h t e =
     adds_at labels.countersignature0_v2 m v r f g (record f { countersignature0_v2 = a }) o (TakesValue (optional bstr) v f.countersignature0_v2 a) h t e
@@ -83,10 +103,12 @@ adds_countersignature0_v2 m v r f g a o h t e =
 
 -- why a field's label is refused
 pub refuses_at :
-    (l m : Name) (v : Item) (r : Result (Unit {0}) CoseError) (x : Fielded (Option Item) × List (Name × Item)) (P : CoseError → Type 0) → same_name l m ≡ true → IfErr r (λ e. UnlessMemory e P)
+    (l m : Name) (v : Item) (r : Result (Unit {0}) CoseError) (x : Fielded (Option Item) × List (Name × Item)) (P : CoseError → Type 0) → same_name l m ≡ true
+    → IfErr r (λ e. UnlessMemory e P)
     → ((e : CoseError) → P e → Refuses names F l v x e ⊎ bars m x e) → IfErr r (λ e. UnlessMemory e (λ f. Refuses names F m v x f ⊎ bars m x f))
 refuses_at l m v (Ok u) x P h t because = t
-refuses_at l m v (Err e) x P h t because = λ n. elim (because e (t n)) [ inl g ↦ inl (subst (λ k. Refuses names F k v x e) (names_laws.same_is l m h) g) | inr g ↦ inr g ]
+refuses_at l m v (Err e) x P h t because = λ n. elim (because e (t n))
+    [ inl g ↦ inl (subst (λ k. Refuses names F k v x e) (names_laws.same_is l m h) g) | inr g ↦ inr g ]
 
 pub swapped : {A B : Type 0} → A ⊎ B → B ⊎ A
 swapped (inl x) = inr x

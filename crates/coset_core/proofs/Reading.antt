@@ -29,7 +29,8 @@ no_layer_left zero v b z h = inr (b, h, refl)
 no_layer_left (suc k) v b z h = absurd (cc)
 
 -- what it holds
-pub content_faulty : (k j : ℕ) (v : Item) (b : List ℕ) (e : CoseError) → k ≡ suc j → as_bytes v ≡ Some b → ContentFaults (layered_header j) b e → (layered_protected k).faults v e
+pub content_faulty : (k j : ℕ) (v : Item) (b : List ℕ) (e : CoseError) → k ≡ suc j → as_bytes v ≡ Some b → ContentFaults (layered_header j) b e
+    → (layered_protected k).faults v e
 unfolding layered_protected
 content_faulty zero j v b e z h f = absurd (cc)
 content_faulty (suc k) j v b e z h f = inr (b, h, subst (λ i. ContentFaults (layered_header i) b e) (ap pred (sym z)) f)
@@ -43,7 +44,8 @@ content_described (suc k) j v b h z i d = (b, i, refl, subst (λ n. ContentDescr
 
 -- the header that bytes which are kept hold
 pub protected_filled :
-    (k j : ℕ) (b c : List ℕ) (o : Option (List ℕ)) (h : HeaderSeen) (r : Result (Unit {0}) CoseError) → k ≡ suc j → o ≡ Some b → c ≡ b → FillsContent j c h r → Fills (layered_protected k) (bytes b) (record { original = o; header = h }) r
+    (k j : ℕ) (b c : List ℕ) (o : Option (List ℕ)) (h : HeaderSeen) (r : Result (Unit {0}) CoseError) → k ≡ suc j → o ≡ Some b → c ≡ b → FillsContent j c h r
+    → Fills (layered_protected k) (bytes b) (record { original = o; header = h }) r
 protected_filled k j b c o h (Ok u) z kept same d =
     subst (λ p. (layered_protected k).describes (bytes b) (record { original = p; header = h })) (sym kept)
     (content_described k j (bytes b) b h z refl (subst (λ s. ContentDescribes empty_header (layered_header j) s h) same d))

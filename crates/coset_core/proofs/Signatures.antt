@@ -20,7 +20,8 @@ are_none_of seen [] = refl
 are_none_of seen (s ∷ ss) = grind (arith, common_steps)
 
 -- those of lists of unequal lengths aren't the same
-pub unequal : {T : Type 0} (seen : T → SignatureSeen) (ss ts : List T) → length ss ≢ length ts → false ≡ signatures_eq (signatures_of (map seen ss)) (signatures_of (map seen ts))
+pub unequal : {T : Type 0} (seen : T → SignatureSeen) (ss ts : List T) → length ss ≢ length ts
+    → false ≡ signatures_eq (signatures_of (map seen ss)) (signatures_of (map seen ts))
 unequal seen [] [] h = absurd (h refl)
 unequal seen (s ∷ ss) (t ∷ ts) h = sym (and_right _ _ (sym (unequal seen ss ts (λ e. h (ap suc e)))))
 unequal seen [] (t ∷ ts) h = refl
@@ -45,15 +46,18 @@ pub header_eq-opened :
     → header_eq (header_seen h) (header_seen g)
     ≡ fields_eq (fields_seen h) (fields_seen g)
     && (signatures_eq (signatures_of (map signature_seen (counter_signatures_held h))) (signatures_of (map signature_seen (counter_signatures_held g)))
-    && signatures_eq (signatures_of (map countersignature_seen (countersignatures_held h))) (signatures_of (map countersignature_seen (countersignatures_held g))))
+    && signatures_eq (signatures_of (map countersignature_seen (countersignatures_held h)))
+    (signatures_of (map countersignature_seen (countersignatures_held g))))
 header_eq-opened h g = λ i. header_eq (header-opened h i) (header-opened g i)
 
 -- ---- headers that are copied
 
 -- a header that has the fields and the counter signatures of another
 pub header_copied :
-    (x : HeaderLevel) (h : Header) (r : Result (Unit {0}) AllocError) → fields_level x ≡ fields_seen h → map signature_seen x.counter_signatures.items ≡ map signature_seen (counter_signatures_held h)
-    → OnOk r (map countersignature_seen x.countersignatures_v2.items ≡ map countersignature_seen (countersignatures_held h)) → OnOk r (header_seen (roll-Header x) ≡ header_seen h)
+    (x : HeaderLevel) (h : Header) (r : Result (Unit {0}) AllocError) → fields_level x ≡ fields_seen h
+    → map signature_seen x.counter_signatures.items ≡ map signature_seen (counter_signatures_held h)
+    → OnOk r (map countersignature_seen x.countersignatures_v2.items ≡ map countersignature_seen (countersignatures_held h))
+    → OnOk r (header_seen (roll-Header x) ≡ header_seen h)
 header_copied x h (Ok u) f s t = header-made x ∙ ((λ i. header_of (f i) (signatures_of (s i)) (signatures_of (t i))) ∙ sym (header-opened h))
 header_copied x h (Err e) f s t = tt
 
@@ -71,20 +75,23 @@ abbrev pub within : SignatureSeen → ℕ
 within s = header_count s.protected.header + header_count s.unprotected
 
 -- one more counts itself, and what it holds
-last_counts : {T : Type 0} (seen : T → SignatureSeen) (ss : List T) (s : T) → signatures_count (signatures_of (map seen (ss ++ s ∷ []))) ≡ suc (within (seen s) + signatures_count (signatures_of (map seen ss)))
+last_counts : {T : Type 0} (seen : T → SignatureSeen) (ss : List T) (s : T)
+    → signatures_count (signatures_of (map seen (ss ++ s ∷ []))) ≡ suc (within (seen s) + signatures_count (signatures_of (map seen ss)))
 last_counts seen [] s = omega arith
 last_counts seen (x ∷ ss) s = let others = last_counts seen ss s in omega (arith, others)
 
 -- without the last of either version fewer are left
 pub first_taken :
-    (old new : List CoseSignature) (v : List CoseCountersignature) (s : CoseSignature) → old ≡ new ++ s ∷ [] → within (signature_seen s) + held_in new v < held_in old v
+    (old new : List CoseSignature) (v : List CoseCountersignature) (s : CoseSignature) → old ≡ new ++ s ∷ []
+    → within (signature_seen s) + held_in new v < held_in old v
 first_taken old new v s o =
     let count : signatures_in old ≡ signatures_in (new ++ s ∷ []) = ap signatures_in o in
     let all = last_counts signature_seen new s in
     omega (arith, count, all)
 
 pub second_taken :
-    (a : List CoseSignature) (old new : List CoseCountersignature) (s : CoseCountersignature) → old ≡ new ++ s ∷ [] → within (countersignature_seen s) + held_in a new < held_in a old
+    (a : List CoseSignature) (old new : List CoseCountersignature) (s : CoseCountersignature) → old ≡ new ++ s ∷ []
+    → within (countersignature_seen s) + held_in a new < held_in a old
 second_taken a old new s o =
     let count : held_in [] old ≡ held_in [] (new ++ s ∷ []) = ap (held_in []) o in
     let all = last_counts countersignature_seen new s in

@@ -11,7 +11,10 @@ use Rattle.coset_core.specs.Written.{AppendsItems}
 
 least_encodings-append : (vs ws : List Item) → least_encodings (items_of (vs ++ ws)) ≡ least_encodings (items_of vs) ++ least_encodings (items_of ws)
 least_encodings-append [] ws = refl
-least_encodings-append (v ∷ vs) ws = rw (least_encodings-append vs ws, append_assoc (least_encoding v) (least_encodings (items_of vs)) (least_encodings (items_of ws))) refl
+least_encodings-append (v ∷ vs) ws = rw (
+  least_encodings-append vs ws,
+  append_assoc (least_encoding v) (least_encodings (items_of vs)) (least_encodings (items_of ws)),
+) refl
 
 items_in_range-append : (vs ws : List Item) → AreInRange (items_of vs) → AreInRange (items_of ws) → AreInRange (items_of (vs ++ ws))
 items_in_range-append [] ws p q = q
@@ -21,7 +24,8 @@ items_in_range-append (v ∷ vs) ws p q = (p.0, items_in_range-append vs ws p.1 
 pub items-push : (old mid new : List ℕ) (vs : List Item) (v : Item) → AppendsItems old mid vs → AppendsItem mid new v → AppendsItems old new (vs ++ v ∷ [])
 items-push old mid new vs v p q = record {
   in_range = items_in_range-append vs (v ∷ []) p.in_range (q.in_range, tt);
-  parts = rw (q.parts, p.parts, least_encodings-append vs (v ∷ []), append-nil (least_encoding v)) (append_assoc old (least_encodings (items_of vs)) (least_encoding v));
+  parts = rw (q.parts, p.parts, least_encodings-append vs (v ∷ []), append-nil (least_encoding v))
+      (append_assoc old (least_encodings (items_of vs)) (least_encoding v));
 }
 
 -- as many items as members
@@ -31,7 +35,8 @@ count-items (v ∷ vs) = ap (λ n. suc n) (count-items vs)
 
 -- a head and the items are an array
 pub array-put :
-    (vs : List Item) (n : ℕ) (old head new : List ℕ) → n ≡ length vs → n < 2 ^ 64 → head ≡ old ++ least_head 4 n → AppendsItems head new vs → AppendsItem old new (array (items_of vs))
+    (vs : List Item) (n : ℕ) (old head new : List ℕ) → n ≡ length vs → n < 2 ^ 64 → head ≡ old ++ least_head 4 n → AppendsItems head new vs
+    → AppendsItem old new (array (items_of vs))
 array-put vs n old head new count small first p =
     let same : items_count (items_of vs) ≡ n = count-items vs ∙ sym count in
     record {

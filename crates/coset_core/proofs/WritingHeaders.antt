@@ -1,7 +1,8 @@
 -- Headers and signatures, part by part.
 use Rattle.std.specs.Prelude.{◌==◌, ◌≢◌, not, filter, true, false, is_some, Result, Ok, Err, IfErr, OnOk, IsErrAnd}
 use Rattle.std.specs.Map.{keys_of}
-use Rattle.std.proofs.Common.{◌≡◌, ℕ, ℤ, Option, Some, None, option_map, true≢false, ◌+◌, ◌<◌, ◌^◌, List, [], ◌∷◌, ◌++◌, map, length, refl, sym, ◌∙◌, ap, subst, append-nil, arith}
+use Rattle.std.proofs.Common.{◌≡◌, ℕ, ℤ, Option, Some, None, option_map, true≢false, ◌+◌, ◌<◌, ◌^◌, List, [], ◌∷◌, ◌++◌, map, length, refl, sym, ◌∙◌, ap, subst}
+use Rattle.std.proofs.Common.{append-nil, arith}
 use Rattle.std.proofs.lemmas.List.{length-append, length-map}
 use Rattle.coset_value.specs.Item.{Item, integer, bytes, array, Items, no_items, item}
 use Rattle.coset_value.specs.View.{items_of, view}
@@ -24,7 +25,9 @@ use Rattle.coset_label.specs.Names.{Name, number, word, RegisteredName, assigned
 use Rattle.coset_label.specs.Views.{label_seen}
 use Rattle.coset_label.specs.declared.label.Label.{Label}
 use Rattle.coset_core.specs.Fields.{FieldsSeen, same_name, names, fields, parts_of, partial_header, algorithm, critical, content_type}
-use Rattle.coset_core.specs.Headers.{HeaderSeen, header_of, fields_in, counter_signatures_in, countersignatures_in, ProtectedSeen, SignatureSeen, Signatures, no_signatures, signature_and, signatures_of, are_none, counter_signatures_item, header_item, signatures_image, header_image, protected_bytes}
+use Rattle.coset_core.specs.Headers.{HeaderSeen, header_of, fields_in, counter_signatures_in, countersignatures_in, ProtectedSeen, SignatureSeen, Signatures}
+use Rattle.coset_core.specs.Headers.{no_signatures, signature_and, signatures_of, are_none, counter_signatures_item, header_item, signatures_image}
+use Rattle.coset_core.specs.Headers.{header_image, protected_bytes}
 use Rattle.coset_core.specs.HeaderWrites.{images_signatures, signature_image_is}
 use Rattle.coset_core.specs.ViewLaws.{HeaderLevel, header_level}
 use Rattle.coset_core.specs.Views.{algorithm_seen, content_type_seen, countersignature_seen, critical_seen, entry_seen, signature_seen}
@@ -33,12 +36,14 @@ use Rattle.coset_core.proofs.Signatures.{are_none_of}
 use Rattle.coset_core.proofs.Writing.{items-push, array-put}
 
 -- an error passed on that says of P what another is asked to say of Q
-pub passes : {T : Type 0} (r : Result T CoseError) (f : CoseError) (P Q : Type 0) → IsErrAnd r (λ e. e ≡ f) → (P → Q) → UnlessMemory f (λ g. (g ≡ DuplicateMapKey) × P) → IfErr r (λ e. UnlessMemory e (λ g. (g ≡ DuplicateMapKey) × Q))
+pub passes : {T : Type 0} (r : Result T CoseError) (f : CoseError) (P Q : Type 0) → IsErrAnd r (λ e. e ≡ f) → (P → Q)
+    → UnlessMemory f (λ g. (g ≡ DuplicateMapKey) × P) → IfErr r (λ e. UnlessMemory e (λ g. (g ≡ DuplicateMapKey) × Q))
 passes (Ok x) f P Q same h tells = tt
 passes (Err e) f P Q same h tells = λ other. let told = tells (λ m. other (same ∙ m)) in (same ∙ told.0, h told.1)
 
 -- an error passed on that says that an item is missing
-pub unencoded : {T : Type 0} (r : Result T CoseError) (f : CoseError) (P : Type 0) (o : Option Item) (old new : List ℕ) → IsErrAnd r (λ e. e ≡ f) → (P → o ≡ None) → UnlessMemory f (λ g. (g ≡ DuplicateMapKey) × P) → Encodes o old new r
+pub unencoded : {T : Type 0} (r : Result T CoseError) (f : CoseError) (P : Type 0) (o : Option Item) (old new : List ℕ) → IsErrAnd r (λ e. e ≡ f)
+    → (P → o ≡ None) → UnlessMemory f (λ g. (g ≡ DuplicateMapKey) × P) → Encodes o old new r
 unencoded {T} (Ok x) f P o old new same h tells = absurd same
 unencoded {T} (Err e) f P o old new same h tells = passes {T = T} (Err e) f P (o ≡ None) same h tells
 
@@ -46,13 +51,15 @@ unencoded {T} (Err e) f P o old new same h tells = passes {T = T} (Err e) f P (o
 
 -- a head, the byte string, the unprotected header and the bytes are the array of a signature
 pub signature-put :
-    (s : SignatureSeen) (old head mid half new : List ℕ) → head ≡ old ++ least_head 4 3 → AppendsImage (option_map bytes (protected_bytes s.protected)) head mid → AppendsImage (header_image s.unprotected) mid half → AppendsItem half new (bytes s.signature)
+    (s : SignatureSeen) (old head mid half new : List ℕ) → head ≡ old ++ least_head 4 3 → AppendsImage (option_map bytes (protected_bytes s.protected)) head mid
+    → AppendsImage (header_image s.unprotected) mid half → AppendsItem half new (bytes s.signature)
     → AppendsImage (signature_array s) old new
 signature-put s old head mid half new first p u b =
     array-put-places 3 (omega arith) first (place-put p (place-put u (place-put (bytes s.signature, refl, b) (nothing-put new))))
 
 -- a byte string is that of a protected header
-pub string-put : (p : ProtectedSeen) (b old new : List ℕ) → protected_bytes p ≡ Some b → AppendsItem old new (bytes b) → AppendsImage (option_map bytes (protected_bytes p)) old new
+pub string-put : (p : ProtectedSeen) (b old new : List ℕ) → protected_bytes p ≡ Some b → AppendsItem old new (bytes b)
+    → AppendsImage (option_map bytes (protected_bytes p)) old new
 string-put p b old new e put = (bytes b, ap (option_map bytes) e, put)
 
 -- ---- several
@@ -67,10 +74,12 @@ and_items-of (w ∷ vs) v = ap (item w) (and_items-of vs v)
 
 -- one more signature
 pub signatures-push :
-    (ss : List SignatureSeen) (s : SignatureSeen) (old mid new : List ℕ) → AppendsSignatures old mid ss → AppendsImage (signature_array s) mid new → AppendsSignatures old new (ss ++ s ∷ [])
+    (ss : List SignatureSeen) (s : SignatureSeen) (old mid new : List ℕ) → AppendsSignatures old mid ss → AppendsImage (signature_array s) mid new
+    → AppendsSignatures old new (ss ++ s ∷ [])
 signatures-push ss s old mid new p q =
     let so_far : images signature_array ss ≡ Some (items_of p.0) = sym (each ss) ∙ p.1 in
-    let all : images signature_array (ss ++ s ∷ []) ≡ Some (items_of (p.0 ++ q.0 ∷ [])) = rw (images-append signature_array ss (s ∷ []), so_far, q.1) (ap Some (and_items-of p.0 q.0)) in (
+    let all : images signature_array (ss ++ s ∷ []) ≡ Some (items_of (p.0 ++ q.0 ∷ [])) =
+    rw (images-append signature_array ss (s ∷ []), so_far, q.1) (ap Some (and_items-of p.0 q.0)) in (
       p.0 ++ q.0 ∷ [],
       each (ss ++ s ∷ []) ∙ all,
       length-append p.0 (q.0 ∷ []) ∙ (ap (λ n. n + 1) p.2 ∙ sym (length-append ss (s ∷ []))),
@@ -85,20 +94,25 @@ signatures-none ss more s e = each (ss ++ s ∷ more) ∙ images-missing signatu
 
 -- one alone, or a head and several
 one_or_array-put :
-    (vs : List Item) (n : ℕ) (old head new : List ℕ) → not (length vs == 0) ≡ true → n ≡ length vs → n < 2 ^ 64 → (n ≡ 1 → head ≡ old) → (n ≢ 1 → head ≡ old ++ least_head 4 n) → AppendsItems head new vs
+    (vs : List Item) (n : ℕ) (old head new : List ℕ) → not (length vs == 0) ≡ true → n ≡ length vs → n < 2 ^ 64 → (n ≡ 1 → head ≡ old)
+    → (n ≢ 1 → head ≡ old ++ least_head 4 n) → AppendsItems head new vs
     → AppendsItem old new (one_or_array (items_of vs))
 one_or_array-put [] n old head new h count small alone several p = absurd (true≢false (sym h))
-one_or_array-put (v ∷ []) n old head new h count small alone several p = record { in_range = p.in_range.0; parts = p.parts ∙ rw (alone count, append-nil (least_encoding v)) refl }
-one_or_array-put (v ∷ w ∷ vs) n old head new h count small alone several p = array-put (v ∷ w ∷ vs) n old head new count small (several (λ e. absurd (omega (arith, e, count)))) p
+one_or_array-put (v ∷ []) n old head new h count small alone several p =
+    record { in_range = p.in_range.0; parts = p.parts ∙ rw (alone count, append-nil (least_encoding v)) refl }
+one_or_array-put (v ∷ w ∷ vs) n old head new h count small alone several p =
+    array-put (v ∷ w ∷ vs) n old head new count small (several (λ e. absurd (omega (arith, e, count)))) p
 
 pub counter_signatures-put :
-    (label : HeaderParameter) (ss : List SignatureSeen) (n : ℕ) (old mid head new : List ℕ) → not (length ss == 0) ≡ true → n ≡ length ss → n < 2 ^ 64 → AppendsItem old mid (integer (parameters.number label)) → (n ≡ 1 → head ≡ mid)
+    (label : HeaderParameter) (ss : List SignatureSeen) (n : ℕ) (old mid head new : List ℕ) → not (length ss == 0) ≡ true → n ≡ length ss → n < 2 ^ 64
+    → AppendsItem old mid (integer (parameters.number label)) → (n ≡ 1 → head ≡ mid)
     → (n ≢ 1 → head ≡ mid ++ least_head 4 n) → AppendsSignatures head new ss → AppendsCounterSignatures label old new (signatures_of ss)
 counter_signatures-put label [] n old mid head new h count small name alone several p = absurd (true≢false (sym h))
 counter_signatures-put label (s ∷ ss) n old mid head new h count small name alone several p = (
   Some (one_or_array (items_of p.0)),
   ap (option_map (λ vs. Some (one_or_array vs))) p.1,
-  pair-added (integer (parameters.number label)) (one_or_array (items_of p.0)) name (one_or_array-put p.0 n mid head new (rw p.2 h) (count ∙ sym p.2) small alone several p.3),
+  pair-added (integer (parameters.number label)) (one_or_array (items_of p.0)) name
+      (one_or_array-put p.0 n mid head new (rw p.2 h) (count ∙ sym p.2) small alone several p.3),
 )
 
 -- the value of label 7, or 11, is there where there are signatures
@@ -161,11 +175,13 @@ field-seen {j} {o} old new e h put = subst (λ q. AppendsField j q old new) h (s
 -- the fields of a header in memory
 pub fields-there :
     (x : HeaderLevel)
-    → is_some x.alg ∷ not (length x.crit.items == 0) ∷ is_some x.content_type ∷ not (length x.key_id.items == 0) ∷ not (length x.iv.items == 0) ∷ not (length x.partial_iv.items == 0)
+    → is_some x.alg ∷ not (length x.crit.items == 0) ∷ is_some x.content_type ∷ not (length x.key_id.items == 0) ∷ not (length x.iv.items == 0)
+    ∷ not (length x.partial_iv.items == 0)
     ∷ not (length x.counter_signatures.items == 0) ∷ not (length x.countersignatures_v2.items == 0) ∷ is_some x.countersignature0_v2 ∷ []
     ≡ are_there (header_level x)
 fields-there x = sym (λ i.
-    seen-there algorithm_seen x.alg i ∷ filled-seen critical_seen x.crit.items _ refl i ∷ seen-there content_type_seen x.content_type i ∷ filled-there x.key_id.items _ refl i
+    seen-there algorithm_seen x.alg i ∷ filled-seen critical_seen x.crit.items _ refl i ∷ seen-there content_type_seen x.content_type i
+    ∷ filled-there x.key_id.items _ refl i
     ∷ filled-there x.iv.items _ refl i ∷ filled-there x.partial_iv.items _ refl i ∷ not (are_none_of signature_seen x.counter_signatures.items i)
     ∷ not (are_none_of countersignature_seen x.countersignatures_v2.items i) ∷ seen-there (λ b. b.items) x.countersignature0_v2 i ∷ [])
 
@@ -187,11 +203,14 @@ unfolding partial_header
 map-put f ss ts xs old head mid s7 s11 s12 new r rest distinct small first six seven eleven twelve ok refused =
     let o = seven.0 in
     let p = eleven.0 in
-    let there = is_some f.alg ∷ is_filled f.crit ∷ is_some f.content_type ∷ is_filled f.key_id ∷ is_filled f.iv ∷ is_filled f.partial_iv ∷ is_some o ∷ is_some p ∷ is_some f.countersignature0_v2 ∷ [] in
+    let there = is_some f.alg ∷ is_filled f.crit ∷ is_some f.content_type ∷ is_filled f.key_id ∷ is_filled f.iv ∷ is_filled f.partial_iv ∷ is_some o ∷ is_some p
+    ∷ is_some f.countersignature0_v2 ∷ [] in
     let told : are_there (header_of f ss ts) ≡ there = λ i.
     is_some f.alg ∷ is_filled f.crit ∷ is_some f.content_type ∷ is_filled f.key_id ∷ is_filled f.iv ∷ is_filled f.partial_iv
-    ∷ sym (signatures-there ss (signatures_image ss) o seven.1) i ∷ sym (signatures-there ts (signatures_image ts) p eleven.1) i ∷ is_some f.countersignature0_v2 ∷ [] in
-    let count : count_pairs (header_of f ss ts) ≡ length (filter (λ b. b) there) + length xs = λ i. length (filter (λ b. b) (told i)) + (ap length rest ∙ length-map xs entry_seen) i in
+    ∷ sym (signatures-there ss (signatures_image ss) o seven.1) i ∷ sym (signatures-there ts (signatures_image ts) p eleven.1) i
+    ∷ is_some f.countersignature0_v2 ∷ [] in
+    let count : count_pairs (header_of f ss ts) ≡ length (filter (λ b. b) there) + length xs =
+    λ i. length (filter (λ b. b) (told i)) + (ap length rest ∙ length-map xs entry_seen) i in
     let fields_appended : AppendsFields Name label.image ((fields (optional any) (optional any)).image (parts_of (f, (o, p))).0) there head s12 =
     (field-put label.image (is_some f.alg) (present_image algorithm.image f.alg) refl six.alg
     (field-put label.image (is_filled f.crit) ((some_of critical).image f.crit) refl six.crit
@@ -204,8 +223,10 @@ map-put f ss ts xs old head mid s7 s11 s12 new r rest distinct small first six s
     (field-put label.image (is_some f.countersignature0_v2) (present_image bstr.image f.countersignature0_v2) refl twelve
     (no-field label.image s12)))))))))) in
     subst (λ i. Encodes i old new r) (λ i. header_item f (sym seven.1 i) (sym eleven.1 i))
-    (subst (λ es. Encodes (entries_image names (may_write names true es) es ((fields (optional any) (optional any)).image (parts_of (f, (o, p))).0)) old new r) (sym rest)
-    (map-written names label_seen view xs (may_write names true (map entry_seen xs)) there old new r distinct (subst (λ k. k < 2 ^ 64) count small) (first ∙ ap (λ k. old ++ least_head 5 k) count) fields_appended ok refused))
+    (subst (λ es. Encodes (entries_image names (may_write names true es) es ((fields (optional any) (optional any)).image (parts_of (f, (o, p))).0)) old new r)
+    (sym rest)
+    (map-written names label_seen view xs (may_write names true (map entry_seen xs)) there old new r distinct (subst (λ k. k < 2 ^ 64) count small)
+    (first ∙ ap (λ k. old ++ least_head 5 k) count) fields_appended ok refused))
 
 -- no map is written where a label of the rest repeats, or signatures of either version can't be written
 pub unwritten-rest : (h : HeaderSeen) → are_distinct same_name (keys_of (fields_in h).rest) ≡ false → header_image h ≡ None
@@ -225,7 +246,8 @@ pub unwritten-counter_signatures : (h : HeaderSeen) → signatures_image (counte
 unwritten-counter_signatures (header_of f ss ts) e = ap (λ o. header_item f o (counter_signatures_item ts (signatures_image ts))) (none_item ss e)
 
 pub unwritten-countersignatures : (h : HeaderSeen) → signatures_image (countersignatures_in h) ≡ None → header_image h ≡ None
-unwritten-countersignatures (header_of f ss ts) e = ap (header_item f (counter_signatures_item ss (signatures_image ss))) (none_item ts e) ∙ behind (counter_signatures_item ss (signatures_image ss))
+unwritten-countersignatures (header_of f ss ts) e = ap (header_item f (counter_signatures_item ss (signatures_image ss))) (none_item ts e)
+    ∙ behind (counter_signatures_item ss (signatures_image ss))
   where
     behind : (o : Option (Option Item)) → header_item f o None ≡ None
     behind (Some o) = refl

@@ -11,6 +11,7 @@ use Rattle.coset_core.specs.Headers.{HeaderSeen, header_of, Signatures, no_signa
 abbrev pub with_fields : (FieldsSeen → FieldsSeen) → HeaderSeen → HeaderSeen
 with_fields g (header_of f ss ts) = header_of (g f) ss ts
 
+-- the header with this algorithm, and all else as it was
 abbrev pub with_algorithm : RegisteredName → HeaderSeen → HeaderSeen
 with_algorithm a = with_fields (λ f. record f { alg = Some a })
 
@@ -18,9 +19,11 @@ with_algorithm a = with_fields (λ f. record f { alg = Some a })
 abbrev pub and_critical : RegisteredName → HeaderSeen → HeaderSeen
 and_critical l = with_fields (λ f. record f { crit = f.crit ++ l ∷ [] })
 
+-- the header with this content type, and all else as it was
 abbrev pub with_content_type : Name → HeaderSeen → HeaderSeen
 with_content_type t = with_fields (λ f. record f { content_type = Some t })
 
+-- the header with this key identifier, and all else as it was
 abbrev pub with_key_id : List ℕ → HeaderSeen → HeaderSeen
 with_key_id b = with_fields (λ f. record f { key_id = b })
 
@@ -28,6 +31,7 @@ with_key_id b = with_fields (λ f. record f { key_id = b })
 abbrev pub with_iv : List ℕ → HeaderSeen → HeaderSeen
 with_iv b = with_fields (λ f. record f { iv = b; partial_iv = [] })
 
+-- the header with this Partial IV and no IV, and all else as it was
 abbrev pub with_partial_iv : List ℕ → HeaderSeen → HeaderSeen
 with_partial_iv b = with_fields (λ f. record f { iv = []; partial_iv = b })
 
@@ -56,5 +60,6 @@ with_countersignature0_v2 b = with_fields (λ f. record f { countersignature0_v2
 abbrev pub is_other_label : ℤ → Bool
 is_other_label n = int_lt n (pos 1) || (int_lt (pos 7) n && not (int_eq n (pos 11) || int_eq n (pos 12)))
 
+-- a number that is the label of no field: none of 1 to 7, and neither 11 nor 12
 abbrev pub IsOtherLabel : ℤ → Type 0
 IsOtherLabel n = is_other_label n ≡ true

@@ -15,7 +15,8 @@ abbrev pub IsStructure : Option Item → List ℕ → Type 0
 IsStructure o b = (v : Item) × (o ≡ Some v) × IsShortest b v
 
 -- The answer is that of f, asked about these bytes and those of the structure; or there is no structure, or no memory
-abbrev pub AsksAbout : {F U E : Type 0} → Once F (Bor (List ℕ) × (Bor (List ℕ) × Unit {0})) (Result U E) → F → List ℕ → Option Item → Result U (CallError E) → Type 0
+abbrev pub AsksAbout : {F U E : Type 0} → Once F (Bor (List ℕ) × (Bor (List ℕ) × Unit {0})) (Result U E) → F → List ℕ → Option Item → Result U (CallError E)
+    → Type 0
 AsksAbout g f s o (Ok u) = (b : List ℕ) × IsStructure o b × FnOnceReturnsAtPair g f s b (Ok u)
 AsksAbout g f s o (Err (Caller e)) = (b : List ℕ) × IsStructure o b × FnOnceReturnsAtPair g f s b (Err e)
 AsksAbout g f s o (Err (Coset e)) = HasNoImage o e
@@ -26,7 +27,8 @@ Creates {V = V} g f o stores (Ok x) = (b : List ℕ) × (made : V) × IsStructur
 Creates g f o stores (Err e) = HasNoImage o e
 
 -- the same of an f that may refuse
-abbrev pub TriesToCreate : {F V B E : Type 0} → Once F (Bor (List ℕ) × Unit {0}) (Result V E) → F → Option Item → (V → B → Type 0) → Result B (CallError E) → Type 0
+abbrev pub TriesToCreate : {F V B E : Type 0} → Once F (Bor (List ℕ) × Unit {0}) (Result V E) → F → Option Item → (V → B → Type 0) → Result B (CallError E)
+    → Type 0
 TriesToCreate {V = V} g f o stores (Ok x) = (b : List ℕ) × (made : V) × IsStructure o b × FnOnceReturnsAt g f b (Ok made) × stores made x
 TriesToCreate g f o stores (Err (Caller e)) = (b : List ℕ) × IsStructure o b × FnOnceReturnsAt g f b (Err e)
 TriesToCreate g f o stores (Err (Coset e)) = HasNoImage o e

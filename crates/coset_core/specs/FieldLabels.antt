@@ -1,6 +1,7 @@
 -- The labels of a header's fields (RFC 8152, section 3.1), by the names that IANA gives them.
 use Rattle.coset_iana.specs.HeaderParameter as parameters
-use Rattle.coset_iana.specs.declared.headers.HeaderParameter.TheVariants.{Alg, Crit, ContentType, Kid, Iv, PartialIv, CounterSignature, CounterSignatureV2, CounterSignature0V2}
+use Rattle.coset_iana.specs.declared.headers.HeaderParameter.TheVariants.{Alg, Crit, ContentType, Kid, Iv, PartialIv, CounterSignature, CounterSignatureV2}
+use Rattle.coset_iana.specs.declared.headers.HeaderParameter.TheVariants.{CounterSignature0V2}
 use Rattle.coset_label.specs.Names.{Name, number}
 
 abbrev pub alg : Name

@@ -10,13 +10,15 @@ use Rattle.coset_codec.specs.Shape.{any, bstr, filled_bstr, some_of}
 use Rattle.coset_codec.specs.ShapeLaws.{Lawful, Again, some-one, along_laws, that_laws, any_laws, bstr_laws, filled_bstr_laws, some_of_laws}
 use Rattle.coset_codec.specs.Maps.{FieldShape, optional, listed, Named, HasLabel, SomePair, SoFar, Barred, and_pairs}
 use Rattle.coset_codec.specs.declared.error.CoseError.{CoseError}
-use Rattle.coset_codec.specs.MapLaws.{LawfulNames, LawfulFieldShape, LawfulFields, Flat, field_laws, no_field_laws, optional_laws, listed_laws, labelled_laws, new_of, not_new, has_label, lookup_none, lookup_later}
+use Rattle.coset_codec.specs.MapLaws.{LawfulNames, LawfulFieldShape, LawfulFields, Flat, field_laws, no_field_laws, optional_laws, listed_laws, labelled_laws}
+use Rattle.coset_codec.specs.MapLaws.{new_of, not_new, has_label, lookup_none, lookup_later}
 use Rattle.coset_label.specs.Names.{Name, number, RegisteredName}
 use Rattle.coset_label.specs.Labels.{label}
 use Rattle.coset_label.specs.LabelLaws.{label_laws, registered_laws, registered_or_private_laws}
 use Rattle.coset_label.specs.NameOrder.{name_cmp-apart}
 use Rattle.coset_core.specs.FieldLabels as labels
-use Rattle.coset_core.specs.Fields.{FieldsSeen, algorithm, critical, content_type, IsContentType, same_name, names, Versions, Fielded, fields, fields_of, parts_of, HasOneIv, HasBothIvs, map_of, map_with, partial_header, HoldsSignatures, SomeCounterSignatures, bars}
+use Rattle.coset_core.specs.Fields.{FieldsSeen, algorithm, critical, content_type, IsContentType, same_name, names, Versions, Fielded, fields, fields_of}
+use Rattle.coset_core.specs.Fields.{parts_of, HasOneIv, HasBothIvs, map_of, map_with, partial_header, HoldsSignatures, SomeCounterSignatures, bars}
 
 pub names_laws : LawfulNames Name names
 names_laws = record {
@@ -72,7 +74,8 @@ fields_laws c d l m =
     (field_laws names names_laws labels.partial_iv (flat_number _ (refl, (refl, search rules))) _ filled_laws _
     (field_laws names names_laws labels.counter_signature (flat_number _ (refl, (refl, search rules))) c l _
     (field_laws names names_laws labels.countersignature_v2 (flat_number _ (refl, (refl, search rules))) d m _
-    (field_laws names names_laws labels.countersignature0_v2 (flat_number _ (refl, (refl, search rules))) _ (optional_laws bstr bstr_laws) _ (no_field_laws names names_laws) refl)
+    (field_laws names names_laws labels.countersignature0_v2 (flat_number _ (refl, (refl, search rules))) _ (optional_laws bstr bstr_laws) _
+    (no_field_laws names names_laws) refl)
     refl) refl) refl) refl) refl) refl) refl) refl
 
 -- ---- maps of them
@@ -81,7 +84,8 @@ map_of_laws : {C : Type 0} (c d : FieldShape C) → LawfulFieldShape C c → Law
 map_of_laws c d l m = along_laws fields_of parts_of (λ x. refl) _ (labelled_laws names names_laws true (fields c d) (fields_laws c d l m))
 
 -- a vector that some pair has is there
-iv_there : (l : Name) (ps : Pairs) (es : List (Name × Item)) (iv : List ℕ) → Named label.describes ps es → HasLabel label.describes l ps → (listed filled_bstr).describes (lookup (same_name l) es) iv → iv ≡ [] → ⊥
+iv_there : (l : Name) (ps : Pairs) (es : List (Name × Item)) (iv : List ℕ) → Named label.describes ps es → HasLabel label.describes l ps
+    → (listed filled_bstr).describes (lookup (same_name l) es) iv → iv ≡ [] → ⊥
 iv_there l ps es iv n h d none = go (lookup (same_name l) es) refl d
   where
     go : (o : Option Item) → lookup (same_name l) es ≡ o → (listed filled_bstr).describes o iv → ⊥
@@ -96,7 +100,8 @@ not_both c d v x p one both =
     let same : both.0 ≡ ps = some-one both.1 p.1 in
     elim one [
       | inl h ↦ iv_there labels.iv ps m.entries x.0.iv m.named (subst (HasLabel label.describes labels.iv) same both.2) m.fields.1.1.1.1.0 h
-      | inr h ↦ iv_there labels.partial_iv ps m.entries x.0.partial_iv m.named (subst (HasLabel label.describes labels.partial_iv) same both.3) m.fields.1.1.1.1.1.0 h
+      | inr h ↦ iv_there labels.partial_iv ps m.entries x.0.partial_iv m.named
+          (subst (HasLabel label.describes labels.partial_iv) same both.3) m.fields.1.1.1.1.1.0 h
     ]
 
 pub map_with_laws : {C : Type 0} (c d : FieldShape C) → LawfulFieldShape C c → LawfulFieldShape C d → Lawful (FieldsSeen × Versions C) (map_with c d)
@@ -160,7 +165,8 @@ split c d v f x p =
     )
 
 pub join :
-    {C : Type 0} (c d : FieldShape C) (v : Item) (f : FieldsSeen) (o : Versions (Option Item)) (x : Versions C) → partial_header.describes v (f, o) → c.describes o.0 x.0 → d.describes o.1 x.1
+    {C : Type 0} (c d : FieldShape C) (v : Item) (f : FieldsSeen) (o : Versions (Option Item)) (x : Versions C) → partial_header.describes v (f, o)
+    → c.describes o.0 x.0 → d.describes o.1 x.1
     → (map_with c d).describes v (f, x)
 unfolding partial_header
 join c d v f o x p q r =
@@ -212,7 +218,8 @@ image_with c d f x None None h k = rw (h, k) refl
 
 -- what stands among some pairs is found, where no label stands twice
 pair_found :
-    (P : Item → Type 0) (l : Name) (ps : Pairs) (es : List (Name × Item)) → Named label.describes ps es → IsDistinct same_name (keys_of es) → SomePair (λ k u. label.describes k l × P u) ps
+    (P : Item → Type 0) (l : Name) (ps : Pairs) (es : List (Name × Item)) → Named label.describes ps es → IsDistinct same_name (keys_of es)
+    → SomePair (λ k u. label.describes k l × P u) ps
     → (w : Item) × (lookup (same_name l) es ≡ Some w) × P w
 unfolding IsDistinct
 pair_found P l no_pairs es p d f = absurd f
@@ -223,7 +230,8 @@ pair_found P l (pair k v ps) (e ∷ es) p d (inl f) =
 pair_found P l (pair k v ps) (e ∷ es) p d (inr f) = let g = pair_found P l ps es p.2 d.1 f in (g.0, lookup_later names names_laws e es l g.0 d.0 g.1, g.2)
 
 -- so the value is the one that is left as it is
-some_of_two : (P : Item → Type 0) (ps : Pairs) → SomePair (λ k w. HoldsSignatures k × P w) ps → SomePair (λ k w. label.describes k labels.counter_signature × P w) ps ⊎ SomePair (λ k w. label.describes k labels.countersignature_v2 × P w) ps
+some_of_two : (P : Item → Type 0) (ps : Pairs) → SomePair (λ k w. HoldsSignatures k × P w) ps
+    → SomePair (λ k w. label.describes k labels.counter_signature × P w) ps ⊎ SomePair (λ k w. label.describes k labels.countersignature_v2 × P w) ps
 some_of_two P no_pairs f = absurd f
 some_of_two P (pair k v ps) (inl f) = elim f.0 [ inl h ↦ inl (inl (h, f.1)) | inr h ↦ inr (inl (h, f.1)) ]
 some_of_two P (pair k v ps) (inr f) = elim (some_of_two P ps f) [ inl g ↦ inl (inr g) | inr g ↦ inr (inr g) ]
@@ -253,11 +261,13 @@ label_after l no_pairs qs f = f
 label_after l (pair k v ps) qs f = inr (label_after l ps qs f)
 
 -- a vector that was gathered has its label
-iv_before : (l : Name) (ps : Pairs) (es : List (Name × Item)) (iv : List ℕ) → Named label.describes ps es → (listed filled_bstr).describes (lookup (same_name l) es) iv → (iv ≡ [] → ⊥) → HasLabel label.describes l ps
+iv_before : (l : Name) (ps : Pairs) (es : List (Name × Item)) (iv : List ℕ) → Named label.describes ps es
+    → (listed filled_bstr).describes (lookup (same_name l) es) iv → (iv ≡ [] → ⊥) → HasLabel label.describes l ps
 iv_before l ps es iv n d some = has_label names names_laws ps es l n (λ a. some (subst (λ o. (listed filled_bstr).describes o iv) (lookup_none names l es a) d))
 
 -- what bars a label is a fault of the map
-pub barred_fault : (v : Item) (e : CoseError) → (ps : Pairs) × (as_map v ≡ Some ps) × Barred Name (Fielded (Option Item)) names (fields (optional any) (optional any)) bars ps e → partial_header.faults v e
+pub barred_fault : (v : Item) (e : CoseError) → (ps : Pairs) × (as_map v ≡ Some ps)
+    × Barred Name (Fielded (Option Item)) names (fields (optional any) (optional any)) bars ps e → partial_header.faults v e
 unfolding partial_header
 barred_fault v e f = go f.2.barred.2
   where
@@ -276,5 +286,22 @@ barred_fault v e f = go f.2.barred.2
         (label_after l b.walked.done (pair b.key b.value b.left) (inl (subst (label.describes b.key) (sym (names_laws.same_is l b.barred.0 h)) b.barred.1)))
 
     go : bars b.barred.0 b.before e → partial_header.faults v e
-    go (inl h) = inr ((f.0, f.1, this labels.iv h.0, earlier labels.partial_iv (iv_before labels.partial_iv b.walked.done s.entries (fields_of b.before).0.partial_iv s.named s.fields.1.1.1.1.1.0 h.1)), h.2)
-    go (inr h) = inr ((f.0, f.1, earlier labels.iv (iv_before labels.iv b.walked.done s.entries (fields_of b.before).0.iv s.named s.fields.1.1.1.1.0 h.1), this labels.partial_iv h.0), h.2)
+    go (inl h) = inr (
+      (
+        f.0,
+        f.1,
+        this labels.iv h.0,
+        earlier labels.partial_iv
+            (iv_before labels.partial_iv b.walked.done s.entries (fields_of b.before).0.partial_iv s.named s.fields.1.1.1.1.1.0 h.1),
+      ),
+      h.2,
+    )
+    go (inr h) = inr (
+      (
+        f.0,
+        f.1,
+        earlier labels.iv (iv_before labels.iv b.walked.done s.entries (fields_of b.before).0.iv s.named s.fields.1.1.1.1.0 h.1),
+        this labels.partial_iv h.0,
+      ),
+      h.2,
+    )

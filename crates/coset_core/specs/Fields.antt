@@ -65,6 +65,7 @@ content_type = that IsUnexpected IsContentType (registered (λ i. is_some (first
 abbrev pub same_name : Name → Name → Bool
 same_name a b = is_eq (name_cmp a b)
 
+-- labels are compared as numbers and texts
 abbrev pub names : Names Name
 names = record { shape = label; same = same_name }
 

@@ -67,7 +67,8 @@ pub record AtFault (all : Pairs) (o : Versions (Option Item)) (f : FieldsSeen) (
   pub others : Pairs
   pub walks : WalksTo all f o (pair key value others)
   pub within : PairsWithin m others t z
-  pub faulty : UnlessMemory e (λ g. RefusesKey names (fields (optional any) (optional any)) key value (parts_of (f, o)) g ⊎ BarsKey names bars key (parts_of (f, o)) g)
+  pub faulty : UnlessMemory e (λ g. RefusesKey names (fields (optional any) (optional any)) key value (parts_of (f, o)) g
+      ⊎ BarsKey names bars key (parts_of (f, o)) g)
 
 -- where reading pairs one after the other stops
 abbrev pub FillsSome : Pairs → Versions (Option Item) → State → FieldsSeen → State → InputPairs → Result (Option Version) CoseError → Type 0
@@ -83,7 +84,8 @@ IsDistinctRest f = are_distinct same_name (keys_of f.rest) ≡ true
 abbrev pub FillsFields : Pairs → Versions (Option Item) → State → FieldsSeen → State → InputPairs → Result (Option Version) CoseError → Type 0
 FillsFields all o z f t m (Ok (Some version)) = AtHeld version all o f t z m × IsDistinctRest f
 FillsFields all o z f t m (Ok None) = AtEnd all o f t z m × IsDistinctRest f
-FillsFields all o z f t m (Err e) = (left : Pairs) × PairsWithin m left t z × UnlessMemory e (GatherFaults names (fields (optional any) (optional any)) bars (dict all))
+FillsFields all o z f t m (Err e) = (left : Pairs) × PairsWithin m left t z
+    × UnlessMemory e (GatherFaults names (fields (optional any) (optional any)) bars (dict all))
 
 -- ---- signatures
 
@@ -115,4 +117,5 @@ BeginsPlaces vs t z m o f (Err e) = (left : Items) × AreWithin m left t z × ((
 -- the third and last is a byte string, of these bytes; or it isn't, or they are too few or too many
 abbrev pub EndsPlaces : Items → State → State → InputItems → List ℕ → Result (Unit {0}) CoseError → Type 0
 EndsPlaces vs t z m b (Ok x) = (w : Item) × (vs ≡ item w no_items) × (as_bytes w ≡ Some b) × AreWithin m no_items t z
-EndsPlaces vs t z m b (Err e) = (left : Items) × AreWithin m left t z × ((p u : Item) (k : ℕ) → UnlessMemory e ((layered_signature k).faults (array (item p (item u vs)))))
+EndsPlaces vs t z m b (Err e) = (left : Items) × AreWithin m left t z
+    × ((p u : Item) (k : ℕ) → UnlessMemory e ((layered_signature k).faults (array (item p (item u vs)))))

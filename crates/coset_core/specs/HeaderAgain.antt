@@ -4,12 +4,14 @@ use Rattle.coset_value.specs.Item.{Item, bytes, array, Items, no_items, item, de
 use Rattle.coset_value.specs.Parts.{as_bytes, as_array}
 use Rattle.coset_codec.specs.declared.error.CoseError.{CoseError}
 use Rattle.coset_codec.specs.Shape.{Shape, Places, fixed, bstr, ◌then◌, end, one_or_more, one_or_array, one_or_many}
-use Rattle.coset_codec.specs.ShapeLaws.{Again, AgainPlaces, Lawful, LawfulPlaces, some-one, both-some, array_of_laws, then_laws, bstr_laws, end_laws, one_or_many_laws}
+use Rattle.coset_codec.specs.ShapeLaws.{Again, AgainPlaces, Lawful, LawfulPlaces, some-one, both-some, array_of_laws, then_laws, bstr_laws, end_laws}
+use Rattle.coset_codec.specs.ShapeLaws.{one_or_many_laws}
 use Rattle.coset_codec.specs.Maps.{FieldShape}
 use Rattle.coset_codec.specs.MapLaws.{AgainFieldShape, LawfulFieldShape, Within}
 use Rattle.coset_core.specs.Fields.{FieldsSeen, Versions, map_with}
 use Rattle.coset_core.specs.FieldLaws.{map_with_laws, split, join, image_with}
-use Rattle.coset_core.specs.Headers.{HeaderSeen, header_of, Signatures, no_signatures, signature_and, CounterSignaturesAre, IsHeader, AreSignatures, signed_array, told_by, counter_signatures_item, header_item, protected_item, signatures_image, header_image}
+use Rattle.coset_core.specs.Headers.{HeaderSeen, header_of, Signatures, no_signatures, signature_and, CounterSignaturesAre, IsHeader, AreSignatures}
+use Rattle.coset_core.specs.Headers.{signed_array, told_by, counter_signatures_item, header_item, protected_item, signatures_image, header_image}
 use Rattle.coset_core.specs.HeaderReads.{ProtectedOf}
 
 -- one value, of which it is known which items stand for it, and what it is written as
@@ -80,7 +82,12 @@ one_or_array_told o p u s more k (item v vs) a = one_or_array_begins v vs (place
 
 -- the value of label 7, or 11, that stands for them
 abbrev known : ℕ → Signatures → FieldShape (Unit {0})
-known k ss = record { describes = λ o x. CounterSignaturesAre (AreSignatures ss k) (ss ≡ no_signatures) o; image = λ x. counter_signatures_item ss (signatures_image ss); faults = λ v e. ⊥ }
+known k ss = record {
+  describes = λ o x. CounterSignaturesAre (AreSignatures ss k) (ss ≡ no_signatures) o;
+  image =
+      λ x. counter_signatures_item ss (signatures_image ss);
+  faults = λ v e. ⊥;
+}
 
 known_places_laws : (k : ℕ) (ss : Signatures) → AreAgain k ss → LawfulPlaces (Unit {0}) (known_places k ss)
 known_places_laws k ss again = record { unique = λ vs x y p q. refl; again = λ vs x p. again vs p; fits = λ vs x p m. m; sound = λ vs x e p f. f }
@@ -92,7 +99,8 @@ mapped_twice : (o : Option Items) (w : Item) → option_map one_or_array o ≡ S
 mapped_twice (Some vs) w p = ap Some p
 mapped_twice None w p = absurd (cc)
 
-known_again : (k : ℕ) (ss : Signatures) → AreAgain k ss → (d : ℕ) (o : Option Item) (x : Unit {0}) → Within d o → (known k ss).describes o x → AgainFieldShape (Unit {0}) (known k ss) d x
+known_again : (k : ℕ) (ss : Signatures) → AreAgain k ss → (d : ℕ) (o : Option Item) (x : Unit {0}) → Within d o → (known k ss).describes o x
+    → AgainFieldShape (Unit {0}) (known k ss) d x
 known_again k no_signatures again d None x w h = record { value = None; is_image = refl; described = refl; shallow = tt }
 known_again k no_signatures again d (Some v) x w h = absurd (known_told k no_signatures v h refl)
 known_again k (signature_and o p u s more) again d None x w h = absurd (cc)
@@ -101,7 +109,13 @@ known_again k (signature_and o p u s more) again d (Some v) x w h =
     let l : Lawful (Unit {0}) (one_or_many (known_places k ss)) =
     one_or_many_laws (known_places k ss) (λ vs ws y a b e. (one_or_array_told o p u s more k ws b, same_count ss k vs ws a b)) (known_places_laws k ss again) in
     let a : Again (Unit {0}) (one_or_many (known_places k ss)) v x = l.again v x h in
-    record { value = Some a.image; is_image = mapped_twice (signatures_image ss) a.image a.is_image; described = a.described; shallow = omega (arith, a.shallow, w) }
+    record {
+      value = Some a.image;
+      is_image = mapped_twice (signatures_image ss) a.image a.is_image;
+      described = a.described;
+      shallow =
+          omega (arith, a.shallow, w);
+    }
 
 known_laws : (k : ℕ) (ss : Signatures) → AreAgain k ss → LawfulFieldShape (Unit {0}) (known k ss)
 known_laws k ss again = record { unique = λ o x y p q. refl; again = known_again k ss again; sound = λ v x e p f. f; told = λ v x p q. known_told k ss v p q }
@@ -118,14 +132,16 @@ map_again : (f : FieldsSeen) (ss ts : Signatures) (k : ℕ) → AreAgain k ss �
 map_again f ss ts k again again_v2 v h =
     let two : Versions (Unit {0}) = (tt, tt) in
     let a : Again (FieldsSeen × Versions (Unit {0})) (map_with (known k ss) (known k ts)) v (f, two) =
-    (map_with_laws (known k ss) (known k ts) (known_laws k ss again) (known_laws k ts again_v2)).again v (f, two) (join (known k ss) (known k ts) v f h.0 two h.1 h.2 h.3) in
+    (map_with_laws (known k ss) (known k ts) (known_laws k ss again) (known_laws k ts again_v2)).again v (f, two)
+    (join (known k ss) (known k ts) v f h.0 two h.1 h.2 h.3) in
     let d = within h.0.0 in
     let c : AgainFieldShape (Unit {0}) (known k ss) d.0 tt = known_again k ss again d.0 h.0.0 tt d.1 h.2 in
     let e = within h.0.1 in
     let g : AgainFieldShape (Unit {0}) (known k ts) e.0 tt = known_again k ts again_v2 e.0 h.0.1 tt e.1 h.3 in
     record {
       image = a.image;
-      is_image = (λ i. header_item f (c.is_image i) (g.is_image i)) ∙ (image_with (known k ss) (known k ts) f two c.value g.value c.is_image g.is_image ∙ a.is_image);
+      is_image = (λ i. header_item f (c.is_image i) (g.is_image i))
+          ∙ (image_with (known k ss) (known k ts) f two c.value g.value c.is_image g.is_image ∙ a.is_image);
       described = split (known k ss) (known k ts) a.image f two a.described;
       shallow = a.shallow;
     }
@@ -133,14 +149,16 @@ map_again f ss ts k again again_v2 v h =
 -- ---- signatures
 
 -- the byte string is written as it was read
-pub protected_again : (k : ℕ) (o : Option (List ℕ)) (h : HeaderSeen) (v : Item) → ProtectedOf o h k v → Again (Unit {0}) (told_as (ProtectedOf o h k) (protected_item o h (header_image h))) v tt
+pub protected_again : (k : ℕ) (o : Option (List ℕ)) (h : HeaderSeen) (v : Item) → ProtectedOf o h k v
+    → Again (Unit {0}) (told_as (ProtectedOf o h k) (protected_item o h (header_image h))) v tt
 protected_again k o h v p =
     let b = protected_is_bytes o h k v p in
     record { image = v; is_image = ap (λ q. protected_item q h (header_image h)) b.2 ∙ ap Some (sym b.1); described = p; shallow = omega arith }
 
 -- laws of one value, from how it is written and from what is wrong with an item; and of an array of three, from its places
 pub fixed_laws :
-    (P : Item → Type 0) (o : Option Item) (F : Item → CoseError → Type 0) → ((v : Item) → P v → Again (Unit {0}) (told_as P o) v tt) → ((v : Item) (e : CoseError) → P v → F v e → ⊥)
+    (P : Item → Type 0) (o : Option Item) (F : Item → CoseError → Type 0) → ((v : Item) → P v → Again (Unit {0}) (told_as P o) v tt)
+    → ((v : Item) (e : CoseError) → P v → F v e → ⊥)
     → Lawful (Unit {0}) (fixed P o F)
 fixed_laws P o F again sound =
     record {
@@ -165,4 +183,10 @@ mutual
       let other = fixed_laws (IsHeader u k) (header_image u) (λ w e. ⊥) (λ w x. header_again u k w x) (λ w e x f. f) in
       let a = (signed_laws _ _ covered other).again v (tt, (tt, (s, tt))) h.0 in
       let b = signatures_again more k vs h.1 in
-      record { image = item a.image b.image; is_image = both-some item _ _ _ _ a.is_image b.is_image; described = (a.described, b.described); shallow = omega (arith, a.shallow, b.shallow) }
+      record {
+        image = item a.image b.image;
+        is_image = both-some item _ _ _ _ a.is_image b.is_image;
+        described = (a.described, b.described);
+        shallow =
+            omega (arith, a.shallow, b.shallow);
+      }

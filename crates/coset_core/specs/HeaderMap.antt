@@ -4,7 +4,8 @@ use Rattle.std.specs.Prelude.{List, [], ◌∷◌}
 use Rattle.coset_codec.specs.Shape.{Shape, along}
 use Rattle.coset_codec.specs.Maps.{listed}
 use Rattle.coset_core.specs.Fields.{FieldsSeen, Versions, map_with}
-use Rattle.coset_core.specs.Headers.{HeaderSeen, header_of, fields_in, counter_signatures_in, countersignatures_in, Signatures, no_signatures, signature_and, SignatureSeen, signatures_of}
+use Rattle.coset_core.specs.Headers.{HeaderSeen, header_of, fields_in, counter_signatures_in, countersignatures_in, Signatures, no_signatures, signature_and}
+use Rattle.coset_core.specs.Headers.{SignatureSeen, signatures_of}
 
 -- signatures as a list
 abbrev pub each_of : Signatures → List SignatureSeen

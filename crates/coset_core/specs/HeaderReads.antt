@@ -8,14 +8,18 @@ use Rattle.coset_codec.specs.declared.error.CoseError.{CoseError}
 use Rattle.coset_codec.specs.Maps.{listed, SomePair}
 use Rattle.coset_core.specs.Fields.{FieldsSeen, Versions, map_with, partial_header, SomeCounterSignatures}
 use Rattle.coset_core.specs.FieldLaws.{split}
-use Rattle.coset_core.specs.Headers.{HeaderSeen, header_of, Signatures, no_signatures, ProtectedSeen, SignatureSeen, signatures_of, empty_header, CounterSignaturesAre, ContentIs, ProtectedIs, IsHeader, AreSignatures, signed_array, told_by, HeaderFaults, ProtectedFaults, counter_signatures_faults, layered_header, layered_protected, layered_signature}
+use Rattle.coset_core.specs.Headers.{HeaderSeen, header_of, Signatures, no_signatures, ProtectedSeen, SignatureSeen, signatures_of, empty_header}
+use Rattle.coset_core.specs.Headers.{CounterSignaturesAre, ContentIs, ProtectedIs, IsHeader, AreSignatures, signed_array, told_by, HeaderFaults}
+use Rattle.coset_core.specs.Headers.{ProtectedFaults, counter_signatures_faults, layered_header, layered_protected, layered_signature}
 
 -- ---- what stands for a value
 
 -- an array of three, whose first two places are seen otherwise
 pub signed_as :
-    {A B C D : Type 0} (p : Shape A) (u : Shape B) (q : Shape C) (t : Shape D) (a : A) (b : B) (c : C) (d : D) (s : List ℕ) → ((w : Item) → p.describes w a → q.describes w c)
-    → ((w : Item) → u.describes w b → t.describes w d) → (v : Item) → (signed_array p u).describes v (a, (b, (s, tt))) → (signed_array q t).describes v (c, (d, (s, tt)))
+    {A B C D : Type 0} (p : Shape A) (u : Shape B) (q : Shape C) (t : Shape D) (a : A) (b : B) (c : C) (d : D) (s : List ℕ)
+    → ((w : Item) → p.describes w a → q.describes w c)
+    → ((w : Item) → u.describes w b → t.describes w d) → (v : Item) → (signed_array p u).describes v (a, (b, (s, tt)))
+    → (signed_array q t).describes v (c, (d, (s, tt)))
 signed_as p u q t a b c d s f g v h = (h.0, h.1, go h.0 h.2)
   where
     go : (vs : Items) → (p then u then bstr then end).describes vs (a, (b, (s, tt))) → (q then t then bstr then end).describes vs (c, (d, (s, tt)))
@@ -51,18 +55,21 @@ signatures_read k (item v vs) [] h = absurd h
 signatures_read k (item v vs) (x ∷ xs) h =
     let p : Shape (Unit {0}) = told_by (ProtectedOf x.protected.original x.protected.header k) in
     let u : Shape (Unit {0}) = told_by (IsHeader x.unprotected k) in (
-      signed_as (layered_protected k) (layered_header k) p u x.protected x.unprotected tt tt x.signature (protected_read k x.protected) (unprotected_read k x.unprotected) v h.0,
+      signed_as (layered_protected k) (layered_header k) p u x.protected x.unprotected tt tt x.signature (protected_read k x.protected)
+          (unprotected_read k x.unprotected) v h.0,
       signatures_read k vs xs h.1,
     )
 
 -- one, or several
 pub counter_signatures_read :
-    (k : ℕ) (w : Item) (xs : List SignatureSeen) → (one_or_many (any_number (layered_signature k))).describes w xs → (vs : Items) × (one_or_more w ≡ Some vs) × AreSignatures (signatures_of xs) k vs
+    (k : ℕ) (w : Item) (xs : List SignatureSeen) → (one_or_many (any_number (layered_signature k))).describes w xs → (vs : Items) × (one_or_more w ≡ Some vs)
+    × AreSignatures (signatures_of xs) k vs
 counter_signatures_read k w xs h = (h.0, h.1, signatures_read k h.0 xs h.2)
 
 -- a header of which that is told
 pub header_read :
-    (k : ℕ) (v : Item) (f : FieldsSeen) (o : Versions (Option Item)) (ss ts : Signatures) → partial_header.describes v (f, o) → CounterSignaturesAre (AreSignatures ss k) (ss ≡ no_signatures) o.0
+    (k : ℕ) (v : Item) (f : FieldsSeen) (o : Versions (Option Item)) (ss ts : Signatures) → partial_header.describes v (f, o)
+    → CounterSignaturesAre (AreSignatures ss k) (ss ≡ no_signatures) o.0
     → CounterSignaturesAre (AreSignatures ts k) (ts ≡ no_signatures) o.1 → (layered_header k).describes v (header_of f ss ts)
 unfolding layered_header
 header_read k v f o ss ts p q r = (o, p, q, r)
@@ -121,13 +128,15 @@ places_fault k (item v no_items) e (inr f) = absurd f
 places_fault k (item v (item w vs)) e (inr (inl f)) = let g = header_fault k w e f in (g.0, inr (inl g.1))
 places_fault k (item v (item w vs)) e (inr (inr f)) = (0, inr (inr f))
 
-signature_fault : (k : ℕ) (v : Item) (e : CoseError) → (layered_signature k).faults v e → (n : ℕ) × (signed_array (protected_faults n k) (unprotected_faults n k)).faults v e
+signature_fault : (k : ℕ) (v : Item) (e : CoseError) → (layered_signature k).faults v e → (n : ℕ)
+    × (signed_array (protected_faults n k) (unprotected_faults n k)).faults v e
 signature_fault k v e (inl f) = (0, inl f)
 signature_fault k v e (inr f) =
     elim f.2 [ inl m ↦ (0, inr (f.0, f.1, inl m)) | inr m ↦ let g = places_fault k f.0 e m.1 in (g.0, inr (f.0, f.1, inr (m.0, g.1))) ]
 
 signatures_fault :
-    (k : ℕ) (vs : Items) (e : CoseError) → EachFaults (layered_signature k).faults vs e → (n : ℕ) × EachFaults (signed_array (protected_faults n k) (unprotected_faults n k)).faults vs e
+    (k : ℕ) (vs : Items) (e : CoseError) → EachFaults (layered_signature k).faults vs e → (n : ℕ)
+    × EachFaults (signed_array (protected_faults n k) (unprotected_faults n k)).faults vs e
 signatures_fault k no_items e f = absurd f
 signatures_fault k (item v vs) e (inl f) = let g = signature_fault k v e f in (g.0, inl g.1)
 signatures_fault k (item v vs) e (inr f) = let g = signatures_fault k vs e f in (g.0, inr g.1)
@@ -143,7 +152,8 @@ some_as P Q no_pairs f s = s
 some_as P Q (pair k v ps) f (inl s) = inl (f k v s)
 some_as P Q (pair k v ps) f (inr s) = inr (some_as P Q ps f s)
 
-pub counter_signatures_fault : (k : ℕ) (v : Item) (w : Item) (e : CoseError) → SomeCounterSignatures (λ u. u ≡ w) v → (one_or_many (any_number (layered_signature k))).faults w e → (layered_header k).faults v e
+pub counter_signatures_fault : (k : ℕ) (v : Item) (w : Item) (e : CoseError) → SomeCounterSignatures (λ u. u ≡ w) v
+    → (one_or_many (any_number (layered_signature k))).faults w e → (layered_header k).faults v e
 unfolding layered_header
 counter_signatures_fault k v w e p q =
     let g = faults_read k w e q in

@@ -7,24 +7,29 @@ use Rattle.coset_codec.specs.Serialized.{ContentFaults}
 use Rattle.coset_codec.specs.Shape.{EachFaults, one_or_more}
 use Rattle.coset_codec.specs.ShapeLaws.{some-one, some-none}
 use Rattle.coset_core.specs.FieldLaws.{partial_header_laws, counter_signatures_found}
-use Rattle.coset_core.specs.Headers.{HeaderSeen, header_of, Signatures, no_signatures, signature_and, empty_header, CounterSignaturesAre, ContentIs, IsHeader, AreSignatures, signed_array, protected_item, header_image, HeaderFaults, ProtectedFaults, counter_signatures_faults}
+use Rattle.coset_core.specs.Headers.{HeaderSeen, header_of, Signatures, no_signatures, signature_and, empty_header, CounterSignaturesAre, ContentIs, IsHeader}
+use Rattle.coset_core.specs.Headers.{AreSignatures, signed_array, protected_item, header_image, HeaderFaults, ProtectedFaults, counter_signatures_faults}
 use Rattle.coset_core.specs.HeaderAgain.{fixed_laws, signed_laws, protected_again, header_again}
 use Rattle.coset_core.specs.HeaderReads.{ProtectedOf, protected_faults, unprotected_faults}
 
 -- no fault within n signatures is found in a value that stands for signatures
 abbrev AreSound : ℕ → Type 0
-AreSound n = (k : ℕ) (w : Item) (e : CoseError) (ss : Signatures) (vs : Items) → one_or_more w ≡ Some vs → AreSignatures ss k vs → counter_signatures_faults n k w e → ⊥
+AreSound n = (k : ℕ) (w : Item) (e : CoseError) (ss : Signatures) (vs : Items) → one_or_more w ≡ Some vs → AreSignatures ss k vs
+    → counter_signatures_faults n k w e → ⊥
 
 -- so none is in a value that stands for signatures
 held_sound :
-    (n : ℕ) → AreSound n → (k : ℕ) (e : CoseError) (ss : Signatures) (o : Option Item) (w : Item) → o ≡ Some w → CounterSignaturesAre (AreSignatures ss k) (ss ≡ no_signatures) o
+    (n : ℕ) → AreSound n → (k : ℕ) (e : CoseError) (ss : Signatures) (o : Option Item) (w : Item) → o ≡ Some w
+    → CounterSignaturesAre (AreSignatures ss k) (ss ≡ no_signatures) o
     → counter_signatures_faults n k w e → ⊥
 held_sound n sound k e ss o w is a x =
-    let are : CounterSignaturesAre (AreSignatures ss k) (ss ≡ no_signatures) (Some w) = subst (CounterSignaturesAre (AreSignatures ss k) (ss ≡ no_signatures)) is a in
+    let are : CounterSignaturesAre (AreSignatures ss k) (ss ≡ no_signatures) (Some w) =
+    subst (CounterSignaturesAre (AreSignatures ss k) (ss ≡ no_signatures)) is a in
     sound k w e ss are.0 are.1 are.2 x
 
 -- in a map, in the content of a byte string, and in that string
-header_sound : (n : ℕ) → AreSound n → (k : ℕ) (e : CoseError) (h : HeaderSeen) (v : Item) → IsHeader h k v → HeaderFaults (counter_signatures_faults n k) v e → ⊥
+header_sound : (n : ℕ) → AreSound n → (k : ℕ) (e : CoseError) (h : HeaderSeen) (v : Item) → IsHeader h k v → HeaderFaults (counter_signatures_faults n k) v e
+    → ⊥
 header_sound n sound k e (header_of f ss ts) v a (inl x) = partial_header_laws.sound v (f, a.0) e a.1 x
 header_sound n sound k e (header_of f ss ts) v a (inr x) =
     let found = counter_signatures_found (λ w. counter_signatures_faults n k w e) v f a.0 a.1 x in
@@ -39,7 +44,8 @@ content_sound :
 content_sound n sound k e h [] p x = x
 content_sound n sound k e h (c ∷ b) p (inl x) = x.1 p.0 p.1
 content_sound n sound k e h (c ∷ b) p (inr x) =
-    header_sound n sound k e h p.0 p.2 (subst (λ w. HeaderFaults (counter_signatures_faults n k) w e) (encodings_differ x.0 p.0 (c ∷ b) (c ∷ b) [] [] x.1.0 p.1.0 refl).0 x.2)
+    header_sound n sound k e h p.0 p.2 (subst (λ w. HeaderFaults (counter_signatures_faults n k) w e)
+    (encodings_differ x.0 p.0 (c ∷ b) (c ∷ b) [] [] x.1.0 p.1.0 refl).0 x.2)
 
 protected_sound :
     (n : ℕ) → AreSound n → (k : ℕ) (e : CoseError) (o : Option (List ℕ)) (h : HeaderSeen) (v : Item) → ProtectedOf o h k v
@@ -57,7 +63,8 @@ each_sound n sound k e no_signatures no_items a x = x
 each_sound n sound k e no_signatures (item v vs) a x = absurd (cc)
 each_sound n sound k e (signature_and o p u s more) no_items a x = a
 each_sound n sound k e (signature_and o p u s more) (item v vs) a (inl x) =
-    let covered = fixed_laws (ProtectedOf o p k) (protected_item o p (header_image p)) (protected_faults n k).faults (protected_again k o p) (λ w f. protected_sound n sound k f o p w) in
+    let covered = fixed_laws (ProtectedOf o p k) (protected_item o p (header_image p)) (protected_faults n k).faults (protected_again k o p)
+    (λ w f. protected_sound n sound k f o p w) in
     let other = fixed_laws (IsHeader u k) (header_image u) (unprotected_faults n k).faults (header_again u k) (λ w f. header_sound n sound k f u w) in
     (signed_laws _ _ covered other).sound v (tt, (tt, (s, tt))) e a.0 x
 each_sound n sound k e (signature_and o p u s more) (item v vs) a (inr x) = each_sound n sound k e more vs a.1 x
@@ -69,7 +76,8 @@ counter_signatures_sound (suc n) k w e ss vs p a (inl f) = some-none p f.0
 counter_signatures_sound (suc n) k w e ss vs p a (inr f) =
     elim f.2 [
       | inl m ↦ m.0
-      | inr m ↦ each_sound n (counter_signatures_sound n) k e ss vs a (subst (λ us. EachFaults (signed_array (protected_faults n k) (unprotected_faults n k)).faults us e) (some-one f.1 p) m.1)
+      | inr m ↦ each_sound n (counter_signatures_sound n) k e ss vs a
+          (subst (λ us. EachFaults (signed_array (protected_faults n k) (unprotected_faults n k)).faults us e) (some-one f.1 p) m.1)
     ]
 
 -- nor in a header

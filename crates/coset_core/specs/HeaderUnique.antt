@@ -6,7 +6,8 @@ use Rattle.coset_codec.specs.Shape.{one_or_more, bstr, ◌then◌, end}
 use Rattle.coset_codec.specs.ShapeLaws.{some-one, some-none}
 use Rattle.coset_core.specs.Fields.{FieldsSeen, Versions}
 use Rattle.coset_core.specs.FieldLaws.{partial_header_laws}
-use Rattle.coset_core.specs.Headers.{HeaderSeen, header_of, Signatures, no_signatures, signature_and, empty_header, CounterSignaturesAre, ContentIs, IsHeader, AreSignatures, signed_array, told_by}
+use Rattle.coset_core.specs.Headers.{HeaderSeen, header_of, Signatures, no_signatures, signature_and, empty_header, CounterSignaturesAre, ContentIs, IsHeader}
+use Rattle.coset_core.specs.Headers.{AreSignatures, signed_array, told_by}
 use Rattle.coset_core.specs.HeaderReads.{ProtectedOf}
 
 -- an item stands for one of two headers alone, whatever else is known of them; and some items for one of two lists of
@@ -37,12 +38,14 @@ map_same f g ss ts us ws same same_v2 k v a b =
     let last : ts ≡ ws = counter_signatures_same k ts ws same_v2 a.0.1 b.0.1 (ap (λ x. x.1.1) e) a.3 b.3 in
     λ i. header_of (first i) (second i) (last i)
 
-content_same : (h g : HeaderSeen) → SameHeader h g → (k : ℕ) (b : List ℕ) → ContentIs (IsHeader h k) (h ≡ empty_header) b → ContentIs (IsHeader g k) (g ≡ empty_header) b → h ≡ g
+content_same : (h g : HeaderSeen) → SameHeader h g → (k : ℕ) (b : List ℕ) → ContentIs (IsHeader h k) (h ≡ empty_header) b
+    → ContentIs (IsHeader g k) (g ≡ empty_header) b → h ≡ g
 content_same h g same k [] p q = p ∙ sym q
 content_same h g same k (c ∷ b) p q = same k q.0 (subst (IsHeader h k) (encodings_differ p.0 q.0 (c ∷ b) (c ∷ b) [] [] p.1.0 q.1.0 refl).0 p.2) q.2
 
 -- and of protected ones also the bytes
-protected_same : (o p : Option (List ℕ)) (h g : HeaderSeen) → SameHeader h g → (k : ℕ) (v : Item) → ProtectedOf o h k v → ProtectedOf p g k v → (o ≡ p) × (h ≡ g)
+protected_same : (o p : Option (List ℕ)) (h g : HeaderSeen) → SameHeader h g → (k : ℕ) (v : Item) → ProtectedOf o h k v → ProtectedOf p g k v → (o ≡ p)
+    × (h ≡ g)
 protected_same o p h g same zero v a b = absurd a
 protected_same o p h g same (suc k) v a b =
     let e : a.0 ≡ b.0 = some-one a.1 b.1 in
@@ -73,7 +76,8 @@ signed_same P Q R S s t v a b =
 -- all headers, and all signatures
 mutual
   pub header_same : (h g : HeaderSeen) → SameHeader h g
-  header_same (header_of f ss ts) (header_of g us ws) k v a b = map_same f g ss ts us ws (λ j vs x y. signatures_same ss us j vs x y) (λ j vs x y. signatures_same ts ws j vs x y) k v a b
+  header_same (header_of f ss ts) (header_of g us ws) k v a b =
+      map_same f g ss ts us ws (λ j vs x y. signatures_same ss us j vs x y) (λ j vs x y. signatures_same ts ws j vs x y) k v a b
 
   pub signatures_same : (ss ts : Signatures) → SameSignatures ss ts
   signatures_same no_signatures no_signatures k vs a b = refl

@@ -3,7 +3,8 @@ use Rattle.std.proofs.Common.{◌≡◌, ℕ, zero, suc, List, [], ◌∷◌, Op
 use Rattle.coset_value.specs.Item.{bytes, item}
 use Rattle.coset_codec.specs.Shape.{both, images}
 use Rattle.coset_codec.specs.Serialized.{content_bytes}
-use Rattle.coset_core.specs.Headers.{HeaderSeen, ProtectedSeen, SignatureSeen, signatures_of, is_empty_header, signature_item, signatures_image, header_image, protected_bytes, layered_header, layered_protected, layered_signature}
+use Rattle.coset_core.specs.Headers.{HeaderSeen, ProtectedSeen, SignatureSeen, signatures_of, is_empty_header, signature_item, signatures_image, header_image}
+use Rattle.coset_core.specs.Headers.{protected_bytes, layered_header, layered_protected, layered_signature}
 
 -- a header, however many layers are left
 pub header_image_is : (k : ℕ) (h : HeaderSeen) → (layered_header k).image h ≡ header_image h
@@ -17,7 +18,8 @@ protected_image_is zero p = refl
 protected_image_is (suc k) p = refl
 
 -- a signature
-pub signature_image_is : (k : ℕ) (x : SignatureSeen) → (layered_signature k).image x ≡ signature_item (option_map bytes (protected_bytes x.protected)) (header_image x.unprotected) x.signature
+pub signature_image_is : (k : ℕ) (x : SignatureSeen) → (layered_signature k).image x
+    ≡ signature_item (option_map bytes (protected_bytes x.protected)) (header_image x.unprotected) x.signature
 signature_image_is k x = rw (protected_image_is k x.protected, header_image_is k x.unprotected) refl
 
 -- the bytes of a protected header are told by its item
@@ -29,5 +31,6 @@ kept_parts None h = refl
 pub images_signatures : (k : ℕ) (xs : List SignatureSeen) → images (layered_signature k).image xs ≡ signatures_image (signatures_of xs)
 images_signatures k [] = refl
 images_signatures k (x ∷ xs) =
-    let first = signature_image_is k x ∙ ap (λ o. signature_item (option_map bytes o) (header_image x.unprotected) x.signature) (kept_parts x.protected.original x.protected.header) in
+    let first = signature_image_is k x ∙ ap (λ o. signature_item (option_map bytes o) (header_image x.unprotected) x.signature)
+    (kept_parts x.protected.original x.protected.header) in
     λ i. both item (first i) (images_signatures k xs i)

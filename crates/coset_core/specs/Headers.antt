@@ -25,6 +25,7 @@ mutual
     no_signatures : Signatures
     signature_and : Option (List ℕ) → HeaderSeen → HeaderSeen → List ℕ → Signatures → Signatures
 
+-- the fields of a header, other than its signatures
 abbrev pub fields_in : HeaderSeen → FieldsSeen
 fields_in (header_of f ss ts) = f
 
@@ -39,6 +40,7 @@ pub record ProtectedSeen : Type 0 where
   pub original : Option (List ℕ)
   pub header : HeaderSeen
 
+-- a signature or a countersignature without its memory
 pub record SignatureSeen : Type 0 where
   pub protected : ProtectedSeen
   pub unprotected : HeaderSeen
@@ -59,6 +61,7 @@ abbrev pub are_none : Signatures → Bool
 are_none no_signatures = true
 are_none (signature_and o p u s more) = false
 
+-- whether a header holds nothing
 abbrev pub is_empty_header : HeaderSeen → Bool
 is_empty_header (header_of f ss ts) =
     is_none f.alg

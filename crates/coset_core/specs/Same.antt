@@ -33,7 +33,8 @@ fields_eq f g =
     && (option_eq content_type_eq f.content_type g.content_type
     && (pointwise ◌==◌ f.key_id g.key_id
     && (pointwise ◌==◌ f.iv g.iv
-    && (pointwise ◌==◌ f.partial_iv g.partial_iv && (option_eq (pointwise ◌==◌) f.countersignature0_v2 g.countersignature0_v2 && pointwise entry_eq f.rest g.rest))))))
+    && (pointwise ◌==◌ f.partial_iv g.partial_iv && (option_eq
+    (pointwise ◌==◌) f.countersignature0_v2 g.countersignature0_v2 && pointwise entry_eq f.rest g.rest))))))
 
 -- the same fields, and the same counter signatures of both versions: as many, each the same as its counterpart, in the bytes that were
 -- kept, the protected header, the unprotected one, and the signature

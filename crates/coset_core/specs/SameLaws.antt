@@ -65,7 +65,16 @@ fields_eq-decides f g =
       countersignature0_v2 = p.1.1.1.1.1.1.0 i;
       rest = p.1.1.1.1.1.1.1 i;
     })
-    (λ p. (ap (λ x. x.alg) p, (ap (λ x. x.crit) p, (ap (λ x. x.content_type) p, (ap (λ x. x.key_id) p, (ap (λ x. x.iv) p, (ap (λ x. x.partial_iv) p, (ap (λ x. x.countersignature0_v2) p, ap (λ x. x.rest) p))))))))
+    (λ p. (
+      ap (λ x. x.alg) p,
+      (
+        ap (λ x. x.crit) p,
+        (
+          ap (λ x. x.content_type) p,
+          (ap (λ x. x.key_id) p, (ap (λ x. x.iv) p, (ap (λ x. x.partial_iv) p, (ap (λ x. x.countersignature0_v2) p, ap (λ x. x.rest) p)))),
+        ),
+      ),
+    ))
     (Decides-and (option_eq algorithm_eq f.alg g.alg) _ (option_eq-decides algorithm_eq algorithm_eq-decides f.alg g.alg)
     (Decides-and (pointwise critical_eq f.crit g.crit) _ (pointwise_decides critical_eq-decides f.crit g.crit)
     (Decides-and (option_eq content_type_eq f.content_type g.content_type) _ (option_eq-decides content_type_eq same_name-decides f.content_type g.content_type)
@@ -125,7 +134,8 @@ protected_eq-decides p q =
     Decides-like (protected_eq p q)
     (λ e i. record { original = e.0 i; header = e.1 i })
     (λ e. (ap (λ x. x.original) e, ap (λ x. x.header) e))
-    (Decides-and (option_eq (pointwise ◌==◌) p.original q.original) (header_eq p.header q.header) (kept-decides p.original q.original) (header_eq-decides p.header q.header))
+    (Decides-and (option_eq (pointwise ◌==◌) p.original q.original) (header_eq p.header q.header) (kept-decides p.original q.original)
+    (header_eq-decides p.header q.header))
 
 pub signature_eq-decides : IsEquality signature_eq
 signature_eq-decides s t =
@@ -133,7 +143,8 @@ signature_eq-decides s t =
     (λ e i. record { protected = e.0 i; unprotected = e.1.0 i; signature = e.1.1 i })
     (λ e. (ap (λ x. x.protected) e, (ap (λ x. x.unprotected) e, ap (λ x. x.signature) e)))
     (Decides-and (protected_eq s.protected t.protected) _ (protected_eq-decides s.protected t.protected)
-    (Decides-and (header_eq s.unprotected t.unprotected) (pointwise ◌==◌ s.signature t.signature) (header_eq-decides s.unprotected t.unprotected) (bytes_decides s.signature t.signature)))
+    (Decides-and (header_eq s.unprotected t.unprotected) (pointwise ◌==◌ s.signature t.signature) (header_eq-decides s.unprotected t.unprotected)
+    (bytes_decides s.signature t.signature)))
 
 -- so they are reflexive, symmetric and transitive
 pub header_eq_equiv : IsEquivalence header_eq

@@ -2,11 +2,15 @@
 use Rattle.std.specs.Prelude.{◌≡◌, map, option_map}
 use Rattle.coset_core.specs.Headers.{HeaderSeen, header_of, ProtectedSeen, SignatureSeen, signatures_of}
 use Rattle.coset_core.specs.FieldsView.{fields_level}
-use Rattle.coset_core.specs.Views.{countersignature_step, header_step, protected_step, signature_step, countersignature_seen, header_seen, protected_seen, signature_seen}
-use Rattle.coset_core.specs.declared.countersignature.CoseCountersignature.{CoseCountersignature, CoseCountersignature-F, out-CoseCountersignature, fold_out-CoseCountersignature}
+use Rattle.coset_core.specs.Views.{countersignature_step, header_step, protected_step, signature_step, countersignature_seen, header_seen, protected_seen}
+use Rattle.coset_core.specs.Views.{signature_seen}
+use Rattle.coset_core.specs.declared.countersignature.CoseCountersignature.{CoseCountersignature, CoseCountersignature-F, out-CoseCountersignature}
+use Rattle.coset_core.specs.declared.countersignature.CoseCountersignature.{fold_out-CoseCountersignature}
 use Rattle.coset_core.specs.declared.header.Header.{Header, Header-F, out-Header, roll-Header, fold-roll-Header, fold_out-Header}
-use Rattle.coset_core.specs.declared.protected.ProtectedHeader.{ProtectedHeader, ProtectedHeader-F, out-ProtectedHeader, roll-ProtectedHeader, fold-roll-ProtectedHeader, fold_out-ProtectedHeader}
-use Rattle.coset_core.specs.declared.signature.CoseSignature.{CoseSignature, CoseSignature-F, out-CoseSignature, roll-CoseSignature, fold-roll-CoseSignature, fold_out-CoseSignature}
+use Rattle.coset_core.specs.declared.protected.ProtectedHeader.{ProtectedHeader, ProtectedHeader-F, out-ProtectedHeader, roll-ProtectedHeader}
+use Rattle.coset_core.specs.declared.protected.ProtectedHeader.{fold-roll-ProtectedHeader, fold_out-ProtectedHeader}
+use Rattle.coset_core.specs.declared.signature.CoseSignature.{CoseSignature, CoseSignature-F, out-CoseSignature, roll-CoseSignature, fold-roll-CoseSignature}
+use Rattle.coset_core.specs.declared.signature.CoseSignature.{fold_out-CoseSignature}
 
 -- one level of each
 abbrev pub HeaderLevel : Type 0
@@ -23,7 +27,8 @@ CountersignatureLevel = CoseCountersignature-F CoseCountersignature Header Prote
 
 -- what each level is seen as
 abbrev pub header_level : HeaderLevel → HeaderSeen
-header_level h = header_of (fields_level h) (signatures_of (map signature_seen h.counter_signatures.items)) (signatures_of (map countersignature_seen h.countersignatures_v2.items))
+header_level h = header_of (fields_level h) (signatures_of (map signature_seen h.counter_signatures.items))
+    (signatures_of (map countersignature_seen h.countersignatures_v2.items))
 
 abbrev pub protected_level : ProtectedLevel → ProtectedSeen
 protected_level p = record { original = option_map (λ v. v.items) p.original_data; header = header_seen p.header }
@@ -53,4 +58,5 @@ pub signature-opened : (s : CoseSignature) → signature_seen s ≡ signature_le
 signature-opened = fold_out-CoseSignature SignatureSeen HeaderSeen ProtectedSeen SignatureSeen countersignature_step header_step protected_step signature_step
 
 pub countersignature-opened : (s : CoseCountersignature) → countersignature_seen s ≡ countersignature_level (out-CoseCountersignature s)
-countersignature-opened = fold_out-CoseCountersignature SignatureSeen HeaderSeen ProtectedSeen SignatureSeen countersignature_step header_step protected_step signature_step
+countersignature-opened = fold_out-CoseCountersignature SignatureSeen HeaderSeen ProtectedSeen SignatureSeen countersignature_step header_step protected_step
+    signature_step

@@ -70,4 +70,5 @@ signature_seen = fold-CoseSignature SignatureSeen HeaderSeen ProtectedSeen Signa
 
 -- what was signed by a countersignature of version 2 is seen as what is signed by a signature
 abbrev pub countersignature_seen : CoseCountersignature → SignatureSeen
-countersignature_seen = fold-CoseCountersignature SignatureSeen HeaderSeen ProtectedSeen SignatureSeen countersignature_step header_step protected_step signature_step
+countersignature_seen = fold-CoseCountersignature SignatureSeen HeaderSeen ProtectedSeen SignatureSeen countersignature_step header_step protected_step
+    signature_step

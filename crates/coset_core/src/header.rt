@@ -1,10 +1,14 @@
 //! Headers: what is said of a message's content beside it (RFC 8152, sections 3 and 3.1).
 
 ghost use Rattle.std.specs.Prelude.{◌≡◌, map, option_map, OnOk, IfOk, IfErr, ◌<◌, Option, IsTrue, Err, ◌↔◌, Some};
+ghost use Rattle.std.specs.Map.{lookup};
+ghost use Rattle.coset_value.specs.View.{view};
 ghost use Rattle.coset_codec.specs.declared.error.CoseError.TheVariants as errors;
+ghost use Rattle.coset_label.specs.Views.{label_seen};
+ghost use Rattle.coset_core.specs.Fields.{same_name};
 ghost use Rattle.coset_core.specs.FieldsView.{fields_seen, signatures_held};
 ghost use Rattle.coset_core.specs.Views.{algorithm_seen, entry_seen, header_seen};
-ghost use Rattle.coset_core.specs.Headers.{empty_header, is_empty_header, layered_header, header as header_shape};
+ghost use Rattle.coset_core.specs.Headers.{empty_header, fields_in, is_empty_header, layered_header, header as header_shape};
 ghost use Rattle.std.specs.Option.{option_eq};
 ghost use Rattle.std.specs.Ordering.{on};
 ghost use Rattle.std.specs.Cmp.{on_equiv, on_per, partial_equiv_from_equiv};
@@ -24,7 +28,7 @@ use coset_cbor::value::Value;
 use coset_codec::error::Refused;
 use coset_codec::read::Input;
 use coset_codec::util::copy_bstr;
-use coset_codec::{Codec, CoseError, Result};
+use coset_codec::{Codec, CoseError, Result, find_value};
 use coset_iana::HeaderParameter;
 use coset_label::{Algorithm, ContentType, Label, RegisteredLabelWithPrivate};
 use std::alloc::{AllocError, Global};
@@ -147,6 +151,15 @@ impl Header {
             && self.countersignatures_v2.is_empty()
             && self.countersignature0_v2.is_none()
             && self.rest.is_empty()
+    }
+
+    /// The value of the first pair of `rest` with this label; `None` where none has it. A label that has a field (1 to 7,
+    /// 11 and 12) isn't among the rest of a header that was read (RFC 8152, section 3).
+    pub fn get(&self, label: &Label) -> Option<&Value>
+        ensures { option_map (λ v. view v.now) result ≡ lookup (same_name (label_seen label.now))
+            (fields_in (header_seen self.now)).rest }
+    {
+        find_value(&self.rest, label)
     }
 }
 

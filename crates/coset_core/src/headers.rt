@@ -4,19 +4,19 @@
 //! Headers = ( protected : empty_or_serialized_map, unprotected : header_map )
 //! ```
 
-ghost use Rattle.std.specs.Prelude.{◌≡◌, ◌≤◌};
+ghost use Rattle.std.specs.Prelude.{◌≡◌, ◌≤◌, OnOk};
 ghost use Rattle.coset_core.specs.Headers.{empty_header, header as header_shape, protected as protected_shape};
 ghost use Rattle.coset_core.specs.Views.{header_seen, protected_seen};
 ghost use Rattle.coset_codec.specs.InPlace.{Fills};
-ghost use Rattle.coset_codec.specs.Inputs.{State, state, AreWithin, ReadsAt, length_left};
-ghost use Rattle.coset_value.specs.Item.{Items};
-ghost use Rattle.coset_core.specs.Contents.{BeginsHeaders};
+ghost use Rattle.coset_codec.specs.Answers.{Reads};
+ghost use Rattle.coset_codec.specs.Inputs.{GoesBehind, ReadsAt, length_left, state};
+ghost use Rattle.coset_core.specs.Messages.{headed};
 
 use crate::header::reading::fill_header;
 use crate::header::{Header, LAYERS};
 use crate::protected::{ProtectedHeader, fill_bstr};
 use coset_codec::error::Refused;
-use coset_codec::read::{Input, InputItems};
+use coset_codec::read::{Decode, DecodePlaces, Input};
 use coset_codec::{CoseError, Result};
 use std::alloc::Global;
 
@@ -62,31 +62,51 @@ pub fn fill_unprotected_header(
     }
 }
 
-/// Reads the first two places of a message into empty headers. What reading them answers stands inside the answer, since the
-/// places behind them are judged before them: it is the fault of the second, or else of the first.
+/// A payload or a ciphertext, unless it is sent apart: `bstr / nil` (RFC 8152, sections 2, 5.1).
+#[derive(Debug, Drop)]
+pub struct Content(pub Option<Vec<u8>>);
+
+impl Decode for Content {
+    ghost use Rattle.std.specs.Prelude.{List, Option, option_map, ℕ};
+    ghost use Rattle.coset_codec.specs.Shape.{bstr, or_nil};
+
+    ghost Seen = { Option (List ℕ) };
+
+    ghost seen = { λ c. option_map (λ b. b.items) c.0 };
+
+    ghost shape = { or_nil bstr };
+
+    fn decode(alloc: Global, input: &mut Input<'_>) -> Result<Content> {
+        Ok(Content(input.bytes_or_nil(alloc, "bstr")?))
+    }
+}
+
+/// Reads a message: its first two places into empty headers, where these stand, and the places behind them.
 ///
 /// # Errors
-/// `UnexpectedItem` with `want`: there are fewer places, and the array is passed.
-pub fn fill_headers(
+/// `OutOfMemory`; `UnexpectedItem` where the item is no array, or, with `want`, one of another number of places; or the
+/// fault of the last place that has one.
+pub fn read_headed<P: DecodePlaces + Drop>(
     protected: &mut ProtectedHeader,
     unprotected: &mut Header,
     alloc: Global,
-    places: &mut InputItems,
     input: &mut Input<'_>,
     want: &'static str,
-) -> Result<Result<()>>
+) -> Result<P>
     requires protected { (protected_seen protected.old).header ≡ empty_header }
     requires unprotected { header_seen unprotected.old ≡ empty_header }
     ensures shrinks { length_left (state input.new) ≤ length_left (state input.old) }
-    ensures begins { (vs : Items) (z : State) → AreWithin places.old vs (state input.old) z
-        → BeginsHeaders want.now vs (protected_seen protected.new) (header_seen unprotected.new)
-        (state input.new) z places.new result }
+    ensures strictly { OnOk result (GoesBehind (state input.old) (state input.new)) }
+    ensures reads { ReadsAt (state input.old) (state input.new) (λ v. Reads (headed P.places)
+        (λ x. (protected_seen protected.new, (header_seen unprotected.new, P.seen x))) v result) }
 {
-    places.place(input, want)?;
+    let mut members = input.enter_array("array")?;
+    members.place(input, want)?;
     let first = fill_protected_header(protected, alloc, input);
-    places.place(input, want)?;
-    match fill_unprotected_header(unprotected, alloc, input) {
-        Ok(()) => Ok(first),
-        Err(error) => Ok(Err(error)),
-    }
+    members.place(input, want)?;
+    let second = fill_unprotected_header(unprotected, alloc, input);
+    let others = P::decode_places(alloc, &mut members, input, want)?;
+    second?;
+    first?;
+    Ok(others)
 }

@@ -22,7 +22,7 @@ pub use coset_label::{
 };
 pub use countersignature::{CoseCountersignature, CoseCountersignatureBuilder};
 pub use header::{Header, HeaderBuilder, copy_header, is_parameter};
-pub use headers::{fill_headers, fill_protected_header, fill_unprotected_header};
+pub use headers::{Content, fill_protected_header, fill_unprotected_header, read_headed};
 pub use protected::{Bstr, ProtectedHeader, copy_protected};
 pub use protected_bstr::ProtectedBstr;
 pub use signature::{CoseSignature, CoseSignatureBuilder};

@@ -1,5 +1,6 @@
 -- What a binary search finds among values in ascending order of their numbers.
-use Rattle.std.proofs.Common.{◌≡◌, ℕ, zero, suc, ◌+◌, ◌<◌, ℤ, true, false, List, [], ◌∷◌, length, get_or, IsTrue, Some, None, Result, Ok, Err, MatchResult, refl, ap, arith}
+use Rattle.std.proofs.Common.{◌≡◌, ℕ, zero, suc, ◌+◌, ◌<◌, ℤ, true, false, List, [], ◌∷◌, length, get_or, IsTrue, Some, None, Result, Ok, Err, MatchResult}
+use Rattle.std.proofs.Common.{refl, ap, arith}
 use Rattle.std.specs.Prelude.{int_lt}
 use Rattle.std.specs.List.Sorted.{IsBinarySearchResult, IsSearchInRange, IsSortedByKey}
 use Rattle.std.specs.declared.cmp.Ordering.TheVariants.{Equal}
@@ -30,7 +31,8 @@ module _ {T : Type 0} (number : T → ℤ) where
       let below : int_lt (number x) (number (get_or xs 0 d)) ≡ true = first_below x xs 0 d up (omega arith) in
       grind (arith, ints)
   sorted (x ∷ xs) up (suc k) d low lt =
-      let later : is_lt (int_cmp (number (get_or xs (k + 1) d)) (number (get_or xs k d))) ≡ false = sorted xs (tail_ascends x xs up) k d (omega arith) (omega arith) in
+      let later : is_lt (int_cmp (number (get_or xs (k + 1) d)) (number (get_or xs k d))) ≡ false =
+      sorted xs (tail_ascends x xs up) k d (omega arith) (omega arith) in
       simp unary_clauses (simp unary_clauses at later)
 
   module _ (i : ℤ) where
@@ -50,7 +52,8 @@ module _ {T : Type 0} (number : T → ℤ) where
     none_first (x ∷ xs) none = rw (none 0 x (omega arith)) (none_first xs (λ k d lt. none (suc k) d (omega arith)))
 
     -- so a binary search for the number ends at the first value with it, or where there is none
-    pub searched : (xs : List T) (r : Result ℕ ℕ) → IsTrue (is_ascending number xs) → IsSearchInRange r (length xs) → IsBinarySearchResult (λ x. int_cmp (number x) i) xs r
+    pub searched : (xs : List T) (r : Result ℕ ℕ) → IsTrue (is_ascending number xs) → IsSearchInRange r (length xs)
+        → IsBinarySearchResult (λ x. int_cmp (number x) i) xs r
         → MatchResult r (λ at. (d : T) → first_numbered number xs i ≡ Some (get_or xs at d)) (λ _. first_numbered number xs i ≡ None)
     searched xs (Ok at) up lt same = λ d. first_at xs at d (grind arith) lt (same d)
     searched xs (Err at) up le parted =

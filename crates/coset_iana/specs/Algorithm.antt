@@ -2,7 +2,19 @@
 use Rattle.std.specs.Prelude.{ℤ, pos}
 use Rattle.coset_iana.specs.Registry.{minus}
 use Rattle.coset_iana.specs.declared.algorithms.Algorithm.{Algorithm}
-use Rattle.coset_iana.specs.declared.algorithms.Algorithm.TheVariants.{RS1, AesCtr128, AesCtr192, AesCtr256, AesCbc128, AesCbc192, AesCbc256, ESB512, ESB384, ESB320, ESB256, WalnutDSA, RS512, RS384, RS256, Ed448, ESP512, ESP384, ML_DSA_87, ML_DSA_65, ML_DSA_44, ES256K, HSS_LMS, SHAKE256, SHA_512, SHA_384, RSAES_OAEP_SHA_512, RSAES_OAEP_SHA_256, RSAES_OAEP_RFC_8017_default, PS512, PS384, PS256, ES512, ES384, ECDH_SS_A256KW, ECDH_SS_A192KW, ECDH_SS_A128KW, ECDH_ES_A256KW, ECDH_ES_A192KW, ECDH_ES_A128KW, ECDH_SS_HKDF_512, ECDH_SS_HKDF_256, ECDH_ES_HKDF_512, ECDH_ES_HKDF_256, Ed25519, SHAKE128, SHA_512_256, SHA_256, SHA_256_64, SHA_1, Direct_HKDF_AES_256, Direct_HKDF_AES_128, Direct_HKDF_SHA_512, Direct_HKDF_SHA_256, ESP256, EdDSA, ES256, Direct, A256KW, A192KW, A128KW, Reserved, A128GCM, A192GCM, A256GCM, HMAC_256_64, HMAC_256_256, HMAC_384_384, HMAC_512_512, AES_CCM_16_64_128, AES_CCM_16_64_256, AES_CCM_64_64_128, AES_CCM_64_64_256, AES_MAC_128_64, AES_MAC_256_64, ChaCha20Poly1305, AES_MAC_128_128, AES_MAC_256_128, AES_CCM_16_128_128, AES_CCM_16_128_256, AES_CCM_64_128_128, AES_CCM_64_128_256, IV_GENERATION}
+use Rattle.coset_iana.specs.declared.algorithms.Algorithm.TheVariants.{RS1, AesCtr128, AesCtr192, AesCtr256, AesCbc128, AesCbc192, AesCbc256, ESB512, ESB384}
+use Rattle.coset_iana.specs.declared.algorithms.Algorithm.TheVariants.{ESB320, ESB256, WalnutDSA, RS512, RS384, RS256, Ed448, ESP512, ESP384, ML_DSA_87}
+use Rattle.coset_iana.specs.declared.algorithms.Algorithm.TheVariants.{ML_DSA_65, ML_DSA_44, ES256K, HSS_LMS, SHAKE256, SHA_512, SHA_384, RSAES_OAEP_SHA_512}
+use Rattle.coset_iana.specs.declared.algorithms.Algorithm.TheVariants.{RSAES_OAEP_SHA_256, RSAES_OAEP_RFC_8017_default, PS512, PS384, PS256, ES512, ES384}
+use Rattle.coset_iana.specs.declared.algorithms.Algorithm.TheVariants.{ECDH_SS_A256KW, ECDH_SS_A192KW, ECDH_SS_A128KW, ECDH_ES_A256KW, ECDH_ES_A192KW}
+use Rattle.coset_iana.specs.declared.algorithms.Algorithm.TheVariants.{ECDH_ES_A128KW, ECDH_SS_HKDF_512, ECDH_SS_HKDF_256, ECDH_ES_HKDF_512, ECDH_ES_HKDF_256}
+use Rattle.coset_iana.specs.declared.algorithms.Algorithm.TheVariants.{Ed25519, SHAKE128, SHA_512_256, SHA_256, SHA_256_64, SHA_1, Direct_HKDF_AES_256}
+use Rattle.coset_iana.specs.declared.algorithms.Algorithm.TheVariants.{Direct_HKDF_AES_128, Direct_HKDF_SHA_512, Direct_HKDF_SHA_256, ESP256, EdDSA, ES256}
+use Rattle.coset_iana.specs.declared.algorithms.Algorithm.TheVariants.{Direct, A256KW, A192KW, A128KW, Reserved, A128GCM, A192GCM, A256GCM, HMAC_256_64}
+use Rattle.coset_iana.specs.declared.algorithms.Algorithm.TheVariants.{HMAC_256_256, HMAC_384_384, HMAC_512_512, AES_CCM_16_64_128, AES_CCM_16_64_256}
+use Rattle.coset_iana.specs.declared.algorithms.Algorithm.TheVariants.{AES_CCM_64_64_128, AES_CCM_64_64_256, AES_MAC_128_64, AES_MAC_256_64, ChaCha20Poly1305}
+use Rattle.coset_iana.specs.declared.algorithms.Algorithm.TheVariants.{AES_MAC_128_128, AES_MAC_256_128, AES_CCM_16_128_128, AES_CCM_16_128_256}
+use Rattle.coset_iana.specs.declared.algorithms.Algorithm.TheVariants.{AES_CCM_64_128_128, AES_CCM_64_128_256, IV_GENERATION}
 
 abbrev pub number : Algorithm → ℤ
 number RS1 = minus 65535

@@ -1,7 +1,21 @@
 -- The numbers of formats of content (RFC 7252, section 12.3).
 use Rattle.std.specs.Prelude.{ℤ, pos}
 use Rattle.coset_iana.specs.declared.content_formats.CoapContentFormat.{CoapContentFormat}
-use Rattle.coset_iana.specs.declared.content_formats.CoapContentFormat.TheVariants.{TextPlainUtf8, CoseEncrypt0, CoseMac0, CoseSign1, AceCbor, ImageGif, ImageJpeg, ImagePng, LinkFormat, Xml, OctetStream, Exi, Json, JsonPatchJson, MergePatchJson, Cbor, Cwt, MultipartCore, CborSeq, EdhocCborSeq, CidEdhocCborSeq, CoseEncrypt, CoseMac, CoseSign, CoseKey, CoseKeySet, SenmlJson, SensmlJson, SenmlCbor, SensmlCbor, SenmlExi, SensmlExi, YangData, CoapGroupJson, ConciseProblemDetailsCbor, SwidCbor, PkixCmp, YangSidJson, AceGroupcommCbor, AceTrlCbor, EatCwt, EatJwt, EatBunCbor, EatBunJson, EatUcsCbor, EatUcsJson, DotsCbor, MissingBlocksCborSeq, Pkcs7MimeSmimeTypeServerGeneratedKey, Pkcs7MimeSmimeTypeCertsOnly, Pkcs7MimeSmimeTypeCmcRequest, Pkcs7MimeSmimeTypeCmcResponse, Pkcs8, Csrattrs, Pkcs10, PkixCert, AifCbor, AifJson, SenmlXml, SensmlXml, SenmlEtchJson, SenmlEtchCbor, YangDataCbor, YangDataCborName, TdJson, TmJson, UccsCbor, VndOcfCbor, Oscore, Javascript, EatCwtTfm, EatCwtLegacy, JsonDeflate, CborDeflate, VndOmaLwm2mTlv, VndOmaLwm2mJson, VndOmaLwm2mCbor, TextCss, ImageSvgXml}
+use Rattle.coset_iana.specs.declared.content_formats.CoapContentFormat.TheVariants.{TextPlainUtf8, CoseEncrypt0, CoseMac0, CoseSign1, AceCbor, ImageGif}
+use Rattle.coset_iana.specs.declared.content_formats.CoapContentFormat.TheVariants.{ImageJpeg, ImagePng, LinkFormat, Xml, OctetStream, Exi, Json, JsonPatchJson}
+use Rattle.coset_iana.specs.declared.content_formats.CoapContentFormat.TheVariants.{MergePatchJson, Cbor, Cwt, MultipartCore, CborSeq, EdhocCborSeq}
+use Rattle.coset_iana.specs.declared.content_formats.CoapContentFormat.TheVariants.{CidEdhocCborSeq, CoseEncrypt, CoseMac, CoseSign, CoseKey, CoseKeySet}
+use Rattle.coset_iana.specs.declared.content_formats.CoapContentFormat.TheVariants.{SenmlJson, SensmlJson, SenmlCbor, SensmlCbor, SenmlExi, SensmlExi, YangData}
+use Rattle.coset_iana.specs.declared.content_formats.CoapContentFormat.TheVariants.{CoapGroupJson, ConciseProblemDetailsCbor, SwidCbor, PkixCmp, YangSidJson}
+use Rattle.coset_iana.specs.declared.content_formats.CoapContentFormat.TheVariants.{AceGroupcommCbor, AceTrlCbor, EatCwt, EatJwt, EatBunCbor, EatBunJson}
+use Rattle.coset_iana.specs.declared.content_formats.CoapContentFormat.TheVariants.{EatUcsCbor, EatUcsJson, DotsCbor, MissingBlocksCborSeq}
+use Rattle.coset_iana.specs.declared.content_formats.CoapContentFormat.TheVariants.{Pkcs7MimeSmimeTypeServerGeneratedKey, Pkcs7MimeSmimeTypeCertsOnly}
+use Rattle.coset_iana.specs.declared.content_formats.CoapContentFormat.TheVariants.{Pkcs7MimeSmimeTypeCmcRequest, Pkcs7MimeSmimeTypeCmcResponse, Pkcs8}
+use Rattle.coset_iana.specs.declared.content_formats.CoapContentFormat.TheVariants.{Csrattrs, Pkcs10, PkixCert, AifCbor, AifJson, SenmlXml, SensmlXml}
+use Rattle.coset_iana.specs.declared.content_formats.CoapContentFormat.TheVariants.{SenmlEtchJson, SenmlEtchCbor, YangDataCbor, YangDataCborName, TdJson}
+use Rattle.coset_iana.specs.declared.content_formats.CoapContentFormat.TheVariants.{TmJson, UccsCbor, VndOcfCbor, Oscore, Javascript, EatCwtTfm, EatCwtLegacy}
+use Rattle.coset_iana.specs.declared.content_formats.CoapContentFormat.TheVariants.{JsonDeflate, CborDeflate, VndOmaLwm2mTlv, VndOmaLwm2mJson, VndOmaLwm2mCbor}
+use Rattle.coset_iana.specs.declared.content_formats.CoapContentFormat.TheVariants.{TextCss, ImageSvgXml}
 
 abbrev pub number : CoapContentFormat → ℤ
 number TextPlainUtf8 = pos 0

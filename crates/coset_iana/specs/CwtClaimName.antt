@@ -2,7 +2,16 @@
 use Rattle.std.specs.Prelude.{ℤ, pos}
 use Rattle.coset_iana.specs.Registry.{minus}
 use Rattle.coset_iana.specs.declared.claims.CwtClaimName.{CwtClaimName}
-use Rattle.coset_iana.specs.declared.claims.CwtClaimName.TheVariants.{GlobalPlatformComponents, Hcert, EuphNonce, EatMaroePrefix, EatFido, Reserved, Iss, Sub, Aud, Exp, Nbf, Iat, Cti, Cnf, Scope, Nonce, AceProfile, CNonce, Exi, UEID, SUEIDs, HardwareOemid, HardwareModel, HardwareVersion, Uptime, OemAuthorizedBoot, DebugStatus, Location, EatProfile, SubmodulesSection, BootCount, BootSeed, DLoAs, SoftwareName, SoftwareVersion, SoftwareManifests, Measurements, SoftwareMeasurementResults, IntendedUse, Geohash, WmVersion, WmVendor, WmPatternLen, WmSegmentDuration, WmPattern, WmId, WmOpId, WmKeyVer, CatReplay, CatPor, CatVersion, CatNetworkIp, CatUri, CatMethod, CatAlpn, CatHeader, CatGeoIso3166, CatGeoCoord, CatGeoAlt, CatTlsPublicKey, CatIfData, CatDPoP, CatIf, CatRenewal, PsaClientId, PsaSecurityLifecycle, PsaImplementationId, PsaCertificationReference, PsaSoftwareComponents, PsaVerificationServiceIndicator}
+use Rattle.coset_iana.specs.declared.claims.CwtClaimName.TheVariants.{GlobalPlatformComponents, Hcert, EuphNonce, EatMaroePrefix, EatFido, Reserved, Iss, Sub}
+use Rattle.coset_iana.specs.declared.claims.CwtClaimName.TheVariants.{Aud, Exp, Nbf, Iat, Cti, Cnf, Scope, Nonce, AceProfile, CNonce, Exi, UEID, SUEIDs}
+use Rattle.coset_iana.specs.declared.claims.CwtClaimName.TheVariants.{HardwareOemid, HardwareModel, HardwareVersion, Uptime, OemAuthorizedBoot, DebugStatus}
+use Rattle.coset_iana.specs.declared.claims.CwtClaimName.TheVariants.{Location, EatProfile, SubmodulesSection, BootCount, BootSeed, DLoAs, SoftwareName}
+use Rattle.coset_iana.specs.declared.claims.CwtClaimName.TheVariants.{SoftwareVersion, SoftwareManifests, Measurements, SoftwareMeasurementResults, IntendedUse}
+use Rattle.coset_iana.specs.declared.claims.CwtClaimName.TheVariants.{Geohash, WmVersion, WmVendor, WmPatternLen, WmSegmentDuration, WmPattern, WmId, WmOpId}
+use Rattle.coset_iana.specs.declared.claims.CwtClaimName.TheVariants.{WmKeyVer, CatReplay, CatPor, CatVersion, CatNetworkIp, CatUri, CatMethod, CatAlpn}
+use Rattle.coset_iana.specs.declared.claims.CwtClaimName.TheVariants.{CatHeader, CatGeoIso3166, CatGeoCoord, CatGeoAlt, CatTlsPublicKey, CatIfData, CatDPoP}
+use Rattle.coset_iana.specs.declared.claims.CwtClaimName.TheVariants.{CatIf, CatRenewal, PsaClientId, PsaSecurityLifecycle, PsaImplementationId}
+use Rattle.coset_iana.specs.declared.claims.CwtClaimName.TheVariants.{PsaCertificationReference, PsaSoftwareComponents, PsaVerificationServiceIndicator}
 
 abbrev pub number : CwtClaimName → ℤ
 number GlobalPlatformComponents = minus 261

@@ -1,7 +1,8 @@
 -- The numbers of elliptic curves (RFC 8152, section 16.8).
 use Rattle.std.specs.Prelude.{ℤ, pos}
 use Rattle.coset_iana.specs.declared.keys.EllipticCurve.{EllipticCurve}
-use Rattle.coset_iana.specs.declared.keys.EllipticCurve.TheVariants.{Reserved, P_256, P_384, P_521, X25519, X448, Ed25519, Ed448, Secp256k1, BrainpoolP256R1, BrainpoolP320R1, BrainpoolP384R1, BrainpoolP512R1}
+use Rattle.coset_iana.specs.declared.keys.EllipticCurve.TheVariants.{Reserved, P_256, P_384, P_521, X25519, X448, Ed25519, Ed448, Secp256k1, BrainpoolP256R1}
+use Rattle.coset_iana.specs.declared.keys.EllipticCurve.TheVariants.{BrainpoolP320R1, BrainpoolP384R1, BrainpoolP512R1}
 
 abbrev pub number : EllipticCurve → ℤ
 number Reserved = pos 0

@@ -2,7 +2,9 @@
 use Rattle.std.specs.Prelude.{ℤ}
 use Rattle.coset_iana.specs.Registry.{minus}
 use Rattle.coset_iana.specs.declared.headers.HeaderAlgorithmParameter.{HeaderAlgorithmParameter}
-use Rattle.coset_iana.specs.declared.headers.HeaderAlgorithmParameter.TheVariants.{X5ChainSender, X5USender, X5TSender, PartyVOther, PartyVNonce, PartyVIdentity, PartyUOther, PartyUNonce, PartyUIdentity, Salt, StaticKeyId, StaticKey, EphemeralKey}
+use Rattle.coset_iana.specs.declared.headers.HeaderAlgorithmParameter.TheVariants.{X5ChainSender, X5USender, X5TSender, PartyVOther, PartyVNonce}
+use Rattle.coset_iana.specs.declared.headers.HeaderAlgorithmParameter.TheVariants.{PartyVIdentity, PartyUOther, PartyUNonce, PartyUIdentity, Salt, StaticKeyId}
+use Rattle.coset_iana.specs.declared.headers.HeaderAlgorithmParameter.TheVariants.{StaticKey, EphemeralKey}
 
 abbrev pub number : HeaderAlgorithmParameter → ℤ
 number X5ChainSender = minus 29

@@ -1,7 +1,10 @@
 -- The numbers of the labels of headers (RFC 8152, sections 3.1 and 16.2).
 use Rattle.std.specs.Prelude.{ℤ, pos}
 use Rattle.coset_iana.specs.declared.headers.HeaderParameter.{HeaderParameter}
-use Rattle.coset_iana.specs.declared.headers.HeaderParameter.TheVariants.{Reserved, Alg, Crit, ContentType, Kid, Iv, PartialIv, CounterSignature, CounterSignature0, KidContext, CounterSignatureV2, CounterSignature0V2, KeyCwt, KeyCwtClaimsSet, CwtClaims, ObjectContentType, X5Bag, X5Chain, X5T, X5U, CuphNonce, CuphOwnerPubKey}
+use Rattle.coset_iana.specs.declared.headers.HeaderParameter.TheVariants.{Reserved, Alg, Crit, ContentType, Kid, Iv, PartialIv, CounterSignature}
+use Rattle.coset_iana.specs.declared.headers.HeaderParameter.TheVariants.{CounterSignature0, KidContext, CounterSignatureV2, CounterSignature0V2, KeyCwt}
+use Rattle.coset_iana.specs.declared.headers.HeaderParameter.TheVariants.{KeyCwtClaimsSet, CwtClaims, ObjectContentType, X5Bag, X5Chain, X5T, X5U, CuphNonce}
+use Rattle.coset_iana.specs.declared.headers.HeaderParameter.TheVariants.{CuphOwnerPubKey}
 
 abbrev pub number : HeaderParameter → ℤ
 number Reserved = pos 0

@@ -1,7 +1,8 @@
 -- The numbers of the uses of keys (RFC 8152, section 7.1, table 4).
 use Rattle.std.specs.Prelude.{ℤ, pos}
 use Rattle.coset_iana.specs.declared.keys.KeyOperation.{KeyOperation}
-use Rattle.coset_iana.specs.declared.keys.KeyOperation.TheVariants.{Sign, Verify, Encrypt, Decrypt, WrapKey, UnwrapKey, DeriveKey, DeriveBits, MacCreate, MacVerify}
+use Rattle.coset_iana.specs.declared.keys.KeyOperation.TheVariants.{Sign, Verify, Encrypt, Decrypt, WrapKey, UnwrapKey, DeriveKey, DeriveBits, MacCreate}
+use Rattle.coset_iana.specs.declared.keys.KeyOperation.TheVariants.{MacVerify}
 
 abbrev pub number : KeyOperation → ℤ
 number Sign = pos 1

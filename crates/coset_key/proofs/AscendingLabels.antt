@@ -1,5 +1,6 @@
 -- The labels of a key whose params are in order ascend, but for label 0.
-use Rattle.std.proofs.Common.{◌≡◌, ◌≤◌, ◌<◌, ℕ, zero, suc, List, [], ◌∷◌, ◌++◌, Option, Some, None, Bool, true, false, option_map, Contains, refl, sym, ◌∙◌, ap, subst, inl, inr, arith, true≢false, Ordering, Less, nat_cmp}
+use Rattle.std.proofs.Common.{◌≡◌, ◌≤◌, ◌<◌, ℕ, zero, suc, List, [], ◌∷◌, ◌++◌, Option, Some, None, Bool, true, false, option_map, Contains, refl, sym, ◌∙◌, ap}
+use Rattle.std.proofs.Common.{subst, inl, inr, arith, true≢false, Ordering, Less, nat_cmp}
 use Rattle.std.specs.Prelude.{◌≢◌, pos, negsuc}
 use Rattle.std.specs.List.{AllByRecursion}
 use Rattle.std.specs.List.Sorted.{IsPermutation, IsStrictlySortedBy}
@@ -35,7 +36,8 @@ label_image : (a : Name) → label.image a ≡ Some (name_item a)
 label_image (number i) = refl
 label_image (word s) = refl
 
-both-parts : {A B C : Type 0} (f : A → B → C) (p : Option A) (q : Option B) (c : C) → both f p q ≡ Some c → (a : A) × (b : B) × (p ≡ Some a) × (q ≡ Some b) × (f a b ≡ c)
+both-parts : {A B C : Type 0} (f : A → B → C) (p : Option A) (q : Option B) (c : C) → both f p q ≡ Some c → (a : A) × (b : B) × (p ≡ Some a) × (q ≡ Some b)
+    × (f a b ≡ c)
 both-parts f (Some a) (Some b) c h = (a, b, refl, refl, some-one refl h)
 both-parts f (Some a) None c h = absurd (cc)
 both-parts f None q c h = absurd (cc)
@@ -46,7 +48,8 @@ none_written [] n = refl
 none_written (e ∷ es) n = absurd n
 
 first_written :
-    (f : Name × Item) (fs : List (Name × Item)) (k : Item) (qs : Pairs) (es : List (Name × Item)) → k ≡ name_item f.0 → ((ds : List (Name × Item)) → Named label.describes qs ds → ds ≡ fs)
+    (f : Name × Item) (fs : List (Name × Item)) (k : Item) (qs : Pairs) (es : List (Name × Item)) → k ≡ name_item f.0
+    → ((ds : List (Name × Item)) → Named label.describes qs ds → ds ≡ fs)
     → Named label.describes (pair k f.1 qs) es → es ≡ f ∷ fs
 first_written f fs k qs [] same later n = absurd n
 first_written f fs k qs (e ∷ es) same later n =
@@ -57,7 +60,8 @@ labels_written : (fs : List (Name × Item)) (ps : Pairs) (es : List (Name × Ite
 labels_written [] ps es h p = none_written es (subst (λ qs. Named label.describes qs es) (sym (some-one refl h)) p)
 labels_written (f ∷ fs) ps es h p =
     let b = both-parts (λ k qs. pair k f.1 qs) (label.image f.0) (named_image label.image fs) ps h in
-    first_written f fs b.0 b.1 es (some-one b.2 (label_image f.0)) (λ ds n. labels_written fs b.1 ds b.3 n) (subst (λ qs. Named label.describes qs es) (sym b.4) p)
+    first_written f fs b.0 b.1 es (some-one b.2 (label_image f.0)) (λ ds n. labels_written fs b.1 ds b.3 n)
+    (subst (λ qs. Named label.describes qs es) (sym b.4) p)
 
 image_parts : (b : Bool) (rest : List (Name × Item)) (m : Option (List (Name × Item))) (ps : Pairs) → entries_image names b rest m ≡ Some (dict ps)
     → (cs : List (Name × Item)) × (m ≡ Some cs) × (named_image label.image (cs ++ rest) ≡ Some ps)
@@ -102,7 +106,8 @@ less-by : (o : CborOrdering) (c : ℕ) (b : Name) → c < 24 → name_cmp (numbe
 less-by Lexicographic c b k h = h
 less-by LengthFirstLexicographic c b k h =
     let e : encoded_length (number (pos c)) ≡ 1 = omega (arith, head-one c k) in
-    (λ i. ordering_then (nat_cmp (e i) (encoded_length b)) (name_cmp (number (pos c)) b)) ∙ then-less (encoded_length b) (name_cmp (number (pos c)) b) (filled b) h
+    (λ i. ordering_then (nat_cmp (e i) (encoded_length b)) (name_cmp (number (pos c)) b))
+    ∙ then-less (encoded_length b) (name_cmp (number (pos c)) b) (filled b) h
 
 -- the fields' labels ascend
 ascends : (o : CborOrdering) (m n : ℕ) → m < n → n ≤ 5 → name_cmp_by o (number (pos m)) (number (pos n)) ≡ Less
@@ -194,7 +199,8 @@ unfolding IsStrictlySortedBy
 put_rises o c q es h r = by q
   where
     later : AllByRecursion (λ e. IsFrom c e.0) es
-    later = all-weaker (λ e. IsFrom (suc c) e.0) (λ e. IsFrom c e.0) (λ e f. record { at = f.at; is = f.is; low = omega (arith, f.low); high = f.high }) es r.each
+    later = all-weaker (λ e. IsFrom (suc c) e.0) (λ e. IsFrom c e.0)
+        (λ e f. record { at = f.at; is = f.is; low = omega (arith, f.low); high = f.high }) es r.each
 
     greater : (l : Name) → IsFrom (suc c) l → name_cmp_by o (number (pos c)) l ≡ Less
     greater l f = subst (λ m. name_cmp_by o (number (pos c)) m ≡ Less) (sym f.is) (ascends o c f.at (omega (arith, f.low)) f.high)
@@ -204,14 +210,16 @@ put_rises o c q es h r = by q
         record {
           each = (record { at = c; is = refl; low = omega arith; high = h }, later);
           ascending = (
-            all-keys (λ l. name_cmp_by o (number (pos c)) l ≡ Less) es (all-weaker (λ e. IsFrom (suc c) e.0) (λ e. name_cmp_by o (number (pos c)) e.0 ≡ Less) (λ e f. greater e.0 f) es r.each),
+            all-keys (λ l. name_cmp_by o (number (pos c)) l ≡ Less) es
+                (all-weaker (λ e. IsFrom (suc c) e.0) (λ e. name_cmp_by o (number (pos c)) e.0 ≡ Less) (λ e f. greater e.0 f) es r.each),
             r.ascending,
           );
         }
     by None = record { each = later; ascending = r.ascending }
 
 field_rises :
-    (o : CborOrdering) (c : ℕ) (p : Option (Option Item)) (q : Option (List (Name × Item))) → c ≤ 5 → ((es : List (Name × Item)) → q ≡ Some es → Rises o (suc c) es)
+    (o : CborOrdering) (c : ℕ) (p : Option (Option Item)) (q : Option (List (Name × Item))) → c ≤ 5
+    → ((es : List (Name × Item)) → q ≡ Some es → Rises o (suc c) es)
     → (es : List (Name × Item)) → both (put_field (number (pos c))) p q ≡ Some es → Rises o c es
 field_rises o c p q k rises es h =
     let b = both-parts (put_field (number (pos c))) p q es h in
@@ -235,7 +243,8 @@ fields_rise o x =
 less-than-others : (o : CborOrdering) (l m : Name) → IsFrom 1 l → IsOther m → name_cmp_by o l m ≡ Less
 less-than-others o l m f h = subst (λ n. name_cmp_by o n m ≡ Less) (sym f.is) (above-fields o f.at m f.high h)
 
-joined : (o : CborOrdering) (cs rs : List (Name × Item)) → Rises o 1 cs → IsStrictlySortedBy (name_cmp_by o) (keys_of rs) → AllByRecursion (λ e. IsOther e.0) rs → IsStrictlySortedBy (name_cmp_by o) (keys_of (cs ++ rs))
+joined : (o : CborOrdering) (cs rs : List (Name × Item)) → Rises o 1 cs → IsStrictlySortedBy (name_cmp_by o) (keys_of rs) → AllByRecursion (λ e. IsOther e.0) rs
+    → IsStrictlySortedBy (name_cmp_by o) (keys_of (cs ++ rs))
 unfolding IsStrictlySortedBy
 joined o [] rs r s h = s
 joined o (c ∷ cs) rs r s h =
@@ -250,7 +259,8 @@ others_apart : (o : CborOrdering) (v : Item) (k x : KeySeen) → key.describes v
 unfolding key
 others_apart o v k x p c =
     let e = p.0.2 in
-    all-moved (λ e. is_field e.0 ≡ false) k.params x.params c.agree.params (subst (IsRest names fields.labels) (sym e.rest) (rest_apart names fields.labels e.entries))
+    all-moved (λ e. is_field e.0 ≡ false) k.params x.params c.agree.params
+    (subst (IsRest names fields.labels) (sym e.rest) (rest_apart names fields.labels e.entries))
 
 params_ascend : (o : CborOrdering) (v : Item) (k x : KeySeen) → key.describes v k → IsCanonicalOf o k x → IsStrictlySortedBy (name_cmp_by o) (keys_of x.params)
 params_ascend o v k x p c = strictly (total_by o) x.params (canonical_differ o v k x p c) c.ordered
@@ -259,14 +269,17 @@ pub labels_ascend : (o : CborOrdering) → LabelsAscend o
 labels_ascend o k es w none =
     let x = w.canonical in
     let f = fields_and_params x w.pairs es w.is_image w.named in
-    let others = all-and (λ e. is_field e.0 ≡ false) (λ e. e.0 ≢ number (pos 0)) x.params (others_apart o w.source k x w.read w.is_canonical) (all-moved (λ e. e.0 ≢ number (pos 0)) k.params x.params w.is_canonical.agree.params none) in
-    subst (λ fs. IsStrictlySortedBy (name_cmp_by o) (keys_of fs)) (sym f.2) (joined o f.0 x.params (fields_rise o (parts_of x).0 f.0 f.1) (params_ascend o w.source k x w.read w.is_canonical) others)
+    let others = all-and (λ e. is_field e.0 ≡ false) (λ e. e.0 ≢ number (pos 0)) x.params (others_apart o w.source k x w.read w.is_canonical)
+    (all-moved (λ e. e.0 ≢ number (pos 0)) k.params x.params w.is_canonical.agree.params none) in
+    subst (λ fs. IsStrictlySortedBy (name_cmp_by o) (keys_of fs)) (sym f.2)
+    (joined o f.0 x.params (fields_rise o (parts_of x).0 f.0 f.1) (params_ascend o w.source k x w.read w.is_canonical) others)
 
 -- ---- label 0
 
 -- where labels ascend, it is the first
 zero_first :
-    (o : CborOrdering) (v : Item) (es : List (Name × Item)) → IsStrictlySortedBy (name_cmp_by o) (keys_of es) → Contains es (number (pos 0), v) → (back : List (Name × Item)) × (es ≡ (number (pos 0), v) ∷ back)
+    (o : CborOrdering) (v : Item) (es : List (Name × Item)) → IsStrictlySortedBy (name_cmp_by o) (keys_of es) → Contains es (number (pos 0), v)
+    → (back : List (Name × Item)) × (es ≡ (number (pos 0), v) ∷ back)
 zero_first o v [] s c = absurd (omega (arith, c.1))
 zero_first o v (e ∷ es) s c =
     elim (in-cases (total_by o) e es (number (pos 0), v) c) [
@@ -275,16 +288,19 @@ zero_first o v (e ∷ es) s c =
     ]
 
 -- and none behind it is 0
-no-zero : (o : CborOrdering) (v : Item) (es : List (Name × Item)) → IsStrictlySortedBy (name_cmp_by o) (keys_of ((number (pos 0), v) ∷ es)) → AllByRecursion (λ e. e.0 ≢ number (pos 0)) es
+no-zero : (o : CborOrdering) (v : Item) (es : List (Name × Item)) → IsStrictlySortedBy (name_cmp_by o) (keys_of ((number (pos 0), v) ∷ es))
+    → AllByRecursion (λ e. e.0 ≢ number (pos 0)) es
 unfolding IsStrictlySortedBy
 no-zero o v es s =
-    all-weaker (λ e. name_cmp_by o (number (pos 0)) e.0 ≡ Less) (λ e. e.0 ≢ number (pos 0)) (λ e h q. itself (subst (λ l. name_cmp_by o (number (pos 0)) l ≡ Less) q h)) es
+    all-weaker (λ e. name_cmp_by o (number (pos 0)) e.0 ≡ Less) (λ e. e.0 ≢ number (pos 0))
+    (λ e h q. itself (subst (λ l. name_cmp_by o (number (pos 0)) l ≡ Less) q h)) es
     (all-of-keys (λ l. name_cmp_by o (number (pos 0)) l ≡ Less) es s.0)
   where
     itself : name_cmp_by o (number (pos 0)) (number (pos 0)) ≡ Less → ⊥
     itself h = true≢false (sym (ap is_lt h) ∙ zero_least o (number (pos 0)))
 
-tail_ascends : (o : CborOrdering) (e : Name × Item) (es : List (Name × Item)) → IsStrictlySortedBy (name_cmp_by o) (keys_of (e ∷ es)) → IsStrictlySortedBy (name_cmp_by o) (keys_of es)
+tail_ascends : (o : CborOrdering) (e : Name × Item) (es : List (Name × Item)) → IsStrictlySortedBy (name_cmp_by o) (keys_of (e ∷ es))
+    → IsStrictlySortedBy (name_cmp_by o) (keys_of es)
 unfolding IsStrictlySortedBy
 tail_ascends o e es s = s.1
 
@@ -296,12 +312,14 @@ zero_behind_fields o k es v w c =
     let s = params_ascend o w.source k x w.read w.is_canonical in
     let z = zero_first o v x.params s (Contains-permutation k.params x.params (number (pos 0), v) w.is_canonical.agree.params c) in
     let t : IsStrictlySortedBy (name_cmp_by o) (keys_of ((number (pos 0), v) ∷ z.0)) = subst (λ fs. IsStrictlySortedBy (name_cmp_by o) (keys_of fs)) z.1 s in
-    let apart : AllByRecursion (λ e. is_field e.0 ≡ false) ((number (pos 0), v) ∷ z.0) = subst (AllByRecursion (λ e. is_field e.0 ≡ false)) z.1 (others_apart o w.source k x w.read w.is_canonical) in
+    let apart : AllByRecursion (λ e. is_field e.0 ≡ false) ((number (pos 0), v) ∷ z.0) =
+    subst (AllByRecursion (λ e. is_field e.0 ≡ false)) z.1 (others_apart o w.source k x w.read w.is_canonical) in
     record {
       front = f.0;
       back = z.0;
       parts = f.2 ∙ ap (λ fs. f.0 ++ fs) z.1;
       fields = all-weaker (λ e. IsFrom 1 e.0) (λ e. is_field e.0 ≡ true) (λ e i. ap is_field i.is ∙ is_field-number i.at i.low i.high) f.0 rises.each;
       params = apart.1;
-      others = joined o f.0 z.0 rises (tail_ascends o (number (pos 0), v) z.0 t) (all-and (λ e. is_field e.0 ≡ false) (λ e. e.0 ≢ number (pos 0)) z.0 apart.1 (no-zero o v z.0 t));
+      others = joined o f.0 z.0 rises (tail_ascends o (number (pos 0), v) z.0 t)
+          (all-and (λ e. is_field e.0 ≡ false) (λ e. e.0 ≢ number (pos 0)) z.0 apart.1 (no-zero o v z.0 t));
     }

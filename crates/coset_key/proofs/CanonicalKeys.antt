@@ -36,7 +36,8 @@ apart_by LengthFirstLexicographic = canonical_cmp-apart
 
 -- either order calls level what is one label
 level : (o : CborOrdering) (a b : Name) → same_name a b ≡ eq_by_cmp (name_cmp_by o) a b
-level o a b = both_ways (same_name a b) (eq_by_cmp (name_cmp_by o) a b) (λ h. (apart_by o a b).1 ((name_cmp-apart a b).0 h)) (λ h. (name_cmp-apart a b).1 ((apart_by o a b).0 h))
+level o a b = both_ways (same_name a b) (eq_by_cmp (name_cmp_by o) a b) (λ h. (apart_by o a b).1 ((name_cmp-apart a b).0 h))
+    (λ h. (name_cmp-apart a b).1 ((apart_by o a b).0 h))
 
 -- ---- a key with its params in another order
 
@@ -56,14 +57,17 @@ params_differ o v k p =
     subst (λ t. IsDistinct t (keys_of k.params)) (λ i a b. level o a b i) d
 
 -- and differ once they are in order
-pub canonical_differ : (o : CborOrdering) (v : Item) (k x : KeySeen) → key.describes v k → IsCanonicalOf o k x → IsDistinct (eq_by_cmp (name_cmp_by o)) (keys_of x.params)
+pub canonical_differ : (o : CborOrdering) (v : Item) (k x : KeySeen) → key.describes v k → IsCanonicalOf o k x
+    → IsDistinct (eq_by_cmp (name_cmp_by o)) (keys_of x.params)
 canonical_differ o v k x p c =
-    IsDistinct-IsPermutation (eq_by_cmp (name_cmp_by o)) (eq_by_cmp_equiv (total_by o)).symm (keys_of k.params) (keys_of x.params) (IsPermutation-map (λ e. e.0) k.params x.params c.agree.params) (params_differ o v k p)
+    IsDistinct-IsPermutation (eq_by_cmp (name_cmp_by o)) (eq_by_cmp_equiv (total_by o)).symm (keys_of k.params) (keys_of x.params)
+    (IsPermutation-map (λ e. e.0) k.params x.params c.agree.params) (params_differ o v k p)
 
 -- keys in order are equal where they are of keys that agree but for the order, and only there
 canonical_one : (o : CborOrdering) (v : Item) (k l x y : KeySeen) → key.describes v k → IsCanonicalOf o k x → IsCanonicalOf o l y → AgreeButForOrder k l → x ≡ y
 canonical_one o v k l x y p c d h =
-    let moved = IsPermutation-trans x.params l.params y.params (IsPermutation-trans x.params k.params l.params (IsPermutation-sym k.params x.params c.agree.params) h.params) d.agree.params in
+    let moved = IsPermutation-trans x.params l.params y.params
+    (IsPermutation-trans x.params k.params l.params (IsPermutation-sym k.params x.params c.agree.params) h.params) d.agree.params in
     let one : x.params ≡ y.params = has_one_order (total_by o) x.params y.params (canonical_differ o v k x p c) moved c.ordered d.ordered in
     sym c.agree.others ∙ ((λ i. with_params (one i) k) ∙ (ap (with_params y.params) h.others ∙ d.agree.others))
 
@@ -71,7 +75,8 @@ canonical_of_one : (o : CborOrdering) (k l x y : KeySeen) → IsCanonicalOf o k 
 canonical_of_one o k l x y c d e =
     record {
       others = ap (with_params l.params) (c.agree.others ∙ (e ∙ sym d.agree.others));
-      params = IsPermutation-trans k.params x.params l.params c.agree.params (subst (λ z. IsPermutation z.params l.params) (sym e) (IsPermutation-sym l.params y.params d.agree.params));
+      params = IsPermutation-trans k.params x.params l.params c.agree.params
+          (subst (λ z. IsPermutation z.params l.params) (sym e) (IsPermutation-sym l.params y.params d.agree.params));
     }
 
 -- a key in order is written as an item that stands for it

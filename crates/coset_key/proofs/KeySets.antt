@@ -1,5 +1,6 @@
 -- Sets as they lie in memory, as contracts see them, and as the members of arrays are read into them.
-use Rattle.std.proofs.Common.{◌≡◌, ◌⊎◌, ◌||◌, List, [], ◌∷◌, ◌++◌, map, Bool, true, false, Some, Result, Ok, Err, Contains, length, refl, sym, ◌∙◌, ap, subst, inl, inr, arith, true≢false, Ordering, Less, Equal, Greater}
+use Rattle.std.proofs.Common.{◌≡◌, ◌⊎◌, ◌||◌, List, [], ◌∷◌, ◌++◌, map, Bool, true, false, Some, Result, Ok, Err, Contains, length, refl, sym, ◌∙◌, ap, subst}
+use Rattle.std.proofs.Common.{inl, inr, arith, true≢false, Ordering, Less, Equal, Greater}
 use Rattle.std.specs.Cmp.{IsTotalOrder}
 use Rattle.std.specs.Prelude.{IsErrAnd}
 use Rattle.std.specs.BTreeMap.{is_at}
@@ -37,7 +38,8 @@ module _ {K N : Type 0} (seen : K → N) (cmp : N → N → Ordering) where
   insert-seen (x ∷ xs) k = by (cmp (seen k) (seen x)) (insert-seen xs k)
     where
       by : (r : Ordering) → map seen (insert_key (on seen cmp) xs k) ≡ insert_key cmp (map seen xs) (seen k)
-          → map seen (match_ordering r (k ∷ x ∷ xs) (x ∷ xs) (x ∷ insert_key (on seen cmp) xs k)) ≡ match_ordering r (seen k ∷ seen x ∷ map seen xs) (seen x ∷ map seen xs) (seen x ∷ insert_key cmp (map seen xs) (seen k))
+          → map seen (match_ordering r (k ∷ x ∷ xs) (x ∷ xs) (x ∷ insert_key (on seen cmp) xs k))
+          ≡ match_ordering r (seen k ∷ seen x ∷ map seen xs) (seen x ∷ map seen xs) (seen x ∷ insert_key cmp (map seen xs) (seen k))
       by Less h = refl
       by Equal h = refl
       by Greater h = ap (λ ys. seen x ∷ ys) h
@@ -57,7 +59,8 @@ and_items-none no_items = refl
 and_items-none (item v vs) = ap (item v) (and_items-none vs)
 
 module _ {A : Type 0} (cmp : A → A → Ordering) (o : IsTotalOrder cmp) (exact : CmpEqualImpliesEq cmp) (s : Shape A) where
-  each-more : (vs : Items) (xs : List A) (v : Item) (x : A) → Each s.describes vs xs → s.describes v x → Each s.describes (and_items vs (item v no_items)) (xs ++ x ∷ [])
+  each-more : (vs : Items) (xs : List A) (v : Item) (x : A) → Each s.describes vs xs → s.describes v x
+      → Each s.describes (and_items vs (item v no_items)) (xs ++ x ∷ [])
   each-more no_items [] v x p d = (d, tt)
   each-more no_items (y ∷ ys) v x p d = absurd p
   each-more (item w ws) [] v x p d = absurd p
@@ -72,13 +75,15 @@ module _ {A : Type 0} (cmp : A → A → Ordering) (o : IsTotalOrder cmp) (exact
   member-behind (item v vs) ws x f = inr (member-behind vs ws x f)
 
   -- an item that stands for one of the values before it
-  repeats-behind : (vs : Items) (xs : List A) (v : Item) (ws : Items) (x : A) → Each s.describes vs xs → list_any (eq_by_cmp cmp x) xs ≡ true → s.describes v x → Repeats s.describes (and_items vs (item v ws))
+  repeats-behind : (vs : Items) (xs : List A) (v : Item) (ws : Items) (x : A) → Each s.describes vs xs → list_any (eq_by_cmp cmp x) xs ≡ true → s.describes v x
+      → Repeats s.describes (and_items vs (item v ws))
   repeats-behind no_items [] v ws x p h d = absurd (true≢false (sym h))
   repeats-behind no_items (y ∷ ys) v ws x p h d = absurd p
   repeats-behind (item u us) [] v ws x p h d = absurd p
   repeats-behind (item u us) (y ∷ ys) v ws x p h d = by (is_eq (cmp x y)) refl h (repeats-behind us ys v ws x p.1)
     where
-      by : (b : Bool) → is_eq (cmp x y) ≡ b → (b || list_any (eq_by_cmp cmp x) ys) ≡ true → (list_any (eq_by_cmp cmp x) ys ≡ true → s.describes v x → Repeats s.describes (and_items us (item v ws)))
+      by : (b : Bool) → is_eq (cmp x y) ≡ b → (b || list_any (eq_by_cmp cmp x) ys) ≡ true
+          → (list_any (eq_by_cmp cmp x) ys ≡ true → s.describes v x → Repeats s.describes (and_items us (item v ws)))
           → ((z : A) × s.describes u z × HasMember s.describes z (and_items us (item v ws))) ⊎ Repeats s.describes (and_items us (item v ws))
       by true e q later = inl (x, subst (s.describes u) (sym (tells_apart exact x y e)) p.0, member-behind us (item v ws) x (inl d))
       by false e q later = inr (later q d)
@@ -98,7 +103,8 @@ module _ {A : Type 0} (cmp : A → A → Ordering) (o : IsTotalOrder cmp) (exact
 
   -- one more, which is new
   pub more_gathered :
-      (all old new : Items) (set : List A) (v : Item) (x : A) → Gathered all set old → old ≡ item v new → s.describes v x → list_any (eq_by_cmp cmp x) set ≡ false → Gathered all (insert_key cmp set x) new
+      (all old new : Items) (set : List A) (v : Item) (x : A) → Gathered all set old → old ≡ item v new → s.describes v x
+      → list_any (eq_by_cmp cmp x) set ≡ false → Gathered all (insert_key cmp set x) new
   more_gathered all old new set v x g e d h =
       record {
         done = and_items g.done (item v no_items);
@@ -122,12 +128,14 @@ module _ {A : Type 0} (cmp : A → A → Ordering) (o : IsTotalOrder cmp) (exact
     pub within : AreWithin m left t z
 
   -- the next of them was passed, whatever was read of it
-  pub passed : (t u z : State) (m : InputItems) (left : Items) (Q : Item → Type 0) → Nexts left t z m true → ReadsAt t u Q → (others : Items) × AreWithin m others u z
+  pub passed : (t u z : State) (m : InputItems) (left : Items) (Q : Item → Type 0) → Nexts left t z m true → ReadsAt t u Q → (others : Items)
+      × AreWithin m others u z
   passed t u z m left Q next read = (next.1, subst (λ (y : State). AreWithin m next.1 y z) (sym (read next.0 next.2 next.4).0) next.5)
 
   -- it is new
   pub one_more :
-      (all : Items) (r t u z : State) (m n : InputItems) (set : List A) (x : A) → (w : Midway all z m r set) → Nexts w.left t z n true → ReadsAt t u (λ v. s.describes v x) → list_any (eq_by_cmp cmp x) set ≡ false
+      (all : Items) (r t u z : State) (m n : InputItems) (set : List A) (x : A) → (w : Midway all z m r set) → Nexts w.left t z n true
+      → ReadsAt t u (λ v. s.describes v x) → list_any (eq_by_cmp cmp x) set ≡ false
       → Midway all z n u (insert_key cmp set x)
   one_more all r t u z m n set x w next read fresh =
       let here = read next.0 next.2 next.4 in
@@ -140,16 +148,21 @@ module _ {A : Type 0} (cmp : A → A → Ordering) (o : IsTotalOrder cmp) (exact
   module _ {T : Type 0} (seen : T → List A) where
     -- it stood before
     pub stands_twice :
-        (all : Items) (r t u z : State) (m n : InputItems) (set : List A) (x : A) (e : CoseError) → (w : Midway all z m r set) → Nexts w.left t z n true → ReadsAt t u (λ v. s.describes v x)
+        (all : Items) (r t u z : State) (m n : InputItems) (set : List A) (x : A) (e : CoseError) → (w : Midway all z m r set) → Nexts w.left t z n true
+        → ReadsAt t u (λ v. s.describes v x)
         → list_any (eq_by_cmp cmp x) set ≡ true → IsUnexpected e → ((left : Items) × AreWithin n left u z) × ReadsSet cmp s seen all (Err e)
     stands_twice all r t u z m n set x e w next read again is =
         let g = w.gathered in
-        let stands : Repeats s.describes (and_items g.done (item next.0 next.1)) = repeats-behind g.done g.read next.0 next.1 x g.each (sym (set_has o exact g.read set g.is_set x) ∙ again) (read next.0 next.2 next.4).1 in
-        (passed t u z n w.left (λ v. s.describes v x) next read, λ i. inr (is, subst (Repeats s.describes) (sym (g.parts ∙ ap (and_items g.done) next.3)) stands))
+        let stands : Repeats s.describes (and_items g.done (item next.0 next.1)) =
+        repeats-behind g.done g.read next.0 next.1 x g.each (sym (set_has o exact g.read set g.is_set x) ∙ again) (read next.0 next.2 next.4).1 in (
+          passed t u z n w.left (λ v. s.describes v x) next read,
+          λ i. inr (is, subst (Repeats s.describes) (sym (g.parts ∙ ap (and_items g.done) next.3)) stands),
+        )
 
     -- it is at fault
     pub is_refused :
-        (all : Items) (r t u z : State) (m n : InputItems) (set : List A) (e : CoseError) (q : Result T CoseError) → (w : Midway all z m r set) → Nexts w.left t z n true → ReadsAt t u (λ v. UnlessMemory e (s.faults v)) → IsErrAnd q (λ f. f ≡ e)
+        (all : Items) (r t u z : State) (m n : InputItems) (set : List A) (e : CoseError) (q : Result T CoseError) → (w : Midway all z m r set)
+        → Nexts w.left t z n true → ReadsAt t u (λ v. UnlessMemory e (s.faults v)) → IsErrAnd q (λ f. f ≡ e)
         → ((left : Items) × AreWithin n left u z) × ReadsSet cmp s seen all q
     is_refused all r t u z m n set e (Ok x) w next read is = absurd is
     is_refused all r t u z m n set e (Err f) w next read is = (
@@ -162,26 +175,33 @@ module _ {A : Type 0} (cmp : A → A → Ordering) (o : IsTotalOrder cmp) (exact
 
     -- none is left
     pub all_gathered :
-        (all : Items) (r t z : State) (m n : InputItems) (x : T) → (w : Midway all z m r (seen x)) → Nexts w.left t z n false → ((left : Items) × AreWithin n left t z) × ReadsSet cmp s seen all (Ok x)
-    all_gathered all r t z m n x w next = ((no_items, next.1), (w.gathered.read, all_each all w.left (seen x) w.gathered next.0, w.gathered.distinct, w.gathered.is_set))
+        (all : Items) (r t z : State) (m n : InputItems) (x : T) → (w : Midway all z m r (seen x)) → Nexts w.left t z n false
+        → ((left : Items) × AreWithin n left t z) × ReadsSet cmp s seen all (Ok x)
+    all_gathered all r t z m n x w next = (
+      (no_items, next.1),
+      (w.gathered.read, all_each all w.left (seen x) w.gathered next.0, w.gathered.distinct, w.gathered.is_set),
+    )
 
     -- ---- all members of an array
 
-    pub set_refused : (v : Item) (all : Items) (e : CoseError) → as_array v ≡ Some all → UnlessMemory e (λ f. EachFaults s.faults all f ⊎ (IsUnexpected f × Repeats s.describes all)) → UnlessMemory e ((set_of cmp s).faults v)
+    pub set_refused : (v : Item) (all : Items) (e : CoseError) → as_array v ≡ Some all
+        → UnlessMemory e (λ f. EachFaults s.faults all f ⊎ (IsUnexpected f × Repeats s.describes all)) → UnlessMemory e ((set_of cmp s).faults v)
     set_refused v all e a h = λ i. fault (h i)
       where
         fault : EachFaults s.faults all e ⊎ (IsUnexpected e × Repeats s.describes all) → (set_of cmp s).faults v e
         fault (inl f) = inl (inl (inr (all, a, inr (λ m. m, f))))
         fault (inr f) = inr (f.0, (all, a, f.1))
 
-    pub set_read : (v : Item) (all : Items) (x : T) → as_array v ≡ Some all → ReadsSet cmp s seen all (Ok x) → (seen x ≡ [] → ⊥) → (set_of cmp s).describes v (seen x)
+    pub set_read : (v : Item) (all : Items) (x : T) → as_array v ≡ Some all → ReadsSet cmp s seen all (Ok x) → (seen x ≡ [] → ⊥)
+        → (set_of cmp s).describes v (seen x)
     set_read v all x a r some = (r.0, (((all, a, r.1), λ none. some (no-set r.0 (seen x) none r.3)), r.2), r.3)
       where
         no-set : (xs ys : List A) → xs ≡ [] → IsSetOf cmp xs ys → ys ≡ []
         no-set xs [] e m = refl
         no-set xs (y ∷ ys) e m = let c : Contains [] y = subst (λ zs. Contains zs y) e ((m.members y).0 (0, omega arith, refl)) in absurd (omega (arith, c.1))
 
-    pub set_empty : (v : Item) (all : Items) (x : T) (e : CoseError) → as_array v ≡ Some all → ReadsSet cmp s seen all (Ok x) → seen x ≡ [] → IsUnexpected e → (set_of cmp s).faults v e
+    pub set_empty : (v : Item) (all : Items) (x : T) (e : CoseError) → as_array v ≡ Some all → ReadsSet cmp s seen all (Ok x) → seen x ≡ [] → IsUnexpected e
+        → (set_of cmp s).faults v e
     set_empty v all x e a r none u = inl (inr (u, (r.0, (all, a, r.1), λ some. some (no-list r.0 (seen x) none r.3))))
       where
         no-list : (xs ys : List A) → ys ≡ [] → IsSetOf cmp xs ys → xs ≡ []

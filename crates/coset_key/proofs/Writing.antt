@@ -8,7 +8,8 @@ use Rattle.coset_core.specs.Fields.{algorithm}
 use Rattle.coset_key.specs.Keys.{operation, key_ops}
 
 -- a set is there where it isn't empty
-pub set-there : {K N : Type 0} (seen : K → N) (ks : List K) (b : Bool) → (b ≡ true → length ks ≡ 0) → (length ks ≡ 0 → b ≡ true) → is_filled (map seen ks) ≡ not b
+pub set-there : {K N : Type 0} (seen : K → N) (ks : List K) (b : Bool) → (b ≡ true → length ks ≡ 0) → (length ks ≡ 0 → b ≡ true)
+    → is_filled (map seen ks) ≡ not b
 set-there seen [] b none all = sym (ap not (all refl))
 set-there seen (k ∷ ks) true none all = let e = none refl in absurd (omega (arith, e))
 set-there seen (k ∷ ks) false none all = refl

@@ -46,7 +46,8 @@ CanonicalReadsAgain o = (v : Item) (k x : KeySeen) → key.describes v k → dep
 -- order of their params
 abbrev pub CanonicalApart : CborOrdering → Type 0
 CanonicalApart o =
-    (v w : Item) (c d : List ℕ) (k l x y : KeySeen) → key.describes v k → key.describes w l → IsCanonicalOf o k x → IsCanonicalOf o l y → IsWritten key x c → IsWritten key y d
+    (v w : Item) (c d : List ℕ) (k l x y : KeySeen) → key.describes v k → key.describes w l → IsCanonicalOf o k x → IsCanonicalOf o l y → IsWritten key x c
+    → IsWritten key y d
     → (c ≡ d) ↔ AgreeButForOrder k l
 
 -- k was read, and is written, once its params are in order, as pairs of these labels and values
@@ -82,4 +83,5 @@ pub record StandsBehindFields (o : CborOrdering) (v : Item) (es : List (Name × 
 
 -- a param with label 0 is written behind the fields, though that label is less than theirs
 abbrev pub ZeroBehindFields : CborOrdering → Type 0
-ZeroBehindFields o = (k : KeySeen) (es : List (Name × Item)) (v : Item) → IsWrittenInOrder o k es → Contains k.params (number (pos 0), v) → StandsBehindFields o v es
+ZeroBehindFields o = (k : KeySeen) (es : List (Name × Item)) (v : Item) → IsWrittenInOrder o k es → Contains k.params (number (pos 0), v)
+    → StandsBehindFields o v es

@@ -69,15 +69,19 @@ symmetric_key k = key_with Symmetric ((number (symmetric.number K), bytes k) ∷
 
 -- ---- fields set
 
+-- the key with this type, and all else as it was
 abbrev pub with_kty : Name → KeySeen → KeySeen
 with_kty t k = record k { kty = t }
 
+-- the key with this identifier, and all else as it was
 abbrev pub with_key_id : List ℕ → KeySeen → KeySeen
 with_key_id b k = record k { key_id = b }
 
+-- the key with this algorithm, and all else as it was
 abbrev pub with_algorithm : RegisteredName → KeySeen → KeySeen
 with_algorithm a k = record k { alg = Some a }
 
+-- the key with this Base IV, and all else as it was
 abbrev pub with_base_iv : List ℕ → KeySeen → KeySeen
 with_base_iv b k = record k { base_iv = b }
 

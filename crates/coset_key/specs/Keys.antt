@@ -78,6 +78,7 @@ key_ops = set_of name_cmp operation
 abbrev pub Fielded : Type 0
 Fielded = Option Name × (List ℕ × (Option RegisteredName × (List Name × (List ℕ × Unit {0}))))
 
+-- labels 1 to 5 (RFC 8152, section 7.1), each of which may be missing
 abbrev pub fields : Fields Name Fielded
 fields =
     field names labels.kty (optional key_type)

@@ -7,6 +7,7 @@ use Rattle.coset_codec.specs.declared.error.CoseError.TheVariants.{OutOfRangeInt
 use Rattle.coset_key.specs.declared.ml_dsa.MlDsaVariant.{MlDsaVariant}
 use Rattle.coset_key.specs.declared.ml_dsa.MlDsaVariant.TheVariants.{MlDsa44, MlDsa65, MlDsa87}
 
+-- the algorithm that a variant of ML-DSA is
 abbrev pub algorithm_of : MlDsaVariant → Algorithm
 algorithm_of MlDsa44 = ML_DSA_44
 algorithm_of MlDsa65 = ML_DSA_65

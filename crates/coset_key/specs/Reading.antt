@@ -18,7 +18,10 @@ use Rattle.coset_key.specs.declared.key.SoFar.{SoFar}
 
 -- what was read, by label
 abbrev pub so_far_seen : SoFar → Parts
-so_far_seen s = ((option_map kty_seen s.kty, (s.key_id.items, (option_map algorithm_seen s.alg, (map operation_seen s.key_ops.keys, (s.base_iv.items, tt))))), map entry_seen s.params.items)
+so_far_seen s = (
+  (option_map kty_seen s.kty, (s.key_id.items, (option_map algorithm_seen s.alg, (map operation_seen s.key_ops.keys, (s.base_iv.items, tt))))),
+  map entry_seen s.params.items,
+)
 
 -- nothing
 abbrev pub nothing : Parts

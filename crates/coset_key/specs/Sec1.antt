@@ -16,7 +16,8 @@ use Rattle.coset_key.specs.KeyBuilt.{ec2_key, x_label, y_label}
 use Rattle.coset_key.specs.declared.key.CoseKey.{CoseKey}
 use Rattle.coset_key.specs.declared.sec1.ParseSec1OctetStringError.{ParseSec1OctetStringError}
 use Rattle.coset_key.specs.declared.sec1.ToSec1OctetStringError.{ToSec1OctetStringError}
-use Rattle.coset_key.specs.declared.sec1.ToSec1OctetStringError.TheVariants.{NotEcKey, MissingCoordinate, InvalidCoordinateType, UnequalCoordinateLength, OutOfMemory}
+use Rattle.coset_key.specs.declared.sec1.ToSec1OctetStringError.TheVariants.{NotEcKey, MissingCoordinate, InvalidCoordinateType, UnequalCoordinateLength}
+use Rattle.coset_key.specs.declared.sec1.ToSec1OctetStringError.TheVariants.{OutOfMemory}
 
 -- a point by its x coordinate, and the sign of y or y itself
 pub data Point : Type 0 where

@@ -2,7 +2,7 @@
 
 ghost use Rattle.std.specs.Prelude.{◌≡◌, ◌≤◌, ◌<◌, not, length, map, option_map, Some, IsOk, OnOk, OnErr, IfOk, IfErr};
 ghost use Rattle.std.specs.List.Sorted.{IsStableByKey};
-ghost use Rattle.std.specs.Map.{keys_of};
+ghost use Rattle.std.specs.Map.{keys_of, lookup};
 ghost use Rattle.coset_value.specs.Item.{boolean, bytes};
 ghost use Rattle.coset_value.specs.View.{view};
 ghost use Rattle.coset_iana.specs.Algorithm as algorithms;
@@ -18,7 +18,7 @@ ghost use Rattle.coset_codec.specs.Maps.{Adds, Refuses, are_distinct, listed};
 ghost use Rattle.coset_label.specs.Names.{assigned, number};
 ghost use Rattle.coset_label.specs.Orderings.{name_cmp_by};
 ghost use Rattle.coset_label.specs.Views.{label_seen};
-ghost use Rattle.coset_core.specs.Fields.{algorithm, names};
+ghost use Rattle.coset_core.specs.Fields.{algorithm, names, same_name};
 ghost use Rattle.coset_core.specs.Views.{algorithm_seen};
 ghost use Rattle.coset_key.specs.Canonical.{Canonicalizes};
 ghost use Rattle.coset_key.specs.KeyBuilt.{and_operation, and_param, ec2_key, ec2_private_key, ml_dsa_key, okp_key, symmetric_key, with_algorithm, with_base_iv, with_key_id, with_kty, IsOtherLabel};
@@ -28,9 +28,9 @@ ghost use Rattle.coset_key.specs.Reading.{IsFinished, nothing, so_far_seen};
 use crate::key_ops::{KeyOps, add_operation, set_key_ops};
 use crate::ml_dsa::MlDsaVariant;
 use coset_cbor::value::Value;
-use coset_codec::Codec;
 use coset_codec::read::{Gather, Input, InputPairs, read_map, set_field, set_filled};
 use coset_codec::write::{write_field, write_filled, write_optional, write_pairs_head, write_rest};
+use coset_codec::{Codec, find_value};
 use coset_core::{
     Algorithm, CborOrdering, CoseError, Encode, KeyOperation, KeyType, Label, RegisteredLabel,
     RegisteredLabelWithPrivate, Result, has_repeats, iana, is_parameter,
@@ -116,6 +116,15 @@ impl CoseKey {
         ensures memory { IfErr result (λ e. e ≡ OutOfMemory) }
     {
         Ok(Clone::clone(self)?)
+    }
+
+    /// The value of the first of `params` with this label; `None` where none has it. A label that has a field (1 to 5)
+    /// isn't among the params of a key that was read (RFC 8152, section 7.1).
+    pub fn get(&self, label: &Label) -> Option<&Value>
+        ensures { option_map (λ v. view v.now) result ≡ lookup (same_name (label_seen label.now))
+            (key_seen self.now).params }
+    {
+        find_value(&self.params, label)
     }
 
     /// Puts `params` into the order of their labels' encodings: by their bytes (RFC 8949, section 4.2.1), or by their

@@ -32,8 +32,10 @@ OneShortest = (v : Item) (b : List ℕ) → IsInRange v → IsShortest b v → b
 
 -- an order R of encodings orders labels by their shortest ones where it agrees with C on those that `least_encoding` makes
 pub by-encodings : OneShortest → (R : List ℕ → List ℕ → Ordering) (C : Name → Name → Ordering)
-    → ((a b : Name) → IsNamed a → IsNamed b → R (least_encoding (name_item a)) (least_encoding (name_item b)) ≡ C a b) → (a b : Name) → ComparesEncodings R a b (C a b)
+    → ((a b : Name) → IsNamed a → IsNamed b → R (least_encoding (name_item a)) (least_encoding (name_item b)) ≡ C a b) → (a b : Name)
+    → ComparesEncodings R a b (C a b)
 by-encodings law R C agree a b s t p q =
     let r = in-range a s p in
     let w = in-range b t q in
-    sym (agree a b (named a r) (named b w)) ∙ (ap (λ x. R x (least_encoding (name_item b))) (sym (law (name_item a) s r p)) ∙ ap (R s) (sym (law (name_item b) t w q)))
+    sym (agree a b (named a r) (named b w)) ∙ (ap (λ x. R x (least_encoding (name_item b))) (sym (law (name_item a) s r p))
+    ∙ ap (R s) (sym (law (name_item b) t w q)))

@@ -6,7 +6,8 @@ use Rattle.coset_value.specs.Item.{Item}
 use Rattle.coset_value.specs.Parts.{as_integer}
 use Rattle.coset_label.specs.Labels.{is_integer, is_known}
 
-module _ {T : Type 0} (number : T → ℤ) (value_of : ℤ → Option T) (is : (i : ℤ) (x : T) → value_of i ≡ Some x → number x ≡ i) (back : (x : T) → value_of (number x) ≡ Some x) where
+module _ {T : Type 0} (number : T → ℤ) (value_of : ℤ → Option T) (is : (i : ℤ) (x : T) → value_of i ≡ Some x → number x ≡ i)
+    (back : (x : T) → value_of (number x) ≡ Some x) where
   -- the item is the number of the value that was found
   pub is-number : (v : Item) (n z : ℤ) (x : T) → Some n ≡ as_integer v → z ≡ n → Some x ≡ value_of z → as_integer v ≡ Some (number x)
   is-number v n z x a e f = sym a ∙ ap Some (sym (is z x (sym f) ∙ e))

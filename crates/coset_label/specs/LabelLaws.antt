@@ -4,7 +4,8 @@ use Rattle.coset_value.specs.Item.{Item, integer, text}
 use Rattle.coset_codec.specs.Shape.{either, that, int64, tstr}
 use Rattle.coset_codec.specs.ShapeLaws.{Lawful, along_laws, either_laws, that_laws, int64_laws, tstr_laws, some-one}
 use Rattle.coset_label.specs.Names.{Name, number, word, RegisteredName, assigned, private_use, phrase}
-use Rattle.coset_label.specs.Labels.{label, registered, registered_or_private, is_integer, is_known, holds, name_of, of_name, registered_name_of, of_registered_name, IsUnregistered, IsNotPrivate}
+use Rattle.coset_label.specs.Labels.{label, registered, registered_or_private, is_integer, is_known, holds, name_of, of_name, registered_name_of}
+use Rattle.coset_label.specs.Labels.{of_registered_name, IsUnregistered, IsNotPrivate}
 
 name-back : (x : Name) → name_of (of_name x) ≡ x
 name-back (number i) = refl
@@ -30,13 +31,16 @@ label_laws =
 pub registered_laws : (known : ℤ → Bool) → Lawful Name (registered known)
 registered_laws known =
     along_laws name_of of_name name-back _
-    (either_laws is_integer _ tstr (that_laws IsUnregistered (λ i. known i ≡ true) int64 int64_laws) tstr_laws (λ v i w f d e. int-told i w e) (λ v s w f d e. text-told s w e))
+    (either_laws is_integer _ tstr (that_laws IsUnregistered (λ i. known i ≡ true) int64 int64_laws) tstr_laws (λ v i w f d e. int-told i w e)
+    (λ v s w f d e. text-told s w e))
 
 -- the item of a number that an item spells is that item, as far as the registry goes
-same-known : (known : ℤ → Bool) (b : Bool) (v : Item) (i : ℤ) (w : Item) → is_known known v ≡ b → int64.describes v i → int64.image i ≡ Some w → is_known known w ≡ b
+same-known : (known : ℤ → Bool) (b : Bool) (v : Item) (i : ℤ) (w : Item) → is_known known v ≡ b → int64.describes v i → int64.image i ≡ Some w
+    → is_known known w ≡ b
 same-known known b v i w f d e = let h : integer i ≡ w = some-one refl e in ap (is_known known) (sym h) ∙ (ap (holds known) (sym d.0) ∙ f)
 
-ints-told : (known private : ℤ → Bool) (x : ℤ ⊎ ℤ) (w : Item) → (either (is_known known) int64 (that IsNotPrivate (λ i. private i ≡ true) int64)).image x ≡ Some w → is_integer w ≡ true
+ints-told : (known private : ℤ → Bool) (x : ℤ ⊎ ℤ) (w : Item)
+    → (either (is_known known) int64 (that IsNotPrivate (λ i. private i ≡ true) int64)).image x ≡ Some w → is_integer w ≡ true
 ints-told known private (inl i) w e = int-told i w e
 ints-told known private (inr i) w e = int-told i w e
 
@@ -44,6 +48,7 @@ pub registered_or_private_laws : (known private : ℤ → Bool) → Lawful Regis
 registered_or_private_laws known private =
     along_laws registered_name_of of_registered_name registered_name-back _
     (either_laws is_integer (either (is_known known) int64 (that IsNotPrivate (λ i. private i ≡ true) int64)) tstr
-    (either_laws (is_known known) int64 _ int64_laws (that_laws IsNotPrivate (λ i. private i ≡ true) int64 int64_laws) (λ v i w f d e. same-known known true v i w f d e)
+    (either_laws (is_known known) int64 _ int64_laws (that_laws IsNotPrivate (λ i. private i ≡ true) int64 int64_laws)
+    (λ v i w f d e. same-known known true v i w f d e)
     (λ v i w f d e. same-known known false v i w f d.0 e))
     tstr_laws (λ v x w f d e. ints-told known private x w e) (λ v s w f d e. text-told s w e))

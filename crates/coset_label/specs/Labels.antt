@@ -59,5 +59,6 @@ registered_or_private known private =
 abbrev pub registered_in : {T : Type 0} → (ℤ → Option T) → Shape Name
 registered_in value_of = registered (λ i. is_some (value_of i))
 
+-- a registered label, one for private use, or a text, of the registry whose values `value_of` gives
 abbrev pub registered_or_private_in : {T : Type 0} → (ℤ → Option T) → (ℤ → Bool) → Shape RegisteredName
 registered_or_private_in value_of private = registered_or_private (λ i. is_some (value_of i)) private

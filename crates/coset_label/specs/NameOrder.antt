@@ -1,5 +1,6 @@
 -- The byte order of shortest heads and of labels' encodings.
-use Rattle.std.proofs.Common.{◌≡◌, ℕ, zero, suc, ◌^◌, ◌+◌, ◌*◌, ◌/◌, ◌%◌, ◌<◌, ◌≤◌, List, ◌∷◌, ◌++◌, length, true, refl, sym, ◌∙◌, ap, subst, arith, inl, inr, Ordering, Less, Equal, Greater, nat_cmp}
+use Rattle.std.proofs.Common.{◌≡◌, ℕ, zero, suc, ◌^◌, ◌+◌, ◌*◌, ◌/◌, ◌%◌, ◌<◌, ◌≤◌, List, ◌∷◌, ◌++◌, length, true, refl, sym, ◌∙◌, ap, subst, arith, inl, inr}
+use Rattle.std.proofs.Common.{Ordering, Less, Equal, Greater, nat_cmp}
 use Rattle.std.proofs.Math.Nat.{mul-le-mul_right, mul_comm, mod-lt, mod-one, mod-eq_of_lt, one-le-pow, pow-succ'}
 use Rattle.std.proofs.Math.Arith.{mod-mul}
 use Rattle.std.proofs.lemmas.Bool.{cases_order}
@@ -13,7 +14,8 @@ use Rattle.std.specs.Cmp.Lexicographic.{slice_cmp}
 use Rattle.std.specs.Cmp.Rules.{comparing}
 use Rattle.coset_cbor.specs.Grammar.{Place, within, one, two, four, eight, head_in}
 use Rattle.coset_cbor.specs.Least.{least_place, least_head, least_encoding}
-use Rattle.coset_label.specs.Names.{Name, number, word, RegisteredName, assigned, private_use, phrase, as_name, tie, name_item, major_type, argument, content, name_cmp, registered_cmp, canonical_cmp, length_first_cmp, TellsApart, IsNamed, head_length, encoded_length}
+use Rattle.coset_label.specs.Names.{Name, number, word, RegisteredName, assigned, private_use, phrase, as_name, tie, name_item, major_type, argument, content}
+use Rattle.coset_label.specs.Names.{name_cmp, registered_cmp, canonical_cmp, length_first_cmp, TellsApart, IsNamed, head_length, encoded_length}
 
 -- ---- orderings
 
@@ -122,7 +124,8 @@ low-same p q n l hn hl h = grind arith
 -- the low bits, the bytes behind and what follows the head compare as the arguments and what follows
 abbrev Agree : Place → Place → ℕ → ℕ → List ℕ → List ℕ → Type 0
 Agree p q n l s t =
-    ordering_then (nat_cmp (low p n) (low q l)) (slice_cmp nat_cmp (bytes_high_first (behind p) n ++ s) (bytes_high_first (behind q) l ++ t)) ≡ ordering_then (nat_cmp n l) (slice_cmp nat_cmp s t)
+    ordering_then (nat_cmp (low p n) (low q l)) (slice_cmp nat_cmp (bytes_high_first (behind p) n ++ s) (bytes_high_first (behind q) l ++ t))
+    ≡ ordering_then (nat_cmp n l) (slice_cmp nat_cmp s t)
 
 -- so they do where both arguments have one place
 same-place : (p : Place) (n l : ℕ) (s t : List ℕ) → Spans p n → Spans p l → Agree p p n l s t
@@ -167,7 +170,8 @@ major_type-small a = grind arith
 -- the encodings of two labels compare as the labels do
 pub names-compare : (a b : Name) → IsNamed a → IsNamed b → slice_cmp nat_cmp (least_encoding (name_item a)) (least_encoding (name_item b)) ≡ name_cmp a b
 names-compare a b ha hb =
-    rw (least_encoding-parts a, least_encoding-parts b) (heads-compare (major_type a) (argument a) (major_type b) (argument b) (content a) (content b) (major_type-small a) (major_type-small b) ha hb)
+    rw (least_encoding-parts a, least_encoding-parts b)
+    (heads-compare (major_type a) (argument a) (major_type b) (argument b) (content a) (content b) (major_type-small a) (major_type-small b) ha hb)
 
 -- the shortest head is as long as `head_length` says
 length-least_head : (m n : ℕ) → length (least_head m n) ≡ head_length n
@@ -209,7 +213,8 @@ pub name_cmp-apart : TellsApart name_cmp
 name_cmp-apart = tells-apart name_cmp name_cmp_total name_cmp-equal
 
 pub canonical_cmp-apart : TellsApart canonical_cmp
-canonical_cmp-apart = tells-apart canonical_cmp canonical_cmp_total (λ a b h. name_cmp-equal a b (then-second (nat_cmp (encoded_length a) (encoded_length b)) (name_cmp a b) h))
+canonical_cmp-apart = tells-apart canonical_cmp canonical_cmp_total
+    (λ a b h. name_cmp-equal a b (then-second (nat_cmp (encoded_length a) (encoded_length b)) (name_cmp a b) h))
 
 -- a label of a registry is the label as such, and whether it is for private use
 registered_of : Name → ℕ → RegisteredName

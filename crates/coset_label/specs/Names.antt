@@ -24,6 +24,7 @@ as_name (assigned i) = number i
 as_name (private_use i) = number i
 as_name (phrase s) = word s
 
+-- 1 for private use, else 0: of one number a value of the registry comes first
 abbrev pub tie : RegisteredName → ℕ
 tie (assigned i) = 0
 tie (private_use i) = 1

@@ -13,4 +13,5 @@ AreInOrder cmp es = IsSortedByKey (λ e. e.0) cmp es
 
 -- lists with the same pairs, whose labels all differ, are one list where both are in order
 abbrev pub HasOneOrder : {N : Type 0} → (N → N → Ordering) → Type 0
-HasOneOrder {N} cmp = (xs ys : List (N × Item)) → IsDistinct (eq_by_cmp cmp) (keys_of xs) → IsPermutation xs ys → AreInOrder cmp xs → AreInOrder cmp ys → xs ≡ ys
+HasOneOrder {N} cmp = (xs ys : List (N × Item)) → IsDistinct (eq_by_cmp cmp) (keys_of xs) → IsPermutation xs ys → AreInOrder cmp xs → AreInOrder cmp ys
+    → xs ≡ ys

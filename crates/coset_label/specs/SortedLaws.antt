@@ -1,12 +1,14 @@
 -- Why a list with distinct labels has one order.
-use Rattle.std.proofs.Common.{◌≡◌, ◌⊎◌, ◌+◌, ℕ, suc, List, [], ◌∷◌, get_or, Contains, false, refl, sym, ◌∙◌, ap, subst, true≢false, inl, inr, arith, Ordering, Less, Equal, Greater}
+use Rattle.std.proofs.Common.{◌≡◌, ◌⊎◌, ◌+◌, ℕ, suc, List, [], ◌∷◌, get_or, Contains, false, refl, sym, ◌∙◌, ap, subst, true≢false, inl, inr, arith, Ordering}
+use Rattle.std.proofs.Common.{Less, Equal, Greater}
 use Rattle.std.specs.Cmp.{IsTotalOrder}
 use Rattle.std.specs.List.{AllByRecursion, IsDistinct}
 use Rattle.std.specs.List.Sorted.{IsStrictlySortedBy}
 use Rattle.std.specs.Map.{keys_of}
 use Rattle.std.specs.Ordering.{eq_by_cmp, is_eq, is_lt, ordering_reverse}
 use Rattle.std.proofs.lemmas.Cmp.{eq_by_cmp_equiv}
-use Rattle.std.proofs.lemmas.List.Elements.{All-contains, All-from_recursion, All-weaker, recursion_from_All, Contains-append_right, Contains-append_cases, Contains-push_cases}
+use Rattle.std.proofs.lemmas.List.Elements.{All-contains, All-from_recursion, All-weaker, recursion_from_All, Contains-append_right, Contains-append_cases}
+use Rattle.std.proofs.lemmas.List.Elements.{Contains-push_cases}
 use Rattle.std.proofs.lemmas.List.Sorted.{Contains-permutation, IsPermutation-sym, IsPermutation-map}
 use Rattle.std.proofs.lemmas.Map.Keys.{IsDistinct-head, IsDistinct-tail, IsDistinct-IsPermutation}
 use Rattle.std.proofs.lemmas.Map.Views.{All-after_first}
@@ -32,9 +34,18 @@ module _ {N : Type 0} {cmp : N → N → Ordering} (o : IsTotalOrder cmp) where
   strictly [] d s = tt
   strictly (e ∷ []) d s = (tt, tt)
   strictly (e ∷ f ∷ es) d s =
-      let rest = strictly (f ∷ es) (IsDistinct-tail (eq_by_cmp cmp) e.0 (keys_of (f ∷ es)) d) (λ k x a b. next e (f ∷ es) k x (s (suc k) x (omega arith) (omega (arith, b)))) in
-      let below : cmp e.0 f.0 ≡ Less = less-of (cmp e.0 f.0) (cmp f.0 e.0) (o.antisymm f.0 e.0) (s 0 e (omega arith) (omega arith)) (IsDistinct-head (eq_by_cmp cmp) e.0 (keys_of (f ∷ es)) d).0 in
-      ((below, recursion_from_All (λ k. cmp e.0 k ≡ Less) (keys_of es) (All-weaker (λ k. cmp f.0 k ≡ Less) (λ k. cmp e.0 k ≡ Less) (λ k. o.trans e.0 f.0 k below) (keys_of es) (All-after_first cmp f.0 (keys_of es) rest))), rest)
+      let rest = strictly (f ∷ es) (IsDistinct-tail (eq_by_cmp cmp) e.0 (keys_of (f ∷ es)) d)
+      (λ k x a b. next e (f ∷ es) k x (s (suc k) x (omega arith) (omega (arith, b)))) in
+      let below : cmp e.0 f.0 ≡ Less = less-of (cmp e.0 f.0) (cmp f.0 e.0) (o.antisymm f.0 e.0) (s 0 e (omega arith) (omega arith))
+      (IsDistinct-head (eq_by_cmp cmp) e.0 (keys_of (f ∷ es)) d).0 in (
+        (
+          below,
+          recursion_from_All (λ k. cmp e.0 k ≡ Less) (keys_of es)
+              (All-weaker (λ k. cmp f.0 k ≡ Less) (λ k. cmp e.0 k ≡ Less) (λ k. o.trans e.0 f.0 k below) (keys_of es)
+              (All-after_first cmp f.0 (keys_of es) rest)),
+        ),
+        rest,
+      )
 
   -- what is in a list is its first, or in the others
   pub in-cases : (y : N × Item) (ys : List (N × Item)) (x : N × Item) → Contains (y ∷ ys) x → (y ≡ x) ⊎ Contains ys x
@@ -53,7 +64,8 @@ module _ {N : Type 0} {cmp : N → N → Ordering} (o : IsTotalOrder cmp) where
   pub above : (y : N × Item) (ys : List (N × Item)) (x : N × Item) → IsStrictlySortedBy cmp (keys_of (y ∷ ys)) → Contains ys x → cmp y.0 x.0 ≡ Less
   above y ys x s c =
       let P : N → Type 0 = λ k. cmp y.0 k ≡ Less in
-      All-contains (λ e. P e.0) ys x (All-from_recursion (λ e. P e.0) ys (of-labels P ys (recursion_from_All P (keys_of ys) (All-after_first cmp y.0 (keys_of ys) s)))) c
+      All-contains (λ e. P e.0) ys x (All-from_recursion (λ e. P e.0) ys
+      (of-labels P ys (recursion_from_All P (keys_of ys) (All-after_first cmp y.0 (keys_of ys) s)))) c
 
   not-both : (a b : N) → cmp a b ≡ Less → cmp b a ≡ Less → ⊥
   not-both a b p q = true≢false (sym (ap is_lt p) ∙ ap is_lt (o.antisymm a b) ∙ ap (λ r. is_lt (ordering_reverse r)) q)
@@ -62,7 +74,8 @@ module _ {N : Type 0} {cmp : N → N → Ordering} (o : IsTotalOrder cmp) where
   unfolding IsStrictlySortedBy
   rises y ys s = s.1
 
-  first : (x y : N × Item) (xs ys : List (N × Item)) → IsStrictlySortedBy cmp (keys_of (x ∷ xs)) → IsStrictlySortedBy cmp (keys_of (y ∷ ys)) → Contains (y ∷ ys) x → Contains (x ∷ xs) y → x ≡ y
+  first : (x y : N × Item) (xs ys : List (N × Item)) → IsStrictlySortedBy cmp (keys_of (x ∷ xs)) → IsStrictlySortedBy cmp (keys_of (y ∷ ys))
+      → Contains (y ∷ ys) x → Contains (x ∷ xs) y → x ≡ y
   first x y xs ys s t c d =
       elim (in-cases y ys x c) [
         | inl h ↦ sym h
@@ -70,7 +83,8 @@ module _ {N : Type 0} {cmp : N → N → Ordering} (o : IsTotalOrder cmp) where
       ]
 
   -- a member behind the first is behind that of the other list, which is the same
-  behind : (x y : N × Item) (xs ys : List (N × Item)) (e : N × Item) → IsStrictlySortedBy cmp (keys_of (x ∷ xs)) → x ≡ y → Contains (y ∷ ys) e → Contains xs e → Contains ys e
+  behind : (x y : N × Item) (xs ys : List (N × Item)) (e : N × Item) → IsStrictlySortedBy cmp (keys_of (x ∷ xs)) → x ≡ y → Contains (y ∷ ys) e → Contains xs e
+      → Contains ys e
   behind x y xs ys e s one d c =
       elim (in-cases y ys e d) [
         | inl h ↦
@@ -80,7 +94,8 @@ module _ {N : Type 0} {cmp : N → N → Ordering} (o : IsTotalOrder cmp) where
       ]
 
   -- lists each of which is strictly in order, with the same members, are one
-  alike : (xs ys : List (N × Item)) → IsStrictlySortedBy cmp (keys_of xs) → IsStrictlySortedBy cmp (keys_of ys) → ((e : N × Item) → Contains xs e → Contains ys e) → ((e : N × Item) → Contains ys e → Contains xs e) → xs ≡ ys
+  alike : (xs ys : List (N × Item)) → IsStrictlySortedBy cmp (keys_of xs) → IsStrictlySortedBy cmp (keys_of ys)
+      → ((e : N × Item) → Contains xs e → Contains ys e) → ((e : N × Item) → Contains ys e → Contains xs e) → xs ≡ ys
   alike [] [] s t f g = refl
   alike [] (y ∷ ys) s t f g = absurd (omega (arith, (g y (0, omega arith, refl)).1))
   alike (x ∷ xs) [] s t f g = absurd (omega (arith, (f x (0, omega arith, refl)).1))

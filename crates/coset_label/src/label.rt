@@ -82,6 +82,7 @@ impl Lawful for Label {
 impl Encode for Label {
     ghost image = { λ l. label.image (label_seen l) };
 
+    #[inline(always)]
     fn encode(&self, alloc: Global, out: &mut Vec<u8>) -> Result<()> {
         match self {
             Label::Int(number) => number.encode(alloc, out),

@@ -132,6 +132,7 @@ impl<T: EnumI64 + Drop> Lawful for RegisteredLabel<T> {
 impl<T: EnumI64> Encode for RegisteredLabel<T> {
     ghost image = { λ l. (registered_in T.value_of).image (registered_seen T.number l) };
 
+    #[inline(always)]
     fn encode(&self, alloc: Global, out: &mut Vec<u8>) -> Result<()> {
         match self {
             RegisteredLabel::Assigned(value) => value.to_i64().encode(alloc, out),
@@ -201,6 +202,7 @@ impl<T: EnumI64 + WithPrivateRange + Drop> Lawful for RegisteredLabelWithPrivate
 impl<T: EnumI64 + WithPrivateRange> Encode for RegisteredLabelWithPrivate<T> {
     ghost image = { λ l. (registered_or_private_in T.value_of T.is_private).image (registered_or_private_seen T.number l) };
 
+    #[inline(always)]
     fn encode(&self, alloc: Global, out: &mut Vec<u8>) -> Result<()> {
         match self {
             RegisteredLabelWithPrivate::PrivateUse(number) => number.encode(alloc, out),

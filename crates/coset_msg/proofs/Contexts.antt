@@ -94,8 +94,10 @@ again (signed c p None a l) = ap (λ (d : Context). made d (p ∷ a ∷ l ∷ []
 again (signed c p (Some s) a l) = ap (λ (d : Context). made d (p ∷ s ∷ a ∷ l ∷ []) []) (context_again (of_signature c))
 again (authenticated c p a l) = ap (λ (d : Context). made d (p ∷ a ∷ l ∷ []) []) (context_again (of_mac c))
 again (encrypted c p a) = ap (λ (d : Context). made d (p ∷ a ∷ []) []) (context_again (of_encryption c))
-again (countersigned p None a l os) = ap (λ (d : Context). made d (p ∷ a ∷ l ∷ []) (strings_in (byte_strings_and os no_items))) (context_again (of_countersignature false)) ∙ ap (λ xs. countersigned p None a l xs) (strings-again os)
-again (countersigned p (Some s) a l os) = ap (λ (d : Context). made d (p ∷ s ∷ a ∷ l ∷ []) (strings_in (byte_strings_and os no_items))) (context_again (of_countersignature true)) ∙ ap (λ xs. countersigned p (Some s) a l xs) (strings-again os)
+again (countersigned p None a l os) = ap (λ (d : Context). made d (p ∷ a ∷ l ∷ []) (strings_in (byte_strings_and os no_items)))
+    (context_again (of_countersignature false)) ∙ ap (λ xs. countersigned p None a l xs) (strings-again os)
+again (countersigned p (Some s) a l os) = ap (λ (d : Context). made d (p ∷ s ∷ a ∷ l ∷ []) (strings_in (byte_strings_and os no_items)))
+    (context_again (of_countersignature true)) ∙ ap (λ xs. countersigned p (Some s) a l xs) (strings-again os)
 
 -- so equal structures are of the same
 pub same_structured : (x y : Structured) → structure_of x ≡ structure_of y → x ≡ y

@@ -14,7 +14,8 @@ use Rattle.coset_msg.specs.Presence.{TriesToCreateOf}
 pub if_there : {A : Type 0} {o : Option A} {x : A} (P : A → Type 0) → o ≡ Some x → P x → IfSome o P
 if_there P e h = subst (λ q. IfSome q P) (sym e) h
 
-module _ {F V B E : Type 0} (g : Once F (Bor (List ℕ) × (Bor (List ℕ) × Unit {0})) (Result V E)) (f : F) (s : List ℕ) (o : Option Item) (stores : V → B → Type 0) where
+module _ {F V B E : Type 0} (g : Once F (Bor (List ℕ) × (Bor (List ℕ) × Unit {0})) (Result V E)) (f : F) (s : List ℕ) (o : Option Item)
+    (stores : V → B → Type 0) where
   refused : (e : CallError E) → AsksAbout g f s o (Err e) → TriesToCreateOf g f s o stores (Err e)
   refused (Caller e) h = h
   refused (Coset e) h = h

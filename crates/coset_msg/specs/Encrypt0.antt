@@ -55,5 +55,6 @@ encrypt0_structure m external_aad = enc_item CoseEncrypt0 m.protected external_a
 
 -- ---- with one field set
 
+-- the message with this ciphertext, and all else as it was
 abbrev pub with_ciphertext : List ℕ → Encrypt0Seen → Encrypt0Seen
 with_ciphertext c m = record m { ciphertext = Some c }

@@ -57,5 +57,6 @@ mac0_structure m external_aad payload = mac_item CoseMac0 m.protected external_a
 
 -- ---- with one field set
 
+-- the message with this tag, and all else as it was
 abbrev pub with_tag : List ℕ → Mac0Seen → Mac0Seen
 with_tag t m = record m { tag = t }

@@ -21,7 +21,8 @@ mac_item context p external_aad payload = option_map (λ b. mac_structure contex
 
 -- of the two headers the same is authenticated, in each context, whatever `external_aad` and the payload are
 abbrev pub AuthenticatesSame : ProtectedSeen → ProtectedSeen → Type 0
-AuthenticatesSame p q = (context : MacContext) (external_aad payload : List ℕ) → mac_item context p external_aad payload ≡ mac_item context q external_aad payload
+AuthenticatesSame p q = (context : MacContext) (external_aad payload : List ℕ)
+    → mac_item context p external_aad payload ≡ mac_item context q external_aad payload
 
 -- something is authenticated
 abbrev pub Authenticates : ProtectedSeen → Type 0

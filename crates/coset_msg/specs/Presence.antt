@@ -6,23 +6,38 @@ use Rattle.coset_value.specs.Item.{Item}
 use Rattle.coset_codec.specs.declared.error.CallError.{CallError}
 use Rattle.coset_codec.specs.declared.error.CallError.TheVariants.{Coset, Caller}
 use Rattle.coset_codec.specs.declared.error.CoseError.{CoseError}
+use Rattle.coset_codec.specs.Answers.{Writes}
 use Rattle.coset_codec.specs.Encoding.{HasNoImage}
 use Rattle.coset_core.specs.Calls.{AsksAbout, IsStructure}
 
 -- Where it is missing, the answer is what `missing` gives, called once; else f is asked about these bytes and the
 -- structure of it
-abbrev pub AsksWherePresent : {F M U E : Type 0} → Once F (Bor (List ℕ) × (Bor (List ℕ) × Unit {0})) (Result U E) → F → Once M (Unit {0}) E → M → Option (List ℕ) → (List ℕ → List ℕ) → (List ℕ → Option Item) → Result U (CallError E) → Type 0
+abbrev pub AsksWherePresent : {F M U E : Type 0} → Once F (Bor (List ℕ) × (Bor (List ℕ) × Unit {0})) (Result U E) → F → Once M (Unit {0}) E → M
+    → Option (List ℕ) → (List ℕ → List ℕ) → (List ℕ → Option Item) → Result U (CallError E) → Type 0
 AsksWherePresent {E = E} g f gm missing None bytes structure r = (e : E) × FnOnceReturns gm missing tt e × (r ≡ Err (Caller e))
 AsksWherePresent g f gm missing (Some c) bytes structure r = AsksAbout g f (bytes c) (structure c) r
 
 -- f made what is stored of these bytes and those of the structure: `stores` tells how it is kept; or there is no
 -- structure, or no memory
-abbrev pub CreatesOf : {F V B : Type 0} → Once F (Bor (List ℕ) × (Bor (List ℕ) × Unit {0})) V → F → List ℕ → Option Item → (V → B → Type 0) → Result B CoseError → Type 0
+abbrev pub CreatesOf : {F V B : Type 0} → Once F (Bor (List ℕ) × (Bor (List ℕ) × Unit {0})) V → F → List ℕ → Option Item → (V → B → Type 0) → Result B CoseError
+    → Type 0
 CreatesOf {V = V} g f s o stores (Ok x) = (b : List ℕ) × (made : V) × IsStructure o b × FnOnceReturnsAtPair g f s b made × stores made x
 CreatesOf g f s o stores (Err e) = HasNoImage o e
 
 -- the same of an f that may refuse
-abbrev pub TriesToCreateOf : {F V B E : Type 0} → Once F (Bor (List ℕ) × (Bor (List ℕ) × Unit {0})) (Result V E) → F → List ℕ → Option Item → (V → B → Type 0) → Result B (CallError E) → Type 0
+abbrev pub TriesToCreateOf : {F V B E : Type 0} → Once F (Bor (List ℕ) × (Bor (List ℕ) × Unit {0})) (Result V E) → F → List ℕ → Option Item → (V → B → Type 0)
+    → Result B (CallError E) → Type 0
 TriesToCreateOf {V = V} g f s o stores (Ok x) = (b : List ℕ) × (made : V) × IsStructure o b × FnOnceReturnsAtPair g f s b (Ok made) × stores made x
 TriesToCreateOf g f s o stores (Err (Caller e)) = (b : List ℕ) × IsStructure o b × FnOnceReturnsAtPair g f s b (Err e)
 TriesToCreateOf g f s o stores (Err (Coset e)) = HasNoImage o e
+
+-- Writing the structure of a payload that may be missing: nothing where it is
+abbrev pub WritesPresent : {V : Type 0} → (V → List ℕ) → Option Item → Result (Option V) CoseError → Type 0
+WritesPresent bytes_of o (Ok (Some b)) = Writes o bytes_of (Ok b)
+WritesPresent bytes_of o (Ok None) = ⊥
+WritesPresent {V} bytes_of o (Err e) = Writes {V = V} o bytes_of (Err e)
+
+-- where there is such a payload, the bytes of its structure; where there is none, nothing
+abbrev pub WritesWherePresent : {V : Type 0} → (V → List ℕ) → Option (List ℕ) → (List ℕ → Option Item) → Result (Option V) CoseError → Type 0
+WritesWherePresent bytes_of None structure r = r ≡ Ok None
+WritesWherePresent bytes_of (Some p) structure r = WritesPresent bytes_of (structure p) r

@@ -10,6 +10,7 @@
 
 mod claims;
 mod context;
+mod get;
 mod header_builder;
 mod headers;
 mod key;

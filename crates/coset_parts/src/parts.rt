@@ -1,7 +1,7 @@
 //! Calls of builders, labels, keys, registries and CBOR: all but those of messages, and those that every type has.
 
 use crate::{
-    claims, context, header_builder, headers, key, key_builder, label, order, pull, reading,
+    claims, context, get, header_builder, headers, key, key_builder, label, order, pull, reading,
     registry, value, writing,
 };
 use coset::Result;
@@ -56,6 +56,7 @@ fn of_type(alloc: Global, kind: &str, name: &str, words: &Words<'_>) -> Option<R
         ("Header", "is_empty") => Some(headers::is_empty(alloc, words)),
         ("ProtectedHeader", "is_empty") => Some(headers::is_empty_protected(alloc, words)),
         ("ProtectedHeader", "protected_bytes") => Some(headers::protected_bytes(alloc, words)),
+        ("Header" | "CoseKey" | "ClaimsSet", "get") => Some(get::call(alloc, kind, words)),
         ("CoseKey", "canonicalize" | "to_sec1_octet_string") => Some(key::call(alloc, name, words)),
         ("Timestamp", "debug") => Some(claims::debug_timestamp(alloc, words)),
         ("Label" | "KeyType" | "Algorithm" | "Own", "debug") => {

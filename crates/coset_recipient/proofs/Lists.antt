@@ -13,7 +13,8 @@ use Rattle.coset_recipient.specs.RecipientView.{recipient_seen, recipient-rolled
 use Rattle.coset_recipient.specs.declared.recipient.CoseRecipient.{CoseRecipient, CoseRecipient-F, out-CoseRecipient, roll-CoseRecipient}
 
 -- those of lists of unequal lengths aren't the same
-pub unequal : {T : Type 0} (seen : T → RecipientSeen) (rs ss : List T) → length rs ≢ length ss → false ≡ recipients_eq (recipients_of (map seen rs)) (recipients_of (map seen ss))
+pub unequal : {T : Type 0} (seen : T → RecipientSeen) (rs ss : List T) → length rs ≢ length ss
+    → false ≡ recipients_eq (recipients_of (map seen rs)) (recipients_of (map seen ss))
 unequal seen [] [] h = absurd (h refl)
 unequal seen (r ∷ rs) (s ∷ ss) h = sym (and_right _ _ (sym (unequal seen rs ss (λ e. h (ap suc e)))))
 unequal seen [] (s ∷ ss) h = refl
@@ -39,12 +40,14 @@ made f rs = record { protected = f.0; unprotected = f.1.0; ciphertext = f.1.1; r
 
 pub recipient-copied :
     (r : CoseRecipient) (x : CoseRecipient-F CoseRecipient) (a : Result (Unit {0}) AllocError) → fields_of x ≡ fields_of (out-CoseRecipient r)
-    → OnOk a (map recipient_seen x.recipients.items ≡ map recipient_seen (out-CoseRecipient r).recipients.items) → OnOk a (recipient_seen (roll-CoseRecipient x) ≡ recipient_seen r)
+    → OnOk a (map recipient_seen x.recipients.items ≡ map recipient_seen (out-CoseRecipient r).recipients.items)
+    → OnOk a (recipient_seen (roll-CoseRecipient x) ≡ recipient_seen r)
 recipient-copied r x (Ok u) fields inside = recipient-rolled x ∙ ((λ i. made (fields i) (recipients_of (inside i))) ∙ sym (recipient-unrolled r))
 recipient-copied r x (Err e) fields inside = tt
 
 pub recipient-added :
-    (r : CoseRecipient) (x : CoseRecipient-F CoseRecipient) (s : CoseRecipient) → fields_of x ≡ fields_of (out-CoseRecipient r) → x.recipients.items ≡ (out-CoseRecipient r).recipients.items ++ s ∷ []
+    (r : CoseRecipient) (x : CoseRecipient-F CoseRecipient) (s : CoseRecipient) → fields_of x ≡ fields_of (out-CoseRecipient r)
+    → x.recipients.items ≡ (out-CoseRecipient r).recipients.items ++ s ∷ []
     → recipient_seen (roll-CoseRecipient x) ≡ and_recipient (recipient_seen s) (recipient_seen r)
 recipient-added r x s fields pushed =
     let old : List CoseRecipient = (out-CoseRecipient r).recipients.items in

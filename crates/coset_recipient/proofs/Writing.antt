@@ -1,5 +1,6 @@
 -- Recipients written, from what their parts answer.
-use Rattle.std.proofs.Common.{◌≡◌, ◌≢◌, ◌<◌, ◌+◌, ◌^◌, ◌++◌, ◌∙◌, ℕ, suc, List, [], ◌∷◌, true, false, true≢false, Option, Some, None, option_map, Result, Ok, Err, refl, sym, ap, subst, arith}
+use Rattle.std.proofs.Common.{◌≡◌, ◌≢◌, ◌<◌, ◌+◌, ◌^◌, ◌++◌, ◌∙◌, ℕ, suc, List, [], ◌∷◌, true, false, true≢false, Option, Some, None, option_map, Result, Ok}
+use Rattle.std.proofs.Common.{Err, refl, sym, ap, subst, arith}
 use Rattle.coset_value.specs.Item.{Item, array, Items, no_items, item}
 use Rattle.coset_cbor.specs.Least.{least_head}
 use Rattle.coset_codec.specs.declared.error.CoseError.{CoseError}
@@ -7,7 +8,8 @@ use Rattle.coset_codec.specs.Encoding.{AppendsImage, AppendsPlaces, Encodes}
 use Rattle.coset_codec.specs.Shape.{both, bstr, images, last_image, or_nil}
 use Rattle.coset_codec.proofs.Encoding.{array-put, nothing-put, place-put}
 use Rattle.coset_core.specs.Headers.{header, protected}
-use Rattle.coset_recipient.specs.Recipient.{Recipients, no_recipients, recipient_and, RecipientSeen, are_none, recipients_of, inside_place, recipient_array, recipient_image, recipients_image}
+use Rattle.coset_recipient.specs.Recipient.{Recipients, no_recipients, recipient_and, RecipientSeen, are_none, recipients_of, inside_place, recipient_array}
+use Rattle.coset_recipient.specs.Recipient.{recipient_image, recipients_image}
 use Rattle.coset_recipient.specs.RecipientWriting.{Begins, last_places}
 
 pub images_of : (rs : List RecipientSeen) → images recipient_image rs ≡ recipients_image (recipients_of rs)
@@ -31,14 +33,17 @@ one_place : (o : Option Item) (mid new : List ℕ) → AppendsImage o mid new �
 one_place o mid new p = subst (λ os. AppendsPlaces os 1 mid new) (alone o) (place-put p (nothing-put new))
 
 with_last :
-    (r : RecipientSeen) (old mid new : List ℕ) (rs : List RecipientSeen) → r.recipients ≡ recipients_of rs → rs ≢ [] → Begins r old mid (Ok tt) → AppendsImage (option_map array (images recipient_image rs)) mid new
+    (r : RecipientSeen) (old mid new : List ℕ) (rs : List RecipientSeen) → r.recipients ≡ recipients_of rs → rs ≢ [] → Begins r old mid (Ok tt)
+    → AppendsImage (option_map array (images recipient_image rs)) mid new
     → AppendsImage (recipient_image r) old new
 with_last r old mid new [] e some b p = absurd (some refl)
 with_last r old mid new (x ∷ xs) e some b p =
     let all : Recipients = recipients_of (x ∷ xs) in
-    let last : AppendsPlaces (last_image true (option_map array (recipients_image all))) 1 mid new = one_place (option_map array (recipients_image all)) mid new (subst (λ o. AppendsImage (option_map array o) mid new) (images_of (x ∷ xs)) p) in
+    let last : AppendsPlaces (last_image true (option_map array (recipients_image all))) 1 mid new =
+    one_place (option_map array (recipients_image all)) mid new (subst (λ o. AppendsImage (option_map array o) mid new) (images_of (x ∷ xs)) p) in
     subst (λ rs. AppendsImage (recipient_array r.protected r.unprotected r.ciphertext (inside_place rs (recipients_image rs))) old new) (sym e)
-    (b (last_image true (option_map array (recipients_image all))) new (subst (λ rs. AppendsPlaces (last_image true (option_map array (recipients_image all))) (last_places rs) mid new) (sym e) last))
+    (b (last_image true (option_map array (recipients_image all))) new
+    (subst (λ rs. AppendsPlaces (last_image true (option_map array (recipients_image all))) (last_places rs) mid new) (sym e) last))
 
 no_last : {A B C : Type 0} (f : A → B → C) (o : Option A) → both f o None ≡ None
 no_last f (Some a) = refl
@@ -52,7 +57,8 @@ no_array None e = refl
 unplaced : (a b c : Option Item) (o : Option Items) → o ≡ None → option_map array (both item a (both item b (both item c o))) ≡ None
 unplaced a b c o e =
     ap (λ p. option_map array (both item a (both item b (both item c p)))) e
-    ∙ (ap (λ p. option_map array (both item a (both item b p))) (no_last item c) ∙ (ap (λ p. option_map array (both item a p)) (no_last item b) ∙ ap (option_map array) (no_last item a)))
+    ∙ (ap (λ p. option_map array (both item a (both item b p))) (no_last item c)
+    ∙ (ap (λ p. option_map array (both item a p)) (no_last item b) ∙ ap (option_map array) (no_last item a)))
 
 hidden : (rs : Recipients) → (rs ≡ no_recipients → ⊥) → recipients_image rs ≡ None → inside_place rs (recipients_image rs) ≡ None
 hidden no_recipients some e = absurd (some refl)
@@ -63,14 +69,16 @@ some_recipients [] some e = some refl
 some_recipients (r ∷ rs) some e = absurd (cc)
 
 pub last_written :
-    (r : RecipientSeen) (old mid new : List ℕ) (rs : List RecipientSeen) (a : Result (Unit {0}) CoseError) → r.recipients ≡ recipients_of rs → rs ≢ [] → Begins r old mid (Ok tt)
+    (r : RecipientSeen) (old mid new : List ℕ) (rs : List RecipientSeen) (a : Result (Unit {0}) CoseError) → r.recipients ≡ recipients_of rs → rs ≢ []
+    → Begins r old mid (Ok tt)
     → Encodes (option_map array (images recipient_image rs)) mid new a → Encodes (recipient_image r) old new a
 last_written r old mid new rs (Ok t) e some b p = with_last r old mid new rs e some b p
 last_written r old mid new rs (Err f) e some b p =
     λ m.
     let none = p m in
     let missing : recipients_image (recipients_of rs) ≡ None = sym (images_of rs) ∙ no_array (images recipient_image rs) none.1 in
-    let inside : inside_place r.recipients (recipients_image r.recipients) ≡ None = ap (λ all. inside_place all (recipients_image all)) e ∙ hidden (recipients_of rs) (some_recipients rs some) missing in
+    let inside : inside_place r.recipients (recipients_image r.recipients) ≡ None = ap (λ all. inside_place all (recipients_image all)) e
+    ∙ hidden (recipients_of rs) (some_recipients rs some) missing in
     (none.0, unplaced _ _ _ (inside_place r.recipients (recipients_image r.recipients)) inside)
 
 -- ---- the first three places
@@ -84,11 +92,13 @@ three : (n m : ℕ) → n ≡ 3 + m → n ≡ suc (suc (suc m))
 three n m e = omega (arith, e)
 
 pub first_written :
-    (r : RecipientSeen) (n : ℕ) (old head one two new : List ℕ) (a : Result (Unit {0}) CoseError) → n ≡ 3 + last_places r.recipients → n < 2 ^ 64 → head ≡ old ++ least_head 4 n → AppendsImage (protected.image r.protected) head one
+    (r : RecipientSeen) (n : ℕ) (old head one two new : List ℕ) (a : Result (Unit {0}) CoseError) → n ≡ 3 + last_places r.recipients → n < 2 ^ 64
+    → head ≡ old ++ least_head 4 n → AppendsImage (protected.image r.protected) head one
     → AppendsImage (header.image r.unprotected) one two → Encodes ((or_nil bstr).image r.ciphertext) two new a → Begins r old new a
 first_written r n old head one two new (Ok t) count small first p u c =
     λ last all put.
-    array-put (suc (suc (suc (last_places r.recipients)))) (subst (λ k. k < 2 ^ 64) (three n (last_places r.recipients) count) small) (first ∙ ap (λ k. old ++ least_head 4 k) (three n (last_places r.recipients) count))
+    array-put (suc (suc (suc (last_places r.recipients)))) (subst (λ k. k < 2 ^ 64) (three n (last_places r.recipients) count) small)
+    (first ∙ ap (λ k. old ++ least_head 4 k) (three n (last_places r.recipients) count))
     (place-put p (place-put u (place-put c put)))
 first_written r n old head one two new (Err e) count small first p u c =
     λ m. let none = c m in (none.0, no_third _ _ ((or_nil bstr).image r.ciphertext) _ none.1)

@@ -4,16 +4,19 @@ use Rattle.std.specs.Prelude.{⊤}
 use Rattle.coset_codec.specs.AsWritten.{AsWritten, WhenRead, PlacesAsWritten, PlacesWhenRead}
 use Rattle.coset_codec.specs.Lists.{EachHas, EachWith}
 use Rattle.coset_codec.specs.Shape.{Shape, ◌then◌, end, bstr, or_nil, list_of, perhaps}
-use Rattle.coset_codec.proofs.AsWritten.{list_as_written, list_when_read, perhaps_as_written, perhaps_when_read, recursive_as_written, recursive_when_read, then_as_written, then_when_read}
+use Rattle.coset_codec.proofs.AsWritten.{list_as_written, list_when_read, perhaps_as_written, perhaps_when_read, recursive_as_written, recursive_when_read}
+use Rattle.coset_codec.proofs.AsWritten.{then_as_written, then_when_read}
 use Rattle.coset_core.proofs.Messages.{KeepsBytes, KeptAsWritten, header_as_written, message_as_written, message_when_read}
 use Rattle.coset_msg.proofs.Written.{authenticates_as_written, authenticates_when_read, encrypts_as_written, encrypts_when_read}
 use Rattle.coset_msg.specs.EncStructure.{Encrypts, EncryptsSame}
 use Rattle.coset_msg.specs.MacStructure.{Authenticates, AuthenticatesSame}
 use Rattle.coset_recipient.specs.Encrypt.{encrypt, encrypt_fields, encrypt_places}
 use Rattle.coset_recipient.specs.Mac.{mac, mac_fields, mac_places}
-use Rattle.coset_recipient.specs.Recipient.{Recipients, no_recipients, recipient_and, RecipientSeen, are_some, each_of, recipient, recipient_fields, recipient_image, recipient_places, recipient_step}
+use Rattle.coset_recipient.specs.Recipient.{Recipients, no_recipients, recipient_and, RecipientSeen, are_some, each_of, recipient, recipient_fields}
+use Rattle.coset_recipient.specs.Recipient.{recipient_image, recipient_places, recipient_step}
 use Rattle.coset_recipient.specs.RecipientLaws.{recipient-of_step, recipient-opened, step}
-use Rattle.coset_recipient.specs.Structures.{EachEncrypts, EachEncryptsSame, EncryptsAll, EncryptsAllSame, Macs, MacsSame, RecipientEncrypts, RecipientEncryptsSame}
+use Rattle.coset_recipient.specs.Structures.{EachEncrypts, EachEncryptsSame, EncryptsAll, EncryptsAllSame, Macs, MacsSame, RecipientEncrypts}
+use Rattle.coset_recipient.specs.Structures.{RecipientEncryptsSame}
 
 -- ---- recipients
 
@@ -31,7 +34,8 @@ step_as_written : KeptAsWritten → (s : Shape RecipientSeen) → AsWritten s Re
 step_as_written kept s h v r t e d =
     let inside = perhaps_as_written [] are_some (list_of s) (EachWith RecipientEncryptsSame) (list_as_written s RecipientEncryptsSame h) none_same in
     let places = then_as_written (or_nil bstr) (perhaps [] are_some (list_of s)) (λ p q. ⊤) (EachWith RecipientEncryptsSame) (λ w p q f g. tt) inside in
-    let all = message_as_written (recipient_places (list_of s)) EncryptsSame _ (encrypts_as_written kept) places v (recipient_fields r) (recipient_fields t) e d in
+    let all = message_as_written (recipient_places (list_of s)) EncryptsSame _ (encrypts_as_written kept) places v (recipient_fields r)
+    (recipient_fields t) e d in
     (all.0, each_same r.recipients t.recipients all.1.1.1)
 
 pub recipient_as_written : KeptAsWritten → AsWritten recipient RecipientEncryptsSame
@@ -57,7 +61,8 @@ recipient_when_read = recursive_when_read recipient_step recipient_image Recipie
 
 lists_as_written : KeptAsWritten → PlacesAsWritten (list_of recipient then end) (λ x y. EachWith RecipientEncryptsSame x.0 y.0 × ⊤)
 lists_as_written kept =
-    then_as_written (list_of recipient) end (EachWith RecipientEncryptsSame) (λ x y. ⊤) (list_as_written recipient RecipientEncryptsSame (recipient_as_written kept)) (λ vs x y f g. tt)
+    then_as_written (list_of recipient) end (EachWith RecipientEncryptsSame) (λ x y. ⊤)
+    (list_as_written recipient RecipientEncryptsSame (recipient_as_written kept)) (λ vs x y f g. tt)
 
 lists_when_read : PlacesWhenRead (list_of recipient then end) (λ x. EachHas RecipientEncrypts x.0 × ⊤)
 lists_when_read =
@@ -93,7 +98,8 @@ encrypt_when_read v m d =
 
 pub recipient_kept : KeptAsWritten → AsWritten recipient (λ r s. KeepsBytes r.protected s.protected)
 recipient_kept kept v r s e d =
-    header_as_written (recipient_places (list_of recipient)) KeepsBytes kept v (recipient_fields r) (recipient_fields s) (sym (recipient-of_step r) ∙ e) (recipient-opened.describes v s d).1
+    header_as_written (recipient_places (list_of recipient)) KeepsBytes kept v (recipient_fields r) (recipient_fields s) (sym (recipient-of_step r) ∙ e)
+    (recipient-opened.describes v s d).1
 
 pub mac_kept : KeptAsWritten → AsWritten mac (λ m n. KeepsBytes m.protected n.protected)
 mac_kept kept v m n e d = header_as_written mac_places KeepsBytes kept v (mac_fields m) (mac_fields n) e d

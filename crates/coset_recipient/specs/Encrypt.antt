@@ -60,6 +60,7 @@ encrypt_structure_of m external_aad = enc_item CoseEncrypt m.protected external_
 
 -- ---- with one field set, and with one recipient more
 
+-- the message with this ciphertext, and all else as it was
 abbrev pub with_ciphertext : List ℕ → EncryptSeen → EncryptSeen
 with_ciphertext c m = record m { ciphertext = Some c }
 

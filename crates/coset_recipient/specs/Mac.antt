@@ -63,6 +63,7 @@ mac_structure_of m external_aad payload = mac_item CoseMac m.protected external_
 
 -- ---- with one field set, and with one recipient more
 
+-- the message with this tag, and all else as it was
 abbrev pub with_tag : List ℕ → MacSeen → MacSeen
 with_tag t m = record m { tag = t }
 

@@ -17,6 +17,7 @@ pub data Recipients : Type 0 where
   no_recipients : Recipients
   recipient_and : ProtectedSeen → HeaderSeen → Option (List ℕ) → Recipients → Recipients → Recipients
 
+-- a recipient without its memory
 pub record RecipientSeen : Type 0 where
   pub protected : ProtectedSeen
   pub unprotected : HeaderSeen
@@ -106,6 +107,7 @@ recipient_structure context r external_aad = enc_item context r.protected extern
 
 -- ---- with one field set, and with one recipient more
 
+-- the recipient with this ciphertext, and all else as it was
 abbrev pub with_ciphertext : List ℕ → RecipientSeen → RecipientSeen
 with_ciphertext c r = record r { ciphertext = Some c }
 
@@ -114,5 +116,6 @@ abbrev pub then_recipient : Recipients → RecipientSeen → Recipients
 then_recipient no_recipients r = and_recipients r no_recipients
 then_recipient (recipient_and p u c inside more) r = recipient_and p u c inside (then_recipient more r)
 
+-- the recipient with one more inside it, behind the others
 abbrev pub and_recipient : RecipientSeen → RecipientSeen → RecipientSeen
 and_recipient r all = record all { recipients = then_recipient all.recipients r }

@@ -1,12 +1,15 @@
 -- The laws of the shape of recipients.
 use Rattle.std.proofs.Common.{◌≡◌, ℕ, List, [], ◌∷◌, false, Option, option_map, refl, sym, ap, ◌∙◌, true≢false}
 use Rattle.coset_value.specs.Item.{array, Items, item}
-use Rattle.coset_codec.specs.RecursiveLaws.{Passes, Below, Step, along_passes, array_passes, then_passes, perhaps_passes, list_below, recursive_laws, recursive_step, step_recursive}
+use Rattle.coset_codec.specs.RecursiveLaws.{Passes, Below, Step, along_passes, array_passes, then_passes, perhaps_passes, list_below, recursive_laws}
+use Rattle.coset_codec.specs.RecursiveLaws.{recursive_step, step_recursive}
 use Rattle.coset_codec.specs.Shape.{Shape, both, bstr, or_nil, perhaps, last_image, list_of, images}
 use Rattle.coset_codec.specs.ShapeLaws.{Lawful, LawfulPlaces, along_laws, then_laws, bstr_laws, bytes_no_nil, or_nil_laws, perhaps_laws, list_of_laws}
 use Rattle.coset_core.specs.Headers.{header, protected}
 use Rattle.coset_core.specs.Messages.{headed_laws}
-use Rattle.coset_recipient.specs.Recipient.{Recipients, no_recipients, recipient_and, RecipientSeen, recipients_of, each_of, are_some, recipient_of, recipient_fields, recipient_places, recipient_with, recipient_step, inside_place, recipients_image, recipient_image, recipient_array, recipient}
+use Rattle.coset_recipient.specs.Recipient.{Recipients, no_recipients, recipient_and, RecipientSeen, recipients_of, each_of, are_some, recipient_of}
+use Rattle.coset_recipient.specs.Recipient.{recipient_fields, recipient_places, recipient_with, recipient_step, inside_place, recipients_image, recipient_image}
+use Rattle.coset_recipient.specs.Recipient.{recipient_array, recipient}
 
 -- ---- recipients and lists
 
@@ -27,31 +30,40 @@ none_where_hidden : {A : Type 0} (xs : List A) → are_some xs ≡ false → xs 
 none_where_hidden [] h = refl
 none_where_hidden (x ∷ xs) h = absurd (true≢false h)
 
-pub recipient_places_laws : (s : Shape (List RecipientSeen)) → Lawful (List RecipientSeen) s → LawfulPlaces (Option (List ℕ) × List RecipientSeen) (recipient_places s)
-recipient_places_laws s l = then_laws (or_nil bstr) (perhaps [] are_some s) (or_nil_laws bstr bytes_no_nil bstr_laws) (perhaps_laws [] are_some refl none_where_hidden s l)
+pub recipient_places_laws : (s : Shape (List RecipientSeen)) → Lawful (List RecipientSeen) s
+    → LawfulPlaces (Option (List ℕ) × List RecipientSeen) (recipient_places s)
+recipient_places_laws s l = then_laws (or_nil bstr) (perhaps [] are_some s) (or_nil_laws bstr bytes_no_nil bstr_laws)
+    (perhaps_laws [] are_some refl none_where_hidden s l)
 
 step_laws : (s : Shape RecipientSeen) → Lawful RecipientSeen s → Lawful RecipientSeen (recipient_step s)
-step_laws s l = along_laws recipient_of recipient_fields recipient-back _ (headed_laws (recipient_places (list_of s)) (recipient_places_laws (list_of s) (list_of_laws s l)))
+step_laws s l = along_laws recipient_of recipient_fields recipient-back _
+    (headed_laws (recipient_places (list_of s)) (recipient_places_laws (list_of s) (list_of_laws s l)))
 
-step_passes : {I : Type 0} (some : I) (s : Shape (List RecipientSeen)) (t : I → Shape (List RecipientSeen)) → Passes I (List RecipientSeen) s t → Passes I RecipientSeen (recipient_with s) (λ i. recipient_with (t i))
+step_passes : {I : Type 0} (some : I) (s : Shape (List RecipientSeen)) (t : I → Shape (List RecipientSeen)) → Passes I (List RecipientSeen) s t
+    → Passes I RecipientSeen (recipient_with s) (λ i. recipient_with (t i))
 step_passes some s t p =
     along_passes recipient_of recipient_fields _ _
-    (array_passes some _ _ (then_passes some protected _ _ (then_passes some header _ _ (then_passes some (or_nil bstr) _ _ (perhaps_passes some [] are_some s t p)))))
+    (array_passes some _ _ (then_passes some protected _ _
+    (then_passes some header _ _ (then_passes some (or_nil bstr) _ _ (perhaps_passes some [] are_some s t p)))))
 
 -- ---- what recipients are written as
 
-images_are : (s : Shape RecipientSeen) → ((r : RecipientSeen) → s.image r ≡ recipient_image r) → (rs : Recipients) → images s.image (each_of rs) ≡ recipients_image rs
+images_are : (s : Shape RecipientSeen) → ((r : RecipientSeen) → s.image r ≡ recipient_image r) → (rs : Recipients)
+    → images s.image (each_of rs) ≡ recipients_image rs
 images_are s same no_recipients = refl
-images_are s same (recipient_and p u c inside more) = λ i. both item (same (record { protected = p; unprotected = u; ciphertext = c; recipients = inside }) i) (images_are s same more i)
+images_are s same (recipient_and p u c inside more) = λ i. both item (same (record { protected = p; unprotected = u; ciphertext = c; recipients = inside }) i)
+    (images_are s same more i)
 
 place_is : (rs : Recipients) (o : Option Items) → last_image (are_some (each_of rs)) (option_map array o) ≡ inside_place rs o
 place_is no_recipients o = refl
 place_is (recipient_and p u c inside more) o = refl
 
-step_written : (s : Shape RecipientSeen) → ((r : RecipientSeen) → s.image r ≡ recipient_image r) → (r : RecipientSeen) → (recipient_step s).image r ≡ recipient_image r
+step_written : (s : Shape RecipientSeen) → ((r : RecipientSeen) → s.image r ≡ recipient_image r) → (r : RecipientSeen)
+    → (recipient_step s).image r ≡ recipient_image r
 step_written s same r =
     ap (recipient_array r.protected r.unprotected r.ciphertext)
-    (ap (λ o. last_image (are_some (each_of r.recipients)) (option_map array o)) (images_are s same r.recipients) ∙ place_is r.recipients (recipients_image r.recipients))
+    (ap (λ o. last_image (are_some (each_of r.recipients)) (option_map array o)) (images_are s same r.recipients)
+    ∙ place_is r.recipients (recipients_image r.recipients))
 
 -- ---- the shape
 

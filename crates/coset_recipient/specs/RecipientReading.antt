@@ -16,7 +16,8 @@ FillsFirst v w x p u c (Ok t) = protected.describes v p × header.describes w u 
 FillsFirst v w x p u c (Err e) = UnlessMemory e (λ f. protected.faults v f ⊎ header.faults w f ⊎ (or_nil bstr).faults x f)
 
 -- the first three places were read, and the others stand at t; or there are fewer
-abbrev pub BeginsThree : Items → ProtectedSeen → HeaderSeen → Option (List ℕ) → State → State → InputItems → Result (Result (Unit {0}) CoseError) CoseError → Type 0
+abbrev pub BeginsThree : Items → ProtectedSeen → HeaderSeen → Option (List ℕ) → State → State → InputItems → Result (Result (Unit {0}) CoseError) CoseError
+    → Type 0
 BeginsThree vs p u c t z m (Ok r) =
     (v : Item) × (w : Item) × (x : Item) × (others : Items) × (vs ≡ item v (item w (item x others))) × AreWithin m others t z × FillsFirst v w x p u c r
 BeginsThree vs p u c t z m (Err e) = (left : Items) × AreWithin m left t z × misfits_after 3 Never vs × IsUnexpected e

@@ -20,6 +20,7 @@ recipients_eq (recipient_and p u c inside more) (recipient_and q v d others rest
     (protected_eq p q && (header_eq u v && (option_eq (pointwise ◌==◌) c d && recipients_eq inside others))) && recipients_eq more rest
 recipients_eq rs ss = false
 
+-- whether two are the same, as a test that computes
 abbrev pub recipient_eq : RecipientSeen → RecipientSeen → Bool
 recipient_eq r s =
     protected_eq r.protected s.protected
@@ -60,7 +61,8 @@ recipient_eq-decides r s =
     (λ e. (ap (λ x. x.protected) e, (ap (λ x. x.unprotected) e, (ap (λ x. x.ciphertext) e, ap (λ x. x.recipients) e))))
     (Decides-and (protected_eq r.protected s.protected) _ (protected_eq-decides r.protected s.protected)
     (Decides-and (header_eq r.unprotected s.unprotected) _ (header_eq-decides r.unprotected s.unprotected)
-    (Decides-and (option_eq (pointwise ◌==◌) r.ciphertext s.ciphertext) (recipients_eq r.recipients s.recipients) (option_eq-decides (pointwise ◌==◌) bytes_decides r.ciphertext s.ciphertext) (recipients_eq-decides r.recipients s.recipients))))
+    (Decides-and (option_eq (pointwise ◌==◌) r.ciphertext s.ciphertext) (recipients_eq r.recipients s.recipients)
+    (option_eq-decides (pointwise ◌==◌) bytes_decides r.ciphertext s.ciphertext) (recipients_eq-decides r.recipients s.recipients))))
 
 -- so it is reflexive, symmetric and transitive
 pub recipient_eq_equiv : IsEquivalence recipient_eq

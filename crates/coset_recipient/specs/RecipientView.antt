@@ -2,7 +2,8 @@
 use Rattle.std.specs.Prelude.{◌≡◌, map, option_map}
 use Rattle.coset_core.specs.Views.{header_seen, protected_seen}
 use Rattle.coset_recipient.specs.Recipient.{RecipientSeen, recipients_of}
-use Rattle.coset_recipient.specs.declared.recipient.CoseRecipient.{CoseRecipient, CoseRecipient-F, fold-CoseRecipient, out-CoseRecipient, roll-CoseRecipient, fold-roll-CoseRecipient, fold_out-CoseRecipient}
+use Rattle.coset_recipient.specs.declared.recipient.CoseRecipient.{CoseRecipient, CoseRecipient-F, fold-CoseRecipient, out-CoseRecipient, roll-CoseRecipient}
+use Rattle.coset_recipient.specs.declared.recipient.CoseRecipient.{fold-roll-CoseRecipient, fold_out-CoseRecipient}
 
 -- one level, where those inside are seen already
 abbrev pub recipient_level : CoseRecipient-F RecipientSeen → RecipientSeen

@@ -16,6 +16,7 @@ EachEncryptsSame (recipient_and p u c inside more) (recipient_and q w d within o
     EncryptsSame p q × EachEncryptsSame inside within × EachEncryptsSame more others
 EachEncryptsSame rs ss = ⊥
 
+-- with the ciphertext of the one, and of each recipient in it at any depth, goes the same as with that of the other
 abbrev pub RecipientEncryptsSame : RecipientSeen → RecipientSeen → Type 0
 RecipientEncryptsSame r s = EncryptsSame r.protected s.protected × EachEncryptsSame r.recipients s.recipients
 
@@ -24,19 +25,24 @@ abbrev pub EachEncrypts : Recipients → Type 0
 EachEncrypts no_recipients = ⊤
 EachEncrypts (recipient_and p u c inside more) = Encrypts p × EachEncrypts inside × EachEncrypts more
 
+-- something goes with its ciphertext, and with that of each recipient in it at any depth
 abbrev pub RecipientEncrypts : RecipientSeen → Type 0
 RecipientEncrypts r = Encrypts r.protected × EachEncrypts r.recipients
 
 -- ---- messages
 
+-- the same is authenticated of both, and the same goes with the ciphertext of each recipient
 abbrev pub MacsSame : MacSeen → MacSeen → Type 0
 MacsSame m n = AuthenticatesSame m.protected n.protected × EachWith RecipientEncryptsSame m.recipients n.recipients
 
+-- something is authenticated, and something goes with the ciphertext of each recipient
 abbrev pub Macs : MacSeen → Type 0
 Macs m = Authenticates m.protected × EachHas RecipientEncrypts m.recipients
 
+-- the same goes with the ciphertext of both, and of each recipient
 abbrev pub EncryptsAllSame : EncryptSeen → EncryptSeen → Type 0
 EncryptsAllSame m n = EncryptsSame m.protected n.protected × EachWith RecipientEncryptsSame m.recipients n.recipients
 
+-- something goes with the ciphertext, and with that of each recipient
 abbrev pub EncryptsAll : EncryptSeen → Type 0
 EncryptsAll m = Encrypts m.protected × EachHas RecipientEncrypts m.recipients

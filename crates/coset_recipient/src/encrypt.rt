@@ -1,10 +1,8 @@
 //! Encrypted messages with recipients (RFC 8152, section 5.1).
 
-ghost use Rattle.std.specs.Prelude.{◌≡◌, ◌≢◌, ◌≤◌, OnOk, IfOk, IfErr, IfSome, Some, None};
+ghost use Rattle.std.specs.Prelude.{◌≡◌, ◌≢◌, IfOk, IfErr, IfSome, Some, None};
 ghost use Rattle.coset_codec.specs.declared.error.CoseError.TheVariants.{OutOfMemory};
 ghost use Rattle.coset_codec.specs.Answers.{Writes};
-ghost use Rattle.coset_codec.specs.Inputs.{state, GoesBehind, ReadsAt, length_left};
-ghost use Rattle.coset_codec.specs.InPlace.{Fills};
 ghost use Rattle.coset_core.specs.Messages.{unread};
 ghost use Rattle.coset_core.specs.Views.{header_seen};
 ghost use Rattle.coset_core.specs.Calls.{AsksAbout};
@@ -12,13 +10,13 @@ ghost use Rattle.coset_msg.specs.Presence.{AsksWherePresent, CreatesOf, TriesToC
 ghost use Rattle.coset_recipient.specs.Encrypt.{and_encrypt_recipient, empty_encrypt, encrypt, encrypt_seen, encrypt_structure_of, with_ciphertext};
 ghost use Rattle.coset_recipient.specs.RecipientView.{recipient_seen};
 
-use crate::recipient::{CoseRecipient, copy_recipient_list, read_recipients};
+use crate::recipient::{CoseRecipient, Recipients, copy_recipient_list};
 use coset_codec::read::Input;
 use coset_codec::util::copy_bstr;
 use coset_codec::write::{Array, Encode, encode_four};
 use coset_codec::{CallError, Codec, Result, TaggedCodec};
 use coset_core::calls::ask;
-use coset_core::{Bstr, Header, ProtectedHeader, fill_headers};
+use coset_core::{Bstr, Content, Header, ProtectedHeader, read_headed};
 use coset_msg::EncryptionContext;
 use coset_msg::enc_structure::additional_bytes;
 use std::alloc::{AllocError, Global};
@@ -46,33 +44,6 @@ pub struct CoseEncrypt {
 /// What the error of another number of places asks for.
 const PLACES: &str = "array with 4 items";
 
-/// Reads the places into an empty message, and names the fault of the last that has one.
-fn fill_encrypt(message: &mut CoseEncrypt, alloc: Global, input: &mut Input<'_>) -> Result<()>
-    requires empty { encrypt_seen message.old ≡ empty_encrypt }
-    ensures shrinks { length_left (state input.new) ≤ length_left (state input.old) }
-    ensures strictly { OnOk result (GoesBehind (state input.old) (state input.new)) }
-    ensures fills { ReadsAt (state input.old) (state input.new)
-        (λ v. Fills encrypt v (encrypt_seen message.new) result) }
-{
-    let mut places = input.enter_array("array")?;
-    let headers = fill_headers(
-        &mut message.protected,
-        &mut message.unprotected,
-        alloc,
-        &mut places,
-        input,
-        PLACES,
-    )?;
-    places.place(input, PLACES)?;
-    let ciphertext = input.bytes_or_nil(alloc, "bstr");
-    places.place(input, PLACES)?;
-    let recipients = read_recipients(alloc, input);
-    places.end(input, PLACES)?;
-    message.recipients = recipients?;
-    message.ciphertext = ciphertext?;
-    headers
-}
-
 impl CoseEncrypt {
     /// An empty message: empty headers, no ciphertext, no recipients. It takes no memory.
     pub fn new(alloc: Global) -> CoseEncrypt
@@ -86,8 +57,13 @@ impl CoseEncrypt {
         }
     }
 
-    /// The structure that goes with the ciphertext.
-    fn structure(&self, alloc: Global, external_aad: &[u8]) -> Result<Vec<u8>>
+    /// The bytes that go with the ciphertext as its additional authenticated data: those of `Enc_structure` (RFC 8152,
+    /// section 5.3), with the protected header as it was read. Whether the message carries its ciphertext doesn't matter.
+    ///
+    /// # Errors
+    /// `OutOfMemory`, or `DuplicateMapKey` where the protected header wasn't read and it, or one in it, repeats a label of
+    /// its rest.
+    pub fn aad(&self, alloc: Global, external_aad: &[u8]) -> Result<Vec<u8>>
         ensures { Writes (encrypt_structure_of (encrypt_seen self.now) external_aad.now) (λ b.
             b.items) result }
     {
@@ -132,7 +108,7 @@ impl CoseEncrypt {
         ensures { IfSome (encrypt_seen self.now).ciphertext (λ c. AsksAbout F.FnOnce cipher c
             (encrypt_structure_of (encrypt_seen self.now) external_aad.now) result) }
     {
-        let structure = self.structure(alloc, external_aad);
+        let structure = self.aad(alloc, external_aad);
         ask(self.carried(), structure, cipher)
     }
 
@@ -161,7 +137,30 @@ impl CoseEncrypt {
         let Some(ciphertext) = &self.ciphertext else {
             return Err(CallError::Caller(missing()));
         };
-        let structure = self.structure(alloc, external_aad);
+        let structure = self.aad(alloc, external_aad);
+        ask(ciphertext, structure, cipher)
+    }
+
+    /// The same as [`CoseEncrypt::decrypt`] where this ciphertext is sent apart (RFC 9052, section 5.1): it takes the place of one
+    /// that the message carries.
+    ///
+    /// # Errors
+    /// The same as [`CoseEncrypt::decrypt`].
+    pub fn decrypt_detached<F, E>(
+        &self,
+        alloc: Global,
+        ciphertext: &[u8],
+        external_aad: &[u8],
+        cipher: F,
+    ) -> Result<Vec<u8>, CallError<E>>
+    where
+        F: FnOnce(&[u8], &[u8]) -> Result<Vec<u8>, E> + Drop,
+        E: Drop,
+        requires { F.IsAlwaysCallable cipher }
+        ensures { AsksAbout F.FnOnce cipher ciphertext.now
+            (encrypt_structure_of (encrypt_seen self.now) external_aad.now) result }
+    {
+        let structure = self.aad(alloc, external_aad);
         ask(ciphertext, structure, cipher)
     }
 
@@ -214,8 +213,20 @@ impl Codec for CoseEncrypt {
 
     fn read(alloc: Global, input: &mut Input<'_>) -> Result<CoseEncrypt> {
         let mut message = CoseEncrypt::new(alloc);
-        fill_encrypt(&mut message, alloc, input)?;
-        Ok(message)
+        match read_headed::<(Content, (Recipients, ()))>(
+            &mut message.protected,
+            &mut message.unprotected,
+            alloc,
+            input,
+            PLACES,
+        ) {
+            Ok((Content(ciphertext), (Recipients(recipients), _))) => {
+                message.ciphertext = ciphertext;
+                message.recipients = recipients;
+                Ok(message)
+            }
+            Err(error) => Err(error),
+        }
     }
 
     fn size_hint(&self) -> usize {
@@ -339,7 +350,7 @@ impl CoseEncryptBuilder {
             (encrypt_structure_of (encrypt_seen self) external_aad.now) (λ c b. encrypt_seen b
             ≡ with_ciphertext c.items (encrypt_seen self)) result }
     {
-        let structure = self.0.structure(alloc, external_aad)?;
+        let structure = self.0.aad(alloc, external_aad)?;
         Ok(self.ciphertext(cipher(plaintext, &structure)))
     }
 
@@ -362,8 +373,52 @@ impl CoseEncryptBuilder {
             (encrypt_structure_of (encrypt_seen self) external_aad.now) (λ c b. encrypt_seen b
             ≡ with_ciphertext c.items (encrypt_seen self)) result }
     {
-        let structure = self.0.structure(alloc, external_aad);
+        let structure = self.0.aad(alloc, external_aad);
         let ciphertext = ask(plaintext, structure, cipher)?;
         Ok(self.ciphertext(ciphertext))
+    }
+
+    /// What `cipher` makes of the plaintext as in [`CoseEncryptBuilder::create_ciphertext`]: the ciphertext, to be sent apart. The
+    /// message stays as it is, and carries none unless one was set: its place is null (RFC 9052, section 5.1).
+    ///
+    /// # Errors
+    /// The same as [`CoseEncryptBuilder::create_ciphertext`].
+    pub fn create_detached_ciphertext<F>(
+        &self,
+        alloc: Global,
+        plaintext: &[u8],
+        external_aad: &[u8],
+        cipher: F,
+    ) -> Result<Vec<u8>>
+    where
+        F: FnOnce(&[u8], &[u8]) -> Vec<u8> + Drop,
+        requires { F.IsAlwaysCallable cipher }
+        ensures { CreatesOf F.FnOnce cipher plaintext.now
+            (encrypt_structure_of (encrypt_seen self.now) external_aad.now) (λ c given. given ≡ c) result }
+    {
+        let structure = self.0.aad(alloc, external_aad)?;
+        Ok(cipher(plaintext, &structure))
+    }
+
+    /// The same as [`CoseEncryptBuilder::create_detached_ciphertext`] with a `cipher` that may refuse.
+    ///
+    /// # Errors
+    /// The same as [`CoseEncryptBuilder::create_detached_ciphertext`]; or `Caller` with the error of `cipher`.
+    pub fn try_create_detached_ciphertext<F, E>(
+        &self,
+        alloc: Global,
+        plaintext: &[u8],
+        external_aad: &[u8],
+        cipher: F,
+    ) -> Result<Vec<u8>, CallError<E>>
+    where
+        F: FnOnce(&[u8], &[u8]) -> Result<Vec<u8>, E> + Drop,
+        E: Drop,
+        requires { F.IsAlwaysCallable cipher }
+        ensures { AsksAbout F.FnOnce cipher plaintext.now
+            (encrypt_structure_of (encrypt_seen self.now) external_aad.now) result }
+    {
+        let structure = self.0.aad(alloc, external_aad);
+        ask(plaintext, structure, cipher)
     }
 }

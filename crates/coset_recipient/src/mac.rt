@@ -1,24 +1,22 @@
 //! Messages with a MAC and recipients (RFC 8152, section 6.1).
 
-ghost use Rattle.std.specs.Prelude.{◌≡◌, ◌≢◌, ◌≤◌, OnOk, IfOk, IfErr, IfSome, Some, None};
+ghost use Rattle.std.specs.Prelude.{◌≡◌, ◌≢◌, IfOk, IfErr, IfSome, Some, None};
 ghost use Rattle.coset_codec.specs.declared.error.CoseError.TheVariants.{OutOfMemory};
 ghost use Rattle.coset_codec.specs.Answers.{Writes};
-ghost use Rattle.coset_codec.specs.Inputs.{state, GoesBehind, ReadsAt, length_left};
-ghost use Rattle.coset_codec.specs.InPlace.{Fills};
 ghost use Rattle.coset_core.specs.Messages.{unread};
 ghost use Rattle.coset_core.specs.Views.{header_seen};
 ghost use Rattle.coset_core.specs.Calls.{AsksAbout, Creates, TriesToCreate};
-ghost use Rattle.coset_msg.specs.Presence.{AsksWherePresent};
+ghost use Rattle.coset_msg.specs.Presence.{AsksWherePresent, WritesWherePresent};
 ghost use Rattle.coset_recipient.specs.Mac.{and_mac_recipient, empty_mac, mac, mac_seen, mac_structure_of, with_tag};
 ghost use Rattle.coset_recipient.specs.RecipientView.{recipient_seen};
 
-use crate::recipient::{CoseRecipient, copy_recipient_list, read_recipients};
+use crate::recipient::{CoseRecipient, Recipients, copy_recipient_list};
 use coset_codec::read::Input;
 use coset_codec::util::copy_bstr;
 use coset_codec::write::{Array, Encode, encode_five};
 use coset_codec::{CallError, Codec, Result, TaggedCodec};
 use coset_core::calls::{ask, make};
-use coset_core::{Bstr, Header, ProtectedHeader, fill_headers};
+use coset_core::{Bstr, Content, Header, ProtectedHeader, read_headed};
 use coset_msg::MacContext;
 use coset_msg::mac_structure::authenticated_bytes;
 use std::alloc::{AllocError, Global};
@@ -48,36 +46,6 @@ pub struct CoseMac {
 /// What the error of another number of places asks for.
 const PLACES: &str = "array with 5 items";
 
-/// Reads the places into an empty message, and names the fault of the last that has one.
-fn fill_mac(message: &mut CoseMac, alloc: Global, input: &mut Input<'_>) -> Result<()>
-    requires empty { mac_seen message.old ≡ empty_mac }
-    ensures shrinks { length_left (state input.new) ≤ length_left (state input.old) }
-    ensures strictly { OnOk result (GoesBehind (state input.old) (state input.new)) }
-    ensures fills { ReadsAt (state input.old) (state input.new)
-        (λ v. Fills mac v (mac_seen message.new) result) }
-{
-    let mut places = input.enter_array("array")?;
-    let headers = fill_headers(
-        &mut message.protected,
-        &mut message.unprotected,
-        alloc,
-        &mut places,
-        input,
-        PLACES,
-    )?;
-    places.place(input, PLACES)?;
-    let payload = input.bytes_or_nil(alloc, "bstr");
-    places.place(input, PLACES)?;
-    let tag = input.bytes(alloc, "bstr");
-    places.place(input, PLACES)?;
-    let recipients = read_recipients(alloc, input);
-    places.end(input, PLACES)?;
-    message.recipients = recipients?;
-    message.tag = tag?;
-    message.payload = payload?;
-    headers
-}
-
 impl CoseMac {
     /// An empty message: empty headers, no payload, an empty tag, no recipients. It takes no memory.
     pub fn new(alloc: Global) -> CoseMac
@@ -92,8 +60,33 @@ impl CoseMac {
         }
     }
 
-    /// The structure over this payload.
-    fn structure(&self, alloc: Global, external_aad: &[u8], payload: &[u8]) -> Result<Vec<u8>>
+    /// The bytes that are authenticated: those of `MAC_structure` (RFC 8152, section 6.3) over the payload that the message
+    /// carries, with the protected header as it was read; `None` where it carries none ([`CoseMac::tbm_detached`]).
+    ///
+    /// # Errors
+    /// `OutOfMemory`, or `DuplicateMapKey` where the protected header wasn't read and it, or one in it, repeats a label of
+    /// its rest.
+    pub fn tbm(&self, alloc: Global, external_aad: &[u8]) -> Result<Option<Vec<u8>>>
+        ensures { WritesWherePresent (λ b. b.items) (mac_seen self.now).payload
+            (mac_structure_of (mac_seen self.now) external_aad.now) result }
+    {
+        match &self.payload {
+            Some(payload) => Ok(Some(self.tbm_detached(alloc, payload, external_aad)?)),
+            None => Ok(None),
+        }
+    }
+
+    /// The bytes that are authenticated where this payload is sent apart (RFC 9052, section 6): it takes the place of one
+    /// that the message carries.
+    ///
+    /// # Errors
+    /// The same as [`CoseMac::tbm`].
+    pub fn tbm_detached(
+        &self,
+        alloc: Global,
+        payload: &[u8],
+        external_aad: &[u8],
+    ) -> Result<Vec<u8>>
         ensures { Writes (mac_structure_of (mac_seen self.now) external_aad.now payload.now) (λ b.
             b.items) result }
     {
@@ -140,7 +133,7 @@ impl CoseMac {
             (mac_seen self.now).tag (mac_structure_of (mac_seen self.now) external_aad.now p)
             result) }
     {
-        let structure = self.structure(alloc, external_aad, self.carried());
+        let structure = self.tbm_detached(alloc, self.carried(), external_aad);
         ask(&self.tag, structure, verifier)
     }
 
@@ -169,7 +162,30 @@ impl CoseMac {
         let Some(payload) = &self.payload else {
             return Err(CallError::Caller(missing()));
         };
-        let structure = self.structure(alloc, external_aad, payload);
+        let structure = self.tbm_detached(alloc, payload, external_aad);
+        ask(&self.tag, structure, verifier)
+    }
+
+    /// The same as [`CoseMac::verify_tag`] where this payload is sent apart (RFC 9052, section 6): it takes the place of one
+    /// that the message carries.
+    ///
+    /// # Errors
+    /// The same as [`CoseMac::verify_tag`].
+    pub fn verify_detached_tag<F, E>(
+        &self,
+        alloc: Global,
+        payload: &[u8],
+        external_aad: &[u8],
+        verifier: F,
+    ) -> Result<(), CallError<E>>
+    where
+        F: FnOnce(&[u8], &[u8]) -> Result<(), E> + Drop,
+        E: Drop,
+        requires { F.IsAlwaysCallable verifier }
+        ensures { AsksAbout F.FnOnce verifier (mac_seen self.now).tag
+            (mac_structure_of (mac_seen self.now) external_aad.now payload.now) result }
+    {
+        let structure = self.tbm_detached(alloc, payload, external_aad);
         ask(&self.tag, structure, verifier)
     }
 
@@ -224,8 +240,21 @@ impl Codec for CoseMac {
 
     fn read(alloc: Global, input: &mut Input<'_>) -> Result<CoseMac> {
         let mut message = CoseMac::new(alloc);
-        fill_mac(&mut message, alloc, input)?;
-        Ok(message)
+        match read_headed::<(Content, (Vec<u8>, (Recipients, ())))>(
+            &mut message.protected,
+            &mut message.unprotected,
+            alloc,
+            input,
+            PLACES,
+        ) {
+            Ok((Content(payload), (tag, (Recipients(recipients), _)))) => {
+                message.payload = payload;
+                message.tag = tag;
+                message.recipients = recipients;
+                Ok(message)
+            }
+            Err(error) => Err(error),
+        }
     }
 
     fn size_hint(&self) -> usize {
@@ -359,8 +388,31 @@ impl CoseMacBuilder {
             (mac_structure_of (mac_seen self) external_aad.now p) (λ t b. mac_seen b
             ≡ with_tag t.items (mac_seen self)) result) }
     {
-        let tbm = self.0.structure(alloc, external_aad, self.0.carried())?;
+        let tbm = self.0.tbm_detached(alloc, self.0.carried(), external_aad)?;
         Ok(self.tag(creator(&tbm)))
+    }
+
+    /// The same as [`CoseMacBuilder::create_tag`] where this payload is sent apart (RFC 9052, section 6): it takes the place of
+    /// one that the message carries, and isn't put into it.
+    ///
+    /// # Errors
+    /// The same as [`CoseMacBuilder::create_tag`].
+    pub fn create_detached_tag<F>(
+        self,
+        alloc: Global,
+        payload: &[u8],
+        external_aad: &[u8],
+        creator: F,
+    ) -> Result<CoseMacBuilder>
+    where
+        F: FnOnce(&[u8]) -> Vec<u8> + Drop,
+        requires { F.IsAlwaysCallable creator }
+        ensures { Creates F.FnOnce creator
+            (mac_structure_of (mac_seen self) external_aad.now payload.now) (λ t b. mac_seen b
+            ≡ with_tag t.items (mac_seen self)) result }
+    {
+        let structure = self.0.tbm_detached(alloc, payload, external_aad)?;
+        Ok(self.tag(creator(&structure)))
     }
 
     /// The same as [`CoseMacBuilder::create_tag`] with a `creator` that may refuse.
@@ -382,7 +434,31 @@ impl CoseMacBuilder {
             (mac_structure_of (mac_seen self) external_aad.now p) (λ t b. mac_seen b
             ≡ with_tag t.items (mac_seen self)) result) }
     {
-        let structure = self.0.structure(alloc, external_aad, self.0.carried());
+        let structure = self.0.tbm_detached(alloc, self.0.carried(), external_aad);
+        let tag = make(structure, creator)?;
+        Ok(self.tag(tag))
+    }
+
+    /// The same as [`CoseMacBuilder::create_detached_tag`] with a `creator` that may refuse.
+    ///
+    /// # Errors
+    /// The same as [`CoseMacBuilder::create_detached_tag`]; or `Caller` with the error of `creator`.
+    pub fn try_create_detached_tag<F, E>(
+        self,
+        alloc: Global,
+        payload: &[u8],
+        external_aad: &[u8],
+        creator: F,
+    ) -> Result<CoseMacBuilder, CallError<E>>
+    where
+        F: FnOnce(&[u8]) -> Result<Vec<u8>, E> + Drop,
+        E: Drop,
+        requires { F.IsAlwaysCallable creator }
+        ensures { TriesToCreate F.FnOnce creator
+            (mac_structure_of (mac_seen self) external_aad.now payload.now) (λ t b. mac_seen b
+            ≡ with_tag t.items (mac_seen self)) result }
+    {
+        let structure = self.0.tbm_detached(alloc, payload, external_aad);
         let tag = make(structure, creator)?;
         Ok(self.tag(tag))
     }

@@ -9,7 +9,7 @@ ghost use Rattle.coset_codec.specs.Answers.{Reads, Writes};
 ghost use Rattle.coset_codec.specs.Encoding.{AppendsPlaces, Encodes, HasNoImage};
 ghost use Rattle.coset_codec.specs.Errors.{answer};
 ghost use Rattle.coset_codec.specs.InPlace.{Fills, FillsEach};
-ghost use Rattle.coset_codec.specs.Inputs.{State, state, length_left, items_size, Stands, GoesBehind, AreWithin, ReadsAt};
+ghost use Rattle.coset_codec.specs.Inputs.{State, state, length_left, items_size, Stands, GoesBehind, AreWithin};
 ghost use Rattle.coset_codec.specs.Shape.{images, list_of};
 ghost use Rattle.coset_core.specs.Headers.{empty_header};
 ghost use Rattle.coset_core.specs.Messages.{unread};
@@ -25,7 +25,7 @@ ghost use Rattle.coset_recipient.specs.RecipientView.{recipient_seen};
 use coset_cbor::ser::write_array_head;
 use coset_codec::error::{Refused, keep_error};
 use coset_codec::read::{
-    InPlace, Input, InputItems, copy_bstr_to, make_room, misfit, next_place, push_empty,
+    Decode, InPlace, Input, InputItems, copy_bstr_to, make_room, misfit, next_place, push_empty,
 };
 use coset_codec::write::Encode;
 use coset_codec::{CallError, Codec, CoseError, Result};
@@ -251,17 +251,27 @@ fn fill_last(
     filled
 }
 
-/// Recipients, read from their array.
-pub(crate) fn read_recipients(alloc: Global, input: &mut Input<'_>) -> Result<Vec<CoseRecipient>>
-    ensures shrinks { length_left (state input.new) ≤ length_left (state input.old) }
-    ensures reads { ReadsAt (state input.old) (state input.new)
-        (λ v. Reads (list_of recipient_shape) (λ all. map recipient_seen all.items) v result) }
-{
-    let mut all = Vec::new(alloc);
-    let mut error = CoseError::OutOfMemory;
-    match fill_recipients(&mut all, alloc, input, &mut error) {
-        Ok(()) => Ok(all),
-        Err(Refused) => Err(error),
+/// Recipients as they stand in a message: the array of them.
+#[derive(Debug, Drop)]
+pub(crate) struct Recipients(pub(crate) Vec<CoseRecipient>);
+
+impl Decode for Recipients {
+    ghost use Rattle.std.specs.Prelude.{List};
+    ghost use Rattle.coset_recipient.specs.Recipient.{RecipientSeen};
+
+    ghost Seen = { List RecipientSeen };
+
+    ghost seen = { λ all. map recipient_seen all.0.items };
+
+    ghost shape = { list_of recipient_shape };
+
+    fn decode(alloc: Global, input: &mut Input<'_>) -> Result<Recipients> {
+        let mut all = Vec::new(alloc);
+        let mut error = CoseError::OutOfMemory;
+        match fill_recipients(&mut all, alloc, input, &mut error) {
+            Ok(()) => Ok(Recipients(all)),
+            Err(Refused) => Err(error),
+        }
     }
 }
 
@@ -405,8 +415,14 @@ impl CoseRecipient {
         }
     }
 
-    /// The structure that goes with the ciphertext.
-    fn structure(
+    /// The bytes that go with the ciphertext as its additional authenticated data: those of `Enc_structure` (RFC 8152,
+    /// section 5.3), with the protected header as it was read. The context is that of a recipient of an encrypted message,
+    /// of a MAC, or of another recipient.
+    ///
+    /// # Errors
+    /// `OutOfMemory`, or `DuplicateMapKey` where the protected header wasn't read and it, or one in it, repeats a label of
+    /// its rest.
+    pub fn aad(
         &self,
         alloc: Global,
         context: EncryptionContext,
@@ -454,7 +470,7 @@ impl CoseRecipient {
         ensures { IfSome (recipient_seen self.now).ciphertext (λ c. AsksAbout F.FnOnce cipher c
             (recipient_structure context (recipient_seen self.now) external_aad.now) result) }
     {
-        let structure = self.structure(alloc, context, external_aad);
+        let structure = self.aad(alloc, context, external_aad);
         ask(self.carried(), structure, cipher)
     }
 
@@ -485,7 +501,7 @@ impl CoseRecipient {
         let Some(ciphertext) = &self.ciphertext else {
             return Err(CallError::Caller(missing()));
         };
-        let structure = self.structure(alloc, context, external_aad);
+        let structure = self.aad(alloc, context, external_aad);
         ask(ciphertext, structure, cipher)
     }
 
@@ -668,7 +684,7 @@ impl CoseRecipientBuilder {
             (recipient_structure context (recipient_seen self) external_aad.now) (λ c b.
             recipient_seen b ≡ with_ciphertext c.items (recipient_seen self)) result }
     {
-        let structure = self.0.structure(alloc, context, external_aad)?;
+        let structure = self.0.aad(alloc, context, external_aad)?;
         Ok(self.ciphertext(cipher(plaintext, &structure)))
     }
 
@@ -693,7 +709,7 @@ impl CoseRecipientBuilder {
             (recipient_structure context (recipient_seen self) external_aad.now) (λ c b.
             recipient_seen b ≡ with_ciphertext c.items (recipient_seen self)) result }
     {
-        let structure = self.0.structure(alloc, context, external_aad);
+        let structure = self.0.aad(alloc, context, external_aad);
         let ciphertext = ask(plaintext, structure, cipher)?;
         Ok(self.ciphertext(ciphertext))
     }

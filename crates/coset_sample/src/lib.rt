@@ -2,15 +2,7 @@
 //! what the traits promise.
 #![tactic(auto)]
 
-#[cfg(test)]
-mod kinds;
 pub mod parcel;
 pub mod reading;
-#[cfg(test)]
-mod refused;
-#[cfg(test)]
-mod repeats;
 pub mod report;
-#[cfg(test)]
-mod rows;
 pub mod settings;

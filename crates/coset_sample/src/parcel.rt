@@ -7,7 +7,7 @@
 ghost use Rattle.coset_sample.specs.Parcel.{seen, parcel};
 
 use crate::reading::Mark;
-use coset_codec::read::{Input, read_list};
+use coset_codec::read::{Input, decode_four};
 use coset_codec::write::{Array, Encode, encode_four};
 use coset_codec::{Codec, Result};
 use std::alloc::Global;
@@ -20,9 +20,6 @@ pub struct Parcel {
     pub note: Option<Vec<u8>>,
     pub marks: Vec<Mark>,
 }
-
-/// What the error of another number of places asks for.
-const FOUR: &str = "array with 4 items";
 
 impl Codec for Parcel {
     ghost use Rattle.coset_codec.specs.Told.{bstr_told, bytes_told, last_told, lists_told, part_told, parts_told};
@@ -45,21 +42,9 @@ impl Codec for Parcel {
         (λ x y. signed_Decides x.0 y.0) a.marks.items b.marks.items))))) };
 
     fn read(alloc: Global, input: &mut Input<'_>) -> Result<Parcel> {
-        let mut places = input.enter_array("array")?;
-        places.place(input, FOUR)?;
-        let number = input.int64("int");
-        places.place(input, FOUR)?;
-        let receiver = input.bytes(alloc, "bstr");
-        places.place(input, FOUR)?;
-        let note = input.bytes_or_nil(alloc, "bstr or nil");
-        places.place(input, FOUR)?;
-        let marks = read_list(alloc, input, "array");
-        places.end(input, FOUR)?;
-        let marks = marks?;
-        let note = note?;
-        let receiver = receiver?;
+        let (number, receiver, note, marks) = decode_four(alloc, input)?;
         Ok(Parcel {
-            number: number?,
+            number,
             receiver,
             note,
             marks,
@@ -67,13 +52,7 @@ impl Codec for Parcel {
     }
 
     fn write(&self, alloc: Global, out: &mut Vec<u8>) -> Result<()> {
-        encode_four(
-            alloc,
-            &self.number,
-            &self.receiver,
-            &self.note,
-            &Array(&self.marks),
-            out,
-        )
+        let marks = Array(&self.marks);
+        encode_four(alloc, &self.number, &self.receiver, &self.note, &marks, out)
     }
 }

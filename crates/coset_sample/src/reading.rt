@@ -5,7 +5,7 @@ ghost use Rattle.coset_codec.specs.Shape.{int64};
 ghost use Rattle.coset_codec.specs.ShapeLaws.{int64_laws};
 ghost use Rattle.coset_sample.specs.Reading.{mark_seen, seen, reading};
 
-use coset_codec::read::{Input, read_list};
+use coset_codec::read::{Input, decode_three};
 use coset_codec::write::{Array, Encode, encode_three};
 use coset_codec::{Codec, Result, TaggedCodec};
 use std::alloc::Global;
@@ -47,9 +47,6 @@ pub struct Reading {
     pub marks: Vec<Mark>,
 }
 
-/// What the error of another number of places asks for.
-const THREE: &str = "array with 3 items";
-
 impl Codec for Reading {
     ghost use Rattle.coset_codec.specs.Told.{bstr_told, last_told, lists_told, part_told, parts_told};
     ghost use Rattle.std.specs.Cmp.{signed_Decides};
@@ -69,20 +66,10 @@ impl Codec for Reading {
         (last_told (lists_told mark_seen _ (λ x y. signed_Decides x.0 y.0)
         a.marks.items b.marks.items)))) };
 
-    /// Reads the places from the first to the last, and names the fault of the last that has one.
     fn read(alloc: Global, input: &mut Input<'_>) -> Result<Reading> {
-        let mut places = input.enter_array("array")?;
-        places.place(input, THREE)?;
-        let number = input.int64("int");
-        places.place(input, THREE)?;
-        let payload = input.bytes_or_nil(alloc, "bstr or nil");
-        places.place(input, THREE)?;
-        let marks = read_list(alloc, input, "array");
-        places.end(input, THREE)?;
-        let marks = marks?;
-        let payload = payload?;
+        let (number, payload, marks) = decode_three(alloc, input)?;
         Ok(Reading {
-            number: number?,
+            number,
             payload,
             marks,
         })

@@ -13,7 +13,7 @@ ghost use Rattle.coset_sample.specs.Report.{seen, report};
 use crate::reading::Reading;
 use coset_cbor::de::Pull;
 use coset_cbor::value::Value;
-use coset_codec::read::{Input, read_list};
+use coset_codec::read::{Input, decode_two};
 use coset_codec::traits::FromPull;
 use coset_codec::write::{Array, Encode, encode_to_value, encode_two};
 use coset_codec::{AsCborValue, CborSerializable, Lawful, Result, Source, TaggedCborSerializable};
@@ -28,23 +28,13 @@ pub struct Report {
     pub readings: Vec<Reading>,
 }
 
-/// What the error of another number of places asks for.
-const TWO: &str = "array with 2 items";
-
 /// Reads the places from the first to the last, and names the fault of the last that has one.
 fn read_report(alloc: Global, input: &mut Input<'_>) -> Result<Report>
     ensures shrinks { length_left (state input.new) ≤ length_left (state input.old) }
     ensures strictly { OnOk result (GoesBehind (state input.old) (state input.new)) }
     ensures reads { ReadsAt (state input.old) (state input.new) (λ v. Reads report seen v result) }
 {
-    let mut places = input.enter_array("array")?;
-    places.place(input, TWO)?;
-    let sender = input.bytes(alloc, "bstr");
-    places.place(input, TWO)?;
-    let readings = read_list(alloc, input, "array");
-    places.end(input, TWO)?;
-    let readings = readings?;
-    let sender = sender?;
+    let (sender, readings) = decode_two(alloc, input)?;
     Ok(Report { sender, readings })
 }
 

@@ -37,7 +37,8 @@ pub kind_of_name : (k j : Kind) → kind_name k ≡ kind_name j → k ≡ j
 kind_of_name k j e = sym (named_again k) ∙ ap named e ∙ named_again j
 
 -- the line of a true refusal answers the input
-pub refusal_answers : (known before after : Option (List ℕ)) (k j : Kind) (refusal : Refusal) (lines : List ℕ) (status : ℕ) → k ≡ j → lines ≡ refusal_line refusal → Appends before after lines × (status ≡ 1)
+pub refusal_answers : (known before after : Option (List ℕ)) (k j : Kind) (refusal : Refusal) (lines : List ℕ) (status : ℕ) → k ≡ j
+    → lines ≡ refusal_line refusal → Appends before after lines × (status ≡ 1)
     → IfSome known (λ input. RefusesInput j input refusal) → IfSome known (λ input. (x : List ℕ) × Appends before after x × AnswersInput k input x status)
 refusal_answers None before after k j refusal lines status same is put refused = tt
 refusal_answers (Some input) before after k j refusal lines status same is put refused =

@@ -4,7 +4,8 @@ use Rattle.std.specs.Prelude.{Option}
 use Rattle.std.specs.Io.KnownBytes.{Consumes, IsAtEnd}
 
 -- a reader that is at its end gave all that it had
-pub gave_all : (a b e : Option (List ℕ)) (input buffer : List ℕ) (n : ℕ) → n ≡ 0 → Consumes a b input → Consumes b e (take n buffer) → IsAtEnd e → IfSome a (λ xs. input ≡ xs)
+pub gave_all : (a b e : Option (List ℕ)) (input buffer : List ℕ) (n : ℕ) → n ≡ 0 → Consumes a b input → Consumes b e (take n buffer) → IsAtEnd e
+    → IfSome a (λ xs. input ≡ xs)
 gave_all None b e input buffer n zero p q ends = tt
 gave_all (Some x) None e input buffer n zero p q ends = absurd p
 gave_all (Some x) (Some y) None input buffer n zero p q ends = absurd q

@@ -20,12 +20,14 @@ use Rattle.coset_show.specs.Show.{RefusesType, tagged_if}
 -- ---- refusals
 
 -- an error that refuses the bytes, as the answer that a call passes on
-pub passed_on : {T A : Type 0} (shape : Shape A) (b : List ℕ) (e : CoseError) (r : Result T Refusal) (P : T → Type 0) → IsErrAnd r (λ x. x ≡ Cose e) → RefusesType shape b (Cose e) → MatchResult r P (RefusesType shape b)
+pub passed_on : {T A : Type 0} (shape : Shape A) (b : List ℕ) (e : CoseError) (r : Result T Refusal) (P : T → Type 0) → IsErrAnd r (λ x. x ≡ Cose e)
+    → RefusesType shape b (Cose e) → MatchResult r P (RefusesType shape b)
 passed_on shape b e (Ok x) P h f = absurd h
 passed_on shape b e (Err x) P h f = subst (RefusesType shape b) (sym h) f
 
 -- an error that tells of a fault in bytes that describe nothing
-pub refuses_read : {A : Type 0} (shape : Shape A) (b : List ℕ) (e : CoseError) → UnlessMemory e (SliceFaults shape b) → UnlessMemory e (λ _. DescribesNothing shape b) → RefusesType shape b (Cose e)
+pub refuses_read : {A : Type 0} (shape : Shape A) (b : List ℕ) (e : CoseError) → UnlessMemory e (SliceFaults shape b)
+    → UnlessMemory e (λ _. DescribesNothing shape b) → RefusesType shape b (Cose e)
 refuses_read shape b e faults none = λ n. (faults n, none n)
 
 -- out of memory

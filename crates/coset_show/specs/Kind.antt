@@ -24,6 +24,7 @@ kind_name Keyset = codes "keyset"
 kind_name Claims = codes "claims"
 kind_name Kdf = codes "kdf"
 
+-- what is shown of bytes of that kind
 abbrev pub ShowsBytes : Kind → List ℕ → List ℕ → Type 0
 ShowsBytes Value = ShowsType any
 ShowsBytes Sign1 = ShowsSign1
@@ -38,6 +39,7 @@ ShowsBytes Keyset = ShowsType key_set
 ShowsBytes Claims = ShowsType claims
 ShowsBytes Kdf = ShowsType context
 
+-- why bytes of that kind are refused
 abbrev pub RefusesBytes : Kind → List ℕ → Refusal → Type 0
 RefusesBytes Value b = RefusesType any b
 RefusesBytes Sign1 b = RefusesType (sign1_in b) b

@@ -57,6 +57,7 @@ tagged_if false number s = s
 abbrev pub message_in : {A : Type 0} → List ℕ → ℕ → Shape A → Shape A
 message_in b number s = tagged_if (is_tagged b) number s
 
+-- the message that bytes describe, by its tag
 abbrev pub sign1_in : List ℕ → Shape Sign1Seen
 sign1_in b = message_in b 18 sign1
 

@@ -6,6 +6,7 @@ use Rattle.coset_show.specs.declared.stream.Stream.{Stream}
 abbrev pub inside : {T : Type 0} → Stream T → T
 inside s = s.inner
 
+-- whether a call of the reader or the writer failed
 abbrev pub has_failed : {T : Type 0} → Stream T → Bool
 has_failed s = s.failed
 

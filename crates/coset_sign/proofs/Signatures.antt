@@ -31,7 +31,8 @@ same_parts p q (Some s) (Some t) a x l m e = (cc, cc, cc, cc)
 abbrev OneStructure : Type 0
 OneStructure = (c d b : List ℕ) (p q : List (List ℕ)) → IsShortest b (structure c p) → IsShortest b (structure d q) → (c ≡ d) × (p ≡ q)
 
-pub same_signed : OneStructure → (c d : SignatureContext) (p q : List ℕ) (s t : Option (List ℕ)) (a x l m b : List ℕ) → IsShortest b (signature_structure c p s a l) → IsShortest b (signature_structure d q t x m)
+pub same_signed : OneStructure → (c d : SignatureContext) (p q : List ℕ) (s t : Option (List ℕ)) (a x l m b : List ℕ)
+    → IsShortest b (signature_structure c p s a l) → IsShortest b (signature_structure d q t x m)
     → (c ≡ d) × (p ≡ q) × (s ≡ t) × (a ≡ x) × (l ≡ m)
 same_signed one c d p q s t a x l m b h k =
     let both = one (context_text c) (context_text d) b (signed_parts p s a l) (signed_parts q t x m) h k in

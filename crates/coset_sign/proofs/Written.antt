@@ -7,7 +7,8 @@ use Rattle.coset_codec.specs.Lists.{EachHas, EachWith}
 use Rattle.coset_codec.specs.Shape.{both, ◌then◌, end, bstr, or_nil, list_of}
 use Rattle.coset_codec.specs.ShapeLaws.{some-none}
 use Rattle.coset_core.specs.Headers.{ProtectedSeen, SignatureSeen, protected_bytes, places_of}
-use Rattle.coset_core.proofs.Messages.{HasBytes, KeepsBytes, KeptAsWritten, has_bytes, header_as_written, header_when_read, message_as_written, message_when_read, places_as_written}
+use Rattle.coset_core.proofs.Messages.{HasBytes, KeepsBytes, KeptAsWritten, has_bytes, header_as_written, header_when_read, message_as_written}
+use Rattle.coset_core.proofs.Messages.{message_when_read, places_as_written}
 use Rattle.coset_sign.specs.SignatureStructure.{signature_structure}
 use Rattle.coset_sign.specs.Signed.{SignsSame}
 use Rattle.coset_sign.specs.Sign1.{SamePayloadAndSignature, sign1, sign1_fields, sign1_places, sign1_structure}
@@ -25,7 +26,8 @@ signs_as_written kept v m n e d = signs_same m.protected n.protected (header_as_
 
 pub carries_as_written : AsWritten sign1 SamePayloadAndSignature
 carries_as_written v m n e d =
-    let places = places_as_written sign1_places _ (then_as_written (or_nil bstr) (bstr then end) (λ p q. q ≡ p) _ or_nil_as_written (then_as_written bstr end (λ s t. t ≡ s) (λ x y. ⊤) bstr_as_written (λ vs x y f g. tt))) in
+    let places = places_as_written sign1_places _ (then_as_written (or_nil bstr) (bstr then end) (λ p q. q ≡ p) _ or_nil_as_written
+    (then_as_written bstr end (λ s t. t ≡ s) (λ x y. ⊤) bstr_as_written (λ vs x y f g. tt))) in
     let both_same = places v (sign1_fields m) (sign1_fields n) e d in
     (both_same.0, both_same.1.0)
 
@@ -46,13 +48,17 @@ signer_as_written kept v s t e d = header_as_written (bstr then end) KeepsBytes 
 each_signs_same : (m n : SignSeen) → KeepsBytes m.protected n.protected → (ss ts : List SignatureSeen) → EachWith KeepsSame ss ts
     → EachWith (λ s t. (a l : List ℕ) → signer_structure n s a l ≡ signer_structure m t a l) ts ss
 each_signs_same m n e [] [] h = tt
-each_signs_same m n e (s ∷ ss) (t ∷ ts) h = (λ a l i. both (λ b c. signature_structure CoseSignature b (Some c) a l) (e i) (h.0 i), each_signs_same m n e ss ts h.1)
+each_signs_same m n e (s ∷ ss) (t ∷ ts) h = (
+  λ a l i. both (λ b c. signature_structure CoseSignature b (Some c) a l) (e i) (h.0 i),
+  each_signs_same m n e ss ts h.1,
+)
 each_signs_same m n e [] (t ∷ ts) h = absurd h
 each_signs_same m n e (s ∷ ss) [] h = absurd h
 
 pub each_signs_as_written : KeptAsWritten → AsWritten sign (λ m n. EachSignsSame n m)
 each_signs_as_written kept v m n e d =
-    let lists = then_as_written (list_of signer) end (EachWith KeepsSame) (λ x y. ⊤) (list_as_written signer KeepsSame (signer_as_written kept)) (λ vs x y f g. tt) in
+    let lists = then_as_written (list_of signer) end (EachWith KeepsSame) (λ x y. ⊤) (list_as_written signer KeepsSame (signer_as_written kept))
+    (λ vs x y f g. tt) in
     let places = then_as_written (or_nil bstr) (list_of signer then end) (λ p q. ⊤) _ (λ w p q f g. tt) lists in
     let all = message_as_written sign_places KeepsBytes _ kept places v (sign_fields m) (sign_fields n) e d in
     each_signs_same m n all.0 m.signatures n.signatures all.1.1.1.0
@@ -67,7 +73,8 @@ signer_when_read v s d = header_when_read (bstr then end) HasBytes has_bytes v (
 has_structure : (m : SignSeen) → HasBytes m.protected → (s : SignatureSeen) → HasOwnBytes s → (a l : List ℕ) → signer_structure m s a l ≡ None → ⊥
 has_structure m h s g a l none = some-none (λ i. both (λ b c. signature_structure CoseSignature b (Some c) a l) (h.1 i) (g.1 i)) none
 
-each_has_structure : (m : SignSeen) → HasBytes m.protected → (ss : List SignatureSeen) → EachHas HasOwnBytes ss → EachHas (λ s. (a l : List ℕ) → signer_structure m s a l ≡ None → ⊥) ss
+each_has_structure : (m : SignSeen) → HasBytes m.protected → (ss : List SignatureSeen) → EachHas HasOwnBytes ss
+    → EachHas (λ s. (a l : List ℕ) → signer_structure m s a l ≡ None → ⊥) ss
 each_has_structure m h [] g = tt
 each_has_structure m h (s ∷ ss) g = (has_structure m h s g.0, each_has_structure m h ss g.1)
 

@@ -21,4 +21,5 @@ countersign_structure body signer external_aad payload others =
 -- header has no such bytes
 abbrev pub countersigned_item : ProtectedSeen → Option ProtectedSeen → List ℕ → List ℕ → List (List ℕ) → Option Item
 countersigned_item body None external_aad payload others = option_map (λ p. countersign_structure p None external_aad payload others) (protected_bytes body)
-countersigned_item body (Some signer) external_aad payload others = both (λ p q. countersign_structure p (Some q) external_aad payload others) (protected_bytes body) (protected_bytes signer)
+countersigned_item body (Some signer) external_aad payload others =
+    both (λ p q. countersign_structure p (Some q) external_aad payload others) (protected_bytes body) (protected_bytes signer)

@@ -71,7 +71,8 @@ signer_carried m s external_aad = signer_structure m s external_aad (or_empty m.
 
 -- of each signature of the two messages the same is signed, whatever goes with it
 abbrev pub EachSignsSame : SignSeen → SignSeen → Type 0
-EachSignsSame m n = EachWith (λ s t. (external_aad payload : List ℕ) → signer_structure m s external_aad payload ≡ signer_structure n t external_aad payload) m.signatures n.signatures
+EachSignsSame m n = EachWith (λ s t. (external_aad payload : List ℕ)
+    → signer_structure m s external_aad payload ≡ signer_structure n t external_aad payload) m.signatures n.signatures
 
 -- each signature of the message signs something, whatever goes with it
 abbrev pub EachSigns : SignSeen → Type 0

@@ -65,5 +65,6 @@ sign1_carried m external_aad = sign1_structure m external_aad (or_empty m.payloa
 
 -- ---- with one field set
 
+-- the message with this signature, and all else as it was
 abbrev pub with_signature : List ℕ → Sign1Seen → Sign1Seen
 with_signature s m = record m { signature = s }

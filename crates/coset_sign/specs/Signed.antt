@@ -10,7 +10,8 @@ use Rattle.coset_sign.specs.declared.signature.SignatureContext.{SignatureContex
 -- header has no such bytes
 abbrev pub signed_item : SignatureContext → ProtectedSeen → Option ProtectedSeen → List ℕ → List ℕ → Option Item
 signed_item context body None external_aad payload = option_map (λ p. signature_structure context p None external_aad payload) (protected_bytes body)
-signed_item context body (Some signer) external_aad payload = both (λ p q. signature_structure context p (Some q) external_aad payload) (protected_bytes body) (protected_bytes signer)
+signed_item context body (Some signer) external_aad payload =
+    both (λ p q. signature_structure context p (Some q) external_aad payload) (protected_bytes body) (protected_bytes signer)
 
 -- a payload that is missing counts as empty
 abbrev pub or_empty : Option (List ℕ) → List ℕ
@@ -19,4 +20,5 @@ or_empty (Some s) = s
 
 -- of the two headers the same is signed, whatever goes with it
 abbrev pub SignsSame : ProtectedSeen → ProtectedSeen → Type 0
-SignsSame p q = (context : SignatureContext) (signer : Option ProtectedSeen) (external_aad payload : List ℕ) → signed_item context p signer external_aad payload ≡ signed_item context q signer external_aad payload
+SignsSame p q = (context : SignatureContext) (signer : Option ProtectedSeen) (external_aad payload : List ℕ)
+    → signed_item context p signer external_aad payload ≡ signed_item context q signer external_aad payload

@@ -1,11 +1,9 @@
 //! Messages with any number of signatures (RFC 8152, section 4.1).
 
-ghost use Rattle.std.specs.Prelude.{◌≡◌, ◌≤◌, ◌<◌, OnOk, map, length, slice_get, IfOk, IfErr, Option, Some, None};
+ghost use Rattle.std.specs.Prelude.{◌≡◌, ◌<◌, map, length, slice_get, IfOk, IfErr, Option, Some, None};
 ghost use Rattle.coset_value.specs.Item.{Item};
 ghost use Rattle.coset_codec.specs.declared.error.CoseError.TheVariants.{OutOfMemory};
 ghost use Rattle.coset_codec.specs.Answers.{Writes};
-ghost use Rattle.coset_codec.specs.Inputs.{state, GoesBehind, ReadsAt, length_left};
-ghost use Rattle.coset_codec.specs.InPlace.{Fills};
 ghost use Rattle.coset_core.specs.Headers.{SignatureSeen};
 ghost use Rattle.coset_core.specs.Messages.{unread};
 ghost use Rattle.coset_core.specs.Views.{header_seen, signature_seen};
@@ -13,12 +11,12 @@ ghost use Rattle.coset_core.specs.Calls.{AsksAbout, Creates, TriesToCreate};
 ghost use Rattle.coset_sign.specs.Sign.{and_signature, empty_sign, sign, sign_seen, signed_with, signer_carried, signer_structure};
 
 use crate::signature::{SignatureContext, signed_bytes};
-use coset_codec::read::{Input, read_blamed_list};
+use coset_codec::read::{Decode, Input, read_blamed_list};
 use coset_codec::util::copy_bstr;
 use coset_codec::write::{Array, Encode, encode_four};
 use coset_codec::{CallError, Codec, CoseError, Result, TaggedCodec};
 use coset_core::calls::{ask, make};
-use coset_core::{Bstr, CoseSignature, Header, ProtectedHeader, fill_headers};
+use coset_core::{Bstr, CoseSignature, Header, ProtectedHeader, read_headed};
 use std::alloc::{AllocError, Global};
 use std::marker::Model;
 
@@ -44,33 +42,28 @@ pub struct CoseSign {
 /// What the error of another number of places asks for.
 const PLACES: &str = "array with 4 items";
 
-/// Reads the places into an empty message, and names the fault of the last that has one. Of a signature with a fault is said
-/// that it is none.
-fn fill_sign(message: &mut CoseSign, alloc: Global, input: &mut Input<'_>) -> Result<()>
-    requires empty { sign_seen message.old ≡ empty_sign }
-    ensures shrinks { length_left (state input.new) ≤ length_left (state input.old) }
-    ensures strictly { OnOk result (GoesBehind (state input.old) (state input.new)) }
-    ensures fills { ReadsAt (state input.old) (state input.new)
-        (λ v. Fills sign v (sign_seen message.new) result) }
-{
-    let mut places = input.enter_array("array")?;
-    let headers = fill_headers(
-        &mut message.protected,
-        &mut message.unprotected,
-        alloc,
-        &mut places,
-        input,
-        PLACES,
-    )?;
-    places.place(input, PLACES)?;
-    let payload = input.bytes_or_nil(alloc, "bstr or nil");
-    places.place(input, PLACES)?;
-    let blame = ("non-signature", "map for COSE_Signature");
-    let signatures = read_blamed_list(alloc, input, "array", blame);
-    places.end(input, PLACES)?;
-    message.signatures = signatures?;
-    message.payload = payload?;
-    headers
+/// The signatures of a message. Of one with a fault is said that it is none.
+#[derive(Debug, Drop)]
+struct Signatures(Vec<CoseSignature>);
+
+impl Decode for Signatures {
+    ghost use Rattle.coset_codec.specs.Shape.{list_of};
+    ghost use Rattle.coset_sign.specs.Sign.{signer};
+    ghost use Rattle.std.specs.Prelude.{List};
+
+    ghost Seen = { List SignatureSeen };
+
+    ghost seen = { λ all. map signature_seen all.0.items };
+
+    ghost shape = { list_of signer };
+
+    fn decode(alloc: Global, input: &mut Input<'_>) -> Result<Signatures> {
+        let blame = ("non-signature", "map for COSE_Signature");
+        match read_blamed_list(alloc, input, "array", blame) {
+            Ok(all) => Ok(Signatures(all)),
+            Err(error) => Err(error),
+        }
+    }
 }
 
 impl CoseSign {
@@ -265,8 +258,20 @@ impl Codec for CoseSign {
 
     fn read(alloc: Global, input: &mut Input<'_>) -> Result<CoseSign> {
         let mut message = CoseSign::new(alloc);
-        fill_sign(&mut message, alloc, input)?;
-        Ok(message)
+        match read_headed::<(Option<Vec<u8>>, (Signatures, ()))>(
+            &mut message.protected,
+            &mut message.unprotected,
+            alloc,
+            input,
+            PLACES,
+        ) {
+            Ok((payload, (Signatures(signatures), _))) => {
+                message.payload = payload;
+                message.signatures = signatures;
+                Ok(message)
+            }
+            Err(error) => Err(error),
+        }
     }
 
     fn size_hint(&self) -> usize {

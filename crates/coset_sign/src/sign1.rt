@@ -1,10 +1,8 @@
 //! Messages with one signature (RFC 8152, section 4.2).
 
-ghost use Rattle.std.specs.Prelude.{◌≡◌, ◌≤◌, OnOk, IfOk, IfErr, Some, None};
+ghost use Rattle.std.specs.Prelude.{◌≡◌, IfOk, IfErr, Some, None};
 ghost use Rattle.coset_codec.specs.declared.error.CoseError.TheVariants.{OutOfMemory};
 ghost use Rattle.coset_codec.specs.Answers.{Writes};
-ghost use Rattle.coset_codec.specs.Inputs.{state, GoesBehind, ReadsAt, length_left};
-ghost use Rattle.coset_codec.specs.InPlace.{Fills};
 ghost use Rattle.coset_core.specs.Messages.{unread};
 ghost use Rattle.coset_core.specs.Views.{header_seen};
 ghost use Rattle.coset_core.specs.Calls.{AsksAbout, Creates, TriesToCreate};
@@ -16,7 +14,7 @@ use coset_codec::util::copy_bstr;
 use coset_codec::write::{Encode, encode_four};
 use coset_codec::{CallError, Codec, Result, TaggedCodec};
 use coset_core::calls::{ask, make};
-use coset_core::{Bstr, Header, ProtectedHeader, fill_headers};
+use coset_core::{Bstr, Header, ProtectedHeader, read_headed};
 use std::alloc::{AllocError, Global};
 use std::marker::Model;
 
@@ -39,33 +37,6 @@ pub struct CoseSign1 {
 
 /// What the error of another number of places asks for.
 const PLACES: &str = "array with 4 items";
-
-/// Reads the places into an empty message, and names the fault of the last that has one.
-fn fill_sign1(message: &mut CoseSign1, alloc: Global, input: &mut Input<'_>) -> Result<()>
-    requires empty { sign1_seen message.old ≡ empty_sign1 }
-    ensures shrinks { length_left (state input.new) ≤ length_left (state input.old) }
-    ensures strictly { OnOk result (GoesBehind (state input.old) (state input.new)) }
-    ensures fills { ReadsAt (state input.old) (state input.new)
-        (λ v. Fills sign1 v (sign1_seen message.new) result) }
-{
-    let mut places = input.enter_array("array")?;
-    let headers = fill_headers(
-        &mut message.protected,
-        &mut message.unprotected,
-        alloc,
-        &mut places,
-        input,
-        PLACES,
-    )?;
-    places.place(input, PLACES)?;
-    let payload = input.bytes_or_nil(alloc, "bstr or nil");
-    places.place(input, PLACES)?;
-    let signature = input.bytes(alloc, "bstr");
-    places.end(input, PLACES)?;
-    message.signature = signature?;
-    message.payload = payload?;
-    headers
-}
 
 impl CoseSign1 {
     /// An empty message: empty headers, no payload, an empty signature. It takes no memory.
@@ -214,8 +185,20 @@ impl Codec for CoseSign1 {
 
     fn read(alloc: Global, input: &mut Input<'_>) -> Result<CoseSign1> {
         let mut message = CoseSign1::new(alloc);
-        fill_sign1(&mut message, alloc, input)?;
-        Ok(message)
+        match read_headed::<(Option<Vec<u8>>, (Vec<u8>, ()))>(
+            &mut message.protected,
+            &mut message.unprotected,
+            alloc,
+            input,
+            PLACES,
+        ) {
+            Ok((payload, (signature, _))) => {
+                message.payload = payload;
+                message.signature = signature;
+                Ok(message)
+            }
+            Err(error) => Err(error),
+        }
     }
 
     fn size_hint(&self) -> usize {

@@ -16,6 +16,8 @@ pub enum Operation {
     FromSlice,
     /// `from_tagged_slice`, of the bytes.
     FromTaggedSlice,
+    /// `from_any_slice`, of the bytes.
+    FromAnySlice,
     /// `from_cbor_value`, of the item that the bytes are.
     FromCborValue,
     /// `from_pull`, of the lent item that the bytes are.
@@ -38,6 +40,7 @@ impl Operation {
         Some(match name {
             "from_slice" => Operation::FromSlice,
             "from_tagged_slice" => Operation::FromTaggedSlice,
+            "from_any_slice" => Operation::FromAnySlice,
             "from_cbor_value" => Operation::FromCborValue,
             "from_pull" => Operation::FromPull,
             "to_vec" => Operation::ToVec,
@@ -83,6 +86,13 @@ pub fn message<T: TaggedCborSerializable + CborSerializable + FromPull + Partial
             let bytes = words.bytes(alloc, 1)?;
             mark::begin(alloc);
             let answer: Result<T> = T::from_tagged_slice(alloc, &bytes);
+            mark::end(alloc);
+            told(alloc, answer)
+        }
+        Operation::FromAnySlice => {
+            let bytes = words.bytes(alloc, 1)?;
+            mark::begin(alloc);
+            let answer: Result<T> = T::from_any_slice(alloc, &bytes);
             mark::end(alloc);
             told(alloc, answer)
         }

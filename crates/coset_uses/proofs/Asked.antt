@@ -1,6 +1,7 @@
 -- What keys say that are asked through closures. A clause on a call of a closure is taken apart here: OK tells of the
 -- calls that succeed, ERR of those that are refused.
-use Rattle.std.proofs.Common.{◌≡◌, ◌↔◌, ◌∙◌, Bool, not, ℕ, List, None, Some, Option, Result, Ok, Err, Vec, Global, ap, false, inl, is_some, option_map, refl, sym, subst, true, true≢false}
+use Rattle.std.proofs.Common.{◌≡◌, ◌↔◌, ◌∙◌, Bool, not, ℕ, List, None, Some, Option, Result, Ok, Err, Vec, Global, ap, false, inl, is_some, option_map, refl}
+use Rattle.std.proofs.Common.{sym, subst, true, true≢false}
 use Rattle.std.specs.Prelude.{IfErr, IfOk, IfSome, IsOk}
 use Rattle.std.specs.Borrow.{Bor}
 use Rattle.coset_value.specs.Item.{Item}
@@ -31,7 +32,8 @@ At P s t = (p : Bor (List ℕ)) × (q : Bor (List ℕ)) × P p q × (p.now ≡ s
 abbrev AtOne : (Bor (List ℕ) → Type 0) → List ℕ → Type 0
 AtOne P t = (p : Bor (List ℕ)) × P p × (p.now ≡ t)
 
-at : {P : Bor (List ℕ) → Bor (List ℕ) → Type 0} (Q : List ℕ → List ℕ → Type 0) → ((p q : Bor (List ℕ)) → P p q → Q p.now q.now) → (s t : List ℕ) → At P s t → Q s t
+at : {P : Bor (List ℕ) → Bor (List ℕ) → Type 0} (Q : List ℕ → List ℕ → Type 0) → ((p q : Bor (List ℕ)) → P p q → Q p.now q.now) → (s t : List ℕ) → At P s t
+    → Q s t
 at Q says s t h = subst (λ x. Q x t) h.3 (subst (λ y. Q h.0.now y) h.4 (says h.0 h.1 h.2))
 
 at_one : {P : Bor (List ℕ) → Type 0} (Q : List ℕ → Type 0) → ((p : Bor (List ℕ)) → P p → Q p.now) → (t : List ℕ) → AtOne P t → Q t
@@ -50,7 +52,8 @@ pub record Judges (accepts : List ℕ → List ℕ → Type 0) (s t : List ℕ) 
   pub refused : IfErr r (λ e. e ≡ Rejected)
 
 pub accepted :
-    {OK : Bor (List ℕ) → Bor (List ℕ) → Type 0} (accepts : List ℕ → List ℕ → Type 0) (s : List ℕ) (o : Option Item) → ((b : List ℕ) × IsStructure o b × At OK s b)
+    {OK : Bor (List ℕ) → Bor (List ℕ) → Type 0} (accepts : List ℕ → List ℕ → Type 0) (s : List ℕ) (o : Option Item)
+    → ((b : List ℕ) × IsStructure o b × At OK s b)
     → ((p q : Bor (List ℕ)) → OK p q → Judges accepts p.now q.now (Ok tt)) → (t : List ℕ) × IsStructure o t × accepts t s
 accepted accepts s o asked says = (asked.0, asked.1, (at (λ x y. Judges accepts x y (Ok tt)) says s asked.0 asked.2).accepted.0 refl)
 
@@ -65,7 +68,8 @@ module _ (ERR : Bor (List ℕ) → Bor (List ℕ) → Refused → Type 0) (accep
   -- why a message that was read isn't verified
   pub not_verified :
       ((external_aad payload : List ℕ) → WhenRead sign1 (λ m. sign1_structure m external_aad payload ≡ None → ⊥))
-      → (external_aad b : List ℕ) (m : Sign1Seen) (e : CallError Refused) → Describes sign1 b m → Denied ERR m.signature (sign1_carried m external_aad) e → Refuses → IsNotVerified accepts external_aad b e
+      → (external_aad b : List ℕ) (m : Sign1Seen) (e : CallError Refused) → Describes sign1 b m → Denied ERR m.signature (sign1_carried m external_aad) e
+      → Refuses → IsNotVerified accepts external_aad b e
   not_verified law a b m (Coset e) d asked says = λ other. absurd (law a _ d.0 m d.2 (asked other).1)
   not_verified law a b m (Caller r) d asked says =
       let no = judged says m.signature asked.0 r asked.2 in
@@ -101,15 +105,21 @@ module _ (signs : List ℕ → List ℕ → Type 0) (refuses : List ℕ → Refu
 
   -- why a message isn't signed
   pub not_signed :
-      {ERR : Bor (List ℕ) → Refused → Type 0} (external_aad : List ℕ) (h : HeaderSeen) (payload : List ℕ) (m : Sign1Seen) → m ≡ unsigned h payload → (e : CallError Refused)
-      → DeniedOne ERR (sign1_carried m external_aad) e → ((p : Bor (List ℕ)) (r : Refused) → ERR p r → Signs signs refuses p.now (Err r)) → IsNotSent refuses external_aad h payload e
+      {ERR : Bor (List ℕ) → Refused → Type 0} (external_aad : List ℕ) (h : HeaderSeen) (payload : List ℕ) (m : Sign1Seen) → m ≡ unsigned h payload
+      → (e : CallError Refused)
+      → DeniedOne ERR (sign1_carried m external_aad) e → ((p : Bor (List ℕ)) (r : Refused) → ERR p r → Signs signs refuses p.now (Err r))
+      → IsNotSent refuses external_aad h payload e
   not_signed a h payload m is (Coset e) tried says = inl (subst (λ x. HasNoImage (sign1_carried x a) e) is tried)
-  not_signed a h payload m is (Caller r) tried says =
-      (tried.0, subst (λ x. IsStructure (sign1_carried x a) tried.0) is tried.1, (at_one (λ x. Signs signs refuses x (Err r)) (λ p k. says p r k) tried.0 tried.2).refused)
+  not_signed a h payload m is (Caller r) tried says = (
+    tried.0,
+    subst (λ x. IsStructure (sign1_carried x a) tried.0) is tried.1,
+    (at_one (λ x. Signs signs refuses x (Err r)) (λ p k. says p r k) tried.0 tried.2).refused,
+  )
 
 -- ---- a key that decrypts
 
-pub record Opens (decrypts : List ℕ → List ℕ → List ℕ → Type 0) (refuses : List ℕ → List ℕ → Refused → Type 0) (c t : List ℕ) (r : Result (Vec ℕ Global) Refused) : Type 0 where
+pub record Opens (decrypts : List ℕ → List ℕ → List ℕ → Type 0) (refuses : List ℕ → List ℕ → Refused → Type 0) (c t : List ℕ)
+    (r : Result (Vec ℕ Global) Refused) : Type 0 where
   pub decrypted : IfOk r (λ p. decrypts c t p.items)
   pub refused : IfErr r (λ e. refuses c t e)
 
@@ -137,29 +147,34 @@ module _ (decrypts : List ℕ → List ℕ → List ℕ → Type 0) (refuses : L
       (c, refl, (asked.0, asked.1, (at (λ v w. Opens decrypts refuses v w (Ok x)) says c asked.0 asked.2).decrypted))
 
   not_opened :
-      (ERR : Bor (List ℕ) → Bor (List ℕ) → Refused → Type 0) (o : Option (List ℕ)) (structure : Option Item) (r : Refused) → (o ≡ None → ⊥) → IfSome o (λ c. Denied ERR c structure (Caller r))
+      (ERR : Bor (List ℕ) → Bor (List ℕ) → Refused → Type 0) (o : Option (List ℕ)) (structure : Option Item) (r : Refused) → (o ≡ None → ⊥)
+      → IfSome o (λ c. Denied ERR c structure (Caller r))
       → ((p q : Bor (List ℕ)) (y : Refused) → ERR p q y → Opens decrypts refuses p.now q.now (Err y)) → IsNotOpened refuses o structure r
   not_opened ERR None structure r there asked says = absurd (there refl)
   not_opened ERR (Some c) structure r there asked says =
       (asked.0, asked.1, (at (λ v w. Opens decrypts refuses v w (Err r)) (λ p q k. says p q r k) c asked.0 asked.2).refused)
 
   no_data :
-      (ERR : Bor (List ℕ) → Bor (List ℕ) → Refused → Type 0) (o : Option (List ℕ)) (structure : Option Item) (e : CoseError) → (o ≡ None → ⊥) → IfSome o (λ c. Denied ERR c structure (Coset e))
+      (ERR : Bor (List ℕ) → Bor (List ℕ) → Refused → Type 0) (o : Option (List ℕ)) (structure : Option Item) (e : CoseError) → (o ≡ None → ⊥)
+      → IfSome o (λ c. Denied ERR c structure (Coset e))
       → HasNoImage structure e
   no_data ERR None structure e there asked = absurd (there refl)
   no_data ERR (Some c) structure e there asked = asked
 
   -- what is answered of a message that was read and carries a ciphertext
   pub is_decrypted :
-      {OK : Bor (List ℕ) → Bor (List ℕ) → Type 0} (external_aad b : List ℕ) (m : Encrypt0Seen) (x : Vec ℕ Global) → Describes encrypt0 b m → (m.ciphertext ≡ None → ⊥)
-      → IfSome m.ciphertext (λ c. (t : List ℕ) × IsStructure (encrypt0_structure m external_aad) t × At OK c t) → ((p q : Bor (List ℕ)) → OK p q → Opens decrypts refuses p.now q.now (Ok x))
+      {OK : Bor (List ℕ) → Bor (List ℕ) → Type 0} (external_aad b : List ℕ) (m : Encrypt0Seen) (x : Vec ℕ Global) → Describes encrypt0 b m
+      → (m.ciphertext ≡ None → ⊥)
+      → IfSome m.ciphertext (λ c. (t : List ℕ) × IsStructure (encrypt0_structure m external_aad) t × At OK c t)
+      → ((p q : Bor (List ℕ)) → OK p q → Opens decrypts refuses p.now q.now (Ok x))
       → IsDecrypted decrypts external_aad b x.items
   is_decrypted {OK = OK} a b m x d there asked says =
       let whole = opened OK m.ciphertext (encrypt0_structure m a) x there asked says in
       record { message = m; read = d; ciphertext = whole.0; carried = whole.1; decrypted = whole.2 }
 
   pub not_decrypted :
-      (ERR : Bor (List ℕ) → Bor (List ℕ) → Refused → Type 0) → EncryptsWhenRead → (external_aad b : List ℕ) (m : Encrypt0Seen) (e : CallError Refused) → Describes encrypt0 b m → (m.ciphertext ≡ None → ⊥)
+      (ERR : Bor (List ℕ) → Bor (List ℕ) → Refused → Type 0) → EncryptsWhenRead → (external_aad b : List ℕ) (m : Encrypt0Seen) (e : CallError Refused)
+      → Describes encrypt0 b m → (m.ciphertext ≡ None → ⊥)
       → IfSome m.ciphertext (λ c. Denied ERR c (encrypt0_structure m external_aad) e)
       → ((p q : Bor (List ℕ)) (y : Refused) → ERR p q y → Opens decrypts refuses p.now q.now (Err y)) → IsNotDecrypted refuses external_aad b e
   not_decrypted ERR law a b m (Coset e) d there asked says =
@@ -168,5 +183,6 @@ module _ (decrypts : List ℕ → List ℕ → List ℕ → Type 0) (refuses : L
 
 -- nor is one that carries none
 pub none_decrypted :
-    (refuses : List ℕ → List ℕ → Refused → Type 0) (external_aad b : List ℕ) (m : Encrypt0Seen) → Describes encrypt0 b m → m.ciphertext ≡ None → IsNotDecrypted refuses external_aad b (Caller Rejected)
+    (refuses : List ℕ → List ℕ → Refused → Type 0) (external_aad b : List ℕ) (m : Encrypt0Seen) → Describes encrypt0 b m → m.ciphertext ≡ None
+    → IsNotDecrypted refuses external_aad b (Caller Rejected)
 none_decrypted refuses a b m d none = (m, d, subst (λ o. IsNotOpened refuses o (encrypt0_structure m a) Rejected) (sym none) refl)

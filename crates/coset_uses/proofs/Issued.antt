@@ -28,12 +28,14 @@ use Rattle.coset_uses.proofs.Spellings.{only_memory}
 
 -- ---- a message without an item
 
-unwritten : {A : Type 0} (f : List ℕ → A) (o : Option (List ℕ)) (vs : Items) → option_map array (both item (option_map bytes o) (Some vs)) ≡ None → option_map f o ≡ None
+unwritten : {A : Type 0} (f : List ℕ → A) (o : Option (List ℕ)) (vs : Items) → option_map array (both item (option_map bytes o) (Some vs)) ≡ None
+    → option_map f o ≡ None
 unwritten f None vs e = refl
 unwritten f (Some b) vs e = absurd (cc)
 
 -- nothing is signed of a message that isn't written
-pub unsigned_unwritten : (h : HeaderSeen) (payload s external_aad : List ℕ) → sign1.image (with_signature s (unsigned h payload)) ≡ None → sign1_carried (unsigned h payload) external_aad ≡ None
+pub unsigned_unwritten : (h : HeaderSeen) (payload s external_aad : List ℕ) → sign1.image (with_signature s (unsigned h payload)) ≡ None
+    → sign1_carried (unsigned h payload) external_aad ≡ None
 unfolding layered_protected layered_header partial_header
 unsigned_unwritten h payload s a e = unwritten (λ p. signature_structure CoseSign1 p None a payload) (protected_bytes (unread h)) _ e
 
@@ -90,14 +92,17 @@ claims-have c e = entries-have c.rest (fields.image (parts_of c).0) (fields-have
 
 -- why a message whose header names an algorithm isn't sent
 not_issued :
-    (refuses : List ℕ → Refused → Type 0) (external_aad payload : List ℕ) (n : ℤ) → IsAlgorithm n → (c : ClaimsSeen) → IsWritten claims c payload → (e : CallError Refused)
+    (refuses : List ℕ → Refused → Type 0) (external_aad payload : List ℕ) (n : ℤ) → IsAlgorithm n → (c : ClaimsSeen) → IsWritten claims c payload
+    → (e : CallError Refused)
     → IsNotSent refuses external_aad (with_algorithm (assigned n) empty_header) payload e → IsNotIssued refuses external_aad (assigned n) c e
 not_issued refuses a payload n is c w (Coset e) (inl none) = only_memory e (λ other. has_signed n payload a (none other).1)
 not_issued refuses a payload n is c w (Coset e) (inr h) = only_memory e (λ other. (h.3 other).1 _ (is_read n is payload h.0 h.1 h.2))
 not_issued refuses a payload n is c w (Caller r) h = (payload, h.0, w, h.1, h.2)
 
 pub none_issued :
-    {T : Type 0} (refuses : List ℕ → Refused → Type 0) (external_aad payload : List ℕ) (n : ℤ) → IsAlgorithm n → (c : ClaimsSeen) → IsWritten claims c payload → (h : HeaderSeen) → h ≡ with_algorithm (assigned n) empty_header
-    → (r : Result T (CallError Refused)) → IfErr r (λ e. IsNotSent refuses external_aad h payload e) → IfErr r (λ e. IsNotIssued refuses external_aad (assigned n) c e)
+    {T : Type 0} (refuses : List ℕ → Refused → Type 0) (external_aad payload : List ℕ) (n : ℤ) → IsAlgorithm n → (c : ClaimsSeen) → IsWritten claims c payload
+    → (h : HeaderSeen) → h ≡ with_algorithm (assigned n) empty_header
+    → (r : Result T (CallError Refused)) → IfErr r (λ e. IsNotSent refuses external_aad h payload e)
+    → IfErr r (λ e. IsNotIssued refuses external_aad (assigned n) c e)
 none_issued refuses a payload n is c w h names (Ok x) k = tt
 none_issued refuses a payload n is c w h names (Err e) k = not_issued refuses a payload n is c w e (subst (λ x. IsNotSent refuses a x payload e) names k)

@@ -1,8 +1,14 @@
 pub mod Asked
 pub mod Found
 pub mod Issued
+pub mod Kept
 pub mod KeySets
 pub mod LetIn
+pub mod Made
 pub mod NamedAlgorithm
+pub mod Skipping
+pub mod Refused
 pub mod Refusing
+pub mod OneByOne
+pub mod Opened
 pub mod Spellings

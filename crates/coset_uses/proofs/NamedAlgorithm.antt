@@ -105,15 +105,23 @@ message_item n payload s = array (item (bytes (naming_bytes n)) (item (dict no_p
 
 -- the message that is read
 abbrev received : ℤ → List ℕ → List ℕ → Sign1Seen
-received n payload s = record { protected = record { original = Some (naming_bytes n); header = naming n }; unprotected = empty_header; payload = Some payload; signature = s }
+received n payload s = record {
+  protected = record { original = Some (naming_bytes n); header = naming n };
+  unprotected = empty_header;
+  payload =
+      Some payload;
+  signature = s;
+}
 
 message_image : (n : ℤ) (payload s : List ℕ) → sign1.image (with_signature s (unsigned (naming n) payload)) ≡ Some (message_item n payload s)
 unfolding layered_header layered_protected partial_header algorithm
 message_image n payload s = refl
 
 bytes_are : (n : ℤ) → IsAlgorithm n → IsItem (naming_bytes n) (naming_item n)
-bytes_are n is =
-    (definite_is_encoding (naming_item n) (naming_bytes n) (least_is_shortest (naming_item n) (omega arith, (omega arith, is.in_range, tt))).definite, omega arith)
+bytes_are n is = (
+  definite_is_encoding (naming_item n) (naming_bytes n) (least_is_shortest (naming_item n) (omega arith, (omega arith, is.in_range, tt))).definite,
+  omega arith,
+)
 
 protected_described : (n : ℤ) → IsAlgorithm n → protected.describes (bytes (naming_bytes n)) (record { original = Some (naming_bytes n); header = naming n })
 unfolding layered_protected least_head
@@ -123,11 +131,15 @@ message_described : (n : ℤ) → IsAlgorithm n → (payload s : List ℕ) → s
 message_described n is payload s = (_, refl, (protected_described n is, (empty_described, ((refl, refl), (refl, tt)))))
 
 -- what is written of it is read
-pub is_read : (n : ℤ) → IsAlgorithm n → (payload s b : List ℕ) → IsWritten sign1 (with_signature s (unsigned (naming n) payload)) b → Describes sign1 b (received n payload s)
+pub is_read : (n : ℤ) → IsAlgorithm n → (payload s b : List ℕ) → IsWritten sign1 (with_signature s (unsigned (naming n) payload)) b
+    → Describes sign1 b (received n payload s)
 is_read n is payload s b w =
     let same : message_item n payload s ≡ w.0 = some-one (message_image n payload s) w.1 in
-    let shallow : depth (message_item n payload s) ≤ 256 = omega arith in
-    (w.0, (definite_is_encoding w.0 b w.2.definite, subst (λ v. depth v ≤ 256) same shallow), subst (λ v. sign1.describes v (received n payload s)) same (message_described n is payload s))
+    let shallow : depth (message_item n payload s) ≤ 256 = omega arith in (
+      w.0,
+      (definite_is_encoding w.0 b w.2.definite, subst (λ v. depth v ≤ 256) same shallow),
+      subst (λ v. sign1.describes v (received n payload s)) same (message_described n is payload s),
+    )
 
 -- there is something that is signed
 pub has_signed : (n : ℤ) (payload external_aad : List ℕ) → sign1_carried (unsigned (naming n) payload) external_aad ≡ None → ⊥

@@ -20,17 +20,20 @@ passed P e (Ok x) is h = absurd is
 passed P e (Err x) is h = subst P (sym is) h
 
 -- what always has an item is written, unless memory runs out
-pub written : {V : Type 0} (P : CoseError → Type 0) (o : Option Item) (bytes_of : V → List ℕ) (r : Result V CoseError) → (o ≡ None → ⊥) → Writes o bytes_of r → IfErr r (λ e. UnlessMemory e P)
+pub written : {V : Type 0} (P : CoseError → Type 0) (o : Option Item) (bytes_of : V → List ℕ) (r : Result V CoseError) → (o ≡ None → ⊥) → Writes o bytes_of r
+    → IfErr r (λ e. UnlessMemory e P)
 written P o bytes_of (Ok b) has w = tt
 written P o bytes_of (Err e) has w = λ other. absurd (has (w other).1)
 
 -- claims of what isn't verified aren't either
-pub none_verified : (accepts : List ℕ → List ℕ → Type 0) (external_aad b : List ℕ) (e : CallError Refused) → IsNotVerified accepts external_aad b e → AreNotVerified accepts external_aad b e
+pub none_verified : (accepts : List ℕ → List ℕ → Type 0) (external_aad b : List ℕ) (e : CallError Refused) → IsNotVerified accepts external_aad b e
+    → AreNotVerified accepts external_aad b e
 none_verified accepts a b (Coset e) h = inl h
 none_verified accepts a b (Caller r) h = h
 
 -- nor are those of a message that is verified and carries no payload
 pub no_payload :
-    (accepts : List ℕ → List ℕ → Type 0) (external_aad b : List ℕ) (m : Sign1Seen) (got want : Bor (List ℕ)) → IsVerified accepts external_aad b m → m.payload ≡ None
+    (accepts : List ℕ → List ℕ → Type 0) (external_aad b : List ℕ) (m : Sign1Seen) (got want : Bor (List ℕ)) → IsVerified accepts external_aad b m
+    → m.payload ≡ None
     → AreNotVerified accepts external_aad b (Coset (UnexpectedItem got want))
 no_payload accepts a b m got want verified none = inr (m, verified, subst (λ o. HoldsNoClaims o (UnexpectedItem got want)) (sym none) tt)

@@ -13,7 +13,8 @@ use Rattle.coset_codec.specs.Shape.{Shape}
 use Rattle.coset_codec.specs.declared.error.CallError.{CallError}
 use Rattle.coset_codec.specs.declared.error.CallError.TheVariants.{Coset}
 use Rattle.coset_codec.specs.declared.error.CoseError.{CoseError}
-use Rattle.coset_codec.specs.declared.error.CoseError.TheVariants.{DecodeFailed, DuplicateMapKey, EncodeFailed, ExtraneousData, OutOfRangeIntegerValue, UnexpectedItem, UnregisteredIanaValue, UnregisteredIanaNonPrivateValue, OutOfMemory}
+use Rattle.coset_codec.specs.declared.error.CoseError.TheVariants.{DecodeFailed, DuplicateMapKey, EncodeFailed, ExtraneousData, OutOfRangeIntegerValue}
+use Rattle.coset_codec.specs.declared.error.CoseError.TheVariants.{UnexpectedItem, UnregisteredIanaValue, UnregisteredIanaNonPrivateValue, OutOfMemory}
 use Rattle.coset_codec.proofs.Whole.{OneItem, one_of}
 use Rattle.coset_codec.specs.ShapeLaws.{some-none, some-one}
 use Rattle.coset_core.specs.Calls.{IsStructure}
@@ -37,7 +38,8 @@ only_memory UnregisteredIanaNonPrivateValue h = absurd (h (λ q. cc))
 only_memory OutOfMemory h = refl
 
 -- an error that is passed on as our own
-pub passed_on : {T E : Type 0} (e : CoseError) (r : Result T (CallError E)) → IsErrAnd r (λ x. x ≡ Coset e) → ((e ≡ OutOfMemory → ⊥) → ⊥) → IfErr r (λ x. x ≡ Coset OutOfMemory)
+pub passed_on : {T E : Type 0} (e : CoseError) (r : Result T (CallError E)) → IsErrAnd r (λ x. x ≡ Coset e) → ((e ≡ OutOfMemory → ⊥) → ⊥)
+    → IfErr r (λ x. x ≡ Coset OutOfMemory)
 passed_on e (Ok x) is h = absurd is
 passed_on e (Err x) is h = is ∙ ap Coset (only_memory e h)
 
@@ -53,7 +55,8 @@ ShortestIsEncoding = (v : Item) (b : List ℕ) → IsShortest b v → IsEncoding
 
 -- the item that was written is the one that was read
 same_item :
-    {A : Type 0} (shape : Shape A) → OneItem → ShortestIsEncoding → (b t : List ℕ) (m n : A) (w : IsWritten shape m b) → IsSpelling b t → Describes shape t n → shape.describes w.0 n
+    {A : Type 0} (shape : Shape A) → OneItem → ShortestIsEncoding → (b t : List ℕ) (m n : A) (w : IsWritten shape m b) → IsSpelling b t → Describes shape t n
+    → shape.describes w.0 n
 same_item shape one encoding b t m n w s d =
     let arrived : d.0 ≡ s.0 = one_of one t d.0 s.0 d.1 s.2 in
     let sent : s.0 ≡ w.0 = (one s.0 w.0 b b [] [] s.1.0 (encoding w.0 b w.2) refl).0 in
@@ -63,7 +66,8 @@ pub arrives : {A : Type 0} (shape : Shape A) (R : A → A → Type 0) → OneIte
 arrives shape R one encoding law b t m n w s d = law w.0 m n w.1 (same_item shape one encoding b t m n w s d)
 
 pub carries_same :
-    OneItem → ShortestIsEncoding → SignedAsWritten → CarriedAsWritten → (b t : List ℕ) (m n : Sign1Seen) → IsWritten sign1 m b → IsSpelling b t → Describes sign1 t n → CarriesSame n m
+    OneItem → ShortestIsEncoding → SignedAsWritten → CarriedAsWritten → (b t : List ℕ) (m n : Sign1Seen) → IsWritten sign1 m b → IsSpelling b t
+    → Describes sign1 t n → CarriesSame n m
 carries_same one encoding signs carries b t m n w s d =
     let read = same_item sign1 one encoding b t m n w s d in
     let both = carries w.0 m n w.1 read in
@@ -86,21 +90,32 @@ same_bytes in_range least o p b c e h k =
     least h.0 b (in_range h.0 b h.2) h.2 ∙ (ap least_encoding same ∙ sym (least k.0 c (in_range k.0 c k.2) k.2))
 
 -- of what was sent there is a structure
-pub has_structure : {accepts : List ℕ → List ℕ → Type 0} {a payload b : List ℕ} (s : IsSent accepts a payload b) (n : Sign1Seen) → CarriesSame n s.message → sign1_carried n a ≡ None → ⊥
+pub has_structure : {accepts : List ℕ → List ℕ → Type 0} {a payload b : List ℕ} (s : IsSent accepts a payload b) (n : Sign1Seen) → CarriesSame n s.message
+    → sign1_carried n a ≡ None → ⊥
 has_structure {a = a} s n same e = some-none s.signed.1.1 (sym (same.structure a) ∙ e)
 
 -- the signature that was sent is accepted of what arrives
 pub is_accepted :
-    ShortestIsInRange → LeastIsShortest → {accepts : List ℕ → List ℕ → Type 0} {a payload b : List ℕ} (s : IsSent accepts a payload b) (n : Sign1Seen) → CarriesSame n s.message
+    ShortestIsInRange → LeastIsShortest → {accepts : List ℕ → List ℕ → Type 0} {a payload b : List ℕ} (s : IsSent accepts a payload b) (n : Sign1Seen)
+    → CarriesSame n s.message
     → (t : List ℕ) → IsStructure (sign1_carried n a) t → accepts t n.signature
 is_accepted in_range least {accepts} {a} s n same t h =
-    let same_tbs : s.signed.0 ≡ t = same_bytes in_range least (sign1_carried s.message a) (sign1_carried n a) s.signed.0 t (sym (same.structure a)) s.signed.1 h in
+    let same_tbs : s.signed.0 ≡ t = same_bytes in_range least (sign1_carried s.message a) (sign1_carried n a) s.signed.0 t
+    (sym (same.structure a)) s.signed.1 h in
     subst (λ x. accepts t x) (sym same.signature) (subst (λ x. accepts x s.message.signature) same_tbs s.signed.2)
 
 -- what one key signed is sent to another that accepts it
-pub sent_to : {signs accepts : List ℕ → List ℕ → Type 0} {a payload b : List ℕ} → ((t s : List ℕ) → signs t s → accepts t s) → IsSent signs a payload b → IsSent accepts a payload b
+pub sent_to : {signs accepts : List ℕ → List ℕ → Type 0} {a payload b : List ℕ} → ((t s : List ℕ) → signs t s → accepts t s) → IsSent signs a payload b
+    → IsSent accepts a payload b
 sent_to matches s =
-    record { message = s.message; written = s.written; read = s.read; carried = s.carried; signed = (s.signed.0, s.signed.1, matches s.signed.0 s.message.signature s.signed.2) }
+    record {
+      message = s.message;
+      written = s.written;
+      read = s.read;
+      carried = s.carried;
+      signed =
+          (s.signed.0, s.signed.1, matches s.signed.0 s.message.signature s.signed.2);
+    }
 
 -- what arrives of the bytes that were sent
 pub arrived_of : (sent b c : List ℕ) → b ≡ sent → Respells b c → Respells sent c

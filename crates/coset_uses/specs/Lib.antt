@@ -1,9 +1,13 @@
-pub mod Attestation
 pub mod Exchange
 pub mod FindKey
+pub mod HeaderParts
+pub mod Inside
+pub mod Kept
 pub mod KeySets
 pub mod LetIn
+pub mod Made
 pub mod Oscore
+pub mod Readable
 pub mod Refusals
+pub mod Sequence
 pub mod Store
-pub mod Inside

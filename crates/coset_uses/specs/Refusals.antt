@@ -64,7 +64,8 @@ IsNotSent refuses external_aad h payload (Caller r) = (t : List ℕ) × IsStruct
 abbrev pub IsNotIssued : (List ℕ → Refused → Type 0) → List ℕ → RegisteredName → ClaimsSeen → CallError Refused → Type 0
 IsNotIssued refuses external_aad a c (Coset e) = e ≡ OutOfMemory
 IsNotIssued refuses external_aad a c (Caller r) =
-    (payload : List ℕ) × (t : List ℕ) × IsWritten claims c payload × IsStructure (sign1_carried (unsigned (with_algorithm a empty_header) payload) external_aad) t × refuses t r
+    (payload : List ℕ) × (t : List ℕ) × IsWritten claims c payload
+    × IsStructure (sign1_carried (unsigned (with_algorithm a empty_header) payload) external_aad) t × refuses t r
 
 -- Why a message doesn't come to be verified: it isn't sent; what was sent is lost on its way; or memory ran out where it
 -- arrived. `loses b`: what carries it may lose b

@@ -4,12 +4,11 @@
 //! section 9.1, leaves to whoever agrees on them.
 
 ghost use Rattle.std.specs.Prelude.{◌≡◌, ◌↔◌, IsTrue, Some, option_map};
-ghost use Rattle.std.specs.List.{find};
+ghost use Rattle.std.specs.Map.{lookup};
 ghost use Rattle.coset_value.specs.Item.{bytes};
 ghost use Rattle.coset_value.specs.View.{view};
 ghost use Rattle.coset_label.specs.Names.{private_use};
-ghost use Rattle.coset_claims.specs.Claims.{claims_seen, entry_seen, name_seen, same_name};
-ghost use Rattle.coset_uses.specs.Attestation.{first_claim};
+ghost use Rattle.coset_claims.specs.Claims.{claims_seen, same_name};
 
 use coset::cbor::value::Value;
 use coset::cwt::{ClaimName, ClaimsSet};
@@ -20,29 +19,18 @@ pub const CLIENT_ID: i64 = -75001;
 /// What shows that the token is fresh: the bytes that it was asked for with.
 pub const NONCE: i64 = -75008;
 
-/// The first claim of this name.
-fn first_named<'a>(claims: &'a ClaimsSet, name: &ClaimName) -> Option<&'a (ClaimName, Value)>
-    ensures { option_map (λ e. entry_seen e.now) result
-        ≡ find (λ e. same_name e.0 (name_seen name.now)) (claims_seen claims.now).rest }
-{
-    claims.rest.iter().find(|claim| claim.0 == *name)
-}
-
 /// The value of the first claim with this label for private use, where there is one.
 pub fn private_claim<'a>(claims: &'a ClaimsSet, label: i64) -> Option<&'a Value>
     ensures { option_map (λ v. view v.now) result
-        ≡ first_claim (private_use label) (claims_seen claims.now).rest }
+        ≡ lookup (same_name (private_use label)) (claims_seen claims.now).rest }
 {
-    match first_named(claims, &ClaimName::PrivateUse(label)) {
-        Some((_, value)) => Some(value),
-        None => None,
-    }
+    claims.get(&ClaimName::PrivateUse(label))
 }
 
 /// Whether the token was asked for with this nonce.
 pub fn is_fresh(claims: &ClaimsSet, nonce: &[u8]) -> bool
-    ensures { IsTrue result ↔ (first_claim (private_use NONCE) (claims_seen claims.now).rest
-        ≡ Some (bytes nonce.now)) }
+    ensures { IsTrue result ↔ (lookup (same_name (private_use NONCE))
+        (claims_seen claims.now).rest ≡ Some (bytes nonce.now)) }
 {
     match private_claim(claims, NONCE) {
         Some(Value::Bytes(held)) => held.as_slice() == nonce,

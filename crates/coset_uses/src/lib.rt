@@ -4,27 +4,20 @@
 
 pub mod attestation;
 pub mod cipher;
+pub mod detached;
 pub mod every_type;
 pub mod exchange;
 pub mod find_key;
+pub mod headers;
 pub mod inside;
 pub mod issue;
-#[cfg(test)]
-mod key_set_stores;
+pub mod kept_claims;
 pub mod key_sets;
 pub mod let_in;
-#[cfg(test)]
-mod lookups;
 pub mod oscore;
-#[cfg(test)]
-mod question_marks;
-#[cfg(test)]
-mod requests;
+pub mod readable;
+pub mod sequences;
 pub mod stand_in;
 pub mod store;
-#[cfg(test)]
-mod stores;
 pub mod structures;
-#[cfg(test)]
-mod tokens;
 pub mod verify;

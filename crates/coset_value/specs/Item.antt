@@ -34,6 +34,7 @@ abbrev pub items_count : Items → ℕ
 items_count no_items = 0
 items_count (item v vs) = suc (items_count vs)
 
+-- how many pairs
 abbrev pub pairs_count : Pairs → ℕ
 pairs_count no_pairs = 0
 pairs_count (pair k v ps) = suc (pairs_count ps)

@@ -2,7 +2,8 @@
 -- UTF-8.
 use Rattle.std.specs.Prelude.{◌^◌, ◌<◌, ⊤, ℤ, pos, negsuc, length}
 use Rattle.std.specs.Str.{IsUtf8}
-use Rattle.coset_value.specs.Item.{Bits, half, single, double, Item, integer, bytes, float, text, boolean, null, tag, array, dict, Items, no_items, item, Pairs, no_pairs, pair, items_count, pairs_count}
+use Rattle.coset_value.specs.Item.{Bits, half, single, double, Item, integer, bytes, float, text, boolean, null, tag, array, dict, Items, no_items, item, Pairs}
+use Rattle.coset_value.specs.Item.{no_pairs, pair, items_count, pairs_count}
 
 -- from -2 ^ 64 to 2 ^ 64 - 1: `negsuc n` is -1 - n
 abbrev pub IsIntegerInRange : ℤ → Type 0

@@ -1,6 +1,7 @@
 -- The item that a `Value` stands for.
 use Rattle.std.specs.Prelude.{List, [], ◌∷◌, map, string_bytes}
-use Rattle.coset_value.specs.Item.{Bits, half, single, double, Item, integer, bytes, float, text, boolean, null, tag, array, dict, Items, no_items, item, Pairs, no_pairs, pair}
+use Rattle.coset_value.specs.Item.{Bits, half, single, double, Item, integer, bytes, float, text, boolean, null, tag, array, dict, Items, no_items, item, Pairs}
+use Rattle.coset_value.specs.Item.{no_pairs, pair}
 use Rattle.coset_value.specs.declared.float.Float.{Float}
 use Rattle.coset_value.specs.declared.float.Float.TheVariants.{Half, Single, Double}
 use Rattle.coset_value.specs.declared.value.Value.{Value, fold-Value}
@@ -45,5 +46,6 @@ items_view vs = items_of (map view vs)
 abbrev pub pair_view : Value × Value → Item × Item
 pair_view p = (view p.0, view p.1)
 
+-- the pairs of items that pairs of values stand for
 abbrev pub pairs_view : List (Value × Value) → Pairs
 pairs_view ps = pairs_of (map pair_view ps)

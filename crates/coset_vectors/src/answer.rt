@@ -7,10 +7,11 @@ use std::alloc::{AllocError, Global};
 
 /// The text for bytes of that form: the hexadecimal of what is written of the value that they hold, or `error: ` and
 /// why they hold none; and `differs` where reading them straight, and as an item that is read then, come to different
-/// values or texts.
+/// values or texts. What is written of it may be a structure with this `external_aad`.
 pub fn answer<F: Form<T>, T: PartialEq + Drop>(
     alloc: Global,
     bytes: &[u8],
+    external_aad: &[u8],
 ) -> Result<String, AllocError> {
     let straight: Result<T> = F::read(alloc, bytes);
     let through_item: Result<T> = read_through_item::<F, T>(alloc, bytes);
@@ -18,8 +19,8 @@ pub fn answer<F: Form<T>, T: PartialEq + Drop>(
         (Ok(one), Ok(other)) => *one == *other,
         _ => true,
     };
-    let text = text_of::<F, T>(alloc, straight)?;
-    let other = text_of::<F, T>(alloc, through_item)?;
+    let text = text_of::<F, T>(alloc, straight, external_aad)?;
+    let other = text_of::<F, T>(alloc, through_item, external_aad)?;
     if are_equal && text == other {
         Ok(text)
     } else {
@@ -40,9 +41,13 @@ pub fn read_through_item<F: Form<T>, T>(alloc: Global, bytes: &[u8]) -> Result<T
 ///
 /// # Errors
 /// Memory ran out: that is no answer that could differ from another.
-fn text_of<F: Form<T>, T>(alloc: Global, read: Result<T>) -> Result<String, AllocError> {
+fn text_of<F: Form<T>, T>(
+    alloc: Global,
+    read: Result<T>,
+    external_aad: &[u8],
+) -> Result<String, AllocError> {
     let written = match read {
-        Ok(value) => F::write(alloc, value),
+        Ok(value) => F::write(alloc, value, external_aad),
         Err(error) => Err(error),
     };
     match written {

@@ -3,7 +3,7 @@
 use coset::cbor::value::Value;
 use coset::cwt::Timestamp;
 use coset::{
-    AsCborValue, CborSerializable, CoseError, CoseSign1, ProtectedBstr, ProtectedHeader, Result,
+    AsCborValue, CborSerializable, CoseError, ProtectedBstr, ProtectedHeader, Result,
     TaggedCborSerializable,
 };
 use std::alloc::Global;
@@ -22,11 +22,11 @@ pub trait Form<T> {
     /// The same as [`Form::read`].
     fn read_item(alloc: Global, item: Value) -> Result<T>;
 
-    /// What is written of the value.
+    /// What is written of the value. Forms that have no use for `external_aad` pass over it.
     ///
     /// # Errors
     /// Why the value can't be written, or that memory ran out.
-    fn write(alloc: Global, value: T) -> Result<Vec<u8>>;
+    fn write(alloc: Global, value: T, external_aad: &[u8]) -> Result<Vec<u8>>;
 }
 
 /// The item of the type itself.
@@ -41,7 +41,7 @@ impl<T: CborSerializable> Form<T> for Plain {
         T::from_cbor_value(alloc, item)
     }
 
-    fn write(alloc: Global, value: T) -> Result<Vec<u8>> {
+    fn write(alloc: Global, value: T, _external_aad: &[u8]) -> Result<Vec<u8>> {
         value.to_vec(alloc)
     }
 }
@@ -66,7 +66,7 @@ impl<T: TaggedCborSerializable> Form<T> for Tagged {
         }
     }
 
-    fn write(alloc: Global, value: T) -> Result<Vec<u8>> {
+    fn write(alloc: Global, value: T, _external_aad: &[u8]) -> Result<Vec<u8>> {
         value.to_tagged_vec(alloc)
     }
 }
@@ -98,7 +98,7 @@ impl Form<ProtectedHeader> for InString {
         ProtectedHeader::from_cbor_bstr(alloc, item)
     }
 
-    fn write(alloc: Global, value: ProtectedHeader) -> Result<Vec<u8>> {
+    fn write(alloc: Global, value: ProtectedHeader, _external_aad: &[u8]) -> Result<Vec<u8>> {
         ProtectedBstr(value).to_vec(alloc)
     }
 }
@@ -115,24 +115,7 @@ impl Form<Timestamp> for AsValue {
         Timestamp::from_cbor_value(alloc, item)
     }
 
-    fn write(alloc: Global, value: Timestamp) -> Result<Vec<u8>> {
+    fn write(alloc: Global, value: Timestamp, _external_aad: &[u8]) -> Result<Vec<u8>> {
         value.to_cbor_value(alloc)?.to_vec(alloc)
-    }
-}
-
-/// A message, of which the bytes are written that are signed where there is no external data (RFC 8152, section 4.4).
-pub struct Signed;
-
-impl Form<CoseSign1> for Signed {
-    fn read(alloc: Global, bytes: &[u8]) -> Result<CoseSign1> {
-        CoseSign1::from_slice(alloc, bytes)
-    }
-
-    fn read_item(alloc: Global, item: Value) -> Result<CoseSign1> {
-        CoseSign1::from_cbor_value(alloc, item)
-    }
-
-    fn write(alloc: Global, value: CoseSign1) -> Result<Vec<u8>> {
-        value.tbs_data(alloc, &[])
     }
 }

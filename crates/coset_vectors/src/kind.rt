@@ -1,8 +1,9 @@
 //! What the bytes of a row are said to be.
 
 use crate::answer::answer;
-use crate::form::{AsValue, Form, InString, Plain, Signed, Tagged};
+use crate::form::{AsValue, Form, InString, Plain, Tagged};
 use crate::fronts::flaw;
+use crate::structures::{Countersigned, EncRecipient, MacRecipient, RecRecipient, Structures};
 use coset::cbor::value::Value;
 use coset::cwt::{ClaimName, ClaimsSet, Timestamp};
 use coset::iana::{EllipticCurve, HeaderParameter};
@@ -16,14 +17,14 @@ use std::alloc::{AllocError, Global};
 
 /// What is asked about bytes of a kind.
 #[derive(Clone, Copy)]
-enum Question {
-    /// Which value they hold.
-    Value,
+enum Question<'a> {
+    /// Which value they hold, or which structure is made of it with this `external_aad`.
+    Value(&'a [u8]),
     /// Whether their fronts hold none, and what follows them is extraneous.
     Fronts,
 }
 
-impl Question {
+impl Question<'_> {
     /// The answer for bytes of that form.
     fn of<F: Form<T>, T: PartialEq + Drop>(
         self,
@@ -31,7 +32,7 @@ impl Question {
         bytes: &[u8],
     ) -> Result<String, AllocError> {
         match self {
-            Question::Value => answer::<F, T>(alloc, bytes),
+            Question::Value(external_aad) => answer::<F, T>(alloc, bytes, external_aad),
             Question::Fronts => flaw::<F, T>(alloc, bytes),
         }
     }
@@ -74,8 +75,6 @@ pub enum Kind {
     Recipient,
     /// A message with one signature (RFC 8152, section 4.2).
     Sign1,
-    /// What is signed of such a message.
-    Sign1Tbs,
     /// Such a message under its tag.
     TaggedSign1,
     /// A message with any number of signatures (RFC 8152, section 4.1).
@@ -98,6 +97,36 @@ pub enum Kind {
     Encrypt0,
     /// Such a message under its tag.
     TaggedEncrypt0,
+    /// What is signed of a message with one signature (RFC 8152, section 4.4).
+    Sign1Tbs,
+    /// What each signature of a message with any number of them is over.
+    SignTbs,
+    /// What is authenticated of a message with a MAC (RFC 8152, section 6.3).
+    Mac0Tbm,
+    /// The same of one with recipients.
+    MacTbm,
+    /// What goes with the ciphertext of an encrypted message (RFC 8152, section 5.3).
+    Encrypt0Aad,
+    /// The same of one with recipients.
+    EncryptAad,
+    /// What goes with the ciphertext of a recipient of an encrypted message.
+    EncRecipientAad,
+    /// As for an encrypted message, for a message with a MAC.
+    MacRecipientAad,
+    /// As for an encrypted message, for another recipient.
+    RecRecipientAad,
+    /// What the counter signatures of a message with one signature are over (RFC 8152, section 4.5; RFC 9338, section 3.3).
+    Sign1Countersigned,
+    /// The same of one with any number of signatures.
+    SignCountersigned,
+    /// The same of one with a MAC.
+    Mac0Countersigned,
+    /// The same of one with a MAC and recipients.
+    MacCountersigned,
+    /// The same of an encrypted one.
+    Encrypt0Countersigned,
+    /// The same of an encrypted one with recipients.
+    EncryptCountersigned,
     /// A key (RFC 8152, section 7).
     Key,
     /// A set of keys (RFC 8152, section 7).
@@ -134,12 +163,26 @@ impl Kind {
             "countersignature" => Kind::Countersignature,
             "recipient" => Kind::Recipient,
             "sign1" => Kind::Sign1,
-            "sign1_tbs" => Kind::Sign1Tbs,
             "sign" => Kind::Sign,
             "mac" => Kind::Mac,
             "mac0" => Kind::Mac0,
             "encrypt" => Kind::Encrypt,
             "encrypt0" => Kind::Encrypt0,
+            "sign1_tbs" => Kind::Sign1Tbs,
+            "sign_tbs" => Kind::SignTbs,
+            "mac0_tbm" => Kind::Mac0Tbm,
+            "mac_tbm" => Kind::MacTbm,
+            "encrypt0_aad" => Kind::Encrypt0Aad,
+            "encrypt_aad" => Kind::EncryptAad,
+            "enc_recipient_aad" => Kind::EncRecipientAad,
+            "mac_recipient_aad" => Kind::MacRecipientAad,
+            "rec_recipient_aad" => Kind::RecRecipientAad,
+            "sign1_countersigned" => Kind::Sign1Countersigned,
+            "sign_countersigned" => Kind::SignCountersigned,
+            "mac0_countersigned" => Kind::Mac0Countersigned,
+            "mac_countersigned" => Kind::MacCountersigned,
+            "encrypt0_countersigned" => Kind::Encrypt0Countersigned,
+            "encrypt_countersigned" => Kind::EncryptCountersigned,
             "key" => Kind::Key,
             "keyset" => Kind::Keyset,
             "claims" => Kind::Claims,
@@ -165,9 +208,36 @@ impl Kind {
         }
     }
 
-    /// The text for bytes of this kind.
-    pub fn answer(self, alloc: Global, bytes: &[u8]) -> Result<String, AllocError> {
-        self.ask(alloc, Question::Value, bytes)
+    /// Whether what is written of a value of this kind is a structure, or some, that `external_aad` stands in.
+    pub fn is_structure(self) -> bool {
+        matches!(
+            self,
+            Kind::Sign1Tbs
+                | Kind::SignTbs
+                | Kind::Mac0Tbm
+                | Kind::MacTbm
+                | Kind::Encrypt0Aad
+                | Kind::EncryptAad
+                | Kind::EncRecipientAad
+                | Kind::MacRecipientAad
+                | Kind::RecRecipientAad
+                | Kind::Sign1Countersigned
+                | Kind::SignCountersigned
+                | Kind::Mac0Countersigned
+                | Kind::MacCountersigned
+                | Kind::Encrypt0Countersigned
+                | Kind::EncryptCountersigned
+        )
+    }
+
+    /// The text for bytes of this kind, and this `external_aad`.
+    pub fn answer(
+        self,
+        alloc: Global,
+        bytes: &[u8],
+        external_aad: &[u8],
+    ) -> Result<String, AllocError> {
+        self.ask(alloc, Question::Value(external_aad), bytes)
     }
 
     /// What is wrong with the fronts of bytes of this kind, which hold a value, and with what follows them; or nothing.
@@ -176,7 +246,12 @@ impl Kind {
     }
 
     /// What is answered to a question about bytes of this kind.
-    fn ask(self, alloc: Global, question: Question, bytes: &[u8]) -> Result<String, AllocError> {
+    fn ask(
+        self,
+        alloc: Global,
+        question: Question<'_>,
+        bytes: &[u8],
+    ) -> Result<String, AllocError> {
         match self {
             Kind::Value => question.of::<Plain, Value>(alloc, bytes),
             Kind::Label => question.of::<Plain, Label>(alloc, bytes),
@@ -201,7 +276,6 @@ impl Kind {
             ),
             Kind::Recipient => question.of::<Plain, CoseRecipient>(alloc, bytes),
             Kind::Sign1 => question.of::<Plain, CoseSign1>(alloc, bytes),
-            Kind::Sign1Tbs => question.of::<Signed, CoseSign1>(alloc, bytes),
             Kind::TaggedSign1 => question.of::<Tagged, CoseSign1>(alloc, bytes),
             Kind::Sign => question.of::<Plain, CoseSign>(alloc, bytes),
             Kind::TaggedSign => question.of::<Tagged, CoseSign>(alloc, bytes),
@@ -213,6 +287,21 @@ impl Kind {
             Kind::TaggedEncrypt => question.of::<Tagged, CoseEncrypt>(alloc, bytes),
             Kind::Encrypt0 => question.of::<Plain, CoseEncrypt0>(alloc, bytes),
             Kind::TaggedEncrypt0 => question.of::<Tagged, CoseEncrypt0>(alloc, bytes),
+            Kind::Sign1Tbs => question.of::<Structures, CoseSign1>(alloc, bytes),
+            Kind::SignTbs => question.of::<Structures, CoseSign>(alloc, bytes),
+            Kind::Mac0Tbm => question.of::<Structures, CoseMac0>(alloc, bytes),
+            Kind::MacTbm => question.of::<Structures, CoseMac>(alloc, bytes),
+            Kind::Encrypt0Aad => question.of::<Structures, CoseEncrypt0>(alloc, bytes),
+            Kind::EncryptAad => question.of::<Structures, CoseEncrypt>(alloc, bytes),
+            Kind::EncRecipientAad => question.of::<EncRecipient, CoseRecipient>(alloc, bytes),
+            Kind::MacRecipientAad => question.of::<MacRecipient, CoseRecipient>(alloc, bytes),
+            Kind::RecRecipientAad => question.of::<RecRecipient, CoseRecipient>(alloc, bytes),
+            Kind::Sign1Countersigned => question.of::<Countersigned, CoseSign1>(alloc, bytes),
+            Kind::SignCountersigned => question.of::<Countersigned, CoseSign>(alloc, bytes),
+            Kind::Mac0Countersigned => question.of::<Countersigned, CoseMac0>(alloc, bytes),
+            Kind::MacCountersigned => question.of::<Countersigned, CoseMac>(alloc, bytes),
+            Kind::Encrypt0Countersigned => question.of::<Countersigned, CoseEncrypt0>(alloc, bytes),
+            Kind::EncryptCountersigned => question.of::<Countersigned, CoseEncrypt>(alloc, bytes),
             Kind::Key => question.of::<Plain, CoseKey>(alloc, bytes),
             Kind::Keyset => question.of::<Plain, CoseKeySet>(alloc, bytes),
             Kind::Claims => question.of::<Plain, ClaimsSet>(alloc, bytes),

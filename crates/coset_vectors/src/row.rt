@@ -1,4 +1,4 @@
-//! Rows, one a line: `KIND HEX`, or `tagged KIND HEX`.
+//! Rows, one a line: `KIND HEX`, or `tagged KIND HEX`; of structures `KIND HEX HEX`.
 
 ghost use Rattle.std.specs.Prelude.{◌≡◌, true, IfOk, string_bytes};
 ghost use Rattle.coset_vectors.specs.Row.{is_comment as is_comment_spec};
@@ -97,11 +97,17 @@ fn name_and_rest(row: &str) -> (&str, &str) {
     }
 }
 
-/// The text for the bytes that this spells in hexadecimal.
-fn answer_row(alloc: Global, kind: Kind, hexadecimal: &str) -> Result<String, AllocError> {
-    match spelled(alloc, hexadecimal)? {
-        Some(bytes) => answer_bytes(alloc, kind, &bytes),
-        None => String::from_str(alloc, NOT_HEXADECIMAL),
+/// The text for the bytes that this spells in hexadecimal; of a structure's kind, for those and the `external_aad` behind
+/// a space.
+fn answer_row(alloc: Global, kind: Kind, words: &str) -> Result<String, AllocError> {
+    let (hexadecimal, external_aad) = if kind.is_structure() {
+        name_and_rest(words)
+    } else {
+        (words, "")
+    };
+    match (spelled(alloc, hexadecimal)?, spelled(alloc, external_aad)?) {
+        (Some(bytes), Some(external_aad)) => answer_bytes(alloc, kind, &bytes, &external_aad),
+        _ => String::from_str(alloc, NOT_HEXADECIMAL),
     }
 }
 
@@ -116,8 +122,13 @@ fn spelled(alloc: Global, hexadecimal: &str) -> Result<Option<Vec<u8>>, AllocErr
 
 /// The text for these bytes. Where they hold a value, that every proper front of them ends too early, and that a byte
 /// behind them is extraneous, is looked at as well, and told of where it isn't so.
-fn answer_bytes(alloc: Global, kind: Kind, bytes: &[u8]) -> Result<String, AllocError> {
-    let text = kind.answer(alloc, bytes)?;
+fn answer_bytes(
+    alloc: Global,
+    kind: Kind,
+    bytes: &[u8],
+    external_aad: &[u8],
+) -> Result<String, AllocError> {
+    let text = kind.answer(alloc, bytes, external_aad)?;
     if is_error(&text) {
         return Ok(text);
     }

@@ -39,7 +39,7 @@ pub fn strings(alloc: Global, major: Major) -> Result<String, AllocError> {
         let expected = expected(alloc, major, length)?;
         let spellings = spellings(alloc, major, length)?;
         for spelling in &spellings {
-            let text = Kind::Value.answer(alloc, spelling)?;
+            let text = Kind::Value.answer(alloc, spelling, &[])?;
             if text != expected {
                 return format!(in alloc; "wrong: length {length}: {text}");
             }

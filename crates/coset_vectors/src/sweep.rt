@@ -23,7 +23,7 @@ impl Tally {
     /// Takes one more answer. An accepted input must be written as bytes that are answered by themselves, and no other
     /// may be refused for memory; `differs` where reading it straight and by way of a value don't agree.
     fn take(&mut self, alloc: Global, kind: Kind, input: &[u8]) -> Result<(), AllocError> {
-        let text = kind.answer(alloc, input)?;
+        let text = kind.answer(alloc, input, &[])?;
         match text.as_str() {
             "differs" | "error: out of memory" => return self.blame(alloc, input),
             other if other.starts_with("error: ") => return Ok(()),
@@ -31,7 +31,7 @@ impl Tally {
         }
         self.accepted = self.accepted.saturating_add(1);
         match hex::decode(alloc, text.as_bytes()) {
-            Ok(written) if kind.answer(alloc, &written)? == text => Ok(()),
+            Ok(written) if kind.answer(alloc, &written, &[])? == text => Ok(()),
             _ => self.blame(alloc, input),
         }
     }
@@ -90,7 +90,7 @@ pub fn nested(alloc: Global, outer: &[u8], inner: &[u8]) -> Result<String, Alloc
     let mut refusal = String::new(alloc);
     for times in 0..=NESTED {
         let input = repeated(alloc, outer, times, inner)?;
-        let text = Kind::Value.answer(alloc, &input)?;
+        let text = Kind::Value.answer(alloc, &input, &[])?;
         if refusal.is_empty() && text == hex::encode(alloc, &input)? {
             accepted = accepted.saturating_add(1);
         } else if refusal.is_empty() {

@@ -9,7 +9,8 @@ use Rattle.std.proofs.lemmas.Nat.{pow-add, pow_pos, shl_whole}
 use Rattle.std.proofs.lemmas.Bool.{cases_lt}
 use Rattle.std.proofs.Math.Nat.{mul-lt-mul_of_pos_right, mul_assoc, mul_comm, le-mul_of_pos_right, pow-le-pow_right}
 
-as_ordered : (x y a b : ℕ) → (x < y → a < b) → (x ≡ y → a ≡ b) → (y < x → b < a) → (r : Ordering) → MatchOrdering r (x < y) (x ≡ y) (y < x) → MatchOrdering r (a < b) (a ≡ b) (b < a)
+as_ordered : (x y a b : ℕ) → (x < y → a < b) → (x ≡ y → a ≡ b) → (y < x → b < a) → (r : Ordering) → MatchOrdering r (x < y) (x ≡ y) (y < x)
+    → MatchOrdering r (a < b) (a ≡ b) (b < a)
 as_ordered x y a b l e g Less h = l h
 as_ordered x y a b l e g Equal h = e h
 as_ordered x y a b l e g Greater h = g h
@@ -55,7 +56,8 @@ split : (e c : ℕ) → c ≤ e → 2 ^ e ≡ 2 ^ (e - c) * 2 ^ c
 split e c l = ap (λ (z : ℕ). 2 ^ z) (omega arith) ∙ pow-add 2 (e - c) c
 
 -- with the exponent at least the scale, s << up compares with k
-pub compared_up : (s e k c up a : ℕ) → s < 2 ^ 54 → k < 2 ^ 66 → c ≤ e → up ≡ min (e - c) 66 → a ≡ (s * 2 ^ up) % 2 ^ 128 → nat_cmp a k ≡ nat_cmp (s * 2 ^ e) (k * 2 ^ c)
+pub compared_up : (s e k c up a : ℕ) → s < 2 ^ 54 → k < 2 ^ 66 → c ≤ e → up ≡ min (e - c) 66 → a ≡ (s * 2 ^ up) % 2 ^ 128
+    → nat_cmp a k ≡ nat_cmp (s * 2 ^ e) (k * 2 ^ c)
 compared_up s e k c up a small near l is shifted =
     let whole : (s * 2 ^ up) % 2 ^ 128 ≡ s * 2 ^ up = shl_whole s 54 up 128 small (omega arith) in
     let now : a ≡ s * 2 ^ (min (e - c) 66) = shifted ∙ whole ∙ ap (λ (z : ℕ). s * 2 ^ z) is in
@@ -66,7 +68,8 @@ compared_up s e k c up a small near l is shifted =
     ∙ ap (λ (z : ℕ). nat_cmp z (k * 2 ^ c)) (sym over)))
 
 -- with the exponent below the scale, s compares with k << down
-pub compared_down : (s e k c down a : ℕ) → s < 2 ^ 54 → k < 2 ^ 66 → e ≤ c → down ≡ min (c - e) 60 → a ≡ (k * 2 ^ down) % 2 ^ 128 → nat_cmp s a ≡ nat_cmp (s * 2 ^ e) (k * 2 ^ c)
+pub compared_down : (s e k c down a : ℕ) → s < 2 ^ 54 → k < 2 ^ 66 → e ≤ c → down ≡ min (c - e) 60 → a ≡ (k * 2 ^ down) % 2 ^ 128
+    → nat_cmp s a ≡ nat_cmp (s * 2 ^ e) (k * 2 ^ c)
 compared_down s e k c down a small near l is shifted =
     let whole : (k * 2 ^ down) % 2 ^ 128 ≡ k * 2 ^ down = shl_whole k 66 down 128 near (omega arith) in
     let now : a ≡ k * 2 ^ (min (c - e) 60) = shifted ∙ whole ∙ ap (λ (z : ℕ). k * 2 ^ z) is in

@@ -43,16 +43,19 @@ module _ {F E : Type 0} (g : Verifies F E) (f : F) where
   says_yes m p carried asked = record { carried = carried; tbs = asked.0; is_tbs = asked.1; said = asked.2 }
 
   -- it refused, or there was no memory for what it is asked about
-  refused : (m : Sign1Seen) (p : List ℕ) (e : CallError E) → m.payload ≡ Some p → AsksAbout g f m.signature (sign1_carried m []) (Err e) → GivesClaims g f m (Err (refusal_of e))
+  refused : (m : Sign1Seen) (p : List ℕ) (e : CallError E) → m.payload ≡ Some p → AsksAbout g f m.signature (sign1_carried m []) (Err e)
+      → GivesClaims g f m (Err (refusal_of e))
   refused m p (Coset e) carried asked = asked
   refused m p (Caller e) carried asked = (p, record { carried = carried; tbs = asked.0; is_tbs = asked.1; said = asked.2 })
 
   pub not_verified :
-      (m : Sign1Seen) (p : List ℕ) (e : CallError E) (r : Result ClaimsSet (GateError E)) → IsErrAnd r (λ x. x ≡ refusal_of e) → m.payload ≡ Some p → AsksAbout g f m.signature (sign1_carried m []) (Err e) → GivesClaims g f m r
+      (m : Sign1Seen) (p : List ℕ) (e : CallError E) (r : Result ClaimsSet (GateError E)) → IsErrAnd r (λ x. x ≡ refusal_of e) → m.payload ≡ Some p
+      → AsksAbout g f m.signature (sign1_carried m []) (Err e) → GivesClaims g f m r
   not_verified m p e r is carried asked = passed_on (GivesClaims g f m) r (refusal_of e) is (refused m p e carried asked)
 
   -- why a message has no claims is why its token is refused
-  pub none_given : AlwaysSigned → (now : ℤ) (b : List ℕ) (m : Sign1Seen) (e : GateError E) → Describes token b m → GivesClaims g f m (Err e) → Judges g f now b (Err e)
+  pub none_given : AlwaysSigned → (now : ℤ) (b : List ℕ) (m : Sign1Seen) (e : GateError E) → Describes token b m → GivesClaims g f m (Err e)
+      → Judges g f now b (Err e)
   none_given law now b m (gate.Token e) d h = unsigned law b m e d h
   none_given law now b m gate.NoPayload d h = (m, d, h)
   none_given law now b m (gate.Caller e) d h = (m, d, h)
@@ -62,7 +65,8 @@ module _ {F E : Type 0} (g : Verifies F E) (f : F) where
   none_given law now b m gate.NotYetValid d h = absurd h
 
   -- and with a policy that admits it
-  pub none_given_with : AlwaysSigned → (p : PolicySeen) (now : ℤ) (b : List ℕ) (m : Sign1Seen) (e : GateError E) → Describes token b m → IsAdmitted p m → GivesClaims g f m (Err e) → JudgesWith g f p now b (Err (Gate e))
+  pub none_given_with : AlwaysSigned → (p : PolicySeen) (now : ℤ) (b : List ℕ) (m : Sign1Seen) (e : GateError E) → Describes token b m → IsAdmitted p m
+      → GivesClaims g f m (Err e) → JudgesWith g f p now b (Err (Gate e))
   none_given_with law p now b m (gate.Token e) d a h = unsigned law b m e d h
   none_given_with law p now b m gate.NoPayload d a h = (m, d, (a, h))
   none_given_with law p now b m (gate.Caller e) d a h = (m, d, (a, h))

@@ -25,7 +25,8 @@ abbrev pub number_in : Format → ℕ → Option Number
 number_in m n =
     let upper = n / m.fractions in
     let e = upper % m.exponents in
-    if e + 1 == m.exponents then None else Some (record { is_negative = nat_le m.exponents upper; units = units_of m.fractions e (n % m.fractions); scale = m.scale })
+    if e + 1 == m.exponents then None else Some (record
+    { is_negative = nat_le m.exponents upper; units = units_of m.fractions e (n % m.fractions); scale = m.scale })
 
 abbrev pub half_format : Format
 half_format = record { fractions = 2 ^ 10; exponents = 2 ^ 5; scale = 24 }

@@ -8,12 +8,6 @@ mod gate;
 mod moment;
 mod number;
 mod policy;
-#[cfg(test)]
-mod policy_rows;
-#[cfg(test)]
-mod refused;
-#[cfg(test)]
-mod rows;
 mod token;
 mod verified;
 

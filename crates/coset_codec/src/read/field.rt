@@ -8,7 +8,7 @@ ghost use Rattle.coset_codec.specs.Maps.{RefusesValue, TakesValue, listed, optio
 ghost use Rattle.coset_codec.specs.Shape.{Shape, filled_bstr};
 
 use crate::error::Result;
-use crate::read::Input;
+use crate::read::{Input, read_list};
 use crate::traits::FromPull;
 use std::alloc::Global;
 
@@ -57,6 +57,38 @@ impl Decode for Vec<u8> {
 
     fn decode(alloc: Global, input: &mut Input<'_>) -> Result<Vec<u8>> {
         input.bytes(alloc, "bstr")
+    }
+}
+
+/// Bytes that may be missing are a byte string or null.
+impl Decode for Option<Vec<u8>> {
+    ghost use Rattle.std.specs.Prelude.{List, Option, option_map, ℕ};
+    ghost use Rattle.coset_codec.specs.Shape.{bstr, or_nil};
+
+    ghost Seen = { Option (List ℕ) };
+
+    ghost seen = { option_map (λ b. b.items) };
+
+    ghost shape = { or_nil bstr };
+
+    fn decode(alloc: Global, input: &mut Input<'_>) -> Result<Option<Vec<u8>>> {
+        input.bytes_or_nil(alloc, "bstr or nil")
+    }
+}
+
+/// A list is an array of its members.
+impl<T: FromPull + Drop> Decode for Vec<T> {
+    ghost use Rattle.std.specs.Prelude.{List, map};
+    ghost use Rattle.coset_codec.specs.Shape.{list_of};
+
+    ghost Seen = { List T.Seen };
+
+    ghost seen = { λ all. map T.seen all.items };
+
+    ghost shape = { list_of T.shape };
+
+    fn decode(alloc: Global, input: &mut Input<'_>) -> Result<Vec<T>> {
+        read_list(alloc, input, "array")
     }
 }
 

@@ -43,6 +43,7 @@ pub trait Encode {
 impl Encode for Value {
     ghost image = { λ v. Some (view v) };
 
+    #[inline(always)]
     fn encode(&self, _alloc: Global, out: &mut Vec<u8>) -> Result<()> {
         laws::shortest_is_in_range();
         laws::least_heads_are_shortest();
@@ -60,6 +61,7 @@ impl Encode for i64 {
         LONGEST_HEAD
     }
 
+    #[inline(always)]
     fn encode(&self, _alloc: Global, out: &mut Vec<u8>) -> Result<()> {
         Ok(write_integer(Integer::from(*self), out)?)
     }
@@ -76,6 +78,7 @@ impl Encode for u64 {
         LONGEST_HEAD
     }
 
+    #[inline(always)]
     fn encode(&self, _alloc: Global, out: &mut Vec<u8>) -> Result<()> {
         Ok(write_integer(Integer::from(*self), out)?)
     }
@@ -92,6 +95,7 @@ impl Encode for String {
         self.len().saturating_add(LONGEST_HEAD)
     }
 
+    #[inline(always)]
     fn encode(&self, _alloc: Global, out: &mut Vec<u8>) -> Result<()> {
         Ok(write_text(self, out)?)
     }
@@ -105,6 +109,7 @@ impl Encode for Vec<u8> {
         self.len().saturating_add(LONGEST_HEAD)
     }
 
+    #[inline(always)]
     fn encode(&self, _alloc: Global, out: &mut Vec<u8>) -> Result<()> {
         Ok(write_bytes(self, out)?)
     }
@@ -123,6 +128,7 @@ impl Encode for Option<Vec<u8>> {
         }
     }
 
+    #[inline(always)]
     fn encode(&self, alloc: Global, out: &mut Vec<u8>) -> Result<()> {
         match self {
             Some(content) => content.encode(alloc, out),

@@ -15,14 +15,22 @@ use coset_cbor::ser::write_map_head;
 use coset_cbor::value::Value;
 use std::alloc::Global;
 
-/// How many of these are true.
+/// How many of these are true. A plain loop over them is one that the compiler unrolls.
+#[inline(always)]
 fn count_true(there: &[bool]) -> usize
     ensures { result ≡ length (filter (λ b. b) there.now) }
 {
-    there.iter().filter(|b| **b).count()
+    let mut count = 0;
+    for b in there {
+        if *b {
+            count += 1;
+        }
+    }
+    count
 }
 
 /// Appends the head of the map of those fields that are there, as `there` says of each, and of the rest.
+#[inline(always)]
 pub fn write_pairs_head<L>(
     there: &[bool],
     rest: &[(L, Value)],
@@ -43,6 +51,7 @@ pub fn write_pairs_head<L>(
 ///
 /// # Errors
 /// Those of the value.
+#[inline(always)]
 pub fn write_field<T: Encode>(alloc: Global, label: i64, value: &T, out: &mut Vec<u8>) -> Result<()>
     ensures ok { OnOk result
         (AppendsField label (option_map Some (T.image value.now)) out.old.items out.new.items) }
@@ -56,6 +65,7 @@ pub fn write_field<T: Encode>(alloc: Global, label: i64, value: &T, out: &mut Ve
 ///
 /// # Errors
 /// Those of the value.
+#[inline(always)]
 pub fn write_optional<T: Encode>(
     alloc: Global,
     label: i64,
@@ -77,6 +87,7 @@ pub fn write_optional<T: Encode>(
 ///
 /// # Errors
 /// `OutOfMemory` alone.
+#[inline(always)]
 pub fn write_filled(alloc: Global, label: i64, bytes: &Vec<u8>, out: &mut Vec<u8>) -> Result<()>
     ensures ok { OnOk result (AppendsField label ((listed filled_bstr).image bytes.now.items)
         out.old.items out.new.items) }

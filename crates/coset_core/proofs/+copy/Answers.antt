@@ -18,11 +18,15 @@ header::copy_header-returns t c =
 pub signature::copy_signatures-loop-signature-preserved : goal.signature::copy_signatures-loop-signature-preserved
 signature::copy_signatures-loop-signature-preserved t c =
     let gets = c.in_ok-push_empty.ensures in
-    one_more_copied signature_seen c.loop-signature.copies.items c.push_empty.new.all.items c.args.all.now c.loop-signature.signature-index c.len-last.result gets.0 _ c.copy_signature.new.copy c.loop-signature.invariant (search rules) gets.1
-    (taken signature_seen c.args.all.now c.loop-signature.signature-index c.signature-item.result (omega arith) c.signature-item.is) c.in_ok-copy_signature.ensures
+    one_more_copied signature_seen c.loop-signature.copies.items c.push_empty.new.all.items c.args.all.now c.loop-signature.signature-index c.len-last.result
+    gets.0 _ c.copy_signature.new.copy c.loop-signature.invariant (search rules) gets.1
+    (taken signature_seen c.args.all.now c.loop-signature.signature-index c.signature-item.result
+    (omega arith) c.signature-item.is) c.in_ok-copy_signature.ensures
 
 pub countersignature::copy_countersignatures-loop-signature-preserved : goal.countersignature::copy_countersignatures-loop-signature-preserved
 countersignature::copy_countersignatures-loop-signature-preserved t c =
     let gets = c.in_ok-push_empty.ensures in
-    one_more_copied countersignature_seen c.loop-signature.copies.items c.push_empty.new.all.items c.args.all.now c.loop-signature.signature-index c.len-last.result gets.0 _ c.copy_countersignature.new.copy c.loop-signature.invariant (search rules) gets.1
-    (taken countersignature_seen c.args.all.now c.loop-signature.signature-index c.signature-item.result (omega arith) c.signature-item.is) c.in_ok-copy_countersignature.ensures
+    one_more_copied countersignature_seen c.loop-signature.copies.items c.push_empty.new.all.items c.args.all.now c.loop-signature.signature-index
+    c.len-last.result gets.0 _ c.copy_countersignature.new.copy c.loop-signature.invariant (search rules) gets.1
+    (taken countersignature_seen c.args.all.now c.loop-signature.signature-index c.signature-item.result
+    (omega arith) c.signature-item.is) c.in_ok-copy_countersignature.ensures

@@ -6,4 +6,5 @@ abbrev pub invariant-signature::copy_signatures-loop-signature : goal.invariant-
 invariant-signature::copy_signatures-loop-signature l = map signature_seen l.copies.items ≡ map signature_seen (take l.signature-index l.all)
 
 abbrev pub invariant-countersignature::copy_countersignatures-loop-signature : goal.invariant-countersignature::copy_countersignatures-loop-signature
-invariant-countersignature::copy_countersignatures-loop-signature l = map countersignature_seen l.copies.items ≡ map countersignature_seen (take l.signature-index l.all)
+invariant-countersignature::copy_countersignatures-loop-signature l =
+    map countersignature_seen l.copies.items ≡ map countersignature_seen (take l.signature-index l.all)

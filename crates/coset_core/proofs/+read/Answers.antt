@@ -17,7 +17,9 @@ use Rattle.coset_core.specs.declared.signature.CoseSignature.{out-roll-CoseSigna
 use Rattle.coset_core.proofs.Reading.{no_layer_left, protected_filled}
 use Rattle.coset_codec.proofs.InPlace.{last_filled, one_filled_more, one_refused_more}
 use Rattle.coset_codec.proofs.Lists.{all_read}
-use Rattle.coset_core.proofs.Forward.{not_entered, one_iv_yet, so_far_none, so_far_more, ends, pairs_refused, counter_signatures_refused, not_kept, second_refused, one_filled, more_filled, places_refused, second_read, last_refused, places_filled, unprotected_refused, protected_refused}
+use Rattle.coset_core.proofs.Forward.{not_entered, one_iv_yet, so_far_none, so_far_more, ends, pairs_refused, counter_signatures_refused, not_kept}
+use Rattle.coset_core.proofs.Forward.{second_refused, one_filled, more_filled, places_refused, second_read, last_refused, places_filled, unprotected_refused}
+use Rattle.coset_core.proofs.Forward.{protected_refused}
 use Rattle.coset_core.proofs.+read.Goals as goal
 use Rattle.coset_core.proofs.+read.Goals.{header::reading::fill_counter_signatures-then-one, header::reading::fill_counter_signatures-else-one}
 
@@ -30,19 +32,24 @@ protected::fill_protected-returns t c = λ b kept.
     let is : o ≡ Some b = sym (ap (λ p. p.original) (protected-opened c.args.protected.now)) ∙ kept in
     let held : o ≡ Some c.in-Some.content.items = ap (option_map (λ v. v.items)) c.in-Some.is in
     subst (λ y. Fills (layered_protected c.args.layers) (bytes b) y (answer c.fill_content.new.error c.fill_content.result)) (sym (protected-made _))
-    (protected_filled c.args.layers (c.args.layers - 1) b c.deref.result.now o (header_seen c.fill_content.new.header) (answer c.fill_content.new.error c.fill_content.result) (omega (arith, c.if-layers-eq0.false)) is
+    (protected_filled c.args.layers (c.args.layers - 1) b c.deref.result.now o (header_seen c.fill_content.new.header)
+    (answer c.fill_content.new.error c.fill_content.result) (omega (arith, c.if-layers-eq0.false)) is
     (c.deref.ensures.value ∙ some-one held is) c.fill_content.ensures)
 
 pub header::reading::fill_counter_signatures-returns-clause-fills : goal.header::reading::fill_counter_signatures-returns-clause-fills
 header::reading::fill_counter_signatures-returns-clause-fills t c = elim c.if-one.branch [
   | header::reading::fill_counter_signatures-then-one w ↦ λ v z stands.
       let here = c.in_ok-one.ensures.enters v z stands in
-      let read = w.fill_one-filled.ensures.fills here.0 z here.2 in
-      (c.finish.ensures.passes read.0.0 z (rw (w.members-is, w.input-is) read.0.1), rw (w.all-is, w.filled-is, w.error-is) (one_filled (layered_signature c.args.layers) v here.0 _ _ here.1 (rw w.if-one.true at here.3) read.1))
+      let read = w.fill_one-filled.ensures.fills here.0 z here.2 in (
+        c.finish.ensures.passes read.0.0 z (rw (w.members-is, w.input-is) read.0.1),
+        rw (w.all-is, w.filled-is, w.error-is) (one_filled (layered_signature c.args.layers) v here.0 _ _ here.1 (rw w.if-one.true at here.3) read.1),
+      )
   | header::reading::fill_counter_signatures-else-one w ↦ λ v z stands.
       let here = c.in_ok-one.ensures.enters v z stands in
-      let read = w.fill_each-filled.ensures.fills here.0 z here.2 in
-      (c.finish.ensures.passes read.0.0 z (rw (w.members-is, w.input-is) read.0.1), rw (w.all-is, w.filled-is, w.error-is) (more_filled (layered_signature c.args.layers) v here.0 _ _ here.1 (rw w.if-one.false at here.3) read.1))
+      let read = w.fill_each-filled.ensures.fills here.0 z here.2 in (
+        c.finish.ensures.passes read.0.0 z (rw (w.members-is, w.input-is) read.0.1),
+        rw (w.all-is, w.filled-is, w.error-is) (more_filled (layered_signature c.args.layers) v here.0 _ _ here.1 (rw w.if-one.false at here.3) read.1),
+      )
 ]
 
 pub signature::fill_each-loop-all-preserved : goal.signature::fill_each-loop-all-preserved
@@ -61,17 +68,21 @@ signature::fill_each-loop-all-preserved t c =
           omega (arith, behind, one, before);
       fills = λ vs z within.
           let p = c.loop-all.invariant.fills vs z within in
-          one_filled_more (layered_signature c.args.layers) vs (state c.loop-all.input) (state c.next_place.new.input) (state c.fill_signature.new.input) z c.loop-all.members c.next_place.new.members (map signature_seen c.loop-all.all.items) _
+          one_filled_more (layered_signature c.args.layers) vs (state c.loop-all.input) (state c.next_place.new.input)
+          (state c.fill_signature.new.input) z c.loop-all.members c.next_place.new.members (map signature_seen c.loop-all.all.items) _
           (signature_seen c.fill_signature.new.signed) p (next.next p.others z p.within) c.in_ok-fill_signature.ensures.fills
-          (last_filled signature_seen c.loop-all.all.items c.next_place.new.all.items c.len-last.result next.place.0 c.fill_signature.new.signed (search rules) next.place.1);
+          (last_filled signature_seen c.loop-all.all.items c.next_place.new.all.items c.len-last.result next.place.0 c.fill_signature.new.signed
+          (search rules) next.place.1);
     }
 
 pub signature::fill_each-returns-in_err-fill_signature-clause-fills : goal.signature::fill_each-returns-in_err-fill_signature-clause-fills
 signature::fill_each-returns-in_err-fill_signature-clause-fills t c = λ vs z within.
     let next = rw c.if-branch.true at c.in_ok-next_place.ensures in
     let p = c.loop-all.invariant.fills vs z within in
-    one_refused_more (layered_signature c.args.layers) vs (state c.loop-all.input) (state c.next_place.new.input) (state c.fill_signature.new.input) z c.loop-all.members c.next_place.new.members (map signature_seen c.loop-all.all.items) _
-    (signature_seen c.fill_signature.new.signed) c.from_residual-in_err-fill_signature.result c.fill_signature.new.error c.in_err-fill_signature.field-0.0 c.from_residual-in_err-fill_signature.ensures.1 p (next.next p.others z p.within) c.in_err-fill_signature.ensures.fills
+    one_refused_more (layered_signature c.args.layers) vs (state c.loop-all.input) (state c.next_place.new.input)
+    (state c.fill_signature.new.input) z c.loop-all.members c.next_place.new.members (map signature_seen c.loop-all.all.items) _
+    (signature_seen c.fill_signature.new.signed) c.from_residual-in_err-fill_signature.result c.fill_signature.new.error c.in_err-fill_signature.field-0.0
+    c.from_residual-in_err-fill_signature.ensures.1 p (next.next p.others z p.within) c.in_err-fill_signature.ensures.fills
 
 pub signature::fill_each-returns-clause-fills : goal.signature::fill_each-returns-clause-fills
 signature::fill_each-returns-clause-fills t c = λ vs z within.
@@ -79,12 +90,14 @@ signature::fill_each-returns-clause-fills t c = λ vs z within.
     let p = c.loop-all.invariant.fills vs z within in
     let none = next.next p.others z p.within in (
       (_, none.1),
-      subst (λ xs. Each (layered_signature c.args.layers).describes vs (map signature_seen xs)) (sym next.place) (all_read (layered_signature c.args.layers) vs p.others (map signature_seen c.loop-all.all.items) p.continues none.0),
+      subst (λ xs. Each (layered_signature c.args.layers).describes vs (map signature_seen xs)) (sym next.place)
+          (all_read (layered_signature c.args.layers) vs p.others (map signature_seen c.loop-all.all.items) p.continues none.0),
     )
 
 pub header::reading::fill_header-returns-in_err-begin_pairs-clause-fills : goal.header::reading::fill_header-returns-in_err-begin_pairs-clause-fills
 header::reading::fill_header-returns-in_err-begin_pairs-clause-fills t c = λ v z stands.
-    not_entered c.args.layers v _ (state c.begin_pairs.new.input) z c.from_residual.result c.begin_pairs.new.error c.in_err-begin_pairs.field-0.0 c.from_residual.ensures.1 (c.in_err-begin_pairs.ensures.enters v z stands)
+    not_entered c.args.layers v _ (state c.begin_pairs.new.input) z c.from_residual.result c.begin_pairs.new.error c.in_err-begin_pairs.field-0.0
+    c.from_residual.ensures.1 (c.in_err-begin_pairs.ensures.enters v z stands)
 
 pub header::reading::fill_pairs-loop-version-init : goal.header::reading::fill_pairs-loop-version-init
 header::reading::fill_pairs-loop-version-init t c = record {
@@ -120,83 +133,112 @@ header::reading::fill_pairs-loop-version-preserved t c =
           omega (arith, behind, one, before);
       fills = λ all z within.
           let p = c.loop-version.invariant.fills all z within in
-          so_far_more c.in-Some.version c.args.layers all c.loop-version.header c.fill_fields.new.header c.keep_signatures.new.header (state c.loop-version.input) (state c.fill_fields.new.input) (state c.fill_counter_signatures.new.input) z
-          c.loop-version.pairs c.fill_fields.new.pairs (map signature_seen c.fill_counter_signatures.new.all.items) p (next.fills all p.left p.values z p.walks p.within).0 next.others (sym c.holds.ensures ∙ c.if-holds.false) read.fills keeps;
+          so_far_more c.in-Some.version c.args.layers all c.loop-version.header c.fill_fields.new.header c.keep_signatures.new.header
+          (state c.loop-version.input) (state c.fill_fields.new.input) (state c.fill_counter_signatures.new.input) z
+          c.loop-version.pairs c.fill_fields.new.pairs (map signature_seen c.fill_counter_signatures.new.all.items) p
+          (next.fills all p.left p.values z p.walks p.within).0 next.others (sym c.holds.ensures ∙ c.if-holds.false) read.fills keeps;
     }
 
 pub header::reading::fill_pairs-loop-version-smaller : goal.header::reading::fill_pairs-loop-version-smaller
 header::reading::fill_pairs-loop-version-smaller t c =
     let next = rw c.in-Some.is at c.in_ok-version.ensures in
     let one = next.turns refl in
-    let behind = pairs_fewer c.fill_fields.new.pairs (state c.fill_fields.new.input) (state c.fill_counter_signatures.new.input) c.in_default-fill_counter_signatures.ensures.shrinks in
+    let behind = pairs_fewer c.fill_fields.new.pairs (state c.fill_fields.new.input)
+    (state c.fill_counter_signatures.new.input) c.in_default-fill_counter_signatures.ensures.shrinks in
     omega (arith, one, behind)
 
 pub header::reading::fill_pairs-returns-in_err-version-clause-fills : goal.header::reading::fill_pairs-returns-in_err-version-clause-fills
 header::reading::fill_pairs-returns-in_err-version-clause-fills t c = λ all z within.
     let p = c.loop-version.invariant.fills all z within in
-    pairs_refused c.args.layers all p.values z (fields_seen c.fill_fields.new.header) (state c.fill_fields.new.input) c.fill_fields.new.pairs _ c.from_residual.result c.fill_fields.new.error c.in_err-version.field-0.0 c.from_residual.ensures.1
+    pairs_refused c.args.layers all p.values z (fields_seen c.fill_fields.new.header)
+    (state c.fill_fields.new.input) c.fill_fields.new.pairs _ c.from_residual.result c.fill_fields.new.error c.in_err-version.field-0.0
+    c.from_residual.ensures.1
     (c.in_err-version.ensures.fills all p.left p.values z p.walks p.within)
 
 pub header::reading::fill_pairs-returns-then-holds-clause-fills : goal.header::reading::fill_pairs-returns-then-holds-clause-fills
 header::reading::fill_pairs-returns-then-holds-clause-fills t c = λ all z within.
     let next = rw c.in-Some.is at c.in_ok-version.ensures in
     let p = c.loop-version.invariant.fills all z within in
-    second_refused c.in-Some.version c.args.layers all c.loop-version.header c.fill_fields.new.header (state c.loop-version.input) (state c.fill_fields.new.input) (state c.refuse_second.new.input) z c.loop-version.pairs c.fill_fields.new.pairs _
-    (answer c.refuse_second.new.error c.refuse_second.result) p (next.fills all p.left p.values z p.walks p.within).0 next.others (sym c.holds.ensures ∙ c.if-holds.true) c.refuse_second.ensures.passes
+    second_refused c.in-Some.version c.args.layers all c.loop-version.header c.fill_fields.new.header (state c.loop-version.input)
+    (state c.fill_fields.new.input) (state c.refuse_second.new.input) z c.loop-version.pairs c.fill_fields.new.pairs _
+    (answer c.refuse_second.new.error c.refuse_second.result) p (next.fills all p.left p.values z p.walks p.within).0 next.others
+    (sym c.holds.ensures ∙ c.if-holds.true) c.refuse_second.ensures.passes
 
 pub header::reading::fill_pairs-returns-in-Err-clause-fills : goal.header::reading::fill_pairs-returns-in-Err-clause-fills
 header::reading::fill_pairs-returns-in-Err-clause-fills t c = λ all z within.
     let next = rw c.in-Some.is at c.in_ok-version.ensures in
     let p = c.loop-version.invariant.fills all z within in
-    counter_signatures_refused c.in-Some.version c.args.layers all p.values (fields_seen c.fill_fields.new.header) (state c.fill_fields.new.input) (state c.fill_counter_signatures.new.input) z c.fill_fields.new.pairs
-    (map signature_seen c.fill_counter_signatures.new.all.items) (header_seen c.fill_fields.new.header) (Err c.in-Err.refused) c.fill_counter_signatures.new.error c.in-Err.refused refl
+    counter_signatures_refused c.in-Some.version c.args.layers all p.values (fields_seen c.fill_fields.new.header) (state c.fill_fields.new.input)
+    (state c.fill_counter_signatures.new.input) z c.fill_fields.new.pairs
+    (map signature_seen c.fill_counter_signatures.new.all.items) (header_seen c.fill_fields.new.header)
+    (Err c.in-Err.refused) c.fill_counter_signatures.new.error c.in-Err.refused refl
     (next.fills all p.left p.values z p.walks p.within).0 c.in-Err.ensures.fills
 
 pub header::reading::fill_pairs-returns-in_err-keep_signatures-clause-fills : goal.header::reading::fill_pairs-returns-in_err-keep_signatures-clause-fills
 header::reading::fill_pairs-returns-in_err-keep_signatures-clause-fills t c = λ all z within.
     let next = rw c.in-Some.is at c.in_ok-version.ensures in
     let p = c.loop-version.invariant.fills all z within in
-    not_kept c.in-Some.version c.args.layers all p.values (fields_seen c.fill_fields.new.header) (state c.fill_fields.new.input) (state c.fill_counter_signatures.new.input) z c.fill_fields.new.pairs
-    (map signature_seen c.fill_counter_signatures.new.all.items) _ c.from_residual-in_err-keep_signatures.result c.keep_signatures.new.error c.in_err-keep_signatures.field-0.0 c.from_residual-in_err-keep_signatures.ensures.1
+    not_kept c.in-Some.version c.args.layers all p.values (fields_seen c.fill_fields.new.header) (state c.fill_fields.new.input)
+    (state c.fill_counter_signatures.new.input) z c.fill_fields.new.pairs
+    (map signature_seen c.fill_counter_signatures.new.all.items) _ c.from_residual-in_err-keep_signatures.result c.keep_signatures.new.error
+    c.in_err-keep_signatures.field-0.0 c.from_residual-in_err-keep_signatures.ensures.1
     (next.fills all p.left p.values z p.walks p.within).0 c.in_default-fill_counter_signatures.ensures.fills c.in_err-keep_signatures.ensures.refused
 
 pub header::reading::fill_pairs-returns-clause-fills : goal.header::reading::fill_pairs-returns-clause-fills
 header::reading::fill_pairs-returns-clause-fills t c = λ all z within.
     let next = rw c.in_default.is at c.in_ok-version.ensures in
     let p = c.loop-version.invariant.fills all z within in
-    ends c.args.layers all z c.loop-version.header c.fill_fields.new.header (state c.loop-version.input) (state c.fill_fields.new.input) c.loop-version.pairs c.fill_fields.new.pairs p (next.fills all p.left p.values z p.walks p.within) next.one_iv next.others
+    ends c.args.layers all z c.loop-version.header c.fill_fields.new.header (state c.loop-version.input)
+    (state c.fill_fields.new.input) c.loop-version.pairs c.fill_fields.new.pairs p
+    (next.fills all p.left p.values z p.walks p.within) next.one_iv next.others
 
 pub signature::fill_signature-returns-clause-fills : goal.signature::fill_signature-returns-clause-fills
 signature::fill_signature-returns-clause-fills t c = λ v z stands.
     let here = c.in_ok-begin_items.ensures.enters v z stands in
-    let read = c.fill_places-filled.ensures.fills here.0 z here.2 in
-    (c.finish.ensures.passes read.0.0 z read.0.1, subst (λ w. Fills (layered_signature c.args.layers) w (signature_seen c.fill_places-filled.new.signed) (answer c.fill_places-filled.new.error c.fill_places-filled.result)) (sym (array-is v here.0 here.1)) read.1)
+    let read = c.fill_places-filled.ensures.fills here.0 z here.2 in (
+      c.finish.ensures.passes read.0.0 z read.0.1,
+      subst
+          (λ w. Fills (layered_signature c.args.layers) w (signature_seen c.fill_places-filled.new.signed)
+          (answer c.fill_places-filled.new.error c.fill_places-filled.result)) (sym (array-is v here.0 here.1)) read.1,
+    )
 
 pub signature::fill_places-returns-in_err-is_string-clause-fills : goal.signature::fill_places-returns-in_err-is_string-clause-fills
 signature::fill_places-returns-in_err-is_string-clause-fills t c = λ vs z within.
-    places_refused c.args.layers vs (state c.begin_places.new.input) z c.begin_places.new.members (option_map (λ b. b.items) c.begin_places.new.kept) c.begin_places.new.why _ c.from_residual.result c.begin_places.new.error c.in_err-is_string.field-0.0 c.from_residual.ensures.1 (c.in_err-is_string.ensures.begins vs z within)
+    places_refused c.args.layers vs (state c.begin_places.new.input) z c.begin_places.new.members
+    (option_map (λ b. b.items) c.begin_places.new.kept) c.begin_places.new.why _ c.from_residual.result c.begin_places.new.error
+    c.in_err-is_string.field-0.0 c.from_residual.ensures.1 (c.in_err-is_string.ensures.begins vs z within)
 
 pub signature::fill_places-returns-in_err-end_places-clause-fills : goal.signature::fill_places-returns-in_err-end_places-clause-fills
 signature::fill_places-returns-in_err-end_places-clause-fills t c = λ vs z within.
-    let s = second_read vs (state c.begin_places.new.input) (state c.fill_header-unprotected.new.input) z c.begin_places.new.members _ _ _ _ (c.in_ok-is_string.ensures.begins vs z within) c.fill_header-unprotected.ensures.fills in
-    last_refused c.args.layers vs (state c.fill_header-unprotected.new.input) (state c.end_places.new.input) z c.begin_places.new.members c.end_places.new.members _ _ _ _ c.end_places.new.signature.items _
-    c.from_residual-in_err-end_places.result c.end_places.new.error c.in_err-end_places.field-0.0 c.from_residual-in_err-end_places.ensures.1 s (c.in_err-end_places.ensures.ends s.others z s.within)
+    let s = second_read vs (state c.begin_places.new.input) (state c.fill_header-unprotected.new.input) z c.begin_places.new.members _ _ _ _
+    (c.in_ok-is_string.ensures.begins vs z within) c.fill_header-unprotected.ensures.fills in
+    last_refused c.args.layers vs (state c.fill_header-unprotected.new.input)
+    (state c.end_places.new.input) z c.begin_places.new.members c.end_places.new.members _ _ _ _ c.end_places.new.signature.items _
+    c.from_residual-in_err-end_places.result c.end_places.new.error c.in_err-end_places.field-0.0 c.from_residual-in_err-end_places.ensures.1 s
+    (c.in_err-end_places.ensures.ends s.others z s.within)
 
 pub signature::fill_places-returns-in_err-unprotected-clause-fills : goal.signature::fill_places-returns-in_err-unprotected-clause-fills
 signature::fill_places-returns-in_err-unprotected-clause-fills t c = λ vs z within.
     let e = c.fill_header-unprotected.new.error in
-    let s = second_read vs (state c.begin_places.new.input) (state c.fill_header-unprotected.new.input) z c.begin_places.new.members _ _ _ (λ v. UnlessMemory e ((layered_header c.args.layers).faults v))
+    let s = second_read vs (state c.begin_places.new.input) (state c.fill_header-unprotected.new.input) z c.begin_places.new.members _ _ _
+    (λ v. UnlessMemory e ((layered_header c.args.layers).faults v))
     (c.in_ok-is_string.ensures.begins vs z within) c.in_err-unprotected.ensures.fills in
-    unprotected_refused c.args.layers vs (state c.fill_header-unprotected.new.input) (state c.end_places.new.input) z c.begin_places.new.members c.end_places.new.members _ _ _ c.end_places.new.signature.items _
-    c.from_residual-in_err-unprotected.result e c.end_places.new.error c.in_err-unprotected.field-0.0 c.from_residual-in_err-unprotected.ensures.1 c.in_ok-end_places.ensures.kept s (c.in_ok-end_places.ensures.ends s.others z s.within)
+    unprotected_refused c.args.layers vs (state c.fill_header-unprotected.new.input)
+    (state c.end_places.new.input) z c.begin_places.new.members c.end_places.new.members _ _ _ c.end_places.new.signature.items _
+    c.from_residual-in_err-unprotected.result e c.end_places.new.error c.in_err-unprotected.field-0.0 c.from_residual-in_err-unprotected.ensures.1
+    c.in_ok-end_places.ensures.kept s (c.in_ok-end_places.ensures.ends s.others z s.within)
 
 pub signature::fill_places-returns-then-not-is_string-clause-fills : goal.signature::fill_places-returns-then-not-is_string-clause-fills
 signature::fill_places-returns-then-not-is_string-clause-fills t c = λ vs z within.
     let read = rw c.if-not-is_string.true at c.in_ok-is_string.ensures in
     let o = option_map (λ b. b.items) c.begin_places.new.kept in
     let P : Item → Type 0 = λ v. (layered_header c.args.layers).describes v (header_seen c.fill_header-unprotected.new.header) in
-    let s = second_read vs (state c.begin_places.new.input) (state c.fill_header-unprotected.new.input) z c.begin_places.new.members o c.begin_places.new.why false P (read.begins vs z within) c.in_ok-unprotected.ensures.fills in
-    protected_refused c.args.layers vs (state c.fill_header-unprotected.new.input) (state c.end_places.new.input) z c.begin_places.new.members c.end_places.new.members o c.begin_places.new.why P c.end_places.new.signature.items (signature_seen c.args.signed.now) s
+    let s = second_read vs (state c.begin_places.new.input)
+    (state c.fill_header-unprotected.new.input) z c.begin_places.new.members o c.begin_places.new.why false P
+    (read.begins vs z within) c.in_ok-unprotected.ensures.fills in
+    protected_refused c.args.layers vs (state c.fill_header-unprotected.new.input)
+    (state c.end_places.new.input) z c.begin_places.new.members c.end_places.new.members o c.begin_places.new.why P c.end_places.new.signature.items
+    (signature_seen c.args.signed.now) s
     (c.in_ok-end_places.ensures.ends s.others z s.within)
 
 pub signature::fill_places-returns-clause-fills : goal.signature::fill_places-returns-clause-fills
@@ -206,10 +248,18 @@ signature::fill_places-returns-clause-fills t c = λ vs z within.
     let p = protected_seen c.fill_protected.new.protected in
     let b = c.end_places.new.signature.items in
     let r = answer c.fill_protected.new.error c.fill_protected.result in
-    let seen = signature-made _ ∙ (ap (λ g. record { protected = p; unprotected = header_seen g.unprotected; signature = g.signature.items }) (out-roll-CoseSignature _) ∙ ap (λ g. record { protected = p; unprotected = header_seen g.unprotected; signature = b }) (out-roll-CoseSignature _)) in
+    let seen = signature-made _ ∙ (ap (λ g. record { protected = p; unprotected = header_seen g.unprotected; signature = g.signature.items })
+    (out-roll-CoseSignature _) ∙ ap (λ g. record { protected = p; unprotected = header_seen g.unprotected; signature = b }) (out-roll-CoseSignature _)) in
     let x : SignatureSeen = record { protected = p; unprotected = header_seen c.fill_header-unprotected.new.header; signature = b } in
-    let s = second_read vs (state c.begin_places.new.input) (state c.fill_header-unprotected.new.input) z c.begin_places.new.members o c.begin_places.new.why true (λ v. (layered_header c.args.layers).describes v x.unprotected)
+    let s = second_read vs (state c.begin_places.new.input)
+    (state c.fill_header-unprotected.new.input) z c.begin_places.new.members o c.begin_places.new.why true
+    (λ v. (layered_header c.args.layers).describes v x.unprotected)
     (read.begins vs z within) c.in_ok-unprotected.ensures.fills in
-    subst (λ y. ((left : Items) × AreWithin c.end_places.new.members left (state c.end_places.new.input) z) × Fills (layered_signature c.args.layers) (array vs) y r) (sym seen)
-    (places_filled c.args.layers vs (state c.fill_header-unprotected.new.input) (state c.end_places.new.input) z c.begin_places.new.members c.end_places.new.members o c.begin_places.new.why x r s
-    (c.in_ok-end_places.ensures.ends s.others z s.within) (λ d is. c.fill_protected.ensures d (ap (λ g. (protected_seen g.protected).original) (out-roll-CoseSignature _) ∙ (ap (λ g. (protected_seen g.protected).original) (out-roll-CoseSignature _) ∙ (ap (λ g. (protected_seen g.protected).original) (out-roll-CoseSignature _) ∙ (ap (λ g. g.original) (protected-made _) ∙ is))))))
+    subst (λ y. ((left : Items) × AreWithin c.end_places.new.members left (state c.end_places.new.input) z)
+    × Fills (layered_signature c.args.layers) (array vs) y r) (sym seen)
+    (places_filled c.args.layers vs (state c.fill_header-unprotected.new.input)
+    (state c.end_places.new.input) z c.begin_places.new.members c.end_places.new.members o c.begin_places.new.why x r s
+    (c.in_ok-end_places.ensures.ends s.others z s.within)
+    (λ d is. c.fill_protected.ensures d (ap (λ g. (protected_seen g.protected).original) (out-roll-CoseSignature _)
+    ∙ (ap (λ g. (protected_seen g.protected).original) (out-roll-CoseSignature _)
+    ∙ (ap (λ g. (protected_seen g.protected).original) (out-roll-CoseSignature _) ∙ (ap (λ g. g.original) (protected-made _) ∙ is))))))

@@ -57,7 +57,8 @@ abbrev pub invariant-signature::fill_each-loop-all : goal.invariant-signature::f
 invariant-signature::fill_each-loop-all l = record {
   shrinks : length_left (state l.input) ≤ length_left (state l.fn.input);
   size : items_size l.members (state l.input) ≤ items_size l.fn.members (state l.fn.input);
-  fills : (vs : Items) (z : State) → AreWithin l.fn.members vs (state l.fn.input) z → Filled SignatureSeen (layered_signature l.layers) vs z l.members (state l.input) (map signature_seen l.all.items);
+  fills : (vs : Items) (z : State) → AreWithin l.fn.members vs (state l.fn.input) z
+      → Filled SignatureSeen (layered_signature l.layers) vs z l.members (state l.input) (map signature_seen l.all.items);
 }
 
 abbrev pub decreases-signature::fill_each-loop-all : goal.decreases-signature::fill_each-loop-all

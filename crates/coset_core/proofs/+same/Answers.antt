@@ -16,7 +16,8 @@ abbrev first_test : Header → Header → Bool
 first_test a b = signatures_eq (signatures_of (map signature_seen (counter_signatures_held a))) (signatures_of (map signature_seen (counter_signatures_held b)))
 
 abbrev second_test : Header → Header → Bool
-second_test a b = signatures_eq (signatures_of (map countersignature_seen (countersignatures_held a))) (signatures_of (map countersignature_seen (countersignatures_held b)))
+second_test a b = signatures_eq (signatures_of (map countersignature_seen (countersignatures_held a)))
+    (signatures_of (map countersignature_seen (countersignatures_held b)))
 
 pub header::same_header-returns-then-same_signatures : goal.header::same_header-returns-then-same_signatures
 header::same_header-returns-then-same_signatures t c =

@@ -7,7 +7,8 @@ use Rattle.coset_codec.specs.Encoding.{AppendsItem, AppendsImage, Encodes}
 use Rattle.coset_codec.specs.Shape.{bstr}
 use Rattle.coset_codec.proofs.EncodingMaps.{optional-seen}
 use Rattle.coset_core.specs.Headers.{header_image, signatures_image, signatures_of, fields_in, counter_signatures_in, countersignatures_in}
-use Rattle.coset_core.specs.ViewLaws.{countersignature_level, countersignature-opened, header_level, header-opened, signature_level, signature-opened, protected-opened}
+use Rattle.coset_core.specs.ViewLaws.{countersignature_level, countersignature-opened, header_level, header-opened, signature_level, signature-opened}
+use Rattle.coset_core.specs.ViewLaws.{protected-opened}
 use Rattle.coset_core.specs.Views.{countersignature_seen, header_seen, protected_seen, signature_seen}
 use Rattle.coset_core.specs.Written.{AppendsSignatures, signature_array, count_pairs}
 use Rattle.coset_core.specs.declared.countersignature.CoseCountersignature.{out-CoseCountersignature}
@@ -15,20 +16,25 @@ use Rattle.coset_core.specs.declared.header.Header.{out-Header}
 use Rattle.coset_core.specs.declared.signature.CoseSignature.{out-CoseSignature}
 use Rattle.coset_core.proofs.Keeping.{protected_bytes-read, protected_bytes-fresh}
 use Rattle.coset_codec.proofs.EncodingMaps.{taken, around}
-use Rattle.coset_core.proofs.WritingHeaders.{field-seen, passes, unencoded, string-put, signature-put, counter_signatures-put, map-put, unwritten-rest, unwritten-counter_signatures, unwritten-countersignatures, signatures-push, signatures-none}
+use Rattle.coset_core.proofs.WritingHeaders.{field-seen, passes, unencoded, string-put, signature-put, counter_signatures-put, map-put, unwritten-rest}
+use Rattle.coset_core.proofs.WritingHeaders.{unwritten-counter_signatures, unwritten-countersignatures, signatures-push, signatures-none}
 use Rattle.coset_core.proofs.+write.Goals as goal
 
 pub header::writing::write_counter_signatures-returns-clause-ok : goal.header::writing::write_counter_signatures-returns-clause-ok
 header::writing::write_counter_signatures-returns-clause-ok t c =
     let ss = c.args.signatures.now in
-    counter_signatures-put CounterSignature (map signature_seen ss) _ _ _ _ _ (rw (length-map ss signature_seen) (search rules)) (sym (length-map ss signature_seen)) (omega arith)
-    c.in_ok-write_parameter.ensures c.in_ok-write_counter_signatures_head.ensures.one c.in_ok-write_counter_signatures_head.ensures.array c.in_ok-write_signatures.ensures.ok
+    counter_signatures-put CounterSignature (map signature_seen ss) _ _ _ _ _ (rw (length-map ss signature_seen) (search rules))
+    (sym (length-map ss signature_seen)) (omega arith)
+    c.in_ok-write_parameter.ensures c.in_ok-write_counter_signatures_head.ensures.one c.in_ok-write_counter_signatures_head.ensures.array
+    c.in_ok-write_signatures.ensures.ok
 
 pub header::writing::write_countersignatures-returns-clause-ok : goal.header::writing::write_countersignatures-returns-clause-ok
 header::writing::write_countersignatures-returns-clause-ok t c =
     let ss = c.args.signatures.now in
-    counter_signatures-put CounterSignatureV2 (map countersignature_seen ss) _ _ _ _ _ (rw (length-map ss countersignature_seen) (search rules)) (sym (length-map ss countersignature_seen)) (omega arith)
-    c.in_ok-write_parameter.ensures c.in_ok-write_counter_signatures_head.ensures.one c.in_ok-write_counter_signatures_head.ensures.array c.in_ok-write_each_countersignature.ensures.ok
+    counter_signatures-put CounterSignatureV2 (map countersignature_seen ss) _ _ _ _ _ (rw (length-map ss countersignature_seen) (search rules))
+    (sym (length-map ss countersignature_seen)) (omega arith)
+    c.in_ok-write_parameter.ensures c.in_ok-write_counter_signatures_head.ensures.one c.in_ok-write_counter_signatures_head.ensures.array
+    c.in_ok-write_each_countersignature.ensures.ok
 
 pub header::writing::write_header-returns-in_err-ask_distinct : goal.header::writing::write_header-returns-in_err-ask_distinct
 header::writing::write_header-returns-in_err-ask_distinct t c =
@@ -39,21 +45,26 @@ header::writing::write_header-returns-in_err-ask_distinct t c =
 pub header::writing::write_header-returns-in_err-write_counter_signatures : goal.header::writing::write_header-returns-in_err-write_counter_signatures
 header::writing::write_header-returns-in_err-write_counter_signatures t c =
     let x = header_level (out-Header c.args.header.now) in
-    unencoded c.from_residual-in_err-write_counter_signatures.result c.in_err-write_counter_signatures.field-0.0 _ (header_image (header_seen c.args.header.now)) _ _ c.from_residual-in_err-write_counter_signatures.ensures.1
-    (λ e. ap header_image (header-opened c.args.header.now) ∙ unwritten-counter_signatures x e) (rw c.deref-2.ensures.value at c.in_err-write_counter_signatures.ensures.refused)
+    unencoded c.from_residual-in_err-write_counter_signatures.result c.in_err-write_counter_signatures.field-0.0 _
+    (header_image (header_seen c.args.header.now)) _ _ c.from_residual-in_err-write_counter_signatures.ensures.1
+    (λ e. ap header_image (header-opened c.args.header.now) ∙ unwritten-counter_signatures x e)
+    (rw c.deref-2.ensures.value at c.in_err-write_counter_signatures.ensures.refused)
 
 pub header::writing::write_header-returns-in_err-write_countersignatures : goal.header::writing::write_header-returns-in_err-write_countersignatures
 header::writing::write_header-returns-in_err-write_countersignatures t c =
     let x = header_level (out-Header c.args.header.now) in
-    unencoded c.from_residual-in_err-write_countersignatures.result c.in_err-write_countersignatures.field-0.0 _ (header_image (header_seen c.args.header.now)) _ _ c.from_residual-in_err-write_countersignatures.ensures.1
-    (λ e. ap header_image (header-opened c.args.header.now) ∙ unwritten-countersignatures x e) (rw c.deref-3.ensures.value at c.in_err-write_countersignatures.ensures.refused)
+    unencoded c.from_residual-in_err-write_countersignatures.result c.in_err-write_countersignatures.field-0.0 _
+    (header_image (header_seen c.args.header.now)) _ _ c.from_residual-in_err-write_countersignatures.ensures.1
+    (λ e. ap header_image (header-opened c.args.header.now) ∙ unwritten-countersignatures x e)
+    (rw c.deref-3.ensures.value at c.in_err-write_countersignatures.ensures.refused)
 
 pub header::writing::write_header-returns : goal.header::writing::write_header-returns
 header::writing::write_header-returns t c =
     let x = out-Header c.args.header.now in
     let opened = header-opened c.args.header.now in
     let h = header_level x in
-    let abbreviated = field-seen _ _ ((search rules) ∙ c.to_i64-label.ensures) (optional-seen (λ b. b.items) bstr.image x.countersignature0_v2) c.in_ok-write_optional.ensures.ok in
+    let abbreviated = field-seen _ _ ((search rules) ∙ c.to_i64-label.ensures)
+    (optional-seen (λ b. b.items) bstr.image x.countersignature0_v2) c.in_ok-write_optional.ensures.ok in
     subst (λ h. Encodes (header_image h) c.args.out.now.items c.write_rest.new.out.items c.write_rest.result) (sym opened)
     (map-put (fields_in h) (counter_signatures_in h) (countersignatures_in h) x.rest.items _ _ _ _ _ _ _ c.write_rest.result refl
     (rw c.deref.ensures.value at c.in_ok-ask_distinct.ensures.ok)
@@ -68,9 +79,11 @@ header::writing::write_header-returns t c =
 pub signature::write_signature-returns : goal.signature::write_signature-returns
 signature::write_signature-returns t c =
     let opened = signature-opened c.args.signature.now in
-    let put : AppendsItem c.write_header.new.out.items c.write_bytes.new.out.items (bytes c.deref.result.now) = record { in_range = c.in_ok-write_bytes.ensures.in_range; parts = c.in_ok-write_bytes.ensures.ok } in
+    let put : AppendsItem c.write_header.new.out.items c.write_bytes.new.out.items (bytes c.deref.result.now) =
+    record { in_range = c.in_ok-write_bytes.ensures.in_range; parts = c.in_ok-write_bytes.ensures.ok } in
     subst (λ s. AppendsImage (signature_array s) c.args.out.now.items c.write_bytes.new.out.items) (sym opened)
-    (signature-put (signature_level (out-CoseSignature c.args.signature.now)) _ _ _ _ _ c.in_ok-write_array_head.ensures.ok c.in_ok-write_protected.ensures c.in_ok-write_header.ensures
+    (signature-put (signature_level (out-CoseSignature c.args.signature.now)) _ _ _ _ _ c.in_ok-write_array_head.ensures.ok c.in_ok-write_protected.ensures
+    c.in_ok-write_header.ensures
     (rw c.deref.ensures.value at put))
 
 pub signature::write_signatures-returns-in_err-write_signature-clause-refused : goal.signature::write_signatures-returns-in_err-write_signature-clause-refused
@@ -79,8 +92,10 @@ signature::write_signatures-returns-in_err-write_signature-clause-refused t c =
     let i = c.loop-signature.signature-index in
     let s = c.signature-item.result in
     let all = around signature_seen ss i s (omega arith) c.signature-item.is in
-    passes c.from_residual.result c.in_err-write_signature.field-0.0 (signature_array (signature_seen s) ≡ None) (signatures_image (signatures_of (map signature_seen ss)) ≡ None) c.from_residual.ensures.1
-    (λ e. ap (λ ss. signatures_image (signatures_of ss)) all ∙ signatures-none (map signature_seen (take i ss)) (map signature_seen (drop (i + 1) ss)) (signature_seen s) e) c.in_err-write_signature.ensures
+    passes c.from_residual.result c.in_err-write_signature.field-0.0 (signature_array (signature_seen s) ≡ None)
+    (signatures_image (signatures_of (map signature_seen ss)) ≡ None) c.from_residual.ensures.1
+    (λ e. ap (λ ss. signatures_image (signatures_of ss)) all
+    ∙ signatures-none (map signature_seen (take i ss)) (map signature_seen (drop (i + 1) ss)) (signature_seen s) e) c.in_err-write_signature.ensures
 
 pub signature::write_signatures-loop-signature-preserved : goal.signature::write_signatures-loop-signature-preserved
 signature::write_signatures-loop-signature-preserved t c =
@@ -95,7 +110,8 @@ protected::write_protected-returns-in-Some t c =
     let p = protected_seen c.args.protected.now in
     let b = c.in-Some.bytes.items in
     let read = ap (λ p. p.original) (protected-opened c.args.protected.now) ∙ ap (option_map (λ v. v.items)) c.in-Some.is in
-    let put : AppendsItem c.args.out.now.items c.write_bytes.new.out.items (bytes c.deref.result.now) = record { in_range = c.in_ok-write_bytes.ensures.in_range; parts = c.in_ok-write_bytes.ensures.ok } in
+    let put : AppendsItem c.args.out.now.items c.write_bytes.new.out.items (bytes c.deref.result.now) =
+    record { in_range = c.in_ok-write_bytes.ensures.in_range; parts = c.in_ok-write_bytes.ensures.ok } in
     string-put p b _ _ (protected_bytes-read p b read) (rw c.deref.ensures.value at put)
 
 pub protected::write_protected-returns : goal.protected::write_protected-returns
@@ -103,30 +119,39 @@ protected::write_protected-returns t c =
     let p = protected_seen c.args.protected.now in
     let opened = protected-opened c.args.protected.now in
     let unread = ap (λ p. p.original) opened ∙ ap (option_map (λ v. v.items)) c.in_default.is in
-    let put : AppendsItem c.args.out.now.items c.write_bytes-2.new.out.items (bytes c.deref-2.result.now) = record { in_range = c.in_ok-write_bytes-2.ensures.in_range; parts = c.in_ok-write_bytes-2.ensures.ok } in
-    string-put p c.in_ok-bytes.bytes.items _ _ (protected_bytes-fresh p _ unread (ap (λ p. p.header) opened) ∙ c.in_ok-bytes.ensures.ok) (rw c.deref-2.ensures.value at put)
+    let put : AppendsItem c.args.out.now.items c.write_bytes-2.new.out.items (bytes c.deref-2.result.now) =
+    record { in_range = c.in_ok-write_bytes-2.ensures.in_range; parts = c.in_ok-write_bytes-2.ensures.ok } in
+    string-put p c.in_ok-bytes.bytes.items _ _ (protected_bytes-fresh p _ unread (ap (λ p. p.header) opened) ∙ c.in_ok-bytes.ensures.ok)
+    (rw c.deref-2.ensures.value at put)
 
 pub countersignature::write_countersignature-returns : goal.countersignature::write_countersignature-returns
 countersignature::write_countersignature-returns t c =
     let opened = countersignature-opened c.args.signature.now in
-    let put : AppendsItem c.write_header.new.out.items c.write_bytes.new.out.items (bytes c.deref.result.now) = record { in_range = c.in_ok-write_bytes.ensures.in_range; parts = c.in_ok-write_bytes.ensures.ok } in
+    let put : AppendsItem c.write_header.new.out.items c.write_bytes.new.out.items (bytes c.deref.result.now) =
+    record { in_range = c.in_ok-write_bytes.ensures.in_range; parts = c.in_ok-write_bytes.ensures.ok } in
     subst (λ s. AppendsImage (signature_array s) c.args.out.now.items c.write_bytes.new.out.items) (sym opened)
-    (signature-put (countersignature_level (out-CoseCountersignature c.args.signature.now)) _ _ _ _ _ c.in_ok-write_array_head.ensures.ok c.in_ok-write_protected.ensures c.in_ok-write_header.ensures
+    (signature-put (countersignature_level (out-CoseCountersignature c.args.signature.now)) _ _ _ _ _ c.in_ok-write_array_head.ensures.ok
+    c.in_ok-write_protected.ensures c.in_ok-write_header.ensures
     (rw c.deref.ensures.value at put))
 
-pub countersignature::write_each_countersignature-returns-in_err-write_countersignature-clause-refused : goal.countersignature::write_each_countersignature-returns-in_err-write_countersignature-clause-refused
+pub countersignature::write_each_countersignature-returns-in_err-write_countersignature-clause-refused :
+    goal.countersignature::write_each_countersignature-returns-in_err-write_countersignature-clause-refused
 countersignature::write_each_countersignature-returns-in_err-write_countersignature-clause-refused t c =
     let ss = c.args.signatures.now in
     let i = c.loop-signature.signature-index in
     let s = c.signature-item.result in
     let all = around countersignature_seen ss i s (omega arith) c.signature-item.is in
-    passes c.from_residual.result c.in_err-write_countersignature.field-0.0 (signature_array (countersignature_seen s) ≡ None) (signatures_image (signatures_of (map countersignature_seen ss)) ≡ None) c.from_residual.ensures.1
-    (λ e. ap (λ ss. signatures_image (signatures_of ss)) all ∙ signatures-none (map countersignature_seen (take i ss)) (map countersignature_seen (drop (i + 1) ss)) (countersignature_seen s) e) c.in_err-write_countersignature.ensures
+    passes c.from_residual.result c.in_err-write_countersignature.field-0.0 (signature_array (countersignature_seen s) ≡ None)
+    (signatures_image (signatures_of (map countersignature_seen ss)) ≡ None) c.from_residual.ensures.1
+    (λ e. ap (λ ss. signatures_image (signatures_of ss)) all
+    ∙ signatures-none (map countersignature_seen (take i ss)) (map countersignature_seen (drop (i + 1) ss))
+    (countersignature_seen s) e) c.in_err-write_countersignature.ensures
 
 pub countersignature::write_each_countersignature-loop-signature-preserved : goal.countersignature::write_each_countersignature-loop-signature-preserved
 countersignature::write_each_countersignature-loop-signature-preserved t c =
     let ss = c.args.signatures.now in
     let i = c.loop-signature.signature-index in
     let s = c.signature-item.result in
-    subst (AppendsSignatures c.args.out.now.items c.write_countersignature.new.out.items) (sym (taken countersignature_seen ss i s (omega arith) c.signature-item.is))
+    subst (AppendsSignatures c.args.out.now.items c.write_countersignature.new.out.items)
+    (sym (taken countersignature_seen ss i s (omega arith) c.signature-item.is))
     (signatures-push (map countersignature_seen (take i ss)) (countersignature_seen s) _ _ _ c.loop-signature.invariant c.in_ok-write_countersignature.ensures)

@@ -40,7 +40,7 @@ fn write_parameter(parameter: HeaderParameter, out: &mut Vec<u8>) -> Result<(), 
 }
 
 /// Appends the head of the header's map.
-#[inline(never)]
+#[inline(always)]
 fn write_head(header: &Header, out: &mut Vec<u8>) -> Result<(), OutOfMemory>
     ensures ok { OnOk result (out.new.items
         ≡ out.old.items ++ least_head 5 (count_pairs (header_seen header.now))) }
@@ -78,7 +78,6 @@ fn write_critical(
 }
 
 /// Appends the pairs of the first six labels.
-#[inline(never)]
 fn write_fields(alloc: Global, header: &Header, out: &mut Vec<u8>) -> Result<()>
     ensures ok { OnOk result
         (AppendsFirst out.old.items out.new.items (fields_seen header.now)) }

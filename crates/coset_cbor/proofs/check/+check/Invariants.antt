@@ -66,4 +66,5 @@ abbrev pub invariant-pairs_until-loop : goal.invariant-pairs_until-loop
 invariant-pairs_until-loop g l =
     let one = pair_at (item_at l.depth) in
     let steps = pair_steps (item_at l.depth) (item_steps l.depth) in
-    InUntil one steps (left_of (until_at one (length l.bytes) l.bytes)) (l.initial.steps + until_steps one steps (length l.bytes) l.bytes) l.steps (l.end - l.counter) l.rest
+    InUntil one steps (left_of (until_at one (length l.bytes) l.bytes)) (l.initial.steps + until_steps one steps (length l.bytes) l.bytes) l.steps
+    (l.end - l.counter) l.rest

@@ -12,4 +12,5 @@ returns-in-Err-Fault c =
     no_encoding c.args.bytes.now c.in-Err-Fault.field-0-0 failed
 
 pub returns-else-not-is_empty : goal.returns-else-not-is_empty
-returns-else-not-is_empty c = encoding_read c.args.bytes.now c.in-Ok.rest.now _ (λ i. omega (arith, c.type_inv.bytes i)) c.in-Ok.ensures (eqb-true _ 0 (sym c.if-not-is_empty.ensures))
+returns-else-not-is_empty c = encoding_read c.args.bytes.now c.in-Ok.rest.now _ (λ i. omega (arith, c.type_inv.bytes i)) c.in-Ok.ensures
+    (eqb-true _ 0 (sym c.if-not-is_empty.ensures))

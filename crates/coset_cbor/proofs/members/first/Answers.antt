@@ -10,10 +10,12 @@ returns-then-is_empty c =
 
 pub invariant_of-result : goal.invariant_of-result
 invariant_of-result c = record {
-  checked = (jumped c.args.bytes.now c.in-Some.rest.now c.split_at.result.0.now c.split_at.result.1.now (λ i. omega (arith, c.type_inv.bytes i)) (c.requires (omega arith)) c.in-Some.ensures c.split_at.ensures.front c.split_at.ensures.back).one;
+  checked = (jumped c.args.bytes.now c.in-Some.rest.now c.split_at.result.0.now c.split_at.result.1.now (λ i. omega (arith, c.type_inv.bytes i))
+      (c.requires (omega arith)) c.in-Some.ensures c.split_at.ensures.front c.split_at.ensures.back).one;
 }
 
 pub returns-in-Some : goal.returns-in-Some
 returns-in-Some c =
-    let is = jumped c.args.bytes.now c.in-Some.rest.now c.split_at.result.0.now c.split_at.result.1.now (λ i. omega (arith, c.type_inv.bytes i)) (c.requires (omega arith)) c.in-Some.ensures c.split_at.ensures.front c.split_at.ensures.back in
+    let is = jumped c.args.bytes.now c.in-Some.rest.now c.split_at.result.0.now c.split_at.result.1.now (λ i. omega (arith, c.type_inv.bytes i))
+    (c.requires (omega arith)) c.in-Some.ensures c.split_at.ensures.front c.split_at.ensures.back in
     (is.parts, is.is_item)

@@ -29,13 +29,17 @@ abbrev pub decreases-map : goal.decreases-map
 decreases-map l = 4 * l.depth + 3
 
 abbrev pub invariant-items-loop : goal.invariant-items-loop
-invariant-items-loop l = with_front (map view l.found.items) (times_at (item_at l.depth) (l.count - l.counter) l.rest) ≡ times_at (item_at l.depth) l.count l.bytes
+invariant-items-loop l = with_front (map view l.found.items) (times_at (item_at l.depth) (l.count - l.counter) l.rest)
+    ≡ times_at (item_at l.depth) l.count l.bytes
 
 abbrev pub invariant-items_until-loop : goal.invariant-items_until-loop
-invariant-items_until-loop l = with_front (map view l.found.items) (until_at (item_at l.depth) (l.end - l.counter) l.rest) ≡ until_at (item_at l.depth) (length l.bytes) l.bytes
+invariant-items_until-loop l = with_front (map view l.found.items) (until_at (item_at l.depth) (l.end - l.counter) l.rest)
+    ≡ until_at (item_at l.depth) (length l.bytes) l.bytes
 
 abbrev pub invariant-pairs-loop : goal.invariant-pairs-loop
-invariant-pairs-loop l = with_front (map pair_view l.found.items) (times_at (pair_at (item_at l.depth)) (l.count - l.counter) l.rest) ≡ times_at (pair_at (item_at l.depth)) l.count l.bytes
+invariant-pairs-loop l = with_front (map pair_view l.found.items) (times_at (pair_at (item_at l.depth)) (l.count - l.counter) l.rest)
+    ≡ times_at (pair_at (item_at l.depth)) l.count l.bytes
 
 abbrev pub invariant-pairs_until-loop : goal.invariant-pairs_until-loop
-invariant-pairs_until-loop l = with_front (map pair_view l.found.items) (until_at (pair_at (item_at l.depth)) (l.end - l.counter) l.rest) ≡ until_at (pair_at (item_at l.depth)) (length l.bytes) l.bytes
+invariant-pairs_until-loop l = with_front (map pair_view l.found.items) (until_at (pair_at (item_at l.depth)) (l.end - l.counter) l.rest)
+    ≡ until_at (pair_at (item_at l.depth)) (length l.bytes) l.bytes

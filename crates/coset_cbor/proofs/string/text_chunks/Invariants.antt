@@ -6,4 +6,5 @@ use Rattle.coset_cbor.proofs.Loops.{with_front}
 use Rattle.coset_cbor.proofs.string.text_chunks.Given as goal
 
 abbrev pub invariant-loop : goal.invariant-loop
-invariant-loop l = (fronts : List (List ℕ)) × (joined_chunks fronts ≡ string_bytes l.joined) × (with_front fronts (until_at (chunk_at true) (l.end - l.counter) l.rest) ≡ until_at (chunk_at true) (length l.bytes) l.bytes)
+invariant-loop l = (fronts : List (List ℕ)) × (joined_chunks fronts ≡ string_bytes l.joined)
+    × (with_front fronts (until_at (chunk_at true) (l.end - l.counter) l.rest) ≡ until_at (chunk_at true) (length l.bytes) l.bytes)

@@ -2,33 +2,44 @@ use Rattle.std.proofs.Common.{◌≡◌, ◌<◌, ◌^◌, refl, ◌++◌, lengt
 use Rattle.coset_value.specs.Item.{array, dict, items_count, pairs_count}
 use Rattle.coset_cbor.specs.Least.{least_encoding, least_encodings, least_pair_encodings, least_head}
 use Rattle.coset_value.specs.View.{view, items_view, pairs_view}
-use Rattle.coset_cbor.proofs.Kept.{item_put, pair_put, item_in_range, pair_in_range, headed_put, items_count-items_view, pairs_count-pairs_view, view-Array, view-Map, view-Tag, in_range_of}
+use Rattle.coset_cbor.proofs.Kept.{item_put, pair_put, item_in_range, pair_in_range, headed_put, items_count-items_view, pairs_count-pairs_view, view-Array}
+use Rattle.coset_cbor.proofs.Kept.{view-Map, view-Tag, in_range_of}
 use Rattle.coset_cbor.proofs.write.+put.Goals as goal
 
 pub put-returns-in_ok-put_head-in-Array-clause-ok : goal.put-returns-in_ok-put_head-in-Array-clause-ok
 put-returns-in_ok-put_head-in-Array-clause-ok t c =
     let v = c.in-Array.items in
     let len : c.len.result ≡ length v.items = search rules in
-    headed_put c.put_items.result 4 c.len.result (items_count (items_view v.items)) (least_encodings (items_view v.items)) c.args.out.now.items c.put_head-in-Array.new.out.items c.put_items.new.out.items (least_encoding (view c.args.value.now))
-    (ap (λ x. least_encoding (view x)) c.in-Array.is ∙ ap least_encoding (view-Array v)) (len ∙ sym (items_count-items_view v.items)) c.in_ok-put_head-in-Array.ensures.ok c.put_items.ensures.ok
+    headed_put c.put_items.result 4 c.len.result (items_count (items_view v.items))
+    (least_encodings (items_view v.items)) c.args.out.now.items c.put_head-in-Array.new.out.items c.put_items.new.out.items
+    (least_encoding (view c.args.value.now))
+    (ap (λ x. least_encoding (view x)) c.in-Array.is ∙ ap least_encoding (view-Array v))
+    (len ∙ sym (items_count-items_view v.items)) c.in_ok-put_head-in-Array.ensures.ok c.put_items.ensures.ok
 
 pub put-returns-in_ok-put_head-in-Map-clause-ok : goal.put-returns-in_ok-put_head-in-Map-clause-ok
 put-returns-in_ok-put_head-in-Map-clause-ok t c =
     let v = c.in-Map.pairs in
     let len : c.len-in-Map.result ≡ length v.items = search rules in
-    headed_put c.put_pairs.result 5 c.len-in-Map.result (pairs_count (pairs_view v.items)) (least_pair_encodings (pairs_view v.items)) c.args.out.now.items c.put_head-in-Map.new.out.items c.put_pairs.new.out.items (least_encoding (view c.args.value.now))
-    (ap (λ x. least_encoding (view x)) c.in-Map.is ∙ ap least_encoding (view-Map v)) (len ∙ sym (pairs_count-pairs_view v.items)) c.in_ok-put_head-in-Map.ensures.ok c.put_pairs.ensures.ok
+    headed_put c.put_pairs.result 5 c.len-in-Map.result (pairs_count (pairs_view v.items))
+    (least_pair_encodings (pairs_view v.items)) c.args.out.now.items c.put_head-in-Map.new.out.items c.put_pairs.new.out.items
+    (least_encoding (view c.args.value.now))
+    (ap (λ x. least_encoding (view x)) c.in-Map.is ∙ ap least_encoding (view-Map v))
+    (len ∙ sym (pairs_count-pairs_view v.items)) c.in_ok-put_head-in-Map.ensures.ok c.put_pairs.ensures.ok
 
 pub put_items-loop-item-preserved : goal.put_items-loop-item-preserved
 put_items-loop-item-preserved t c = record {
-  written = item_put c.deref-item-items.result.now c.loop-item.item-index c.item-item.result c.args.out.now.items c.loop-item.out.items c.put.new.out.items (omega arith) c.item-item.is c.loop-item.invariant.written c.in_ok-put.ensures.ok;
-  in_range = item_in_range c.deref-item-items.result.now c.loop-item.item-index c.item-item.result (omega arith) c.item-item.is c.loop-item.invariant.in_range c.in_ok-put.ensures.in_range;
+  written = item_put c.deref-item-items.result.now c.loop-item.item-index c.item-item.result c.args.out.now.items c.loop-item.out.items c.put.new.out.items
+      (omega arith) c.item-item.is c.loop-item.invariant.written c.in_ok-put.ensures.ok;
+  in_range = item_in_range c.deref-item-items.result.now c.loop-item.item-index c.item-item.result
+      (omega arith) c.item-item.is c.loop-item.invariant.in_range c.in_ok-put.ensures.in_range;
 }
 
 pub put_pairs-loop-key-preserved : goal.put_pairs-loop-key-preserved
 put_pairs-loop-key-preserved t c = record {
-  written = pair_put c.deref-key-items.result.now c.loop-key.key-index c.loop-key-item.result c.args.out.now.items c.loop-key.out.items c.put.new.out.items c.put-in-loop-key.new.out.items (omega arith) c.loop-key-item.is c.loop-key.invariant.written c.in_ok-put.ensures.ok c.in_ok-put-2.ensures.ok;
-  in_range = pair_in_range c.deref-key-items.result.now c.loop-key.key-index c.loop-key-item.result (omega arith) c.loop-key-item.is c.loop-key.invariant.in_range c.in_ok-put.ensures.in_range c.in_ok-put-2.ensures.in_range;
+  written = pair_put c.deref-key-items.result.now c.loop-key.key-index c.loop-key-item.result c.args.out.now.items c.loop-key.out.items c.put.new.out.items
+      c.put-in-loop-key.new.out.items (omega arith) c.loop-key-item.is c.loop-key.invariant.written c.in_ok-put.ensures.ok c.in_ok-put-2.ensures.ok;
+  in_range = pair_in_range c.deref-key-items.result.now c.loop-key.key-index c.loop-key-item.result
+      (omega arith) c.loop-key-item.is c.loop-key.invariant.in_range c.in_ok-put.ensures.in_range c.in_ok-put-2.ensures.in_range;
 }
 
 pub put-returns-in_ok-put_head-in-Tag-clause-ok : goal.put-returns-in_ok-put_head-in-Tag-clause-ok
@@ -36,17 +47,21 @@ put-returns-in_ok-put_head-in-Tag-clause-ok t c =
     let n = c.in-Tag.number in
     let inner = least_encoding (view c.in-Tag.inside.value) in
     let same : view c.deref-in-Tag.result.now ≡ view c.in-Tag.inside.value = ap view c.deref-in-Tag.ensures in
-    headed_put c.put.result 6 n n (least_encoding (view c.deref-in-Tag.result.now)) c.args.out.now.items c.put_head.new.out.items c.put.new.out.items (least_encoding (view c.args.value.now))
-    (ap (λ x. least_encoding (view x)) c.in-Tag.is ∙ ap least_encoding (view-Tag n c.in-Tag.inside) ∙ ap (λ v. least_head 6 n ++ least_encoding v) (sym same)) refl c.in_ok-put_head-in-Tag.ensures.ok c.put.ensures.ok
+    headed_put c.put.result 6 n n (least_encoding (view c.deref-in-Tag.result.now)) c.args.out.now.items c.put_head.new.out.items c.put.new.out.items
+    (least_encoding (view c.args.value.now))
+    (ap (λ x. least_encoding (view x)) c.in-Tag.is ∙ ap least_encoding (view-Tag n c.in-Tag.inside)
+    ∙ ap (λ v. least_head 6 n ++ least_encoding v) (sym same)) refl c.in_ok-put_head-in-Tag.ensures.ok c.put.ensures.ok
 
 pub put-returns-in_ok-put_head-in-Array-clause-in_range : goal.put-returns-in_ok-put_head-in-Array-clause-in_range
 put-returns-in_ok-put_head-in-Array-clause-in_range t c =
     let v = c.in-Array.items in
     let len : length v.items < 2 ^ 64 = omega (arith, v.ok.0, v.ok.1, v.small) in
-    in_range_of c.put_items.result (view c.args.value.now) (array (items_view v.items)) (ap view c.in-Array.is ∙ view-Array v) (λ h. (omega (arith, items_count-items_view v.items), h)) c.put_items.ensures.in_range
+    in_range_of c.put_items.result (view c.args.value.now) (array (items_view v.items)) (ap view c.in-Array.is ∙ view-Array v)
+    (λ h. (omega (arith, items_count-items_view v.items), h)) c.put_items.ensures.in_range
 
 pub put-returns-in_ok-put_head-in-Map-clause-in_range : goal.put-returns-in_ok-put_head-in-Map-clause-in_range
 put-returns-in_ok-put_head-in-Map-clause-in_range t c =
     let v = c.in-Map.pairs in
     let len : length v.items < 2 ^ 64 = omega (arith, v.ok.0, v.ok.1, v.small) in
-    in_range_of c.put_pairs.result (view c.args.value.now) (dict (pairs_view v.items)) (ap view c.in-Map.is ∙ view-Map v) (λ h. (omega (arith, pairs_count-pairs_view v.items), h)) c.put_pairs.ensures.in_range
+    in_range_of c.put_pairs.result (view c.args.value.now) (dict (pairs_view v.items)) (ap view c.in-Map.is ∙ view-Map v)
+    (λ h. (omega (arith, pairs_count-pairs_view v.items), h)) c.put_pairs.ensures.in_range

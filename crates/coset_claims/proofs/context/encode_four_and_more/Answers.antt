@@ -9,4 +9,5 @@ returns g c =
     let more = rw c.deref.ensures.value at c.in_ok-write_byte_strings.ensures.ok in
     let count : suc (suc (suc (suc (length all)))) ≡ c.len.result + 4 = omega (arith, c.len.ensures) in
     array-put (c.len.result + 4) (omega arith) c.in_ok-write_array_head.ensures.ok
-    (as_many count (place-put c.in_ok-encode.ensures (place-put c.in_ok-encode-2.ensures (place-put c.in_ok-encode-3.ensures (place-put c.in_ok-encode-4.ensures more)))))
+    (as_many count (place-put c.in_ok-encode.ensures (place-put c.in_ok-encode-2.ensures
+    (place-put c.in_ok-encode-3.ensures (place-put c.in_ok-encode-4.ensures more)))))

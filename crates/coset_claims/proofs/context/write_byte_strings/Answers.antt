@@ -16,7 +16,8 @@ loop-bytes-preserved c =
     let x = c.bytes-item.result in
     let in_range = rw c.deref.ensures.value at c.in_ok-write_bytes.ensures.in_range in
     let parts = rw c.deref.ensures.value at c.in_ok-write_bytes.ensures.ok in
-    subst (λ xs. AppendsPlaces (images (λ b. bstr.image b.items) xs) (i + 1) c.args.out.now.items c.write_bytes.new.out.items) (sym (one_taken all i x (omega arith) c.bytes-item.is))
+    subst (λ xs. AppendsPlaces (images (λ b. bstr.image b.items) xs) (i + 1) c.args.out.now.items c.write_bytes.new.out.items)
+    (sym (one_taken all i x (omega arith) c.bytes-item.is))
     (member-put (λ b. bstr.image b.items) (take i all) x c.loop-bytes.invariant (bytes x.items, refl, record { in_range = in_range; parts = parts }))
 
 pub returns-clause-ok : goal.returns-clause-ok

@@ -21,5 +21,7 @@ returns-clause-answer g c =
     (λ it b. YieldsList-at b (YieldsList-from_map_by _ key (λ p. p.0) (YieldsList-from_slice pairs cc) c.map.ensures.closure (λ x r q k. search rules)))
     (λ xs e h. rw (h.0, c.in_ok-keys.ensures.items) e) in
     ap not
-    (are_distinct-sorted key ord.total g.K.PartialEq.eq ord.matches_eq g.K.PartialOrd.partial_cmp ord.matches_partial_cmp keys sorted (keys_of pairs) c.is_sorted_by.result read c.sort_unstable.ensures.permutation c.sort_unstable.ensures.sorted
-    (rw (← c.deref.ensures.value) (c.is_sorted_by.ensures.cases (λ x y. partial_lt g.K.PartialOrd.partial_cmp x.now y.now) (answers_always _ _ _ (λ f a r h k. search rules)))))
+    (are_distinct-sorted key ord.total g.K.PartialEq.eq ord.matches_eq g.K.PartialOrd.partial_cmp ord.matches_partial_cmp keys sorted
+    (keys_of pairs) c.is_sorted_by.result read c.sort_unstable.ensures.permutation c.sort_unstable.ensures.sorted
+    (rw (← c.deref.ensures.value) (c.is_sorted_by.ensures.cases (λ x y. partial_lt g.K.PartialOrd.partial_cmp x.now y.now)
+    (answers_always _ _ _ (λ f a r h k. search rules)))))

@@ -8,12 +8,15 @@ pub returns-in_err-pull-clause-whole : goal.returns-in_err-pull-clause-whole
 returns-in_err-pull-clause-whole c =
     let s = c.args.s.now in
     let e = c.in_err-pull.field-0.0 in
-    on_err pull_item s c.from_residual.result (λ f. f ≡ decode_failure e) c.from_residual.ensures.1 (λ f is. rw is (inl (byte_fault s e c.in_err-pull.ensures.memory c.in_err-pull.ensures.stands), no_whole s c.in_err-pull.ensures.refused))
+    on_err pull_item s c.from_residual.result (λ f. f ≡ decode_failure e) c.from_residual.ensures.1
+    (λ f is. rw is (inl (byte_fault s e c.in_err-pull.ensures.memory c.in_err-pull.ensures.stands), no_whole s c.in_err-pull.ensures.refused))
 
 pub returns-then-not-is_empty-clause-whole : goal.returns-then-not-is_empty-clause-whole
 returns-then-not-is_empty-clause-whole c =
-    λ _. extraneous c.one_item.ensures c.args.s.now (pull_bytes c.in_ok-pull.pull) c.in_ok-pull.rest.now (pull_item c.in_ok-pull.pull) (search rules) c.in_ok-pull.ensures.found.0 c.in_ok-pull.ensures.found.1
+    λ _. extraneous c.one_item.ensures c.args.s.now (pull_bytes c.in_ok-pull.pull) c.in_ok-pull.rest.now (pull_item c.in_ok-pull.pull)
+    (search rules) c.in_ok-pull.ensures.found.0 c.in_ok-pull.ensures.found.1
 
 pub returns-clause-whole : goal.returns-clause-whole
 returns-clause-whole c =
-    only_item c.one_item.ensures c.args.s.now (pull_bytes c.in_ok-pull.pull) c.in_ok-pull.rest.now (pull_item c.in_ok-pull.pull) (search rules) c.in_ok-pull.ensures.found.0 c.in_ok-pull.ensures.found.1
+    only_item c.one_item.ensures c.args.s.now (pull_bytes c.in_ok-pull.pull) c.in_ok-pull.rest.now (pull_item c.in_ok-pull.pull)
+    (search rules) c.in_ok-pull.ensures.found.0 c.in_ok-pull.ensures.found.1

@@ -14,7 +14,8 @@ returns-in_err-to_cbor_value-clause-refused g c =
       c.loop-x.yielded ++ c.in-Some.x ∷ [],
       c.next.new.self,
       c.into_iter-x-iterator.ensures.into_iter_gives,
-      yields-more g.C.IntoIter.Iterator.next_gives c.into_iter-x-iterator.result c.loop-x.x-iterator c.next.new.self c.loop-x.yielded c.in-Some.x c.loop-x.yielded_by c.in-Some.ensures.steps,
+      yields-more g.C.IntoIter.Iterator.next_gives c.into_iter-x-iterator.result c.loop-x.x-iterator c.next.new.self c.loop-x.yielded c.in-Some.x
+          c.loop-x.yielded_by c.in-Some.ensures.steps,
       record {
         before = c.loop-x.yielded;
         last = c.in-Some.x;

@@ -6,4 +6,5 @@ use Rattle.coset_core.proofs.countersignature.countersignatures_of.Given as goal
 -- those so far were moved
 abbrev pub invariant-loop-signed : goal.invariant-loop-signed
 invariant-loop-signed l =
-    (l.yielded ++ into_iter_items l.signed-iterator ≡ into_iter_items l.initial.signed-iterator) × (map countersignature_seen l.all.items ≡ map signature_seen l.yielded)
+    (l.yielded ++ into_iter_items l.signed-iterator ≡ into_iter_items l.initial.signed-iterator)
+    × (map countersignature_seen l.all.items ≡ map signature_seen l.yielded)

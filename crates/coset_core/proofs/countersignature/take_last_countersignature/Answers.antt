@@ -10,7 +10,8 @@ pub returns-clause-fewer : goal.returns-clause-fewer
 returns-clause-fewer c =
     let s = c.in_ok-protected.field-0 in
     let x = out-CoseCountersignature s in
-    let seen : within (countersignature_seen s) ≡ header_count (protected_seen x.protected).header + header_count (header_seen x.unprotected) = ap within (countersignature-opened s) in
+    let seen : within (countersignature_seen s) ≡ header_count (protected_seen x.protected).header + header_count (header_seen x.unprotected) =
+    ap within (countersignature-opened s) in
     let less = second_taken [] c.args.all.now.items c.pop.new.self.items s c.in_ok-protected.ensures.items in
     let held = c.held_by.ensures in
     omega (arith, seen, less, held)

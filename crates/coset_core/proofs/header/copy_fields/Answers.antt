@@ -12,4 +12,17 @@ returns-clause-copy c =
     let crit = list_copied critical_seen _ (λ x y same. same (λ a b e. e)) _ _ c.in_ok-copy-2.ensures.cases.0 in
     let content_type = registered_copied CoapContentFormat content_type_seen h.content_type c.in_ok-copy-3.field-0 c.in_ok-copy-3.ensures.cases in
     let rest = list_copied entry_seen _ (λ x y same. λ i. (same.0 i, same.1 i)) _ _ c.in_ok-copy-8.ensures.cases.0 in
-    simp (out-roll-Header, alg, crit, content_type, rest, c.in_ok-copy-4.ensures.items, c.in_ok-copy-5.ensures.items, c.in_ok-copy-6.ensures.items, c.in_ok-copy-7.ensures, c.deref.ensures.value, c.deref-2.ensures.value, c.deref-3.ensures.value)
+    simp (
+      out-roll-Header,
+      alg,
+      crit,
+      content_type,
+      rest,
+      c.in_ok-copy-4.ensures.items,
+      c.in_ok-copy-5.ensures.items,
+      c.in_ok-copy-6.ensures.items,
+      c.in_ok-copy-7.ensures,
+      c.deref.ensures.value,
+      c.deref-2.ensures.value,
+      c.deref-3.ensures.value,
+    )

@@ -11,14 +11,18 @@ use Rattle.coset_core.proofs.protected.fill_bstr.Goals as goal
 
 pub returns-in_err-bytes-clause-fills : goal.returns-in_err-bytes-clause-fills
 returns-in_err-bytes-clause-fills c = λ v z stands.
-    let here = c.in_err-bytes.ensures.reads v z stands in
-    (here.0, not_filled protected _ v c.from_residual.result c.string_bytes.new.error c.in_err-bytes.field-0.0 c.from_residual.ensures.1 (λ n. no_string 16 v c.string_bytes.new.error (here.1 n)))
+    let here = c.in_err-bytes.ensures.reads v z stands in (
+      here.0,
+      not_filled protected _ v c.from_residual.result c.string_bytes.new.error c.in_err-bytes.field-0.0 c.from_residual.ensures.1
+          (λ n. no_string 16 v c.string_bytes.new.error (here.1 n)),
+    )
 
 pub returns-clause-fills : goal.returns-clause-fills
 returns-clause-fills c = λ v z stands.
     let here = c.in_ok-bytes.ensures.reads v z stands in
     let b = c.in_ok-bytes.bytes.items in (
       here.0,
-      subst (λ w. Fills protected w (protected_seen c.fill_protected.new.protected) (answer c.fill_protected.new.error c.fill_protected.result)) (sym (bytes-is v b here.1))
+      subst (λ w. Fills protected w (protected_seen c.fill_protected.new.protected) (answer c.fill_protected.new.error c.fill_protected.result))
+          (sym (bytes-is v b here.1))
           (c.fill_protected.ensures b (ap (λ p. p.original) (protected-made _))),
     )

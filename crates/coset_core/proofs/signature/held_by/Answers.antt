@@ -11,7 +11,8 @@ returns c =
     let p = c.args.protected in
     let u = c.args.unprotected in
     let first : held_in c.into_signatures.result.0.items c.into_signatures.result.1.items ≡ header_count (protected_seen p).header =
-    ap (λ x. held_in x.0 x.1) c.into_signatures.ensures ∙ (sym (opened (out-ProtectedHeader p).header) ∙ sym (ap (λ q. header_count q.header) (protected-opened p))) in
+    ap (λ x. held_in x.0 x.1) c.into_signatures.ensures
+    ∙ (sym (opened (out-ProtectedHeader p).header) ∙ sym (ap (λ q. header_count q.header) (protected-opened p))) in
     let second : held_in c.into_signatures-2.result.0.items c.into_signatures-2.result.1.items ≡ header_count (header_seen u) =
     ap (λ x. held_in x.0 x.1) c.into_signatures-2.ensures ∙ sym (opened u) in
     omega (arith, first, second)

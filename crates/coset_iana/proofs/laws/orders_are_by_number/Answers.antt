@@ -65,46 +65,65 @@ use Rattle.coset_iana.specs.declared.claims.TheConstants.{CWT_CLAIM_NAMES}
 use Rattle.coset_iana.proofs.laws.orders_are_by_number.Goals as goal
 
 pub returns-clause-header_parameter : goal.returns-clause-header_parameter
-returns-clause-header_parameter c = int_cmp-same (derive.number header_parameter_type.the_type (map header_parameter.number HEADER_PARAMETERS)) header_parameter.number (elim [ header_parameter_variants.Reserved ↦ refl | _ ↦ refl ])
+returns-clause-header_parameter c = int_cmp-same (derive.number header_parameter_type.the_type
+    (map header_parameter.number HEADER_PARAMETERS)) header_parameter.number (elim [ header_parameter_variants.Reserved ↦ refl | _ ↦ refl ])
 
 pub returns-clause-header_algorithm_parameter : goal.returns-clause-header_algorithm_parameter
-returns-clause-header_algorithm_parameter c = int_cmp-same (derive.number header_algorithm_parameter_type.the_type (map header_algorithm_parameter.number HEADER_ALGORITHM_PARAMETERS)) header_algorithm_parameter.number (elim [ header_algorithm_parameter_variants.X5ChainSender ↦ refl | _ ↦ refl ])
+returns-clause-header_algorithm_parameter c = int_cmp-same
+    (derive.number header_algorithm_parameter_type.the_type
+    (map header_algorithm_parameter.number HEADER_ALGORITHM_PARAMETERS)) header_algorithm_parameter.number
+    (elim [ header_algorithm_parameter_variants.X5ChainSender ↦ refl | _ ↦ refl ])
 
 pub returns-clause-algorithm : goal.returns-clause-algorithm
-returns-clause-algorithm c = int_cmp-same (derive.number algorithm_type.the_type (map algorithm.number ALGORITHMS)) algorithm.number (elim [ algorithm_variants.RS1 ↦ refl | _ ↦ refl ])
+returns-clause-algorithm c = int_cmp-same (derive.number algorithm_type.the_type (map algorithm.number ALGORITHMS)) algorithm.number
+    (elim [ algorithm_variants.RS1 ↦ refl | _ ↦ refl ])
 
 pub returns-clause-key_parameter : goal.returns-clause-key_parameter
-returns-clause-key_parameter c = int_cmp-same (derive.number key_parameter_type.the_type (map key_parameter.number KEY_PARAMETERS)) key_parameter.number (elim [ key_parameter_variants.Reserved ↦ refl | _ ↦ refl ])
+returns-clause-key_parameter c = int_cmp-same (derive.number key_parameter_type.the_type (map key_parameter.number KEY_PARAMETERS)) key_parameter.number
+    (elim [ key_parameter_variants.Reserved ↦ refl | _ ↦ refl ])
 
 pub returns-clause-key_type : goal.returns-clause-key_type
-returns-clause-key_type c = int_cmp-same (derive.number key_type_type.the_type (map key_type.number KEY_TYPES)) key_type.number (elim [ key_type_variants.Reserved ↦ refl | _ ↦ refl ])
+returns-clause-key_type c = int_cmp-same (derive.number key_type_type.the_type (map key_type.number KEY_TYPES)) key_type.number
+    (elim [ key_type_variants.Reserved ↦ refl | _ ↦ refl ])
 
 pub returns-clause-elliptic_curve : goal.returns-clause-elliptic_curve
-returns-clause-elliptic_curve c = int_cmp-same (derive.number elliptic_curve_type.the_type (map elliptic_curve.number ELLIPTIC_CURVES)) elliptic_curve.number (elim [ elliptic_curve_variants.Reserved ↦ refl | _ ↦ refl ])
+returns-clause-elliptic_curve c = int_cmp-same (derive.number elliptic_curve_type.the_type (map elliptic_curve.number ELLIPTIC_CURVES)) elliptic_curve.number
+    (elim [ elliptic_curve_variants.Reserved ↦ refl | _ ↦ refl ])
 
 pub returns-clause-key_operation : goal.returns-clause-key_operation
-returns-clause-key_operation c = int_cmp-same (derive.number key_operation_type.the_type (map key_operation.number KEY_OPERATIONS)) key_operation.number (elim [ key_operation_variants.Sign ↦ refl | _ ↦ refl ])
+returns-clause-key_operation c = int_cmp-same (derive.number key_operation_type.the_type (map key_operation.number KEY_OPERATIONS)) key_operation.number
+    (elim [ key_operation_variants.Sign ↦ refl | _ ↦ refl ])
 
 pub returns-clause-okp_key_parameter : goal.returns-clause-okp_key_parameter
-returns-clause-okp_key_parameter c = int_cmp-same (derive.number okp_key_parameter_type.the_type (map okp_key_parameter.number (reverse OKP_KEY_PARAMETERS))) okp_key_parameter.number (elim [ okp_key_parameter_variants.Crv ↦ refl | _ ↦ refl ])
+returns-clause-okp_key_parameter c = int_cmp-same (derive.number okp_key_parameter_type.the_type
+    (map okp_key_parameter.number (reverse OKP_KEY_PARAMETERS))) okp_key_parameter.number (elim [ okp_key_parameter_variants.Crv ↦ refl | _ ↦ refl ])
 
 pub returns-clause-ec2_key_parameter : goal.returns-clause-ec2_key_parameter
-returns-clause-ec2_key_parameter c = int_cmp-same (derive.number ec2_key_parameter_type.the_type (map ec2_key_parameter.number (reverse EC2_KEY_PARAMETERS))) ec2_key_parameter.number (elim [ ec2_key_parameter_variants.Crv ↦ refl | _ ↦ refl ])
+returns-clause-ec2_key_parameter c = int_cmp-same (derive.number ec2_key_parameter_type.the_type
+    (map ec2_key_parameter.number (reverse EC2_KEY_PARAMETERS))) ec2_key_parameter.number (elim [ ec2_key_parameter_variants.Crv ↦ refl | _ ↦ refl ])
 
 pub returns-clause-rsa_key_parameter : goal.returns-clause-rsa_key_parameter
-returns-clause-rsa_key_parameter c = int_cmp-same (derive.number rsa_key_parameter_type.the_type (map rsa_key_parameter.number (reverse RSA_KEY_PARAMETERS))) rsa_key_parameter.number (elim [ rsa_key_parameter_variants.N ↦ refl | _ ↦ refl ])
+returns-clause-rsa_key_parameter c = int_cmp-same (derive.number rsa_key_parameter_type.the_type
+    (map rsa_key_parameter.number (reverse RSA_KEY_PARAMETERS))) rsa_key_parameter.number (elim [ rsa_key_parameter_variants.N ↦ refl | _ ↦ refl ])
 
 pub returns-clause-walnut_dsa_key_parameter : goal.returns-clause-walnut_dsa_key_parameter
-returns-clause-walnut_dsa_key_parameter c = int_cmp-same (derive.number walnut_dsa_key_parameter_type.the_type (map walnut_dsa_key_parameter.number (reverse WALNUT_DSA_KEY_PARAMETERS))) walnut_dsa_key_parameter.number (elim [ walnut_dsa_key_parameter_variants.N ↦ refl | _ ↦ refl ])
+returns-clause-walnut_dsa_key_parameter c = int_cmp-same
+    (derive.number walnut_dsa_key_parameter_type.the_type
+    (map walnut_dsa_key_parameter.number (reverse WALNUT_DSA_KEY_PARAMETERS))) walnut_dsa_key_parameter.number
+    (elim [ walnut_dsa_key_parameter_variants.N ↦ refl | _ ↦ refl ])
 
 pub returns-clause-akp_key_parameter : goal.returns-clause-akp_key_parameter
-returns-clause-akp_key_parameter c = int_cmp-same (derive.number akp_key_parameter_type.the_type (map akp_key_parameter.number (reverse AKP_KEY_PARAMETERS))) akp_key_parameter.number (elim [ akp_key_parameter_variants.Pub ↦ refl | _ ↦ refl ])
+returns-clause-akp_key_parameter c = int_cmp-same (derive.number akp_key_parameter_type.the_type
+    (map akp_key_parameter.number (reverse AKP_KEY_PARAMETERS))) akp_key_parameter.number (elim [ akp_key_parameter_variants.Pub ↦ refl | _ ↦ refl ])
 
 pub returns-clause-cbor_tag : goal.returns-clause-cbor_tag
-returns-clause-cbor_tag c = int_cmp-same (derive.number cbor_tag_type.the_type (map cbor_tag.number CBOR_TAGS)) cbor_tag.number (elim [ cbor_tag_variants.CoseEncrypt0 ↦ refl | _ ↦ refl ])
+returns-clause-cbor_tag c = int_cmp-same (derive.number cbor_tag_type.the_type (map cbor_tag.number CBOR_TAGS)) cbor_tag.number
+    (elim [ cbor_tag_variants.CoseEncrypt0 ↦ refl | _ ↦ refl ])
 
 pub returns-clause-coap_content_format : goal.returns-clause-coap_content_format
-returns-clause-coap_content_format c = int_cmp-same (derive.number coap_content_format_type.the_type (map coap_content_format.number COAP_CONTENT_FORMATS)) coap_content_format.number (elim [ coap_content_format_variants.TextPlainUtf8 ↦ refl | _ ↦ refl ])
+returns-clause-coap_content_format c = int_cmp-same (derive.number coap_content_format_type.the_type
+    (map coap_content_format.number COAP_CONTENT_FORMATS)) coap_content_format.number (elim [ coap_content_format_variants.TextPlainUtf8 ↦ refl | _ ↦ refl ])
 
 pub returns-clause-cwt_claim_name : goal.returns-clause-cwt_claim_name
-returns-clause-cwt_claim_name c = int_cmp-same (derive.number cwt_claim_name_type.the_type (map cwt_claim_name.number CWT_CLAIM_NAMES)) cwt_claim_name.number (elim [ cwt_claim_name_variants.GlobalPlatformComponents ↦ refl | _ ↦ refl ])
+returns-clause-cwt_claim_name c = int_cmp-same (derive.number cwt_claim_name_type.the_type (map cwt_claim_name.number CWT_CLAIM_NAMES)) cwt_claim_name.number
+    (elim [ cwt_claim_name_variants.GlobalPlatformComponents ↦ refl | _ ↦ refl ])

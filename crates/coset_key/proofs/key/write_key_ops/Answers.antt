@@ -9,7 +9,8 @@ use Rattle.coset_key.proofs.key.write_key_ops.Goals as goal
 
 pub returns-then-is_empty-clause-ok : goal.returns-then-is_empty-clause-ok
 returns-then-is_empty-clause-ok c =
-    left-out (pos 4) c.args.out.now.items _ _ (set-there operation_seen c.args.operations.now.keys c.is_empty.result c.is_empty.ensures.0 c.is_empty.ensures.1 ∙ ap not c.if-is_empty.true)
+    left-out (pos 4) c.args.out.now.items _ _ (set-there operation_seen c.args.operations.now.keys c.is_empty.result c.is_empty.ensures.0 c.is_empty.ensures.1
+    ∙ ap not c.if-is_empty.true)
 
 pub returns-clause-ok : goal.returns-clause-ok
 returns-clause-ok c =
@@ -17,7 +18,8 @@ returns-clause-ok c =
     let back : to_z w64 (of_z w64 c.to_i64.result) ≡ c.to_i64.result = search rules in
     let filled = set-there operation_seen c.args.operations.now.keys c.is_empty.result c.is_empty.ensures.0 c.is_empty.ensures.1 ∙ ap not c.if-is_empty.false in
     subst (λ o. OnOk c.write_field.result (AppendsField (pos 4) o c.args.out.now.items c.write_field.new.out.items)) (sym (key_ops_list ns filled))
-    (subst (λ (l : ℤ). OnOk c.write_field.result (AppendsField l (option_map Some ((list_of operation).image ns)) c.args.out.now.items c.write_field.new.out.items)) (back ∙ c.to_i64.ensures) c.write_field.ensures.ok)
+    (subst (λ (l : ℤ). OnOk c.write_field.result (AppendsField l
+    (option_map Some ((list_of operation).image ns)) c.args.out.now.items c.write_field.new.out.items)) (back ∙ c.to_i64.ensures) c.write_field.ensures.ok)
 
 pub returns-clause-memory : goal.returns-clause-memory
 returns-clause-memory c =

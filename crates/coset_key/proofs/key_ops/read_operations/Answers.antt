@@ -12,21 +12,30 @@ use Rattle.coset_key.proofs.key_ops.read_operations.Goals as goal
 pub loop-alloc-init : goal.loop-alloc-init
 loop-alloc-init c = record {
   shrinks = omega arith;
-  gathers = λ vs z within. record { left = vs; gathered = rw c.new-operations.ensures.empty (none_gathered name_cmp name_cmp_total names_exact operation vs); within = within };
+  gathers = λ vs z within. record {
+    left = vs;
+    gathered =
+        rw c.new-operations.ensures.empty (none_gathered name_cmp name_cmp_total names_exact operation vs);
+    within = within;
+  };
 }
 
 pub returns-in_err-read_operation-clause-reads : goal.returns-in_err-read_operation-clause-reads
 returns-in_err-read_operation-clause-reads c = λ vs z within.
     let w = c.loop-alloc.invariant.gathers vs z within in
-    is_refused name_cmp name_cmp_total names_exact operation operations_seen vs (state c.loop-alloc.input) (state c.next.new.input) (state c.read_operation.new.input) z c.loop-alloc.members c.next.new.self (map operation_seen c.loop-alloc.operations.keys)
-    c.in_err-read_operation.field-0.0 c.from_residual.result w (c.loop-alloc-test.ensures.nexts w.left z w.within) c.in_err-read_operation.ensures.reads c.from_residual.ensures.1
+    is_refused name_cmp name_cmp_total names_exact operation operations_seen vs (state c.loop-alloc.input) (state c.next.new.input)
+    (state c.read_operation.new.input) z c.loop-alloc.members c.next.new.self (map operation_seen c.loop-alloc.operations.keys)
+    c.in_err-read_operation.field-0.0 c.from_residual.result w
+    (c.loop-alloc-test.ensures.nexts w.left z w.within) c.in_err-read_operation.ensures.reads c.from_residual.ensures.1
 
 pub returns-then-not-branch-clause-reads : goal.returns-then-not-branch-clause-reads
 returns-then-not-branch-clause-reads c = λ vs z within.
     let w = c.loop-alloc.invariant.gathers vs z within in
-    stands_twice name_cmp name_cmp_total names_exact operation operations_seen vs (state c.loop-alloc.input) (state c.next.new.input) (state c.read_operation.new.input) z c.loop-alloc.members c.next.new.self (map operation_seen c.loop-alloc.operations.keys)
+    stands_twice name_cmp name_cmp_total names_exact operation operations_seen vs (state c.loop-alloc.input) (state c.next.new.input)
+    (state c.read_operation.new.input) z c.loop-alloc.members c.next.new.self (map operation_seen c.loop-alloc.operations.keys)
     (operation_seen c.in_ok-read_operation.field-0) _ w (c.loop-alloc-test.ensures.nexts w.left z w.within) c.in_ok-read_operation.ensures.reads
-    (sym (contains-seen operation_seen name_cmp c.loop-alloc.operations.keys c.in_ok-read_operation.field-0) ∙ not_false _ _ c.in_ok-insert.ensures.added c.if-not-branch.true) tt
+    (sym (contains-seen operation_seen name_cmp c.loop-alloc.operations.keys c.in_ok-read_operation.field-0)
+    ∙ not_false _ _ c.in_ok-insert.ensures.added c.if-not-branch.true) tt
 
 pub loop-alloc-preserved : goal.loop-alloc-preserved
 loop-alloc-preserved c = record {
@@ -37,13 +46,18 @@ loop-alloc-preserved c = record {
       omega (arith, read, next, before);
   gathers = λ vs z within.
       let w = c.loop-alloc.invariant.gathers vs z within in
-      subst (Midway name_cmp name_cmp_total names_exact operation vs z c.next.new.self (state c.read_operation.new.input)) (sym (ap (map operation_seen) c.in_ok-insert.ensures.keys ∙ insert-seen operation_seen name_cmp c.loop-alloc.operations.keys c.in_ok-read_operation.field-0))
-      (one_more name_cmp name_cmp_total names_exact operation vs (state c.loop-alloc.input) (state c.next.new.input) (state c.read_operation.new.input) z c.loop-alloc.members c.next.new.self (map operation_seen c.loop-alloc.operations.keys)
+      subst (Midway name_cmp name_cmp_total names_exact operation vs z c.next.new.self (state c.read_operation.new.input))
+      (sym (ap (map operation_seen) c.in_ok-insert.ensures.keys
+      ∙ insert-seen operation_seen name_cmp c.loop-alloc.operations.keys c.in_ok-read_operation.field-0))
+      (one_more name_cmp name_cmp_total names_exact operation vs (state c.loop-alloc.input) (state c.next.new.input)
+      (state c.read_operation.new.input) z c.loop-alloc.members c.next.new.self (map operation_seen c.loop-alloc.operations.keys)
       (operation_seen c.in_ok-read_operation.field-0) w (c.loop-alloc-test.ensures.nexts w.left z w.within) c.in_ok-read_operation.ensures.reads
-      (sym (contains-seen operation_seen name_cmp c.loop-alloc.operations.keys c.in_ok-read_operation.field-0) ∙ not_true _ _ c.in_ok-insert.ensures.added c.if-not-branch.false));
+      (sym (contains-seen operation_seen name_cmp c.loop-alloc.operations.keys c.in_ok-read_operation.field-0)
+      ∙ not_true _ _ c.in_ok-insert.ensures.added c.if-not-branch.false));
 }
 
 pub returns-clause-reads : goal.returns-clause-reads
 returns-clause-reads c = λ vs z within.
     let w = c.loop-alloc.invariant.gathers vs z within in
-    all_gathered name_cmp name_cmp_total names_exact operation operations_seen vs (state c.loop-alloc.input) (state c.next.new.input) z c.loop-alloc.members c.next.new.self c.loop-alloc.operations w (c.loop-alloc-test.ensures.nexts w.left z w.within)
+    all_gathered name_cmp name_cmp_total names_exact operation operations_seen vs (state c.loop-alloc.input)
+    (state c.next.new.input) z c.loop-alloc.members c.next.new.self c.loop-alloc.operations w (c.loop-alloc-test.ensures.nexts w.left z w.within)

@@ -11,7 +11,8 @@ use Rattle.coset_key.proofs.key_ops.read_operations.Given as goal
 abbrev pub invariant-loop-alloc : goal.invariant-loop-alloc
 invariant-loop-alloc l = record {
   shrinks : length_left (state l.input) ≤ length_left (state l.fn.input);
-  gathers : (vs : Items) (z : State) → AreWithin l.fn.members vs (state l.fn.input) z → Midway name_cmp name_cmp_total names_exact operation vs z l.members (state l.input) (map operation_seen l.operations.keys);
+  gathers : (vs : Items) (z : State) → AreWithin l.fn.members vs (state l.fn.input) z
+      → Midway name_cmp name_cmp_total names_exact operation vs z l.members (state l.input) (map operation_seen l.operations.keys);
 }
 
 abbrev pub decreases-loop-alloc : goal.decreases-loop-alloc

@@ -8,4 +8,8 @@ use Rattle.coset_label.proofs.laws.orders_are_of_encodings.Goals as goal
 pub returns : goal.returns
 returns c =
     let one = c.least_heads_are_shortest.ensures in
-    record { bytes = by-encodings one (slice_cmp nat_cmp) name_cmp names-compare; lengths = by-encodings one length_first_cmp canonical_cmp names-compare-canonical }
+    record {
+      bytes = by-encodings one (slice_cmp nat_cmp) name_cmp names-compare;
+      lengths =
+          by-encodings one length_first_cmp canonical_cmp names-compare-canonical;
+    }

@@ -15,6 +15,12 @@ returns-in-Some-from_i64-clause-reads g c = λ v z stands.
       taken.1,
       (
         is-told number value_of is back v c.in-Some.number held,
-        ((is-number number value_of is back v c.in-Some.number _ x held e c.in-Some-from_i64.ensures, is-fit number value_of is back c.in-Some.number _ x e c.in-Some-from_i64.ensures c.in_ok-try_from-in-Some.ensures.0), is-there number value_of is back x),
+        (
+          (
+            is-number number value_of is back v c.in-Some.number _ x held e c.in-Some-from_i64.ensures,
+            is-fit number value_of is back c.in-Some.number _ x e c.in-Some-from_i64.ensures c.in_ok-try_from-in-Some.ensures.0,
+          ),
+          is-there number value_of is back x,
+        ),
       ),
     )

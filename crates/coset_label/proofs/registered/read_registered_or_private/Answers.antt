@@ -16,6 +16,12 @@ returns-in-Some-from_i64-clause-reads g c = λ v z stands.
       taken.1,
       (
         is-told number value_of is back v c.in-Some.number held,
-        (is-held number value_of is back v x there, (there, is-fit number value_of is back c.in-Some.number _ x e c.in-Some-from_i64.ensures c.in_ok-number.ensures.0)),
+        (
+          is-held number value_of is back v x there,
+          (
+            there,
+            is-fit number value_of is back c.in-Some.number _ x e c.in-Some-from_i64.ensures c.in_ok-number.ensures.0,
+          ),
+        ),
       ),
     )

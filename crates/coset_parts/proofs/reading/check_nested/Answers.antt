@@ -1,4 +1,5 @@
-use Rattle.std.proofs.Common.{◌≡◌, ℕ, ◌+◌, ◌≤◌, List, [], ◌∷◌, ◌++◌, replicate, length, take, drop, Result, Ok, Err, sym, ap, subst, ◌∙◌, arith, append-nil, take-append-drop}
+use Rattle.std.proofs.Common.{◌≡◌, ℕ, ◌+◌, ◌≤◌, List, [], ◌∷◌, ◌++◌, replicate, length, take, drop, Result, Ok, Err, sym, ap, subst, ◌∙◌, arith, append-nil}
+use Rattle.std.proofs.Common.{take-append-drop}
 use Rattle.std.specs.Prelude.{IfOk, IfErr}
 use Rattle.std.proofs.lemmas.List.{length-take, length-append, length-replicate}
 use Rattle.coset.specs.Item.{Item}
@@ -28,7 +29,8 @@ counted one_item costs (Ok m) s old new n whole is fits found refused =
     let cut : length (take m s) ≡ n + 1 = ap length same ∙ size in
     let m_is : m ≡ n + 1 = omega (arith, cut, long, length-take m s) in
     (ap Ok m_is, found.4 ∙ ap (λ (x : ℕ). old + x) k)
-counted one_item costs (Err e) s old new n whole is fits found refused = absurd (refused whole.0 (replicate n 0x81 ++ 0x80 ∷ []) [] (is ∙ sym (append-nil _)) whole.1)
+counted one_item costs (Err e) s old new n whole is fits found refused =
+    absurd (refused whole.0 (replicate n 0x81 ++ 0x80 ∷ []) [] (is ∙ sym (append-nil _)) whole.1)
 
 pub returns : goal.returns
 returns g c = λ n lt is. counted c.one_item.ensures c.nested_arrays_cost.ensures.cost c.check.result c.args.bytes.now c.args.steps.now c.check.new.steps n

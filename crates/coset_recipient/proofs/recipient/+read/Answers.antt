@@ -31,17 +31,21 @@ fill_each-loop-all-preserved t c =
           omega (arith, behind, one, before);
       fills = λ vs z within.
           let p = c.loop-all.invariant.fills vs z within in
-          one_filled_more recipient vs (state c.loop-all.input) (state c.next_place.new.input) (state c.fill_recipient.new.input) z c.loop-all.members c.next_place.new.members (map recipient_seen c.loop-all.all.items) _
+          one_filled_more recipient vs (state c.loop-all.input) (state c.next_place.new.input)
+          (state c.fill_recipient.new.input) z c.loop-all.members c.next_place.new.members (map recipient_seen c.loop-all.all.items) _
           (recipient_seen c.fill_recipient.new.recipient) p (next.next p.others z p.within) c.in_ok-fill_recipient.ensures.fills
-          (last_filled recipient_seen c.loop-all.all.items c.next_place.new.all.items c.len-last.result next.place.0 c.fill_recipient.new.recipient (search rules) next.place.1);
+          (last_filled recipient_seen c.loop-all.all.items c.next_place.new.all.items c.len-last.result next.place.0 c.fill_recipient.new.recipient
+          (search rules) next.place.1);
     }
 
 pub fill_each-returns-in_err-fill_recipient-clause-fills : goal.fill_each-returns-in_err-fill_recipient-clause-fills
 fill_each-returns-in_err-fill_recipient-clause-fills t c = λ vs z within.
     let next = rw c.if-branch.true at c.in_ok-next_place.ensures in
     let p = c.loop-all.invariant.fills vs z within in
-    one_refused_more recipient vs (state c.loop-all.input) (state c.next_place.new.input) (state c.fill_recipient.new.input) z c.loop-all.members c.next_place.new.members (map recipient_seen c.loop-all.all.items) _
-    (recipient_seen c.fill_recipient.new.recipient) c.from_residual-in_err-fill_recipient.result c.fill_recipient.new.error c.in_err-fill_recipient.field-0.0 c.from_residual-in_err-fill_recipient.ensures.1 p (next.next p.others z p.within)
+    one_refused_more recipient vs (state c.loop-all.input) (state c.next_place.new.input)
+    (state c.fill_recipient.new.input) z c.loop-all.members c.next_place.new.members (map recipient_seen c.loop-all.all.items) _
+    (recipient_seen c.fill_recipient.new.recipient) c.from_residual-in_err-fill_recipient.result c.fill_recipient.new.error c.in_err-fill_recipient.field-0.0
+    c.from_residual-in_err-fill_recipient.ensures.1 p (next.next p.others z p.within)
     c.in_err-fill_recipient.ensures.fills
 
 pub fill_each-returns-clause-fills : goal.fill_each-returns-clause-fills
@@ -50,7 +54,8 @@ fill_each-returns-clause-fills t c = λ vs z within.
     let p = c.loop-all.invariant.fills vs z within in
     let none = next.next p.others z p.within in (
       (_, none.1),
-      subst (λ xs. Each recipient.describes vs (map recipient_seen xs)) (sym next.place) (all_read recipient vs p.others (map recipient_seen c.loop-all.all.items) p.continues none.0),
+      subst (λ xs. Each recipient.describes vs (map recipient_seen xs)) (sym next.place)
+          (all_read recipient vs p.others (map recipient_seen c.loop-all.all.items) p.continues none.0),
     )
 
 pub fill_places-returns-in_err-first-clause-fills : goal.fill_places-returns-in_err-first-clause-fills
@@ -58,22 +63,31 @@ fill_places-returns-in_err-first-clause-fills t c = λ vs z within.
     let p = protected_seen c.begin_places.new.protected in
     let u = header_seen c.begin_places.new.unprotected in
     let o = option_map (λ b. b.items) c.begin_places.new.ciphertext in
-    let begins = subst (BeginsThree vs p u o (state c.begin_places.new.input) z c.begin_places.new.members) (sym c.keep_error.ensures.answers ∙ ap (answer c.keep_error.new.error) c.in_err-first.was) (c.begin_places.ensures.begins vs z within) in
-    few_refused vs p u o (state c.begin_places.new.input) z c.begin_places.new.members _ c.from_residual.result c.keep_error.new.error c.in_err-first.field-0.0 c.from_residual.ensures.1 begins
+    let begins = subst (BeginsThree vs p u o (state c.begin_places.new.input) z c.begin_places.new.members)
+    (sym c.keep_error.ensures.answers ∙ ap (answer c.keep_error.new.error) c.in_err-first.was) (c.begin_places.ensures.begins vs z within) in
+    few_refused vs p u o (state c.begin_places.new.input) z c.begin_places.new.members _ c.from_residual.result c.keep_error.new.error c.in_err-first.field-0.0
+    c.from_residual.ensures.1 begins
 
 pub fill_places-fill_last-requires : goal.fill_places-fill_last-requires
 fill_places-fill_last-requires t c =
-    let size = c.begin_places.ensures.size in
-    (omega (arith, size, c.decreases), ap (λ g. map recipient_seen g.recipients.items) (out-roll-CoseRecipient _) ∙ none_inside c.args.recipient.now c.requires.empty)
+    let size = c.begin_places.ensures.size in (
+      omega (arith, size, c.decreases),
+      ap (λ g. map recipient_seen g.recipients.items) (out-roll-CoseRecipient _)
+          ∙ none_inside c.args.recipient.now c.requires.empty,
+    )
 
 pub fill_places-returns-in_err-fill_last-clause-fills : goal.fill_places-returns-in_err-fill_last-clause-fills
 fill_places-returns-in_err-fill_last-clause-fills t c = λ vs z within.
     let p = protected_seen c.begin_places.new.protected in
     let u = header_seen c.begin_places.new.unprotected in
     let o = option_map (λ b. b.items) c.begin_places.new.ciphertext in
-    let begins = subst (BeginsThree vs p u o (state c.begin_places.new.input) z c.begin_places.new.members) (sym c.keep_error.ensures.answers ∙ ap (answer c.keep_error.new.error) c.in_ok-first.was) (c.begin_places.ensures.begins vs z within) in
-    last_refused vs p u o (state c.begin_places.new.input) (state c.fill_last.new.input) z c.begin_places.new.members c.fill_last.new.members c.in_ok-first.first _ (map recipient_seen c.fill_last.new.all.items) c.from_residual-in_err-fill_last.result
-    c.fill_last.new.error c.in_err-fill_last.field-0.0 c.from_residual-in_err-fill_last.ensures.1 begins (λ others inside. c.in_err-fill_last.ensures.fills others z inside)
+    let begins = subst (BeginsThree vs p u o (state c.begin_places.new.input) z c.begin_places.new.members)
+    (sym c.keep_error.ensures.answers ∙ ap (answer c.keep_error.new.error) c.in_ok-first.was) (c.begin_places.ensures.begins vs z within) in
+    last_refused vs p u o (state c.begin_places.new.input)
+    (state c.fill_last.new.input) z c.begin_places.new.members c.fill_last.new.members c.in_ok-first.first _
+    (map recipient_seen c.fill_last.new.all.items) c.from_residual-in_err-fill_last.result
+    c.fill_last.new.error c.in_err-fill_last.field-0.0 c.from_residual-in_err-fill_last.ensures.1 begins
+    (λ others inside. c.in_err-fill_last.ensures.fills others z inside)
 
 pub fill_places-returns-clause-fills : goal.fill_places-returns-clause-fills
 fill_places-returns-clause-fills t c = λ vs z within.
@@ -83,12 +97,26 @@ fill_places-returns-clause-fills t c = λ vs z within.
     let rs = map recipient_seen c.fill_last.new.all.items in
     let first = c.in_ok-first.first in
     let x : RecipientSeen = record { protected = p; unprotected = u; ciphertext = o; recipients = recipients_of rs } in
-    let begins = subst (BeginsThree vs p u o (state c.begin_places.new.input) z c.begin_places.new.members) (sym c.keep_error.ensures.answers ∙ ap (answer c.keep_error.new.error) c.in_ok-first.was) (c.begin_places.ensures.begins vs z within) in
-    let seen = recipient-rolled _ ∙ ap (λ g. record { protected = protected_seen g.protected; unprotected = header_seen g.unprotected; ciphertext = option_map (λ b. b.items) g.ciphertext; recipients = recipients_of rs }) (out-roll-CoseRecipient _) in
-    let read = places_filled vs (state c.begin_places.new.input) (state c.fill_last.new.input) z c.begin_places.new.members c.fill_last.new.members x rs first begins (λ others inside. c.in_ok-fill_last.ensures.fills others z inside) refl in
-    (read.0, subst (λ y. Fills recipient (array vs) y (answer c.keep_error-2.new.error c.keep_error-2.result)) (sym seen) (subst (Fills recipient (array vs) x) (sym c.keep_error-2.ensures.answers) read.1))
+    let begins = subst (BeginsThree vs p u o (state c.begin_places.new.input) z c.begin_places.new.members)
+    (sym c.keep_error.ensures.answers ∙ ap (answer c.keep_error.new.error) c.in_ok-first.was) (c.begin_places.ensures.begins vs z within) in
+    let seen = recipient-rolled _ ∙ ap (λ g. record {
+      protected = protected_seen g.protected;
+      unprotected = header_seen g.unprotected;
+      ciphertext =
+          option_map (λ b. b.items) g.ciphertext;
+      recipients = recipients_of rs;
+    }) (out-roll-CoseRecipient _) in
+    let read = places_filled vs (state c.begin_places.new.input)
+    (state c.fill_last.new.input) z c.begin_places.new.members c.fill_last.new.members x rs first begins
+    (λ others inside. c.in_ok-fill_last.ensures.fills others z inside) refl in (
+      read.0,
+      subst (λ y. Fills recipient (array vs) y (answer c.keep_error-2.new.error c.keep_error-2.result)) (sym seen)
+          (subst (Fills recipient (array vs) x) (sym c.keep_error-2.ensures.answers) read.1),
+    )
 
 pub fill_recipient-returns-in_err-members-clause-fills : goal.fill_recipient-returns-in_err-members-clause-fills
 fill_recipient-returns-in_err-members-clause-fills t c = λ v z stands.
-    not_entered (codes "array") v (state c.enter_array.new.self) z (recipient_seen c.args.recipient.now) c.enter_array.result c.keep_error.result c.keep_error.new.error c.in_err-members.field-0.0 c.from_residual.result c.from_residual.ensures.1
+    not_entered (codes "array") v (state c.enter_array.new.self) z
+    (recipient_seen c.args.recipient.now) c.enter_array.result c.keep_error.result c.keep_error.new.error c.in_err-members.field-0.0 c.from_residual.result
+    c.from_residual.ensures.1
     c.keep_error.ensures.answers c.in_err-members.was (c.enter_array.ensures.enters v z stands)

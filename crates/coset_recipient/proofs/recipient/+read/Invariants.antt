@@ -26,7 +26,8 @@ abbrev pub invariant-fill_each-loop-all : goal.invariant-fill_each-loop-all
 invariant-fill_each-loop-all l = record {
   shrinks : length_left (state l.input) ≤ length_left (state l.fn.input);
   size : items_size l.members (state l.input) ≤ items_size l.fn.members (state l.fn.input);
-  fills : (vs : Items) (z : State) → AreWithin l.fn.members vs (state l.fn.input) z → Filled RecipientSeen recipient vs z l.members (state l.input) (map recipient_seen l.all.items);
+  fills : (vs : Items) (z : State) → AreWithin l.fn.members vs (state l.fn.input) z
+      → Filled RecipientSeen recipient vs z l.members (state l.input) (map recipient_seen l.all.items);
 }
 
 abbrev pub decreases-fill_each-loop-all : goal.decreases-fill_each-loop-all

@@ -17,8 +17,10 @@ pub write_each-loop-recipient-preserved : goal.write_each-loop-recipient-preserv
 write_each-loop-recipient-preserved t c =
     let all = c.args.all.now in
     let i = c.loop-recipient.recipient-index in
-    subst (λ xs. AppendsPlaces (images recipient_image xs) (i + 1) c.args.out.now.items c.write_recipient.new.out.items) (sym (taken recipient_seen all i c.recipient-item.result (omega arith) c.recipient-item.is))
-    (member-put recipient_image (map recipient_seen (take i all)) (recipient_seen c.recipient-item.result) c.loop-recipient.invariant c.in_ok-write_recipient.ensures)
+    subst (λ xs. AppendsPlaces (images recipient_image xs) (i + 1) c.args.out.now.items c.write_recipient.new.out.items)
+    (sym (taken recipient_seen all i c.recipient-item.result (omega arith) c.recipient-item.is))
+    (member-put recipient_image (map recipient_seen (take i all))
+    (recipient_seen c.recipient-item.result) c.loop-recipient.invariant c.in_ok-write_recipient.ensures)
 
 pub write_each-returns-in_err-write_recipient-clause-refused : goal.write_each-returns-in_err-write_recipient-clause-refused
 write_each-returns-in_err-write_recipient-clause-refused t c =
@@ -27,20 +29,25 @@ write_each-returns-in_err-write_recipient-clause-refused t c =
     let x = c.recipient-item.result in
     on_err c.from_residual.result c.in_err-write_recipient.field-0.0 (HasNoImage (images recipient_image (map recipient_seen all))) c.from_residual.ensures.1
     (λ m.
-    let none = c.in_err-write_recipient.ensures m in
-    (none.0, ap (images recipient_image) (around recipient_seen all i x (omega arith) c.recipient-item.is) ∙ images-missing recipient_image (map recipient_seen (take i all)) (map recipient_seen (drop (i + 1) all)) (recipient_seen x) none.1))
+    let none = c.in_err-write_recipient.ensures m in (
+      none.0,
+      ap (images recipient_image) (around recipient_seen all i x (omega arith) c.recipient-item.is)
+          ∙ images-missing recipient_image (map recipient_seen (take i all)) (map recipient_seen (drop (i + 1) all)) (recipient_seen x) none.1,
+    ))
 
 pub write_each-returns-clause-ok : goal.write_each-returns-clause-ok
 write_each-returns-clause-ok t c =
     let all = c.args.all.now in
     let ends : c.loop-recipient.recipient-index ≡ length all = omega (arith, c.loop-recipient-test.false, c.loop-recipient.auto.recipient-index-end) in
     subst (λ xs. AppendsPlaces (images recipient_image (map recipient_seen xs)) (length all) c.args.out.now.items c.loop-recipient.out.items) (take-length all)
-    (subst (λ k. AppendsPlaces (images recipient_image (map recipient_seen (take k all))) k c.args.out.now.items c.loop-recipient.out.items) ends c.loop-recipient.invariant)
+    (subst (λ k. AppendsPlaces (images recipient_image
+    (map recipient_seen (take k all))) k c.args.out.now.items c.loop-recipient.out.items) ends c.loop-recipient.invariant)
 
 pub write_recipients-returns : goal.write_recipients-returns
 write_recipients-returns t c =
     let all = c.args.all.now in
-    array-encoded (images recipient_image (map recipient_seen all)) (length all) _ _ _ c.write_each.result (omega arith) c.in_ok-write_array_head.ensures.ok c.write_each.ensures.ok c.write_each.ensures.refused
+    array-encoded (images recipient_image (map recipient_seen all)) (length all) _ _ _ c.write_each.result
+    (omega arith) c.in_ok-write_array_head.ensures.ok c.write_each.ensures.ok c.write_each.ensures.refused
 
 pub write_recipient-returns-then-are_none : goal.write_recipient-returns-then-are_none
 write_recipient-returns-then-are_none t c =
@@ -52,5 +59,6 @@ pub write_recipient-returns : goal.write_recipient-returns
 write_recipient-returns t c =
     let r = c.args.recipient.now in
     let inside = map recipient_seen c.deref-inside.result.now in
-    last_written (recipient_seen r) _ _ _ inside _ (ap (λ x. x.recipients) (recipient-unrolled r) ∙ ap (λ rs. recipients_of (map recipient_seen rs)) (sym c.deref-inside.ensures.value))
+    last_written (recipient_seen r) _ _ _ inside _ (ap (λ x. x.recipients) (recipient-unrolled r)
+    ∙ ap (λ rs. recipients_of (map recipient_seen rs)) (sym c.deref-inside.ensures.value))
     (some_of inside (sym c.are_none.ensures ∙ c.if-are_none.false)) c.in_ok-write_first.ensures c.write_recipients.ensures

@@ -6,4 +6,5 @@ use Rattle.coset_recipient.specs.RecipientView.{recipient_seen}
 use Rattle.coset_recipient.proofs.recipient.+write.Given as goal
 
 abbrev pub invariant-write_each-loop-recipient : goal.invariant-write_each-loop-recipient
-invariant-write_each-loop-recipient l = AppendsPlaces (images recipient_image (map recipient_seen (take l.recipient-index l.all))) l.recipient-index l.initial.out.items l.out.items
+invariant-write_each-loop-recipient l = AppendsPlaces (images recipient_image
+    (map recipient_seen (take l.recipient-index l.all))) l.recipient-index l.initial.out.items l.out.items

@@ -9,14 +9,16 @@ returns-in_err-message g c =
     let e = c.in_err-message.field-0.0 in
     let read = c.in_err-message.ensures in
     passed_on (message_in b g.T.TaggedCborSerializable.TAG g.T.AsCborValue.shape) b e c.from_residual.result _ c.from_residual.ensures.1
-    (rw (sym c.is_tagged-tagged.ensures) (refuses_read (tagged_if c.is_tagged-tagged.result g.T.TaggedCborSerializable.TAG g.T.AsCborValue.shape) b e read.read read.refused))
+    (rw (sym c.is_tagged-tagged.ensures) (refuses_read
+    (tagged_if c.is_tagged-tagged.result g.T.TaggedCborSerializable.TAG g.T.AsCborValue.shape) b e read.read read.refused))
 
 pub returns-in_err-message_line : goal.returns-in_err-message_line
 returns-in_err-message_line g c =
     let b = c.args.bytes.now in
     let e = c.in_err-message_line.field-0.0 in
     let shape = message_in b g.T.TaggedCborSerializable.TAG g.T.AsCborValue.shape in
-    passed_on shape b e c.from_residual-in_err-message_line.result _ c.from_residual-in_err-message_line.ensures.1 (refuses_memory shape b e (c.in_err-message_line.ensures b c.in_ok-message.ensures.read))
+    passed_on shape b e c.from_residual-in_err-message_line.result _ c.from_residual-in_err-message_line.ensures.1
+    (refuses_memory shape b e (c.in_err-message_line.ensures b c.in_ok-message.ensures.read))
 
 pub returns : goal.returns
 returns g c =

@@ -10,20 +10,23 @@ returns-in_err-message c =
     let b = c.args.bytes.now in
     let e = c.in_err-message.field-0.0 in
     let read = c.in_err-message.ensures in
-    passed_on (sign1_in b) b e c.from_residual.result _ c.from_residual.ensures.1 (rw (sym c.is_tagged-tagged.ensures) (refuses_read (tagged_if c.is_tagged-tagged.result 18 sign1) b e read.read read.refused))
+    passed_on (sign1_in b) b e c.from_residual.result _ c.from_residual.ensures.1
+    (rw (sym c.is_tagged-tagged.ensures) (refuses_read (tagged_if c.is_tagged-tagged.result 18 sign1) b e read.read read.refused))
 
 pub returns-in_err-signed : goal.returns-in_err-signed
 returns-in_err-signed c =
     let b = c.args.bytes.now in
     let e = c.in_err-signed.field-0.0 in
     let plain = plainly c.is_tagged-tagged.result 18 sign1 b (sign1_seen c.in_ok-message.message) c.in_ok-message.ensures.read in
-    passed_on (sign1_in b) b e c.from_residual-in_err-signed.result _ c.from_residual-in_err-signed.ensures.1 (refuses_memory (sign1_in b) b e (c.in_err-signed.ensures plain.0 plain.1))
+    passed_on (sign1_in b) b e c.from_residual-in_err-signed.result _ c.from_residual-in_err-signed.ensures.1
+    (refuses_memory (sign1_in b) b e (c.in_err-signed.ensures plain.0 plain.1))
 
 pub returns-in_err-lines : goal.returns-in_err-lines
 returns-in_err-lines c =
     let b = c.args.bytes.now in
     let e = c.in_err-lines.field-0.0 in
-    passed_on (sign1_in b) b e c.from_residual-in_err-lines.result _ c.from_residual-in_err-lines.ensures.1 (refuses_memory (sign1_in b) b e (c.in_err-lines.ensures b c.in_ok-message.ensures.read))
+    passed_on (sign1_in b) b e c.from_residual-in_err-lines.result _ c.from_residual-in_err-lines.ensures.1
+    (refuses_memory (sign1_in b) b e (c.in_err-lines.ensures b c.in_ok-message.ensures.read))
 
 pub returns : goal.returns
 returns c =

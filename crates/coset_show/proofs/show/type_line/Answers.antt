@@ -4,7 +4,8 @@ use Rattle.coset_show.proofs.show.type_line.Goals as goal
 pub returns-in_err-value : goal.returns-in_err-value
 returns-in_err-value g c =
     let e = c.in_err-value.field-0.0 in
-    passed_on g.T.AsCborValue.shape c.args.bytes.now e c.from_residual.result _ c.from_residual.ensures.1 (refuses_read g.T.AsCborValue.shape c.args.bytes.now e c.in_err-value.ensures.read c.in_err-value.ensures.refused)
+    passed_on g.T.AsCborValue.shape c.args.bytes.now e c.from_residual.result _ c.from_residual.ensures.1
+    (refuses_read g.T.AsCborValue.shape c.args.bytes.now e c.in_err-value.ensures.read c.in_err-value.ensures.refused)
 
 pub returns-in_err-line_of : goal.returns-in_err-line_of
 returns-in_err-line_of g c =

@@ -12,5 +12,7 @@ returns g c =
     let body = protected_seen c.args.body in
     let others = map (λ field. field.items) c.args.other_fields.now in
     let signer = protected_seen (out-CoseCountersignature s).protected in
-    let asked = rw c.deref.ensures.value at (c.ask.ensures (countersigned_item body (Some signer) c.args.external_aad.now c.args.payload.now others) c.countersigned_bytes-structure.ensures) in
-    subst (λ x. AsksAbout g.F.FnOnce c.args.verifier x.signature (countersigned_item body (Some x.protected) c.args.external_aad.now c.args.payload.now others) c.ask.result) (sym (countersignature-opened s)) asked
+    let asked = rw c.deref.ensures.value at (c.ask.ensures
+    (countersigned_item body (Some signer) c.args.external_aad.now c.args.payload.now others) c.countersigned_bytes-structure.ensures) in
+    subst (λ x. AsksAbout g.F.FnOnce c.args.verifier x.signature
+    (countersigned_item body (Some x.protected) c.args.external_aad.now c.args.payload.now others) c.ask.result) (sym (countersignature-opened s)) asked

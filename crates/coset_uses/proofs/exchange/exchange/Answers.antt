@@ -3,7 +3,11 @@ use Rattle.coset_uses.proofs.Spellings.{arrived_of, arrives_at, not_verified, re
 use Rattle.coset_uses.proofs.exchange.exchange.Goals as goal
 
 pub returns-in_default-clause-lost : goal.returns-in_default-clause-lost
-returns-in_default-clause-lost g c = (c.in-Ok.token.items, c.in-Ok.ensures.sent, subst (g.C.Channel.loses c.args.channel.now) c.deref.ensures.value (c.in_default.ensures.lost refl))
+returns-in_default-clause-lost g c = (
+  c.in-Ok.token.items,
+  c.in-Ok.ensures.sent,
+  subst (g.C.Channel.loses c.args.channel.now) c.deref.ensures.value (c.in_default.ensures.lost refl),
+)
 
 pub returns-in-Ok-verify_token-clause-payload : goal.returns-in-Ok-verify_token-clause-payload
 returns-in-Ok-verify_token-clause-payload g c =

@@ -8,5 +8,7 @@ use Rattle.coset_uses.proofs.find_key.find_key.Goals as goal
 
 pub returns : goal.returns
 returns c =
-    let found = find_from_yields_List (λ k. pointwise nat_eq k.key_id.items c.args.key_id.now) _ _ _ c.find.ensures.ran (YieldsList-from_slice c.args.keys.now.0.items cc) (λ x b q k. search (rules, tests)) in
-    seen_lent key_seen c.find.result ∙ (ap (option_map key_seen) found ∙ sym (find-map key_seen (λ k. pointwise nat_eq k.key_id c.args.key_id.now) c.args.keys.now.0.items))
+    let found = find_from_yields_List (λ k. pointwise nat_eq k.key_id.items c.args.key_id.now) _ _ _ c.find.ensures.ran
+    (YieldsList-from_slice c.args.keys.now.0.items cc) (λ x b q k. search (rules, tests)) in
+    seen_lent key_seen c.find.result ∙ (ap (option_map key_seen) found
+    ∙ sym (find-map key_seen (λ k. pointwise nat_eq k.key_id c.args.key_id.now) c.args.keys.now.0.items))

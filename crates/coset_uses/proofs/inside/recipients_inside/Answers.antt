@@ -11,7 +11,8 @@ use Rattle.coset_uses.proofs.inside.recipients_inside.Goals as goal
 
 inside : WhenRead (recipient_step recipient) (λ r. EachHas (IsDescribed recipient) (each_of r.recipients))
 inside v r d =
-    let list = perhaps_when_read [] are_some (list_of recipient) (EachHas (IsDescribed recipient)) (list_when_read recipient (IsDescribed recipient) (λ w s h. (w, h))) tt in
+    let list = perhaps_when_read [] are_some (list_of recipient) (EachHas (IsDescribed recipient))
+    (list_when_read recipient (IsDescribed recipient) (λ w s h. (w, h))) tt in
     let places = then_when_read (or_nil bstr) (perhaps [] are_some (list_of recipient)) (λ p. ⊤) (EachHas (IsDescribed recipient)) (λ w p f. tt) list in
     (message_when_read (recipient_places (list_of recipient)) (λ p. ⊤) _ (λ w p f. tt) places v (recipient_fields r) d).1.1.1
 

@@ -15,12 +15,15 @@ use Rattle.coset_uses.proofs.issue.issue_token.Goals as goal
 
 pub returns-in_err-payload-clause-refused : goal.returns-in_err-payload-clause-refused
 returns-in_err-payload-clause-refused g c =
-    passed (IsNotIssued (g.K.SigningKey.refuses c.args.key.now) c.args.external_aad.now (assigned (algorithms.number c.args.algorithm)) (claims_seen c.args.claims)) _ _ c.from_residual.ensures.1
+    passed (IsNotIssued (g.K.SigningKey.refuses c.args.key.now) c.args.external_aad.now (assigned (algorithms.number c.args.algorithm))
+    (claims_seen c.args.claims)) _ _ c.from_residual.ensures.1
     (only_memory _ (λ other. claims-have (claims_seen c.args.claims) (c.in_err-payload.ensures other).1))
 
 pub returns-clause-refused : goal.returns-clause-refused
 returns-clause-refused g c =
     let number = algorithms.number c.args.algorithm in
-    let named : header_seen c.build-protected.result ≡ with_algorithm (assigned number) empty_header = ap header_seen c.build-protected.ensures ∙ (c.algorithm.ensures ∙ ap (with_algorithm (assigned number)) c.new.ensures) in
-    none_issued (g.K.SigningKey.refuses c.args.key.now) c.args.external_aad.now c.in_ok-payload.payload.items number (is_algorithm c.args.algorithm) (claims_seen c.args.claims) c.in_ok-payload.ensures
+    let named : header_seen c.build-protected.result ≡ with_algorithm (assigned number) empty_header = ap header_seen c.build-protected.ensures
+    ∙ (c.algorithm.ensures ∙ ap (with_algorithm (assigned number)) c.new.ensures) in
+    none_issued (g.K.SigningKey.refuses c.args.key.now) c.args.external_aad.now c.in_ok-payload.payload.items number (is_algorithm c.args.algorithm)
+    (claims_seen c.args.claims) c.in_ok-payload.ensures
     (header_seen c.build-protected.result) named c.sign_token.result c.sign_token.ensures.refused

@@ -13,7 +13,8 @@ pub returns-in_err-claims : goal.returns-in_err-claims
 returns-in_err-claims g c =
     let e = c.in_err-claims.field-0.0 in
     passed_on (Judges g.F.FnOnce c.args.verify c.args.now c.args.token.now) c.from_residual.result e c.from_residual.ensures.1
-    (none_given g.F.FnOnce c.args.verify c.signed_when_read.ensures.plain c.args.now c.args.token.now (sign1_seen c.in-Ok.message) e c.in-Ok.ensures.read c.in_err-claims.ensures)
+    (none_given g.F.FnOnce c.args.verify c.signed_when_read.ensures.plain c.args.now c.args.token.now
+    (sign1_seen c.in-Ok.message) e c.in-Ok.ensures.read c.in_err-claims.ensures)
 
 pub returns-then-has_expired : goal.returns-then-has_expired
 returns-then-has_expired g c = (

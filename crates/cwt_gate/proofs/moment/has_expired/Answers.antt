@@ -9,5 +9,7 @@ use Rattle.cwt_gate.proofs.moment.has_expired.Goals as goal
 pub returns-in-Some : goal.returns-in-Some
 returns-in-Some c =
     let moment = timestamp_seen c.in-Some.moment in
-    let k : to_z w128 (of_z w128 (to_z w128 (of_z w128 c.from.result) -ℤ to_z w128 (of_z w128 c.from-in-Some.result))) ≡ c.args.now -ℤ pos c.args.leeway = omega (arith, ints) in
-    c.has_come.ensures ∙ (ap (λ (n : ℤ). has_come true n moment) k ∙ sym (ap (λ o. has_expired c.args.leeway c.args.now (option_map timestamp_seen o)) c.in-Some.is))
+    let k : to_z w128 (of_z w128 (to_z w128 (of_z w128 c.from.result) -ℤ to_z w128 (of_z w128 c.from-in-Some.result))) ≡ c.args.now -ℤ pos c.args.leeway =
+    omega (arith, ints) in
+    c.has_come.ensures ∙ (ap (λ (n : ℤ). has_come true n moment) k
+    ∙ sym (ap (λ o. has_expired c.args.leeway c.args.now (option_map timestamp_seen o)) c.in-Some.is))

@@ -14,5 +14,6 @@ pub returns-else-number : goal.returns-else-number
 returns-else-number c =
     let n = c.args.number.now in
     c.cmp-else-number.ensures
-    ∙ compared_down c.from-significand.result n.exponent c.args.k n.scale c.min-down.result _ (omega arith) c.requires.near (omega arith) c.min-down.ensures refl
+    ∙ compared_down c.from-significand.result n.exponent c.args.k n.scale c.min-down.result _ (omega arith) c.requires.near
+    (omega arith) c.min-down.ensures refl
     ∙ ap (λ (z : ℕ). nat_cmp (z * 2 ^ n.exponent) (c.args.k * 2 ^ n.scale)) c.from-significand.ensures

@@ -16,7 +16,8 @@ returns-else-is_parameter c =
     let h = c.args.header.now in
     let l = as_name (critical_seen c.args.label.now) in
     let rest = (out-Header h).rest.items in
-    let found = any_from_yields_List (λ e. same_name (entry_seen e).0 l) _ _ _ c.any.ensures.ran (YieldsList-from_slice rest cc) (λ x b q k. search (rules, tests)) in
+    let found = any_from_yields_List (λ e. same_name (entry_seen e).0 l) _ _ _ c.any.ensures.ran (YieldsList-from_slice rest cc)
+    (λ x b q k. search (rules, tests)) in
     let none : is_parameter (header_seen h) l ≡ false = sym c.is_parameter.ensures ∙ c.if-is_parameter.false in
     found
     ∙ (sym (any-map (λ e. same_name e.0 l) entry_seen rest)

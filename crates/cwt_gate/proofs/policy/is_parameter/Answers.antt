@@ -16,7 +16,8 @@ pub returns : goal.returns
 returns c =
     let h = header_seen c.args.header.now in
     let i = c.in-Some.label in
-    let found = any_from_yields_List (λ p. p.1 && int_eq p.0 i) _ _ _ c.any.ensures.ran (YieldsList-from_slice c.parameters.result cc) (λ x b q k. search (rules, tests)) in
+    let found = any_from_yields_List (λ p. p.1 && int_eq p.0 i) _ _ _ c.any.ensures.ran (YieldsList-from_slice c.parameters.result cc)
+    (λ x b q k. search (rules, tests)) in
     found
     ∙ (ap (list_any (λ p. p.1 && int_eq p.0 i)) c.parameters.ensures
     ∙ ap (is_there_and (λ i. list_any (λ p. p.1 && int_eq p.0 i) (parameters h))) (sym c.in-Some.is ∙ c.number_of.ensures))

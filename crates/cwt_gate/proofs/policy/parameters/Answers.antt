@@ -30,4 +30,5 @@ returns c =
     let partial_iv : c.is_empty-4.result ≡ (length x.partial_iv.items == 0) = search rules in
     let version_1 : c.is_empty-5.result ≡ (length x.counter_signatures.items == 0) = search rules in
     let version_2 : c.is_empty-6.result ≡ (length x.countersignatures_v2.items == 0) = search rules in
-    rw (c.is_some.ensures, crit, c.is_some-2.ensures, key_id, iv, partial_iv, version_1, version_2, c.is_some-3.ensures) (sym (ap parameters (header-opened c.args.header.now) ∙ asked x))
+    rw (c.is_some.ensures, crit, c.is_some-2.ensures, key_id, iv, partial_iv, version_1, version_2, c.is_some-3.ensures)
+    (sym (ap parameters (header-opened c.args.header.now) ∙ asked x))

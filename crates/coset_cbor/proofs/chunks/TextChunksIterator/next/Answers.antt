@@ -4,7 +4,8 @@ use Rattle.coset_cbor.proofs.Chunking.{next_chunk, no_chunk}
 use Rattle.coset_cbor.proofs.chunks.TextChunksIterator.next.Goals as goal
 
 pub returns-in_default-clause-steps : goal.returns-in_default-clause-steps
-returns-in_default-clause-steps c = let none = no_chunk true c.args.self.now.bytes.now c.in_default.field-0 c.args.self.now.checked c.in_default.ensures in (none, none)
+returns-in_default-clause-steps c = let none = no_chunk true c.args.self.now.bytes.now c.in_default.field-0 c.args.self.now.checked c.in_default.ensures in
+    (none, none)
 
 pub invariant_of-self : goal.invariant_of-self
 invariant_of-self c =

@@ -6,5 +6,6 @@ use Rattle.coset_cbor.proofs.cursor.Places.finish.Given as goal
 abbrev pub invariant-loop : goal.invariant-loop
 invariant-loop l = record {
   shrinks : length (bytes_left l.cursor) ≤ length (bytes_left l.fn.cursor);
-  goes : (vs : Items) (a : List ℕ) → AreWithin l.fn.self vs (bytes_left l.fn.cursor) a → (ws : Items) × AreWithin l.places ws (bytes_left l.cursor) a × (length (bytes_left l.cursor) + l.counter ≤ length (bytes_left l.fn.cursor));
+  goes : (vs : Items) (a : List ℕ) → AreWithin l.fn.self vs (bytes_left l.fn.cursor) a → (ws : Items) × AreWithin l.places ws (bytes_left l.cursor) a
+      × (length (bytes_left l.cursor) + l.counter ≤ length (bytes_left l.fn.cursor));
 }

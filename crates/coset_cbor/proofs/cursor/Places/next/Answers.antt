@@ -4,7 +4,8 @@ use Rattle.coset_cbor.proofs.Cursors.{next_none, next_counted, next_more, next_e
 use Rattle.coset_cbor.proofs.cursor.Places.next.Goals as goal
 
 pub returns-in-Some-eq0 : goal.returns-in-Some-eq0
-returns-in-Some-eq0 c = λ vs a w. next_none vs (bytes_left c.args.cursor.now) a c.args.self.now c.in-Some-eq0.field-0 c.in-Some-eq0.is (sym c.in-Some-eq0.field-0-is ∙ c.in-Some-eq0.field-0-test) w
+returns-in-Some-eq0 c = λ vs a w. next_none vs (bytes_left c.args.cursor.now) a c.args.self.now c.in-Some-eq0.field-0 c.in-Some-eq0.is
+    (sym c.in-Some-eq0.field-0-is ∙ c.in-Some-eq0.field-0-test) w
 
 pub returns-in-Some : goal.returns-in-Some
 returns-in-Some c = λ vs a w.

@@ -16,12 +16,14 @@ returns-in_err-member c =
 
 pub invariant_of-self : goal.invariant_of-self
 invariant_of-self c =
-    let found = first_item c.args.self.now.rest.now c.in_ok-member.member.bytes.now c.in_ok-member.rest.now _ c.args.self.now.checked c.in_ok-member.ensures.0 c.in_ok-member.ensures.1 in
+    let found = first_item c.args.self.now.rest.now c.in_ok-member.member.bytes.now c.in_ok-member.rest.now _ c.args.self.now.checked c.in_ok-member.ensures.0
+    c.in_ok-member.ensures.1 in
     record { checked = found.others }
 
 pub returns : goal.returns
 returns c =
-    let found = first_item c.args.self.now.rest.now c.in_ok-member.member.bytes.now c.in_ok-member.rest.now _ c.args.self.now.checked c.in_ok-member.ensures.0 c.in_ok-member.ensures.1 in
+    let found = first_item c.args.self.now.rest.now c.in_ok-member.member.bytes.now c.in_ok-member.rest.now _ c.args.self.now.checked c.in_ok-member.ensures.0
+    c.in_ok-member.ensures.1 in
     let fewer = ap items_count found.seen in
     record {
       steps = (found.seen, c.in_ok-member.ensures.0);

@@ -11,5 +11,6 @@ pub returns : goal.returns
 returns c =
     let b = c.args.self.now.bytes.now in
     let head = c.in-Ok.head in
-    c.integer_of.ensures ∙ integer_is (things (item_at 255)) (length b) (argument_from head.info head.number) head.major_type c.in-Ok.field-0-1.now (item_of b, [])
+    c.integer_of.ensures ∙ integer_is (things (item_at 255)) (length b) (argument_from head.info head.number) head.major_type c.in-Ok.field-0-1.now
+    (item_of b, [])
     (one_item_by b (head_from head, c.in-Ok.field-0-1.now) c.args.self.now.checked c.in-Ok.ensures.head)

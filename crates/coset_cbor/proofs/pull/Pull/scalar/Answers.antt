@@ -10,5 +10,6 @@ returns-in_default c = absurd (one_item_head c.args.self.now.bytes.now c.in_defa
 pub returns : goal.returns
 returns c =
     let b = c.args.self.now.bytes.now in
-    c.scalar_of.ensures ∙ scalar_is (things (item_at 255)) (length b) (argument_from c.in-Ok.head.info c.in-Ok.head.number) c.in-Ok.head.major_type c.in-Ok.rest.now (item_of b, [])
+    c.scalar_of.ensures ∙ scalar_is (things (item_at 255)) (length b)
+    (argument_from c.in-Ok.head.info c.in-Ok.head.number) c.in-Ok.head.major_type c.in-Ok.rest.now (item_of b, [])
     (one_item_by b (head_from c.in-Ok.head, c.in-Ok.rest.now) c.args.self.now.checked c.in-Ok.ensures.head)

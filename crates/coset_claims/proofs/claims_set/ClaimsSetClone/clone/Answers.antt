@@ -14,7 +14,8 @@ returns c =
     let expiration_time = option_copied timestamp_seen _ (λ x y same. same) claims.expiration_time c.in_ok-clone-4.field-0 c.in_ok-clone-4.ensures.cases in
     let not_before = option_copied timestamp_seen _ (λ x y same. same) claims.not_before c.in_ok-clone-5.field-0 c.in_ok-clone-5.ensures.cases in
     let issued_at = option_copied timestamp_seen _ (λ x y same. same) claims.issued_at c.in_ok-clone-6.field-0 c.in_ok-clone-6.ensures.cases in
-    let cwt_id = option_copied (λ b. b.items) _ (λ x y same. numbers_copied x.items y.items same.0) claims.cwt_id c.in_ok-clone-7.field-0 c.in_ok-clone-7.ensures.cases in
+    let cwt_id = option_copied (λ b. b.items) _ (λ x y same.
+    numbers_copied x.items y.items same.0) claims.cwt_id c.in_ok-clone-7.field-0 c.in_ok-clone-7.ensures.cases in
     let rest = list_copied entry_seen _ (λ x y same. λ i. (same.0 (λ a b e. e) i, same.1 i)) _ _ c.in_ok-clone-8.ensures.cases.0 in
     record {
       cases = λ i. record {

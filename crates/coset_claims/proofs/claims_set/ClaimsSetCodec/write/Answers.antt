@@ -13,15 +13,18 @@ use Rattle.coset_claims.proofs.claims_set.ClaimsSetCodec.write.Goals as goal
 
 pub returns-in_err-write_optional-4 : goal.returns-in_err-write_optional-4
 returns-in_err-write_optional-4 c =
-    passes c.from_residual-in_err-write_optional-4.result _ _ c.from_residual-in_err-write_optional-4.ensures.1 c.in_err-write_optional-4.ensures.refused (λ e. absurd (optional-has _ timestamp-has c.args.self.now.expiration_time e))
+    passes c.from_residual-in_err-write_optional-4.result _ _ c.from_residual-in_err-write_optional-4.ensures.1 c.in_err-write_optional-4.ensures.refused
+    (λ e. absurd (optional-has _ timestamp-has c.args.self.now.expiration_time e))
 
 pub returns-in_err-write_optional-5 : goal.returns-in_err-write_optional-5
 returns-in_err-write_optional-5 c =
-    passes c.from_residual-in_err-write_optional-5.result _ _ c.from_residual-in_err-write_optional-5.ensures.1 c.in_err-write_optional-5.ensures.refused (λ e. absurd (optional-has _ timestamp-has c.args.self.now.not_before e))
+    passes c.from_residual-in_err-write_optional-5.result _ _ c.from_residual-in_err-write_optional-5.ensures.1 c.in_err-write_optional-5.ensures.refused
+    (λ e. absurd (optional-has _ timestamp-has c.args.self.now.not_before e))
 
 pub returns-in_err-write_optional-6 : goal.returns-in_err-write_optional-6
 returns-in_err-write_optional-6 c =
-    passes c.from_residual-in_err-write_optional-6.result _ _ c.from_residual-in_err-write_optional-6.ensures.1 c.in_err-write_optional-6.ensures.refused (λ e. absurd (optional-has _ timestamp-has c.args.self.now.issued_at e))
+    passes c.from_residual-in_err-write_optional-6.result _ _ c.from_residual-in_err-write_optional-6.ensures.1 c.in_err-write_optional-6.ensures.refused
+    (λ e. absurd (optional-has _ timestamp-has c.args.self.now.issued_at e))
 
 pub returns : goal.returns
 unfolding claim_name claims
@@ -30,8 +33,26 @@ returns c =
     let label : (i j : ℤ) → i ≡ j → names.shape.image (assigned j) ≡ Some (integer i) = λ i j e. ap (λ k. Some (integer k)) (sym e) in
     let f = names.shape.image in
     map-written names name_seen view s.rest.items true _ _ _ c.write_rest.result refl
-    (rw (c.deref.ensures.value, c.is_some.ensures, c.is_some-2.ensures, c.is_some-3.ensures, c.is_some-4.ensures, c.is_some-5.ensures, c.is_some-6.ensures, c.is_some-7.ensures) at c.in_ok-write_pairs_head.ensures.fits)
-    (rw (c.deref.ensures.value, c.is_some.ensures, c.is_some-2.ensures, c.is_some-3.ensures, c.is_some-4.ensures, c.is_some-5.ensures, c.is_some-6.ensures, c.is_some-7.ensures) at c.in_ok-write_pairs_head.ensures.ok)
+    (rw (
+      c.deref.ensures.value,
+      c.is_some.ensures,
+      c.is_some-2.ensures,
+      c.is_some-3.ensures,
+      c.is_some-4.ensures,
+      c.is_some-5.ensures,
+      c.is_some-6.ensures,
+      c.is_some-7.ensures,
+    ) at c.in_ok-write_pairs_head.ensures.fits)
+    (rw (
+      c.deref.ensures.value,
+      c.is_some.ensures,
+      c.is_some-2.ensures,
+      c.is_some-3.ensures,
+      c.is_some-4.ensures,
+      c.is_some-5.ensures,
+      c.is_some-6.ensures,
+      c.is_some-7.ensures,
+    ) at c.in_ok-write_pairs_head.ensures.ok)
     (optional-put f string_bytes tstr.image s.issuer (label _ _ ((search rules) ∙ c.to_i64.ensures)) c.in_ok-write_optional.ensures.ok
     (optional-put f string_bytes tstr.image s.subject (label _ _ ((search rules) ∙ c.to_i64-2.ensures)) c.in_ok-write_optional-2.ensures.ok
     (optional-put f string_bytes tstr.image s.audience (label _ _ ((search rules) ∙ c.to_i64-3.ensures)) c.in_ok-write_optional-3.ensures.ok

@@ -6,4 +6,5 @@ use Rattle.coset_claims.proofs.claims_set.ClaimsSetGather.repeats.Goals as goal
 
 pub returns-clause-repeats : goal.returns-clause-repeats
 returns-clause-repeats c =
-    if_ok c.has_repeats.result _ _ (λ b h. repeats-seen name_seen view _ same_name (λ x y. refl) b c.args.self.now.rest.items h) (rw c.deref.ensures.value at c.has_repeats.ensures.answer)
+    if_ok c.has_repeats.result _ _ (λ b h. repeats-seen name_seen view _ same_name (λ x y. refl) b c.args.self.now.rest.items h)
+    (rw c.deref.ensures.value at c.has_repeats.ensures.answer)

@@ -10,5 +10,13 @@ returns-clause-reads g c = λ v z stands.
       c.finish.ensures.passes read.0.0 z read.0.1,
       λ other.
           let told = c.blamed_error.ensures.blames (λ e. other (c.blamed_error.ensures.memory e)) in
-          inr (here.0, here.1, inr (λ m. m, each_blamed g.T.AsCborValue.shape IsUnexpected here.0 c.in-Err.error c.blamed_error.result told.0 (read.1 (λ e. other (c.blamed_error.ensures.memory e))))),
+          inr (
+            here.0,
+            here.1,
+            inr (
+              λ m. m,
+              each_blamed g.T.AsCborValue.shape IsUnexpected here.0 c.in-Err.error c.blamed_error.result told.0
+                  (read.1 (λ e. other (c.blamed_error.ensures.memory e))),
+            ),
+          ),
     )

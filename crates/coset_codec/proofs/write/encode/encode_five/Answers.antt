@@ -5,4 +5,5 @@ use Rattle.coset_codec.proofs.write.encode.encode_five.Goals as goal
 pub returns : goal.returns
 returns g c =
     array-put 5 (omega arith) c.in_ok-write_array_head.ensures.ok
-    (place-put c.in_ok-encode.ensures (place-put c.in_ok-encode-2.ensures (place-put c.in_ok-encode-3.ensures (place-put c.in_ok-encode-4.ensures (place-put c.in_ok-encode-5.ensures (nothing-put _))))))
+    (place-put c.in_ok-encode.ensures (place-put c.in_ok-encode-2.ensures
+    (place-put c.in_ok-encode-3.ensures (place-put c.in_ok-encode-4.ensures (place-put c.in_ok-encode-5.ensures (nothing-put _))))))

@@ -13,7 +13,8 @@ pub loop-member-preserved : goal.loop-member-preserved
 loop-member-preserved g c =
     let all = c.args.members.now in
     let i = c.loop-member.member-index in
-    subst (λ xs. AppendsPlaces (images g.T.Encode.image xs) (i + 1) c.args.out.now.items c.encode.new.out.items) (sym (one_taken all i c.member-item.result (omega arith) c.member-item.is))
+    subst (λ xs. AppendsPlaces (images g.T.Encode.image xs) (i + 1) c.args.out.now.items c.encode.new.out.items)
+    (sym (one_taken all i c.member-item.result (omega arith) c.member-item.is))
     (member-put g.T.Encode.image (take i all) c.member-item.result c.loop-member.invariant c.in_ok-encode.ensures)
 
 pub returns-in_err-encode-clause-refused : goal.returns-in_err-encode-clause-refused
@@ -23,8 +24,11 @@ returns-in_err-encode-clause-refused g c =
     let x = c.member-item.result in
     on_err c.from_residual.result c.in_err-encode.field-0.0 (HasNoImage (images g.T.Encode.image all)) c.from_residual.ensures.1
     (λ m.
-    let none = c.in_err-encode.ensures m in
-    (none.0, ap (images g.T.Encode.image) (one_between all i x (omega arith) c.member-item.is) ∙ images-missing g.T.Encode.image (take i all) (drop (i + 1) all) x none.1))
+    let none = c.in_err-encode.ensures m in (
+      none.0,
+      ap (images g.T.Encode.image) (one_between all i x (omega arith) c.member-item.is)
+          ∙ images-missing g.T.Encode.image (take i all) (drop (i + 1) all) x none.1,
+    ))
 
 pub returns-clause-ok : goal.returns-clause-ok
 returns-clause-ok g c =

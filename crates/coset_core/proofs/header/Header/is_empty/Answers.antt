@@ -22,7 +22,8 @@ Tests x =
     && (is_none x.content_type
     && (length x.key_id.items == 0
     && (length x.iv.items == 0 && (length x.partial_iv.items == 0
-    && (length x.counter_signatures.items == 0 && (length x.countersignatures_v2.items == 0 && (is_none x.countersignature0_v2 && length x.rest.items == 0))))))))
+    && (length x.counter_signatures.items == 0 && (length x.countersignatures_v2.items == 0 &&
+    (is_none x.countersignature0_v2 && length x.rest.items == 0))))))))
 
 tests : (x : HeaderLevel) → is_empty_header (header_level x) ≡ Tests x
 tests x = simp (length-map, are_none_of, none_mapped)

@@ -8,14 +8,18 @@ use Rattle.coset_core.proofs.header.reading.fill_some.Goals as goal
 pub returns-in_err-label-clause-fills : goal.returns-in_err-label-clause-fills
 returns-in_err-label-clause-fills c = λ all ps o z walks within.
     let w = c.loop-label.invariant.fills all ps o z walks within in
-    stops all o (fields_seen c.loop-label.header) (state c.next_key.new.input) z c.next_key.new.self c.from_residual.result c.in_err-label.field-0.0 c.from_residual.ensures.1
-    (at_key all o (fields_seen c.loop-label.header) (state c.loop-label.input) (state c.next_key.new.input) z c.loop-label.pairs c.next_key.new.self c.in_err-label.field-0.0 w (c.in_err-label.ensures.nexts w.left z w.within))
+    stops all o (fields_seen c.loop-label.header) (state c.next_key.new.input) z c.next_key.new.self c.from_residual.result c.in_err-label.field-0.0
+    c.from_residual.ensures.1
+    (at_key all o (fields_seen c.loop-label.header) (state c.loop-label.input)
+    (state c.next_key.new.input) z c.loop-label.pairs c.next_key.new.self c.in_err-label.field-0.0 w (c.in_err-label.ensures.nexts w.left z w.within))
 
 pub returns-in-Some-version_of-clause-fills : goal.returns-in-Some-version_of-clause-fills
 returns-in-Some-version_of-clause-fills c = λ all ps o z walks within.
     let w = c.loop-label.invariant.fills all ps o z walks within in
     let next = rw c.in-Some.is at c.in_ok-label.ensures.nexts in
-    at_held c.in-Some-version_of.version all o (fields_seen c.loop-label.header) (state c.loop-label.input) (state c.next_key.new.input) z c.loop-label.pairs c.next_key.new.self c.in-Some.label w (next w.left z w.within) (rw c.in-Some-version_of.is at c.version_of.ensures)
+    at_held c.in-Some-version_of.version all o (fields_seen c.loop-label.header) (state c.loop-label.input)
+    (state c.next_key.new.input) z c.loop-label.pairs c.next_key.new.self c.in-Some.label w (next w.left z w.within)
+    (rw c.in-Some-version_of.is at c.version_of.ensures)
 
 pub loop-label-preserved : goal.loop-label-preserved
 loop-label-preserved c = record {
@@ -40,7 +44,8 @@ loop-label-preserved c = record {
   fills = λ all ps o z walks within.
       let w = c.loop-label.invariant.fills all ps o z walks within in
       let next = rw c.in-Some.is at c.in_ok-label.ensures.nexts in
-      on_value all o (fields_seen c.loop-label.header) (fields_seen c.put.new.header) (state c.loop-label.input) (state c.next_key.new.input) (state c.put.new.input) z c.loop-label.pairs c.next_key.new.self
+      on_value all o (fields_seen c.loop-label.header) (fields_seen c.put.new.header) (state c.loop-label.input) (state c.next_key.new.input)
+      (state c.put.new.input) z c.loop-label.pairs c.next_key.new.self
       c.in-Some.label w (next w.left z w.within) (c.in_ok-put.ensures.takes o);
 }
 
@@ -48,12 +53,15 @@ pub returns-in_err-put-clause-fills : goal.returns-in_err-put-clause-fills
 returns-in_err-put-clause-fills c = λ all ps o z walks within.
     let w = c.loop-label.invariant.fills all ps o z walks within in
     let next = rw c.in-Some.is at c.in_ok-label.ensures.nexts in
-    stops all o (fields_seen c.put.new.header) (state c.put.new.input) z c.next_key.new.self c.from_residual-in_err-put.result c.in_err-put.field-0.0 c.from_residual-in_err-put.ensures.1
-    (at_value all o (fields_seen c.loop-label.header) (fields_seen c.put.new.header) (state c.loop-label.input) (state c.next_key.new.input) (state c.put.new.input) z c.loop-label.pairs c.next_key.new.self
+    stops all o (fields_seen c.put.new.header) (state c.put.new.input) z c.next_key.new.self c.from_residual-in_err-put.result c.in_err-put.field-0.0
+    c.from_residual-in_err-put.ensures.1
+    (at_value all o (fields_seen c.loop-label.header) (fields_seen c.put.new.header) (state c.loop-label.input) (state c.next_key.new.input)
+    (state c.put.new.input) z c.loop-label.pairs c.next_key.new.self
     c.in-Some.label c.in_err-put.field-0.0 w (next w.left z w.within) c.in_err-put.ensures.kept (c.in_err-put.ensures.refused o))
 
 pub returns-clause-fills : goal.returns-clause-fills
 returns-clause-fills c = λ all ps o z walks within.
     let w = c.loop-label.invariant.fills all ps o z walks within in
     let next = rw c.in_default.is at c.in_ok-label.ensures.nexts in
-    at_end all o (fields_seen c.loop-label.header) (state c.loop-label.input) (state c.next_key.new.input) z c.loop-label.pairs c.next_key.new.self w (next w.left z w.within)
+    at_end all o (fields_seen c.loop-label.header) (state c.loop-label.input) (state c.next_key.new.input) z c.loop-label.pairs c.next_key.new.self w
+    (next w.left z w.within)

@@ -14,7 +14,8 @@ invariant-loop-label l = record {
   shrinks : length_left (state l.input) ≤ length_left (state l.fn.input);
   size : pairs_size l.pairs (state l.input) ≤ pairs_size l.fn.pairs (state l.fn.input);
   turns : pairs_turns l.pairs (state l.input) ≤ pairs_turns l.fn.pairs (state l.fn.input);
-  fills : (all ps : Pairs) (o : Versions (Option Item)) (z : State) → WalksTo all (fields_seen l.fn.header) o ps → PairsWithin l.fn.pairs ps (state l.fn.input) z → SoFar all o (fields_seen l.header) (state l.input) z l.pairs;
+  fills : (all ps : Pairs) (o : Versions (Option Item)) (z : State) → WalksTo all (fields_seen l.fn.header) o ps
+      → PairsWithin l.fn.pairs ps (state l.fn.input) z → SoFar all o (fields_seen l.header) (state l.input) z l.pairs;
 }
 
 abbrev pub decreases-loop-label : goal.decreases-loop-label

@@ -7,7 +7,12 @@ use Rattle.coset_core.proofs.header.writing.ask_distinct.Goals as goal
 
 pub returns-then-branch-clause-refused : goal.returns-then-branch-clause-refused
 returns-then-branch-clause-refused c =
-    λ _. (refl, repeated-seen label_seen view _ same_name (λ x y. refl) c.in_ok-has_repeats.field-0 c.args.rest.now c.in_ok-has_repeats.ensures.answer c.if-branch.true)
+    λ _. (
+      refl,
+      repeated-seen label_seen view _ same_name
+          (λ x y. refl) c.in_ok-has_repeats.field-0 c.args.rest.now c.in_ok-has_repeats.ensures.answer c.if-branch.true,
+    )
 
 pub returns-clause-ok : goal.returns-clause-ok
-returns-clause-ok c = distinct-seen label_seen view _ same_name (λ x y. refl) c.in_ok-has_repeats.field-0 c.args.rest.now c.in_ok-has_repeats.ensures.answer c.if-branch.false
+returns-clause-ok c = distinct-seen label_seen view _ same_name
+    (λ x y. refl) c.in_ok-has_repeats.field-0 c.args.rest.now c.in_ok-has_repeats.ensures.answer c.if-branch.false

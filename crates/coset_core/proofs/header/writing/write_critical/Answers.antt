@@ -16,7 +16,8 @@ use Rattle.coset_core.proofs.header.writing.write_critical.Goals as goal
 
 pub returns-then-is_empty-clause-ok : goal.returns-then-is_empty-clause-ok
 returns-then-is_empty-clause-ok c =
-    left-out (parameters.number Crit) c.args.out.now.items _ _ (filled-seen critical_seen c.args.crit.now c.is_empty.result (search rules) ∙ ap not c.if-is_empty.true)
+    left-out (parameters.number Crit) c.args.out.now.items _ _
+    (filled-seen critical_seen c.args.crit.now c.is_empty.result (search rules) ∙ ap not c.if-is_empty.true)
 
 pub returns-clause-ok : goal.returns-clause-ok
 unfolding critical
@@ -25,8 +26,11 @@ returns-clause-ok c =
     let told = filled-seen critical_seen c.args.crit.now c.is_empty.result (search rules) ∙ ap not c.if-is_empty.false in
     subst (λ o. OnOk c.write_field.result (AppendsField (parameters.number Crit) o c.args.out.now.items c.write_field.new.out.items))
     (sym (λ i. field_shape_image (told i) (option_map array (sym (images-mapped critical.image critical_seen c.args.crit.now) i))))
-    (subst (λ (l : ℤ). OnOk c.write_field.result (AppendsField l (option_map Some (option_map array (images (λ x. critical.image (critical_seen x)) c.args.crit.now))) c.args.out.now.items c.write_field.new.out.items)) (back ∙ c.to_i64.ensures) c.write_field.ensures.ok)
+    (subst (λ (l : ℤ). OnOk c.write_field.result (AppendsField l
+    (option_map Some (option_map array (images (λ x. critical.image (critical_seen x)) c.args.crit.now))) c.args.out.now.items c.write_field.new.out.items))
+    (back ∙ c.to_i64.ensures) c.write_field.ensures.ok)
 
 pub returns-clause-memory : goal.returns-clause-memory
 unfolding critical
-returns-clause-memory c = never_none c.write_field.result _ (list-has (λ x. critical.image (critical_seen x)) (λ x. critical-has (critical_seen x)) c.args.crit.now) c.write_field.ensures.refused
+returns-clause-memory c = never_none c.write_field.result _
+    (list-has (λ x. critical.image (critical_seen x)) (λ x. critical-has (critical_seen x)) c.args.crit.now) c.write_field.ensures.refused

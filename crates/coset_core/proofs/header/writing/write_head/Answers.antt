@@ -21,11 +21,15 @@ returns c =
     let counter_signatures : not c.is_empty-5.result ≡ not (length x.counter_signatures.items == 0) = search rules in
     let countersignatures : not c.is_empty-6.result ≡ not (length x.countersignatures_v2.items == 0) = search rules in
     let abbreviated : c.is_some-3.result ≡ is_some x.countersignature0_v2 = search rules in
-    let there : List Bool = c.is_some.result ∷ not c.is_empty.result ∷ c.is_some-2.result ∷ not c.is_empty-2.result ∷ not c.is_empty-3.result ∷ not c.is_empty-4.result ∷ not c.is_empty-5.result ∷ not c.is_empty-6.result ∷ c.is_some-3.result ∷ [] in
+    let there : List Bool = c.is_some.result ∷ not c.is_empty.result ∷ c.is_some-2.result ∷ not c.is_empty-2.result ∷ not c.is_empty-3.result
+    ∷ not c.is_empty-4.result ∷ not c.is_empty-5.result ∷ not c.is_empty-6.result ∷ c.is_some-3.result ∷ [] in
     let all : length (filter (λ b. b) there) + length c.deref.result.now ≡ count_pairs (header_seen c.args.header.now) =
-    (λ i. length (filter (λ b. b) (alg i ∷ crit i ∷ kind i ∷ key i ∷ iv i ∷ part i ∷ counter_signatures i ∷ countersignatures i ∷ abbreviated i ∷ [])) + length (c.deref.ensures.value i))
-    ∙ ((λ i. length (filter (λ b. b) (fields-there x i)) + sym (length-map x.rest.items entry_seen) i) ∙ sym (ap count_pairs (header-opened c.args.header.now))) in
+    (λ i. length (filter (λ b. b) (alg i ∷ crit i ∷ kind i ∷ key i ∷ iv i ∷ part i ∷ counter_signatures i ∷ countersignatures i ∷ abbreviated i ∷ []))
+    + length (c.deref.ensures.value i))
+    ∙ ((λ i. length (filter (λ b. b) (fields-there x i)) + sym (length-map x.rest.items entry_seen) i)
+    ∙ sym (ap count_pairs (header-opened c.args.header.now))) in
     record {
-      ok = subst (λ k. OnOk c.write_pairs_head.result (c.write_pairs_head.new.out.items ≡ c.args.out.now.items ++ least_head 5 k)) all c.write_pairs_head.ensures.ok;
+      ok = subst (λ k. OnOk c.write_pairs_head.result (c.write_pairs_head.new.out.items ≡ c.args.out.now.items
+          ++ least_head 5 k)) all c.write_pairs_head.ensures.ok;
       fits = subst (λ k. OnOk c.write_pairs_head.result (k < 2 ^ 64)) all c.write_pairs_head.ensures.fits;
     }

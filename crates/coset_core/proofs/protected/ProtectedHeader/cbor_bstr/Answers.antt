@@ -16,7 +16,8 @@ returns-in_err-fresh_bytes-in-None-clause-image c =
     let opened = protected-opened c.args.self in
     let unread = ap (λ p. p.original) opened ∙ ap (option_map (λ v. v.items)) c.in-None.is in
     let error = c.in_err-fresh_bytes-in-None.field-0.0 in
-    no-string c.from_residual.result error p _ c.from_residual.ensures.1 (protected_bytes-fresh p _ unread (ap (λ p. p.header) opened)) c.in_err-fresh_bytes-in-None.ensures.refused
+    no-string c.from_residual.result error p _ c.from_residual.ensures.1
+    (protected_bytes-fresh p _ unread (ap (λ p. p.header) opened)) c.in_err-fresh_bytes-in-None.ensures.refused
 
 pub returns-clause-image : goal.returns-clause-image
 returns-clause-image c =
@@ -30,4 +31,5 @@ returns-clause-shortest c =
     let p = protected_seen c.args.self in
     let opened = protected-opened c.args.self in
     let unread = ap (λ p. p.original) opened ∙ ap (option_map (λ v. v.items)) c.in-None.is in
-    string-holds p c.in_ok-fresh_bytes-in-None.field-0 (shortest-fresh_bytes p _ _ unread (ap (λ p. p.header) opened) c.in_ok-fresh_bytes-in-None.ensures.shortest)
+    string-holds p c.in_ok-fresh_bytes-in-None.field-0
+    (shortest-fresh_bytes p _ _ unread (ap (λ p. p.header) opened) c.in_ok-fresh_bytes-in-None.ensures.shortest)

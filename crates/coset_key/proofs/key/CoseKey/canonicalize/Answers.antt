@@ -18,9 +18,14 @@ returns-clause-canonical c =
     let new = c.sort_by.new.self in
     let same = sym (with_items_is old new (c.sort_by.ensures.len ∙ c.as_mut_slice-params.ensures.len)) in
     let moved = subst (λ xs. IsPermutation xs new) c.as_mut_slice-params.ensures.value c.sort_by.ensures.permutation in
-    let sorted = c.in_ok-sort_by.ensures.sorted (λ a b. is_lt (cmp (label_seen a.0) (label_seen b.0))) (ranks_by (total_by c.args.ordering) (λ e. label_seen e.0)) (always_returns_same _ _ _ (λ a r f k. search rules)) in
+    let sorted = c.in_ok-sort_by.ensures.sorted (λ a b. is_lt (cmp (label_seen a.0) (label_seen b.0)))
+    (ranks_by (total_by c.args.ordering) (λ e. label_seen e.0)) (always_returns_same _ _ _ (λ a r f k. search rules)) in
     record {
-      agree = record { others = refl; params = subst (λ xs. IsPermutation (map entry_seen old.items) (map entry_seen xs)) same (IsPermutation-map entry_seen old.items new moved) };
+      agree = record {
+        others = refl;
+        params = subst (λ xs. IsPermutation (map entry_seen old.items) (map entry_seen xs)) same
+            (IsPermutation-map entry_seen old.items new moved);
+      };
       ordered = subst (λ xs. AreInOrder cmp (map entry_seen xs)) same (sorted-seen entry_seen (λ a b. is_lt (cmp a.0 b.0)) new sorted);
     }
 
@@ -29,6 +34,7 @@ returns-clause-stable c =
     let cmp = name_cmp_by c.args.ordering in
     let old = c.args.self.now.params in
     let new = c.sort_by.new.self in
-    let stable = c.sort_by.ensures.stable (λ a b. is_lt (cmp (label_seen a.0) (label_seen b.0))) (ranks_by (total_by c.args.ordering) (λ e. label_seen e.0)) (always_returns_same _ _ _ (λ a r f k. search rules)) in
+    let stable = c.sort_by.ensures.stable (λ a b. is_lt (cmp (label_seen a.0) (label_seen b.0))) (ranks_by (total_by c.args.ordering) (λ e. label_seen e.0))
+    (always_returns_same _ _ _ (λ a r f k. search rules)) in
     subst (λ xs. IsStableByKey (λ e. label_seen e.0) cmp old.items xs) (sym (with_items_is old new (c.sort_by.ensures.len ∙ c.as_mut_slice-params.ensures.len)))
     (subst (λ xs. IsStableByKey (λ e. label_seen e.0) cmp xs new) c.as_mut_slice-params.ensures.value stable)

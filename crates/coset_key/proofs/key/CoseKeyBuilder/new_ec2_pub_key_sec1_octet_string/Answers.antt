@@ -17,5 +17,8 @@ returns-in_ok-uncompressed_key-in-4 c =
     let rest = c.in-Some.rest.now in
     let x = c.split_at.result.0.now in
     let y = c.split_at.result.1.now in
-    let even : length x ≡ length y = omega (arith, c.if-rest-eq0.true, c.split_at.ensures.front_len, c.split_at.ensures.back_len) in
-    (uncompressed x y, (sym (c.in-Some.ensures.cases.0 ∙ (ap (λ b. b ∷ rest) c.in-4.is ∙ ap (λ s. 4 ∷ s) c.split_at.ensures.by_index.0)), even), c.in_ok-uncompressed_key-in-4.ensures.ok)
+    let even : length x ≡ length y = omega (arith, c.if-rest-eq0.true, c.split_at.ensures.front_len, c.split_at.ensures.back_len) in (
+      uncompressed x y,
+      (sym (c.in-Some.ensures.cases.0 ∙ (ap (λ b. b ∷ rest) c.in-4.is ∙ ap (λ s. 4 ∷ s) c.split_at.ensures.by_index.0)), even),
+      c.in_ok-uncompressed_key-in-4.ensures.ok,
+    )

@@ -11,4 +11,15 @@ returns c =
     let alg = registered_copied Algorithm algorithm_seen k.alg c.in_ok-clone-2.field-0 c.in_ok-clone-2.ensures.cases in
     let key_ops = list_copied operation_seen _ (λ x y same. same (λ a b e. e)) _ _ c.in_ok-clone-3.ensures.cases in
     let params = list_copied entry_seen _ (λ x y same. λ i. (same.0 i, same.1 i)) _ _ c.in_ok-clone-4.ensures.cases.0 in
-    record { cases = simp (kty, alg, key_ops, params, c.in_ok-from_slice.ensures.items, c.in_ok-from_slice-2.ensures.items, c.deref.ensures.value, c.deref-2.ensures.value) }
+    record {
+      cases = simp (
+        kty,
+        alg,
+        key_ops,
+        params,
+        c.in_ok-from_slice.ensures.items,
+        c.in_ok-from_slice-2.ensures.items,
+        c.deref.ensures.value,
+        c.deref-2.ensures.value,
+      );
+    }

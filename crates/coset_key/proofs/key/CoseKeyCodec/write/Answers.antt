@@ -17,7 +17,11 @@ pub returns-then-branch : goal.returns-then-branch
 unfolding key
 returns-then-branch c =
     let params = map (as_seen label_seen view) c.args.self.now.params.items in
-    λ _. (refl, no-entries names params _ (repeated-seen label_seen view _ same_name (λ x y. refl) c.in_ok-has_repeats.field-0 c.args.self.now.params.items (rw c.deref.ensures.value at c.in_ok-has_repeats.ensures.answer) c.if-branch.true))
+    λ _. (
+      refl,
+      no-entries names params _ (repeated-seen label_seen view _ same_name (λ x y. refl) c.in_ok-has_repeats.field-0 c.args.self.now.params.items
+          (rw c.deref.ensures.value at c.in_ok-has_repeats.ensures.answer) c.if-branch.true),
+    )
 
 pub returns-in_err-write_optional : goal.returns-in_err-write_optional
 unfolding algorithm
@@ -29,16 +33,20 @@ pub returns : goal.returns
 unfolding key key_type algorithm
 returns c =
     let k = c.args.self.now in
-    let distinct = distinct-seen label_seen view _ same_name (λ x y. refl) c.in_ok-has_repeats.field-0 k.params.items (rw c.deref.ensures.value at c.in_ok-has_repeats.ensures.answer) c.if-branch.false in
+    let distinct = distinct-seen label_seen view _ same_name (λ x y. refl) c.in_ok-has_repeats.field-0 k.params.items
+    (rw c.deref.ensures.value at c.in_ok-has_repeats.ensures.answer) c.if-branch.false in
     let f = names.shape.image in
     let named : (i j : ℤ) → i ≡ j → f (number j) ≡ Some (integer i) = λ i j e. ap (λ k. Some (integer k)) (sym e) in
     map-written names label_seen view k.params.items _ _ _ _ c.write_rest.result distinct
     (rw (c.deref-2.ensures.value, c.is_some.ensures) at c.in_ok-write_pairs_head.ensures.fits)
     (rw (c.deref-2.ensures.value, c.is_some.ensures) at c.in_ok-write_pairs_head.ensures.ok)
     (field-put f true (key_type.image (kty_seen k.kty)) (named _ _ ((search rules) ∙ c.to_i64.ensures)) c.in_ok-write_field.ensures.ok
-    (listed-put f filled_bstr.image k.key_id.items _ (filled-there k.key_id.items c.is_empty.result (search rules)) (named _ _ ((search rules) ∙ c.to_i64-2.ensures)) c.in_ok-write_filled.ensures.ok
+    (listed-put f filled_bstr.image k.key_id.items _ (filled-there k.key_id.items c.is_empty.result (search rules))
+    (named _ _ ((search rules) ∙ c.to_i64-2.ensures)) c.in_ok-write_filled.ensures.ok
     (optional-put f algorithm_seen algorithm.image k.alg (named _ _ ((search rules) ∙ c.to_i64-3.ensures)) c.in_ok-write_optional.ensures.ok
-    (listed-put f key_ops.image (map operation_seen k.key_ops.keys) _ (set-there operation_seen k.key_ops.keys c.is_empty-2.result c.is_empty-2.ensures.0 c.is_empty-2.ensures.1) refl c.in_ok-write_key_ops.ensures.ok
-    (listed-put f filled_bstr.image k.base_iv.items _ (filled-there k.base_iv.items c.is_empty-3.result (search rules)) (named _ _ ((search rules) ∙ c.to_i64-4.ensures)) c.in_ok-write_filled-2.ensures.ok
+    (listed-put f key_ops.image (map operation_seen k.key_ops.keys) _
+    (set-there operation_seen k.key_ops.keys c.is_empty-2.result c.is_empty-2.ensures.0 c.is_empty-2.ensures.1) refl c.in_ok-write_key_ops.ensures.ok
+    (listed-put f filled_bstr.image k.base_iv.items _ (filled-there k.base_iv.items c.is_empty-3.result (search rules))
+    (named _ _ ((search rules) ∙ c.to_i64-4.ensures)) c.in_ok-write_filled-2.ensures.ok
     (no-field f c.write_filled-2.new.out.items))))))
     (rw c.deref-3.ensures.value at c.write_rest.ensures.ok) (rw c.deref-3.ensures.value at c.write_rest.ensures.refused)

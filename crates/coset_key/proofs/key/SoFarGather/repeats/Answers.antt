@@ -7,4 +7,5 @@ use Rattle.coset_key.proofs.key.SoFarGather.repeats.Goals as goal
 
 pub returns-clause-repeats : goal.returns-clause-repeats
 returns-clause-repeats c =
-    if_ok c.has_repeats.result _ _ (λ b h. repeats-seen label_seen view _ same_name (λ x y. refl) b c.args.self.now.params.items h) (rw c.deref.ensures.value at c.has_repeats.ensures.answer)
+    if_ok c.has_repeats.result _ _ (λ b h. repeats-seen label_seen view _ same_name (λ x y. refl) b c.args.self.now.params.items h)
+    (rw c.deref.ensures.value at c.has_repeats.ensures.answer)

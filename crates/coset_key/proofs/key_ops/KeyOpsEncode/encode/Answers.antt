@@ -17,20 +17,26 @@ loop-operation-preserved c =
     let ys = c.loop-operation.yielded in
     let x = c.in-Some.operation in
     let next : map (λ b. b.now) (ys ++ x ∷ []) ≡ map (λ b. b.now) ys ++ x.now ∷ [] = map_push (λ b. b.now) ys x in
-    let pushed : map operation_seen (map (λ b. b.now) (ys ++ x ∷ [])) ≡ map operation_seen (map (λ b. b.now) ys) ++ operation_seen x.now ∷ [] = ap (map operation_seen) next ∙ map_push operation_seen (map (λ b. b.now) ys) x.now in (
-      subst (λ n. AppendsPlaces (images operation.image (map operation_seen (map (λ b. b.now) (ys ++ x ∷ [])))) n c.write_array_head.new.out.items c.encode.new.out.items) (sym (length_push ys x))
+    let pushed : map operation_seen (map (λ b. b.now) (ys ++ x ∷ [])) ≡ map operation_seen (map (λ b. b.now) ys) ++ operation_seen x.now ∷ [] =
+    ap (map operation_seen) next ∙ map_push operation_seen (map (λ b. b.now) ys) x.now in (
+      subst (λ n. AppendsPlaces (images operation.image
+          (map operation_seen (map (λ b. b.now) (ys ++ x ∷ [])))) n c.write_array_head.new.out.items c.encode.new.out.items) (sym (length_push ys x))
           (subst (λ ns. AppendsPlaces (images operation.image ns) (length ys + 1) c.write_array_head.new.out.items c.encode.new.out.items) (sym pushed)
           (member-put operation.image (map operation_seen (map (λ b. b.now) ys)) (operation_seen x.now) c.loop-operation.invariant.0 c.in_ok-encode.ensures)),
-      ap (λ zs. zs ++ c.next.new.self) next ∙ moved (map (λ b. b.now) ys) x.now c.loop-operation.operation-iterator c.next.new.self c.args.self.now.0.now.keys c.loop-operation.invariant.1 c.in-Some.ensures.steps,
+      ap (λ zs. zs ++ c.next.new.self) next ∙ moved (map
+          (λ b. b.now) ys) x.now c.loop-operation.operation-iterator c.next.new.self c.args.self.now.0.now.keys c.loop-operation.invariant.1
+          c.in-Some.ensures.steps,
     )
 
 pub returns : goal.returns
 returns c =
     let ys = c.loop-operation.yielded in
     let ks = c.args.self.now.0.now.keys in
-    let all : map (λ b. b.now) ys ≡ ks = sym (append-nil (map (λ b. b.now) ys)) ∙ (ap (λ zs. map (λ b. b.now) ys ++ zs) (sym c.in-None.ensures.steps.0) ∙ c.loop-operation.invariant.1) in
+    let all : map (λ b. b.now) ys ≡ ks = sym (append-nil (map (λ b. b.now) ys))
+    ∙ (ap (λ zs. map (λ b. b.now) ys ++ zs) (sym c.in-None.ensures.steps.0) ∙ c.loop-operation.invariant.1) in
     let count : length ys ≡ length ks = sym (length-map ys (λ b. b.now)) ∙ ap length all in
     let small : length ks < 2 ^ 64 = omega (arith, c.len.ensures.len, c.len.ensures.small) in
     array-put (length ks) small (c.in_ok-write_array_head.ensures.ok ∙ ap (λ n. c.args.out.now.items ++ least_head 4 n) c.len.ensures.len)
     (subst (λ zs. AppendsPlaces (images operation.image (map operation_seen zs)) (length ks) c.write_array_head.new.out.items c.loop-operation.out.items) all
-    (subst (λ n. AppendsPlaces (images operation.image (map operation_seen (map (λ b. b.now) ys))) n c.write_array_head.new.out.items c.loop-operation.out.items) count c.loop-operation.invariant.0))
+    (subst (λ n. AppendsPlaces (images operation.image
+    (map operation_seen (map (λ b. b.now) ys))) n c.write_array_head.new.out.items c.loop-operation.out.items) count c.loop-operation.invariant.0))

@@ -6,4 +6,4 @@ use Rattle.coset_msg.proofs.encrypt0.CoseEncrypt0.decrypt.Goals as goal
 pub returns : goal.returns
 returns g c =
     let structure = encrypt0_structure (encrypt0_seen c.args.self.now) c.args.external_aad.now in
-    if_there (λ d. AsksAbout g.F.FnOnce c.args.cipher d structure c.ask.result) c.carried.ensures (c.ask.ensures structure c.structure-structure.ensures)
+    if_there (λ d. AsksAbout g.F.FnOnce c.args.cipher d structure c.ask.result) c.carried.ensures (c.ask.ensures structure c.aad-structure.ensures)

@@ -7,10 +7,12 @@ pub returns-in_err-ciphertext : goal.returns-in_err-ciphertext
 returns-in_err-ciphertext g c =
     let m = encrypt_seen c.args.self in
     let structure = encrypt_structure_of m c.args.external_aad.now in
-    passed_on g.F.FnOnce c.args.cipher c.args.plaintext.now structure (λ d b. encrypt_seen b ≡ with_ciphertext d.items m) c.in_err-ciphertext.field-0.0 c.from_residual.result c.from_residual.ensures.1
-    (c.in_err-ciphertext.ensures structure (rw c.self.view_is at c.structure-structure.ensures))
+    passed_on g.F.FnOnce c.args.cipher c.args.plaintext.now structure
+    (λ d b. encrypt_seen b ≡ with_ciphertext d.items m) c.in_err-ciphertext.field-0.0 c.from_residual.result c.from_residual.ensures.1
+    (c.in_err-ciphertext.ensures structure (rw c.self.view_is at c.aad-structure.ensures))
 
 pub returns : goal.returns
 returns g c =
-    let asked = c.in_ok-ciphertext.ensures (encrypt_structure_of (encrypt_seen c.args.self) c.args.external_aad.now) (rw c.self.view_is at c.structure-structure.ensures) in
+    let asked = c.in_ok-ciphertext.ensures (encrypt_structure_of (encrypt_seen c.args.self) c.args.external_aad.now)
+    (rw c.self.view_is at c.aad-structure.ensures) in
     (asked.0, c.in_ok-ciphertext.ciphertext, asked.1, asked.2, c.ciphertext.ensures)

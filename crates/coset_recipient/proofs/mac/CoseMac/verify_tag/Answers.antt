@@ -7,4 +7,4 @@ pub returns : goal.returns
 returns g c =
     let m = mac_seen c.args.self.now in
     if_there (λ p. AsksAbout g.F.FnOnce c.args.verifier m.tag (mac_structure_of m c.args.external_aad.now p) c.ask.result) c.carried.ensures
-    (rw c.deref.ensures.value at (c.ask.ensures (mac_structure_of m c.args.external_aad.now c.carried.result.now) c.structure-structure.ensures))
+    (rw c.deref.ensures.value at (c.ask.ensures (mac_structure_of m c.args.external_aad.now c.carried.result.now) c.tbm_detached-structure.ensures))

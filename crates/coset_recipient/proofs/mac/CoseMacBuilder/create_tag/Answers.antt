@@ -7,5 +7,11 @@ use Rattle.coset_recipient.proofs.mac.CoseMacBuilder.create_tag.Goals as goal
 pub returns : goal.returns
 returns g c =
     let m = mac_seen c.args.self in
-    if_there (λ p. Creates g.F.FnOnce c.args.creator (mac_structure_of m c.args.external_aad.now p) (λ t b. mac_seen b ≡ with_tag t.items m) (Ok c.tag.result)) (rw c.self.view_is at c.carried.ensures)
-    (c.in_ok-tbm.tbm.items, c.creator.result, rw c.self.view_is at c.in_ok-tbm.ensures, (c.deref.result, c.creator.ensures, c.deref.ensures.value), c.tag.ensures)
+    if_there (λ p. Creates g.F.FnOnce c.args.creator (mac_structure_of m c.args.external_aad.now p) (λ t b. mac_seen b ≡ with_tag t.items m) (Ok c.tag.result))
+    (rw c.self.view_is at c.carried.ensures) (
+      c.in_ok-tbm.tbm.items,
+      c.creator.result,
+      rw c.self.view_is at c.in_ok-tbm.ensures,
+      (c.deref.result, c.creator.ensures, c.deref.ensures.value),
+      c.tag.ensures,
+    )

@@ -7,4 +7,4 @@ use Rattle.coset_recipient.proofs.recipient.CoseRecipient.decrypt.Goals as goal
 pub returns : goal.returns
 returns g c =
     let structure = recipient_structure c.args.context (recipient_seen c.args.self.now) c.args.external_aad.now in
-    if_there (λ d. AsksAbout g.F.FnOnce c.args.cipher d structure c.ask.result) c.carried.ensures (c.ask.ensures structure c.structure-structure.ensures)
+    if_there (λ d. AsksAbout g.F.FnOnce c.args.cipher d structure c.ask.result) c.carried.ensures (c.ask.ensures structure c.aad-structure.ensures)

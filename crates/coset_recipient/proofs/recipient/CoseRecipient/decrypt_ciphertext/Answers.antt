@@ -7,5 +7,6 @@ use Rattle.coset_recipient.proofs.recipient.CoseRecipient.decrypt_ciphertext.Goa
 pub returns : goal.returns
 returns g c =
     let structure = recipient_structure c.args.context (recipient_seen c.args.self.now) c.args.external_aad.now in
-    subst (λ o. AsksWherePresent g.F.FnOnce c.args.cipher g.M.FnOnce c.args.missing o (λ d. d) (λ _. structure) c.ask.result) (sym (ap (λ r. r.ciphertext) (recipient-unrolled c.args.self.now) ∙ ap (option_map (λ b. b.items)) c.in-Some.is))
-    (rw c.deref.ensures.value at (c.ask.ensures structure c.structure-structure.ensures))
+    subst (λ o. AsksWherePresent g.F.FnOnce c.args.cipher g.M.FnOnce c.args.missing o (λ d. d) (λ _. structure) c.ask.result)
+    (sym (ap (λ r. r.ciphertext) (recipient-unrolled c.args.self.now) ∙ ap (option_map (λ b. b.items)) c.in-Some.is))
+    (rw c.deref.ensures.value at (c.ask.ensures structure c.aad-structure.ensures))

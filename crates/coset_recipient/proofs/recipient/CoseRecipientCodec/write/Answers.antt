@@ -5,4 +5,5 @@ use Rattle.coset_recipient.specs.RecipientView.{recipient_seen}
 use Rattle.coset_recipient.proofs.recipient.CoseRecipientCodec.write.Goals as goal
 
 pub returns : goal.returns
-returns c = subst (λ o. Encodes o c.args.out.now.items c.write_recipient.new.out.items c.write_recipient.result) (sym (recipient-written (recipient_seen c.args.self.now))) c.write_recipient.ensures
+returns c = subst (λ o. Encodes o c.args.out.now.items c.write_recipient.new.out.items c.write_recipient.result)
+    (sym (recipient-written (recipient_seen c.args.self.now))) c.write_recipient.ensures

@@ -9,5 +9,6 @@ use Rattle.coset_sample.proofs.reading.ReadingCodec.write.Goals as goal
 pub returns : goal.returns
 returns c =
     let r = seen c.args.self.now in
-    subst (λ o. Encodes (three_places (int64.image r.number) ((or_nil bstr).image r.payload) (option_map array o)) c.args.out.now.items c.encode_three.new.out.items c.encode_three.result)
+    subst (λ o. Encodes (three_places (int64.image r.number) ((or_nil bstr).image r.payload)
+    (option_map array o)) c.args.out.now.items c.encode_three.new.out.items c.encode_three.result)
     (images-mapped int64.image mark_seen c.deref.result.now ∙ ap (λ xs. images int64.image (map mark_seen xs)) c.deref.ensures.value) c.encode_three.ensures

@@ -11,4 +11,5 @@ pub returns : goal.returns
 returns c =
     let r = seen c.args.self.now in
     subst (λ o. Encodes (two_places (bstr.image r.sender) (option_map array o)) c.args.out.now.items c.encode_two.new.out.items c.encode_two.result)
-    (images-mapped reading.image reading_seen c.deref.result.now ∙ ap (λ xs. images reading.image (map reading_seen xs)) c.deref.ensures.value) c.encode_two.ensures
+    (images-mapped reading.image reading_seen c.deref.result.now
+    ∙ ap (λ xs. images reading.image (map reading_seen xs)) c.deref.ensures.value) c.encode_two.ensures

@@ -12,16 +12,22 @@ use Rattle.coset_sample.proofs.settings.SettingsCodec.write.Goals as goal
 pub returns-then-branch : goal.returns-then-branch
 returns-then-branch c =
     let rest = map (as_seen name_seen view) c.args.self.now.rest.items in
-    λ _. (refl, no-entries names rest _ (repeated-seen name_seen view _ int_eq (λ x y. refl) c.in_ok-has_repeats.field-0 c.args.self.now.rest.items (rw c.deref.ensures.value at c.in_ok-has_repeats.ensures.answer) c.if-branch.true))
+    λ _. (
+      refl,
+      no-entries names rest _ (repeated-seen name_seen view _ int_eq (λ x y. refl) c.in_ok-has_repeats.field-0 c.args.self.now.rest.items
+          (rw c.deref.ensures.value at c.in_ok-has_repeats.ensures.answer) c.if-branch.true),
+    )
 
 pub returns : goal.returns
 returns c =
     let s = c.args.self.now in
-    let distinct = distinct-seen name_seen view _ int_eq (λ x y. refl) c.in_ok-has_repeats.field-0 s.rest.items (rw c.deref.ensures.value at c.in_ok-has_repeats.ensures.answer) c.if-branch.false in
+    let distinct = distinct-seen name_seen view _ int_eq (λ x y. refl) c.in_ok-has_repeats.field-0 s.rest.items
+    (rw c.deref.ensures.value at c.in_ok-has_repeats.ensures.answer) c.if-branch.false in
     map-written names name_seen view s.rest.items _ _ _ _ c.write_rest.result distinct
     (rw (c.deref-2.ensures.value, c.is_some.ensures, c.is_some-2.ensures) at c.in_ok-write_pairs_head.ensures.fits)
     (rw (c.deref-2.ensures.value, c.is_some.ensures, c.is_some-2.ensures) at c.in_ok-write_pairs_head.ensures.ok)
     (field-put names.shape.image true (Some (integer s.level)) refl c.in_ok-write_field.ensures.ok
     (optional-put names.shape.image (λ b. b.items) bstr.image s.name refl c.in_ok-write_optional.ensures.ok
-    (field-put names.shape.image (is_some s.limit) (present_image int64.image s.limit) refl c.in_ok-write_optional-2.ensures.ok (no-field names.shape.image c.write_optional-2.new.out.items))))
+    (field-put names.shape.image (is_some s.limit) (present_image int64.image s.limit) refl c.in_ok-write_optional-2.ensures.ok
+    (no-field names.shape.image c.write_optional-2.new.out.items))))
     (rw c.deref-3.ensures.value at c.write_rest.ensures.ok) (rw c.deref-3.ensures.value at c.write_rest.ensures.refused)

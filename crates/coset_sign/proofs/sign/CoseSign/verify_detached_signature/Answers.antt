@@ -12,5 +12,6 @@ returns g c = λ s there.
     let signature = c.signature-signature.result.now in
     let structure = signer_structure m (signature_seen signature) c.args.external_aad.now c.args.payload.now in
     let asked = rw c.deref.ensures.value at (c.ask.ensures structure c.tbs_detached_data-structure.ensures) in
-    subst (λ x. AsksAbout g.F.FnOnce c.args.verifier x.signature (signer_structure m x c.args.external_aad.now c.args.payload.now) c.ask.result) (some-one c.signature-signature.ensures there)
+    subst (λ x. AsksAbout g.F.FnOnce c.args.verifier x.signature (signer_structure m x c.args.external_aad.now c.args.payload.now) c.ask.result)
+    (some-one c.signature-signature.ensures there)
     (subst (λ b. AsksAbout g.F.FnOnce c.args.verifier b structure c.ask.result) (sym (ap (λ x. x.signature) (signature-opened signature))) asked)

@@ -14,5 +14,6 @@ returns g c = λ o written.
       c.signer.result,
       structure,
       (c.deref.result, c.signer.ensures, c.deref.ensures.value),
-      signature_pushed c.self.inside.0 c.push_reserved.new.self c.signed_with-signed.result signed pushed c.signed_with-signed.ensures ∙ ap (λ m. and_signature signed (sign_seen m)) c.self.view_is,
+      signature_pushed c.self.inside.0 c.push_reserved.new.self c.signed_with-signed.result signed pushed c.signed_with-signed.ensures
+          ∙ ap (λ m. and_signature signed (sign_seen m)) c.self.view_is,
     )

@@ -7,7 +7,9 @@ use Rattle.coset_sign.proofs.sign.CoseSignBuilder.try_add_signed.Goals as goal
 
 pub returns-in_err-make : goal.returns-in_err-make
 returns-in_err-make g c = λ o written.
-    passed_on g.F.FnOnce c.args.signer o (λ made given. made ≡ given) (λ s b. sign_seen b ≡ and_signature (signed_with s.items (signature_seen c.args.signature)) (sign_seen c.args.self)) c.in_err-make.field-0.0 c.from_residual.result
+    passed_on g.F.FnOnce c.args.signer o (λ made given. made ≡ given)
+    (λ s b. sign_seen b ≡ and_signature (signed_with s.items (signature_seen c.args.signature))
+    (sign_seen c.args.self)) c.in_err-make.field-0.0 c.from_residual.result
     c.from_residual.ensures.1 (c.in_err-make.ensures o written)
 
 pub returns : goal.returns
@@ -19,6 +21,7 @@ returns g c = λ o written.
       made.1,
       made.2,
       made.3,
-      signature_pushed c.self.inside.0 c.push_reserved.new.self c.signed_with-signed.result signed pushed c.signed_with-signed.ensures ∙ ap (λ m. and_signature signed (sign_seen m)) c.self.view_is
+      signature_pushed c.self.inside.0 c.push_reserved.new.self c.signed_with-signed.result signed pushed c.signed_with-signed.ensures
+          ∙ ap (λ m. and_signature signed (sign_seen m)) c.self.view_is
           ∙ ap (λ s. and_signature (signed_with s.items (signature_seen c.args.signature)) (sign_seen c.args.self)) (sym made.4),
     )

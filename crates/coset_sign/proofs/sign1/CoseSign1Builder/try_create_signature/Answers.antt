@@ -6,7 +6,8 @@ use Rattle.coset_sign.proofs.sign1.CoseSign1Builder.try_create_signature.Goals a
 pub returns-in_err-signature : goal.returns-in_err-signature
 returns-in_err-signature g c =
     let structure = sign1_carried (sign1_seen c.args.self) c.args.external_aad.now in
-    passed_on g.F.FnOnce c.args.signer structure (λ made given. made ≡ given) (λ s b. sign1_seen b ≡ with_signature s.items (sign1_seen c.args.self)) c.in_err-signature.field-0.0 c.from_residual.result c.from_residual.ensures.1
+    passed_on g.F.FnOnce c.args.signer structure (λ made given. made ≡ given)
+    (λ s b. sign1_seen b ≡ with_signature s.items (sign1_seen c.args.self)) c.in_err-signature.field-0.0 c.from_residual.result c.from_residual.ensures.1
     (c.in_err-signature.ensures structure (rw c.self.view_is at c.tbs_data.ensures))
 
 pub returns : goal.returns

@@ -8,7 +8,8 @@ returns-in-Ok-clause-decrypted c =
     let front = take (length c.args.aad.now) c.args.ciphertext.now in
     let back = drop (length c.args.aad.now) c.args.ciphertext.now in
     let cases = c.in-Some.ensures.cases in
-    sym (take-append-drop (length c.args.aad.now) c.args.ciphertext.now) ∙ (ap (λ a. a ++ back) ((bytes_decides front c.args.aad.now).0 cases.0) ∙ ap (λ p. c.args.aad.now ++ p) (sym (c.in-Ok.ensures.items ∙ cases.1)))
+    sym (take-append-drop (length c.args.aad.now) c.args.ciphertext.now)
+    ∙ (ap (λ a. a ++ back) ((bytes_decides front c.args.aad.now).0 cases.0) ∙ ap (λ p. c.args.aad.now ++ p) (sym (c.in-Ok.ensures.items ∙ cases.1)))
 
 pub returns-in_default-clause-refused : goal.returns-in_default-clause-refused
 returns-in_default-clause-refused c = λ other plaintext e.

@@ -13,9 +13,11 @@ returns-in-Some c =
     let name = algorithm_seen c.in-Some.algorithm in
     c.contains.ensures.value
     ∙ (sym (any-map (λ m. is_eq (registered_cmp m name)) algorithm_seen c.args.self.now.algorithms.now)
-    ∙ sym (ap (λ (f : FieldsSeen). is_there_and (is_one_of p.algorithms) f.alg) (opened c.args.header.now) ∙ ap (λ o. is_there_and (is_one_of p.algorithms) (option_map algorithm_seen o)) c.in-Some.is))
+    ∙ sym (ap (λ (f : FieldsSeen). is_there_and (is_one_of p.algorithms) f.alg) (opened c.args.header.now)
+    ∙ ap (λ o. is_there_and (is_one_of p.algorithms) (option_map algorithm_seen o)) c.in-Some.is))
 
 pub returns-in-None : goal.returns-in-None
 returns-in-None c =
     let p = policy_seen c.args.self.now in
-    sym (ap (λ (f : FieldsSeen). is_there_and (is_one_of p.algorithms) f.alg) (opened c.args.header.now) ∙ ap (λ o. is_there_and (is_one_of p.algorithms) (option_map algorithm_seen o)) c.in-None.is)
+    sym (ap (λ (f : FieldsSeen). is_there_and (is_one_of p.algorithms) f.alg) (opened c.args.header.now)
+    ∙ ap (λ o. is_there_and (is_one_of p.algorithms) (option_map algorithm_seen o)) c.in-None.is)

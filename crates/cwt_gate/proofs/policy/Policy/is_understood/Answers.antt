@@ -11,7 +11,8 @@ returns-then-contains c =
     let p = policy_seen c.args.self.now in
     let l = critical_seen c.args.label.now in
     let b = has_label (header_seen c.args.header.now) (as_name l) in
-    let named : is_one_of p.critical l ≡ true = any-map (λ m. is_eq (registered_cmp m l)) critical_seen c.args.self.now.critical.now ∙ (sym c.contains.ensures.value ∙ c.if-contains.true) in
+    let named : is_one_of p.critical l ≡ true = any-map (λ m. is_eq (registered_cmp m l)) critical_seen c.args.self.now.critical.now
+    ∙ (sym c.contains.ensures.value ∙ c.if-contains.true) in
     c.has_label.ensures ∙ sym (ap (λ (t : Bool). t && b) named)
 
 pub returns-else-contains : goal.returns-else-contains
@@ -19,5 +20,6 @@ returns-else-contains c =
     let p = policy_seen c.args.self.now in
     let l = critical_seen c.args.label.now in
     let b = has_label (header_seen c.args.header.now) (as_name l) in
-    let named : is_one_of p.critical l ≡ false = any-map (λ m. is_eq (registered_cmp m l)) critical_seen c.args.self.now.critical.now ∙ (sym c.contains.ensures.value ∙ c.if-contains.false) in
+    let named : is_one_of p.critical l ≡ false = any-map (λ m. is_eq (registered_cmp m l)) critical_seen c.args.self.now.critical.now
+    ∙ (sym c.contains.ensures.value ∙ c.if-contains.false) in
     c.if-contains.false ∙ sym (ap (λ (t : Bool). t && b) named)

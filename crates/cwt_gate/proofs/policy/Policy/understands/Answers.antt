@@ -26,7 +26,8 @@ returns-then-are_understood c =
     let u = m.unprotected in
     let p = policy_seen c.args.self.now in
     let crit = (out-Header h).crit.items in
-    let found = all_from_yields_List (λ l. is_understood p (header_seen h) (critical_seen l)) _ _ _ c.all-are_understood.ensures.ran (YieldsList-from_slice crit cc) (λ x b q k. search (rules, tests)) in
+    let found = all_from_yields_List (λ l. is_understood p (header_seen h) (critical_seen l)) _ _ _ c.all-are_understood.ensures.ran
+    (YieldsList-from_slice crit cc) (λ x b q k. search (rules, tests)) in
     let judged : Judged p (protected_seen m.protected).header ≡ true =
     ap (Judged p) (protected_opened m.protected)
     ∙ (ap (JudgedIn p (header_seen h)) (opened h) ∙ (all-map (is_understood p (header_seen h)) critical_seen crit ∙ (sym found ∙ c.if-are_understood.true))) in
@@ -42,7 +43,8 @@ returns-else-are_understood c =
     let u = m.unprotected in
     let p = policy_seen c.args.self.now in
     let crit = (out-Header h).crit.items in
-    let found = all_from_yields_List (λ l. is_understood p (header_seen h) (critical_seen l)) _ _ _ c.all-are_understood.ensures.ran (YieldsList-from_slice crit cc) (λ x b q k. search (rules, tests)) in
+    let found = all_from_yields_List (λ l. is_understood p (header_seen h) (critical_seen l)) _ _ _ c.all-are_understood.ensures.ran
+    (YieldsList-from_slice crit cc) (λ x b q k. search (rules, tests)) in
     let judged : Judged p (protected_seen m.protected).header ≡ false =
     ap (Judged p) (protected_opened m.protected)
     ∙ (ap (JudgedIn p (header_seen h)) (opened h) ∙ (all-map (is_understood p (header_seen h)) critical_seen crit ∙ (sym found ∙ c.if-are_understood.false))) in

@@ -6,7 +6,8 @@ pub returns-in-Lent-clause-member : goal.returns-in-Lent-clause-member
 returns-in-Lent-clause-member c = λ more. lent_size c.args.self.now c.in-Lent.places (state c.args.input.now) c.in-Lent.is (c.next_lent.ensures.there more)
 
 pub returns-in-Lent-clause-turns : goal.returns-in-Lent-clause-turns
-returns-in-Lent-clause-turns c = λ more t goes. lent_turns c.args.self.now c.in-Lent.places (state c.args.input.now) t c.in-Lent.is (c.next_lent.ensures.there more) goes
+returns-in-Lent-clause-turns c = λ more t goes. lent_turns c.args.self.now c.in-Lent.places (state c.args.input.now) t c.in-Lent.is
+    (c.next_lent.ensures.there more) goes
 
 pub returns-in-Lent-clause-nexts : goal.returns-in-Lent-clause-nexts
 returns-in-Lent-clause-nexts c = λ vs z w. c.next_lent.ensures.nexts vs z (rw c.in-Lent.is at w)

@@ -1,0 +1,100 @@
+-- What is described plain or under a tag (RFC 8152, section 2: `COSE_Tagged_Message / COSE_Untagged_Message`).
+use Rattle.std.proofs.Common.{◌≡◌, ◌⊎◌, ◌≤◌, ◌==◌, ℕ, suc, Option, Some, None, Bool, true, false, cond, refl, sym, ap, subst, inl, inr, arith}
+use Rattle.std.proofs.lemmas.Bool.{eqb-true}
+use Rattle.coset_value.specs.Item.{Item, integer, bytes, float, text, boolean, null, tag, array, dict, depth}
+use Rattle.coset_value.specs.Parts.{as_tag}
+use Rattle.coset_codec.specs.Shape.{Shape, tagged}
+use Rattle.coset_codec.specs.ShapeLaws.{Again, Lawful, some-one}
+
+-- what a tag of that number encloses, and any other item as it is
+abbrev pub or_enclosed : ℕ → Item → Option (ℕ × Item) → Item
+or_enclosed number v None = v
+or_enclosed number v (Some t) = cond (t.0 == number) t.1 v
+
+abbrev pub untagged : ℕ → Item → Item
+untagged number v = or_enclosed number v (as_tag v)
+
+-- s / #6.number(s), where s describes no tag of that number
+abbrev pub perhaps_tagged : {A : Type 0} → ℕ → Shape A → Shape A
+perhaps_tagged number s = record {
+  describes = λ v x. s.describes (untagged number v) x;
+  image = s.image;
+  faults = λ v e. s.faults (untagged number v) e;
+}
+
+-- s describes no tag of that number
+abbrev pub DescribesNoTag : {A : Type 0} → ℕ → Shape A → Type 0
+DescribesNoTag {A} number s = (w : Item) (x : A) → s.describes (tag number w) x → ⊥
+
+-- ---- the laws
+
+-- an item is a tag of that number, or is as it is without one
+untagged_cases : (number : ℕ) (v : Item) → ((w : Item) × (as_tag v ≡ Some (number, w)) × (untagged number v ≡ w)) ⊎ (untagged number v ≡ v)
+untagged_cases number (tag t w) = go (t == number) refl
+  where
+    go : (b : Bool) → (t == number) ≡ b → ((u : Item) × (as_tag (tag t w) ≡ Some (number, u)) × (cond b w (tag t w) ≡ u)) ⊎ (cond b w (tag t w) ≡ tag t w)
+    go true h =
+        let same : t ≡ number = eqb-true t number h in
+        let told : as_tag (tag t w) ≡ Some (number, w) = rw same refl in
+        inl (w, told, refl)
+    go false h = inr refl
+untagged_cases number (array ws) = inr refl
+untagged_cases number (integer n) = inr refl
+untagged_cases number (bytes s) = inr refl
+untagged_cases number (float x) = inr refl
+untagged_cases number (text s) = inr refl
+untagged_cases number (boolean b) = inr refl
+untagged_cases number null = inr refl
+untagged_cases number (dict ps) = inr refl
+
+as_tag-is : (v : Item) (t : ℕ) (w : Item) → as_tag v ≡ Some (t, w) → v ≡ tag t w
+as_tag-is (tag u x) t w p = let h : (u, x) ≡ (t, w) = some-one refl p in ap (λ y. tag y.0 y.1) h
+as_tag-is (array ws) t w p = absurd (cc)
+as_tag-is (integer n) t w p = absurd (cc)
+as_tag-is (bytes s) t w p = absurd (cc)
+as_tag-is (float x) t w p = absurd (cc)
+as_tag-is (text s) t w p = absurd (cc)
+as_tag-is (boolean b) t w p = absurd (cc)
+as_tag-is null t w p = absurd (cc)
+as_tag-is (dict ps) t w p = absurd (cc)
+
+untagged_depth : (number : ℕ) (v : Item) → depth (untagged number v) ≤ depth v
+untagged_depth number v =
+    elim (untagged_cases number v) [
+      | inl c ↦ let d : depth v ≡ suc (depth c.0) = ap depth (as_tag-is v number c.0 c.1) in rw c.2 (omega (arith, d))
+      | inr same ↦ rw same (omega arith)
+    ]
+
+module _ {A : Type 0} (number : ℕ) (s : Shape A) where
+  -- what is described plain or under the tag is described by the one or by the other
+  pub perhaps_tagged_is : (v : Item) (x : A) → (perhaps_tagged number s).describes v x → s.describes v x ⊎ (tagged number s).describes v x
+  perhaps_tagged_is v x p =
+      elim (untagged_cases number v) [
+        | inl c ↦ inr (c.0, c.1, subst (λ w. s.describes w x) c.2 p)
+        | inr same ↦ inl (subst (λ w. s.describes w x) same p)
+      ]
+
+  pub tagged_is_perhaps : (v : Item) (x : A) → (tagged number s).describes v x → (perhaps_tagged number s).describes v x
+  tagged_is_perhaps v x p =
+      subst (λ o. s.describes (or_enclosed number v o) x) (sym p.1) (subst (λ b. s.describes (cond b p.0 v) x) (sym (same_number number)) p.2)
+    where
+      same_number : (n : ℕ) → (n == n) ≡ true
+      same_number n = grind arith
+
+  pub plain_is_perhaps : DescribesNoTag number s → (v : Item) (x : A) → s.describes v x → (perhaps_tagged number s).describes v x
+  plain_is_perhaps none v x p =
+      elim (untagged_cases number v) [
+        | inl c ↦ absurd (none c.0 x (subst (λ w. s.describes w x) (as_tag-is v number c.0 c.1) p))
+        | inr same ↦ subst (λ w. s.describes w x) (sym same) p
+      ]
+
+  pub perhaps_tagged_laws : DescribesNoTag number s → Lawful A s → Lawful A (perhaps_tagged number s)
+  perhaps_tagged_laws none l =
+      record {
+        unique = λ v x y p q. l.unique (untagged number v) x y p q;
+        again = λ v x p.
+            let a : Again A s (untagged number v) x = l.again (untagged number v) x p in
+            let d : depth (untagged number v) ≤ depth v = untagged_depth number v in
+            record { image = a.image; is_image = a.is_image; described = plain_is_perhaps none a.image x a.described; shallow = omega (arith, a.shallow, d) };
+        sound = λ v x e p f. l.sound (untagged number v) x e p f;
+      }

@@ -1,0 +1,12 @@
+//! The tests of `coset_sample`: types of a caller's own, what they read, write and refuse. They stand apart from it, since a
+//! crate with tests is proved twice.
+#![tactic(auto)]
+
+#[cfg(test)]
+mod kinds;
+#[cfg(test)]
+mod refused;
+#[cfg(test)]
+mod repeats;
+#[cfg(test)]
+mod rows;

@@ -1,0 +1,25 @@
+-- An array of which the members that read are kept, and the others passed over.
+use Rattle.std.specs.Prelude.{◌≡◌, ◌⊎◌, List, [], ◌∷◌, Option, Some, None, MatchOption, option_map}
+use Rattle.coset_value.specs.Item.{Item, Items, no_items, item, array}
+use Rattle.coset_value.specs.Parts.{as_array}
+use Rattle.coset_codec.specs.Errors.{IsUnexpected}
+use Rattle.coset_codec.specs.Shape.{Shape, images}
+
+-- what the item describes, where it describes something
+abbrev pub IsRead : {T A : Type 0} → Shape A → (T → A) → Item → Option T → Type 0
+IsRead {T} {A} s seen v o = MatchOption o ((x : A) → s.describes v x → ⊥) (λ x. s.describes v (seen x))
+
+-- the values of those members that describe one, in order
+abbrev pub AreThoseRead : {A : Type 0} → Shape A → Items → List A → Type 0
+AreThoseRead s no_items xs = xs ≡ []
+AreThoseRead {A} s (item v vs) xs =
+    ((x : A) × (ys : List A) × (xs ≡ x ∷ ys) × s.describes v x × AreThoseRead s vs ys)
+    ⊎ (((x : A) → s.describes v x → ⊥) × AreThoseRead s vs xs)
+
+-- [* any], of which the members are kept that s describes
+abbrev pub those_of : {A : Type 0} → Shape A → Shape (List A)
+those_of s = record {
+  describes = λ v xs. (vs : Items) × (as_array v ≡ Some vs) × AreThoseRead s vs xs;
+  image = λ xs. option_map array (images s.image xs);
+  faults = λ v e. (as_array v ≡ None) × IsUnexpected e;
+}

@@ -1,0 +1,21 @@
+//! The tests of `coset_uses`: what comes out of each use. They stand apart from it, since a crate with tests is proved twice.
+#![tactic(auto)]
+
+#[cfg(test)]
+mod detached;
+#[cfg(test)]
+mod key_set_stores;
+#[cfg(test)]
+mod lookups;
+#[cfg(test)]
+mod parts;
+#[cfg(test)]
+mod question_marks;
+#[cfg(test)]
+mod readings;
+#[cfg(test)]
+mod requests;
+#[cfg(test)]
+mod stores;
+#[cfg(test)]
+mod tokens;
