@@ -82,7 +82,9 @@ pub use Rattle.coset_msg.specs.declared.encrypt0.CoseEncrypt0
 pub use Rattle.coset_recipient.specs.declared.mac.CoseMac
 pub use Rattle.coset_recipient.specs.declared.encrypt.CoseEncrypt
 pub use Rattle.coset_recipient.specs.declared.recipient.CoseRecipient
+pub use Rattle.coset_claims.specs.Number
 pub use Rattle.coset_claims.specs.Timestamp
+pub use Rattle.coset_claims.specs.Seconds
 pub use Rattle.coset_claims.specs.Claims
 pub use Rattle.coset_claims.specs.declared.claims_set.ClaimsSet
 pub use Rattle.coset_claims.specs.Party

@@ -1,7 +1,5 @@
 -- Claims, each of which is written.
 use Rattle.std.proofs.Common.{◌≡◌, None}
-use Rattle.coset_label.specs.Names.{RegisteredName, assigned, private_use, phrase}
-use Rattle.coset_claims.specs.Claims.{claim_name}
 use Rattle.coset_claims.specs.Timestamp.{timestamp, timestamp_seen}
 use Rattle.coset_claims.specs.declared.timestamp.Timestamp.{Timestamp}
 use Rattle.coset_claims.specs.declared.timestamp.Timestamp.TheVariants.{WholeSeconds, FractionalSeconds}

@@ -3,3 +3,4 @@ pub mod ClaimWriting
 pub mod ClaimCopies
 pub mod Places
 pub mod ByteStrings
+mod Comparing

@@ -1,4 +1,7 @@
+pub mod Number
+pub mod NumberView
 pub mod Timestamp
+pub mod Seconds
 pub mod ClaimLabels
 pub mod Claims
 pub mod ClaimsLaws

@@ -104,7 +104,12 @@ fn is_claim(name: &ClaimName, claim: CwtClaimName) -> bool
 /// # Errors
 /// `OutOfMemory`; `DuplicateMapKey` where a field has a value already; or a fault of its value. The claims are then as
 /// before.
-fn put(claims: &mut ClaimsSet, alloc: Global, name: ClaimName, input: &mut Input<'_>) -> Result<()>
+fn set_claim(
+    claims: &mut ClaimsSet,
+    alloc: Global,
+    name: ClaimName,
+    input: &mut Input<'_>,
+) -> Result<()>
     ensures shrinks { length_left (state input.new) ≤ length_left (state input.old) }
     ensures takes { ReadsAt (state input.old) (state input.new) (λ v. OnOk result
         (Adds names fields (name_seen name) v
@@ -174,7 +179,7 @@ impl Gather for ClaimsSet {
     }
 
     fn add(&mut self, alloc: Global, name: ClaimName, input: &mut Input<'_>) -> Result<()> {
-        put(self, alloc, name, input)
+        set_claim(self, alloc, name, input)
     }
 
     fn repeats(&self, alloc: Global) -> Result<bool>
@@ -339,6 +344,18 @@ impl ClaimsSetBuilder {
         self
     }
 
+    /// As [`issuer`](ClaimsSetBuilder::issuer), of a copy of this text.
+    ///
+    /// # Errors
+    /// `OutOfMemory` alone.
+    pub fn issuer_from(self, alloc: Global, issuer: &str) -> Result<ClaimsSetBuilder>
+        ensures ok { IfOk result (λ b. claims_seen b
+            ≡ record (claims_seen self) { issuer = Some issuer.now }) }
+        ensures memory { IfErr result (λ e. e ≡ OutOfMemory) }
+    {
+        Ok(self.issuer(String::from_str(alloc, issuer)?))
+    }
+
     /// Sets the subject (claim 2).
     pub fn subject(mut self, subject: String) -> ClaimsSetBuilder
         ensures { claims_seen result ≡ record
@@ -348,6 +365,18 @@ impl ClaimsSetBuilder {
         self
     }
 
+    /// As [`subject`](ClaimsSetBuilder::subject), of a copy of this text.
+    ///
+    /// # Errors
+    /// `OutOfMemory` alone.
+    pub fn subject_from(self, alloc: Global, subject: &str) -> Result<ClaimsSetBuilder>
+        ensures ok { IfOk result (λ b. claims_seen b
+            ≡ record (claims_seen self) { subject = Some subject.now }) }
+        ensures memory { IfErr result (λ e. e ≡ OutOfMemory) }
+    {
+        Ok(self.subject(String::from_str(alloc, subject)?))
+    }
+
     /// Sets the audience (claim 3).
     pub fn audience(mut self, audience: String) -> ClaimsSetBuilder
         ensures { claims_seen result ≡ record
@@ -355,6 +384,18 @@ impl ClaimsSetBuilder {
     {
         self.0.audience = Some(audience);
         self
+    }
+
+    /// As [`audience`](ClaimsSetBuilder::audience), of a copy of this text.
+    ///
+    /// # Errors
+    /// `OutOfMemory` alone.
+    pub fn audience_from(self, alloc: Global, audience: &str) -> Result<ClaimsSetBuilder>
+        ensures ok { IfOk result (λ b. claims_seen b
+            ≡ record (claims_seen self) { audience = Some audience.now }) }
+        ensures memory { IfErr result (λ e. e ≡ OutOfMemory) }
+    {
+        Ok(self.audience(String::from_str(alloc, audience)?))
     }
 
     /// Sets the expiration time (claim 4).
@@ -390,6 +431,18 @@ impl ClaimsSetBuilder {
     {
         self.0.cwt_id = Some(cwt_id);
         self
+    }
+
+    /// As [`cwt_id`](ClaimsSetBuilder::cwt_id), of a copy of these bytes.
+    ///
+    /// # Errors
+    /// `OutOfMemory` alone.
+    pub fn cwt_id_from(self, alloc: Global, cwt_id: &[u8]) -> Result<ClaimsSetBuilder>
+        ensures ok { IfOk result (λ b. claims_seen b
+            ≡ record (claims_seen self) { cwt_id = Some cwt_id.now }) }
+        ensures memory { IfErr result (λ e. e ≡ OutOfMemory) }
+    {
+        Ok(self.cwt_id(Vec::from_slice(alloc, cwt_id)?))
     }
 
     /// Adds a claim whose name isn't of 1 to 7: those have calls of their own. A claims set with a name twice is

@@ -3,6 +3,7 @@
 
 mod claims_set;
 mod context;
+mod number;
 mod party;
 mod supp_pub;
 mod timestamp;

@@ -1,16 +1,14 @@
 //! The parties of a key agreement (RFC 8152, section 11.2).
 
-ghost use Rattle.std.specs.Prelude.{◌≡◌, ◌↔◌, ◌≤◌, IsTrue, IfOk, IfErr, OnOk, Some, option_map};
+ghost use Rattle.std.specs.Prelude.{◌≡◌, ◌↔◌, IsTrue, IfOk, IfErr, Some, option_map};
 ghost use Rattle.std.specs.Ordering.{on};
 ghost use Rattle.std.specs.Cmp.{on_equiv, on_per, partial_equiv_from_equiv};
 ghost use Rattle.coset_codec.specs.declared.error.CoseError.TheVariants.{OutOfMemory};
-ghost use Rattle.coset_codec.specs.Answers.{Reads};
-ghost use Rattle.coset_codec.specs.Inputs.{GoesBehind, ReadsAt, length_left, state};
 ghost use Rattle.coset_claims.specs.Party.{empty_party, nonce, nonce_or_nil, nonce_seen, party, party_seen};
 ghost use Rattle.coset_claims.specs.ContextSame.{nonce_eq, nonce_eq_equiv};
 
 use coset_cbor::value::Value;
-use coset_codec::read::Input;
+use coset_codec::read::{Decode, Input, decode_three};
 use coset_codec::util::copy_bstr;
 use coset_codec::write::{Encode, encode_three};
 use coset_codec::{Codec, Result};
@@ -30,23 +28,49 @@ pub enum Nonce {
     Integer(i64),
 }
 
-/// What every error of a nonce's kind asks for.
-const NONCE: &str = "bstr / int / nil";
+/// A nonce, or null where there is none.
+#[derive(Drop)]
+struct NonceOrNil(Option<Nonce>);
 
-/// Reads a nonce, or null where there is none.
-fn read_nonce(alloc: Global, input: &mut Input<'_>) -> Result<Option<Nonce>>
-    ensures shrinks { length_left (state input.new) ≤ length_left (state input.old) }
-    ensures strictly { OnOk result (GoesBehind (state input.old) (state input.new)) }
-    ensures reads { ReadsAt (state input.old) (state input.new)
-        (λ v. Reads nonce_or_nil (option_map nonce_seen) v result) }
-{
-    if input.null() {
-        return Ok(None);
+impl Decode for NonceOrNil {
+    ghost use Rattle.std.specs.Prelude.{Option};
+    ghost use Rattle.coset_claims.specs.Party.{NonceSeen};
+
+    ghost Seen = { Option NonceSeen };
+
+    ghost seen = { λ n. option_map nonce_seen n.0 };
+
+    ghost shape = { nonce_or_nil };
+
+    fn decode(alloc: Global, input: &mut Input<'_>) -> Result<NonceOrNil> {
+        if input.null() {
+            return Ok(NonceOrNil(None));
+        }
+        let nonce = match input.integer() {
+            Some(number) => Nonce::Integer(i64::try_from(number)?),
+            None => Nonce::Bytes(input.bytes(alloc, "bstr / int / nil")?),
+        };
+        Ok(NonceOrNil(Some(nonce)))
     }
-    if let Some(number) = input.integer() {
-        return Ok(Some(Nonce::Integer(i64::try_from(number)?)));
+}
+
+/// A byte string, or null where there is none.
+#[derive(Drop)]
+struct BstrOrNil(Option<Vec<u8>>);
+
+impl Decode for BstrOrNil {
+    ghost use Rattle.std.specs.Prelude.{List, Option, ℕ};
+    ghost use Rattle.coset_codec.specs.Shape.{bstr, or_nil};
+
+    ghost Seen = { Option (List ℕ) };
+
+    ghost seen = { λ b. option_map (λ v. v.items) b.0 };
+
+    ghost shape = { or_nil bstr };
+
+    fn decode(alloc: Global, input: &mut Input<'_>) -> Result<BstrOrNil> {
+        Ok(BstrOrNil(input.bytes_or_nil(alloc, "bstr / nil")?))
     }
-    Ok(Some(Nonce::Bytes(input.bytes(alloc, NONCE)?)))
 }
 
 impl Encode for Nonce {
@@ -180,9 +204,6 @@ impl Default for PartyInfo {
     }
 }
 
-/// What the error of another number of places asks for.
-const THREE: &str = "array with 3 items";
-
 impl Codec for PartyInfo {
     ghost use Rattle.coset_claims.specs.ContextSame.{party_told};
     ghost use Rattle.coset_claims.specs.Party.{PartySeen, party_laws};
@@ -197,20 +218,12 @@ impl Codec for PartyInfo {
 
     ghost equal = { party_told };
 
-    /// Reads the places of a party from the first to the last, and names the fault of the last that has one.
     fn read(alloc: Global, input: &mut Input<'_>) -> Result<PartyInfo> {
-        let mut places = input.enter_array("array")?;
-        places.place(input, THREE)?;
-        let identity = input.bytes_or_nil(alloc, "bstr / nil");
-        places.place(input, THREE)?;
-        let nonce = read_nonce(alloc, input);
-        places.place(input, THREE)?;
-        let other = input.bytes_or_nil(alloc, "bstr / nil");
-        places.end(input, THREE)?;
-        let other = other?;
-        let nonce = nonce?;
+        let (BstrOrNil(identity), NonceOrNil(nonce), BstrOrNil(other)) = decode_three(
+            alloc, input,
+        )?;
         Ok(PartyInfo {
-            identity: identity?,
+            identity,
             nonce,
             other,
         })
@@ -315,6 +328,18 @@ impl PartyInfoBuilder {
         self
     }
 
+    /// As [`identity`](PartyInfoBuilder::identity), of a copy of these bytes.
+    ///
+    /// # Errors
+    /// `OutOfMemory` alone.
+    pub fn identity_from(self, alloc: Global, identity: &[u8]) -> Result<PartyInfoBuilder>
+        ensures ok { IfOk result (λ b. party_seen b
+            ≡ record (party_seen self) { identity = Some identity.now }) }
+        ensures memory { IfErr result (λ e. e ≡ OutOfMemory) }
+    {
+        Ok(self.identity(Vec::from_slice(alloc, identity)?))
+    }
+
     /// Sets its nonce.
     pub fn nonce(mut self, nonce: Nonce) -> PartyInfoBuilder
         ensures { party_seen result ≡ record
@@ -330,5 +355,17 @@ impl PartyInfoBuilder {
     {
         self.0.other = Some(other);
         self
+    }
+
+    /// As [`other`](PartyInfoBuilder::other), of a copy of these bytes.
+    ///
+    /// # Errors
+    /// `OutOfMemory` alone.
+    pub fn other_from(self, alloc: Global, other: &[u8]) -> Result<PartyInfoBuilder>
+        ensures ok { IfOk result (λ b. party_seen b
+            ≡ record (party_seen self) { other = Some other.now }) }
+        ensures memory { IfErr result (λ e. e ≡ OutOfMemory) }
+    {
+        Ok(self.other(Vec::from_slice(alloc, other)?))
     }
 }

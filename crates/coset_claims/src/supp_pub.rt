@@ -203,4 +203,16 @@ impl SuppPubInfoBuilder {
         self.0.other = Some(other);
         self
     }
+
+    /// As [`other`](SuppPubInfoBuilder::other), of a copy of these bytes.
+    ///
+    /// # Errors
+    /// `OutOfMemory` alone.
+    pub fn other_from(self, alloc: Global, other: &[u8]) -> Result<SuppPubInfoBuilder>
+        ensures ok { IfOk result (λ b. supp_pub_seen b
+            ≡ record (supp_pub_seen self) { other = Some other.now }) }
+        ensures memory { IfErr result (λ e. e ≡ OutOfMemory) }
+    {
+        Ok(self.other(Vec::from_slice(alloc, other)?))
+    }
 }

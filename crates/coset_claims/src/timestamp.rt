@@ -7,8 +7,10 @@ ghost use Rattle.coset_value.specs.View.{view};
 ghost use Rattle.coset_codec.specs.declared.error.CoseError.TheVariants.{OutOfMemory};
 ghost use Rattle.coset_codec.specs.Answers.{Reads};
 ghost use Rattle.coset_codec.specs.Inputs.{GoesBehind, ReadsAt, length_left, state};
+ghost use Rattle.coset_claims.specs.Seconds.{is_after, seconds_cmp};
 ghost use Rattle.coset_claims.specs.Timestamp.{timestamp, timestamp_eq, timestamp_eq_equiv, timestamp_seen};
 
+use crate::number::{self, number_of};
 use coset_cbor::de::Pull;
 use coset_cbor::value::{Float, Value};
 use coset_codec::read::Input;
@@ -16,6 +18,7 @@ use coset_codec::traits::FromPull;
 use coset_codec::write::Encode;
 use coset_codec::{AsCborValue, Lawful, Result, Source};
 use std::alloc::{AllocError, Global};
+use std::cmp::Ordering;
 
 /// Seconds since 1970 began in UTC, without leap seconds (RFC 8392, section 2; RFC 8949, section 3.4.2).
 ///
@@ -129,6 +132,28 @@ impl Timestamp {
         ensures memory { IfErr result (λ e. e ≡ OutOfMemory) }
     {
         Ok(Clone::clone(self)?)
+    }
+
+    /// How the moment compares with so many whole seconds since 1970 began in UTC: exactly, whatever the width of a float.
+    /// `None` where it is an infinity or no number, and so no moment. It takes no memory.
+    pub fn compare(&self, seconds: i128) -> Option<Ordering>
+        ensures { result ≡ seconds_cmp (timestamp_seen self.now) seconds }
+    {
+        match self {
+            Timestamp::WholeSeconds(named) => Some(i128::from(*named).cmp(&seconds)),
+            Timestamp::FractionalSeconds(float) => match number_of(*float) {
+                Some(number) => Some(number::compare(&number, seconds)),
+                None => None,
+            },
+        }
+    }
+
+    /// Whether the moment is later than so many whole seconds, as [`compare`](Timestamp::compare) says: false where it is
+    /// no moment. So claims that expire then have not expired at `seconds`. It takes no memory.
+    pub fn is_after(&self, seconds: i64) -> bool
+        ensures { result ≡ is_after (timestamp_seen self.now) seconds }
+    {
+        self.compare(i128::from(seconds)) == Some(Ordering::Greater)
     }
 }
 

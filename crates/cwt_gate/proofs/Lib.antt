@@ -1,3 +1,2 @@
-mod Comparing
 mod Opened
 mod Judging

@@ -1,8 +1,10 @@
 -- What claims say of a moment (RFC 8392, sections 3.1.4 and 3.1.5): the seconds since 1970 began in UTC.
-use Rattle.std.specs.Prelude.{◌||◌, ◌+ℤ◌, ◌-ℤ◌, not, ℕ, ℤ, pos, int_le, Bool, true, false, Option, Some, None}
+use Rattle.std.specs.Prelude.{◌||◌, ◌+ℤ◌, ◌-ℤ◌, not, ℕ, ℤ, pos, Bool, true, false, Option, Some, None}
+use Rattle.std.specs.declared.cmp.Ordering.{Ordering}
+use Rattle.std.specs.Ordering.{is_le}
 use Rattle.coset.specs.Claims.{ClaimsSeen}
-use Rattle.coset.specs.Timestamp.{TimestampSeen, whole_seconds, fractional_seconds}
-use Rattle.cwt_gate.specs.Number.{Number, number, is_at_most}
+use Rattle.coset.specs.Seconds.{seconds_cmp}
+use Rattle.coset.specs.Timestamp.{TimestampSeen, fractional_seconds}
 
 -- a moment is named, in other than whole seconds
 abbrev pub is_fractional : Option TimestampSeen → Bool
@@ -13,15 +15,14 @@ is_fractional named = false
 abbrev pub has_fraction : ClaimsSeen → Bool
 has_fraction c = is_fractional c.expiration_time || is_fractional c.not_before
 
--- the number is at most k; `otherwise`, where there is none
-abbrev pub is_at_most_or : Bool → ℤ → Option Number → Bool
-is_at_most_or otherwise k None = otherwise
-is_at_most_or otherwise k (Some x) = is_at_most x k
+-- the moment is no later; `otherwise`, where there is none
+abbrev pub is_le_or : Bool → Option Ordering → Bool
+is_le_or otherwise None = otherwise
+is_le_or otherwise (Some o) = is_le o
 
 -- at k seconds the moment has come; `otherwise`, where a float is no number of seconds
 abbrev pub has_come : Bool → ℤ → TimestampSeen → Bool
-has_come otherwise k (whole_seconds i) = int_le i k
-has_come otherwise k (fractional_seconds x) = is_at_most_or otherwise k (number x)
+has_come otherwise k t = is_le_or otherwise (seconds_cmp t k)
 
 -- exp is there, and now is at least exp and the leeway together; an infinity, or what is no number, has expired
 abbrev pub has_expired : ℕ → ℤ → Option TimestampSeen → Bool

@@ -6,7 +6,6 @@
 mod error;
 mod gate;
 mod moment;
-mod number;
 mod policy;
 mod token;
 mod verified;

@@ -1,11 +1,10 @@
 //! What claims say of a moment (RFC 8392, sections 3.1.4 and 3.1.5).
 
-ghost use Rattle.std.specs.Prelude.{◌≡◌, ◌<◌, ◌^◌, option_map, unsigned_abs};
+ghost use Rattle.std.specs.Prelude.{◌≡◌, option_map};
 ghost use Rattle.coset.specs.Timestamp.{timestamp_seen};
 ghost use Rattle.coset.specs.Claims.{claims_seen};
 ghost use Rattle.cwt_gate.specs.Moment.{has_come, has_expired, has_fraction, is_early, is_fractional};
 
-use crate::number::{is_at_most, number_of};
 use coset::cwt::{ClaimsSet, Timestamp};
 
 /// Whether a moment is named in other than whole seconds.
@@ -24,15 +23,11 @@ pub(crate) fn has_fraction(claims: &ClaimsSet) -> bool
 
 /// Whether the moment has come at so many seconds; `otherwise`, where it is no number of seconds.
 fn has_come(otherwise: bool, seconds: i128, moment: &Timestamp) -> bool
-    requires { unsigned_abs seconds < 2 ^ 66 }
     ensures { result ≡ has_come otherwise seconds (timestamp_seen moment.now) }
 {
-    match moment {
-        Timestamp::WholeSeconds(named) => i128::from(*named) <= seconds,
-        Timestamp::FractionalSeconds(float) => match number_of(*float) {
-            Some(number) => is_at_most(&number, seconds),
-            None => otherwise,
-        },
+    match moment.compare(seconds) {
+        Some(order) => order.is_le(),
+        None => otherwise,
     }
 }
 

@@ -1,8 +1,8 @@
 -- The code's numbers and formats, as those of `Number`.
 use Rattle.std.specs.Prelude.{◌*◌, ◌^◌, ◌<◌}
-use Rattle.cwt_gate.specs.Number as numbers
-use Rattle.cwt_gate.specs.declared.number.Format.{Format}
-use Rattle.cwt_gate.specs.declared.number.Number.{Number}
+use Rattle.coset_claims.specs.Number as numbers
+use Rattle.coset_claims.specs.declared.number.Format.{Format}
+use Rattle.coset_claims.specs.declared.number.Number.{Number}
 
 abbrev pub number_seen : Number → numbers.Number
 number_seen x = record { is_negative = x.is_negative; units = x.significand * 2 ^ x.exponent; scale = x.scale }

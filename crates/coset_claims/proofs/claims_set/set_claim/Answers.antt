@@ -2,7 +2,7 @@ use Rattle.std.proofs.Common.{◌≡◌, [], ◌∷◌, ◌++◌, map, refl, sym
 use Rattle.std.proofs.lemmas.List.{map_push}
 use Rattle.coset_claims.specs.Claims.{claims_seen, entry_seen, name_seen, parts_of}
 use Rattle.coset_claims.proofs.ClaimPutting.{adds_rest}
-use Rattle.coset_claims.proofs.claims_set.put.Goals as goal
+use Rattle.coset_claims.proofs.claims_set.set_claim.Goals as goal
 
 pub returns-clause-takes : goal.returns-clause-takes
 returns-clause-takes c = λ v z stands.

@@ -1,6 +1,8 @@
 -- Binary floats as numbers (IEEE 754, section 3.4), and how they compare with whole numbers: exactly, without rounding.
-use Rattle.std.specs.Prelude.{◌==◌, ◌+◌, ◌*◌, ◌/◌, ◌%◌, ◌^◌, ◌*ℤ◌, ℕ, zero, suc, ℤ, pos, neg_ℤ, int_le, nat_le, Bool, Option, Some, None, if◌then◌else◌}
-use Rattle.coset.specs.Item.{Bits, half, single, double}
+use Rattle.std.specs.Prelude.{◌==◌, ◌+◌, ◌*◌, ◌/◌, ◌%◌, ◌^◌, ◌*ℤ◌, ℕ, zero, suc, ℤ, pos, neg_ℤ, nat_le, Bool, Option, Some, None, if◌then◌else◌}
+use Rattle.std.specs.declared.cmp.Ordering.{Ordering}
+use Rattle.std.specs.Ordering.{int_cmp}
+use Rattle.coset_value.specs.Item.{Bits, half, single, double}
 
 -- a format: how many fractions and how many exponents its bits tell apart; and 2 ^ scale of its least number make 1
 pub record Format : Type 0 where
@@ -42,6 +44,6 @@ number (half n) = number_in half_format n
 number (single n) = number_in single_format n
 number (double n) = number_in double_format n
 
--- the number is at most k
-abbrev pub is_at_most : Number → ℤ → Bool
-is_at_most x k = int_le (if x.is_negative then neg_ℤ (pos x.units) else pos x.units) (k *ℤ pos (2 ^ x.scale))
+-- how the number compares with k
+abbrev pub number_cmp : Number → ℤ → Ordering
+number_cmp x k = int_cmp (if x.is_negative then neg_ℤ (pos x.units) else pos x.units) (k *ℤ pos (2 ^ x.scale))

@@ -1,12 +1,12 @@
 //! Binary floats as numbers, which are compared with whole numbers exactly.
 
-ghost use Rattle.std.specs.Prelude.{◌≡◌, ◌<◌, ◌*◌, ◌^◌, option_map, unsigned_abs, IfSome};
+ghost use Rattle.std.specs.Prelude.{◌≡◌, ◌<◌, ◌*◌, ◌^◌, option_map};
 ghost use Rattle.std.specs.Ordering.{nat_cmp};
-ghost use Rattle.coset.specs.View.{bits_of};
-ghost use Rattle.cwt_gate.specs.Number.{is_at_most, number, number_in, units_of};
-ghost use Rattle.cwt_gate.specs.NumberView.{number_seen, format_seen, IsFormat};
+ghost use Rattle.coset_value.specs.View.{bits_of};
+ghost use Rattle.coset_claims.specs.Number.{number, number_cmp, number_in, units_of};
+ghost use Rattle.coset_claims.specs.NumberView.{number_seen, format_seen, IsFormat};
 
-use coset::cbor::value::Float;
+use coset_cbor::value::Float;
 use std::cmp::Ordering;
 
 /// A format of binary floats (IEEE 754, section 3.4).
@@ -51,8 +51,7 @@ pub(crate) struct Number {
 /// The number of these bits, unless they are of an infinity or of what is no number.
 fn number_in(bits: u64, format: Format) -> Option<Number>
     requires { IsFormat format }
-    ensures value { option_map number_seen result ≡ number_in (format_seen format) bits }
-    ensures small { IfSome result (λ x. x.significand < 2 ^ 54) }
+    ensures { option_map number_seen result ≡ number_in (format_seen format) bits }
 {
     let upper = bits / format.fractions;
     let exponent = upper % format.exponents;
@@ -75,8 +74,7 @@ fn scaled(fractions: u64, exponent: u64, fraction: u64) -> (u64, u32)
     requires few_fractions { fractions < 2 ^ 53 }
     requires fraction { fraction < fractions }
     requires few_exponents { exponent < 2 ^ 12 }
-    ensures value { result.0 * 2 ^ result.1 ≡ units_of fractions exponent fraction }
-    ensures small { result.0 < 2 ^ 54 }
+    ensures { result.0 * 2 ^ result.1 ≡ units_of fractions exponent fraction }
 {
     if exponent == 0 {
         (fraction, 0)
@@ -87,8 +85,7 @@ fn scaled(fractions: u64, exponent: u64, fraction: u64) -> (u64, u32)
 
 /// The number that a float is, unless it is an infinity or no number.
 pub(crate) fn number_of(float: Float) -> Option<Number>
-    ensures value { option_map number_seen result ≡ number (bits_of float) }
-    ensures small { IfSome result (λ x. x.significand < 2 ^ 54) }
+    ensures { option_map number_seen result ≡ number (bits_of float) }
 {
     match float {
         Float::Half(bits) => number_in(u64::from(bits), HALF),
@@ -97,32 +94,48 @@ pub(crate) fn number_of(float: Float) -> Option<Number>
     }
 }
 
+/// How a, times 2 to the power of `up`, compares with b.
+fn compare_scaled(a: u128, up: u32, b: u128) -> Ordering
+    ensures { result ≡ nat_cmp (a * 2 ^ up) b }
+{
+    if up >= 128 {
+        return if a == 0 { 0.cmp(&b) } else { Ordering::Greater };
+    }
+    let quotient = b >> up;
+    let order = a.cmp(&quotient);
+    if quotient << up == b {
+        order
+    } else {
+        order.then(Ordering::Less)
+    }
+}
+
 /// How the number, without its sign, compares with k.
-fn compare(number: &Number, k: u128) -> Ordering
-    requires small { number.now.significand < 2 ^ 54 }
-    requires near { k < 2 ^ 66 }
+fn compare_units(number: &Number, k: u128) -> Ordering
     ensures { result ≡ nat_cmp (number_seen number.now).units (k * 2 ^ number.now.scale) }
 {
     let significand = u128::from(number.significand);
     if number.exponent >= number.scale {
-        let up = (number.exponent - number.scale).min(66);
-        (significand << up).cmp(&k)
+        compare_scaled(significand, number.exponent - number.scale, k)
     } else {
-        let down = (number.scale - number.exponent).min(60);
-        significand.cmp(&(k << down))
+        compare_scaled(k, number.scale - number.exponent, significand).reverse()
     }
 }
 
-/// Whether the number is at most k.
-pub(crate) fn is_at_most(number: &Number, k: i128) -> bool
-    requires small { number.now.significand < 2 ^ 54 }
-    requires near { unsigned_abs k < 2 ^ 66 }
-    ensures { result ≡ is_at_most (number_seen number.now) k }
+/// How the number compares with k.
+pub(crate) fn compare(number: &Number, k: i128) -> Ordering
+    ensures { result ≡ number_cmp (number_seen number.now) k }
 {
-    let order = compare(number, k.unsigned_abs());
+    let order = compare_units(number, k.unsigned_abs());
     if number.is_negative {
-        k >= 0 || order.is_ge()
+        if k > 0 {
+            Ordering::Less
+        } else {
+            order.reverse()
+        }
+    } else if k < 0 {
+        Ordering::Greater
     } else {
-        k >= 0 && order.is_le()
+        order
     }
 }
