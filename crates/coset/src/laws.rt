@@ -23,7 +23,8 @@ pub use coset_msg::laws::{
     kept_in_messages, one_of_all_structures, structure_as_written, structure_when_read,
 };
 pub use coset_recipient::laws::{
-    kept_with_recipients, recipients_hold_recipients, structures_as_written, structures_when_read,
+    kept_with_recipients, no_tag_is_a_message, recipients_hold_recipients, structures_as_written,
+    structures_when_read,
 };
 pub use coset_sign::laws::{
     carried_as_written, each_signed_as_written, each_signed_when_read, one_signature_structure,

@@ -76,7 +76,7 @@ fn decrypt_ciphertext(alloc: Global, words: &Words<'_>) -> Result<String> {
     and_missing(alloc, asked.opened(alloc, answer)?, missed)
 }
 
-/// `yes` or `no`; the message; the ciphertext that is sent apart; `external_aad`; the plaintext that the closure makes;
+/// `yes` or `no`; the message; the detached ciphertext; `external_aad`; the plaintext that the closure makes;
 /// what becomes of the header.
 fn decrypt_detached(alloc: Global, words: &Words<'_>) -> Result<String> {
     let message = message(alloc, words, 2, 6)?;
@@ -235,23 +235,32 @@ fn add_recipient(alloc: Global, words: &Words<'_>) -> Result<String> {
     tell::value(alloc, built(answer))
 }
 
-/// The message; what becomes of the header. Each of its recipients is added.
-fn build(alloc: Global, words: &Words<'_>) -> Result<String> {
+/// The message of these parts, by the builder's calls that copy what they are given.
+///
+/// # Errors
+/// `OutOfMemory` alone.
+fn rebuilt(alloc: Global, message: CoseEncrypt) -> Result<CoseEncrypt> {
     let CoseEncrypt {
         protected,
         unprotected,
         ciphertext,
         recipients,
-    } = message(alloc, words, 1, 2)?;
-    mark::begin(alloc);
+    } = message;
     let builder = CoseEncryptBuilder::new(alloc)
         .protected(protected.header)
         .unprotected(unprotected);
     let builder = match ciphertext {
-        Some(ciphertext) => builder.ciphertext(ciphertext),
+        Some(ciphertext) => builder.ciphertext_from(alloc, &ciphertext)?,
         None => builder,
     };
-    let answer = and_each(builder, recipients);
+    built(and_each(builder, recipients))
+}
+
+/// The message; what becomes of the header. Each of its recipients is added.
+fn build(alloc: Global, words: &Words<'_>) -> Result<String> {
+    let message = message(alloc, words, 1, 2)?;
+    mark::begin(alloc);
+    let answer = rebuilt(alloc, message);
     mark::end(alloc);
-    tell::value(alloc, built(answer))
+    tell::value(alloc, answer)
 }

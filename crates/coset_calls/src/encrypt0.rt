@@ -75,7 +75,7 @@ fn decrypt_ciphertext(alloc: Global, words: &Words<'_>) -> Result<String> {
     and_missing(alloc, asked.opened(alloc, answer)?, missed)
 }
 
-/// `yes` or `no`; the message; the ciphertext that is sent apart; `external_aad`; the plaintext that the closure makes;
+/// `yes` or `no`; the message; the detached ciphertext; `external_aad`; the plaintext that the closure makes;
 /// what becomes of the header.
 fn decrypt_detached(alloc: Global, words: &Words<'_>) -> Result<String> {
     let message = message(alloc, words, 2, 6)?;
@@ -204,22 +204,31 @@ fn try_create_detached_ciphertext(alloc: Global, words: &Words<'_>) -> Result<St
     asked.opened(alloc, answer)
 }
 
-/// The message; what becomes of the header.
-fn build(alloc: Global, words: &Words<'_>) -> Result<String> {
+/// The message of these parts, by the builder's calls that copy what they are given.
+///
+/// # Errors
+/// `OutOfMemory` alone.
+fn rebuilt(alloc: Global, message: CoseEncrypt0) -> Result<CoseEncrypt0> {
     let CoseEncrypt0 {
         protected,
         unprotected,
         ciphertext,
-    } = message(alloc, words, 1, 2)?;
-    mark::begin(alloc);
+    } = message;
     let builder = CoseEncrypt0Builder::new(alloc)
         .protected(protected.header)
         .unprotected(unprotected);
     let builder = match ciphertext {
-        Some(ciphertext) => builder.ciphertext(ciphertext),
+        Some(ciphertext) => builder.ciphertext_from(alloc, &ciphertext)?,
         None => builder,
     };
-    let built = builder.build();
+    Ok(builder.build())
+}
+
+/// The message; what becomes of the header.
+fn build(alloc: Global, words: &Words<'_>) -> Result<String> {
+    let message = message(alloc, words, 1, 2)?;
+    mark::begin(alloc);
+    let answer = rebuilt(alloc, message);
     mark::end(alloc);
-    tell::value(alloc, Ok(built))
+    tell::value(alloc, answer)
 }

@@ -82,7 +82,7 @@ fn verify_payload_tag(alloc: Global, words: &Words<'_>) -> Result<String> {
     and_missing(alloc, asked.judged(alloc, answer)?, missed)
 }
 
-/// `yes` or `no`; the message; the payload that is sent apart; `external_aad`; what becomes of the header.
+/// `yes` or `no`; the message; the detached payload; `external_aad`; what becomes of the header.
 fn verify_detached_tag(alloc: Global, words: &Words<'_>) -> Result<String> {
     let says_yes = words.says_yes(1)?;
     let message = message(alloc, words, 2, 5)?;
@@ -108,7 +108,7 @@ fn tbm(alloc: Global, words: &Words<'_>) -> Result<String> {
     given::perhaps(alloc, answer)
 }
 
-/// The message; the payload that is sent apart; `external_aad`; what becomes of the header.
+/// The message; the detached payload; `external_aad`; what becomes of the header.
 fn tbm_detached(alloc: Global, words: &Words<'_>) -> Result<String> {
     let message = message(alloc, words, 1, 4)?;
     let payload = words.bytes(alloc, 2)?;
@@ -207,7 +207,7 @@ fn with_payload(alloc: Global, mut message: CoseMac) -> Result<CoseMacBuilder> {
     }
 }
 
-/// The message; the payload that is sent apart; `external_aad`; the tag that the closure makes; what becomes of the
+/// The message; the detached payload; `external_aad`; the tag that the closure makes; what becomes of the
 /// header.
 fn create_detached_tag(alloc: Global, words: &Words<'_>) -> Result<String> {
     let builder = with_payload(alloc, message(alloc, words, 1, 5)?)?;
@@ -251,25 +251,34 @@ fn add_recipient(alloc: Global, words: &Words<'_>) -> Result<String> {
     tell::value(alloc, built(answer))
 }
 
-/// The message; what becomes of the header. Each of its recipients is added.
-fn build(alloc: Global, words: &Words<'_>) -> Result<String> {
+/// The message of these parts, by the builder's calls that copy what they are given.
+///
+/// # Errors
+/// `OutOfMemory` alone.
+fn rebuilt(alloc: Global, message: CoseMac) -> Result<CoseMac> {
     let CoseMac {
         protected,
         unprotected,
         payload,
         tag,
         recipients,
-    } = message(alloc, words, 1, 2)?;
-    mark::begin(alloc);
+    } = message;
     let builder = CoseMacBuilder::new(alloc)
         .protected(protected.header)
         .unprotected(unprotected)
-        .tag(tag);
+        .tag_from(alloc, &tag)?;
     let builder = match payload {
-        Some(payload) => builder.payload(payload),
+        Some(payload) => builder.payload_from(alloc, &payload)?,
         None => builder,
     };
-    let answer = and_each(builder, recipients);
+    built(and_each(builder, recipients))
+}
+
+/// The message; what becomes of the header. Each of its recipients is added.
+fn build(alloc: Global, words: &Words<'_>) -> Result<String> {
+    let message = message(alloc, words, 1, 2)?;
+    mark::begin(alloc);
+    let answer = rebuilt(alloc, message);
     mark::end(alloc);
-    tell::value(alloc, built(answer))
+    tell::value(alloc, answer)
 }

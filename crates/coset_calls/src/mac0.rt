@@ -81,7 +81,7 @@ fn verify_payload_tag(alloc: Global, words: &Words<'_>) -> Result<String> {
     and_missing(alloc, asked.judged(alloc, answer)?, missed)
 }
 
-/// `yes` or `no`; the message; the payload that is sent apart; `external_aad`; what becomes of the header.
+/// `yes` or `no`; the message; the detached payload; `external_aad`; what becomes of the header.
 fn verify_detached_tag(alloc: Global, words: &Words<'_>) -> Result<String> {
     let says_yes = words.says_yes(1)?;
     let message = message(alloc, words, 2, 5)?;
@@ -107,7 +107,7 @@ fn tbm(alloc: Global, words: &Words<'_>) -> Result<String> {
     given::perhaps(alloc, answer)
 }
 
-/// The message; the payload that is sent apart; `external_aad`; what becomes of the header.
+/// The message; the detached payload; `external_aad`; what becomes of the header.
 fn tbm_detached(alloc: Global, words: &Words<'_>) -> Result<String> {
     let message = message(alloc, words, 1, 4)?;
     let payload = words.bytes(alloc, 2)?;
@@ -199,7 +199,7 @@ fn with_payload(alloc: Global, message: CoseMac0) -> CoseMac0Builder {
     }
 }
 
-/// The message; the payload that is sent apart; `external_aad`; the tag that the closure makes; what becomes of the
+/// The message; the detached payload; `external_aad`; the tag that the closure makes; what becomes of the
 /// header.
 fn create_detached_tag(alloc: Global, words: &Words<'_>) -> Result<String> {
     let builder = with_payload(alloc, message(alloc, words, 1, 5)?);
@@ -232,24 +232,33 @@ fn try_create_detached_tag(alloc: Global, words: &Words<'_>) -> Result<String> {
     asked.tried(alloc, built(answer))
 }
 
-/// The message; what becomes of the header.
-fn build(alloc: Global, words: &Words<'_>) -> Result<String> {
+/// The message of these parts, by the builder's calls that copy what they are given.
+///
+/// # Errors
+/// `OutOfMemory` alone.
+fn rebuilt(alloc: Global, message: CoseMac0) -> Result<CoseMac0> {
     let CoseMac0 {
         protected,
         unprotected,
         payload,
         tag,
-    } = message(alloc, words, 1, 2)?;
-    mark::begin(alloc);
+    } = message;
     let builder = CoseMac0Builder::new(alloc)
         .protected(protected.header)
         .unprotected(unprotected)
-        .tag(tag);
+        .tag_from(alloc, &tag)?;
     let builder = match payload {
-        Some(payload) => builder.payload(payload),
+        Some(payload) => builder.payload_from(alloc, &payload)?,
         None => builder,
     };
-    let built = builder.build();
+    Ok(builder.build())
+}
+
+/// The message; what becomes of the header.
+fn build(alloc: Global, words: &Words<'_>) -> Result<String> {
+    let message = message(alloc, words, 1, 2)?;
+    mark::begin(alloc);
+    let answer = rebuilt(alloc, message);
     mark::end(alloc);
-    tell::value(alloc, Ok(built))
+    tell::value(alloc, answer)
 }

@@ -214,23 +214,32 @@ fn add_recipient(alloc: Global, words: &Words<'_>) -> Result<String> {
     tell::value(alloc, built(answer))
 }
 
-/// The recipient; what becomes of the header. Each of its recipients is added.
-fn build(alloc: Global, words: &Words<'_>) -> Result<String> {
+/// The recipient of these parts, by the builder's calls that copy what they are given.
+///
+/// # Errors
+/// `OutOfMemory` alone.
+fn rebuilt(alloc: Global, recipient: CoseRecipient) -> Result<CoseRecipient> {
     let CoseRecipient {
         protected,
         unprotected,
         ciphertext,
         recipients,
-    } = recipient(alloc, words, 1, 2)?;
-    mark::begin(alloc);
+    } = recipient;
     let builder = CoseRecipientBuilder::new(alloc)
         .protected(protected.header)
         .unprotected(unprotected);
     let builder = match ciphertext {
-        Some(ciphertext) => builder.ciphertext(ciphertext),
+        Some(ciphertext) => builder.ciphertext_from(alloc, &ciphertext)?,
         None => builder,
     };
-    let answer = and_each(builder, recipients);
+    built(and_each(builder, recipients))
+}
+
+/// The recipient; what becomes of the header. Each of its recipients is added.
+fn build(alloc: Global, words: &Words<'_>) -> Result<String> {
+    let recipient = recipient(alloc, words, 1, 2)?;
+    mark::begin(alloc);
+    let answer = rebuilt(alloc, recipient);
     mark::end(alloc);
-    tell::value(alloc, built(answer))
+    tell::value(alloc, answer)
 }

@@ -32,3 +32,7 @@ abbrev pub TriesToCreate : {F V B E : Type 0} → Once F (Bor (List ℕ) × Unit
 TriesToCreate {V = V} g f o stores (Ok x) = (b : List ℕ) × (made : V) × IsStructure o b × FnOnceReturnsAt g f b (Ok made) × stores made x
 TriesToCreate g f o stores (Err (Caller e)) = (b : List ℕ) × IsStructure o b × FnOnceReturnsAt g f b (Err e)
 TriesToCreate g f o stores (Err (Coset e)) = HasNoImage o e
+
+-- nothing is stored: what was made is the answer
+abbrev pub Itself : {V : Type 0} → V → V → Type 0
+Itself made answer = answer ≡ made

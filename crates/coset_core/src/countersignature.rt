@@ -352,4 +352,20 @@ impl CoseCountersignatureBuilder {
         self.0.signature = signature;
         self
     }
+
+    /// As [`signature`](CoseCountersignatureBuilder::signature), of a copy of these bytes.
+    ///
+    /// # Errors
+    /// `OutOfMemory` alone.
+    pub fn signature_from(
+        self,
+        alloc: Global,
+        signature: &[u8],
+    ) -> Result<CoseCountersignatureBuilder>
+        ensures ok { IfOk result (λ b. countersignature_seen b
+            ≡ record (countersignature_seen self) { signature = signature.now }) }
+        ensures memory { IfErr result (λ e. e ≡ OutOfMemory) }
+    {
+        Ok(self.signature(Vec::from_slice(alloc, signature)?))
+    }
 }

@@ -23,7 +23,7 @@ use crate::countersignature::{
 use crate::critical::same_critical;
 use crate::header::reading::fill_header;
 use crate::header::writing::write_header;
-use crate::signature::{CoseSignature, Held, copy_signatures, let_held_go, same_signatures};
+use crate::signature::{CoseSignature, Held, copy_signatures, drop_held, same_signatures};
 use coset_cbor::value::Value;
 use coset_codec::error::Refused;
 use coset_codec::read::Input;
@@ -94,7 +94,7 @@ pub struct Header {
 /// The counter signatures are let go in a function of their own, since headers in them are as deep as the input asked.
 impl Drop for Header {
     fn drop(self) {
-        let_held_go(self.into_signatures());
+        drop_held(self.into_signatures());
     }
 }
 

@@ -62,7 +62,7 @@ pub fn fill_unprotected_header(
     }
 }
 
-/// A payload or a ciphertext, unless it is sent apart: `bstr / nil` (RFC 8152, sections 2, 5.1).
+/// A payload or a ciphertext, unless it is detached: `bstr / nil` (RFC 8152, sections 2, 5.1).
 #[derive(Debug, Drop)]
 pub struct Content(pub Option<Vec<u8>>);
 

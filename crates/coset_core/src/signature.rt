@@ -237,7 +237,7 @@ fn end_places(
 /// # Errors
 /// The same as [`fill_places`].
 #[cycle(read)]
-pub(crate) fn fill_one(
+pub(crate) fn fill_bare(
     all: &mut Vec<CoseSignature>,
     alloc: Global,
     members: &mut InputItems,
@@ -266,7 +266,7 @@ pub(crate) fn fill_one(
 /// # Errors
 /// `OutOfMemory`, or the fault of the first that has one.
 #[cycle(read)]
-pub(crate) fn fill_each(
+pub(crate) fn fill_listed(
     all: &mut Vec<CoseSignature>,
     alloc: Global,
     members: &mut InputItems,
@@ -514,27 +514,27 @@ fn take_last(
 }
 
 /// Lets go what a header holds. Most headers hold none.
-#[cycle(let_go)]
+#[cycle(drop_nested)]
 #[inline(always)]
-pub(crate) fn let_held_go(held: Held) {
+pub(crate) fn drop_held(held: Held) {
     let (all, version_2) = held;
     if all.is_empty() && version_2.is_empty() {
         all.destroy_empty();
         version_2.destroy_empty();
     } else {
-        let_go(all, version_2);
+        drop_nested(all, version_2);
     }
 }
 
 /// Lets signatures of both versions go, and those in their headers.
-#[cycle(let_go)]
+#[cycle(drop_nested)]
 #[inline(never)]
-pub(crate) fn let_go(all: Vec<CoseSignature>, version_2: Vec<CoseCountersignature>) {
+pub(crate) fn drop_nested(all: Vec<CoseSignature>, version_2: Vec<CoseCountersignature>) {
     let mut all = all;
     let mut version_2 = version_2;
     while let Some((protected, unprotected)) = take_last(&mut all, &mut version_2) {
-        let_held_go(protected);
-        let_held_go(unprotected);
+        drop_held(protected);
+        drop_held(unprotected);
     }
     all.destroy_empty();
     version_2.destroy_empty();
@@ -600,5 +600,17 @@ impl CoseSignatureBuilder {
     {
         self.0.signature = signature;
         self
+    }
+
+    /// As [`signature`](CoseSignatureBuilder::signature), of a copy of these bytes.
+    ///
+    /// # Errors
+    /// `OutOfMemory` alone.
+    pub fn signature_from(self, alloc: Global, signature: &[u8]) -> Result<CoseSignatureBuilder>
+        ensures ok { IfOk result (λ b. signature_seen b
+            ≡ record (signature_seen self) { signature = signature.now }) }
+        ensures memory { IfErr result (λ e. e ≡ OutOfMemory) }
+    {
+        Ok(self.signature(Vec::from_slice(alloc, signature)?))
     }
 }

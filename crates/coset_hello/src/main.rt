@@ -33,7 +33,7 @@ fn sent(alloc: Global) -> Result<Vec<u8>, CallError<Refused>> {
         .build();
     let message = CoseSign1Builder::new(alloc)
         .protected(protected)
-        .payload(Vec::from_slice(alloc, b"hello")?)
+        .payload_from(alloc, b"hello")?
         .try_create_signature(alloc, b"", move |tbs: &[u8]| sign(alloc, tbs))?
         .build();
     Ok(message.to_vec(alloc)?)

@@ -496,6 +496,17 @@ impl CoseKeyBuilder {
         self
     }
 
+    /// As [`key_id`](CoseKeyBuilder::key_id), of a copy of these bytes.
+    ///
+    /// # Errors
+    /// `OutOfMemory` alone.
+    pub fn key_id_from(self, alloc: Global, key_id: &[u8]) -> Result<CoseKeyBuilder>
+        ensures ok { IfOk result (λ b. key_seen b ≡ with_key_id key_id.now (key_seen self)) }
+        ensures memory { IfErr result (λ e. e ≡ OutOfMemory) }
+    {
+        Ok(self.key_id(Vec::from_slice(alloc, key_id)?))
+    }
+
     /// Sets the algorithm (label 3).
     pub fn algorithm(mut self, algorithm: iana::Algorithm) -> CoseKeyBuilder
         ensures { key_seen result
@@ -524,6 +535,17 @@ impl CoseKeyBuilder {
     {
         self.0.base_iv = base_iv;
         self
+    }
+
+    /// As [`base_iv`](CoseKeyBuilder::base_iv), of a copy of these bytes.
+    ///
+    /// # Errors
+    /// `OutOfMemory` alone.
+    pub fn base_iv_from(self, alloc: Global, base_iv: &[u8]) -> Result<CoseKeyBuilder>
+        ensures ok { IfOk result (λ b. key_seen b ≡ with_base_iv base_iv.now (key_seen self)) }
+        ensures memory { IfErr result (λ e. e ≡ OutOfMemory) }
+    {
+        Ok(self.base_iv(Vec::from_slice(alloc, base_iv)?))
     }
 
     /// Adds a pair with a number as its label, which is none of 0 to 5: those have calls of their own, or are reserved. A

@@ -66,7 +66,7 @@ fn enc_structure_bytes(
 ///
 /// # Errors
 /// The same as [`enc_structure_data`].
-pub fn additional_bytes(
+pub fn enc_structure_of(
     alloc: Global,
     context: EncryptionContext,
     protected: &ProtectedHeader,
@@ -101,5 +101,5 @@ pub fn enc_structure_data(
     ensures { Writes (enc_item context (protected_seen protected) external_aad.now) (λ b. b.items)
         result }
 {
-    additional_bytes(alloc, context, &protected, external_aad)
+    enc_structure_of(alloc, context, &protected, external_aad)
 }

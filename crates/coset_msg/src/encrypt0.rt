@@ -5,11 +5,11 @@ ghost use Rattle.coset_codec.specs.declared.error.CoseError.TheVariants.{OutOfMe
 ghost use Rattle.coset_codec.specs.Answers.{Writes};
 ghost use Rattle.coset_core.specs.Messages.{unread};
 ghost use Rattle.coset_core.specs.Views.{header_seen};
-ghost use Rattle.coset_core.specs.Calls.{AsksAbout};
+ghost use Rattle.coset_core.specs.Calls.{AsksAbout, Itself};
 ghost use Rattle.coset_msg.specs.Encrypt0.{empty_encrypt0, encrypt0, encrypt0_seen, encrypt0_structure, with_ciphertext};
 ghost use Rattle.coset_msg.specs.Presence.{AsksWherePresent, CreatesOf, TriesToCreateOf};
 
-use crate::enc_structure::{EncryptionContext, additional_bytes};
+use crate::enc_structure::{EncryptionContext, enc_structure_of};
 use coset_codec::read::Input;
 use coset_codec::util::copy_bstr;
 use coset_codec::write::{Encode, encode_three};
@@ -30,7 +30,7 @@ pub struct CoseEncrypt0 {
     pub protected: ProtectedHeader,
     /// The header that isn't.
     pub unprotected: Header,
-    /// The ciphertext, unless it is sent apart.
+    /// The ciphertext, unless it is detached.
     pub ciphertext: Option<Vec<u8>>,
 }
 
@@ -59,7 +59,7 @@ impl CoseEncrypt0 {
         ensures { Writes (encrypt0_structure (encrypt0_seen self.now) external_aad.now) (λ b.
             b.items) result }
     {
-        additional_bytes(
+        enc_structure_of(
             alloc,
             EncryptionContext::CoseEncrypt0,
             &self.protected,
@@ -133,7 +133,7 @@ impl CoseEncrypt0 {
         ask(ciphertext, structure, cipher)
     }
 
-    /// The same as [`CoseEncrypt0::decrypt`] where this ciphertext is sent apart (RFC 9052, section 5.1): it takes the place of one
+    /// The same as [`CoseEncrypt0::decrypt`] where this ciphertext is detached (RFC 9052, section 5.1): it takes the place of one
     /// that the message carries.
     ///
     /// # Errors
@@ -297,6 +297,18 @@ impl CoseEncrypt0Builder {
         self
     }
 
+    /// As [`ciphertext`](CoseEncrypt0Builder::ciphertext), of a copy of these bytes.
+    ///
+    /// # Errors
+    /// `OutOfMemory` alone.
+    pub fn ciphertext_from(self, alloc: Global, ciphertext: &[u8]) -> Result<CoseEncrypt0Builder>
+        ensures ok { IfOk result (λ b. encrypt0_seen b
+            ≡ with_ciphertext ciphertext.now (encrypt0_seen self)) }
+        ensures memory { IfErr result (λ e. e ≡ OutOfMemory) }
+    {
+        Ok(self.ciphertext(Vec::from_slice(alloc, ciphertext)?))
+    }
+
     /// Sets the ciphertext to what `cipher` makes of the plaintext, its first argument, and of the additional
     /// authenticated data that go with it, its second one (RFC 8152, section 5.3), so all other fields are set before.
     /// It is called once, unless there is an error of ours, and not at all then.
@@ -345,7 +357,7 @@ impl CoseEncrypt0Builder {
         Ok(self.ciphertext(ciphertext))
     }
 
-    /// What `cipher` makes of the plaintext as in [`CoseEncrypt0Builder::create_ciphertext`]: the ciphertext, to be sent apart. The
+    /// What `cipher` makes of the plaintext as in [`CoseEncrypt0Builder::create_ciphertext`]: the ciphertext, which is detached. The
     /// message stays as it is, and carries none unless one was set: its place is null (RFC 9052, section 5.1).
     ///
     /// # Errors
@@ -361,7 +373,7 @@ impl CoseEncrypt0Builder {
         F: FnOnce(&[u8], &[u8]) -> Vec<u8> + Drop,
         requires { F.IsAlwaysCallable cipher }
         ensures { CreatesOf F.FnOnce cipher plaintext.now
-            (encrypt0_structure (encrypt0_seen self.now) external_aad.now) (λ c given. given ≡ c) result }
+            (encrypt0_structure (encrypt0_seen self.now) external_aad.now) Itself result }
     {
         let structure = self.0.aad(alloc, external_aad)?;
         Ok(cipher(plaintext, &structure))

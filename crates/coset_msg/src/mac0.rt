@@ -9,7 +9,7 @@ ghost use Rattle.coset_core.specs.Calls.{AsksAbout, Creates, TriesToCreate};
 ghost use Rattle.coset_msg.specs.Mac0.{empty_mac0, mac0, mac0_seen, mac0_structure, with_tag};
 ghost use Rattle.coset_msg.specs.Presence.{AsksWherePresent, WritesWherePresent};
 
-use crate::mac_structure::{MacContext, authenticated_bytes};
+use crate::mac_structure::{MacContext, mac_structure_of};
 use coset_codec::read::Input;
 use coset_codec::util::copy_bstr;
 use coset_codec::write::{Encode, encode_four};
@@ -30,7 +30,7 @@ pub struct CoseMac0 {
     pub protected: ProtectedHeader,
     /// The header that it doesn't cover.
     pub unprotected: Header,
-    /// What is authenticated, unless it is sent apart.
+    /// What is authenticated, unless it is detached.
     pub payload: Option<Vec<u8>>,
     /// The MAC.
     pub tag: Vec<u8>,
@@ -68,7 +68,7 @@ impl CoseMac0 {
         }
     }
 
-    /// The bytes that are authenticated where this payload is sent apart (RFC 9052, section 6): it takes the place of one
+    /// The bytes that are authenticated where this payload is detached (RFC 9052, section 6): it takes the place of one
     /// that the message carries.
     ///
     /// # Errors
@@ -82,7 +82,7 @@ impl CoseMac0 {
         ensures { Writes (mac0_structure (mac0_seen self.now) external_aad.now payload.now) (λ b.
             b.items) result }
     {
-        authenticated_bytes(
+        mac_structure_of(
             alloc,
             MacContext::CoseMac0,
             &self.protected,
@@ -158,7 +158,7 @@ impl CoseMac0 {
         ask(&self.tag, structure, verifier)
     }
 
-    /// The same as [`CoseMac0::verify_tag`] where this payload is sent apart (RFC 9052, section 6): it takes the place of one
+    /// The same as [`CoseMac0::verify_tag`] where this payload is detached (RFC 9052, section 6): it takes the place of one
     /// that the message carries.
     ///
     /// # Errors
@@ -333,12 +333,35 @@ impl CoseMac0Builder {
         self
     }
 
+    /// As [`payload`](CoseMac0Builder::payload), of a copy of these bytes.
+    ///
+    /// # Errors
+    /// `OutOfMemory` alone.
+    pub fn payload_from(self, alloc: Global, payload: &[u8]) -> Result<CoseMac0Builder>
+        ensures ok { IfOk result (λ b. mac0_seen b
+            ≡ record (mac0_seen self) { payload = Some payload.now }) }
+        ensures memory { IfErr result (λ e. e ≡ OutOfMemory) }
+    {
+        Ok(self.payload(Vec::from_slice(alloc, payload)?))
+    }
+
     /// Sets the tag.
     pub fn tag(mut self, tag: Vec<u8>) -> CoseMac0Builder
         ensures { mac0_seen result ≡ with_tag tag.items (mac0_seen self) }
     {
         self.0.tag = tag;
         self
+    }
+
+    /// As [`tag`](CoseMac0Builder::tag), of a copy of these bytes.
+    ///
+    /// # Errors
+    /// `OutOfMemory` alone.
+    pub fn tag_from(self, alloc: Global, tag: &[u8]) -> Result<CoseMac0Builder>
+        ensures ok { IfOk result (λ b. mac0_seen b ≡ with_tag tag.now (mac0_seen self)) }
+        ensures memory { IfErr result (λ e. e ≡ OutOfMemory) }
+    {
+        Ok(self.tag(Vec::from_slice(alloc, tag)?))
     }
 
     /// Sets the tag to what `creator` makes of the bytes that are authenticated (RFC 8152, section 6.3), so all other
@@ -365,7 +388,7 @@ impl CoseMac0Builder {
         Ok(self.tag(creator(&tbm)))
     }
 
-    /// The same as [`CoseMac0Builder::create_tag`] where this payload is sent apart (RFC 9052, section 6): it takes the place of
+    /// The same as [`CoseMac0Builder::create_tag`] where this payload is detached (RFC 9052, section 6): it takes the place of
     /// one that the message carries, and isn't put into it.
     ///
     /// # Errors

@@ -58,7 +58,7 @@ fn mac_structure_bytes(
 ///
 /// # Errors
 /// The same as [`mac_structure_data`].
-pub fn authenticated_bytes(
+pub fn mac_structure_of(
     alloc: Global,
     context: MacContext,
     protected: &ProtectedHeader,
@@ -95,5 +95,5 @@ pub fn mac_structure_data(
     ensures { Writes (mac_item context (protected_seen protected) external_aad.now payload.now)
         (λ b. b.items) result }
 {
-    authenticated_bytes(alloc, context, &protected, external_aad, payload)
+    mac_structure_of(alloc, context, &protected, external_aad, payload)
 }

@@ -14,12 +14,16 @@ use std::alloc::Global;
 #[derive(Drop)]
 enum BuilderCall {
     Issuer(String),
+    IssuerFrom(String),
     Subject(String),
+    SubjectFrom(String),
     Audience(String),
+    AudienceFrom(String),
     ExpirationTime(Timestamp),
     NotBefore(Timestamp),
     IssuedAt(Timestamp),
     CwtId(Vec<u8>),
+    CwtIdFrom(Vec<u8>),
     Claim(CwtClaimName, Value),
     TextClaim(String, Value),
     PrivateClaim(i64, Value),
@@ -29,12 +33,16 @@ impl Step for BuilderCall {
     fn of(alloc: Global, name: &str, first: &str, second: &str) -> Result<BuilderCall> {
         Ok(match name {
             "issuer" => BuilderCall::Issuer(spelled::text(alloc, first)?),
+            "issuer_from" => BuilderCall::IssuerFrom(spelled::text(alloc, first)?),
             "subject" => BuilderCall::Subject(spelled::text(alloc, first)?),
+            "subject_from" => BuilderCall::SubjectFrom(spelled::text(alloc, first)?),
             "audience" => BuilderCall::Audience(spelled::text(alloc, first)?),
+            "audience_from" => BuilderCall::AudienceFrom(spelled::text(alloc, first)?),
             "expiration_time" => BuilderCall::ExpirationTime(timestamp(alloc, first)?),
             "not_before" => BuilderCall::NotBefore(timestamp(alloc, first)?),
             "issued_at" => BuilderCall::IssuedAt(timestamp(alloc, first)?),
             "cwt_id" => BuilderCall::CwtId(words::bytes(alloc, first)?),
+            "cwt_id_from" => BuilderCall::CwtIdFrom(words::bytes(alloc, first)?),
             "claim" => BuilderCall::Claim(spelled::named(first)?, spelled::item(alloc, second)?),
             "text_claim" => {
                 BuilderCall::TextClaim(spelled::text(alloc, first)?, spelled::item(alloc, second)?)
@@ -53,15 +61,19 @@ fn timestamp(alloc: Global, word: &str) -> Result<Timestamp> {
 }
 
 /// Makes the call of the builder.
-fn made(builder: ClaimsSetBuilder, call: BuilderCall) -> Result<ClaimsSetBuilder> {
+fn made(alloc: Global, builder: ClaimsSetBuilder, call: BuilderCall) -> Result<ClaimsSetBuilder> {
     match call {
         BuilderCall::Issuer(text) => Ok(builder.issuer(text)),
+        BuilderCall::IssuerFrom(text) => builder.issuer_from(alloc, &text),
         BuilderCall::Subject(text) => Ok(builder.subject(text)),
+        BuilderCall::SubjectFrom(text) => builder.subject_from(alloc, &text),
         BuilderCall::Audience(text) => Ok(builder.audience(text)),
+        BuilderCall::AudienceFrom(text) => builder.audience_from(alloc, &text),
         BuilderCall::ExpirationTime(time) => Ok(builder.expiration_time(time)),
         BuilderCall::NotBefore(time) => Ok(builder.not_before(time)),
         BuilderCall::IssuedAt(time) => Ok(builder.issued_at(time)),
         BuilderCall::CwtId(bytes) => Ok(builder.cwt_id(bytes)),
+        BuilderCall::CwtIdFrom(bytes) => builder.cwt_id_from(alloc, &bytes),
         BuilderCall::Claim(name, value) => with_claim(builder, name, value),
         BuilderCall::TextClaim(name, value) => builder.text_claim(name, value),
         BuilderCall::PrivateClaim(id, value) => with_private_claim(builder, id, value),
@@ -99,7 +111,7 @@ fn with_private_claim(
 fn built(alloc: Global, calls: Vec<BuilderCall>) -> Result<ClaimsSet> {
     let mut builder = ClaimsSetBuilder::new(alloc);
     for call in calls {
-        builder = made(builder, call)?;
+        builder = made(alloc, builder, call)?;
     }
     Ok(builder.build())
 }
@@ -128,5 +140,24 @@ pub fn debug_timestamp(alloc: Global, words: &Words<'_>) -> Result<String> {
     match answer {
         Ok(timestamp) => Ok(format!(in alloc; "ok {timestamp:?}")?),
         Err(error) => tell::refused(alloc, error),
+    }
+}
+
+/// An item, and whole seconds: how the timestamp compares with them (`Less`, `Equal`, `Greater`; `none`, where it is no
+/// moment), and whether it is after them.
+///
+/// # Errors
+/// The first word is no item, or the second no number of 128 bits with a sign.
+pub fn compare_timestamp(alloc: Global, words: &Words<'_>) -> Result<String> {
+    let timestamp = timestamp(alloc, words.word(1))?;
+    let seconds = words::number(words.word(2))?;
+    let after = if timestamp.is_after(seconds) {
+        "yes"
+    } else {
+        "no"
+    };
+    match timestamp.compare(i128::from(seconds)) {
+        Some(order) => Ok(format!(in alloc; "{order:?} {after}")?),
+        None => Ok(format!(in alloc; "none {after}")?),
     }
 }

@@ -71,32 +71,38 @@ pub fn build(alloc: Global, words: &Words<'_>) -> Result<String> {
 #[derive(Drop)]
 enum PartySetter {
     Identity(Vec<u8>),
+    IdentityFrom(Vec<u8>),
     Nonce(Nonce),
     Other(Vec<u8>),
+    OtherFrom(Vec<u8>),
 }
 
 impl Step for PartySetter {
     fn of(alloc: Global, name: &str, first: &str, _second: &str) -> Result<PartySetter> {
         Ok(match name {
             "identity" => PartySetter::Identity(words::bytes(alloc, first)?),
+            "identity_from" => PartySetter::IdentityFrom(words::bytes(alloc, first)?),
             "nonce" => PartySetter::Nonce(nonce(alloc, first)?),
             "other" => PartySetter::Other(words::bytes(alloc, first)?),
+            "other_from" => PartySetter::OtherFrom(words::bytes(alloc, first)?),
             _ => return Err(CoseError::UnexpectedItem("name", "call of PartyInfoBuilder")),
         })
     }
 }
 
 /// The party that the builder makes by these calls.
-fn party(calls: Vec<PartySetter>) -> PartyInfo {
+fn party(alloc: Global, calls: Vec<PartySetter>) -> Result<PartyInfo> {
     let mut builder = PartyInfoBuilder::new();
     for call in calls {
         builder = match call {
             PartySetter::Identity(bytes) => builder.identity(bytes),
+            PartySetter::IdentityFrom(bytes) => builder.identity_from(alloc, &bytes)?,
             PartySetter::Nonce(nonce) => builder.nonce(nonce),
             PartySetter::Other(bytes) => builder.other(bytes),
+            PartySetter::OtherFrom(bytes) => builder.other_from(alloc, &bytes)?,
         };
     }
-    builder.build()
+    Ok(builder.build())
 }
 
 /// The calls of `PartyInfoBuilder`, `NAME=WORD`.
@@ -106,9 +112,9 @@ fn party(calls: Vec<PartySetter>) -> PartyInfo {
 pub fn build_party(alloc: Global, words: &Words<'_>) -> Result<String> {
     let calls = steps::all(alloc, words, 1)?;
     mark::begin(alloc);
-    let party = party(calls);
+    let answer = party(alloc, calls);
     mark::end(alloc);
-    tell::value(alloc, Ok(party))
+    tell::value(alloc, answer)
 }
 
 /// A call of `SuppPubInfoBuilder`, with what it is given.
@@ -117,6 +123,7 @@ enum PublicSetter {
     KeyDataLength(u64),
     Protected(Header),
     Other(Vec<u8>),
+    OtherFrom(Vec<u8>),
 }
 
 impl Step for PublicSetter {
@@ -125,22 +132,24 @@ impl Step for PublicSetter {
             "key_data_length" => PublicSetter::KeyDataLength(spelled::unsigned(first)?),
             "protected" => PublicSetter::Protected(spelled::read(alloc, first)?),
             "other" => PublicSetter::Other(words::bytes(alloc, first)?),
+            "other_from" => PublicSetter::OtherFrom(words::bytes(alloc, first)?),
             _ => return Err(CoseError::UnexpectedItem("name", "call of SuppPubInfoBuilder")),
         })
     }
 }
 
 /// What the builder makes by these calls.
-fn public(alloc: Global, calls: Vec<PublicSetter>) -> SuppPubInfo {
+fn public(alloc: Global, calls: Vec<PublicSetter>) -> Result<SuppPubInfo> {
     let mut builder = SuppPubInfoBuilder::new(alloc);
     for call in calls {
         builder = match call {
             PublicSetter::KeyDataLength(bits) => builder.key_data_length(bits),
             PublicSetter::Protected(header) => builder.protected(header),
             PublicSetter::Other(bytes) => builder.other(bytes),
+            PublicSetter::OtherFrom(bytes) => builder.other_from(alloc, &bytes)?,
         };
     }
-    builder.build()
+    Ok(builder.build())
 }
 
 /// The calls of `SuppPubInfoBuilder`, `NAME=WORD`.
@@ -150,9 +159,9 @@ fn public(alloc: Global, calls: Vec<PublicSetter>) -> SuppPubInfo {
 pub fn build_public(alloc: Global, words: &Words<'_>) -> Result<String> {
     let calls = steps::all(alloc, words, 1)?;
     mark::begin(alloc);
-    let info = public(alloc, calls);
+    let answer = public(alloc, calls);
     mark::end(alloc);
-    tell::value(alloc, Ok(info))
+    tell::value(alloc, answer)
 }
 
 /// The nonce that the item in hexadecimal is.

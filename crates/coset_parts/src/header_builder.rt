@@ -21,12 +21,17 @@ enum BuilderCall {
     AddCriticalLabel(RegisteredLabelWithPrivate<HeaderParameter>),
     ContentFormat(CoapContentFormat),
     ContentType(String),
+    ContentTypeFrom(String),
     KeyId(Vec<u8>),
+    KeyIdFrom(Vec<u8>),
     Iv(Vec<u8>),
+    IvFrom(Vec<u8>),
     PartialIv(Vec<u8>),
+    PartialIvFrom(Vec<u8>),
     AddCounterSignature(CoseSignature),
     AddCountersignatureV2(CoseCountersignature),
     Countersignature0V2(Vec<u8>),
+    Countersignature0V2From(Vec<u8>),
     Value(i64, Value),
     TextValue(String, Value),
 }
@@ -40,9 +45,13 @@ impl Step for BuilderCall {
             "add_critical_label" => BuilderCall::AddCriticalLabel(spelled::read(alloc, first)?),
             "content_format" => BuilderCall::ContentFormat(spelled::named(first)?),
             "content_type" => BuilderCall::ContentType(spelled::text(alloc, first)?),
+            "content_type_from" => BuilderCall::ContentTypeFrom(spelled::text(alloc, first)?),
             "key_id" => BuilderCall::KeyId(words::bytes(alloc, first)?),
+            "key_id_from" => BuilderCall::KeyIdFrom(words::bytes(alloc, first)?),
             "iv" => BuilderCall::Iv(words::bytes(alloc, first)?),
+            "iv_from" => BuilderCall::IvFrom(words::bytes(alloc, first)?),
             "partial_iv" => BuilderCall::PartialIv(words::bytes(alloc, first)?),
+            "partial_iv_from" => BuilderCall::PartialIvFrom(words::bytes(alloc, first)?),
             "add_counter_signature" => BuilderCall::AddCounterSignature(spelled::read(
                 alloc, first,
             )?),
@@ -50,6 +59,9 @@ impl Step for BuilderCall {
                 alloc, first,
             )?),
             "countersignature0_v2" => BuilderCall::Countersignature0V2(words::bytes(alloc, first)?),
+            "countersignature0_v2_from" => BuilderCall::Countersignature0V2From(words::bytes(
+                alloc, first,
+            )?),
             "value" => BuilderCall::Value(words::number(first)?, spelled::item(alloc, second)?),
             "text_value" => {
                 BuilderCall::TextValue(spelled::text(alloc, first)?, spelled::item(alloc, second)?)
@@ -60,7 +72,7 @@ impl Step for BuilderCall {
 }
 
 /// Makes the call of the builder.
-fn made(builder: HeaderBuilder, call: BuilderCall) -> Result<HeaderBuilder> {
+fn made(alloc: Global, builder: HeaderBuilder, call: BuilderCall) -> Result<HeaderBuilder> {
     match call {
         BuilderCall::Algorithm(algorithm) => Ok(builder.algorithm(algorithm)),
         BuilderCall::AlgorithmLabel(label) => Ok(builder.algorithm_label(label)),
@@ -68,12 +80,19 @@ fn made(builder: HeaderBuilder, call: BuilderCall) -> Result<HeaderBuilder> {
         BuilderCall::AddCriticalLabel(label) => builder.add_critical_label(label),
         BuilderCall::ContentFormat(format) => Ok(builder.content_format(format)),
         BuilderCall::ContentType(text) => Ok(builder.content_type(text)),
+        BuilderCall::ContentTypeFrom(text) => builder.content_type_from(alloc, &text),
         BuilderCall::KeyId(bytes) => Ok(builder.key_id(bytes)),
+        BuilderCall::KeyIdFrom(bytes) => builder.key_id_from(alloc, &bytes),
         BuilderCall::Iv(bytes) => Ok(builder.iv(bytes)),
+        BuilderCall::IvFrom(bytes) => builder.iv_from(alloc, &bytes),
         BuilderCall::PartialIv(bytes) => Ok(builder.partial_iv(bytes)),
+        BuilderCall::PartialIvFrom(bytes) => builder.partial_iv_from(alloc, &bytes),
         BuilderCall::AddCounterSignature(signature) => builder.add_counter_signature(signature),
         BuilderCall::AddCountersignatureV2(signature) => builder.add_countersignature_v2(signature),
         BuilderCall::Countersignature0V2(signature) => Ok(builder.countersignature0_v2(signature)),
+        BuilderCall::Countersignature0V2From(signature) => builder.countersignature0_v2_from(
+            alloc, &signature,
+        ),
         BuilderCall::Value(label, value) => with_value(builder, label, value),
         BuilderCall::TextValue(label, value) => builder.text_value(label, value),
     }
@@ -92,7 +111,7 @@ fn with_value(builder: HeaderBuilder, label: i64, value: Value) -> Result<Header
 fn built(alloc: Global, calls: Vec<BuilderCall>) -> Result<Header> {
     let mut builder = HeaderBuilder::new(alloc);
     for call in calls {
-        builder = made(builder, call)?;
+        builder = made(alloc, builder, call)?;
     }
     Ok(builder.build())
 }

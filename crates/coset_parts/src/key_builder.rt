@@ -16,9 +16,11 @@ enum BuilderCall {
     KeyType(iana::KeyType),
     Kty(KeyType),
     KeyId(Vec<u8>),
+    KeyIdFrom(Vec<u8>),
     Algorithm(iana::Algorithm),
     AddKeyOp(KeyOperation),
     BaseIv(Vec<u8>),
+    BaseIvFrom(Vec<u8>),
     Param(i64, Value),
 }
 
@@ -28,9 +30,11 @@ impl Step for BuilderCall {
             "key_type" => BuilderCall::KeyType(spelled::named(first)?),
             "kty" => BuilderCall::Kty(spelled::read(alloc, first)?),
             "key_id" => BuilderCall::KeyId(words::bytes(alloc, first)?),
+            "key_id_from" => BuilderCall::KeyIdFrom(words::bytes(alloc, first)?),
             "algorithm" => BuilderCall::Algorithm(spelled::named(first)?),
             "add_key_op" => BuilderCall::AddKeyOp(spelled::named(first)?),
             "base_iv" => BuilderCall::BaseIv(words::bytes(alloc, first)?),
+            "base_iv_from" => BuilderCall::BaseIvFrom(words::bytes(alloc, first)?),
             "param" => BuilderCall::Param(words::number(first)?, spelled::item(alloc, second)?),
             _ => return Err(CoseError::UnexpectedItem("name", "call of CoseKeyBuilder")),
         })
@@ -38,14 +42,16 @@ impl Step for BuilderCall {
 }
 
 /// Makes the call of the builder.
-fn made(builder: CoseKeyBuilder, call: BuilderCall) -> Result<CoseKeyBuilder> {
+fn made(alloc: Global, builder: CoseKeyBuilder, call: BuilderCall) -> Result<CoseKeyBuilder> {
     match call {
         BuilderCall::KeyType(key_type) => Ok(builder.key_type(key_type)),
         BuilderCall::Kty(kty) => Ok(builder.kty(kty)),
         BuilderCall::KeyId(bytes) => Ok(builder.key_id(bytes)),
+        BuilderCall::KeyIdFrom(bytes) => builder.key_id_from(alloc, &bytes),
         BuilderCall::Algorithm(algorithm) => Ok(builder.algorithm(algorithm)),
         BuilderCall::AddKeyOp(operation) => builder.add_key_op(operation),
         BuilderCall::BaseIv(bytes) => Ok(builder.base_iv(bytes)),
+        BuilderCall::BaseIvFrom(bytes) => builder.base_iv_from(alloc, &bytes),
         BuilderCall::Param(label, value) => with_param(builder, label, value),
     }
 }
@@ -63,7 +69,7 @@ fn with_param(builder: CoseKeyBuilder, label: i64, value: Value) -> Result<CoseK
 fn built(alloc: Global, calls: Vec<BuilderCall>) -> Result<CoseKey> {
     let mut builder = CoseKeyBuilder::new(alloc);
     for call in calls {
-        builder = made(builder, call)?;
+        builder = made(alloc, builder, call)?;
     }
     Ok(builder.build())
 }

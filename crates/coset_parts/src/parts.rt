@@ -46,6 +46,7 @@ fn of_order(alloc: Global, kind: &str, name: &str, words: &Words<'_>) -> Option<
         "CborOrdering" => Some(order::compare(alloc, words)),
         "KeyType" => Some(order::cmp_key_types(alloc, words)),
         "Algorithm" => Some(order::cmp_algorithms(alloc, words)),
+        "Timestamp" => Some(claims::compare_timestamp(alloc, words)),
         _ => None,
     }
 }

@@ -5,7 +5,7 @@ ghost use Rattle.coset_codec.specs.declared.error.CoseError.TheVariants.{OutOfMe
 ghost use Rattle.coset_codec.specs.Answers.{Writes};
 ghost use Rattle.coset_core.specs.Messages.{unread};
 ghost use Rattle.coset_core.specs.Views.{header_seen};
-ghost use Rattle.coset_core.specs.Calls.{AsksAbout};
+ghost use Rattle.coset_core.specs.Calls.{AsksAbout, Itself};
 ghost use Rattle.coset_msg.specs.Presence.{AsksWherePresent, CreatesOf, TriesToCreateOf};
 ghost use Rattle.coset_recipient.specs.Encrypt.{and_encrypt_recipient, empty_encrypt, encrypt, encrypt_seen, encrypt_structure_of, with_ciphertext};
 ghost use Rattle.coset_recipient.specs.RecipientView.{recipient_seen};
@@ -18,7 +18,7 @@ use coset_codec::{CallError, Codec, Result, TaggedCodec};
 use coset_core::calls::ask;
 use coset_core::{Bstr, Content, Header, ProtectedHeader, read_headed};
 use coset_msg::EncryptionContext;
-use coset_msg::enc_structure::additional_bytes;
+use coset_msg::enc_structure::enc_structure_of;
 use std::alloc::{AllocError, Global};
 use std::marker::Model;
 
@@ -35,7 +35,7 @@ pub struct CoseEncrypt {
     pub protected: ProtectedHeader,
     /// The header that isn't.
     pub unprotected: Header,
-    /// The ciphertext, unless it is sent apart.
+    /// The ciphertext, unless it is detached.
     pub ciphertext: Option<Vec<u8>>,
     /// Who can decrypt the message, and how they come to the key.
     pub recipients: Vec<CoseRecipient>,
@@ -67,7 +67,7 @@ impl CoseEncrypt {
         ensures { Writes (encrypt_structure_of (encrypt_seen self.now) external_aad.now) (λ b.
             b.items) result }
     {
-        additional_bytes(
+        enc_structure_of(
             alloc,
             EncryptionContext::CoseEncrypt,
             &self.protected,
@@ -141,7 +141,7 @@ impl CoseEncrypt {
         ask(ciphertext, structure, cipher)
     }
 
-    /// The same as [`CoseEncrypt::decrypt`] where this ciphertext is sent apart (RFC 9052, section 5.1): it takes the place of one
+    /// The same as [`CoseEncrypt::decrypt`] where this ciphertext is detached (RFC 9052, section 5.1): it takes the place of one
     /// that the message carries.
     ///
     /// # Errors
@@ -317,6 +317,18 @@ impl CoseEncryptBuilder {
         self
     }
 
+    /// As [`ciphertext`](CoseEncryptBuilder::ciphertext), of a copy of these bytes.
+    ///
+    /// # Errors
+    /// `OutOfMemory` alone.
+    pub fn ciphertext_from(self, alloc: Global, ciphertext: &[u8]) -> Result<CoseEncryptBuilder>
+        ensures ok { IfOk result (λ b. encrypt_seen b
+            ≡ with_ciphertext ciphertext.now (encrypt_seen self)) }
+        ensures memory { IfErr result (λ e. e ≡ OutOfMemory) }
+    {
+        Ok(self.ciphertext(Vec::from_slice(alloc, ciphertext)?))
+    }
+
     /// Adds a recipient, behind the others.
     ///
     /// # Errors
@@ -378,7 +390,7 @@ impl CoseEncryptBuilder {
         Ok(self.ciphertext(ciphertext))
     }
 
-    /// What `cipher` makes of the plaintext as in [`CoseEncryptBuilder::create_ciphertext`]: the ciphertext, to be sent apart. The
+    /// What `cipher` makes of the plaintext as in [`CoseEncryptBuilder::create_ciphertext`]: the ciphertext, which is detached. The
     /// message stays as it is, and carries none unless one was set: its place is null (RFC 9052, section 5.1).
     ///
     /// # Errors
@@ -394,7 +406,7 @@ impl CoseEncryptBuilder {
         F: FnOnce(&[u8], &[u8]) -> Vec<u8> + Drop,
         requires { F.IsAlwaysCallable cipher }
         ensures { CreatesOf F.FnOnce cipher plaintext.now
-            (encrypt_structure_of (encrypt_seen self.now) external_aad.now) (λ c given. given ≡ c) result }
+            (encrypt_structure_of (encrypt_seen self.now) external_aad.now) Itself result }
     {
         let structure = self.0.aad(alloc, external_aad)?;
         Ok(cipher(plaintext, &structure))

@@ -1,15 +1,20 @@
 //! Laws of recipients and of the messages that have them, which callers may cite. Each is the contract of a function that
 //! does nothing.
 
-ghost use Rattle.std.specs.Prelude.{◌≡◌, ◌↔◌};
+ghost use Rattle.std.specs.Prelude.{◌≡◌, ◌↔◌, ℕ};
 ghost use Rattle.coset_value.specs.Item.{Item};
 ghost use Rattle.coset_codec.specs.AsWritten.{AsWritten, WhenRead};
+ghost use Rattle.coset_codec.specs.PerhapsTagged.{DescribesNoTag};
 ghost use Rattle.coset_codec.specs.Shape.{tagged};
 ghost use Rattle.coset_codec.specs.declared.error.CoseError.{CoseError};
-ghost use Rattle.coset_core.specs.Headers.{protected_bytes};
+ghost use Rattle.coset_core.specs.Headers.{protected_bytes, signature};
+ghost use Rattle.coset_msg.specs.Encrypt0.{encrypt0};
+ghost use Rattle.coset_msg.specs.Mac0.{mac0};
 ghost use Rattle.coset_recipient.specs.Encrypt.{encrypt};
 ghost use Rattle.coset_recipient.specs.Mac.{mac};
 ghost use Rattle.coset_recipient.specs.Recipient.{RecipientSeen, recipient, recipient_step};
+ghost use Rattle.coset_sign.specs.Sign.{sign};
+ghost use Rattle.coset_sign.specs.Sign1.{sign1};
 ghost use Rattle.coset_recipient.specs.Structures.{EncryptsAll, EncryptsAllSame, Macs, MacsSame, RecipientEncrypts, RecipientEncryptsSame};
 
 use coset_core::laws::kept_as_written;
@@ -64,4 +69,16 @@ pub fn structures_when_read()
     ensures tagged_mac { WhenRead (tagged 97 mac) Macs }
     ensures encrypt { WhenRead encrypt EncryptsAll }
     ensures tagged_encrypt { WhenRead (tagged 96 encrypt) EncryptsAll }
+{}
+
+/// No tag is a message, or a countersignature: these are arrays (RFC 8152, sections 4 to 6; RFC 9338, section 3.1). So what
+/// `from_any_slice` reads was either plain or under the tag, and it reads all that `from_slice` reads.
+pub fn no_tag_is_a_message()
+    ensures sign { (n : ℕ) → DescribesNoTag n sign }
+    ensures sign1 { (n : ℕ) → DescribesNoTag n sign1 }
+    ensures mac { (n : ℕ) → DescribesNoTag n mac }
+    ensures mac0 { (n : ℕ) → DescribesNoTag n mac0 }
+    ensures encrypt { (n : ℕ) → DescribesNoTag n encrypt }
+    ensures encrypt0 { (n : ℕ) → DescribesNoTag n encrypt0 }
+    ensures countersignature { (n : ℕ) → DescribesNoTag n signature }
 {}

@@ -18,7 +18,7 @@ use coset_codec::{CallError, Codec, Result, TaggedCodec};
 use coset_core::calls::{ask, make};
 use coset_core::{Bstr, Content, Header, ProtectedHeader, read_headed};
 use coset_msg::MacContext;
-use coset_msg::mac_structure::authenticated_bytes;
+use coset_msg::mac_structure::mac_structure_of;
 use std::alloc::{AllocError, Global};
 use std::marker::Model;
 
@@ -35,7 +35,7 @@ pub struct CoseMac {
     pub protected: ProtectedHeader,
     /// The header that it doesn't cover.
     pub unprotected: Header,
-    /// What is authenticated, unless it is sent apart.
+    /// What is authenticated, unless it is detached.
     pub payload: Option<Vec<u8>>,
     /// The MAC.
     pub tag: Vec<u8>,
@@ -76,7 +76,7 @@ impl CoseMac {
         }
     }
 
-    /// The bytes that are authenticated where this payload is sent apart (RFC 9052, section 6): it takes the place of one
+    /// The bytes that are authenticated where this payload is detached (RFC 9052, section 6): it takes the place of one
     /// that the message carries.
     ///
     /// # Errors
@@ -90,7 +90,7 @@ impl CoseMac {
         ensures { Writes (mac_structure_of (mac_seen self.now) external_aad.now payload.now) (λ b.
             b.items) result }
     {
-        authenticated_bytes(
+        mac_structure_of(
             alloc,
             MacContext::CoseMac,
             &self.protected,
@@ -166,7 +166,7 @@ impl CoseMac {
         ask(&self.tag, structure, verifier)
     }
 
-    /// The same as [`CoseMac::verify_tag`] where this payload is sent apart (RFC 9052, section 6): it takes the place of one
+    /// The same as [`CoseMac::verify_tag`] where this payload is detached (RFC 9052, section 6): it takes the place of one
     /// that the message carries.
     ///
     /// # Errors
@@ -347,12 +347,35 @@ impl CoseMacBuilder {
         self
     }
 
+    /// As [`payload`](CoseMacBuilder::payload), of a copy of these bytes.
+    ///
+    /// # Errors
+    /// `OutOfMemory` alone.
+    pub fn payload_from(self, alloc: Global, payload: &[u8]) -> Result<CoseMacBuilder>
+        ensures ok { IfOk result (λ b. mac_seen b
+            ≡ record (mac_seen self) { payload = Some payload.now }) }
+        ensures memory { IfErr result (λ e. e ≡ OutOfMemory) }
+    {
+        Ok(self.payload(Vec::from_slice(alloc, payload)?))
+    }
+
     /// Sets the tag.
     pub fn tag(mut self, tag: Vec<u8>) -> CoseMacBuilder
         ensures { mac_seen result ≡ with_tag tag.items (mac_seen self) }
     {
         self.0.tag = tag;
         self
+    }
+
+    /// As [`tag`](CoseMacBuilder::tag), of a copy of these bytes.
+    ///
+    /// # Errors
+    /// `OutOfMemory` alone.
+    pub fn tag_from(self, alloc: Global, tag: &[u8]) -> Result<CoseMacBuilder>
+        ensures ok { IfOk result (λ b. mac_seen b ≡ with_tag tag.now (mac_seen self)) }
+        ensures memory { IfErr result (λ e. e ≡ OutOfMemory) }
+    {
+        Ok(self.tag(Vec::from_slice(alloc, tag)?))
     }
 
     /// Adds a recipient, behind the others.
@@ -392,7 +415,7 @@ impl CoseMacBuilder {
         Ok(self.tag(creator(&tbm)))
     }
 
-    /// The same as [`CoseMacBuilder::create_tag`] where this payload is sent apart (RFC 9052, section 6): it takes the place of
+    /// The same as [`CoseMacBuilder::create_tag`] where this payload is detached (RFC 9052, section 6): it takes the place of
     /// one that the message carries, and isn't put into it.
     ///
     /// # Errors

@@ -35,7 +35,7 @@ use coset_core::{
     fill_unprotected_header,
 };
 use coset_msg::EncryptionContext;
-use coset_msg::enc_structure::additional_bytes;
+use coset_msg::enc_structure::enc_structure_of;
 use std::alloc::{AllocError, Global};
 use std::marker::Model;
 
@@ -116,7 +116,7 @@ impl InPlace for CoseRecipient {
 /// Reads an array of recipients into an empty list.
 ///
 /// # Errors
-/// `UnexpectedItem`: the item is no array; or the same as [`fill_each`].
+/// `UnexpectedItem`: the item is no array; or the same as [`fill_listed`].
 #[cycle(read)]
 pub(crate) fn fill_recipients(
     all: &mut Vec<CoseRecipient>,
@@ -132,7 +132,7 @@ pub(crate) fn fill_recipients(
         (answer error.new result) }
 {
     let mut members = keep_error(input.enter_array("array"), error)?;
-    let filled = fill_each(all, alloc, &mut members, input, error);
+    let filled = fill_listed(all, alloc, &mut members, input, error);
     members.finish(input);
     filled
 }
@@ -142,7 +142,7 @@ pub(crate) fn fill_recipients(
 /// # Errors
 /// `OutOfMemory`, or the fault of the first that has one.
 #[cycle(read)]
-fn fill_each(
+fn fill_listed(
     all: &mut Vec<CoseRecipient>,
     alloc: Global,
     members: &mut InputItems,
@@ -217,7 +217,7 @@ fn fill_places(
         ),
         error,
     )?;
-    fill_last(&mut recipient.recipients, alloc, members, input, error)?;
+    fill_fourth(&mut recipient.recipients, alloc, members, input, error)?;
     keep_error(first, error)
 }
 
@@ -226,7 +226,7 @@ fn fill_places(
 /// # Errors
 /// `UnexpectedItem`: a fifth follows; or the same as [`fill_recipients`].
 #[cycle(read)]
-fn fill_last(
+fn fill_fourth(
     all: &mut Vec<CoseRecipient>,
     alloc: Global,
     members: &mut InputItems,
@@ -431,7 +431,7 @@ impl CoseRecipient {
         ensures { Writes (recipient_structure context (recipient_seen self.now)
             external_aad.now) (λ b. b.items) result }
     {
-        additional_bytes(alloc, context, &self.protected, external_aad)
+        enc_structure_of(alloc, context, &self.protected, external_aad)
     }
 
     /// The ciphertext, which the recipient carries.
@@ -646,6 +646,18 @@ impl CoseRecipientBuilder {
     {
         self.0.ciphertext = Some(ciphertext);
         self
+    }
+
+    /// As [`ciphertext`](CoseRecipientBuilder::ciphertext), of a copy of these bytes.
+    ///
+    /// # Errors
+    /// `OutOfMemory` alone.
+    pub fn ciphertext_from(self, alloc: Global, ciphertext: &[u8]) -> Result<CoseRecipientBuilder>
+        ensures ok { IfOk result (λ b. recipient_seen b
+            ≡ with_ciphertext ciphertext.now (recipient_seen self)) }
+        ensures memory { IfErr result (λ e. e ≡ OutOfMemory) }
+    {
+        Ok(self.ciphertext(Vec::from_slice(alloc, ciphertext)?))
     }
 
     /// Adds a recipient, behind the others.

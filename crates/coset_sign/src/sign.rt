@@ -10,7 +10,7 @@ ghost use Rattle.coset_core.specs.Views.{header_seen, signature_seen};
 ghost use Rattle.coset_core.specs.Calls.{AsksAbout, Creates, TriesToCreate};
 ghost use Rattle.coset_sign.specs.Sign.{and_signature, empty_sign, sign, sign_seen, signed_with, signer_carried, signer_structure};
 
-use crate::signature::{SignatureContext, signed_bytes};
+use crate::signature::{SignatureContext, sig_structure_of};
 use coset_codec::read::{Decode, Input, read_blamed_list};
 use coset_codec::util::copy_bstr;
 use coset_codec::write::{Array, Encode, encode_four};
@@ -33,7 +33,7 @@ pub struct CoseSign {
     pub protected: ProtectedHeader,
     /// The header that none covers.
     pub unprotected: Header,
-    /// What is signed, unless it is sent apart.
+    /// What is signed, unless it is detached.
     pub payload: Option<Vec<u8>>,
     /// The signatures.
     pub signatures: Vec<CoseSignature>,
@@ -92,7 +92,7 @@ impl CoseSign {
     {
         let context = SignatureContext::CoseSignature;
         let signer = Some(&signature.protected);
-        signed_bytes(
+        sig_structure_of(
             alloc,
             context,
             &self.protected,
@@ -123,7 +123,7 @@ impl CoseSign {
         }
     }
 
-    /// The bytes that this signature is over where the payload is sent apart, so that the message carries none.
+    /// The bytes that this signature is over where the payload is detached, so that the message carries none.
     ///
     /// # Errors
     /// The same as [`CoseSign::tbs_data`].
@@ -177,7 +177,7 @@ impl CoseSign {
         ask(&signature.signature, structure, verifier)
     }
 
-    /// The same as [`CoseSign::verify_signature`] where the payload is sent apart, so that the message carries none.
+    /// The same as [`CoseSign::verify_signature`] where the payload is detached, so that the message carries none.
     ///
     /// # Errors
     /// The same as [`CoseSign::verify_signature`].
@@ -370,6 +370,18 @@ impl CoseSignBuilder {
         self
     }
 
+    /// As [`payload`](CoseSignBuilder::payload), of a copy of these bytes.
+    ///
+    /// # Errors
+    /// `OutOfMemory` alone.
+    pub fn payload_from(self, alloc: Global, payload: &[u8]) -> Result<CoseSignBuilder>
+        ensures ok { IfOk result (λ b. sign_seen b
+            ≡ record (sign_seen self) { payload = Some payload.now }) }
+        ensures memory { IfErr result (λ e. e ≡ OutOfMemory) }
+    {
+        Ok(self.payload(Vec::from_slice(alloc, payload)?))
+    }
+
     /// Adds a signature that is made already.
     ///
     /// # Errors
@@ -457,7 +469,7 @@ impl CoseSignBuilder {
         self.add_signed(signature, structure, signer)
     }
 
-    /// The same as [`CoseSignBuilder::add_created_signature`] where the payload is sent apart, so that the message
+    /// The same as [`CoseSignBuilder::add_created_signature`] where the payload is detached, so that the message
     /// carries none.
     ///
     /// # Errors

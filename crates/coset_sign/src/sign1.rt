@@ -8,7 +8,7 @@ ghost use Rattle.coset_core.specs.Views.{header_seen};
 ghost use Rattle.coset_core.specs.Calls.{AsksAbout, Creates, TriesToCreate};
 ghost use Rattle.coset_sign.specs.Sign1.{empty_sign1, sign1, sign1_seen, sign1_carried, sign1_structure, with_signature};
 
-use crate::signature::{SignatureContext, signed_bytes};
+use crate::signature::{SignatureContext, sig_structure_of};
 use coset_codec::read::Input;
 use coset_codec::util::copy_bstr;
 use coset_codec::write::{Encode, encode_four};
@@ -29,7 +29,7 @@ pub struct CoseSign1 {
     pub protected: ProtectedHeader,
     /// The header that it doesn't cover.
     pub unprotected: Header,
-    /// What is signed, unless it is sent apart.
+    /// What is signed, unless it is detached.
     pub payload: Option<Vec<u8>>,
     /// The signature.
     pub signature: Vec<u8>,
@@ -57,7 +57,7 @@ impl CoseSign1 {
             b.items) result }
     {
         let context = SignatureContext::CoseSign1;
-        signed_bytes(alloc, context, &self.protected, None, external_aad, payload)
+        sig_structure_of(alloc, context, &self.protected, None, external_aad, payload)
     }
 
     /// The bytes that the signature is over (RFC 8152, section 4.4), with the protected header as it was read.
@@ -76,7 +76,7 @@ impl CoseSign1 {
         }
     }
 
-    /// The bytes that the signature is over where the payload is sent apart, so that the message carries none.
+    /// The bytes that the signature is over where the payload is detached, so that the message carries none.
     ///
     /// # Errors
     /// The same as [`CoseSign1::tbs_data`].
@@ -115,7 +115,7 @@ impl CoseSign1 {
         ask(&self.signature, structure, verifier)
     }
 
-    /// The same as [`CoseSign1::verify_signature`] where the payload is sent apart, so that the message carries none.
+    /// The same as [`CoseSign1::verify_signature`] where the payload is detached, so that the message carries none.
     ///
     /// # Errors
     /// The same as [`CoseSign1::verify_signature`].
@@ -290,12 +290,36 @@ impl CoseSign1Builder {
         self
     }
 
+    /// As [`payload`](CoseSign1Builder::payload), of a copy of these bytes.
+    ///
+    /// # Errors
+    /// `OutOfMemory` alone.
+    pub fn payload_from(self, alloc: Global, payload: &[u8]) -> Result<CoseSign1Builder>
+        ensures ok { IfOk result (λ b. sign1_seen b
+            ≡ record (sign1_seen self) { payload = Some payload.now }) }
+        ensures memory { IfErr result (λ e. e ≡ OutOfMemory) }
+    {
+        Ok(self.payload(Vec::from_slice(alloc, payload)?))
+    }
+
     /// Sets the signature.
     pub fn signature(mut self, signature: Vec<u8>) -> CoseSign1Builder
         ensures { sign1_seen result ≡ with_signature signature.items (sign1_seen self) }
     {
         self.0.signature = signature;
         self
+    }
+
+    /// As [`signature`](CoseSign1Builder::signature), of a copy of these bytes.
+    ///
+    /// # Errors
+    /// `OutOfMemory` alone.
+    pub fn signature_from(self, alloc: Global, signature: &[u8]) -> Result<CoseSign1Builder>
+        ensures ok { IfOk result (λ b. sign1_seen b
+            ≡ with_signature signature.now (sign1_seen self)) }
+        ensures memory { IfErr result (λ e. e ≡ OutOfMemory) }
+    {
+        Ok(self.signature(Vec::from_slice(alloc, signature)?))
     }
 
     /// Sets the signature to what `signer` makes of the bytes that it is to be over ([`CoseSign1::tbs_data`]), so all
@@ -319,7 +343,7 @@ impl CoseSign1Builder {
         Ok(self.signature(signer(&tbs)))
     }
 
-    /// The same as [`CoseSign1Builder::create_signature`] where the payload is sent apart, so that the message carries
+    /// The same as [`CoseSign1Builder::create_signature`] where the payload is detached, so that the message carries
     /// none.
     ///
     /// # Errors

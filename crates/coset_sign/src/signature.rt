@@ -75,7 +75,7 @@ pub(crate) fn signature_structure_bytes(
 ///
 /// # Errors
 /// `OutOfMemory`, or `DuplicateMapKey` where a header wasn't read and it, or one in it, repeats a label of its rest.
-pub(crate) fn signed_bytes(
+pub(crate) fn sig_structure_of(
     alloc: Global,
     context: SignatureContext,
     body: &ProtectedHeader,
@@ -123,5 +123,5 @@ pub fn sig_structure_data(
     ensures { Writes (signed_item context (protected_seen body) (option_map protected_seen sign)
         external_aad.now payload.now) (λ b. b.items) result }
 {
-    signed_bytes(alloc, context, &body, sign.as_ref(), external_aad, payload)
+    sig_structure_of(alloc, context, &body, sign.as_ref(), external_aad, payload)
 }

@@ -277,23 +277,32 @@ fn try_add_detached_signature(alloc: Global, words: &Words<'_>) -> Result<String
     asked.tried(alloc, built(answer))
 }
 
-/// The message; what becomes of the header. Each of its signatures is added.
-fn build(alloc: Global, words: &Words<'_>) -> Result<String> {
+/// The message of these parts, by the builder's calls that copy what they are given.
+///
+/// # Errors
+/// `OutOfMemory` alone.
+fn rebuilt(alloc: Global, message: CoseSign) -> Result<CoseSign> {
     let CoseSign {
         protected,
         unprotected,
         payload,
         signatures,
-    } = message(alloc, words, 1, 2)?;
-    mark::begin(alloc);
+    } = message;
     let builder = CoseSignBuilder::new(alloc)
         .protected(protected.header)
         .unprotected(unprotected);
     let builder = match payload {
-        Some(payload) => builder.payload(payload),
+        Some(payload) => builder.payload_from(alloc, &payload)?,
         None => builder,
     };
-    let answer = and_each(builder, signatures);
+    built(and_each(builder, signatures))
+}
+
+/// The message; what becomes of the header. Each of its signatures is added.
+fn build(alloc: Global, words: &Words<'_>) -> Result<String> {
+    let message = message(alloc, words, 1, 2)?;
+    mark::begin(alloc);
+    let answer = rebuilt(alloc, message);
     mark::end(alloc);
-    tell::value(alloc, built(answer))
+    tell::value(alloc, answer)
 }

@@ -199,24 +199,33 @@ fn try_create_detached_signature(alloc: Global, words: &Words<'_>) -> Result<Str
     asked.tried(alloc, built(answer))
 }
 
-/// The message; what becomes of the header.
-fn build(alloc: Global, words: &Words<'_>) -> Result<String> {
+/// The message of these parts, by the builder's calls that copy what they are given.
+///
+/// # Errors
+/// `OutOfMemory` alone.
+fn rebuilt(alloc: Global, message: CoseSign1) -> Result<CoseSign1> {
     let CoseSign1 {
         protected,
         unprotected,
         payload,
         signature,
-    } = message(alloc, words, 1, 2)?;
-    mark::begin(alloc);
+    } = message;
     let builder = CoseSign1Builder::new(alloc)
         .protected(protected.header)
         .unprotected(unprotected)
-        .signature(signature);
+        .signature_from(alloc, &signature)?;
     let builder = match payload {
-        Some(payload) => builder.payload(payload),
+        Some(payload) => builder.payload_from(alloc, &payload)?,
         None => builder,
     };
-    let built = builder.build();
+    Ok(builder.build())
+}
+
+/// The message; what becomes of the header.
+fn build(alloc: Global, words: &Words<'_>) -> Result<String> {
+    let message = message(alloc, words, 1, 2)?;
+    mark::begin(alloc);
+    let answer = rebuilt(alloc, message);
     mark::end(alloc);
-    tell::value(alloc, Ok(built))
+    tell::value(alloc, answer)
 }

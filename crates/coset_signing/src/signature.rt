@@ -46,36 +46,57 @@ fn countersignature(alloc: Global, words: &Words<'_>) -> Result<CoseCountersigna
     Ok(one)
 }
 
-/// The signature; what becomes of its header.
-fn build(alloc: Global, words: &Words<'_>) -> Result<String> {
+/// The signature of these parts, by the builder's calls, of which one copies what it is given.
+///
+/// # Errors
+/// `OutOfMemory` alone.
+fn rebuilt(alloc: Global, made: CoseSignature) -> Result<CoseSignature> {
     let CoseSignature {
         protected,
         unprotected,
         signature,
-    } = signature(alloc, words)?;
-    mark::begin(alloc);
-    let built = CoseSignatureBuilder::new(alloc)
+    } = made;
+    let builder = CoseSignatureBuilder::new(alloc)
         .protected(protected.header)
         .unprotected(unprotected)
-        .signature(signature)
-        .build();
-    mark::end(alloc);
-    tell::value(alloc, Ok(built))
+        .signature_from(alloc, &signature)?;
+    Ok(builder.build())
 }
 
-/// The countersignature; what becomes of its header.
-fn countersignature_build(alloc: Global, words: &Words<'_>) -> Result<String> {
+/// The signature; what becomes of its header.
+fn build(alloc: Global, words: &Words<'_>) -> Result<String> {
+    let made = signature(alloc, words)?;
+    mark::begin(alloc);
+    let answer = rebuilt(alloc, made);
+    mark::end(alloc);
+    tell::value(alloc, answer)
+}
+
+/// The countersignature of these parts, by the builder's calls, of which one copies what it is given.
+///
+/// # Errors
+/// `OutOfMemory` alone.
+fn countersignature_rebuilt(
+    alloc: Global,
+    made: CoseCountersignature,
+) -> Result<CoseCountersignature> {
     let CoseCountersignature {
         protected,
         unprotected,
         signature,
-    } = countersignature(alloc, words)?;
-    mark::begin(alloc);
-    let built = CoseCountersignatureBuilder::new(alloc)
+    } = made;
+    let builder = CoseCountersignatureBuilder::new(alloc)
         .protected(protected.header)
         .unprotected(unprotected)
-        .signature(signature)
-        .build();
+        .signature_from(alloc, &signature)?;
+    Ok(builder.build())
+}
+
+/// The countersignature; what becomes of its header.
+fn countersignature_build(alloc: Global, words: &Words<'_>) -> Result<String> {
+    let made = countersignature(alloc, words)?;
+    mark::begin(alloc);
+    let answer = countersignature_rebuilt(alloc, made);
     mark::end(alloc);
-    tell::value(alloc, Ok(built))
+    tell::value(alloc, answer)
 }

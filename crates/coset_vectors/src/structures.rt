@@ -152,7 +152,7 @@ fn no_payload() -> CoseError {
     CoseError::UnexpectedItem("nul", "bstr")
 }
 
-/// What is countersigned of a payload or ciphertext: nothing where it is sent apart.
+/// What is countersigned of a payload or ciphertext: nothing where it is detached.
 fn content(sent: &Option<Vec<u8>>) -> &[u8] {
     match sent {
         Some(bytes) => bytes,

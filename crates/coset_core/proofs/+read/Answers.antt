@@ -40,20 +40,20 @@ pub header::reading::fill_counter_signatures-returns-clause-fills : goal.header:
 header::reading::fill_counter_signatures-returns-clause-fills t c = elim c.if-one.branch [
   | header::reading::fill_counter_signatures-then-one w ↦ λ v z stands.
       let here = c.in_ok-one.ensures.enters v z stands in
-      let read = w.fill_one-filled.ensures.fills here.0 z here.2 in (
+      let read = w.fill_bare-filled.ensures.fills here.0 z here.2 in (
         c.finish.ensures.passes read.0.0 z (rw (w.members-is, w.input-is) read.0.1),
         rw (w.all-is, w.filled-is, w.error-is) (one_filled (layered_signature c.args.layers) v here.0 _ _ here.1 (rw w.if-one.true at here.3) read.1),
       )
   | header::reading::fill_counter_signatures-else-one w ↦ λ v z stands.
       let here = c.in_ok-one.ensures.enters v z stands in
-      let read = w.fill_each-filled.ensures.fills here.0 z here.2 in (
+      let read = w.fill_listed-filled.ensures.fills here.0 z here.2 in (
         c.finish.ensures.passes read.0.0 z (rw (w.members-is, w.input-is) read.0.1),
         rw (w.all-is, w.filled-is, w.error-is) (more_filled (layered_signature c.args.layers) v here.0 _ _ here.1 (rw w.if-one.false at here.3) read.1),
       )
 ]
 
-pub signature::fill_each-loop-all-preserved : goal.signature::fill_each-loop-all-preserved
-signature::fill_each-loop-all-preserved t c =
+pub signature::fill_listed-loop-all-preserved : goal.signature::fill_listed-loop-all-preserved
+signature::fill_listed-loop-all-preserved t c =
     let next = rw c.if-branch.true at c.in_ok-next_place.ensures in
     let read = c.in_ok-fill_signature.ensures.shrinks in
     record {
@@ -75,8 +75,8 @@ signature::fill_each-loop-all-preserved t c =
           (search rules) next.place.1);
     }
 
-pub signature::fill_each-returns-in_err-fill_signature-clause-fills : goal.signature::fill_each-returns-in_err-fill_signature-clause-fills
-signature::fill_each-returns-in_err-fill_signature-clause-fills t c = λ vs z within.
+pub signature::fill_listed-returns-in_err-fill_signature-clause-fills : goal.signature::fill_listed-returns-in_err-fill_signature-clause-fills
+signature::fill_listed-returns-in_err-fill_signature-clause-fills t c = λ vs z within.
     let next = rw c.if-branch.true at c.in_ok-next_place.ensures in
     let p = c.loop-all.invariant.fills vs z within in
     one_refused_more (layered_signature c.args.layers) vs (state c.loop-all.input) (state c.next_place.new.input)
@@ -84,8 +84,8 @@ signature::fill_each-returns-in_err-fill_signature-clause-fills t c = λ vs z wi
     (signature_seen c.fill_signature.new.signed) c.from_residual-in_err-fill_signature.result c.fill_signature.new.error c.in_err-fill_signature.field-0.0
     c.from_residual-in_err-fill_signature.ensures.1 p (next.next p.others z p.within) c.in_err-fill_signature.ensures.fills
 
-pub signature::fill_each-returns-clause-fills : goal.signature::fill_each-returns-clause-fills
-signature::fill_each-returns-clause-fills t c = λ vs z within.
+pub signature::fill_listed-returns-clause-fills : goal.signature::fill_listed-returns-clause-fills
+signature::fill_listed-returns-clause-fills t c = λ vs z within.
     let next = rw c.if-branch.false at c.in_ok-next_place.ensures in
     let p = c.loop-all.invariant.fills vs z within in
     let none = next.next p.others z p.within in (

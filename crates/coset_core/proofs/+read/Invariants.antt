@@ -22,11 +22,11 @@ decreases-header::reading::fill_pairs l = layer * l.layers + 8 * pairs_size l.pa
 abbrev pub decreases-header::reading::fill_counter_signatures : goal.decreases-header::reading::fill_counter_signatures
 decreases-header::reading::fill_counter_signatures l = layer * l.layers + 8 * input_size (state l.input.now) + 3
 
-abbrev pub decreases-signature::fill_one : goal.decreases-signature::fill_one
-decreases-signature::fill_one l = layer * l.layers + 8 * items_size l.members.now (state l.input.now) + 8
+abbrev pub decreases-signature::fill_bare : goal.decreases-signature::fill_bare
+decreases-signature::fill_bare l = layer * l.layers + 8 * items_size l.members.now (state l.input.now) + 8
 
-abbrev pub decreases-signature::fill_each : goal.decreases-signature::fill_each
-decreases-signature::fill_each l = layer * l.layers + 8 * items_size l.members.now (state l.input.now) + 8
+abbrev pub decreases-signature::fill_listed : goal.decreases-signature::fill_listed
+decreases-signature::fill_listed l = layer * l.layers + 8 * items_size l.members.now (state l.input.now) + 8
 
 abbrev pub decreases-signature::fill_signature : goal.decreases-signature::fill_signature
 decreases-signature::fill_signature l = layer * l.layers + 8 * input_size (state l.input.now) + 6
@@ -53,13 +53,13 @@ abbrev pub decreases-header::reading::fill_pairs-loop-version : goal.decreases-h
 decreases-header::reading::fill_pairs-loop-version l = pairs_turns l.pairs (state l.input)
 
 -- the signatures so far are those of the items so far, and the others stand there
-abbrev pub invariant-signature::fill_each-loop-all : goal.invariant-signature::fill_each-loop-all
-invariant-signature::fill_each-loop-all l = record {
+abbrev pub invariant-signature::fill_listed-loop-all : goal.invariant-signature::fill_listed-loop-all
+invariant-signature::fill_listed-loop-all l = record {
   shrinks : length_left (state l.input) ≤ length_left (state l.fn.input);
   size : items_size l.members (state l.input) ≤ items_size l.fn.members (state l.fn.input);
   fills : (vs : Items) (z : State) → AreWithin l.fn.members vs (state l.fn.input) z
       → Filled SignatureSeen (layered_signature l.layers) vs z l.members (state l.input) (map signature_seen l.all.items);
 }
 
-abbrev pub decreases-signature::fill_each-loop-all : goal.decreases-signature::fill_each-loop-all
-decreases-signature::fill_each-loop-all l = items_turns l.members (state l.input)
+abbrev pub decreases-signature::fill_listed-loop-all : goal.decreases-signature::fill_listed-loop-all
+decreases-signature::fill_listed-loop-all l = items_turns l.members (state l.input)

@@ -117,12 +117,35 @@ impl HeaderBuilder {
         self
     }
 
+    /// As [`content_type`](HeaderBuilder::content_type), of a copy of this text.
+    ///
+    /// # Errors
+    /// `OutOfMemory` alone.
+    pub fn content_type_from(self, alloc: Global, content_type: &str) -> Result<HeaderBuilder>
+        ensures ok { IfOk result (λ b. header_seen b
+            ≡ with_content_type (word content_type.now) (header_seen self)) }
+        ensures memory { IfErr result (λ e. e ≡ errors.OutOfMemory) }
+    {
+        Ok(self.content_type(String::from_str(alloc, content_type)?))
+    }
+
     /// Sets the key's identifier (label 4).
     pub fn key_id(mut self, key_id: Vec<u8>) -> HeaderBuilder
         ensures { header_seen result ≡ with_key_id key_id.items (header_seen self) }
     {
         self.0.key_id = key_id;
         self
+    }
+
+    /// As [`key_id`](HeaderBuilder::key_id), of a copy of these bytes.
+    ///
+    /// # Errors
+    /// `OutOfMemory` alone.
+    pub fn key_id_from(self, alloc: Global, key_id: &[u8]) -> Result<HeaderBuilder>
+        ensures ok { IfOk result (λ b. header_seen b ≡ with_key_id key_id.now (header_seen self)) }
+        ensures memory { IfErr result (λ e. e ≡ errors.OutOfMemory) }
+    {
+        Ok(self.key_id(Vec::from_slice(alloc, key_id)?))
     }
 
     /// Sets the IV (label 5), and empties the Partial IV.
@@ -134,6 +157,17 @@ impl HeaderBuilder {
         self
     }
 
+    /// As [`iv`](HeaderBuilder::iv), of a copy of these bytes.
+    ///
+    /// # Errors
+    /// `OutOfMemory` alone.
+    pub fn iv_from(self, alloc: Global, iv: &[u8]) -> Result<HeaderBuilder>
+        ensures ok { IfOk result (λ b. header_seen b ≡ with_iv iv.now (header_seen self)) }
+        ensures memory { IfErr result (λ e. e ≡ errors.OutOfMemory) }
+    {
+        Ok(self.iv(Vec::from_slice(alloc, iv)?))
+    }
+
     /// Sets the Partial IV (label 6), and empties the IV.
     pub fn partial_iv(mut self, partial_iv: Vec<u8>) -> HeaderBuilder
         ensures { header_seen result ≡ with_partial_iv partial_iv.items (header_seen self) }
@@ -141,6 +175,18 @@ impl HeaderBuilder {
         self.0.partial_iv = partial_iv;
         self.0.iv.clear();
         self
+    }
+
+    /// As [`partial_iv`](HeaderBuilder::partial_iv), of a copy of these bytes.
+    ///
+    /// # Errors
+    /// `OutOfMemory` alone.
+    pub fn partial_iv_from(self, alloc: Global, partial_iv: &[u8]) -> Result<HeaderBuilder>
+        ensures ok { IfOk result (λ b. header_seen b
+            ≡ with_partial_iv partial_iv.now (header_seen self)) }
+        ensures memory { IfErr result (λ e. e ≡ errors.OutOfMemory) }
+    {
+        Ok(self.partial_iv(Vec::from_slice(alloc, partial_iv)?))
     }
 
     /// Adds a counter signature (label 7).
@@ -179,6 +225,18 @@ impl HeaderBuilder {
     {
         self.0.countersignature0_v2 = Some(signature);
         self
+    }
+
+    /// As [`countersignature0_v2`](HeaderBuilder::countersignature0_v2), of a copy of these bytes.
+    ///
+    /// # Errors
+    /// `OutOfMemory` alone.
+    pub fn countersignature0_v2_from(self, alloc: Global, signature: &[u8]) -> Result<HeaderBuilder>
+        ensures ok { IfOk result (λ b. header_seen b
+            ≡ with_countersignature0_v2 signature.now (header_seen self)) }
+        ensures memory { IfErr result (λ e. e ≡ errors.OutOfMemory) }
+    {
+        Ok(self.countersignature0_v2(Vec::from_slice(alloc, signature)?))
     }
 
     /// Adds a pair with a number as its label, which is none of 1 to 7, and neither 11 nor 12: those have calls of their

@@ -30,7 +30,7 @@ use crate::critical::set_critical;
 use crate::header::Header;
 use crate::header::writing::ask_distinct;
 use crate::one_or_more::enter_ones;
-use crate::signature::{CoseSignature, fill_each, fill_one, let_go};
+use crate::signature::{CoseSignature, drop_nested, fill_bare, fill_listed};
 use coset_codec::error::{Refused, keep_error};
 use coset_codec::read::{Input, InputItems, InputPairs, set_field, set_filled};
 use coset_codec::{CoseError, Result};
@@ -76,7 +76,12 @@ fn set_iv(alloc: Global, field: &mut Vec<u8>, other: &Vec<u8>, input: &mut Input
 /// # Errors
 /// `OutOfMemory`; `DuplicateMapKey` where a field has a value already; a fault of its value; or `UnexpectedItem` where
 /// it is the second of IV and Partial IV. The header is then as before.
-fn put(header: &mut Header, alloc: Global, label: Label, input: &mut Input<'_>) -> Result<()>
+fn set_parameter(
+    header: &mut Header,
+    alloc: Global,
+    label: Label,
+    input: &mut Input<'_>,
+) -> Result<()>
     requires other { NamesNoVersion (label_seen label) }
     requires one_iv { HasOneIv (fields_seen header.old) }
     ensures shrinks { length_left (state input.new) ≤ length_left (state input.old) }
@@ -147,7 +152,7 @@ fn version_of(label: &Label) -> Option<Version>
 ///
 /// # Errors
 /// `OutOfMemory`, or the fault of a pair, which is passed.
-fn fill_some(
+fn fill_until_signatures(
     header: &mut Header,
     alloc: Global,
     pairs: &mut InputPairs,
@@ -170,7 +175,7 @@ fn fill_some(
         if let Some(version) = version_of(&label) {
             return Ok(Some(version));
         }
-        put(header, alloc, label, input)?;
+        set_parameter(header, alloc, label, input)?;
     }
     Ok(None)
 }
@@ -198,7 +203,7 @@ fn refuse(
     Err(error)
 }
 
-/// As many pairs as [`fill_some`] reads. That no label of the rest repeats is asked before a fault is answered, before
+/// As many pairs as [`fill_until_signatures`] reads. That no label of the rest repeats is asked before a fault is answered, before
 /// counter signatures are read, and in the end.
 ///
 /// # Errors
@@ -225,7 +230,7 @@ fn fill_fields(
         → FillsFields all o z (fields_seen header.new) (state input.new) pairs.new
         (answer error.new result) }
 {
-    let filled = fill_some(header, alloc, pairs, input);
+    let filled = fill_until_signatures(header, alloc, pairs, input);
     let distinct = match ask_distinct(alloc, &header.rest) {
         Ok(()) => filled,
         Err(repeated) => refuse(filled, input, repeated),
@@ -307,7 +312,7 @@ fn fill_pairs(
         let mut read = Vec::new(alloc);
         if let Err(refused) = fill_counter_signatures(&mut read, alloc, input, layers, error) {
             // In a call of its own: what drops a signature takes more stack than a level of reading.
-            let_go(read, Vec::new(alloc));
+            drop_nested(read, Vec::new(alloc));
             return Err(refused);
         }
         keep_signatures(header, version, alloc, read, error)?;
@@ -408,9 +413,9 @@ fn fill_counter_signatures(
     let mut members = InputItems::none();
     let one = begin_ones(&mut members, input, error)?;
     let filled = if one {
-        fill_one(all, alloc, &mut members, input, layers, error)
+        fill_bare(all, alloc, &mut members, input, layers, error)
     } else {
-        fill_each(all, alloc, &mut members, input, layers, error)
+        fill_listed(all, alloc, &mut members, input, layers, error)
     };
     members.finish(input);
     filled

@@ -15,8 +15,8 @@ use Rattle.coset_recipient.specs.declared.recipient.CoseRecipient.{out-roll-Cose
 use Rattle.coset_recipient.proofs.Reading.{few_refused, last_refused, none_inside, not_entered, places_filled}
 use Rattle.coset_recipient.proofs.recipient.+read.Goals as goal
 
-pub fill_each-loop-all-preserved : goal.fill_each-loop-all-preserved
-fill_each-loop-all-preserved t c =
+pub fill_listed-loop-all-preserved : goal.fill_listed-loop-all-preserved
+fill_listed-loop-all-preserved t c =
     let next = rw c.if-branch.true at c.in_ok-next_place.ensures in
     let read = c.in_ok-fill_recipient.ensures.shrinks in
     record {
@@ -38,8 +38,8 @@ fill_each-loop-all-preserved t c =
           (search rules) next.place.1);
     }
 
-pub fill_each-returns-in_err-fill_recipient-clause-fills : goal.fill_each-returns-in_err-fill_recipient-clause-fills
-fill_each-returns-in_err-fill_recipient-clause-fills t c = λ vs z within.
+pub fill_listed-returns-in_err-fill_recipient-clause-fills : goal.fill_listed-returns-in_err-fill_recipient-clause-fills
+fill_listed-returns-in_err-fill_recipient-clause-fills t c = λ vs z within.
     let next = rw c.if-branch.true at c.in_ok-next_place.ensures in
     let p = c.loop-all.invariant.fills vs z within in
     one_refused_more recipient vs (state c.loop-all.input) (state c.next_place.new.input)
@@ -48,8 +48,8 @@ fill_each-returns-in_err-fill_recipient-clause-fills t c = λ vs z within.
     c.from_residual-in_err-fill_recipient.ensures.1 p (next.next p.others z p.within)
     c.in_err-fill_recipient.ensures.fills
 
-pub fill_each-returns-clause-fills : goal.fill_each-returns-clause-fills
-fill_each-returns-clause-fills t c = λ vs z within.
+pub fill_listed-returns-clause-fills : goal.fill_listed-returns-clause-fills
+fill_listed-returns-clause-fills t c = λ vs z within.
     let next = rw c.if-branch.false at c.in_ok-next_place.ensures in
     let p = c.loop-all.invariant.fills vs z within in
     let none = next.next p.others z p.within in (
@@ -68,33 +68,33 @@ fill_places-returns-in_err-first-clause-fills t c = λ vs z within.
     few_refused vs p u o (state c.begin_places.new.input) z c.begin_places.new.members _ c.from_residual.result c.keep_error.new.error c.in_err-first.field-0.0
     c.from_residual.ensures.1 begins
 
-pub fill_places-fill_last-requires : goal.fill_places-fill_last-requires
-fill_places-fill_last-requires t c =
+pub fill_places-fill_fourth-requires : goal.fill_places-fill_fourth-requires
+fill_places-fill_fourth-requires t c =
     let size = c.begin_places.ensures.size in (
       omega (arith, size, c.decreases),
       ap (λ g. map recipient_seen g.recipients.items) (out-roll-CoseRecipient _)
           ∙ none_inside c.args.recipient.now c.requires.empty,
     )
 
-pub fill_places-returns-in_err-fill_last-clause-fills : goal.fill_places-returns-in_err-fill_last-clause-fills
-fill_places-returns-in_err-fill_last-clause-fills t c = λ vs z within.
+pub fill_places-returns-in_err-fill_fourth-clause-fills : goal.fill_places-returns-in_err-fill_fourth-clause-fills
+fill_places-returns-in_err-fill_fourth-clause-fills t c = λ vs z within.
     let p = protected_seen c.begin_places.new.protected in
     let u = header_seen c.begin_places.new.unprotected in
     let o = option_map (λ b. b.items) c.begin_places.new.ciphertext in
     let begins = subst (BeginsThree vs p u o (state c.begin_places.new.input) z c.begin_places.new.members)
     (sym c.keep_error.ensures.answers ∙ ap (answer c.keep_error.new.error) c.in_ok-first.was) (c.begin_places.ensures.begins vs z within) in
     last_refused vs p u o (state c.begin_places.new.input)
-    (state c.fill_last.new.input) z c.begin_places.new.members c.fill_last.new.members c.in_ok-first.first _
-    (map recipient_seen c.fill_last.new.all.items) c.from_residual-in_err-fill_last.result
-    c.fill_last.new.error c.in_err-fill_last.field-0.0 c.from_residual-in_err-fill_last.ensures.1 begins
-    (λ others inside. c.in_err-fill_last.ensures.fills others z inside)
+    (state c.fill_fourth.new.input) z c.begin_places.new.members c.fill_fourth.new.members c.in_ok-first.first _
+    (map recipient_seen c.fill_fourth.new.all.items) c.from_residual-in_err-fill_fourth.result
+    c.fill_fourth.new.error c.in_err-fill_fourth.field-0.0 c.from_residual-in_err-fill_fourth.ensures.1 begins
+    (λ others inside. c.in_err-fill_fourth.ensures.fills others z inside)
 
 pub fill_places-returns-clause-fills : goal.fill_places-returns-clause-fills
 fill_places-returns-clause-fills t c = λ vs z within.
     let p = protected_seen c.begin_places.new.protected in
     let u = header_seen c.begin_places.new.unprotected in
     let o = option_map (λ b. b.items) c.begin_places.new.ciphertext in
-    let rs = map recipient_seen c.fill_last.new.all.items in
+    let rs = map recipient_seen c.fill_fourth.new.all.items in
     let first = c.in_ok-first.first in
     let x : RecipientSeen = record { protected = p; unprotected = u; ciphertext = o; recipients = recipients_of rs } in
     let begins = subst (BeginsThree vs p u o (state c.begin_places.new.input) z c.begin_places.new.members)
@@ -107,8 +107,8 @@ fill_places-returns-clause-fills t c = λ vs z within.
       recipients = recipients_of rs;
     }) (out-roll-CoseRecipient _) in
     let read = places_filled vs (state c.begin_places.new.input)
-    (state c.fill_last.new.input) z c.begin_places.new.members c.fill_last.new.members x rs first begins
-    (λ others inside. c.in_ok-fill_last.ensures.fills others z inside) refl in (
+    (state c.fill_fourth.new.input) z c.begin_places.new.members c.fill_fourth.new.members x rs first begins
+    (λ others inside. c.in_ok-fill_fourth.ensures.fills others z inside) refl in (
       read.0,
       subst (λ y. Fills recipient (array vs) y (answer c.keep_error-2.new.error c.keep_error-2.result)) (sym seen)
           (subst (Fills recipient (array vs) x) (sym c.keep_error-2.ensures.answers) read.1),

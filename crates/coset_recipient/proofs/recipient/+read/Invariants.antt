@@ -12,23 +12,23 @@ decreases-fill_recipient l = 8 * input_size (state l.input.now) + 2
 abbrev pub decreases-fill_places : goal.decreases-fill_places
 decreases-fill_places l = 8 * items_size l.members.now (state l.input.now) + 7
 
-abbrev pub decreases-fill_last : goal.decreases-fill_last
-decreases-fill_last l = 8 * items_size l.members.now (state l.input.now) + 6
+abbrev pub decreases-fill_fourth : goal.decreases-fill_fourth
+decreases-fill_fourth l = 8 * items_size l.members.now (state l.input.now) + 6
 
 abbrev pub decreases-fill_recipients : goal.decreases-fill_recipients
 decreases-fill_recipients l = 8 * input_size (state l.input.now) + 5
 
-abbrev pub decreases-fill_each : goal.decreases-fill_each
-decreases-fill_each l = 8 * items_size l.members.now (state l.input.now) + 7
+abbrev pub decreases-fill_listed : goal.decreases-fill_listed
+decreases-fill_listed l = 8 * items_size l.members.now (state l.input.now) + 7
 
 -- the recipients so far are those of the items so far, and the others stand there
-abbrev pub invariant-fill_each-loop-all : goal.invariant-fill_each-loop-all
-invariant-fill_each-loop-all l = record {
+abbrev pub invariant-fill_listed-loop-all : goal.invariant-fill_listed-loop-all
+invariant-fill_listed-loop-all l = record {
   shrinks : length_left (state l.input) ≤ length_left (state l.fn.input);
   size : items_size l.members (state l.input) ≤ items_size l.fn.members (state l.fn.input);
   fills : (vs : Items) (z : State) → AreWithin l.fn.members vs (state l.fn.input) z
       → Filled RecipientSeen recipient vs z l.members (state l.input) (map recipient_seen l.all.items);
 }
 
-abbrev pub decreases-fill_each-loop-all : goal.decreases-fill_each-loop-all
-decreases-fill_each-loop-all l = items_turns l.members (state l.input)
+abbrev pub decreases-fill_listed-loop-all : goal.decreases-fill_listed-loop-all
+decreases-fill_listed-loop-all l = items_turns l.members (state l.input)

@@ -8,15 +8,15 @@ use Rattle.coset_core.proofs.header.reading.fill_fields.Goals.{in-Ok, in-Err}
 
 pub returns-clause-fills : goal.returns-clause-fills
 returns-clause-fills c = λ all ps o z walks within.
-    let f = fields_seen c.fill_some-filled.new.header in
-    let m = c.fill_some-filled.new.pairs in
-    let some = c.fill_some-filled.ensures.fills all ps o z walks within in
+    let f = fields_seen c.fill_until_signatures-filled.new.header in
+    let m = c.fill_until_signatures-filled.new.pairs in
+    let some = c.fill_until_signatures-filled.ensures.fills all ps o z walks within in
     subst (FillsFields all o z f (state c.match-ask_distinct.input) m) (sym c.keep_error.ensures.answers)
     (elim c.match-ask_distinct.branch [
-      | in-Ok w ↦ rw (w.input-is, w.distinct-is) (distinct all o f (state c.fill_some-filled.new.input) z m c.fill_some-filled.result some
+      | in-Ok w ↦ rw (w.input-is, w.distinct-is) (distinct all o f (state c.fill_until_signatures-filled.new.input) z m c.fill_until_signatures-filled.result some
           (rw c.deref.ensures.value at w.in-Ok.ensures.ok))
       | in-Err w ↦ rw (w.input-is, w.distinct-is)
-          (repeats all o f (state c.fill_some-filled.new.input)
-          (state w.refuse-distinct.new.input) z m c.fill_some-filled.result w.refuse-distinct.result w.in-Err.repeated some
+          (repeats all o f (state c.fill_until_signatures-filled.new.input)
+          (state w.refuse-distinct.new.input) z m c.fill_until_signatures-filled.result w.refuse-distinct.result w.in-Err.repeated some
           (rw c.deref.ensures.value at w.in-Err.ensures.refused) (w.refuse-distinct.ensures.passes all o f z m some, w.refuse-distinct.ensures.refused))
     ])

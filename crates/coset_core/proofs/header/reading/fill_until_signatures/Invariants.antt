@@ -5,7 +5,7 @@ use Rattle.coset_core.specs.Fields.{HasOneIv, Versions}
 use Rattle.coset_core.specs.FieldsView.{fields_seen, signatures_held}
 use Rattle.coset_core.specs.Filling.{WalksTo}
 use Rattle.coset_core.proofs.Filling.{SoFar}
-use Rattle.coset_core.proofs.header.reading.fill_some.Given as goal
+use Rattle.coset_core.proofs.header.reading.fill_until_signatures.Given as goal
 
 abbrev pub invariant-loop-label : goal.invariant-loop-label
 invariant-loop-label l = record {

@@ -3,7 +3,7 @@ use Rattle.coset_codec.specs.Inputs.{state}
 use Rattle.coset_codec.proofs.Inputs.{pairs_fewer, pairs_smaller}
 use Rattle.coset_core.specs.FieldsView.{fields_seen}
 use Rattle.coset_core.proofs.Filling.{at_held, at_end, at_key, on_value, at_value, stops}
-use Rattle.coset_core.proofs.header.reading.fill_some.Goals as goal
+use Rattle.coset_core.proofs.header.reading.fill_until_signatures.Goals as goal
 
 pub returns-in_err-label-clause-fills : goal.returns-in_err-label-clause-fills
 returns-in_err-label-clause-fills c = λ all ps o z walks within.
@@ -23,20 +23,20 @@ returns-in-Some-version_of-clause-fills c = λ all ps o z walks within.
 
 pub loop-label-preserved : goal.loop-label-preserved
 loop-label-preserved c = record {
-  one_iv = c.in_ok-put.ensures.one_iv;
-  others = c.in_ok-put.ensures.others ∙ c.loop-label.invariant.others;
+  one_iv = c.in_ok-set_parameter.ensures.one_iv;
+  others = c.in_ok-set_parameter.ensures.others ∙ c.loop-label.invariant.others;
   shrinks =
-      let taken = c.in_ok-put.ensures.shrinks in
+      let taken = c.in_ok-set_parameter.ensures.shrinks in
       let next = c.in_ok-label.ensures.shrinks in
       let before = c.loop-label.invariant.shrinks in
       omega (arith, taken, next, before);
   size =
-      let taken = pairs_smaller c.next_key.new.self (state c.next_key.new.input) (state c.put.new.input) c.in_ok-put.ensures.shrinks in
+      let taken = pairs_smaller c.next_key.new.self (state c.next_key.new.input) (state c.set_parameter.new.input) c.in_ok-set_parameter.ensures.shrinks in
       let next = c.in_ok-label.ensures.size in
       let before = c.loop-label.invariant.size in
       omega (arith, taken, next, before);
   turns =
-      let taken = pairs_fewer c.next_key.new.self (state c.next_key.new.input) (state c.put.new.input) c.in_ok-put.ensures.shrinks in
+      let taken = pairs_fewer c.next_key.new.self (state c.next_key.new.input) (state c.set_parameter.new.input) c.in_ok-set_parameter.ensures.shrinks in
       let some = rw c.in-Some.is at c.in_ok-label.ensures.turns in
       let next = some refl in
       let before = c.loop-label.invariant.turns in
@@ -44,20 +44,20 @@ loop-label-preserved c = record {
   fills = λ all ps o z walks within.
       let w = c.loop-label.invariant.fills all ps o z walks within in
       let next = rw c.in-Some.is at c.in_ok-label.ensures.nexts in
-      on_value all o (fields_seen c.loop-label.header) (fields_seen c.put.new.header) (state c.loop-label.input) (state c.next_key.new.input)
-      (state c.put.new.input) z c.loop-label.pairs c.next_key.new.self
-      c.in-Some.label w (next w.left z w.within) (c.in_ok-put.ensures.takes o);
+      on_value all o (fields_seen c.loop-label.header) (fields_seen c.set_parameter.new.header) (state c.loop-label.input) (state c.next_key.new.input)
+      (state c.set_parameter.new.input) z c.loop-label.pairs c.next_key.new.self
+      c.in-Some.label w (next w.left z w.within) (c.in_ok-set_parameter.ensures.takes o);
 }
 
-pub returns-in_err-put-clause-fills : goal.returns-in_err-put-clause-fills
-returns-in_err-put-clause-fills c = λ all ps o z walks within.
+pub returns-in_err-set_parameter-clause-fills : goal.returns-in_err-set_parameter-clause-fills
+returns-in_err-set_parameter-clause-fills c = λ all ps o z walks within.
     let w = c.loop-label.invariant.fills all ps o z walks within in
     let next = rw c.in-Some.is at c.in_ok-label.ensures.nexts in
-    stops all o (fields_seen c.put.new.header) (state c.put.new.input) z c.next_key.new.self c.from_residual-in_err-put.result c.in_err-put.field-0.0
-    c.from_residual-in_err-put.ensures.1
-    (at_value all o (fields_seen c.loop-label.header) (fields_seen c.put.new.header) (state c.loop-label.input) (state c.next_key.new.input)
-    (state c.put.new.input) z c.loop-label.pairs c.next_key.new.self
-    c.in-Some.label c.in_err-put.field-0.0 w (next w.left z w.within) c.in_err-put.ensures.kept (c.in_err-put.ensures.refused o))
+    stops all o (fields_seen c.set_parameter.new.header) (state c.set_parameter.new.input) z c.next_key.new.self c.from_residual-in_err-set_parameter.result c.in_err-set_parameter.field-0.0
+    c.from_residual-in_err-set_parameter.ensures.1
+    (at_value all o (fields_seen c.loop-label.header) (fields_seen c.set_parameter.new.header) (state c.loop-label.input) (state c.next_key.new.input)
+    (state c.set_parameter.new.input) z c.loop-label.pairs c.next_key.new.self
+    c.in-Some.label c.in_err-set_parameter.field-0.0 w (next w.left z w.within) c.in_err-set_parameter.ensures.kept (c.in_err-set_parameter.ensures.refused o))
 
 pub returns-clause-fills : goal.returns-clause-fills
 returns-clause-fills c = λ all ps o z walks within.

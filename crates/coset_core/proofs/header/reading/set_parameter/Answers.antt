@@ -10,7 +10,7 @@ use Rattle.coset_core.specs.Views.{entry_seen}
 use Rattle.coset_core.specs.declared.header.Header.{out-Header, out-roll-Header}
 use Rattle.coset_core.proofs.Putting.{adds_rest, adds_alg, adds_crit, adds_content_type, adds_key_id, adds_iv, adds_partial_iv, adds_countersignature0_v2}
 use Rattle.coset_core.proofs.Putting.{refuses_at, swapped}
-use Rattle.coset_core.proofs.header.reading.put.Goals as goal
+use Rattle.coset_core.proofs.header.reading.set_parameter.Goals as goal
 
 pub returns-then-is_parameter-clause-takes : goal.returns-then-is_parameter-clause-takes
 unfolding algorithm
