@@ -1,15 +1,12 @@
 -- Why a message that is to be sent isn't, and a token of claims.
-use Rattle.std.proofs.Common.{◌≡◌, ℕ, ℤ, List, [], ◌∷◌, ◌++◌, Option, Some, None, Result, Ok, Err, true, option_map, refl, subst, inl, inr, sym, ap}
+use Rattle.std.proofs.Common.{◌≡◌, ℕ, ℤ, List, [], ◌∷◌, ◌++◌, Option, Some, None, Result, Ok, Err, true, option_map, refl, subst, inl, inr}
 use Rattle.std.specs.Prelude.{IfErr}
-use Rattle.coset_value.specs.Item.{Item, Items, array, bytes, dict, item, Pairs}
-use Rattle.coset_codec.specs.Encoding.{HasNoImage}
+use Rattle.coset_value.specs.Item.{Item, Items, array, bytes, dict, item}
 use Rattle.coset_codec.specs.Maps.{entries_image, named_image}
 use Rattle.coset_codec.specs.ReadAgain.{IsWritten}
 use Rattle.coset_codec.specs.Shape.{both, bstr, tstr}
 use Rattle.coset_codec.specs.declared.error.CallError.{CallError}
 use Rattle.coset_codec.specs.declared.error.CallError.TheVariants.{Coset, Caller}
-use Rattle.coset_codec.specs.declared.error.CoseError.{CoseError}
-use Rattle.coset_codec.specs.declared.error.CoseError.TheVariants.{OutOfMemory}
 use Rattle.coset_label.specs.Names.{RegisteredName, assigned, private_use, phrase}
 use Rattle.coset_core.specs.Built.{with_algorithm}
 use Rattle.coset_core.specs.Fields.{partial_header}
@@ -41,7 +38,7 @@ unsigned_unwritten h payload s a e = unwritten (λ p. signature_structure CoseSi
 
 -- ---- claims are always written
 
-both-has : {A B C : Type 0} (f : A → B → C) (a : Option A) (b : Option B) → (a ≡ None → ⊥) → (b ≡ None → ⊥) → both f a b ≡ None → ⊥
+pub both-has : {A B C : Type 0} (f : A → B → C) (a : Option A) (b : Option B) → (a ≡ None → ⊥) → (b ≡ None → ⊥) → both f a b ≡ None → ⊥
 both-has f (Some a) (Some b) p q e = absurd (cc)
 both-has f (Some a) None p q e = q refl
 both-has f None b p q e = p refl

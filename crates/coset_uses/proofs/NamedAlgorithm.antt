@@ -1,6 +1,6 @@
 -- A message whose protected header names an algorithm that IANA assigned, and nothing else: it is signed, written, and read
 -- again.
-use Rattle.std.proofs.Common.{◌≡◌, ◌≤◌, ℕ, ℤ, pos, List, [], ◌∷◌, Option, Some, None, true, refl, sym, subst, arith, inl}
+use Rattle.std.proofs.Common.{◌≡◌, ◌≤◌, ℕ, ℤ, pos, List, [], ◌∷◌, Some, None, true, refl, subst, arith, inl}
 use Rattle.std.specs.Prelude.{FitsSigned, is_some}
 use Rattle.std.specs.Int.{w64}
 use Rattle.std.specs.List.{IsDistinct}
@@ -16,7 +16,7 @@ use Rattle.coset_iana.specs.declared.algorithms.Algorithm.TheVariants.{RS1}
 use Rattle.coset_iana.specs.declared.algorithms.TheConstants.{ALGORITHMS}
 use Rattle.coset_codec.specs.Answers.{Describes}
 use Rattle.coset_codec.specs.ReadAgain.{IsWritten}
-use Rattle.coset_codec.specs.ShapeLaws.{some-none, some-one}
+use Rattle.coset_codec.specs.ShapeLaws.{some-one}
 use Rattle.coset_label.specs.Names.{number, assigned}
 use Rattle.coset_core.specs.Built.{with_algorithm}
 use Rattle.coset_core.specs.Fields.{algorithm, partial_header}

@@ -1,7 +1,7 @@
 -- Bytes that are refused as a whole, or for a fault of the one item that they are.
-use Rattle.std.proofs.Common.{◌≡◌, List, ℕ, ◌⊎◌, inl, inr, subst}
+use Rattle.std.proofs.Common.{List, ℕ, inl, inr, subst}
 use Rattle.coset_value.specs.Item.{Item}
-use Rattle.coset_codec.specs.Answers.{Describes, DescribesNothing, IsOnlyItem, IsWholeFault, SliceFaults}
+use Rattle.coset_codec.specs.Answers.{DescribesNothing, IsOnlyItem, IsWholeFault, SliceFaults}
 use Rattle.coset_codec.specs.Errors.{UnlessMemory}
 use Rattle.coset_codec.specs.Shape.{Shape}
 use Rattle.coset_codec.specs.declared.error.CoseError.{CoseError}

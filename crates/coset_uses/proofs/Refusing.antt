@@ -19,6 +19,11 @@ pub passed : {T E : Type 0} (P : E → Type 0) (e : E) (r : Result T E) → IsEr
 passed P e (Ok x) is h = absurd is
 passed P e (Err x) is h = subst P (sym is) h
 
+-- and of a result that it is
+pub passed_as : {T E : Type 0} (P : Result T E → Type 0) (e : E) (r : Result T E) → IsErrAnd r (λ x. x ≡ e) → P (Err e) → P r
+passed_as P e (Ok x) is h = absurd is
+passed_as P e (Err x) is h = subst (λ y. P (Err y)) (sym is) h
+
 -- what always has an item is written, unless memory runs out
 pub written : {V : Type 0} (P : CoseError → Type 0) (o : Option Item) (bytes_of : V → List ℕ) (r : Result V CoseError) → (o ≡ None → ⊥) → Writes o bytes_of r
     → IfErr r (λ e. UnlessMemory e P)

@@ -1,5 +1,5 @@
 -- Members of an array that are read, or passed over.
-use Rattle.std.proofs.Common.{◌≡◌, ◌++◌, ◌∙◌, List, [], ◌∷◌, Option, Some, None, ap, append_assoc, append-nil, inl, inr, refl, subst, sym}
+use Rattle.std.proofs.Common.{◌≡◌, ◌++◌, ◌∙◌, List, [], ◌∷◌, ap, append_assoc, append-nil, inl, inr, refl, subst, sym}
 use Rattle.coset_value.specs.Item.{Item, Items, no_items, item}
 use Rattle.coset_codec.specs.Shape.{Shape}
 use Rattle.coset_codec.specs.ShapeLaws.{some-none}

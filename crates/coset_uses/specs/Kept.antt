@@ -1,5 +1,5 @@
 -- A claims set of which also those claims are kept whose numbers IANA hasn't assigned (RFC 8392, section 3).
-use Rattle.std.specs.Prelude.{◌≡◌, ◌⊎◌, List, [], ◌∷◌, Option, Some, None, Bool, true, false, Result, Ok, Err, map}
+use Rattle.std.specs.Prelude.{◌≡◌, ◌⊎◌, List, [], ◌∷◌, Some, None, Bool, true, false, Result, Ok, Err, map}
 use Rattle.std.specs.Map.{keys_of}
 use Rattle.coset_value.specs.Item.{Item, Pairs, no_pairs, pair, dict}
 use Rattle.coset_value.specs.Parts.{as_map}

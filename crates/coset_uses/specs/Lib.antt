@@ -1,3 +1,7 @@
+pub mod Asked
+pub mod Countersigning
+pub mod Derivation
+pub mod Detached
 pub mod Exchange
 pub mod FindKey
 pub mod HeaderParts
@@ -5,9 +9,11 @@ pub mod Inside
 pub mod Kept
 pub mod KeySets
 pub mod LetIn
-pub mod Made
 pub mod Oscore
 pub mod Readable
+pub mod Recipients
 pub mod Refusals
 pub mod Sequence
+pub mod SharedKey
+pub mod Signers
 pub mod Store

@@ -1,15 +1,12 @@
 //! A message whose payload is sent apart: it carries `nil` in its place (RFC 8152, section 4.1).
 
-ghost use Rattle.std.specs.Prelude.{Ok, IfOk};
 ghost use Rattle.coset_iana.specs.Algorithm as algorithms;
-ghost use Rattle.coset_codec.specs.Answers.{Describes};
 ghost use Rattle.coset_label.specs.Names.{assigned};
-ghost use Rattle.coset_core.specs.Calls.{AsksAbout};
-ghost use Rattle.coset_sign.specs.Sign1.{sign1, sign1_seen, sign1_structure};
-ghost use Rattle.coset_uses.specs.Made.{IsSignedApart};
+ghost use Rattle.coset_uses.specs.Detached.{SignsApart, VerifiesApart};
 
 use coset::iana::Algorithm;
 use coset::{CallError, CborSerializable, CoseError, CoseSign1, CoseSign1Builder, HeaderBuilder};
+use coset_sign::laws::signed_when_read;
 use std::alloc::Global;
 
 /// A message without its payload, signed and written.
@@ -27,8 +24,8 @@ where
     F: FnOnce(&[u8]) -> Result<Vec<u8>, E> + Drop,
     E: Drop,
     requires { F.IsAlwaysCallable sign }
-    ensures { IfOk result (λ b. IsSignedApart F.FnOnce sign
-        (assigned (algorithms.number algorithm)) external_aad.now payload.now b.items) }
+    ensures { SignsApart F.FnOnce sign (assigned (algorithms.number algorithm)) external_aad.now
+        payload.now result }
 {
     let protected = HeaderBuilder::new(alloc).algorithm(algorithm).build();
     let unsigned = CoseSign1Builder::new(alloc).protected(protected);
@@ -52,10 +49,9 @@ where
     F: FnOnce(&[u8], &[u8]) -> Result<(), E> + Drop,
     E: Drop,
     requires { F.IsAlwaysCallable verify }
-    ensures read { IfOk result (λ m. Describes sign1 message.now (sign1_seen m)) }
-    ensures verified { IfOk result (λ m. AsksAbout F.FnOnce verify (sign1_seen m).signature
-        (sign1_structure (sign1_seen m) external_aad.now payload.now) (Ok tt)) }
+    ensures { VerifiesApart F.FnOnce verify external_aad.now payload.now message.now result }
 {
+    signed_when_read();
     let message = CoseSign1::from_slice(alloc, message)?;
     if message.payload.is_some() {
         return Err(CallError::Coset(CoseError::UnexpectedItem("bstr", "nil")));

@@ -1,22 +1,24 @@
 //! What a header says beside its algorithm: which labels must be understood, and certificates.
 
-ghost use Rattle.std.specs.Prelude.{◌≡◌, IfSome, Some, map, option_map};
+ghost use Rattle.std.specs.Prelude.{◌≡◌, map, option_map};
 ghost use Rattle.std.specs.List.{list_all};
 ghost use Rattle.std.specs.Map.{lookup};
-ghost use Rattle.coset_value.specs.Item.{Item};
+ghost use Rattle.std.specs.Option.{option_and_then};
+ghost use Rattle.coset_value.specs.Parts.{as_bytes};
 ghost use Rattle.coset_value.specs.View.{view};
+ghost use Rattle.coset_iana.specs.Algorithm as algorithms;
 ghost use Rattle.coset_iana.specs.HeaderParameter as parameters;
 ghost use Rattle.coset_iana.specs.declared.headers.HeaderParameter.TheVariants.{X5Chain};
-ghost use Rattle.coset_label.specs.Names.{number};
+ghost use Rattle.coset_label.specs.Names.{assigned, number};
 ghost use Rattle.coset_core.specs.Fields.{same_name};
 ghost use Rattle.coset_core.specs.Headers.{fields_in};
-ghost use Rattle.coset_core.specs.Views.{critical_seen, header_seen};
+ghost use Rattle.coset_core.specs.Views.{critical_seen, header_seen, protected_seen};
 ghost use Rattle.cwt_gate.specs.Policy.{is_one_of};
-ghost use Rattle.coset_uses.specs.HeaderParts.{leaf};
+ghost use Rattle.coset_uses.specs.HeaderParts.{has_algorithm, leaf, names_key, one_names_key};
 
 use coset::cbor::value::Value;
-use coset::iana::{EnumI64, HeaderParameter};
-use coset::{Header, Label, RegisteredLabelWithPrivate};
+use coset::iana::{Algorithm, EnumI64, HeaderParameter};
+use coset::{Header, Label, ProtectedHeader, RegisteredLabelWithPrivate};
 
 /// A label that must be understood.
 type Critical = RegisteredLabelWithPrivate<HeaderParameter>;
@@ -46,19 +48,51 @@ pub fn find_parameter(header: &Header, parameter: HeaderParameter) -> Option<&Va
     header.get(&Label::Int(parameter.to_i64()))
 }
 
-/// The certificate of the signer: that of `x5chain` (RFC 9360, section 2), or the first of the chain there.
-pub fn signer_certificate(header: &Header) -> Option<&[u8]>
-    ensures { IfSome result (λ c. (v : Item)
-        × (lookup (same_name (number (parameters.number X5Chain)))
-        (fields_in (header_seen header.now)).rest ≡ Some v)
-        × (leaf v ≡ Some c.now)) }
+/// The bytes of a byte string.
+fn bytes_of(value: &Value) -> Option<&[u8]>
+    ensures { option_map (λ b. b.now) result ≡ as_bytes (view value.now) }
 {
-    match find_parameter(header, HeaderParameter::X5Chain)? {
-        Value::Bytes(certificate) => Some(certificate.as_slice()),
-        Value::Array(chain) => match chain.first()? {
-            Value::Bytes(certificate) => Some(certificate.as_slice()),
-            _ => None,
-        },
+    match value {
+        Value::Bytes(bytes) => Some(bytes.as_slice()),
         _ => None,
     }
+}
+
+/// The certificate of the signer: that of `x5chain` (RFC 9360, section 2), or the first of the chain there.
+pub fn signer_certificate(header: &Header) -> Option<&[u8]>
+    ensures { option_map (λ c. c.now) result
+        ≡ option_and_then leaf (lookup (same_name (number (parameters.number X5Chain)))
+        (fields_in (header_seen header.now)).rest) }
+{
+    let value = find_parameter(header, HeaderParameter::X5Chain)?;
+    match value.as_array() {
+        Some(chain) => bytes_of(chain.first()?),
+        None => bytes_of(value),
+    }
+}
+
+/// Whether the header names this algorithm.
+pub fn has_algorithm(header: &Header, algorithm: Algorithm) -> bool
+    ensures { result ≡ has_algorithm (assigned (algorithms.number algorithm))
+        (header_seen header.now) }
+{
+    match &header.alg {
+        Some(named) => *named == RegisteredLabelWithPrivate::Assigned(algorithm),
+        None => false,
+    }
+}
+
+/// Whether the header names this key. A header without an identifier names the empty one.
+pub fn names_key(header: &Header, key_id: &[u8]) -> bool
+    ensures { result ≡ names_key key_id.now (header_seen header.now) }
+{
+    header.key_id.as_slice() == key_id
+}
+
+/// Whether one of the two headers names this key: its identifier may stand in either (RFC 8152, section 3.1).
+pub fn one_names_key(protected: &ProtectedHeader, unprotected: &Header, key_id: &[u8]) -> bool
+    ensures { result ≡ one_names_key key_id.now (protected_seen protected.now)
+        (header_seen unprotected.now) }
+{
+    names_key(&protected.header, key_id) || names_key(unprotected, key_id)
 }

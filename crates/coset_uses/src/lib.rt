@@ -4,6 +4,8 @@
 
 pub mod attestation;
 pub mod cipher;
+pub mod countersigning;
+pub mod derivation;
 pub mod detached;
 pub mod every_type;
 pub mod exchange;
@@ -16,7 +18,10 @@ pub mod key_sets;
 pub mod let_in;
 pub mod oscore;
 pub mod readable;
+pub mod recipients;
 pub mod sequences;
+pub mod shared_key;
+pub mod signers;
 pub mod stand_in;
 pub mod store;
 pub mod structures;

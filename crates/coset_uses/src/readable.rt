@@ -8,7 +8,7 @@ ghost use Rattle.coset_cbor.specs.Members.{items_left};
 ghost use Rattle.coset_cbor.specs.Pulls.{pull_item};
 ghost use Rattle.coset_key.specs.Keys.{key as key_shape, key_set_seen};
 ghost use Rattle.cwt_gate.specs.Gate.{IsRefused};
-ghost use Rattle.coset_uses.specs.Readable.{AreThoseRead, IsRead, those_of};
+ghost use Rattle.coset_uses.specs.Readable.{AreThoseRead, IsRead, ReadsThose, those_of};
 
 use coset::cbor::de::{Items, Pull};
 use coset::laws::refused_describes_nothing;
@@ -56,8 +56,7 @@ fn values_among<T: FromPull + Drop>(alloc: Global, members: Items<'_>) -> Result
 /// # Errors
 /// Why the bytes aren't an array; or `OutOfMemory`.
 pub fn values_that_read<T: FromPull + Drop>(alloc: Global, bytes: &[u8]) -> Result<Vec<T>>
-    ensures read { IfOk result (λ xs. Describes (those_of T.shape) bytes.now (map T.seen xs.items)) }
-    ensures refused { IfErr result (λ e. IsRefused (those_of T.shape) bytes.now e) }
+    ensures { ReadsThose T.shape T.seen bytes.now result }
 {
     let whole = whole_item(bytes)?;
     let Some(members) = whole.items() else {

@@ -1,30 +1,13 @@
 //! A message whose payload is sent apart.
 
+use crate::answers::{are, made_of};
 use coset::iana::Algorithm;
 use coset::{CallError, CoseError};
 use coset_uses::cipher::Refused;
 use coset_uses::detached::{sign_detached, verify_detached};
-use std::alloc::Global;
 use std::test::*;
 
 const PAYLOAD: &[u8] = b"This is the content.";
-
-/// What is made, where the bytes are those that are expected.
-fn made_of(alloc: Global, given: &[u8], expected: &[u8], made: &[u8]) -> Result<Vec<u8>, Refused> {
-    if given != expected {
-        return Err(Refused::Rejected);
-    }
-    Vec::from_slice(alloc, made).map_err(|_| Refused::OutOfMemory)
-}
-
-/// Whether both are those that are expected.
-fn are(given: (&[u8], &[u8]), expected: (&[u8], &[u8])) -> Result<(), Refused> {
-    if given.0 == expected.0 && given.1 == expected.1 {
-        Ok(())
-    } else {
-        Err(Refused::Rejected)
-    }
-}
 
 /// `["Signature1", h'a10126', h'', payload]`
 const APART_TBS: &[u8] = b"\x84\x6aSignature1\x43\xa1\x01\x26\x40\x54This is the content.";

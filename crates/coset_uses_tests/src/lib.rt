@@ -2,6 +2,12 @@
 #![tactic(auto)]
 
 #[cfg(test)]
+mod answers;
+#[cfg(test)]
+mod countersignatures;
+#[cfg(test)]
+mod derivations;
+#[cfg(test)]
 mod detached;
 #[cfg(test)]
 mod key_set_stores;
@@ -14,7 +20,13 @@ mod question_marks;
 #[cfg(test)]
 mod readings;
 #[cfg(test)]
+mod recipients;
+#[cfg(test)]
 mod requests;
+#[cfg(test)]
+mod shared_keys;
+#[cfg(test)]
+mod signers;
 #[cfg(test)]
 mod stores;
 #[cfg(test)]

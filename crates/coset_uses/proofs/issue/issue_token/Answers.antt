@@ -5,7 +5,6 @@ use Rattle.coset_core.specs.Built.{with_algorithm}
 use Rattle.coset_core.specs.Headers.{empty_header}
 use Rattle.coset_core.specs.Views.{header_seen}
 use Rattle.coset_claims.specs.Claims.{claims_seen}
-use Rattle.coset_codec.specs.declared.error.CallError.TheVariants.{Coset}
 use Rattle.coset_uses.specs.Refusals.{IsNotIssued}
 use Rattle.coset_uses.proofs.Issued.{claims-have, none_issued}
 use Rattle.coset_uses.proofs.NamedAlgorithm.{is_algorithm}

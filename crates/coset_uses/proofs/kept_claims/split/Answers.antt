@@ -1,4 +1,4 @@
-use Rattle.std.proofs.Common.{◌∙◌, map, subst}
+use Rattle.std.proofs.Common.{map, subst}
 use Rattle.coset_value.specs.View.{pairs_view}
 use Rattle.coset_cbor.specs.Members.{pairs_left}
 use Rattle.coset_cbor.specs.Pulls.{pull_item}
