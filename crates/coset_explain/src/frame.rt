@@ -1,0 +1,310 @@
+//! What is open at a place: arrays, maps, tags, strings in chunks, and byte strings whose content is shown.
+
+use crate::fault::Fault;
+use crate::head::{Form, Head};
+use crate::role::{Part, Role, label_of, place, value_of};
+
+/// How deep arrays, maps and tags may nest in one item.
+const LEVELS: u32 = 256;
+
+/// How many protected headers may lie inside one another.
+const LAYERS: u32 = 16;
+
+/// What is open.
+#[derive(Clone, Copy, Debug, PartialEq, Eq)]
+pub(crate) enum Container {
+    /// The whole input.
+    Input,
+    Array,
+    Map,
+    Tag,
+    /// A byte string whose content is shown as the item that it is.
+    Embedded,
+    /// A byte string in chunks, or a text string.
+    Chunks(Form),
+}
+
+/// What is open, and how far it was read.
+#[derive(Clone, Copy, Debug)]
+pub(crate) struct Frame {
+    pub(crate) container: Container,
+    /// What it is for.
+    pub(crate) role: Role,
+    /// Whether the type's reading asks how it is.
+    pub(crate) is_read: bool,
+    /// How many items are still to come; of what has no announced length nothing.
+    pub(crate) left: Option<u64>,
+    /// How many bytes stood from its head on, by which it is told from others.
+    pub(crate) id: usize,
+    /// How many items came.
+    pub(crate) index: u64,
+    /// The label of the value that comes next.
+    label: Option<i64>,
+    /// The type of a key, where it is a number.
+    key_type: Option<i64>,
+    /// Whether the type of a key was read, and isn't the reserved one.
+    pub(crate) has_type: bool,
+    /// The width that the head of a byte string is told to have.
+    pub(crate) width: u8,
+    /// How many bytes of the input stand behind the byte string that this is in.
+    pub(crate) behind: usize,
+    /// How many levels may still nest.
+    pub(crate) levels: u32,
+    /// How many protected headers may still stand inside one another.
+    pub(crate) layers: u32,
+}
+
+impl Frame {
+    /// The whole input.
+    pub(crate) fn input(role: Role) -> Frame {
+        Frame {
+            container: Container::Input,
+            role,
+            is_read: true,
+            left: Some(1),
+            id: 0,
+            index: 0,
+            label: None,
+            key_type: None,
+            has_type: false,
+            width: 0,
+            behind: 0,
+            levels: LEVELS,
+            layers: LAYERS,
+        }
+    }
+
+    /// An array, a map, a tag or a string in chunks that is opened in this one, behind whose head so many bytes stand that
+    /// belong to this one.
+    pub(crate) fn nested(
+        &self,
+        container: Container,
+        part: Part,
+        left: Option<u64>,
+        rest: usize,
+    ) -> Frame {
+        Frame {
+            container,
+            role: part.role,
+            is_read: part.is_read,
+            left,
+            id: self.behind.saturating_add(rest),
+            index: 0,
+            label: None,
+            key_type: None,
+            has_type: false,
+            width: 0,
+            behind: self.behind,
+            levels: self.levels.saturating_sub(1),
+            layers: self.layers,
+        }
+    }
+
+    /// The same, of a key of this type.
+    pub(crate) fn with_key_type(mut self, key_type: Option<i64>) -> Frame {
+        self.key_type = key_type;
+        self
+    }
+
+    /// The content of a byte string in this one, behind which so many bytes stand.
+    pub(crate) fn embedded(&self, part: Part, behind: usize, layers: u32, width: u8) -> Frame {
+        Frame {
+            container: Container::Embedded,
+            role: part.role,
+            is_read: part.is_read,
+            left: Some(1),
+            id: 0,
+            index: 0,
+            label: None,
+            key_type: None,
+            has_type: false,
+            width,
+            behind: self.behind.saturating_add(behind),
+            levels: LEVELS,
+            layers,
+        }
+    }
+
+    /// Whether the next item is a key of a map.
+    pub(crate) fn is_at_key(&self) -> bool {
+        self.container == Container::Map && self.index % 2 == 0
+    }
+
+    /// Whether the next item is the value of a key.
+    pub(crate) fn is_at_value(&self) -> bool {
+        self.container == Container::Map && self.index % 2 == 1
+    }
+
+    /// What the next item is for.
+    pub(crate) fn next_part(&self) -> Part {
+        match self.container {
+            Container::Array => self.part_of(place(self.role, self.index)),
+            Container::Map => {
+                if self.is_at_key() {
+                    self.part_of(label_of(self.role, self.key_type))
+                } else {
+                    self.part_of(value_of(self.role, self.label, self.key_type))
+                }
+            }
+            _ => Part {
+                role: self.role,
+                name: "",
+                is_read: self.is_read,
+            },
+        }
+    }
+
+    /// What a part is for, which is read where this is.
+    fn part_of(&self, part: Part) -> Part {
+        Part {
+            role: part.role,
+            name: part.name,
+            is_read: part.is_read && self.is_read,
+        }
+    }
+
+    /// Passes an item with this head.
+    pub(crate) fn pass(&mut self, head: &Head) {
+        if self.is_at_key() {
+            self.label = head.integer();
+        } else if self.role == Role::Key && self.label == Some(1) {
+            self.has_type = head.integer() != Some(0);
+        }
+        self.index = self.index.saturating_add(1);
+        if let Some(left) = self.left {
+            self.left = Some(left.saturating_sub(1));
+        }
+    }
+
+    /// Whether no item is to come, where these bytes do.
+    pub(crate) fn has_ended(&self, bytes: &[u8]) -> bool {
+        match self.left {
+            Some(left) => left == 0,
+            None => !self.is_at_value() && begins_break(bytes),
+        }
+    }
+
+    /// What stands behind an item that was passed, where these bytes follow it.
+    pub(crate) fn mark(&self, bytes: &[u8]) -> &'static str {
+        if self.is_at_value() {
+            ": "
+        } else if self.has_ended(bytes) || bytes.is_empty() {
+            ""
+        } else {
+            ","
+        }
+    }
+
+    /// What ends it in diagnostic notation.
+    pub(crate) fn end(&self) -> &'static str {
+        match self.container {
+            Container::Input => "",
+            Container::Array => "]",
+            Container::Map => "}",
+            Container::Tag | Container::Chunks(_) => ")",
+            Container::Embedded => ">>",
+        }
+    }
+
+    /// The fault of an item with this head where these bytes stand, of which `rest` are behind the head; what was read
+    /// before it has none.
+    pub(crate) fn fault(&self, head: &Head, rest: &[u8]) -> Option<Fault> {
+        if let Container::Chunks(form) = self.container {
+            if head.form != form || head.is_open {
+                return Some(Fault::Malformed);
+            }
+        }
+        match head.form {
+            Form::Unsigned | Form::Negative => open_fault(head),
+            Form::Bytes | Form::Text => string_fault(head, rest),
+            Form::Array | Form::Map => self.nested_fault(head, rest),
+            Form::Tag => match open_fault(head) {
+                Some(fault) => Some(fault),
+                None => self.level_fault(),
+            },
+            Form::Simple => simple_fault(head),
+            Form::Null => null_fault(head),
+            Form::Float => None,
+            Form::Break => Some(Fault::Malformed),
+        }
+    }
+
+    /// The fault of a level too many.
+    fn level_fault(&self) -> Option<Fault> {
+        if self.levels == 0 {
+            Some(Fault::Levels)
+        } else {
+            None
+        }
+    }
+
+    /// The fault of an array or a map: a level too many, or more members than bytes are left.
+    fn nested_fault(&self, head: &Head, rest: &[u8]) -> Option<Fault> {
+        if self.levels == 0 {
+            return Some(Fault::Levels);
+        }
+        let most = match head.form {
+            Form::Map => (rest.len() as u64) / 2,
+            _ => rest.len() as u64,
+        };
+        if most < head.number {
+            return Some(Fault::Ends);
+        }
+        None
+    }
+}
+
+/// Whether the end of what has no announced length is at the front.
+pub(crate) fn begins_break(bytes: &[u8]) -> bool {
+    matches!(bytes.first(), Some(first) if *first == 0xff)
+}
+
+/// The fault of a head that announces no length, where it has to.
+fn open_fault(head: &Head) -> Option<Fault> {
+    if head.is_open {
+        Some(Fault::Malformed)
+    } else {
+        None
+    }
+}
+
+/// The fault of a string: more bytes than are left, or a text that isn't UTF-8.
+fn string_fault(head: &Head, rest: &[u8]) -> Option<Fault> {
+    if (rest.len() as u64) < head.number {
+        return Some(Fault::Ends);
+    }
+    if head.form == Form::Text && str::from_utf8(content(head, rest)).is_err() {
+        return Some(Fault::Malformed);
+    }
+    None
+}
+
+/// The fault of a simple value.
+fn simple_fault(head: &Head) -> Option<Fault> {
+    match head.number {
+        20 | 21 if head.width == 0 => None,
+        0..=31 if 0 < head.width => Some(Fault::Malformed),
+        _ => Some(Fault::Simple),
+    }
+}
+
+/// The fault of a null in two bytes.
+fn null_fault(head: &Head) -> Option<Fault> {
+    if 0 < head.width {
+        Some(Fault::Malformed)
+    } else {
+        None
+    }
+}
+
+/// The content of a string whose head this is, where these bytes stand behind it; nothing of another item.
+pub(crate) fn content<'a>(head: &Head, rest: &'a [u8]) -> &'a [u8] {
+    match head.form {
+        Form::Bytes | Form::Text => {
+            let count = head.number.min(rest.len() as u64) as usize;
+            let (content, _) = rest.split_at(count);
+            content
+        }
+        _ => &[],
+    }
+}

@@ -1,0 +1,300 @@
+//! Where the fault stands for which a type's reading refused the bytes.
+
+use crate::fault::Fault;
+use crate::frame::{Container, Frame, content};
+use crate::head::{Form, Head, behind};
+use crate::role::{Message, Part, Role, is_private, name_of};
+use coset::cbor::de::Pull;
+use coset::{CborSerializable, CoseError, CoseSignature};
+use std::alloc::{AllocError, Global};
+use std::collections::BTreeSet;
+
+/// What is sought.
+#[derive(Clone, Copy, Debug)]
+enum Sought {
+    /// Nothing: the bytes were read, or their fault is one of CBOR.
+    Nothing,
+    /// An item of this kind where that is asked for.
+    Unexpected(&'static str, &'static str),
+    /// A signature that can't be read.
+    Signature,
+    /// A key operation that repeats.
+    Operation,
+    /// A label that repeats.
+    Repeated,
+    /// An integer outside of the range of its place.
+    OutOfRange,
+    /// A number without a name, in a registry without a private range.
+    Unregistered,
+    /// A number without a name and outside of the private range.
+    UnregisteredNonPrivate,
+}
+
+/// What is sought, and which labels came.
+#[derive(Drop)]
+pub(crate) struct Hunt {
+    sought: Sought,
+    labels: BTreeSet<String>,
+}
+
+/// Whether an item with this head may stand at the place.
+fn fits(frame: &Frame, role: Role, head: &Head) -> bool {
+    match role {
+        Role::Message(_, _) | Role::Signature => {
+            head.form == Form::Array
+                || (head.form == Form::Tag
+                    && frame.container == Container::Input
+                    && tag_of(role) == head.number)
+        }
+        Role::Signatures
+        | Role::Countersignatures
+        | Role::Recipient
+        | Role::Recipients
+        | Role::Labels
+        | Role::Operations
+        | Role::KeySet
+        | Role::Context
+        | Role::Party
+        | Role::PublicInformation => head.form == Form::Array,
+        Role::Header(_) | Role::Key | Role::Claims => head.form == Form::Map,
+        Role::Protected | Role::Bytes | Role::FilledBytes => head.form == Form::Bytes,
+        Role::Payload(_) | Role::MaybeBytes => {
+            head.form == Form::Bytes || head.form == Form::Null
+        }
+        Role::Nonce => { head.form == Form::Bytes || head.form == Form::Null || head.is_integer() }
+        Role::Text => head.form == Form::Text,
+        Role::Length => head.is_integer(),
+        Role::Expiry | Role::Start | Role::Time => head.is_integer() || head.form == Form::Float,
+        Role::CriticalLabel
+        | Role::Algorithm
+        | Role::ContentFormat
+        | Role::KeyType
+        | Role::Operation
+        | Role::HeaderLabel(_)
+        | Role::KeyLabel(_)
+        | Role::ClaimName => head.is_integer() || head.form == Form::Text,
+        _ => true,
+    }
+}
+
+/// The number of the tag of a message or a countersignature (RFC 8152, table 1).
+fn tag_of(role: Role) -> u64 {
+    match role {
+        Role::Message(Message::Encrypt0, _) => 16,
+        Role::Message(Message::Mac0, _) => 17,
+        Role::Message(Message::Sign1, _) => 18,
+        Role::Message(Message::Encrypt, _) => 96,
+        Role::Message(Message::Mac, _) => 97,
+        Role::Message(Message::Sign, _) => 98,
+        _ => 19,
+    }
+}
+
+/// Whether an array with this role may have so many elements.
+fn has_count(role: Role, count: u64) -> bool {
+    match role {
+        Role::Message(Message::Encrypt0, _) | Role::Signature | Role::Party => count == 3,
+        Role::Message(Message::Mac, _) => count == 5,
+        Role::Message(_, _) => count == 4,
+        Role::Recipient => count == 3 || count == 4,
+        Role::PublicInformation => count == 2 || count == 3,
+        Role::Context => 4 <= count,
+        _ => true,
+    }
+}
+
+/// What an item without content is called where one with content is asked for; `None` where it isn't.
+fn empty_kind(role: Role, head: &Head) -> Option<&'static str> {
+    if head.is_open || head.number != 0 {
+        return None;
+    }
+    match role {
+        Role::FilledBytes => Some("empty bstr"),
+        Role::ContentFormat if head.form == Form::Text => Some("empty tstr"),
+        Role::Countersignatures => Some("empty sig array"),
+        Role::Key => Some("no kty label"),
+        Role::Labels | Role::Operations => Some("empty array"),
+        _ => None,
+    }
+}
+
+/// Whether an error asks for this where an item with this role stands.
+fn asks(role: Role, want: &str) -> bool {
+    match want {
+        "bstr" => matches!(
+            role,
+            Role::Protected | Role::Bytes | Role::FilledBytes | Role::Payload(_) | Role::MaybeBytes
+        ),
+        "bstr or nil" => matches!(role, Role::Payload(_)),
+        "bstr / nil" | "bstr / null" => role == Role::MaybeBytes,
+        "bstr / int / nil" => role == Role::Nonce,
+        "map" => matches!(role, Role::Header(_) | Role::Key | Role::Claims),
+        "array value" => role == Role::Labels,
+        "int" => role == Role::Length,
+        "int/float" => matches!(role, Role::Expiry | Role::Start | Role::Time),
+        "tstr" => role == Role::Text,
+        _ => true,
+    }
+}
+
+/// What an item is called that may not stand at its place; `None` of one that may.
+fn unexpected(frame: &Frame, role: Role, head: &Head) -> Option<&'static str> {
+    if !fits(frame, role, head) {
+        return Some(head.kind_name());
+    }
+    if head.form == Form::Array && !head.is_open && !has_count(role, head.number) {
+        return Some("array");
+    }
+    empty_kind(role, head)
+}
+
+/// Whether an integer with this role has to be one of 64 bits with a sign.
+fn is_bounded(role: Role) -> bool {
+    matches!(
+        role,
+        Role::CriticalLabel
+            | Role::Algorithm
+            | Role::ContentFormat
+            | Role::KeyType
+            | Role::Operation
+            | Role::HeaderLabel(_)
+            | Role::KeyLabel(_)
+            | Role::ClaimName
+            | Role::Expiry
+            | Role::Start
+            | Role::Time
+            | Role::Nonce
+    )
+}
+
+/// Whether an integer is outside of the range of its role.
+fn is_out_of_range(role: Role, head: &Head) -> bool {
+    if role == Role::Length {
+        return head.form == Form::Negative;
+    }
+    is_bounded(role) && head.is_integer() && head.integer().is_none()
+}
+
+/// Whether the item at the front of the bytes is a signature (RFC 8152, section 4.1).
+fn is_signature(alloc: Global, bytes: &[u8]) -> Result<bool, AllocError> {
+    let Ok((pull, _)) = Pull::new(bytes) else {
+        return Ok(false);
+    };
+    match CoseSignature::from_slice(alloc, pull.slice()) {
+        Ok(_) => Ok(true),
+        Err(CoseError::OutOfMemory) => Err(AllocError),
+        Err(_) => Ok(false),
+    }
+}
+
+/// Whether the number has no name in the registry of its role, and whether that has no private range.
+fn is_unregistered(role: Role, head: &Head, has_private: bool) -> bool {
+    let Some(number) = head.integer() else {
+        return false;
+    };
+    let asks = if has_private {
+        matches!(
+            role,
+            Role::CriticalLabel | Role::Algorithm | Role::ClaimName
+        )
+    } else {
+        matches!(role, Role::ContentFormat | Role::KeyType | Role::Operation)
+    };
+    asks && name_of(role, number).is_none() && !is_private(role, number)
+}
+
+impl Hunt {
+    /// The fault that the error tells of.
+    pub(crate) fn of(alloc: Global, error: Option<&CoseError>) -> Hunt {
+        let sought = match error {
+            Some(CoseError::UnexpectedItem(got, want)) => match *got {
+                "non-signature" => Sought::Signature,
+                "repeated array entry" => Sought::Operation,
+                got => Sought::Unexpected(got, *want),
+            },
+            Some(CoseError::DuplicateMapKey) => Sought::Repeated,
+            Some(CoseError::OutOfRangeIntegerValue) => Sought::OutOfRange,
+            Some(CoseError::UnregisteredIanaValue) => Sought::Unregistered,
+            Some(CoseError::UnregisteredIanaNonPrivateValue) => Sought::UnregisteredNonPrivate,
+            _ => Sought::Nothing,
+        };
+        Hunt {
+            sought,
+            labels: BTreeSet::new(alloc),
+        }
+    }
+
+    /// The fault that is sought, where the item with this head, which stands at the front of these bytes, is at fault.
+    ///
+    /// # Errors
+    /// `AllocError` alone.
+    pub(crate) fn at(
+        &mut self,
+        alloc: Global,
+        frame: &Frame,
+        part: &Part,
+        head: &Head,
+        bytes: &[u8],
+    ) -> Result<Option<Fault>, AllocError> {
+        if !part.is_read {
+            return Ok(None);
+        }
+        let role = part.role;
+        let rest = behind(head, bytes);
+        let found = match self.sought {
+            Sought::Nothing => false,
+            Sought::Unexpected(got, want) => {
+                asks(role, want) && unexpected(frame, role, head) == Some(got)
+            }
+            Sought::Signature => frame.role == Role::Signatures && !is_signature(alloc, bytes)?,
+            Sought::Operation => {
+                role == Role::Operation && self.repeats(alloc, frame, head, rest)?
+            }
+            Sought::Repeated => frame.is_at_key() && self.repeats(alloc, frame, head, rest)?,
+            Sought::OutOfRange => is_out_of_range(role, head),
+            Sought::Unregistered => is_unregistered(role, head, false),
+            Sought::UnregisteredNonPrivate => is_unregistered(role, head, true),
+        };
+        Ok(if found { Some(Fault::Shape) } else { None })
+    }
+
+    /// Whether the label came already in this map.
+    fn repeats(
+        &mut self,
+        alloc: Global,
+        frame: &Frame,
+        head: &Head,
+        rest: &[u8],
+    ) -> Result<bool, AllocError> {
+        let map = frame.id;
+        let label = match head.integer() {
+            Some(number) => format!(in alloc; "{map} {number}")?,
+            None => {
+                let Ok(text) = str::from_utf8(content(head, rest)) else {
+                    return Ok(false);
+                };
+                format!(in alloc; "{map} t{text}")?
+            }
+        };
+        Ok(!self.labels.insert(label)?)
+    }
+
+    /// The fault that is sought, where what ends here has it: an array whose number of elements wasn't announced, or a key
+    /// without a type.
+    pub(crate) fn at_end(&self, frame: &Frame) -> Option<Fault> {
+        let Sought::Unexpected(got, _) = self.sought else {
+            return None;
+        };
+        if !frame.is_read {
+            return None;
+        }
+        let found = match frame.container {
+            Container::Array => got == "array" && !has_count(frame.role, frame.index),
+            Container::Map => {
+                got == "no kty label" && frame.role == Role::Key && !frame.has_type
+            }
+            _ => false,
+        };
+        if found { Some(Fault::Shape) } else { None }
+    }
+}

@@ -1,0 +1,25 @@
+//! A COSE message, a key, a set of keys, claims, or any CBOR, taken apart for whoever debugs it: diagnostic notation (RFC
+//! 8949, section 8) line by line, each beside the bytes that it tells of.
+#![tactic(auto)]
+
+mod apart;
+mod column;
+mod date;
+mod fault;
+mod frame;
+mod head;
+mod hunt;
+mod kind;
+mod names;
+mod note;
+mod opening;
+mod print;
+mod role;
+mod text;
+mod walk;
+
+pub use apart::{Explained, explain};
+pub use column::Line;
+pub use fault::Fault;
+pub use kind::Kind;
+pub use print::{annotated, notation};

@@ -1,0 +1,113 @@
+//! What there is to say of an item, by its head.
+
+use crate::date::{has_date, push_date};
+use crate::frame::Frame;
+use crate::head::{Form, Head};
+use crate::role::{Part, Role, is_private, is_registered, name_of, title};
+use std::alloc::AllocError;
+
+/// The note of a line, to which pieces are added.
+#[derive(Drop)]
+struct Notes<'a> {
+    text: &'a mut String,
+    /// What stands between the note so far and the next piece.
+    separator: &'static str,
+}
+
+impl Notes<'_> {
+    /// Begins a piece.
+    fn begin(&mut self) -> Result<(), AllocError> {
+        if !self.text.is_empty() {
+            let separator = self.separator;
+            self.text.push_str(separator)?;
+        }
+        self.separator = ", ";
+        Ok(())
+    }
+
+    /// Adds a piece, where it isn't empty.
+    fn add(&mut self, piece: &str) -> Result<(), AllocError> {
+        if piece.is_empty() {
+            return Ok(());
+        }
+        self.begin()?;
+        self.text.push_str(piece)
+    }
+
+    /// Adds the date of a number of seconds, and whether a token is valid at the moment `now`, where that is known (RFC
+    /// 8392, section 3.1).
+    fn add_date(&mut self, role: Role, seconds: i64, now: Option<i64>) -> Result<(), AllocError> {
+        if !matches!(role, Role::Expiry | Role::Start | Role::Time) {
+            return Ok(());
+        }
+        if has_date(seconds) {
+            self.begin()?;
+            push_date(self.text, seconds)?;
+        }
+        match (role, now) {
+            (Role::Expiry, Some(now)) if seconds <= now => self.add("expired"),
+            (Role::Start, Some(now)) if now < seconds => self.add("not valid yet"),
+            _ => Ok(()),
+        }
+    }
+}
+
+/// The registered name of a number, or that it has none.
+fn name(role: Role, number: i64) -> &'static str {
+    match name_of(role, number) {
+        Some(name) => name,
+        None => {
+            if is_private(role, number) {
+                "private use"
+            } else if is_registered(role) {
+                "not registered"
+            } else {
+                ""
+            }
+        }
+    }
+}
+
+/// What there is to say of a value of an unprotected header, which no signature covers; it may be empty (RFC 8152, section
+/// 3.1).
+fn unprotected(frame: &Frame, role: Role) -> &'static str {
+    match (frame.role, role) {
+        (Role::Header(false), Role::Algorithm) => "the algorithm isn't protected",
+        (Role::Header(false), Role::Labels) => "critical labels have to be protected",
+        _ => "",
+    }
+}
+
+/// Adds what there is to say of the item with this head, which is for that.
+///
+/// # Errors
+/// `AllocError` alone.
+pub(crate) fn push(
+    note: &mut String,
+    frame: &Frame,
+    part: &Part,
+    head: &Head,
+    now: Option<i64>,
+) -> Result<(), AllocError> {
+    let separator = if frame.is_at_value() { ": " } else { ", " };
+    let mut notes = Notes {
+        text: note,
+        separator,
+    };
+    notes.add(part.name)?;
+    if let Some(number) = head.integer() {
+        notes.add(name(part.role, number))?;
+        notes.add_date(part.role, number, now)?;
+    }
+    notes.add(unprotected(frame, part.role))?;
+    if head.form == Form::Array || head.form == Form::Map {
+        notes.add(title(part.role))?;
+    }
+    if part.role == Role::Protected && head.is_open {
+        notes.add("in chunks, and not opened")?;
+    }
+    if head.form != Form::Float && !head.is_shortest() {
+        notes.add("not the shortest head")?;
+    }
+    Ok(())
+}

@@ -1,0 +1,170 @@
+//! What items with parts open, and what opens them in diagnostic notation.
+
+use crate::fault::Fault;
+use crate::frame::{Container, Frame, begins_break, content};
+use crate::head::{Form, Head, behind};
+use crate::role::{Part, Role, under_tag};
+use crate::text::{told_width, width_mark};
+use coset::cbor::de::Pull;
+use coset::cbor::value::Integer;
+use std::alloc::AllocError;
+
+/// How many items a map of this many pairs holds.
+fn items(pairs: Option<u64>) -> Option<u64> {
+    match pairs {
+        Some(pairs) => Some(pairs.saturating_mul(2)),
+        None => None,
+    }
+}
+
+/// What an array or a map with this part is for, where these bytes follow its head: countersignatures that begin with a
+/// byte string are one.
+fn opened_part(part: Part, rest: &[u8]) -> Part {
+    if part.role != Role::Countersignatures {
+        return part;
+    }
+    match rest.first() {
+        Some(first) if *first / 32 == 2 => Part {
+            role: Role::Signature,
+            name: part.name,
+            is_read: part.is_read,
+        },
+        _ => part,
+    }
+}
+
+/// The type of the key that stands at the front of the bytes, where it is a number (RFC 8152, section 7.1).
+fn key_type_of(bytes: &[u8]) -> Option<i64> {
+    let (pull, _) = Pull::new(bytes).ok()?;
+    for (label, value) in pull.pairs()? {
+        if label.integer() == Some(Integer::from(1u8)) {
+            return i64::try_from(value.integer()?).ok();
+        }
+    }
+    None
+}
+
+/// The frame of a map, of whose key the type is known before its label comes.
+fn opened_map(opened: Frame, bytes: &[u8]) -> Frame {
+    if opened.role == Role::Key {
+        opened.with_key_type(key_type_of(bytes))
+    } else {
+        opened
+    }
+}
+
+/// What the item with this head, which stands at the front of these bytes, opens; `None` where it has no parts to show.
+pub(crate) fn opening(frame: &Frame, part: Part, head: &Head, bytes: &[u8]) -> Option<Frame> {
+    let rest = behind(head, bytes);
+    let announced = if head.is_open {
+        None
+    } else {
+        Some(head.number)
+    };
+    match head.form {
+        Form::Array if announced != Some(0) => {
+            Some(frame.nested(
+                Container::Array,
+                opened_part(part, rest),
+                announced,
+                rest.len(),
+            ))
+        }
+        Form::Map if announced != Some(0) => {
+            let opened = frame.nested(Container::Map, part, items(announced), rest.len());
+            Some(opened_map(opened, bytes))
+        }
+        Form::Tag => {
+            let part = Part {
+                role: under_tag(part.role, head.number),
+                name: "",
+                is_read: part.is_read,
+            };
+            Some(frame.nested(Container::Tag, part, Some(1), 0))
+        }
+        Form::Bytes | Form::Text if head.is_open && !begins_break(rest) => {
+            let part = Part::named(Role::Plain, "");
+            Some(frame.nested(Container::Chunks(head.form), part, None, 0))
+        }
+        Form::Bytes => embedding(frame, part, head, rest),
+        _ => None,
+    }
+}
+
+/// What the content of a byte string is, where it is shown: a protected header, or the claims of a token.
+fn embedding(frame: &Frame, part: Part, head: &Head, rest: &[u8]) -> Option<Frame> {
+    let content = content(head, rest);
+    let behind = rest.len().saturating_sub(content.len());
+    match part.role {
+        Role::Protected if opens_protected(frame, part, content) => {
+            let part = Part {
+                role: Role::Header(true),
+                name: "",
+                is_read: part.is_read,
+            };
+            Some(frame.embedded(
+                part,
+                behind,
+                frame.layers.saturating_sub(1),
+                told_width(head),
+            ))
+        }
+        Role::Payload(true) if is_item(content) => {
+            let part = Part::named(Role::Claims, "");
+            Some(frame.embedded(part, behind, frame.layers, told_width(head)))
+        }
+        _ => None,
+    }
+}
+
+/// Whether this content of a byte string is shown as a protected header: where it is one, or has to be.
+fn opens_protected(frame: &Frame, part: Part, content: &[u8]) -> bool {
+    !content.is_empty() && 0 < frame.layers && (part.is_read || is_item(content))
+}
+
+/// The fault of a protected header that is the 17th inside others.
+pub(crate) fn layer_fault(frame: &Frame, part: &Part) -> Option<Fault> {
+    if part.is_read && part.role == Role::Protected && frame.layers == 0 {
+        Some(Fault::Layers)
+    } else {
+        None
+    }
+}
+
+/// Whether the bytes are one item of CBOR.
+fn is_item(bytes: &[u8]) -> bool {
+    match Pull::new(bytes) {
+        Ok((_, rest)) => rest.is_empty(),
+        Err(_) => false,
+    }
+}
+
+/// Adds what opens an item with parts, in diagnostic notation.
+pub(crate) fn push_opening(
+    text: &mut String,
+    opened: &Frame,
+    head: &Head,
+) -> Result<(), AllocError> {
+    match opened.container {
+        Container::Tag => {
+            let number = head.number;
+            write!(text, "{number}")?;
+            text.push_str(width_mark(told_width(head)))?;
+            text.push('(')
+        }
+        Container::Embedded => text.push_str("<<"),
+        Container::Chunks(_) => text.push_str("(_"),
+        Container::Array => push_bracket(text, '[', head),
+        Container::Map | Container::Input => push_bracket(text, '{', head),
+    }
+}
+
+/// Adds the bracket that opens an array or a map.
+fn push_bracket(text: &mut String, bracket: char, head: &Head) -> Result<(), AllocError> {
+    text.push(bracket)?;
+    if head.is_open {
+        text.push('_')
+    } else {
+        text.push_str(width_mark(told_width(head)))
+    }
+}

@@ -1,0 +1,337 @@
+//! What an item is for, by its place: which names its labels and numbers have, and what its parts are for.
+
+use crate::names;
+use coset::iana::{Algorithm, CwtClaimName, EllipticCurve, HeaderParameter, WithPrivateRange};
+
+/// A message (RFC 8152, section 2).
+#[derive(Clone, Copy, Debug, PartialEq, Eq)]
+pub(crate) enum Message {
+    Sign1,
+    Sign,
+    Mac0,
+    Mac,
+    Encrypt0,
+    Encrypt,
+}
+
+/// What an item is for.
+#[derive(Clone, Copy, Debug, PartialEq, Eq)]
+pub(crate) enum Role {
+    /// Nothing is known, and tags tell nothing.
+    Plain,
+    /// Nothing is known but what tags tell.
+    Any,
+    /// What tag 61 encloses (RFC 8392, section 6).
+    Token,
+    /// A message, and whether its payload holds claims.
+    Message(Message, bool),
+    /// A signature of a message, or a countersignature.
+    Signature,
+    Signatures,
+    /// One countersignature, or an array of several.
+    Countersignatures,
+    Recipient,
+    Recipients,
+    /// A protected header in its byte string (RFC 8152, section 3).
+    Protected,
+    /// A header, and whether it is a protected one.
+    Header(bool),
+    /// A payload, and whether it holds claims.
+    Payload(bool),
+    Bytes,
+    /// A byte string that may not be empty.
+    FilledBytes,
+    Text,
+    /// Labels that are critical.
+    Labels,
+    CriticalLabel,
+    Algorithm,
+    ContentFormat,
+    Key,
+    KeySet,
+    KeyType,
+    Operations,
+    Operation,
+    Curve,
+    Claims,
+    /// What confirms who presents a token (RFC 8747, section 3).
+    Confirmation,
+    Expiry,
+    Start,
+    Time,
+    /// The context of a key derivation (RFC 8152, section 11.2).
+    Context,
+    Party,
+    Nonce,
+    PublicInformation,
+    Length,
+    /// A byte string or null.
+    MaybeBytes,
+    /// A label of a header, and whether that is protected.
+    HeaderLabel(bool),
+    /// A label of a key of this type, where that is known.
+    KeyLabel(Option<i64>),
+    ClaimName,
+    ConfirmationLabel,
+}
+
+/// What a place of an array or a map is for.
+#[derive(Clone, Copy, Debug)]
+pub(crate) struct Part {
+    pub(crate) role: Role,
+    /// What the standard calls it; it may be empty.
+    pub(crate) name: &'static str,
+    /// Whether the type's reading asks how it is.
+    pub(crate) is_read: bool,
+}
+
+impl Part {
+    /// A place that the type's reading asks about.
+    pub(crate) fn read(role: Role, name: &'static str) -> Part {
+        Part {
+            role,
+            name,
+            is_read: true,
+        }
+    }
+
+    /// A place that is shown under names, and about which the type's reading doesn't ask.
+    pub(crate) fn named(role: Role, name: &'static str) -> Part {
+        Part {
+            role,
+            name,
+            is_read: false,
+        }
+    }
+}
+
+/// The role of what a tag of this number encloses (RFC 8152, table 1; RFC 8392, section 6).
+pub(crate) fn under_tag(role: Role, number: u64) -> Role {
+    if role == Role::Plain {
+        return Role::Plain;
+    }
+    let claims = role == Role::Token || matches!(role, Role::Message(_, true));
+    match number {
+        1 => Role::Time,
+        16 => Role::Message(Message::Encrypt0, claims),
+        17 => Role::Message(Message::Mac0, claims),
+        18 => Role::Message(Message::Sign1, claims),
+        19 => Role::Signature,
+        61 => Role::Token,
+        96 => Role::Message(Message::Encrypt, claims),
+        97 => Role::Message(Message::Mac, claims),
+        98 => Role::Message(Message::Sign, claims),
+        _ => Role::Any,
+    }
+}
+
+/// The place of a message with this number, from 0 on.
+fn message_place(message: Message, claims: bool, index: u64) -> Part {
+    match (index, message) {
+        (0, _) => Part::read(Role::Protected, "protected"),
+        (1, _) => Part::read(Role::Header(false), "unprotected"),
+        (2, Message::Encrypt0 | Message::Encrypt) => Part::read(Role::MaybeBytes, "ciphertext"),
+        (2, _) => Part::read(Role::Payload(claims), "payload"),
+        (3, Message::Sign1) => Part::read(Role::Bytes, "signature"),
+        (3, Message::Sign) => Part::read(Role::Signatures, "signatures"),
+        (3, Message::Mac0 | Message::Mac) => Part::read(Role::Bytes, "tag"),
+        (3, Message::Encrypt) | (4, Message::Mac) => Part::read(Role::Recipients, "recipients"),
+        _ => Part::named(Role::Any, ""),
+    }
+}
+
+/// The place of the context of a key derivation with this number, from 0 on.
+fn context_place(index: u64) -> Part {
+    match index {
+        0 => Part::read(Role::Algorithm, "AlgorithmID"),
+        1 => Part::read(Role::Party, "PartyUInfo"),
+        2 => Part::read(Role::Party, "PartyVInfo"),
+        3 => Part::read(Role::PublicInformation, "SuppPubInfo"),
+        _ => Part::read(Role::Bytes, "SuppPrivInfo"),
+    }
+}
+
+/// The place of an array with this role and number, from 0 on.
+pub(crate) fn place(role: Role, index: u64) -> Part {
+    match (role, index) {
+        (Role::Message(message, claims), _) => message_place(message, claims, index),
+        (Role::Context, _) => context_place(index),
+        (Role::Signature | Role::Recipient, 0) => Part::read(Role::Protected, "protected"),
+        (Role::Signature | Role::Recipient, 1) => Part::read(Role::Header(false), "unprotected"),
+        (Role::Signature, 2) => Part::read(Role::Bytes, "signature"),
+        (Role::Recipient, 2) => Part::read(Role::MaybeBytes, "ciphertext"),
+        (Role::Recipient, 3) => Part::read(Role::Recipients, "recipients"),
+        (Role::Party, 0) => Part::read(Role::MaybeBytes, "identity"),
+        (Role::Party, 1) => Part::read(Role::Nonce, "nonce"),
+        (Role::Party, 2) => Part::read(Role::MaybeBytes, "other"),
+        (Role::PublicInformation, 0) => Part::read(Role::Length, "keyDataLength"),
+        (Role::PublicInformation, 1) => Part::read(Role::Protected, "protected"),
+        (Role::PublicInformation, 2) => Part::read(Role::Bytes, "other"),
+        (Role::Signatures | Role::Countersignatures, _) => Part::read(Role::Signature, ""),
+        (Role::Recipients, _) => Part::read(Role::Recipient, ""),
+        (Role::Labels, _) => Part::read(Role::CriticalLabel, ""),
+        (Role::Operations, _) => Part::read(Role::Operation, ""),
+        (Role::KeySet, _) => Part::read(Role::Key, ""),
+        (Role::Plain, _) => Part::named(Role::Plain, ""),
+        _ => Part::named(Role::Any, ""),
+    }
+}
+
+/// The label of a map with this role, of whose key the type is known or not.
+pub(crate) fn label_of(role: Role, key_type: Option<i64>) -> Part {
+    match role {
+        Role::Header(protected) => Part::read(Role::HeaderLabel(protected), ""),
+        Role::Key => Part::read(Role::KeyLabel(key_type), ""),
+        Role::Claims => Part::read(Role::ClaimName, ""),
+        Role::Confirmation => Part::named(Role::ConfirmationLabel, ""),
+        Role::Plain => Part::named(Role::Plain, ""),
+        _ => Part::named(Role::Any, ""),
+    }
+}
+
+/// The value of a header's label.
+fn header_value(label: i64) -> Part {
+    match label {
+        1 => Part::read(Role::Algorithm, ""),
+        2 => Part::read(Role::Labels, ""),
+        3 => Part::read(Role::ContentFormat, ""),
+        4 | 5 | 6 => Part::read(Role::FilledBytes, ""),
+        7 | 11 => Part::read(Role::Countersignatures, ""),
+        12 => Part::read(Role::Bytes, ""),
+        13 => Part::named(Role::Token, ""),
+        14 | 15 => Part::named(Role::Claims, ""),
+        -1 | -2 => Part::named(Role::Key, ""),
+        _ => Part::named(Role::Any, ""),
+    }
+}
+
+/// The value of a key's label.
+fn key_value(label: i64, key_type: Option<i64>) -> Part {
+    match label {
+        1 => Part::read(Role::KeyType, ""),
+        2 | 5 => Part::read(Role::FilledBytes, ""),
+        3 => Part::read(Role::Algorithm, ""),
+        4 => Part::read(Role::Operations, ""),
+        -1 => match key_type {
+            Some(1 | 2) => Part::named(Role::Curve, ""),
+            _ => Part::named(Role::Any, ""),
+        },
+        _ => Part::named(Role::Any, ""),
+    }
+}
+
+/// The value of a claim's name.
+fn claim_value(name: i64) -> Part {
+    match name {
+        1 | 2 | 3 => Part::read(Role::Text, ""),
+        4 => Part::read(Role::Expiry, ""),
+        5 => Part::read(Role::Start, ""),
+        6 => Part::read(Role::Time, ""),
+        7 => Part::read(Role::Bytes, ""),
+        8 => Part::named(Role::Confirmation, ""),
+        _ => Part::named(Role::Any, ""),
+    }
+}
+
+/// The value of a label of a map with this role; without a label, of one that is no number.
+pub(crate) fn value_of(role: Role, label: Option<i64>, key_type: Option<i64>) -> Part {
+    let Some(label) = label else {
+        return label_of(role, None).without_names();
+    };
+    match role {
+        Role::Header(_) => header_value(label),
+        Role::Key => key_value(label, key_type),
+        Role::Claims => claim_value(label),
+        Role::Confirmation if label == 1 => Part::named(Role::Key, ""),
+        Role::Plain => Part::named(Role::Plain, ""),
+        _ => Part::named(Role::Any, ""),
+    }
+}
+
+impl Part {
+    /// A place of which nothing is known.
+    fn without_names(self) -> Part {
+        match self.role {
+            Role::Plain => Part::named(Role::Plain, ""),
+            _ => Part::named(Role::Any, ""),
+        }
+    }
+}
+
+/// What the standards call an array or a map with this role; it may be empty.
+pub(crate) fn title(role: Role) -> &'static str {
+    match role {
+        Role::Message(Message::Sign1, _) => "COSE_Sign1",
+        Role::Message(Message::Sign, _) => "COSE_Sign",
+        Role::Message(Message::Mac0, _) => "COSE_Mac0",
+        Role::Message(Message::Mac, _) => "COSE_Mac",
+        Role::Message(Message::Encrypt0, _) => "COSE_Encrypt0",
+        Role::Message(Message::Encrypt, _) => "COSE_Encrypt",
+        Role::Signature => "COSE_Signature",
+        Role::Recipient => "COSE_recipient",
+        Role::Key => "COSE_Key",
+        Role::KeySet => "COSE_KeySet",
+        Role::Claims => "claims",
+        Role::Context => "COSE_KDF_Context",
+        _ => "",
+    }
+}
+
+/// The name that a number with this role has in its registry.
+pub(crate) fn name_of(role: Role, number: i64) -> Option<&'static str> {
+    match role {
+        Role::HeaderLabel(_) | Role::CriticalLabel => match names::parameter(number) {
+            Some(name) => Some(name),
+            None => names::algorithm_parameter(number),
+        },
+        Role::KeyLabel(key_type) => match names::common(number) {
+            Some(name) => Some(name),
+            None => names::of_type(key_type?, number),
+        },
+        Role::ClaimName => names::claim(number),
+        Role::ConfirmationLabel => confirmation(number),
+        Role::Algorithm => names::algorithm(number),
+        Role::ContentFormat => names::content_format(number),
+        Role::KeyType => names::key_type(number),
+        Role::Operation => names::operation(number),
+        Role::Curve => names::curve(number),
+        _ => None,
+    }
+}
+
+/// The name of a member of the claim `cnf` (RFC 8747, section 3.1).
+fn confirmation(number: i64) -> Option<&'static str> {
+    match number {
+        1 => Some("COSE_Key"),
+        2 => Some("Encrypted_COSE_Key"),
+        3 => Some("kid"),
+        _ => None,
+    }
+}
+
+/// Whether numbers with this role have names in a registry.
+pub(crate) fn is_registered(role: Role) -> bool {
+    matches!(
+        role,
+        Role::HeaderLabel(_)
+            | Role::CriticalLabel
+            | Role::KeyLabel(Some(_))
+            | Role::ClaimName
+            | Role::Algorithm
+            | Role::ContentFormat
+            | Role::KeyType
+            | Role::Operation
+            | Role::Curve
+    )
+}
+
+/// Whether a number with this role is left to private use.
+pub(crate) fn is_private(role: Role, number: i64) -> bool {
+    match role {
+        Role::HeaderLabel(_) | Role::CriticalLabel => HeaderParameter::is_private(number),
+        Role::ClaimName => CwtClaimName::is_private(number),
+        Role::Algorithm => Algorithm::is_private(number),
+        Role::Curve => EllipticCurve::is_private(number),
+        _ => false,
+    }
+}

@@ -1,0 +1,196 @@
+//! Diagnostic notation of what has no parts (RFC 8949, section 8).
+
+use crate::head::{Form, Head};
+use std::alloc::{AllocError, Global};
+use std::num::{f32_from_bits_with_nan, f64_from_bits_with_nan};
+
+/// Whether each byte is a printable character of ASCII, and there is one.
+fn is_printable(bytes: &[u8]) -> bool {
+    !bytes.is_empty() && bytes.iter().all(|b| b' ' <= *b && *b <= b'~')
+}
+
+/// Whether a terminal shows the character in its own place: no control character, and none that turns the direction of
+/// writing.
+fn is_shown(c: char) -> bool {
+    !c.is_control()
+        && !('\u{200b}'..='\u{200f}').contains(&c)
+        && !('\u{2028}'..='\u{202e}').contains(&c)
+        && !('\u{2066}'..='\u{2069}').contains(&c)
+        && c != '\u{feff}'
+}
+
+/// Adds the text in these quotes.
+fn push_quoted(text: &mut String, content: &str, quote: char) -> Result<(), AllocError> {
+    text.push(quote)?;
+    for c in content.chars() {
+        if c == quote || c == '\\' {
+            text.push('\\')?;
+            text.push(c)?;
+        } else if is_shown(c) {
+            text.push(c)?;
+        } else {
+            write!(text, "\\u{:04x}", c as u32)?;
+        }
+    }
+    text.push(quote)
+}
+
+/// Adds a text string, or a chunk of one.
+fn push_text(text: &mut String, content: &[u8]) -> Result<(), AllocError> {
+    match str::from_utf8(content) {
+        Ok(content) => push_quoted(text, content, '"'),
+        Err(_) => Ok(()),
+    }
+}
+
+/// Adds a byte string, or a chunk of one: as a text where all of it is printable.
+fn push_bytes(alloc: Global, text: &mut String, content: &[u8]) -> Result<(), AllocError> {
+    if is_printable(content) {
+        return match str::from_utf8(content) {
+            Ok(content) => push_quoted(text, content, '\''),
+            Err(_) => Ok(()),
+        };
+    }
+    let digits = hex::encode(alloc, content)?;
+    text.push_str("h'")?;
+    text.push_str(digits.as_str())?;
+    text.push('\'')
+}
+
+/// Adds -1 - `number`.
+fn push_negative(text: &mut String, number: u64) -> Result<(), AllocError> {
+    match number.checked_add(1) {
+        Some(number) => write!(text, "-{number}"),
+        None => text.push_str("-18446744073709551616"),
+    }
+}
+
+/// The double with the value of a half that is finite.
+fn half_value(half: u16) -> f64 {
+    let mantissa = half % 1_024;
+    let exponent = half / 1_024 % 32;
+    let value = if exponent == 0 {
+        f64::from(mantissa) / 16_777_216.0
+    } else {
+        let exponent = u64::from(exponent) + 1_008;
+        f64_from_bits_with_nan(
+            exponent * 0x0010_0000_0000_0000 + u64::from(mantissa) * 0x0400_0000_0000,
+        )
+    };
+    if half < 32_768 { value } else { -value }
+}
+
+/// The value of a float that is finite.
+fn float_value(head: &Head) -> f64 {
+    match head.width {
+        2 => half_value((head.number % 65_536) as u16),
+        4 => f64::from(f32_from_bits_with_nan((head.number % 4_294_967_296) as u32)),
+        _ => f64_from_bits_with_nan(head.number),
+    }
+}
+
+/// How a float is spelled that is no finite number; `None` of others.
+fn special(head: &Head) -> Option<&'static str> {
+    let (bits, sign, infinity) = match head.width {
+        2 => (head.number % 32_768, 32_768, 0x7c00),
+        4 => (head.number % 2_147_483_648, 2_147_483_648, 0x7f80_0000),
+        _ => (
+            head.number % 0x8000_0000_0000_0000,
+            0x8000_0000_0000_0000,
+            0x7ff0_0000_0000_0000,
+        ),
+    };
+    if bits < infinity {
+        None
+    } else if infinity < bits {
+        Some("NaN")
+    } else if head.number < sign {
+        Some("Infinity")
+    } else {
+        Some("-Infinity")
+    }
+}
+
+/// Adds a float.
+fn push_float(text: &mut String, head: &Head) -> Result<(), AllocError> {
+    match special(head) {
+        Some(name) => text.push_str(name),
+        None => {
+            let value = float_value(head);
+            write!(text, "{value:?}")
+        }
+    }
+}
+
+/// Adds false, true, null or another simple value.
+fn push_simple(text: &mut String, number: u64) -> Result<(), AllocError> {
+    match number {
+        20 => text.push_str("false"),
+        21 => text.push_str("true"),
+        22 => text.push_str("null"),
+        23 => text.push_str("undefined"),
+        _ => write!(text, "simple({number})"),
+    }
+}
+
+/// The width of a head that is told: of one that isn't the shortest, and of a float's; else 0.
+pub(crate) fn told_width(head: &Head) -> u8 {
+    if head.form != Form::Float && head.is_shortest() {
+        0
+    } else {
+        head.width
+    }
+}
+
+/// How a width is told (RFC 8949, section 8.1); it may be empty.
+pub(crate) fn width_mark(width: u8) -> &'static str {
+    match width {
+        1 => "_0",
+        2 => "_1",
+        4 => "_2",
+        8 => "_3",
+        _ => "",
+    }
+}
+
+/// Adds an item without parts, or an array, a map or a string in chunks in which there is nothing, whose head this is, and
+/// whose content.
+///
+/// # Errors
+/// `AllocError` alone.
+pub(crate) fn push_leaf(
+    alloc: Global,
+    text: &mut String,
+    head: &Head,
+    content: &[u8],
+) -> Result<(), AllocError> {
+    if head.is_open {
+        return text.push_str(if head.form == Form::Text {
+            "\"\"_"
+        } else {
+            "''_"
+        });
+    }
+    match head.form {
+        Form::Unsigned => {
+            let number = head.number;
+            write!(text, "{number}")?;
+        }
+        Form::Negative => push_negative(text, head.number)?,
+        Form::Bytes => push_bytes(alloc, text, content)?,
+        Form::Text => push_text(text, content)?,
+        Form::Array => {
+            text.push('[')?;
+            text.push_str(width_mark(told_width(head)))?;
+            return text.push(']');
+        }
+        Form::Map => {
+            text.push('{')?;
+            text.push_str(width_mark(told_width(head)))?;
+            return text.push('}');
+        }
+        Form::Float => push_float(text, head)?,
+        Form::Simple | Form::Null | Form::Break | Form::Tag => push_simple(text, head.number)?,
+    }
+    text.push_str(width_mark(told_width(head)))
+}

@@ -1,0 +1,245 @@
+//! The walk over the input, a head at a time. What is open is kept in a list, so that the input doesn't choose how much
+//! stack this takes.
+
+ghost use Rattle.std.specs.Prelude.{◌≡◌, ◌≤◌, ◌+◌, ◌*◌, IfOk, OnOk};
+ghost use Rattle.coset_explain.specs.Column.{whole, shown};
+
+use crate::column::Column;
+use crate::fault::Fault;
+use crate::frame::{Container, Frame, content};
+use crate::head::{Head, behind, head_of};
+use crate::hunt::Hunt;
+use crate::note;
+use crate::opening::{layer_fault, opening, push_opening};
+use crate::role::Role;
+use crate::text::{push_leaf, width_mark};
+use std::alloc::{AllocError, Global};
+
+/// A place in the walk.
+#[derive(Drop)]
+pub(crate) struct Walk<'a> {
+    pub(crate) column: Column<'a>,
+    /// What is open, from the input on.
+    open: Vec<Frame>,
+    /// What is sought.
+    hunt: Hunt,
+    /// The moment at which the token is looked at, in seconds since 1970 began.
+    now: Option<i64>,
+    /// What is at fault at the place, where the walk ended for that.
+    pub(crate) fault: Option<Fault>,
+}
+
+/// The bytes from the place on that what is open may still take.
+fn within<'a>(column: &Column<'a>, frame: &Frame) -> &'a [u8] {
+    let ahead = column.ahead();
+    let (bytes, _) = ahead.split_at(ahead.len().saturating_sub(frame.behind));
+    bytes
+}
+
+impl<'a> Walk<'a> {
+    /// The front of the bytes, which are for that.
+    pub(crate) fn new(
+        alloc: Global,
+        bytes: &'a [u8],
+        role: Role,
+        hunt: Hunt,
+        now: Option<i64>,
+    ) -> Result<Walk<'a>, AllocError>
+        ensures whole { IfOk result (λ w. whole w.column ≡ bytes.now) }
+        ensures lines { IfOk result (λ w. shown w.column ≡ 0) }
+    {
+        let mut open = Vec::new(alloc);
+        open.push(Frame::input(role))?;
+        Ok(Walk {
+            column: Column::new(alloc, bytes),
+            open,
+            hunt,
+            now,
+            fault: None,
+        })
+    }
+
+    /// Shows the next head, or the end of what is open, and says whether the walk goes on.
+    ///
+    /// # Errors
+    /// `AllocError` alone.
+    pub(crate) fn step(&mut self, alloc: Global) -> Result<bool, AllocError>
+        ensures whole { OnOk result (whole self.new.column ≡ whole self.old.column) }
+        ensures lines { OnOk result (shown self.new.column ≤ shown self.old.column + 1) }
+    {
+        let Some(frame) = self.open.pop() else {
+            return Ok(false);
+        };
+        let bytes = within(&self.column, &frame);
+        if frame.has_ended(bytes) {
+            return self.close(alloc, frame, bytes);
+        }
+        match head_of(bytes) {
+            Ok(head) => self.item(alloc, frame, &head, bytes),
+            Err(fault) => Ok(self.stop(fault)),
+        }
+    }
+
+    /// Ends the walk at this place.
+    fn stop(&mut self, fault: Fault) -> bool
+        ensures column { self.new.column ≡ self.old.column }
+    {
+        self.fault = Some(fault);
+        false
+    }
+
+    /// The fault at the end of what is open, where these bytes follow: bytes behind the one item, or the fault that is sought.
+    fn end_fault(&self, frame: &Frame, bytes: &[u8]) -> Option<Fault> {
+        let holds_one = matches!(frame.container, Container::Input | Container::Embedded);
+        if holds_one && !bytes.is_empty() {
+            return Some(Fault::Extraneous);
+        }
+        self.hunt.at_end(frame)
+    }
+
+    /// Shows the end of what is open.
+    fn close(&mut self, alloc: Global, frame: Frame, bytes: &[u8]) -> Result<bool, AllocError>
+        ensures whole { OnOk result (whole self.new.column ≡ whole self.old.column) }
+        ensures lines { OnOk result (shown self.new.column ≤ shown self.old.column + 1) }
+    {
+        if let Some(fault) = self.end_fault(&frame, bytes) {
+            return Ok(self.stop(fault));
+        }
+        if frame.container == Container::Input {
+            return Ok(false);
+        }
+        if frame.left.is_none() {
+            self.column.hold(1);
+        }
+        let depth = self.open.len().saturating_sub(1);
+        let mark = self.mark_behind();
+        self.column.text.push_str(frame.end())?;
+        self.column.text.push_str(width_mark(frame.width))?;
+        self.column.text.push_str(mark)?;
+        self.column.end_line(alloc, depth)?;
+        Ok(true)
+    }
+
+    /// What stands behind what was closed.
+    fn mark_behind(&self) -> &'static str {
+        match self.open.last() {
+            Some(frame) => frame.mark(within(&self.column, frame)),
+            None => "",
+        }
+    }
+
+    /// Shows an item with this head at the front of these bytes.
+    fn item(
+        &mut self,
+        alloc: Global,
+        frame: Frame,
+        head: &Head,
+        bytes: &[u8],
+    ) -> Result<bool, AllocError>
+        ensures whole { OnOk result (whole self.new.column ≡ whole self.old.column) }
+        ensures lines { OnOk result (shown self.new.column ≤ shown self.old.column + 1) }
+    {
+        let rest = behind(head, bytes);
+        let part = frame.next_part();
+        if let Some(fault) = frame.fault(head, rest) {
+            return Ok(self.stop(fault));
+        }
+        if let Some(fault) = layer_fault(&frame, &part) {
+            return Ok(self.stop(fault));
+        }
+        if let Some(fault) = self.hunt.at(alloc, &frame, &part, head, bytes)? {
+            return Ok(self.stop(fault));
+        }
+        let now = self.now;
+        note::push(&mut self.column.note, &frame, &part, head, now)?;
+        let opened = opening(&frame, part, head, bytes);
+        let mut passed = frame;
+        passed.pass(head);
+        match opened {
+            Some(opened) => self.enter(alloc, passed, opened, head),
+            None => self.leaf(alloc, passed, head, rest),
+        }
+    }
+
+    /// Shows an item without parts.
+    fn leaf(
+        &mut self,
+        alloc: Global,
+        passed: Frame,
+        head: &Head,
+        rest: &[u8],
+    ) -> Result<bool, AllocError>
+        ensures whole { OnOk result (whole self.new.column ≡ whole self.old.column) }
+        ensures lines { OnOk result (shown self.new.column ≤ shown self.old.column + 1) }
+    {
+        let content = content(head, rest);
+        push_leaf(alloc, &mut self.column.text, head, content)?;
+        self.column.hold(head.size);
+        self.column.hold(content.len());
+        if head.is_open {
+            // A string in chunks, of which there are none: what ends it.
+            self.column.hold(1);
+        }
+        let mark = passed.mark(within(&self.column, &passed));
+        self.column.text.push_str(mark)?;
+        let depth = self.open.len();
+        let is_key = passed.is_at_value();
+        self.open.push(passed)?;
+        if !is_key {
+            self.column.end_line(alloc, depth)?;
+        }
+        Ok(true)
+    }
+
+    /// Shows the head of an item with parts.
+    fn enter(
+        &mut self,
+        alloc: Global,
+        passed: Frame,
+        opened: Frame,
+        head: &Head,
+    ) -> Result<bool, AllocError>
+        ensures whole { OnOk result (whole self.new.column ≡ whole self.old.column) }
+        ensures lines { OnOk result (shown self.new.column ≤ shown self.old.column + 1) }
+    {
+        push_opening(&mut self.column.text, &opened, head)?;
+        self.column.hold(head.size);
+        let depth = self.open.len();
+        self.open.push(passed)?;
+        self.open.push(opened)?;
+        self.column.end_line(alloc, depth)?;
+        Ok(true)
+    }
+
+    /// Walks to the end of what can be shown of so many bytes: each step shows a byte at least, or closes what was opened
+    /// with one.
+    ///
+    /// # Errors
+    /// `AllocError` alone.
+    pub(crate) fn run(&mut self, alloc: Global, count: usize) -> Result<(), AllocError>
+        ensures whole { OnOk result (whole self.new.column ≡ whole self.old.column) }
+        ensures lines { OnOk result (shown self.new.column ≤ shown self.old.column + (2 * count + 1)) }
+    {
+        for _ in 0..count.saturating_mul(2).saturating_add(1) {
+            if !self.step(alloc)? {
+                return Ok(());
+            }
+        }
+        Ok(())
+    }
+
+    /// Ends the line that was begun, if one was.
+    ///
+    /// # Errors
+    /// `AllocError` alone.
+    pub(crate) fn end_line(&mut self, alloc: Global) -> Result<(), AllocError>
+        ensures whole { OnOk result (whole self.new.column ≡ whole self.old.column) }
+        ensures lines { OnOk result (shown self.new.column ≤ shown self.old.column + 1) }
+    {
+        if self.column.has_begun() {
+            let depth = self.open.len();
+            self.column.end_line(alloc, depth)?;
+        }
+        Ok(())
+    }
+}

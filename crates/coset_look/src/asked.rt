@@ -1,0 +1,44 @@
+//! How inputs are looked at.
+
+use coset_explain::Kind;
+
+/// How an input is looked at.
+#[derive(Clone, Copy, Debug)]
+pub struct Asked {
+    /// What the input should be.
+    pub kind: Kind,
+    /// Whether diagnostic notation alone is written, without bytes and notes.
+    pub is_plain: bool,
+    /// The moment at which a token is looked at, in seconds since 1970 began.
+    pub now: Option<i64>,
+}
+
+impl Asked {
+    /// By the tag, with bytes and notes, at no moment.
+    pub fn new() -> Asked {
+        Asked {
+            kind: Kind::Auto,
+            is_plain: false,
+            now: None,
+        }
+    }
+
+    /// Takes an argument that says how, and says whether it is one.
+    pub fn takes(&mut self, argument: &str) -> bool {
+        if argument == "--edn" {
+            self.is_plain = true;
+            return true;
+        }
+        if let Some(moment) = argument.strip_prefix("--now=") {
+            self.now = moment.parse::<i64>().ok();
+            return self.now.is_some();
+        }
+        match Kind::of(argument) {
+            Some(kind) => {
+                self.kind = kind;
+                true
+            }
+            None => false,
+        }
+    }
+}

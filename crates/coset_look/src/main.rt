@@ -1,0 +1,67 @@
+//! `coset_look [--edn] [--now=SECONDS] [KIND] [FILE]..`: takes apart what files spell, or standard input where there are
+//! none, in hexadecimal or base64. How a file is looked at is said in front of it.
+#![tactic(auto)]
+
+mod asked;
+mod look;
+mod spelled;
+
+use asked::Asked;
+use look::{MISUSED, look};
+use std::io::Read;
+use std::process::ExitCode;
+use std::rt::{Env, Files};
+use std::{env, fs, io};
+
+/// What is told where a file can't be read.
+const USAGE: &str = "usage: coset_look [--edn] [--now=SECONDS] [KIND] [FILE]..
+A file, or standard input where none is named, is hexadecimal, also with 0x, spaces and colons, or base64, or base64url.
+KIND is auto (what its tag says), cwt (a web token, with claims as its payload), value, sign1, sign, mac, mac0, encrypt,
+encrypt0, countersignature, key, keyset, claims or kdf.
+";
+
+/// Takes a file apart, and answers the status.
+fn show_file<R: AllocGlobal + Files + Print>(rt: &R, asked: &Asked, name: &str) -> io::Result<u8> {
+    let input = fs::read(rt, name)?;
+    let (text, status) = look(rt.alloc(), asked, &input)?;
+    println!(rt; "# {name}")?;
+    print!(rt; "{text}")?;
+    Ok(status)
+}
+
+/// Takes standard input apart, and answers the status.
+fn show_input(rt: &HostRuntime, asked: &Asked) -> io::Result<u8> {
+    let mut input = Vec::new(rt.alloc());
+    rt.stdin().read_to_end(&mut input)?;
+    let (text, status) = look(rt.alloc(), asked, &input)?;
+    print!(rt; "{text}")?;
+    Ok(status)
+}
+
+/// Takes all files apart that the arguments name, or standard input, and answers the greatest status.
+fn answer(rt: &HostRuntime) -> io::Result<u8> {
+    let mut asked = Asked::new();
+    let mut status = None;
+    for argument in env::args(rt)?.skip(1) {
+        let argument = argument.as_str();
+        if !asked.takes(argument) {
+            let shown = show_file(rt, &asked, argument)?;
+            status = Some(shown.max(status.unwrap_or(0)));
+        }
+    }
+    match status {
+        Some(status) => Ok(status),
+        None => show_input(rt, &asked),
+    }
+}
+
+fn main(rt: HostRuntime) -> ExitCode {
+    match answer(&rt) {
+        Ok(status) => ExitCode::from(status),
+        Err(error) => {
+            let _ = eprintln!(rt; "error: {error}");
+            let _ = eprint!(rt; "{USAGE}");
+            ExitCode::from(MISUSED)
+        }
+    }
+}

@@ -1,0 +1,52 @@
+-- What calls answer that write into the caller's memory.
+use Rattle.std.specs.Prelude.{◌≡◌, ◌<◌, ◌≤◌, ℕ, List, ◌++◌, length, drop, Option, Some, None, Result, Ok, Err}
+use Rattle.coset.specs.Item.{Item}
+use Rattle.coset.specs.CoseError.{CoseError}
+use Rattle.coset.specs.Shortest.{IsShortest}
+use Rattle.coset_query.specs.declared.kind.Kind as kinds
+use Rattle.coset_query.specs.declared.refusal.Refusal as refusals
+use Rattle.coset_query.specs.declared.refusal.Refusal.TheVariants.{Short, Absent, Cose}
+use Rattle.coset_query.specs.Kinds.{IsItemOf, IsRefused}
+
+-- the memory begins with the text, and goes on as it was
+abbrev pub BeginsWith : List ℕ → List ℕ → List ℕ → Type 0
+BeginsWith t old new = (length t ≤ length old) × (new ≡ t ++ drop (length t) old)
+
+-- Writing the text into the memory: it begins with the text, whose length is answered; or it has no room for that, is as it
+-- was, and the length that is needed is answered
+abbrev pub Puts : List ℕ → List ℕ → List ℕ → Result ℕ refusals.Refusal → Type 0
+Puts t old new (Ok n) = BeginsWith t old new × (n ≡ length t)
+Puts t old new (Err (Short n)) = (length old < length t) × (new ≡ old) × (n ≡ length t)
+Puts t old new (Err Absent) = ⊥
+Puts t old new (Err (Cose e)) = ⊥
+
+-- What a call answers that writes the text of which P tells, of the item that the bytes are: it stands at the front of the
+-- memory, or that has no room for it; or there is none; or the bytes are no such item. But for the first the memory is as it
+-- was
+abbrev pub Answers : kinds.Kind → List ℕ → (Item → List ℕ → Type 0) → List ℕ → List ℕ → Result ℕ refusals.Refusal → Type 0
+Answers k b P old new (Ok n) = (v : Item) × IsItemOf k b v × ((t : List ℕ) × P v t × Puts t old new (Ok n))
+Answers k b P old new (Err (Short n)) = (v : Item) × IsItemOf k b v × ((t : List ℕ) × P v t × Puts t old new (Err (Short n)))
+Answers k b P old new (Err Absent) = (v : Item) × IsItemOf k b v × ((t : List ℕ) → P v t → ⊥) × (new ≡ old)
+Answers k b P old new (Err (Cose e)) = IsRefused k b e × (new ≡ old)
+
+-- the same of a number
+abbrev pub AnswersNumber : {N : Type 0} → kinds.Kind → List ℕ → (Item → N → Type 0) → Result N refusals.Refusal → Type 0
+AnswersNumber k b P (Ok n) = (v : Item) × IsItemOf k b v × P v n
+AnswersNumber k b P (Err (Short n)) = ⊥
+AnswersNumber {N} k b P (Err Absent) = (v : Item) × IsItemOf k b v × ((n : N) → P v n → ⊥)
+AnswersNumber k b P (Err (Cose e)) = IsRefused k b e
+
+-- Writing what was found
+abbrev pub WritesFound : {T : Type 0} → (T → List ℕ) → Result (Option T) CoseError → List ℕ → List ℕ → Result ℕ refusals.Refusal → Type 0
+WritesFound bytes_of (Ok (Some x)) old new r = Puts (bytes_of x) old new r
+WritesFound bytes_of (Ok None) old new r = (r ≡ Err Absent) × (new ≡ old)
+WritesFound bytes_of (Err e) old new r = (r ≡ Err (Cose e)) × (new ≡ old)
+
+-- what was found is a text of which P tells, or there is none
+abbrev pub Finds : {T A : Type 0} → (T → A) → (A → Type 0) → Option T → Type 0
+Finds seen P (Some x) = P (seen x)
+Finds {A = A} seen P None = (a : A) → P a → ⊥
+
+-- the shortest encoding of that item, where there is one
+abbrev pub IsEncodingOf : Option Item → List ℕ → Type 0
+IsEncodingOf o t = (w : Item) × (o ≡ Some w) × IsShortest t w

@@ -1,0 +1,109 @@
+/* coset for C. Each call is a function of the bytes that it is given: nothing is kept between calls, nothing has to be freed,
+ * and calls in several threads do not touch one another. What each call answers is proved of its code; the contracts stand
+ * beside the functions of the same names in crates/coset_c/src/lib.rt, and docs/C.md tells them in words.
+ *
+ * in, in_len     the bytes of an item of the kind. Any pointer may be NULL where the length beside it is 0.
+ * out, cap, len  where an answer goes, and how long it is. COSET_SHORT: it is longer than cap, and *len says how long.
+ *                Where the status isn't COSET_OK, out is as it was; where it is neither that nor COSET_SHORT, *len is 0.
+ * No two of the places that a call is given may overlap. len, count, offset and value are never NULL.
+ * A call may take 1 MB of stack, and is not for signal handlers. */
+#ifndef COSET_H
+#define COSET_H
+
+#include <stddef.h>
+#include <stdint.h>
+
+#ifdef __cplusplus
+extern "C" {
+#endif
+
+/* Statuses. Those from COSET_ENDS to COSET_NOT_PRIVATE are faults of the bytes, or of a byte string in them that holds a
+ * header: the bytes are then no item of the kind. */
+enum {
+  COSET_OK = 0,
+  COSET_SHORT = 1,         /* the answer is longer than the memory for it */
+  COSET_MEMORY = 2,        /* a request for memory was refused */
+  COSET_ENDS = 3,          /* the bytes end before the item does */
+  COSET_MALFORMED = 4,     /* they aren't well-formed, a text isn't UTF-8, or a simple value has no meaning here */
+  COSET_DEEP = 5,          /* arrays, maps and tags nest more than 256 levels deep */
+  COSET_EXTRANEOUS = 6,    /* bytes follow the item */
+  COSET_UNEXPECTED = 7,    /* an item isn't as its place asks */
+  COSET_DUPLICATE = 8,     /* two keys of a map are one label */
+  COSET_OUT_OF_RANGE = 9,  /* an integer lies outside the range of its place */
+  COSET_UNREGISTERED = 10, /* an integer without a name, in a registry without a private range */
+  COSET_NOT_PRIVATE = 11,  /* an integer without a name, and outside the private range of its registry */
+  COSET_ABSENT = 12,       /* the bytes are of the kind, and what is asked for isn't in them */
+  COSET_MISUSE = 13        /* a number that stands for no kind, no part or no map */
+};
+
+/* Kinds. */
+enum {
+  COSET_SIGN1 = 1,     /* COSE_Sign1 (RFC 8152, section 4.2) */
+  COSET_SIGN = 2,      /* COSE_Sign (section 4.1) */
+  COSET_MAC0 = 3,      /* COSE_Mac0 (section 6.2) */
+  COSET_MAC = 4,       /* COSE_Mac (section 6.1) */
+  COSET_ENCRYPT0 = 5,  /* COSE_Encrypt0 (section 5.2) */
+  COSET_ENCRYPT = 6,   /* COSE_Encrypt (section 5.1) */
+  COSET_SIGNATURE = 7, /* COSE_Signature (section 4.1) */
+  COSET_RECIPIENT = 8, /* COSE_recipient (section 5.1) */
+  COSET_HEADER = 9,    /* header_map (section 3) */
+  COSET_KEY = 10,      /* COSE_Key (section 7) */
+  COSET_KEY_SET = 11,  /* COSE_KeySet (section 7) */
+  COSET_CLAIMS = 12,   /* the claims of a web token (RFC 8392, section 3) */
+  COSET_TAGGED = 0x100, /* added to a message's kind, one of the first six: under its tag */
+  COSET_EITHER = 0x200  /* added to a message's kind: under its tag or plain */
+};
+
+/* Parts. */
+enum {
+  COSET_PROTECTED = 1,  /* what the byte string of the protected header holds, as it was received */
+  COSET_PAYLOAD = 2,    /* of COSET_SIGN1, COSET_SIGN, COSET_MAC0 and COSET_MAC */
+  COSET_CIPHERTEXT = 3, /* of COSET_ENCRYPT0, COSET_ENCRYPT and COSET_RECIPIENT */
+  COSET_PROOF = 4       /* the signature of COSET_SIGN1 and COSET_SIGNATURE, the tag of COSET_MAC0 and COSET_MAC */
+};
+
+/* Maps. */
+enum {
+  COSET_IN_PROTECTED = 1,   /* the protected header of a message, a signature or a recipient */
+  COSET_IN_UNPROTECTED = 2, /* its unprotected header */
+  COSET_IN_ITEM = 3         /* the item itself: of COSET_HEADER, COSET_KEY and COSET_CLAIMS */
+};
+
+/* Whether the bytes are an item of the kind. *offset is where they stop being one item of CBOR: of the head at fault, of the
+ * bytes that follow the item, or their end; SIZE_MAX where nothing is said of that. */
+int32_t coset_check(uint32_t kind, const uint8_t *in, size_t in_len, size_t *offset);
+
+/* How many signatures a COSET_SIGN has, recipients a COSET_MAC, COSET_ENCRYPT or COSET_RECIPIENT, or keys a COSET_KEY_SET. */
+int32_t coset_count(uint32_t kind, const uint8_t *in, size_t in_len, size_t *count);
+
+/* A part. */
+int32_t coset_part(uint32_t kind, const uint8_t *in, size_t in_len, uint32_t part, uint8_t *out, size_t cap, size_t *len);
+
+/* The signature, recipient or key of that index, counted from 0, in its shortest encoding: a COSET_SIGNATURE,
+ * COSET_RECIPIENT or COSET_KEY. */
+int32_t coset_member(uint32_t kind, const uint8_t *in, size_t in_len, size_t index, uint8_t *out, size_t cap, size_t *len);
+
+/* The value of an integer label: in its shortest encoding; what a byte string or a text string holds; an integer. Where the
+ * value is no string, or no integer of 64 bits, it is COSET_ABSENT to the last two. */
+int32_t coset_label(uint32_t kind, const uint8_t *in, size_t in_len, uint32_t map, int64_t label, uint8_t *out, size_t cap,
+                    size_t *len);
+int32_t coset_label_bytes(uint32_t kind, const uint8_t *in, size_t in_len, uint32_t map, int64_t label, uint8_t *out,
+                          size_t cap, size_t *len);
+int32_t coset_label_int(uint32_t kind, const uint8_t *in, size_t in_len, uint32_t map, int64_t label, int64_t *value);
+
+/* The value of a text label, whose UTF-8 bytes these are, in its shortest encoding. */
+int32_t coset_text_label(uint32_t kind, const uint8_t *in, size_t in_len, uint32_t map, const uint8_t *label,
+                         size_t label_len, uint8_t *out, size_t cap, size_t *len);
+
+/* What is signed (of a COSET_SIGN by the signer of that index), authenticated, or goes with the ciphertext: Sig_structure,
+ * MAC_structure or Enc_structure. Where has_detached is 0, the payload is the one that the message carries; else it is
+ * detached, and the message carries none. COSET_ABSENT where it isn't so. Enc_structure has no payload. */
+int32_t coset_structure(uint32_t kind, const uint8_t *in, size_t in_len, size_t index, const uint8_t *external_aad,
+                        size_t external_aad_len, uint32_t has_detached, const uint8_t *detached, size_t detached_len,
+                        uint8_t *out, size_t cap, size_t *len);
+
+#ifdef __cplusplus
+}
+#endif
+
+#endif

@@ -1,0 +1,132 @@
+/* Makes the calls that it reads, one a line, and tells what each answered (tools/c).
+ *
+ *   check KIND IN | count KIND IN | part KIND IN CAP PART | member KIND IN CAP INDEX | label KIND IN CAP MAP LABEL
+ *   label_bytes KIND IN CAP MAP LABEL | label_int KIND IN MAP LABEL | text_label KIND IN CAP MAP LABEL
+ *   structure KIND IN CAP INDEX AAD HAS DETACHED | verified KIND IN CAP ALG KID SIGNED SIGNATURE
+ *
+ * IN, AAD, DETACHED and the label of text_label are hexadecimal, `-` for none, which is passed as NULL. To `verified` of
+ * verify.c a signature is good where all four are as the line says. Beside the status and the number the whole buffer is told, of CAP bytes and 8 more, each of which was ee before; each input is in memory of its
+ * own, and with REFUSE=N in the environment, the N-th request for memory of each call is refused. */
+#include "coset.h"
+#include <inttypes.h>
+#include <stdio.h>
+#include <stdlib.h>
+#include <string.h>
+
+static long left = -1, requests = 0, live = 0;
+
+struct tried {
+  uint64_t ok;
+  void *at;
+};
+
+/* Whether the heap refuses this request. */
+static int refuses(void) { return requests++, left >= 0 && left-- == 0; }
+
+struct tried rattle_alloc(uint64_t size, uint64_t align) {
+  (void)align;
+  void *at = refuses() ? NULL : malloc(size ? size : 1);
+  live += at != NULL;
+  return at ? (struct tried){1, at} : (struct tried){0, (void *)16};
+}
+
+struct tried rattle_realloc(void *at, uint64_t kept, uint64_t size, uint64_t align) {
+  (void)kept, (void)align;
+  void *moved = refuses() ? NULL : realloc(at, size ? size : 1);
+  return moved ? (struct tried){1, moved} : (struct tried){0, (void *)16};
+}
+
+void rattle_dealloc(void *at) { live--, free(at); }
+
+struct bytes {
+  uint8_t *at;
+  size_t len;
+};
+
+static int digit(char c) { return c <= '9' ? c - '0' : c - 'a' + 10; }
+
+/* The bytes that a word spells, in a block of their own, so that a read behind them is seen. */
+static struct bytes spelled(const char *word) {
+  struct bytes b = {NULL, 0};
+  if (!strcmp(word, "-")) return b;
+  b.len = strlen(word) / 2;
+  b.at = malloc(b.len ? b.len : 1);
+  for (size_t i = 0; i < b.len; i++) b.at[i] = (uint8_t)(digit(word[2 * i]) << 4 | digit(word[2 * i + 1]));
+  return b;
+}
+
+static void tell(int32_t status, const char *number, const uint8_t *out, size_t len) {
+  printf("%" PRId32 " %s ", status, number);
+  for (size_t i = 0; i < len; i++) printf("%02x", out[i]);
+  puts("");
+}
+
+/* In verify.c. */
+typedef int (*verifier)(void *keys, int64_t alg, const uint8_t *kid, size_t kid_len, const uint8_t *tbs, size_t tbs_len,
+                        const uint8_t *sig, size_t sig_len);
+int32_t verified(const uint8_t *in, size_t n, verifier verify, void *keys, uint8_t *out, size_t cap, size_t *len);
+
+static int same(const char *word, const uint8_t *at, size_t len) {
+  struct bytes b = spelled(word);
+  int is = b.len == len && (len == 0 || !memcmp(b.at, at, len));
+  free(b.at);
+  return is;
+}
+
+/* Whether the four are those of the words. */
+static int is_as_said(void *words, int64_t alg, const uint8_t *kid, size_t kid_len, const uint8_t *tbs, size_t tbs_len,
+                      const uint8_t *sig, size_t sig_len) {
+  char **word = words;
+  return atoll(word[0]) == alg && same(word[1], kid, kid_len) && same(word[2], tbs, tbs_len) && same(word[3], sig, sig_len);
+}
+
+int main(void) {
+  static char line[1 << 23];
+  char *word[9], number[32];
+  const char *refused = getenv("REFUSE");
+  while (fgets(line, sizeof line, stdin)) {
+    for (int i = 0; i < 9; i++) {
+      char *next = strtok(i ? NULL : line, " \n");
+      word[i] = next ? next : "-";
+    }
+    const char *call = word[0];
+    uint32_t kind = (uint32_t)strtoul(word[1], NULL, 0), w4 = (uint32_t)strtoul(word[4], NULL, 0);
+    struct bytes in = spelled(word[2]), aad = {NULL, 0}, extra = {NULL, 0};
+    size_t cap = strtoul(word[3], NULL, 0), len = 77, room = cap + 8;
+    int64_t value = 77, label = strtoll(word[5], NULL, 0);
+    uint8_t *out = malloc(room);
+    memset(out, 0xee, room);
+    left = refused ? atol(refused) : -1;
+    int32_t status = -1;
+    if (!strcmp(call, "check")) status = coset_check(kind, in.at, in.len, &len);
+    if (!strcmp(call, "count")) status = coset_count(kind, in.at, in.len, &len);
+    if (!strcmp(call, "part")) status = coset_part(kind, in.at, in.len, w4, out, cap, &len);
+    if (!strcmp(call, "member")) status = coset_member(kind, in.at, in.len, strtoul(word[4], NULL, 0), out, cap, &len);
+    if (!strcmp(call, "label")) status = coset_label(kind, in.at, in.len, w4, label, out, cap, &len);
+    if (!strcmp(call, "label_bytes")) status = coset_label_bytes(kind, in.at, in.len, w4, label, out, cap, &len);
+    if (!strcmp(call, "label_int"))
+      status = coset_label_int(kind, in.at, in.len, (uint32_t)cap, strtoll(word[4], NULL, 0), &value);
+    if (!strcmp(call, "text_label")) {
+      extra = spelled(word[5]);
+      status = coset_text_label(kind, in.at, in.len, w4, extra.at, extra.len, out, cap, &len);
+    }
+    if (!strcmp(call, "structure")) {
+      aad = spelled(word[5]), extra = spelled(word[7]);
+      status = coset_structure(kind, in.at, in.len, strtoul(word[4], NULL, 0), aad.at, aad.len,
+                               (uint32_t)strtoul(word[6], NULL, 0), extra.at, extra.len, out, cap, &len);
+    }
+    if (!strcmp(call, "verified")) {
+      char *words[4] = {word[4], word[5], word[6], word[7]};
+      status = verified(in.at, in.len, is_as_said, words, out, cap, &len);
+    }
+    left = -1;
+    int integer = !strcmp(call, "label_int"), writes = strcmp(call, "check") && strcmp(call, "count") && !integer;
+    if (integer) snprintf(number, sizeof number, "%" PRId64, value);
+    else snprintf(number, sizeof number, "%zu", len);
+    tell(status, number, out, writes ? room : 0);
+    free(in.at), free(aad.at), free(extra.at), free(out);
+    if (live) return fprintf(stderr, "%ld blocks are left\n", live), 1;
+  }
+  fprintf(stderr, "%ld requests\n", requests);
+  return 0;
+}

@@ -1,0 +1,51 @@
+"""Makes the calls that it reads, as wrappers/c/calls.c does, through the wrapper, and tells what each answered (tools/c): `ok`
+and the answer, or the error."""
+import sys
+
+import coset
+from verify import verified
+
+_NAMES = {3: "Ends", 4: "Malformed", 5: "Deep", 6: "Extraneous", 7: "Unexpected", 8: "Duplicate", 9: "OutOfRange",
+          10: "Unregistered", 11: "NotPrivate"}
+
+
+def data(word):
+    return bytes.fromhex("" if word == "-" else word)
+
+
+def answer(name, kind, given, *words):
+    kind, given = int(kind), data(given)
+    if name == "check":
+        return coset.check(kind, given) or ""
+    if name == "count":
+        return str(coset.count(kind, given))
+    if name == "part":
+        return coset.part(kind, given, int(words[1])).hex()
+    if name == "member":
+        return coset.member(kind, given, int(words[1])).hex()
+    if name == "label":
+        return coset.label(kind, given, int(words[1]), int(words[2])).hex()
+    if name == "label_bytes":
+        return coset.label_bytes(kind, given, int(words[1]), int(words[2])).hex()
+    if name == "label_int":
+        return str(coset.label_int(kind, given, int(words[0]), int(words[1])))
+    if name == "text_label":
+        return coset.label(kind, given, int(words[1]), data(words[2]).decode()).hex()
+    if name == "structure":
+        detached = None if words[3] == "0" else data(words[4])
+        return coset.structure(kind, given, int(words[1]), data(words[2]), detached).hex()
+    if name == "verified":
+        payload = verified(given, lambda a, k, t, s: [str(a), k.hex(), t.hex(), s.hex()] == list(words[1:]))
+        return "no" if payload is None else payload.hex()
+    raise ValueError(name)
+
+
+for line in sys.stdin:
+    try:
+        print("ok", answer(*line.split()))
+    except coset.Absent:
+        print("Absent")
+    except MemoryError:
+        print("Memory")
+    except coset.Fault as fault:
+        print(_NAMES[fault.status])

@@ -1,0 +1,167 @@
+"""coset from Python: the calls of include/coset.h over libcoset.so, which stands beside this file or where COSET_LIBRARY says.
+
+A call is given bytes and answers bytes, a number or None, and raises Fault where the bytes are no item of the kind, Absent
+where what is asked for isn't in them, and MemoryError. What is promised of each call stands in the header and in docs/C.md.
+"""
+import ctypes
+import os
+
+SIGN1, SIGN, MAC0, MAC, ENCRYPT0, ENCRYPT, SIGNATURE, RECIPIENT, HEADER, KEY, KEY_SET, CLAIMS = range(1, 13)
+TAGGED, EITHER = 0x100, 0x200  # added to a message's kind, one of the first six
+PROTECTED, PAYLOAD, CIPHERTEXT, PROOF = range(1, 5)
+IN_PROTECTED, IN_UNPROTECTED, IN_ITEM = range(1, 4)
+
+_OK, _SHORT, _MEMORY, _ABSENT, _MISUSE = 0, 1, 2, 12, 13
+_FAULTS = {
+    3: "the bytes end before the item does",
+    4: "the bytes aren't well-formed",
+    5: "arrays, maps and tags nest too deep",
+    6: "bytes follow the item",
+    7: "an item isn't as its place asks",
+    8: "two keys of a map are one label",
+    9: "an integer lies outside the range of its place",
+    10: "an integer isn't registered",
+    11: "an integer isn't registered, nor for private use",
+}
+_NO_OFFSET = ctypes.c_size_t(-1).value
+
+_beside = os.path.join(os.path.dirname(os.path.abspath(__file__)), "libcoset.so")
+_library = ctypes.CDLL(os.environ.get("COSET_LIBRARY", _beside))
+
+
+class Fault(ValueError):
+    """The bytes are no item of the kind. `status` is the status of the call; `offset`, which `check` alone tells, where they
+    stop being one item of CBOR, or None."""
+
+    def __init__(self, status, offset=None):
+        super().__init__(_FAULTS[status])
+        self.status, self.offset = status, offset
+
+
+class Absent(LookupError):
+    """The bytes are of the kind, and what is asked for isn't in them."""
+
+
+def _declare():
+    number, size, integer, at = ctypes.c_uint32, ctypes.c_size_t, ctypes.c_int64, ctypes.c_char_p
+    given, to = [number, at, size], [ctypes.c_void_p, size, ctypes.POINTER(size)]
+    calls = {
+        "check": [ctypes.POINTER(size)],
+        "count": [ctypes.POINTER(size)],
+        "part": [number] + to,
+        "member": [size] + to,
+        "label": [number, integer] + to,
+        "label_bytes": [number, integer] + to,
+        "label_int": [number, integer, ctypes.POINTER(integer)],
+        "text_label": [number, at, size] + to,
+        "structure": [size, at, size, number, at, size] + to,
+    }
+    for name, arguments in calls.items():
+        call = getattr(_library, "coset_" + name)
+        call.argtypes, call.restype = given + arguments, ctypes.c_int32
+
+
+_declare()
+
+
+def _raise(status, offset=None):
+    """Raises what the status says, unless that all is well."""
+    if status == _MEMORY:
+        raise MemoryError
+    if status == _ABSENT:
+        raise Absent("what is asked for isn't there")
+    if status == _MISUSE:
+        raise TypeError("a number that stands for no kind, no part or no map")
+    if status != _OK:
+        raise Fault(status, offset)
+
+
+def _bytes(data):
+    """The bytes and their number, of any object that lends them."""
+    data = bytes(memoryview(data))
+    return data, len(data)
+
+
+def _int64(number):
+    if not -(1 << 63) <= number < 1 << 63:
+        raise OverflowError("a label of more than 64 bits")
+    return number
+
+
+def _size(number):
+    if not 0 <= number <= _NO_OFFSET:
+        raise IndexError("an index that is negative or too large")
+    return number
+
+
+def _written(call, *arguments):
+    """What the call writes: it is made again where the memory was short."""
+    room, length = 256, ctypes.c_size_t()
+    while True:
+        out = ctypes.create_string_buffer(room)
+        status = call(*arguments, out, room, ctypes.byref(length))
+        if status != _SHORT:
+            _raise(status)
+            return out.raw[: length.value]
+        room = length.value
+
+
+def check(kind, data):
+    """Raises Fault, with the offset, unless the bytes are an item of the kind."""
+    offset = ctypes.c_size_t()
+    status = _library.coset_check(kind, *_bytes(data), ctypes.byref(offset))
+    _raise(status, None if offset.value == _NO_OFFSET else offset.value)
+
+
+def count(kind, data):
+    """How many signatures, recipients or keys there are."""
+    number = ctypes.c_size_t()
+    _raise(_library.coset_count(kind, *_bytes(data), ctypes.byref(number)))
+    return number.value
+
+
+def part(kind, data, which):
+    """A part: PROTECTED, PAYLOAD, CIPHERTEXT or PROOF."""
+    return _written(_library.coset_part, kind, *_bytes(data), which)
+
+
+def member(kind, data, index):
+    """The signature, recipient or key of that index, in its shortest encoding."""
+    return _written(_library.coset_member, kind, *_bytes(data), _size(index))
+
+
+def label(kind, data, which, name):
+    """The value of a label, an int or a str, in its shortest encoding: in IN_PROTECTED, IN_UNPROTECTED or IN_ITEM."""
+    if isinstance(name, str):
+        return _written(_library.coset_text_label, kind, *_bytes(data), which, *_bytes(name.encode()))
+    return _written(_library.coset_label, kind, *_bytes(data), which, _int64(name))
+
+
+def has(kind, data, which, name):
+    """Whether there is such a label."""
+    try:
+        label(kind, data, which, name)
+    except Absent:
+        return False
+    return True
+
+
+def label_bytes(kind, data, which, name):
+    """What the byte string or the text string holds that is the value of an integer label."""
+    return _written(_library.coset_label_bytes, kind, *_bytes(data), which, _int64(name))
+
+
+def label_int(kind, data, which, name):
+    """The integer that is the value of an integer label."""
+    value = ctypes.c_int64()
+    _raise(_library.coset_label_int(kind, *_bytes(data), which, _int64(name), ctypes.byref(value)))
+    return value.value
+
+
+def structure(kind, data, index=0, external_aad=b"", detached=None):
+    """What is signed (by the signer of that index), authenticated, or goes with the ciphertext: over the payload that the
+    message carries, or over `detached`, where that isn't None and it carries none."""
+    content = _bytes(b"" if detached is None else detached)
+    return _written(
+        _library.coset_structure, kind, *_bytes(data), _size(index), *_bytes(external_aad), detached is not None, *content
+    )

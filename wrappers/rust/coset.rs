@@ -1,0 +1,237 @@
+//! Safe Rust over `include/coset.h`: a file to take into a program that links `libcoset.a`. What is promised of each call
+//! stands in the header and in docs/C.md; what an answer is long, the call finds out.
+
+use std::fmt;
+
+/// Whether a message is under its tag (RFC 8152, section 2).
+#[derive(Clone, Copy, Debug, PartialEq, Eq)]
+pub enum Form {
+    Plain,
+    Tagged,
+    Either,
+}
+
+/// What the bytes should be an item of.
+#[derive(Clone, Copy, Debug, PartialEq, Eq)]
+pub enum Kind {
+    Sign1(Form),
+    Sign(Form),
+    Mac0(Form),
+    Mac(Form),
+    Encrypt0(Form),
+    Encrypt(Form),
+    Signature,
+    Recipient,
+    Header,
+    Key,
+    KeySet,
+    Claims,
+}
+
+/// A part of an item.
+#[derive(Clone, Copy, Debug, PartialEq, Eq)]
+pub enum Part {
+    Protected = 1,
+    Payload = 2,
+    Ciphertext = 3,
+    Proof = 4,
+}
+
+/// A map of an item.
+#[derive(Clone, Copy, Debug, PartialEq, Eq)]
+pub enum Map {
+    InProtected = 1,
+    InUnprotected = 2,
+    InItem = 3,
+}
+
+/// Why a call has no answer.
+#[derive(Clone, Copy, Debug, PartialEq, Eq)]
+pub enum Error {
+    /// A request for memory was refused.
+    Memory,
+    /// The bytes end before the item does.
+    Ends,
+    /// They aren't well-formed.
+    Malformed,
+    /// Arrays, maps and tags nest more than 256 levels deep.
+    Deep,
+    /// Bytes follow the item.
+    Extraneous,
+    /// An item isn't as its place asks.
+    Unexpected,
+    /// Two keys of a map are one label.
+    Duplicate,
+    /// An integer lies outside the range of its place.
+    OutOfRange,
+    /// An integer without a name, in a registry without a private range.
+    Unregistered,
+    /// An integer without a name and outside the private range of its registry.
+    NotPrivate,
+    /// The bytes are of the kind, and what is asked for isn't in them.
+    Absent,
+}
+
+impl fmt::Display for Error {
+    fn fmt(&self, f: &mut fmt::Formatter<'_>) -> fmt::Result {
+        f.write_str(match self {
+            Error::Memory => "out of memory",
+            Error::Ends => "the bytes end before the item does",
+            Error::Malformed => "the bytes aren't well-formed",
+            Error::Deep => "arrays, maps and tags nest too deep",
+            Error::Extraneous => "bytes follow the item",
+            Error::Unexpected => "an item isn't as its place asks",
+            Error::Duplicate => "two keys of a map are one label",
+            Error::OutOfRange => "an integer lies outside the range of its place",
+            Error::Unregistered => "an integer isn't registered",
+            Error::NotPrivate => "an integer isn't registered, nor for private use",
+            Error::Absent => "what is asked for isn't there",
+        })
+    }
+}
+
+impl std::error::Error for Error {}
+
+/// Why bytes are no item of a kind, and where they stop being one item of CBOR, where that is said.
+#[derive(Clone, Copy, Debug, PartialEq, Eq)]
+pub struct Fault {
+    pub error: Error,
+    pub offset: Option<usize>,
+}
+
+mod c {
+    unsafe extern "C" {
+        pub fn coset_check(kind: u32, input: *const u8, input_len: usize, offset: *mut usize) -> i32;
+        pub fn coset_count(kind: u32, input: *const u8, input_len: usize, count: *mut usize) -> i32;
+        pub fn coset_part(kind: u32, input: *const u8, input_len: usize, part: u32, out: *mut u8, cap: usize, len: *mut usize) -> i32;
+        pub fn coset_member(kind: u32, input: *const u8, input_len: usize, index: usize, out: *mut u8, cap: usize, len: *mut usize) -> i32;
+        pub fn coset_label(kind: u32, input: *const u8, input_len: usize, map: u32, label: i64, out: *mut u8, cap: usize, len: *mut usize) -> i32;
+        pub fn coset_label_bytes(kind: u32, input: *const u8, input_len: usize, map: u32, label: i64, out: *mut u8, cap: usize, len: *mut usize) -> i32;
+        pub fn coset_label_int(kind: u32, input: *const u8, input_len: usize, map: u32, label: i64, value: *mut i64) -> i32;
+        pub fn coset_text_label(kind: u32, input: *const u8, input_len: usize, map: u32, label: *const u8, label_len: usize, out: *mut u8, cap: usize, len: *mut usize) -> i32;
+        pub fn coset_structure(kind: u32, input: *const u8, input_len: usize, index: usize, external_aad: *const u8, external_aad_len: usize, has_detached: u32, detached: *const u8, detached_len: usize, out: *mut u8, cap: usize, len: *mut usize) -> i32;
+    }
+}
+
+impl Kind {
+    fn number(self) -> u32 {
+        let message = |number, form| match form {
+            Form::Plain => number,
+            Form::Tagged => number + 0x100,
+            Form::Either => number + 0x200,
+        };
+        match self {
+            Kind::Sign1(form) => message(1, form),
+            Kind::Sign(form) => message(2, form),
+            Kind::Mac0(form) => message(3, form),
+            Kind::Mac(form) => message(4, form),
+            Kind::Encrypt0(form) => message(5, form),
+            Kind::Encrypt(form) => message(6, form),
+            Kind::Signature => 7,
+            Kind::Recipient => 8,
+            Kind::Header => 9,
+            Kind::Key => 10,
+            Kind::KeySet => 11,
+            Kind::Claims => 12,
+        }
+    }
+}
+
+const SHORT: i32 = 1;
+
+/// The answer of a call whose status isn't that its memory is short.
+fn answer<T>(status: i32, value: T) -> Result<T, Error> {
+    Err(match status {
+        0 => return Ok(value),
+        2 => Error::Memory,
+        3 => Error::Ends,
+        4 => Error::Malformed,
+        5 => Error::Deep,
+        6 => Error::Extraneous,
+        7 => Error::Unexpected,
+        8 => Error::Duplicate,
+        9 => Error::OutOfRange,
+        10 => Error::Unregistered,
+        11 => Error::NotPrivate,
+        12 => Error::Absent,
+        status => unreachable!("status {status}"),
+    })
+}
+
+/// What a call writes that is given a buffer, how long that is, and where to tell the length: once more where it was short.
+fn written(call: impl Fn(*mut u8, usize, *mut usize) -> i32) -> Result<Vec<u8>, Error> {
+    let mut out = vec![0; 256];
+    loop {
+        let mut len = 0;
+        match call(out.as_mut_ptr(), out.len(), &mut len) {
+            SHORT => out.resize(len, 0),
+            status => {
+                out.truncate(len);
+                return answer(status, out);
+            }
+        }
+    }
+}
+
+// SAFETY, of each call below: the declarations are those of the header, and each slice is whole, apart from the others, and
+// lent for the call.
+
+/// Checks that the bytes are an item of the kind.
+pub fn check(kind: Kind, bytes: &[u8]) -> Result<(), Fault> {
+    let mut offset = 0;
+    let status = unsafe { c::coset_check(kind.number(), bytes.as_ptr(), bytes.len(), &mut offset) };
+    answer(status, ()).map_err(|error| Fault { error, offset: (offset != usize::MAX).then_some(offset) })
+}
+
+/// How many signatures, recipients or keys there are.
+pub fn count(kind: Kind, bytes: &[u8]) -> Result<usize, Error> {
+    let mut count = 0;
+    let status = unsafe { c::coset_count(kind.number(), bytes.as_ptr(), bytes.len(), &mut count) };
+    answer(status, count)
+}
+
+/// A part of an item.
+pub fn part(kind: Kind, bytes: &[u8], part: Part) -> Result<Vec<u8>, Error> {
+    written(|out, cap, len| unsafe { c::coset_part(kind.number(), bytes.as_ptr(), bytes.len(), part as u32, out, cap, len) })
+}
+
+/// The signature, recipient or key of that index, in its shortest encoding.
+pub fn member(kind: Kind, bytes: &[u8], index: usize) -> Result<Vec<u8>, Error> {
+    written(|out, cap, len| unsafe { c::coset_member(kind.number(), bytes.as_ptr(), bytes.len(), index, out, cap, len) })
+}
+
+/// The value of an integer label, in its shortest encoding.
+pub fn label(kind: Kind, bytes: &[u8], map: Map, label: i64) -> Result<Vec<u8>, Error> {
+    written(|out, cap, len| unsafe { c::coset_label(kind.number(), bytes.as_ptr(), bytes.len(), map as u32, label, out, cap, len) })
+}
+
+/// What the byte string or the text string holds that is the value of an integer label.
+pub fn label_bytes(kind: Kind, bytes: &[u8], map: Map, label: i64) -> Result<Vec<u8>, Error> {
+    written(|out, cap, len| unsafe { c::coset_label_bytes(kind.number(), bytes.as_ptr(), bytes.len(), map as u32, label, out, cap, len) })
+}
+
+/// The integer that is the value of an integer label.
+pub fn label_int(kind: Kind, bytes: &[u8], map: Map, label: i64) -> Result<i64, Error> {
+    let mut value = 0;
+    let status = unsafe { c::coset_label_int(kind.number(), bytes.as_ptr(), bytes.len(), map as u32, label, &mut value) };
+    answer(status, value)
+}
+
+/// The value of a text label, in its shortest encoding.
+pub fn text_label(kind: Kind, bytes: &[u8], map: Map, label: &str) -> Result<Vec<u8>, Error> {
+    written(|out, cap, len| unsafe {
+        c::coset_text_label(kind.number(), bytes.as_ptr(), bytes.len(), map as u32, label.as_ptr(), label.len(), out, cap, len)
+    })
+}
+
+/// What is signed (by the signer of that index), authenticated, or goes with the ciphertext: over the payload that the message
+/// carries, or over `detached` where it carries none.
+pub fn structure(kind: Kind, bytes: &[u8], index: usize, external_aad: &[u8], detached: Option<&[u8]>) -> Result<Vec<u8>, Error> {
+    let content = detached.unwrap_or_default();
+    written(|out, cap, len| unsafe {
+        c::coset_structure(
+            kind.number(), bytes.as_ptr(), bytes.len(), index, external_aad.as_ptr(), external_aad.len(),
+            detached.is_some().into(), content.as_ptr(), content.len(), out, cap, len,
+        )
+    })
+}
