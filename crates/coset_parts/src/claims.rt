@@ -151,12 +151,12 @@ pub fn debug_timestamp(alloc: Global, words: &Words<'_>) -> Result<String> {
 pub fn compare_timestamp(alloc: Global, words: &Words<'_>) -> Result<String> {
     let timestamp = timestamp(alloc, words.word(1))?;
     let seconds = words::number(words.word(2))?;
-    let after = if timestamp.is_after(seconds) {
-        "yes"
-    } else {
-        "no"
-    };
-    match timestamp.compare(i128::from(seconds)) {
+    mark::begin(alloc);
+    let is_after = timestamp.is_after(seconds);
+    let order = timestamp.compare(i128::from(seconds));
+    mark::end(alloc);
+    let after = if is_after { "yes" } else { "no" };
+    match order {
         Some(order) => Ok(format!(in alloc; "{order:?} {after}")?),
         None => Ok(format!(in alloc; "none {after}")?),
     }
