@@ -14,8 +14,10 @@ int32_t verified(const uint8_t *in, size_t n, verifier verify, void *keys, uint8
   int64_t alg;
   *len = 0;
   int32_t s = coset_label_int(kind, in, n, COSET_IN_PROTECTED, 1, &alg);
-  if (!s && coset_label(kind, in, n, COSET_IN_PROTECTED, 2, NULL, 0, &nt) != COSET_ABSENT) return -1;
-  if (!s) s = coset_label_bytes(kind, in, n, COSET_IN_UNPROTECTED, 4, kid, sizeof kid, &nk);
+  if (s) return s;
+  s = coset_label(kind, in, n, COSET_IN_PROTECTED, 2, NULL, 0, &nt);
+  if (s != COSET_ABSENT) return s == COSET_SHORT ? -1 : s;
+  s = coset_label_bytes(kind, in, n, COSET_IN_UNPROTECTED, 4, kid, sizeof kid, &nk);
   if (!s) s = coset_structure(kind, in, n, 0, NULL, 0, 0, NULL, 0, tbs, sizeof tbs, &nt);
   if (!s) s = coset_part(kind, in, n, COSET_PROOF, sig, sizeof sig, &ns);
   if (!s && !verify(keys, alg, kid, nk, tbs, nt, sig, ns)) return -1;

@@ -8,8 +8,10 @@ use crate::coset::{self, Error, Form, Kind, Map, Part};
 pub fn verified(token: &[u8], verify: impl FnOnce(i64, &[u8], &[u8], &[u8]) -> bool) -> Result<Option<Vec<u8>>, Error> {
     let kind = Kind::Sign1(Form::Either);
     let algorithm = coset::label_int(kind, token, Map::InProtected, 1)?;
-    if coset::label(kind, token, Map::InProtected, 2) != Err(Error::Absent) {
-        return Ok(None);
+    match coset::label(kind, token, Map::InProtected, 2) {
+        Err(Error::Absent) => {}
+        Ok(_) => return Ok(None),
+        Err(error) => return Err(error),
     }
     let key_id = coset::label_bytes(kind, token, Map::InUnprotected, 4)?;
     let signed = coset::structure(kind, token, 0, b"", None)?;
