@@ -218,7 +218,8 @@ impl<'a> Walk<'a> {
     /// `AllocError` alone.
     pub(crate) fn run(&mut self, alloc: Global, count: usize) -> Result<(), AllocError>
         ensures whole { OnOk result (whole self.new.column ≡ whole self.old.column) }
-        ensures lines { OnOk result (shown self.new.column ≤ shown self.old.column + (2 * count + 1)) }
+        ensures lines { OnOk result (shown self.new.column
+            ≤ shown self.old.column + (2 * count + 1)) }
     {
         for _ in 0..count.saturating_mul(2).saturating_add(1) {
             if !self.step(alloc)? {

@@ -29,7 +29,8 @@ Answers k b P old new (Err (Short n)) = (v : Item) × IsItemOf k b v × ((t : Li
 Answers k b P old new (Err Absent) = (v : Item) × IsItemOf k b v × ((t : List ℕ) → P v t → ⊥) × (new ≡ old)
 Answers k b P old new (Err (Cose e)) = IsRefused k b e × (new ≡ old)
 
--- the same of a number
+-- What a call answers that tells a number of which P says what it is, of the item that the bytes are: the number; or that
+-- there is none; or why the bytes are no such item
 abbrev pub AnswersNumber : {N : Type 0} → kinds.Kind → List ℕ → (Item → N → Type 0) → Result N refusals.Refusal → Type 0
 AnswersNumber k b P (Ok n) = (v : Item) × IsItemOf k b v × P v n
 AnswersNumber k b P (Err (Short n)) = ⊥

@@ -205,7 +205,8 @@ pub fn value_of(
     label: Label<'_>,
     out: &mut [u8],
 ) -> Result<usize, Refusal>
-    ensures { Answers kind bytes.now (IsValueOf kind map (label_seen label.entry)) out.old out.new result }
+    ensures { Answers kind bytes.now (IsValueOf kind map (label_seen label.entry))
+        out.old out.new result }
 {
     match item_of(alloc, kind, bytes) {
         Ok(item) => write_found(find_encoding(alloc, kind, item, map, label), out),
@@ -259,7 +260,8 @@ pub fn string_of(
     label: Label<'_>,
     out: &mut [u8],
 ) -> Result<usize, Refusal>
-    ensures { Answers kind bytes.now (IsStringOf kind map (label_seen label.entry)) out.old out.new result }
+    ensures { Answers kind bytes.now (IsStringOf kind map (label_seen label.entry))
+        out.old out.new result }
 {
     match item_of(alloc, kind, bytes) {
         Ok(item) => write_found(find_string(alloc, kind, item, map, label), out),

@@ -17,5 +17,6 @@ returns-in-Some c =
     (to_z-of_z w64 c.args.label c.ranges.label) c.string_of.ensures in
     let status : to_z w32 (of_z w32 c.reply.result) ≡ reply_status c.string_of.result = search rules in
     replied
-    (λ q. Replies (Answers q.0 c.args.input.now (IsStringOf q.0 q.1 (number c.args.label)) c.args.out.now c.string_of.new.out) (to_z w32 (of_z w32 c.reply.result)) c.reply.new.place)
+    (λ q. Replies (Answers q.0 c.args.input.now (IsStringOf q.0 q.1 (number c.args.label)) c.args.out.now c.string_of.new.out)
+    (to_z w32 (of_z w32 c.reply.result)) c.reply.new.place)
     _ _ (k, m) c.in-Some.ensures (c.string_of.result, answers, status, c.reply.ensures.number)

@@ -17,5 +17,6 @@ returns-in-Some c =
     (to_z-of_z w64 c.args.label c.ranges.label) c.integer_of.ensures in
     let status : to_z w32 (of_z w32 c.reply_integer.result) ≡ reply_status c.integer_of.result = search rules in
     replied
-    (λ q. RepliesInteger (AnswersNumber q.0 c.args.input.now (IsNumberOf q.0 q.1 (number c.args.label))) (to_z w32 (of_z w32 c.reply_integer.result)) c.reply_integer.new.place)
+    (λ q. RepliesInteger (AnswersNumber q.0 c.args.input.now (IsNumberOf q.0 q.1 (number c.args.label)))
+    (to_z w32 (of_z w32 c.reply_integer.result)) c.reply_integer.new.place)
     _ _ (k, m) c.in-Some.ensures (c.integer_of.result, answers, status, c.reply_integer.ensures.number)
