@@ -5,7 +5,7 @@ pub use Rattle.coset_value.specs.Range
 pub use Rattle.coset_cbor.specs.Grammar
 pub use Rattle.coset_cbor.specs.Shortest
 pub use Rattle.coset_cbor.specs.Fronts
-pub use Rattle.coset_cbor.specs.Refused
+pub use Rattle.coset_cbor.specs.ReadErrors
 pub use Rattle.coset_cbor.specs.Pulls
 pub use Rattle.coset_codec.specs.Errors
 pub use Rattle.coset_codec.specs.Shape

@@ -7,7 +7,7 @@ ghost use Rattle.coset_query.specs.Answers.{Answers, AnswersNumber};
 ghost use Rattle.coset_query.specs.Labels.{IsNumberOf, IsStringOf, IsValueOf};
 ghost use Rattle.coset_query.specs.Parts.{IsCount, IsMember, IsPart};
 ghost use Rattle.coset_query.specs.Structures.{IsStructure};
-ghost use Rattle.coset.specs.Names.{number, word};
+ghost use Rattle.coset.specs.Names.{number, text_label};
 ghost use Rattle.coset_c.specs.Numbers.{detached_of, kind_of, map_query, part_query};
 ghost use Rattle.coset_c.specs.Replies.{IsMisuse, Replies, RepliesCheck, RepliesInteger};
 
@@ -168,8 +168,8 @@ pub extern "C" fn coset_text_label(
     len: &mut usize,
 ) -> i32
     ensures { MatchOption (map_query kind map) (IsMisuse result len.new 0 × (out.new ≡ out.old))
-        (λ q. Replies (Answers q.0 input.now (IsValueOf q.0 q.1 (word label.now)) out.old out.new)
-        result len.new) }
+        (λ q. Replies (Answers q.0 input.now (IsValueOf q.0 q.1 (text_label label.now))
+        out.old out.new) result len.new) }
 {
     match map_query(kind, map) {
         Some((kind, map)) => {

@@ -13,7 +13,7 @@ use Rattle.coset_cbor.specs.Heads as places
 use Rattle.coset_value.specs.Item.{half, single, double, Item, integer, bytes, float, text, boolean, null, tag, array, dict, Items, no_items, item, Pairs}
 use Rattle.coset_value.specs.Item.{no_pairs, pair, items_count, pairs_count, depth, items_depth, pairs_depth}
 use Rattle.coset_value.specs.View.{items_of, pairs_of}
-use Rattle.coset_cbor.specs.Grammar.{Place, within, one, two, four, eight, Holds, head_in, IsHead, IsHeaded, IsIndefinite, EachInOrder, IsStringContent}
+use Rattle.coset_cbor.specs.Grammar.{Width, within, one, two, four, eight, Holds, head_in, IsHead, IsHeaded, IsIndefinite, EachInOrder, IsStringContent}
 use Rattle.coset_cbor.specs.Grammar.{string_type, IsDefinite, IsStringEncoding, IsHeld, IsEncoding, AreEncodings, ArePairEncodings}
 use Rattle.coset_cbor.specs.Reading.{◌>>=◌, Parse, major_type_of, number_of, argument_at, argument_by, head_at, is_string_content, string_at, begins_chunk}
 use Rattle.coset_cbor.specs.Reading.{chunk_at, begins_break, times_at, until_at, chunks_at, any_string_by, pair_at, array_by, map_by, Inside, nothing, things}
@@ -44,14 +44,14 @@ argument_again place w limit wide n rest lt =
     let long : ltb (length (to_be_bytes w n ++ rest)) (byte_len w) ≡ false = le-ltb _ _ (omega (arith, length-append (to_be_bytes w n) rest)) in
     rw (long, take_at (to_be_bytes w n) rest (byte_len w) len, drop_at (to_be_bytes w n) rest (byte_len w) len, wide.again n lt) refl
 
-abbrev pub argument_in : Place → ℕ → Argument
+abbrev pub argument_in : Width → ℕ → Argument
 argument_in within n = places.Within n
 argument_in one n = places.One n
 argument_in two n = places.Two n
 argument_in four n = places.Four n
 argument_in eight n = places.Eight n
 
-number_of-argument_in : (p : Place) (n : ℕ) → number_of (argument_in p n) ≡ Some n
+number_of-argument_in : (p : Width) (n : ℕ) → number_of (argument_in p n) ≡ Some n
 number_of-argument_in within n = refl
 number_of-argument_in one n = refl
 number_of-argument_in two n = refl
@@ -72,7 +72,7 @@ first_again : (m k : ℕ) (s : List ℕ) → k < 32 → head_at ((32 * m + k) �
 unfolding head_at
 first_again m k s lt = rw (first_div m k lt, first_mod m k lt) refl
 
-pub head_again : (p : Place) (m n : ℕ) (rest : List ℕ) → Holds p n → head_at (head_in p m n ++ rest) ≡ Ok (head_of m (argument_in p n), rest)
+pub head_again : (p : Width) (m n : ℕ) (rest : List ℕ) → Holds p n → head_at (head_in p m n ++ rest) ≡ Ok (head_of m (argument_in p n), rest)
 head_again within m n rest h =
     let small : ltb n 24 ≡ true = lt-ltb n 24 h in
     first_again m n rest (omega arith) ∙ rw small refl
@@ -89,9 +89,9 @@ pub record HeadAgain (m n : ℕ) (b rest : List ℕ) : Type 0 where
 
 pub IsHead-again : (m n : ℕ) (h rest : List ℕ) → IsHead m n h → HeadAgain m n (h ++ rest) rest
 IsHead-again m n h rest is = record {
-  argument = argument_in is.place n;
-  reads = ap (λ (x : List ℕ). head_at (x ++ rest)) is.spelled ∙ head_again is.place m n rest is.holds;
-  number = number_of-argument_in is.place n;
+  argument = argument_in is.width n;
+  reads = ap (λ (x : List ℕ). head_at (x ++ rest)) is.spelled ∙ head_again is.width m n rest is.holds;
+  number = number_of-argument_in is.width n;
 }
 
 pub IsHeaded-again : (m n : ℕ) (s b rest : List ℕ) → IsHeaded m n s b → HeadAgain m n (b ++ rest) (s ++ rest)
@@ -115,7 +115,7 @@ pub record Begins (b : List ℕ) : Type 0 where
   pub parts : b ≡ first ∷ more
   pub low : first < 255
 
-head_begins : (p : Place) (m n : ℕ) → m < 7 → Holds p n → Begins (head_in p m n)
+head_begins : (p : Width) (m n : ℕ) → m < 7 → Holds p n → Begins (head_in p m n)
 head_begins within m n lt h = record { first = 32 * m + n; more = []; parts = refl; low = omega arith }
 head_begins one m n lt h = record { first = 32 * m + 24; more = to_be_bytes w8 n; parts = refl; low = omega arith }
 head_begins two m n lt h = record { first = 32 * m + 25; more = to_be_bytes w16 n; parts = refl; low = omega arith }
@@ -123,7 +123,7 @@ head_begins four m n lt h = record { first = 32 * m + 26; more = to_be_bytes w32
 head_begins eight m n lt h = record { first = 32 * m + 27; more = to_be_bytes w64 n; parts = refl; low = omega arith }
 
 pub IsHead-begins : (m n : ℕ) (h : List ℕ) → m < 7 → IsHead m n h → Begins h
-IsHead-begins m n h lt is = subst (λ (x : List ℕ). Begins x) (sym is.spelled) (head_begins is.place m n lt is.holds)
+IsHead-begins m n h lt is = subst (λ (x : List ℕ). Begins x) (sym is.spelled) (head_begins is.width m n lt is.holds)
 
 pub begins_append : (c d b : List ℕ) → b ≡ c ++ d → Begins c → Begins b
 begins_append c d b e g = record { first = g.first; more = g.more ++ d; parts = e ∙ ap (λ (x : List ℕ). x ++ d) g.parts; low = g.low }

@@ -16,7 +16,7 @@ use Rattle.coset_cbor.specs.Grammar.{IsHeld, IsEncoding, AreEncodings, ArePairEn
 use Rattle.coset_cbor.specs.Reading.{◌>>=◌, number_of, head_at, any_string_by, simple_at, Inside, nothing, things, item_by, item_from, item_at}
 use Rattle.coset_cbor.specs.Whole.{is_one_item, item_of}
 use Rattle.coset_cbor.specs.Between.{IsContent, array_around, map_around, items_in, pairs_in}
-use Rattle.coset_cbor.specs.Jumps.{BeginsItem, item_major_type}
+use Rattle.coset_cbor.specs.Skips.{BeginsItem, item_major_type}
 use Rattle.coset_cbor.proofs.Again.{head_of, IsHeaded-again, opening_again, IsEncoding-begins, encodings_differ}
 use Rattle.coset_cbor.proofs.Takes.{IsBytes, IsBytes-take, IsBytes-drop, IsBytes-rest, done, ok_is, bind_ok, some_ok, chosen, guard_else, head_takes}
 use Rattle.coset_cbor.proofs.Whole.{one_item_bytes, one_item_read, one_item_is, one_item_from, item_of_one}

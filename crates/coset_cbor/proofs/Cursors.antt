@@ -4,7 +4,7 @@ use Rattle.std.proofs.Common.{None, Result, Ok, Err, option_map, refl, sym, ap, 
 use Rattle.std.proofs.lemmas.List.{length-append}
 use Rattle.std.proofs.lemmas.Bool.{true≢false, ltb-false}
 use Rattle.std.specs.Prelude.{◌/◌, ◌^◌}
-use Rattle.coset_cbor.specs.declared.cursor.Places.{Places}
+use Rattle.coset_cbor.specs.declared.cursor.Remaining.{Remaining}
 use Rattle.coset_cbor.specs.declared.fault.Fault.{Fault}
 use Rattle.coset_cbor.specs.declared.fault.Fault.TheVariants.{End}
 use Rattle.coset_cbor.specs.declared.head.MajorType.{MajorType}
@@ -16,8 +16,8 @@ use Rattle.coset_value.specs.View.{items_of, pairs_of}
 use Rattle.coset_value.specs.Parts.{as_array}
 use Rattle.coset_cbor.specs.Grammar.{IsItem}
 use Rattle.coset_cbor.specs.Reading.{◌>>=◌, number_of, head_at, begins_break, times_at, until_at, pair_at, things, item_by, item_at}
-use Rattle.coset_cbor.specs.Jumps.{item_major_type}
-use Rattle.coset_cbor.specs.Cursors.{Stands, AreAt, AreWithin, Doubles, keys_and_values, map_items}
+use Rattle.coset_cbor.specs.Skips.{item_major_type}
+use Rattle.coset_cbor.specs.Cursors.{ItemAt, AreAt, AreWithin, Doubles, keys_and_values, map_items}
 use Rattle.coset_cbor.proofs.Takes.{IsBytes, IsArgumentEncoding, major_type_number, bind_ok, ok_is, guard_ok, chosen, break_is, head_takes, item_takes}
 use Rattle.coset_cbor.proofs.Again.{IsEncoding-begins, item_again}
 use Rattle.coset_cbor.proofs.Between.{major_type_by, is_array, is_map}
@@ -33,57 +33,57 @@ rest_of x = x.1
 
 -- ---- an item that stands at the front
 
-pub stands_read : (v : Item) (s a : List ℕ) → Stands v s a → item_at 256 s ≡ Ok (v, a)
-unfolding Stands
+pub stands_read : (v : Item) (s a : List ℕ) → ItemAt v s a → item_at 256 s ≡ Ok (v, a)
+unfolding ItemAt
 stands_read v s a (f, e, is) = ap (item_at 256) e ∙ item_again 256 v f a is.0 is.1
 
-pub stands_item : (v : Item) (f s a : List ℕ) → IsItem f v → s ≡ f ++ a → Stands v s a
-unfolding Stands
+pub stands_item : (v : Item) (f s a : List ℕ) → IsItem f v → s ≡ f ++ a → ItemAt v s a
+unfolding ItemAt
 stands_item v f s a is e = (f, e, is)
 
-pub stands_same : (v w : Item) (s a b : List ℕ) → Stands v s a → Stands w s b → a ≡ b
+pub stands_same : (v w : Item) (s a b : List ℕ) → ItemAt v s a → ItemAt w s b → a ≡ b
 stands_same v w s a b e f = ap rest_of (ok_is (v, a) (w, b) (sym (stands_read v s a e) ∙ stands_read w s b f))
 
 -- one item stands at the front
-pub stands_is : (v w : Item) (s a b : List ℕ) → Stands v s a → Stands w s b → v ≡ w
+pub stands_is : (v w : Item) (s a b : List ℕ) → ItemAt v s a → ItemAt w s b → v ≡ w
 stands_is v w s a b e f = ap one_of (ok_is (v, a) (w, b) (sym (stands_read v s a e) ∙ stands_read w s b f))
 
 -- an item takes bytes
-pub stands_shorter : (v : Item) (s a : List ℕ) → Stands v s a → length a < length s
-unfolding Stands
+pub stands_shorter : (v : Item) (s a : List ℕ) → ItemAt v s a → length a < length s
+unfolding ItemAt
 stands_shorter v s a (f, parts, is) =
     let g = IsEncoding-begins v f is.0 in
     let some : length f ≡ suc (length g.more) = ap length g.parts in
     let size : length s ≡ length f + length a = ap length parts ∙ length-append f a in
     omega arith
 
-pub stands_begins : (v : Item) (s a : List ℕ) → Stands v s a → (f : List ℕ) × (s ≡ f ++ a) × IsItem f v
-unfolding Stands
+pub stands_begins : (v : Item) (s a : List ℕ) → ItemAt v s a → (f : List ℕ) × (s ≡ f ++ a) × IsItem f v
+unfolding ItemAt
 stands_begins v s a stands = stands
 
 err_ok : {A : Type 0} (f : Fault) (y : A) → ◌≡◌ {A = Result A Fault} (Err f) (Ok y) → ⊥
 err_ok f y e = cc
 
-pub stands_head : (v : Item) (s a : List ℕ) (f : Fault) → Stands v s a → head_at s ≡ Err f → ⊥
+pub stands_head : (v : Item) (s a : List ℕ) (f : Fault) → ItemAt v s a → head_at s ≡ Err f → ⊥
 unfolding item_at
 stands_head v s a f whole e =
     err_ok f (v, a) (sym (ap (λ (r : Result (HeadSeen × List ℕ) Fault). r >>= λ x. item_by (things (item_at 255)) (length s) x.0.argument x.0.major_type x.1) e)
     ∙ stands_read v s a whole)
 
-pub stands_by : (v : Item) (s a : List ℕ) (h : HeadSeen × List ℕ) → Stands v s a → head_at s ≡ Ok h
+pub stands_by : (v : Item) (s a : List ℕ) (h : HeadSeen × List ℕ) → ItemAt v s a → head_at s ≡ Ok h
     → item_by (things (item_at 255)) (length s) h.0.argument h.0.major_type h.1 ≡ Ok (v, a)
 unfolding item_at
 stands_by v s a h whole e =
     sym (ap (λ (r : Result (HeadSeen × List ℕ) Fault). r >>= λ x. item_by (things (item_at 255)) (length s) x.0.argument x.0.major_type x.1) e)
     ∙ stands_read v s a whole
 
-pub stands_major_type : (v : Item) (s a : List ℕ) (h : HeadSeen × List ℕ) → Stands v s a → head_at s ≡ Ok h → item_major_type v ≡ h.0.major_type
+pub stands_major_type : (v : Item) (s a : List ℕ) (h : HeadSeen × List ℕ) → ItemAt v s a → head_at s ≡ Ok h → item_major_type v ≡ h.0.major_type
 stands_major_type v s a h whole e = major_type_by (things (item_at 255)) (length s) h.0.argument h.0.major_type h.1 (v, a) (stands_by v s a h whole e)
 
 -- ---- members
 
-deeper : (s : List ℕ) (x : Item × List ℕ) → IsBytes s → item_at 255 s ≡ Ok x → Stands x.0 s x.1
-unfolding Stands
+deeper : (s : List ℕ) (x : Item × List ℕ) → IsBytes s → item_at 255 s ≡ Ok x → ItemAt x.0 s x.1
+unfolding ItemAt
 deeper s x fits e =
     let t = item_takes 255 s x fits e in
     let low = t.encoding.1 in
@@ -165,13 +165,13 @@ array_by_major_type left g major_types.Map s v a fits k e = absurd cc
 array_by_major_type left g major_types.Tag s v a fits k e = absurd cc
 array_by_major_type left g major_types.Simple s v a fits k e = absurd cc
 
-pub array_read : (v : Item) (s a : List ℕ) (h : HeadSeen × List ℕ) (o : Option ℕ) → IsBytes s → Stands v s a → head_at s ≡ Ok h
+pub array_read : (v : Item) (s a : List ℕ) (h : HeadSeen × List ℕ) (o : Option ℕ) → IsBytes s → ItemAt v s a → head_at s ≡ Ok h
     → h.0.major_type ≡ major_types.Array → o ≡ number_of h.0.argument → Entered v o h.1 a
 array_read v s a h o fits whole e k number =
     subst (λ (p : Option ℕ). Entered v p h.1 a) (sym number)
     (array_by_major_type (length s) h.0.argument h.0.major_type h.1 v a (head_takes s h fits e).rest_fits k (stands_by v s a h whole e))
 
-pub no_array : (v : Item) (s a : List ℕ) (h : HeadSeen × List ℕ) → Stands v s a → head_at s ≡ Ok h → h.0.major_type ≢ major_types.Array → as_array v ≡ None
+pub no_array : (v : Item) (s a : List ℕ) (h : HeadSeen × List ℕ) → ItemAt v s a → head_at s ≡ Ok h → h.0.major_type ≢ major_types.Array → as_array v ≡ None
 no_array v s a h whole e k = elim (is_array v) [
   | inl x ↦ absurd (k (sym (stands_major_type v s a h whole e) ∙ ap item_major_type x.1))
   | inr x ↦ x.0
@@ -309,14 +309,14 @@ map_by_major_type left g d major_types.Array s v a fits least_encoding twice k e
 map_by_major_type left g d major_types.Simple s v a fits least_encoding twice k e = absurd cc
 
 pub map_read :
-    (v : Item) (s a : List ℕ) (h : HeadSeen × List ℕ) (d : Option ℕ) → IsBytes s → length s < 2 ^ 64 → Stands v s a → head_at s ≡ Ok h
+    (v : Item) (s a : List ℕ) (h : HeadSeen × List ℕ) (d : Option ℕ) → IsBytes s → length s < 2 ^ 64 → ItemAt v s a → head_at s ≡ Ok h
     → h.0.major_type ≡ major_types.Map → Doubles (number_of h.0.argument) d → EnteredMap v d h.1 a
 map_read v s a h d fits least_encoding whole e k twice =
     let shorter = head_shorter s h fits e in
     map_by_major_type (length s) h.0.argument d h.0.major_type h.1 v a (head_takes s h fits e).rest_fits (omega (arith, least_encoding, shorter)) twice k
     (stands_by v s a h whole e)
 
-pub no_map : (v : Item) (s a : List ℕ) (h : HeadSeen × List ℕ) → Stands v s a → head_at s ≡ Ok h → h.0.major_type ≢ major_types.Map → map_items v ≡ None
+pub no_map : (v : Item) (s a : List ℕ) (h : HeadSeen × List ℕ) → ItemAt v s a → head_at s ≡ Ok h → h.0.major_type ≢ major_types.Map → map_items v ≡ None
 no_map v s a h whole e k = elim (is_map v) [
   | inl x ↦ absurd (k (sym (stands_major_type v s a h whole e) ∙ ap item_major_type x.1))
   | inr x ↦ ap (option_map keys_and_values) x.0
@@ -325,7 +325,7 @@ no_map v s a h whole e k = elim (is_map v) [
 -- ---- the next member
 
 -- no item begins with a break
-pub no_item_at_break : (v : Item) (s a : List ℕ) → Stands v s a → begins_break s ≡ true → ⊥
+pub no_item_at_break : (v : Item) (s a : List ℕ) → ItemAt v s a → begins_break s ≡ true → ⊥
 unfolding item_at head_at
 no_item_at_break v s a whole e =
     let here : item_at 256 (255 ∷ drop 1 s) ≡ Ok (v, a) = ap (item_at 256) (sym (break_is s e)) ∙ stands_read v s a whole in
@@ -335,13 +335,13 @@ none_left : (vs : Items) → 0 ≡ items_count vs → vs ≡ no_items
 none_left no_items e = refl
 none_left (item v vs) e = absurd cc
 
-pub next_none : (vs : Items) (s a : List ℕ) (p : Places) (n : ℕ) → p.left ≡ Some n → n ≡ 0 → AreWithin p vs s a → (vs ≡ no_items) × AreWithin p no_items s a
+pub next_none : (vs : Items) (s a : List ℕ) (p : Remaining) (n : ℕ) → p.left ≡ Some n → n ≡ 0 → AreWithin p vs s a → (vs ≡ no_items) × AreWithin p no_items s a
 next_none vs s a p n left none w =
     let is = none_left vs (sym none ∙ (w.definite n left).0) in
     (is, subst (λ (ws : Items). AreWithin p ws s a) is w)
 
-abbrev pub Member : Items → List ℕ → List ℕ → Places → Type 0
-Member vs s a p = (v : Item) × (others : Items) × (mid : List ℕ) × (vs ≡ item v others) × Stands v s mid × AreWithin p others mid a
+abbrev pub Member : Items → List ℕ → List ℕ → Remaining → Type 0
+Member vs s a p = (v : Item) × (others : Items) × (mid : List ℕ) × (vs ≡ item v others) × ItemAt v s mid × AreWithin p others mid a
 
 counted_next : (vs : Items) (s a : List ℕ) (n : ℕ) → n ≢ 0 → n ≡ items_count vs → AreAt vs s a → Member vs s a (record { left = Some (n - 1) })
 unfolding AreAt
@@ -358,11 +358,11 @@ counted_next (item v vs) s a n some count at = (
   },
 )
 
-pub next_counted : (vs : Items) (s a : List ℕ) (p : Places) (n : ℕ) → p.left ≡ Some n → n ≢ 0 → AreWithin p vs s a
+pub next_counted : (vs : Items) (s a : List ℕ) (p : Remaining) (n : ℕ) → p.left ≡ Some n → n ≢ 0 → AreWithin p vs s a
     → Member vs s a (record { left = Some (n - 1) })
 next_counted vs s a p n is some w = let d = w.definite n is in counted_next vs s a n some d.0 d.1
 
-broken_next : (vs : Items) (s a : List ℕ) (p : Places) → p.left ≡ None → begins_break s ≡ false → AreAt vs s (255 ∷ a) → Member vs s a p
+broken_next : (vs : Items) (s a : List ℕ) (p : Remaining) → p.left ≡ None → begins_break s ≡ false → AreAt vs s (255 ∷ a) → Member vs s a p
 unfolding AreAt
 broken_next no_items s a p none e at = absurd (true≢false (sym (ap begins_break at) ∙ e))
 broken_next (item v vs) s a p none e at = (
@@ -382,10 +382,10 @@ unfolding AreAt
 broken_end no_items s a e at = refl
 broken_end (item v vs) s a e at = absurd (no_item_at_break v s at.0 at.1 e)
 
-pub next_more : (vs : Items) (s a : List ℕ) (p : Places) → p.left ≡ None → begins_break s ≡ false → AreWithin p vs s a → Member vs s a p
+pub next_more : (vs : Items) (s a : List ℕ) (p : Remaining) → p.left ≡ None → begins_break s ≡ false → AreWithin p vs s a → Member vs s a p
 next_more vs s a p none e w = broken_next vs s a p none e (w.indefinite none)
 
-pub next_end : (vs : Items) (s a : List ℕ) (p : Places) → p.left ≡ None → begins_break s ≡ true → AreWithin p vs s a → (vs ≡ no_items)
+pub next_end : (vs : Items) (s a : List ℕ) (p : Remaining) → p.left ≡ None → begins_break s ≡ true → AreWithin p vs s a → (vs ≡ no_items)
     × AreWithin p no_items s a
 next_end vs s a p none e w =
     let is = broken_end vs s a e (w.indefinite none) in
@@ -393,22 +393,22 @@ next_end vs s a p none e w =
 
 -- ---- the end of an array
 
-pub close_counted : (p : Places) (n : ℕ) (s a : List ℕ) → p.left ≡ Some n → AreWithin p no_items s a → s ≡ a
+pub close_counted : (p : Remaining) (n : ℕ) (s a : List ℕ) → p.left ≡ Some n → AreWithin p no_items s a → s ≡ a
 unfolding AreAt
 close_counted p n s a is w = (w.definite n is).1
 
-close_broken : (p : Places) (s a : List ℕ) → p.left ≡ None → AreWithin p no_items s a → s ≡ 255 ∷ a
+close_broken : (p : Remaining) (s a : List ℕ) → p.left ≡ None → AreWithin p no_items s a → s ≡ 255 ∷ a
 unfolding AreAt
 close_broken p s a is w = w.indefinite is
 
-pub close_dropped : (p : Places) (s a : List ℕ) → p.left ≡ None → AreWithin p no_items s a → drop 1 s ≡ a
+pub close_dropped : (p : Remaining) (s a : List ℕ) → p.left ≡ None → AreWithin p no_items s a → drop 1 s ≡ a
 close_dropped p s a is w = ap (drop 1) (close_broken p s a is w)
 
-pub close_no_break : (p : Places) (s a : List ℕ) → p.left ≡ None → begins_break s ≡ false → AreWithin p no_items s a → ⊥
+pub close_no_break : (p : Remaining) (s a : List ℕ) → p.left ≡ None → begins_break s ≡ false → AreWithin p no_items s a → ⊥
 close_no_break p s a is e w = true≢false (sym (ap begins_break (close_broken p s a is w)) ∙ e)
 
 -- nothing stands in no bytes
-nothing_there : (v : Item) (t b : List ℕ) → length t ≡ 0 → Stands v t b → ⊥
+nothing_there : (v : Item) (t b : List ℕ) → length t ≡ 0 → ItemAt v t b → ⊥
 nothing_there v t b e stands = let some = stands_shorter v t b stands in omega (arith, e, some)
 
 no_member_there : (vs : Items) (s b : List ℕ) → length s ≡ 0 → AreAt vs s b → vs ≡ no_items
@@ -420,13 +420,13 @@ left_by : (o : Option ℕ) → (o ≡ None) ⊎ ((n : ℕ) × (o ≡ Some n))
 left_by None = inl refl
 left_by (Some n) = inr (n, refl)
 
-pub close_empty : (vs : Items) (p : Places) (s a : List ℕ) → length s ≡ 0 → AreWithin p vs s a → vs ≡ no_items
+pub close_empty : (vs : Items) (p : Remaining) (s a : List ℕ) → length s ≡ 0 → AreWithin p vs s a → vs ≡ no_items
 close_empty vs p s a e w = elim (left_by p.left) [
   | inl is ↦ no_member_there vs s (255 ∷ a) e (w.indefinite is)
   | inr is ↦ no_member_there vs s a e (w.definite is.0 is.1).1
 ]
 
--- no items are within no places
+-- no items remain where nothing does
 pub none_within : (s : List ℕ) → AreWithin (record { left = Some 0 }) no_items s s
 unfolding AreAt
 none_within s = record { definite = λ n e. (sym (one_of e), refl); indefinite = λ e. absurd (cc) }

@@ -20,7 +20,7 @@ use Rattle.coset_cbor.specs.Whole.{is_one_item, item_of}
 use Rattle.coset_cbor.proofs.Takes.{bind_ok, chosen, guard_else, ok_is, some_ok, major_type_number, IsArgumentEncoding, number_head, head_takes, item_takes}
 use Rattle.coset_cbor.specs.StringChunks.{as_string}
 use Rattle.coset_cbor.proofs.Between.{simple_major_type}
-use Rattle.coset_cbor.specs.Jumps.{item_major_type}
+use Rattle.coset_cbor.specs.Skips.{item_major_type}
 use Rattle.coset_cbor.proofs.Whole.{one_item_bytes, one_item_read, one_item_from, item_of_one}
 
 abbrev done : Item × List ℕ → Result (Item × List ℕ) Fault

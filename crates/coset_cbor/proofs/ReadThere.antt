@@ -10,7 +10,7 @@ use Rattle.coset_cbor.specs.Heads.{Argument, HeadSeen}
 use Rattle.coset_cbor.specs.Heads as places
 use Rattle.coset_cbor.specs.declared.head.MajorType.{MajorType}
 use Rattle.coset_cbor.specs.declared.head.MajorType.TheVariants as major_types
-use Rattle.coset_cbor.specs.Cursors.{Stands}
+use Rattle.coset_cbor.specs.Cursors.{ItemAt}
 use Rattle.coset_cbor.specs.Reading.{number_of, head_at, begins_chunk, any_string_by, simple_at, Inside, things, item_by, item_at}
 use Rattle.coset_cbor.specs.Scalars.{as_scalar, scalar_by, integer_by}
 use Rattle.coset_cbor.specs.StringChunks.{as_string}
@@ -58,7 +58,7 @@ scalar_behind inside left g major_types.Tag s x w e is = absurd cc
 scalar_behind inside left g major_types.Simple s x w e is = simple_behind left g s x e
 
 pub scalar_read :
-    (v : Item) (s a : List ℕ) (h : HeadSeen × List ℕ) (w : Item) → Stands v s a → head_at s ≡ Ok h
+    (v : Item) (s a : List ℕ) (h : HeadSeen × List ℕ) (w : Item) → ItemAt v s a → head_at s ≡ Ok h
     → Some w ≡ scalar_by (length s) h.0.argument h.0.major_type h.1 → (as_scalar v ≡ Some w) × (h.1 ≡ a)
 scalar_read v s a h w whole e is =
     let by = stands_by v s a h whole e in
@@ -67,7 +67,7 @@ scalar_read v s a h w whole e is =
       scalar_behind inside (length s) h.0.argument h.0.major_type h.1 (v, a) w by (sym is),
     )
 
-pub no_scalar : (v : Item) (s a : List ℕ) (h : HeadSeen × List ℕ) → Stands v s a → head_at s ≡ Ok h
+pub no_scalar : (v : Item) (s a : List ℕ) (h : HeadSeen × List ℕ) → ItemAt v s a → head_at s ≡ Ok h
     → None ≡ scalar_by (length s) h.0.argument h.0.major_type h.1 → as_scalar v ≡ None
 no_scalar v s a h whole e is = sym (is ∙ scalar_is (things (item_at 255)) (length s) h.0.argument h.0.major_type h.1 (v, a) (stands_by v s a h whole e))
 
@@ -85,7 +85,7 @@ integer_behind inside left g major_types.Tag s x i e is = absurd cc
 integer_behind inside left g major_types.Simple s x i e is = absurd cc
 
 pub integer_read :
-    (v : Item) (s a : List ℕ) (h : HeadSeen × List ℕ) (n : ℤ) → Stands v s a → head_at s ≡ Ok h → Some n ≡ integer_by (number_of h.0.argument) h.0.major_type
+    (v : Item) (s a : List ℕ) (h : HeadSeen × List ℕ) (n : ℤ) → ItemAt v s a → head_at s ≡ Ok h → Some n ≡ integer_by (number_of h.0.argument) h.0.major_type
     → (as_integer v ≡ Some n) × (h.1 ≡ a)
 integer_read v s a h n whole e is =
     let by = stands_by v s a h whole e in
@@ -94,25 +94,25 @@ integer_read v s a h n whole e is =
       integer_behind inside (length s) h.0.argument h.0.major_type h.1 (v, a) n by (sym is),
     )
 
-pub no_integer : (v : Item) (s a : List ℕ) (h : HeadSeen × List ℕ) → Stands v s a → head_at s ≡ Ok h → None ≡ integer_by (number_of h.0.argument) h.0.major_type
+pub no_integer : (v : Item) (s a : List ℕ) (h : HeadSeen × List ℕ) → ItemAt v s a → head_at s ≡ Ok h → None ≡ integer_by (number_of h.0.argument) h.0.major_type
     → as_integer v ≡ None
 no_integer v s a h whole e is = sym (is ∙ integer_is (things (item_at 255)) (length s) h.0.argument h.0.major_type h.1 (v, a) (stands_by v s a h whole e))
 
 -- ---- null
 
-pub null_read : (v : Item) (s a rest : List ℕ) → Stands v s a → s ≡ 246 ∷ rest → (v ≡ null) × (rest ≡ a)
+pub null_read : (v : Item) (s a rest : List ℕ) → ItemAt v s a → s ≡ 246 ∷ rest → (v ≡ null) × (rest ≡ a)
 unfolding item_at head_at things
 null_read v s a rest whole e =
     let here : item_at 256 (246 ∷ rest) ≡ Ok (v, a) = ap (item_at 256) (sym e) ∙ stands_read v s a whole in
     let same = ok_is (null, rest) (v, a) here in
     (sym (ap (λ (x : Item × List ℕ). x.0) same), ap rest_of same)
 
-pub null_begins : (s a : List ℕ) → Stands null s a → s ≡ 246 ∷ a
-unfolding Stands
+pub null_begins : (s a : List ℕ) → ItemAt null s a → s ≡ 246 ∷ a
+unfolding ItemAt
 null_begins s a (f, parts, is) = parts ∙ ap (λ (b : List ℕ). b ++ a) is.0
 
-pub no_null : (v : Item) (s a rest : List ℕ) (x : ℕ) → Stands v s a → s ≡ x ∷ rest → x ≢ 246 → v ≢ null
-no_null v s a rest x whole e other is = other (first x 246 rest a (sym e ∙ null_begins s a (subst (λ (w : Item). Stands w s a) is whole)))
+pub no_null : (v : Item) (s a rest : List ℕ) (x : ℕ) → ItemAt v s a → s ≡ x ∷ rest → x ≢ 246 → v ≢ null
+no_null v s a rest x whole e other is = other (first x 246 rest a (sym e ∙ null_begins s a (subst (λ (w : Item). ItemAt w s a) is whole)))
   where
     first : (x y : ℕ) (s t : List ℕ) → x ∷ s ≡ y ∷ t → x ≡ y
     first x y s t e = cc
@@ -121,7 +121,7 @@ no_null v s a rest x whole e other is = other (first x 246 rest a (sym e ∙ nul
 
 -- a string that was read is what the item holds, and what follows it is what follows the item
 pub string_there :
-    (is_text : Bool) (v : Item) (s a : List ℕ) (h : HeadSeen × List ℕ) (o : Option ℕ) (y : List ℕ × List ℕ) → Stands v s a → head_at s ≡ Ok h
+    (is_text : Bool) (v : Item) (s a : List ℕ) (h : HeadSeen × List ℕ) (o : Option ℕ) (y : List ℕ × List ℕ) → ItemAt v s a → head_at s ≡ Ok h
     → begins_chunk is_text h.0.major_type ≡ true → o ≡ number_of h.0.argument
     → any_string_by is_text (length s) o h.1 ≡ Ok y → (Some y.0 ≡ as_string is_text v) × (y.1 ≡ a)
 string_there is_text v s a h o y whole e k number is =
@@ -131,7 +131,7 @@ string_there is_text v s a h o y whole e k number is =
     (ap (λ (z : List ℕ × List ℕ). Some z.0) same ∙ r.2, ap rest_of same ∙ r.3)
 
 pub string_no_fault_there :
-    (is_text : Bool) (v : Item) (s a : List ℕ) (h : HeadSeen × List ℕ) (o : Option ℕ) (f : Fault) → Stands v s a → head_at s ≡ Ok h
+    (is_text : Bool) (v : Item) (s a : List ℕ) (h : HeadSeen × List ℕ) (o : Option ℕ) (f : Fault) → ItemAt v s a → head_at s ≡ Ok h
     → begins_chunk is_text h.0.major_type ≡ true → o ≡ number_of h.0.argument
     → any_string_by is_text (length s) o h.1 ≡ Err f → ⊥
 string_no_fault_there is_text v s a h o f whole e k number is =
@@ -141,19 +141,19 @@ string_no_fault_there is_text v s a h o f whole e k number is =
     differ : (y : List ℕ × List ℕ) → ◌≡◌ {A = Result (List ℕ × List ℕ) Fault} (Err f) (Ok y) → ⊥
     differ y e = cc
 
-pub no_string_there : (is_text : Bool) (v : Item) (s a : List ℕ) (h : HeadSeen × List ℕ) → Stands v s a → head_at s ≡ Ok h
+pub no_string_there : (is_text : Bool) (v : Item) (s a : List ℕ) (h : HeadSeen × List ℕ) → ItemAt v s a → head_at s ≡ Ok h
     → begins_chunk is_text h.0.major_type ≡ false → as_string is_text v ≡ None
 no_string_there is_text v s a h whole e k = other_read is_text (things (item_at 255)) (length s) h.0.argument h.0.major_type h.1 v a k
     (stands_by v s a h whole e)
 
 -- ---- an item as it is
 
-pub item_there : (v : Item) (s a : List ℕ) (w : Item) (rest : List ℕ) → Stands v s a → item_at 256 s ≡ Ok (w, rest) → (w ≡ v) × (rest ≡ a)
+pub item_there : (v : Item) (s a : List ℕ) (w : Item) (rest : List ℕ) → ItemAt v s a → item_at 256 s ≡ Ok (w, rest) → (w ≡ v) × (rest ≡ a)
 item_there v s a w rest whole e =
     let same = ok_is (w, rest) (v, a) (sym e ∙ stands_read v s a whole) in
     (ap (λ (x : Item × List ℕ). x.0) same, ap rest_of same)
 
-pub no_fault_there : (v : Item) (s a : List ℕ) (f : Fault) → Stands v s a → item_at 256 s ≡ Err f → ⊥
+pub no_fault_there : (v : Item) (s a : List ℕ) (f : Fault) → ItemAt v s a → item_at 256 s ≡ Err f → ⊥
 no_fault_there v s a f whole e = differ (sym e ∙ stands_read v s a whole)
   where
     differ : ◌≡◌ {A = Result (Item × List ℕ) Fault} (Err f) (Ok (v, a)) → ⊥

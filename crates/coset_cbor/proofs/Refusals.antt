@@ -14,7 +14,7 @@ use Rattle.coset_cbor.specs.Heads.{Argument, HeadSeen}
 use Rattle.coset_cbor.specs.Heads as places
 use Rattle.coset_value.specs.Item.{Item, integer, bytes, tag, array, dict, Items, no_items, item, items_count}
 use Rattle.coset_value.specs.View.{items_of, pairs_of}
-use Rattle.coset_cbor.specs.Grammar.{Place, within, one, two, four, eight, Holds, head_in, IsHead, IsHeaded, EachInOrder, joined_chunks, string_type}
+use Rattle.coset_cbor.specs.Grammar.{Width, within, one, two, four, eight, Holds, head_in, IsHead, IsHeaded, EachInOrder, joined_chunks, string_type}
 use Rattle.coset_cbor.specs.Grammar.{IsDefinite, AreEncodings}
 use Rattle.coset_cbor.specs.Reading.{◌>>=◌, Parse, major_type_of, number_of, argument_by, head_at, unless_none, is_string_content, string_at, begins_chunk}
 use Rattle.coset_cbor.specs.Reading.{chunk_at, begins_break, times_at, until_at, chunks_at, any_string_by, pair_at, simple_at, Inside, nothing, things, item_by}
@@ -22,7 +22,7 @@ use Rattle.coset_cbor.specs.Reading.{item_from, item_at}
 use Rattle.std.proofs.lemmas.Bool.{ltb-true, false≢true}
 use Rattle.coset_cbor.specs.Faults.{is_even, Opens, in_array, in_map, in_tag, in_open_array, in_open_map, Due, at_start, innermost, outer, DueChunk, IsDue}
 use Rattle.coset_cbor.specs.Faults.{LacksContent, Ends, HasBadInfo, HasNoLength, IsLowSimple, BeginsBreak, NoItem, NoChunk, IsBadTextString, IsNotSupported}
-use Rattle.coset_cbor.specs.Faults.{Nests, Stands}
+use Rattle.coset_cbor.specs.Faults.{Nests, FaultAt}
 use Rattle.coset_cbor.proofs.Again.{IsEncodingBelow, IsPairEncodingBelow, Begins, IsEncoding-begins, begins_append, IsHeaded-begins, type_low}
 use Rattle.coset_cbor.proofs.Takes.{IsBytes, bind_ok, chosen, ok_is, major_type_number, chunk_type, option_cases, number_head, none_head, head_takes}
 use Rattle.coset_cbor.proofs.Takes.{IsSoundReader, item_takes, chunk_takes, pair_takes, IsArgumentEncoding}
@@ -150,7 +150,7 @@ nest_item o f p s c t nb parts d e due h =
           (suc d, n.flag, n.due, subst (λ (g : Bool). NoItem g t) (sym start.1) (no_item_flag e f t none h))
     ]
 
-pub nest : (d : ℕ) (o : List ℕ) (f : Bool) → Opens o f → (s : List ℕ) → NoBreakAt f s → (g : Fault) → Stands d s g → Stands (suc d) (o ++ s) g
+pub nest : (d : ℕ) (o : List ℕ) (f : Bool) → Opens o f → (s : List ℕ) → NoBreakAt f s → (g : Fault) → FaultAt d s g → FaultAt (suc d) (o ++ s) g
 nest d o f p s nb End h = (o ++ h.0, h.1, moved o h.0 h.1 s h.2, (is_due_nest o f p h.0 h.3.0, h.3.1))
 nest d o f p s nb (Syntax left) (c, t, parts, len, inl h) = (o ++ c, t, moved o c t s parts, len, inl (nest_item o f p s c t nb parts h.0 h.1 h.2 h.3))
 nest d o f p s nb (Syntax left) (c, t, parts, len, inr (inl h)) = (o ++ c, t, moved o c t s parts, len, inr (inl (h.0, chunk_nest o f p h.0 c h.1, h.2)))
@@ -167,7 +167,7 @@ not_sound true s e = (refl, λ u. false≢true (sym e ∙ is_utf8-from_IsUtf8 s 
 
 -- a definite string, h and what follows it, at t
 string_fault : (d : ℕ) (is_text : Bool) (s c t h r : List ℕ) (n : ℕ) (f : Fault) → s ≡ c ++ t → IsDue c → t ≡ h ++ r → IsHead (string_type is_text) n h
-    → string_at is_text (length t) n r ≡ Err f → Stands d s f
+    → string_at is_text (length t) n r ≡ Err f → FaultAt d s f
 unfolding string_at
 string_fault d is_text s c t h r n f parts due split head e =
     elim (chosen (ltb (length r) n) _ _ _ e) [
@@ -182,7 +182,7 @@ string_fault d is_text s c t h r n f parts due split head e =
                 inl (type_two is_text, type_four is_text, least_encoding);
           } in
           let is : End ≡ f = fault_is {A = List ℕ × List ℕ} End f a.1 in
-          subst (λ (g : Fault). Stands d s g) is (c, t, parts, (due, inr (inr lack)))
+          subst (λ (g : Fault). FaultAt d s g) is (c, t, parts, (due, inr (inr lack)))
       | inr a ↦
           let long : n ≤ length r = ltb-false _ _ a.0 in
           elim (chosen (is_string_content is_text (take n r)) _ _ _ a.1) [
@@ -193,7 +193,7 @@ string_fault d is_text s c t h r n f parts due split head e =
                 let head3 : IsHead 3 n h = subst (λ (x : Bool). IsHead (string_type x) n h) bad.0 head in
                 let bad_text : IsBadTextString t = record
                 { n = n; rest = r; headed = record { head = h; is_head = head3; parts = split }; there = long; bad = bad.1 } in
-                subst (λ (g : Fault). Stands d s g) is (c, t, parts, refl, inr (inr (due, bad_text)))
+                subst (λ (g : Fault). FaultAt d s g) is (c, t, parts, refl, inr (inr (due, bad_text)))
           ]
     ]
   where
@@ -242,19 +242,19 @@ none_no_chunk is_text t front more m goes parts is =
     )
 
 chunk_fault : (d : ℕ) (is_text : Bool) (s c t : List ℕ) (f : Fault) → s ≡ c ++ t → DueChunk is_text c → IsBytes t → begins_break t ≡ false
-    → chunk_at is_text t ≡ Err f → Stands d s f
+    → chunk_at is_text t ≡ Err f → FaultAt d s f
 unfolding chunk_at
 chunk_fault d is_text s c t f parts due fits goes e =
     elim (bind_err (head_at t) (λ h. cond (begins_chunk is_text h.0.major_type)
     (unless_none (length t) (number_of h.0.argument) (λ n. string_at is_text (length t) n h.1)) (Err (Syntax (length t)))) f e) [
       | inl a ↦ elim (head_fault t f a) [
-        | inl b ↦ subst (λ (g : Fault). Stands d s g) (sym b.0) (c, t, parts, (inr (is_text, due), b.1))
-        | inr b ↦ subst (λ (g : Fault). Stands d s g) (sym b.0) (c, t, parts, refl, inr (inl (is_text, due, bad_info_no_chunk is_text t b.1)))
+        | inl b ↦ subst (λ (g : Fault). FaultAt d s g) (sym b.0) (c, t, parts, (inr (is_text, due), b.1))
+        | inr b ↦ subst (λ (g : Fault). FaultAt d s g) (sym b.0) (c, t, parts, refl, inr (inl (is_text, due, bad_info_no_chunk is_text t b.1)))
       ]
       | inr a ↦
           let h = a.0 in
           let head = head_takes t h fits a.1 in
-          let syntax = λ (bad : NoChunk is_text t) (is : Syntax (length t) ≡ f). subst (λ (g : Fault). Stands d s g) is
+          let syntax = λ (bad : NoChunk is_text t) (is : Syntax (length t) ≡ f). subst (λ (g : Fault). FaultAt d s g) is
           (c, t, parts, refl, inr (inl (is_text, due, bad))) in
           elim (chosen (begins_chunk is_text h.0.major_type) _ _ _ a.2) [
             | inr b ↦ syntax (other_no_chunk is_text t h goes a.1 b.0) (fault_is {A = List ℕ × List ℕ} (Syntax (length t)) f b.1)
@@ -334,27 +334,27 @@ until_fault {A} R read sound begins (suc turns) s f fits le e =
 -- ---- what nests
 
 abbrev pub Faults : ℕ → Parse Item → Type 0
-Faults d read = (s : List ℕ) (f : Fault) → IsBytes s → read s ≡ Err f → Stands d s f
+Faults d read = (s : List ℕ) (f : Fault) → IsBytes s → read s ≡ Err f → FaultAt d s f
 
 pub record InsideFaults (d : ℕ) (inside : Inside) : Type 0 where
-  pub one : (t : ℕ) (h s : List ℕ) (f : Fault) → IsHead 6 t h → IsBytes s → inside.one s ≡ Err f → Stands d (h ++ s) f
-  pub items : (n : ℕ) (h s : List ℕ) (f : Fault) → IsHead 4 n h → IsBytes s → inside.items (Some n) s ≡ Err f → Stands d (h ++ s) f
-  pub items_until : (s : List ℕ) (f : Fault) → IsBytes s → inside.items None s ≡ Err f → Stands d (0x9F ∷ s) f
-  pub pairs : (n : ℕ) (h s : List ℕ) (f : Fault) → IsHead 5 n h → IsBytes s → inside.pairs (Some n) s ≡ Err f → Stands d (h ++ s) f
-  pub pairs_until : (s : List ℕ) (f : Fault) → IsBytes s → inside.pairs None s ≡ Err f → Stands d (0xBF ∷ s) f
+  pub one : (t : ℕ) (h s : List ℕ) (f : Fault) → IsHead 6 t h → IsBytes s → inside.one s ≡ Err f → FaultAt d (h ++ s) f
+  pub items : (n : ℕ) (h s : List ℕ) (f : Fault) → IsHead 4 n h → IsBytes s → inside.items (Some n) s ≡ Err f → FaultAt d (h ++ s) f
+  pub items_until : (s : List ℕ) (f : Fault) → IsBytes s → inside.items None s ≡ Err f → FaultAt d (0x9F ∷ s) f
+  pub pairs : (n : ℕ) (h s : List ℕ) (f : Fault) → IsHead 5 n h → IsBytes s → inside.pairs (Some n) s ≡ Err f → FaultAt d (h ++ s) f
+  pub pairs_until : (s : List ℕ) (f : Fault) → IsBytes s → inside.pairs None s ≡ Err f → FaultAt d (0xBF ∷ s) f
 
-place_nests : (p : Place) (m n : ℕ) (s : List ℕ) → 4 ≤ m → m ≤ 6 → Holds p n → Nests (head_in p m n ++ s)
-place_nests within m n s low high h = (omega arith, omega arith)
-place_nests one m n s low high h = (omega arith, omega arith)
-place_nests two m n s low high h = (omega arith, omega arith)
-place_nests four m n s low high h = (omega arith, omega arith)
-place_nests eight m n s low high h = (omega arith, omega arith)
+width_nests : (p : Width) (m n : ℕ) (s : List ℕ) → 4 ≤ m → m ≤ 6 → Holds p n → Nests (head_in p m n ++ s)
+width_nests within m n s low high h = (omega arith, omega arith)
+width_nests one m n s low high h = (omega arith, omega arith)
+width_nests two m n s low high h = (omega arith, omega arith)
+width_nests four m n s low high h = (omega arith, omega arith)
+width_nests eight m n s low high h = (omega arith, omega arith)
 
 head_nests : (m n : ℕ) (h s : List ℕ) → 4 ≤ m → m ≤ 6 → IsHead m n h → Nests (h ++ s)
-head_nests m n h s low high is = subst (λ (x : List ℕ). Nests (x ++ s)) (sym is.spelled) (place_nests is.place m n s low high is.holds)
+head_nests m n h s low high is = subst (λ (x : List ℕ). Nests (x ++ s)) (sym is.spelled) (width_nests is.width m n s low high is.holds)
 
-too_deep : {A : Type 0} (s : List ℕ) (f : Fault) → Nests s → failed {A = A} Deep ≡ failed {A = A} f → Stands 0 s f
-too_deep {A} s f nests e = subst (λ (g : Fault). Stands 0 s g) (fault_is {A = A} Deep f e) ([], s, refl, (false, at_start, nests))
+too_deep : {A : Type 0} (s : List ℕ) (f : Fault) → Nests s → failed {A = A} Deep ≡ failed {A = A} f → FaultAt 0 s f
+too_deep {A} s f nests e = subst (λ (g : Fault). FaultAt 0 s g) (fault_is {A = A} Deep f e) ([], s, refl, (false, at_start, nests))
 
 nothing_faults : InsideFaults 0 nothing
 unfolding nothing
@@ -406,16 +406,16 @@ opened : (h c : List ℕ) (m n : ℕ) → IsHead m n h → IsHeaded m n c (h ++ 
 opened h c m n is = record { head = h; is_head = is; parts = refl }
 
 -- a fault behind an opening and what was read after it
-behind : (d : ℕ) (h s c t : List ℕ) (e : Bool) (f : Fault) → Opens (h ++ c) e → s ≡ c ++ t → NoBreakAt e t → Stands d t f → Stands (suc d) (h ++ s) f
-behind d h s c t e f opens parts nb stands = subst (λ (x : List ℕ). Stands (suc d) x f) (sym (moved h c t s parts)) (nest d (h ++ c) e opens t nb f stands)
+behind : (d : ℕ) (h s c t : List ℕ) (e : Bool) (f : Fault) → Opens (h ++ c) e → s ≡ c ++ t → NoBreakAt e t → FaultAt d t f → FaultAt (suc d) (h ++ s) f
+behind d h s c t e f opens parts nb stands = subst (λ (x : List ℕ). FaultAt (suc d) x f) (sym (moved h c t s parts)) (nest d (h ++ c) e opens t nb f stands)
 
-ends_there : (d : ℕ) (h s c t : List ℕ) (e : Bool) (f : Fault) → Opens (h ++ c) e → s ≡ c ++ t → t ≡ [] → f ≡ End → Stands (suc d) (h ++ s) f
-ends_there d h s c t e f opens parts left is = subst (λ (g : Fault). Stands (suc d) (h ++ s) g) (sym is)
+ends_there : (d : ℕ) (h s c t : List ℕ) (e : Bool) (f : Fault) → Opens (h ++ c) e → s ≡ c ++ t → t ≡ [] → f ≡ End → FaultAt (suc d) (h ++ s) f
+ends_there d h s c t e f opens parts left is = subst (λ (g : Fault). FaultAt (suc d) (h ++ s) g) (sym is)
     (h ++ c, t, moved h c t s parts, (inl (1, e, innermost (h ++ c) e opens), inl left))
 
 lacking : (d m n : ℕ) (h s : List ℕ) (f : Fault) → IsHead m n h → ((2 ≤ m) × (m ≤ 4) × (length s < n)) ⊎ ((m ≡ 5) × (length s < 2 * n)) → End ≡ f
-    → Stands d (h ++ s) f
-lacking d m n h s f is lack e = subst (λ (g : Fault). Stands d (h ++ s) g) e
+    → FaultAt d (h ++ s) f
+lacking d m n h s f is lack e = subst (λ (g : Fault). FaultAt d (h ++ s) g) e
     ([], h ++ s, refl, (inl (0, false, at_start), inr (inr (record { m = m; n = n; rest = s; headed = opened h s m n is; lacks = lack }))))
 
 -- a key or a value that isn't read, behind pairs
@@ -423,7 +423,7 @@ pair_fault : (d : ℕ) (read : Parse Item) → IsSoundReader (IsEncodingBelow (s
     → (h s : List ℕ) (f : Fault) (p : Stopped (IsPairEncodingBelow (suc d)) s) (e : Bool)
     → ((vs : Items) (c : List ℕ) → AreEncodings vs c → items_count vs ≡ 2 * length p.passed → Opens (h ++ c) e) → NoBreakAt e p.left
     → ((vs : Items) (c : List ℕ) → AreEncodings vs c → items_count vs ≡ 2 * length p.passed + 1 → is_even (items_count vs) ≡ false → Opens (h ++ c) false)
-    → pair_at read p.left ≡ Err f → Stands (suc d) (h ++ s) f
+    → pair_at read p.left ≡ Err f → FaultAt (suc d) (h ++ s) f
 pair_fault d read sound faults h s f p e at_key nb at_value bad =
     elim (bind_err (read p.left) (λ k. read k.1 >>= λ v. Ok ((k.0, v.0), v.1)) f bad) [
       | inl a ↦
@@ -497,16 +497,16 @@ things_fault d read sound faults =
 -- ---- items
 
 no_length : (d m : ℕ) (s front r : List ℕ) (f : Fault) → (m ≡ 0) ⊎ ((m ≡ 1) ⊎ (m ≡ 6)) → s ≡ front ++ r → front ≡ (32 * m + 31) ∷ [] → Syntax (length s) ≡ f
-    → Stands d s f
+    → FaultAt d s f
 no_length d m s front r f major_type parts is e =
     let all : s ≡ (32 * m + 31) ∷ r = parts ∙ ap (λ (y : List ℕ). y ++ r) is in
     let q : (32 * m + 31) / 32 ≡ m = omega arith in
     let bad : HasNoLength ((32 * m + 31) ∷ r) = (omega arith, subst (λ (k : ℕ). (k ≡ 0) ⊎ ((k ≡ 1) ⊎ (k ≡ 6))) (sym q) major_type) in
-    subst (λ (g : Fault). Stands d s g) e ([], s, refl, refl, inl (0, false, at_start, inr (inl (subst (λ (y : List ℕ). HasNoLength y) (sym all) bad))))
+    subst (λ (g : Fault). FaultAt d s g) e ([], s, refl, refl, inl (0, false, at_start, inr (inl (subst (λ (y : List ℕ). HasNoLength y) (sym all) bad))))
 
 number_fault : {A : Type 0} (d m : ℕ) (s front r : List ℕ) (f : Fault) (a : Argument) (read : ℕ → Result A Fault) → (m ≡ 0) ⊎ ((m ≡ 1) ⊎ (m ≡ 6))
     → s ≡ front ++ r → IsArgumentEncoding m a front
-    → unless_none (length s) (number_of a) read ≡ Err f → ((n : ℕ) → IsHead m n front → read n ≡ Err f → Stands d s f) → Stands d s f
+    → unless_none (length s) (number_of a) read ≡ Err f → ((n : ℕ) → IsHead m n front → read n ≡ Err f → FaultAt d s f) → FaultAt d s f
 number_fault {A} d m s front r f a read major_type parts shown e later = elim (option_cases (number_of a)) [
   | inl none ↦ no_length d m s front r f major_type parts (none_head m a front shown none)
       (fault_is {A = A} (Syntax (length s)) f (ap (λ (o : Option ℕ). unless_none (length s) o read) (sym none) ∙ e))
@@ -514,7 +514,7 @@ number_fault {A} d m s front r f a read major_type parts shown e later = elim (o
 ]
 
 any_string_fault : (d : ℕ) (is_text : Bool) (s front r : List ℕ) (f : Fault) (a : Argument) → IsBytes r → s ≡ front ++ r
-    → IsArgumentEncoding (string_type is_text) a front → any_string_by is_text (length s) (number_of a) r ≡ Err f → Stands d s f
+    → IsArgumentEncoding (string_type is_text) a front → any_string_by is_text (length s) (number_of a) r ≡ Err f → FaultAt d s f
 unfolding chunks_at
 any_string_fault d is_text s front r f a fits parts shown e = elim (option_cases (number_of a)) [
   | inr some ↦
@@ -541,22 +541,22 @@ any_string_fault d is_text s front r f a fits parts shown e = elim (option_cases
       let all : s ≡ c ++ p.0.left = parts ∙ ap (λ (y : List ℕ). y ++ r) (none_head (string_type is_text) a front shown none)
       ∙ ap (λ (y : List ℕ). first ∷ y) p.0.parts in
       elim p.1 [
-        | inl b ↦ subst (λ (g : Fault). Stands d s g) (sym b.1) (c, p.0.left, all, (inr (is_text, due), inl b.0))
+        | inl b ↦ subst (λ (g : Fault). FaultAt d s g) (sym b.1) (c, p.0.left, all, (inr (is_text, due), inl b.0))
         | inr b ↦ chunk_fault d is_text s c p.0.left f all due p.0.left_fits b.0 b.1
       ]
 ]
 
-simple_first : (p : Place) (n : ℕ) (s front r : List ℕ) → s ≡ front ++ r → front ≡ head_in p 7 n → s ≡ head_in p 7 n ++ r
+simple_first : (p : Width) (n : ℕ) (s front r : List ℕ) → s ≡ front ++ r → front ≡ head_in p 7 n → s ≡ head_in p 7 n ++ r
 simple_first p n s front r parts is = parts ∙ ap (λ (y : List ℕ). y ++ r) is
 
-not_supported : (d : ℕ) (s : List ℕ) (f : Fault) → IsNotSupported s → Simple (length s) ≡ f → Stands d s f
-not_supported d s f bad e = subst (λ (g : Fault). Stands d s g) e ([], s, refl, refl, (0, false, at_start, bad))
+not_supported : (d : ℕ) (s : List ℕ) (f : Fault) → IsNotSupported s → Simple (length s) ≡ f → FaultAt d s f
+not_supported d s f bad e = subst (λ (g : Fault). FaultAt d s g) e ([], s, refl, refl, (0, false, at_start, bad))
 
-no_item : (d : ℕ) (s : List ℕ) (f : Fault) → NoItem false s → Syntax (length s) ≡ f → Stands d s f
-no_item d s f bad e = subst (λ (g : Fault). Stands d s g) e ([], s, refl, refl, inl (0, false, at_start, bad))
+no_item : (d : ℕ) (s : List ℕ) (f : Fault) → NoItem false s → Syntax (length s) ≡ f → FaultAt d s f
+no_item d s f bad e = subst (λ (g : Fault). FaultAt d s g) e ([], s, refl, refl, inl (0, false, at_start, bad))
 
 simple_fault : (d : ℕ) (s front r : List ℕ) (f : Fault) (a : Argument) → s ≡ front ++ r → IsArgumentEncoding 7 a front → simple_at (length s) a r ≡ Err f
-    → Stands d s f
+    → FaultAt d s f
 simple_fault d s front r f (places.Within n) parts h e =
     elim (chosen (eqb n 20) _ _ _ e) [
       | inl a ↦ absurd (cc (a.1))
@@ -601,7 +601,7 @@ simple_fault d s front r f places.Indefinite parts h e =
     no_item d s f (inr (inr (inr (subst (λ (y : List ℕ). BeginsBreak y) (sym all) bad, refl)))) (fault_is {A = Item × List ℕ} (Syntax (length s)) f e)
 
 by_fault : (d : ℕ) (inside : Inside) → InsideFaults d inside → (s front r : List ℕ) (f : Fault) (a : Argument) (k : MajorType) → IsBytes r → s ≡ front ++ r
-    → IsArgumentEncoding (major_type_number k) a front → item_by inside (length s) a k r ≡ Err f → Stands d s f
+    → IsArgumentEncoding (major_type_number k) a front → item_by inside (length s) a k r ≡ Err f → FaultAt d s f
 by_fault d inside inner s front r f a major_types.Unsigned fits parts h e =
     number_fault d 0 s front r f a (λ n. Ok (integer (pos n), r)) (inl refl) parts h e (λ n is bad. absurd cc)
 by_fault d inside inner s front r f a major_types.Negative fits parts h e =
@@ -615,9 +615,9 @@ by_fault d inside inner s front r f a major_types.Array fits parts h e =
     elim (option_cases (number_of a)) [
       | inl none ↦
           let all : s ≡ 0x9F ∷ r = parts ∙ ap (λ (y : List ℕ). y ++ r) (none_head 4 a front h none) in
-          subst (λ (y : List ℕ). Stands d y f) (sym all) (inner.items_until r f fits (ap (λ (o : Option ℕ). inside.items o r) (sym none) ∙ e'))
+          subst (λ (y : List ℕ). FaultAt d y f) (sym all) (inner.items_until r f fits (ap (λ (o : Option ℕ). inside.items o r) (sym none) ∙ e'))
       | inr some ↦
-          subst (λ (y : List ℕ). Stands d y f) (sym parts)
+          subst (λ (y : List ℕ). FaultAt d y f) (sym parts)
           (inner.items some.0 front r f (number_head 4 some.0 a front h some.1) fits (ap (λ (o : Option ℕ). inside.items o r) (sym some.1) ∙ e'))
     ]
 by_fault d inside inner s front r f a major_types.Map fits parts h e =
@@ -625,21 +625,21 @@ by_fault d inside inner s front r f a major_types.Map fits parts h e =
     elim (option_cases (number_of a)) [
       | inl none ↦
           let all : s ≡ 0xBF ∷ r = parts ∙ ap (λ (y : List ℕ). y ++ r) (none_head 5 a front h none) in
-          subst (λ (y : List ℕ). Stands d y f) (sym all) (inner.pairs_until r f fits (ap (λ (o : Option ℕ). inside.pairs o r) (sym none) ∙ e'))
+          subst (λ (y : List ℕ). FaultAt d y f) (sym all) (inner.pairs_until r f fits (ap (λ (o : Option ℕ). inside.pairs o r) (sym none) ∙ e'))
       | inr some ↦
-          subst (λ (y : List ℕ). Stands d y f) (sym parts)
+          subst (λ (y : List ℕ). FaultAt d y f) (sym parts)
           (inner.pairs some.0 front r f (number_head 5 some.0 a front h some.1) fits (ap (λ (o : Option ℕ). inside.pairs o r) (sym some.1) ∙ e'))
     ]
 by_fault d inside inner s front r f a major_types.Tag fits parts h e =
     number_fault d 6 s front r f a (λ n. inside.one r >>= λ y. Ok (tag n y.0, y.1)) (inr (inr refl)) parts h e (λ n is bad.
-    subst (λ (y : List ℕ). Stands d y f) (sym parts) (inner.one n front r f is fits (bind_made (inside.one r) (λ y. (tag n y.0, y.1)) f bad)))
+    subst (λ (y : List ℕ). FaultAt d y f) (sym parts) (inner.one n front r f is fits (bind_made (inside.one r) (λ y. (tag n y.0, y.1)) f bad)))
 by_fault d inside inner s front r f a major_types.Simple fits parts h e = simple_fault d s front r f a parts h e
 
 from_fault : (d : ℕ) (inside : Inside) → InsideFaults d inside → Faults d (item_from inside)
 from_fault d inside inner s f fits e =
     elim (bind_err (head_at s) (λ h. item_by inside (length s) h.0.argument h.0.major_type h.1) f e) [
       | inl a ↦ elim (head_fault s f a) [
-        | inl b ↦ subst (λ (g : Fault). Stands d s g) (sym b.0) ([], s, refl, (inl (0, false, at_start), b.1))
+        | inl b ↦ subst (λ (g : Fault). FaultAt d s g) (sym b.0) ([], s, refl, (inl (0, false, at_start), b.1))
         | inr b ↦ no_item d s f (inl b.1) (sym b.0)
       ]
       | inr a ↦

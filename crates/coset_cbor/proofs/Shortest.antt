@@ -6,69 +6,69 @@ use Rattle.std.proofs.lemmas.List.{length-append}
 use Rattle.coset_value.specs.Item.{half, single, double, Item, integer, bytes, float, text, boolean, null, tag, array, dict, Items, no_items, item, Pairs}
 use Rattle.coset_value.specs.Item.{no_pairs, pair, items_count, pairs_count}
 use Rattle.coset_value.specs.Range.{IsInRange, AreInRange, ArePairsInRange}
-use Rattle.coset_cbor.specs.Grammar.{Place, within, one, two, four, eight, Holds, head_in, IsHead, IsHeaded, IsEncoding, AreEncodings, ArePairEncodings}
+use Rattle.coset_cbor.specs.Grammar.{Width, within, one, two, four, eight, Holds, head_in, IsHead, IsHeaded, IsEncoding, AreEncodings, ArePairEncodings}
 use Rattle.coset_cbor.specs.Definite.{IsDefiniteEncoding, AreDefiniteEncodings, AreDefinitePairs}
 use Rattle.coset_cbor.specs.Shortest.{IsShortest}
-use Rattle.coset_cbor.specs.Least.{least_place, least_head, least_encoding, least_encodings, least_pair_encodings}
+use Rattle.coset_cbor.specs.Least.{least_width, least_head, least_encoding, least_encodings, least_pair_encodings}
 
 -- ---- which place is the least
 
-abbrev size : Place → ℕ
+abbrev size : Width → ℕ
 size within = 1
 size one = 2
 size two = 3
 size four = 5
 size eight = 9
 
-length-head_in : (p : Place) (m n : ℕ) → length (head_in p m n) ≡ size p
+length-head_in : (p : Width) (m n : ℕ) → length (head_in p m n) ≡ size p
 length-head_in within m n = refl
 length-head_in one m n = refl
 length-head_in two m n = refl
 length-head_in four m n = refl
 length-head_in eight m n = refl
 
-least_within : (n : ℕ) → n < 24 → least_place n ≡ within
+least_within : (n : ℕ) → n < 24 → least_width n ≡ within
 least_within n h = rw (lt-ltb n 24 h) refl
 
-least_one : (n : ℕ) → 24 ≤ n → n < 2 ^ 8 → least_place n ≡ one
+least_one : (n : ℕ) → 24 ≤ n → n < 2 ^ 8 → least_width n ≡ one
 least_one n a h = rw (le-ltb n 24 a, lt-ltb n (2 ^ 8) h) refl
 
-least_two : (n : ℕ) → 2 ^ 8 ≤ n → n < 2 ^ 16 → least_place n ≡ two
+least_two : (n : ℕ) → 2 ^ 8 ≤ n → n < 2 ^ 16 → least_width n ≡ two
 least_two n a h = let b : 24 ≤ n = omega arith in rw (le-ltb n 24 b, le-ltb n (2 ^ 8) a, lt-ltb n (2 ^ 16) h) refl
 
-least_four : (n : ℕ) → 2 ^ 16 ≤ n → n < 2 ^ 32 → least_place n ≡ four
+least_four : (n : ℕ) → 2 ^ 16 ≤ n → n < 2 ^ 32 → least_width n ≡ four
 least_four n a h =
     let b : 24 ≤ n = omega arith in
     let c : 2 ^ 8 ≤ n = omega arith in
     rw (le-ltb n 24 b, le-ltb n (2 ^ 8) c, le-ltb n (2 ^ 16) a, lt-ltb n (2 ^ 32) h) refl
 
-least_eight : (n : ℕ) → 2 ^ 32 ≤ n → least_place n ≡ eight
+least_eight : (n : ℕ) → 2 ^ 32 ≤ n → least_width n ≡ eight
 least_eight n a =
     let b : 24 ≤ n = omega arith in
     let c : 2 ^ 8 ≤ n = omega arith in
     let d : 2 ^ 16 ≤ n = omega arith in
     rw (le-ltb n 24 b, le-ltb n (2 ^ 8) c, le-ltb n (2 ^ 16) d, le-ltb n (2 ^ 32) a) refl
 
-abbrev IsLeastPlace : Place → ℕ → Type 0
-IsLeastPlace p n = (least_place n ≡ p) ⊎ (size (least_place n) < size p)
+abbrev IsLeastWidth : Width → ℕ → Type 0
+IsLeastWidth p n = (least_width n ≡ p) ⊎ (size (least_width n) < size p)
 
-smaller : (p q : Place) (n : ℕ) → least_place n ≡ q → size q < size p → IsLeastPlace p n
-smaller p q n e lt = inr (subst (λ (x : Place). size x < size p) (sym e) lt)
+smaller : (p q : Width) (n : ℕ) → least_width n ≡ q → size q < size p → IsLeastWidth p n
+smaller p q n e lt = inr (subst (λ (x : Width). size x < size p) (sym e) lt)
 
-least_of_place : (p : Place) (n : ℕ) → Holds p n → IsLeastPlace p n
-least_of_place within n h = inl (least_within n h)
-least_of_place one n h = elim (cases_lt n 24) [
+least_of_width : (p : Width) (n : ℕ) → Holds p n → IsLeastWidth p n
+least_of_width within n h = inl (least_within n h)
+least_of_width one n h = elim (cases_lt n 24) [
   | inl a ↦ smaller one within n (least_within n a) (omega arith)
   | inr a ↦ inl (least_one n a h)
 ]
-least_of_place two n h = elim (cases_lt n 24) [
+least_of_width two n h = elim (cases_lt n 24) [
   | inl a ↦ smaller two within n (least_within n a) (omega arith)
   | inr a ↦ elim (cases_lt n (2 ^ 8)) [
     | inl b ↦ smaller two one n (least_one n a b) (omega arith)
     | inr b ↦ inl (least_two n b h)
   ]
 ]
-least_of_place four n h = elim (cases_lt n 24) [
+least_of_width four n h = elim (cases_lt n 24) [
   | inl a ↦ smaller four within n (least_within n a) (omega arith)
   | inr a ↦ elim (cases_lt n (2 ^ 8)) [
     | inl b ↦ smaller four one n (least_one n a b) (omega arith)
@@ -78,7 +78,7 @@ least_of_place four n h = elim (cases_lt n 24) [
     ]
   ]
 ]
-least_of_place eight n h = elim (cases_lt n 24) [
+least_of_width eight n h = elim (cases_lt n 24) [
   | inl a ↦ smaller eight within n (least_within n a) (omega arith)
   | inr a ↦ elim (cases_lt n (2 ^ 8)) [
     | inl b ↦ smaller eight one n (least_one n a b) (omega arith)
@@ -116,18 +116,18 @@ least_append s t c d b p q e =
       same = λ h. e ∙ ap₂ (λ (x y : List ℕ). x ++ y) (p.same (omega arith)) (q.same (omega arith));
     }
 
-least_in : (p : Place) (m n : ℕ) → Holds p n → IsLeast (least_head m n) (head_in p m n)
+least_in : (p : Width) (m n : ℕ) → Holds p n → IsLeast (least_head m n) (head_in p m n)
 unfolding least_head
-least_in p m n h = elim (least_of_place p n h) [
-  | inl e ↦ subst (λ (q : Place). IsLeast (head_in (least_place n) m n) (head_in q m n)) e (least_self (head_in (least_place n) m n))
+least_in p m n h = elim (least_of_width p n h) [
+  | inl e ↦ subst (λ (q : Width). IsLeast (head_in (least_width n) m n) (head_in q m n)) e (least_self (head_in (least_width n) m n))
   | inr lt ↦
-      let a = length-head_in (least_place n) m n in
+      let a = length-head_in (least_width n) m n in
       let b = length-head_in p m n in
       record { shorter = omega arith; same = λ le. absurd (omega arith) }
 ]
 
 least_of_head : (m n : ℕ) (h : List ℕ) → IsHead m n h → IsLeast (least_head m n) h
-least_of_head m n h is = subst (λ (x : List ℕ). IsLeast (least_head m n) x) (sym is.spelled) (least_in is.place m n is.holds)
+least_of_head m n h is = subst (λ (x : List ℕ). IsLeast (least_head m n) x) (sym is.spelled) (least_in is.width m n is.holds)
 
 least_of_headed : (m n : ℕ) (t s b : List ℕ) → IsHeaded m n s b → IsLeast t s → IsLeast (least_head m n ++ t) b
 least_of_headed m n t s b is p = least_append (least_head m n) t is.head s b (least_of_head m n is.head is.is_head) p is.parts
@@ -162,7 +162,7 @@ mutual
 
 -- ---- it is a definite encoding
 
-least_holds : (n : ℕ) → n < 2 ^ 64 → Holds (least_place n) n
+least_holds : (n : ℕ) → n < 2 ^ 64 → Holds (least_width n) n
 least_holds n lt =
     cond_both (ltb n 24) within _ (λ p. Holds p n) (λ e. ltb-true n 24 e) (λ a.
     cond_both (ltb n (2 ^ 8)) one _ (λ p. Holds p n) (λ e. ltb-true n (2 ^ 8) e) (λ b.
@@ -171,7 +171,7 @@ least_holds n lt =
 
 least_is_head : (m n : ℕ) → n < 2 ^ 64 → IsHead m n (least_head m n)
 unfolding least_head
-least_is_head m n lt = record { place = least_place n; holds = least_holds n lt; spelled = refl }
+least_is_head m n lt = record { place = least_width n; holds = least_holds n lt; spelled = refl }
 
 least_headed : (m n : ℕ) (s : List ℕ) → n < 2 ^ 64 → IsHeaded m n s (least_head m n ++ s)
 least_headed m n s lt = record { head = least_head m n; is_head = least_is_head m n lt; parts = refl }
@@ -251,7 +251,7 @@ mutual
 
 -- ---- it is of an item in range
 
-holds_in_range : (p : Place) (n : ℕ) → Holds p n → n < 2 ^ 64
+holds_in_range : (p : Width) (n : ℕ) → Holds p n → n < 2 ^ 64
 holds_in_range within n h = omega arith
 holds_in_range one n h = omega arith
 holds_in_range two n h = omega arith
@@ -259,13 +259,13 @@ holds_in_range four n h = omega arith
 holds_in_range eight n h = h
 
 headed_in_range : (m n : ℕ) (s b : List ℕ) → IsHeaded m n s b → n < 2 ^ 64
-headed_in_range m n s b is = holds_in_range is.is_head.place n is.is_head.holds
+headed_in_range m n s b is = holds_in_range is.is_head.width n is.is_head.holds
 
 mutual
   -- An item with a definite encoding is in range.
   pub definite_in_range : (v : Item) (b : List ℕ) → IsDefiniteEncoding v b → IsInRange v
-  definite_in_range (integer (pos n)) b h = holds_in_range h.place n h.holds
-  definite_in_range (integer (negsuc n)) b h = holds_in_range h.place n h.holds
+  definite_in_range (integer (pos n)) b h = holds_in_range h.width n h.holds
+  definite_in_range (integer (negsuc n)) b h = holds_in_range h.width n h.holds
   definite_in_range (bytes s) b h = headed_in_range 2 (length s) s b h.1
   definite_in_range (float (half n)) b h = h.0
   definite_in_range (float (single n)) b h = h.0

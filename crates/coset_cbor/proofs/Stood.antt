@@ -17,7 +17,7 @@ use Rattle.coset_cbor.specs.Heads.{Argument, HeadSeen}
 use Rattle.coset_cbor.specs.Heads as places
 use Rattle.coset_cbor.specs.Grammar.{IsHeaded, EachInOrder, IsDefinite, joined_chunks, string_type, IsItem}
 use Rattle.coset_cbor.specs.Faults.{Due, DueChunk, LacksArgument, LacksContent, Ends, NoItem, NoChunk, IsBadTextString, IsNotSupported, Nests}
-use Rattle.coset_cbor.specs.Refused.{IsMemory, StandsIn}
+use Rattle.coset_cbor.specs.ReadErrors.{IsMemory, FaultIn}
 use Rattle.coset_cbor.specs.Fronts.{HasNoItem, IsEndOfInput}
 use Rattle.coset_cbor.specs.Reading.{◌>>=◌, major_type_of, number_of, head_at, unless_none, is_string_content, string_at, begins_chunk, chunk_at, begins_break}
 use Rattle.coset_cbor.specs.Reading.{until_at, chunks_at, any_string_by, times_at, pair_at, Inside, nothing, things, item_by, item_at}
@@ -435,7 +435,7 @@ stood_chunk s c t is_text fits parts due never =
 tail_fits : (s c t : List ℕ) → IsBytes s → s ≡ c ++ t → IsBytes t
 tail_fits s c t fits parts = IsBytes-append c t (subst IsBytes parts fits)
 
-stood : (s : List ℕ) (e : Error EndOfFile) → IsBytes s → (IsMemory e → ⊥) → StandsIn s e → NoRead 256 s
+stood : (s : List ℕ) (e : Error EndOfFile) → IsBytes s → (IsMemory e → ⊥) → FaultIn s e → NoRead 256 s
 stood s (errors.Io x) fits other (c, t, parts, (inl due, ends)) =
     stood_item s c t due.0 due.1 fits parts due.2 (ends_blocked due.1 t (tail_fits s c t fits parts) ends 256)
 stood s (errors.Io x) fits other (c, t, parts, (inr due, ends)) =
@@ -456,7 +456,7 @@ stood s errors.RecursionLimitExceeded fits other (c, t, parts, h) =
 stood s errors.OutOfMemory fits other h = absurd (other tt)
 
 -- Where a fault stands, no front is an item.
-pub no_item_stood : (s : List ℕ) (e : Error EndOfFile) → IsBytes s → (IsMemory e → ⊥) → StandsIn s e → HasNoItem s
+pub no_item_stood : (s : List ℕ) (e : Error EndOfFile) → IsBytes s → (IsMemory e → ⊥) → FaultIn s e → HasNoItem s
 no_item_stood s e fits other h v b rest parts is = stood s e fits other h (v, rest) (ap (item_at 256) parts ∙ item_again 256 v b rest is.0 is.1)
 
 -- ---- in a front
@@ -499,7 +499,7 @@ on : (b s d c t : List ℕ) → b ≡ s ++ d → s ≡ c ++ t → b ≡ c ++ (t 
 on b s d c t whole parts = whole ∙ ap (λ (z : List ℕ). z ++ d) parts ∙ append_assoc c t d
 
 -- a fault other than the end still stands where more bytes follow
-stands_on : (b s d : List ℕ) (e : Error EndOfFile) → b ≡ s ++ d → StandsIn s e → IsEndOfInput e ⊎ StandsIn b e
+stands_on : (b s d : List ℕ) (e : Error EndOfFile) → b ≡ s ++ d → FaultIn s e → IsEndOfInput e ⊎ FaultIn b e
 stands_on b s d (errors.Io x) whole h = inl tt
 stands_on b s d (errors.Syntax i) whole (c, t, parts, at, inl h) = inr (c, t ++ d, on b s d c t whole parts, at, inl (h.0, h.1, h.2, no_item_on h.1 t d h.3))
 stands_on b s d (errors.Syntax i) whole (c, t, parts, at, inr (inl h)) =
@@ -513,7 +513,7 @@ stands_on b s d errors.RecursionLimitExceeded whole (c, t, parts, h) = inr (c, t
 stands_on b s d errors.OutOfMemory whole h = inr tt
 
 -- In a front of an item only its end stands.
-pub end_in_front : (v : Item) (b s d : List ℕ) (e : Error EndOfFile) → IsBytes b → IsItem b v → b ≡ s ++ d → (IsMemory e → ⊥) → StandsIn s e → IsEndOfInput e
+pub end_in_front : (v : Item) (b s d : List ℕ) (e : Error EndOfFile) → IsBytes b → IsItem b v → b ≡ s ++ d → (IsMemory e → ⊥) → FaultIn s e → IsEndOfInput e
 end_in_front v b s d e fits is whole other h = elim (stands_on b s d e whole h) [
   | inl end ↦ end
   | inr on ↦ absurd (no_item_stood b e fits other on v b [] (sym (append-nil b)) is)

@@ -8,7 +8,7 @@ use Rattle.coset_cbor.specs.declared.fault.Fault.{Fault}
 use Rattle.coset_value.specs.Item.{Item}
 use Rattle.coset_cbor.specs.Grammar.{IsEncoding, IsItem}
 use Rattle.coset_cbor.specs.Reading.{item_at}
-use Rattle.coset_cbor.specs.Faults.{Stands}
+use Rattle.coset_cbor.specs.Faults.{FaultAt}
 use Rattle.coset_cbor.proofs.Refusals.{item_fault}
 use Rattle.coset_cbor.proofs.Again.{item_again, encodings_differ}
 use Rattle.coset_cbor.specs.Cost.{IsCost}
@@ -41,7 +41,7 @@ apart x f e = cc
 pub no_front : (s : List ℕ) (f : Fault) → item_at 256 s ≡ Err f → (v : Item) (b rest : List ℕ) → s ≡ b ++ rest → IsItem b v → ⊥
 no_front s f e v b rest parts is = apart (v, rest) f (sym (item_again 256 v b rest is.0 is.1) ∙ ap (item_at 256) (sym parts) ∙ e)
 
-pub fault_is_there : (s : List ℕ) (f : Fault) → IsBytes s → item_at 256 s ≡ Err f → Stands 256 s f
+pub fault_is_there : (s : List ℕ) (f : Fault) → IsBytes s → item_at 256 s ≡ Err f → FaultAt 256 s f
 fault_is_there s f fits e = item_fault 256 s f fits e
 
 abbrev rest_is : List ℕ → Result (List ℕ) Fault

@@ -3,7 +3,7 @@ use Rattle.std.specs.Prelude.{◌≡◌, ℕ, ◌+◌, ◌^◌, ◌<◌, List, �
 use Rattle.coset_value.specs.Item.{Item, null, Items, no_items, item, items_count, Pairs, no_pairs, pair}
 use Rattle.coset_value.specs.Parts.{as_map}
 use Rattle.coset_cbor.specs.declared.cursor.Cursor.{Cursor}
-use Rattle.coset_cbor.specs.declared.cursor.Places.{Places}
+use Rattle.coset_cbor.specs.declared.cursor.Remaining.{Remaining}
 use Rattle.coset_cbor.specs.Grammar.{IsItem}
 
 -- the bytes that are still to come
@@ -11,13 +11,13 @@ abbrev pub bytes_left : Cursor → List ℕ
 bytes_left c = c.rest.now
 
 -- an item within 256 levels stands at the front of s: v, and a follows it
-unfoldable pub Stands : Item → List ℕ → List ℕ → Type 0
-Stands v s a = (b : List ℕ) × (s ≡ b ++ a) × IsItem b v
+unfoldable pub ItemAt : Item → List ℕ → List ℕ → Type 0
+ItemAt v s a = (b : List ℕ) × (s ≡ b ++ a) × IsItem b v
 
 -- these stand there one after the other, and a follows them
 unfoldable pub AreAt : Items → List ℕ → List ℕ → Type 0
 AreAt no_items s a = s ≡ a
-AreAt (item v vs) s a = (mid : List ℕ) × Stands v s mid × AreAt vs mid a
+AreAt (item v vs) s a = (mid : List ℕ) × ItemAt v s mid × AreAt vs mid a
 
 -- each key of a map and then its value
 abbrev pub keys_and_values : Pairs → Items
@@ -29,17 +29,17 @@ abbrev pub map_items : Item → Option Items
 map_items v = option_map keys_and_values (as_map v)
 
 -- vs are the items that an array or a map has still to give at s, and a follows it
-pub record AreWithin (p : Places) (vs : Items) (s a : List ℕ) : Type 0 where
+pub record AreWithin (p : Remaining) (vs : Items) (s a : List ℕ) : Type 0 where
   pub definite : (n : ℕ) → p.left ≡ Some n → (n ≡ items_count vs) × AreAt vs s a
   pub indefinite : p.left ≡ None → AreAt vs s (255 ∷ a)
 
 -- at t stand the items that the array or the map v gives
-abbrev pub Enters : (Item → Option Items) → Item → List ℕ → List ℕ → Places → Type 0
+abbrev pub Enters : (Item → Option Items) → Item → List ℕ → List ℕ → Remaining → Type 0
 Enters parts v t a p = (vs : Items) × (parts v ≡ Some vs) × AreWithin p vs t a
 
 -- one more stands at the front, or none is left
-abbrev pub Nexts : Items → List ℕ → List ℕ → Places → Bool → Type 0
-Nexts vs s a p true = (v : Item) × (others : Items) × (mid : List ℕ) × (vs ≡ item v others) × Stands v s mid × AreWithin p others mid a
+abbrev pub Nexts : Items → List ℕ → List ℕ → Remaining → Bool → Type 0
+Nexts vs s a p true = (v : Item) × (others : Items) × (mid : List ℕ) × (vs ≡ item v others) × ItemAt v s mid × AreWithin p others mid a
 Nexts vs s a p false = (vs ≡ no_items) × AreWithin p no_items s a
 
 -- how many items as many pairs are, where that number fits
@@ -52,12 +52,12 @@ abbrev pub TakesPart : {T P : Type 0} → (Item → Option P) → (T → P) → 
 TakesPart part seen v s t a (Some x) = (part v ≡ Some (seen x)) × (t ≡ a)
 TakesPart part seen v s t a None = (part v ≡ None) × (t ≡ s)
 
--- the same of what is copied; or memory ran out, and the place is behind the item
+-- what the item holds was copied, or it holds nothing of the kind; or memory ran out, and the place is behind the item
 abbrev pub CopiesPart : {T P E : Type 0} → (Item → Option P) → (T → P) → Item → List ℕ → List ℕ → List ℕ → Result (Option T) E → Type 0
 CopiesPart part seen v s t a (Ok o) = TakesPart part seen v s t a o
 CopiesPart part seen v s t a (Err e) = t ≡ a
 
--- the same of null, which holds nothing
+-- null was taken, and the reader is behind it; or the item is another, and nothing was
 abbrev pub TakesNull : Item → List ℕ → List ℕ → List ℕ → Bool → Type 0
 TakesNull v s t a true = (v ≡ null) × (t ≡ a)
 TakesNull v s t a false = (v ≢ null) × (t ≡ s)

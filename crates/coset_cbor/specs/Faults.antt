@@ -124,8 +124,8 @@ abbrev pub DeepAt : ℕ → List ℕ → List ℕ → Type 0
 DeepAt d c t = (e : Bool) × Due c d e × Nests t
 
 -- the fault stands in s, of which a reader goes d deep; a number is how many bytes are left there
-abbrev pub Stands : ℕ → List ℕ → Fault → Type 0
-Stands d s End = (c : List ℕ) × (t : List ℕ) × (s ≡ c ++ t) × EndAt c t
-Stands d s (Syntax left) = (c : List ℕ) × (t : List ℕ) × (s ≡ c ++ t) × (left ≡ length t) × SyntaxAt c t
-Stands d s (Simple left) = (c : List ℕ) × (t : List ℕ) × (s ≡ c ++ t) × (left ≡ length t) × SimpleAt c t
-Stands d s Deep = (c : List ℕ) × (t : List ℕ) × (s ≡ c ++ t) × DeepAt d c t
+abbrev pub FaultAt : ℕ → List ℕ → Fault → Type 0
+FaultAt d s End = (c : List ℕ) × (t : List ℕ) × (s ≡ c ++ t) × EndAt c t
+FaultAt d s (Syntax left) = (c : List ℕ) × (t : List ℕ) × (s ≡ c ++ t) × (left ≡ length t) × SyntaxAt c t
+FaultAt d s (Simple left) = (c : List ℕ) × (t : List ℕ) × (s ≡ c ++ t) × (left ≡ length t) × SimpleAt c t
+FaultAt d s Deep = (c : List ℕ) × (t : List ℕ) × (s ≡ c ++ t) × DeepAt d c t

@@ -6,15 +6,15 @@ use Rattle.coset_cbor.specs.declared.head.MajorType.{MajorType}
 use Rattle.coset_cbor.specs.declared.head.MajorType.TheVariants as major_types
 use Rattle.coset_value.specs.Item.{Bits, half, single, double, Item, integer, bytes, float, text, boolean, null, tag, array, dict, Items, no_items, item, Pairs}
 use Rattle.coset_value.specs.Item.{no_pairs, pair, items_count, pairs_count}
-use Rattle.coset_cbor.specs.Grammar.{Place, within, one, two, four, eight, head_in}
+use Rattle.coset_cbor.specs.Grammar.{Width, within, one, two, four, eight, head_in}
 
-abbrev pub least_place : ℕ → Place
-least_place n = if nat_lt n 24 then within else (if nat_lt n (2 ^ 8) then one
+abbrev pub least_width : ℕ → Width
+least_width n = if nat_lt n 24 then within else (if nat_lt n (2 ^ 8) then one
     else (if nat_lt n (2 ^ 16) then two else (if nat_lt n (2 ^ 32) then four else eight)))
 
 -- the head of least width with this major type and argument
 unfoldable pub least_head : ℕ → ℕ → List ℕ
-least_head m n = head_in (least_place n) m n
+least_head m n = head_in (least_width n) m n
 
 abbrev pub major_type_number : MajorType → ℕ
 major_type_number major_types.Unsigned = 0

@@ -2,7 +2,7 @@ pub mod Grammar
 pub mod Definite
 pub mod Shortest
 pub mod Faults
-pub mod Refused
+pub mod ReadErrors
 pub mod Heads
 pub mod Reading
 pub mod Least
@@ -16,5 +16,5 @@ pub mod StringChunks
 pub mod Chunks
 pub mod Scalars
 pub mod Fronts
-pub mod Jumps
+pub mod Skips
 pub mod Cursors

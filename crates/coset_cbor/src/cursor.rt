@@ -5,17 +5,17 @@
 ghost use Rattle.std.specs.Prelude.{◌≡◌, ◌≤◌, ◌<◌, [], List, ℕ, is_some, Some, length, IfErr, IfOk, IfSome, IsOkAnd, IsTrue, OnErr, OnOk, MatchOption};
 ghost use Rattle.coset_value.specs.Item.{Item, Items, no_items};
 ghost use Rattle.coset_value.specs.Parts.{as_array, as_bytes};
-ghost use Rattle.coset_cbor.specs.Cursors.{bytes_left, map_items, Stands, AreWithin, Doubles, Enters, Nexts};
+ghost use Rattle.coset_cbor.specs.Cursors.{bytes_left, map_items, ItemAt, AreWithin, Doubles, Enters, Nexts};
 ghost use Rattle.coset_cbor.specs.Fronts.{HasNoItem};
 ghost use Rattle.coset_cbor.specs.Grammar.{IsItem};
-ghost use Rattle.coset_cbor.specs.Jumps.{item_major_type};
+ghost use Rattle.coset_cbor.specs.Skips.{item_major_type};
 ghost use Rattle.coset_cbor.specs.Pulls.{pull_item, BeginsWith};
-ghost use Rattle.coset_cbor.specs.Refused.{IsMemory, StandsIn};
+ghost use Rattle.coset_cbor.specs.ReadErrors.{IsMemory, FaultIn};
 
 use crate::de::{EndOfFile, Error};
 use crate::head::{MajorType, head_of};
-use crate::jump::jump;
 use crate::pull::Pull;
+use crate::skip::skip_checked;
 use crate::string::after_break;
 
 /// A place in bytes.
@@ -27,16 +27,16 @@ pub struct Cursor<'a> {
 /// The items that an array or a map has still to give, of a map each key and then its value: how many, or those up to
 /// the break.
 #[derive(Clone, Copy, Debug)]
-pub struct Places {
+pub struct Remaining {
     left: Option<u64>,
 }
 
 /// What follows the item that is known to stand at the front.
 fn past(bytes: &[u8]) -> &[u8]
-    ensures { (v : Item) (a : List ℕ) → Stands v bytes.now a
+    ensures { (v : Item) (a : List ℕ) → ItemAt v bytes.now a
         → (result.now ≡ a) × (length a < length bytes.now) }
 {
-    match jump(bytes) {
+    match skip_checked(bytes) {
         Some(rest) => rest,
         None => match Pull::new(bytes) {
             Ok((_, rest)) => rest,
@@ -51,8 +51,8 @@ fn front(bytes: &[u8]) -> Result<(Pull<'_>, &[u8]), Error<EndOfFile>>
     ensures lends { IfOk result (λ x. BeginsWith bytes.now x.0 x.1.now) }
     ensures refused { IfErr result (λ e. HasNoItem bytes.now) }
     ensures memory { IfErr result (λ e. IsMemory e → ⊥) }
-    ensures fault { IfErr result (λ e. StandsIn bytes.now e) }
-    ensures stands { (v : Item) (a : List ℕ) → Stands v bytes.now a
+    ensures fault { IfErr result (λ e. FaultIn bytes.now e) }
+    ensures stands { (v : Item) (a : List ℕ) → ItemAt v bytes.now a
         → IsOkAnd result (λ x. (pull_item x.0 ≡ v) × (x.1.now ≡ a)) }
 {
     match Pull::new(bytes) {
@@ -62,16 +62,16 @@ fn front(bytes: &[u8]) -> Result<(Pull<'_>, &[u8]), Error<EndOfFile>>
 }
 
 /// Where the members of the array begin that stands at the front; `None` of another item.
-fn array_item(bytes: &[u8]) -> Option<(Places, &[u8])>
+fn array_item(bytes: &[u8]) -> Option<(Remaining, &[u8])>
     ensures strictly { IfSome result (λ x. length x.1.now < length bytes.now) }
-    ensures enters { (v : Item) (a : List ℕ) → Stands v bytes.now a
+    ensures enters { (v : Item) (a : List ℕ) → ItemAt v bytes.now a
         → MatchOption result (as_array v ≡ None) (λ x. Enters as_array v x.1.now a x.0) }
 {
     match head_of(bytes) {
         Ok((head, rest)) => match head.major_type {
             MajorType::Array => {
                 let left = head.number();
-                Some((Places { left }, rest))
+                Some((Remaining { left }, rest))
             }
             _ => None,
         },
@@ -81,7 +81,7 @@ fn array_item(bytes: &[u8]) -> Option<(Places, &[u8])>
 
 /// The major type of the item that is known to stand at the front.
 fn major_type_of(bytes: &[u8]) -> Option<MajorType>
-    ensures { (v : Item) (a : List ℕ) → Stands v bytes.now a → result ≡ Some (item_major_type v) }
+    ensures { (v : Item) (a : List ℕ) → ItemAt v bytes.now a → result ≡ Some (item_major_type v) }
 {
     match head_of(bytes) {
         Ok((head, _)) => Some(head.major_type),
@@ -100,16 +100,16 @@ fn doubled(pairs: Option<u64>) -> Option<u64>
 }
 
 /// Where the keys and values of the map begin that stands at the front; `None` of another item.
-fn map_item(bytes: &[u8]) -> Option<(Places, &[u8])>
+fn map_item(bytes: &[u8]) -> Option<(Remaining, &[u8])>
     ensures strictly { IfSome result (λ x. length x.1.now < length bytes.now) }
-    ensures enters { (v : Item) (a : List ℕ) → Stands v bytes.now a
+    ensures enters { (v : Item) (a : List ℕ) → ItemAt v bytes.now a
         → MatchOption result (map_items v ≡ None) (λ x. Enters map_items v x.1.now a x.0) }
 {
     match head_of(bytes) {
         Ok((head, rest)) => match head.major_type {
             MajorType::Map => {
                 let left = doubled(head.number());
-                Some((Places { left }, rest))
+                Some((Remaining { left }, rest))
             }
             _ => None,
         },
@@ -121,14 +121,14 @@ impl<'a> Cursor<'a> {
     /// The front of the bytes.
     pub fn new(bytes: &'a [u8]) -> Cursor<'a>
         ensures left { bytes_left result ≡ bytes.now }
-        ensures whole { (v : Item) → IsItem bytes.now v → Stands v (bytes_left result) [] }
+        ensures whole { (v : Item) → IsItem bytes.now v → ItemAt v (bytes_left result) [] }
     {
         Cursor { rest: bytes }
     }
 
     /// Whether the item is a byte string, by its head alone.
     pub fn is_bytes(&self) -> bool
-        ensures { (v : Item) (a : List ℕ) → Stands v (bytes_left self.now) a
+        ensures { (v : Item) (a : List ℕ) → ItemAt v (bytes_left self.now) a
             → result ≡ is_some (as_bytes v) }
     {
         major_type_of(self.rest) == Some(MajorType::Bytes)
@@ -136,7 +136,7 @@ impl<'a> Cursor<'a> {
 
     /// Whether the item is an array, by its head alone.
     pub fn is_array(&self) -> bool
-        ensures { (v : Item) (a : List ℕ) → Stands v (bytes_left self.now) a
+        ensures { (v : Item) (a : List ℕ) → ItemAt v (bytes_left self.now) a
             → result ≡ is_some (as_array v) }
     {
         major_type_of(self.rest) == Some(MajorType::Array)
@@ -156,7 +156,7 @@ impl<'a> Cursor<'a> {
     /// Passes the item. It takes no memory.
     pub fn pass(&mut self)
         ensures shrinks { length (bytes_left self.new) ≤ length (bytes_left self.old) }
-        ensures passes { (v : Item) (a : List ℕ) → Stands v (bytes_left self.old) a
+        ensures passes { (v : Item) (a : List ℕ) → ItemAt v (bytes_left self.old) a
             → (bytes_left self.new ≡ a) × (length a < length (bytes_left self.old)) }
     {
         self.go(past(self.rest));
@@ -177,8 +177,8 @@ impl<'a> Cursor<'a> {
         ensures refused { IfErr result (λ e. HasNoItem (bytes_left self.old)) }
         ensures memory { IfErr result (λ e. IsMemory e → ⊥) }
         // The fault stands in the bytes from the place on, at the offset that it carries.
-        ensures fault { IfErr result (λ e. StandsIn (bytes_left self.old) e) }
-        ensures passes { (v : Item) (a : List ℕ) → Stands v (bytes_left self.old) a
+        ensures fault { IfErr result (λ e. FaultIn (bytes_left self.old) e) }
+        ensures passes { (v : Item) (a : List ℕ) → ItemAt v (bytes_left self.old) a
             → (bytes_left self.new ≡ a) × IsOkAnd result (λ p. pull_item p ≡ v) }
     {
         let (pull, rest) = front(self.rest)?;
@@ -187,11 +187,11 @@ impl<'a> Cursor<'a> {
     }
 
     /// Goes to the first member of an array; at another item it stays.
-    pub fn array(&mut self) -> Option<Places>
+    pub fn array(&mut self) -> Option<Remaining>
         ensures shrinks { length (bytes_left self.new) ≤ length (bytes_left self.old) }
         ensures strictly { IfSome result (λ _. length (bytes_left self.new)
             < length (bytes_left self.old)) }
-        ensures enters { (v : Item) (a : List ℕ) → Stands v (bytes_left self.old) a
+        ensures enters { (v : Item) (a : List ℕ) → ItemAt v (bytes_left self.old) a
             → MatchOption result ((bytes_left self.new ≡ bytes_left self.old) × (as_array v ≡ None))
             (λ p. Enters as_array v (bytes_left self.new) a p) }
     {
@@ -201,11 +201,11 @@ impl<'a> Cursor<'a> {
     }
 
     /// Goes to the first key of a map; at another item it stays.
-    pub fn map(&mut self) -> Option<Places>
+    pub fn map(&mut self) -> Option<Remaining>
         ensures shrinks { length (bytes_left self.new) ≤ length (bytes_left self.old) }
         ensures strictly { IfSome result (λ _. length (bytes_left self.new)
             < length (bytes_left self.old)) }
-        ensures enters { (v : Item) (a : List ℕ) → Stands v (bytes_left self.old) a
+        ensures enters { (v : Item) (a : List ℕ) → ItemAt v (bytes_left self.old) a
             → MatchOption result ((bytes_left self.new ≡ bytes_left self.old)
             × (map_items v ≡ None))
             (λ p. Enters map_items v (bytes_left self.new) a p) }
@@ -216,7 +216,7 @@ impl<'a> Cursor<'a> {
     }
 
     /// Passes the break, where no length was announced.
-    fn close(&mut self, places: Places)
+    fn close(&mut self, places: Remaining)
         ensures shrinks { length (bytes_left self.new) ≤ length (bytes_left self.old) }
         ensures passes { (a : List ℕ) → AreWithin places no_items (bytes_left self.old) a
             → bytes_left self.new ≡ a }
@@ -232,7 +232,7 @@ impl<'a> Cursor<'a> {
     }
 }
 
-impl Places {
+impl Remaining {
     /// Whether one more item stands at the place, which is to be read next.
     pub fn next(&mut self, cursor: &Cursor<'_>) -> bool
         ensures { (vs : Items) (a : List ℕ) → AreWithin self.old vs (bytes_left cursor.now) a
@@ -251,11 +251,11 @@ impl Places {
         }
     }
 
-    /// No places.
-    pub fn none() -> Places
+    /// Nothing remains.
+    pub fn none() -> Remaining
         ensures { (s : List ℕ) → AreWithin result no_items s s }
     {
-        Places { left: Some(0) }
+        Remaining { left: Some(0) }
     }
 
     /// Passes the items that are left, and the break.

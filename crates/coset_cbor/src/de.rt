@@ -6,8 +6,8 @@ ghost use Rattle.coset_value.specs.View.{view};
 ghost use Rattle.coset_cbor.specs.Fronts.{HasNoItem};
 ghost use Rattle.coset_cbor.specs.Grammar.{IsItem, IsEncoding};
 ghost use Rattle.coset_cbor.specs.Cost.{IsCost};
-ghost use Rattle.coset_cbor.specs.Faults.{Stands};
-ghost use Rattle.coset_cbor.specs.Refused.{IsMemory, StandsIn};
+ghost use Rattle.coset_cbor.specs.Faults.{FaultAt};
+ghost use Rattle.coset_cbor.specs.ReadErrors.{IsMemory, FaultIn};
 
 use crate::check::item as check_item;
 pub use crate::chunks::{ByteChunks, TextChunks};
@@ -75,7 +75,7 @@ impl<T> From<OutOfMemory> for Error<T> {
 /// The error that a fault is in an input of `len` bytes.
 pub(crate) fn error_of(fault: Fault, len: usize) -> Error<EndOfFile>
     ensures other { IsMemory result → ⊥ }
-    ensures stands { (s : List ℕ) → length s ≡ len → Stands 256 s fault → StandsIn s result }
+    ensures stands { (s : List ℕ) → length s ≡ len → FaultAt 256 s fault → FaultIn s result }
 {
     match fault {
         Fault::End => Error::Io(EndOfFile),
@@ -105,7 +105,7 @@ pub fn check<L: Ledger>(bytes: &[u8], steps: &mut Steps<L>) -> Result<usize, Err
     ensures refused { IfErr result (λ e. HasNoItem bytes.now) }
     ensures memory { IfErr result (λ e. IsMemory e → ⊥) }
     // The fault stands in the bytes, at the offset that it carries.
-    ensures stands { IfErr result (λ e. StandsIn bytes.now e) }
+    ensures stands { IfErr result (λ e. FaultIn bytes.now e) }
     ensures bound { steps.new ≤ steps.old + length bytes.now }
 {
     match check_item(bytes, MAX_DEPTH, steps) {
@@ -135,7 +135,7 @@ pub fn read_value(alloc: Global, bytes: &[u8]) -> Result<(Value, usize), Error<E
     ensures memory { IfErr result (λ e. IsMemory e
         → (v : Item) × (b : List ℕ) × (rest : List ℕ) × (bytes.now ≡ b ++ rest) × IsItem b v) }
     // The fault stands in the bytes, at the offset that it carries.
-    ensures stands { IfErr result (λ e. StandsIn bytes.now e) }
+    ensures stands { IfErr result (λ e. FaultIn bytes.now e) }
 {
     let (pull, _) = Pull::new(bytes)?;
     let value = pull.to_value(alloc)?;

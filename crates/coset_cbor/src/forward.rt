@@ -5,9 +5,9 @@ ghost use Rattle.std.specs.Prelude.{◌≡◌, ◌≤◌, ◌<◌, List, ℕ, le
 ghost use Rattle.coset_value.specs.Item.{Item};
 ghost use Rattle.coset_value.specs.Parts.{as_integer, as_bytes, as_text};
 ghost use Rattle.coset_value.specs.View.{bits_of, view};
-ghost use Rattle.coset_cbor.specs.Cursors.{bytes_left, Stands, CopiesPart, TakesNull, TakesPart};
+ghost use Rattle.coset_cbor.specs.Cursors.{bytes_left, ItemAt, CopiesPart, TakesNull, TakesPart};
 ghost use Rattle.coset_cbor.specs.Fronts.{HasNoItem};
-ghost use Rattle.coset_cbor.specs.Refused.{IsMemory, StandsIn};
+ghost use Rattle.coset_cbor.specs.ReadErrors.{IsMemory, FaultIn};
 ghost use Rattle.coset_cbor.specs.Scalars.{as_float, as_scalar};
 
 use crate::check::begins_chunk;
@@ -28,7 +28,7 @@ const NULL: u8 = 0xf6;
 /// The number of the integer at the front, and what follows it; `None` of another item.
 fn integer_at(bytes: &[u8]) -> Option<(Integer, &[u8])>
     ensures strictly { IfSome result (λ x. length x.1.now < length bytes.now) }
-    ensures reads { (v : Item) (a : List ℕ) → Stands v bytes.now a
+    ensures reads { (v : Item) (a : List ℕ) → ItemAt v bytes.now a
         → MatchOption result (as_integer v ≡ None)
         (λ x. (as_integer v ≡ Some x.0) × (x.1.now ≡ a)) }
 {
@@ -44,7 +44,7 @@ fn integer_at(bytes: &[u8]) -> Option<(Integer, &[u8])>
 /// The integer, float or simple value at the front, and what follows it; `None` of another item.
 fn scalar_at(bytes: &[u8]) -> Option<(Value, &[u8])>
     ensures strictly { IfSome result (λ x. length x.1.now < length bytes.now) }
-    ensures reads { (v : Item) (a : List ℕ) → Stands v bytes.now a
+    ensures reads { (v : Item) (a : List ℕ) → ItemAt v bytes.now a
         → MatchOption result (as_scalar v ≡ None)
         (λ x. (as_scalar v ≡ Some (view x.0)) × (x.1.now ≡ a)) }
 {
@@ -60,7 +60,7 @@ fn scalar_at(bytes: &[u8]) -> Option<(Value, &[u8])>
 /// The float at the front, and what follows it; `None` of another item.
 fn float_at(bytes: &[u8]) -> Option<(Float, &[u8])>
     ensures strictly { IfSome result (λ x. length x.1.now < length bytes.now) }
-    ensures reads { (v : Item) (a : List ℕ) → Stands v bytes.now a
+    ensures reads { (v : Item) (a : List ℕ) → ItemAt v bytes.now a
         → MatchOption result (as_float v ≡ None)
         (λ x. (as_float v ≡ Some (bits_of x.0)) × (x.1.now ≡ a)) }
 {
@@ -74,8 +74,8 @@ fn float_at(bytes: &[u8]) -> Option<(Float, &[u8])>
 fn value_at(alloc: Global, bytes: &[u8]) -> Result<(Value, &[u8]), Error<EndOfFile>>
     ensures strictly { IfOk result (λ x. length x.1.now < length bytes.now) }
     ensures refused { IfErr result (λ e. (IsMemory e → ⊥) → HasNoItem bytes.now) }
-    ensures fault { IfErr result (λ e. StandsIn bytes.now e) }
-    ensures reads { (v : Item) (a : List ℕ) → Stands v bytes.now a
+    ensures fault { IfErr result (λ e. FaultIn bytes.now e) }
+    ensures reads { (v : Item) (a : List ℕ) → ItemAt v bytes.now a
         → MatchResult result (λ x. (x.1.now ≡ a) × (view x.0 ≡ v)) IsMemory }
 {
     match read::item(alloc, bytes, MAX_DEPTH as usize) {
@@ -92,7 +92,7 @@ impl<'a> Cursor<'a> {
         ensures strictly { IfSome result (λ _. length (bytes_left self.new)
             < length (bytes_left self.old)) }
         ensures stays { result ≡ None → bytes_left self.new ≡ bytes_left self.old }
-        ensures reads { (v : Item) (a : List ℕ) → Stands v (bytes_left self.old) a
+        ensures reads { (v : Item) (a : List ℕ) → ItemAt v (bytes_left self.old) a
             → TakesPart as_integer (λ n. n) v (bytes_left self.old) (bytes_left self.new) a result }
     {
         match integer_at(self.rest) {
@@ -110,7 +110,7 @@ impl<'a> Cursor<'a> {
         ensures strictly { IfSome result (λ _. length (bytes_left self.new)
             < length (bytes_left self.old)) }
         ensures stays { result ≡ None → bytes_left self.new ≡ bytes_left self.old }
-        ensures reads { (v : Item) (a : List ℕ) → Stands v (bytes_left self.old) a
+        ensures reads { (v : Item) (a : List ℕ) → ItemAt v (bytes_left self.old) a
             → TakesPart as_float bits_of v (bytes_left self.old) (bytes_left self.new) a result }
     {
         let (float, rest) = float_at(self.rest)?;
@@ -124,7 +124,7 @@ impl<'a> Cursor<'a> {
         ensures strictly { IsTrue result → length (bytes_left self.new)
             < length (bytes_left self.old) }
         ensures stays { result ≡ false → bytes_left self.new ≡ bytes_left self.old }
-        ensures reads { (v : Item) (a : List ℕ) → Stands v (bytes_left self.old) a
+        ensures reads { (v : Item) (a : List ℕ) → ItemAt v (bytes_left self.old) a
             → TakesNull v (bytes_left self.old) (bytes_left self.new) a result }
     {
         let Some((first, rest)) = self.rest.split_first() else {
@@ -145,7 +145,7 @@ impl<'a> Cursor<'a> {
         ensures shrinks { length (bytes_left self.new) ≤ length (bytes_left self.old) }
         ensures strictly { IfOk result (λ o. IsSome o → length (bytes_left self.new)
             < length (bytes_left self.old)) }
-        ensures reads { (v : Item) (a : List ℕ) → Stands v (bytes_left self.old) a
+        ensures reads { (v : Item) (a : List ℕ) → ItemAt v (bytes_left self.old) a
             → CopiesPart as_bytes (λ b. b.items) v (bytes_left self.old) (bytes_left self.new) a
             result }
     {
@@ -179,7 +179,7 @@ impl<'a> Cursor<'a> {
         ensures shrinks { length (bytes_left self.new) ≤ length (bytes_left self.old) }
         ensures strictly { IfOk result (λ o. IsSome o → length (bytes_left self.new)
             < length (bytes_left self.old)) }
-        ensures reads { (v : Item) (a : List ℕ) → Stands v (bytes_left self.old) a
+        ensures reads { (v : Item) (a : List ℕ) → ItemAt v (bytes_left self.old) a
             → CopiesPart as_text string_bytes v (bytes_left self.old) (bytes_left self.new) a
             result }
     {
@@ -216,8 +216,8 @@ impl<'a> Cursor<'a> {
             < length (bytes_left self.old)) }
         ensures refused { IfErr result (λ e. (IsMemory e → ⊥) → HasNoItem (bytes_left self.old)) }
         // The fault stands in the bytes from the place on, at the offset that it carries.
-        ensures fault { IfErr result (λ e. StandsIn (bytes_left self.old) e) }
-        ensures reads { (v : Item) (a : List ℕ) → Stands v (bytes_left self.old) a
+        ensures fault { IfErr result (λ e. FaultIn (bytes_left self.old) e) }
+        ensures reads { (v : Item) (a : List ℕ) → ItemAt v (bytes_left self.old) a
             → (bytes_left self.new ≡ a) × MatchResult result (λ x. view x ≡ v) IsMemory }
     {
         match value_at(alloc, self.rest) {

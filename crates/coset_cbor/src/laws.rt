@@ -15,7 +15,7 @@ ghost use Rattle.coset_cbor.specs.declared.members.Pairs.{Pairs};
 ghost use Rattle.coset_cbor.specs.declared.pull.Pull.{Pull};
 ghost use Rattle.coset_cbor.specs.Cost.{IsCost};
 ghost use Rattle.coset_cbor.specs.Fronts.{AreBytes, HasNoItem, IsEndOfInput};
-ghost use Rattle.coset_cbor.specs.Refused.{IsMemory, StandsIn};
+ghost use Rattle.coset_cbor.specs.ReadErrors.{IsMemory, FaultIn};
 ghost use Rattle.coset_cbor.specs.declared.de.EndOfFile.{EndOfFile};
 ghost use Rattle.coset_cbor.specs.declared.de.Error.{Error};
 ghost use Rattle.coset_cbor.specs.Least.{least_encoding};
@@ -98,12 +98,12 @@ pub fn nested_arrays_cost()
 
 /// Where a fault stands in bytes, no front of them is an item.
 pub fn no_item_at_a_fault()
-    ensures { (s : List ℕ) (e : Error EndOfFile) → AreBytes s → (IsMemory e → ⊥) → StandsIn s e
+    ensures { (s : List ℕ) (e : Error EndOfFile) → AreBytes s → (IsMemory e → ⊥) → FaultIn s e
         → HasNoItem s }
 {}
 
 /// In a front of an item, of the faults other than out of memory only the end of the input stands.
 pub fn only_the_end_in_a_front()
     ensures { (v : Item) (b s more : List ℕ) (e : Error EndOfFile) → AreBytes b → IsItem b v
-        → b ≡ s ++ more → (IsMemory e → ⊥) → StandsIn s e → IsEndOfInput e }
+        → b ≡ s ++ more → (IsMemory e → ⊥) → FaultIn s e → IsEndOfInput e }
 {}

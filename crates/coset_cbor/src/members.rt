@@ -7,12 +7,12 @@ ghost use Rattle.coset_cbor.specs.Grammar.{IsHeld};
 ghost use Rattle.coset_cbor.specs.Reading.{head_at};
 ghost use Rattle.coset_cbor.specs.Whole.{is_one_item};
 ghost use Rattle.coset_cbor.specs.Pulls.{pull_bytes, pull_item, BeginsWith};
-ghost use Rattle.coset_cbor.specs.Jumps.{BeginsItem};
+ghost use Rattle.coset_cbor.specs.Skips.{BeginsItem};
 ghost use Rattle.coset_cbor.specs.Between.{array_around, map_around, IsContent};
 
 use crate::head::{MajorType, head_of};
-use crate::jump::jump;
 use crate::pull::Pull;
+use crate::skip::skip_checked;
 
 /// The members of a lent array that are still to come, each lent.
 #[derive(Clone, Copy, Debug)]
@@ -61,7 +61,7 @@ fn first(bytes: &[u8]) -> Option<(Pull<'_>, &[u8])>
     if bytes.is_empty() {
         return None;
     }
-    match jump(bytes) {
+    match skip_checked(bytes) {
         Some(rest) if rest.len() < bytes.len() => {
             let (front, rest) = bytes.split_at(bytes.len() - rest.len());
             Some((Pull { bytes: front }, rest))

@@ -8,7 +8,7 @@ ghost use Rattle.coset_cbor.specs.Fronts.{HasNoItem};
 ghost use Rattle.coset_cbor.specs.Grammar.{IsHeaded, IsItem};
 ghost use Rattle.coset_cbor.specs.Heads.{Fits};
 ghost use Rattle.coset_cbor.specs.Reading.{argument_from, number_of};
-ghost use Rattle.coset_cbor.specs.Refused.{IsMemory, StandsIn};
+ghost use Rattle.coset_cbor.specs.ReadErrors.{IsMemory, FaultIn};
 ghost use Rattle.coset_cbor.specs.Scalars.{as_scalar, as_float, scalar_by, integer_by, tag_by};
 ghost use Rattle.coset_cbor.specs.Whole.{is_one_item};
 
@@ -41,7 +41,7 @@ fn front_length<L: Ledger>(bytes: &[u8], blank: Blank) -> Result<usize, Error<En
     ensures found { IfOk result (λ n. (v : Item) × IsItem (take n bytes.now) v) }
     ensures refused { IfErr result (λ e. HasNoItem bytes.now) }
     ensures memory { IfErr result (λ e. IsMemory e → ⊥) }
-    ensures stands { IfErr result (λ e. StandsIn bytes.now e) }
+    ensures stands { IfErr result (λ e. FaultIn bytes.now e) }
 {
     let mut steps: Steps<L> = Steps::new(blank);
     check(bytes, &mut steps)
@@ -110,7 +110,7 @@ impl<'a> Pull<'a> {
         ensures found { IfOk result (λ x. BeginsWith bytes.now x.0 x.1.now) }
         ensures refused { IfErr result (λ e. HasNoItem bytes.now) }
         ensures memory { IfErr result (λ e. IsMemory e → ⊥) }
-        ensures stands { IfErr result (λ e. StandsIn bytes.now e) }
+        ensures stands { IfErr result (λ e. FaultIn bytes.now e) }
     {
         let length = front_length::<Brand>(bytes, Blank::new(1))?;
         let (front, rest) = bytes.split_at(length);

@@ -42,7 +42,7 @@ pub fn write_value(value: &Value, out: &mut Vec<u8>) -> Result<(), OutOfMemory>
 {
     let before = out.len();
     let written = put(out, value);
-    settle(written, before, out)
+    rolled_back(written, before, out)
 }
 
 /// Appends the shortest head of an array (RFC 8949, section 3.1, major type 4). So many items have to follow it.
@@ -56,7 +56,7 @@ pub fn write_array_head(count: usize, out: &mut Vec<u8>) -> Result<(), OutOfMemo
 {
     let before = out.len();
     let written = put_head(out, MajorType::Array, count as u64);
-    settle(written, before, out)
+    rolled_back(written, before, out)
 }
 
 /// Appends the shortest head of a map (RFC 8949, section 3.1, major type 5). So many pairs have to follow it.
@@ -70,7 +70,7 @@ pub fn write_map_head(count: usize, out: &mut Vec<u8>) -> Result<(), OutOfMemory
 {
     let before = out.len();
     let written = put_head(out, MajorType::Map, count as u64);
-    settle(written, before, out)
+    rolled_back(written, before, out)
 }
 
 /// Appends the shortest head of a tag (RFC 8949, section 3.1, major type 6). The item that it encloses has to
@@ -85,7 +85,7 @@ pub fn write_tag_head(number: u64, out: &mut Vec<u8>) -> Result<(), OutOfMemory>
 {
     let before = out.len();
     let written = put_head(out, MajorType::Tag, number);
-    settle(written, before, out)
+    rolled_back(written, before, out)
 }
 
 /// Appends the shortest encoding of a byte string (RFC 8949, section 3.1, major type 2).
@@ -100,7 +100,7 @@ pub fn write_bytes(content: &[u8], out: &mut Vec<u8>) -> Result<(), OutOfMemory>
 {
     let before = out.len();
     let written = put_string(out, MajorType::Bytes, content);
-    settle(written, before, out)
+    rolled_back(written, before, out)
 }
 
 /// Appends the shortest encoding of a text string (RFC 8949, section 3.1, major type 3).
@@ -115,7 +115,7 @@ pub fn write_text(content: &str, out: &mut Vec<u8>) -> Result<(), OutOfMemory>
 {
     let before = out.len();
     let written = put_text(out, content);
-    settle(written, before, out)
+    rolled_back(written, before, out)
 }
 
 /// Appends the shortest encoding of an integer (RFC 8949, section 3.1, major types 0 and 1).
@@ -130,12 +130,12 @@ pub fn write_integer(n: Integer, out: &mut Vec<u8>) -> Result<(), OutOfMemory>
 {
     let before = out.len();
     let written = put_integer(out, n);
-    settle(written, before, out)
+    rolled_back(written, before, out)
 }
 
 /// The answer of a call that wrote. Where memory ran out, what it left behind the first bytes is taken back.
 #[inline(always)]
-fn settle(
+fn rolled_back(
     written: Result<(), AllocError>,
     before: usize,
     out: &mut Vec<u8>,

@@ -1,10 +1,10 @@
--- The byte strings behind the places of a context: how they are read and written.
+-- The byte strings behind the elements of a context: how they are read and written.
 use Rattle.std.proofs.Common.{◌≡◌, ℕ, List, Option, Some, None, ◌∙◌}
 use Rattle.coset_value.specs.Item.{Items}
 use Rattle.coset_codec.specs.declared.error.CoseError.{CoseError}
 use Rattle.coset_codec.specs.declared.read.input.InputItems.{InputItems}
 use Rattle.coset_codec.specs.Inputs.{State, AreWithin}
-use Rattle.coset_codec.specs.Encoding.{AppendsPlaces}
+use Rattle.coset_codec.specs.Encoding.{AppendsElements}
 use Rattle.coset_codec.specs.Lists.{Continues}
 use Rattle.coset_codec.specs.Shape.{bstr, EachFaults}
 
@@ -20,6 +20,6 @@ pub record Midway (all : Items) (z : State) (m : InputItems) (t : State) (xs : L
   pub so_far : ReadSoFar all xs left fault
   pub within : AreWithin m left t z
 
--- as many places are written, whichever way their number is told
-pub as_many : {os : Option Items} {m n : ℕ} {old new : List ℕ} → m ≡ n → AppendsPlaces os m old new → AppendsPlaces os n old new
+-- as many elements are written, whichever way their number is told
+pub as_many : {os : Option Items} {m n : ℕ} {old new : List ℕ} → m ≡ n → AppendsElements os m old new → AppendsElements os n old new
 as_many e p = (p.0, p.1, record { count = p.2.count ∙ e; in_range = p.2.in_range; parts = p.2.parts })

@@ -1,11 +1,11 @@
 -- One more claim of the rest.
 use Rattle.std.proofs.Common.{◌≡◌, List, [], ◌∷◌, ◌++◌, Bool, ◌||◌, false, refl, sym, subst}
 use Rattle.coset_value.specs.Item.{Item}
-use Rattle.coset_codec.specs.Maps.{Adds, Where, is_core}
+use Rattle.coset_codec.specs.Maps.{Adds, IfThenElse, is_core}
 use Rattle.coset_codec.specs.MapLaws.{flip}
 use Rattle.coset_label.specs.Names.{RegisteredName}
 use Rattle.coset_claims.specs.ClaimLabels as labels
-use Rattle.coset_claims.specs.Claims.{Fielded, fields, names, same_name}
+use Rattle.coset_claims.specs.Claims.{FieldTuple, fields, names, same_name}
 use Rattle.coset_claims.specs.ClaimsLaws.{names_laws}
 
 -- none of seven tests passes
@@ -16,7 +16,7 @@ none a b c d e f g h1 h2 h3 h4 h5 h6 h7 = rw (h1, h2, h3, h4, h5, h6, h7) refl
 
 -- a claim whose name is none of the fields' goes to the rest
 pub adds_rest :
-    (m : RegisteredName) (v : Item) (x y : Fielded × List (RegisteredName × Item)) → same_name labels.iss m ≡ false → same_name labels.sub m ≡ false
+    (m : RegisteredName) (v : Item) (x y : FieldTuple × List (RegisteredName × Item)) → same_name labels.iss m ≡ false → same_name labels.sub m ≡ false
     → same_name labels.aud m ≡ false → same_name labels.exp m ≡ false
     → same_name labels.nbf m ≡ false → same_name labels.iat m ≡ false → same_name labels.cti m ≡ false → x.0 ≡ y.0 → y.1 ≡ x.1 ++ (m, v) ∷ []
     → Adds names fields m v x y
@@ -24,7 +24,7 @@ adds_rest m v x y h1 h2 h3 h4 h5 h6 h7 same rest =
     let other : is_core names fields.labels m ≡ false =
     none _ _ _ _ _ _ _ (turn labels.iss h1) (turn labels.sub h2) (turn labels.aud h3) (turn labels.exp h4) (turn labels.nbf h5) (turn labels.iat h6)
     (turn labels.cti h7) in
-    subst (λ b. Where b (fields.takes m v x.0 y.0 × (y.1 ≡ x.1)) ((x.0 ≡ y.0) × (y.1 ≡ x.1 ++ (m, v) ∷ []))) (sym other) (same, rest)
+    subst (λ b. IfThenElse b (fields.takes m v x.0 y.0 × (y.1 ≡ x.1)) ((x.0 ≡ y.0) × (y.1 ≡ x.1 ++ (m, v) ∷ []))) (sym other) (same, rest)
   where
     turn : (l : RegisteredName) → same_name l m ≡ false → same_name m l ≡ false
     turn l h = flip names names_laws l m h

@@ -1,6 +1,6 @@
 pub mod ClaimPutting
 pub mod ClaimWriting
 pub mod ClaimCopies
-pub mod Places
+pub mod Elements
 pub mod ByteStrings
 mod Comparing

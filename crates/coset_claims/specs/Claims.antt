@@ -10,7 +10,7 @@ use Rattle.coset_iana.specs.WithPrivateRange.{is_private_use}
 use Rattle.coset_iana.specs.declared.claims.CwtClaimName.{CwtClaimName}
 use Rattle.coset_iana.specs.declared.claims.TheConstants.{CWT_CLAIM_NAMES}
 use Rattle.coset_codec.specs.Maps.{Names, Fields, field, no_field, optional, labelled_freely}
-use Rattle.coset_codec.specs.Shape.{Shape, along, bstr, tstr}
+use Rattle.coset_codec.specs.Shape.{Shape, mapped, bstr, tstr}
 use Rattle.coset_label.specs.Labels.{registered_or_private}
 use Rattle.coset_label.specs.Names.{RegisteredName, registered_cmp}
 use Rattle.coset_label.specs.Views.{registered_or_private_seen}
@@ -80,12 +80,12 @@ abbrev pub names : Names RegisteredName
 names = record { shape = claim_name; same = same_name }
 
 -- the registered claims, in the order of their numbers
-abbrev pub Fielded : Type 0
-Fielded = Option (List ℕ) × (Option (List ℕ) × (Option (List ℕ)
+abbrev pub FieldTuple : Type 0
+FieldTuple = Option (List ℕ) × (Option (List ℕ) × (Option (List ℕ)
     × (Option TimestampSeen × (Option TimestampSeen × (Option TimestampSeen × (Option (List ℕ) × Unit {0}))))))
 
 -- ? 1 => tstr, ? 2 => tstr, ? 3 => tstr, ? 4 => timestamp, ? 5 => timestamp, ? 6 => timestamp, ? 7 => bstr
-abbrev pub fields : Fields RegisteredName Fielded
+abbrev pub fields : Fields RegisteredName FieldTuple
 fields =
     field names labels.iss (optional tstr)
     (field names labels.sub (optional tstr)
@@ -96,7 +96,7 @@ fields =
     (field names labels.cti (optional bstr)
     no_field))))))
 
-abbrev pub claims_of : Fielded × List (RegisteredName × Item) → ClaimsSeen
+abbrev pub claims_of : FieldTuple × List (RegisteredName × Item) → ClaimsSeen
 claims_of p = record {
   issuer = p.0.0;
   subject = p.0.1.0;
@@ -108,12 +108,12 @@ claims_of p = record {
   rest = p.1;
 }
 
-abbrev pub parts_of : ClaimsSeen → Fielded × List (RegisteredName × Item)
+abbrev pub parts_of : ClaimsSeen → FieldTuple × List (RegisteredName × Item)
 parts_of c = ((c.issuer, (c.subject, (c.audience, (c.expiration_time, (c.not_before, (c.issued_at, (c.cwt_id, tt))))))), c.rest)
 
 -- {fields, * claim_name => any}. No two names are one where a claims set is read; where it is written, that isn't asked
 unfoldable pub claims : Shape ClaimsSeen
-claims = along claims_of parts_of (labelled_freely names fields)
+claims = mapped claims_of parts_of (labelled_freely names fields)
 
 -- ---- what a builder's calls make
 

@@ -4,12 +4,12 @@ use Rattle.std.specs.Prelude.{ℤ}
 use Rattle.coset_value.specs.Item.{integer}
 use Rattle.coset_codec.specs.MapLaws.{LawfulNames, LawfulFields, Flat, field_laws, labelled_laws, no_field_laws, optional_laws}
 use Rattle.coset_codec.specs.Shape.{bstr, tstr}
-use Rattle.coset_codec.specs.ShapeLaws.{Lawful, along_laws, bstr_laws, tstr_laws}
+use Rattle.coset_codec.specs.ShapeLaws.{Lawful, mapped_laws, bstr_laws, tstr_laws}
 use Rattle.coset_label.specs.LabelLaws.{registered_or_private_laws}
 use Rattle.coset_label.specs.NameOrder.{registered_cmp-apart}
 use Rattle.coset_label.specs.Names.{RegisteredName, assigned}
 use Rattle.coset_claims.specs.ClaimLabels as labels
-use Rattle.coset_claims.specs.Claims.{ClaimsSeen, Fielded, claim_name, claims, claims_of, fields, names, parts_of}
+use Rattle.coset_claims.specs.Claims.{ClaimsSeen, FieldTuple, claim_name, claims, claims_of, fields, names, parts_of}
 use Rattle.coset_claims.specs.Timestamp.{timestamp, timestamp_laws}
 
 claim_name_laws : Lawful RegisteredName claim_name
@@ -55,7 +55,7 @@ flat_cti : Flat RegisteredName names labels.cti
 unfolding claim_name
 flat_cti = flat _ refl (refl, (refl, (refl, search rules)))
 
-pub fields_laws : LawfulFields RegisteredName Fielded names fields
+pub fields_laws : LawfulFields RegisteredName FieldTuple names fields
 fields_laws =
     field_laws names names_laws labels.iss flat_iss _ (optional_laws tstr tstr_laws) _
     (field_laws names names_laws labels.sub flat_sub _ (optional_laws tstr tstr_laws) _
@@ -68,4 +68,4 @@ fields_laws =
 
 pub claims_laws : Lawful ClaimsSeen claims
 unfolding claims
-claims_laws = along_laws claims_of parts_of (λ x. refl) _ (labelled_laws names names_laws false fields fields_laws)
+claims_laws = mapped_laws claims_of parts_of (λ x. refl) _ (labelled_laws names names_laws false fields fields_laws)

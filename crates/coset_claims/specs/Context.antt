@@ -3,8 +3,8 @@ use Rattle.std.specs.Prelude.{ℕ, List, [], ◌∷◌, ◌++◌, Option, map, o
 use Rattle.coset_value.specs.Item.{Item, Items, array, item}
 use Rattle.coset_iana.specs.Algorithm as algorithms
 use Rattle.coset_iana.specs.declared.algorithms.Algorithm.TheVariants.{Reserved}
-use Rattle.coset_codec.specs.Shape.{Shape, along, both, bstr, array_of, ◌then◌, any_number}
-use Rattle.coset_codec.specs.ShapeLaws.{Lawful, along_laws, bstr_laws, array_of_laws, then_laws, any_number_laws}
+use Rattle.coset_codec.specs.Shape.{Shape, mapped, both, bstr, array_of, ◌then◌, any_number}
+use Rattle.coset_codec.specs.ShapeLaws.{Lawful, mapped_laws, bstr_laws, array_of_laws, then_laws, any_number_laws}
 use Rattle.coset_label.specs.Names.{RegisteredName, assigned}
 use Rattle.coset_core.specs.Fields.{algorithm}
 use Rattle.coset_core.specs.FieldLaws.{algorithm_laws}
@@ -40,22 +40,22 @@ empty_context = record {
   supp_priv_info = [];
 }
 
-abbrev ContextPlaces : Type 0
-ContextPlaces = RegisteredName × (PartySeen × (PartySeen × (SuppPubSeen × List (List ℕ))))
+abbrev ContextElements : Type 0
+ContextElements = RegisteredName × (PartySeen × (PartySeen × (SuppPubSeen × List (List ℕ))))
 
-abbrev pub context_of : ContextPlaces → ContextSeen
+abbrev pub context_of : ContextElements → ContextSeen
 context_of p = record { algorithm_id = p.0; party_u_info = p.1.0; party_v_info = p.1.1.0; supp_pub_info = p.1.1.1.0; supp_priv_info = p.1.1.1.1 }
 
-abbrev pub context_places : ContextSeen → ContextPlaces
-context_places c = (c.algorithm_id, (c.party_u_info, (c.party_v_info, (c.supp_pub_info, c.supp_priv_info))))
+abbrev pub context_elements : ContextSeen → ContextElements
+context_elements c = (c.algorithm_id, (c.party_u_info, (c.party_v_info, (c.supp_pub_info, c.supp_priv_info))))
 
 -- [AlgorithmID : int / tstr, PartyUInfo : PartyInfo, PartyVInfo : PartyInfo, SuppPubInfo, * SuppPrivInfo : bstr]
 abbrev pub context : Shape ContextSeen
-context = along context_of context_places (array_of (algorithm then party then party then supp_pub then any_number bstr))
+context = mapped context_of context_elements (array_of (algorithm then party then party then supp_pub then any_number bstr))
 
 pub context_laws : Lawful ContextSeen context
 context_laws =
-    along_laws context_of context_places (λ x. refl) _
+    mapped_laws context_of context_elements (λ x. refl) _
     (array_of_laws _ (then_laws _ _ algorithm_laws (then_laws _ _ party_laws
     (then_laws _ _ party_laws (then_laws _ _ supp_pub_laws (any_number_laws bstr bstr_laws))))))
 
@@ -65,6 +65,6 @@ and_supp_priv_info b c = record c { supp_priv_info = c.supp_priv_info ++ b ∷ [
 
 -- ---- what its writer is made of
 
--- the array of four places, and of those behind them, where each has an item
-abbrev pub four_places_and : Option Item → Option Item → Option Item → Option Item → Option Items → Option Item
-four_places_and a b c d more = option_map array (both item a (both item b (both item c (both item d more))))
+-- the array of four elements, and of those behind them, where each has an item
+abbrev pub four_elements_and : Option Item → Option Item → Option Item → Option Item → Option Items → Option Item
+four_elements_and a b c d more = option_map array (both item a (both item b (both item c (both item d more))))

@@ -32,7 +32,7 @@ nonce_eq-decides (nonce_bytes a) (nonce_bytes b) =
 nonce_eq-decides (nonce_integer i) (nonce_bytes b) = (λ e. absurd (true≢false (sym e)), λ e. absurd (cc))
 nonce_eq-decides (nonce_bytes a) (nonce_integer j) = (λ e. absurd (true≢false (sym e)), λ e. absurd (cc))
 
--- the same in each of its three places
+-- the same in each of its three elements
 abbrev party_eq : PartyInfo → PartyInfo → Bool
 party_eq p q =
     option_eq (λ x y. pointwise ◌==◌ x.items y.items) p.identity q.identity

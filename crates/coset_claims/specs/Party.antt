@@ -2,8 +2,8 @@
 use Rattle.std.specs.Prelude.{◌≡◌, ◌⊎◌, ℕ, ℤ, List, Option, Some, None, true, false, option_map, refl}
 use Rattle.std.proofs.Common.{inl, inr, ap, sym}
 use Rattle.coset_value.specs.Item.{Item, integer, bytes}
-use Rattle.coset_codec.specs.Shape.{Shape, along, either, int64, bstr, is_nil, or_nil, array_of, ◌then◌, end}
-use Rattle.coset_codec.specs.ShapeLaws.{Lawful, some-one, along_laws, either_laws, int64_laws, bstr_laws, bytes_no_nil, or_nil_laws, array_of_laws, then_laws}
+use Rattle.coset_codec.specs.Shape.{Shape, mapped, either, int64, bstr, is_nil, or_nil, array_of, ◌then◌, end}
+use Rattle.coset_codec.specs.ShapeLaws.{Lawful, some-one, mapped_laws, either_laws, int64_laws, bstr_laws, bytes_no_nil, or_nil_laws, array_of_laws, then_laws}
 use Rattle.coset_codec.specs.ShapeLaws.{end_laws}
 use Rattle.coset_label.specs.Labels.{is_integer}
 use Rattle.coset_claims.specs.declared.party.Nonce.{Nonce}
@@ -31,7 +31,7 @@ of_nonce (nonce_bytes b) = inr b
 
 -- int / bstr
 abbrev pub nonce : Shape NonceSeen
-nonce = along nonce_of of_nonce (either is_integer int64 bstr)
+nonce = mapped nonce_of of_nonce (either is_integer int64 bstr)
 
 nonce-back : (x : NonceSeen) → nonce_of (of_nonce x) ≡ x
 nonce-back (nonce_integer i) = refl
@@ -46,7 +46,7 @@ bytes-told b w e = let h : bytes b ≡ w = some-one refl e in ap is_integer (sym
 
 pub nonce_laws : Lawful NonceSeen nonce
 nonce_laws =
-    along_laws nonce_of of_nonce nonce-back _
+    mapped_laws nonce_of of_nonce nonce-back _
     (either_laws is_integer int64 bstr int64_laws bstr_laws (λ v i w f d e. integer-told i w e) (λ v b w f d e. bytes-told b w e))
 
 -- a nonce is never null
@@ -77,22 +77,22 @@ party_seen p = record {
 abbrev pub empty_party : PartySeen
 empty_party = record { identity = None; nonce = None; other = None }
 
-abbrev PartyPlaces : Type 0
-PartyPlaces = Option (List ℕ) × (Option NonceSeen × (Option (List ℕ) × Unit {0}))
+abbrev PartyElements : Type 0
+PartyElements = Option (List ℕ) × (Option NonceSeen × (Option (List ℕ) × Unit {0}))
 
-abbrev pub party_of : PartyPlaces → PartySeen
+abbrev pub party_of : PartyElements → PartySeen
 party_of p = record { identity = p.0; nonce = p.1.0; other = p.1.1.0 }
 
-abbrev pub party_places : PartySeen → PartyPlaces
-party_places p = (p.identity, (p.nonce, (p.other, tt)))
+abbrev pub party_elements : PartySeen → PartyElements
+party_elements p = (p.identity, (p.nonce, (p.other, tt)))
 
 -- [identity : bstr / nil, nonce : bstr / int / nil, other : bstr / nil]
 abbrev pub party : Shape PartySeen
-party = along party_of party_places (array_of (or_nil bstr then nonce_or_nil then or_nil bstr then end))
+party = mapped party_of party_elements (array_of (or_nil bstr then nonce_or_nil then or_nil bstr then end))
 
 pub party_laws : Lawful PartySeen party
 party_laws =
-    along_laws party_of party_places (λ x. refl) _
+    mapped_laws party_of party_elements (λ x. refl) _
     (array_of_laws _
     (then_laws _ _ (or_nil_laws bstr bytes_no_nil bstr_laws)
     (then_laws _ _ (or_nil_laws nonce nonce-no_nil nonce_laws) (then_laws _ _ (or_nil_laws bstr bytes_no_nil bstr_laws) end_laws))))

@@ -7,8 +7,8 @@ use Rattle.coset_codec.specs.declared.error.CoseError.{CoseError}
 use Rattle.coset_codec.specs.declared.read.input.InputItems.{InputItems}
 use Rattle.coset_codec.specs.Answers.{Reads}
 use Rattle.coset_codec.specs.Inputs.{State, AreWithin}
-use Rattle.coset_codec.specs.Shape.{Shape, Places, along, uint, bstr, present, perhaps, array_of, ◌then◌}
-use Rattle.coset_codec.specs.ShapeLaws.{Lawful, along_laws, uint_laws, bstr_laws, present_laws, perhaps_laws, array_of_laws, then_laws}
+use Rattle.coset_codec.specs.Shape.{Shape, Elements, mapped, uint, bstr, present, optional_last, array_of, ◌then◌}
+use Rattle.coset_codec.specs.ShapeLaws.{Lawful, mapped_laws, uint_laws, bstr_laws, present_laws, optional_last_laws, array_of_laws, then_laws}
 use Rattle.coset_core.specs.Headers.{ProtectedSeen, protected}
 use Rattle.coset_core.specs.HeaderLaws.{protected_laws}
 use Rattle.coset_core.specs.Messages.{empty_protected}
@@ -32,22 +32,22 @@ supp_pub_seen s = record {
 abbrev pub empty_supp_pub : SuppPubSeen
 empty_supp_pub = record { key_data_length = 0; protected = empty_protected; other = None }
 
-abbrev SuppPubPlaces : Type 0
-SuppPubPlaces = ℤ × (ProtectedSeen × Option (List ℕ))
+abbrev SuppPubElements : Type 0
+SuppPubElements = ℤ × (ProtectedSeen × Option (List ℕ))
 
-abbrev pub supp_pub_of : SuppPubPlaces → SuppPubSeen
+abbrev pub supp_pub_of : SuppPubElements → SuppPubSeen
 supp_pub_of p = record { key_data_length = unsigned_abs p.0; protected = p.1.0; other = p.1.1 }
 
-abbrev pub supp_pub_places : SuppPubSeen → SuppPubPlaces
-supp_pub_places s = (pos s.key_data_length, (s.protected, s.other))
+abbrev pub supp_pub_elements : SuppPubSeen → SuppPubElements
+supp_pub_elements s = (pos s.key_data_length, (s.protected, s.other))
 
 -- ? other : bstr
-abbrev pub other_place : Places (Option (List ℕ))
-other_place = perhaps None is_some (present bstr)
+abbrev pub other_place : Elements (Option (List ℕ))
+other_place = optional_last None is_some (present bstr)
 
 -- [keyDataLength : uint, protected : empty_or_serialized_map, ? other : bstr]
 abbrev pub supp_pub : Shape SuppPubSeen
-supp_pub = along supp_pub_of supp_pub_places (array_of (uint then protected then other_place))
+supp_pub = mapped supp_pub_of supp_pub_elements (array_of (uint then protected then other_place))
 
 missing : (o : Option (List ℕ)) → is_some o ≡ false → o ≡ None
 missing None e = refl
@@ -55,13 +55,13 @@ missing (Some b) e = absurd (true≢false e)
 
 pub supp_pub_laws : Lawful SuppPubSeen supp_pub
 supp_pub_laws =
-    along_laws supp_pub_of supp_pub_places (λ x. refl) _
+    mapped_laws supp_pub_of supp_pub_elements (λ x. refl) _
     (array_of_laws _ (then_laws _ _ uint_laws (then_laws _ _ protected_laws
-    (perhaps_laws None is_some refl missing (present bstr) (present_laws bstr bstr_laws)))))
+    (optional_last_laws None is_some refl missing (present bstr) (present_laws bstr bstr_laws)))))
 
 -- ---- what its reader and its writer are made of
 
--- none of these places is left; or the next of them was read as bytes, and the others stand at t
+-- none of these elements is left; or the next of them was read as bytes, and the others stand at t
 abbrev pub ReadsOther : Items → State → State → InputItems → Result (Option (Vec ℕ Global)) CoseError → Type 0
 ReadsOther no_items t z m r = AreWithin m no_items t z × IsOkAnd r (λ o. o ≡ None)
 ReadsOther (item v vs) t z m r = AreWithin m vs t z × Reads (present bstr) (option_map (λ b. b.items)) v r

@@ -7,8 +7,8 @@ use Rattle.coset_value.specs.Item.{Bits, Item, integer, float}
 use Rattle.coset_value.specs.Same.{bits_eq}
 use Rattle.coset_value.specs.SameLaws.{item_eq-decides}
 use Rattle.coset_value.specs.View.{bits_of}
-use Rattle.coset_codec.specs.Shape.{Shape, along, either, floating, int64}
-use Rattle.coset_codec.specs.ShapeLaws.{Lawful, along_laws, either_laws, floating_laws, int64_laws, some-one}
+use Rattle.coset_codec.specs.Shape.{Shape, mapped, either, floating, int64}
+use Rattle.coset_codec.specs.ShapeLaws.{Lawful, mapped_laws, either_laws, floating_laws, int64_laws, some-one}
 use Rattle.coset_label.specs.Labels.{is_integer}
 use Rattle.coset_core.specs.SameLaws.{IsEquality}
 use Rattle.coset_claims.specs.declared.timestamp.Timestamp.{Timestamp}
@@ -33,7 +33,7 @@ of_timestamp (fractional_seconds x) = inr x
 
 -- int / float, where the integer is of 64 bits with a sign
 unfoldable pub timestamp : Shape TimestampSeen
-timestamp = along timestamp_of of_timestamp (either is_integer int64 floating)
+timestamp = mapped timestamp_of of_timestamp (either is_integer int64 floating)
 
 -- ---- the laws
 
@@ -51,7 +51,7 @@ float-told x w e = let h : float x ≡ w = some-one refl e in ap is_integer (sym
 pub timestamp_laws : Lawful TimestampSeen timestamp
 unfolding timestamp
 timestamp_laws =
-    along_laws timestamp_of of_timestamp timestamp-back _
+    mapped_laws timestamp_of of_timestamp timestamp-back _
     (either_laws is_integer int64 floating int64_laws floating_laws (λ v i w f d e. whole-told i w e) (λ v x w f d e. float-told x w e))
 
 -- ---- equality

@@ -9,7 +9,7 @@ ghost use Rattle.coset_codec.specs.declared.error.CoseError.TheVariants.{OutOfMe
 ghost use Rattle.coset_codec.specs.Errors.{UnlessMemory};
 ghost use Rattle.coset_codec.specs.Inputs.{ReadsAt, length_left, state};
 ghost use Rattle.coset_codec.specs.Maps.{Adds, Refuses, are_distinct};
-ghost use Rattle.coset_label.specs.Names.{assigned, phrase, private_use};
+ghost use Rattle.coset_label.specs.Names.{assigned, text_name, private_use};
 ghost use Rattle.coset_claims.specs.Timestamp.{timestamp_seen};
 ghost use Rattle.coset_claims.specs.Claims.{IsOtherClaim, and_claim, claim_name, claims, claims_seen, fields, name_seen, names, no_claims, parts_of, same_name};
 
@@ -148,14 +148,14 @@ fn set_claim(
 /// A claims set is read claim by claim.
 impl Gather for ClaimsSet {
     ghost use Rattle.coset_label.specs.Names.{RegisteredName};
-    ghost use Rattle.coset_claims.specs.Claims.{Fielded};
+    ghost use Rattle.coset_claims.specs.Claims.{FieldTuple};
     ghost use Rattle.coset_claims.specs.ClaimsLaws.{fields_laws, names_laws};
 
     type Label = ClaimName;
 
     ghost Name = { RegisteredName };
 
-    ghost Got = { Fielded };
+    ghost Got = { FieldTuple };
 
     ghost names = { names };
 
@@ -467,7 +467,7 @@ impl ClaimsSetBuilder {
     /// `OutOfMemory` alone.
     pub fn text_claim(mut self, name: String, value: Value) -> Result<ClaimsSetBuilder>
         ensures ok { IfOk result (λ b. claims_seen b
-            ≡ and_claim (phrase (string_bytes name)) (view value) (claims_seen self)) }
+            ≡ and_claim (text_name (string_bytes name)) (view value) (claims_seen self)) }
         ensures memory { IfErr result (λ e. e ≡ OutOfMemory) }
     {
         self.0.rest.push((ClaimName::Text(name), value))?;

@@ -5,7 +5,7 @@ ghost use Rattle.coset_value.specs.Item.{Items};
 ghost use Rattle.coset_iana.specs.Algorithm as algorithms;
 ghost use Rattle.coset_codec.specs.declared.error.CoseError.TheVariants.{OutOfMemory};
 ghost use Rattle.coset_codec.specs.Answers.{Reads};
-ghost use Rattle.coset_codec.specs.Encoding.{AppendsPlaces, Encodes};
+ghost use Rattle.coset_codec.specs.Encoding.{AppendsElements, Encodes};
 ghost use Rattle.coset_codec.specs.Inputs.{AreWithin, ReadsAt, State, length_left, state};
 ghost use Rattle.coset_codec.specs.Sources.{source_item};
 ghost use Rattle.coset_codec.specs.Lists.{ReadsEach};
@@ -13,7 +13,7 @@ ghost use Rattle.coset_codec.specs.Shape.{bstr, images};
 ghost use Rattle.coset_label.specs.Names.{assigned};
 ghost use Rattle.coset_core.specs.Fields.{algorithm};
 ghost use Rattle.coset_core.specs.Views.{algorithm_seen};
-ghost use Rattle.coset_claims.specs.Context.{and_supp_priv_info, context, context_seen, empty_context, four_places_and};
+ghost use Rattle.coset_claims.specs.Context.{and_supp_priv_info, context, context_seen, empty_context, four_elements_and};
 ghost use Rattle.coset_claims.specs.Party.{party_seen};
 ghost use Rattle.coset_claims.specs.SuppPub.{supp_pub_seen};
 
@@ -23,7 +23,7 @@ use coset_cbor::ser::{write_array_head, write_bytes};
 use coset_codec::read::{Input, InputItems};
 use coset_codec::traits::FromPull;
 use coset_codec::write::Encode;
-use coset_codec::{Codec, CoseError, Result, Source};
+use coset_codec::{Codec, CoseError, ItemSource, Result};
 use coset_core::{Algorithm, RegisteredLabelWithPrivate, iana};
 use std::alloc::{AllocError, Global};
 use std::marker::Model;
@@ -68,7 +68,7 @@ impl CoseKdfContext {
 }
 
 /// Reads one byte string.
-fn read_byte_string(alloc: Global, source: Source<'_>) -> Result<Vec<u8>>
+fn read_byte_string(alloc: Global, source: ItemSource<'_>) -> Result<Vec<u8>>
     ensures { Reads bstr (λ b. b.items) (source_item source.entry) result }
 {
     let mut input = Input::new(source);
@@ -111,7 +111,7 @@ fn read_algorithm(alloc: Global, input: &mut Input<'_>) -> Result<Algorithm>
     Algorithm::from_input(alloc, input)
 }
 
-/// What the error of too few places asks for.
+/// What the error of too few elements asks for.
 const FOUR: &str = "array with at least 4 items";
 
 impl Codec for CoseKdfContext {
@@ -133,19 +133,19 @@ impl Codec for CoseKdfContext {
         (supp_pub_told a.supp_pub_info b.supp_pub_info)
         (lists_told (λ b. b.items) _ bytes_told a.supp_priv_info.items b.supp_priv_info.items) };
 
-    /// Reads the places of a context from the first to the last, and names the fault of the last that has one.
+    /// Reads the elements of a context from the first to the last, and names the fault of the last that has one.
     fn read(alloc: Global, input: &mut Input<'_>) -> Result<CoseKdfContext> {
-        let mut places = input.enter_array("array")?;
-        places.place(input, FOUR)?;
+        let mut elements = input.enter_array("array")?;
+        elements.place(input, FOUR)?;
         let algorithm_id = read_algorithm(alloc, input);
-        places.place(input, FOUR)?;
+        elements.place(input, FOUR)?;
         let party_u_info = PartyInfo::read(alloc, input);
-        places.place(input, FOUR)?;
+        elements.place(input, FOUR)?;
         let party_v_info = PartyInfo::read(alloc, input);
-        places.place(input, FOUR)?;
+        elements.place(input, FOUR)?;
         let supp_pub_info = SuppPubInfo::read(alloc, input);
-        let supp_priv_info = read_byte_strings(alloc, &mut places, input);
-        places.finish(input);
+        let supp_priv_info = read_byte_strings(alloc, &mut elements, input);
+        elements.finish(input);
         let supp_priv_info = supp_priv_info?;
         let supp_pub_info = supp_pub_info?;
         let party_v_info = party_v_info?;
@@ -182,7 +182,7 @@ impl Codec for CoseKdfContext {
 
 /// Appends these byte strings, one after the other.
 fn write_byte_strings(all: &[Vec<u8>], out: &mut Vec<u8>) -> Result<()>
-    ensures ok { OnOk result (AppendsPlaces (images bstr.image (map (λ b. b.items) all.now))
+    ensures ok { OnOk result (AppendsElements (images bstr.image (map (λ b. b.items) all.now))
         (length all.now) out.old.items out.new.items) }
     ensures memory { IfErr result (λ e. e ≡ OutOfMemory) }
 {
@@ -192,7 +192,7 @@ fn write_byte_strings(all: &[Vec<u8>], out: &mut Vec<u8>) -> Result<()>
     Ok(())
 }
 
-/// Appends the array of four places, and of these byte strings behind them.
+/// Appends the array of four elements, and of these byte strings behind them.
 ///
 /// # Errors
 /// Those of the first place that has one.
@@ -205,7 +205,7 @@ fn encode_four_and_more<A: Encode, B: Encode, C: Encode, D: Encode>(
     more: &Vec<Vec<u8>>,
     out: &mut Vec<u8>,
 ) -> Result<()>
-    ensures { Encodes (four_places_and (A.image a.now) (B.image b.now) (C.image c.now)
+    ensures { Encodes (four_elements_and (A.image a.now) (B.image b.now) (C.image c.now)
         (D.image d.now) (images bstr.image (map (λ b. b.items) more.now.items)))
         out.old.items out.new.items result }
 {

@@ -44,20 +44,20 @@ impl SuppPubInfo {
     }
 }
 
-/// What the error of another number of places asks for.
+/// What the error of another number of elements asks for.
 const TWO_OR_THREE: &str = "array with 2 or 3 items";
 
 /// Reads the last place, if it is there.
 fn read_other(
     alloc: Global,
-    places: &mut InputItems,
+    elements: &mut InputItems,
     input: &mut Input<'_>,
 ) -> Result<Option<Vec<u8>>>
     ensures shrinks { length_left (state input.new) ≤ length_left (state input.old) }
-    ensures reads { (vs : Items) (z : State) → AreWithin places.old vs (state input.old) z
-        → ReadsOther vs (state input.new) z places.new result }
+    ensures reads { (vs : Items) (z : State) → AreWithin elements.old vs (state input.old) z
+        → ReadsOther vs (state input.new) z elements.new result }
 {
-    if !places.next(input) {
+    if !elements.next(input) {
         return Ok(None);
     }
     Ok(Some(input.bytes(alloc, "bstr")?))
@@ -77,15 +77,15 @@ impl Codec for SuppPubInfo {
 
     ghost equal = { supp_pub_told };
 
-    /// Reads the places from the first to the last, and names the fault of the last that has one.
+    /// Reads the elements from the first to the last, and names the fault of the last that has one.
     fn read(alloc: Global, input: &mut Input<'_>) -> Result<SuppPubInfo> {
-        let mut places = input.enter_array("array")?;
-        places.place(input, TWO_OR_THREE)?;
+        let mut elements = input.enter_array("array")?;
+        elements.place(input, TWO_OR_THREE)?;
         let key_data_length = input.uint("int");
-        places.place(input, TWO_OR_THREE)?;
+        elements.place(input, TWO_OR_THREE)?;
         let protected = ProtectedBstr::read(alloc, input);
-        let other = read_other(alloc, &mut places, input);
-        places.end(input, TWO_OR_THREE)?;
+        let other = read_other(alloc, &mut elements, input);
+        elements.end(input, TWO_OR_THREE)?;
         let other = other?;
         let ProtectedBstr(protected) = protected?;
         Ok(SuppPubInfo {

@@ -16,7 +16,7 @@ use coset_cbor::value::{Float, Value};
 use coset_codec::read::Input;
 use coset_codec::traits::FromPull;
 use coset_codec::write::Encode;
-use coset_codec::{AsCborValue, Lawful, Result, Source};
+use coset_codec::{AsCborValue, ItemSource, Lawful, Result};
 use std::alloc::{AllocError, Global};
 use std::cmp::Ordering;
 
@@ -102,7 +102,7 @@ impl Encode for Timestamp {
 
 impl FromPull for Timestamp {
     fn from_pull(_alloc: Global, pull: Pull<'_>) -> Result<Timestamp> {
-        read_timestamp(&mut Input::new(Source::Lent(pull)))
+        read_timestamp(&mut Input::new(ItemSource::Lent(pull)))
     }
 
     fn from_input(_alloc: Global, input: &mut Input<'_>) -> Result<Timestamp> {

@@ -2,11 +2,12 @@
 use Rattle.std.proofs.Common.{◌≡◌, ℕ, zero, suc, List, [], ◌∷◌, Bool, true, false, Option, Some, None, option_map, refl, sym, ◌∙◌, ap, subst}
 use Rattle.coset_value.specs.Item.{Item, Items, no_items, item, array, tag}
 use Rattle.coset_value.specs.Parts.{as_array, as_tag}
-use Rattle.coset_codec.specs.AsWritten.{AsWritten, WhenRead, PlacesAsWritten, PlacesWhenRead}
+use Rattle.coset_codec.specs.AsWritten.{AsWritten, WhenRead, ElementsAsWritten, ElementsWhenRead}
 use Rattle.coset_codec.specs.Lists.{EachHas, EachWith}
 use Rattle.coset_codec.specs.Recursive.{nested, recursive}
 use Rattle.coset_codec.specs.RecursiveLaws.{Step, written_nested}
-use Rattle.coset_codec.specs.Shape.{Shape, Places, both, array_of, ◌then◌, any_number, list_of, images, Each, perhaps, last_image, LastDescribes, tagged, bstr}
+use Rattle.coset_codec.specs.Shape.{Shape, Elements, both, array_of, ◌then◌, any_number, list_of, images}
+use Rattle.coset_codec.specs.Shape.{Each, optional_last, last_image, LastDescribes, tagged, bstr}
 use Rattle.coset_codec.specs.Shape.{or_nil}
 use Rattle.coset_codec.specs.ShapeLaws.{some-one, bstr_laws, bytes_no_nil, or_nil_laws}
 
@@ -34,13 +35,13 @@ members_written : (os : Option Items) (v : Item) → option_map array os ≡ Som
 members_written None v e = absurd (cc)
 members_written (Some vs) v e = let same : array vs ≡ v = some-one refl e in (vs, refl, ap as_array (sym same))
 
-module _ {A : Type 0} (ps : Places A) where
-  pub array_as_written : (R : A → A → Type 0) → PlacesAsWritten ps R → AsWritten (array_of ps) R
+module _ {A : Type 0} (ps : Elements A) where
+  pub array_as_written : (R : A → A → Type 0) → ElementsAsWritten ps R → AsWritten (array_of ps) R
   array_as_written R h v x y e d =
       let m = members_written (ps.image x) v e in
       h m.0 x y m.1 (subst (λ vs. ps.describes vs y) (some-one d.1 m.2) d.2)
 
-  pub array_when_read : (P : A → Type 0) → PlacesWhenRead ps P → WhenRead (array_of ps) P
+  pub array_when_read : (P : A → Type 0) → ElementsWhenRead ps P → WhenRead (array_of ps) P
   array_when_read P h v x d = h d.0 x d.2
 
 -- a place of an array that was written, and those behind it
@@ -50,15 +51,15 @@ place_written None os vs e = absurd (cc)
 place_written (Some u) None vs e = absurd (cc)
 place_written (Some u) (Some us) vs e = (u, us, refl, refl, sym (some-one refl e))
 
-module _ {A B : Type 0} (s : Shape A) (ps : Places B) where
-  pub then_as_written : (R : A → A → Type 0) (Q : B → B → Type 0) → AsWritten s R → PlacesAsWritten ps Q
-      → PlacesAsWritten (s then ps) (λ x y. R x.0 y.0 × Q x.1 y.1)
+module _ {A B : Type 0} (s : Shape A) (ps : Elements B) where
+  pub then_as_written : (R : A → A → Type 0) (Q : B → B → Type 0) → AsWritten s R → ElementsAsWritten ps Q
+      → ElementsAsWritten (s then ps) (λ x y. R x.0 y.0 × Q x.1 y.1)
   then_as_written R Q one more vs x y e d =
       let p = place_written (s.image x.0) (ps.image x.1) vs e in
       let both_read = subst (λ ws. (s then ps).describes ws y) p.4 d in
       (one p.0 x.0 y.0 p.2 both_read.0, more p.1 x.1 y.1 p.3 both_read.1)
 
-  pub then_when_read : (P : A → Type 0) (Q : B → Type 0) → WhenRead s P → PlacesWhenRead ps Q → PlacesWhenRead (s then ps) (λ x. P x.0 × Q x.1)
+  pub then_when_read : (P : A → Type 0) (Q : B → Type 0) → WhenRead s P → ElementsWhenRead ps Q → ElementsWhenRead (s then ps) (λ x. P x.0 × Q x.1)
   then_when_read P Q one more no_items x d = absurd d
   then_when_read P Q one more (item v vs) x d = (one v x.0 d.0, more vs x.1 d.1)
 
@@ -112,13 +113,14 @@ module _ {A : Type 0} (absent : A) (shows : A → Bool) (s : Shape A) where
       let none : y ≡ absent = subst (λ ws. LastDescribes absent s.describes ws y) (sym (some-one refl e)) d in
       subst (R x) (sym none) (hidden is)
 
-  pub perhaps_as_written : (R : A → A → Type 0) → AsWritten s R → ((x : A) → shows x ≡ false → R x absent) → PlacesAsWritten (perhaps absent shows s) R
-  perhaps_as_written R h hidden vs x y e d = last_as_written R h x y (hidden x) vs (shows x) refl e d
+  pub optional_last_as_written : (R : A → A → Type 0) → AsWritten s R → ((x : A) → shows x ≡ false → R x absent)
+      → ElementsAsWritten (optional_last absent shows s) R
+  optional_last_as_written R h hidden vs x y e d = last_as_written R h x y (hidden x) vs (shows x) refl e d
 
-  pub perhaps_when_read : (P : A → Type 0) → WhenRead s P → P absent → PlacesWhenRead (perhaps absent shows s) P
-  perhaps_when_read P h missing no_items x d = subst P (sym d) missing
-  perhaps_when_read P h missing (item v no_items) x d = h v x d
-  perhaps_when_read P h missing (item v (item w vs)) x d = absurd d
+  pub optional_last_when_read : (P : A → Type 0) → WhenRead s P → P absent → ElementsWhenRead (optional_last absent shows s) P
+  optional_last_when_read P h missing no_items x d = subst P (sym d) missing
+  optional_last_when_read P h missing (item v no_items) x d = h v x d
+  optional_last_when_read P h missing (item v (item w vs)) x d = absurd d
 
 -- ---- types that hold others of themselves
 

@@ -9,19 +9,19 @@ use Rattle.coset_cbor.specs.Grammar.{IsEncoding}
 use Rattle.coset_cbor.specs.Least.{least_head, least_encoding, least_encodings}
 use Rattle.coset_cbor.specs.Shortest.{IsShortest}
 use Rattle.coset_codec.specs.Shape.{both, images}
-use Rattle.coset_codec.specs.Encoding.{AppendsImage, AppendsPlaces, Encodes, HasNoImage}
+use Rattle.coset_codec.specs.Encoding.{AppendsImage, AppendsElements, Encodes, HasNoImage}
 use Rattle.coset_codec.specs.Errors.{UnlessMemory}
 use Rattle.coset_codec.specs.declared.error.CoseError.{CoseError}
 use Rattle.coset_codec.specs.declared.error.CoseError.TheVariants.{DuplicateMapKey}
 
--- ---- arrays of places
+-- ---- arrays of elements
 
-pub nothing-put : (s : List ℕ) → AppendsPlaces (Some no_items) 0 s s
+pub nothing-put : (s : List ℕ) → AppendsElements (Some no_items) 0 s s
 nothing-put s = (no_items, refl, record { count = refl; in_range = tt; parts = sym (append-nil s) })
 
 pub place-put :
-    {o : Option Item} {os : Option Items} {n : ℕ} {old mid new : List ℕ} → AppendsImage o old mid → AppendsPlaces os n mid new
-    → AppendsPlaces (both item o os) (suc n) old new
+    {o : Option Item} {os : Option Items} {n : ℕ} {old mid new : List ℕ} → AppendsImage o old mid → AppendsElements os n mid new
+    → AppendsElements (both item o os) (suc n) old new
 place-put {o} {os} {n} {old} {mid} {new} p q = (
   item p.0 q.0,
   (λ i. both item (p.1 i) (q.1 i)),
@@ -32,7 +32,7 @@ place-put {o} {os} {n} {old} {mid} {new} p q = (
   },
 )
 
-pub array-put : {os : Option Items} (n : ℕ) {old head new : List ℕ} → n < 2 ^ 64 → head ≡ old ++ least_head 4 n → AppendsPlaces os n head new
+pub array-put : {os : Option Items} (n : ℕ) {old head new : List ℕ} → n < 2 ^ 64 → head ≡ old ++ least_head 4 n → AppendsElements os n head new
     → AppendsImage (option_map array os) old new
 array-put {os} n {old} {head} {new} small first p = (
   array p.0,
@@ -80,8 +80,8 @@ module _ {A : Type 0} (f : A → Option Item) where
   images-missing xs ys x e = images-append xs (x ∷ ys) ∙ rw e (both-none (images f xs))
 
   -- one more member
-  pub member-put : {n : ℕ} {old mid new : List ℕ} (xs : List A) (x : A) → AppendsPlaces (images f xs) n old mid → AppendsImage (f x) mid new
-      → AppendsPlaces (images f (xs ++ x ∷ [])) (n + 1) old new
+  pub member-put : {n : ℕ} {old mid new : List ℕ} (xs : List A) (x : A) → AppendsElements (images f xs) n old mid → AppendsImage (f x) mid new
+      → AppendsElements (images f (xs ++ x ∷ [])) (n + 1) old new
   member-put {n} {old} {mid} {new} xs x p q = (
     and_items p.0 (item q.0 no_items),
     images-append xs (x ∷ []) ∙ (λ i. both and_items (p.1 i) (both item (q.1 i) (Some no_items))),
@@ -115,7 +115,7 @@ module _ {A : Type 0} (xs : List A) (i : ℕ) (x : A) (lt : i < length xs) (is :
 
 -- a head, and the members behind it
 pub array-encoded : {T : Type 0} (os : Option Items) (n : ℕ) (old head new : List ℕ) (r : Result T CoseError) → n < 2 ^ 64 → head ≡ old ++ least_head 4 n
-    → OnOk r (AppendsPlaces os n head new) → IfErr r (HasNoImage os) → Encodes (option_map array os) old new r
+    → OnOk r (AppendsElements os n head new) → IfErr r (HasNoImage os) → Encodes (option_map array os) old new r
 array-encoded os n old head new (Ok x) small first ok refused = array-put n small first ok
 array-encoded os n old head new (Err e) small first ok refused = λ m. let none = refused m in (none.0, ap (option_map array) none.1)
 

@@ -9,7 +9,7 @@ use Rattle.coset_value.specs.Range.{ArePairsInRange}
 use Rattle.coset_cbor.specs.Least.{least_head, least_encoding, least_pair_encodings}
 use Rattle.coset_codec.specs.declared.error.CoseError.{CoseError}
 use Rattle.coset_codec.specs.Encoding.{AppendsItem, AppendsImage, Encodes, HasNoImage, AppendsPairs, AppendsAll, AppendsField}
-use Rattle.coset_codec.specs.Maps.{Names, field_shape_image, named_image, and_pairs, put_field, entries_image, is_filled}
+use Rattle.coset_codec.specs.Maps.{Names, field_shape_image, named_image, and_pairs, put_field, entries_image, is_nonempty}
 use Rattle.coset_codec.specs.RestLaws.{as_seen}
 use Rattle.coset_codec.specs.Shape.{both, present_image}
 use Rattle.coset_codec.proofs.Pushing.{named_image-append, named_image-none}
@@ -110,12 +110,12 @@ optional-put f see g None label put more = field-put f false None label put more
 -- a list that is left out where it is empty
 pub listed-put :
     {N X : Type 0} (f : N → Option Item) (g : List X → Option Item) (xs : List X) (b : Bool) {l : N} {i : ℤ} {os : Option (List (N × Item))} {there : List Bool}
-    {old mid new : List ℕ} → is_filled xs ≡ b → f l ≡ Some (integer i)
-    → AppendsField i (field_shape_image (is_filled xs) (g xs)) old mid → AppendsFields N f os there mid new
-    → AppendsFields N f (both (put_field l) (field_shape_image (is_filled xs) (g xs)) os) (b ∷ there) old new
+    {old mid new : List ℕ} → is_nonempty xs ≡ b → f l ≡ Some (integer i)
+    → AppendsField i (field_shape_image (is_nonempty xs) (g xs)) old mid → AppendsFields N f os there mid new
+    → AppendsFields N f (both (put_field l) (field_shape_image (is_nonempty xs) (g xs)) os) (b ∷ there) old new
 listed-put {N} f g xs b {l} {os} {there} {old} {new} told label put more =
-    subst (λ c. AppendsFields N f (both (put_field l) (field_shape_image (is_filled xs) (g xs)) os) (c ∷ there) old new) told
-    (field-put f (is_filled xs) (g xs) label put more)
+    subst (λ c. AppendsFields N f (both (put_field l) (field_shape_image (is_nonempty xs) (g xs)) os) (c ∷ there) old new) told
+    (field-put f (is_nonempty xs) (g xs) label put more)
 
 -- the pairs of the rest, as their labels are seen
 pub rest-seen :
@@ -187,11 +187,11 @@ map-written n see view xs {o} b there old new (Err e) may small first fields res
 -- ---- which fields are there
 
 -- a list is there where it isn't empty
-pub filled-there : {X : Type 0} (xs : List X) (b : Bool) → b ≡ (length xs == 0) → is_filled xs ≡ not b
+pub filled-there : {X : Type 0} (xs : List X) (b : Bool) → b ≡ (length xs == 0) → is_nonempty xs ≡ not b
 filled-there [] b e = sym (ap not e)
 filled-there (x ∷ xs) b e = sym (ap not e ∙ grind (arith, common_steps))
 
-pub filled-seen : {X Y : Type 0} (see : X → Y) (xs : List X) (b : Bool) → b ≡ (length xs == 0) → is_filled (map see xs) ≡ not b
+pub filled-seen : {X Y : Type 0} (see : X → Y) (xs : List X) (b : Bool) → b ≡ (length xs == 0) → is_nonempty (map see xs) ≡ not b
 filled-seen see xs b e = filled-there (map see xs) b (e ∙ ap (λ n. n == 0) (sym (length-map xs see)))
 
 -- a field that isn't

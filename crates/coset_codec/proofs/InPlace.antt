@@ -5,19 +5,19 @@ use Rattle.std.proofs.lemmas.List.{map-append}
 use Rattle.std.specs.Prelude.{IsErrAnd}
 use Rattle.coset_value.specs.Item.{Item, Items}
 use Rattle.coset_codec.specs.declared.error.CoseError.{CoseError}
-use Rattle.coset_codec.specs.declared.error.Refused.{Refused}
+use Rattle.coset_codec.specs.declared.error.ErrorStored.{ErrorStored}
 use Rattle.coset_codec.specs.declared.read.input.InputItems.{InputItems}
-use Rattle.coset_codec.specs.Errors.{UnlessMemory, answer}
+use Rattle.coset_codec.specs.Errors.{UnlessMemory, stored}
 use Rattle.coset_codec.specs.InPlace.{Fills, FillsEach, BeginsNext}
-use Rattle.coset_codec.specs.Inputs.{State, Stands, AreWithin}
+use Rattle.coset_codec.specs.Inputs.{State, ItemAt, AreWithin}
 use Rattle.coset_codec.specs.Lists.{Continues}
 use Rattle.coset_codec.specs.Shape.{Shape, EachFaults}
 use Rattle.coset_codec.proofs.Lists.{goes_on}
 
 -- an error that is passed on
 pub not_filled :
-    {A : Type 0} (s : Shape A) (x : A) (v : Item) (r : Result (Unit {0}) Refused) (e : CoseError) (w : Refused) → IsErrAnd r (λ f. f ≡ w)
-    → UnlessMemory e (s.faults v) → Fills s v x (answer e r)
+    {A : Type 0} (s : Shape A) (x : A) (v : Item) (r : Result (Unit {0}) ErrorStored) (e : CoseError) (w : ErrorStored) → IsErrAnd r (λ f. f ≡ w)
+    → UnlessMemory e (s.faults v) → Fills s v x (stored e r)
 not_filled s x v (Ok u) e w h n = absurd h
 not_filled s x v (Err f) e w h n = n
 
@@ -57,7 +57,7 @@ pub record Filled (A : Type 0) (s : Shape A) (vs : Items) (z : State) (m : Input
 module _ {A : Type 0} (s : Shape A) where
   pub one_filled_more :
       (vs : Items) (j t u z : State) (m n : InputItems) (xs ys : List A) (x : A) → (p : Filled A s vs z m j xs) → BeginsNext p.others t z n (Ok true)
-      → ((v : Item) (y : State) → Stands v t y → (u ≡ y) × s.describes v x)
+      → ((v : Item) (y : State) → ItemAt v t y → (u ≡ y) × s.describes v x)
       → ys ≡ xs ++ x ∷ [] → Filled A s vs z n u ys
   one_filled_more vs j t u z m n xs ys x p b read e =
       let here = read b.0 b.2 b.4 in
@@ -68,10 +68,10 @@ module _ {A : Type 0} (s : Shape A) where
       }
 
   pub one_refused_more :
-      (vs : Items) (j t u z : State) (m n : InputItems) (xs ys : List A) (x : A) (r : Result (Unit {0}) Refused) (e : CoseError) (y : Refused)
+      (vs : Items) (j t u z : State) (m n : InputItems) (xs ys : List A) (x : A) (r : Result (Unit {0}) ErrorStored) (e : CoseError) (y : ErrorStored)
       → IsErrAnd r (λ i. i ≡ y) → (p : Filled A s vs z m j xs) → BeginsNext p.others t z n (Ok true)
-      → ((v : Item) (i : State) → Stands v t i → (u ≡ i) × UnlessMemory e (s.faults v)) → ((left : Items) × AreWithin n left u z)
-      × FillsEach s vs ys (answer e r)
+      → ((v : Item) (i : State) → ItemAt v t i → (u ≡ i) × UnlessMemory e (s.faults v)) → ((left : Items) × AreWithin n left u z)
+      × FillsEach s vs ys (stored e r)
   one_refused_more vs j t u z m n xs ys x (Ok i) e y is p b read = absurd is
   one_refused_more vs j t u z m n xs ys x (Err i) e y is p b read =
       let here = read b.0 b.2 b.4 in (

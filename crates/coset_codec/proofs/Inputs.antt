@@ -2,7 +2,7 @@
 use Rattle.std.proofs.Common.{◌≡◌, ◌≤◌, ◌<◌, arith, ℕ, List, Bool, true, false, Some, None, Result, Ok, Err, refl, sym, subst, ◌∙◌}
 use Rattle.coset_value.specs.Item.{Item, Items, no_items, item, Pairs, no_pairs, pair}
 use Rattle.coset_cbor.specs.declared.cursor.Cursor.{Cursor}
-use Rattle.coset_cbor.specs.declared.cursor.Places.{Places}
+use Rattle.coset_cbor.specs.declared.cursor.Remaining.{Remaining}
 use Rattle.coset_cbor.specs.Cursors as bytes
 use Rattle.coset_cbor.specs.Cursors.{keys_and_values, bytes_left}
 use Rattle.coset_codec.specs.declared.error.CoseError.{CoseError}
@@ -11,7 +11,7 @@ use Rattle.coset_codec.specs.declared.read.input.InputItems.TheVariants as items
 use Rattle.coset_codec.specs.declared.read.input.InputPairs.{InputPairs}
 use Rattle.coset_codec.specs.declared.read.input.InputPairs.TheVariants as pairs
 use Rattle.coset_codec.specs.Answers.{Reads}
-use Rattle.coset_codec.specs.Inputs.{State, tree, lent, length_left, input_size, items_size, items_turns, pairs_size, pairs_turns, IsLent, GoesBehind, Stands}
+use Rattle.coset_codec.specs.Inputs.{State, tree, lent, length_left, input_size, items_size, items_turns, pairs_size, pairs_turns, IsLent, GoesBehind, ItemAt}
 use Rattle.coset_codec.specs.Inputs.{AreWithin, PairsWithin, Nexts, NextsKey}
 use Rattle.coset_codec.specs.Shape.{Shape}
 
@@ -21,7 +21,7 @@ lent_is s t e = cc
 -- ---- members
 
 by_lent :
-    (p q : Places) (s : List ℕ) (more : Bool) → ((vs : Items) (a : List ℕ) → bytes.AreWithin p vs s a → bytes.Nexts vs s a q more) → (vs : Items) (z : State)
+    (p q : Remaining) (s : List ℕ) (more : Bool) → ((vs : Items) (a : List ℕ) → bytes.AreWithin p vs s a → bytes.Nexts vs s a q more) → (vs : Items) (z : State)
     → AreWithin (items.Lent p) vs (lent s) z
     → Nexts vs (lent s) z (items.Lent q) more
 by_lent p q s true next vs z (b, a, at, end, w) =
@@ -32,20 +32,20 @@ by_lent p q s false next vs z (b, a, at, end, w) =
     (r.0, (s, a, refl, end, r.1))
 
 pub lent_next :
-    (p q : Places) (k : Cursor) (more : Bool) → ((vs : Items) (a : List ℕ) → bytes.AreWithin p vs (bytes_left k) a → bytes.Nexts vs (bytes_left k) a q more)
+    (p q : Remaining) (k : Cursor) (more : Bool) → ((vs : Items) (a : List ℕ) → bytes.AreWithin p vs (bytes_left k) a → bytes.Nexts vs (bytes_left k) a q more)
     → (vs : Items) (z : State)
     → AreWithin (items.Lent p) vs (lent (bytes_left k)) z → Nexts vs (lent (bytes_left k)) z (items.Lent q) more
 lent_next p q k more next vs z w = by_lent p q (bytes_left k) more next vs z w
 
 -- where lent items stand
-pub lent_there : (t z : State) (p : Places) (vs : Items) → AreWithin (items.Lent p) vs t z → IsLent t
+pub lent_there : (t z : State) (p : Remaining) (vs : Items) → AreWithin (items.Lent p) vs t z → IsLent t
 lent_there t z p vs (b, a, at, end, w) = subst IsLent (sym at) tt
 
-pub lent_size : (m : InputItems) (p : Places) (t : State) → m ≡ items.Lent p → IsLent t → input_size t ≤ items_size m t
+pub lent_size : (m : InputItems) (p : Remaining) (t : State) → m ≡ items.Lent p → IsLent t → input_size t ≤ items_size m t
 lent_size m p (lent s) is there = subst (λ (n : InputItems). length_left (lent s) ≤ items_size n (lent s)) (sym is) (omega arith)
 lent_size m p (tree w) is there = absurd there
 
-pub lent_turns : (m : InputItems) (p : Places) (t u : State) → m ≡ items.Lent p → IsLent t → GoesBehind t u → length_left u < items_turns m t
+pub lent_turns : (m : InputItems) (p : Remaining) (t u : State) → m ≡ items.Lent p → IsLent t → GoesBehind t u → length_left u < items_turns m t
 lent_turns m p (lent s) u is there goes = subst (λ (n : InputItems). length_left u < items_turns n (lent s)) (sym is) goes
 lent_turns m p (tree w) u is there goes = absurd there
 
@@ -80,23 +80,23 @@ flat_none no_pairs e = refl
 flat_none (pair k v ps) e = absurd cc
 
 module _ {K A : Type 0} (shape : Shape A) (seen : K → A) where
-  pub key_none : (ps : Pairs) (s z : State) (p : Places) → Nexts (keys_and_values ps) s z (items.Lent p) false
+  pub key_none : (ps : Pairs) (s z : State) (p : Remaining) → Nexts (keys_and_values ps) s z (items.Lent p) false
       → NextsKey shape seen ps s z (pairs.Lent p) (Ok None)
   key_none ps s z p n = (flat_none ps n.0, n.1)
 
   -- a key that was read, and behind it its value
-  pub record Behind (ps : Pairs) (t z : State) (q : Places) (r : Result K CoseError) : Type 0 where
+  pub record Behind (ps : Pairs) (t z : State) (q : Remaining) (r : Result K CoseError) : Type 0 where
     pub key : Item
     pub value : Item
     pub others : Pairs
     pub mid : State
     pub parts : ps ≡ pair key value others
     pub reads : Reads shape seen key r
-    pub stands : Stands value t mid
+    pub stands : ItemAt value t mid
     pub within : PairsWithin (pairs.Lent q) others mid z
 
   value_behind :
-      (k v : Item) (qs : Pairs) (t z : State) (q : Places) (r : Result K CoseError) (others : Items) → item v (keys_and_values qs) ≡ others
+      (k v : Item) (qs : Pairs) (t z : State) (q : Remaining) (r : Result K CoseError) (others : Items) → item v (keys_and_values qs) ≡ others
       → Reads shape seen k r → Nexts others t z (items.Lent q) true → Behind (pair k v qs) t z q r
   value_behind k v qs t z q r others e reads n =
       let same = item_is n.0 v n.1 (keys_and_values qs) (sym (e ∙ n.3)) in
@@ -107,13 +107,13 @@ module _ {K A : Type 0} (shape : Shape A) (seen : K → A) where
         mid = n.2;
         parts = refl;
         reads = reads;
-        stands = subst (λ (w : Item). Stands w t n.2) same.0 n.4;
+        stands = subst (λ (w : Item). ItemAt w t n.2) same.0 n.4;
         within = subst (λ (ws : Items). AreWithin (items.Lent q) ws n.2 z) same.1 n.5;
       }
 
   pub key_behind :
-      (ps : Pairs) (s t z : State) (p q : Places) (r : Result K CoseError) → Nexts (keys_and_values ps) s z (items.Lent p) true
-      → ((v : Item) (y : State) → Stands v s y → (t ≡ y) × Reads shape seen v r)
+      (ps : Pairs) (s t z : State) (p q : Remaining) (r : Result K CoseError) → Nexts (keys_and_values ps) s z (items.Lent p) true
+      → ((v : Item) (y : State) → ItemAt v s y → (t ≡ y) × Reads shape seen v r)
       → ((vs : Items) (y : State) → AreWithin (items.Lent p) vs t y → Nexts vs t y (items.Lent q) true) → Behind ps t z q r
   key_behind no_pairs s t z p q r n reads next = absurd (none n.3)
     where
@@ -125,10 +125,10 @@ module _ {K A : Type 0} (shape : Shape A) (seen : K → A) where
       value_behind k v qs t z q r n.1 same.1 (subst (λ (w : Item). Reads shape seen w r) (sym same.0) here.1)
       (next n.1 z (subst (λ (x : State). AreWithin (items.Lent p) n.1 x z) (sym here.0) n.5))
 
-  pub key_read : (ps : Pairs) (t z : State) (q : Places) (key : K) → Behind ps t z q (Ok key) → NextsKey shape seen ps t z (pairs.Lent q) (Ok (Some key))
+  pub key_read : (ps : Pairs) (t z : State) (q : Remaining) (key : K) → Behind ps t z q (Ok key) → NextsKey shape seen ps t z (pairs.Lent q) (Ok (Some key))
   key_read ps t z q key x = (x.key, x.value, x.others, x.mid, x.parts, x.reads, x.stands, x.within)
 
-  pub key_refused : (ps : Pairs) (t u z : State) (q : Places) (e : CoseError) → Behind ps t z q (Err e) → ((v : Item) (y : State) → Stands v t y → u ≡ y)
+  pub key_refused : (ps : Pairs) (t u z : State) (q : Remaining) (e : CoseError) → Behind ps t z q (Err e) → ((v : Item) (y : State) → ItemAt v t y → u ≡ y)
       → NextsKey shape seen ps u z (pairs.Lent q) (Err e)
   key_refused ps t u z q e x passes = (
     x.key,
@@ -140,8 +140,8 @@ module _ {K A : Type 0} (shape : Shape A) (seen : K → A) where
   )
 
   -- behind a key stands its value
-  pub key_without : (ps : Pairs) (s t z : State) (p q : Places) (r : Result K CoseError) → Nexts (keys_and_values ps) s z (items.Lent p) true
-      → ((v : Item) (y : State) → Stands v s y → (t ≡ y) × Reads shape seen v r)
+  pub key_without : (ps : Pairs) (s t z : State) (p q : Remaining) (r : Result K CoseError) → Nexts (keys_and_values ps) s z (items.Lent p) true
+      → ((v : Item) (y : State) → ItemAt v s y → (t ≡ y) × Reads shape seen v r)
       → ((vs : Items) (y : State) → AreWithin (items.Lent p) vs t y → Nexts vs t y (items.Lent q) false) → ⊥
   key_without no_pairs s t z p q r n reads next = none n.3
     where

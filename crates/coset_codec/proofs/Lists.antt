@@ -9,7 +9,7 @@ use Rattle.coset_value.specs.Item.{Item, array, Items, no_items, item}
 use Rattle.coset_value.specs.View.{view, items_view}
 use Rattle.coset_value.specs.declared.value.Value.{Value, Array, the_lemmas}
 use Rattle.coset_codec.specs.declared.error.CoseError.{CoseError}
-use Rattle.coset_codec.specs.Shape.{Shape, Each, EachFaults, blamed, images}
+use Rattle.coset_codec.specs.Shape.{Shape, Each, EachFaults, masked, images}
 use Rattle.coset_codec.specs.ShapeLaws.{both-some}
 use Rattle.coset_codec.specs.Lists.{Continues, EachWith}
 
@@ -30,11 +30,11 @@ module _ {A : Type 0} (s : Shape A) where
   all_read all left xs c n = subst (Each s.describes all) (append-nil xs) (c.ends [] (subst (λ vs. Each s.describes vs []) (sym n) tt))
 
   -- whatever their faults are
-  pub each_blamed : (blames : CoseError → Type 0) (all : Items) (e f : CoseError) → blames f → EachFaults s.faults all e
-      → EachFaults (blamed blames s).faults all f
-  each_blamed blames no_items e f b h = h
-  each_blamed blames (item v vs) e f b (inl h) = inl (b, (e, h))
-  each_blamed blames (item v vs) e f b (inr h) = inr (each_blamed blames vs e f b h)
+  pub each_masked : (blames : CoseError → Type 0) (all : Items) (e f : CoseError) → blames f → EachFaults s.faults all e
+      → EachFaults (masked blames s).faults all f
+  each_masked blames no_items e f b h = h
+  each_masked blames (item v vs) e f b (inl h) = inl (b, (e, h))
+  each_masked blames (item v vs) e f b (inr h) = inr (each_masked blames vs e f b h)
 
 -- one more of each
 pub with-more : {A B : Type 0} (R : A → B → Type 0) (xs : List A) (ys : List B) (x : A) (y : B) → EachWith R xs ys → R x y

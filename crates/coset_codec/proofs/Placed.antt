@@ -1,4 +1,4 @@
--- Places of an array that were read one after the other.
+-- Elements of an array that were read one after the other.
 use Rattle.std.proofs.Common.{◌≡◌, Result, Ok, Err, sym, ap, subst, ◌∙◌}
 use Rattle.std.specs.Prelude.{IsErrAnd}
 use Rattle.coset_value.specs.Item.{Item, Items, no_items, item}
@@ -7,10 +7,10 @@ use Rattle.coset_codec.specs.declared.read.input.InputItems.{InputItems}
 use Rattle.coset_codec.specs.Answers.{Reads}
 use Rattle.coset_codec.specs.Errors.{UnlessMemory}
 use Rattle.coset_codec.specs.InPlace.{Fills}
-use Rattle.coset_codec.specs.Inputs.{State, Stands, AreWithin, ReadsAt}
+use Rattle.coset_codec.specs.Inputs.{State, ItemAt, AreWithin, ReadsAt}
 use Rattle.coset_codec.specs.Shape.{Shape}
 
--- of the places vs the first was read, of which Q tells, and the others stand there
+-- of the elements vs the first was read, of which Q tells, and the others stand there
 pub record Placed (Q : Item → Type 0) (vs : Items) (m : InputItems) (s z : State) : Type 0 where
   pub first : Item
   pub others : Items
@@ -19,13 +19,13 @@ pub record Placed (Q : Item → Type 0) (vs : Items) (m : InputItems) (s z : Sta
   pub within : AreWithin m others s z
 
 pub placed :
-    (t u z : State) (n : InputItems) {Q : Item → Type 0} {vs : Items} → (v : Item) × (others : Items) × (mid : State) × (vs ≡ item v others) × Stands v t mid
+    (t u z : State) (n : InputItems) {Q : Item → Type 0} {vs : Items} → (v : Item) × (others : Items) × (mid : State) × (vs ≡ item v others) × ItemAt v t mid
     × AreWithin n others mid z → ReadsAt t u Q → Placed Q vs n u z
 placed t u z n p reads =
     let here = reads p.0 p.2 p.4 in
     record { first = p.0; others = p.1; parts = p.3; read = here.1; within = subst (λ (y : State). AreWithin n p.1 y z) (sym here.0) p.5 }
 
--- so many places, and no other
+-- so many elements, and no other
 pub two_are : {vs ws none : Items} {v w : Item} → vs ≡ item v ws → ws ≡ item w none → none ≡ no_items → vs ≡ item v (item w no_items)
 two_are {v = v} {w = w} p q e = p ∙ ap (item v) (q ∙ ap (item w) e)
 

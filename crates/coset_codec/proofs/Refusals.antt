@@ -4,7 +4,7 @@ use Rattle.std.proofs.Common.{take-append-drop, length-take-le}
 use Rattle.coset_value.specs.Item.{Item}
 use Rattle.coset_cbor.specs.Fronts.{AreBytes, HasNoItem}
 use Rattle.coset_cbor.specs.Grammar.{IsItem}
-use Rattle.coset_cbor.specs.Refused.{IsMemory, StandsIn}
+use Rattle.coset_cbor.specs.ReadErrors.{IsMemory, FaultIn}
 use Rattle.coset_cbor.specs.declared.de.EndOfFile.{EndOfFile}
 use Rattle.coset_cbor.specs.declared.de.Error.{Error}
 use Rattle.coset_codec.specs.declared.error.CoseError.{CoseError}
@@ -29,7 +29,7 @@ memory_or_not OutOfMemory = inl refl
 
 -- where a fault stands in bytes, no front of them is an item
 abbrev pub NoItemAtFault : Type 0
-NoItemAtFault = (s : List ℕ) (e : Error EndOfFile) → AreBytes s → (IsMemory e → ⊥) → StandsIn s e → HasNoItem s
+NoItemAtFault = (s : List ℕ) (e : Error EndOfFile) → AreBytes s → (IsMemory e → ⊥) → FaultIn s e → HasNoItem s
 
 split : (n : ℕ) (s : List ℕ) → s ≡ take n s ++ drop n s
 split n s = sym (take-append-drop n s)

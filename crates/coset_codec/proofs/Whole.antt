@@ -5,7 +5,7 @@ use Rattle.std.proofs.Common.{length-append}
 use Rattle.std.proofs.Math.Seq.{take-append_seam}
 use Rattle.coset_value.specs.Item.{Item}
 use Rattle.coset_cbor.specs.Grammar.{IsEncoding, IsItem}
-use Rattle.coset_cbor.specs.Refused.{IsMemory, StandsIn}
+use Rattle.coset_cbor.specs.ReadErrors.{IsMemory, FaultIn}
 use Rattle.coset_cbor.specs.declared.de.EndOfFile.{EndOfFile}
 use Rattle.coset_cbor.specs.declared.de.Error.{Error}
 use Rattle.coset_cbor.specs.declared.de.Error.TheVariants as errors
@@ -24,7 +24,7 @@ pub no_whole : (s : List ℕ) → ((v : Item) (b rest : List ℕ) → s ≡ b ++
 no_whole s none v is = none v s [] (sym (append-nil s)) is
 
 -- a fault of the bytes, as the error of a failed decoding
-pub byte_fault : (s : List ℕ) (e : Error EndOfFile) → (IsMemory e → ⊥) → StandsIn s e → IsByteFault s (decode_failure e)
+pub byte_fault : (s : List ℕ) (e : Error EndOfFile) → (IsMemory e → ⊥) → FaultIn s e → IsByteFault s (decode_failure e)
 byte_fault s (errors.Io x) n h = (errors.Io (record {}), refl, n, h)
 byte_fault s (errors.Syntax i) n h = (errors.Syntax i, refl, n, h)
 byte_fault s (errors.Semantic i t) n h = (errors.Semantic i t, refl, n, h)

@@ -3,14 +3,14 @@ use Rattle.std.specs.Prelude.{◌≡◌, ◌≢◌, ◌⊎◌, ◌<◌, ℕ, Lis
 use Rattle.coset_value.specs.Item.{Item, Items}
 use Rattle.coset_value.specs.Parts.{as_tag}
 use Rattle.coset_cbor.specs.Grammar.{IsItem}
-use Rattle.coset_cbor.specs.Refused.{IsMemory, StandsIn}
+use Rattle.coset_cbor.specs.ReadErrors.{IsMemory, FaultIn}
 use Rattle.coset_cbor.specs.Shortest.{IsShortest}
 use Rattle.coset_cbor.specs.declared.de.EndOfFile.{EndOfFile}
 use Rattle.coset_cbor.specs.declared.de.Error.{Error}
 use Rattle.coset_codec.specs.declared.error.CoseError.{CoseError}
 use Rattle.coset_codec.specs.declared.error.CoseError.TheVariants.{DecodeFailed, DuplicateMapKey, ExtraneousData, OutOfMemory}
 use Rattle.coset_codec.specs.Errors.{IsUnexpected, UnlessMemory}
-use Rattle.coset_codec.specs.Shape.{Places, PlacesFaults, Shape}
+use Rattle.coset_codec.specs.Shape.{Elements, ElementsFaults, Shape}
 
 -- Reading the item v: a value that v stands for, or, out of memory aside, an error that tells of a fault in v
 abbrev pub Reads : {T A : Type 0} → Shape A → (T → A) → Item → Result T CoseError → Type 0
@@ -19,9 +19,9 @@ Reads s seen v (Err e) = UnlessMemory e (s.faults v)
 
 -- Reading the members vs of an array: values that they stand for, or, out of memory aside, an error that tells that they are
 -- too few or too many, or, where they are not, of a fault in one of them
-abbrev pub ReadsPlaces : {T A : Type 0} → Places A → (T → A) → Items → Result T CoseError → Type 0
-ReadsPlaces ps seen vs (Ok x) = ps.describes vs (seen x)
-ReadsPlaces ps seen vs (Err e) = UnlessMemory e (PlacesFaults ps vs)
+abbrev pub ReadsElements : {T A : Type 0} → Elements A → (T → A) → Items → Result T CoseError → Type 0
+ReadsElements ps seen vs (Ok x) = ps.describes vs (seen x)
+ReadsElements ps seen vs (Err e) = UnlessMemory e (ElementsFaults ps vs)
 
 -- Making the item that a value is written as: that item, or, out of memory aside, that there is none
 abbrev pub Images : {V : Type 0} → Option Item → (V → Item) → Result V CoseError → Type 0
@@ -35,7 +35,7 @@ Writes image bytes_of (Err e) = UnlessMemory e (λ f. (f ≡ DuplicateMapKey) ×
 
 -- the bytes are no item, for a fault that stands in them
 abbrev pub IsByteFault : List ℕ → CoseError → Type 0
-IsByteFault s e = (d : Error EndOfFile) × (e ≡ DecodeFailed d) × (IsMemory d → ⊥) × StandsIn s d
+IsByteFault s e = (d : Error EndOfFile) × (e ≡ DecodeFailed d) × (IsMemory d → ⊥) × FaultIn s d
 
 -- bytes follow the item at the front
 abbrev pub IsExtraneous : List ℕ → CoseError → Type 0

@@ -23,8 +23,8 @@ pub record AppendsMembers (old new : List ℕ) (n : ℕ) (vs : Items) : Type 0 w
   pub in_range : AreInRange vs
   pub parts : new ≡ old ++ least_encodings vs
 
-abbrev pub AppendsPlaces : Option Items → ℕ → List ℕ → List ℕ → Type 0
-AppendsPlaces images n old new = (vs : Items) × (images ≡ Some vs) × AppendsMembers old new n vs
+abbrev pub AppendsElements : Option Items → ℕ → List ℕ → List ℕ → Type 0
+AppendsElements images n old new = (vs : Items) × (images ≡ Some vs) × AppendsMembers old new n vs
 
 -- no item, and the error says so, unless it is `OutOfMemory`
 abbrev pub HasNoImage : {A : Type 0} → Option A → CoseError → Type 0
@@ -35,21 +35,21 @@ abbrev pub Encodes : {T : Type 0} → Option Item → List ℕ → List ℕ → 
 Encodes image old new (Ok x) = AppendsImage image old new
 Encodes image old new (Err e) = HasNoImage image e
 
--- the array of two places, of three, of four, and of five, where each has an item
-abbrev pub two_places : Option Item → Option Item → Option Item
-two_places a b = option_map array (both item a (both item b (Some no_items)))
+-- the array of two elements, of three, of four, and of five, where each has an item
+abbrev pub two_elements : Option Item → Option Item → Option Item
+two_elements a b = option_map array (both item a (both item b (Some no_items)))
 
 -- the array of three elements, where each has an item
-abbrev pub three_places : Option Item → Option Item → Option Item → Option Item
-three_places a b c = option_map array (both item a (both item b (both item c (Some no_items))))
+abbrev pub three_elements : Option Item → Option Item → Option Item → Option Item
+three_elements a b c = option_map array (both item a (both item b (both item c (Some no_items))))
 
 -- the array of four elements, where each has an item
-abbrev pub four_places : Option Item → Option Item → Option Item → Option Item → Option Item
-four_places a b c d = option_map array (both item a (both item b (both item c (both item d (Some no_items)))))
+abbrev pub four_elements : Option Item → Option Item → Option Item → Option Item → Option Item
+four_elements a b c d = option_map array (both item a (both item b (both item c (both item d (Some no_items)))))
 
 -- the array of five elements, where each has an item
-abbrev pub five_places : Option Item → Option Item → Option Item → Option Item → Option Item → Option Item
-five_places a b c d e = option_map array (both item a (both item b (both item c (both item d (both item e (Some no_items))))))
+abbrev pub five_elements : Option Item → Option Item → Option Item → Option Item → Option Item → Option Item
+five_elements a b c d e = option_map array (both item a (both item b (both item c (both item d (both item e (Some no_items))))))
 
 -- ---- maps
 

@@ -4,7 +4,7 @@ use Rattle.coset_cbor.specs.declared.de.Error as decoding
 use Rattle.coset_codec.specs.declared.error.CallError.{CallError}
 use Rattle.coset_codec.specs.declared.error.CallError.TheVariants.{Coset, Caller}
 use Rattle.coset_codec.specs.declared.error.CoseError.{CoseError}
-use Rattle.coset_codec.specs.declared.error.Refused.{Refused}
+use Rattle.coset_codec.specs.declared.error.ErrorStored.{ErrorStored}
 use Rattle.coset_codec.specs.declared.error.CoseError.TheVariants.{DecodeFailed, DuplicateMapKey, EncodeFailed, ExtraneousData, OutOfRangeIntegerValue}
 use Rattle.coset_codec.specs.declared.error.CoseError.TheVariants.{UnexpectedItem, UnregisteredIanaValue, UnregisteredIanaNonPrivateValue, OutOfMemory}
 
@@ -43,11 +43,11 @@ abbrev pub UnlessMemory : CoseError → (CoseError → Type 0) → Type 0
 UnlessMemory e stands = (e ≡ OutOfMemory → ⊥) → stands e
 
 -- an answer whose parts stand in places: what is made of it, and the error e where it is one
-abbrev pub filled : {T A : Type 0} → (A → T) → CoseError → Result A Refused → Result T CoseError
-filled made e (Ok x) = Ok (made x)
-filled made e (Err r) = Err e
+abbrev pub made_in_place : {T A : Type 0} → (A → T) → CoseError → Result A ErrorStored → Result T CoseError
+made_in_place made e (Ok x) = Ok (made x)
+made_in_place made e (Err r) = Err e
 
 -- an answer whose error, where it is one, stands in a place that holds e
-abbrev pub answer : {T : Type 0} → CoseError → Result T Refused → Result T CoseError
-answer e (Ok x) = Ok x
-answer e (Err r) = Err e
+abbrev pub stored : {T : Type 0} → CoseError → Result T ErrorStored → Result T CoseError
+stored e (Ok x) = Ok x
+stored e (Err r) = Err e

@@ -5,7 +5,7 @@ use Rattle.coset_codec.specs.declared.error.CoseError.{CoseError}
 use Rattle.coset_codec.specs.declared.error.CoseError.TheVariants.{OutOfMemory}
 use Rattle.coset_codec.specs.declared.read.input.InputItems.{InputItems}
 use Rattle.coset_codec.specs.Errors.{UnlessMemory}
-use Rattle.coset_codec.specs.Inputs.{State, Stands, AreWithin}
+use Rattle.coset_codec.specs.Inputs.{State, ItemAt, AreWithin}
 use Rattle.coset_codec.specs.Shape.{Shape, Each, EachFaults}
 
 -- Reading the item v into a place: it stands for x, which the place holds then, or, out of memory aside, an error that
@@ -31,6 +31,6 @@ GetsPlace is_empty old new false = new ≡ old
 
 -- the next of some members stands at t; or none is left; or it was passed, for which there was no memory
 abbrev pub BeginsNext : Items → State → State → InputItems → Result Bool CoseError → Type 0
-BeginsNext vs t z m (Ok true) = (v : Item) × (others : Items) × (mid : State) × (vs ≡ item v others) × Stands v t mid × AreWithin m others mid z
+BeginsNext vs t z m (Ok true) = (v : Item) × (others : Items) × (mid : State) × (vs ≡ item v others) × ItemAt v t mid × AreWithin m others mid z
 BeginsNext vs t z m (Ok false) = (vs ≡ no_items) × AreWithin m no_items t z
 BeginsNext vs t z m (Err e) = (left : Items) × AreWithin m left t z × (e ≡ OutOfMemory)

@@ -16,7 +16,7 @@ use Rattle.coset_codec.specs.declared.read.input.InputPairs.TheVariants as pairs
 use Rattle.coset_codec.specs.Errors.{IsUnexpected, UnlessMemory}
 use Rattle.coset_codec.specs.Kinds.{kind, Says}
 use Rattle.coset_codec.specs.Shape.{Shape, is_nil}
-use Rattle.coset_codec.specs.Sources.{IsMisfit}
+use Rattle.coset_codec.specs.Sources.{IsWrongLength}
 
 -- what is still to come: an item, or bytes
 pub data State : Type 0 where
@@ -29,9 +29,9 @@ state (Tree v) = tree (view v)
 state (Lent c) = lent (bytes_left c)
 
 -- the item v stands at s, and z is what follows it; a tree leaves null
-abbrev pub Stands : Item → State → State → Type 0
-Stands v (tree w) z = (w ≡ v) × (z ≡ tree null)
-Stands v (lent s) z = (a : List ℕ) × (z ≡ lent a) × bytes.Stands v s a
+abbrev pub ItemAt : Item → State → State → Type 0
+ItemAt v (tree w) z = (w ≡ v) × (z ≡ tree null)
+ItemAt v (lent s) z = (a : List ℕ) × (z ≡ lent a) × bytes.ItemAt v s a
 
 -- the members vs of an array are still to come at s, and z follows the array
 abbrev pub AreWithin : InputItems → Items → State → State → Type 0
@@ -47,14 +47,14 @@ PairsWithin (pairs.Lent p) ps s z = (b : List ℕ) × (a : List ℕ) × (s ≡ l
 
 -- the item that stood at s was read, and t is just behind it; P tells what was answered
 abbrev pub ReadsAt : State → State → (Item → Type 0) → Type 0
-ReadsAt s t P = (v : Item) (z : State) → Stands v s z → (t ≡ z) × P v
+ReadsAt s t P = (v : Item) (z : State) → ItemAt v s z → (t ≡ z) × P v
 
 -- what the item v holds was read, and t is behind it; or v holds nothing of the kind, and t is s as before
 abbrev pub TakesPart : {T P : Type 0} → (Item → Option P) → (T → P) → Item → State → State → State → Option T → Type 0
 TakesPart part seen v s t z (Some x) = (part v ≡ Some (seen x)) × (t ≡ z)
 TakesPart part seen v s t z None = (part v ≡ None) × (t ≡ s)
 
--- the same of null, which holds nothing
+-- null was taken, and the reader is behind it; or the item is another, and nothing was
 abbrev pub TakesNull : Item → State → State → State → Bool → Type 0
 TakesNull v s t z true = (is_nil v ≡ true) × (t ≡ z)
 TakesNull v s t z false = (is_nil v ≡ false) × (t ≡ s)
@@ -76,19 +76,19 @@ EntersMap v t z (Err e) = (t ≡ z) × (as_map v ≡ None) × IsUnexpected e × 
 
 -- the next of the members stands at t; or none is left
 abbrev pub Nexts : Items → State → State → InputItems → Bool → Type 0
-Nexts vs t z m true = (v : Item) × (others : Items) × (mid : State) × (vs ≡ item v others) × Stands v t mid × AreWithin m others mid z
+Nexts vs t z m true = (v : Item) × (others : Items) × (mid : State) × (vs ≡ item v others) × ItemAt v t mid × AreWithin m others mid z
 Nexts vs t z m false = (vs ≡ no_items) × AreWithin m no_items t z
 
 -- the next of the members stands at t; or none is left, the array was passed, and the error says with `want` that it has too few
 abbrev pub NextPlace : List ℕ → Items → State → State → InputItems → Result (Unit {0}) CoseError → Type 0
-NextPlace want vs t z m (Ok x) = (v : Item) × (others : Items) × (mid : State) × (vs ≡ item v others) × Stands v t mid × AreWithin m others mid z
-NextPlace want vs t z m (Err e) = (vs ≡ no_items) × (t ≡ z) × IsMisfit want e
+NextPlace want vs t z m (Ok x) = (v : Item) × (others : Items) × (mid : State) × (vs ≡ item v others) × ItemAt v t mid × AreWithin m others mid z
+NextPlace want vs t z m (Err e) = (vs ≡ no_items) × (t ≡ z) × IsWrongLength want e
 
 -- the value of the next pair stands at t, whose key was read as this; or no pair is left; or the key is at fault, and the value was
 -- passed
 abbrev pub NextsKey : {K A : Type 0} → Shape A → (K → A) → Pairs → State → State → InputPairs → Result (Option K) CoseError → Type 0
 NextsKey s seen ps t z m (Ok (Some key)) =
-    (k : Item) × (v : Item) × (others : Pairs) × (mid : State) × (ps ≡ pair k v others) × s.describes k (seen key) × Stands v t mid × PairsWithin m others mid z
+    (k : Item) × (v : Item) × (others : Pairs) × (mid : State) × (ps ≡ pair k v others) × s.describes k (seen key) × ItemAt v t mid × PairsWithin m others mid z
 NextsKey s seen ps t z m (Ok None) = (ps ≡ no_pairs) × PairsWithin m no_pairs t z
 NextsKey s seen ps t z m (Err e) = (k : Item) × (v : Item) × (others : Pairs) × (ps ≡ pair k v others) × PairsWithin m others t z × UnlessMemory e (s.faults k)
 

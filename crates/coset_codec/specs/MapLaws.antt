@@ -17,7 +17,8 @@ use Rattle.coset_codec.specs.declared.error.CoseError.{CoseError}
 use Rattle.coset_codec.specs.declared.error.CoseError.TheVariants.{DuplicateMapKey}
 use Rattle.coset_codec.specs.Shape.{Shape, present}
 use Rattle.coset_codec.specs.ShapeLaws.{Again, Lawful, some-one, some-none, both-some, present_laws}
-use Rattle.coset_codec.specs.Maps.{Names, Named, named_image, HasLabel, Twice, SomePair, FieldShape, field_shape, optional, is_filled, listed, Where, Fields}
+use Rattle.coset_codec.specs.Maps.{Names, Named, named_image, HasLabel, Twice, SomePair, FieldShape, field_shape}
+use Rattle.coset_codec.specs.Maps.{optional, is_nonempty, unless_empty, IfThenElse, Fields}
 use Rattle.coset_codec.specs.Maps.{no_field, put_field, field, is_core, rest_of, are_distinct, Entries, PairFaults, MapFaults, may_write, labelled_by}
 use Rattle.coset_codec.specs.Maps.{with_pair, and_pairs, SoFar, Adds, Refuses}
 
@@ -84,7 +85,7 @@ lookup_other t [] m v h = rw h refl
 lookup_other t (e ∷ es) m v h = ap (cond (t e.0) (Some e.1)) (lookup_other t es m v h)
 
 -- the cases of `Where`
-by_where : {P Q R : Type 0} (b : Bool) → Where b P Q → (b ≡ true → P → R) → (b ≡ false → Q → R) → R
+by_where : {P Q R : Type 0} (b : Bool) → IfThenElse b P Q → (b ≡ true → P → R) → (b ≡ false → Q → R) → R
 by_where true w f g = f refl w
 by_where false w f g = g refl w
 
@@ -154,12 +155,12 @@ none_hidden None h = refl
 pub optional_laws : {A : Type 0} (s : Shape A) → Lawful A s → LawfulFieldShape (Option A) (optional s)
 optional_laws s l = field_shape_laws None is_some refl none_hidden (present s) (λ v p. p) (present_laws s l)
 
-empty_hidden : {A : Type 0} (x : List A) → is_filled x ≡ false → x ≡ []
+empty_hidden : {A : Type 0} (x : List A) → is_nonempty x ≡ false → x ≡ []
 empty_hidden [] h = refl
 empty_hidden (x ∷ xs) h = absurd (true≢false h)
 
-pub listed_laws : {A : Type 0} (s : Shape (List A)) → ((v : Item) → s.describes v [] → ⊥) → Lawful (List A) s → LawfulFieldShape (List A) (listed s)
-listed_laws s never l = field_shape_laws [] is_filled refl empty_hidden s never l
+pub unless_empty_laws : {A : Type 0} (s : Shape (List A)) → ((v : Item) → s.describes v [] → ⊥) → Lawful (List A) s → LawfulFieldShape (List A) (unless_empty s)
+unless_empty_laws s never l = field_shape_laws [] is_nonempty refl empty_hidden s never l
 
 -- ---- fields
 

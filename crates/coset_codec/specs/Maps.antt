@@ -73,13 +73,13 @@ field_shape absent shows s = record {
 abbrev pub optional : {A : Type 0} → Shape A → FieldShape (Option A)
 optional s = field_shape None is_some (present s)
 
-abbrev pub is_filled : {A : Type 0} → List A → Bool
-is_filled [] = false
-is_filled (x ∷ xs) = true
+abbrev pub is_nonempty : {A : Type 0} → List A → Bool
+is_nonempty [] = false
+is_nonempty (x ∷ xs) = true
 
 -- a list that is left out where it is empty, and only there
-abbrev pub listed : {A : Type 0} → Shape (List A) → FieldShape (List A)
-listed s = field_shape [] is_filled s
+abbrev pub unless_empty : {A : Type 0} → Shape (List A) → FieldShape (List A)
+unless_empty s = field_shape [] is_nonempty s
 
 -- x says that there is no value yet, and y is what the value v makes
 abbrev pub TakesValue : {A : Type 0} → FieldShape A → Item → A → A → Type 0
@@ -90,9 +90,9 @@ abbrev pub RefusesValue : {A : Type 0} → FieldShape A → Item → A → CoseE
 RefusesValue h v x e = ((h.describes None x → ⊥) × (e ≡ errors.DuplicateMapKey)) ⊎ h.faults v e
 
 -- P where the test holds, else Q
-abbrev pub Where : Bool → Type 0 → Type 0 → Type 0
-Where true P Q = P
-Where false P Q = Q
+abbrev pub IfThenElse : Bool → Type 0 → Type 0 → Type 0
+IfThenElse true P Q = P
+IfThenElse false P Q = Q
 
 -- Some fields, in the order in which they are written. Of a pair with label m and value v: `takes m v x y` says that
 -- x becomes y with it, `repeats m x` that x has the field of label m already, and `faults m v e` what is wrong with v
@@ -129,9 +129,9 @@ field n l h fs = record {
   labels = l ∷ fs.labels;
   describes = λ es x. h.describes (lookup (n.same l) es) x.0 × fs.describes es x.1;
   image = λ x. both (put_field l) (h.image x.0) (fs.image x.1);
-  takes = λ m v x y. Where (n.same l m) (h.describes None x.0 × h.describes (Some v) y.0 × (x.1 ≡ y.1)) ((x.0 ≡ y.0) × fs.takes m v x.1 y.1);
-  repeats = λ m x. Where (n.same l m) (h.describes None x.0 → ⊥) (fs.repeats m x.1);
-  faults = λ m v e. Where (n.same l m) (h.faults v e) (fs.faults m v e);
+  takes = λ m v x y. IfThenElse (n.same l m) (h.describes None x.0 × h.describes (Some v) y.0 × (x.1 ≡ y.1)) ((x.0 ≡ y.0) × fs.takes m v x.1 y.1);
+  repeats = λ m x. IfThenElse (n.same l m) (h.describes None x.0 → ⊥) (fs.repeats m x.1);
+  faults = λ m v e. IfThenElse (n.same l m) (h.faults v e) (fs.faults m v e);
 }
 
 -- ---- maps
@@ -211,11 +211,11 @@ pub record SoFar (N A : Type 0) (n : Names N) (fs : Fields N A) (ps : Pairs) (x 
 
 -- with a pair of label m and value v, x becomes y
 abbrev pub Adds : {N A : Type 0} → Names N → Fields N A → N → Item → A × List (N × Item) → A × List (N × Item) → Type 0
-Adds n fs m v x y = Where (is_core n fs.labels m) (fs.takes m v x.0 y.0 × (y.1 ≡ x.1)) ((x.0 ≡ y.0) × (y.1 ≡ x.1 ++ (m, v) ∷ []))
+Adds n fs m v x y = IfThenElse (is_core n fs.labels m) (fs.takes m v x.0 y.0 × (y.1 ≡ x.1)) ((x.0 ≡ y.0) × (y.1 ≡ x.1 ++ (m, v) ∷ []))
 
 -- why x refuses a pair of label m and value v
 abbrev pub Refuses : {N A : Type 0} → Names N → Fields N A → N → Item → A × List (N × Item) → CoseError → Type 0
-Refuses n fs m v x e = Where (is_core n fs.labels m) ((fs.repeats m x.0 × (e ≡ errors.DuplicateMapKey)) ⊎ fs.faults m v e) ⊥
+Refuses n fs m v x e = IfThenElse (is_core n fs.labels m) ((fs.repeats m x.0 × (e ≡ errors.DuplicateMapKey)) ⊎ fs.faults m v e) ⊥
 
 -- of all the pairs some were read, which make x, and left are still to come
 pub record Walks (N A : Type 0) (n : Names N) (fs : Fields N A) (all : Pairs) (x : A × List (N × Item)) (left : Pairs) : Type 0 where
@@ -232,24 +232,24 @@ abbrev pub RefusesKey : {N A : Type 0} → Names N → Fields N A → Item → I
 RefusesKey {N} n fs k v x e = n.shape.faults k e ⊎ ((m : N) × n.shape.describes k m × Refuses n fs m v x e)
 
 -- why a label is refused for what was taken before it, whatever its value is
-abbrev pub Bars : Type 0 → Type 0 → Type 1
-Bars N A = N → A × List (N × Item) → CoseError → Type 0
+abbrev pub Excludes : Type 0 → Type 0 → Type 1
+Excludes N A = N → A × List (N × Item) → CoseError → Type 0
 
-abbrev pub BarsKey : {N A : Type 0} → Names N → Bars N A → Item → A × List (N × Item) → CoseError → Type 0
-BarsKey {N} n bars k x e = (m : N) × n.shape.describes k m × bars m x e
+abbrev pub ExcludesKey : {N A : Type 0} → Names N → Excludes N A → Item → A × List (N × Item) → CoseError → Type 0
+ExcludesKey {N} n excludes k x e = (m : N) × n.shape.describes k m × excludes m x e
 
--- the first pairs make what bars the next one's label
-pub record Barred (N A : Type 0) (n : Names N) (fs : Fields N A) (bars : Bars N A) (ps : Pairs) (e : CoseError) : Type 0 where
+-- the first pairs make what excludes the next one's label
+pub record IsExcluded (N A : Type 0) (n : Names N) (fs : Fields N A) (excludes : Excludes N A) (ps : Pairs) (e : CoseError) : Type 0 where
   pub key : Item
   pub value : Item
   pub left : Pairs
   pub before : A × List (N × Item)
   pub walked : Walks N A n fs ps before (pair key value left)
-  pub barred : BarsKey n bars key before e
+  pub excluded : ExcludesKey n excludes key before e
 
 -- what is wrong with an item that is read pair by pair
-abbrev pub GatherFaults : {N A : Type 0} → Names N → Fields N A → Bars N A → Item → CoseError → Type 0
-GatherFaults {N} {A} n fs bars v e = (labelled n fs).faults v e ⊎ ((ps : Pairs) × (as_map v ≡ Some ps) × Barred N A n fs bars ps e)
+abbrev pub GatherFaults : {N A : Type 0} → Names N → Fields N A → Excludes N A → Item → CoseError → Type 0
+GatherFaults {N} {A} n fs excludes v e = (labelled n fs).faults v e ⊎ ((ps : Pairs) × (as_map v ≡ Some ps) × IsExcluded N A n fs excludes ps e)
 
 -- of an item's pairs some were taken, which made y of x; or it is no map, and none were
 abbrev pub Gathers : {N A : Type 0} → Names N → Fields N A → Item → A × List (N × Item) → A × List (N × Item) → Type 0

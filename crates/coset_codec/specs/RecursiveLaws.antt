@@ -3,7 +3,8 @@ use Rattle.std.proofs.Common.{◌≡◌, ◌≤◌, ◌+◌, ℕ, zero, suc, Lis
 use Rattle.coset_value.specs.Item.{Item, Items, no_items, item}
 use Rattle.coset_codec.specs.declared.error.CoseError.{CoseError}
 use Rattle.coset_codec.specs.Recursive.{nested, recursive}
-use Rattle.coset_codec.specs.Shape.{Shape, Places, PlacesFaults, array_of, ◌then◌, along, Each, EachFaults, any_number, list_of, perhaps, LastDescribes}
+use Rattle.coset_codec.specs.Shape.{Shape, Elements, ElementsFaults, array_of, ◌then◌, mapped, Each}
+use Rattle.coset_codec.specs.Shape.{EachFaults, any_number, list_of, optional_last, LastDescribes}
 use Rattle.coset_codec.specs.Shape.{LastFaults}
 use Rattle.coset_codec.specs.ShapeLaws.{Again, Lawful}
 
@@ -14,11 +15,11 @@ pub record Passes (I : Type 0) (A : Type 0) (s : Shape A) (t : I → Shape A) : 
   pub describes : (v : Item) (x : A) → s.describes v x → (i : I) × (t i).describes v x
   pub faults : (v : Item) (e : CoseError) → s.faults v e → (i : I) × (t i).faults v e
 
--- the same of places, whose numbers are the same
-pub record PassesPlaces (I : Type 0) (A : Type 0) (s : Places A) (t : I → Places A) : Type 0 where
+-- as Passes, of the elements of arrays; one number of them is wrong where the other is
+pub record PassesElements (I : Type 0) (A : Type 0) (s : Elements A) (t : I → Elements A) : Type 0 where
   pub describes : (vs : Items) (x : A) → s.describes vs x → (i : I) × (t i).describes vs x
-  pub misfits : (i : I) (vs : Items) → s.misfits vs → (t i).misfits vs
-  pub fits : (i : I) (vs : Items) → (t i).misfits vs → s.misfits vs
+  pub wrong_length : (i : I) (vs : Items) → s.wrong_length vs → (t i).wrong_length vs
+  pub fits : (i : I) (vs : Items) → (t i).wrong_length vs → s.wrong_length vs
   pub faults : (vs : Items) (e : CoseError) → s.faults vs e → (i : I) × (t i).faults vs e
 
 -- two shapes alone
@@ -30,31 +31,31 @@ pub below : {A : Type 0} (s t : Shape A) → ((v : Item) (x : A) → s.describes
 below s t d f = record { describes = λ v x h. (tt, d v x h); faults = λ v e h. (tt, f v e h) }
 
 module _ {I : Type 0} (some : I) where
-  -- an array, by its places
-  faults_pass : {A : Type 0} (s : Places A) (t : I → Places A) → PassesPlaces I A s t → (vs : Items) (e : CoseError) → PlacesFaults s vs e → (i : I)
-      × PlacesFaults (t i) vs e
-  faults_pass s t p vs e (inl h) = (some, inl (p.misfits some vs h.0, h.1))
+  -- an array, by its elements
+  faults_pass : {A : Type 0} (s : Elements A) (t : I → Elements A) → PassesElements I A s t → (vs : Items) (e : CoseError) → ElementsFaults s vs e → (i : I)
+      × ElementsFaults (t i) vs e
+  faults_pass s t p vs e (inl h) = (some, inl (p.wrong_length some vs h.0, h.1))
   faults_pass s t p vs e (inr h) = let g = p.faults vs e h.1 in (g.0, inr ((λ m. h.0 (p.fits g.0 vs m)), g.1))
 
-  array_faults : {A : Type 0} (s : Places A) (t : I → Places A) → PassesPlaces I A s t → (v : Item) (e : CoseError) → (array_of s).faults v e → (i : I)
+  array_faults : {A : Type 0} (s : Elements A) (t : I → Elements A) → PassesElements I A s t → (v : Item) (e : CoseError) → (array_of s).faults v e → (i : I)
       × (array_of (t i)).faults v e
   array_faults s t p v e (inl h) = (some, inl h)
   array_faults s t p v e (inr h) = let g = faults_pass s t p h.0 e h.2 in (g.0, inr (h.0, h.1, g.1))
 
-  pub array_passes : {A : Type 0} (s : Places A) (t : I → Places A) → PassesPlaces I A s t → Passes I A (array_of s) (λ i. array_of (t i))
+  pub array_passes : {A : Type 0} (s : Elements A) (t : I → Elements A) → PassesElements I A s t → Passes I A (array_of s) (λ i. array_of (t i))
   array_passes s t p = record { describes = λ v x h. let g = p.describes h.0 x h.2 in (g.0, (h.0, h.1, g.1)); faults = array_faults s t p }
 
   -- a place before others
-  module _ {A B : Type 0} (a : Shape A) (s : Places B) (t : I → Places B) (p : PassesPlaces I B s t) where
+  module _ {A B : Type 0} (a : Shape A) (s : Elements B) (t : I → Elements B) (p : PassesElements I B s t) where
     then_describes : (vs : Items) (x : A × B) → (a then s).describes vs x → (i : I) × (a then t i).describes vs x
     then_describes no_items x h = absurd h
     then_describes (item v vs) x h = let g = p.describes vs x.1 h.1 in (g.0, (h.0, g.1))
 
-    then_misfits : (i : I) (vs : Items) → (a then s).misfits vs → (a then t i).misfits vs
-    then_misfits i no_items h = h
-    then_misfits i (item v vs) h = p.misfits i vs h
+    then_wrong_length : (i : I) (vs : Items) → (a then s).wrong_length vs → (a then t i).wrong_length vs
+    then_wrong_length i no_items h = h
+    then_wrong_length i (item v vs) h = p.wrong_length i vs h
 
-    then_fits : (i : I) (vs : Items) → (a then t i).misfits vs → (a then s).misfits vs
+    then_fits : (i : I) (vs : Items) → (a then t i).wrong_length vs → (a then s).wrong_length vs
     then_fits i no_items h = h
     then_fits i (item v vs) h = p.fits i vs h
 
@@ -63,8 +64,8 @@ module _ {I : Type 0} (some : I) where
     then_faults (item v vs) e (inl h) = (some, inl h)
     then_faults (item v vs) e (inr h) = let g = p.faults vs e h in (g.0, inr g.1)
 
-    pub then_passes : PassesPlaces I (A × B) (a then s) (λ i. a then t i)
-    then_passes = record { describes = then_describes; misfits = then_misfits; fits = then_fits; faults = then_faults }
+    pub then_passes : PassesElements I (A × B) (a then s) (λ i. a then t i)
+    then_passes = record { describes = then_describes; wrong_length = then_wrong_length; fits = then_fits; faults = then_faults }
 
   -- a last place that may be missing
   module _ {A : Type 0} (absent : A) (shows : A → Bool) (s : Shape A) (t : I → Shape A) (p : Passes I A s t) where
@@ -77,13 +78,13 @@ module _ {I : Type 0} (some : I) where
     last_faults no_items e h = absurd h
     last_faults (item v vs) e h = p.faults v e h
 
-    pub perhaps_passes : PassesPlaces I A (perhaps absent shows s) (λ i. perhaps absent shows (t i))
-    perhaps_passes = record { describes = last_describes; misfits = λ i vs h. h; fits = λ i vs h. h; faults = last_faults }
+    pub optional_last_passes : PassesElements I A (optional_last absent shows s) (λ i. optional_last absent shows (t i))
+    optional_last_passes = record { describes = last_describes; wrong_length = λ i vs h. h; fits = λ i vs h. h; faults = last_faults }
 
 -- what is seen otherwise
-pub along_passes : {I A B : Type 0} (to : A → B) (from : B → A) (s : Shape A) (t : I → Shape A) → Passes I A s t
-    → Passes I B (along to from s) (λ i. along to from (t i))
-along_passes to from s t p = record { describes = λ v x h. p.describes v (from x) h; faults = p.faults }
+pub mapped_passes : {I A B : Type 0} (to : A → B) (from : B → A) (s : Shape A) (t : I → Shape A) → Passes I A s t
+    → Passes I B (mapped to from s) (λ i. mapped to from (t i))
+mapped_passes to from s t p = record { describes = λ v x h. p.describes v (from x) h; faults = p.faults }
 
 -- a list, where each of its members passes on to the same shape
 module _ {A : Type 0} (s t : Shape A) (p : Below A s t) where
@@ -101,7 +102,13 @@ module _ {A : Type 0} (s t : Shape A) (p : Below A s t) where
   pub list_below : Below (List A) (list_of s) (list_of t)
   list_below =
       array_passes tt (any_number s) (λ i. any_number t)
-      (record { describes = λ vs x h. (tt, each_above vs x h); misfits = λ i vs h. h; fits = λ i vs h. h; faults = λ vs e h. (tt, each_faults_above vs e h) })
+      (record {
+        describes = λ vs x h. (tt, each_above vs x h);
+        wrong_length = λ i vs h. h;
+        fits = λ i vs h. h;
+        faults = λ vs e h.
+            (tt, each_faults_above vs e h);
+      })
 
 -- ---- types that hold others of themselves
 
@@ -162,7 +169,7 @@ module _ {A : Type 0} (step : Shape A → Shape A) (image : A → Option Item) (
   list_gathered : Passes ℕ (List A) (list_of (recursive step image)) (λ n. list_of (nested step image n))
   list_gathered =
       array_passes 0 (any_number (recursive step image)) (λ n. any_number (nested step image n))
-      (record { describes = each_gathered; misfits = λ i vs h. h; fits = λ i vs h. h; faults = each_faults_gathered })
+      (record { describes = each_gathered; wrong_length = λ i vs h. h; fits = λ i vs h. h; faults = each_faults_gathered })
 
   -- the step over it describes what it does, and has its faults
   pub recursive_step : Below A (step (recursive step image)) (recursive step image)

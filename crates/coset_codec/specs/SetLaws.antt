@@ -16,8 +16,8 @@ use Rattle.std.proofs.lemmas.Map.Keys.{IsDistinct-from_sorted, IsDistinct-head, 
 use Rattle.std.proofs.lemmas.Map.Lookups.{CmpEqualImpliesEq, btree_set_from_contains}
 use Rattle.std.proofs.lemmas.Map.Views.{All-insert_key, All-after_first, Contains-from_any, list_any-from_Contains, tells_apart}
 use Rattle.coset_value.specs.Item.{Item, array, Items, no_items, item, depth, items_depth}
-use Rattle.coset_codec.specs.Shape.{Shape, Each, IsFilled, some_of}
-use Rattle.coset_codec.specs.ShapeLaws.{Again, Lawful, some-one, some_of_laws, arranged_laws, as_array-depth}
+use Rattle.coset_codec.specs.Shape.{Shape, Each, IsNonempty, some_of}
+use Rattle.coset_codec.specs.ShapeLaws.{Again, Lawful, some-one, some_of_laws, up_to_laws, as_array-depth}
 use Rattle.coset_codec.specs.Sets.{IsSetOf, IsDistinctBy, HasMember, Repeats, distinct_of, set_of}
 
 -- ---- sets of lists
@@ -31,9 +31,9 @@ module _ {A : Type 0} {cmp : A → A → Ordering} where
   set_distinct xs ys m = IsDistinct-from_sorted cmp ys m.sorted
 
   -- a list that isn't empty has a set that isn't
-  pub set_filled : (xs ys : List A) → IsFilled xs → IsSetOf cmp xs ys → IsFilled ys
-  set_filled [] ys f m e = f refl
-  set_filled (x ∷ xs) ys f m e = let c : Contains ys x = (m.members x).1 (0, omega arith, refl) in omega (arith, c.1, ap length e)
+  pub set_nonempty : (xs ys : List A) → IsNonempty xs → IsSetOf cmp xs ys → IsNonempty ys
+  set_nonempty [] ys f m e = f refl
+  set_nonempty (x ∷ xs) ys f m e = let c : Contains ys x = (m.members x).1 (0, omega arith, refl) in omega (arith, c.1, ap length e)
 
   -- what holds of each of a list holds of each member of its set
   pub All-set : (P : A → Type 0) (xs ys : List A) → IsSetOf cmp xs ys → All P xs → All P ys
@@ -202,8 +202,8 @@ module _ {A : Type 0} (cmp : A → A → Ordering) (o : IsTotalOrder cmp) (exact
       let deep : suc (items_depth vs) ≡ depth v = as_array-depth v vs p.0.0.1 in
       let us = each_of s (items_depth vs) ys (All-set (HasItem s (items_depth vs)) xs ys m (each_has s vs xs p.0.0.2)) in
       let a : Again (List A) (distinct_of cmp s) (array us.0) ys =
-      distinct_of_laws.again (array us.0) ys (((us.0, refl, us.1), set_filled xs ys p.0.1 m), set_distinct xs ys m) in
+      distinct_of_laws.again (array us.0) ys (((us.0, refl, us.1), set_nonempty xs ys p.0.1 m), set_distinct xs ys m) in
       record { image = a.image; is_image = a.is_image; described = a.described; shallow = omega (arith, a.shallow, deep, us.2) }
 
   pub set_of_laws : Lawful (List A) (set_of cmp s)
-  set_of_laws = arranged_laws (IsSetOf cmp) (distinct_of cmp s) (set_unique o exact) set_of_itself set_again distinct_of_laws
+  set_of_laws = up_to_laws (IsSetOf cmp) (distinct_of cmp s) (set_unique o exact) set_of_itself set_again distinct_of_laws

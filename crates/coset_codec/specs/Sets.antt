@@ -8,7 +8,7 @@ use Rattle.std.specs.declared.cmp.Ordering.{Ordering}
 use Rattle.coset_value.specs.Item.{Item, Items, no_items, item}
 use Rattle.coset_value.specs.Parts.{as_array}
 use Rattle.coset_codec.specs.Errors.{IsUnexpected}
-use Rattle.coset_codec.specs.Shape.{Shape, some_of, arranged}
+use Rattle.coset_codec.specs.Shape.{Shape, some_of, up_to}
 
 -- ys are the members of xs in the order of cmp, each once: the keys of a `BTreeSet` of them
 pub record IsSetOf {A : Type 0} (cmp : A → A → Ordering) (xs ys : List A) : Type 0 where
@@ -39,4 +39,4 @@ distinct_of cmp s = record {
 
 -- [+ s], no two members the same, seen and written as the set of the members, in the order of cmp
 abbrev pub set_of : {A : Type 0} → (A → A → Ordering) → Shape A → Shape (List A)
-set_of cmp s = arranged (IsSetOf cmp) (distinct_of cmp s)
+set_of cmp s = up_to (IsSetOf cmp) (distinct_of cmp s)

@@ -18,11 +18,11 @@ pub record Shape (A : Type 0) : Type 1 where
   pub image : A → Option Item
   pub faults : Item → CoseError → Type 0
 
--- Which members of an array stand for which values. `misfits vs`: there are too few members, or too many
-pub record Places (A : Type 0) : Type 1 where
+-- Which elements of an array stand for which values. `wrong_length vs`: there are too few, or too many
+pub record Elements (A : Type 0) : Type 1 where
   pub describes : Items → A → Type 0
   pub image : A → Option Items
-  pub misfits : Items → Type 0
+  pub wrong_length : Items → Type 0
   pub faults : Items → CoseError → Type 0
 
 -- two answers together, where there are both
@@ -64,8 +64,8 @@ any = record { describes = λ v x. v ≡ x; image = Some; faults = λ v e. ⊥ }
 -- ---- conditions, names and choices
 
 -- Of what the shape describes only what meets P. `blames` are the errors that tell where it is not met
-abbrev pub that : {A : Type 0} → (CoseError → Type 0) → (A → Type 0) → Shape A → Shape A
-that {A} blames P s = record {
+abbrev pub such_that : {A : Type 0} → (CoseError → Type 0) → (A → Type 0) → Shape A → Shape A
+such_that {A} blames P s = record {
   describes = λ v x. s.describes v x × P x;
   image = s.image;
   faults = λ v e. s.faults v e ⊎ (blames e × ((x : A) × s.describes v x × (P x → ⊥)));
@@ -76,28 +76,28 @@ IsOutOfRange e = e ≡ errors.OutOfRangeIntegerValue
 
 -- an integer of 64 bits with a sign
 abbrev pub int64 : Shape ℤ
-int64 = that IsOutOfRange (FitsSigned w64) int
+int64 = such_that IsOutOfRange (FitsSigned w64) int
 
 -- uint
 abbrev pub uint : Shape ℤ
-uint = that IsOutOfRange (λ i. pos 0 ≤ℤ i) int
+uint = such_that IsOutOfRange (λ i. pos 0 ≤ℤ i) int
 
 -- not the empty list
-abbrev pub IsFilled : {A : Type 0} → List A → Type 0
-IsFilled xs = xs ≢ []
+abbrev pub IsNonempty : {A : Type 0} → List A → Type 0
+IsNonempty xs = xs ≢ []
 
 -- bstr .size (1..18446744073709551615)
-abbrev pub filled_bstr : Shape (List ℕ)
-filled_bstr = that IsUnexpected IsFilled bstr
+abbrev pub nonempty_bstr : Shape (List ℕ)
+nonempty_bstr = such_that IsUnexpected IsNonempty bstr
 
 -- what the shape describes, seen as another type: `to` makes that of what the shape describes, and `from` is its
 -- inverse
-abbrev pub along : {A B : Type 0} → (A → B) → (B → A) → Shape A → Shape B
-along to from s = record { describes = λ v x. s.describes v (from x); image = λ x. s.image (from x); faults = s.faults }
+abbrev pub mapped : {A B : Type 0} → (A → B) → (B → A) → Shape A → Shape B
+mapped to from s = record { describes = λ v x. s.describes v (from x); image = λ x. s.image (from x); faults = s.faults }
 
 -- errors of the kind in place of any that the shape has
-abbrev pub blamed : {A : Type 0} → (CoseError → Type 0) → Shape A → Shape A
-blamed blames s = record {
+abbrev pub masked : {A : Type 0} → (CoseError → Type 0) → Shape A → Shape A
+masked blames s = record {
   describes = s.describes;
   image = s.image;
   faults = λ v e. blames e × ((f : CoseError) × s.faults v f);
@@ -139,7 +139,7 @@ sum_of (Some x) = inr x
 
 -- s / nil, where s describes no null
 abbrev pub or_nil : {A : Type 0} → Shape A → Shape (Option A)
-or_nil s = along option_of sum_of (either is_nil nil s)
+or_nil s = mapped option_of sum_of (either is_nil nil s)
 
 -- what s describes, as something that is there
 abbrev pub PresentDescribes : {A : Type 0} → (A → Type 0) → Option A → Type 0
@@ -172,15 +172,15 @@ tagged number s = record {
 
 -- what is wrong with an array's members: that there are too few or too many; or, where there are as many as there have to
 -- be, what is wrong with one of them
-abbrev pub PlacesFaults : {A : Type 0} → Places A → Items → CoseError → Type 0
-PlacesFaults ps vs e = (ps.misfits vs × IsUnexpected e) ⊎ ((ps.misfits vs → ⊥) × ps.faults vs e)
+abbrev pub ElementsFaults : {A : Type 0} → Elements A → Items → CoseError → Type 0
+ElementsFaults ps vs e = (ps.wrong_length vs × IsUnexpected e) ⊎ ((ps.wrong_length vs → ⊥) × ps.faults vs e)
 
--- [places]
-abbrev pub array_of : {A : Type 0} → Places A → Shape A
+-- [elements]
+abbrev pub array_of : {A : Type 0} → Elements A → Shape A
 array_of ps = record {
   describes = λ v x. (vs : Items) × (as_array v ≡ Some vs) × ps.describes vs x;
   image = λ x. option_map array (ps.image x);
-  faults = λ v e. ((as_array v ≡ None) × IsUnexpected e) ⊎ ((vs : Items) × (as_array v ≡ Some vs) × PlacesFaults ps vs e);
+  faults = λ v e. ((as_array v ≡ None) × IsUnexpected e) ⊎ ((vs : Items) × (as_array v ≡ Some vs) × ElementsFaults ps vs e);
 }
 
 -- no place
@@ -188,28 +188,28 @@ abbrev pub IsEnd : Items → Type 0
 IsEnd no_items = ⊤
 IsEnd (item v vs) = ⊥
 
-abbrev pub end : Places (Unit {0})
-end = record { describes = λ vs x. IsEnd vs; image = λ x. Some no_items; misfits = λ vs. IsEnd vs → ⊥; faults = λ vs e. ⊥ }
+abbrev pub end : Elements (Unit {0})
+end = record { describes = λ vs x. IsEnd vs; image = λ x. Some no_items; wrong_length = λ vs. IsEnd vs → ⊥; faults = λ vs e. ⊥ }
 
--- a place, and the places after it
+-- an element, and the elements after it
 abbrev pub FirstDescribes : {A B : Type 0} → (Item → A → Type 0) → (Items → B → Type 0) → Items → A × B → Type 0
 FirstDescribes r rs no_items x = ⊥
 FirstDescribes r rs (item v vs) x = r v x.0 × rs vs x.1
 
-abbrev pub FirstMisfits : (Items → Type 0) → Items → Type 0
-FirstMisfits m no_items = ⊤
-FirstMisfits m (item v vs) = m vs
+abbrev pub FirstWrongLength : (Items → Type 0) → Items → Type 0
+FirstWrongLength m no_items = ⊤
+FirstWrongLength m (item v vs) = m vs
 
 abbrev pub FirstFaults : (Item → CoseError → Type 0) → (Items → CoseError → Type 0) → Items → CoseError → Type 0
 FirstFaults f fs no_items e = ⊥
 FirstFaults f fs (item v vs) e = f v e ⊎ fs vs e
 
 infixr 50 ◌then◌
-abbrev pub ◌then◌ : {A B : Type 0} → Shape A → Places B → Places (A × B)
+abbrev pub ◌then◌ : {A B : Type 0} → Shape A → Elements B → Elements (A × B)
 s then ps = record {
   describes = FirstDescribes s.describes ps.describes;
   image = λ x. both item (s.image x.0) (ps.image x.1);
-  misfits = FirstMisfits ps.misfits;
+  wrong_length = FirstWrongLength ps.wrong_length;
   faults = FirstFaults s.faults ps.faults;
 }
 
@@ -229,8 +229,8 @@ abbrev pub EachFaults : (Item → CoseError → Type 0) → Items → CoseError 
 EachFaults f no_items e = ⊥
 EachFaults f (item v vs) e = f v e ⊎ EachFaults f vs e
 
-abbrev pub any_number : {A : Type 0} → Shape A → Places (List A)
-any_number s = record { describes = Each s.describes; image = images s.image; misfits = λ vs. ⊥; faults = EachFaults s.faults }
+abbrev pub any_number : {A : Type 0} → Shape A → Elements (List A)
+any_number s = record { describes = Each s.describes; image = images s.image; wrong_length = λ vs. ⊥; faults = EachFaults s.faults }
 
 -- [* s]
 abbrev pub list_of : {A : Type 0} → Shape A → Shape (List A)
@@ -238,7 +238,7 @@ list_of s = array_of (any_number s)
 
 -- [+ s]
 abbrev pub some_of : {A : Type 0} → Shape A → Shape (List A)
-some_of s = that IsUnexpected IsFilled (list_of s)
+some_of s = such_that IsUnexpected IsNonempty (list_of s)
 
 -- ? s, as the last place. Where the place is missing, x is `absent`; `shows x` tells whether x is written
 abbrev pub LastDescribes : {A : Type 0} → A → (Item → A → Type 0) → Items → A → Type 0
@@ -250,26 +250,26 @@ abbrev pub last_image : Bool → Option Item → Option Items
 last_image true o = option_map (λ v. item v no_items) o
 last_image false o = Some no_items
 
-abbrev pub LastMisfits : Items → Type 0
-LastMisfits no_items = ⊥
-LastMisfits (item v vs) = IsEnd vs → ⊥
+abbrev pub LastWrongLength : Items → Type 0
+LastWrongLength no_items = ⊥
+LastWrongLength (item v vs) = IsEnd vs → ⊥
 
 abbrev pub LastFaults : (Item → CoseError → Type 0) → Items → CoseError → Type 0
 LastFaults f no_items e = ⊥
 LastFaults f (item v vs) e = f v e
 
-abbrev pub perhaps : {A : Type 0} → A → (A → Bool) → Shape A → Places A
-perhaps absent shows s = record {
+abbrev pub optional_last : {A : Type 0} → A → (A → Bool) → Shape A → Elements A
+optional_last absent shows s = record {
   describes = LastDescribes absent s.describes;
   image = λ x. last_image (shows x) (s.image x);
-  misfits = LastMisfits;
+  wrong_length = LastWrongLength;
   faults = LastFaults s.faults;
 }
 
 -- What the shape describes, seen as what R relates it to, and written as that: a list that stands for a set is seen in
 -- order
-abbrev pub arranged : {A : Type 0} → (A → A → Type 0) → Shape A → Shape A
-arranged {A} R s = record {
+abbrev pub up_to : {A : Type 0} → (A → A → Type 0) → Shape A → Shape A
+up_to {A} R s = record {
   describes = λ v y. (x : A) × s.describes v x × R x y;
   image = s.image;
   faults = s.faults;
@@ -289,9 +289,9 @@ one_or_array (item v no_items) = v
 one_or_array vs = array vs
 
 -- s / [+ s], where s describes arrays that begin with a byte string
-abbrev pub one_or_many : {A : Type 0} → Places A → Shape A
+abbrev pub one_or_many : {A : Type 0} → Elements A → Shape A
 one_or_many {A} ps = record {
   describes = λ v x. (vs : Items) × (one_or_more v ≡ Some vs) × ps.describes vs x;
   image = λ x. option_map one_or_array (ps.image x);
-  faults = λ v e. ((one_or_more v ≡ None) × IsUnexpected e) ⊎ ((vs : Items) × (one_or_more v ≡ Some vs) × PlacesFaults ps vs e);
+  faults = λ v e. ((one_or_more v ≡ None) × IsUnexpected e) ⊎ ((vs : Items) × (one_or_more v ≡ Some vs) × ElementsFaults ps vs e);
 }

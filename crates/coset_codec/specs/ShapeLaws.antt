@@ -5,9 +5,10 @@ use Rattle.std.proofs.Common.{inr, arith, true≢false}
 use Rattle.coset_value.specs.Item.{Item, integer, bytes, float, text, boolean, null, tag, array, dict, Items, no_items, item, depth, items_depth, items_count}
 use Rattle.coset_value.specs.Parts.{as_array, as_tag}
 use Rattle.coset_codec.specs.declared.error.CoseError.{CoseError}
-use Rattle.coset_codec.specs.Shape.{Shape, Places, PlacesFaults, both, kind_of, int, bstr, tstr, floating, any, that, int64, uint, filled_bstr, along, blamed}
+use Rattle.coset_codec.specs.Shape.{Shape, Elements, ElementsFaults, both, kind_of, int, bstr, tstr, floating}
+use Rattle.coset_codec.specs.Shape.{any, such_that, int64, uint, nonempty_bstr, mapped, masked}
 use Rattle.coset_codec.specs.Shape.{either, is_nil, nil, option_of, sum_of, or_nil, present, fixed, tagged, array_of, end, ◌then◌, Each, images, EachFaults}
-use Rattle.coset_codec.specs.Shape.{any_number, list_of, some_of, perhaps, LastDescribes, LastMisfits, LastFaults, last_image, arranged, one_or_more}
+use Rattle.coset_codec.specs.Shape.{any_number, list_of, some_of, optional_last, LastDescribes, LastWrongLength, LastFaults, last_image, up_to, one_or_more}
 use Rattle.coset_codec.specs.Shape.{one_or_array, one_or_many}
 
 -- x is written as an item that stands for x and is no deeper than v
@@ -23,16 +24,16 @@ pub record Lawful (A : Type 0) (s : Shape A) : Type 0 where
   pub sound : (v : Item) (x : A) (e : CoseError) → s.describes v x → s.faults v e → ⊥
 
 -- x is written as members that stand for x and are no deeper than vs
-pub record AgainPlaces (A : Type 0) (s : Places A) (vs : Items) (x : A) : Type 0 where
+pub record AgainElements (A : Type 0) (s : Elements A) (vs : Items) (x : A) : Type 0 where
   pub image : Items
   pub is_image : s.image x ≡ Some image
   pub described : s.describes image x
   pub shallow : items_depth image ≤ items_depth vs
 
-pub record LawfulPlaces (A : Type 0) (s : Places A) : Type 0 where
+pub record LawfulElements (A : Type 0) (s : Elements A) : Type 0 where
   pub unique : (vs : Items) (x y : A) → s.describes vs x → s.describes vs y → x ≡ y
-  pub again : (vs : Items) (x : A) → s.describes vs x → AgainPlaces A s vs x
-  pub fits : (vs : Items) (x : A) → s.describes vs x → s.misfits vs → ⊥
+  pub again : (vs : Items) (x : A) → s.describes vs x → AgainElements A s vs x
+  pub fits : (vs : Items) (x : A) → s.describes vs x → s.wrong_length vs → ⊥
   pub sound : (vs : Items) (x : A) (e : CoseError) → s.describes vs x → s.faults vs e → ⊥
 
 -- options and sums
@@ -85,8 +86,8 @@ any_laws =
 
 -- ---- conditions, names and choices
 
-pub that_laws : {A : Type 0} (blames : CoseError → Type 0) (P : A → Type 0) (s : Shape A) → Lawful A s → Lawful A (that blames P s)
-that_laws {A} blames P s l =
+pub such_that_laws : {A : Type 0} (blames : CoseError → Type 0) (P : A → Type 0) (s : Shape A) → Lawful A s → Lawful A (such_that blames P s)
+such_that_laws {A} blames P s l =
     record {
       unique = λ v x y p q. l.unique v x y p.0 q.0;
       again = λ v x p.
@@ -96,16 +97,16 @@ that_laws {A} blames P s l =
     }
 
 pub int64_laws : Lawful ℤ int64
-int64_laws = that_laws _ _ int int_laws
+int64_laws = such_that_laws _ _ int int_laws
 
 pub uint_laws : Lawful ℤ uint
-uint_laws = that_laws _ _ int int_laws
+uint_laws = such_that_laws _ _ int int_laws
 
-pub filled_bstr_laws : Lawful (List ℕ) filled_bstr
-filled_bstr_laws = that_laws _ _ bstr bstr_laws
+pub nonempty_bstr_laws : Lawful (List ℕ) nonempty_bstr
+nonempty_bstr_laws = such_that_laws _ _ bstr bstr_laws
 
-pub along_laws : {A B : Type 0} (to : A → B) (from : B → A) (back : (x : B) → to (from x) ≡ x) (s : Shape A) → Lawful A s → Lawful B (along to from s)
-along_laws {A} {B} to from back s l =
+pub mapped_laws : {A B : Type 0} (to : A → B) (from : B → A) (back : (x : B) → to (from x) ≡ x) (s : Shape A) → Lawful A s → Lawful B (mapped to from s)
+mapped_laws {A} {B} to from back s l =
     record {
       unique = λ v x y p q. sym (back x) ∙ (ap to (l.unique v (from x) (from y) p q) ∙ back y);
       again = λ v x p.
@@ -114,8 +115,8 @@ along_laws {A} {B} to from back s l =
       sound = λ v x e p f. l.sound v (from x) e p f;
     }
 
-pub blamed_laws : {A : Type 0} (blames : CoseError → Type 0) (s : Shape A) → Lawful A s → Lawful A (blamed blames s)
-blamed_laws {A} blames s l =
+pub masked_laws : {A : Type 0} (blames : CoseError → Type 0) (s : Shape A) → Lawful A s → Lawful A (masked blames s)
+masked_laws {A} blames s l =
     record {
       unique = l.unique;
       again = λ v x p.
@@ -158,7 +159,7 @@ option-back (Some x) = refl
 -- what s writes is never null
 pub or_nil_laws : {A : Type 0} (s : Shape A) → ((x : A) (w : Item) → s.image x ≡ Some w → is_nil w ≡ false) → Lawful A s → Lawful (Option A) (or_nil s)
 or_nil_laws s no_null l =
-    along_laws option_of sum_of option-back (either is_nil nil s)
+    mapped_laws option_of sum_of option-back (either is_nil nil s)
     (either_laws is_nil nil s nil_laws l (λ v x w f d e. let h : null ≡ w = some-one refl e in ap is_nil (sym h)) (λ v x w f d e. no_null x w e))
 
 -- a byte string is never null
@@ -242,12 +243,13 @@ as_array-depth null vs p = absurd (cc)
 as_array-depth (tag t v) vs p = absurd (cc)
 as_array-depth (dict ps) vs p = absurd (cc)
 
-array_of_unique : {A : Type 0} (ps : Places A) → LawfulPlaces A ps → (v : Item) (x y : A) → (array_of ps).describes v x → (array_of ps).describes v y → x ≡ y
+array_of_unique : {A : Type 0} (ps : Elements A) → LawfulElements A ps → (v : Item) (x y : A) → (array_of ps).describes v x → (array_of ps).describes v y
+    → x ≡ y
 array_of_unique ps l v x y p q = l.unique p.0 x y p.2 (subst (λ vs. ps.describes vs y) (some-one q.1 p.1) q.2)
 
-array_of_again : {A : Type 0} (ps : Places A) → LawfulPlaces A ps → (v : Item) (x : A) → (array_of ps).describes v x → Again A (array_of ps) v x
+array_of_again : {A : Type 0} (ps : Elements A) → LawfulElements A ps → (v : Item) (x : A) → (array_of ps).describes v x → Again A (array_of ps) v x
 array_of_again {A} ps l v x p =
-    let a : AgainPlaces A ps p.0 x = l.again p.0 x p.2 in
+    let a : AgainElements A ps p.0 x = l.again p.0 x p.2 in
     let d : suc (items_depth p.0) ≡ depth v = as_array-depth v p.0 p.1 in
     record {
       image = array a.image;
@@ -258,42 +260,43 @@ array_of_again {A} ps l v x p =
     }
 
 -- no fault stands in members that stand for a value
-places_sound : {A : Type 0} (ps : Places A) → LawfulPlaces A ps → (vs : Items) (x : A) (e : CoseError) → ps.describes vs x → PlacesFaults ps vs e → ⊥
-places_sound ps l vs x e d (inl m) = l.fits vs x d m.0
-places_sound ps l vs x e d (inr f) = l.sound vs x e d f.1
+elements_sound : {A : Type 0} (ps : Elements A) → LawfulElements A ps → (vs : Items) (x : A) (e : CoseError) → ps.describes vs x → ElementsFaults ps vs e → ⊥
+elements_sound ps l vs x e d (inl m) = l.fits vs x d m.0
+elements_sound ps l vs x e d (inr f) = l.sound vs x e d f.1
 
-array_of_sound : {A : Type 0} (ps : Places A) → LawfulPlaces A ps → (v : Item) (x : A) (e : CoseError) → (array_of ps).describes v x → (array_of ps).faults v e
+array_of_sound : {A : Type 0} (ps : Elements A) → LawfulElements A ps → (v : Item) (x : A) (e : CoseError) → (array_of ps).describes v x
+    → (array_of ps).faults v e
     → ⊥
 array_of_sound ps l v x e p (inl f) = some-none p.1 f.0
-array_of_sound ps l v x e p (inr f) = places_sound ps l f.0 x e (subst (λ vs. ps.describes vs x) (some-one p.1 f.1) p.2) f.2
+array_of_sound ps l v x e p (inr f) = elements_sound ps l f.0 x e (subst (λ vs. ps.describes vs x) (some-one p.1 f.1) p.2) f.2
 
-pub array_of_laws : {A : Type 0} (ps : Places A) → LawfulPlaces A ps → Lawful A (array_of ps)
+pub array_of_laws : {A : Type 0} (ps : Elements A) → LawfulElements A ps → Lawful A (array_of ps)
 array_of_laws ps l = record { unique = array_of_unique ps l; again = array_of_again ps l; sound = array_of_sound ps l }
 
-end_again : (vs : Items) (x : Unit {0}) → end.describes vs x → AgainPlaces (Unit {0}) end vs x
+end_again : (vs : Items) (x : Unit {0}) → end.describes vs x → AgainElements (Unit {0}) end vs x
 end_again no_items x p = record { image = no_items; is_image = refl; described = tt; shallow = omega arith }
 end_again (item v vs) x p = absurd p
 
-pub end_laws : LawfulPlaces (Unit {0}) end
+pub end_laws : LawfulElements (Unit {0}) end
 end_laws = record { unique = λ vs x y p q. refl; again = end_again; fits = λ vs x p m. m p; sound = λ vs x e p f. f }
 
 -- a place more fits where those behind it do
 pub fits_behind :
-    {A B : Type 0} (s : Shape A) (ps : Places B) → ((vs : Items) (x : B) → ps.describes vs x → ps.misfits vs → ⊥) → (vs : Items) (x : A × B)
-    → (s then ps).describes vs x → (s then ps).misfits vs → ⊥
+    {A B : Type 0} (s : Shape A) (ps : Elements B) → ((vs : Items) (x : B) → ps.describes vs x → ps.wrong_length vs → ⊥) → (vs : Items) (x : A × B)
+    → (s then ps).describes vs x → (s then ps).wrong_length vs → ⊥
 fits_behind s ps fits no_items x p m = p
 fits_behind s ps fits (item v vs) x p m = fits vs x.1 p.1 m
 
-module _ {A B : Type 0} (s : Shape A) (ps : Places B) (l : Lawful A s) (ls : LawfulPlaces B ps) where
+module _ {A B : Type 0} (s : Shape A) (ps : Elements B) (l : Lawful A s) (ls : LawfulElements B ps) where
   then_unique : (vs : Items) (x y : A × B) → (s then ps).describes vs x → (s then ps).describes vs y → x ≡ y
   then_unique no_items x y p q = absurd p
   then_unique (item v vs) x y p q = λ i. (l.unique v x.0 y.0 p.0 q.0 i, ls.unique vs x.1 y.1 p.1 q.1 i)
 
-  then_again : (vs : Items) (x : A × B) → (s then ps).describes vs x → AgainPlaces (A × B) (s then ps) vs x
+  then_again : (vs : Items) (x : A × B) → (s then ps).describes vs x → AgainElements (A × B) (s then ps) vs x
   then_again no_items x p = absurd p
   then_again (item v vs) x p =
       let a : Again A s v x.0 = l.again v x.0 p.0 in
-      let b : AgainPlaces B ps vs x.1 = ls.again vs x.1 p.1 in
+      let b : AgainElements B ps vs x.1 = ls.again vs x.1 p.1 in
       record {
         image = item a.image b.image;
         is_image = both-some item (s.image x.0) (ps.image x.1) a.image b.image a.is_image b.is_image;
@@ -306,7 +309,7 @@ module _ {A B : Type 0} (s : Shape A) (ps : Places B) (l : Lawful A s) (ls : Law
   then_sound (item v vs) x e p (inl f) = l.sound v x.0 e p.0 f
   then_sound (item v vs) x e p (inr f) = ls.sound vs x.1 e p.1 f
 
-  pub then_laws : LawfulPlaces (A × B) (s then ps)
+  pub then_laws : LawfulElements (A × B) (s then ps)
   then_laws = record { unique = then_unique; again = then_again; fits = fits_behind s ps ls.fits; sound = then_sound }
 
 module _ {A : Type 0} (s : Shape A) (l : Lawful A s) where
@@ -318,13 +321,13 @@ module _ {A : Type 0} (s : Shape A) (l : Lawful A s) where
   each_unique (item v vs) (x ∷ xs) [] p q = absurd q
   each_unique (item v vs) (x ∷ xs) (y ∷ ys) p q = λ i. l.unique v x y p.0 q.0 i ∷ each_unique vs xs ys p.1 q.1 i
 
-  each_again : (vs : Items) (x : List A) → Each s.describes vs x → AgainPlaces (List A) (any_number s) vs x
+  each_again : (vs : Items) (x : List A) → Each s.describes vs x → AgainElements (List A) (any_number s) vs x
   each_again no_items [] p = record { image = no_items; is_image = refl; described = tt; shallow = omega arith }
   each_again no_items (x ∷ xs) p = absurd p
   each_again (item v vs) [] p = absurd p
   each_again (item v vs) (x ∷ xs) p =
       let a : Again A s v x = l.again v x p.0 in
-      let b : AgainPlaces (List A) (any_number s) vs xs = each_again vs xs p.1 in
+      let b : AgainElements (List A) (any_number s) vs xs = each_again vs xs p.1 in
       record {
         image = item a.image b.image;
         is_image = both-some item (s.image x) (images s.image xs) a.image b.image a.is_image b.is_image;
@@ -338,14 +341,14 @@ module _ {A : Type 0} (s : Shape A) (l : Lawful A s) where
   each_sound (item v vs) (x ∷ xs) e p (inl f) = l.sound v x e p.0 f
   each_sound (item v vs) (x ∷ xs) e p (inr f) = each_sound vs xs e p.1 f
 
-  pub any_number_laws : LawfulPlaces (List A) (any_number s)
+  pub any_number_laws : LawfulElements (List A) (any_number s)
   any_number_laws = record { unique = each_unique; again = each_again; fits = λ vs x p m. m; sound = each_sound }
 
   pub list_of_laws : Lawful (List A) (list_of s)
   list_of_laws = array_of_laws (any_number s) any_number_laws
 
   pub some_of_laws : Lawful (List A) (some_of s)
-  some_of_laws = that_laws _ _ (list_of s) list_of_laws
+  some_of_laws = such_that_laws _ _ (list_of s) list_of_laws
 
 module _ {A : Type 0} (absent : A) (shows : A → Bool) (hidden : shows absent ≡ false) (shown : (x : A) → shows x ≡ false → x ≡ absent) (s : Shape A)
     (l : Lawful A s) where
@@ -354,12 +357,12 @@ module _ {A : Type 0} (absent : A) (shows : A → Bool) (hidden : shows absent �
   last_unique (item v no_items) x y p q = l.unique v x y p q
   last_unique (item v (item w vs)) x y p q = absurd p
 
-  last_again : (vs : Items) (x : A) → LastDescribes absent s.describes vs x → AgainPlaces A (perhaps absent shows s) vs x
+  last_again : (vs : Items) (x : A) → LastDescribes absent s.describes vs x → AgainElements A (optional_last absent shows s) vs x
   last_again no_items x p =
       record { image = no_items; is_image = ap (λ b. last_image b (s.image x)) (ap shows p ∙ hidden); described = p; shallow = omega arith }
   last_again (item v no_items) x p = go (shows x) refl
     where
-      go : (b : Bool) → shows x ≡ b → AgainPlaces A (perhaps absent shows s) (item v no_items) x
+      go : (b : Bool) → shows x ≡ b → AgainElements A (optional_last absent shows s) (item v no_items) x
       go true h =
           let a : Again A s v x = l.again v x p in
           record {
@@ -371,7 +374,7 @@ module _ {A : Type 0} (absent : A) (shows : A → Bool) (hidden : shows absent �
       go false h = record { image = no_items; is_image = ap (λ b. last_image b (s.image x)) h; described = shown x h; shallow = omega arith }
   last_again (item v (item w vs)) x p = absurd p
 
-  last_fits : (vs : Items) (x : A) → LastDescribes absent s.describes vs x → LastMisfits vs → ⊥
+  last_fits : (vs : Items) (x : A) → LastDescribes absent s.describes vs x → LastWrongLength vs → ⊥
   last_fits no_items x p m = m
   last_fits (item v no_items) x p m = m tt
   last_fits (item v (item w vs)) x p m = p
@@ -381,14 +384,14 @@ module _ {A : Type 0} (absent : A) (shows : A → Bool) (hidden : shows absent �
   last_sound (item v no_items) x e p f = l.sound v x e p f
   last_sound (item v (item w vs)) x e p f = p
 
-  pub perhaps_laws : LawfulPlaces A (perhaps absent shows s)
-  perhaps_laws = record { unique = last_unique; again = last_again; fits = last_fits; sound = last_sound }
+  pub optional_last_laws : LawfulElements A (optional_last absent shows s)
+  optional_last_laws = record { unique = last_unique; again = last_again; fits = last_fits; sound = last_sound }
 
 -- R relates a value to at most one, and that one to itself; and s writes that one as an item that stands for it
-pub arranged_laws :
+pub up_to_laws :
     {A : Type 0} (R : A → A → Type 0) (s : Shape A) → ((x y z : A) → R x y → R x z → y ≡ z) → ((x y : A) → R x y → R y y)
-    → ((v : Item) (x y : A) → s.describes v x → R x y → Again A s v y) → Lawful A s → Lawful A (arranged R s)
-arranged_laws {A} R s one itself again l =
+    → ((v : Item) (x y : A) → s.describes v x → R x y → Again A s v y) → Lawful A s → Lawful A (up_to R s)
+up_to_laws {A} R s one itself again l =
     record {
       unique = λ v y z p q. one p.0 y z p.2 (subst (λ x. R x z) (l.unique v q.0 p.0 q.1 p.1) q.2);
       again = λ v y p.
@@ -426,15 +429,15 @@ one_or_array-depth _ vs ws p d c = absurd (cc)
 
 -- one that is written as itself is told from an array of more, and as many are written as were read
 pub one_or_many_laws :
-    {A : Type 0} (ps : Places A)
+    {A : Type 0} (ps : Elements A)
     → ((vs ws : Items) (x : A) → ps.describes vs x → ps.describes ws x → ps.image x ≡ Some ws → (one_or_more (one_or_array ws) ≡ Some ws)
     × (items_count ws ≡ items_count vs))
-    → LawfulPlaces A ps → Lawful A (one_or_many ps)
+    → LawfulElements A ps → Lawful A (one_or_many ps)
 one_or_many_laws {A} ps told l =
     record {
       unique = λ v x y p q. l.unique p.0 x y p.2 (subst (λ vs. ps.describes vs y) (some-one q.1 p.1) q.2);
       again = λ v x p.
-          let a : AgainPlaces A ps p.0 x = l.again p.0 x p.2 in
+          let a : AgainElements A ps p.0 x = l.again p.0 x p.2 in
           let t : (one_or_more (one_or_array a.image) ≡ Some a.image) × (items_count a.image ≡ items_count p.0) =
           told p.0 a.image x p.2 a.described a.is_image in
           record {
@@ -444,5 +447,5 @@ one_or_many_laws {A} ps told l =
             shallow = one_or_array-depth v p.0 a.image p.1 a.shallow t.1;
           };
       sound = λ v x e p f.
-          elim f [ inl g ↦ some-none p.1 g.0 | inr g ↦ places_sound ps l g.0 x e (subst (λ vs. ps.describes vs x) (some-one p.1 g.1) p.2) g.2 ];
+          elim f [ inl g ↦ some-none p.1 g.0 | inr g ↦ elements_sound ps l g.0 x e (subst (λ vs. ps.describes vs x) (some-one p.1 g.1) p.2) g.2 ];
     }

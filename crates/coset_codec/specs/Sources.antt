@@ -1,19 +1,19 @@
 -- What contracts see of an item that is given as a value or as lent bytes; and what is said of the number of an array's
--- places.
+-- elements.
 use Rattle.std.specs.Prelude.{◌≡◌, List, codes, ℕ, zero, suc, Result, Ok, Err}
 use Rattle.coset_value.specs.Item.{Item, Items, no_items}
 use Rattle.coset_value.specs.View.{view}
 use Rattle.coset_cbor.specs.Pulls.{pull_item}
 use Rattle.coset_codec.specs.declared.error.CoseError.{CoseError}
 use Rattle.coset_codec.specs.declared.error.CoseError.TheVariants.{OutOfMemory}
-use Rattle.coset_codec.specs.declared.read.source.Source.{Source}
-use Rattle.coset_codec.specs.declared.read.source.Source.TheVariants.{Tree, Lent}
+use Rattle.coset_codec.specs.declared.read.source.ItemSource.{ItemSource}
+use Rattle.coset_codec.specs.declared.read.source.ItemSource.TheVariants.{Tree, Lent}
 use Rattle.coset_codec.specs.Errors.{IsUnexpected}
 use Rattle.coset_codec.specs.Kinds.{Says}
-use Rattle.coset_codec.specs.Shape.{FirstMisfits, IsEnd}
+use Rattle.coset_codec.specs.Shape.{FirstWrongLength, IsEnd}
 
 -- the item
-abbrev pub source_item : Source → Item
+abbrev pub source_item : ItemSource → Item
 source_item (Tree v) = view v
 source_item (Lent p) = pull_item p
 
@@ -22,20 +22,20 @@ abbrev pub Copies : {T : Type 0} → (T → Item) → Item → Result T CoseErro
 Copies item_of v (Ok x) = item_of x ≡ v
 Copies item_of v (Err e) = e ≡ OutOfMemory
 
--- that many places, and then those of which m says whether they misfit
-abbrev pub misfits_after : ℕ → (Items → Type 0) → Items → Type 0
-misfits_after zero m = m
-misfits_after (suc n) m = FirstMisfits (misfits_after n m)
+-- that many elements, and then those of which m says whether their number is wrong
+abbrev pub wrong_length_after : ℕ → (Items → Type 0) → Items → Type 0
+wrong_length_after zero m = m
+wrong_length_after (suc n) m = FirstWrongLength (wrong_length_after n m)
 
 -- nothing is wrong
 abbrev pub Never : Items → Type 0
 Never vs = ⊥
 
--- an array has too few places or too many, and the error says so with this text
-abbrev pub IsMisfit : List ℕ → CoseError → Type 0
-IsMisfit want e = IsUnexpected e × Says (codes "array") want e
+-- an array has too few elements or too many, and the error says so with this text
+abbrev pub IsWrongLength : List ℕ → CoseError → Type 0
+IsWrongLength want e = IsUnexpected e × Says (codes "array") want e
 
 -- no place is left; or one is
 abbrev pub TakesEnd : List ℕ → Items → Result (Unit {0}) CoseError → Type 0
 TakesEnd want vs (Ok x) = vs ≡ no_items
-TakesEnd want vs (Err e) = IsMisfit want e × (IsEnd vs → ⊥)
+TakesEnd want vs (Err e) = IsWrongLength want e × (IsEnd vs → ⊥)

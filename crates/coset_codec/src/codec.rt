@@ -8,7 +8,7 @@ ghost use Rattle.coset_codec.specs.Shape.{Shape};
 ghost use Rattle.coset_codec.specs.ShapeLaws.{Lawful as LawfulShape};
 
 use crate::error::Result;
-use crate::read::{Input, Source};
+use crate::read::{Input, ItemSource};
 use crate::traits::{
     AsCborValue, CborSerializable, FromPull, Lawful, TaggedCborSerializable, read_any_slice,
     read_slice, read_tagged_slice,
@@ -110,7 +110,7 @@ impl<T: Codec> Encode for T {
 
 impl<T: Codec> FromPull for T {
     fn from_pull(alloc: Global, pull: Pull<'_>) -> Result<T> {
-        T::read(alloc, &mut Input::new(Source::Lent(pull)))
+        T::read(alloc, &mut Input::new(ItemSource::Lent(pull)))
     }
 
     fn from_input(alloc: Global, input: &mut Input<'_>) -> Result<T> {

@@ -1,7 +1,7 @@
 //! Why a call was refused.
 
 ghost use Rattle.std.specs.Prelude.{◌≡◌, OnOk};
-ghost use Rattle.coset_codec.specs.Errors.{answer, call_error_text, error_text, decode_failure};
+ghost use Rattle.coset_codec.specs.Errors.{stored, call_error_text, error_text, decode_failure};
 ghost use Rattle.coset_codec.specs.declared.error.CoseError.TheVariants.{EncodeFailed, OutOfMemory, OutOfRangeIntegerValue};
 ghost use Rattle.coset_codec.specs.declared.error.CallError.TheVariants.{Coset};
 
@@ -40,18 +40,18 @@ pub type Result<T, E = CoseError> = std::result::Result<T, E>;
 /// That a call was refused: why stands in the place for an error that the call was given. So in functions that call each
 /// other, as deep as the input asks, an answer takes a byte of stack.
 #[derive(Clone, Copy, Debug)]
-pub struct Refused;
+pub struct ErrorStored;
 
 /// The same answer, with its error in the place.
-pub fn keep_error<T: Drop>(given: Result<T>, error: &mut CoseError) -> Result<T, Refused>
-    ensures answers { answer error.new result ≡ given }
+pub fn store_error<T: Drop>(given: Result<T>, error: &mut CoseError) -> Result<T, ErrorStored>
+    ensures answers { stored error.new result ≡ given }
     ensures kept { OnOk result (error.new ≡ error.old) }
 {
     match given {
         Ok(value) => Ok(value),
         Err(why) => {
             *error = why;
-            Err(Refused)
+            Err(ErrorStored)
         }
     }
 }

@@ -13,7 +13,7 @@ ghost use Rattle.coset_codec.specs.Shape.{Shape, any, tagged};
 ghost use Rattle.coset_codec.specs.ShapeLaws.{Lawful as LawfulShape};
 
 use crate::error::{CoseError, Result};
-use crate::read::{Input, Source};
+use crate::read::{Input, ItemSource};
 use crate::util::{ValueTryAs, pull_type_error};
 use coset_cbor::de::Pull;
 use coset_cbor::laws;
@@ -245,8 +245,8 @@ pub trait FromPull: AsCborValue {
             (λ v. Reads Self.shape Self.seen v result) }
     {
         match input.take()? {
-            Source::Tree(value) => Self::from_cbor_value(alloc, value),
-            Source::Lent(pull) => Self::from_pull(alloc, pull),
+            ItemSource::Tree(value) => Self::from_cbor_value(alloc, value),
+            ItemSource::Lent(pull) => Self::from_pull(alloc, pull),
         }
     }
 }

@@ -251,11 +251,11 @@ where
         × Yields C.IntoIter.next_gives it xs t
         × LastHasNoImage C.Item (λ x. C.Item.shape.image (C.Item.seen x)) xs)) }
 {
-    let mut places = Vec::new(alloc);
+    let mut elements = Vec::new(alloc);
     for x in values {
-        places.push(x.to_cbor_value(alloc)?)?;
+        elements.push(x.to_cbor_value(alloc)?)?;
     }
-    Ok(Value::Array(places))
+    Ok(Value::Array(elements))
 }
 
 /// A copy of a byte string that may be missing.

@@ -7,4 +7,4 @@ pub use encode::{
     Array, Encode, encode_five, encode_four, encode_three, encode_to_tagged_vec, encode_to_value,
     encode_to_vec, encode_two,
 };
-pub use map::{write_field, write_filled, write_optional, write_pairs_head, write_rest};
+pub use map::{write_field, write_nonempty, write_optional, write_pairs_head, write_rest};

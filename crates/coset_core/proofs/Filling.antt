@@ -8,13 +8,13 @@ use Rattle.coset_codec.specs.declared.error.CoseError.TheVariants.{DuplicateMapK
 use Rattle.coset_codec.specs.declared.read.input.InputPairs.{InputPairs}
 use Rattle.coset_codec.specs.Errors.{UnlessMemory}
 use Rattle.coset_codec.specs.Inputs.{State, NextsKey, PairsWithin, ReadsAt}
-use Rattle.coset_codec.specs.Maps.{Adds, Refuses, RefusesKey, BarsKey, GatherFaults, are_distinct, optional}
+use Rattle.coset_codec.specs.Maps.{Adds, Refuses, RefusesKey, ExcludesKey, GatherFaults, are_distinct, optional}
 use Rattle.coset_codec.specs.Shape.{any}
 use Rattle.coset_codec.proofs.Walking.{goes_on, refuses, stumbles}
 use Rattle.coset_label.specs.Labels.{label}
 use Rattle.coset_label.specs.Views.{label_seen}
 use Rattle.coset_label.specs.declared.label.Label.{Label}
-use Rattle.coset_core.specs.Fields.{FieldsSeen, Versions, names, fields, parts_of, same_name, bars}
+use Rattle.coset_core.specs.Fields.{FieldsSeen, Versions, names, fields, parts_of, same_name, excludes}
 use Rattle.coset_core.specs.FieldLaws.{names_laws, partial_fields_laws}
 use Rattle.coset_core.specs.Filling.{WalksTo, AtHeld, AtEnd, AtFault, FillsSome, FillsFields, IsDistinctRest, label_of}
 use Rattle.coset_core.specs.declared.header.reading.Version.{Version}
@@ -78,7 +78,7 @@ pub at_value :
     (all : Pairs) (o : Versions (Option Item)) (f g : FieldsSeen) (s t u z : State) (m n : InputPairs) (l : Label) (e : CoseError) → (w : SoFar all o f s z m)
     → NextsLabel w.left t z n (Ok (Some l)) → g ≡ f
     → ReadsAt t u (λ v. UnlessMemory e (λ i. Refuses names (fields (optional any) (optional any)) (label_seen l) v (parts_of (f, o)) i
-    ⊎ bars (label_seen l) (parts_of (f, o)) i)) → AtFault all o g u z n e
+    ⊎ excludes (label_seen l) (parts_of (f, o)) i)) → AtFault all o g u z n e
 at_value all o f g s t u z m n l e w h same refused =
     let here = refused h.1 h.3 h.6 in
     subst (λ x. AtFault all o x u z n e) (sym same) (record {
@@ -91,8 +91,8 @@ at_value all o f g s t u z m n l e w h same refused =
     })
   where
     fault :
-        Refuses names (fields (optional any) (optional any)) (label_seen l) h.1 (parts_of (f, o)) e ⊎ bars (label_seen l) (parts_of (f, o)) e
-        → RefusesKey names (fields (optional any) (optional any)) h.0 h.1 (parts_of (f, o)) e ⊎ BarsKey names bars h.0 (parts_of (f, o)) e
+        Refuses names (fields (optional any) (optional any)) (label_seen l) h.1 (parts_of (f, o)) e ⊎ excludes (label_seen l) (parts_of (f, o)) e
+        → RefusesKey names (fields (optional any) (optional any)) h.0 h.1 (parts_of (f, o)) e ⊎ ExcludesKey names excludes h.0 (parts_of (f, o)) e
     fault (inl r) = inl (inr (label_seen l, h.5, r))
     fault (inr b) = inr (label_seen l, h.5, b)
 
@@ -120,11 +120,11 @@ distinct all o f t z m (Ok None) s d = (s, d)
 distinct all o f t z m (Err e) s d = (s.others, s.within, λ i. fault (s.faulty i))
   where
     fault :
-        RefusesKey names (fields (optional any) (optional any)) s.key s.value (parts_of (f, o)) e ⊎ BarsKey names bars s.key (parts_of (f, o)) e
-        → GatherFaults names (fields (optional any) (optional any)) bars (dict all) e
+        RefusesKey names (fields (optional any) (optional any)) s.key s.value (parts_of (f, o)) e ⊎ ExcludesKey names excludes s.key (parts_of (f, o)) e
+        → GatherFaults names (fields (optional any) (optional any)) excludes (dict all) e
     fault (inl g) = inl (refuses names names_laws (fields (optional any) (optional any)) partial_fields_laws (dict all) all
         (pair s.key s.value s.others) s.others s.key s.value (parts_of (f, o)) e refl s.walks refl g)
-    fault (inr g) = inr (all, refl, record { key = s.key; value = s.value; left = s.others; before = parts_of (f, o); walked = s.walks; barred = g })
+    fault (inr g) = inr (all, refl, record { key = s.key; value = s.value; left = s.others; before = parts_of (f, o); walked = s.walks; excluded = g })
 
 -- they do, or there was no memory to ask
 pub repeats :
@@ -134,11 +134,11 @@ pub repeats :
     × IsErrAnd q (λ i. i ≡ e) → FillsFields all o z f t m q
 repeats all o f s t z m r (Ok b) e w named p = absurd p.1
 repeats all o f s t z m r (Err i) e w named p =
-    (p.0.0, p.0.1, subst (λ x. UnlessMemory x (GatherFaults names (fields (optional any) (optional any)) bars (dict all))) (sym p.1) (λ n. fault (named n)))
+    (p.0.0, p.0.1, subst (λ x. UnlessMemory x (GatherFaults names (fields (optional any) (optional any)) excludes (dict all))) (sym p.1) (λ n. fault (named n)))
   where
     fault : (e ≡ DuplicateMapKey) × (are_distinct same_name (keys_of f.rest) ≡ false)
-        → GatherFaults names (fields (optional any) (optional any)) bars (dict all) e
+        → GatherFaults names (fields (optional any) (optional any)) excludes (dict all) e
     fault h =
         let k = walked all o f s z m r w in
-        subst (GatherFaults names (fields (optional any) (optional any)) bars (dict all)) (sym h.0)
+        subst (GatherFaults names (fields (optional any) (optional any)) excludes (dict all)) (sym h.0)
         (inl (stumbles names names_laws (fields (optional any) (optional any)) partial_fields_laws (dict all) all k.0 (parts_of (f, o)) refl k.1 h.1))

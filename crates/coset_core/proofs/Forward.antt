@@ -8,21 +8,21 @@ use Rattle.coset_codec.specs.declared.error.CoseError.{CoseError}
 use Rattle.coset_codec.specs.declared.error.CoseError.TheVariants.{DuplicateMapKey, OutOfMemory}
 use Rattle.coset_codec.specs.declared.read.input.InputItems.{InputItems}
 use Rattle.coset_codec.specs.declared.read.input.InputPairs.{InputPairs}
-use Rattle.coset_codec.specs.declared.error.Refused.{Refused}
-use Rattle.coset_codec.specs.Errors.{UnlessMemory, IsUnexpected, answer}
-use Rattle.coset_codec.specs.Inputs.{State, Stands, AreWithin, PairsWithin, EntersMap, Nexts, ReadsAt}
-use Rattle.coset_codec.specs.Maps.{GatherFaults, labelled, SomePair, and_pairs, optional, listed, is_filled}
+use Rattle.coset_codec.specs.declared.error.ErrorStored.{ErrorStored}
+use Rattle.coset_codec.specs.Errors.{UnlessMemory, IsUnexpected, stored}
+use Rattle.coset_codec.specs.Inputs.{State, ItemAt, AreWithin, PairsWithin, EntersMap, Nexts, ReadsAt}
+use Rattle.coset_codec.specs.Maps.{GatherFaults, labelled, SomePair, and_pairs, optional, unless_empty, is_nonempty}
 use Rattle.coset_core.specs.OneOrMore.{Begins}
 use Rattle.coset_codec.specs.Shape.{Shape, Each, any, bstr, any_number, one_or_more, one_or_many}
 use Rattle.coset_codec.proofs.Walking.{sets_out, goes_on, arrives, refuses}
 use Rattle.coset_label.specs.Labels.{label}
 use Rattle.coset_core.specs.FieldLabels as labels
 use Rattle.coset_codec.specs.InPlace.{Fills, FillsEach}
-use Rattle.coset_core.specs.Fields.{FieldsSeen, Versions, empty_fields, names, fields, parts_of, bars, HasOneIv, partial_header, HoldsSignatures}
+use Rattle.coset_core.specs.Fields.{FieldsSeen, Versions, empty_fields, names, fields, parts_of, excludes, HasOneIv, partial_header, HoldsSignatures}
 use Rattle.coset_core.specs.Fields.{SomeCounterSignatures}
 use Rattle.coset_core.specs.FieldLaws.{names_laws, partial_fields_laws, join, barred_fault}
 use Rattle.coset_core.specs.FieldsView.{signatures_held, fields_seen, counter_signatures_held, countersignatures_held}
-use Rattle.coset_core.specs.Filling.{WalksTo, AtHeld, AtEnd, FillsFields, IsDistinctRest, Keeps, BeginsPlaces, EndsPlaces, FirstPlace, label_of, at_version}
+use Rattle.coset_core.specs.Filling.{WalksTo, AtHeld, AtEnd, FillsFields, IsDistinctRest, Keeps, BeginsElements, EndsElements, FirstPlace, label_of, at_version}
 use Rattle.coset_core.specs.Filling.{with_version, held, held_of}
 use Rattle.coset_core.specs.HeaderAgain.{array-is, bytes-is, never_none}
 use Rattle.coset_core.specs.HeaderReads.{partial_header_fault, counter_signatures_fault}
@@ -45,8 +45,8 @@ unfolding partial_header
 no_map v e m u = inl (inl (m, u))
 
 pub not_entered :
-    (k : ℕ) (v : Item) (h : HeaderSeen) (t z : State) (r : Result (Unit {0}) Refused) (e : CoseError) (y : Refused) → IsErrAnd r (λ f. f ≡ y)
-    → EntersMap v t z (Err e) → (t ≡ z) × Fills (layered_header k) v h (answer e r)
+    (k : ℕ) (v : Item) (h : HeaderSeen) (t z : State) (r : Result (Unit {0}) ErrorStored) (e : CoseError) (y : ErrorStored) → IsErrAnd r (λ f. f ≡ y)
+    → EntersMap v t z (Err e) → (t ≡ z) × Fills (layered_header k) v h (stored e r)
 not_entered k v h t z r e y is m = (m.0, not_filled (layered_header k) h v r e y is (λ _. partial_header_fault k v e (no_map v e m.1 m.2)))
 
 -- an empty header, of whose pairs none was read
@@ -69,7 +69,7 @@ set_out h all e =
     (refl, (refl, (refl, (refl, (refl, (refl, (refl, (refl, (refl, tt))))))))) refl)
 
 -- a fault of the pairs
-gather_fault : (v : Item) (e : CoseError) → GatherFaults names (fields (optional any) (optional any)) bars v e → partial_header.faults v e
+gather_fault : (v : Item) (e : CoseError) → GatherFaults names (fields (optional any) (optional any)) excludes v e → partial_header.faults v e
 unfolding partial_header
 gather_fault v e (inl g) = inl g
 gather_fault v e (inr g) = barred_fault v e g
@@ -83,8 +83,8 @@ pub record HeaderSoFar (k : ℕ) (all : Pairs) (h : Header) (t z : State) (m : I
   pub left : Pairs
   pub walks : WalksTo all (fields_seen h) values left
   pub within : PairsWithin m left t z
-  pub first : (listed (signatures_within k)).describes values.0 (held h).0
-  pub second : (listed (signatures_within k)).describes values.1 (held h).1
+  pub first : (unless_empty (signatures_within k)).describes values.0 (held h).0
+  pub second : (unless_empty (signatures_within k)).describes values.1 (held h).1
 
 -- none was read
 pub so_far_none : (k : ℕ) (all : Pairs) (h : Header) (t z : State) (m : InputPairs) → header_seen h ≡ empty_header → PairsWithin m all t z
@@ -101,8 +101,8 @@ so_far_none k all h t z m e within = record {
 -- the next pairs are at fault
 pub pairs_refused :
     (k : ℕ) (all : Pairs) (o : Versions (Option Item)) (z : State) (f : FieldsSeen) (t : State) (m : InputPairs) (h : HeaderSeen)
-    (r : Result (Unit {0}) Refused) (e : CoseError) (y : Refused) → IsErrAnd r (λ i. i ≡ y)
-    → FillsFields all o z f t m (Err e) → Passed m t z × Fills (layered_header k) (dict all) h (answer e r)
+    (r : Result (Unit {0}) ErrorStored) (e : CoseError) (y : ErrorStored) → IsErrAnd r (λ i. i ≡ y)
+    → FillsFields all o z f t m (Err e) → Passed m t z × Fills (layered_header k) (dict all) h (stored e r)
 pairs_refused k all o z f t m h r e y is p = (
   (p.0, p.1),
   not_filled (layered_header k) h (dict all) r e y is (λ n. partial_header_fault k (dict all) e (gather_fault (dict all) e (p.2 n))),
@@ -123,11 +123,11 @@ pub ends :
     → FillsFields all p.values z (fields_seen h) t n (Ok None) → HasOneIv (fields_seen h) → signatures_held h ≡ signatures_held g
     → Passed n t z × (layered_header k).describes (dict all) (header_seen h)
 ends k all z g h s t m n p q one same =
-    let first = subst (λ xs. (listed (signatures_within k)).describes p.values.0 (map signature_seen xs)) (sym (ap (λ x. x.0) same)) p.first in
-    let second = subst (λ xs. (listed (signatures_within k)).describes p.values.1 (map countersignature_seen xs)) (sym (ap (λ x. x.1) same)) p.second in (
+    let first = subst (λ xs. (unless_empty (signatures_within k)).describes p.values.0 (map signature_seen xs)) (sym (ap (λ x. x.0) same)) p.first in
+    let second = subst (λ xs. (unless_empty (signatures_within k)).describes p.values.1 (map countersignature_seen xs)) (sym (ap (λ x. x.1) same)) p.second in (
       (no_pairs, q.0.within),
       header_whole k (dict all) (header_seen h) (fields_seen h) (held h).0 (held h).1
-          (join (listed (signatures_within k)) (listed (signatures_within k)) (dict all) (fields_seen h) p.values (held h)
+          (join (unless_empty (signatures_within k)) (unless_empty (signatures_within k)) (dict all) (fields_seen h) p.values (held h)
           (unread_all all p.values (fields_seen h) t z n q.0 q.1 one) first second) (header-opened h),
     )
 
@@ -152,9 +152,9 @@ held_there version all o f t z m s = (
 -- the value was refused, or there was no memory to keep what was read of it
 pub counter_signatures_refused :
     (version : Version) (k : ℕ) (all : Pairs) (o : Versions (Option Item)) (f : FieldsSeen) (t u z : State) (m : InputPairs) (xs : List SignatureSeen)
-    (h : HeaderSeen) (r : Result (Unit {0}) Refused) (e : CoseError) (y : Refused)
-    → IsErrAnd r (λ i. i ≡ y) → AtHeld version all o f t z m → ((w : Item) (x : State) → Stands w t x → (u ≡ x) × Fills (signatures_within k) w xs (Err e))
-    → Passed m u z × Fills (layered_header k) (dict all) h (answer e r)
+    (h : HeaderSeen) (r : Result (Unit {0}) ErrorStored) (e : CoseError) (y : ErrorStored)
+    → IsErrAnd r (λ i. i ≡ y) → AtHeld version all o f t z m → ((w : Item) (x : State) → ItemAt w t x → (u ≡ x) × Fills (signatures_within k) w xs (Err e))
+    → Passed m u z × Fills (layered_header k) (dict all) h (stored e r)
 counter_signatures_refused version k all o f t u z m xs h r e y is s read =
     let here = read s.value s.mid s.stands in (
       (s.others, subst (λ x. PairsWithin m s.others x z) (sym here.0) s.within),
@@ -164,9 +164,9 @@ counter_signatures_refused version k all o f t u z m xs h r e y is s read =
 
 pub not_kept :
     (version : Version) (k : ℕ) (all : Pairs) (o : Versions (Option Item)) (f : FieldsSeen) (t u z : State) (m : InputPairs) (xs : List SignatureSeen)
-    (h : HeaderSeen) (r : Result (Unit {0}) Refused) (e : CoseError) (y : Refused)
-    → IsErrAnd r (λ i. i ≡ y) → AtHeld version all o f t z m → ((w : Item) (x : State) → Stands w t x → (u ≡ x) × (signatures_within k).describes w xs)
-    → e ≡ OutOfMemory → Passed m u z × Fills (layered_header k) (dict all) h (answer e r)
+    (h : HeaderSeen) (r : Result (Unit {0}) ErrorStored) (e : CoseError) (y : ErrorStored)
+    → IsErrAnd r (λ i. i ≡ y) → AtHeld version all o f t z m → ((w : Item) (x : State) → ItemAt w t x → (u ≡ x) × (signatures_within k).describes w xs)
+    → e ≡ OutOfMemory → Passed m u z × Fills (layered_header k) (dict all) h (stored e r)
 not_kept version k all o f t u z m xs h r e y is s read memory =
     let here = read s.value s.mid s.stands in (
       (s.others, subst (λ x. PairsWithin m s.others x z) (sym here.0) s.within),
@@ -195,7 +195,7 @@ never_empty k w d = go d.0 d.1 d.2
     go (item v vs) e each = each
 
 -- where the list is empty, there was no value
-no_value : (k : ℕ) (o : Option Item) (xs : List SignatureSeen) → (listed (signatures_within k)).describes o xs → is_filled xs ≡ false → o ≡ None
+no_value : (k : ℕ) (o : Option Item) (xs : List SignatureSeen) → (unless_empty (signatures_within k)).describes o xs → is_nonempty xs ≡ false → o ≡ None
 no_value k None xs d e = refl
 no_value k (Some w) [] d e = absurd (never_empty k w d)
 no_value k (Some w) (x ∷ xs) d e = absurd (true≢false e)
@@ -203,38 +203,38 @@ no_value k (Some w) (x ∷ xs) d e = absurd (true≢false e)
 pub so_far_more :
     (version : Version) (k : ℕ) (all : Pairs) (g h i : Header) (s t u z : State) (m n : InputPairs) (xs : List SignatureSeen) → (p : HeaderSoFar k all g s z m)
     → AtHeld version all p.values (fields_seen h) t z n → signatures_held h ≡ signatures_held g
-    → is_filled (held_of version h) ≡ false → ((w : Item) (y : State) → Stands w t y → (u ≡ y) × (signatures_within k).describes w xs) → Keeps version xs h i
+    → is_nonempty (held_of version h) ≡ false → ((w : Item) (y : State) → ItemAt w t y → (u ≡ y) × (signatures_within k).describes w xs) → Keeps version xs h i
     → HeaderSoFar k all i u z n
 so_far_more V1 k all g h i s t u z m n xs p at same empty read kept =
     let here = read at.value at.mid at.stands in
-    let first = subst (λ ys. (listed (signatures_within k)).describes p.values.0 (map signature_seen ys)) (sym (ap (λ x. x.0) same)) p.first in
-    let second = subst (λ ys. (listed (signatures_within k)).describes p.values.1 (map countersignature_seen ys)) (sym (ap (λ x. x.1) same)) p.second in
+    let first = subst (λ ys. (unless_empty (signatures_within k)).describes p.values.0 (map signature_seen ys)) (sym (ap (λ x. x.0) same)) p.first in
+    let second = subst (λ ys. (unless_empty (signatures_within k)).describes p.values.1 (map countersignature_seen ys)) (sym (ap (λ x. x.1) same)) p.second in
     record {
       values = (Some at.value, p.values.1);
       left = at.others;
       walks = subst (λ f. WalksTo all f (Some at.value, p.values.1) at.others) (sym kept.fields)
           (taken V1 all (fields_seen h) p.values at.key at.value at.others at.walks at.held (no_value k p.values.0 (held h).0 first empty));
       within = subst (λ y. PairsWithin n at.others y z) (sym here.0) at.within;
-      first = subst (λ x. (listed (signatures_within k)).describes (Some at.value) x.0) (sym kept.signatures) here.1;
-      second = subst (λ x. (listed (signatures_within k)).describes p.values.1 x.1) (sym kept.signatures) second;
+      first = subst (λ x. (unless_empty (signatures_within k)).describes (Some at.value) x.0) (sym kept.signatures) here.1;
+      second = subst (λ x. (unless_empty (signatures_within k)).describes p.values.1 x.1) (sym kept.signatures) second;
     }
 so_far_more V2 k all g h i s t u z m n xs p at same empty read kept =
     let here = read at.value at.mid at.stands in
-    let first = subst (λ ys. (listed (signatures_within k)).describes p.values.0 (map signature_seen ys)) (sym (ap (λ x. x.0) same)) p.first in
-    let second = subst (λ ys. (listed (signatures_within k)).describes p.values.1 (map countersignature_seen ys)) (sym (ap (λ x. x.1) same)) p.second in
+    let first = subst (λ ys. (unless_empty (signatures_within k)).describes p.values.0 (map signature_seen ys)) (sym (ap (λ x. x.0) same)) p.first in
+    let second = subst (λ ys. (unless_empty (signatures_within k)).describes p.values.1 (map countersignature_seen ys)) (sym (ap (λ x. x.1) same)) p.second in
     record {
       values = (p.values.0, Some at.value);
       left = at.others;
       walks = subst (λ f. WalksTo all f (p.values.0, Some at.value) at.others) (sym kept.fields)
           (taken V2 all (fields_seen h) p.values at.key at.value at.others at.walks at.held (no_value k p.values.1 (held h).1 second empty));
       within = subst (λ y. PairsWithin n at.others y z) (sym here.0) at.within;
-      first = subst (λ x. (listed (signatures_within k)).describes p.values.0 x.0) (sym kept.signatures) first;
-      second = subst (λ x. (listed (signatures_within k)).describes (Some at.value) x.1) (sym kept.signatures) here.1;
+      first = subst (λ x. (unless_empty (signatures_within k)).describes p.values.0 x.0) (sym kept.signatures) first;
+      second = subst (λ x. (unless_empty (signatures_within k)).describes (Some at.value) x.1) (sym kept.signatures) here.1;
     }
 
 -- the label of a list that is filled stood before
-some_value : (k : ℕ) (o : Option Item) (xs : List SignatureSeen) → (listed (signatures_within k)).describes o xs → is_filled xs ≡ true → o ≡ None → ⊥
-some_value k None xs d e none = absurd (true≢false (sym e ∙ ap is_filled d))
+some_value : (k : ℕ) (o : Option Item) (xs : List SignatureSeen) → (unless_empty (signatures_within k)).describes o xs → is_nonempty xs ≡ true → o ≡ None → ⊥
+some_value k None xs d e none = absurd (true≢false (sym e ∙ ap is_nonempty d))
 some_value k (Some w) xs d e none = absurd (cc)
 
 repeated : (version : Version) (all : Pairs) (f : FieldsSeen) (o : Versions (Option Item)) (key value : Item) (others : Pairs)
@@ -250,7 +250,7 @@ repeated V2 all f o key value others w h some =
 pub second_refused :
     (version : Version) (k : ℕ) (all : Pairs) (g h : Header) (s t u z : State) (m n : InputPairs) (x : HeaderSeen) (r : Result (Unit {0}) CoseError)
     → (p : HeaderSoFar k all g s z m) → AtHeld version all p.values (fields_seen h) t z n → signatures_held h ≡ signatures_held g
-    → is_filled (held_of version h) ≡ true → ((w : Item) (y : State) → Stands w t y → (u ≡ y) × (r ≡ Err DuplicateMapKey)) → Passed n u z
+    → is_nonempty (held_of version h) ≡ true → ((w : Item) (y : State) → ItemAt w t y → (u ≡ y) × (r ≡ Err DuplicateMapKey)) → Passed n u z
     × Fills (layered_header k) (dict all) x r
 second_refused version k all g h s t u z m n x r p at same filled read =
     let here = read at.value at.mid at.stands in (
@@ -261,11 +261,11 @@ second_refused version k all g h s t u z m n x r p at same filled read =
           (inl (repeated version all (fields_seen h) p.values at.key at.value at.others at.walks at.held (there version filled))))),
     )
   where
-    there : (version : Version) → is_filled (held_of version h) ≡ true → at_version version p.values ≡ None → ⊥
+    there : (version : Version) → is_nonempty (held_of version h) ≡ true → at_version version p.values ≡ None → ⊥
     there V1 filled = some_value k p.values.0 (held h).0
-        (subst (λ ys. (listed (signatures_within k)).describes p.values.0 (map signature_seen ys)) (sym (ap (λ x. x.0) same)) p.first) filled
+        (subst (λ ys. (unless_empty (signatures_within k)).describes p.values.0 (map signature_seen ys)) (sym (ap (λ x. x.0) same)) p.first) filled
     there V2 filled = some_value k p.values.1 (held h).1
-        (subst (λ ys. (listed (signatures_within k)).describes p.values.1 (map countersignature_seen ys)) (sym (ap (λ x. x.1) same)) p.second) filled
+        (subst (λ ys. (unless_empty (signatures_within k)).describes p.values.1 (map countersignature_seen ys)) (sym (ap (λ x. x.1) same)) p.second) filled
 
 -- ---- one, or several
 
@@ -295,19 +295,19 @@ pub more_filled :
     → FillsEach s vs xs r → Fills (one_or_many (any_number s)) v xs r
 more_filled s v vs xs r e b p = ones_of s v vs xs r (ap one_or_more (array-is v vs e) ∙ begins_more vs b) p
 
--- ---- a signature's places
+-- ---- a signature's elements
 
-pub places_refused :
-    (k : ℕ) (vs : Items) (t z : State) (m : InputItems) (o : Option (List ℕ)) (f : CoseError) (x : SignatureSeen) (r : Result (Unit {0}) Refused)
-    (e : CoseError) (y : Refused) → IsErrAnd r (λ i. i ≡ y) → BeginsPlaces vs t z m o f (Err e)
-    → ((left : Items) × AreWithin m left t z) × Fills (layered_signature k) (array vs) x (answer e r)
-places_refused k vs t z m o f x r e y is b = ((b.0, b.1), not_filled (layered_signature k) x (array vs) r e y is (b.2 k))
+pub elements_refused :
+    (k : ℕ) (vs : Items) (t z : State) (m : InputItems) (o : Option (List ℕ)) (f : CoseError) (x : SignatureSeen) (r : Result (Unit {0}) ErrorStored)
+    (e : CoseError) (y : ErrorStored) → IsErrAnd r (λ i. i ≡ y) → BeginsElements vs t z m o f (Err e)
+    → ((left : Items) × AreWithin m left t z) × Fills (layered_signature k) (array vs) x (stored e r)
+elements_refused k vs t z m o f x r e y is b = ((b.0, b.1), not_filled (layered_signature k) x (array vs) r e y is (b.2 k))
 
 -- the first place was read, and is no byte string
 pub first_refused :
     (vs : Items) (s t x z : State) (m n : InputItems) (e : CoseError) → Nexts vs s z m true → ReadsAt s t (λ v. UnlessMemory e (bstr.faults v))
     → ((us : Items) → AreWithin m us t z → Nexts us x z n true)
-    → (w : Item) × (u : Item) × (others : Items) × (mid : State) × (vs ≡ item w (item u others)) × Stands u x mid × AreWithin n others mid z
+    → (w : Item) × (u : Item) × (others : Items) × (mid : State) × (vs ≡ item w (item u others)) × ItemAt u x mid × AreWithin n others mid z
     × ((k : ℕ) → UnlessMemory e ((layered_protected k).faults w))
 first_refused vs s t x z m n e p read next =
     let here = read p.0 p.2 p.4 in
@@ -325,8 +325,8 @@ pub record Second (vs : Items) (o : Option (List ℕ)) (f : CoseError) (b : Bool
   pub holds : P second
 
 pub second_read :
-    (vs : Items) (t u z : State) (m : InputItems) (o : Option (List ℕ)) (f : CoseError) (b : Bool) (P : Item → Type 0) → BeginsPlaces vs t z m o f (Ok b)
-    → ((v : Item) (y : State) → Stands v t y → (u ≡ y) × P v)
+    (vs : Items) (t u z : State) (m : InputItems) (o : Option (List ℕ)) (f : CoseError) (b : Bool) (P : Item → Type 0) → BeginsElements vs t z m o f (Ok b)
+    → ((v : Item) (y : State) → ItemAt v t y → (u ≡ y) × P v)
     → Second vs o f b u z m P
 second_read vs t u z m o f b P q read =
     let here = read q.1 q.3 q.5 in
@@ -334,9 +334,10 @@ second_read vs t u z m o f b P q read =
 
 -- the third place is the last, and no byte string
 pub third_refused :
-    (vs : Items) (s t x z : State) (m n : InputItems) (b : List ℕ) (r : Result (Unit {0}) Refused) (e : CoseError) (y : Refused) → IsErrAnd r (λ i. i ≡ y)
+    (vs : Items) (s t x z : State) (m n : InputItems) (b : List ℕ) (r : Result (Unit {0}) ErrorStored) (e : CoseError) (y : ErrorStored)
+    → IsErrAnd r (λ i. i ≡ y)
     → Nexts vs s z m true → ReadsAt s t (λ v. UnlessMemory e (bstr.faults v))
-    → ((us : Items) → AreWithin m us t z → Nexts us x z n false) → EndsPlaces vs x z n b (answer e r)
+    → ((us : Items) → AreWithin m us t z → Nexts us x z n false) → EndsElements vs x z n b (stored e r)
 third_refused vs s t x z m n b (Ok u) e y is p read none = absurd is
 third_refused vs s t x z m n b (Err f) e y is p read none =
     let here = read p.0 p.2 p.4 in
@@ -350,29 +351,29 @@ third_refused vs s t x z m n b (Err f) e y is p read none =
 
 pub last_refused :
     (k : ℕ) (vs : Items) (u w z : State) (m n : InputItems) (o : Option (List ℕ)) (f : CoseError) (i : Bool) (P : Item → Type 0) (b : List ℕ)
-    (x : SignatureSeen) (r : Result (Unit {0}) Refused) (e : CoseError) (y : Refused)
-    → IsErrAnd r (λ j. j ≡ y) → (s : Second vs o f i u z m P) → EndsPlaces s.others w z n b (Err e) → ((left : Items) × AreWithin n left w z)
-    × Fills (layered_signature k) (array vs) x (answer e r)
+    (x : SignatureSeen) (r : Result (Unit {0}) ErrorStored) (e : CoseError) (y : ErrorStored)
+    → IsErrAnd r (λ j. j ≡ y) → (s : Second vs o f i u z m P) → EndsElements s.others w z n b (Err e) → ((left : Items) × AreWithin n left w z)
+    × Fills (layered_signature k) (array vs) x (stored e r)
 last_refused k vs u w z m n o f i P b x r e y is s p = (
   (p.0, p.1),
   not_filled (layered_signature k) x (array vs) r e y is
       (subst (λ ws. UnlessMemory e ((layered_signature k).faults (array ws))) (sym s.is) (p.2 s.first s.second k)),
 )
 
--- all places, of which the last is a byte string
-all_places : (vs : Items) (o : Option (List ℕ)) (f : CoseError) (i : Bool) (u w z : State) (m n : InputItems) (P : Item → Type 0) (b : List ℕ)
-    → (s : Second vs o f i u z m P) → (p : EndsPlaces s.others w z n b (Ok tt))
+-- all elements, of which the last is a byte string
+all_elements : (vs : Items) (o : Option (List ℕ)) (f : CoseError) (i : Bool) (u w z : State) (m n : InputItems) (P : Item → Type 0) (b : List ℕ)
+    → (s : Second vs o f i u z m P) → (p : EndsElements s.others w z n b (Ok tt))
     → vs ≡ item s.first (item s.second (item p.0 no_items))
-all_places vs o f i u w z m n P b s p = s.is ∙ ap (λ ws. item s.first (item s.second ws)) p.1
+all_elements vs o f i u w z m n P b s p = s.is ∙ ap (λ ws. item s.first (item s.second ws)) p.1
 
 -- the second place was refused
 pub unprotected_refused :
     (k : ℕ) (vs : Items) (u w z : State) (m n : InputItems) (o : Option (List ℕ)) (f : CoseError) (i : Bool) (b : List ℕ) (x : SignatureSeen)
-    (r : Result (Unit {0}) Refused) (e g : CoseError) (y : Refused)
-    → IsErrAnd r (λ j. j ≡ y) → g ≡ e → (s : Second vs o f i u z m (λ v. UnlessMemory e ((layered_header k).faults v))) → EndsPlaces s.others w z n b (Ok tt)
-    → ((left : Items) × AreWithin n left w z) × Fills (layered_signature k) (array vs) x (answer g r)
+    (r : Result (Unit {0}) ErrorStored) (e g : CoseError) (y : ErrorStored)
+    → IsErrAnd r (λ j. j ≡ y) → g ≡ e → (s : Second vs o f i u z m (λ v. UnlessMemory e ((layered_header k).faults v))) → EndsElements s.others w z n b (Ok tt)
+    → ((left : Items) × AreWithin n left w z) × Fills (layered_signature k) (array vs) x (stored g r)
 unprotected_refused k vs u w z m n o f i b x r e g y is same s p =
-    let all = all_places vs o f i u w z m n (λ v. UnlessMemory e ((layered_header k).faults v)) b s p in (
+    let all = all_elements vs o f i u w z m n (λ v. UnlessMemory e ((layered_header k).faults v)) b s p in (
       (no_items, p.3),
       not_filled (layered_signature k) x (array vs) r g y is
           (subst (λ h. UnlessMemory h ((layered_signature k).faults (array vs))) (sym same)
@@ -384,10 +385,10 @@ unprotected_refused k vs u w z m n o f i b x r e g y is same s p =
 pub protected_refused :
     (k : ℕ) (vs : Items) (u w z : State) (m n : InputItems) (o : Option (List ℕ)) (f : CoseError) (P : Item → Type 0) (b : List ℕ) (x : SignatureSeen)
     → (s : Second vs o f false u z m P)
-    → EndsPlaces s.others w z n b (Ok tt) → ((left : Items) × AreWithin n left w z) × Fills (layered_signature k) (array vs) x (Err f)
+    → EndsElements s.others w z n b (Ok tt) → ((left : Items) × AreWithin n left w z) × Fills (layered_signature k) (array vs) x (Err f)
 protected_refused k vs u w z m n o f P b x s p = (
   (no_items, p.3),
-  subst (λ ws. UnlessMemory f ((layered_signature k).faults (array ws))) (sym (all_places vs o f false u w z m n P b s p))
+  subst (λ ws. UnlessMemory f ((layered_signature k).faults (array ws))) (sym (all_elements vs o f false u w z m n P b s p))
       (λ h. inr (item s.first (item s.second (item p.0 no_items)), refl, inr (λ j. j tt, inl (s.kept k h)))),
 )
 
@@ -398,14 +399,14 @@ signature_filled :
 signature_filled k a b c x (Ok u) h s p = (item a (item b (item c no_items)), refl, (p, (h, (s, tt))))
 signature_filled k a b c x (Err e) h s p = λ n. inr (item a (item b (item c no_items)), refl, inr (λ m. m tt, inl (p n)))
 
-pub places_filled :
+pub elements_filled :
     (k : ℕ) (vs : Items) (u w z : State) (m n : InputItems) (o : Option (List ℕ)) (f : CoseError) (x : SignatureSeen) (r : Result (Unit {0}) CoseError)
-    → (s : Second vs o f true u z m (λ v. (layered_header k).describes v x.unprotected)) → EndsPlaces s.others w z n x.signature (Ok tt)
+    → (s : Second vs o f true u z m (λ v. (layered_header k).describes v x.unprotected)) → EndsElements s.others w z n x.signature (Ok tt)
     → ((b : List ℕ) → o ≡ Some b → Fills (layered_protected k) (bytes b) x.protected r) → ((left : Items) × AreWithin n left w z)
     × Fills (layered_signature k) (array vs) x r
-places_filled k vs u w z m n o f x r s p q =
+elements_filled k vs u w z m n o f x r s p q =
     let first = subst (λ v. Fills (layered_protected k) v x.protected r) (sym (bytes-is s.first s.kept.0 s.kept.1)) (q s.kept.0 s.kept.2) in
-    let all = all_places vs o f true u w z m n (λ v. (layered_header k).describes v x.unprotected) x.signature s p in (
+    let all = all_elements vs o f true u w z m n (λ v. (layered_header k).describes v x.unprotected) x.signature s p in (
       (no_items, p.3),
       subst (λ ws. Fills (layered_signature k) (array ws) x r) (sym all) (signature_filled k s.first s.second p.0 x r s.holds p.2 first),
     )

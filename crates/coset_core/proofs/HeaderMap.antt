@@ -2,7 +2,7 @@
 use Rattle.std.proofs.Common.{◌≡◌, ◌⊎◌, ℕ, zero, suc, List, [], ◌∷◌, Option, Some, None, Bool, true, false, option_map, refl, ap, sym, subst, ◌∙◌, inl, inr}
 use Rattle.coset_value.specs.Item.{Item, Items, no_items, item, Pairs, no_pairs, pair}
 use Rattle.coset_codec.specs.declared.error.CoseError.{CoseError}
-use Rattle.coset_codec.specs.Maps.{FieldShape, listed, optional, Where, SomePair, PairFaults, entries_image, may_write}
+use Rattle.coset_codec.specs.Maps.{FieldShape, unless_empty, optional, IfThenElse, SomePair, PairFaults, entries_image, may_write}
 use Rattle.coset_codec.specs.Serialized.{ContentDescribes, ContentFaults}
 use Rattle.coset_codec.specs.Shape.{Shape, Each, EachFaults, both, any, bstr, ◌then◌, end, one_or_array}
 use Rattle.coset_label.specs.Labels.{label}
@@ -14,7 +14,8 @@ use Rattle.coset_core.specs.HeaderMap.{each_of, header_with, header_parts, heade
 use Rattle.coset_core.specs.HeaderReads.{signed_as, ProtectedOf, header_read_with, faults_read, protected_faults, unprotected_faults}
 use Rattle.coset_core.specs.HeaderWrites.{images_signatures}
 use Rattle.coset_core.specs.Headers.{HeaderSeen, header_of, Signatures, no_signatures, signature_and, ProtectedSeen, SignatureSeen, signatures_of, empty_header}
-use Rattle.coset_core.specs.Headers.{CounterSignaturesAre, ContentIs, IsHeader, AreSignatures, signed_array, told_by, counter_signatures_item, header_item}
+use Rattle.coset_core.specs.Headers.{CounterSignaturesAre, DescribesContent, IsHeader, AreSignatures}
+use Rattle.coset_core.specs.Headers.{signed_array, described_by, counter_signatures_item, header_item}
 use Rattle.coset_core.specs.Headers.{signatures_image, counter_signatures_faults, layered_header, layered_protected, layered_signature, signatures_within}
 
 -- ---- signatures and lists
@@ -28,7 +29,8 @@ header-back (header_of f ss ts) = λ i. header_of f (signatures-again ss i) (sig
 
 -- ---- what stands for a header
 
-content_told : (k : ℕ) (h : HeaderSeen) (b : List ℕ) → ContentIs (IsHeader h k) (h ≡ empty_header) b → ContentDescribes empty_header (layered_header k) b h
+content_told : (k : ℕ) (h : HeaderSeen) (b : List ℕ) → DescribesContent (IsHeader h k) (h ≡ empty_header) b
+    → ContentDescribes empty_header (layered_header k) b h
 unfolding layered_header
 content_told k h [] p = p
 content_told k h (c ∷ b) p = p
@@ -47,21 +49,21 @@ signatures_told k no_signatures vs h = subst (λ us. Each (layered_signature k).
 signatures_told k (signature_and o p u s more) no_items h = absurd h
 signatures_told k (signature_and o p u s more) (item v vs) h =
     let protected : ProtectedSeen = record { original = o; header = p } in (
-      signed_as (told_by (ProtectedOf o p k)) (told_by (IsHeader u k)) (layered_protected k) (layered_header k) tt tt protected u s
+      signed_as (described_by (ProtectedOf o p k)) (described_by (IsHeader u k)) (layered_protected k) (layered_header k) tt tt protected u s
           (protected_told k protected) (unprotected_told k u) v h.0,
       signatures_told k more vs h.1,
     )
 
 listed_told :
     (k : ℕ) (ss : Signatures) (o : Option Item) → CounterSignaturesAre (AreSignatures ss k) (ss ≡ no_signatures) o
-    → (listed (signatures_within k)).describes o (each_of ss)
+    → (unless_empty (signatures_within k)).describes o (each_of ss)
 listed_told k ss (Some w) h = (h.0, h.1, signatures_told k ss h.0 h.2)
 listed_told k ss None h = ap each_of h
 
 pub header_told : (k : ℕ) (v : Item) (h : HeaderSeen) → (layered_header k).describes v h → (header_map (signatures_within k)).describes v h
 unfolding layered_header
 header_told k v (header_of f ss ts) h =
-    join (listed (signatures_within k)) (listed (signatures_within k)) v f h.0 (each_of ss, each_of ts) h.1
+    join (unless_empty (signatures_within k)) (unless_empty (signatures_within k)) v f h.0 (each_of ss, each_of ts) h.1
     (listed_told k ss h.0.0 h.2) (listed_told k ts h.0.1 h.3)
 
 pub header_told_so : (k : ℕ) (v : Item) (h : HeaderSeen) → (header_map (signatures_within k)).describes v h → (layered_header k).describes v h
@@ -75,7 +77,7 @@ mapped_once : (o : Option Items) → option_map Some (option_map one_or_array o)
 mapped_once (Some vs) = refl
 mapped_once None = refl
 
-listed_image : (k : ℕ) (ss : Signatures) → (listed (signatures_within k)).image (each_of ss) ≡ counter_signatures_item ss (signatures_image ss)
+listed_image : (k : ℕ) (ss : Signatures) → (unless_empty (signatures_within k)).image (each_of ss) ≡ counter_signatures_item ss (signatures_image ss)
 listed_image k no_signatures = refl
 listed_image k (signature_and o p u s more) =
     let ss = signature_and o p u s more in
@@ -111,27 +113,27 @@ module _ (c : FieldShape (List SignatureSeen)) (f : FieldsSeen) (x : Versions (L
 pub header_written : (k : ℕ) (h : HeaderSeen) → (layered_header k).image h ≡ (header_map (signatures_within k)).image h
 unfolding layered_header
 header_written k (header_of f ss ts) =
-    map_image (listed (signatures_within k)) f (each_of ss, each_of ts)
+    map_image (unless_empty (signatures_within k)) f (each_of ss, each_of ts)
     (counter_signatures_item ss (signatures_image ss)) (counter_signatures_item ts (signatures_image ts))
     (listed_image k ss) (listed_image k ts)
 
 -- ---- what is wrong with it
 
 -- of a choice whose second part is R or S, either the choice with R, or S; also where the first part is S itself
-later : (b : Bool) (P Q R S : Type 0) → (Q → R ⊎ S) → Where b P Q → Where b P R ⊎ S
+later : (b : Bool) (P Q R S : Type 0) → (Q → R ⊎ S) → IfThenElse b P Q → IfThenElse b P R ⊎ S
 later true P Q R S f h = inl h
 later false P Q R S f h = f h
 
-here : (b : Bool) (P Q R S : Type 0) → (b ≡ true → P → S) → (Q → R ⊎ S) → Where b P Q → Where b ⊥ R ⊎ S
+here : (b : Bool) (P Q R S : Type 0) → (b ≡ true → P → S) → (Q → R ⊎ S) → IfThenElse b P Q → IfThenElse b ⊥ R ⊎ S
 here true P Q R S g f h = inr (g refl h)
 here false P Q R S g f h = f h
 
 -- of a choice whose second part passes on to another, the choice with that; also where nothing meets the first part
-further : (b : Bool) (P Q R : Type 0) → (Q → R) → Where b P Q → Where b P R
+further : (b : Bool) (P Q R : Type 0) → (Q → R) → IfThenElse b P Q → IfThenElse b P R
 further true P Q R f h = h
 further false P Q R f h = f h
 
-past : (b : Bool) (P Q R : Type 0) → (Q → R) → Where b ⊥ Q → Where b P R
+past : (b : Bool) (P Q R : Type 0) → (Q → R) → IfThenElse b ⊥ Q → IfThenElse b P R
 past true P Q R f h = absurd h
 past false P Q R f h = f h
 
@@ -142,7 +144,7 @@ IsVersion m = (same_name labels.counter_signature m ≡ true) ⊎ (same_name lab
 module _ (s : Shape (List SignatureSeen)) (e : CoseError) where
   -- the value of a field is wrong as one that is left as it is, or as signatures
   field_split :
-      (m : Name) (v : Item) → (fields (listed s) (listed s)).faults m v e
+      (m : Name) (v : Item) → (fields (unless_empty s) (unless_empty s)).faults m v e
       → (fields (optional any) (optional any)).faults m v e ⊎ (IsVersion m × s.faults v e)
   field_split m v =
       let asked : Name → Bool = λ l. same_name l m in
@@ -156,7 +158,7 @@ module _ (s : Shape (List SignatureSeen)) (e : CoseError) where
       here (asked labels.countersignature_v2) _ _ _ _ (λ b f. (inr b, f)) (λ h. inl h))))))))
 
   -- whatever is wrong with a field that is left as it is, or with signatures, is wrong with the map
-  field_left : (m : Name) (v : Item) → (fields (optional any) (optional any)).faults m v e → (fields (listed s) (listed s)).faults m v e
+  field_left : (m : Name) (v : Item) → (fields (optional any) (optional any)).faults m v e → (fields (unless_empty s) (unless_empty s)).faults m v e
   field_left m v =
       let asked : Name → Bool = λ l. same_name l m in
       further (asked labels.alg) _ _ _ (
@@ -172,19 +174,19 @@ module _ (s : Shape (List SignatureSeen)) (e : CoseError) where
   holds k m d (inr b) = inr (subst (label.describes k) (sym (names_laws.same_is labels.countersignature_v2 m b)) d)
 
   pair_split :
-      (k v : Item) → PairFaults names (fields (listed s) (listed s)) e k v
+      (k v : Item) → PairFaults names (fields (unless_empty s) (unless_empty s)) e k v
       → PairFaults names (fields (optional any) (optional any)) e k v ⊎ (HoldsSignatures k × s.faults v e)
   pair_split k v (inl h) = inl (inl h)
   pair_split k v (inr h) = elim (field_split h.0 v h.2) [ inl g ↦ inl (inr (h.0, h.1, g)) | inr g ↦ inr (holds k h.0 h.1 g.0, g.1) ]
 
   pairs_split :
-      (ps : Pairs) → SomePair (PairFaults names (fields (listed s) (listed s)) e) ps
+      (ps : Pairs) → SomePair (PairFaults names (fields (unless_empty s) (unless_empty s)) e) ps
       → SomePair (PairFaults names (fields (optional any) (optional any)) e) ps ⊎ SomePair (λ k w. HoldsSignatures k × s.faults w e) ps
   pairs_split no_pairs h = absurd h
   pairs_split (pair k v ps) (inl h) = elim (pair_split k v h) [ inl g ↦ inl (inl g) | inr g ↦ inr (inl g) ]
   pairs_split (pair k v ps) (inr h) = elim (pairs_split ps h) [ inl g ↦ inl (inr g) | inr g ↦ inr (inr g) ]
 
-  map_split : (v : Item) → (map_with (listed s) (listed s)).faults v e → partial_header.faults v e ⊎ SomeCounterSignatures (λ w. s.faults w e) v
+  map_split : (v : Item) → (map_with (unless_empty s) (unless_empty s)).faults v e → partial_header.faults v e ⊎ SomeCounterSignatures (λ w. s.faults w e) v
   unfolding partial_header
   map_split v (inl (inl h)) = inl (inl (inl h))
   map_split v (inl (inr h)) =
@@ -194,33 +196,34 @@ module _ (s : Shape (List SignatureSeen)) (e : CoseError) where
       ]
   map_split v (inr h) = inl (inr h)
 
-  pair_left : (k v : Item) → PairFaults names (fields (optional any) (optional any)) e k v → PairFaults names (fields (listed s) (listed s)) e k v
+  pair_left : (k v : Item) → PairFaults names (fields (optional any) (optional any)) e k v → PairFaults names (fields (unless_empty s) (unless_empty s)) e k v
   pair_left k v (inl h) = inl h
   pair_left k v (inr h) = inr (h.0, h.1, field_left h.0 v h.2)
 
   pairs_left :
       (ps : Pairs) → SomePair (PairFaults names (fields (optional any) (optional any)) e) ps
-      → SomePair (PairFaults names (fields (listed s) (listed s)) e) ps
+      → SomePair (PairFaults names (fields (unless_empty s) (unless_empty s)) e) ps
   pairs_left no_pairs h = absurd h
   pairs_left (pair k v ps) (inl h) = inl (pair_left k v h)
   pairs_left (pair k v ps) (inr h) = inr (pairs_left ps h)
 
-  map_left : (v : Item) → partial_header.faults v e → (map_with (listed s) (listed s)).faults v e
+  map_left : (v : Item) → partial_header.faults v e → (map_with (unless_empty s) (unless_empty s)).faults v e
   unfolding partial_header
   map_left v (inl (inl h)) = inl (inl h)
   map_left v (inl (inr h)) = inl (inr (h.0, h.1, elim h.2 [ inl p ↦ inl (pairs_left h.0 p) | inr t ↦ inr t ]))
   map_left v (inr h) = inr h
 
-  pair_held : (k v : Item) → HoldsSignatures k → s.faults v e → PairFaults names (fields (listed s) (listed s)) e k v
+  pair_held : (k v : Item) → HoldsSignatures k → s.faults v e → PairFaults names (fields (unless_empty s) (unless_empty s)) e k v
   pair_held k v (inl d) f = inr (labels.counter_signature, d, f)
   pair_held k v (inr d) f = inr (labels.countersignature_v2, d, f)
 
-  pairs_held : (ps : Pairs) → SomePair (λ k w. HoldsSignatures k × s.faults w e) ps → SomePair (PairFaults names (fields (listed s) (listed s)) e) ps
+  pairs_held : (ps : Pairs) → SomePair (λ k w. HoldsSignatures k × s.faults w e) ps
+      → SomePair (PairFaults names (fields (unless_empty s) (unless_empty s)) e) ps
   pairs_held no_pairs h = absurd h
   pairs_held (pair k v ps) (inl h) = inl (pair_held k v h.0 h.1)
   pairs_held (pair k v ps) (inr h) = inr (pairs_held ps h)
 
-  map_held : (v : Item) → SomeCounterSignatures (λ w. s.faults w e) v → (map_with (listed s) (listed s)).faults v e
+  map_held : (v : Item) → SomeCounterSignatures (λ w. s.faults w e) v → (map_with (unless_empty s) (unless_empty s)).faults v e
   map_held v h = inl (inr (h.0, h.1, inl (pairs_held h.0 h.2)))
 
 -- a fault within n signatures is one of theirs
@@ -240,19 +243,19 @@ unprotected_faulty : (n k : ℕ) (v : Item) (e : CoseError) → (unprotected_fau
 unfolding layered_header
 unprotected_faulty n k v e f = (n, f)
 
-places_faulty :
+elements_faulty :
     (n k : ℕ) (vs : Items) (e : CoseError) → (protected_faults n k then unprotected_faults n k then bstr then end).faults vs e
     → (layered_protected k then layered_header k then bstr then end).faults vs e
-places_faulty n k no_items e f = f
-places_faulty n k (item v vs) e (inl f) = inl (protected_faulty n k v e f)
-places_faulty n k (item v no_items) e (inr f) = absurd f
-places_faulty n k (item v (item w vs)) e (inr (inl f)) = inr (inl (unprotected_faulty n k w e f))
-places_faulty n k (item v (item w vs)) e (inr (inr f)) = inr (inr f)
+elements_faulty n k no_items e f = f
+elements_faulty n k (item v vs) e (inl f) = inl (protected_faulty n k v e f)
+elements_faulty n k (item v no_items) e (inr f) = absurd f
+elements_faulty n k (item v (item w vs)) e (inr (inl f)) = inr (inl (unprotected_faulty n k w e f))
+elements_faulty n k (item v (item w vs)) e (inr (inr f)) = inr (inr f)
 
 signature_faulty :
     (n k : ℕ) (v : Item) (e : CoseError) → (signed_array (protected_faults n k) (unprotected_faults n k)).faults v e → (layered_signature k).faults v e
 signature_faulty n k v e (inl f) = inl f
-signature_faulty n k v e (inr f) = inr (f.0, f.1, elim f.2 [ inl m ↦ inl m | inr m ↦ inr (m.0, places_faulty n k f.0 e m.1) ])
+signature_faulty n k v e (inr f) = inr (f.0, f.1, elim f.2 [ inl m ↦ inl m | inr m ↦ inr (m.0, elements_faulty n k f.0 e m.1) ])
 
 signatures_faulty :
     (n k : ℕ) (vs : Items) (e : CoseError) → EachFaults (signed_array (protected_faults n k) (unprotected_faults n k)).faults vs e

@@ -1,12 +1,12 @@
 -- What is kept of a message that was written.
 use Rattle.std.proofs.Common.{◌≡◌, ℕ, List, Some, ap}
 use Rattle.std.specs.Prelude.{⊤}
-use Rattle.coset_codec.specs.AsWritten.{AsWritten, WhenRead, PlacesAsWritten, PlacesWhenRead}
+use Rattle.coset_codec.specs.AsWritten.{AsWritten, WhenRead, ElementsAsWritten, ElementsWhenRead}
 use Rattle.coset_codec.proofs.AsWritten.{array_as_written, array_when_read, then_as_written, then_when_read}
 use Rattle.coset_codec.specs.Serialized.{content_bytes}
-use Rattle.coset_codec.specs.Shape.{Places, ◌then◌}
+use Rattle.coset_codec.specs.Shape.{Elements, ◌then◌}
 use Rattle.coset_core.specs.Headers.{ProtectedSeen, header, header_image, is_empty_header, layered_protected, protected, protected_bytes}
-use Rattle.coset_core.specs.Messages.{headed}
+use Rattle.coset_core.specs.Messages.{with_headers}
 
 -- ---- what is kept of a message
 
@@ -25,28 +25,28 @@ pub has_bytes : WhenRead protected HasBytes
 unfolding layered_protected
 has_bytes w p d = (d.0, ap (λ o. content_bytes is_empty_header header_image o p.header) d.2)
 
-module _ {A : Type 0} (ps : Places A) where
-  -- with its protected header, and with the places behind the headers
+module _ {A : Type 0} (ps : Elements A) where
+  -- with its protected header, and with the elements behind the headers
   pub message_as_written :
-      (Q : ProtectedSeen → ProtectedSeen → Type 0) (R : A → A → Type 0) → AsWritten protected Q → PlacesAsWritten ps R
-      → AsWritten (headed ps) (λ x y. Q x.0 y.0 × (⊤ × R x.1.1 y.1.1))
+      (Q : ProtectedSeen → ProtectedSeen → Type 0) (R : A → A → Type 0) → AsWritten protected Q → ElementsAsWritten ps R
+      → AsWritten (with_headers ps) (λ x y. Q x.0 y.0 × (⊤ × R x.1.1 y.1.1))
   message_as_written Q R h more =
       array_as_written (protected then header then ps) _
       (then_as_written protected (header then ps) Q _ h (then_as_written header ps (λ x y. ⊤) R (λ v x y e d. tt) more))
 
-  pub message_when_read : (P : ProtectedSeen → Type 0) (R : A → Type 0) → WhenRead protected P → PlacesWhenRead ps R
-      → WhenRead (headed ps) (λ x. P x.0 × (⊤ × R x.1.1))
+  pub message_when_read : (P : ProtectedSeen → Type 0) (R : A → Type 0) → WhenRead protected P → ElementsWhenRead ps R
+      → WhenRead (with_headers ps) (λ x. P x.0 × (⊤ × R x.1.1))
   message_when_read P R h more =
       array_when_read (protected then header then ps) _
       (then_when_read protected (header then ps) P _ h (then_when_read header ps (λ x. ⊤) R (λ v x d. tt) more))
 
   -- with its protected header alone
-  pub header_as_written : (Q : ProtectedSeen → ProtectedSeen → Type 0) → AsWritten protected Q → AsWritten (headed ps) (λ x y. Q x.0 y.0)
+  pub header_as_written : (Q : ProtectedSeen → ProtectedSeen → Type 0) → AsWritten protected Q → AsWritten (with_headers ps) (λ x y. Q x.0 y.0)
   header_as_written Q h v x y e d = (message_as_written Q (λ a b. ⊤) h (λ vs a b f g. tt) v x y e d).0
 
-  pub header_when_read : (P : ProtectedSeen → Type 0) → WhenRead protected P → WhenRead (headed ps) (λ x. P x.0)
+  pub header_when_read : (P : ProtectedSeen → Type 0) → WhenRead protected P → WhenRead (with_headers ps) (λ x. P x.0)
   header_when_read P h v x d = (message_when_read P (λ a. ⊤) h (λ vs a f. tt) v x d).0
 
-  -- with these places alone
-  pub places_as_written : (R : A → A → Type 0) → PlacesAsWritten ps R → AsWritten (headed ps) (λ x y. R x.1.1 y.1.1)
-  places_as_written R more v x y e d = (message_as_written (λ p q. ⊤) R (λ w p q f g. tt) more v x y e d).1.1
+  -- with these elements alone
+  pub elements_as_written : (R : A → A → Type 0) → ElementsAsWritten ps R → AsWritten (with_headers ps) (λ x y. R x.1.1 y.1.1)
+  elements_as_written R more v x y e d = (message_as_written (λ p q. ⊤) R (λ w p q f g. tt) more v x y e d).1.1

@@ -8,7 +8,7 @@ use Rattle.coset_codec.specs.declared.error.CoseError.TheVariants.{DecodeFailed}
 use Rattle.coset_codec.specs.Errors.{IsUnexpected}
 use Rattle.coset_codec.specs.InPlace.{Fills}
 use Rattle.coset_codec.specs.Serialized.{ContentDescribes, ContentFaults}
-use Rattle.coset_codec.specs.Maps.{listed}
+use Rattle.coset_codec.specs.Maps.{unless_empty}
 use Rattle.coset_codec.specs.Shape.{any_number, one_or_many}
 use Rattle.coset_core.specs.Contents.{FillsContent}
 use Rattle.coset_core.specs.Fields.{FieldsSeen, map_with}
@@ -56,6 +56,7 @@ protected_filled k j b c o h (Err e) z kept same d = λ n. content_faulty k j (b
 -- a header of these fields and these signatures
 pub header_whole :
     (k : ℕ) (v : Item) (h : HeaderSeen) (f : FieldsSeen) (xs ys : List SignatureSeen)
-    → (map_with (listed (one_or_many (any_number (layered_signature k)))) (listed (one_or_many (any_number (layered_signature k))))).describes v (f, (xs, ys))
+    → (map_with (unless_empty (one_or_many (any_number (layered_signature k)))) (unless_empty (one_or_many (any_number (layered_signature k))))).describes v
+    (f, (xs, ys))
     → h ≡ header_of f (signatures_of xs) (signatures_of ys) → (layered_header k).describes v h
 header_whole k v h f xs ys p same = subst ((layered_header k).describes v) (sym same) (header_read_with k v f xs ys p)

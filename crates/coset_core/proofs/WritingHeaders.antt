@@ -15,13 +15,13 @@ use Rattle.coset_codec.specs.declared.error.CoseError.{CoseError}
 use Rattle.coset_codec.specs.declared.error.CoseError.TheVariants.{DuplicateMapKey}
 use Rattle.coset_codec.specs.Encoding.{AppendsItem, AppendsImage, AppendsField, AppendsAll, Encodes, HasNoImage}
 use Rattle.coset_codec.specs.Errors.{UnlessMemory}
-use Rattle.coset_codec.specs.Maps.{are_distinct, entries_image, field_shape_image, is_filled, may_write, named_image, optional}
+use Rattle.coset_codec.specs.Maps.{are_distinct, entries_image, field_shape_image, is_nonempty, may_write, named_image, optional}
 use Rattle.coset_codec.specs.RestLaws.{no-entries}
-use Rattle.coset_codec.specs.Shape.{any, both, bstr, filled_bstr, images, one_or_array, present_image, some_of}
-use Rattle.coset_codec.proofs.Encoding.{array-put as array-put-places, place-put, nothing-put, and_items, images-append, images-missing}
+use Rattle.coset_codec.specs.Shape.{any, both, bstr, nonempty_bstr, images, one_or_array, present_image, some_of}
+use Rattle.coset_codec.proofs.Encoding.{array-put as array-put-elements, place-put, nothing-put, and_items, images-append, images-missing}
 use Rattle.coset_codec.proofs.EncodingMaps.{AppendsFields, no-field, field-put, filled-seen, filled-there, map-written, pair-added}
 use Rattle.coset_label.specs.Labels.{label}
-use Rattle.coset_label.specs.Names.{Name, number, word, RegisteredName, assigned, private_use, phrase}
+use Rattle.coset_label.specs.Names.{Name, number, text_label, RegisteredName, assigned, private_use, text_name}
 use Rattle.coset_label.specs.Views.{label_seen}
 use Rattle.coset_label.specs.declared.label.Label.{Label}
 use Rattle.coset_core.specs.Fields.{FieldsSeen, same_name, names, fields, parts_of, partial_header, algorithm, critical, content_type}
@@ -55,7 +55,7 @@ pub signature-put :
     → AppendsImage (header_image s.unprotected) mid half → AppendsItem half new (bytes s.signature)
     → AppendsImage (signature_array s) old new
 signature-put s old head mid half new first p u b =
-    array-put-places 3 (omega arith) first (place-put p (place-put u (place-put (bytes s.signature, refl, b) (nothing-put new))))
+    array-put-elements 3 (omega arith) first (place-put p (place-put u (place-put (bytes s.signature, refl, b) (nothing-put new))))
 
 -- a byte string is that of a protected header
 pub string-put : (p : ProtectedSeen) (b old new : List ℕ) → protected_bytes p ≡ Some b → AppendsItem old new (bytes b)
@@ -133,18 +133,18 @@ pub algorithm-has : (x : RegisteredName) → algorithm.image x ≡ None → ⊥
 unfolding algorithm
 algorithm-has (assigned i) e = absurd (cc)
 algorithm-has (private_use i) e = absurd (cc)
-algorithm-has (phrase s) e = absurd (cc)
+algorithm-has (text_name s) e = absurd (cc)
 
 pub critical-has : (x : RegisteredName) → critical.image x ≡ None → ⊥
 unfolding critical
 critical-has (assigned i) e = absurd (cc)
 critical-has (private_use i) e = absurd (cc)
-critical-has (phrase s) e = absurd (cc)
+critical-has (text_name s) e = absurd (cc)
 
 pub content_type-has : (x : Name) → content_type.image x ≡ None → ⊥
 unfolding content_type
 content_type-has (number i) e = absurd (cc)
-content_type-has (word s) e = absurd (cc)
+content_type-has (text_label s) e = absurd (cc)
 
 images-has : {X : Type 0} (f : X → Option Item) → ((x : X) → f x ≡ None → ⊥) → (xs : List X) → images f xs ≡ None → ⊥
 images-has f has [] e = absurd (cc)
@@ -203,21 +203,22 @@ unfolding partial_header
 map-put f ss ts xs old head mid s7 s11 s12 new r rest distinct small first six seven eleven twelve ok refused =
     let o = seven.0 in
     let p = eleven.0 in
-    let there = is_some f.alg ∷ is_filled f.crit ∷ is_some f.content_type ∷ is_filled f.key_id ∷ is_filled f.iv ∷ is_filled f.partial_iv ∷ is_some o ∷ is_some p
+    let there = is_some f.alg ∷ is_nonempty f.crit ∷ is_some f.content_type ∷ is_nonempty f.key_id ∷ is_nonempty f.iv ∷ is_nonempty f.partial_iv ∷ is_some o
+    ∷ is_some p
     ∷ is_some f.countersignature0_v2 ∷ [] in
     let told : are_there (header_of f ss ts) ≡ there = λ i.
-    is_some f.alg ∷ is_filled f.crit ∷ is_some f.content_type ∷ is_filled f.key_id ∷ is_filled f.iv ∷ is_filled f.partial_iv
+    is_some f.alg ∷ is_nonempty f.crit ∷ is_some f.content_type ∷ is_nonempty f.key_id ∷ is_nonempty f.iv ∷ is_nonempty f.partial_iv
     ∷ sym (signatures-there ss (signatures_image ss) o seven.1) i ∷ sym (signatures-there ts (signatures_image ts) p eleven.1) i
     ∷ is_some f.countersignature0_v2 ∷ [] in
     let count : count_pairs (header_of f ss ts) ≡ length (filter (λ b. b) there) + length xs =
     λ i. length (filter (λ b. b) (told i)) + (ap length rest ∙ length-map xs entry_seen) i in
     let fields_appended : AppendsFields Name label.image ((fields (optional any) (optional any)).image (parts_of (f, (o, p))).0) there head s12 =
     (field-put label.image (is_some f.alg) (present_image algorithm.image f.alg) refl six.alg
-    (field-put label.image (is_filled f.crit) ((some_of critical).image f.crit) refl six.crit
+    (field-put label.image (is_nonempty f.crit) ((some_of critical).image f.crit) refl six.crit
     (field-put label.image (is_some f.content_type) (present_image content_type.image f.content_type) refl six.content_type
-    (field-put label.image (is_filled f.key_id) (filled_bstr.image f.key_id) refl six.key_id
-    (field-put label.image (is_filled f.iv) (filled_bstr.image f.iv) refl six.iv
-    (field-put label.image (is_filled f.partial_iv) (filled_bstr.image f.partial_iv) refl six.partial_iv
+    (field-put label.image (is_nonempty f.key_id) (nonempty_bstr.image f.key_id) refl six.key_id
+    (field-put label.image (is_nonempty f.iv) (nonempty_bstr.image f.iv) refl six.iv
+    (field-put label.image (is_nonempty f.partial_iv) (nonempty_bstr.image f.partial_iv) refl six.partial_iv
     (field-put label.image (is_some o) (present_image (λ v. Some v) o) refl (o, any-image o, seven.2)
     (field-put label.image (is_some p) (present_image (λ v. Some v) p) refl (p, any-image p, eleven.2)
     (field-put label.image (is_some f.countersignature0_v2) (present_image bstr.image f.countersignature0_v2) refl twelve

@@ -26,7 +26,7 @@ abbrev pub Creates : {F V B : Type 0} → Once F (Bor (List ℕ) × Unit {0}) V 
 Creates {V = V} g f o stores (Ok x) = (b : List ℕ) × (made : V) × IsStructure o b × FnOnceReturnsAt g f b made × stores made x
 Creates g f o stores (Err e) = HasNoImage o e
 
--- the same of an f that may refuse
+-- f may refuse: what it made is stored, or its own error is the answer
 abbrev pub TriesToCreate : {F V B E : Type 0} → Once F (Bor (List ℕ) × Unit {0}) (Result V E) → F → Option Item → (V → B → Type 0) → Result B (CallError E)
     → Type 0
 TriesToCreate {V = V} g f o stores (Ok x) = (b : List ℕ) × (made : V) × IsStructure o b × FnOnceReturnsAt g f b (Ok made) × stores made x

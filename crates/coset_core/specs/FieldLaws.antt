@@ -6,19 +6,20 @@ use Rattle.std.specs.Map.{keys_of, lookup}
 use Rattle.coset_value.specs.Item.{Item, integer, Pairs, no_pairs, pair}
 use Rattle.coset_value.specs.Parts.{as_map}
 use Rattle.coset_codec.specs.Errors.{IsUnexpected}
-use Rattle.coset_codec.specs.Shape.{any, bstr, filled_bstr, some_of}
-use Rattle.coset_codec.specs.ShapeLaws.{Lawful, Again, some-one, along_laws, that_laws, any_laws, bstr_laws, filled_bstr_laws, some_of_laws}
-use Rattle.coset_codec.specs.Maps.{FieldShape, optional, listed, Named, HasLabel, SomePair, SoFar, Barred, and_pairs}
+use Rattle.coset_codec.specs.Shape.{any, bstr, nonempty_bstr, some_of}
+use Rattle.coset_codec.specs.ShapeLaws.{Lawful, Again, some-one, mapped_laws, such_that_laws, any_laws, bstr_laws, nonempty_bstr_laws, some_of_laws}
+use Rattle.coset_codec.specs.Maps.{FieldShape, optional, unless_empty, Named, HasLabel, SomePair, SoFar, IsExcluded, and_pairs}
 use Rattle.coset_codec.specs.declared.error.CoseError.{CoseError}
-use Rattle.coset_codec.specs.MapLaws.{LawfulNames, LawfulFieldShape, LawfulFields, Flat, field_laws, no_field_laws, optional_laws, listed_laws, labelled_laws}
+use Rattle.coset_codec.specs.MapLaws.{LawfulNames, LawfulFieldShape, LawfulFields, Flat, field_laws}
+use Rattle.coset_codec.specs.MapLaws.{no_field_laws, optional_laws, unless_empty_laws, labelled_laws}
 use Rattle.coset_codec.specs.MapLaws.{new_of, not_new, has_label, lookup_none, lookup_later}
 use Rattle.coset_label.specs.Names.{Name, number, RegisteredName}
 use Rattle.coset_label.specs.Labels.{label}
 use Rattle.coset_label.specs.LabelLaws.{label_laws, registered_laws, registered_or_private_laws}
 use Rattle.coset_label.specs.NameOrder.{name_cmp-apart}
 use Rattle.coset_core.specs.FieldLabels as labels
-use Rattle.coset_core.specs.Fields.{FieldsSeen, algorithm, critical, content_type, IsContentType, same_name, names, Versions, Fielded, fields, fields_of}
-use Rattle.coset_core.specs.Fields.{parts_of, HasOneIv, HasBothIvs, map_of, map_with, partial_header, HoldsSignatures, SomeCounterSignatures, bars}
+use Rattle.coset_core.specs.Fields.{FieldsSeen, algorithm, critical, content_type, IsContentType, same_name, names, Versions, FieldTuple, fields, fields_of}
+use Rattle.coset_core.specs.Fields.{parts_of, HasOneIv, HasBothIvs, map_of, map_with, partial_header, HoldsSignatures, SomeCounterSignatures, excludes}
 
 pub names_laws : LawfulNames Name names
 names_laws = record {
@@ -54,20 +55,21 @@ criticals_laws = some_of_laws critical critical_laws
 
 pub content_type_laws : Lawful Name content_type
 unfolding content_type
-content_type_laws = that_laws IsUnexpected IsContentType _ (registered_laws _)
+content_type_laws = such_that_laws IsUnexpected IsContentType _ (registered_laws _)
 
 -- ---- the fields
 
 flat_number : (i : ℤ) → label.describes (integer i) (number i) → Flat Name names (number i)
 flat_number i d = record { key = integer i; is_image = refl; described = d; is_flat = refl }
 
-filled_laws : LawfulFieldShape (List ℕ) (listed filled_bstr)
-filled_laws = listed_laws filled_bstr (λ v p. p.1 refl) filled_bstr_laws
+filled_laws : LawfulFieldShape (List ℕ) (unless_empty nonempty_bstr)
+filled_laws = unless_empty_laws nonempty_bstr (λ v p. p.1 refl) nonempty_bstr_laws
 
-pub fields_laws : {C : Type 0} (c d : FieldShape C) → LawfulFieldShape C c → LawfulFieldShape C d → LawfulFields Name (Fielded C) names (fields c d)
+pub fields_laws : {C : Type 0} (c d : FieldShape C) → LawfulFieldShape C c → LawfulFieldShape C d → LawfulFields Name (FieldTuple C) names (fields c d)
 fields_laws c d l m =
     field_laws names names_laws labels.alg (flat_number _ (refl, (refl, search rules))) _ (optional_laws algorithm algorithm_laws) _
-    (field_laws names names_laws labels.crit (flat_number _ (refl, (refl, search rules))) _ (listed_laws (some_of critical) (λ v p. p.1 refl) criticals_laws) _
+    (field_laws names names_laws labels.crit (flat_number _ (refl, (refl, search rules))) _
+    (unless_empty_laws (some_of critical) (λ v p. p.1 refl) criticals_laws) _
     (field_laws names names_laws labels.content_type (flat_number _ (refl, (refl, search rules))) _ (optional_laws content_type content_type_laws) _
     (field_laws names names_laws labels.kid (flat_number _ (refl, (refl, search rules))) _ filled_laws _
     (field_laws names names_laws labels.iv (flat_number _ (refl, (refl, search rules))) _ filled_laws _
@@ -81,14 +83,14 @@ fields_laws c d l m =
 -- ---- maps of them
 
 map_of_laws : {C : Type 0} (c d : FieldShape C) → LawfulFieldShape C c → LawfulFieldShape C d → Lawful (FieldsSeen × Versions C) (map_of c d)
-map_of_laws c d l m = along_laws fields_of parts_of (λ x. refl) _ (labelled_laws names names_laws true (fields c d) (fields_laws c d l m))
+map_of_laws c d l m = mapped_laws fields_of parts_of (λ x. refl) _ (labelled_laws names names_laws true (fields c d) (fields_laws c d l m))
 
 -- a vector that some pair has is there
 iv_there : (l : Name) (ps : Pairs) (es : List (Name × Item)) (iv : List ℕ) → Named label.describes ps es → HasLabel label.describes l ps
-    → (listed filled_bstr).describes (lookup (same_name l) es) iv → iv ≡ [] → ⊥
+    → (unless_empty nonempty_bstr).describes (lookup (same_name l) es) iv → iv ≡ [] → ⊥
 iv_there l ps es iv n h d none = go (lookup (same_name l) es) refl d
   where
-    go : (o : Option Item) → lookup (same_name l) es ≡ o → (listed filled_bstr).describes o iv → ⊥
+    go : (o : Option Item) → lookup (same_name l) es ≡ o → (unless_empty nonempty_bstr).describes o iv → ⊥
     go (Some w) e p = p.1 none
     go None e p = not_new names names_laws ps es l n h (new_of names l es e)
 
@@ -116,7 +118,7 @@ map_with_laws {C} c d l k =
     }
 
 -- where the values of labels 7 and 11 are left as they are
-pub partial_fields_laws : LawfulFields Name (Fielded (Option Item)) names (fields (optional any) (optional any))
+pub partial_fields_laws : LawfulFields Name (FieldTuple (Option Item)) names (fields (optional any) (optional any))
 partial_fields_laws = fields_laws (optional any) (optional any) (optional_laws any any_laws) (optional_laws any any_laws)
 
 pub partial_header_laws : Lawful (FieldsSeen × Versions (Option Item)) partial_header
@@ -262,30 +264,31 @@ label_after l (pair k v ps) qs f = inr (label_after l ps qs f)
 
 -- a vector that was gathered has its label
 iv_before : (l : Name) (ps : Pairs) (es : List (Name × Item)) (iv : List ℕ) → Named label.describes ps es
-    → (listed filled_bstr).describes (lookup (same_name l) es) iv → (iv ≡ [] → ⊥) → HasLabel label.describes l ps
-iv_before l ps es iv n d some = has_label names names_laws ps es l n (λ a. some (subst (λ o. (listed filled_bstr).describes o iv) (lookup_none names l es a) d))
+    → (unless_empty nonempty_bstr).describes (lookup (same_name l) es) iv → (iv ≡ [] → ⊥) → HasLabel label.describes l ps
+iv_before l ps es iv n d some = has_label names names_laws ps es l n
+    (λ a. some (subst (λ o. (unless_empty nonempty_bstr).describes o iv) (lookup_none names l es a) d))
 
--- what bars a label is a fault of the map
+-- what excludes a label is a fault of the map
 pub barred_fault : (v : Item) (e : CoseError) → (ps : Pairs) × (as_map v ≡ Some ps)
-    × Barred Name (Fielded (Option Item)) names (fields (optional any) (optional any)) bars ps e → partial_header.faults v e
+    × IsExcluded Name (FieldTuple (Option Item)) names (fields (optional any) (optional any)) excludes ps e → partial_header.faults v e
 unfolding partial_header
-barred_fault v e f = go f.2.barred.2
+barred_fault v e f = go f.2.excluded.2
   where
-    b : Barred Name (Fielded (Option Item)) names (fields (optional any) (optional any)) bars f.0 e
+    b : IsExcluded Name (FieldTuple (Option Item)) names (fields (optional any) (optional any)) excludes f.0 e
     b = f.2
 
-    s : SoFar Name (Fielded (Option Item)) names (fields (optional any) (optional any)) b.walked.done b.before
+    s : SoFar Name (FieldTuple (Option Item)) names (fields (optional any) (optional any)) b.walked.done b.before
     s = b.walked.so_far
 
     earlier : (l : Name) → HasLabel label.describes l b.walked.done → HasLabel label.describes l f.0
     earlier l h = subst (HasLabel label.describes l) (sym b.walked.parts) (label_before l b.walked.done (pair b.key b.value b.left) h)
 
-    this : (l : Name) → same_name l b.barred.0 ≡ true → HasLabel label.describes l f.0
+    this : (l : Name) → same_name l b.excluded.0 ≡ true → HasLabel label.describes l f.0
     this l h =
         subst (HasLabel label.describes l) (sym b.walked.parts)
-        (label_after l b.walked.done (pair b.key b.value b.left) (inl (subst (label.describes b.key) (sym (names_laws.same_is l b.barred.0 h)) b.barred.1)))
+        (label_after l b.walked.done (pair b.key b.value b.left) (inl (subst (label.describes b.key) (sym (names_laws.same_is l b.excluded.0 h)) b.excluded.1)))
 
-    go : bars b.barred.0 b.before e → partial_header.faults v e
+    go : excludes b.excluded.0 b.before e → partial_header.faults v e
     go (inl h) = inr (
       (
         f.0,

@@ -13,9 +13,9 @@ use Rattle.coset_iana.specs.declared.algorithms.TheConstants.{ALGORITHMS}
 use Rattle.coset_iana.specs.declared.content_formats.TheConstants.{COAP_CONTENT_FORMATS}
 use Rattle.coset_iana.specs.declared.headers.TheConstants.{HEADER_PARAMETERS}
 use Rattle.coset_codec.specs.Errors.{IsUnexpected}
-use Rattle.coset_codec.specs.Shape.{Shape, that, any, along, some_of, bstr, filled_bstr}
-use Rattle.coset_codec.specs.Maps.{Names, Fields, FieldShape, HasLabel, SomePair, Bars, field, no_field, optional, listed, labelled}
-use Rattle.coset_label.specs.Names.{Name, number, word, RegisteredName, name_cmp}
+use Rattle.coset_codec.specs.Shape.{Shape, such_that, any, mapped, some_of, bstr, nonempty_bstr}
+use Rattle.coset_codec.specs.Maps.{Names, Fields, FieldShape, HasLabel, SomePair, Excludes, field, no_field, optional, unless_empty, labelled}
+use Rattle.coset_label.specs.Names.{Name, number, text_label, RegisteredName, name_cmp}
 use Rattle.coset_label.specs.Labels.{label, registered, registered_or_private}
 use Rattle.coset_core.specs.FieldLabels as labels
 
@@ -53,11 +53,11 @@ pub record IsMediaType (s : List ℕ) : Type 0 where
 
 abbrev pub IsContentType : Name → Type 0
 IsContentType (number i) = ⊤
-IsContentType (word s) = IsMediaType s
+IsContentType (text_label s) = IsMediaType s
 
 -- a content type: the number of a format of CoAP, or a media type
 unfoldable pub content_type : Shape Name
-content_type = that IsUnexpected IsContentType (registered (λ i. is_some (first_numbered content_formats.number COAP_CONTENT_FORMATS i)))
+content_type = such_that IsUnexpected IsContentType (registered (λ i. is_some (first_numbered content_formats.number COAP_CONTENT_FORMATS i)))
 
 -- ---- maps of them
 
@@ -74,23 +74,23 @@ abbrev pub Versions : Type 0 → Type 0
 Versions C = C × C
 
 -- the fields by label, in the order in which they are written; under the two labels of counter signatures is what C says
-abbrev pub Fielded : Type 0 → Type 0
-Fielded C = Option RegisteredName × (List RegisteredName × (Option Name × (List ℕ × (List ℕ × (List ℕ × (C × (C × (Option (List ℕ) × Unit {0}))))))))
+abbrev pub FieldTuple : Type 0 → Type 0
+FieldTuple C = Option RegisteredName × (List RegisteredName × (Option Name × (List ℕ × (List ℕ × (List ℕ × (C × (C × (Option (List ℕ) × Unit {0}))))))))
 
-abbrev pub fields : {C : Type 0} → FieldShape C → FieldShape C → Fields Name (Fielded C)
+abbrev pub fields : {C : Type 0} → FieldShape C → FieldShape C → Fields Name (FieldTuple C)
 fields counter_signatures countersignatures_v2 =
     field names labels.alg (optional algorithm)
-    (field names labels.crit (listed (some_of critical))
+    (field names labels.crit (unless_empty (some_of critical))
     (field names labels.content_type (optional content_type)
-    (field names labels.kid (listed filled_bstr)
-    (field names labels.iv (listed filled_bstr)
-    (field names labels.partial_iv (listed filled_bstr)
+    (field names labels.kid (unless_empty nonempty_bstr)
+    (field names labels.iv (unless_empty nonempty_bstr)
+    (field names labels.partial_iv (unless_empty nonempty_bstr)
     (field names labels.counter_signature counter_signatures
     (field names labels.countersignature_v2 countersignatures_v2
     (field names labels.countersignature0_v2 (optional bstr)
     no_field))))))))
 
-abbrev pub fields_of : {C : Type 0} → Fielded C × List (Name × Item) → FieldsSeen × Versions C
+abbrev pub fields_of : {C : Type 0} → FieldTuple C × List (Name × Item) → FieldsSeen × Versions C
 fields_of p = (
   record {
     alg = p.0.0;
@@ -105,7 +105,7 @@ fields_of p = (
   (p.0.1.1.1.1.1.1.0, p.0.1.1.1.1.1.1.1.0),
 )
 
-abbrev pub parts_of : {C : Type 0} → FieldsSeen × Versions C → Fielded C × List (Name × Item)
+abbrev pub parts_of : {C : Type 0} → FieldsSeen × Versions C → FieldTuple C × List (Name × Item)
 parts_of x =
     ((x.0.alg, (x.0.crit, (x.0.content_type, (x.0.key_id, (x.0.iv, (x.0.partial_iv, (x.1.0, (x.1.1, (x.0.countersignature0_v2, tt))))))))), x.0.rest)
 
@@ -115,7 +115,7 @@ HasOneIv f = (f.iv ≡ []) ⊎ (f.partial_iv ≡ [])
 
 -- the fields by label, and the rest
 abbrev pub map_of : {C : Type 0} → FieldShape C → FieldShape C → Shape (FieldsSeen × Versions C)
-map_of c d = along fields_of parts_of (labelled names (fields c d))
+map_of c d = mapped fields_of parts_of (labelled names (fields c d))
 
 -- both IV and Partial IV
 abbrev pub HasBothIvs : Item → Type 0
@@ -143,7 +143,7 @@ abbrev pub SomeCounterSignatures : (Item → Type 0) → Item → Type 0
 SomeCounterSignatures P v = (ps : Pairs) × (as_map v ≡ Some ps) × SomePair (λ k w. HoldsSignatures k × P w) ps
 
 -- why a label is refused after others: Partial IV after IV, or IV after Partial IV
-abbrev pub bars : {C : Type 0} → Bars Name (Fielded C)
-bars m x e =
+abbrev pub excludes : {C : Type 0} → Excludes Name (FieldTuple C)
+excludes m x e =
     ((same_name labels.iv m ≡ true) × ((fields_of x).0.partial_iv ≢ []) × IsUnexpected e)
     ⊎ ((same_name labels.partial_iv m ≡ true) × ((fields_of x).0.iv ≢ []) × IsUnexpected e)

@@ -7,13 +7,13 @@ use Rattle.coset_codec.specs.declared.error.CoseError.{CoseError}
 use Rattle.coset_codec.specs.declared.read.input.InputItems.{InputItems}
 use Rattle.coset_codec.specs.declared.read.input.InputPairs.{InputPairs}
 use Rattle.coset_codec.specs.Errors.{UnlessMemory}
-use Rattle.coset_codec.specs.Inputs.{State, Stands, AreWithin, PairsWithin}
-use Rattle.coset_codec.specs.Maps.{Walks, RefusesKey, BarsKey, GatherFaults, are_distinct, optional}
+use Rattle.coset_codec.specs.Inputs.{State, ItemAt, AreWithin, PairsWithin}
+use Rattle.coset_codec.specs.Maps.{Walks, RefusesKey, ExcludesKey, GatherFaults, are_distinct, optional}
 use Rattle.coset_codec.specs.Shape.{any}
 use Rattle.coset_label.specs.Labels.{label}
 use Rattle.coset_label.specs.Names.{Name}
 use Rattle.coset_core.specs.FieldLabels as labels
-use Rattle.coset_core.specs.Fields.{FieldsSeen, Versions, Fielded, names, fields, parts_of, same_name, bars}
+use Rattle.coset_core.specs.Fields.{FieldsSeen, Versions, FieldTuple, names, fields, parts_of, same_name, excludes}
 use Rattle.coset_core.specs.FieldsView.{counter_signatures_held, countersignatures_held, fields_seen}
 use Rattle.coset_core.specs.Headers.{SignatureSeen, layered_protected, layered_signature}
 use Rattle.coset_core.specs.Views.{countersignature_seen, signature_seen}
@@ -42,7 +42,7 @@ NamesNoVersion m = (same_name labels.counter_signature m ≡ false) × (same_nam
 
 -- of all the pairs of a map those before ps make the fields f, and o are the values of labels 7 and 11
 abbrev pub WalksTo : Pairs → FieldsSeen → Versions (Option Item) → Pairs → Type 0
-WalksTo all f o ps = Walks Name (Fielded (Option Item)) names (fields (optional any) (optional any)) all (parts_of (f, o)) ps
+WalksTo all f o ps = Walks Name (FieldTuple (Option Item)) names (fields (optional any) (optional any)) all (parts_of (f, o)) ps
 
 -- at t stands the value of a pair that holds counter signatures of this version
 pub record AtHeld (version : Version) (all : Pairs) (o : Versions (Option Item)) (f : FieldsSeen) (t z : State) (m : InputPairs) : Type 0 where
@@ -52,7 +52,7 @@ pub record AtHeld (version : Version) (all : Pairs) (o : Versions (Option Item))
   pub mid : State
   pub walks : WalksTo all f o (pair key value others)
   pub held : label.describes key (label_of version)
-  pub stands : Stands value t mid
+  pub stands : ItemAt value t mid
   pub within : PairsWithin m others mid z
 
 -- all pairs were read
@@ -68,7 +68,7 @@ pub record AtFault (all : Pairs) (o : Versions (Option Item)) (f : FieldsSeen) (
   pub walks : WalksTo all f o (pair key value others)
   pub within : PairsWithin m others t z
   pub faulty : UnlessMemory e (λ g. RefusesKey names (fields (optional any) (optional any)) key value (parts_of (f, o)) g
-      ⊎ BarsKey names bars key (parts_of (f, o)) g)
+      ⊎ ExcludesKey names excludes key (parts_of (f, o)) g)
 
 -- where reading pairs one after the other stops
 abbrev pub FillsSome : Pairs → Versions (Option Item) → State → FieldsSeen → State → InputPairs → Result (Option Version) CoseError → Type 0
@@ -85,7 +85,7 @@ abbrev pub FillsFields : Pairs → Versions (Option Item) → State → FieldsSe
 FillsFields all o z f t m (Ok (Some version)) = AtHeld version all o f t z m × IsDistinctRest f
 FillsFields all o z f t m (Ok None) = AtEnd all o f t z m × IsDistinctRest f
 FillsFields all o z f t m (Err e) = (left : Pairs) × PairsWithin m left t z
-    × UnlessMemory e (GatherFaults names (fields (optional any) (optional any)) bars (dict all))
+    × UnlessMemory e (GatherFaults names (fields (optional any) (optional any)) excludes (dict all))
 
 -- ---- signatures
 
@@ -101,7 +101,7 @@ pub record Keeps (version : Version) (xs : List SignatureSeen) (old new : Header
   pub fields : fields_seen new ≡ fields_seen old
   pub signatures : held new ≡ with_version version xs (held old)
 
--- ---- a signature's places
+-- ---- a signature's elements
 
 abbrev pub FirstPlace : Item → Option (List ℕ) → CoseError → Bool → Type 0
 FirstPlace w o f true = (b : List ℕ) × (as_bytes w ≡ Some b) × (o ≡ Some b)
@@ -109,13 +109,13 @@ FirstPlace w o f false = (k : ℕ) → UnlessMemory f ((layered_protected k).fau
 
 -- the second of them stands at t, and the first is a byte string, of the bytes o, or it isn't, as the error f tells; or they
 -- are too few
-abbrev pub BeginsPlaces : Items → State → State → InputItems → Option (List ℕ) → CoseError → Result Bool CoseError → Type 0
-BeginsPlaces vs t z m o f (Ok is) =
-    (w : Item) × (u : Item) × (others : Items) × (mid : State) × (vs ≡ item w (item u others)) × Stands u t mid × AreWithin m others mid z × FirstPlace w o f is
-BeginsPlaces vs t z m o f (Err e) = (left : Items) × AreWithin m left t z × ((k : ℕ) → UnlessMemory e ((layered_signature k).faults (array vs)))
+abbrev pub BeginsElements : Items → State → State → InputItems → Option (List ℕ) → CoseError → Result Bool CoseError → Type 0
+BeginsElements vs t z m o f (Ok is) =
+    (w : Item) × (u : Item) × (others : Items) × (mid : State) × (vs ≡ item w (item u others)) × ItemAt u t mid × AreWithin m others mid z × FirstPlace w o f is
+BeginsElements vs t z m o f (Err e) = (left : Items) × AreWithin m left t z × ((k : ℕ) → UnlessMemory e ((layered_signature k).faults (array vs)))
 
 -- the third and last is a byte string, of these bytes; or it isn't, or they are too few or too many
-abbrev pub EndsPlaces : Items → State → State → InputItems → List ℕ → Result (Unit {0}) CoseError → Type 0
-EndsPlaces vs t z m b (Ok x) = (w : Item) × (vs ≡ item w no_items) × (as_bytes w ≡ Some b) × AreWithin m no_items t z
-EndsPlaces vs t z m b (Err e) = (left : Items) × AreWithin m left t z
+abbrev pub EndsElements : Items → State → State → InputItems → List ℕ → Result (Unit {0}) CoseError → Type 0
+EndsElements vs t z m b (Ok x) = (w : Item) × (vs ≡ item w no_items) × (as_bytes w ≡ Some b) × AreWithin m no_items t z
+EndsElements vs t z m b (Err e) = (left : Items) × AreWithin m left t z
     × ((p u : Item) (k : ℕ) → UnlessMemory e ((layered_signature k).faults (array (item p (item u vs)))))

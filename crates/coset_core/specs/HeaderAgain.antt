@@ -3,30 +3,30 @@ use Rattle.std.proofs.Common.{◌≡◌, ℕ, zero, suc, List, Option, Some, Non
 use Rattle.coset_value.specs.Item.{Item, bytes, array, Items, no_items, item, depth, items_count}
 use Rattle.coset_value.specs.Parts.{as_bytes, as_array}
 use Rattle.coset_codec.specs.declared.error.CoseError.{CoseError}
-use Rattle.coset_codec.specs.Shape.{Shape, Places, fixed, bstr, ◌then◌, end, one_or_more, one_or_array, one_or_many}
-use Rattle.coset_codec.specs.ShapeLaws.{Again, AgainPlaces, Lawful, LawfulPlaces, some-one, both-some, array_of_laws, then_laws, bstr_laws, end_laws}
+use Rattle.coset_codec.specs.Shape.{Shape, Elements, fixed, bstr, ◌then◌, end, one_or_more, one_or_array, one_or_many}
+use Rattle.coset_codec.specs.ShapeLaws.{Again, AgainElements, Lawful, LawfulElements, some-one, both-some, array_of_laws, then_laws, bstr_laws, end_laws}
 use Rattle.coset_codec.specs.ShapeLaws.{one_or_many_laws}
 use Rattle.coset_codec.specs.Maps.{FieldShape}
 use Rattle.coset_codec.specs.MapLaws.{AgainFieldShape, LawfulFieldShape, Within}
 use Rattle.coset_core.specs.Fields.{FieldsSeen, Versions, map_with}
 use Rattle.coset_core.specs.FieldLaws.{map_with_laws, split, join, image_with}
 use Rattle.coset_core.specs.Headers.{HeaderSeen, header_of, Signatures, no_signatures, signature_and, CounterSignaturesAre, IsHeader, AreSignatures}
-use Rattle.coset_core.specs.Headers.{signed_array, told_by, counter_signatures_item, header_item, protected_item, signatures_image, header_image}
+use Rattle.coset_core.specs.Headers.{signed_array, described_by, counter_signatures_item, header_item, protected_item, signatures_image, header_image}
 use Rattle.coset_core.specs.HeaderReads.{ProtectedOf}
 
 -- one value, of which it is known which items stand for it, and what it is written as
 abbrev pub told_as : (Item → Type 0) → Option Item → Shape (Unit {0})
 told_as P o = fixed P o (λ v e. ⊥)
 
-abbrev pub known_places : ℕ → Signatures → Places (Unit {0})
-known_places k ss = record { describes = λ vs x. AreSignatures ss k vs; image = λ x. signatures_image ss; misfits = λ vs. ⊥; faults = λ vs e. ⊥ }
+abbrev pub known_elements : ℕ → Signatures → Elements (Unit {0})
+known_elements k ss = record { describes = λ vs x. AreSignatures ss k vs; image = λ x. signatures_image ss; wrong_length = λ vs. ⊥; faults = λ vs e. ⊥ }
 
 -- whatever items stand for a header or for signatures, these are written so
 abbrev pub IsAgain : ℕ → HeaderSeen → Type 0
 IsAgain k h = (v : Item) → IsHeader h k v → Again (Unit {0}) (told_as (IsHeader h k) (header_image h)) v tt
 
 abbrev pub AreAgain : ℕ → Signatures → Type 0
-AreAgain k ss = (vs : Items) → AreSignatures ss k vs → AgainPlaces (Unit {0}) (known_places k ss) vs tt
+AreAgain k ss = (vs : Items) → AreSignatures ss k vs → AgainElements (Unit {0}) (known_elements k ss) vs tt
 
 -- ---- the signatures of label 7, or 11
 
@@ -61,11 +61,11 @@ record Begins (v : Item) : Type 0 where
   pub others : Items
   pub is : v ≡ array (item (bytes first) others)
 
-places_begin :
+elements_begin :
     (o : Option (List ℕ)) (p : HeaderSeen) (k : ℕ) (R : Item → Type 0) (s : List ℕ) (v : Item) (vs : Items) → v ≡ array vs
-    → (told_by (ProtectedOf o p k) then told_by R then bstr then end).describes vs (tt, (tt, (s, tt))) → Begins v
-places_begin o p k R s v no_items e h = absurd h
-places_begin o p k R s v (item x vs) e h =
+    → (described_by (ProtectedOf o p k) then described_by R then bstr then end).describes vs (tt, (tt, (s, tt))) → Begins v
+elements_begin o p k R s v no_items e h = absurd h
+elements_begin o p k R s v (item x vs) e h =
     let b = protected_is_bytes o p k x h.0 in
     record { first = b.0; others = vs; is = e ∙ ap (λ y. array (item y vs)) b.1 }
 
@@ -78,7 +78,7 @@ one_or_array_told :
     (o : Option (List ℕ)) (p u : HeaderSeen) (s : List ℕ) (more : Signatures) (k : ℕ) (vs : Items) → AreSignatures (signature_and o p u s more) k vs
     → one_or_more (one_or_array vs) ≡ Some vs
 one_or_array_told o p u s more k no_items a = absurd a
-one_or_array_told o p u s more k (item v vs) a = one_or_array_begins v vs (places_begin o p k (IsHeader u k) s v a.0.0 (array-is v a.0.0 a.0.1) a.0.2)
+one_or_array_told o p u s more k (item v vs) a = one_or_array_begins v vs (elements_begin o p k (IsHeader u k) s v a.0.0 (array-is v a.0.0 a.0.1) a.0.2)
 
 -- the value of label 7, or 11, that stands for them
 abbrev known : ℕ → Signatures → FieldShape (Unit {0})
@@ -89,8 +89,8 @@ known k ss = record {
   faults = λ v e. ⊥;
 }
 
-known_places_laws : (k : ℕ) (ss : Signatures) → AreAgain k ss → LawfulPlaces (Unit {0}) (known_places k ss)
-known_places_laws k ss again = record { unique = λ vs x y p q. refl; again = λ vs x p. again vs p; fits = λ vs x p m. m; sound = λ vs x e p f. f }
+known_elements_laws : (k : ℕ) (ss : Signatures) → AreAgain k ss → LawfulElements (Unit {0}) (known_elements k ss)
+known_elements_laws k ss again = record { unique = λ vs x y p q. refl; again = λ vs x p. again vs p; fits = λ vs x p m. m; sound = λ vs x e p f. f }
 
 known_told : (k : ℕ) (ss : Signatures) (v : Item) → CounterSignaturesAre (AreSignatures ss k) (ss ≡ no_signatures) (Some v) → ss ≡ no_signatures → ⊥
 known_told k ss v h e = let none : h.0 ≡ no_items = subst (λ ts. AreSignatures ts k h.0) e h.2 in never_none v (h.1 ∙ ap Some none)
@@ -106,9 +106,10 @@ known_again k no_signatures again d (Some v) x w h = absurd (known_told k no_sig
 known_again k (signature_and o p u s more) again d None x w h = absurd (cc)
 known_again k (signature_and o p u s more) again d (Some v) x w h =
     let ss : Signatures = signature_and o p u s more in
-    let l : Lawful (Unit {0}) (one_or_many (known_places k ss)) =
-    one_or_many_laws (known_places k ss) (λ vs ws y a b e. (one_or_array_told o p u s more k ws b, same_count ss k vs ws a b)) (known_places_laws k ss again) in
-    let a : Again (Unit {0}) (one_or_many (known_places k ss)) v x = l.again v x h in
+    let l : Lawful (Unit {0}) (one_or_many (known_elements k ss)) =
+    one_or_many_laws (known_elements k ss) (λ vs ws y a b e. (one_or_array_told o p u s more k ws b, same_count ss k vs ws a b))
+    (known_elements_laws k ss again) in
+    let a : Again (Unit {0}) (one_or_many (known_elements k ss)) v x = l.again v x h in
     record {
       value = Some a.image;
       is_image = mapped_twice (signatures_image ss) a.image a.is_image;
@@ -155,7 +156,7 @@ protected_again k o h v p =
     let b = protected_is_bytes o h k v p in
     record { image = v; is_image = ap (λ q. protected_item q h (header_image h)) b.2 ∙ ap Some (sym b.1); described = p; shallow = omega arith }
 
--- laws of one value, from how it is written and from what is wrong with an item; and of an array of three, from its places
+-- laws of one value, from how it is written and from what is wrong with an item; and of an array of three, from its elements
 pub fixed_laws :
     (P : Item → Type 0) (o : Option Item) (F : Item → CoseError → Type 0) → ((v : Item) → P v → Again (Unit {0}) (told_as P o) v tt)
     → ((v : Item) (e : CoseError) → P v → F v e → ⊥)

@@ -1,9 +1,9 @@
 -- The laws of the shapes of headers, protected headers and signatures, within however many layers.
 use Rattle.std.proofs.Common.{ℕ, zero, suc, refl}
-use Rattle.coset_codec.specs.ShapeLaws.{Lawful, along_laws}
+use Rattle.coset_codec.specs.ShapeLaws.{Lawful, mapped_laws}
 use Rattle.coset_codec.specs.SerializedLaws.{serialized_laws}
 use Rattle.coset_core.specs.Headers.{HeaderSeen, ProtectedSeen, SignatureSeen, empty_header, is_empty_header, layered_header, protected_of, both_of}
-use Rattle.coset_core.specs.Headers.{layered_protected, signature_of, places_of, layered_signature, LAYERS, header, protected, signature}
+use Rattle.coset_core.specs.Headers.{layered_protected, signature_of, elements_of, layered_signature, LAYERS, header, protected, signature}
 use Rattle.coset_core.specs.HeaderUnique.{header_same}
 use Rattle.coset_core.specs.HeaderSound.{header_faultless}
 use Rattle.coset_core.specs.HeaderAgain.{header_again, signed_laws}
@@ -20,12 +20,12 @@ layered_header_laws k =
 pub layered_protected_laws : (k : ℕ) → Lawful ProtectedSeen (layered_protected k)
 unfolding layered_protected
 layered_protected_laws zero = record { unique = λ v x y p q. absurd p; again = λ v x p. absurd p; sound = λ v x e p f. p }
-layered_protected_laws (suc k) = along_laws protected_of both_of (λ x. refl) _
+layered_protected_laws (suc k) = mapped_laws protected_of both_of (λ x. refl) _
     (serialized_laws empty_header is_empty_header (layered_header k) (layered_header_laws k))
 
 pub layered_signature_laws : (k : ℕ) → Lawful SignatureSeen (layered_signature k)
 layered_signature_laws k =
-    along_laws signature_of places_of (λ x. refl) _
+    mapped_laws signature_of elements_of (λ x. refl) _
     (signed_laws (layered_protected k) (layered_header k) (layered_protected_laws k) (layered_header_laws k))
 
 -- within as many as are read

@@ -1,8 +1,8 @@
 -- A header as the map of its fields, in which labels 7 and 11 hold signatures: `header_map` of RFC 8152, section 3, where label 7
 -- holds counter signatures (section 4.5). Those of label 11 are modelled on RFC 9338, section 3.1.
 use Rattle.std.specs.Prelude.{List, [], ◌∷◌}
-use Rattle.coset_codec.specs.Shape.{Shape, along}
-use Rattle.coset_codec.specs.Maps.{listed}
+use Rattle.coset_codec.specs.Shape.{Shape, mapped}
+use Rattle.coset_codec.specs.Maps.{unless_empty}
 use Rattle.coset_core.specs.Fields.{FieldsSeen, Versions, map_with}
 use Rattle.coset_core.specs.Headers.{HeaderSeen, header_of, fields_in, counter_signatures_in, countersignatures_in, Signatures, no_signatures, signature_and}
 use Rattle.coset_core.specs.Headers.{SignatureSeen, signatures_of}
@@ -21,4 +21,4 @@ header_parts h = (fields_in h, (each_of (counter_signatures_in h), each_of (coun
 
 -- the map of a header's fields, where s is the shape of its signatures: ? 7 => s and ? 11 => s, each left out where there are none
 abbrev pub header_map : Shape (List SignatureSeen) → Shape HeaderSeen
-header_map s = along header_with header_parts (map_with (listed s) (listed s))
+header_map s = mapped header_with header_parts (map_with (unless_empty s) (unless_empty s))

@@ -5,16 +5,17 @@ use Rattle.coset_value.specs.Item.{Item, Items, no_items, item, Pairs, no_pairs,
 use Rattle.coset_codec.specs.Shape.{Shape, Each, EachFaults, fixed, bstr, ◌then◌, end, any_number, one_or_more, one_or_many}
 use Rattle.coset_codec.specs.Serialized.{ContentDescribes, ContentFaults}
 use Rattle.coset_codec.specs.declared.error.CoseError.{CoseError}
-use Rattle.coset_codec.specs.Maps.{listed, SomePair}
+use Rattle.coset_codec.specs.Maps.{unless_empty, SomePair}
 use Rattle.coset_core.specs.Fields.{FieldsSeen, Versions, map_with, partial_header, SomeCounterSignatures}
 use Rattle.coset_core.specs.FieldLaws.{split}
 use Rattle.coset_core.specs.Headers.{HeaderSeen, header_of, Signatures, no_signatures, ProtectedSeen, SignatureSeen, signatures_of, empty_header}
-use Rattle.coset_core.specs.Headers.{CounterSignaturesAre, ContentIs, ProtectedIs, IsHeader, AreSignatures, signed_array, told_by, HeaderFaults}
+use Rattle.coset_core.specs.Headers.{CounterSignaturesAre, DescribesContent, DescribesProtected, IsHeader}
+use Rattle.coset_core.specs.Headers.{AreSignatures, signed_array, described_by, HeaderFaults}
 use Rattle.coset_core.specs.Headers.{ProtectedFaults, counter_signatures_faults, layered_header, layered_protected, layered_signature}
 
 -- ---- what stands for a value
 
--- an array of three, whose first two places are seen otherwise
+-- an array of three, whose first two elements are seen otherwise
 pub signed_as :
     {A B C D : Type 0} (p : Shape A) (u : Shape B) (q : Shape C) (t : Shape D) (a : A) (b : B) (c : C) (d : D) (s : List ℕ)
     → ((w : Item) → p.describes w a → q.describes w c)
@@ -28,14 +29,15 @@ signed_as p u q t a b c d s f g v h = (h.0, h.1, go h.0 h.2)
     go (item x (item y vs)) k = (f x k.0, (g y k.1.0, k.1.1))
 
 -- a protected header
-content_read : (k : ℕ) (h : HeaderSeen) (b : List ℕ) → ContentDescribes empty_header (layered_header k) b h → ContentIs (IsHeader h k) (h ≡ empty_header) b
+content_read : (k : ℕ) (h : HeaderSeen) (b : List ℕ) → ContentDescribes empty_header (layered_header k) b h
+    → DescribesContent (IsHeader h k) (h ≡ empty_header) b
 unfolding layered_header
 content_read k h [] p = p
 content_read k h (c ∷ b) p = p
 
 -- the byte string stands for the header, within k layers
 abbrev pub ProtectedOf : Option (List ℕ) → HeaderSeen → ℕ → Item → Type 0
-ProtectedOf o h k v = ProtectedIs (IsHeader h) (h ≡ empty_header) o k v
+ProtectedOf o h k v = DescribesProtected (IsHeader h) (h ≡ empty_header) o k v
 
 protected_read : (k : ℕ) (p : ProtectedSeen) (v : Item) → (layered_protected k).describes v p → ProtectedOf p.original p.header k v
 unfolding layered_protected
@@ -53,8 +55,8 @@ signatures_read k no_items [] h = refl
 signatures_read k no_items (x ∷ xs) h = h
 signatures_read k (item v vs) [] h = absurd h
 signatures_read k (item v vs) (x ∷ xs) h =
-    let p : Shape (Unit {0}) = told_by (ProtectedOf x.protected.original x.protected.header k) in
-    let u : Shape (Unit {0}) = told_by (IsHeader x.unprotected k) in (
+    let p : Shape (Unit {0}) = described_by (ProtectedOf x.protected.original x.protected.header k) in
+    let u : Shape (Unit {0}) = described_by (IsHeader x.unprotected k) in (
       signed_as (layered_protected k) (layered_header k) p u x.protected x.unprotected tt tt x.signature (protected_read k x.protected)
           (unprotected_read k x.unprotected) v h.0,
       signatures_read k vs xs h.1,
@@ -76,17 +78,19 @@ header_read k v f o ss ts p q r = (o, p, q, r)
 
 -- a map with lists of signatures, which are left out where they are empty
 listed_read :
-    (k : ℕ) (xs : List SignatureSeen) (o : Option Item) → (listed (one_or_many (any_number (layered_signature k)))).describes o xs
+    (k : ℕ) (xs : List SignatureSeen) (o : Option Item) → (unless_empty (one_or_many (any_number (layered_signature k)))).describes o xs
     → CounterSignaturesAre (AreSignatures (signatures_of xs) k) (signatures_of xs ≡ no_signatures) o
 listed_read k xs (Some w) h = counter_signatures_read k w xs h
 listed_read k xs None h = ap signatures_of h
 
 pub header_read_with :
     (k : ℕ) (v : Item) (f : FieldsSeen) (xs ys : List SignatureSeen)
-    → (map_with (listed (one_or_many (any_number (layered_signature k)))) (listed (one_or_many (any_number (layered_signature k))))).describes v (f, (xs, ys))
+    → (map_with (unless_empty (one_or_many (any_number (layered_signature k)))) (unless_empty (one_or_many (any_number (layered_signature k))))).describes v
+    (f, (xs, ys))
     → (layered_header k).describes v (header_of f (signatures_of xs) (signatures_of ys))
 header_read_with k v f xs ys h =
-    let parts = split (listed (one_or_many (any_number (layered_signature k)))) (listed (one_or_many (any_number (layered_signature k)))) v f (xs, ys) h in
+    let parts = split (unless_empty (one_or_many (any_number (layered_signature k)))) (unless_empty (one_or_many (any_number (layered_signature k)))) v f
+    (xs, ys) h in
     header_read k v f parts.0 (signatures_of xs) (signatures_of ys) parts.1 (listed_read k xs parts.0.0 parts.2) (listed_read k ys parts.0.1 parts.3)
 
 -- ---- what is wrong
@@ -118,21 +122,21 @@ protected_fault zero v e f = (0, f)
 protected_fault (suc k) v e (inl f) = (0, inl f)
 protected_fault (suc k) v e (inr f) = let g = content_fault k f.0 e f.2 in (g.0, inr (f.0, f.1, g.1))
 
--- the places of a signature
-places_fault :
+-- the elements of a signature
+elements_fault :
     (k : ℕ) (vs : Items) (e : CoseError) → (layered_protected k then layered_header k then bstr then end).faults vs e
     → (n : ℕ) × (protected_faults n k then unprotected_faults n k then bstr then end).faults vs e
-places_fault k no_items e f = absurd f
-places_fault k (item v vs) e (inl f) = let g = protected_fault k v e f in (g.0, inl g.1)
-places_fault k (item v no_items) e (inr f) = absurd f
-places_fault k (item v (item w vs)) e (inr (inl f)) = let g = header_fault k w e f in (g.0, inr (inl g.1))
-places_fault k (item v (item w vs)) e (inr (inr f)) = (0, inr (inr f))
+elements_fault k no_items e f = absurd f
+elements_fault k (item v vs) e (inl f) = let g = protected_fault k v e f in (g.0, inl g.1)
+elements_fault k (item v no_items) e (inr f) = absurd f
+elements_fault k (item v (item w vs)) e (inr (inl f)) = let g = header_fault k w e f in (g.0, inr (inl g.1))
+elements_fault k (item v (item w vs)) e (inr (inr f)) = (0, inr (inr f))
 
 signature_fault : (k : ℕ) (v : Item) (e : CoseError) → (layered_signature k).faults v e → (n : ℕ)
     × (signed_array (protected_faults n k) (unprotected_faults n k)).faults v e
 signature_fault k v e (inl f) = (0, inl f)
 signature_fault k v e (inr f) =
-    elim f.2 [ inl m ↦ (0, inr (f.0, f.1, inl m)) | inr m ↦ let g = places_fault k f.0 e m.1 in (g.0, inr (f.0, f.1, inr (m.0, g.1))) ]
+    elim f.2 [ inl m ↦ (0, inr (f.0, f.1, inl m)) | inr m ↦ let g = elements_fault k f.0 e m.1 in (g.0, inr (f.0, f.1, inr (m.0, g.1))) ]
 
 signatures_fault :
     (k : ℕ) (vs : Items) (e : CoseError) → EachFaults (layered_signature k).faults vs e → (n : ℕ)

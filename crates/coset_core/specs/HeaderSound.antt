@@ -7,7 +7,8 @@ use Rattle.coset_codec.specs.Serialized.{ContentFaults}
 use Rattle.coset_codec.specs.Shape.{EachFaults, one_or_more}
 use Rattle.coset_codec.specs.ShapeLaws.{some-one, some-none}
 use Rattle.coset_core.specs.FieldLaws.{partial_header_laws, counter_signatures_found}
-use Rattle.coset_core.specs.Headers.{HeaderSeen, header_of, Signatures, no_signatures, signature_and, empty_header, CounterSignaturesAre, ContentIs, IsHeader}
+use Rattle.coset_core.specs.Headers.{HeaderSeen, header_of, Signatures, no_signatures, signature_and}
+use Rattle.coset_core.specs.Headers.{empty_header, CounterSignaturesAre, DescribesContent, IsHeader}
 use Rattle.coset_core.specs.Headers.{AreSignatures, signed_array, protected_item, header_image, HeaderFaults, ProtectedFaults, counter_signatures_faults}
 use Rattle.coset_core.specs.HeaderAgain.{fixed_laws, signed_laws, protected_again, header_again}
 use Rattle.coset_core.specs.HeaderReads.{ProtectedOf, protected_faults, unprotected_faults}
@@ -39,7 +40,7 @@ header_sound n sound k e (header_of f ss ts) v a (inr x) =
     ]
 
 content_sound :
-    (n : ℕ) → AreSound n → (k : ℕ) (e : CoseError) (h : HeaderSeen) (b : List ℕ) → ContentIs (IsHeader h k) (h ≡ empty_header) b
+    (n : ℕ) → AreSound n → (k : ℕ) (e : CoseError) (h : HeaderSeen) (b : List ℕ) → DescribesContent (IsHeader h k) (h ≡ empty_header) b
     → ContentFaults (unprotected_faults n k) b e → ⊥
 content_sound n sound k e h [] p x = x
 content_sound n sound k e h (c ∷ b) p (inl x) = x.1 p.0 p.1

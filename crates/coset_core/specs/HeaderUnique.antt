@@ -6,8 +6,9 @@ use Rattle.coset_codec.specs.Shape.{one_or_more, bstr, ◌then◌, end}
 use Rattle.coset_codec.specs.ShapeLaws.{some-one, some-none}
 use Rattle.coset_core.specs.Fields.{FieldsSeen, Versions}
 use Rattle.coset_core.specs.FieldLaws.{partial_header_laws}
-use Rattle.coset_core.specs.Headers.{HeaderSeen, header_of, Signatures, no_signatures, signature_and, empty_header, CounterSignaturesAre, ContentIs, IsHeader}
-use Rattle.coset_core.specs.Headers.{AreSignatures, signed_array, told_by}
+use Rattle.coset_core.specs.Headers.{HeaderSeen, header_of, Signatures, no_signatures, signature_and}
+use Rattle.coset_core.specs.Headers.{empty_header, CounterSignaturesAre, DescribesContent, IsHeader}
+use Rattle.coset_core.specs.Headers.{AreSignatures, signed_array, described_by}
 use Rattle.coset_core.specs.HeaderReads.{ProtectedOf}
 
 -- an item stands for one of two headers alone, whatever else is known of them; and some items for one of two lists of
@@ -38,8 +39,8 @@ map_same f g ss ts us ws same same_v2 k v a b =
     let last : ts ≡ ws = counter_signatures_same k ts ws same_v2 a.0.1 b.0.1 (ap (λ x. x.1.1) e) a.3 b.3 in
     λ i. header_of (first i) (second i) (last i)
 
-content_same : (h g : HeaderSeen) → SameHeader h g → (k : ℕ) (b : List ℕ) → ContentIs (IsHeader h k) (h ≡ empty_header) b
-    → ContentIs (IsHeader g k) (g ≡ empty_header) b → h ≡ g
+content_same : (h g : HeaderSeen) → SameHeader h g → (k : ℕ) (b : List ℕ) → DescribesContent (IsHeader h k) (h ≡ empty_header) b
+    → DescribesContent (IsHeader g k) (g ≡ empty_header) b → h ≡ g
 content_same h g same k [] p q = p ∙ sym q
 content_same h g same k (c ∷ b) p q = same k q.0 (subst (IsHeader h k) (encodings_differ p.0 q.0 (c ∷ b) (c ∷ b) [] [] p.1.0 q.1.0 refl).0 p.2) q.2
 
@@ -49,29 +50,31 @@ protected_same : (o p : Option (List ℕ)) (h g : HeaderSeen) → SameHeader h g
 protected_same o p h g same zero v a b = absurd a
 protected_same o p h g same (suc k) v a b =
     let e : a.0 ≡ b.0 = some-one a.1 b.1 in
-    (a.2 ∙ (ap Some e ∙ sym b.2), content_same h g same k b.0 (subst (ContentIs (IsHeader h k) (h ≡ empty_header)) e a.3) b.3)
+    (a.2 ∙ (ap Some e ∙ sym b.2), content_same h g same k b.0 (subst (DescribesContent (IsHeader h k) (h ≡ empty_header)) e a.3) b.3)
 
--- the places of an array are one value each
-record SamePlaces (P Q R S : Item → Type 0) (s t : List ℕ) : Type 0 where
+-- the elements of an array are one value each
+record SameElements (P Q R S : Item → Type 0) (s t : List ℕ) : Type 0 where
   pub first : Item
   pub second : Item
   pub protected : P first × Q first
   pub unprotected : R second × S second
   pub signature : s ≡ t
 
-signed_places : (P Q R S : Item → Type 0) (s t : List ℕ) (vs : Items) → (told_by P then told_by R then bstr then end).describes vs (tt, (tt, (s, tt)))
-    → (told_by Q then told_by S then bstr then end).describes vs (tt, (tt, (t, tt))) → SamePlaces P Q R S s t
-signed_places P Q R S s t no_items a b = absurd a
-signed_places P Q R S s t (item x no_items) a b = absurd a.1
-signed_places P Q R S s t (item x (item y no_items)) a b = absurd a.1.1
-signed_places P Q R S s t (item x (item y (item z vs))) a b =
+signed_elements : (P Q R S : Item → Type 0) (s t : List ℕ) (vs : Items) → (described_by P then described_by R then bstr then end).describes vs
+    (tt, (tt, (s, tt)))
+    → (described_by Q then described_by S then bstr then end).describes vs (tt, (tt, (t, tt))) → SameElements P Q R S s t
+signed_elements P Q R S s t no_items a b = absurd a
+signed_elements P Q R S s t (item x no_items) a b = absurd a.1
+signed_elements P Q R S s t (item x (item y no_items)) a b = absurd a.1.1
+signed_elements P Q R S s t (item x (item y (item z vs))) a b =
     record { first = x; second = y; protected = (a.0, b.0); unprotected = (a.1.0, b.1.0); signature = some-one a.1.1.0 b.1.1.0 }
 
 -- and so are an array's
-signed_same : (P Q R S : Item → Type 0) (s t : List ℕ) (v : Item) → (signed_array (told_by P) (told_by R)).describes v (tt, (tt, (s, tt)))
-    → (signed_array (told_by Q) (told_by S)).describes v (tt, (tt, (t, tt))) → SamePlaces P Q R S s t
+signed_same : (P Q R S : Item → Type 0) (s t : List ℕ) (v : Item) → (signed_array (described_by P) (described_by R)).describes v (tt, (tt, (s, tt)))
+    → (signed_array (described_by Q) (described_by S)).describes v (tt, (tt, (t, tt))) → SameElements P Q R S s t
 signed_same P Q R S s t v a b =
-    signed_places P Q R S s t b.0 (subst (λ vs. (told_by P then told_by R then bstr then end).describes vs (tt, (tt, (s, tt)))) (some-one a.1 b.1) a.2) b.2
+    signed_elements P Q R S s t b.0 (subst (λ vs. (described_by P then described_by R then bstr then end).describes vs (tt, (tt, (s, tt))))
+    (some-one a.1 b.1) a.2) b.2
 
 -- all headers, and all signatures
 mutual

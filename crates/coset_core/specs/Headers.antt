@@ -8,7 +8,7 @@ use Rattle.coset_cbor.specs.Grammar.{IsItem}
 use Rattle.coset_cbor.specs.declared.de.Error.TheVariants.{RecursionLimitExceeded}
 use Rattle.coset_codec.specs.Errors.{IsUnexpected}
 use Rattle.coset_codec.specs.Serialized.{ContentFaults, content_bytes, serialized_or_empty}
-use Rattle.coset_codec.specs.Shape.{Shape, both, fixed, along, array_of, ◌then◌, end, any_number, bstr, one_or_more, one_or_array, one_or_many}
+use Rattle.coset_codec.specs.Shape.{Shape, both, fixed, mapped, array_of, ◌then◌, end, any_number, bstr, one_or_more, one_or_array, one_or_many}
 use Rattle.coset_codec.specs.declared.error.CoseError.{CoseError}
 use Rattle.coset_codec.specs.declared.error.CoseError.TheVariants.{DecodeFailed}
 use Rattle.coset_core.specs.Fields.{FieldsSeen, Versions, empty_fields, partial_header, SomeCounterSignatures}
@@ -79,18 +79,18 @@ CounterSignaturesAre Are is_none None = is_none
 CounterSignaturesAre Are is_none (Some w) = (vs : Items) × (one_or_more w ≡ Some vs) × Are vs
 
 -- a map of these fields, and the values of its labels 7 and 11 stand for the signatures of both versions
-abbrev pub HeaderIs : (Option Item → Type 0) → (Option Item → Type 0) → FieldsSeen → Item → Type 0
-HeaderIs First Second f v = (o : Versions (Option Item)) × partial_header.describes v (f, o) × First o.0 × Second o.1
+abbrev pub DescribesHeader : (Option Item → Type 0) → (Option Item → Type 0) → FieldsSeen → Item → Type 0
+DescribesHeader First Second f v = (o : Versions (Option Item)) × partial_header.describes v (f, o) × First o.0 × Second o.1
 
 -- what a byte string holds: nothing, where the header is empty; or one item, of which P tells
-abbrev pub ContentIs : (Item → Type 0) → Type 0 → List ℕ → Type 0
-ContentIs P is_empty [] = is_empty
-ContentIs P is_empty (c ∷ b) = (w : Item) × IsItem (c ∷ b) w × P w
+abbrev pub DescribesContent : (Item → Type 0) → Type 0 → List ℕ → Type 0
+DescribesContent P is_empty [] = is_empty
+DescribesContent P is_empty (c ∷ b) = (w : Item) × IsItem (c ∷ b) w × P w
 
 -- a byte string, which is kept, one layer further in
-abbrev pub ProtectedIs : (ℕ → Item → Type 0) → Type 0 → Option (List ℕ) → ℕ → Item → Type 0
-ProtectedIs P is_empty o zero v = ⊥
-ProtectedIs P is_empty o (suc k) v = (b : List ℕ) × (as_bytes v ≡ Some b) × (o ≡ Some b) × ContentIs (P k) is_empty b
+abbrev pub DescribesProtected : (ℕ → Item → Type 0) → Type 0 → Option (List ℕ) → ℕ → Item → Type 0
+DescribesProtected P is_empty o zero v = ⊥
+DescribesProtected P is_empty o (suc k) v = (b : List ℕ) × (as_bytes v ≡ Some b) × (o ≡ Some b) × DescribesContent (P k) is_empty b
 
 -- [protected, unprotected, signature : bstr]
 abbrev pub signed_array : {A B : Type 0} → Shape A → Shape B → Shape (A × (B × (List ℕ × Unit {0})))
@@ -100,20 +100,20 @@ abbrev nothing_wrong : Item → CoseError → Type 0
 nothing_wrong v e = ⊥
 
 -- a thing of which it is known which items stand for it
-abbrev pub told_by : (Item → Type 0) → Shape (Unit {0})
-told_by P = fixed P None nothing_wrong
+abbrev pub described_by : (Item → Type 0) → Shape (Unit {0})
+described_by P = fixed P None nothing_wrong
 
 -- the item stands for this header; and the items for these signatures, in order
 abbrev mutual
   pub IsHeader : HeaderSeen → ℕ → Item → Type 0
   IsHeader (header_of f ss ts) k v =
-      HeaderIs (CounterSignaturesAre (AreSignatures ss k) (ss ≡ no_signatures)) (CounterSignaturesAre (AreSignatures ts k) (ts ≡ no_signatures)) f v
+      DescribesHeader (CounterSignaturesAre (AreSignatures ss k) (ss ≡ no_signatures)) (CounterSignaturesAre (AreSignatures ts k) (ts ≡ no_signatures)) f v
 
   pub AreSignatures : Signatures → ℕ → Items → Type 0
   AreSignatures no_signatures k vs = vs ≡ no_items
   AreSignatures (signature_and o p u s more) k no_items = ⊥
   AreSignatures (signature_and o p u s more) k (item v vs) =
-      (signed_array (told_by (ProtectedIs (IsHeader p) (p ≡ empty_header) o k)) (told_by (IsHeader u k))).describes v (tt, (tt, (s, tt)))
+      (signed_array (described_by (DescribesProtected (IsHeader p) (p ≡ empty_header) o k)) (described_by (IsHeader u k))).describes v (tt, (tt, (s, tt)))
       × AreSignatures more k vs
 
 -- ---- the items that they are written as
@@ -195,7 +195,7 @@ both_of p = (p.original, p.header)
 
 abbrev protected_by : ℕ → Shape ProtectedSeen
 protected_by zero = no_layer protected_bytes
-protected_by (suc k) = along protected_of both_of (serialized_or_empty empty_header is_empty_header (layered_header k))
+protected_by (suc k) = mapped protected_of both_of (serialized_or_empty empty_header is_empty_header (layered_header k))
 
 -- bstr .cbor header / bstr .size 0, with k layers left
 unfoldable pub layered_protected : ℕ → Shape ProtectedSeen
@@ -204,12 +204,12 @@ layered_protected k = protected_by k
 abbrev pub signature_of : ProtectedSeen × (HeaderSeen × (List ℕ × Unit {0})) → SignatureSeen
 signature_of p = record { protected = p.0; unprotected = p.1.0; signature = p.1.1.0 }
 
-abbrev pub places_of : SignatureSeen → ProtectedSeen × (HeaderSeen × (List ℕ × Unit {0}))
-places_of s = (s.protected, (s.unprotected, (s.signature, tt)))
+abbrev pub elements_of : SignatureSeen → ProtectedSeen × (HeaderSeen × (List ℕ × Unit {0}))
+elements_of s = (s.protected, (s.unprotected, (s.signature, tt)))
 
 -- [protected, unprotected, signature : bstr], with k layers left
 abbrev pub layered_signature : ℕ → Shape SignatureSeen
-layered_signature k = along signature_of places_of (signed_array (layered_protected k) (layered_header k))
+layered_signature k = mapped signature_of elements_of (signed_array (layered_protected k) (layered_header k))
 
 -- the value of label 7, or 11: one of them, or several
 abbrev pub signatures_within : ℕ → Shape (List SignatureSeen)

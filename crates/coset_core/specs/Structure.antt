@@ -22,9 +22,9 @@ structure_and context parts vs = array (item (text context) (byte_strings_and pa
 abbrev pub structure : List ℕ → List (List ℕ) → Item
 structure context parts = structure_and context parts no_items
 
--- the beginning of a structure's shortest encoding: its head, the context and the parts; so many places follow
-pub record BeginsStructure (b context : List ℕ) (parts : List (List ℕ)) (places : ℕ) : Type 0 where
-  pub begins : b ≡ (least_head 4 (length parts + 1 + places) ++ least_encoding (text context)) ++ least_encodings (byte_strings parts)
-  pub small : length parts + 1 + places < 2 ^ 64
+-- the beginning of a structure's shortest encoding: its head, the context and the parts; so many elements follow
+pub record BeginsStructure (b context : List ℕ) (parts : List (List ℕ)) (elements : ℕ) : Type 0 where
+  pub begins : b ≡ (least_head 4 (length parts + 1 + elements) ++ least_encoding (text context)) ++ least_encodings (byte_strings parts)
+  pub small : length parts + 1 + elements < 2 ^ 64
   pub context_in_range : IsInRange (text context)
   pub in_range : AreInRange (byte_strings parts)

@@ -9,8 +9,8 @@ use Rattle.coset_iana.specs.HeaderParameter as parameters
 use Rattle.coset_iana.specs.declared.headers.HeaderParameter.{HeaderParameter}
 use Rattle.coset_iana.specs.declared.headers.HeaderParameter.TheVariants.{Alg, Crit, ContentType, Kid, Iv, PartialIv}
 use Rattle.coset_codec.specs.Encoding.{AppendsField}
-use Rattle.coset_codec.specs.Maps.{is_filled, listed, optional}
-use Rattle.coset_codec.specs.Shape.{filled_bstr, some_of}
+use Rattle.coset_codec.specs.Maps.{is_nonempty, unless_empty, optional}
+use Rattle.coset_codec.specs.Shape.{nonempty_bstr, some_of}
 use Rattle.coset_core.specs.Fields.{FieldsSeen, algorithm, critical, content_type as content_type_shape}
 use Rattle.coset_core.specs.Headers.{HeaderSeen, header_of, fields_in, SignatureSeen, Signatures, signatures_of, are_none, is_empty_header}
 use Rattle.coset_core.specs.Headers.{counter_signatures_item, signature_item, signatures_image, header_image, protected_bytes}
@@ -32,16 +32,16 @@ pub record AppendsFirst (old new : List ℕ) (f : FieldsSeen) : Type 0 where
   pub behind_kid : List ℕ
   pub behind_iv : List ℕ
   pub alg : AppendsField (parameters.number Alg) ((optional algorithm).image f.alg) old behind_alg
-  pub crit : AppendsField (parameters.number Crit) ((listed (some_of critical)).image f.crit) behind_alg behind_crit
+  pub crit : AppendsField (parameters.number Crit) ((unless_empty (some_of critical)).image f.crit) behind_alg behind_crit
   pub content_type : AppendsField (parameters.number ContentType) ((optional content_type_shape).image f.content_type) behind_crit behind_content_type
-  pub key_id : AppendsField (parameters.number Kid) ((listed filled_bstr).image f.key_id) behind_content_type behind_kid
-  pub iv : AppendsField (parameters.number Iv) ((listed filled_bstr).image f.iv) behind_kid behind_iv
-  pub partial_iv : AppendsField (parameters.number PartialIv) ((listed filled_bstr).image f.partial_iv) behind_iv new
+  pub key_id : AppendsField (parameters.number Kid) ((unless_empty nonempty_bstr).image f.key_id) behind_content_type behind_kid
+  pub iv : AppendsField (parameters.number Iv) ((unless_empty nonempty_bstr).image f.iv) behind_kid behind_iv
+  pub partial_iv : AppendsField (parameters.number PartialIv) ((unless_empty nonempty_bstr).image f.partial_iv) behind_iv new
 
 -- which of a header's fields are there, in the order of their labels
 abbrev pub are_there : HeaderSeen → List Bool
 are_there (header_of f ss ts) =
-    is_some f.alg ∷ is_filled f.crit ∷ is_some f.content_type ∷ is_filled f.key_id ∷ is_filled f.iv ∷ is_filled f.partial_iv
+    is_some f.alg ∷ is_nonempty f.crit ∷ is_some f.content_type ∷ is_nonempty f.key_id ∷ is_nonempty f.iv ∷ is_nonempty f.partial_iv
     ∷ not (are_none ss) ∷ not (are_none ts) ∷ is_some f.countersignature0_v2 ∷ []
 
 -- how many pairs a header's map has

@@ -6,13 +6,13 @@ ghost use Rattle.coset_codec.specs.Answers.{Reads};
 ghost use Rattle.coset_codec.specs.Errors.{UnlessMemory};
 ghost use Rattle.coset_codec.specs.Inputs.{state, ReadsAt, length_left};
 ghost use Rattle.coset_core.specs.Fields.{critical};
-ghost use Rattle.coset_codec.specs.Maps.{RefusesValue, TakesValue, listed};
+ghost use Rattle.coset_codec.specs.Maps.{RefusesValue, TakesValue, unless_empty};
 ghost use Rattle.coset_codec.specs.Shape.{some_of};
 ghost use Rattle.std.specs.Cmp.Lexicographic.{pointwise};
 ghost use Rattle.coset_core.specs.Same.{critical_eq};
 
 use coset_codec::Result;
-use coset_codec::read::{Input, read_filled_list};
+use coset_codec::read::{Input, read_nonempty_list};
 use coset_iana::HeaderParameter;
 use coset_label::RegisteredLabelWithPrivate;
 use std::alloc::Global;
@@ -27,7 +27,7 @@ fn read_critical(
     ensures reads { ReadsAt (state input.old) (state input.new)
         (λ v. Reads (some_of critical) (λ all. map critical_seen all.items) v result) }
 {
-    read_filled_list(
+    read_nonempty_list(
         alloc,
         input,
         "array value",
@@ -43,10 +43,10 @@ pub(crate) fn set_critical(
 ) -> Result<()>
     ensures shrinks { length_left (state input.new) ≤ length_left (state input.old) }
     ensures takes { ReadsAt (state input.old) (state input.new) (λ v. OnOk result
-        (TakesValue (listed (some_of critical)) v
+        (TakesValue (unless_empty (some_of critical)) v
         (map critical_seen field.old.items) (map critical_seen field.new.items))) }
     ensures refused { ReadsAt (state input.old) (state input.new) (λ v. IfErr result
-        (λ e. UnlessMemory e (RefusesValue (listed (some_of critical)) v
+        (λ e. UnlessMemory e (RefusesValue (unless_empty (some_of critical)) v
         (map critical_seen field.old.items)))) }
     ensures kept { OnErr result (field.new ≡ field.old) }
 {

@@ -25,7 +25,7 @@ use crate::header::reading::fill_header;
 use crate::header::writing::write_header;
 use crate::signature::{CoseSignature, Held, copy_signatures, drop_held, same_signatures};
 use coset_cbor::value::Value;
-use coset_codec::error::Refused;
+use coset_codec::error::ErrorStored;
 use coset_codec::read::Input;
 use coset_codec::util::copy_bstr;
 use coset_codec::{Codec, CoseError, Result, find_value};
@@ -225,7 +225,7 @@ impl Codec for Header {
         let mut error = CoseError::OutOfMemory;
         match fill_header(&mut header, alloc, input, LAYERS, &mut error) {
             Ok(()) => Ok(header),
-            Err(Refused) => Err(error),
+            Err(ErrorStored) => Err(error),
         }
     }
 

@@ -10,13 +10,13 @@ ghost use Rattle.coset_core.specs.Views.{header_seen, protected_seen};
 ghost use Rattle.coset_codec.specs.InPlace.{Fills};
 ghost use Rattle.coset_codec.specs.Answers.{Reads};
 ghost use Rattle.coset_codec.specs.Inputs.{GoesBehind, ReadsAt, length_left, state};
-ghost use Rattle.coset_core.specs.Messages.{headed};
+ghost use Rattle.coset_core.specs.Messages.{with_headers};
 
 use crate::header::reading::fill_header;
 use crate::header::{Header, LAYERS};
 use crate::protected::{ProtectedHeader, fill_bstr};
-use coset_codec::error::Refused;
-use coset_codec::read::{Decode, DecodePlaces, Input};
+use coset_codec::error::ErrorStored;
+use coset_codec::read::{Decode, DecodeElements, Input};
 use coset_codec::{CoseError, Result};
 use std::alloc::Global;
 
@@ -37,7 +37,7 @@ pub fn fill_protected_header(
     let mut error = CoseError::OutOfMemory;
     match fill_bstr(protected, alloc, input, &mut error) {
         Ok(()) => Ok(()),
-        Err(Refused) => Err(error),
+        Err(ErrorStored) => Err(error),
     }
 }
 
@@ -58,7 +58,7 @@ pub fn fill_unprotected_header(
     let mut error = CoseError::OutOfMemory;
     match fill_header(unprotected, alloc, input, LAYERS, &mut error) {
         Ok(()) => Ok(()),
-        Err(Refused) => Err(error),
+        Err(ErrorStored) => Err(error),
     }
 }
 
@@ -81,12 +81,12 @@ impl Decode for Content {
     }
 }
 
-/// Reads a message: its first two places into empty headers, where these stand, and the places behind them.
+/// Reads a message: its first two elements into empty headers, where these stand, and the elements behind them.
 ///
 /// # Errors
-/// `OutOfMemory`; `UnexpectedItem` where the item is no array, or, with `want`, one of another number of places; or the
+/// `OutOfMemory`; `UnexpectedItem` where the item is no array, or, with `want`, one of another number of elements; or the
 /// fault of the last place that has one.
-pub fn read_headed<P: DecodePlaces + Drop>(
+pub fn read_headed<P: DecodeElements + Drop>(
     protected: &mut ProtectedHeader,
     unprotected: &mut Header,
     alloc: Global,
@@ -97,7 +97,8 @@ pub fn read_headed<P: DecodePlaces + Drop>(
     requires unprotected { header_seen unprotected.old ≡ empty_header }
     ensures shrinks { length_left (state input.new) ≤ length_left (state input.old) }
     ensures strictly { OnOk result (GoesBehind (state input.old) (state input.new)) }
-    ensures reads { ReadsAt (state input.old) (state input.new) (λ v. Reads (headed P.places)
+    ensures reads { ReadsAt (state input.old) (state input.new)
+        (λ v. Reads (with_headers P.elements)
         (λ x. (protected_seen protected.new, (header_seen unprotected.new, P.seen x))) v result) }
 {
     let mut members = input.enter_array("array")?;
@@ -105,7 +106,7 @@ pub fn read_headed<P: DecodePlaces + Drop>(
     let first = fill_protected_header(protected, alloc, input);
     members.place(input, want)?;
     let second = fill_unprotected_header(unprotected, alloc, input);
-    let others = P::decode_places(alloc, &mut members, input, want)?;
+    let others = P::decode_elements(alloc, &mut members, input, want)?;
     second?;
     first?;
     Ok(others)

@@ -16,8 +16,8 @@ pub mod structure;
 
 pub use coset_label::{
     Algorithm, AsCborValue, CallError, CborOrdering, CborSerializable, ClaimName, Codec,
-    ContentType, CoseError, Encode, EndOfFile, FromPull, KeyOperation, KeyType, Label, Lawful,
-    RegisteredLabel, RegisteredLabelWithPrivate, Result, Source, TaggedCborSerializable,
+    ContentType, CoseError, Encode, EndOfFile, FromPull, ItemSource, KeyOperation, KeyType, Label,
+    Lawful, RegisteredLabel, RegisteredLabelWithPrivate, Result, TaggedCborSerializable,
     TaggedCodec, cbor, codec, has_repeats, iana, util,
 };
 pub use countersignature::{CoseCountersignature, CoseCountersignatureBuilder};

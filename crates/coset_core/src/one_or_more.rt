@@ -6,10 +6,10 @@ ghost use Rattle.coset_value.specs.Item.{Item, Items, no_items, null};
 ghost use Rattle.coset_value.specs.View.{items_view, view};
 ghost use Rattle.coset_cbor.specs.Cursors.{bytes_left, AreWithin as lent_within};
 ghost use Rattle.coset_codec.specs.Errors.{IsUnexpected};
-ghost use Rattle.coset_codec.specs.Inputs.{State, Stands, input_size, items_size, length_left, state, tree};
+ghost use Rattle.coset_codec.specs.Inputs.{State, ItemAt, input_size, items_size, length_left, state, tree};
 ghost use Rattle.coset_core.specs.OneOrMore.{BeginsSo, EntersOnes, SaysFirst};
 
-use coset_cbor::cursor::{Cursor, Places};
+use coset_cbor::cursor::{Cursor, Remaining};
 use coset_cbor::value::Value;
 use coset_codec::read::{Input, InputItems};
 use coset_codec::util::{cbor_type_error, pull_type_error};
@@ -17,7 +17,7 @@ use coset_codec::{CoseError, Result};
 use std::mem;
 
 /// The error of an array without members.
-fn no_ones() -> CoseError
+fn no_one_or_more() -> CoseError
     ensures { IsUnexpected result × SaysFirst no_items result }
 {
     CoseError::UnexpectedItem("empty sig array", "non-empty sig array")
@@ -28,7 +28,7 @@ fn tree_is_one(members: &Vec<Value>) -> Result<bool>
     ensures { BeginsSo (items_view members.now.items) result }
 {
     let Some(first) = members.first() else {
-        return Err(no_ones());
+        return Err(no_one_or_more());
     };
     if first.as_bytes().is_some() {
         Ok(true)
@@ -40,7 +40,7 @@ fn tree_is_one(members: &Vec<Value>) -> Result<bool>
 }
 
 /// The members of a value that is an array, and whether they begin with a byte string, or else with an array.
-fn tree_ones(value: Value) -> Result<(bool, InputItems)>
+fn tree_one_or_more(value: Value) -> Result<(bool, InputItems)>
     ensures deeper { IfOk result (λ x. (s : State)
         → items_size x.1 s < input_size (tree (view value))) }
     ensures enters { EntersOnes (view value) (tree null) (tree null) result }
@@ -55,14 +55,14 @@ fn tree_ones(value: Value) -> Result<(bool, InputItems)>
 }
 
 /// Whether the members that are still to come begin with a byte string, or else with an array.
-fn lent_is_one(places: Places, cursor: Cursor<'_>) -> Result<bool>
-    ensures { (vs : Items) (a : List ℕ) → lent_within places vs (bytes_left cursor.entry) a
+fn is_one_lent(elements: Remaining, cursor: Cursor<'_>) -> Result<bool>
+    ensures { (vs : Items) (a : List ℕ) → lent_within elements vs (bytes_left cursor.entry) a
         → BeginsSo vs result }
 {
-    let mut places = places;
+    let mut elements = elements;
     let mut cursor = cursor;
-    if !places.next(&cursor) {
-        return Err(no_ones());
+    if !elements.next(&cursor) {
+        return Err(no_one_or_more());
     }
     if cursor.is_bytes() {
         return Ok(true);
@@ -78,23 +78,23 @@ fn lent_is_one(places: Places, cursor: Cursor<'_>) -> Result<bool>
 ///
 /// # Errors
 /// `UnexpectedItem`: the item is another; it is passed.
-pub(crate) fn enter_ones(input: &mut Input<'_>) -> Result<(bool, InputItems)>
+pub(crate) fn enter_one_or_more(input: &mut Input<'_>) -> Result<(bool, InputItems)>
     ensures shrinks { length_left (state input.new) ≤ length_left (state input.old) }
     ensures deeper { IfOk result (λ x. items_size x.1 (state input.new) < input_size
         (state input.old)) }
-    ensures enters { (v : Item) (z : State) → Stands v (state input.old) z
+    ensures enters { (v : Item) (z : State) → ItemAt v (state input.old) z
         → EntersOnes v (state input.new) z result }
 {
     match input {
-        Input::Tree(value) => tree_ones(mem::replace(value, Value::Null)),
+        Input::Tree(value) => tree_one_or_more(mem::replace(value, Value::Null)),
         Input::Lent(cursor) => {
-            let Some(places) = cursor.array() else {
+            let Some(elements) = cursor.array() else {
                 return Err(pull_type_error(cursor.take()?, "array"));
             };
-            match lent_is_one(places, *cursor) {
-                Ok(one) => Ok((one, InputItems::Lent(places))),
+            match is_one_lent(elements, *cursor) {
+                Ok(one) => Ok((one, InputItems::Lent(elements))),
                 Err(error) => {
-                    places.finish(cursor);
+                    elements.finish(cursor);
                     Err(error)
                 }
             }

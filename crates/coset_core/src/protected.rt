@@ -6,7 +6,7 @@ ghost use Rattle.coset_core.specs.Contents.{FillsContent};
 ghost use Rattle.coset_codec.specs.InPlace.{Fills};
 ghost use Rattle.coset_core.specs.Views.{header_seen, protected_seen};
 ghost use Rattle.coset_codec.specs.Answers.{Reads, Images, RefusesItem};
-ghost use Rattle.coset_codec.specs.Errors.{answer};
+ghost use Rattle.coset_codec.specs.Errors.{stored};
 ghost use Rattle.coset_codec.specs.Inputs.{state, GoesBehind, ReadsAt, length_left};
 ghost use Rattle.coset_codec.specs.Sources.{source_item};
 ghost use Rattle.coset_value.specs.Item.{bytes};
@@ -31,11 +31,11 @@ use coset_cbor::de::Pull;
 use coset_cbor::ser::write_bytes;
 use coset_cbor::value::Value;
 use coset_cbor::{de, laws};
-use coset_codec::error::{Refused, keep_error};
+use coset_codec::error::{ErrorStored, store_error};
 use coset_codec::read::{Input, copy_bstr_to};
 use coset_codec::traits::whole_item;
 use coset_codec::write::Encode;
-use coset_codec::{Codec, CoseError, Result, Source};
+use coset_codec::{Codec, CoseError, ItemSource, Result};
 use std::alloc::{AllocError, Global};
 use std::borrow::CowSlice;
 
@@ -80,7 +80,7 @@ impl ProtectedHeader {
         ensures read { Reads protected_shape protected_seen (view value) result }
         ensures refused { RefusesItem protected_shape (view value) result }
     {
-        ProtectedHeader::from_source_bstr(alloc, Source::Tree(value))
+        ProtectedHeader::from_source_bstr(alloc, ItemSource::Tree(value))
     }
 
     /// Reads a protected header from the lent byte string that holds it, and keeps its bytes.
@@ -91,14 +91,14 @@ impl ProtectedHeader {
         ensures read { Reads protected_shape protected_seen (pull_item pull.entry) result }
         ensures refused { RefusesItem protected_shape (pull_item pull.entry) result }
     {
-        ProtectedHeader::from_source_bstr(alloc, Source::Lent(pull))
+        ProtectedHeader::from_source_bstr(alloc, ItemSource::Lent(pull))
     }
 
     /// Reads a protected header from the byte string that holds it, whichever way that is given, and keeps its bytes.
     ///
     /// # Errors
     /// The same as [`ProtectedHeader::from_cbor_bstr`].
-    pub fn from_source_bstr(alloc: Global, source: Source<'_>) -> Result<ProtectedHeader>
+    pub fn from_source_bstr(alloc: Global, source: ItemSource<'_>) -> Result<ProtectedHeader>
         ensures read { Reads protected_shape protected_seen (source_item source.entry) result }
         ensures refused { RefusesItem protected_shape (source_item source.entry) result }
     {
@@ -253,14 +253,14 @@ pub(crate) fn string_bytes(
     alloc: Global,
     input: &mut Input<'_>,
     error: &mut CoseError,
-) -> Result<Vec<u8>, Refused>
+) -> Result<Vec<u8>, ErrorStored>
     ensures shrinks { length_left (state input.new) ≤ length_left (state input.old) }
     ensures strictly { OnOk result (GoesBehind (state input.old) (state input.new)) }
     ensures reads { ReadsAt (state input.old) (state input.new)
-        (λ v. Reads bstr (λ b. b.items) v (answer error.new result)) }
+        (λ v. Reads bstr (λ b. b.items) v (stored error.new result)) }
     ensures kept { OnOk result (error.new ≡ error.old) }
 {
-    keep_error(input.bytes(alloc, "bstr"), error)
+    store_error(input.bytes(alloc, "bstr"), error)
 }
 
 /// Reads the header that the bytes hold which an empty protected header keeps.
@@ -274,18 +274,18 @@ pub(crate) fn fill_protected(
     alloc: Global,
     layers: usize,
     error: &mut CoseError,
-) -> Result<(), Refused>
+) -> Result<(), ErrorStored>
     requires empty { (protected_seen protected.old).header ≡ empty_header }
     ensures { (b : List ℕ) → (protected_seen protected.old).original ≡ Some b
         → Fills (layered_protected layers) (bytes b) (protected_seen protected.new)
-        (answer error.new result) }
+        (stored error.new result) }
 {
     let Some(content) = &protected.original_data else {
         return Ok(());
     };
     if layers == 0 {
         *error = CoseError::DecodeFailed(de::Error::RecursionLimitExceeded);
-        return Err(Refused);
+        return Err(ErrorStored);
     }
     fill_content(&mut protected.header, alloc, content, layers - 1, error)
 }
@@ -302,15 +302,15 @@ fn fill_content(
     content: &[u8],
     layers: usize,
     error: &mut CoseError,
-) -> Result<(), Refused>
+) -> Result<(), ErrorStored>
     requires empty { header_seen header.old ≡ empty_header }
     ensures { FillsContent layers content.now (header_seen header.new)
-        (answer error.new result) }
+        (stored error.new result) }
 {
     if content.is_empty() {
         return Ok(());
     }
-    keep_error(whole_item(content), error)?;
+    store_error(whole_item(content), error)?;
     let mut input = Input::of_bytes(content);
     fill_header(header, alloc, &mut input, layers, error)
 }
@@ -321,12 +321,12 @@ pub(crate) fn fill_bstr(
     alloc: Global,
     input: &mut Input<'_>,
     error: &mut CoseError,
-) -> Result<(), Refused>
+) -> Result<(), ErrorStored>
     requires empty { (protected_seen protected.old).header ≡ empty_header }
     ensures shrinks { length_left (state input.new) ≤ length_left (state input.old) }
     ensures strictly { OnOk result (GoesBehind (state input.old) (state input.new)) }
     ensures fills { ReadsAt (state input.old) (state input.new)
-        (λ v. Fills protected_shape v (protected_seen protected.new) (answer error.new result)) }
+        (λ v. Fills protected_shape v (protected_seen protected.new) (stored error.new result)) }
 {
     let bytes = string_bytes(alloc, input, error)?;
     protected.original_data = Some(bytes);
@@ -344,7 +344,7 @@ pub(crate) fn read_protected(alloc: Global, input: &mut Input<'_>) -> Result<Pro
     let mut error = CoseError::OutOfMemory;
     match fill_bstr(&mut protected, alloc, input, &mut error) {
         Ok(()) => Ok(protected),
-        Err(Refused) => Err(error),
+        Err(ErrorStored) => Err(error),
     }
 }
 

@@ -5,10 +5,10 @@ ghost use Rattle.coset_codec.specs.declared.error.CoseError.TheVariants.{OutOfMe
 ghost use Rattle.coset_core.specs.Contents.{empty_signature};
 ghost use Rattle.coset_codec.specs.InPlace.{Fills, FillsEach};
 ghost use Rattle.coset_core.specs.Views.{header_seen, protected_seen, signature_seen};
-ghost use Rattle.coset_codec.specs.Errors.{answer, filled};
+ghost use Rattle.coset_codec.specs.Errors.{stored, made_in_place};
 ghost use Rattle.coset_value.specs.Item.{Item, array, Items, no_items, item};
-ghost use Rattle.coset_codec.specs.Inputs.{State, state, length_left, input_size, items_size, Stands, GoesBehind, AreWithin, EntersArray};
-ghost use Rattle.coset_core.specs.Filling.{BeginsPlaces, EndsPlaces};
+ghost use Rattle.coset_codec.specs.Inputs.{State, state, length_left, input_size, items_size, ItemAt, GoesBehind, AreWithin, EntersArray};
+ghost use Rattle.coset_core.specs.Filling.{BeginsElements, EndsElements};
 ghost use Rattle.coset_core.specs.Headers.{empty_header, layered_signature, signature as signature_shape, signatures_of, signatures_image};
 ghost use Rattle.coset_core.specs.Written.{AppendsSignatures, signature_array};
 ghost use Rattle.coset_codec.specs.Encoding.{HasNoImage, Encodes};
@@ -27,8 +27,10 @@ use crate::protected::{
     string_bytes, write_protected,
 };
 use coset_cbor::ser::{write_array_head, write_bytes};
-use coset_codec::error::{Refused, keep_error};
-use coset_codec::read::{InPlace, Input, InputItems, make_room, misfit, next_place, push_empty};
+use coset_codec::error::{ErrorStored, store_error};
+use coset_codec::read::{
+    InPlace, Input, InputItems, make_room, next_place, push_empty, wrong_length,
+};
 use coset_codec::write::Encode;
 use coset_codec::{Codec, CoseError, Result};
 use std::alloc::{AllocError, Global};
@@ -51,7 +53,7 @@ pub struct CoseSignature {
     pub signature: Vec<u8>,
 }
 
-/// What the error of another number of places asks for.
+/// What the error of another number of elements asks for.
 const PLACES: &str = "array with 3 items";
 
 impl CoseSignature {
@@ -135,7 +137,7 @@ impl Codec for CoseSignature {
         let mut error = CoseError::OutOfMemory;
         match fill_signature(&mut signed, alloc, input, LAYERS, &mut error) {
             Ok(()) => Ok(signed),
-            Err(Refused) => Err(error),
+            Err(ErrorStored) => Err(error),
         }
     }
 
@@ -160,43 +162,43 @@ impl InPlace for CoseSignature {
 }
 
 /// Reads the first place of a signature's array, a byte string that is kept; the second then stands at the input. It says
-/// whether the first is one, and why not in a place of its own, since the later places are judged before it.
+/// whether the first is one, and why not in a place of its own, since the later elements are judged before it.
 ///
 /// # Errors
-/// `UnexpectedItem`: the array has fewer places.
+/// `UnexpectedItem`: the array has fewer elements.
 #[inline(never)]
-fn begin_places(
+fn begin_elements(
     kept: &mut Option<Vec<u8>>,
     why: &mut CoseError,
     alloc: Global,
     members: &mut InputItems,
     input: &mut Input<'_>,
     error: &mut CoseError,
-) -> Result<bool, Refused>
+) -> Result<bool, ErrorStored>
     ensures shrinks { length_left (state input.new) ≤ length_left (state input.old) }
     ensures size { items_size members.new (state input.new) ≤ items_size members.old
         (state input.old) }
     ensures place { OnOk result
         (input_size (state input.new) ≤ items_size members.old (state input.old)) }
     ensures begins { (vs : Items) (z : State) → AreWithin members.old vs (state input.old) z
-        → BeginsPlaces vs (state input.new) z members.new (option_map (λ b. b.items) kept.new)
-        why.new (answer error.new result) }
+        → BeginsElements vs (state input.new) z members.new (option_map (λ b. b.items) kept.new)
+        why.new (stored error.new result) }
 {
     if !members.next(input) {
-        *error = misfit(PLACES);
-        return Err(Refused);
+        *error = wrong_length(PLACES);
+        return Err(ErrorStored);
     }
     let first = string_bytes(alloc, input, why);
     if !members.next(input) {
-        *error = misfit(PLACES);
-        return Err(Refused);
+        *error = wrong_length(PLACES);
+        return Err(ErrorStored);
     }
     match first {
         Ok(bytes) => {
             *kept = Some(bytes);
             Ok(true)
         }
-        Err(Refused) => Ok(false),
+        Err(ErrorStored) => Ok(false),
     }
 }
 
@@ -205,28 +207,28 @@ fn begin_places(
 /// # Errors
 /// `OutOfMemory`, or `UnexpectedItem`: there is none, or it isn't the last, or it is no byte string.
 #[inline(never)]
-fn end_places(
+fn end_elements(
     signature: &mut Vec<u8>,
     alloc: Global,
     members: &mut InputItems,
     input: &mut Input<'_>,
     error: &mut CoseError,
-) -> Result<(), Refused>
+) -> Result<(), ErrorStored>
     ensures shrinks { length_left (state input.new) ≤ length_left (state input.old) }
     ensures ends { (vs : Items) (z : State) → AreWithin members.old vs (state input.old) z
-        → EndsPlaces vs (state input.new) z members.new signature.new.items
-        (answer error.new result) }
+        → EndsElements vs (state input.new) z members.new signature.new.items
+        (stored error.new result) }
     ensures kept { OnOk result (error.new ≡ error.old) }
 {
     if !members.next(input) {
-        *error = misfit(PLACES);
-        return Err(Refused);
+        *error = wrong_length(PLACES);
+        return Err(ErrorStored);
     }
     let last = string_bytes(alloc, input, error);
     if members.next(input) {
         input.pass();
-        *error = misfit(PLACES);
-        return Err(Refused);
+        *error = wrong_length(PLACES);
+        return Err(ErrorStored);
     }
     *signature = last?;
     Ok(())
@@ -244,21 +246,21 @@ pub(crate) fn fill_bare(
     input: &mut Input<'_>,
     layers: usize,
     error: &mut CoseError,
-) -> Result<(), Refused>
+) -> Result<(), ErrorStored>
     requires empty { map signature_seen all.old.items ≡ [] }
     ensures shrinks { length_left (state input.new) ≤ length_left (state input.old) }
     ensures fills { (vs : Items) (z : State) → AreWithin members.old vs (state input.old) z
         → ((left : Items) × AreWithin members.new left (state input.new) z)
         × FillsEach (layered_signature layers) (item (array vs) no_items)
         (map signature_seen all.new.items)
-        (answer error.new result) }
+        (stored error.new result) }
 {
     if push_empty(all).is_err() {
         *error = CoseError::OutOfMemory;
-        return Err(Refused);
+        return Err(ErrorStored);
     }
     let last = all.len() - 1;
-    fill_places(&mut all[last], alloc, members, input, layers, error)
+    fill_elements(&mut all[last], alloc, members, input, layers, error)
 }
 
 /// Reads each of some signatures into an empty list.
@@ -273,13 +275,13 @@ pub(crate) fn fill_listed(
     input: &mut Input<'_>,
     layers: usize,
     error: &mut CoseError,
-) -> Result<(), Refused>
+) -> Result<(), ErrorStored>
     requires empty { map signature_seen all.old.items ≡ [] }
     ensures shrinks { length_left (state input.new) ≤ length_left (state input.old) }
     ensures fills { (vs : Items) (z : State) → AreWithin members.old vs (state input.old) z
         → ((left : Items) × AreWithin members.new left (state input.new) z)
         × FillsEach (layered_signature layers) vs (map signature_seen all.new.items)
-        (answer error.new result) }
+        (stored error.new result) }
 {
     while next_place(all, members, input, error)? {
         let last = all.len() - 1;
@@ -297,16 +299,16 @@ fn begin_items(
     members: &mut InputItems,
     input: &mut Input<'_>,
     error: &mut CoseError,
-) -> Result<(), Refused>
+) -> Result<(), ErrorStored>
     ensures shrinks { length_left (state input.new) ≤ length_left (state input.old) }
     ensures strictly { OnOk result (GoesBehind (state input.old) (state input.new)) }
     ensures deeper { OnOk result
         (items_size members.new (state input.new) < input_size (state input.old)) }
-    ensures enters { (v : Item) (z : State) → Stands v (state input.old) z
+    ensures enters { (v : Item) (z : State) → ItemAt v (state input.old) z
         → EntersArray (codes "array") v (state input.new) z
-        (filled (λ _. members.new) error.new result) }
+        (made_in_place (λ _. members.new) error.new result) }
 {
-    *members = keep_error(input.enter_array("array"), error)?;
+    *members = store_error(input.enter_array("array"), error)?;
     Ok(())
 }
 
@@ -321,51 +323,51 @@ fn fill_signature(
     input: &mut Input<'_>,
     layers: usize,
     error: &mut CoseError,
-) -> Result<(), Refused>
+) -> Result<(), ErrorStored>
     requires empty { signature_seen signed.old ≡ empty_signature }
     ensures shrinks { length_left (state input.new) ≤ length_left (state input.old) }
     ensures strictly { OnOk result (GoesBehind (state input.old) (state input.new)) }
-    ensures fills { (v : Item) (z : State) → Stands v (state input.old) z → (state input.new ≡ z)
+    ensures fills { (v : Item) (z : State) → ItemAt v (state input.old) z → (state input.new ≡ z)
         × Fills (layered_signature layers) v (signature_seen signed.new)
-        (answer error.new result) }
+        (stored error.new result) }
 {
     let mut members = InputItems::none();
     begin_items(&mut members, input, error)?;
-    let filled = fill_places(signed, alloc, &mut members, input, layers, error);
+    let filled = fill_elements(signed, alloc, &mut members, input, layers, error);
     members.finish(input);
     filled
 }
 
-/// Reads the places of a signature's array into one that holds nothing. They are read from the first on, and judged
+/// Reads the elements of a signature's array into one that holds nothing. They are read from the first on, and judged
 /// from the last on.
 ///
 /// # Errors
 /// `OutOfMemory`; `UnexpectedItem` where they are not three; or the fault of the last place that has one.
 #[cycle(read)]
-fn fill_places(
+fn fill_elements(
     signed: &mut CoseSignature,
     alloc: Global,
     members: &mut InputItems,
     input: &mut Input<'_>,
     layers: usize,
     error: &mut CoseError,
-) -> Result<(), Refused>
+) -> Result<(), ErrorStored>
     requires empty { signature_seen signed.old ≡ empty_signature }
     ensures shrinks { length_left (state input.new) ≤ length_left (state input.old) }
     ensures fills { (vs : Items) (z : State) → AreWithin members.old vs (state input.old) z
         → ((left : Items) × AreWithin members.new left (state input.new) z)
         × Fills (layered_signature layers) (array vs) (signature_seen signed.new)
-        (answer error.new result) }
+        (stored error.new result) }
 {
     let mut why = CoseError::OutOfMemory;
     let kept = &mut signed.protected.original_data;
-    let is_string = begin_places(kept, &mut why, alloc, members, input, error)?;
+    let is_string = begin_elements(kept, &mut why, alloc, members, input, error)?;
     let unprotected = fill_header(&mut signed.unprotected, alloc, input, layers, error);
-    end_places(&mut signed.signature, alloc, members, input, error)?;
+    end_elements(&mut signed.signature, alloc, members, input, error)?;
     unprotected?;
     if !is_string {
         *error = why;
-        return Err(Refused);
+        return Err(ErrorStored);
     }
     fill_protected(&mut signed.protected, alloc, layers, error)
 }

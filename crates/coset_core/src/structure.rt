@@ -30,7 +30,7 @@ pub fn structure_bytes(alloc: Global, context: &str, parts: &[&[u8]]) -> Result<
 }
 
 /// The beginning of the shortest encoding of a structure: its head, the context and these byte strings, behind which so
-/// many places follow. It is made large enough at once for these, and for so many bytes more.
+/// many elements follow. It is made large enough at once for these, and for so many bytes more.
 ///
 /// # Errors
 /// `OutOfMemory` alone.
@@ -39,17 +39,17 @@ pub fn begin_structure(
     alloc: Global,
     context: &str,
     parts: &[&[u8]],
-    places: usize,
+    elements: usize,
     more: usize,
 ) -> Result<Vec<u8>>
-    requires { places ≤ 1 }
+    requires { elements ≤ 1 }
     ensures begins { IfOk result (λ b. BeginsStructure b.items context.now
-        (map (λ part. part.now) parts.now) places) }
+        (map (λ part. part.now) parts.now) elements) }
     ensures memory { IfErr result (λ e. e ≡ OutOfMemory) }
 {
     let room = room_for(context, parts).saturating_add(more);
     let mut out = Vec::with_capacity(alloc, room)?;
-    write_array_head(parts.len() + 1 + places, &mut out)?;
+    write_array_head(parts.len() + 1 + elements, &mut out)?;
     write_text(context, &mut out)?;
     for part in parts {
         write_bytes(part, &mut out)?;

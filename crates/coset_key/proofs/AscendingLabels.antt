@@ -14,27 +14,27 @@ use Rattle.coset_codec.specs.Maps.{Named, entries_image, may_write, named_image,
 use Rattle.coset_codec.specs.Shape.{both}
 use Rattle.coset_codec.specs.ShapeLaws.{some-one}
 use Rattle.coset_label.specs.Labels.{label}
-use Rattle.coset_label.specs.Names.{Name, number, word, argument, encoded_length, head_length, name_cmp, name_item}
+use Rattle.coset_label.specs.Names.{Name, number, text_label, argument, encoded_length, head_length, name_cmp, name_item}
 use Rattle.coset_label.specs.Orderings.{name_cmp_by}
 use Rattle.coset_label.specs.SortedLaws.{strictly, above, in-cases}
 use Rattle.coset_label.specs.declared.ordering.CborOrdering.{CborOrdering}
 use Rattle.coset_label.specs.declared.ordering.CborOrdering.TheVariants.{Lexicographic, LengthFirstLexicographic}
 use Rattle.coset_core.specs.Fields.{names}
 use Rattle.coset_key.specs.Canonical.{IsCanonicalOf, LabelsAscend, ZeroBehindFields, is_field}
-use Rattle.coset_key.specs.Keys.{KeySeen, Fielded, key, fields, parts_of}
+use Rattle.coset_key.specs.Keys.{KeySeen, FieldTuple, key, fields, parts_of}
 use Rattle.coset_key.proofs.CanonicalKeys.{canonical_differ, total_by}
 
 -- ---- the labels that are written
 
 label_of_item : (a b : Name) → label.describes (name_item a) b → b ≡ a
 label_of_item (number i) (number j) d = ap number (sym (some-one refl d.1.0))
-label_of_item (number i) (word s) d = absurd (true≢false d.0)
-label_of_item (word s) (number j) d = absurd (true≢false (sym d.0))
-label_of_item (word s) (word t) d = ap word (sym (some-one refl d.1))
+label_of_item (number i) (text_label s) d = absurd (true≢false d.0)
+label_of_item (text_label s) (number j) d = absurd (true≢false (sym d.0))
+label_of_item (text_label s) (text_label t) d = ap text_label (sym (some-one refl d.1))
 
 label_image : (a : Name) → label.image a ≡ Some (name_item a)
 label_image (number i) = refl
-label_image (word s) = refl
+label_image (text_label s) = refl
 
 both-parts : {A B C : Type 0} (f : A → B → C) (p : Option A) (q : Option B) (c : C) → both f p q ≡ Some c → (a : A) × (b : B) × (p ≡ Some a) × (q ≡ Some b)
     × (f a b ≡ c)
@@ -142,7 +142,7 @@ above-fields o c b k h = less-by o c b (omega arith) (by b h)
     by : (b : Name) → IsOther b → name_cmp (number (pos c)) b ≡ Less
     by (number (pos n)) h = rw (less c n (omega (arith, beyond n h, k))) refl
     by (number (negsuc n)) h = refl
-    by (word s) h = refl
+    by (text_label s) h = refl
 
 -- none is less than 0
 zero_least : (o : CborOrdering) (b : Name) → is_lt (name_cmp_by o b (number (pos 0))) ≡ false
@@ -151,7 +151,7 @@ zero_least o b = by o
     first : (b : Name) → is_lt (name_cmp b (number (pos 0))) ≡ false
     first (number (pos n)) = grind arith
     first (number (negsuc n)) = refl
-    first (word s) = refl
+    first (text_label s) = refl
 
     by : (o : CborOrdering) → is_lt (name_cmp_by o b (number (pos 0))) ≡ false
     by Lexicographic = first b
@@ -229,7 +229,7 @@ none_rises : (o : CborOrdering) (c : ℕ) (es : List (Name × Item)) → Some []
 unfolding IsStrictlySortedBy
 none_rises o c es h = subst (Rises o c) (some-one refl h) (record { each = tt; ascending = tt })
 
-fields_rise : (o : CborOrdering) (x : Fielded) (es : List (Name × Item)) → fields.image x ≡ Some es → Rises o 1 es
+fields_rise : (o : CborOrdering) (x : FieldTuple) (es : List (Name × Item)) → fields.image x ≡ Some es → Rises o 1 es
 fields_rise o x =
     field_rises o 1 _ _ (omega arith)
     (field_rises o 2 _ _ (omega arith)

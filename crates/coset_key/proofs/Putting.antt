@@ -3,7 +3,7 @@ use Rattle.std.proofs.Common.{◌≡◌, [], ◌∷◌, ◌++◌, Bool, ◌||◌
 use Rattle.std.specs.Prelude.{IfErr, OnOk}
 use Rattle.coset_value.specs.Item.{Item}
 use Rattle.coset_codec.specs.Errors.{UnlessMemory}
-use Rattle.coset_codec.specs.Maps.{Where, is_core, Adds, Refuses}
+use Rattle.coset_codec.specs.Maps.{IfThenElse, is_core, Adds, Refuses}
 use Rattle.coset_codec.specs.declared.error.CoseError.{CoseError}
 use Rattle.coset_label.specs.Names.{Name}
 use Rattle.coset_core.specs.FieldLaws.{names_laws, same_name-sym}
@@ -37,7 +37,7 @@ pub adds_rest :
 adds_rest m v x y h1 h2 h3 h4 h5 same rest =
     let other : is_core names fields.labels m ≡ false =
     none _ _ _ _ _ (turn labels.kty h1) (turn labels.kid h2) (turn labels.alg h3) (turn labels.key_ops h4) (turn labels.base_iv h5) in
-    subst (λ b. Where b (fields.takes m v x.0 y.0 × (y.1 ≡ x.1)) ((x.0 ≡ y.0) × (y.1 ≡ x.1 ++ (m, v) ∷ []))) (sym other) (same, rest)
+    subst (λ b. IfThenElse b (fields.takes m v x.0 y.0 × (y.1 ≡ x.1)) ((x.0 ≡ y.0) × (y.1 ≡ x.1 ++ (m, v) ∷ []))) (sym other) (same, rest)
   where
     turn : (l : Name) → same_name l m ≡ false → same_name m l ≡ false
     turn l h = same_name-sym m l ∙ h

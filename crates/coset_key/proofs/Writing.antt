@@ -1,15 +1,15 @@
 -- The fields of a key, written pair by pair.
 use Rattle.std.proofs.Common.{◌≡◌, List, [], ◌∷◌, length, map, not, Bool, true, false, Some, None, option_map, refl, sym, ap, arith}
 use Rattle.coset_value.specs.Item.{Item, Items, item, array}
-use Rattle.coset_codec.specs.Maps.{field_shape_image, is_filled}
+use Rattle.coset_codec.specs.Maps.{field_shape_image, is_nonempty}
 use Rattle.coset_codec.specs.Shape.{both, images, list_of}
-use Rattle.coset_label.specs.Names.{Name, number, word, name_item, RegisteredName, assigned, private_use, phrase}
+use Rattle.coset_label.specs.Names.{Name, number, text_label, name_item, RegisteredName, assigned, private_use, text_name}
 use Rattle.coset_core.specs.Fields.{algorithm}
 use Rattle.coset_key.specs.Keys.{operation, key_ops}
 
 -- a set is there where it isn't empty
 pub set-there : {K N : Type 0} (seen : K → N) (ks : List K) (b : Bool) → (b ≡ true → length ks ≡ 0) → (length ks ≡ 0 → b ≡ true)
-    → is_filled (map seen ks) ≡ not b
+    → is_nonempty (map seen ks) ≡ not b
 set-there seen [] b none all = sym (ap not (all refl))
 set-there seen (k ∷ ks) true none all = let e = none refl in absurd (omega (arith, e))
 set-there seen (k ∷ ks) false none all = refl
@@ -19,14 +19,14 @@ pub algorithm-has : (n : RegisteredName) → algorithm.image n ≡ None → ⊥
 unfolding algorithm
 algorithm-has (assigned i) e = absurd (cc)
 algorithm-has (private_use i) e = absurd (cc)
-algorithm-has (phrase s) e = absurd (cc)
+algorithm-has (text_name s) e = absurd (cc)
 
 -- ---- key operations
 
 operation_image : (n : Name) → operation.image n ≡ Some (name_item n)
 unfolding operation
 operation_image (number i) = refl
-operation_image (word s) = refl
+operation_image (text_label s) = refl
 
 operations_image : (ns : List Name) → (vs : Items) × (images operation.image ns ≡ Some vs)
 operations_image [] = (_, refl)
@@ -36,6 +36,7 @@ pub key_ops_image : (ns : List Name) → (v : Item) × ((list_of operation).imag
 key_ops_image ns = let vs = operations_image ns in (array vs.0, ap (option_map array) vs.1)
 
 -- they are written as the list that they are
-pub key_ops_list : (ns : List Name) → is_filled ns ≡ true → field_shape_image (is_filled ns) (key_ops.image ns) ≡ option_map Some ((list_of operation).image ns)
+pub key_ops_list : (ns : List Name) → is_nonempty ns ≡ true → field_shape_image (is_nonempty ns) (key_ops.image ns) ≡ option_map Some
+    ((list_of operation).image ns)
 unfolding key_ops
 key_ops_list ns e = ap (λ b. field_shape_image b ((list_of operation).image ns)) e

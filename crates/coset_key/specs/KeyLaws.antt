@@ -5,11 +5,11 @@ use Rattle.std.specs.Ordering.{is_eq}
 use Rattle.std.proofs.lemmas.Map.Lookups.{CmpEqualImpliesEq}
 use Rattle.coset_value.specs.Item.{Item, integer}
 use Rattle.coset_codec.specs.Errors.{IsUnexpected}
-use Rattle.coset_codec.specs.Maps.{listed}
-use Rattle.coset_codec.specs.MapLaws.{LawfulFieldShape, LawfulFields, Flat, field_laws, no_field_laws, optional_laws, listed_laws, labelled_laws}
-use Rattle.coset_codec.specs.SetLaws.{set_filled, set_of_laws}
-use Rattle.coset_codec.specs.Shape.{filled_bstr}
-use Rattle.coset_codec.specs.ShapeLaws.{Lawful, along_laws, that_laws, filled_bstr_laws, list_of_laws}
+use Rattle.coset_codec.specs.Maps.{unless_empty}
+use Rattle.coset_codec.specs.MapLaws.{LawfulFieldShape, LawfulFields, Flat, field_laws, no_field_laws, optional_laws, unless_empty_laws, labelled_laws}
+use Rattle.coset_codec.specs.SetLaws.{set_nonempty, set_of_laws}
+use Rattle.coset_codec.specs.Shape.{nonempty_bstr}
+use Rattle.coset_codec.specs.ShapeLaws.{Lawful, mapped_laws, such_that_laws, nonempty_bstr_laws, list_of_laws}
 use Rattle.coset_label.specs.LabelLaws.{registered_laws}
 use Rattle.coset_label.specs.Labels.{label}
 use Rattle.coset_label.specs.NameOrder.{name_cmp_total, name_cmp-apart}
@@ -17,7 +17,7 @@ use Rattle.coset_label.specs.Names.{Name, number, name_cmp}
 use Rattle.coset_core.specs.Fields.{algorithm, names}
 use Rattle.coset_core.specs.FieldLaws.{names_laws, algorithm_laws}
 use Rattle.coset_key.specs.KeyLabels as labels
-use Rattle.coset_key.specs.Keys.{KeySeen, key_type, operation, key_ops, Fielded, fields, key_of, parts_of, HasKeyType, key, key_set}
+use Rattle.coset_key.specs.Keys.{KeySeen, key_type, operation, key_ops, FieldTuple, fields, key_of, parts_of, HasKeyType, key, key_set}
 
 -- ---- the fields' values
 
@@ -42,20 +42,20 @@ key_ops_laws = set_of_laws name_cmp name_cmp_total names_exact operation operati
 flat_number : (i : ℤ) → label.describes (integer i) (number i) → Flat Name names (number i)
 flat_number i d = record { key = integer i; is_image = refl; described = d; is_flat = refl }
 
-filled_laws : LawfulFieldShape _ (listed filled_bstr)
-filled_laws = listed_laws filled_bstr (λ v p. p.1 refl) filled_bstr_laws
+filled_laws : LawfulFieldShape _ (unless_empty nonempty_bstr)
+filled_laws = unless_empty_laws nonempty_bstr (λ v p. p.1 refl) nonempty_bstr_laws
 
 -- no item stands for an empty set
 never_empty : (v : Item) → key_ops.describes v [] → ⊥
 unfolding key_ops
-never_empty v p = set_filled p.0 [] p.1.0.1 p.2 refl
+never_empty v p = set_nonempty p.0 [] p.1.0.1 p.2 refl
 
-pub fields_laws : LawfulFields Name Fielded names fields
+pub fields_laws : LawfulFields Name FieldTuple names fields
 fields_laws =
     field_laws names names_laws labels.kty (flat_number _ (refl, (refl, search rules))) _ (optional_laws key_type key_type_laws) _
     (field_laws names names_laws labels.kid (flat_number _ (refl, (refl, search rules))) _ filled_laws _
     (field_laws names names_laws labels.alg (flat_number _ (refl, (refl, search rules))) _ (optional_laws algorithm algorithm_laws) _
-    (field_laws names names_laws labels.key_ops (flat_number _ (refl, (refl, search rules))) _ (listed_laws key_ops never_empty key_ops_laws) _
+    (field_laws names names_laws labels.key_ops (flat_number _ (refl, (refl, search rules))) _ (unless_empty_laws key_ops never_empty key_ops_laws) _
     (field_laws names names_laws labels.base_iv (flat_number _ (refl, (refl, search rules))) _ filled_laws _ (no_field_laws names names_laws) refl)
     refl) refl) refl) refl
 
@@ -63,7 +63,7 @@ fields_laws =
 
 pub key_laws : Lawful KeySeen key
 unfolding key
-key_laws = along_laws key_of parts_of (λ x. refl) _ (that_laws IsUnexpected HasKeyType _ (labelled_laws names names_laws true fields fields_laws))
+key_laws = mapped_laws key_of parts_of (λ x. refl) _ (such_that_laws IsUnexpected HasKeyType _ (labelled_laws names names_laws true fields fields_laws))
 
 pub key_set_laws : Lawful (List KeySeen) key_set
 key_set_laws = list_of_laws key key_laws

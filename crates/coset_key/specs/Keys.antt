@@ -9,9 +9,9 @@ use Rattle.coset_iana.specs.declared.keys.KeyType as declared_kinds
 use Rattle.coset_iana.specs.declared.keys.KeyType.TheVariants.{Reserved}
 use Rattle.coset_iana.specs.declared.keys.TheConstants.{KEY_TYPES, KEY_OPERATIONS}
 use Rattle.coset_codec.specs.Errors.{IsUnexpected}
-use Rattle.coset_codec.specs.Maps.{Fields, field, no_field, optional, listed, labelled}
+use Rattle.coset_codec.specs.Maps.{Fields, field, no_field, optional, unless_empty, labelled}
 use Rattle.coset_codec.specs.Sets.{set_of}
-use Rattle.coset_codec.specs.Shape.{Shape, along, that, filled_bstr, list_of}
+use Rattle.coset_codec.specs.Shape.{Shape, mapped, such_that, nonempty_bstr, list_of}
 use Rattle.coset_label.specs.Labels.{registered}
 use Rattle.coset_label.specs.Names.{Name, number, RegisteredName, name_cmp}
 use Rattle.coset_label.specs.Views.{registered_seen}
@@ -75,22 +75,22 @@ key_ops = set_of name_cmp operation
 -- ---- keys
 
 -- the fields by label
-abbrev pub Fielded : Type 0
-Fielded = Option Name × (List ℕ × (Option RegisteredName × (List Name × (List ℕ × Unit {0}))))
+abbrev pub FieldTuple : Type 0
+FieldTuple = Option Name × (List ℕ × (Option RegisteredName × (List Name × (List ℕ × Unit {0}))))
 
 -- labels 1 to 5 (RFC 8152, section 7.1), each of which may be missing
-abbrev pub fields : Fields Name Fielded
+abbrev pub fields : Fields Name FieldTuple
 fields =
     field names labels.kty (optional key_type)
-    (field names labels.kid (listed filled_bstr)
+    (field names labels.kid (unless_empty nonempty_bstr)
     (field names labels.alg (optional algorithm)
-    (field names labels.key_ops (listed key_ops)
-    (field names labels.base_iv (listed filled_bstr)
+    (field names labels.key_ops (unless_empty key_ops)
+    (field names labels.base_iv (unless_empty nonempty_bstr)
     no_field))))
 
 -- the fields by label, and all other pairs
 abbrev pub Parts : Type 0
-Parts = Fielded × List (Name × Item)
+Parts = FieldTuple × List (Name × Item)
 
 abbrev pub key_of : Parts → KeySeen
 key_of p = record { kty = unwrap_or p.0.0 reserved; key_id = p.0.1.0; alg = p.0.1.1.0; key_ops = p.0.1.1.1.0; base_iv = p.0.1.1.1.1.0; params = p.1 }
@@ -104,7 +104,7 @@ HasKeyType p = (p.0.0 ≢ None) × (p.0.0 ≢ Some reserved)
 
 -- {1 => key_type, ? 2 => bstr .size (1..), ? 3 => algorithm, ? 4 => key_ops, ? 5 => bstr .size (1..), * label => any}
 unfoldable pub key : Shape KeySeen
-key = along key_of parts_of (that IsUnexpected HasKeyType (labelled names fields))
+key = mapped key_of parts_of (such_that IsUnexpected HasKeyType (labelled names fields))
 
 -- [* key]
 abbrev pub key_set : Shape (List KeySeen)

@@ -14,10 +14,10 @@ use Rattle.coset_label.specs.declared.registered.RegisteredLabel.{RegisteredLabe
 use Rattle.coset_core.specs.Views.{algorithm_seen, entry_seen}
 use Rattle.coset_key.specs.Keys.{Parts, parts_of, HasKeyType, kty_seen, operation_seen, key_seen}
 use Rattle.coset_key.specs.declared.key.CoseKey.{CoseKey}
-use Rattle.coset_key.specs.declared.key.SoFar.{SoFar}
+use Rattle.coset_key.specs.declared.key.PartialKey.{PartialKey}
 
 -- what was read, by label
-abbrev pub so_far_seen : SoFar → Parts
+abbrev pub so_far_seen : PartialKey → Parts
 so_far_seen s = (
   (option_map kty_seen s.kty, (s.key_id.items, (option_map algorithm_seen s.alg, (map operation_seen s.key_ops.keys, (s.base_iv.items, tt))))),
   map entry_seen s.params.items,

@@ -14,7 +14,7 @@ ghost use Rattle.coset_codec.specs.declared.error.CoseError.TheVariants.{OutOfMe
 ghost use Rattle.coset_codec.specs.Encoding.{AppendsField};
 ghost use Rattle.coset_codec.specs.Errors.{UnlessMemory};
 ghost use Rattle.coset_codec.specs.Inputs.{ReadsAt, length_left, state};
-ghost use Rattle.coset_codec.specs.Maps.{Adds, Refuses, are_distinct, listed};
+ghost use Rattle.coset_codec.specs.Maps.{Adds, Refuses, are_distinct, unless_empty};
 ghost use Rattle.coset_label.specs.Names.{assigned, number};
 ghost use Rattle.coset_label.specs.Orderings.{name_cmp_by};
 ghost use Rattle.coset_label.specs.Views.{label_seen};
@@ -28,8 +28,10 @@ ghost use Rattle.coset_key.specs.Reading.{IsFinished, nothing, so_far_seen};
 use crate::key_ops::{KeyOps, add_operation, set_key_ops};
 use crate::ml_dsa::MlDsaVariant;
 use coset_cbor::value::Value;
-use coset_codec::read::{Gather, Input, InputPairs, read_map, set_field, set_filled};
-use coset_codec::write::{write_field, write_filled, write_optional, write_pairs_head, write_rest};
+use coset_codec::read::{Gather, Input, InputPairs, read_map, set_field, set_nonempty};
+use coset_codec::write::{
+    write_field, write_nonempty, write_optional, write_pairs_head, write_rest,
+};
 use coset_codec::{Codec, find_value};
 use coset_core::{
     Algorithm, CborOrdering, CoseError, Encode, KeyOperation, KeyType, Label, RegisteredLabel,
@@ -148,7 +150,7 @@ impl CoseKey {
 
 /// A key of which some pairs were read.
 #[derive(Drop)]
-struct SoFar {
+struct PartialKey {
     kty: Option<KeyType>,
     key_id: Vec<u8>,
     alg: Option<Algorithm>,
@@ -157,12 +159,12 @@ struct SoFar {
     params: Vec<(Label, Value)>,
 }
 
-impl SoFar {
+impl PartialKey {
     /// Nothing. It takes no memory.
-    fn new(alloc: Global) -> SoFar
+    fn new(alloc: Global) -> PartialKey
         ensures { so_far_seen result ≡ nothing }
     {
-        SoFar {
+        PartialKey {
             kty: None,
             key_id: Vec::new(alloc),
             alg: None,
@@ -177,7 +179,7 @@ impl SoFar {
     /// # Errors
     /// `OutOfMemory`; `DuplicateMapKey` where a field has a value already; or a fault of its value. What was read is then
     /// as before.
-    fn put(&mut self, alloc: Global, label: Label, input: &mut Input<'_>) -> Result<()>
+    fn set_parameter(&mut self, alloc: Global, label: Label, input: &mut Input<'_>) -> Result<()>
         ensures shrinks { length_left (state input.new) ≤ length_left (state input.old) }
         ensures takes { ReadsAt (state input.old) (state input.new) (λ v. OnOk result
             (Adds names fields (label_seen label) v (so_far_seen self.old)
@@ -191,7 +193,7 @@ impl SoFar {
             return set_field(alloc, &mut self.kty, input);
         }
         if is_parameter(&label, KeyParameter::Kid) {
-            return set_filled(alloc, &mut self.key_id, input);
+            return set_nonempty(alloc, &mut self.key_id, input);
         }
         if is_parameter(&label, KeyParameter::Alg) {
             return set_field(alloc, &mut self.alg, input);
@@ -200,7 +202,7 @@ impl SoFar {
             return set_key_ops(alloc, &mut self.key_ops, input);
         }
         if is_parameter(&label, KeyParameter::BaseIv) {
-            return set_filled(alloc, &mut self.base_iv, input);
+            return set_nonempty(alloc, &mut self.base_iv, input);
         }
         let value = input.value(alloc)?;
         self.params.push((label, value))?;
@@ -214,7 +216,7 @@ impl SoFar {
     fn finish(self) -> Result<CoseKey>
         ensures { IsFinished (so_far_seen self) result }
     {
-        let SoFar {
+        let PartialKey {
             kty,
             key_id,
             alg,
@@ -236,17 +238,17 @@ impl SoFar {
     }
 }
 
-impl Gather for SoFar {
+impl Gather for PartialKey {
     ghost use Rattle.coset_label.specs.Names.{Name};
     ghost use Rattle.coset_core.specs.FieldLaws.{names_laws};
-    ghost use Rattle.coset_key.specs.Keys.{Fielded};
+    ghost use Rattle.coset_key.specs.Keys.{FieldTuple};
     ghost use Rattle.coset_key.specs.KeyLaws.{fields_laws};
 
     type Label = Label;
 
     ghost Name = { Name };
 
-    ghost Got = { Fielded };
+    ghost Got = { FieldTuple };
 
     ghost names = { names };
 
@@ -269,7 +271,7 @@ impl Gather for SoFar {
     }
 
     fn add(&mut self, alloc: Global, label: Label, input: &mut Input<'_>) -> Result<()> {
-        self.put(alloc, label, input)
+        self.set_parameter(alloc, label, input)
     }
 
     fn repeats(&self, alloc: Global) -> Result<bool>
@@ -297,7 +299,7 @@ impl Codec for CoseKey {
     ghost equal = { key_told };
 
     fn read(alloc: Global, input: &mut Input<'_>) -> Result<CoseKey> {
-        let mut so_far = SoFar::new(alloc);
+        let mut so_far = PartialKey::new(alloc);
         read_map(alloc, input, &mut so_far)?;
         so_far.finish()
     }
@@ -323,10 +325,10 @@ impl Codec for CoseKey {
         ];
         write_pairs_head(&there, &self.params, out)?;
         write_field(alloc, KeyParameter::Kty.to_i64(), &self.kty, out)?;
-        write_filled(alloc, KeyParameter::Kid.to_i64(), &self.key_id, out)?;
+        write_nonempty(alloc, KeyParameter::Kid.to_i64(), &self.key_id, out)?;
         write_optional(alloc, KeyParameter::Alg.to_i64(), &self.alg, out)?;
         write_key_ops(alloc, &self.key_ops, out)?;
-        write_filled(alloc, KeyParameter::BaseIv.to_i64(), &self.base_iv, out)?;
+        write_nonempty(alloc, KeyParameter::BaseIv.to_i64(), &self.base_iv, out)?;
         write_rest(alloc, &self.params, out)
     }
 }
@@ -338,7 +340,7 @@ fn write_key_ops(
     out: &mut Vec<u8>,
 ) -> Result<()>
     ensures ok { OnOk result (AppendsField (parameters.number labels.KeyOps)
-        ((listed key_ops_shape).image (map operation_seen operations.now.keys)) out.old.items
+        ((unless_empty key_ops_shape).image (map operation_seen operations.now.keys)) out.old.items
         out.new.items) }
     ensures memory { IfErr result (λ e. e ≡ OutOfMemory) }
 {

@@ -7,7 +7,7 @@ ghost use Rattle.coset_codec.specs.declared.error.CoseError.TheVariants.{OutOfMe
 ghost use Rattle.coset_codec.specs.Answers.{Reads};
 ghost use Rattle.coset_codec.specs.Errors.{UnlessMemory};
 ghost use Rattle.coset_codec.specs.Inputs.{AreWithin, GoesBehind, ReadsAt, State, length_left, state};
-ghost use Rattle.coset_codec.specs.Maps.{RefusesValue, TakesValue, listed};
+ghost use Rattle.coset_codec.specs.Maps.{RefusesValue, TakesValue, unless_empty};
 ghost use Rattle.coset_label.specs.Names.{name_cmp};
 ghost use Rattle.coset_key.specs.Keys.{key_ops, operation, operation_seen};
 ghost use Rattle.coset_key.specs.Reading.{ReadsSet, operations_seen};
@@ -80,10 +80,10 @@ pub(crate) fn set_key_ops(
 ) -> Result<()>
     ensures shrinks { length_left (state input.new) ≤ length_left (state input.old) }
     ensures takes { ReadsAt (state input.old) (state input.new) (λ v. OnOk result
-        (TakesValue (listed key_ops) v
+        (TakesValue (unless_empty key_ops) v
         (map operation_seen field.old.keys) (map operation_seen field.new.keys))) }
     ensures refused { ReadsAt (state input.old) (state input.new) (λ v. IfErr result
-        (λ e. UnlessMemory e (RefusesValue (listed key_ops) v
+        (λ e. UnlessMemory e (RefusesValue (unless_empty key_ops) v
         (map operation_seen field.old.keys)))) }
     ensures kept { OnErr result (field.new ≡ field.old) }
 {

@@ -11,8 +11,8 @@ mod sec1;
 pub use coset_core::{
     Algorithm, AsCborValue, Bstr, CallError, CborOrdering, CborSerializable, ClaimName, Codec,
     ContentType, CoseError, CoseSignature, CoseSignatureBuilder, Encode, EndOfFile, FromPull,
-    Header, HeaderBuilder, KeyOperation, KeyType, Label, Lawful, ProtectedBstr, ProtectedHeader,
-    RegisteredLabel, RegisteredLabelWithPrivate, Result, Source, TaggedCborSerializable,
+    Header, HeaderBuilder, ItemSource, KeyOperation, KeyType, Label, Lawful, ProtectedBstr,
+    ProtectedHeader, RegisteredLabel, RegisteredLabelWithPrivate, Result, TaggedCborSerializable,
     TaggedCodec, cbor, codec, has_repeats, iana, util,
 };
 pub use key::{CoseKey, CoseKeyBuilder};

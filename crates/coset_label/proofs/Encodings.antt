@@ -3,13 +3,13 @@ use Rattle.std.proofs.Common.{◌≡◌, ◌<◌, ◌^◌, ℕ, List, Ordering, 
 use Rattle.std.specs.Prelude.{pos, negsuc, length}
 use Rattle.coset_value.specs.Item.{Item}
 use Rattle.coset_value.specs.Range.{IsInRange}
-use Rattle.coset_cbor.specs.Grammar.{Place, within, one, two, four, eight, Holds}
+use Rattle.coset_cbor.specs.Grammar.{Width, within, one, two, four, eight, Holds}
 use Rattle.coset_cbor.specs.Least.{least_encoding}
 use Rattle.coset_cbor.specs.Shortest.{IsShortest}
-use Rattle.coset_label.specs.Names.{Name, number, word, name_item, IsNamed, ComparesEncodings}
+use Rattle.coset_label.specs.Names.{Name, number, text_label, name_item, IsNamed, ComparesEncodings}
 
 -- what a head holds is below 2 ^ 64
-holds-below : (p : Place) (n : ℕ) → Holds p n → n < 2 ^ 64
+holds-below : (p : Width) (n : ℕ) → Holds p n → n < 2 ^ 64
 holds-below within n h = omega (arith, h)
 holds-below one n h = omega (arith, h)
 holds-below two n h = omega (arith, h)
@@ -18,14 +18,14 @@ holds-below eight n h = h
 
 -- what has an encoding is within CBOR's ranges
 in-range : (a : Name) (s : List ℕ) → IsShortest s (name_item a) → IsInRange (name_item a)
-in-range (number (pos n)) s h = holds-below h.definite.place n h.definite.holds
-in-range (number (negsuc n)) s h = holds-below h.definite.place n h.definite.holds
-in-range (word b) s h = (holds-below h.definite.1.is_head.place (length b) h.definite.1.is_head.holds, h.definite.0)
+in-range (number (pos n)) s h = holds-below h.definite.width n h.definite.holds
+in-range (number (negsuc n)) s h = holds-below h.definite.width n h.definite.holds
+in-range (text_label b) s h = (holds-below h.definite.1.is_head.width (length b) h.definite.1.is_head.holds, h.definite.0)
 
 named : (a : Name) → IsInRange (name_item a) → IsNamed a
 named (number (pos n)) h = h
 named (number (negsuc n)) h = h
-named (word b) h = h.0
+named (text_label b) h = h.0
 
 abbrev pub OneShortest : Type 0
 OneShortest = (v : Item) (b : List ℕ) → IsInRange v → IsShortest b v → b ≡ least_encoding v

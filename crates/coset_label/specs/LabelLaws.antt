@@ -1,20 +1,20 @@
 -- The laws of labels' shapes.
 use Rattle.std.proofs.Common.{◌≡◌, ◌⊎◌, ℕ, ℤ, List, Some, Bool, true, false, refl, sym, ◌∙◌, ap, inl, inr}
 use Rattle.coset_value.specs.Item.{Item, integer, text}
-use Rattle.coset_codec.specs.Shape.{either, that, int64, tstr}
-use Rattle.coset_codec.specs.ShapeLaws.{Lawful, along_laws, either_laws, that_laws, int64_laws, tstr_laws, some-one}
-use Rattle.coset_label.specs.Names.{Name, number, word, RegisteredName, assigned, private_use, phrase}
+use Rattle.coset_codec.specs.Shape.{either, such_that, int64, tstr}
+use Rattle.coset_codec.specs.ShapeLaws.{Lawful, mapped_laws, either_laws, such_that_laws, int64_laws, tstr_laws, some-one}
+use Rattle.coset_label.specs.Names.{Name, number, text_label, RegisteredName, assigned, private_use, text_name}
 use Rattle.coset_label.specs.Labels.{label, registered, registered_or_private, is_integer, is_known, holds, name_of, of_name, registered_name_of}
 use Rattle.coset_label.specs.Labels.{of_registered_name, IsUnregistered, IsNotPrivate}
 
 name-back : (x : Name) → name_of (of_name x) ≡ x
 name-back (number i) = refl
-name-back (word s) = refl
+name-back (text_label s) = refl
 
 registered_name-back : (x : RegisteredName) → registered_name_of (of_registered_name x) ≡ x
 registered_name-back (assigned i) = refl
 registered_name-back (private_use i) = refl
-registered_name-back (phrase s) = refl
+registered_name-back (text_name s) = refl
 
 -- an integer's image is one, and a text's isn't
 int-told : (i : ℤ) (w : Item) → int64.image i ≡ Some w → is_integer w ≡ true
@@ -25,13 +25,13 @@ text-told s w e = let h : text s ≡ w = some-one refl e in ap is_integer (sym h
 
 pub label_laws : Lawful Name label
 label_laws =
-    along_laws name_of of_name name-back _
+    mapped_laws name_of of_name name-back _
     (either_laws is_integer int64 tstr int64_laws tstr_laws (λ v i w f d e. int-told i w e) (λ v s w f d e. text-told s w e))
 
 pub registered_laws : (known : ℤ → Bool) → Lawful Name (registered known)
 registered_laws known =
-    along_laws name_of of_name name-back _
-    (either_laws is_integer _ tstr (that_laws IsUnregistered (λ i. known i ≡ true) int64 int64_laws) tstr_laws (λ v i w f d e. int-told i w e)
+    mapped_laws name_of of_name name-back _
+    (either_laws is_integer _ tstr (such_that_laws IsUnregistered (λ i. known i ≡ true) int64 int64_laws) tstr_laws (λ v i w f d e. int-told i w e)
     (λ v s w f d e. text-told s w e))
 
 -- the item of a number that an item spells is that item, as far as the registry goes
@@ -40,15 +40,15 @@ same-known : (known : ℤ → Bool) (b : Bool) (v : Item) (i : ℤ) (w : Item) �
 same-known known b v i w f d e = let h : integer i ≡ w = some-one refl e in ap (is_known known) (sym h) ∙ (ap (holds known) (sym d.0) ∙ f)
 
 ints-told : (known private : ℤ → Bool) (x : ℤ ⊎ ℤ) (w : Item)
-    → (either (is_known known) int64 (that IsNotPrivate (λ i. private i ≡ true) int64)).image x ≡ Some w → is_integer w ≡ true
+    → (either (is_known known) int64 (such_that IsNotPrivate (λ i. private i ≡ true) int64)).image x ≡ Some w → is_integer w ≡ true
 ints-told known private (inl i) w e = int-told i w e
 ints-told known private (inr i) w e = int-told i w e
 
 pub registered_or_private_laws : (known private : ℤ → Bool) → Lawful RegisteredName (registered_or_private known private)
 registered_or_private_laws known private =
-    along_laws registered_name_of of_registered_name registered_name-back _
-    (either_laws is_integer (either (is_known known) int64 (that IsNotPrivate (λ i. private i ≡ true) int64)) tstr
-    (either_laws (is_known known) int64 _ int64_laws (that_laws IsNotPrivate (λ i. private i ≡ true) int64 int64_laws)
+    mapped_laws registered_name_of of_registered_name registered_name-back _
+    (either_laws is_integer (either (is_known known) int64 (such_that IsNotPrivate (λ i. private i ≡ true) int64)) tstr
+    (either_laws (is_known known) int64 _ int64_laws (such_that_laws IsNotPrivate (λ i. private i ≡ true) int64 int64_laws)
     (λ v i w f d e. same-known known true v i w f d e)
     (λ v i w f d e. same-known known false v i w f d.0 e))
     tstr_laws (λ v x w f d e. ints-told known private x w e) (λ v s w f d e. text-told s w e))

@@ -5,23 +5,23 @@ use Rattle.coset_value.specs.Item.{Item}
 use Rattle.coset_value.specs.Parts.{as_integer}
 use Rattle.coset_codec.specs.declared.error.CoseError.{CoseError}
 use Rattle.coset_codec.specs.declared.error.CoseError.TheVariants as errors
-use Rattle.coset_codec.specs.Shape.{Shape, along, either, that, int64, tstr}
-use Rattle.coset_label.specs.Names.{Name, number, word, RegisteredName, assigned, private_use, phrase}
+use Rattle.coset_codec.specs.Shape.{Shape, mapped, either, such_that, int64, tstr}
+use Rattle.coset_label.specs.Names.{Name, number, text_label, RegisteredName, assigned, private_use, text_name}
 
 abbrev pub is_integer : Item → Bool
 is_integer v = is_some (as_integer v)
 
 abbrev pub name_of : ℤ ⊎ List ℕ → Name
 name_of (inl i) = number i
-name_of (inr s) = word s
+name_of (inr s) = text_label s
 
 abbrev pub of_name : Name → ℤ ⊎ List ℕ
 of_name (number i) = inl i
-of_name (word s) = inr s
+of_name (text_label s) = inr s
 
 -- int / tstr
 abbrev pub label : Shape Name
-label = along name_of of_name (either is_integer int64 tstr)
+label = mapped name_of of_name (either is_integer int64 tstr)
 
 abbrev pub IsUnregistered : CoseError → Type 0
 IsUnregistered e = e ≡ errors.UnregisteredIanaValue
@@ -31,7 +31,7 @@ IsNotPrivate e = e ≡ errors.UnregisteredIanaNonPrivateValue
 
 -- the number of one of a registry's values, or a text. `known i` tells whether i is such a number
 abbrev pub registered : (ℤ → Bool) → Shape Name
-registered known = along name_of of_name (either is_integer (that IsUnregistered (λ i. known i ≡ true) int64) tstr)
+registered known = mapped name_of of_name (either is_integer (such_that IsUnregistered (λ i. known i ≡ true) int64) tstr)
 
 abbrev pub holds : (ℤ → Bool) → Option ℤ → Bool
 holds known (Some i) = known i
@@ -43,17 +43,17 @@ is_known known v = holds known (as_integer v)
 abbrev pub registered_name_of : (ℤ ⊎ ℤ) ⊎ List ℕ → RegisteredName
 registered_name_of (inl (inl i)) = assigned i
 registered_name_of (inl (inr i)) = private_use i
-registered_name_of (inr s) = phrase s
+registered_name_of (inr s) = text_name s
 
 abbrev pub of_registered_name : RegisteredName → (ℤ ⊎ ℤ) ⊎ List ℕ
 of_registered_name (assigned i) = inl (inl i)
 of_registered_name (private_use i) = inl (inr i)
-of_registered_name (phrase s) = inr s
+of_registered_name (text_name s) = inr s
 
 -- the number of one of the registry's values, else a number of its private range, or a text
 abbrev pub registered_or_private : (ℤ → Bool) → (ℤ → Bool) → Shape RegisteredName
 registered_or_private known private =
-    along registered_name_of of_registered_name (either is_integer (either (is_known known) int64 (that IsNotPrivate (λ i. private i ≡ true) int64)) tstr)
+    mapped registered_name_of of_registered_name (either is_integer (either (is_known known) int64 (such_that IsNotPrivate (λ i. private i ≡ true) int64)) tstr)
 
 -- the labels of the registry whose values `value_of` gives
 abbrev pub registered_in : {T : Type 0} → (ℤ → Option T) → Shape Name

@@ -3,7 +3,7 @@ pub mod NameOrder
 pub mod Labels
 pub mod LabelLaws
 pub mod Views
-pub mod LentLabels
+pub mod LabelRefs
 pub mod Orderings
 pub mod Sorted
 pub mod SortedLaws

@@ -12,9 +12,10 @@ use Rattle.std.specs.Ordering.{ordering_then, is_eq}
 use Rattle.std.specs.Cmp.{IsTotalOrder, Equal-is, tied_itself}
 use Rattle.std.specs.Cmp.Lexicographic.{slice_cmp}
 use Rattle.std.specs.Cmp.Rules.{comparing}
-use Rattle.coset_cbor.specs.Grammar.{Place, within, one, two, four, eight, head_in}
-use Rattle.coset_cbor.specs.Least.{least_place, least_head, least_encoding}
-use Rattle.coset_label.specs.Names.{Name, number, word, RegisteredName, assigned, private_use, phrase, as_name, tie, name_item, major_type, argument, content}
+use Rattle.coset_cbor.specs.Grammar.{Width, within, one, two, four, eight, head_in}
+use Rattle.coset_cbor.specs.Least.{least_width, least_head, least_encoding}
+use Rattle.coset_label.specs.Names.{Name, number, text_label, RegisteredName, assigned, private_use, text_name}
+use Rattle.coset_label.specs.Names.{as_name, private_rank, name_item, major_type, argument, content}
 use Rattle.coset_label.specs.Names.{name_cmp, registered_cmp, canonical_cmp, length_first_cmp, TellsApart, IsNamed, head_length, encoded_length}
 
 -- ---- orderings
@@ -74,19 +75,19 @@ whole-compare k n l s t hn hl = rw (mod-eq_of_lt hn, mod-eq_of_lt hl) at (bytes-
 -- ---- the five forms of a head
 
 -- n is in the range for which this place is the shortest
-abbrev Spans : Place → ℕ → Type 0
+abbrev Spans : Width → ℕ → Type 0
 Spans within n = n < 24
 Spans one n = (24 ≤ n) × (n < 2 ^ 8)
 Spans two n = (2 ^ 8 ≤ n) × (n < 2 ^ 16)
 Spans four n = (2 ^ 16 ≤ n) × (n < 2 ^ 32)
 Spans eight n = (2 ^ 32 ≤ n) × (n < 2 ^ 64)
 
--- the place that `least_place` picks is that one
-spans : (n : ℕ) → n < 2 ^ 64 → Spans (least_place n) n
+-- the width that `least_width` picks is that one
+spans : (n : ℕ) → n < 2 ^ 64 → Spans (least_width n) n
 spans n h = grind arith
 
 -- the low five bits of a head's first byte
-abbrev low : Place → ℕ → ℕ
+abbrev low : Width → ℕ → ℕ
 low within n = n
 low one n = 24
 low two n = 25
@@ -94,7 +95,7 @@ low four n = 26
 low eight n = 27
 
 -- how many bytes are behind the first
-abbrev behind : Place → ℕ
+abbrev behind : Width → ℕ
 behind within = 0
 behind one = 1
 behind two = 2
@@ -102,7 +103,7 @@ behind four = 4
 behind eight = 8
 
 -- a head is its first byte and the bytes behind
-head-parts : (p : Place) (m n : ℕ) → head_in p m n ≡ (32 * m + low p n) ∷ bytes_high_first (behind p) n
+head-parts : (p : Width) (m n : ℕ) → head_in p m n ≡ (32 * m + low p n) ∷ bytes_high_first (behind p) n
 head-parts within m n = refl
 head-parts one m n = refl
 head-parts two m n = refl
@@ -110,35 +111,35 @@ head-parts four m n = refl
 head-parts eight m n = refl
 
 -- these bits are below 32
-low-small : (p : Place) (n : ℕ) → Spans p n → low p n < 32
+low-small : (p : Width) (n : ℕ) → Spans p n → low p n < 32
 low-small p n h = grind arith
 
 -- smaller low bits belong to a smaller argument
-low-less : (p q : Place) (n l : ℕ) → Spans p n → Spans q l → low p n < low q l → n < l
+low-less : (p q : Width) (n l : ℕ) → Spans p n → Spans q l → low p n < low q l → n < l
 low-less p q n l hn hl h = grind arith
 
 -- equal low bits belong to one place
-low-same : (p q : Place) (n l : ℕ) → Spans p n → Spans q l → low p n ≡ low q l → p ≡ q
+low-same : (p q : Width) (n l : ℕ) → Spans p n → Spans q l → low p n ≡ low q l → p ≡ q
 low-same p q n l hn hl h = grind arith
 
 -- the low bits, the bytes behind and what follows the head compare as the arguments and what follows
-abbrev Agree : Place → Place → ℕ → ℕ → List ℕ → List ℕ → Type 0
+abbrev Agree : Width → Width → ℕ → ℕ → List ℕ → List ℕ → Type 0
 Agree p q n l s t =
     ordering_then (nat_cmp (low p n) (low q l)) (slice_cmp nat_cmp (bytes_high_first (behind p) n ++ s) (bytes_high_first (behind q) l ++ t))
     ≡ ordering_then (nat_cmp n l) (slice_cmp nat_cmp s t)
 
 -- so they do where both arguments have one place
-same-place : (p : Place) (n l : ℕ) (s t : List ℕ) → Spans p n → Spans p l → Agree p p n l s t
-same-place within n l s t hn hl = refl
-same-place one n l s t hn hl = whole-compare 1 n l s t hn.1 hl.1
-same-place two n l s t hn hl = whole-compare 2 n l s t hn.1 hl.1
-same-place four n l s t hn hl = whole-compare 4 n l s t hn.1 hl.1
-same-place eight n l s t hn hl = whole-compare 8 n l s t hn.1 hl.1
+same-width : (p : Width) (n l : ℕ) (s t : List ℕ) → Spans p n → Spans p l → Agree p p n l s t
+same-width within n l s t hn hl = refl
+same-width one n l s t hn hl = whole-compare 1 n l s t hn.1 hl.1
+same-width two n l s t hn hl = whole-compare 2 n l s t hn.1 hl.1
+same-width four n l s t hn hl = whole-compare 4 n l s t hn.1 hl.1
+same-width eight n l s t hn hl = whole-compare 8 n l s t hn.1 hl.1
 
 -- and where they may have two
-places-compare : (p q : Place) (n l : ℕ) (s t : List ℕ) → Spans p n → Spans q l → Agree p q n l s t
-places-compare p q n l s t hn hl = elim (cases_order (low p n) (low q l)) [
-  | inl e ↦ subst (λ (r : Place). Spans r l → Agree p r n l s t) (low-same p q n l hn hl e) (same-place p n l s t hn) hl
+widths-compare : (p q : Width) (n l : ℕ) (s t : List ℕ) → Spans p n → Spans q l → Agree p q n l s t
+widths-compare p q n l s t hn hl = elim (cases_order (low p n) (low q l)) [
+  | inl e ↦ subst (λ (r : Width). Spans r l → Agree p r n l s t) (low-same p q n l hn hl e) (same-width p n l s t hn) hl
   | inr (inl lt) ↦ rw (less (low p n) (low q l) lt, less n l (low-less p q n l hn hl lt))
   | inr (inr lt) ↦ rw (greater (low p n) (low q l) lt, greater n l (low-less q p l n hl hn lt))
 ]
@@ -148,12 +149,12 @@ pub heads-compare : (m n k l : ℕ) (s t : List ℕ) → m < 8 → k < 8 → n <
     → slice_cmp nat_cmp (least_head m n ++ s) (least_head k l ++ t) ≡ ordering_then (nat_cmp m k) (ordering_then (nat_cmp n l) (slice_cmp nat_cmp s t))
 unfolding least_head
 heads-compare m n k l s t _ _ hn hl =
-    let p = least_place n in
-    let q = least_place l in
+    let p = least_width n in
+    let q = least_width l in
     let a = spans n hn in
     let b = spans l hl in
     let first = digits-compare 32 m k (low p n) (low q l) (low-small p n a) (low-small q l b) in
-    rw (head-parts p m n, head-parts q k l, mul_comm 32 m, mul_comm 32 k, first, then-then, places-compare p q n l s t a b)
+    rw (head-parts p m n, head-parts q k l, mul_comm 32 m, mul_comm 32 k, first, then-then, widths-compare p q n l s t a b)
 
 -- ---- labels
 
@@ -161,7 +162,7 @@ heads-compare m n k l s t _ _ hn hl =
 least_encoding-parts : (a : Name) → least_encoding (name_item a) ≡ least_head (major_type a) (argument a) ++ content a
 least_encoding-parts (number (pos n)) = sym (append-nil (least_head 0 n))
 least_encoding-parts (number (negsuc n)) = sym (append-nil (least_head 1 n))
-least_encoding-parts (word s) = refl
+least_encoding-parts (text_label s) = refl
 
 -- a label's major type is one of the eight
 major_type-small : (a : Name) → major_type a < 8
@@ -206,7 +207,7 @@ tells-apart R total only a b = (λ e. only a b ((Equal-is (R a b)).0 e), λ same
 name_cmp-equal : (a b : Name) → name_cmp a b ≡ Equal → a ≡ b
 name_cmp-equal (number (pos n)) (number (pos l)) h = ap (λ k. number (pos k)) (exact_unsigned n l (then-first (nat_cmp n l) Equal h))
 name_cmp-equal (number (negsuc n)) (number (negsuc l)) h = ap (λ k. number (negsuc k)) (exact_unsigned n l (then-first (nat_cmp n l) Equal h))
-name_cmp-equal (word s) (word t) h = ap word (exact_bytes s t (then-second (nat_cmp (length s) (length t)) (slice_cmp nat_cmp s t) h))
+name_cmp-equal (text_label s) (text_label t) h = ap text_label (exact_bytes s t (then-second (nat_cmp (length s) (length t)) (slice_cmp nat_cmp s t) h))
 name_cmp-equal a b h = grind arith
 
 pub name_cmp-apart : TellsApart name_cmp
@@ -220,19 +221,20 @@ canonical_cmp-apart = tells-apart canonical_cmp canonical_cmp_total
 registered_of : Name → ℕ → RegisteredName
 registered_of (number i) zero = assigned i
 registered_of (number i) (suc k) = private_use i
-registered_of (word s) k = phrase s
+registered_of (text_label s) k = text_name s
 
-registered-back : (a : RegisteredName) → registered_of (as_name a) (tie a) ≡ a
+registered-back : (a : RegisteredName) → registered_of (as_name a) (private_rank a) ≡ a
 unfolding registered_of
 registered-back (assigned i) = refl
 registered-back (private_use i) = refl
-registered-back (phrase s) = refl
+registered-back (text_name s) = refl
 
 registered_cmp-equal : (a b : RegisteredName) → registered_cmp a b ≡ Equal → a ≡ b
 registered_cmp-equal a b h =
-    let same = name_cmp-equal (as_name a) (as_name b) (then-first (name_cmp (as_name a) (as_name b)) (nat_cmp (tie a) (tie b)) h) in
-    let tied = exact_unsigned (tie a) (tie b) (then-second (name_cmp (as_name a) (as_name b)) (nat_cmp (tie a) (tie b)) h) in
-    sym (registered-back a) ∙ (ap (λ x. registered_of x (tie a)) same ∙ (ap (registered_of (as_name b)) tied ∙ registered-back b))
+    let same = name_cmp-equal (as_name a) (as_name b) (then-first (name_cmp (as_name a) (as_name b)) (nat_cmp (private_rank a) (private_rank b)) h) in
+    let tied = exact_unsigned (private_rank a) (private_rank b)
+    (then-second (name_cmp (as_name a) (as_name b)) (nat_cmp (private_rank a) (private_rank b)) h) in
+    sym (registered-back a) ∙ (ap (λ x. registered_of x (private_rank a)) same ∙ (ap (registered_of (as_name b)) tied ∙ registered-back b))
 
 pub registered_cmp-apart : TellsApart registered_cmp
 registered_cmp-apart = tells-apart registered_cmp registered_cmp_total registered_cmp-equal

@@ -10,47 +10,47 @@ use Rattle.coset_cbor.specs.Shortest.{IsShortest}
 -- a label without its memory: a number, or a text as its UTF-8 bytes
 pub data Name : Type 0 where
   number : ℤ → Name
-  word : List ℕ → Name
+  text_label : List ℕ → Name
 
 -- a label of a registry with a private range: the number of one of its values, a number for private use, or a text
 pub data RegisteredName : Type 0 where
   assigned : ℤ → RegisteredName
   private_use : ℤ → RegisteredName
-  phrase : List ℕ → RegisteredName
+  text_name : List ℕ → RegisteredName
 
 -- the label as such, and whether it is for private use
 abbrev pub as_name : RegisteredName → Name
 as_name (assigned i) = number i
 as_name (private_use i) = number i
-as_name (phrase s) = word s
+as_name (text_name s) = text_label s
 
 -- 1 for private use, else 0: of one number a value of the registry comes first
-abbrev pub tie : RegisteredName → ℕ
-tie (assigned i) = 0
-tie (private_use i) = 1
-tie (phrase s) = 0
+abbrev pub private_rank : RegisteredName → ℕ
+private_rank (assigned i) = 0
+private_rank (private_use i) = 1
+private_rank (text_name s) = 0
 
 -- the item that a label is
 abbrev pub name_item : Name → Item
 name_item (number i) = integer i
-name_item (word s) = text s
+name_item (text_label s) = text s
 
 -- the major type of a label's head (RFC 8949, section 3)
 abbrev pub major_type : Name → ℕ
 major_type (number (pos n)) = 0
 major_type (number (negsuc n)) = 1
-major_type (word s) = 3
+major_type (text_label s) = 3
 
 -- the head's argument
 abbrev pub argument : Name → ℕ
 argument (number (pos n)) = n
 argument (number (negsuc n)) = n
-argument (word s) = length s
+argument (text_label s) = length s
 
 -- what follows the head
 abbrev pub content : Name → List ℕ
 content (number i) = []
-content (word s) = s
+content (text_label s) = s
 
 -- the order of the three parts, one after the other
 abbrev pub name_cmp : Name → Name → Ordering
@@ -58,7 +58,7 @@ name_cmp = then_cmp (on major_type nat_cmp) (then_cmp (on argument nat_cmp) (on 
 
 -- a label of a registry: the label as such, and then a value of the registry before private use of its number
 abbrev pub registered_cmp : RegisteredName → RegisteredName → Ordering
-registered_cmp = then_cmp (on as_name name_cmp) (on tie nat_cmp)
+registered_cmp = then_cmp (on as_name name_cmp) (on private_rank nat_cmp)
 
 -- the argument fits a head
 abbrev pub IsNamed : Name → Type 0
@@ -87,7 +87,7 @@ ComparesEncodings R a b r = (s t : List ℕ) → IsShortest s (name_item a) → 
 -- r is the byte order of the shortest encodings of two labels of a registry; where these are equal, a value of the
 -- registry comes before private use
 abbrev pub ComparesRegistered : RegisteredName → RegisteredName → Ordering → Type 0
-ComparesRegistered a b = ComparesEncodings (λ s t. ordering_then (slice_cmp nat_cmp s t) (nat_cmp (tie a) (tie b))) (as_name a) (as_name b)
+ComparesRegistered a b = ComparesEncodings (λ s t. ordering_then (slice_cmp nat_cmp s t) (nat_cmp (private_rank a) (private_rank b))) (as_name a) (as_name b)
 
 -- R answers that two are level exactly where they are equal
 abbrev pub TellsApart : {A : Type 0} → (A → A → Ordering) → Type 0

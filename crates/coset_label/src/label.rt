@@ -13,7 +13,7 @@ use coset_cbor::value::Value;
 use coset_codec::read::Input;
 use coset_codec::traits::{FromPull, read_slice};
 use coset_codec::write::{Encode, encode_to_vec};
-use coset_codec::{AsCborValue, CborSerializable, Lawful, Result, Source};
+use coset_codec::{AsCborValue, CborSerializable, ItemSource, Lawful, Result};
 use std::alloc::{AllocError, Global};
 
 /// A label: an integer within 64 bits with a sign, or a text (RFC 8152, section 1.4).
@@ -93,7 +93,7 @@ impl Encode for Label {
 
 impl FromPull for Label {
     fn from_pull(alloc: Global, pull: Pull<'_>) -> Result<Label> {
-        read_label(alloc, &mut Input::new(Source::Lent(pull)))
+        read_label(alloc, &mut Input::new(ItemSource::Lent(pull)))
     }
 
     fn from_input(alloc: Global, input: &mut Input<'_>) -> Result<Label> {

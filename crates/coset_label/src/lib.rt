@@ -2,8 +2,8 @@
 #![tactic(auto)]
 
 mod label;
+mod label_ref;
 pub mod laws;
-mod lent_label;
 mod names;
 mod order;
 mod ordering;
@@ -13,7 +13,7 @@ pub use coset_cbor as cbor;
 pub use coset_codec as codec;
 pub use coset_codec::{
     AsCborValue, CallError, CborSerializable, Codec, CoseError, Encode, EndOfFile, FromPull,
-    Lawful, Result, Source, TaggedCborSerializable, TaggedCodec, has_repeats, util,
+    ItemSource, Lawful, Result, TaggedCborSerializable, TaggedCodec, has_repeats, util,
 };
 pub use coset_iana as iana;
 pub use label::Label;

@@ -6,26 +6,26 @@ ghost use Rattle.std.specs.Cmp.{eq_by_cmp_equiv, on_total, partial_equiv_from_eq
 ghost use Rattle.std.specs.Cmp.Lexicographic.{slice_cmp};
 ghost use Rattle.std.specs.Cmp.Rules.{comparing};
 ghost use Rattle.std.proofs.Common.{rules};
-ghost use Rattle.coset_label.specs.LentLabels.{lent_seen};
+ghost use Rattle.coset_label.specs.LabelRefs.{lent_seen};
 ghost use Rattle.coset_label.specs.NameOrder.{registered_cmp_total};
-ghost use Rattle.coset_label.specs.Names.{ComparesRegistered, ComparesEncodings, as_name, canonical_cmp, length_first_cmp, name_cmp, registered_cmp, tie};
+ghost use Rattle.coset_label.specs.Names.{ComparesRegistered, ComparesEncodings, as_name, canonical_cmp, length_first_cmp, name_cmp, registered_cmp, private_rank};
 ghost use Rattle.coset_label.specs.Views.{label_seen, registered_seen, registered_or_private_seen};
 
 use crate::label::Label;
+use crate::label_ref::LabelRef;
 use crate::laws;
-use crate::lent_label::LentLabel;
 use crate::registered::{RegisteredLabel, RegisteredLabelWithPrivate};
 use coset_iana::EnumI64;
 use std::cmp::Ordering;
 
 impl Label {
     /// The label, lent.
-    fn lend(&self) -> LentLabel<'_>
+    fn label_ref(&self) -> LabelRef<'_>
         ensures { lent_seen result ≡ label_seen self.now }
     {
         match self {
-            Label::Int(i) => LentLabel::Int(*i),
-            Label::Text(text) => LentLabel::Text(text.as_str()),
+            Label::Int(i) => LabelRef::Int(*i),
+            Label::Text(text) => LabelRef::Text(text.as_str()),
         }
     }
 
@@ -36,7 +36,7 @@ impl Label {
             (label_seen other.now) result }
     {
         laws::orders_are_of_encodings();
-        self.lend().canonical_order(&other.lend())
+        self.label_ref().canonical_order(&other.label_ref())
     }
 }
 
@@ -56,7 +56,7 @@ impl Ord for Label {
             (label_seen other.now) result }
     {
         laws::orders_are_of_encodings();
-        self.lend().order(&other.lend())
+        self.label_ref().order(&other.label_ref())
     }
 }
 
@@ -91,12 +91,12 @@ impl Eq for Label {
 
 impl<T: EnumI64> RegisteredLabel<T> {
     /// The label, lent.
-    fn lend(&self) -> LentLabel<'_>
+    fn label_ref(&self) -> LabelRef<'_>
         ensures { lent_seen result ≡ registered_seen T.number self.now }
     {
         match self {
-            RegisteredLabel::Assigned(value) => LentLabel::Int(value.to_i64()),
-            RegisteredLabel::Text(text) => LentLabel::Text(text.as_str()),
+            RegisteredLabel::Assigned(value) => LabelRef::Int(value.to_i64()),
+            RegisteredLabel::Text(text) => LabelRef::Text(text.as_str()),
         }
     }
 }
@@ -118,7 +118,7 @@ impl<T: EnumI64> Ord for RegisteredLabel<T> {
             (registered_seen T.number self.now) (registered_seen T.number other.now) result }
     {
         laws::orders_are_of_encodings();
-        self.lend().order(&other.lend())
+        self.label_ref().order(&other.label_ref())
     }
 }
 
@@ -155,19 +155,19 @@ impl<T: EnumI64> Eq for RegisteredLabel<T> {
 
 impl<T: EnumI64> RegisteredLabelWithPrivate<T> {
     /// The label as such, lent.
-    fn lend(&self) -> LentLabel<'_>
+    fn label_ref(&self) -> LabelRef<'_>
         ensures { lent_seen result ≡ as_name (registered_or_private_seen T.number self.now) }
     {
         match self {
-            RegisteredLabelWithPrivate::PrivateUse(i) => LentLabel::Int(*i),
-            RegisteredLabelWithPrivate::Assigned(value) => LentLabel::Int(value.to_i64()),
-            RegisteredLabelWithPrivate::Text(text) => LentLabel::Text(text.as_str()),
+            RegisteredLabelWithPrivate::PrivateUse(i) => LabelRef::Int(*i),
+            RegisteredLabelWithPrivate::Assigned(value) => LabelRef::Int(value.to_i64()),
+            RegisteredLabelWithPrivate::Text(text) => LabelRef::Text(text.as_str()),
         }
     }
 
     /// Whether the label is a number for private use.
-    fn tie(&self) -> u8
-        ensures { result ≡ tie (registered_or_private_seen T.number self.now) }
+    fn private_rank(&self) -> u8
+        ensures { result ≡ private_rank (registered_or_private_seen T.number self.now) }
     {
         match self {
             RegisteredLabelWithPrivate::PrivateUse(_) => 1,
@@ -194,9 +194,9 @@ impl<T: EnumI64> Ord for RegisteredLabelWithPrivate<T> {
             (registered_or_private_seen T.number other.now) result }
     {
         laws::orders_are_of_encodings();
-        self.lend()
-            .order(&other.lend())
-            .then(self.tie().cmp(&other.tie()))
+        self.label_ref()
+            .order(&other.label_ref())
+            .then(self.private_rank().cmp(&other.private_rank()))
     }
 }
 

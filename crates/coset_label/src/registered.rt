@@ -13,7 +13,7 @@ use coset_cbor::value::Value;
 use coset_codec::read::Input;
 use coset_codec::traits::{FromPull, read_slice};
 use coset_codec::write::{Encode, encode_to_vec};
-use coset_codec::{AsCborValue, CborSerializable, CoseError, Lawful, Result, Source};
+use coset_codec::{AsCborValue, CborSerializable, CoseError, ItemSource, Lawful, Result};
 use coset_iana::{EnumI64, WithPrivateRange};
 use std::alloc::{AllocError, Global};
 
@@ -143,7 +143,7 @@ impl<T: EnumI64> Encode for RegisteredLabel<T> {
 
 impl<T: EnumI64 + Drop> FromPull for RegisteredLabel<T> {
     fn from_pull(alloc: Global, pull: Pull<'_>) -> Result<RegisteredLabel<T>> {
-        read_registered(alloc, &mut Input::new(Source::Lent(pull)))
+        read_registered(alloc, &mut Input::new(ItemSource::Lent(pull)))
     }
 
     fn from_input(alloc: Global, input: &mut Input<'_>) -> Result<RegisteredLabel<T>> {
@@ -214,7 +214,7 @@ impl<T: EnumI64 + WithPrivateRange> Encode for RegisteredLabelWithPrivate<T> {
 
 impl<T: EnumI64 + WithPrivateRange + Drop> FromPull for RegisteredLabelWithPrivate<T> {
     fn from_pull(alloc: Global, pull: Pull<'_>) -> Result<RegisteredLabelWithPrivate<T>> {
-        read_registered_or_private(alloc, &mut Input::new(Source::Lent(pull)))
+        read_registered_or_private(alloc, &mut Input::new(ItemSource::Lent(pull)))
     }
 
     fn from_input(alloc: Global, input: &mut Input<'_>) -> Result<RegisteredLabelWithPrivate<T>> {

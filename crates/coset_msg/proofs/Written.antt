@@ -6,8 +6,8 @@ use Rattle.coset_core.specs.Headers.{protected}
 use Rattle.coset_core.proofs.Messages.{KeepsBytes, KeptAsWritten, has_bytes, header_as_written, header_when_read}
 use Rattle.coset_msg.specs.EncStructure.{Encrypts, EncryptsSame, enc_structure}
 use Rattle.coset_msg.specs.MacStructure.{Authenticates, AuthenticatesSame, mac_structure}
-use Rattle.coset_msg.specs.Encrypt0.{encrypt0, encrypt0_fields, encrypt0_places}
-use Rattle.coset_msg.specs.Mac0.{mac0, mac0_fields, mac0_places}
+use Rattle.coset_msg.specs.Encrypt0.{encrypt0, encrypt0_fields, encrypt0_elements}
+use Rattle.coset_msg.specs.Mac0.{mac0, mac0_fields, mac0_elements}
 
 -- ---- of a protected header
 
@@ -26,21 +26,21 @@ authenticates_when_read v p d = λ context a l none. some-none (ap (option_map (
 -- ---- of a message
 
 pub mac0_as_written : KeptAsWritten → AsWritten mac0 (λ m n. AuthenticatesSame m.protected n.protected)
-mac0_as_written kept v m n e d = header_as_written mac0_places AuthenticatesSame (authenticates_as_written kept) v (mac0_fields m) (mac0_fields n) e d
+mac0_as_written kept v m n e d = header_as_written mac0_elements AuthenticatesSame (authenticates_as_written kept) v (mac0_fields m) (mac0_fields n) e d
 
 pub mac0_when_read : WhenRead mac0 (λ m. Authenticates m.protected)
-mac0_when_read v m d = header_when_read mac0_places Authenticates authenticates_when_read v (mac0_fields m) d
+mac0_when_read v m d = header_when_read mac0_elements Authenticates authenticates_when_read v (mac0_fields m) d
 
 pub encrypt0_as_written : KeptAsWritten → AsWritten encrypt0 (λ m n. EncryptsSame m.protected n.protected)
-encrypt0_as_written kept v m n e d = header_as_written encrypt0_places EncryptsSame (encrypts_as_written kept) v (encrypt0_fields m) (encrypt0_fields n) e d
+encrypt0_as_written kept v m n e d = header_as_written encrypt0_elements EncryptsSame (encrypts_as_written kept) v (encrypt0_fields m) (encrypt0_fields n) e d
 
 pub encrypt0_when_read : WhenRead encrypt0 (λ m. Encrypts m.protected)
-encrypt0_when_read v m d = header_when_read encrypt0_places Encrypts encrypts_when_read v (encrypt0_fields m) d
+encrypt0_when_read v m d = header_when_read encrypt0_elements Encrypts encrypts_when_read v (encrypt0_fields m) d
 
 -- ---- what is kept
 
 pub mac0_kept : KeptAsWritten → AsWritten mac0 (λ m n. KeepsBytes m.protected n.protected)
-mac0_kept kept v m n e d = header_as_written mac0_places KeepsBytes kept v (mac0_fields m) (mac0_fields n) e d
+mac0_kept kept v m n e d = header_as_written mac0_elements KeepsBytes kept v (mac0_fields m) (mac0_fields n) e d
 
 pub encrypt0_kept : KeptAsWritten → AsWritten encrypt0 (λ m n. KeepsBytes m.protected n.protected)
-encrypt0_kept kept v m n e d = header_as_written encrypt0_places KeepsBytes kept v (encrypt0_fields m) (encrypt0_fields n) e d
+encrypt0_kept kept v m n e d = header_as_written encrypt0_elements KeepsBytes kept v (encrypt0_fields m) (encrypt0_fields n) e d

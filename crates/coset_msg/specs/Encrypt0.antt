@@ -1,10 +1,10 @@
 -- COSE_Encrypt0 messages (RFC 8152, section 5.2).
 use Rattle.std.specs.Prelude.{ℕ, List, Option, Some, None, option_map, refl}
 use Rattle.coset_value.specs.Item.{Item}
-use Rattle.coset_codec.specs.Shape.{Shape, Places, along, ◌then◌, end, bstr, or_nil}
-use Rattle.coset_codec.specs.ShapeLaws.{Lawful, LawfulPlaces, bytes_no_nil, along_laws, then_laws, end_laws, bstr_laws, or_nil_laws}
+use Rattle.coset_codec.specs.Shape.{Shape, Elements, mapped, ◌then◌, end, bstr, or_nil}
+use Rattle.coset_codec.specs.ShapeLaws.{Lawful, LawfulElements, bytes_no_nil, mapped_laws, then_laws, end_laws, bstr_laws, or_nil_laws}
 use Rattle.coset_core.specs.Headers.{HeaderSeen, ProtectedSeen, empty_header}
-use Rattle.coset_core.specs.Messages.{Headed, headed, headed_laws, empty_protected}
+use Rattle.coset_core.specs.Messages.{WithHeaders, with_headers, with_headers_laws, empty_protected}
 use Rattle.coset_core.specs.Views.{header_seen, protected_seen}
 use Rattle.coset_msg.specs.EncStructure.{enc_item}
 use Rattle.coset_msg.specs.declared.encrypt0.CoseEncrypt0 as declared
@@ -27,25 +27,25 @@ encrypt0_seen m = record {
 abbrev pub empty_encrypt0 : Encrypt0Seen
 empty_encrypt0 = record { protected = empty_protected; unprotected = empty_header; ciphertext = None }
 
-abbrev pub encrypt0_of : Headed (Option (List ℕ) × Unit {0}) → Encrypt0Seen
+abbrev pub encrypt0_of : WithHeaders (Option (List ℕ) × Unit {0}) → Encrypt0Seen
 encrypt0_of p = record { protected = p.0; unprotected = p.1.0; ciphertext = p.1.1.0 }
 
-abbrev pub encrypt0_fields : Encrypt0Seen → Headed (Option (List ℕ) × Unit {0})
+abbrev pub encrypt0_fields : Encrypt0Seen → WithHeaders (Option (List ℕ) × Unit {0})
 encrypt0_fields m = (m.protected, (m.unprotected, (m.ciphertext, tt)))
 
 -- ciphertext : bstr / nil
-abbrev pub encrypt0_places : Places (Option (List ℕ) × Unit {0})
-encrypt0_places = or_nil bstr then end
+abbrev pub encrypt0_elements : Elements (Option (List ℕ) × Unit {0})
+encrypt0_elements = or_nil bstr then end
 
-pub encrypt0_places_laws : LawfulPlaces _ encrypt0_places
-encrypt0_places_laws = then_laws _ _ (or_nil_laws bstr bytes_no_nil bstr_laws) end_laws
+pub encrypt0_elements_laws : LawfulElements _ encrypt0_elements
+encrypt0_elements_laws = then_laws _ _ (or_nil_laws bstr bytes_no_nil bstr_laws) end_laws
 
 -- [Headers, ciphertext : bstr / nil]
 abbrev pub encrypt0 : Shape Encrypt0Seen
-encrypt0 = along encrypt0_of encrypt0_fields (headed encrypt0_places)
+encrypt0 = mapped encrypt0_of encrypt0_fields (with_headers encrypt0_elements)
 
 pub encrypt0_laws : Lawful Encrypt0Seen encrypt0
-encrypt0_laws = along_laws encrypt0_of encrypt0_fields (λ x. refl) _ (headed_laws encrypt0_places encrypt0_places_laws)
+encrypt0_laws = mapped_laws encrypt0_of encrypt0_fields (λ x. refl) _ (with_headers_laws encrypt0_elements encrypt0_elements_laws)
 
 -- ---- what goes with the ciphertext
 

@@ -1,10 +1,10 @@
 -- COSE_Mac0 messages (RFC 8152, section 6.2).
 use Rattle.std.specs.Prelude.{ℕ, List, [], Option, None, option_map, refl}
 use Rattle.coset_value.specs.Item.{Item}
-use Rattle.coset_codec.specs.Shape.{Shape, Places, along, ◌then◌, end, bstr, or_nil}
-use Rattle.coset_codec.specs.ShapeLaws.{Lawful, LawfulPlaces, bytes_no_nil, along_laws, then_laws, end_laws, bstr_laws, or_nil_laws}
+use Rattle.coset_codec.specs.Shape.{Shape, Elements, mapped, ◌then◌, end, bstr, or_nil}
+use Rattle.coset_codec.specs.ShapeLaws.{Lawful, LawfulElements, bytes_no_nil, mapped_laws, then_laws, end_laws, bstr_laws, or_nil_laws}
 use Rattle.coset_core.specs.Headers.{HeaderSeen, ProtectedSeen, empty_header}
-use Rattle.coset_core.specs.Messages.{Headed, headed, headed_laws, empty_protected}
+use Rattle.coset_core.specs.Messages.{WithHeaders, with_headers, with_headers_laws, empty_protected}
 use Rattle.coset_core.specs.Views.{header_seen, protected_seen}
 use Rattle.coset_msg.specs.MacStructure.{mac_item}
 use Rattle.coset_msg.specs.declared.mac0.CoseMac0 as declared
@@ -29,25 +29,25 @@ mac0_seen m = record {
 abbrev pub empty_mac0 : Mac0Seen
 empty_mac0 = record { protected = empty_protected; unprotected = empty_header; payload = None; tag = [] }
 
-abbrev pub mac0_of : Headed (Option (List ℕ) × (List ℕ × Unit {0})) → Mac0Seen
+abbrev pub mac0_of : WithHeaders (Option (List ℕ) × (List ℕ × Unit {0})) → Mac0Seen
 mac0_of p = record { protected = p.0; unprotected = p.1.0; payload = p.1.1.0; tag = p.1.1.1.0 }
 
-abbrev pub mac0_fields : Mac0Seen → Headed (Option (List ℕ) × (List ℕ × Unit {0}))
+abbrev pub mac0_fields : Mac0Seen → WithHeaders (Option (List ℕ) × (List ℕ × Unit {0}))
 mac0_fields m = (m.protected, (m.unprotected, (m.payload, (m.tag, tt))))
 
 -- payload : bstr / nil, tag : bstr
-abbrev pub mac0_places : Places (Option (List ℕ) × (List ℕ × Unit {0}))
-mac0_places = or_nil bstr then bstr then end
+abbrev pub mac0_elements : Elements (Option (List ℕ) × (List ℕ × Unit {0}))
+mac0_elements = or_nil bstr then bstr then end
 
-pub mac0_places_laws : LawfulPlaces _ mac0_places
-mac0_places_laws = then_laws _ _ (or_nil_laws bstr bytes_no_nil bstr_laws) (then_laws _ _ bstr_laws end_laws)
+pub mac0_elements_laws : LawfulElements _ mac0_elements
+mac0_elements_laws = then_laws _ _ (or_nil_laws bstr bytes_no_nil bstr_laws) (then_laws _ _ bstr_laws end_laws)
 
 -- [Headers, payload : bstr / nil, tag : bstr]
 abbrev pub mac0 : Shape Mac0Seen
-mac0 = along mac0_of mac0_fields (headed mac0_places)
+mac0 = mapped mac0_of mac0_fields (with_headers mac0_elements)
 
 pub mac0_laws : Lawful Mac0Seen mac0
-mac0_laws = along_laws mac0_of mac0_fields (λ x. refl) _ (headed_laws mac0_places mac0_places_laws)
+mac0_laws = mapped_laws mac0_of mac0_fields (λ x. refl) _ (with_headers_laws mac0_elements mac0_elements_laws)
 
 -- ---- what is authenticated
 

@@ -24,7 +24,7 @@ abbrev pub CreatesOf : {F V B : Type 0} → Once F (Bor (List ℕ) × (Bor (List
 CreatesOf {V = V} g f s o stores (Ok x) = (b : List ℕ) × (made : V) × IsStructure o b × FnOnceReturnsAtPair g f s b made × stores made x
 CreatesOf g f s o stores (Err e) = HasNoImage o e
 
--- the same of an f that may refuse
+-- f may refuse: what it made is stored, or its own error is the answer
 abbrev pub TriesToCreateOf : {F V B E : Type 0} → Once F (Bor (List ℕ) × (Bor (List ℕ) × Unit {0})) (Result V E) → F → List ℕ → Option Item → (V → B → Type 0)
     → Result B (CallError E) → Type 0
 TriesToCreateOf {V = V} g f s o stores (Ok x) = (b : List ℕ) × (made : V) × IsStructure o b × FnOnceReturnsAtPair g f s b (Ok made) × stores made x

@@ -34,7 +34,7 @@ pub struct CoseEncrypt0 {
     pub ciphertext: Option<Vec<u8>>,
 }
 
-/// What the error of another number of places asks for.
+/// What the error of another number of elements asks for.
 const PLACES: &str = "array with 3 items";
 
 impl CoseEncrypt0 {

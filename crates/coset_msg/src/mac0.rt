@@ -36,7 +36,7 @@ pub struct CoseMac0 {
     pub tag: Vec<u8>,
 }
 
-/// What the error of another number of places asks for.
+/// What the error of another number of elements asks for.
 const PLACES: &str = "array with 4 items";
 
 impl CoseMac0 {

@@ -3,7 +3,7 @@ use Rattle.std.specs.Prelude.{◌≡◌, ◌⊎◌, ◌<◌, ℕ, List, length, 
 use Rattle.coset.specs.Item.{Item}
 use Rattle.coset.specs.Grammar.{IsItem}
 use Rattle.coset.specs.Fronts.{HasNoItem}
-use Rattle.coset.specs.Refused.{StandsIn}
+use Rattle.coset.specs.ReadErrors.{FaultIn}
 use Rattle.coset.specs.EndOfFile.{EndOfFile}
 use Rattle.coset.specs.Error.{Error}
 use Rattle.coset.specs.Error.TheVariants as errors
@@ -18,7 +18,7 @@ offset_of b errors.OutOfMemory = None
 
 -- no front of the bytes is an item, for a fault that stands there
 abbrev pub IsFaultAt : List ℕ → Option ℕ → Type 0
-IsFaultAt b o = (e : Error EndOfFile) × HasNoItem b × StandsIn b e × (o ≡ offset_of b e)
+IsFaultAt b o = (e : Error EndOfFile) × HasNoItem b × FaultIn b e × (o ≡ offset_of b e)
 
 -- a fault stands there, or so many bytes of them are an item, which others follow; or nothing is said, since they are an
 -- item or the fault has no place

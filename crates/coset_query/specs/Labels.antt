@@ -7,7 +7,7 @@ use Rattle.coset.specs.Item.{Item, bytes, text, Pairs, no_pairs, pair}
 use Rattle.coset.specs.Parts.{as_integer, as_map, as_text}
 use Rattle.coset.specs.Grammar.{IsItem}
 use Rattle.coset.specs.Shortest.{IsShortest}
-use Rattle.coset.specs.Names.{Name, number, word}
+use Rattle.coset.specs.Names.{Name, number, text_label}
 use Rattle.coset_query.specs.declared.kind.Kind as kinds
 use Rattle.coset_query.specs.declared.label.Label as labels
 use Rattle.coset_query.specs.declared.label.Label.TheVariants.{Number, Text}
@@ -24,12 +24,12 @@ is_same eq (Some y) x = eq y x
 -- a label without its memory
 abbrev pub label_seen : labels.Label → Name
 label_seen (Number n) = number n
-label_seen (Text t) = word t.now
+label_seen (Text t) = text_label t.now
 
 -- the key is that label: label = int / tstr
 abbrev pub is_label : Name → Item → Bool
 is_label (number n) k = is_same int_eq (as_integer k) n
-is_label (word t) k = is_same (pointwise ◌==◌) (as_text k) t
+is_label (text_label t) k = is_same (pointwise ◌==◌) (as_text k) t
 
 -- the value of the first pair whose key passes the test
 abbrev pub first_value : (Item → Bool) → Pairs → Option Item

@@ -4,33 +4,33 @@ use Rattle.std.proofs.Common.{Err, refl, sym, ap, subst, arith}
 use Rattle.coset_value.specs.Item.{Item, array, Items, no_items, item}
 use Rattle.coset_cbor.specs.Least.{least_head}
 use Rattle.coset_codec.specs.declared.error.CoseError.{CoseError}
-use Rattle.coset_codec.specs.Encoding.{AppendsImage, AppendsPlaces, Encodes}
+use Rattle.coset_codec.specs.Encoding.{AppendsImage, AppendsElements, Encodes}
 use Rattle.coset_codec.specs.Shape.{both, bstr, images, last_image, or_nil}
 use Rattle.coset_codec.proofs.Encoding.{array-put, nothing-put, place-put}
 use Rattle.coset_core.specs.Headers.{header, protected}
 use Rattle.coset_recipient.specs.Recipient.{Recipients, no_recipients, recipient_and, RecipientSeen, are_none, recipients_of, inside_place, recipient_array}
 use Rattle.coset_recipient.specs.Recipient.{recipient_image, recipients_image}
-use Rattle.coset_recipient.specs.RecipientWriting.{Begins, last_places}
+use Rattle.coset_recipient.specs.RecipientWriting.{Begins, last_elements}
 
 pub images_of : (rs : List RecipientSeen) → images recipient_image rs ≡ recipients_image (recipients_of rs)
 images_of [] = refl
 images_of (r ∷ rs) = ap (both item (recipient_image r)) (images_of rs)
 
--- ---- three places
+-- ---- three elements
 
 pub without_last : (r : RecipientSeen) (old mid : List ℕ) → r.recipients ≡ no_recipients → Begins r old mid (Ok tt) → AppendsImage (recipient_image r) old mid
 without_last r old mid e b =
     subst (λ rs. AppendsImage (recipient_array r.protected r.unprotected r.ciphertext (inside_place rs (recipients_image rs))) old mid) (sym e)
-    (b (Some no_items) mid (subst (λ rs. AppendsPlaces (Some no_items) (last_places rs) mid mid) (sym e) (nothing-put mid)))
+    (b (Some no_items) mid (subst (λ rs. AppendsElements (Some no_items) (last_elements rs) mid mid) (sym e) (nothing-put mid)))
 
--- ---- four places
+-- ---- four elements
 
 alone : (o : Option Item) → both item o (Some no_items) ≡ option_map (λ v. item v no_items) o
 alone (Some v) = refl
 alone None = refl
 
-one_place : (o : Option Item) (mid new : List ℕ) → AppendsImage o mid new → AppendsPlaces (option_map (λ v. item v no_items) o) 1 mid new
-one_place o mid new p = subst (λ os. AppendsPlaces os 1 mid new) (alone o) (place-put p (nothing-put new))
+one_place : (o : Option Item) (mid new : List ℕ) → AppendsImage o mid new → AppendsElements (option_map (λ v. item v no_items) o) 1 mid new
+one_place o mid new p = subst (λ os. AppendsElements os 1 mid new) (alone o) (place-put p (nothing-put new))
 
 with_last :
     (r : RecipientSeen) (old mid new : List ℕ) (rs : List RecipientSeen) → r.recipients ≡ recipients_of rs → rs ≢ [] → Begins r old mid (Ok tt)
@@ -39,11 +39,11 @@ with_last :
 with_last r old mid new [] e some b p = absurd (some refl)
 with_last r old mid new (x ∷ xs) e some b p =
     let all : Recipients = recipients_of (x ∷ xs) in
-    let last : AppendsPlaces (last_image true (option_map array (recipients_image all))) 1 mid new =
+    let last : AppendsElements (last_image true (option_map array (recipients_image all))) 1 mid new =
     one_place (option_map array (recipients_image all)) mid new (subst (λ o. AppendsImage (option_map array o) mid new) (images_of (x ∷ xs)) p) in
     subst (λ rs. AppendsImage (recipient_array r.protected r.unprotected r.ciphertext (inside_place rs (recipients_image rs))) old new) (sym e)
     (b (last_image true (option_map array (recipients_image all))) new
-    (subst (λ rs. AppendsPlaces (last_image true (option_map array (recipients_image all))) (last_places rs) mid new) (sym e) last))
+    (subst (λ rs. AppendsElements (last_image true (option_map array (recipients_image all))) (last_elements rs) mid new) (sym e) last))
 
 no_last : {A B C : Type 0} (f : A → B → C) (o : Option A) → both f o None ≡ None
 no_last f (Some a) = refl
@@ -81,7 +81,7 @@ last_written r old mid new rs (Err f) e some b p =
     ∙ hidden (recipients_of rs) (some_recipients rs some) missing in
     (none.0, unplaced _ _ _ (inside_place r.recipients (recipients_image r.recipients)) inside)
 
--- ---- the first three places
+-- ---- the first three elements
 
 no_third : (a b c : Option Item) (o : Option Items) → c ≡ None → option_map array (both item a (both item b (both item c o))) ≡ None
 no_third a b c o e =
@@ -92,18 +92,18 @@ three : (n m : ℕ) → n ≡ 3 + m → n ≡ suc (suc (suc m))
 three n m e = omega (arith, e)
 
 pub first_written :
-    (r : RecipientSeen) (n : ℕ) (old head one two new : List ℕ) (a : Result (Unit {0}) CoseError) → n ≡ 3 + last_places r.recipients → n < 2 ^ 64
+    (r : RecipientSeen) (n : ℕ) (old head one two new : List ℕ) (a : Result (Unit {0}) CoseError) → n ≡ 3 + last_elements r.recipients → n < 2 ^ 64
     → head ≡ old ++ least_head 4 n → AppendsImage (protected.image r.protected) head one
     → AppendsImage (header.image r.unprotected) one two → Encodes ((or_nil bstr).image r.ciphertext) two new a → Begins r old new a
 first_written r n old head one two new (Ok t) count small first p u c =
     λ last all put.
-    array-put (suc (suc (suc (last_places r.recipients)))) (subst (λ k. k < 2 ^ 64) (three n (last_places r.recipients) count) small)
-    (first ∙ ap (λ k. old ++ least_head 4 k) (three n (last_places r.recipients) count))
+    array-put (suc (suc (suc (last_elements r.recipients)))) (subst (λ k. k < 2 ^ 64) (three n (last_elements r.recipients) count) small)
+    (first ∙ ap (λ k. old ++ least_head 4 k) (three n (last_elements r.recipients) count))
     (place-put p (place-put u (place-put c put)))
 first_written r n old head one two new (Err e) count small first p u c =
     λ m. let none = c m in (none.0, no_third _ _ ((or_nil bstr).image r.ciphertext) _ none.1)
 
--- ---- how many places
+-- ---- how many elements
 
 pub none_of : (rs : Recipients) → are_none rs ≡ true → rs ≡ no_recipients
 none_of no_recipients e = refl
@@ -113,10 +113,10 @@ pub some_of : (rs : List RecipientSeen) → are_none (recipients_of rs) ≡ fals
 some_of [] e = absurd (true≢false e)
 some_of (r ∷ rs) e = λ h. cc
 
-pub three_places : (rs : Recipients) → are_none rs ≡ true → 3 ≡ 3 + last_places rs
-three_places no_recipients e = refl
-three_places (recipient_and p u c inside more) e = absurd (true≢false (sym e))
+pub three_elements : (rs : Recipients) → are_none rs ≡ true → 3 ≡ 3 + last_elements rs
+three_elements no_recipients e = refl
+three_elements (recipient_and p u c inside more) e = absurd (true≢false (sym e))
 
-pub four_places : (rs : Recipients) → are_none rs ≡ false → 4 ≡ 3 + last_places rs
-four_places no_recipients e = absurd (true≢false e)
-four_places (recipient_and p u c inside more) e = refl
+pub four_elements : (rs : Recipients) → are_none rs ≡ false → 4 ≡ 3 + last_elements rs
+four_elements no_recipients e = absurd (true≢false e)
+four_elements (recipient_and p u c inside more) e = refl

@@ -1,19 +1,20 @@
 -- Recipients, and messages that have them, that were read, and that were read from what others are written as.
 use Rattle.std.proofs.Common.{◌≡◌, List, [], ◌∷◌, false, sym, ◌∙◌, true≢false}
 use Rattle.std.specs.Prelude.{⊤}
-use Rattle.coset_codec.specs.AsWritten.{AsWritten, WhenRead, PlacesAsWritten, PlacesWhenRead}
+use Rattle.coset_codec.specs.AsWritten.{AsWritten, WhenRead, ElementsAsWritten, ElementsWhenRead}
 use Rattle.coset_codec.specs.Lists.{EachHas, EachWith}
-use Rattle.coset_codec.specs.Shape.{Shape, ◌then◌, end, bstr, or_nil, list_of, perhaps}
-use Rattle.coset_codec.proofs.AsWritten.{list_as_written, list_when_read, perhaps_as_written, perhaps_when_read, recursive_as_written, recursive_when_read}
+use Rattle.coset_codec.specs.Shape.{Shape, ◌then◌, end, bstr, or_nil, list_of, optional_last}
+use Rattle.coset_codec.proofs.AsWritten.{list_as_written, list_when_read, optional_last_as_written, optional_last_when_read}
+use Rattle.coset_codec.proofs.AsWritten.{recursive_as_written, recursive_when_read}
 use Rattle.coset_codec.proofs.AsWritten.{then_as_written, then_when_read}
 use Rattle.coset_core.proofs.Messages.{KeepsBytes, KeptAsWritten, header_as_written, message_as_written, message_when_read}
 use Rattle.coset_msg.proofs.Written.{authenticates_as_written, authenticates_when_read, encrypts_as_written, encrypts_when_read}
 use Rattle.coset_msg.specs.EncStructure.{Encrypts, EncryptsSame}
 use Rattle.coset_msg.specs.MacStructure.{Authenticates, AuthenticatesSame}
-use Rattle.coset_recipient.specs.Encrypt.{encrypt, encrypt_fields, encrypt_places}
-use Rattle.coset_recipient.specs.Mac.{mac, mac_fields, mac_places}
+use Rattle.coset_recipient.specs.Encrypt.{encrypt, encrypt_fields, encrypt_elements}
+use Rattle.coset_recipient.specs.Mac.{mac, mac_fields, mac_elements}
 use Rattle.coset_recipient.specs.Recipient.{Recipients, no_recipients, recipient_and, RecipientSeen, are_some, each_of, recipient, recipient_fields}
-use Rattle.coset_recipient.specs.Recipient.{recipient_image, recipient_places, recipient_step}
+use Rattle.coset_recipient.specs.Recipient.{recipient_image, recipient_elements, recipient_step}
 use Rattle.coset_recipient.specs.RecipientLaws.{recipient-of_step, recipient-opened, step}
 use Rattle.coset_recipient.specs.Structures.{EachEncrypts, EachEncryptsSame, EncryptsAll, EncryptsAllSame, Macs, MacsSame, RecipientEncrypts}
 use Rattle.coset_recipient.specs.Structures.{RecipientEncryptsSame}
@@ -32,9 +33,9 @@ none_same (r ∷ rs) h = absurd (true≢false h)
 
 step_as_written : KeptAsWritten → (s : Shape RecipientSeen) → AsWritten s RecipientEncryptsSame → AsWritten (recipient_step s) RecipientEncryptsSame
 step_as_written kept s h v r t e d =
-    let inside = perhaps_as_written [] are_some (list_of s) (EachWith RecipientEncryptsSame) (list_as_written s RecipientEncryptsSame h) none_same in
-    let places = then_as_written (or_nil bstr) (perhaps [] are_some (list_of s)) (λ p q. ⊤) (EachWith RecipientEncryptsSame) (λ w p q f g. tt) inside in
-    let all = message_as_written (recipient_places (list_of s)) EncryptsSame _ (encrypts_as_written kept) places v (recipient_fields r)
+    let inside = optional_last_as_written [] are_some (list_of s) (EachWith RecipientEncryptsSame) (list_as_written s RecipientEncryptsSame h) none_same in
+    let elements = then_as_written (or_nil bstr) (optional_last [] are_some (list_of s)) (λ p q. ⊤) (EachWith RecipientEncryptsSame) (λ w p q f g. tt) inside in
+    let all = message_as_written (recipient_elements (list_of s)) EncryptsSame _ (encrypts_as_written kept) elements v (recipient_fields r)
     (recipient_fields t) e d in
     (all.0, each_same r.recipients t.recipients all.1.1.1)
 
@@ -48,9 +49,9 @@ each_has (recipient_and p u c inside more) h = (h.0.0, h.0.1, each_has more h.1)
 
 step_when_read : (s : Shape RecipientSeen) → WhenRead s RecipientEncrypts → WhenRead (recipient_step s) RecipientEncrypts
 step_when_read s h v r d =
-    let inside = perhaps_when_read [] are_some (list_of s) (EachHas RecipientEncrypts) (list_when_read s RecipientEncrypts h) tt in
-    let places = then_when_read (or_nil bstr) (perhaps [] are_some (list_of s)) (λ p. ⊤) (EachHas RecipientEncrypts) (λ w p f. tt) inside in
-    let all = message_when_read (recipient_places (list_of s)) Encrypts _ encrypts_when_read places v (recipient_fields r) d in
+    let inside = optional_last_when_read [] are_some (list_of s) (EachHas RecipientEncrypts) (list_when_read s RecipientEncrypts h) tt in
+    let elements = then_when_read (or_nil bstr) (optional_last [] are_some (list_of s)) (λ p. ⊤) (EachHas RecipientEncrypts) (λ w p f. tt) inside in
+    let all = message_when_read (recipient_elements (list_of s)) Encrypts _ encrypts_when_read elements v (recipient_fields r) d in
     (all.0, each_has r.recipients all.1.1.1)
 
 pub recipient_when_read : WhenRead recipient RecipientEncrypts
@@ -59,50 +60,50 @@ recipient_when_read = recursive_when_read recipient_step recipient_image Recipie
 
 -- ---- messages
 
-lists_as_written : KeptAsWritten → PlacesAsWritten (list_of recipient then end) (λ x y. EachWith RecipientEncryptsSame x.0 y.0 × ⊤)
+lists_as_written : KeptAsWritten → ElementsAsWritten (list_of recipient then end) (λ x y. EachWith RecipientEncryptsSame x.0 y.0 × ⊤)
 lists_as_written kept =
     then_as_written (list_of recipient) end (EachWith RecipientEncryptsSame) (λ x y. ⊤)
     (list_as_written recipient RecipientEncryptsSame (recipient_as_written kept)) (λ vs x y f g. tt)
 
-lists_when_read : PlacesWhenRead (list_of recipient then end) (λ x. EachHas RecipientEncrypts x.0 × ⊤)
+lists_when_read : ElementsWhenRead (list_of recipient then end) (λ x. EachHas RecipientEncrypts x.0 × ⊤)
 lists_when_read =
     then_when_read (list_of recipient) end (EachHas RecipientEncrypts) (λ x. ⊤) (list_when_read recipient RecipientEncrypts recipient_when_read) (λ vs x f. tt)
 
 pub mac_as_written : KeptAsWritten → AsWritten mac MacsSame
 mac_as_written kept v m n e d =
     let behind_tag = then_as_written bstr (list_of recipient then end) (λ x y. ⊤) _ (λ w x y f g. tt) (lists_as_written kept) in
-    let places = then_as_written (or_nil bstr) (bstr then list_of recipient then end) (λ x y. ⊤) _ (λ w x y f g. tt) behind_tag in
-    let all = message_as_written mac_places AuthenticatesSame _ (authenticates_as_written kept) places v (mac_fields m) (mac_fields n) e d in
+    let elements = then_as_written (or_nil bstr) (bstr then list_of recipient then end) (λ x y. ⊤) _ (λ w x y f g. tt) behind_tag in
+    let all = message_as_written mac_elements AuthenticatesSame _ (authenticates_as_written kept) elements v (mac_fields m) (mac_fields n) e d in
     (all.0, all.1.1.1.1.0)
 
 pub mac_when_read : WhenRead mac Macs
 mac_when_read v m d =
     let behind_tag = then_when_read bstr (list_of recipient then end) (λ x. ⊤) _ (λ w x f. tt) lists_when_read in
-    let places = then_when_read (or_nil bstr) (bstr then list_of recipient then end) (λ x. ⊤) _ (λ w x f. tt) behind_tag in
-    let all = message_when_read mac_places Authenticates _ authenticates_when_read places v (mac_fields m) d in
+    let elements = then_when_read (or_nil bstr) (bstr then list_of recipient then end) (λ x. ⊤) _ (λ w x f. tt) behind_tag in
+    let all = message_when_read mac_elements Authenticates _ authenticates_when_read elements v (mac_fields m) d in
     (all.0, all.1.1.1.1.0)
 
 pub encrypt_as_written : KeptAsWritten → AsWritten encrypt EncryptsAllSame
 encrypt_as_written kept v m n e d =
-    let places = then_as_written (or_nil bstr) (list_of recipient then end) (λ x y. ⊤) _ (λ w x y f g. tt) (lists_as_written kept) in
-    let all = message_as_written encrypt_places EncryptsSame _ (encrypts_as_written kept) places v (encrypt_fields m) (encrypt_fields n) e d in
+    let elements = then_as_written (or_nil bstr) (list_of recipient then end) (λ x y. ⊤) _ (λ w x y f g. tt) (lists_as_written kept) in
+    let all = message_as_written encrypt_elements EncryptsSame _ (encrypts_as_written kept) elements v (encrypt_fields m) (encrypt_fields n) e d in
     (all.0, all.1.1.1.0)
 
 pub encrypt_when_read : WhenRead encrypt EncryptsAll
 encrypt_when_read v m d =
-    let places = then_when_read (or_nil bstr) (list_of recipient then end) (λ x. ⊤) _ (λ w x f. tt) lists_when_read in
-    let all = message_when_read encrypt_places Encrypts _ encrypts_when_read places v (encrypt_fields m) d in
+    let elements = then_when_read (or_nil bstr) (list_of recipient then end) (λ x. ⊤) _ (λ w x f. tt) lists_when_read in
+    let all = message_when_read encrypt_elements Encrypts _ encrypts_when_read elements v (encrypt_fields m) d in
     (all.0, all.1.1.1.0)
 
 -- ---- what is kept
 
 pub recipient_kept : KeptAsWritten → AsWritten recipient (λ r s. KeepsBytes r.protected s.protected)
 recipient_kept kept v r s e d =
-    header_as_written (recipient_places (list_of recipient)) KeepsBytes kept v (recipient_fields r) (recipient_fields s) (sym (recipient-of_step r) ∙ e)
+    header_as_written (recipient_elements (list_of recipient)) KeepsBytes kept v (recipient_fields r) (recipient_fields s) (sym (recipient-of_step r) ∙ e)
     (recipient-opened.describes v s d).1
 
 pub mac_kept : KeptAsWritten → AsWritten mac (λ m n. KeepsBytes m.protected n.protected)
-mac_kept kept v m n e d = header_as_written mac_places KeepsBytes kept v (mac_fields m) (mac_fields n) e d
+mac_kept kept v m n e d = header_as_written mac_elements KeepsBytes kept v (mac_fields m) (mac_fields n) e d
 
 pub encrypt_kept : KeptAsWritten → AsWritten encrypt (λ m n. KeepsBytes m.protected n.protected)
-encrypt_kept kept v m n e d = header_as_written encrypt_places KeepsBytes kept v (encrypt_fields m) (encrypt_fields n) e d
+encrypt_kept kept v m n e d = header_as_written encrypt_elements KeepsBytes kept v (encrypt_fields m) (encrypt_fields n) e d

@@ -1,10 +1,10 @@
 -- COSE_Encrypt messages (RFC 8152, section 5.1).
 use Rattle.std.specs.Prelude.{ℕ, List, [], ◌∷◌, ◌++◌, Option, Some, None, map, option_map, refl}
 use Rattle.coset_value.specs.Item.{Item}
-use Rattle.coset_codec.specs.Shape.{Shape, Places, along, ◌then◌, end, bstr, list_of, or_nil}
-use Rattle.coset_codec.specs.ShapeLaws.{Lawful, LawfulPlaces, bytes_no_nil, along_laws, then_laws, end_laws, bstr_laws, list_of_laws, or_nil_laws}
+use Rattle.coset_codec.specs.Shape.{Shape, Elements, mapped, ◌then◌, end, bstr, list_of, or_nil}
+use Rattle.coset_codec.specs.ShapeLaws.{Lawful, LawfulElements, bytes_no_nil, mapped_laws, then_laws, end_laws, bstr_laws, list_of_laws, or_nil_laws}
 use Rattle.coset_core.specs.Headers.{HeaderSeen, ProtectedSeen, empty_header}
-use Rattle.coset_core.specs.Messages.{Headed, headed, headed_laws, empty_protected}
+use Rattle.coset_core.specs.Messages.{WithHeaders, with_headers, with_headers_laws, empty_protected}
 use Rattle.coset_core.specs.Views.{header_seen, protected_seen}
 use Rattle.coset_msg.specs.EncStructure.{enc_item}
 use Rattle.coset_recipient.specs.declared.encrypt.CoseEncrypt as declared
@@ -32,25 +32,25 @@ encrypt_seen m = record {
 abbrev pub empty_encrypt : EncryptSeen
 empty_encrypt = record { protected = empty_protected; unprotected = empty_header; ciphertext = None; recipients = [] }
 
-abbrev pub encrypt_of : Headed (Option (List ℕ) × (List RecipientSeen × Unit {0})) → EncryptSeen
+abbrev pub encrypt_of : WithHeaders (Option (List ℕ) × (List RecipientSeen × Unit {0})) → EncryptSeen
 encrypt_of p = record { protected = p.0; unprotected = p.1.0; ciphertext = p.1.1.0; recipients = p.1.1.1.0 }
 
-abbrev pub encrypt_fields : EncryptSeen → Headed (Option (List ℕ) × (List RecipientSeen × Unit {0}))
+abbrev pub encrypt_fields : EncryptSeen → WithHeaders (Option (List ℕ) × (List RecipientSeen × Unit {0}))
 encrypt_fields m = (m.protected, (m.unprotected, (m.ciphertext, (m.recipients, tt))))
 
 -- ciphertext : bstr / nil, recipients : [* COSE_recipient]
-abbrev pub encrypt_places : Places (Option (List ℕ) × (List RecipientSeen × Unit {0}))
-encrypt_places = or_nil bstr then list_of recipient then end
+abbrev pub encrypt_elements : Elements (Option (List ℕ) × (List RecipientSeen × Unit {0}))
+encrypt_elements = or_nil bstr then list_of recipient then end
 
-pub encrypt_places_laws : LawfulPlaces _ encrypt_places
-encrypt_places_laws = then_laws _ _ (or_nil_laws bstr bytes_no_nil bstr_laws) (then_laws _ _ (list_of_laws recipient recipient_laws) end_laws)
+pub encrypt_elements_laws : LawfulElements _ encrypt_elements
+encrypt_elements_laws = then_laws _ _ (or_nil_laws bstr bytes_no_nil bstr_laws) (then_laws _ _ (list_of_laws recipient recipient_laws) end_laws)
 
 -- [Headers, ciphertext : bstr / nil, recipients : [* COSE_recipient]]
 abbrev pub encrypt : Shape EncryptSeen
-encrypt = along encrypt_of encrypt_fields (headed encrypt_places)
+encrypt = mapped encrypt_of encrypt_fields (with_headers encrypt_elements)
 
 pub encrypt_laws : Lawful EncryptSeen encrypt
-encrypt_laws = along_laws encrypt_of encrypt_fields (λ x. refl) _ (headed_laws encrypt_places encrypt_places_laws)
+encrypt_laws = mapped_laws encrypt_of encrypt_fields (λ x. refl) _ (with_headers_laws encrypt_elements encrypt_elements_laws)
 
 -- ---- what goes with the ciphertext
 

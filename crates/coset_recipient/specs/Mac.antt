@@ -1,10 +1,10 @@
 -- COSE_Mac messages (RFC 8152, section 6.1).
 use Rattle.std.specs.Prelude.{ℕ, List, [], ◌∷◌, ◌++◌, Option, None, map, option_map, refl}
 use Rattle.coset_value.specs.Item.{Item}
-use Rattle.coset_codec.specs.Shape.{Shape, Places, along, ◌then◌, end, bstr, list_of, or_nil}
-use Rattle.coset_codec.specs.ShapeLaws.{Lawful, LawfulPlaces, bytes_no_nil, along_laws, then_laws, end_laws, bstr_laws, list_of_laws, or_nil_laws}
+use Rattle.coset_codec.specs.Shape.{Shape, Elements, mapped, ◌then◌, end, bstr, list_of, or_nil}
+use Rattle.coset_codec.specs.ShapeLaws.{Lawful, LawfulElements, bytes_no_nil, mapped_laws, then_laws, end_laws, bstr_laws, list_of_laws, or_nil_laws}
 use Rattle.coset_core.specs.Headers.{HeaderSeen, ProtectedSeen, empty_header}
-use Rattle.coset_core.specs.Messages.{Headed, headed, headed_laws, empty_protected}
+use Rattle.coset_core.specs.Messages.{WithHeaders, with_headers, with_headers_laws, empty_protected}
 use Rattle.coset_core.specs.Views.{header_seen, protected_seen}
 use Rattle.coset_msg.specs.MacStructure.{mac_item}
 use Rattle.coset_recipient.specs.declared.mac.CoseMac as declared
@@ -34,26 +34,26 @@ mac_seen m = record {
 abbrev pub empty_mac : MacSeen
 empty_mac = record { protected = empty_protected; unprotected = empty_header; payload = None; tag = []; recipients = [] }
 
-abbrev pub mac_of : Headed (Option (List ℕ) × (List ℕ × (List RecipientSeen × Unit {0}))) → MacSeen
+abbrev pub mac_of : WithHeaders (Option (List ℕ) × (List ℕ × (List RecipientSeen × Unit {0}))) → MacSeen
 mac_of p = record { protected = p.0; unprotected = p.1.0; payload = p.1.1.0; tag = p.1.1.1.0; recipients = p.1.1.1.1.0 }
 
-abbrev pub mac_fields : MacSeen → Headed (Option (List ℕ) × (List ℕ × (List RecipientSeen × Unit {0})))
+abbrev pub mac_fields : MacSeen → WithHeaders (Option (List ℕ) × (List ℕ × (List RecipientSeen × Unit {0})))
 mac_fields m = (m.protected, (m.unprotected, (m.payload, (m.tag, (m.recipients, tt)))))
 
 -- payload : bstr / nil, tag : bstr, recipients : [* COSE_recipient]
-abbrev pub mac_places : Places (Option (List ℕ) × (List ℕ × (List RecipientSeen × Unit {0})))
-mac_places = or_nil bstr then bstr then list_of recipient then end
+abbrev pub mac_elements : Elements (Option (List ℕ) × (List ℕ × (List RecipientSeen × Unit {0})))
+mac_elements = or_nil bstr then bstr then list_of recipient then end
 
-pub mac_places_laws : LawfulPlaces _ mac_places
-mac_places_laws =
+pub mac_elements_laws : LawfulElements _ mac_elements
+mac_elements_laws =
     then_laws _ _ (or_nil_laws bstr bytes_no_nil bstr_laws) (then_laws _ _ bstr_laws (then_laws _ _ (list_of_laws recipient recipient_laws) end_laws))
 
 -- [Headers, payload : bstr / nil, tag : bstr, recipients : [* COSE_recipient]]
 abbrev pub mac : Shape MacSeen
-mac = along mac_of mac_fields (headed mac_places)
+mac = mapped mac_of mac_fields (with_headers mac_elements)
 
 pub mac_laws : Lawful MacSeen mac
-mac_laws = along_laws mac_of mac_fields (λ x. refl) _ (headed_laws mac_places mac_places_laws)
+mac_laws = mapped_laws mac_of mac_fields (λ x. refl) _ (with_headers_laws mac_elements mac_elements_laws)
 
 -- ---- what is authenticated
 

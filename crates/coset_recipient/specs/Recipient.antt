@@ -2,9 +2,9 @@
 use Rattle.std.specs.Prelude.{ℕ, List, [], ◌∷◌, Bool, true, false, Option, Some, None, option_map}
 use Rattle.coset_value.specs.Item.{Item, array, Items, no_items, item}
 use Rattle.coset_codec.specs.Recursive.{recursive}
-use Rattle.coset_codec.specs.Shape.{Shape, Places, along, both, ◌then◌, bstr, or_nil, perhaps, last_image, list_of}
+use Rattle.coset_codec.specs.Shape.{Shape, Elements, mapped, both, ◌then◌, bstr, or_nil, optional_last, last_image, list_of}
 use Rattle.coset_core.specs.Headers.{HeaderSeen, ProtectedSeen, empty_header, header, protected}
-use Rattle.coset_core.specs.Messages.{Headed, headed, empty_protected}
+use Rattle.coset_core.specs.Messages.{WithHeaders, with_headers, empty_protected}
 use Rattle.coset_msg.specs.EncStructure.{enc_item}
 use Rattle.coset_msg.specs.declared.enc_structure.EncryptionContext.{EncryptionContext}
 use Rattle.coset_msg.specs.declared.enc_structure.EncryptionContext.TheVariants.{CoseEncrypt, CoseEncrypt0, EncRecipient, MacRecipient, RecRecipient}
@@ -50,18 +50,18 @@ abbrev pub are_some : {A : Type 0} → List A → Bool
 are_some [] = false
 are_some (x ∷ xs) = true
 
-abbrev pub recipient_of : Headed (Option (List ℕ) × List RecipientSeen) → RecipientSeen
+abbrev pub recipient_of : WithHeaders (Option (List ℕ) × List RecipientSeen) → RecipientSeen
 recipient_of p = record { protected = p.0; unprotected = p.1.0; ciphertext = p.1.1.0; recipients = recipients_of p.1.1.1 }
 
-abbrev pub recipient_fields : RecipientSeen → Headed (Option (List ℕ) × List RecipientSeen)
+abbrev pub recipient_fields : RecipientSeen → WithHeaders (Option (List ℕ) × List RecipientSeen)
 recipient_fields r = (r.protected, (r.unprotected, (r.ciphertext, each_of r.recipients)))
 
 -- ciphertext : bstr / nil, ? recipients, of which s is the shape: they are left out where there are none
-abbrev pub recipient_places : Shape (List RecipientSeen) → Places (Option (List ℕ) × List RecipientSeen)
-recipient_places s = or_nil bstr then perhaps [] are_some s
+abbrev pub recipient_elements : Shape (List RecipientSeen) → Elements (Option (List ℕ) × List RecipientSeen)
+recipient_elements s = or_nil bstr then optional_last [] are_some s
 
 abbrev pub recipient_with : Shape (List RecipientSeen) → Shape RecipientSeen
-recipient_with s = along recipient_of recipient_fields (headed (recipient_places s))
+recipient_with s = mapped recipient_of recipient_fields (with_headers (recipient_elements s))
 
 -- [Headers, ciphertext : bstr / nil, ? recipients : [* COSE_recipient]], where s is the shape of those inside it
 abbrev pub recipient_step : Shape RecipientSeen → Shape RecipientSeen

@@ -1,14 +1,15 @@
 -- The laws of the shape of recipients.
 use Rattle.std.proofs.Common.{◌≡◌, ℕ, List, [], ◌∷◌, false, Option, option_map, refl, sym, ap, ◌∙◌, true≢false}
 use Rattle.coset_value.specs.Item.{array, Items, item}
-use Rattle.coset_codec.specs.RecursiveLaws.{Passes, Below, Step, along_passes, array_passes, then_passes, perhaps_passes, list_below, recursive_laws}
+use Rattle.coset_codec.specs.RecursiveLaws.{Passes, Below, Step, mapped_passes, array_passes, then_passes, optional_last_passes, list_below, recursive_laws}
 use Rattle.coset_codec.specs.RecursiveLaws.{recursive_step, step_recursive}
-use Rattle.coset_codec.specs.Shape.{Shape, both, bstr, or_nil, perhaps, last_image, list_of, images}
-use Rattle.coset_codec.specs.ShapeLaws.{Lawful, LawfulPlaces, along_laws, then_laws, bstr_laws, bytes_no_nil, or_nil_laws, perhaps_laws, list_of_laws}
+use Rattle.coset_codec.specs.Shape.{Shape, both, bstr, or_nil, optional_last, last_image, list_of, images}
+use Rattle.coset_codec.specs.ShapeLaws.{Lawful, LawfulElements, mapped_laws, then_laws, bstr_laws, bytes_no_nil, or_nil_laws, optional_last_laws, list_of_laws}
 use Rattle.coset_core.specs.Headers.{header, protected}
-use Rattle.coset_core.specs.Messages.{headed_laws}
+use Rattle.coset_core.specs.Messages.{with_headers_laws}
 use Rattle.coset_recipient.specs.Recipient.{Recipients, no_recipients, recipient_and, RecipientSeen, recipients_of, each_of, are_some, recipient_of}
-use Rattle.coset_recipient.specs.Recipient.{recipient_fields, recipient_places, recipient_with, recipient_step, inside_place, recipients_image, recipient_image}
+use Rattle.coset_recipient.specs.Recipient.{recipient_fields, recipient_elements, recipient_with, recipient_step}
+use Rattle.coset_recipient.specs.Recipient.{inside_place, recipients_image, recipient_image}
 use Rattle.coset_recipient.specs.Recipient.{recipient_array, recipient}
 
 -- ---- recipients and lists
@@ -30,21 +31,21 @@ none_where_hidden : {A : Type 0} (xs : List A) → are_some xs ≡ false → xs 
 none_where_hidden [] h = refl
 none_where_hidden (x ∷ xs) h = absurd (true≢false h)
 
-pub recipient_places_laws : (s : Shape (List RecipientSeen)) → Lawful (List RecipientSeen) s
-    → LawfulPlaces (Option (List ℕ) × List RecipientSeen) (recipient_places s)
-recipient_places_laws s l = then_laws (or_nil bstr) (perhaps [] are_some s) (or_nil_laws bstr bytes_no_nil bstr_laws)
-    (perhaps_laws [] are_some refl none_where_hidden s l)
+pub recipient_elements_laws : (s : Shape (List RecipientSeen)) → Lawful (List RecipientSeen) s
+    → LawfulElements (Option (List ℕ) × List RecipientSeen) (recipient_elements s)
+recipient_elements_laws s l = then_laws (or_nil bstr) (optional_last [] are_some s) (or_nil_laws bstr bytes_no_nil bstr_laws)
+    (optional_last_laws [] are_some refl none_where_hidden s l)
 
 step_laws : (s : Shape RecipientSeen) → Lawful RecipientSeen s → Lawful RecipientSeen (recipient_step s)
-step_laws s l = along_laws recipient_of recipient_fields recipient-back _
-    (headed_laws (recipient_places (list_of s)) (recipient_places_laws (list_of s) (list_of_laws s l)))
+step_laws s l = mapped_laws recipient_of recipient_fields recipient-back _
+    (with_headers_laws (recipient_elements (list_of s)) (recipient_elements_laws (list_of s) (list_of_laws s l)))
 
 step_passes : {I : Type 0} (some : I) (s : Shape (List RecipientSeen)) (t : I → Shape (List RecipientSeen)) → Passes I (List RecipientSeen) s t
     → Passes I RecipientSeen (recipient_with s) (λ i. recipient_with (t i))
 step_passes some s t p =
-    along_passes recipient_of recipient_fields _ _
+    mapped_passes recipient_of recipient_fields _ _
     (array_passes some _ _ (then_passes some protected _ _
-    (then_passes some header _ _ (then_passes some (or_nil bstr) _ _ (perhaps_passes some [] are_some s t p)))))
+    (then_passes some header _ _ (then_passes some (or_nil bstr) _ _ (optional_last_passes some [] are_some s t p)))))
 
 -- ---- what recipients are written as
 

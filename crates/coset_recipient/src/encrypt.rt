@@ -41,7 +41,7 @@ pub struct CoseEncrypt {
     pub recipients: Vec<CoseRecipient>,
 }
 
-/// What the error of another number of places asks for.
+/// What the error of another number of elements asks for.
 const PLACES: &str = "array with 4 items";
 
 impl CoseEncrypt {

@@ -12,12 +12,11 @@ pub use coset_msg::{
     ContentType, CoseCountersignature, CoseCountersignatureBuilder, CoseEncrypt0,
     CoseEncrypt0Builder, CoseError, CoseMac0, CoseMac0Builder, CoseSign, CoseSign1,
     CoseSign1Builder, CoseSignBuilder, CoseSignature, CoseSignatureBuilder, Encode,
-    EncryptionContext, EndOfFile, FromPull, Header, HeaderBuilder, KeyOperation, KeyType, Label,
-    Lawful, MacContext, ProtectedBstr, ProtectedHeader, RegisteredLabel,
-    RegisteredLabelWithPrivate, Result, SignatureContext, Source, TaggedCborSerializable,
-    TaggedCodec, cbor, codec, countersign_v2_structure_data, countersign0_v2_structure_data,
-    enc_structure_data, has_repeats, iana, mac_structure_data, sig_structure_data, util,
-    verify_countersignature,
+    EncryptionContext, EndOfFile, FromPull, Header, HeaderBuilder, ItemSource, KeyOperation,
+    KeyType, Label, Lawful, MacContext, ProtectedBstr, ProtectedHeader, RegisteredLabel,
+    RegisteredLabelWithPrivate, Result, SignatureContext, TaggedCborSerializable, TaggedCodec,
+    cbor, codec, countersign_v2_structure_data, countersign0_v2_structure_data, enc_structure_data,
+    has_repeats, iana, mac_structure_data, sig_structure_data, util, verify_countersignature,
 };
 pub use encrypt::{CoseEncrypt, CoseEncryptBuilder};
 pub use mac::{CoseMac, CoseMacBuilder};

@@ -43,7 +43,7 @@ pub struct CoseMac {
     pub recipients: Vec<CoseRecipient>,
 }
 
-/// What the error of another number of places asks for.
+/// What the error of another number of elements asks for.
 const PLACES: &str = "array with 5 items";
 
 impl CoseMac {

@@ -6,10 +6,10 @@ ghost use Rattle.std.specs.Cmp.{on_equiv, on_per, partial_equiv_from_equiv};
 ghost use Rattle.coset_value.specs.Item.{Item, array, Items};
 ghost use Rattle.coset_codec.specs.declared.error.CoseError.TheVariants.{OutOfMemory};
 ghost use Rattle.coset_codec.specs.Answers.{Reads, Writes};
-ghost use Rattle.coset_codec.specs.Encoding.{AppendsPlaces, Encodes, HasNoImage};
-ghost use Rattle.coset_codec.specs.Errors.{answer};
+ghost use Rattle.coset_codec.specs.Encoding.{AppendsElements, Encodes, HasNoImage};
+ghost use Rattle.coset_codec.specs.Errors.{stored};
 ghost use Rattle.coset_codec.specs.InPlace.{Fills, FillsEach};
-ghost use Rattle.coset_codec.specs.Inputs.{State, state, length_left, items_size, Stands, GoesBehind, AreWithin};
+ghost use Rattle.coset_codec.specs.Inputs.{State, state, length_left, items_size, ItemAt, GoesBehind, AreWithin};
 ghost use Rattle.coset_codec.specs.Shape.{images, list_of};
 ghost use Rattle.coset_core.specs.Headers.{empty_header};
 ghost use Rattle.coset_core.specs.Messages.{unread};
@@ -18,14 +18,15 @@ ghost use Rattle.coset_core.specs.Calls.{AsksAbout};
 ghost use Rattle.coset_msg.specs.Presence.{AsksWherePresent, CreatesOf, TriesToCreateOf};
 ghost use Rattle.coset_recipient.specs.Recipient.{IsOfRecipient, and_recipient, are_none, empty_recipient, recipient as recipient_shape, recipient_image, recipient_structure, recipients_of, with_ciphertext};
 ghost use Rattle.coset_recipient.specs.RecipientReading.{BeginsThree, FillsLast};
-ghost use Rattle.coset_recipient.specs.RecipientWriting.{Begins, last_places};
+ghost use Rattle.coset_recipient.specs.RecipientWriting.{Begins, last_elements};
 ghost use Rattle.coset_recipient.specs.RecipientSame.{recipient_eq, recipient_eq_equiv, recipients_eq};
 ghost use Rattle.coset_recipient.specs.RecipientView.{recipient_seen};
 
 use coset_cbor::ser::write_array_head;
-use coset_codec::error::{Refused, keep_error};
+use coset_codec::error::{ErrorStored, store_error};
 use coset_codec::read::{
-    Decode, InPlace, Input, InputItems, copy_bstr_to, make_room, misfit, next_place, push_empty,
+    Decode, InPlace, Input, InputItems, copy_bstr_to, make_room, next_place, push_empty,
+    wrong_length,
 };
 use coset_codec::write::Encode;
 use coset_codec::{CallError, Codec, CoseError, Result};
@@ -58,16 +59,16 @@ pub struct CoseRecipient {
     pub recipients: Vec<CoseRecipient>,
 }
 
-/// What the error of another number of places asks for.
+/// What the error of another number of elements asks for.
 const PLACES: &str = "array with 3 or 4 items";
 
-/// Reads the first three places of a recipient's array into empty ones. What reading them answers stands inside the answer,
+/// Reads the first three elements of a recipient's array into empty ones. What reading them answers stands inside the answer,
 /// since the fourth is judged before them: it is the fault of the last of the three that has one.
 ///
 /// # Errors
 /// `UnexpectedItem`: there are fewer.
 #[inline(never)]
-fn begin_places(
+fn begin_elements(
     protected: &mut ProtectedHeader,
     unprotected: &mut Header,
     ciphertext: &mut Option<Vec<u8>>,
@@ -85,15 +86,15 @@ fn begin_places(
         (option_map (λ b. b.items) ciphertext.new) (state input.new) z members.new result }
 {
     if !members.next(input) {
-        return Err(misfit(PLACES));
+        return Err(wrong_length(PLACES));
     }
     let first = fill_protected_header(protected, alloc, input);
     if !members.next(input) {
-        return Err(misfit(PLACES));
+        return Err(wrong_length(PLACES));
     }
     let second = fill_unprotected_header(unprotected, alloc, input);
     if !members.next(input) {
-        return Err(misfit(PLACES));
+        return Err(wrong_length(PLACES));
     }
     match input.bytes_or_nil(alloc, "bstr / null") {
         Ok(found) => *ciphertext = found,
@@ -123,15 +124,15 @@ pub(crate) fn fill_recipients(
     alloc: Global,
     input: &mut Input<'_>,
     error: &mut CoseError,
-) -> Result<(), Refused>
+) -> Result<(), ErrorStored>
     requires empty { map recipient_seen all.old.items ≡ [] }
     ensures shrinks { length_left (state input.new) ≤ length_left (state input.old) }
-    ensures fills { (v : Item) (z : State) → Stands v (state input.old) z
+    ensures fills { (v : Item) (z : State) → ItemAt v (state input.old) z
         → (state input.new ≡ z)
         × Fills (list_of recipient_shape) v (map recipient_seen all.new.items)
-        (answer error.new result) }
+        (stored error.new result) }
 {
-    let mut members = keep_error(input.enter_array("array"), error)?;
+    let mut members = store_error(input.enter_array("array"), error)?;
     let filled = fill_listed(all, alloc, &mut members, input, error);
     members.finish(input);
     filled
@@ -148,13 +149,13 @@ fn fill_listed(
     members: &mut InputItems,
     input: &mut Input<'_>,
     error: &mut CoseError,
-) -> Result<(), Refused>
+) -> Result<(), ErrorStored>
     requires empty { map recipient_seen all.old.items ≡ [] }
     ensures shrinks { length_left (state input.new) ≤ length_left (state input.old) }
     ensures fills { (vs : Items) (z : State) → AreWithin members.old vs (state input.old) z
         → ((left : Items) × AreWithin members.new left (state input.new) z)
         × FillsEach recipient_shape vs (map recipient_seen all.new.items)
-        (answer error.new result) }
+        (stored error.new result) }
 {
     while next_place(all, members, input, error)? {
         let last = all.len() - 1;
@@ -173,41 +174,41 @@ fn fill_recipient(
     alloc: Global,
     input: &mut Input<'_>,
     error: &mut CoseError,
-) -> Result<(), Refused>
+) -> Result<(), ErrorStored>
     requires empty { recipient_seen recipient.old ≡ empty_recipient }
     ensures shrinks { length_left (state input.new) ≤ length_left (state input.old) }
     ensures strictly { OnOk result (GoesBehind (state input.old) (state input.new)) }
-    ensures fills { (v : Item) (z : State) → Stands v (state input.old) z
+    ensures fills { (v : Item) (z : State) → ItemAt v (state input.old) z
         → (state input.new ≡ z)
-        × Fills recipient_shape v (recipient_seen recipient.new) (answer error.new result) }
+        × Fills recipient_shape v (recipient_seen recipient.new) (stored error.new result) }
 {
-    let mut members = keep_error(input.enter_array("array"), error)?;
-    let filled = fill_places(recipient, alloc, &mut members, input, error);
+    let mut members = store_error(input.enter_array("array"), error)?;
+    let filled = fill_elements(recipient, alloc, &mut members, input, error);
     members.finish(input);
     filled
 }
 
-/// Reads the places of a recipient's array into one that holds nothing. They are judged from the last on.
+/// Reads the elements of a recipient's array into one that holds nothing. They are judged from the last on.
 ///
 /// # Errors
 /// `OutOfMemory`; `UnexpectedItem` where they are neither three nor four; or the fault of the last place that has one.
 #[cycle(read)]
-fn fill_places(
+fn fill_elements(
     recipient: &mut CoseRecipient,
     alloc: Global,
     members: &mut InputItems,
     input: &mut Input<'_>,
     error: &mut CoseError,
-) -> Result<(), Refused>
+) -> Result<(), ErrorStored>
     requires empty { recipient_seen recipient.old ≡ empty_recipient }
     ensures shrinks { length_left (state input.new) ≤ length_left (state input.old) }
     ensures fills { (vs : Items) (z : State) → AreWithin members.old vs (state input.old) z
         → ((left : Items) × AreWithin members.new left (state input.new) z)
         × Fills recipient_shape (array vs) (recipient_seen recipient.new)
-        (answer error.new result) }
+        (stored error.new result) }
 {
-    let first = keep_error(
-        begin_places(
+    let first = store_error(
+        begin_elements(
             &mut recipient.protected,
             &mut recipient.unprotected,
             &mut recipient.ciphertext,
@@ -218,7 +219,7 @@ fn fill_places(
         error,
     )?;
     fill_fourth(&mut recipient.recipients, alloc, members, input, error)?;
-    keep_error(first, error)
+    store_error(first, error)
 }
 
 /// Reads the fourth place of a recipient's array, if it is there, into an empty list.
@@ -232,12 +233,12 @@ fn fill_fourth(
     members: &mut InputItems,
     input: &mut Input<'_>,
     error: &mut CoseError,
-) -> Result<(), Refused>
+) -> Result<(), ErrorStored>
     requires empty { map recipient_seen all.old.items ≡ [] }
     ensures shrinks { length_left (state input.new) ≤ length_left (state input.old) }
     ensures fills { (vs : Items) (z : State) → AreWithin members.old vs (state input.old) z
         → ((left : Items) × AreWithin members.new left (state input.new) z)
-        × FillsLast vs (map recipient_seen all.new.items) (answer error.new result) }
+        × FillsLast vs (map recipient_seen all.new.items) (stored error.new result) }
 {
     if !members.next(input) {
         return Ok(());
@@ -245,8 +246,8 @@ fn fill_fourth(
     let filled = fill_recipients(all, alloc, input, error);
     if members.next(input) {
         input.pass();
-        *error = misfit(PLACES);
-        return Err(Refused);
+        *error = wrong_length(PLACES);
+        return Err(ErrorStored);
     }
     filled
 }
@@ -270,7 +271,7 @@ impl Decode for Recipients {
         let mut error = CoseError::OutOfMemory;
         match fill_recipients(&mut all, alloc, input, &mut error) {
             Ok(()) => Ok(Recipients(all)),
-            Err(Refused) => Err(error),
+            Err(ErrorStored) => Err(error),
         }
     }
 }
@@ -282,9 +283,9 @@ fn are_none(all: &[CoseRecipient]) -> bool
     all.is_empty()
 }
 
-/// How many places the recipient's array has.
-fn count_places(recipient: &CoseRecipient) -> usize
-    ensures { result ≡ 3 + last_places (recipient_seen recipient.now).recipients }
+/// How many elements the recipient's array has.
+fn count_elements(recipient: &CoseRecipient) -> usize
+    ensures { result ≡ 3 + last_elements (recipient_seen recipient.now).recipients }
 {
     if are_none(&recipient.recipients) {
         3
@@ -293,11 +294,11 @@ fn count_places(recipient: &CoseRecipient) -> usize
     }
 }
 
-/// Appends the head of a recipient's array, and its first three places.
+/// Appends the head of a recipient's array, and its first three elements.
 fn write_first(alloc: Global, recipient: &CoseRecipient, out: &mut Vec<u8>) -> Result<()>
     ensures { Begins (recipient_seen recipient.now) out.old.items out.new.items result }
 {
-    write_array_head(count_places(recipient), out)?;
+    write_array_head(count_elements(recipient), out)?;
     Bstr(&recipient.protected).encode(alloc, out)?;
     recipient.unprotected.encode(alloc, out)?;
     recipient.ciphertext.encode(alloc, out)
@@ -330,7 +331,7 @@ fn write_recipients(alloc: Global, all: &[CoseRecipient], out: &mut Vec<u8>) -> 
 /// Appends recipients, one after the other.
 #[cycle(write)]
 fn write_each(alloc: Global, all: &[CoseRecipient], out: &mut Vec<u8>) -> Result<()>
-    ensures ok { OnOk result (AppendsPlaces
+    ensures ok { OnOk result (AppendsElements
         (images recipient_image (map recipient_seen all.now)) (length all.now) out.old.items
         out.new.items) }
     ensures refused { IfErr result
@@ -568,7 +569,7 @@ impl Codec for CoseRecipient {
         let mut error = CoseError::OutOfMemory;
         match fill_recipient(&mut recipient, alloc, input, &mut error) {
             Ok(()) => Ok(recipient),
-            Err(Refused) => Err(error),
+            Err(ErrorStored) => Err(error),
         }
     }
 

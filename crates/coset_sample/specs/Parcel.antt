@@ -1,7 +1,7 @@
 -- A parcel: a number, who receives it, a note that may be missing, and marks.
 use Rattle.std.specs.Prelude.{ℕ, ℤ, List, Option, map, option_map, refl}
-use Rattle.coset_codec.specs.Shape.{Shape, along, array_of, ◌then◌, end, int64, bstr, or_nil, list_of}
-use Rattle.coset_codec.specs.ShapeLaws.{Lawful, bytes_no_nil, along_laws, array_of_laws, then_laws, end_laws, int64_laws, bstr_laws, or_nil_laws, list_of_laws}
+use Rattle.coset_codec.specs.Shape.{Shape, mapped, array_of, ◌then◌, end, int64, bstr, or_nil, list_of}
+use Rattle.coset_codec.specs.ShapeLaws.{Lawful, bytes_no_nil, mapped_laws, array_of_laws, then_laws, end_laws, int64_laws, bstr_laws, or_nil_laws, list_of_laws}
 use Rattle.coset_sample.specs.Reading.{mark_seen}
 use Rattle.coset_sample.specs.declared.parcel.Parcel.{Parcel}
 
@@ -23,11 +23,11 @@ parts x = (x.number, (x.receiver, (x.note, (x.marks, tt))))
 
 -- [int, bstr, bstr / nil, [* int]]
 abbrev pub parcel : Shape Seen
-parcel = along of_parts parts (array_of (int64 then bstr then or_nil bstr then list_of int64 then end))
+parcel = mapped of_parts parts (array_of (int64 then bstr then or_nil bstr then list_of int64 then end))
 
 pub parcel_laws : Lawful Seen parcel
 parcel_laws =
-    along_laws of_parts parts (λ x. refl) _
+    mapped_laws of_parts parts (λ x. refl) _
     (array_of_laws _
     (then_laws _ _ int64_laws
     (then_laws _ _ bstr_laws (then_laws _ _ (or_nil_laws bstr bytes_no_nil bstr_laws) (then_laws _ _ (list_of_laws int64 int64_laws) end_laws)))))

@@ -1,7 +1,7 @@
 -- A reading: a number, bytes that may be missing, and marks.
 use Rattle.std.specs.Prelude.{ℕ, ℤ, List, Option, map, option_map, refl}
-use Rattle.coset_codec.specs.Shape.{Shape, along, array_of, ◌then◌, end, int64, bstr, or_nil, list_of}
-use Rattle.coset_codec.specs.ShapeLaws.{Lawful, bytes_no_nil, along_laws, array_of_laws, then_laws, end_laws, int64_laws, bstr_laws, or_nil_laws, list_of_laws}
+use Rattle.coset_codec.specs.Shape.{Shape, mapped, array_of, ◌then◌, end, int64, bstr, or_nil, list_of}
+use Rattle.coset_codec.specs.ShapeLaws.{Lawful, bytes_no_nil, mapped_laws, array_of_laws, then_laws, end_laws, int64_laws, bstr_laws, or_nil_laws, list_of_laws}
 use Rattle.coset_sample.specs.declared.reading.Mark.{Mark}
 use Rattle.coset_sample.specs.declared.reading.Reading.{Reading}
 
@@ -26,10 +26,10 @@ parts x = (x.number, (x.payload, (x.marks, tt)))
 
 -- [int, bstr / nil, [* int]]
 abbrev pub reading : Shape Seen
-reading = along of_parts parts (array_of (int64 then or_nil bstr then list_of int64 then end))
+reading = mapped of_parts parts (array_of (int64 then or_nil bstr then list_of int64 then end))
 
 pub reading_laws : Lawful Seen reading
 reading_laws =
-    along_laws of_parts parts (λ x. refl) _
+    mapped_laws of_parts parts (λ x. refl) _
     (array_of_laws _
     (then_laws _ _ int64_laws (then_laws _ _ (or_nil_laws bstr bytes_no_nil bstr_laws) (then_laws _ _ (list_of_laws int64 int64_laws) end_laws))))

@@ -7,13 +7,13 @@ use Rattle.coset_value.specs.Item.{Item, integer}
 use Rattle.coset_value.specs.View.{view}
 use Rattle.coset_value.specs.declared.value.Value.{Value}
 use Rattle.coset_codec.specs.Errors.{IsUnexpected}
-use Rattle.coset_codec.specs.Shape.{Shape, along, that, int64, bstr}
-use Rattle.coset_codec.specs.ShapeLaws.{Lawful, along_laws, that_laws, int64_laws, bstr_laws}
+use Rattle.coset_codec.specs.Shape.{Shape, mapped, such_that, int64, bstr}
+use Rattle.coset_codec.specs.ShapeLaws.{Lawful, mapped_laws, such_that_laws, int64_laws, bstr_laws}
 use Rattle.coset_codec.specs.Maps.{Names, Fields, field, no_field, optional, labelled}
 use Rattle.coset_codec.specs.MapLaws.{LawfulNames, LawfulFields, Flat, field_laws, no_field_laws, optional_laws, labelled_laws}
 use Rattle.coset_sample.specs.declared.settings.Name.{Name}
 use Rattle.coset_sample.specs.declared.settings.Settings.{Settings}
-use Rattle.coset_sample.specs.declared.settings.SoFar.{SoFar}
+use Rattle.coset_sample.specs.declared.settings.PartialSettings.{PartialSettings}
 
 -- a label is its number
 abbrev pub name_seen : Name → ℤ
@@ -43,7 +43,7 @@ fields = field names (pos 1) (optional int64) (field names (pos 2) (optional bst
 abbrev Parts : Type 0
 Parts = (Option ℤ × (Option (List ℕ) × (Option ℤ × Unit {0}))) × List (ℤ × Item)
 
-abbrev pub so_far_seen : SoFar → Parts
+abbrev pub so_far_seen : PartialSettings → Parts
 so_far_seen s = ((s.level, (option_map (λ b. b.items) s.name, (s.limit, tt))), map entry_seen s.rest.items)
 
 abbrev pub of_parts : Parts → Seen
@@ -57,7 +57,7 @@ HasLevel p = p.0.0 ≢ None
 
 -- {1 => int, ? 2 => bstr, ? 4 => int, * int => any}
 abbrev pub settings : Shape Seen
-settings = along of_parts parts (that IsUnexpected HasLevel (labelled names fields))
+settings = mapped of_parts parts (such_that IsUnexpected HasLevel (labelled names fields))
 
 -- the laws
 
@@ -80,4 +80,4 @@ fields_laws =
     (field_laws names names_laws (pos 4) flat_four _ (optional_laws int64 int64_laws) _ (no_field_laws names names_laws) refl) refl) refl
 
 pub settings_laws : Lawful Seen settings
-settings_laws = along_laws of_parts parts (λ x. refl) _ (that_laws _ _ _ (labelled_laws names names_laws true fields fields_laws))
+settings_laws = mapped_laws of_parts parts (λ x. refl) _ (such_that_laws _ _ _ (labelled_laws names names_laws true fields fields_laws))

@@ -1,4 +1,4 @@
-//! A parcel: an array of four fixed places.
+//! A parcel: an array of four fixed elements.
 //!
 //! ```cddl
 //! parcel = [ number : int, receiver : bstr, note : bstr / nil, marks : [* int] ]

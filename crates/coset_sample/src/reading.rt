@@ -1,4 +1,4 @@
-//! A reading: an array of fixed places.
+//! A reading: an array of fixed elements.
 
 ghost use Rattle.std.specs.Prelude.{ℤ};
 ghost use Rattle.coset_codec.specs.Shape.{int64};

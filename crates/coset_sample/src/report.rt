@@ -1,4 +1,4 @@
-//! A report: an array of two places, the second of which holds another type's values. Its traits are written out one by
+//! A report: an array of two elements, the second of which holds another type's values. Its traits are written out one by
 //! one, as of a type that is no [`Codec`](coset_codec::Codec).
 //!
 //! ```cddl
@@ -16,7 +16,9 @@ use coset_cbor::value::Value;
 use coset_codec::read::{Input, decode_two};
 use coset_codec::traits::FromPull;
 use coset_codec::write::{Array, Encode, encode_to_value, encode_two};
-use coset_codec::{AsCborValue, CborSerializable, Lawful, Result, Source, TaggedCborSerializable};
+use coset_codec::{
+    AsCborValue, CborSerializable, ItemSource, Lawful, Result, TaggedCborSerializable,
+};
 use std::alloc::Global;
 
 /// A report: who sends it, and readings.
@@ -28,7 +30,7 @@ pub struct Report {
     pub readings: Vec<Reading>,
 }
 
-/// Reads the places from the first to the last, and names the fault of the last that has one.
+/// Reads the elements from the first to the last, and names the fault of the last that has one.
 fn read_report(alloc: Global, input: &mut Input<'_>) -> Result<Report>
     ensures shrinks { length_left (state input.new) ≤ length_left (state input.old) }
     ensures strictly { OnOk result (GoesBehind (state input.old) (state input.new)) }
@@ -76,7 +78,7 @@ impl Encode for Report {
 
 impl FromPull for Report {
     fn from_pull(alloc: Global, pull: Pull<'_>) -> Result<Report> {
-        read_report(alloc, &mut Input::new(Source::Lent(pull)))
+        read_report(alloc, &mut Input::new(ItemSource::Lent(pull)))
     }
 
     fn from_input(alloc: Global, input: &mut Input<'_>) -> Result<Report> {

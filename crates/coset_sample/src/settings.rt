@@ -59,14 +59,14 @@ pub struct Settings {
 
 /// Settings of which some pairs were read.
 #[derive(Drop)]
-struct SoFar {
+struct PartialSettings {
     level: Option<i64>,
     name: Option<Vec<u8>>,
     limit: Option<i64>,
     rest: Vec<(Name, Value)>,
 }
 
-impl Gather for SoFar {
+impl Gather for PartialSettings {
     type Label = Name;
 
     ghost use Rattle.coset_sample.specs.Settings.{fields, names_laws, fields_laws};
@@ -147,14 +147,14 @@ impl Codec for Settings {
         a.rest.items b.rest.items)))) };
 
     fn read(alloc: Global, input: &mut Input<'_>) -> Result<Settings> {
-        let mut so_far = SoFar {
+        let mut so_far = PartialSettings {
             level: None,
             name: None,
             limit: None,
             rest: Vec::new(alloc),
         };
         read_map(alloc, input, &mut so_far)?;
-        let SoFar {
+        let PartialSettings {
             level,
             name,
             limit,

@@ -6,13 +6,13 @@ use Rattle.coset_codec.specs.AsWritten.{AsWritten, WhenRead}
 use Rattle.coset_codec.specs.Lists.{EachHas, EachWith}
 use Rattle.coset_codec.specs.Shape.{both, ◌then◌, end, bstr, or_nil, list_of}
 use Rattle.coset_codec.specs.ShapeLaws.{some-none}
-use Rattle.coset_core.specs.Headers.{ProtectedSeen, SignatureSeen, protected_bytes, places_of}
+use Rattle.coset_core.specs.Headers.{ProtectedSeen, SignatureSeen, protected_bytes, elements_of}
 use Rattle.coset_core.proofs.Messages.{HasBytes, KeepsBytes, KeptAsWritten, has_bytes, header_as_written, header_when_read, message_as_written}
-use Rattle.coset_core.proofs.Messages.{message_when_read, places_as_written}
+use Rattle.coset_core.proofs.Messages.{message_when_read, elements_as_written}
 use Rattle.coset_sign.specs.SignatureStructure.{signature_structure}
 use Rattle.coset_sign.specs.Signed.{SignsSame}
-use Rattle.coset_sign.specs.Sign1.{SamePayloadAndSignature, sign1, sign1_fields, sign1_places, sign1_structure}
-use Rattle.coset_sign.specs.Sign.{SignSeen, sign, sign_fields, sign_places, signer, signer_structure, EachSigns, EachSignsSame}
+use Rattle.coset_sign.specs.Sign1.{SamePayloadAndSignature, sign1, sign1_fields, sign1_elements, sign1_structure}
+use Rattle.coset_sign.specs.Sign.{SignSeen, sign, sign_fields, sign_elements, signer, signer_structure, EachSigns, EachSignsSame}
 use Rattle.coset_sign.specs.declared.signature.SignatureContext.TheVariants.{CoseSign1, CoseSignature}
 
 -- ---- with one signature
@@ -22,18 +22,18 @@ signs_same p q e context None a l = ap (option_map (λ b. signature_structure co
 signs_same p q e context (Some s) a l = ap (λ o. both (λ b c. signature_structure context b (Some c) a l) o (protected_bytes s)) e
 
 pub signs_as_written : KeptAsWritten → AsWritten sign1 (λ m n. SignsSame n.protected m.protected)
-signs_as_written kept v m n e d = signs_same m.protected n.protected (header_as_written sign1_places KeepsBytes kept v (sign1_fields m) (sign1_fields n) e d)
+signs_as_written kept v m n e d = signs_same m.protected n.protected (header_as_written sign1_elements KeepsBytes kept v (sign1_fields m) (sign1_fields n) e d)
 
 pub carries_as_written : AsWritten sign1 SamePayloadAndSignature
 carries_as_written v m n e d =
-    let places = places_as_written sign1_places _ (then_as_written (or_nil bstr) (bstr then end) (λ p q. q ≡ p) _ or_nil_as_written
+    let elements = elements_as_written sign1_elements _ (then_as_written (or_nil bstr) (bstr then end) (λ p q. q ≡ p) _ or_nil_as_written
     (then_as_written bstr end (λ s t. t ≡ s) (λ x y. ⊤) bstr_as_written (λ vs x y f g. tt))) in
-    let both_same = places v (sign1_fields m) (sign1_fields n) e d in
+    let both_same = elements v (sign1_fields m) (sign1_fields n) e d in
     (both_same.0, both_same.1.0)
 
 pub has_signed : (external_aad payload : List ℕ) → WhenRead sign1 (λ m. sign1_structure m external_aad payload ≡ None → ⊥)
 has_signed external_aad payload v m d none =
-    let header = header_when_read sign1_places HasBytes has_bytes v (sign1_fields m) d in
+    let header = header_when_read sign1_elements HasBytes has_bytes v (sign1_fields m) d in
     some-none (ap (option_map (λ p. signature_structure CoseSign1 p None external_aad payload)) header.1) none
 
 -- ---- with any number of signatures
@@ -43,7 +43,7 @@ abbrev KeepsSame : SignatureSeen → SignatureSeen → Type 0
 KeepsSame s t = KeepsBytes s.protected t.protected
 
 signer_as_written : KeptAsWritten → AsWritten signer KeepsSame
-signer_as_written kept v s t e d = header_as_written (bstr then end) KeepsBytes kept v (places_of s) (places_of t) e d
+signer_as_written kept v s t e d = header_as_written (bstr then end) KeepsBytes kept v (elements_of s) (elements_of t) e d
 
 each_signs_same : (m n : SignSeen) → KeepsBytes m.protected n.protected → (ss ts : List SignatureSeen) → EachWith KeepsSame ss ts
     → EachWith (λ s t. (a l : List ℕ) → signer_structure n s a l ≡ signer_structure m t a l) ts ss
@@ -59,8 +59,8 @@ pub each_signs_as_written : KeptAsWritten → AsWritten sign (λ m n. EachSignsS
 each_signs_as_written kept v m n e d =
     let lists = then_as_written (list_of signer) end (EachWith KeepsSame) (λ x y. ⊤) (list_as_written signer KeepsSame (signer_as_written kept))
     (λ vs x y f g. tt) in
-    let places = then_as_written (or_nil bstr) (list_of signer then end) (λ p q. ⊤) _ (λ w p q f g. tt) lists in
-    let all = message_as_written sign_places KeepsBytes _ kept places v (sign_fields m) (sign_fields n) e d in
+    let elements = then_as_written (or_nil bstr) (list_of signer then end) (λ p q. ⊤) _ (λ w p q f g. tt) lists in
+    let all = message_as_written sign_elements KeepsBytes _ kept elements v (sign_fields m) (sign_fields n) e d in
     each_signs_same m n all.0 m.signatures n.signatures all.1.1.1.0
 
 -- of the signatures' own headers
@@ -68,7 +68,7 @@ abbrev HasOwnBytes : SignatureSeen → Type 0
 HasOwnBytes s = HasBytes s.protected
 
 signer_when_read : WhenRead signer HasOwnBytes
-signer_when_read v s d = header_when_read (bstr then end) HasBytes has_bytes v (places_of s) d
+signer_when_read v s d = header_when_read (bstr then end) HasBytes has_bytes v (elements_of s) d
 
 has_structure : (m : SignSeen) → HasBytes m.protected → (s : SignatureSeen) → HasOwnBytes s → (a l : List ℕ) → signer_structure m s a l ≡ None → ⊥
 has_structure m h s g a l none = some-none (λ i. both (λ b c. signature_structure CoseSignature b (Some c) a l) (h.1 i) (g.1 i)) none
@@ -81,6 +81,6 @@ each_has_structure m h (s ∷ ss) g = (has_structure m h s g.0, each_has_structu
 pub each_signs_when_read : WhenRead sign EachSigns
 each_signs_when_read v m d =
     let lists = then_when_read (list_of signer) end (EachHas HasOwnBytes) (λ x. ⊤) (list_when_read signer HasOwnBytes signer_when_read) (λ vs x f. tt) in
-    let places = then_when_read (or_nil bstr) (list_of signer then end) (λ p. ⊤) _ (λ w p f. tt) lists in
-    let all = message_when_read sign_places HasBytes _ has_bytes places v (sign_fields m) d in
+    let elements = then_when_read (or_nil bstr) (list_of signer then end) (λ p. ⊤) _ (λ w p f. tt) lists in
+    let all = message_when_read sign_elements HasBytes _ has_bytes elements v (sign_fields m) d in
     each_has_structure m all.0 m.signatures all.1.1.1.0

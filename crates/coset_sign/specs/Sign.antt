@@ -3,11 +3,12 @@ use Rattle.std.specs.Prelude.{◌≡◌, ℕ, List, [], ◌∷◌, ◌++◌, map
 use Rattle.coset_value.specs.Item.{Item}
 use Rattle.coset_codec.specs.Errors.{IsUnexpected}
 use Rattle.coset_codec.specs.Lists.{EachHas, EachWith}
-use Rattle.coset_codec.specs.Shape.{Shape, Places, along, blamed, list_of, ◌then◌, end, bstr, or_nil}
-use Rattle.coset_codec.specs.ShapeLaws.{Lawful, LawfulPlaces, bytes_no_nil, along_laws, blamed_laws, list_of_laws, then_laws, end_laws, bstr_laws, or_nil_laws}
+use Rattle.coset_codec.specs.Shape.{Shape, Elements, mapped, masked, list_of, ◌then◌, end, bstr, or_nil}
+use Rattle.coset_codec.specs.ShapeLaws.{Lawful, LawfulElements, bytes_no_nil, mapped_laws, masked_laws}
+use Rattle.coset_codec.specs.ShapeLaws.{list_of_laws, then_laws, end_laws, bstr_laws, or_nil_laws}
 use Rattle.coset_core.specs.Headers.{HeaderSeen, ProtectedSeen, SignatureSeen, empty_header, signature}
 use Rattle.coset_core.specs.HeaderLaws.{signature_laws}
-use Rattle.coset_core.specs.Messages.{Headed, headed, headed_laws, empty_protected}
+use Rattle.coset_core.specs.Messages.{WithHeaders, with_headers, with_headers_laws, empty_protected}
 use Rattle.coset_core.specs.Views.{header_seen, protected_seen, signature_seen}
 use Rattle.coset_sign.specs.Signed.{signed_item, or_empty}
 use Rattle.coset_sign.specs.declared.sign.CoseSign.{CoseSign}
@@ -32,31 +33,31 @@ sign_seen m = record {
 abbrev pub empty_sign : SignSeen
 empty_sign = record { protected = empty_protected; unprotected = empty_header; payload = None; signatures = [] }
 
-abbrev pub sign_of : Headed (Option (List ℕ) × (List SignatureSeen × Unit {0})) → SignSeen
+abbrev pub sign_of : WithHeaders (Option (List ℕ) × (List SignatureSeen × Unit {0})) → SignSeen
 sign_of p = record { protected = p.0; unprotected = p.1.0; payload = p.1.1.0; signatures = p.1.1.1.0 }
 
-abbrev pub sign_fields : SignSeen → Headed (Option (List ℕ) × (List SignatureSeen × Unit {0}))
+abbrev pub sign_fields : SignSeen → WithHeaders (Option (List ℕ) × (List SignatureSeen × Unit {0}))
 sign_fields m = (m.protected, (m.unprotected, (m.payload, (m.signatures, tt))))
 
 -- COSE_Signature, of which is told that an item is none, and not why
 abbrev pub signer : Shape SignatureSeen
-signer = blamed IsUnexpected signature
+signer = masked IsUnexpected signature
 
 -- payload : bstr / nil, signatures : [* COSE_Signature]
-abbrev pub sign_places : Places (Option (List ℕ) × (List SignatureSeen × Unit {0}))
-sign_places = or_nil bstr then list_of signer then end
+abbrev pub sign_elements : Elements (Option (List ℕ) × (List SignatureSeen × Unit {0}))
+sign_elements = or_nil bstr then list_of signer then end
 
-pub sign_places_laws : LawfulPlaces _ sign_places
-sign_places_laws =
+pub sign_elements_laws : LawfulElements _ sign_elements
+sign_elements_laws =
     then_laws _ _ (or_nil_laws bstr bytes_no_nil bstr_laws)
-    (then_laws _ _ (list_of_laws signer (blamed_laws IsUnexpected signature signature_laws)) end_laws)
+    (then_laws _ _ (list_of_laws signer (masked_laws IsUnexpected signature signature_laws)) end_laws)
 
 -- [Headers, payload : bstr / nil, signatures : [* COSE_Signature]]
 abbrev pub sign : Shape SignSeen
-sign = along sign_of sign_fields (headed sign_places)
+sign = mapped sign_of sign_fields (with_headers sign_elements)
 
 pub sign_laws : Lawful SignSeen sign
-sign_laws = along_laws sign_of sign_fields (λ x. refl) _ (headed_laws sign_places sign_places_laws)
+sign_laws = mapped_laws sign_of sign_fields (λ x. refl) _ (with_headers_laws sign_elements sign_elements_laws)
 
 -- ---- what is signed
 

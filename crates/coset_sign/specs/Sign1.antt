@@ -1,10 +1,10 @@
 -- COSE_Sign1 messages (RFC 8152, section 4.2).
 use Rattle.std.specs.Prelude.{◌≡◌, ℕ, List, [], Option, None, option_map, refl}
 use Rattle.coset_value.specs.Item.{Item}
-use Rattle.coset_codec.specs.Shape.{Shape, Places, along, ◌then◌, end, bstr, or_nil}
-use Rattle.coset_codec.specs.ShapeLaws.{Lawful, LawfulPlaces, bytes_no_nil, along_laws, then_laws, end_laws, bstr_laws, or_nil_laws}
+use Rattle.coset_codec.specs.Shape.{Shape, Elements, mapped, ◌then◌, end, bstr, or_nil}
+use Rattle.coset_codec.specs.ShapeLaws.{Lawful, LawfulElements, bytes_no_nil, mapped_laws, then_laws, end_laws, bstr_laws, or_nil_laws}
 use Rattle.coset_core.specs.Headers.{HeaderSeen, ProtectedSeen, empty_header}
-use Rattle.coset_core.specs.Messages.{Headed, headed, headed_laws, empty_protected}
+use Rattle.coset_core.specs.Messages.{WithHeaders, with_headers, with_headers_laws, empty_protected}
 use Rattle.coset_core.specs.Views.{header_seen, protected_seen}
 use Rattle.coset_sign.specs.Signed.{signed_item, or_empty}
 use Rattle.coset_sign.specs.declared.sign1.CoseSign1 as declared
@@ -29,25 +29,25 @@ sign1_seen m = record {
 abbrev pub empty_sign1 : Sign1Seen
 empty_sign1 = record { protected = empty_protected; unprotected = empty_header; payload = None; signature = [] }
 
-abbrev pub sign1_of : Headed (Option (List ℕ) × (List ℕ × Unit {0})) → Sign1Seen
+abbrev pub sign1_of : WithHeaders (Option (List ℕ) × (List ℕ × Unit {0})) → Sign1Seen
 sign1_of p = record { protected = p.0; unprotected = p.1.0; payload = p.1.1.0; signature = p.1.1.1.0 }
 
-abbrev pub sign1_fields : Sign1Seen → Headed (Option (List ℕ) × (List ℕ × Unit {0}))
+abbrev pub sign1_fields : Sign1Seen → WithHeaders (Option (List ℕ) × (List ℕ × Unit {0}))
 sign1_fields m = (m.protected, (m.unprotected, (m.payload, (m.signature, tt))))
 
 -- payload : bstr / nil, signature : bstr
-abbrev pub sign1_places : Places (Option (List ℕ) × (List ℕ × Unit {0}))
-sign1_places = or_nil bstr then bstr then end
+abbrev pub sign1_elements : Elements (Option (List ℕ) × (List ℕ × Unit {0}))
+sign1_elements = or_nil bstr then bstr then end
 
-pub sign1_places_laws : LawfulPlaces _ sign1_places
-sign1_places_laws = then_laws _ _ (or_nil_laws bstr bytes_no_nil bstr_laws) (then_laws _ _ bstr_laws end_laws)
+pub sign1_elements_laws : LawfulElements _ sign1_elements
+sign1_elements_laws = then_laws _ _ (or_nil_laws bstr bytes_no_nil bstr_laws) (then_laws _ _ bstr_laws end_laws)
 
 -- [Headers, payload : bstr / nil, signature : bstr]
 abbrev pub sign1 : Shape Sign1Seen
-sign1 = along sign1_of sign1_fields (headed sign1_places)
+sign1 = mapped sign1_of sign1_fields (with_headers sign1_elements)
 
 pub sign1_laws : Lawful Sign1Seen sign1
-sign1_laws = along_laws sign1_of sign1_fields (λ x. refl) _ (headed_laws sign1_places sign1_places_laws)
+sign1_laws = mapped_laws sign1_of sign1_fields (λ x. refl) _ (with_headers_laws sign1_elements sign1_elements_laws)
 
 -- the second message carries the payload and the signature of the first
 abbrev pub SamePayloadAndSignature : Sign1Seen → Sign1Seen → Type 0

@@ -10,9 +10,9 @@ mod signature;
 pub use coset_core::{
     Algorithm, AsCborValue, Bstr, CallError, CborOrdering, CborSerializable, ClaimName, Codec,
     ContentType, CoseCountersignature, CoseCountersignatureBuilder, CoseError, CoseSignature,
-    CoseSignatureBuilder, Encode, EndOfFile, FromPull, Header, HeaderBuilder, KeyOperation,
-    KeyType, Label, Lawful, ProtectedBstr, ProtectedHeader, RegisteredLabel,
-    RegisteredLabelWithPrivate, Result, Source, TaggedCborSerializable, TaggedCodec, cbor, codec,
+    CoseSignatureBuilder, Encode, EndOfFile, FromPull, Header, HeaderBuilder, ItemSource,
+    KeyOperation, KeyType, Label, Lawful, ProtectedBstr, ProtectedHeader, RegisteredLabel,
+    RegisteredLabelWithPrivate, Result, TaggedCborSerializable, TaggedCodec, cbor, codec,
     has_repeats, iana, util,
 };
 pub use countersign::{

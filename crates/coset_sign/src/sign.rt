@@ -11,7 +11,7 @@ ghost use Rattle.coset_core.specs.Calls.{AsksAbout, Creates, TriesToCreate};
 ghost use Rattle.coset_sign.specs.Sign.{and_signature, empty_sign, sign, sign_seen, signed_with, signer_carried, signer_structure};
 
 use crate::signature::{SignatureContext, sig_structure_of};
-use coset_codec::read::{Decode, Input, read_blamed_list};
+use coset_codec::read::{Decode, Input, read_masked_list};
 use coset_codec::util::copy_bstr;
 use coset_codec::write::{Array, Encode, encode_four};
 use coset_codec::{CallError, Codec, CoseError, Result, TaggedCodec};
@@ -39,7 +39,7 @@ pub struct CoseSign {
     pub signatures: Vec<CoseSignature>,
 }
 
-/// What the error of another number of places asks for.
+/// What the error of another number of elements asks for.
 const PLACES: &str = "array with 4 items";
 
 /// The signatures of a message. Of one with a fault is said that it is none.
@@ -59,7 +59,7 @@ impl Decode for Signatures {
 
     fn decode(alloc: Global, input: &mut Input<'_>) -> Result<Signatures> {
         let blame = ("non-signature", "map for COSE_Signature");
-        match read_blamed_list(alloc, input, "array", blame) {
+        match read_masked_list(alloc, input, "array", blame) {
             Ok(all) => Ok(Signatures(all)),
             Err(error) => Err(error),
         }

@@ -35,7 +35,7 @@ pub struct CoseSign1 {
     pub signature: Vec<u8>,
 }
 
-/// What the error of another number of places asks for.
+/// What the error of another number of elements asks for.
 const PLACES: &str = "array with 4 items";
 
 impl CoseSign1 {

@@ -1,4 +1,4 @@
--- A message whose payload is sent apart.
+-- A message whose payload is detached.
 use Rattle.std.proofs.Common.{◌≡◌, ◌∙◌, ℕ, ℤ, List, Bool, true, false, Option, Some, None, Err, Vec, Global, ap, inl, is_some, option_map, refl, subst}
 use Rattle.std.proofs.Common.{sym, true≢false}
 use Rattle.std.specs.Prelude.{◌≢◌}

@@ -7,20 +7,21 @@ use Rattle.coset_codec.specs.Answers.{Describes}
 use Rattle.coset_codec.specs.AsWritten.{WhenRead}
 use Rattle.coset_codec.specs.Lists.{EachHas}
 use Rattle.coset_codec.specs.Serialized.{content_bytes}
-use Rattle.coset_codec.specs.Shape.{FirstDescribes, Places, ◌then◌, bstr, end}
+use Rattle.coset_codec.specs.Shape.{FirstDescribes, Elements, ◌then◌, bstr, end}
 use Rattle.coset_codec.specs.ShapeLaws.{some-none}
 use Rattle.coset_codec.specs.declared.error.CallError.{CallError}
 use Rattle.coset_codec.specs.declared.error.CallError.TheVariants.{Coset, Caller}
 use Rattle.coset_core.specs.Headers.{HeaderSeen, header_of, SignatureSeen, Signatures, no_signatures, signature_and, signatures_of, countersignatures_in}
-use Rattle.coset_core.specs.Headers.{AreSignatures, CounterSignaturesAre, IsHeader, LAYERS, ProtectedIs, ProtectedSeen, empty_header, header, header_image}
-use Rattle.coset_core.specs.Headers.{is_empty_header, layered_header, protected, protected_bytes, told_by}
-use Rattle.coset_core.specs.Messages.{headed}
+use Rattle.coset_core.specs.Headers.{AreSignatures, CounterSignaturesAre, IsHeader, LAYERS, DescribesProtected}
+use Rattle.coset_core.specs.Headers.{ProtectedSeen, empty_header, header, header_image}
+use Rattle.coset_core.specs.Headers.{is_empty_header, layered_header, protected, protected_bytes, described_by}
+use Rattle.coset_core.specs.Messages.{with_headers}
 use Rattle.coset_core.specs.ViewLaws.{header-opened}
 use Rattle.coset_core.specs.Views.{countersignature_seen, header_seen}
 use Rattle.coset_core.specs.declared.countersignature.CoseCountersignature.{CoseCountersignature}
 use Rattle.coset_core.specs.declared.header.Header.{Header, out-Header}
 use Rattle.coset_codec.proofs.AsWritten.{array_when_read, then_when_read}
-use Rattle.coset_sign.specs.Sign1.{Sign1Seen, sign1, sign1_fields, sign1_places, sign1_structure}
+use Rattle.coset_sign.specs.Sign1.{Sign1Seen, sign1, sign1_fields, sign1_elements, sign1_structure}
 use Rattle.coset_sign.specs.Countersigned.{countersigned_item}
 use Rattle.coset_sign.specs.SignatureStructure.{signature_structure}
 use Rattle.coset_sign.specs.declared.signature.SignatureContext.TheVariants.{CoseSign1}
@@ -41,17 +42,17 @@ listed (s ∷ ss) = ap (λ ts. s ∷ ts) (listed ss)
 abbrev Kept : SignatureSeen → Type 0
 Kept s = (b : List ℕ) × (s.protected.original ≡ Some b)
 
-kept : (k : ℕ) (o : Option (List ℕ)) (p : HeaderSeen) (v : Item) → ProtectedIs (IsHeader p) (p ≡ empty_header) o k v → (b : List ℕ) × (o ≡ Some b)
+kept : (k : ℕ) (o : Option (List ℕ)) (p : HeaderSeen) (v : Item) → DescribesProtected (IsHeader p) (p ≡ empty_header) o k v → (b : List ℕ) × (o ≡ Some b)
 kept zero o p v h = absurd h
 kept (suc k) o p v h = (h.0, h.2)
 
 -- the places behind the first one of a signature
-abbrev Behind : HeaderSeen → ℕ → Places (Unit {0} × (List ℕ × Unit {0}))
-Behind u k = told_by (IsHeader u k) then bstr then end
+abbrev Behind : HeaderSeen → ℕ → Elements (Unit {0} × (List ℕ × Unit {0}))
+Behind u k = described_by (IsHeader u k) then bstr then end
 
 first_kept :
     (k : ℕ) (o : Option (List ℕ)) (p u : HeaderSeen) (vs : Items) (x : Unit {0} × (Unit {0} × (List ℕ × Unit {0})))
-    → FirstDescribes (λ w t. ProtectedIs (IsHeader p) (p ≡ empty_header) o k w) (Behind u k).describes vs x → (b : List ℕ) × (o ≡ Some b)
+    → FirstDescribes (λ w t. DescribesProtected (IsHeader p) (p ≡ empty_header) o k w) (Behind u k).describes vs x → (b : List ℕ) × (o ≡ Some b)
 first_kept k o p u no_items x h = absurd h
 first_kept k o p u (item w ws) x h = kept k o p w h.0
 
@@ -68,11 +69,11 @@ header_kept : (h : HeaderSeen) (v : Item) → header.describes v h → EachHas K
 unfolding layered_header
 header_kept (header_of f ss ts) v d = held_kept LAYERS ts d.0.1 d.3
 
-headed_kept : WhenRead (headed sign1_places) (λ x. ⊤ × (EachHas Kept (each_signature (countersignatures_in x.1.0)) × ⊤))
+headed_kept : WhenRead (with_headers sign1_elements) (λ x. ⊤ × (EachHas Kept (each_signature (countersignatures_in x.1.0)) × ⊤))
 headed_kept =
-    array_when_read (protected then header then sign1_places) _
-    (then_when_read protected (header then sign1_places) (λ p. ⊤) _ (λ v p d. tt)
-    (then_when_read header sign1_places (λ h. EachHas Kept (each_signature (countersignatures_in h))) (λ y. ⊤) (λ v h d. header_kept h v d) (λ vs y d. tt)))
+    array_when_read (protected then header then sign1_elements) _
+    (then_when_read protected (header then sign1_elements) (λ p. ⊤) _ (λ v p d. tt)
+    (then_when_read header sign1_elements (λ h. EachHas Kept (each_signature (countersignatures_in h))) (λ y. ⊤) (λ v h d. header_kept h v d) (λ vs y d. tt)))
 
 message_kept : WhenRead sign1 (λ m. EachHas Kept (each_signature (countersignatures_in m.unprotected)))
 message_kept v m d = (headed_kept v (sign1_fields m) d).1.0

@@ -7,12 +7,12 @@ use Rattle.coset_codec.specs.ReadAgain.{IsWritten}
 use Rattle.coset_codec.specs.Shape.{both, bstr, tstr}
 use Rattle.coset_codec.specs.declared.error.CallError.{CallError}
 use Rattle.coset_codec.specs.declared.error.CallError.TheVariants.{Coset, Caller}
-use Rattle.coset_label.specs.Names.{RegisteredName, assigned, private_use, phrase}
+use Rattle.coset_label.specs.Names.{RegisteredName, assigned, private_use, text_name}
 use Rattle.coset_core.specs.Built.{with_algorithm}
 use Rattle.coset_core.specs.Fields.{partial_header}
 use Rattle.coset_core.specs.Headers.{HeaderSeen, empty_header, layered_header, layered_protected, protected_bytes}
 use Rattle.coset_core.specs.Messages.{unread}
-use Rattle.coset_claims.specs.Claims.{ClaimsSeen, Fielded, claim_name, claims, fields, names, parts_of}
+use Rattle.coset_claims.specs.Claims.{ClaimsSeen, FieldTuple, claim_name, claims, fields, names, parts_of}
 use Rattle.coset_claims.specs.Timestamp.{TimestampSeen, fractional_seconds, timestamp, whole_seconds}
 use Rattle.coset_codec.proofs.EncodingMaps.{optional-has}
 use Rattle.coset_sign.specs.SignatureStructure.{signature_structure}
@@ -58,7 +58,7 @@ unfolding timestamp
 moment-has (whole_seconds i) e = absurd (cc)
 moment-has (fractional_seconds x) e = absurd (cc)
 
-fields-have : (x : Fielded) → fields.image x ≡ None → ⊥
+fields-have : (x : FieldTuple) → fields.image x ≡ None → ⊥
 fields-have x =
     both-has _ _ _ (optional-has _ text-has x.0)
     (both-has _ _ _ (optional-has _ text-has x.1.0)
@@ -71,7 +71,7 @@ name-has : (l : RegisteredName) → claim_name.image l ≡ None → ⊥
 unfolding claim_name
 name-has (assigned i) e = absurd (cc)
 name-has (private_use i) e = absurd (cc)
-name-has (phrase s) e = absurd (cc)
+name-has (text_name s) e = absurd (cc)
 
 rest-has : (es : List (RegisteredName × Item)) → named_image claim_name.image es ≡ None → ⊥
 rest-has [] e = absurd (cc)

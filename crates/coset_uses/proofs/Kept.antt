@@ -59,9 +59,9 @@ other_on all old new ns us vs k v l g e n d q = λ ms ws h.
 pub blames_on : (all old new : Pairs) (k v : Item) → Blames all old → old ≡ pair k v new → Blames all new
 blames_on all old new k v b e f h = b f (subst (SomePair (IsNoLabel f)) (sym e) (inr h))
 
-pub blamed : (all old new : Pairs) (k v : Item) (f : CoseError) → Blames all old → old ≡ pair k v new → (IsName k → ⊥) → label.faults k f
+pub masked : (all old new : Pairs) (k v : Item) (f : CoseError) → Blames all old → old ≡ pair k v new → (IsName k → ⊥) → label.faults k f
     → SomePair (IsNoLabel f) all
-blamed all old new k v f b e n h = b f (subst (SomePair (IsNoLabel f)) (sym e) (inl (n, h)))
+masked all old new k v f b e n h = b f (subst (SomePair (IsNoLabel f)) (sym e) (inl (n, h)))
 
 pub all_split : (all left ns : Pairs) (us : Unassigned) → GoesOn all ns us left → left ≡ no_pairs → Splits all ns us
 all_split all left ns us g e =

@@ -1,4 +1,4 @@
--- A message with one signature whose payload is sent apart (RFC 8152, section 4.1).
+-- A message with one signature whose payload is detached (RFC 8152, section 4.1).
 use Rattle.std.specs.Prelude.{◌≡◌, ◌≢◌, ◌⊎◌, ℕ, List, None, Result, Ok, Err, Vec}
 use Rattle.std.specs.Global.{Global}
 use Rattle.coset_codec.specs.Answers.{Describes}

@@ -1,4 +1,4 @@
-//! A message whose payload is sent apart: it carries `nil` in its place (RFC 8152, section 4.1).
+//! A message whose payload is detached: it carries `nil` in its place (RFC 8152, section 4.1).
 
 ghost use Rattle.coset_iana.specs.Algorithm as algorithms;
 ghost use Rattle.coset_label.specs.Names.{assigned};

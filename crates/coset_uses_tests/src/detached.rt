@@ -1,4 +1,4 @@
-//! A message whose payload is sent apart.
+//! A message whose payload is detached.
 
 use crate::answers::{are, made_of};
 use coset::iana::Algorithm;

@@ -7,7 +7,7 @@ use Rattle.coset.specs.Claims.{ClaimsSeen}
 use Rattle.coset.specs.Claims as claims
 use Rattle.coset.specs.Fields.{same_name}
 use Rattle.coset.specs.Headers.{HeaderSeen, header_of, fields_in, are_none}
-use Rattle.coset.specs.Names.{Name, number, word, RegisteredName, as_name}
+use Rattle.coset.specs.Names.{Name, number, text_label, RegisteredName, as_name}
 use Rattle.coset.specs.Sign1.{Sign1Seen}
 use Rattle.coset.specs.Views.{algorithm_seen, critical_seen}
 use Rattle.cwt_gate.specs.declared.policy.Policy.{Policy}
@@ -55,7 +55,7 @@ parameters (header_of f ss ts) =
 -- the number that a label is, unless it is a text
 abbrev pub number_in : Name → Option ℤ
 number_in (number i) = Some i
-number_in (word s) = None
+number_in (text_label s) = None
 
 -- one of them has this label
 abbrev pub is_parameter : HeaderSeen → Name → Bool

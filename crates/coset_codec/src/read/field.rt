@@ -4,8 +4,8 @@ ghost use Rattle.std.specs.Prelude.{◌≡◌, ◌≤◌, IfErr, OnErr, OnOk, op
 ghost use Rattle.coset_codec.specs.Answers.{Reads};
 ghost use Rattle.coset_codec.specs.Errors.{UnlessMemory};
 ghost use Rattle.coset_codec.specs.Inputs.{ReadsAt, length_left, state};
-ghost use Rattle.coset_codec.specs.Maps.{RefusesValue, TakesValue, listed, optional};
-ghost use Rattle.coset_codec.specs.Shape.{Shape, filled_bstr};
+ghost use Rattle.coset_codec.specs.Maps.{RefusesValue, TakesValue, unless_empty, optional};
+ghost use Rattle.coset_codec.specs.Shape.{Shape, nonempty_bstr};
 
 use crate::error::Result;
 use crate::read::{Input, read_list};
@@ -153,12 +153,12 @@ pub fn set_field<T: Decode + Drop>(
 ///
 /// # Errors
 /// The same as [`set_field`]; an empty byte string is `UnexpectedItem`.
-pub fn set_filled(alloc: Global, field: &mut Vec<u8>, input: &mut Input<'_>) -> Result<()>
+pub fn set_nonempty(alloc: Global, field: &mut Vec<u8>, input: &mut Input<'_>) -> Result<()>
     ensures shrinks { length_left (state input.new) ≤ length_left (state input.old) }
     ensures takes { ReadsAt (state input.old) (state input.new) (λ v. OnOk result
-        (TakesValue (listed filled_bstr) v field.old.items field.new.items)) }
+        (TakesValue (unless_empty nonempty_bstr) v field.old.items field.new.items)) }
     ensures refused { ReadsAt (state input.old) (state input.new) (λ v. IfErr result
-        (λ e. UnlessMemory e (RefusesValue (listed filled_bstr) v field.old.items))) }
+        (λ e. UnlessMemory e (RefusesValue (unless_empty nonempty_bstr) v field.old.items))) }
     ensures kept { OnErr result (field.new ≡ field.old) }
 {
     if !field.is_empty() {

@@ -9,9 +9,9 @@ ghost use Rattle.coset_cbor.specs.Scalars.{as_float};
 ghost use Rattle.coset_codec.specs.declared.error.CoseError.TheVariants.{DuplicateMapKey, OutOfMemory, OutOfRangeIntegerValue};
 ghost use Rattle.coset_codec.specs.Answers.{Reads};
 ghost use Rattle.coset_codec.specs.Errors.{IsUnexpected, UnlessMemory};
-ghost use Rattle.coset_codec.specs.Inputs.{State, state, GoesBehind, IsLent, ReadsAt, Stands, TakesNull, TakesPart, length_left};
+ghost use Rattle.coset_codec.specs.Inputs.{State, state, GoesBehind, IsLent, ReadsAt, ItemAt, TakesNull, TakesPart, length_left};
 ghost use Rattle.coset_codec.specs.Kinds.{Says, SaysFilled, kind};
-ghost use Rattle.coset_codec.specs.Shape.{bstr, filled_bstr, int64, or_nil, tstr, uint};
+ghost use Rattle.coset_codec.specs.Shape.{bstr, nonempty_bstr, int64, or_nil, tstr, uint};
 ghost use Rattle.coset_codec.specs.Sources.{Copies};
 
 use crate::error::{CoseError, Result};
@@ -28,7 +28,7 @@ impl<'a> Input<'a> {
         ensures shrinks { length_left (state self.new) ≤ length_left (state self.old) }
         ensures strictly { IfSome result (λ _. GoesBehind (state self.old) (state self.new)) }
         ensures stays { result ≡ None → state self.new ≡ state self.old }
-        ensures reads { (v : Item) (z : State) → Stands v (state self.old) z
+        ensures reads { (v : Item) (z : State) → ItemAt v (state self.old) z
             → TakesPart as_integer (λ n. n) v (state self.old) (state self.new) z result }
     {
         match self {
@@ -48,7 +48,7 @@ impl<'a> Input<'a> {
         ensures shrinks { length_left (state self.new) ≤ length_left (state self.old) }
         ensures strictly { IfSome result (λ _. GoesBehind (state self.old) (state self.new)) }
         ensures stays { result ≡ None → state self.new ≡ state self.old }
-        ensures reads { (v : Item) (z : State) → Stands v (state self.old) z
+        ensures reads { (v : Item) (z : State) → ItemAt v (state self.old) z
             → TakesPart as_float bits_of v (state self.old) (state self.new) z result }
     {
         match self {
@@ -69,7 +69,7 @@ impl<'a> Input<'a> {
         ensures shrinks { length_left (state self.new) ≤ length_left (state self.old) }
         ensures strictly { IsTrue result → GoesBehind (state self.old) (state self.new) }
         ensures stays { result ≡ false → state self.new ≡ state self.old }
-        ensures reads { (v : Item) (z : State) → Stands v (state self.old) z
+        ensures reads { (v : Item) (z : State) → ItemAt v (state self.old) z
             → TakesNull v (state self.old) (state self.new) z result }
     {
         match self {
@@ -224,7 +224,7 @@ impl<'a> Input<'a> {
         ensures shrinks { length_left (state self.new) ≤ length_left (state self.old) }
         ensures strictly { OnOk result (GoesBehind (state self.old) (state self.new)) }
         ensures reads { ReadsAt (state self.old) (state self.new)
-            (λ v. Reads filled_bstr (λ b. b.items) v result) }
+            (λ v. Reads nonempty_bstr (λ b. b.items) v result) }
         ensures says { ReadsAt (state self.old) (state self.new)
             (λ v. IfErr result (λ e. UnlessMemory e (SaysFilled v))) }
     {

@@ -4,11 +4,11 @@
 
 ghost use Rattle.std.specs.Prelude.{◌≡◌, ◌≤◌, ◌<◌, [], option_map, IfOk, IsTrue, OnOk};
 ghost use Rattle.coset_value.specs.Item.{Items};
-ghost use Rattle.coset_codec.specs.Errors.{answer};
+ghost use Rattle.coset_codec.specs.Errors.{stored};
 ghost use Rattle.coset_codec.specs.InPlace.{BeginsNext, GetsOne, GetsPlace};
 ghost use Rattle.coset_codec.specs.Inputs.{State, state, AreWithin, GoesBehind, input_size, items_size, items_turns, length_left};
 
-use crate::error::{CoseError, Refused};
+use crate::error::{CoseError, ErrorStored};
 use crate::read::{Input, InputItems};
 use crate::util::copy_bstr;
 use std::alloc::{AllocError, Global};
@@ -46,7 +46,7 @@ pub fn next_place<T: InPlace>(
     members: &mut InputItems,
     input: &mut Input<'_>,
     error: &mut CoseError,
-) -> Result<bool, Refused>
+) -> Result<bool, ErrorStored>
     ensures shrinks { length_left (state input.new) ≤ length_left (state input.old) }
     ensures size { items_size members.new (state input.new) ≤ items_size members.old
         (state input.old) }
@@ -56,7 +56,7 @@ pub fn next_place<T: InPlace>(
         → items_turns members.new t < items_turns members.old (state input.old)) }
     ensures place { IfOk result (GetsPlace T.is_empty all.old.items all.new.items) }
     ensures next { (vs : Items) (z : State) → AreWithin members.old vs (state input.old) z
-        → BeginsNext vs (state input.new) z members.new (answer error.new result) }
+        → BeginsNext vs (state input.new) z members.new (stored error.new result) }
 {
     if !members.next(input) {
         return Ok(false);
@@ -64,7 +64,7 @@ pub fn next_place<T: InPlace>(
     if push_empty(all).is_err() {
         input.pass();
         *error = CoseError::OutOfMemory;
-        return Err(Refused);
+        return Err(ErrorStored);
     }
     Ok(true)
 }

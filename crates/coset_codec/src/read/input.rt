@@ -8,15 +8,15 @@ ghost use Rattle.coset_cbor.specs.Grammar.{IsItem};
 ghost use Rattle.coset_codec.specs.declared.read.input.InputItems.TheVariants as items;
 ghost use Rattle.coset_codec.specs.declared.read.input.InputPairs.TheVariants.{Lent};
 ghost use Rattle.coset_codec.specs.Answers.{Reads};
-ghost use Rattle.coset_codec.specs.Inputs.{State, tree, lent, state, Stands, GoesBehind, IsLent, length_left, input_size, items_size, pairs_size, items_turns, pairs_turns, AreWithin, PairsWithin};
+ghost use Rattle.coset_codec.specs.Inputs.{State, tree, lent, state, ItemAt, GoesBehind, IsLent, length_left, input_size, items_size, pairs_size, items_turns, pairs_turns, AreWithin, PairsWithin};
 ghost use Rattle.coset_codec.specs.Inputs.{EntersArray, EntersMap, NextPlace, Nexts, NextsKey};
-ghost use Rattle.coset_codec.specs.Sources.{IsMisfit, TakesEnd, source_item};
+ghost use Rattle.coset_codec.specs.Sources.{IsWrongLength, TakesEnd, source_item};
 
 use crate::error::{CoseError, Result};
-use crate::read::source::Source;
+use crate::read::source::ItemSource;
 use crate::traits::FromPull;
 use crate::util::{cbor_type_error, pull_type_error};
-use coset_cbor::cursor::{Cursor, Places};
+use coset_cbor::cursor::{Cursor, Remaining};
 use coset_cbor::value::Value;
 use std::alloc::Global;
 use std::{mem, vec};
@@ -36,7 +36,7 @@ pub enum InputItems {
     /// Those of a value.
     Tree(vec::IntoIter<Value>),
     /// Those of an array in bytes.
-    Lent(Places),
+    Lent(Remaining),
 }
 
 /// The pairs of a map that are still to come.
@@ -45,7 +45,7 @@ pub enum InputPairs {
     /// Those of a value.
     Tree(vec::IntoIter<(Value, Value)>),
     /// Those of a map in bytes.
-    Lent(Places),
+    Lent(Remaining),
 }
 
 /// The members of a value that is an array.
@@ -72,28 +72,28 @@ fn tree_pairs(value: Value) -> Result<InputPairs>
     }
 }
 
-/// The error of an array with too few places, or too many.
+/// The error of an array with too few elements, or too many.
 #[cold]
-pub fn misfit(want: &'static str) -> CoseError
-    ensures { IsMisfit want.now result }
+pub fn wrong_length(want: &'static str) -> CoseError
+    ensures { IsWrongLength want.now result }
 {
     CoseError::UnexpectedItem("array", want)
 }
 
 impl<'a> Input<'a> {
     /// The item that is read.
-    pub fn new(source: Source<'a>) -> Input<'a>
-        ensures { (z : State) × Stands (source_item source.entry) (state result) z }
+    pub fn new(source: ItemSource<'a>) -> Input<'a>
+        ensures { (z : State) × ItemAt (source_item source.entry) (state result) z }
     {
         match source {
-            Source::Tree(value) => Input::Tree(value),
-            Source::Lent(pull) => Input::Lent(Cursor::new(pull.slice())),
+            ItemSource::Tree(value) => Input::Tree(value),
+            ItemSource::Lent(pull) => Input::Lent(Cursor::new(pull.slice())),
         }
     }
 
     /// The item that the bytes are.
     pub fn of_bytes(bytes: &'a [u8]) -> Input<'a>
-        ensures stands { (v : Item) → IsItem bytes.now v → (z : State) × Stands v (state result) z }
+        ensures stands { (v : Item) → IsItem bytes.now v → (z : State) × ItemAt v (state result) z }
         ensures size { input_size (state result) ≡ length bytes.now }
     {
         Input::Lent(Cursor::new(bytes))
@@ -103,22 +103,22 @@ impl<'a> Input<'a> {
     ///
     /// # Errors
     /// None where an item stands there.
-    pub fn take(&mut self) -> Result<Source<'a>>
+    pub fn take(&mut self) -> Result<ItemSource<'a>>
         ensures shrinks { length_left (state self.new) ≤ length_left (state self.old) }
         ensures strictly { OnOk result (GoesBehind (state self.old) (state self.new)) }
-        ensures passes { (v : Item) (z : State) → Stands v (state self.old) z → (state self.new ≡ z)
+        ensures passes { (v : Item) (z : State) → ItemAt v (state self.old) z → (state self.new ≡ z)
             × IsOkAnd result (λ s. source_item s ≡ v) }
     {
         match self {
-            Input::Tree(value) => Ok(Source::Tree(mem::replace(value, Value::Null))),
-            Input::Lent(cursor) => Ok(Source::Lent(cursor.take()?)),
+            Input::Tree(value) => Ok(ItemSource::Tree(mem::replace(value, Value::Null))),
+            Input::Lent(cursor) => Ok(ItemSource::Lent(cursor.take()?)),
         }
     }
 
     /// Passes the item. It takes no memory.
     pub fn pass(&mut self)
         ensures shrinks { length_left (state self.new) ≤ length_left (state self.old) }
-        ensures passes { (v : Item) (z : State) → Stands v (state self.old) z → state self.new ≡ z }
+        ensures passes { (v : Item) (z : State) → ItemAt v (state self.old) z → state self.new ≡ z }
     {
         match self {
             Input::Tree(value) => {
@@ -137,13 +137,13 @@ impl<'a> Input<'a> {
         ensures strictly { OnOk result (GoesBehind (state self.old) (state self.new)) }
         ensures deeper { IfOk result (λ m. items_size m (state self.new)
             < input_size (state self.old)) }
-        ensures enters { (v : Item) (z : State) → Stands v (state self.old) z
+        ensures enters { (v : Item) (z : State) → ItemAt v (state self.old) z
             → EntersArray want.now v (state self.new) z result }
     {
         match self {
             Input::Tree(value) => tree_members(mem::replace(value, Value::Null), want),
             Input::Lent(cursor) => match cursor.array() {
-                Some(places) => Ok(InputItems::Lent(places)),
+                Some(elements) => Ok(InputItems::Lent(elements)),
                 None => Err(pull_type_error(cursor.take()?, want)),
             },
         }
@@ -158,13 +158,13 @@ impl<'a> Input<'a> {
         ensures strictly { OnOk result (GoesBehind (state self.old) (state self.new)) }
         ensures deeper { IfOk result (λ m. pairs_size m (state self.new)
             < input_size (state self.old)) }
-        ensures enters { (v : Item) (z : State) → Stands v (state self.old) z
+        ensures enters { (v : Item) (z : State) → ItemAt v (state self.old) z
             → EntersMap v (state self.new) z result }
     {
         match self {
             Input::Tree(value) => tree_pairs(mem::replace(value, Value::Null)),
             Input::Lent(cursor) => match cursor.map() {
-                Some(places) => Ok(InputPairs::Lent(places)),
+                Some(elements) => Ok(InputPairs::Lent(elements)),
                 None => Err(pull_type_error(cursor.take()?, "map")),
             },
         }
@@ -172,14 +172,14 @@ impl<'a> Input<'a> {
 }
 
 /// Whether one more of these items stands at the input.
-fn next_lent(places: &mut Places, input: &Input<'_>) -> bool
+fn next_lent(elements: &mut Remaining, input: &Input<'_>) -> bool
     ensures there { IsTrue result → IsLent (state input.now) }
     ensures nexts { (vs : Items) (z : State)
-        → AreWithin (items.Lent places.old) vs (state input.now) z
-        → Nexts vs (state input.now) z (items.Lent places.new) result }
+        → AreWithin (items.Lent elements.old) vs (state input.now) z
+        → Nexts vs (state input.now) z (items.Lent elements.new) result }
 {
     match input {
-        Input::Lent(cursor) => places.next(cursor),
+        Input::Lent(cursor) => elements.next(cursor),
         Input::Tree(_) => false,
     }
 }
@@ -205,7 +205,7 @@ impl InputItems {
                 }
                 None => false,
             },
-            InputItems::Lent(places) => next_lent(places, input),
+            InputItems::Lent(elements) => next_lent(elements, input),
         }
     }
 
@@ -226,7 +226,7 @@ impl InputItems {
             return Ok(());
         }
         self.finish(input);
-        Err(misfit(want))
+        Err(wrong_length(want))
     }
 
     /// Passes the array, whose members have to be read. It takes no memory.
@@ -244,7 +244,7 @@ impl InputItems {
         }
         self.finish(input);
         if more {
-            return Err(misfit(want));
+            return Err(wrong_length(want));
         }
         Ok(())
     }
@@ -253,7 +253,7 @@ impl InputItems {
     pub fn none() -> InputItems
         ensures { (s : List ℕ) → AreWithin result no_items (lent s) (lent s) }
     {
-        InputItems::Lent(Places::none())
+        InputItems::Lent(Remaining::none())
     }
 
     /// Passes the members that are left. It takes no memory.
@@ -264,8 +264,8 @@ impl InputItems {
     {
         match self {
             InputItems::Tree(_) => {}
-            InputItems::Lent(places) => match input {
-                Input::Lent(cursor) => places.finish(cursor),
+            InputItems::Lent(elements) => match input {
+                Input::Lent(cursor) => elements.finish(cursor),
                 Input::Tree(_) => {}
             },
         }
@@ -275,7 +275,7 @@ impl InputItems {
 /// The next key of a map in bytes, whose value is then at the place.
 fn lent_key<K: FromPull + Drop>(
     alloc: Global,
-    places: &mut Places,
+    elements: &mut Remaining,
     input: &mut Input<'_>,
 ) -> Result<Option<K>>
     ensures shrinks { length_left (state input.new) ≤ length_left (state input.old) }
@@ -283,15 +283,16 @@ fn lent_key<K: FromPull + Drop>(
         → input_size (state input.new) ≤ length_left (state input.old)) }
     ensures turns { IfOk result (λ o. IsSome o
         → length_left (state input.new) < length_left (state input.old)) }
-    ensures nexts { (ps : Pairs) (z : State) → PairsWithin (Lent places.old) ps (state input.old) z
-        → NextsKey K.shape K.seen ps (state input.new) z (Lent places.new) result }
+    ensures nexts { (ps : Pairs) (z : State)
+        → PairsWithin (Lent elements.old) ps (state input.old) z
+        → NextsKey K.shape K.seen ps (state input.new) z (Lent elements.new) result }
 {
-    if !next_lent(places, input) {
+    if !next_lent(elements, input) {
         return Ok(None);
     }
     let key = K::from_input(alloc, input);
     // A key has a value.
-    if !next_lent(places, input) {
+    if !next_lent(elements, input) {
         return Ok(None);
     }
     match key {
@@ -347,7 +348,7 @@ impl InputPairs {
                 Some((key, value)) => Ok(Some(tree_key(alloc, key, value, input)?)),
                 None => Ok(None),
             },
-            InputPairs::Lent(places) => lent_key(alloc, places, input),
+            InputPairs::Lent(elements) => lent_key(alloc, elements, input),
         }
     }
 
@@ -355,7 +356,7 @@ impl InputPairs {
     pub fn none() -> InputPairs
         ensures { (s : List ℕ) → PairsWithin result no_pairs (lent s) (lent s) }
     {
-        InputPairs::Lent(Places::none())
+        InputPairs::Lent(Remaining::none())
     }
 
     /// Passes the pairs that are left. It takes no memory.
@@ -366,8 +367,8 @@ impl InputPairs {
     {
         match self {
             InputPairs::Tree(_) => {}
-            InputPairs::Lent(places) => match input {
-                Input::Lent(cursor) => places.finish(cursor),
+            InputPairs::Lent(elements) => match input {
+                Input::Lent(cursor) => elements.finish(cursor),
                 Input::Tree(_) => {}
             },
         }

@@ -9,7 +9,7 @@ ghost use Rattle.coset_codec.specs.Lists.{ReadsEach};
 ghost use Rattle.coset_codec.specs.Errors.{IsUnexpected, UnlessMemory};
 ghost use Rattle.coset_codec.specs.Inputs.{State, state, AreWithin, GoesBehind, ReadsAt, length_left};
 ghost use Rattle.coset_codec.specs.Kinds.{Says, kind};
-ghost use Rattle.coset_codec.specs.Shape.{blamed, list_of, some_of};
+ghost use Rattle.coset_codec.specs.Shape.{masked, list_of, some_of};
 
 use crate::error::{CoseError, Result};
 use crate::read::{Input, InputItems};
@@ -62,7 +62,7 @@ pub fn read_list<T: FromPull + Drop>(
 ///
 /// # Errors
 /// `OutOfMemory`; or `UnexpectedItem`, with `want` where the item is no array.
-pub fn read_blamed_list<T: FromPull + Drop>(
+pub fn read_masked_list<T: FromPull + Drop>(
     alloc: Global,
     input: &mut Input<'_>,
     want: &'static str,
@@ -70,7 +70,7 @@ pub fn read_blamed_list<T: FromPull + Drop>(
 ) -> Result<Vec<T>>
     ensures shrinks { length_left (state input.new) ≤ length_left (state input.old) }
     ensures reads { ReadsAt (state input.old) (state input.new)
-        (λ v. Reads (list_of (blamed IsUnexpected T.shape)) (λ all. map T.seen all.items) v
+        (λ v. Reads (list_of (masked IsUnexpected T.shape)) (λ all. map T.seen all.items) v
         result) }
     ensures says { ReadsAt (state input.old) (state input.new)
         (λ v. IfErr result (λ e. as_array v ≡ None → Says (kind v) want.now e)) }
@@ -83,12 +83,12 @@ pub fn read_blamed_list<T: FromPull + Drop>(
     members.finish(input);
     match all {
         Ok(all) => Ok(all),
-        Err(error) => Err(blamed_error(error, blame)),
+        Err(error) => Err(masked_error(error, blame)),
     }
 }
 
 /// The error with these two texts, in place of one that tells of another fault.
-fn blamed_error(error: CoseError, blame: (&'static str, &'static str)) -> CoseError
+fn masked_error(error: CoseError, blame: (&'static str, &'static str)) -> CoseError
     ensures memory { error ≡ OutOfMemory → result ≡ OutOfMemory }
     ensures blames { UnlessMemory error (λ e. IsUnexpected result
         × Says blame.entry.0.now blame.entry.1.now result) }
@@ -103,7 +103,7 @@ fn blamed_error(error: CoseError, blame: (&'static str, &'static str)) -> CoseEr
 ///
 /// # Errors
 /// The same as [`read_list`].
-pub fn read_filled_list<T: FromPull + Drop>(
+pub fn read_nonempty_list<T: FromPull + Drop>(
     alloc: Global,
     input: &mut Input<'_>,
     want: &'static str,

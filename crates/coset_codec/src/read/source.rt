@@ -15,7 +15,7 @@ use coset_cbor::value::Value;
 /// One item, read once: a tree that is used up, whose strings are moved, or bytes that are lent, whose strings are
 /// copied as they are read.
 #[derive(Drop)]
-pub enum Source<'a> {
+pub enum ItemSource<'a> {
     /// A value.
     Tree(Value),
     /// A checked item in bytes.
@@ -42,14 +42,14 @@ pub(crate) fn tree_text(value: Value, want: &'static str) -> Result<String>
     }
 }
 
-impl Source<'_> {
+impl ItemSource<'_> {
     /// The error that tells of an item of another kind than `want`.
     pub fn type_error(&self, want: &'static str) -> CoseError
         ensures { IsUnexpected result × Says (kind (source_item self.now)) want.now result }
     {
         match self {
-            Source::Tree(value) => type_error(value, want),
-            Source::Lent(pull) => pull_type_error(*pull, want),
+            ItemSource::Tree(value) => type_error(value, want),
+            ItemSource::Lent(pull) => pull_type_error(*pull, want),
         }
     }
 }

@@ -4,7 +4,7 @@ ghost use Rattle.std.specs.Prelude.{length, Option, Some, option_map, OnOk, IfEr
 ghost use Rattle.coset_value.specs.Item.{Item, array, item, bytes, tag};
 ghost use Rattle.coset_value.specs.View.{view};
 ghost use Rattle.coset_codec.specs.Answers.{Images, Writes};
-ghost use Rattle.coset_codec.specs.Encoding.{AppendsPlaces, Encodes, HasNoImage, two_places, three_places, four_places, five_places};
+ghost use Rattle.coset_codec.specs.Encoding.{AppendsElements, Encodes, HasNoImage, two_elements, three_elements, four_elements, five_elements};
 ghost use Rattle.coset_codec.specs.Shape.{images};
 
 use crate::error::Result;
@@ -160,7 +160,7 @@ impl<T: Encode> Encode for Array<'_, T> {
 
 /// Appends these, one after the other.
 fn encode_members<T: Encode>(alloc: Global, members: &[T], out: &mut Vec<u8>) -> Result<()>
-    ensures ok { OnOk result (AppendsPlaces (images T.image members.now) (length members.now)
+    ensures ok { OnOk result (AppendsElements (images T.image members.now) (length members.now)
         out.old.items out.new.items) }
     ensures refused { IfErr result (HasNoImage (images T.image members.now)) }
 {
@@ -170,7 +170,7 @@ fn encode_members<T: Encode>(alloc: Global, members: &[T], out: &mut Vec<u8>) ->
     Ok(())
 }
 
-/// Appends the array of two places.
+/// Appends the array of two elements.
 ///
 /// # Errors
 /// Those of the first place that has one.
@@ -180,7 +180,7 @@ pub fn encode_two<A: Encode, B: Encode>(
     b: &B,
     out: &mut Vec<u8>,
 ) -> Result<()>
-    ensures { Encodes (two_places (A.image a.now) (B.image b.now)) out.old.items out.new.items
+    ensures { Encodes (two_elements (A.image a.now) (B.image b.now)) out.old.items out.new.items
         result }
 {
     write_array_head(2, out)?;
@@ -189,7 +189,7 @@ pub fn encode_two<A: Encode, B: Encode>(
     Ok(())
 }
 
-/// Appends the array of three places.
+/// Appends the array of three elements.
 ///
 /// # Errors
 /// Those of the first place that has one.
@@ -200,7 +200,7 @@ pub fn encode_three<A: Encode, B: Encode, C: Encode>(
     c: &C,
     out: &mut Vec<u8>,
 ) -> Result<()>
-    ensures { Encodes (three_places (A.image a.now) (B.image b.now) (C.image c.now)) out.old.items
+    ensures { Encodes (three_elements (A.image a.now) (B.image b.now) (C.image c.now)) out.old.items
         out.new.items result }
 {
     write_array_head(3, out)?;
@@ -210,7 +210,7 @@ pub fn encode_three<A: Encode, B: Encode, C: Encode>(
     Ok(())
 }
 
-/// Appends the array of four places.
+/// Appends the array of four elements.
 ///
 /// # Errors
 /// Those of the first place that has one.
@@ -222,7 +222,8 @@ pub fn encode_four<A: Encode, B: Encode, C: Encode, D: Encode>(
     d: &D,
     out: &mut Vec<u8>,
 ) -> Result<()>
-    ensures { Encodes (four_places (A.image a.now) (B.image b.now) (C.image c.now) (D.image d.now))
+    ensures { Encodes
+        (four_elements (A.image a.now) (B.image b.now) (C.image c.now) (D.image d.now))
         out.old.items out.new.items result }
 {
     write_array_head(4, out)?;
@@ -233,7 +234,7 @@ pub fn encode_four<A: Encode, B: Encode, C: Encode, D: Encode>(
     Ok(())
 }
 
-/// Appends the array of five places.
+/// Appends the array of five elements.
 ///
 /// # Errors
 /// Those of the first place that has one.
@@ -246,7 +247,7 @@ pub fn encode_five<A: Encode, B: Encode, C: Encode, D: Encode, E: Encode>(
     e: &E,
     out: &mut Vec<u8>,
 ) -> Result<()>
-    ensures { Encodes (five_places (A.image a.now) (B.image b.now) (C.image c.now) (D.image d.now)
+    ensures { Encodes (five_elements (A.image a.now) (B.image b.now) (C.image c.now) (D.image d.now)
         (E.image e.now)) out.old.items out.new.items result }
 {
     write_array_head(5, out)?;

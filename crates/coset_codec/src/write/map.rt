@@ -5,8 +5,8 @@ ghost use Rattle.std.specs.Prelude.{◌≡◌, ◌+◌, ◌++◌, ◌<◌, ◌^�
 ghost use Rattle.coset_value.specs.View.{view};
 ghost use Rattle.coset_cbor.specs.Least.{least_head};
 ghost use Rattle.coset_codec.specs.Encoding.{AppendsAll, AppendsField, HasNoImage};
-ghost use Rattle.coset_codec.specs.Maps.{field_shape_image, listed, named_image};
-ghost use Rattle.coset_codec.specs.Shape.{filled_bstr, present_image};
+ghost use Rattle.coset_codec.specs.Maps.{field_shape_image, unless_empty, named_image};
+ghost use Rattle.coset_codec.specs.Shape.{nonempty_bstr, present_image};
 
 use crate::error::Result;
 use crate::write::Encode;
@@ -88,9 +88,9 @@ pub fn write_optional<T: Encode>(
 /// # Errors
 /// `OutOfMemory` alone.
 #[inline(always)]
-pub fn write_filled(alloc: Global, label: i64, bytes: &Vec<u8>, out: &mut Vec<u8>) -> Result<()>
-    ensures ok { OnOk result (AppendsField label ((listed filled_bstr).image bytes.now.items)
-        out.old.items out.new.items) }
+pub fn write_nonempty(alloc: Global, label: i64, bytes: &Vec<u8>, out: &mut Vec<u8>) -> Result<()>
+    ensures ok { OnOk result (AppendsField label
+        ((unless_empty nonempty_bstr).image bytes.now.items) out.old.items out.new.items) }
     ensures memory { IfErr result (λ e. e ≡ out_of_memory) }
 {
     if bytes.is_empty() {

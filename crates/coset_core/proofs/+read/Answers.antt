@@ -4,7 +4,7 @@ use Rattle.coset_codec.specs.Inputs.{state, AreWithin}
 use Rattle.coset_codec.proofs.Inputs.{items_smaller, pairs_fewer, pairs_smaller}
 use Rattle.coset_codec.specs.Shape.{Each}
 use Rattle.coset_codec.specs.ShapeLaws.{some-one}
-use Rattle.coset_codec.specs.Errors.{answer, UnlessMemory}
+use Rattle.coset_codec.specs.Errors.{stored, UnlessMemory}
 use Rattle.coset_codec.specs.InPlace.{Fills}
 use Rattle.coset_core.specs.Fields.{HasOneIv}
 use Rattle.coset_core.specs.FieldsView.{fields_seen}
@@ -18,7 +18,8 @@ use Rattle.coset_core.proofs.Reading.{no_layer_left, protected_filled}
 use Rattle.coset_codec.proofs.InPlace.{last_filled, one_filled_more, one_refused_more}
 use Rattle.coset_codec.proofs.Lists.{all_read}
 use Rattle.coset_core.proofs.Forward.{not_entered, one_iv_yet, so_far_none, so_far_more, ends, pairs_refused, counter_signatures_refused, not_kept}
-use Rattle.coset_core.proofs.Forward.{second_refused, one_filled, more_filled, places_refused, second_read, last_refused, places_filled, unprotected_refused}
+use Rattle.coset_core.proofs.Forward.{second_refused, one_filled, more_filled, elements_refused, second_read}
+use Rattle.coset_core.proofs.Forward.{last_refused, elements_filled, unprotected_refused}
 use Rattle.coset_core.proofs.Forward.{protected_refused}
 use Rattle.coset_core.proofs.+read.Goals as goal
 use Rattle.coset_core.proofs.+read.Goals.{header::reading::fill_counter_signatures-then-one, header::reading::fill_counter_signatures-else-one}
@@ -31,9 +32,9 @@ protected::fill_protected-returns t c = λ b kept.
     let o = option_map (λ v. v.items) (out-ProtectedHeader c.args.protected.now).original_data in
     let is : o ≡ Some b = sym (ap (λ p. p.original) (protected-opened c.args.protected.now)) ∙ kept in
     let held : o ≡ Some c.in-Some.content.items = ap (option_map (λ v. v.items)) c.in-Some.is in
-    subst (λ y. Fills (layered_protected c.args.layers) (bytes b) y (answer c.fill_content.new.error c.fill_content.result)) (sym (protected-made _))
+    subst (λ y. Fills (layered_protected c.args.layers) (bytes b) y (stored c.fill_content.new.error c.fill_content.result)) (sym (protected-made _))
     (protected_filled c.args.layers (c.args.layers - 1) b c.deref.result.now o (header_seen c.fill_content.new.header)
-    (answer c.fill_content.new.error c.fill_content.result) (omega (arith, c.if-layers-eq0.false)) is
+    (stored c.fill_content.new.error c.fill_content.result) (omega (arith, c.if-layers-eq0.false)) is
     (c.deref.ensures.value ∙ some-one held is) c.fill_content.ensures)
 
 pub header::reading::fill_counter_signatures-returns-clause-fills : goal.header::reading::fill_counter_signatures-returns-clause-fills
@@ -161,7 +162,7 @@ header::reading::fill_pairs-returns-then-holds-clause-fills t c = λ all z withi
     let p = c.loop-version.invariant.fills all z within in
     second_refused c.in-Some.version c.args.layers all c.loop-version.header c.fill_fields.new.header (state c.loop-version.input)
     (state c.fill_fields.new.input) (state c.refuse_second.new.input) z c.loop-version.pairs c.fill_fields.new.pairs _
-    (answer c.refuse_second.new.error c.refuse_second.result) p (next.fills all p.left p.values z p.walks p.within).0 next.others
+    (stored c.refuse_second.new.error c.refuse_second.result) p (next.fills all p.left p.values z p.walks p.within).0 next.others
     (sym c.holds.ensures ∙ c.if-holds.true) c.refuse_second.ensures.passes
 
 pub header::reading::fill_pairs-returns-in-Err-clause-fills : goal.header::reading::fill_pairs-returns-in-Err-clause-fills
@@ -195,71 +196,71 @@ header::reading::fill_pairs-returns-clause-fills t c = λ all z within.
 pub signature::fill_signature-returns-clause-fills : goal.signature::fill_signature-returns-clause-fills
 signature::fill_signature-returns-clause-fills t c = λ v z stands.
     let here = c.in_ok-begin_items.ensures.enters v z stands in
-    let read = c.fill_places-filled.ensures.fills here.0 z here.2 in (
+    let read = c.fill_elements-filled.ensures.fills here.0 z here.2 in (
       c.finish.ensures.passes read.0.0 z read.0.1,
       subst
-          (λ w. Fills (layered_signature c.args.layers) w (signature_seen c.fill_places-filled.new.signed)
-          (answer c.fill_places-filled.new.error c.fill_places-filled.result)) (sym (array-is v here.0 here.1)) read.1,
+          (λ w. Fills (layered_signature c.args.layers) w (signature_seen c.fill_elements-filled.new.signed)
+          (stored c.fill_elements-filled.new.error c.fill_elements-filled.result)) (sym (array-is v here.0 here.1)) read.1,
     )
 
-pub signature::fill_places-returns-in_err-is_string-clause-fills : goal.signature::fill_places-returns-in_err-is_string-clause-fills
-signature::fill_places-returns-in_err-is_string-clause-fills t c = λ vs z within.
-    places_refused c.args.layers vs (state c.begin_places.new.input) z c.begin_places.new.members
-    (option_map (λ b. b.items) c.begin_places.new.kept) c.begin_places.new.why _ c.from_residual.result c.begin_places.new.error
+pub signature::fill_elements-returns-in_err-is_string-clause-fills : goal.signature::fill_elements-returns-in_err-is_string-clause-fills
+signature::fill_elements-returns-in_err-is_string-clause-fills t c = λ vs z within.
+    elements_refused c.args.layers vs (state c.begin_elements.new.input) z c.begin_elements.new.members
+    (option_map (λ b. b.items) c.begin_elements.new.kept) c.begin_elements.new.why _ c.from_residual.result c.begin_elements.new.error
     c.in_err-is_string.field-0.0 c.from_residual.ensures.1 (c.in_err-is_string.ensures.begins vs z within)
 
-pub signature::fill_places-returns-in_err-end_places-clause-fills : goal.signature::fill_places-returns-in_err-end_places-clause-fills
-signature::fill_places-returns-in_err-end_places-clause-fills t c = λ vs z within.
-    let s = second_read vs (state c.begin_places.new.input) (state c.fill_header-unprotected.new.input) z c.begin_places.new.members _ _ _ _
+pub signature::fill_elements-returns-in_err-end_elements-clause-fills : goal.signature::fill_elements-returns-in_err-end_elements-clause-fills
+signature::fill_elements-returns-in_err-end_elements-clause-fills t c = λ vs z within.
+    let s = second_read vs (state c.begin_elements.new.input) (state c.fill_header-unprotected.new.input) z c.begin_elements.new.members _ _ _ _
     (c.in_ok-is_string.ensures.begins vs z within) c.fill_header-unprotected.ensures.fills in
     last_refused c.args.layers vs (state c.fill_header-unprotected.new.input)
-    (state c.end_places.new.input) z c.begin_places.new.members c.end_places.new.members _ _ _ _ c.end_places.new.signature.items _
-    c.from_residual-in_err-end_places.result c.end_places.new.error c.in_err-end_places.field-0.0 c.from_residual-in_err-end_places.ensures.1 s
-    (c.in_err-end_places.ensures.ends s.others z s.within)
+    (state c.end_elements.new.input) z c.begin_elements.new.members c.end_elements.new.members _ _ _ _ c.end_elements.new.signature.items _
+    c.from_residual-in_err-end_elements.result c.end_elements.new.error c.in_err-end_elements.field-0.0 c.from_residual-in_err-end_elements.ensures.1 s
+    (c.in_err-end_elements.ensures.ends s.others z s.within)
 
-pub signature::fill_places-returns-in_err-unprotected-clause-fills : goal.signature::fill_places-returns-in_err-unprotected-clause-fills
-signature::fill_places-returns-in_err-unprotected-clause-fills t c = λ vs z within.
+pub signature::fill_elements-returns-in_err-unprotected-clause-fills : goal.signature::fill_elements-returns-in_err-unprotected-clause-fills
+signature::fill_elements-returns-in_err-unprotected-clause-fills t c = λ vs z within.
     let e = c.fill_header-unprotected.new.error in
-    let s = second_read vs (state c.begin_places.new.input) (state c.fill_header-unprotected.new.input) z c.begin_places.new.members _ _ _
+    let s = second_read vs (state c.begin_elements.new.input) (state c.fill_header-unprotected.new.input) z c.begin_elements.new.members _ _ _
     (λ v. UnlessMemory e ((layered_header c.args.layers).faults v))
     (c.in_ok-is_string.ensures.begins vs z within) c.in_err-unprotected.ensures.fills in
     unprotected_refused c.args.layers vs (state c.fill_header-unprotected.new.input)
-    (state c.end_places.new.input) z c.begin_places.new.members c.end_places.new.members _ _ _ c.end_places.new.signature.items _
-    c.from_residual-in_err-unprotected.result e c.end_places.new.error c.in_err-unprotected.field-0.0 c.from_residual-in_err-unprotected.ensures.1
-    c.in_ok-end_places.ensures.kept s (c.in_ok-end_places.ensures.ends s.others z s.within)
+    (state c.end_elements.new.input) z c.begin_elements.new.members c.end_elements.new.members _ _ _ c.end_elements.new.signature.items _
+    c.from_residual-in_err-unprotected.result e c.end_elements.new.error c.in_err-unprotected.field-0.0 c.from_residual-in_err-unprotected.ensures.1
+    c.in_ok-end_elements.ensures.kept s (c.in_ok-end_elements.ensures.ends s.others z s.within)
 
-pub signature::fill_places-returns-then-not-is_string-clause-fills : goal.signature::fill_places-returns-then-not-is_string-clause-fills
-signature::fill_places-returns-then-not-is_string-clause-fills t c = λ vs z within.
+pub signature::fill_elements-returns-then-not-is_string-clause-fills : goal.signature::fill_elements-returns-then-not-is_string-clause-fills
+signature::fill_elements-returns-then-not-is_string-clause-fills t c = λ vs z within.
     let read = rw c.if-not-is_string.true at c.in_ok-is_string.ensures in
-    let o = option_map (λ b. b.items) c.begin_places.new.kept in
+    let o = option_map (λ b. b.items) c.begin_elements.new.kept in
     let P : Item → Type 0 = λ v. (layered_header c.args.layers).describes v (header_seen c.fill_header-unprotected.new.header) in
-    let s = second_read vs (state c.begin_places.new.input)
-    (state c.fill_header-unprotected.new.input) z c.begin_places.new.members o c.begin_places.new.why false P
+    let s = second_read vs (state c.begin_elements.new.input)
+    (state c.fill_header-unprotected.new.input) z c.begin_elements.new.members o c.begin_elements.new.why false P
     (read.begins vs z within) c.in_ok-unprotected.ensures.fills in
     protected_refused c.args.layers vs (state c.fill_header-unprotected.new.input)
-    (state c.end_places.new.input) z c.begin_places.new.members c.end_places.new.members o c.begin_places.new.why P c.end_places.new.signature.items
+    (state c.end_elements.new.input) z c.begin_elements.new.members c.end_elements.new.members o c.begin_elements.new.why P c.end_elements.new.signature.items
     (signature_seen c.args.signed.now) s
-    (c.in_ok-end_places.ensures.ends s.others z s.within)
+    (c.in_ok-end_elements.ensures.ends s.others z s.within)
 
-pub signature::fill_places-returns-clause-fills : goal.signature::fill_places-returns-clause-fills
-signature::fill_places-returns-clause-fills t c = λ vs z within.
+pub signature::fill_elements-returns-clause-fills : goal.signature::fill_elements-returns-clause-fills
+signature::fill_elements-returns-clause-fills t c = λ vs z within.
     let read = rw c.if-not-is_string.false at c.in_ok-is_string.ensures in
-    let o = option_map (λ b. b.items) c.begin_places.new.kept in
+    let o = option_map (λ b. b.items) c.begin_elements.new.kept in
     let p = protected_seen c.fill_protected.new.protected in
-    let b = c.end_places.new.signature.items in
-    let r = answer c.fill_protected.new.error c.fill_protected.result in
+    let b = c.end_elements.new.signature.items in
+    let r = stored c.fill_protected.new.error c.fill_protected.result in
     let seen = signature-made _ ∙ (ap (λ g. record { protected = p; unprotected = header_seen g.unprotected; signature = g.signature.items })
     (out-roll-CoseSignature _) ∙ ap (λ g. record { protected = p; unprotected = header_seen g.unprotected; signature = b }) (out-roll-CoseSignature _)) in
     let x : SignatureSeen = record { protected = p; unprotected = header_seen c.fill_header-unprotected.new.header; signature = b } in
-    let s = second_read vs (state c.begin_places.new.input)
-    (state c.fill_header-unprotected.new.input) z c.begin_places.new.members o c.begin_places.new.why true
+    let s = second_read vs (state c.begin_elements.new.input)
+    (state c.fill_header-unprotected.new.input) z c.begin_elements.new.members o c.begin_elements.new.why true
     (λ v. (layered_header c.args.layers).describes v x.unprotected)
     (read.begins vs z within) c.in_ok-unprotected.ensures.fills in
-    subst (λ y. ((left : Items) × AreWithin c.end_places.new.members left (state c.end_places.new.input) z)
+    subst (λ y. ((left : Items) × AreWithin c.end_elements.new.members left (state c.end_elements.new.input) z)
     × Fills (layered_signature c.args.layers) (array vs) y r) (sym seen)
-    (places_filled c.args.layers vs (state c.fill_header-unprotected.new.input)
-    (state c.end_places.new.input) z c.begin_places.new.members c.end_places.new.members o c.begin_places.new.why x r s
-    (c.in_ok-end_places.ensures.ends s.others z s.within)
+    (elements_filled c.args.layers vs (state c.fill_header-unprotected.new.input)
+    (state c.end_elements.new.input) z c.begin_elements.new.members c.end_elements.new.members o c.begin_elements.new.why x r s
+    (c.in_ok-end_elements.ensures.ends s.others z s.within)
     (λ d is. c.fill_protected.ensures d (ap (λ g. (protected_seen g.protected).original) (out-roll-CoseSignature _)
     ∙ (ap (λ g. (protected_seen g.protected).original) (out-roll-CoseSignature _)
     ∙ (ap (λ g. (protected_seen g.protected).original) (out-roll-CoseSignature _) ∙ (ap (λ g. g.original) (protected-made _) ∙ is))))))

@@ -31,8 +31,8 @@ decreases-signature::fill_listed l = layer * l.layers + 8 * items_size l.members
 abbrev pub decreases-signature::fill_signature : goal.decreases-signature::fill_signature
 decreases-signature::fill_signature l = layer * l.layers + 8 * input_size (state l.input.now) + 6
 
-abbrev pub decreases-signature::fill_places : goal.decreases-signature::fill_places
-decreases-signature::fill_places l = layer * l.layers + 8 * items_size l.members.now (state l.input.now) + 7
+abbrev pub decreases-signature::fill_elements : goal.decreases-signature::fill_elements
+decreases-signature::fill_elements l = layer * l.layers + 8 * items_size l.members.now (state l.input.now) + 7
 
 abbrev pub decreases-protected::fill_protected : goal.decreases-protected::fill_protected
 decreases-protected::fill_protected l = layer * l.layers + 1

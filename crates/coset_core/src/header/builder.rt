@@ -4,7 +4,7 @@ ghost use Rattle.std.specs.Prelude.{◌≡◌, IfOk, IfErr, ◌<◌, Some, strin
 ghost use Rattle.coset_codec.specs.declared.error.CoseError.TheVariants as errors;
 ghost use Rattle.coset_core.specs.Views.{algorithm_seen, countersignature_seen, critical_seen, header_seen, signature_seen};
 ghost use Rattle.coset_core.specs.Fields.{algorithm};
-ghost use Rattle.coset_label.specs.Names.{number, word, assigned};
+ghost use Rattle.coset_label.specs.Names.{number, text_label, assigned};
 ghost use Rattle.coset_iana.specs.Algorithm as algorithms;
 ghost use Rattle.coset_iana.specs.CoapContentFormat as content_formats;
 ghost use Rattle.coset_iana.specs.HeaderParameter as parameters;
@@ -110,7 +110,7 @@ impl HeaderBuilder {
 
     /// Sets the content type (label 3) to a text. That it names a media type is asked where a header is read.
     pub fn content_type(mut self, content_type: String) -> HeaderBuilder
-        ensures { header_seen result ≡ with_content_type (word (string_bytes content_type))
+        ensures { header_seen result ≡ with_content_type (text_label (string_bytes content_type))
             (header_seen self) }
     {
         self.0.content_type = Some(RegisteredLabel::Text(content_type));
@@ -123,7 +123,7 @@ impl HeaderBuilder {
     /// `OutOfMemory` alone.
     pub fn content_type_from(self, alloc: Global, content_type: &str) -> Result<HeaderBuilder>
         ensures ok { IfOk result (λ b. header_seen b
-            ≡ with_content_type (word content_type.now) (header_seen self)) }
+            ≡ with_content_type (text_label content_type.now) (header_seen self)) }
         ensures memory { IfErr result (λ e. e ≡ errors.OutOfMemory) }
     {
         Ok(self.content_type(String::from_str(alloc, content_type)?))
@@ -260,7 +260,7 @@ impl HeaderBuilder {
     /// `OutOfMemory` alone.
     pub fn text_value(mut self, label: String, value: Value) -> Result<HeaderBuilder>
         ensures ok { IfOk result (λ b. header_seen b
-            ≡ and_pair (word (string_bytes label)) (view value) (header_seen self)) }
+            ≡ and_pair (text_label (string_bytes label)) (view value) (header_seen self)) }
         ensures memory { IfErr result (λ e. e ≡ errors.OutOfMemory) }
     {
         self.0.rest.push((Label::Text(label), value))?;

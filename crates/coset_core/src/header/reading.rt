@@ -11,12 +11,12 @@ ghost use Rattle.coset_codec.specs.declared.error.CoseError.TheVariants.{Duplica
 ghost use Rattle.coset_codec.specs.InPlace.{Fills};
 ghost use Rattle.coset_core.specs.FieldsView.{fields_seen, signatures_held};
 ghost use Rattle.coset_core.specs.Views.{header_seen, signature_seen};
-ghost use Rattle.coset_codec.specs.Errors.{IsUnexpected, UnlessMemory, answer, filled};
-ghost use Rattle.coset_core.specs.Fields.{FieldsSeen, Versions, names, fields, parts_of, same_name, HasOneIv, bars};
+ghost use Rattle.coset_codec.specs.Errors.{IsUnexpected, UnlessMemory, stored, made_in_place};
+ghost use Rattle.coset_core.specs.Fields.{FieldsSeen, Versions, names, fields, parts_of, same_name, HasOneIv, excludes};
 ghost use Rattle.coset_value.specs.Item.{Item, Pairs, dict};
-ghost use Rattle.coset_codec.specs.Inputs.{State, state, GoesBehind, ReadsAt, length_left, input_size, pairs_size, pairs_turns, PairsWithin, items_size, Stands, EntersMap};
-ghost use Rattle.coset_codec.specs.Maps.{Adds, Refuses, RefusesValue, TakesValue, is_filled, optional, listed};
-ghost use Rattle.coset_codec.specs.Shape.{any, filled_bstr, any_number, one_or_many};
+ghost use Rattle.coset_codec.specs.Inputs.{State, state, GoesBehind, ReadsAt, length_left, input_size, pairs_size, pairs_turns, PairsWithin, items_size, ItemAt, EntersMap};
+ghost use Rattle.coset_codec.specs.Maps.{Adds, Refuses, RefusesValue, TakesValue, is_nonempty, optional, unless_empty};
+ghost use Rattle.coset_codec.specs.Shape.{any, nonempty_bstr, any_number, one_or_many};
 ghost use Rattle.coset_label.specs.Names.{number};
 ghost use Rattle.coset_label.specs.Views.{label_seen};
 ghost use Rattle.coset_codec.specs.declared.read.input.InputPairs.{InputPairs};
@@ -29,10 +29,10 @@ use crate::countersignature::countersignatures_of;
 use crate::critical::set_critical;
 use crate::header::Header;
 use crate::header::writing::ask_distinct;
-use crate::one_or_more::enter_ones;
+use crate::one_or_more::enter_one_or_more;
 use crate::signature::{CoseSignature, drop_nested, fill_bare, fill_listed};
-use coset_codec::error::{Refused, keep_error};
-use coset_codec::read::{Input, InputItems, InputPairs, set_field, set_filled};
+use coset_codec::error::{ErrorStored, store_error};
+use coset_codec::read::{Input, InputItems, InputPairs, set_field, set_nonempty};
 use coset_codec::{CoseError, Result};
 use coset_iana::{EnumI64, HeaderParameter};
 use coset_label::Label;
@@ -53,15 +53,15 @@ fn set_iv(alloc: Global, field: &mut Vec<u8>, other: &Vec<u8>, input: &mut Input
     requires one { (field.old.items ≡ []) ⊎ (other.now.items ≡ []) }
     ensures shrinks { length_left (state input.new) ≤ length_left (state input.old) }
     ensures takes { ReadsAt (state input.old) (state input.new) (λ v. OnOk result
-        (TakesValue (listed filled_bstr) v field.old.items field.new.items)) }
+        (TakesValue (unless_empty nonempty_bstr) v field.old.items field.new.items)) }
     ensures refused { ReadsAt (state input.old) (state input.new) (λ v. IfErr result
-        (λ e. UnlessMemory e (λ f. RefusesValue (listed filled_bstr) v field.old.items f
+        (λ e. UnlessMemory e (λ f. RefusesValue (unless_empty nonempty_bstr) v field.old.items f
         ⊎ ((other.now.items ≢ []) × IsUnexpected f)))) }
     ensures kept { OnErr result (field.new ≡ field.old) }
     ensures one { (field.new.items ≡ []) ⊎ (other.now.items ≡ []) }
 {
     if other.is_empty() {
-        return set_filled(alloc, field, input);
+        return set_nonempty(alloc, field, input);
     }
     input.filled_bytes(alloc)?;
     Err(CoseError::UnexpectedItem(
@@ -93,7 +93,7 @@ fn set_parameter(
         (λ v. IfErr result (λ e. UnlessMemory e (λ f. Refuses names
         (fields (optional any) (optional any)) (label_seen label) v
         (parts_of (fields_seen header.old, o)) f
-        ⊎ bars (label_seen label) (parts_of (fields_seen header.old, o)) f))) }
+        ⊎ excludes (label_seen label) (parts_of (fields_seen header.old, o)) f))) }
     ensures kept { OnErr result (fields_seen header.new ≡ fields_seen header.old) }
     ensures one_iv { HasOneIv (fields_seen header.new) }
     ensures others { signatures_held header.new ≡ signatures_held header.old }
@@ -108,7 +108,7 @@ fn set_parameter(
         return set_content_type(alloc, &mut header.content_type, input);
     }
     if is_parameter(&label, HeaderParameter::Kid) {
-        return set_filled(alloc, &mut header.key_id, input);
+        return set_nonempty(alloc, &mut header.key_id, input);
     }
     if is_parameter(&label, HeaderParameter::Iv) {
         return set_iv(alloc, &mut header.iv, &header.partial_iv, input);
@@ -215,7 +215,7 @@ fn fill_fields(
     pairs: &mut InputPairs,
     input: &mut Input<'_>,
     error: &mut CoseError,
-) -> Result<Option<Version>, Refused>
+) -> Result<Option<Version>, ErrorStored>
     requires one_iv { HasOneIv (fields_seen header.old) }
     ensures one_iv { HasOneIv (fields_seen header.new) }
     ensures others { signatures_held header.new ≡ signatures_held header.old }
@@ -228,14 +228,14 @@ fn fill_fields(
     ensures fills { (all ps : Pairs) (o : Versions (Option Item)) (z : State)
         → WalksTo all (fields_seen header.old) o ps → PairsWithin pairs.old ps (state input.old) z
         → FillsFields all o z (fields_seen header.new) (state input.new) pairs.new
-        (answer error.new result) }
+        (stored error.new result) }
 {
     let filled = fill_until_signatures(header, alloc, pairs, input);
     let distinct = match ask_distinct(alloc, &header.rest) {
         Ok(()) => filled,
         Err(repeated) => refuse(filled, input, repeated),
     };
-    keep_error(distinct, error)
+    store_error(distinct, error)
 }
 
 /// The pairs of a map.
@@ -247,15 +247,15 @@ fn begin_pairs(
     pairs: &mut InputPairs,
     input: &mut Input<'_>,
     error: &mut CoseError,
-) -> Result<(), Refused>
+) -> Result<(), ErrorStored>
     ensures shrinks { length_left (state input.new) ≤ length_left (state input.old) }
     ensures strictly { OnOk result (GoesBehind (state input.old) (state input.new)) }
     ensures deeper { OnOk result (pairs_size pairs.new (state input.new)
         < input_size (state input.old)) }
-    ensures enters { (v : Item) (z : State) → Stands v (state input.old) z
-        → EntersMap v (state input.new) z (filled (λ _. pairs.new) error.new result) }
+    ensures enters { (v : Item) (z : State) → ItemAt v (state input.old) z
+        → EntersMap v (state input.new) z (made_in_place (λ _. pairs.new) error.new result) }
 {
-    *pairs = keep_error(input.enter_map(), error)?;
+    *pairs = store_error(input.enter_map(), error)?;
     Ok(())
 }
 
@@ -270,13 +270,13 @@ pub(crate) fn fill_header(
     input: &mut Input<'_>,
     layers: usize,
     error: &mut CoseError,
-) -> Result<(), Refused>
+) -> Result<(), ErrorStored>
     requires empty { header_seen header.old ≡ empty_header }
     ensures shrinks { length_left (state input.new) ≤ length_left (state input.old) }
     ensures strictly { OnOk result (GoesBehind (state input.old) (state input.new)) }
-    ensures fills { (v : Item) (z : State) → Stands v (state input.old) z → (state input.new ≡ z)
+    ensures fills { (v : Item) (z : State) → ItemAt v (state input.old) z → (state input.new ≡ z)
         × Fills (layered_header layers) v (header_seen header.new)
-        (answer error.new result) }
+        (stored error.new result) }
 {
     let mut pairs = InputPairs::none();
     begin_pairs(&mut pairs, input, error)?;
@@ -297,13 +297,13 @@ fn fill_pairs(
     input: &mut Input<'_>,
     layers: usize,
     error: &mut CoseError,
-) -> Result<(), Refused>
+) -> Result<(), ErrorStored>
     requires empty { header_seen header.old ≡ empty_header }
     ensures shrinks { length_left (state input.new) ≤ length_left (state input.old) }
     ensures fills { (all : Pairs) (z : State) → PairsWithin pairs.old all (state input.old) z
         → ((left : Pairs) × PairsWithin pairs.new left (state input.new) z)
         × Fills (layered_header layers) (dict all) (header_seen header.new)
-        (answer error.new result) }
+        (stored error.new result) }
 {
     while let Some(version) = fill_fields(header, alloc, pairs, input, error)? {
         if holds(header, version) {
@@ -322,7 +322,7 @@ fn fill_pairs(
 
 /// Whether the header holds counter signatures of this version.
 fn holds(header: &Header, version: Version) -> bool
-    ensures { result ≡ is_filled (held_of version header.now) }
+    ensures { result ≡ is_nonempty (held_of version header.now) }
 {
     match version {
         Version::V1 => !header.counter_signatures.is_empty(),
@@ -341,7 +341,7 @@ fn keep_signatures(
     alloc: Global,
     read: Vec<CoseSignature>,
     error: &mut CoseError,
-) -> Result<(), Refused>
+) -> Result<(), ErrorStored>
     ensures keeps { OnOk result
         (Keeps version (map signature_seen read.items) header.old header.new) }
     ensures refused { OnErr result (error.new ≡ errors.OutOfMemory) }
@@ -350,7 +350,7 @@ fn keep_signatures(
     match version {
         Version::V1 => header.counter_signatures = read,
         Version::V2 => {
-            let all = keep_error(countersignatures_of(alloc, read), error)?;
+            let all = store_error(countersignatures_of(alloc, read), error)?;
             header.countersignatures_v2 = all;
         }
     }
@@ -360,14 +360,14 @@ fn keep_signatures(
 /// The error of a map with one of the labels 7 and 11 twice; the second value is passed.
 #[cold]
 #[inline(never)]
-fn refuse_second(input: &mut Input<'_>, error: &mut CoseError) -> Result<(), Refused>
+fn refuse_second(input: &mut Input<'_>, error: &mut CoseError) -> Result<(), ErrorStored>
     ensures shrinks { length_left (state input.new) ≤ length_left (state input.old) }
-    ensures passes { (v : Item) (z : State) → Stands v (state input.old) z → (state input.new ≡ z)
-        × (answer error.new result ≡ Err DuplicateMapKey) }
+    ensures passes { (v : Item) (z : State) → ItemAt v (state input.old) z → (state input.new ≡ z)
+        × (stored error.new result ≡ Err DuplicateMapKey) }
 {
     input.pass();
     *error = CoseError::DuplicateMapKey;
-    Err(Refused)
+    Err(ErrorStored)
 }
 
 /// The members of an array of one signature or of several, and whether it is the former.
@@ -375,18 +375,19 @@ fn refuse_second(input: &mut Input<'_>, error: &mut CoseError) -> Result<(), Ref
 /// # Errors
 /// `UnexpectedItem`: the item is neither; it is passed.
 #[inline(never)]
-fn begin_ones(
+fn begin_one_or_more(
     members: &mut InputItems,
     input: &mut Input<'_>,
     error: &mut CoseError,
-) -> Result<bool, Refused>
+) -> Result<bool, ErrorStored>
     ensures shrinks { length_left (state input.new) ≤ length_left (state input.old) }
     ensures deeper { OnOk result
         (items_size members.new (state input.new) < input_size (state input.old)) }
-    ensures enters { (v : Item) (z : State) → Stands v (state input.old) z
-        → EntersOnes v (state input.new) z (filled (λ one. (one, members.new)) error.new result) }
+    ensures enters { (v : Item) (z : State) → ItemAt v (state input.old) z
+        → EntersOnes v (state input.new) z
+        (made_in_place (λ one. (one, members.new)) error.new result) }
 {
-    let (one, found) = keep_error(enter_ones(input), error)?;
+    let (one, found) = store_error(enter_one_or_more(input), error)?;
     *members = found;
     Ok(one)
 }
@@ -402,16 +403,16 @@ fn fill_counter_signatures(
     input: &mut Input<'_>,
     layers: usize,
     error: &mut CoseError,
-) -> Result<(), Refused>
+) -> Result<(), ErrorStored>
     requires empty { map signature_seen all.old.items ≡ [] }
     ensures shrinks { length_left (state input.new) ≤ length_left (state input.old) }
-    ensures fills { (v : Item) (z : State) → Stands v (state input.old) z
+    ensures fills { (v : Item) (z : State) → ItemAt v (state input.old) z
         → (state input.new ≡ z) × Fills (one_or_many (any_number (layered_signature layers))) v
         (map signature_seen all.new.items)
-        (answer error.new result) }
+        (stored error.new result) }
 {
     let mut members = InputItems::none();
-    let one = begin_ones(&mut members, input, error)?;
+    let one = begin_one_or_more(&mut members, input, error)?;
     let filled = if one {
         fill_bare(all, alloc, &mut members, input, layers, error)
     } else {

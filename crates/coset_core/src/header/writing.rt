@@ -6,7 +6,7 @@ ghost use Rattle.coset_core.specs.FieldsView.{fields_seen};
 ghost use Rattle.coset_core.specs.Views.{countersignature_seen, critical_seen, entry_seen, header_seen, signature_seen};
 ghost use Rattle.coset_codec.specs.Errors.{UnlessMemory};
 ghost use Rattle.coset_core.specs.Fields.{critical, same_name};
-ghost use Rattle.coset_codec.specs.Maps.{are_distinct, listed};
+ghost use Rattle.coset_codec.specs.Maps.{are_distinct, unless_empty};
 ghost use Rattle.coset_codec.specs.Shape.{some_of};
 ghost use Rattle.coset_iana.specs.HeaderParameter as parameters;
 ghost use Rattle.coset_iana.specs.declared.headers.HeaderParameter.TheVariants.{CounterSignature, CounterSignatureV2, Crit};
@@ -24,7 +24,7 @@ use coset_cbor::OutOfMemory;
 use coset_cbor::ser::{write_array_head, write_integer};
 use coset_cbor::value::{Integer, Value};
 use coset_codec::write::{
-    Array, write_field, write_filled, write_optional, write_pairs_head, write_rest,
+    Array, write_field, write_nonempty, write_optional, write_pairs_head, write_rest,
 };
 use coset_codec::{CoseError, Result, has_repeats};
 use coset_iana::{EnumI64, HeaderParameter};
@@ -67,7 +67,7 @@ fn write_critical(
     out: &mut Vec<u8>,
 ) -> Result<()>
     ensures ok { OnOk result (AppendsField (parameters.number Crit)
-        ((listed (some_of critical)).image (map critical_seen crit.now)) out.old.items
+        ((unless_empty (some_of critical)).image (map critical_seen crit.now)) out.old.items
         out.new.items) }
     ensures memory { IfErr result (λ e. e ≡ out_of_memory) }
 {
@@ -91,9 +91,9 @@ fn write_fields(alloc: Global, header: &Header, out: &mut Vec<u8>) -> Result<()>
         &header.content_type,
         out,
     )?;
-    write_filled(alloc, HeaderParameter::Kid.to_i64(), &header.key_id, out)?;
-    write_filled(alloc, HeaderParameter::Iv.to_i64(), &header.iv, out)?;
-    write_filled(
+    write_nonempty(alloc, HeaderParameter::Kid.to_i64(), &header.key_id, out)?;
+    write_nonempty(alloc, HeaderParameter::Iv.to_i64(), &header.iv, out)?;
+    write_nonempty(
         alloc,
         HeaderParameter::PartialIv.to_i64(),
         &header.partial_iv,

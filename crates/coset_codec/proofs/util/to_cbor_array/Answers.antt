@@ -20,8 +20,8 @@ returns-in_err-to_cbor_value-clause-refused g c =
         before = c.loop-x.yielded;
         last = c.in-Some.x;
         parts = refl;
-        written = items_view c.loop-x.places.items;
-        images_before = images-all _ c.loop-x.yielded c.loop-x.places.items c.loop-x.invariant;
+        written = items_view c.loop-x.elements.items;
+        images_before = images-all _ c.loop-x.yielded c.loop-x.elements.items c.loop-x.invariant;
         no_image = h.1;
       },
     ))
@@ -31,10 +31,10 @@ loop-x-preserved g c = rw c.in_ok-push.ensures.items (with-more _ _ _ _ _ c.loop
 
 pub returns-clause-images : goal.returns-clause-images
 returns-clause-images g c =
-    let made = images-all _ c.loop-x.yielded c.loop-x.places.items c.loop-x.invariant in (
+    let made = images-all _ c.loop-x.yielded c.loop-x.elements.items c.loop-x.invariant in (
       c.into_iter-x-iterator.result,
       c.loop-x.yielded,
       c.into_iter-x-iterator.ensures.into_iter_gives,
       (c.next.new.self, (c.loop-x.x-iterator, c.loop-x.yielded_by, c.in-None.ensures.steps)),
-      ap (option_map array) made ∙ ap Some (sym (view-Array c.loop-x.places)),
+      ap (option_map array) made ∙ ap Some (sym (view-Array c.loop-x.elements)),
     )

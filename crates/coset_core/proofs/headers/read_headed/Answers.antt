@@ -2,7 +2,7 @@ use Rattle.std.proofs.Common.{Some, ap, ◌∙◌, inl, inr}
 use Rattle.coset_value.specs.Item.{item}
 use Rattle.coset_codec.specs.Inputs.{state}
 use Rattle.coset_codec.proofs.Placed.{placed, passed_on}
-use Rattle.coset_core.specs.Messages.{headed}
+use Rattle.coset_core.specs.Messages.{with_headers}
 use Rattle.coset_core.proofs.headers.read_headed.Goals as goal
 
 pub returns-in_err-second-clause-reads : goal.returns-in_err-second-clause-reads
@@ -14,11 +14,12 @@ returns-in_err-second-clause-reads g c = λ v z stands.
     (c.in_ok-place-2.ensures.place one.others z one.within) c.in_err-second.ensures.fills in
     let more = c.in_ok-others.ensures.reads two.others z two.within in (
       more.0,
-      passed_on (headed g.P.DecodePlaces.places) _ v c.from_residual-in_err-second.result c.in_err-second.field-0.0 c.from_residual-in_err-second.ensures.1
+      passed_on (with_headers g.P.DecodeElements.elements) _ v c.from_residual-in_err-second.result c.in_err-second.field-0.0
+          c.from_residual-in_err-second.ensures.1
           (λ n. inr (
             _,
             array.1 ∙ ap Some (one.parts ∙ ap (item one.first) two.parts),
-            inr (g.P.DecodePlaces.fits two.others _ more.1, inr (inl (two.read n))),
+            inr (g.P.DecodeElements.fits two.others _ more.1, inr (inl (two.read n))),
           )),
     )
 
@@ -31,6 +32,7 @@ returns-in_err-first-clause-reads g c = λ v z stands.
     (c.in_ok-place-2.ensures.place one.others z one.within) c.in_ok-second.ensures.fills in
     let more = c.in_ok-others.ensures.reads two.others z two.within in (
       more.0,
-      passed_on (headed g.P.DecodePlaces.places) _ v c.from_residual-in_err-first.result c.in_err-first.field-0.0 c.from_residual-in_err-first.ensures.1
-          (λ n. inr (_, array.1 ∙ ap Some (one.parts ∙ ap (item one.first) two.parts), inr (g.P.DecodePlaces.fits two.others _ more.1, inl (one.read n)))),
+      passed_on (with_headers g.P.DecodeElements.elements) _ v c.from_residual-in_err-first.result c.in_err-first.field-0.0
+          c.from_residual-in_err-first.ensures.1
+          (λ n. inr (_, array.1 ∙ ap Some (one.parts ∙ ap (item one.first) two.parts), inr (g.P.DecodeElements.fits two.others _ more.1, inl (one.read n)))),
     )

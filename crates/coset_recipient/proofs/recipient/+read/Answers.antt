@@ -1,6 +1,6 @@
 use Rattle.std.proofs.Common.{codes, option_map, map, ap, sym, subst, refl, ◌∙◌, arith, rules}
 use Rattle.coset_value.specs.Item.{array}
-use Rattle.coset_codec.specs.Errors.{answer}
+use Rattle.coset_codec.specs.Errors.{stored}
 use Rattle.coset_codec.specs.Inputs.{state}
 use Rattle.coset_codec.specs.InPlace.{Fills}
 use Rattle.coset_codec.specs.Shape.{Each}
@@ -12,7 +12,7 @@ use Rattle.coset_recipient.specs.Recipient.{RecipientSeen, recipient, recipients
 use Rattle.coset_recipient.specs.RecipientReading.{BeginsThree}
 use Rattle.coset_recipient.specs.RecipientView.{recipient_seen, recipient-rolled}
 use Rattle.coset_recipient.specs.declared.recipient.CoseRecipient.{out-roll-CoseRecipient}
-use Rattle.coset_recipient.proofs.Reading.{few_refused, last_refused, none_inside, not_entered, places_filled}
+use Rattle.coset_recipient.proofs.Reading.{few_refused, last_refused, none_inside, not_entered, elements_filled}
 use Rattle.coset_recipient.proofs.recipient.+read.Goals as goal
 
 pub fill_listed-loop-all-preserved : goal.fill_listed-loop-all-preserved
@@ -58,47 +58,48 @@ fill_listed-returns-clause-fills t c = λ vs z within.
           (all_read recipient vs p.others (map recipient_seen c.loop-all.all.items) p.continues none.0),
     )
 
-pub fill_places-returns-in_err-first-clause-fills : goal.fill_places-returns-in_err-first-clause-fills
-fill_places-returns-in_err-first-clause-fills t c = λ vs z within.
-    let p = protected_seen c.begin_places.new.protected in
-    let u = header_seen c.begin_places.new.unprotected in
-    let o = option_map (λ b. b.items) c.begin_places.new.ciphertext in
-    let begins = subst (BeginsThree vs p u o (state c.begin_places.new.input) z c.begin_places.new.members)
-    (sym c.keep_error.ensures.answers ∙ ap (answer c.keep_error.new.error) c.in_err-first.was) (c.begin_places.ensures.begins vs z within) in
-    few_refused vs p u o (state c.begin_places.new.input) z c.begin_places.new.members _ c.from_residual.result c.keep_error.new.error c.in_err-first.field-0.0
+pub fill_elements-returns-in_err-first-clause-fills : goal.fill_elements-returns-in_err-first-clause-fills
+fill_elements-returns-in_err-first-clause-fills t c = λ vs z within.
+    let p = protected_seen c.begin_elements.new.protected in
+    let u = header_seen c.begin_elements.new.unprotected in
+    let o = option_map (λ b. b.items) c.begin_elements.new.ciphertext in
+    let begins = subst (BeginsThree vs p u o (state c.begin_elements.new.input) z c.begin_elements.new.members)
+    (sym c.store_error.ensures.answers ∙ ap (stored c.store_error.new.error) c.in_err-first.was) (c.begin_elements.ensures.begins vs z within) in
+    few_refused vs p u o (state c.begin_elements.new.input) z c.begin_elements.new.members _ c.from_residual.result c.store_error.new.error
+    c.in_err-first.field-0.0
     c.from_residual.ensures.1 begins
 
-pub fill_places-fill_fourth-requires : goal.fill_places-fill_fourth-requires
-fill_places-fill_fourth-requires t c =
-    let size = c.begin_places.ensures.size in (
+pub fill_elements-fill_fourth-requires : goal.fill_elements-fill_fourth-requires
+fill_elements-fill_fourth-requires t c =
+    let size = c.begin_elements.ensures.size in (
       omega (arith, size, c.decreases),
       ap (λ g. map recipient_seen g.recipients.items) (out-roll-CoseRecipient _)
           ∙ none_inside c.args.recipient.now c.requires.empty,
     )
 
-pub fill_places-returns-in_err-fill_fourth-clause-fills : goal.fill_places-returns-in_err-fill_fourth-clause-fills
-fill_places-returns-in_err-fill_fourth-clause-fills t c = λ vs z within.
-    let p = protected_seen c.begin_places.new.protected in
-    let u = header_seen c.begin_places.new.unprotected in
-    let o = option_map (λ b. b.items) c.begin_places.new.ciphertext in
-    let begins = subst (BeginsThree vs p u o (state c.begin_places.new.input) z c.begin_places.new.members)
-    (sym c.keep_error.ensures.answers ∙ ap (answer c.keep_error.new.error) c.in_ok-first.was) (c.begin_places.ensures.begins vs z within) in
-    last_refused vs p u o (state c.begin_places.new.input)
-    (state c.fill_fourth.new.input) z c.begin_places.new.members c.fill_fourth.new.members c.in_ok-first.first _
+pub fill_elements-returns-in_err-fill_fourth-clause-fills : goal.fill_elements-returns-in_err-fill_fourth-clause-fills
+fill_elements-returns-in_err-fill_fourth-clause-fills t c = λ vs z within.
+    let p = protected_seen c.begin_elements.new.protected in
+    let u = header_seen c.begin_elements.new.unprotected in
+    let o = option_map (λ b. b.items) c.begin_elements.new.ciphertext in
+    let begins = subst (BeginsThree vs p u o (state c.begin_elements.new.input) z c.begin_elements.new.members)
+    (sym c.store_error.ensures.answers ∙ ap (stored c.store_error.new.error) c.in_ok-first.was) (c.begin_elements.ensures.begins vs z within) in
+    last_refused vs p u o (state c.begin_elements.new.input)
+    (state c.fill_fourth.new.input) z c.begin_elements.new.members c.fill_fourth.new.members c.in_ok-first.first _
     (map recipient_seen c.fill_fourth.new.all.items) c.from_residual-in_err-fill_fourth.result
     c.fill_fourth.new.error c.in_err-fill_fourth.field-0.0 c.from_residual-in_err-fill_fourth.ensures.1 begins
     (λ others inside. c.in_err-fill_fourth.ensures.fills others z inside)
 
-pub fill_places-returns-clause-fills : goal.fill_places-returns-clause-fills
-fill_places-returns-clause-fills t c = λ vs z within.
-    let p = protected_seen c.begin_places.new.protected in
-    let u = header_seen c.begin_places.new.unprotected in
-    let o = option_map (λ b. b.items) c.begin_places.new.ciphertext in
+pub fill_elements-returns-clause-fills : goal.fill_elements-returns-clause-fills
+fill_elements-returns-clause-fills t c = λ vs z within.
+    let p = protected_seen c.begin_elements.new.protected in
+    let u = header_seen c.begin_elements.new.unprotected in
+    let o = option_map (λ b. b.items) c.begin_elements.new.ciphertext in
     let rs = map recipient_seen c.fill_fourth.new.all.items in
     let first = c.in_ok-first.first in
     let x : RecipientSeen = record { protected = p; unprotected = u; ciphertext = o; recipients = recipients_of rs } in
-    let begins = subst (BeginsThree vs p u o (state c.begin_places.new.input) z c.begin_places.new.members)
-    (sym c.keep_error.ensures.answers ∙ ap (answer c.keep_error.new.error) c.in_ok-first.was) (c.begin_places.ensures.begins vs z within) in
+    let begins = subst (BeginsThree vs p u o (state c.begin_elements.new.input) z c.begin_elements.new.members)
+    (sym c.store_error.ensures.answers ∙ ap (stored c.store_error.new.error) c.in_ok-first.was) (c.begin_elements.ensures.begins vs z within) in
     let seen = recipient-rolled _ ∙ ap (λ g. record {
       protected = protected_seen g.protected;
       unprotected = header_seen g.unprotected;
@@ -106,17 +107,17 @@ fill_places-returns-clause-fills t c = λ vs z within.
           option_map (λ b. b.items) g.ciphertext;
       recipients = recipients_of rs;
     }) (out-roll-CoseRecipient _) in
-    let read = places_filled vs (state c.begin_places.new.input)
-    (state c.fill_fourth.new.input) z c.begin_places.new.members c.fill_fourth.new.members x rs first begins
+    let read = elements_filled vs (state c.begin_elements.new.input)
+    (state c.fill_fourth.new.input) z c.begin_elements.new.members c.fill_fourth.new.members x rs first begins
     (λ others inside. c.in_ok-fill_fourth.ensures.fills others z inside) refl in (
       read.0,
-      subst (λ y. Fills recipient (array vs) y (answer c.keep_error-2.new.error c.keep_error-2.result)) (sym seen)
-          (subst (Fills recipient (array vs) x) (sym c.keep_error-2.ensures.answers) read.1),
+      subst (λ y. Fills recipient (array vs) y (stored c.store_error-2.new.error c.store_error-2.result)) (sym seen)
+          (subst (Fills recipient (array vs) x) (sym c.store_error-2.ensures.answers) read.1),
     )
 
 pub fill_recipient-returns-in_err-members-clause-fills : goal.fill_recipient-returns-in_err-members-clause-fills
 fill_recipient-returns-in_err-members-clause-fills t c = λ v z stands.
     not_entered (codes "array") v (state c.enter_array.new.self) z
-    (recipient_seen c.args.recipient.now) c.enter_array.result c.keep_error.result c.keep_error.new.error c.in_err-members.field-0.0 c.from_residual.result
+    (recipient_seen c.args.recipient.now) c.enter_array.result c.store_error.result c.store_error.new.error c.in_err-members.field-0.0 c.from_residual.result
     c.from_residual.ensures.1
-    c.keep_error.ensures.answers c.in_err-members.was (c.enter_array.ensures.enters v z stands)
+    c.store_error.ensures.answers c.in_err-members.was (c.enter_array.ensures.enters v z stands)

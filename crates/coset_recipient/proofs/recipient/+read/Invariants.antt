@@ -9,8 +9,8 @@ use Rattle.coset_recipient.proofs.recipient.+read.Given as goal
 abbrev pub decreases-fill_recipient : goal.decreases-fill_recipient
 decreases-fill_recipient l = 8 * input_size (state l.input.now) + 2
 
-abbrev pub decreases-fill_places : goal.decreases-fill_places
-decreases-fill_places l = 8 * items_size l.members.now (state l.input.now) + 7
+abbrev pub decreases-fill_elements : goal.decreases-fill_elements
+decreases-fill_elements l = 8 * items_size l.members.now (state l.input.now) + 7
 
 abbrev pub decreases-fill_fourth : goal.decreases-fill_fourth
 decreases-fill_fourth l = 8 * items_size l.members.now (state l.input.now) + 6

@@ -1,7 +1,7 @@
 use Rattle.std.proofs.Common.{take, drop, map, length, sym, subst, ap, ◌∙◌, ◌+◌, ◌≡◌, arith}
 use Rattle.std.proofs.Math.Seq.{take-length}
 use Rattle.coset_codec.proofs.EncodingMaps.{taken, around}
-use Rattle.coset_codec.specs.Encoding.{AppendsPlaces, HasNoImage}
+use Rattle.coset_codec.specs.Encoding.{AppendsElements, HasNoImage}
 use Rattle.coset_codec.specs.Shape.{images}
 use Rattle.coset_codec.proofs.Encoding.{nothing-put, member-put, images-missing, array-encoded}
 use Rattle.coset_codec.proofs.Lists.{on_err}
@@ -17,7 +17,7 @@ pub write_each-loop-recipient-preserved : goal.write_each-loop-recipient-preserv
 write_each-loop-recipient-preserved t c =
     let all = c.args.all.now in
     let i = c.loop-recipient.recipient-index in
-    subst (λ xs. AppendsPlaces (images recipient_image xs) (i + 1) c.args.out.now.items c.write_recipient.new.out.items)
+    subst (λ xs. AppendsElements (images recipient_image xs) (i + 1) c.args.out.now.items c.write_recipient.new.out.items)
     (sym (taken recipient_seen all i c.recipient-item.result (omega arith) c.recipient-item.is))
     (member-put recipient_image (map recipient_seen (take i all))
     (recipient_seen c.recipient-item.result) c.loop-recipient.invariant c.in_ok-write_recipient.ensures)
@@ -39,8 +39,9 @@ pub write_each-returns-clause-ok : goal.write_each-returns-clause-ok
 write_each-returns-clause-ok t c =
     let all = c.args.all.now in
     let ends : c.loop-recipient.recipient-index ≡ length all = omega (arith, c.loop-recipient-test.false, c.loop-recipient.auto.recipient-index-end) in
-    subst (λ xs. AppendsPlaces (images recipient_image (map recipient_seen xs)) (length all) c.args.out.now.items c.loop-recipient.out.items) (take-length all)
-    (subst (λ k. AppendsPlaces (images recipient_image
+    subst (λ xs. AppendsElements (images recipient_image (map recipient_seen xs)) (length all) c.args.out.now.items c.loop-recipient.out.items)
+    (take-length all)
+    (subst (λ k. AppendsElements (images recipient_image
     (map recipient_seen (take k all))) k c.args.out.now.items c.loop-recipient.out.items) ends c.loop-recipient.invariant)
 
 pub write_recipients-returns : goal.write_recipients-returns

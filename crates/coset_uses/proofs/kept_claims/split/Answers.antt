@@ -6,7 +6,7 @@ use Rattle.coset_codec.specs.Maps.{SomePair}
 use Rattle.coset_label.specs.Views.{label_seen}
 use Rattle.coset_core.specs.Views.{entry_seen}
 use Rattle.coset_uses.specs.Kept.{IsNamed, IsNoLabel, Splits, parts_seen}
-use Rattle.coset_uses.proofs.Kept.{all_split, blamed, blames_on, entries_pushed, named_on, not_split, other_on, pairs_pushed}
+use Rattle.coset_uses.proofs.Kept.{all_split, masked, blames_on, entries_pushed, named_on, not_split, other_on, pairs_pushed}
 use Rattle.coset_uses.proofs.kept_claims.split.Goals as goal
 
 pub loop-key-preserved-in_ok-push : goal.loop-key-preserved-in_ok-push
@@ -41,7 +41,7 @@ returns-in_err-from_pull c =
     let other = subst (λ b. IsNamed b k) c.if-branch.false c.in_ok-is_name.ensures.named in
     not_split (pairs_left c.args.pairs) parts_seen _ _ c.from_residual-in_err-from_pull.ensures.1
     (λ n. subst (λ it. SomePair (IsNoLabel c.in_err-from_pull.field-0.0) (pairs_left it)) c.into_iter-key-iterator.ensures.into_iter_gives
-    (blamed _ _ _ k v _ c.loop-key.invariant.1 c.in-Some.ensures.steps.0 other (c.in_err-from_pull.ensures n)))
+    (masked _ _ _ k v _ c.loop-key.invariant.1 c.in-Some.ensures.steps.0 other (c.in_err-from_pull.ensures n)))
 
 pub returns : goal.returns
 returns c =

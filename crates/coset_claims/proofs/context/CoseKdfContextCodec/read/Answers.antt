@@ -3,12 +3,12 @@ use Rattle.coset_value.specs.Item.{item}
 use Rattle.coset_codec.specs.Inputs.{state}
 use Rattle.coset_codec.proofs.Placed.{placed, passed_on}
 use Rattle.coset_claims.specs.Context.{context, context_seen}
-use Rattle.coset_claims.proofs.Places.{goes_further}
+use Rattle.coset_claims.proofs.Elements.{goes_further}
 use Rattle.coset_claims.proofs.context.CoseKdfContextCodec.read.Goals as goal
 
 pub returns-in_err-supp_pub_info-clause-reads : goal.returns-in_err-supp_pub_info-clause-reads
 returns-in_err-supp_pub_info-clause-reads c = λ v z stands.
-    let array = c.in_ok-places.ensures.enters v z stands in
+    let array = c.in_ok-elements.ensures.enters v z stands in
     let one = placed (state c.place.new.input) (state c.read_algorithm-algorithm_id.new.input) z c.place.new.self
     (c.in_ok-place.ensures.place array.0 z array.2) c.read_algorithm-algorithm_id.ensures.reads in
     let two = placed (state c.place-2.new.input) (state c.read-party_u_info.new.input) z c.place-2.new.self
@@ -30,7 +30,7 @@ returns-in_err-supp_pub_info-clause-reads c = λ v z stands.
 
 pub returns-in_err-party_v_info-clause-reads : goal.returns-in_err-party_v_info-clause-reads
 returns-in_err-party_v_info-clause-reads c = λ v z stands.
-    let array = c.in_ok-places.ensures.enters v z stands in
+    let array = c.in_ok-elements.ensures.enters v z stands in
     let one = placed (state c.place.new.input) (state c.read_algorithm-algorithm_id.new.input) z c.place.new.self
     (c.in_ok-place.ensures.place array.0 z array.2) c.read_algorithm-algorithm_id.ensures.reads in
     let two = placed (state c.place-2.new.input) (state c.read-party_u_info.new.input) z c.place-2.new.self
@@ -51,7 +51,7 @@ returns-in_err-party_v_info-clause-reads c = λ v z stands.
 
 pub returns-in_err-party_u_info-clause-reads : goal.returns-in_err-party_u_info-clause-reads
 returns-in_err-party_u_info-clause-reads c = λ v z stands.
-    let array = c.in_ok-places.ensures.enters v z stands in
+    let array = c.in_ok-elements.ensures.enters v z stands in
     let one = placed (state c.place.new.input) (state c.read_algorithm-algorithm_id.new.input) z c.place.new.self
     (c.in_ok-place.ensures.place array.0 z array.2) c.read_algorithm-algorithm_id.ensures.reads in
     let two = placed (state c.place-2.new.input) (state c.read-party_u_info.new.input) z c.place-2.new.self
@@ -82,5 +82,5 @@ returns-clause-strictly c =
     let supp_pub = c.read-supp_pub_info.ensures.shrinks in
     let more = c.read_byte_strings-supp_priv_info.ensures.shrinks in
     let end = c.finish.ensures.shrinks in
-    goes_further (state c.args.input.now) (state c.enter_array.new.self) (state c.finish.new.input) c.in_ok-places.ensures.strictly
+    goes_further (state c.args.input.now) (state c.enter_array.new.self) (state c.finish.new.input) c.in_ok-elements.ensures.strictly
     (omega (arith, one, algorithm, two, party_u, three, party_v, four, supp_pub, more, end))

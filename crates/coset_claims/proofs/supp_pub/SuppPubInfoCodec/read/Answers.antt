@@ -3,17 +3,17 @@ use Rattle.coset_value.specs.Item.{item}
 use Rattle.coset_codec.specs.Inputs.{state}
 use Rattle.coset_codec.proofs.Placed.{placed, passed_on}
 use Rattle.coset_claims.specs.SuppPub.{supp_pub, supp_pub_seen}
-use Rattle.coset_claims.proofs.Places.{other_behind, other_refused}
+use Rattle.coset_claims.proofs.Elements.{other_behind, other_refused}
 use Rattle.coset_claims.proofs.supp_pub.SuppPubInfoCodec.read.Goals as goal
 
 pub returns-in_err-other-clause-reads : goal.returns-in_err-other-clause-reads
 returns-in_err-other-clause-reads c = λ v z stands.
-    let array = c.in_ok-places.ensures.enters v z stands in
+    let array = c.in_ok-elements.ensures.enters v z stands in
     let one = placed (state c.place.new.input) (state c.uint-key_data_length.new.self) z c.place.new.self
     (c.in_ok-place.ensures.place array.0 z array.2) c.uint-key_data_length.ensures.reads in
     let two = placed (state c.place-2.new.input) (state c.read-protected.new.input) z c.place-2.new.self
     (c.in_ok-place-2.ensures.place one.others z one.within) c.read-protected.ensures.reads in
-    let other = other_refused two.others (state c.read_other-other.new.input) z c.read_other-other.new.places c.in_err-other.field-0.0
+    let other = other_refused two.others (state c.read_other-other.new.input) z c.read_other-other.new.elements c.in_err-other.field-0.0
     (c.in_err-other.ensures.reads two.others z two.within) in
     let end = c.in_ok-end.ensures.end other.0 z other.1 in (
       end.0,
@@ -23,12 +23,12 @@ returns-in_err-other-clause-reads c = λ v z stands.
 
 pub returns-in_err-protected-clause-reads : goal.returns-in_err-protected-clause-reads
 returns-in_err-protected-clause-reads c = λ v z stands.
-    let array = c.in_ok-places.ensures.enters v z stands in
+    let array = c.in_ok-elements.ensures.enters v z stands in
     let one = placed (state c.place.new.input) (state c.uint-key_data_length.new.self) z c.place.new.self
     (c.in_ok-place.ensures.place array.0 z array.2) c.uint-key_data_length.ensures.reads in
     let two = placed (state c.place-2.new.input) (state c.read-protected.new.input) z c.place-2.new.self
     (c.in_ok-place-2.ensures.place one.others z one.within) c.in_err-protected.ensures.reads in
-    let other = other_behind two.others (state c.read_other-other.new.input) z c.read_other-other.new.places c.read_other-other.result
+    let other = other_behind two.others (state c.read_other-other.new.input) z c.read_other-other.new.elements c.read_other-other.result
     (c.read_other-other.ensures.reads two.others z two.within) in
     let end = c.in_ok-end.ensures.end other.0 z other.1 in (
       end.0,

@@ -1,6 +1,6 @@
 use Rattle.std.proofs.Common.{take, drop, length, sym, subst, ap, ◌∙◌, ◌+◌, ◌≡◌, arith}
 use Rattle.std.proofs.Math.Seq.{take-length}
-use Rattle.coset_codec.specs.Encoding.{AppendsPlaces, HasNoImage}
+use Rattle.coset_codec.specs.Encoding.{AppendsElements, HasNoImage}
 use Rattle.coset_codec.specs.Shape.{images}
 use Rattle.coset_codec.proofs.Encoding.{nothing-put, member-put, images-missing, one_taken, one_between}
 use Rattle.coset_codec.proofs.Lists.{on_err}
@@ -13,7 +13,7 @@ pub loop-member-preserved : goal.loop-member-preserved
 loop-member-preserved g c =
     let all = c.args.members.now in
     let i = c.loop-member.member-index in
-    subst (λ xs. AppendsPlaces (images g.T.Encode.image xs) (i + 1) c.args.out.now.items c.encode.new.out.items)
+    subst (λ xs. AppendsElements (images g.T.Encode.image xs) (i + 1) c.args.out.now.items c.encode.new.out.items)
     (sym (one_taken all i c.member-item.result (omega arith) c.member-item.is))
     (member-put g.T.Encode.image (take i all) c.member-item.result c.loop-member.invariant c.in_ok-encode.ensures)
 
@@ -34,5 +34,5 @@ pub returns-clause-ok : goal.returns-clause-ok
 returns-clause-ok g c =
     let all = c.args.members.now in
     let ends : c.loop-member.member-index ≡ length all = omega (arith, c.loop-member-test.false, c.loop-member.auto.member-index-end) in
-    subst (λ xs. AppendsPlaces (images g.T.Encode.image xs) (length all) c.args.out.now.items c.loop-member.out.items) (take-length all)
-    (subst (λ k. AppendsPlaces (images g.T.Encode.image (take k all)) k c.args.out.now.items c.loop-member.out.items) ends c.loop-member.invariant)
+    subst (λ xs. AppendsElements (images g.T.Encode.image xs) (length all) c.args.out.now.items c.loop-member.out.items) (take-length all)
+    (subst (λ k. AppendsElements (images g.T.Encode.image (take k all)) k c.args.out.now.items c.loop-member.out.items) ends c.loop-member.invariant)

@@ -39,9 +39,9 @@ returns-then-is_parameter-3-clause-takes c = λ o v z stands.
 
 pub returns-then-is_parameter-4-clause-takes : goal.returns-then-is_parameter-4-clause-takes
 returns-then-is_parameter-4-clause-takes c = λ o v z stands.
-    let here = c.set_filled.ensures.takes v z stands in (
+    let here = c.set_nonempty.ensures.takes v z stands in (
       here.0,
-      adds_key_id (label_seen c.args.label) v c.set_filled.result (fields_seen c.args.header.now) _ _ o
+      adds_key_id (label_seen c.args.label) v c.set_nonempty.result (fields_seen c.args.header.now) _ _ o
           (sym c.is_parameter-4.ensures ∙ c.if-is_parameter-4.true) here.1 (ap fields_level (out-roll-Header _)),
     )
 

@@ -29,13 +29,13 @@ returns-clause-ok c =
       behind_alg = c.write_optional.new.out.items;
       behind_crit = c.write_critical.new.out.items;
       behind_content_type = c.write_optional-2.new.out.items;
-      behind_kid = c.write_filled.new.out.items;
-      behind_iv = c.write_filled-2.new.out.items;
+      behind_kid = c.write_nonempty.new.out.items;
+      behind_iv = c.write_nonempty-2.new.out.items;
       alg = field-seen _ _ ((search rules) ∙ c.to_i64.ensures) (optional-seen algorithm_seen algorithm.image x.alg) c.in_ok-write_optional.ensures.ok;
       crit = rw c.deref.ensures.value at c.in_ok-write_critical.ensures.ok;
       content_type = field-seen _ _ ((search rules) ∙ c.to_i64-2.ensures)
           (optional-seen content_type_seen content_type.image x.content_type) c.in_ok-write_optional-2.ensures.ok;
-      key_id = field-seen _ _ ((search rules) ∙ c.to_i64-3.ensures) refl c.in_ok-write_filled.ensures.ok;
-      iv = field-seen _ _ ((search rules) ∙ c.to_i64-4.ensures) refl c.in_ok-write_filled-2.ensures.ok;
-      partial_iv = field-seen _ _ ((search rules) ∙ c.to_i64-5.ensures) refl c.in_ok-write_filled-3.ensures.ok;
+      key_id = field-seen _ _ ((search rules) ∙ c.to_i64-3.ensures) refl c.in_ok-write_nonempty.ensures.ok;
+      iv = field-seen _ _ ((search rules) ∙ c.to_i64-4.ensures) refl c.in_ok-write_nonempty-2.ensures.ok;
+      partial_iv = field-seen _ _ ((search rules) ∙ c.to_i64-5.ensures) refl c.in_ok-write_nonempty-3.ensures.ok;
     }

@@ -2,7 +2,7 @@ use Rattle.std.proofs.Common.{◌≡◌, ℤ, Some, true, map, refl, sym, ◌∙
 use Rattle.coset_value.specs.Item.{integer}
 use Rattle.coset_value.specs.View.{view}
 use Rattle.coset_codec.specs.RestLaws.{as_seen, repeated-seen, distinct-seen, no-entries}
-use Rattle.coset_codec.specs.Shape.{filled_bstr}
+use Rattle.coset_codec.specs.Shape.{nonempty_bstr}
 use Rattle.coset_codec.proofs.Encoding.{passes}
 use Rattle.coset_codec.proofs.EncodingMaps.{no-field, field-put, optional-put, listed-put, optional-has, filled-there, map-written}
 use Rattle.coset_label.specs.Names.{number}
@@ -41,12 +41,12 @@ returns c =
     (rw (c.deref-2.ensures.value, c.is_some.ensures) at c.in_ok-write_pairs_head.ensures.fits)
     (rw (c.deref-2.ensures.value, c.is_some.ensures) at c.in_ok-write_pairs_head.ensures.ok)
     (field-put f true (key_type.image (kty_seen k.kty)) (named _ _ ((search rules) ∙ c.to_i64.ensures)) c.in_ok-write_field.ensures.ok
-    (listed-put f filled_bstr.image k.key_id.items _ (filled-there k.key_id.items c.is_empty.result (search rules))
-    (named _ _ ((search rules) ∙ c.to_i64-2.ensures)) c.in_ok-write_filled.ensures.ok
+    (listed-put f nonempty_bstr.image k.key_id.items _ (filled-there k.key_id.items c.is_empty.result (search rules))
+    (named _ _ ((search rules) ∙ c.to_i64-2.ensures)) c.in_ok-write_nonempty.ensures.ok
     (optional-put f algorithm_seen algorithm.image k.alg (named _ _ ((search rules) ∙ c.to_i64-3.ensures)) c.in_ok-write_optional.ensures.ok
     (listed-put f key_ops.image (map operation_seen k.key_ops.keys) _
     (set-there operation_seen k.key_ops.keys c.is_empty-2.result c.is_empty-2.ensures.0 c.is_empty-2.ensures.1) refl c.in_ok-write_key_ops.ensures.ok
-    (listed-put f filled_bstr.image k.base_iv.items _ (filled-there k.base_iv.items c.is_empty-3.result (search rules))
-    (named _ _ ((search rules) ∙ c.to_i64-4.ensures)) c.in_ok-write_filled-2.ensures.ok
-    (no-field f c.write_filled-2.new.out.items))))))
+    (listed-put f nonempty_bstr.image k.base_iv.items _ (filled-there k.base_iv.items c.is_empty-3.result (search rules))
+    (named _ _ ((search rules) ∙ c.to_i64-4.ensures)) c.in_ok-write_nonempty-2.ensures.ok
+    (no-field f c.write_nonempty-2.new.out.items))))))
     (rw c.deref-3.ensures.value at c.write_rest.ensures.ok) (rw c.deref-3.ensures.value at c.write_rest.ensures.refused)

@@ -1,6 +1,6 @@
 use Rattle.std.proofs.Common.{subst, option_map, map, ap, ◌∙◌, Some}
 use Rattle.coset_value.specs.Item.{array, bytes}
-use Rattle.coset_codec.specs.Encoding.{Encodes, five_places}
+use Rattle.coset_codec.specs.Encoding.{Encodes, five_elements}
 use Rattle.coset_codec.specs.Shape.{bstr, or_nil, images}
 use Rattle.coset_codec.proofs.Encoding.{images-mapped}
 use Rattle.coset_core.specs.Headers.{header, protected}
@@ -12,7 +12,7 @@ use Rattle.coset_recipient.proofs.mac.CoseMacCodec.write.Goals as goal
 pub returns : goal.returns
 returns c =
     let m = mac_seen c.args.self.now in
-    subst (λ o. Encodes (five_places (protected.image m.protected) (header.image m.unprotected) ((or_nil bstr).image m.payload) (Some (bytes m.tag))
+    subst (λ o. Encodes (five_elements (protected.image m.protected) (header.image m.unprotected) ((or_nil bstr).image m.payload) (Some (bytes m.tag))
     (option_map array o)) c.args.out.now.items c.encode_five.new.out.items c.encode_five.result)
     (images-mapped recipient.image recipient_seen c.deref.result.now
     ∙ ap (λ xs. images recipient.image (map recipient_seen xs)) c.deref.ensures.value) c.encode_five.ensures

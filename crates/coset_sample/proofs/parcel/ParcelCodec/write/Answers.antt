@@ -1,6 +1,6 @@
 use Rattle.std.proofs.Common.{subst, option_map, map, ap, ◌∙◌}
 use Rattle.coset_value.specs.Item.{array}
-use Rattle.coset_codec.specs.Encoding.{Encodes, four_places}
+use Rattle.coset_codec.specs.Encoding.{Encodes, four_elements}
 use Rattle.coset_codec.specs.Shape.{bstr, int64, or_nil, images}
 use Rattle.coset_codec.proofs.Encoding.{images-mapped}
 use Rattle.coset_sample.specs.Reading.{mark_seen}
@@ -10,6 +10,6 @@ use Rattle.coset_sample.proofs.parcel.ParcelCodec.write.Goals as goal
 pub returns : goal.returns
 returns c =
     let r = seen c.args.self.now in
-    subst (λ o. Encodes (four_places (int64.image r.number) (bstr.image r.receiver) ((or_nil bstr).image r.note)
+    subst (λ o. Encodes (four_elements (int64.image r.number) (bstr.image r.receiver) ((or_nil bstr).image r.note)
     (option_map array o)) c.args.out.now.items c.encode_four.new.out.items c.encode_four.result)
     (images-mapped int64.image mark_seen c.deref.result.now ∙ ap (λ xs. images int64.image (map mark_seen xs)) c.deref.ensures.value) c.encode_four.ensures

@@ -1,6 +1,6 @@
 use Rattle.std.proofs.Common.{subst, option_map, map, ap, ◌∙◌}
 use Rattle.coset_value.specs.Item.{array}
-use Rattle.coset_codec.specs.Encoding.{Encodes, two_places}
+use Rattle.coset_codec.specs.Encoding.{Encodes, two_elements}
 use Rattle.coset_codec.specs.Shape.{bstr, images}
 use Rattle.coset_codec.proofs.Encoding.{images-mapped}
 use Rattle.coset_sample.specs.Reading.{reading, seen as reading_seen}
@@ -10,6 +10,6 @@ use Rattle.coset_sample.proofs.report.ReportEncode.encode.Goals as goal
 pub returns : goal.returns
 returns c =
     let r = seen c.args.self.now in
-    subst (λ o. Encodes (two_places (bstr.image r.sender) (option_map array o)) c.args.out.now.items c.encode_two.new.out.items c.encode_two.result)
+    subst (λ o. Encodes (two_elements (bstr.image r.sender) (option_map array o)) c.args.out.now.items c.encode_two.new.out.items c.encode_two.result)
     (images-mapped reading.image reading_seen c.deref.result.now
     ∙ ap (λ xs. images reading.image (map reading_seen xs)) c.deref.ensures.value) c.encode_two.ensures

@@ -1,6 +1,6 @@
 use Rattle.std.proofs.Common.{subst, option_map, map, ap, ◌∙◌}
 use Rattle.coset_value.specs.Item.{array}
-use Rattle.coset_codec.specs.Encoding.{Encodes, four_places}
+use Rattle.coset_codec.specs.Encoding.{Encodes, four_elements}
 use Rattle.coset_codec.specs.Shape.{bstr, or_nil, images}
 use Rattle.coset_codec.proofs.Encoding.{images-mapped}
 use Rattle.coset_core.specs.Headers.{header, protected, signature}
@@ -11,7 +11,7 @@ use Rattle.coset_sign.proofs.sign.CoseSignCodec.write.Goals as goal
 pub returns : goal.returns
 returns c =
     let m = sign_seen c.args.self.now in
-    subst (λ o. Encodes (four_places (protected.image m.protected) (header.image m.unprotected) ((or_nil bstr).image m.payload)
+    subst (λ o. Encodes (four_elements (protected.image m.protected) (header.image m.unprotected) ((or_nil bstr).image m.payload)
     (option_map array o)) c.args.out.now.items c.encode_four.new.out.items c.encode_four.result)
     (images-mapped signature.image signature_seen c.deref.result.now
     ∙ ap (λ xs. images signature.image (map signature_seen xs)) c.deref.ensures.value) c.encode_four.ensures

@@ -3,10 +3,10 @@ use Rattle.coset_codec.proofs.Inputs.{lent_size, lent_turns}
 use Rattle.coset_codec.proofs.read.input.InputItems.next.Goals as goal
 
 pub returns-in-Lent-clause-member : goal.returns-in-Lent-clause-member
-returns-in-Lent-clause-member c = λ more. lent_size c.args.self.now c.in-Lent.places (state c.args.input.now) c.in-Lent.is (c.next_lent.ensures.there more)
+returns-in-Lent-clause-member c = λ more. lent_size c.args.self.now c.in-Lent.elements (state c.args.input.now) c.in-Lent.is (c.next_lent.ensures.there more)
 
 pub returns-in-Lent-clause-turns : goal.returns-in-Lent-clause-turns
-returns-in-Lent-clause-turns c = λ more t goes. lent_turns c.args.self.now c.in-Lent.places (state c.args.input.now) t c.in-Lent.is
+returns-in-Lent-clause-turns c = λ more t goes. lent_turns c.args.self.now c.in-Lent.elements (state c.args.input.now) t c.in-Lent.is
     (c.next_lent.ensures.there more) goes
 
 pub returns-in-Lent-clause-nexts : goal.returns-in-Lent-clause-nexts

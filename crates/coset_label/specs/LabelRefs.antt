@@ -1,0 +1,8 @@
+-- Lent labels without their memory.
+use Rattle.coset_label.specs.Names.{Name, number, text_label}
+use Rattle.coset_label.specs.declared.label_ref.LabelRef.{LabelRef}
+use Rattle.coset_label.specs.declared.label_ref.LabelRef.TheVariants.{Int, Text}
+
+abbrev pub lent_seen : LabelRef → Name
+lent_seen (Int i) = number i
+lent_seen (Text s) = text_label s.now

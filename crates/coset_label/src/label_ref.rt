@@ -1,0 +1,90 @@
+//! A label of any kind, lent: what the orders of labels compare. They follow the encodings, which compare by the head
+//! and then by what follows it (RFC 8949, sections 3 and 4.2.1). Nothing is encoded, and no memory taken.
+
+ghost use Rattle.std.specs.Prelude.{◌≡◌};
+ghost use Rattle.coset_label.specs.Names.{name_cmp, canonical_cmp, major_type, argument, content, head_length, encoded_length};
+ghost use Rattle.coset_label.specs.LabelRefs.{lent_seen};
+
+use std::cmp::Ordering;
+
+/// A label of any kind: its number, or its text.
+#[derive(Clone, Copy)]
+pub(crate) enum LabelRef<'a> {
+    Int(i64),
+    Text(&'a str),
+}
+
+/// How many bytes the head takes that holds this argument.
+fn head_length(argument: u64) -> u64
+    ensures { result ≡ head_length argument }
+{
+    match argument {
+        0..=23 => 1,
+        24..=0xff => 2,
+        0x100..=0xffff => 3,
+        0x1_0000..=0xffff_ffff => 5,
+        _ => 9,
+    }
+}
+
+impl<'a> LabelRef<'a> {
+    /// The major type of the label's head.
+    fn major_type(&self) -> u8
+        ensures { result ≡ major_type (lent_seen self.now) }
+    {
+        match self {
+            LabelRef::Int(i) if *i >= 0 => 0,
+            LabelRef::Int(_) => 1,
+            LabelRef::Text(_) => 3,
+        }
+    }
+
+    /// The argument of the label's head.
+    fn argument(&self) -> u64
+        ensures { result ≡ argument (lent_seen self.now) }
+    {
+        match self {
+            LabelRef::Int(i) if *i >= 0 => *i as u64,
+            LabelRef::Int(i) => (-1 - *i) as u64,
+            LabelRef::Text(text) => text.len() as u64,
+        }
+    }
+
+    /// What follows the head.
+    fn content(&self) -> &[u8]
+        ensures { result.now ≡ content (lent_seen self.now) }
+    {
+        match self {
+            LabelRef::Int(_) => &[],
+            LabelRef::Text(text) => text.as_bytes(),
+        }
+    }
+
+    /// How many bytes the label's encoding has.
+    fn encoded_length(&self) -> u128
+        ensures { result ≡ encoded_length (lent_seen self.now) }
+    {
+        head_length(self.argument()) as u128 + self.content().len() as u128
+    }
+
+    /// The byte order of the labels' encodings.
+    pub(crate) fn order(&self, other: &LabelRef<'_>) -> Ordering
+        ensures { result ≡ name_cmp (lent_seen self.now) (lent_seen other.now) }
+    {
+        let major_types = self.major_type().cmp(&other.major_type());
+        match major_types.then(self.argument().cmp(&other.argument())) {
+            Ordering::Equal => self.content().cmp(other.content()),
+            unequal => unequal,
+        }
+    }
+
+    /// The order of the labels' encodings by their lengths first, and then by their bytes.
+    pub(crate) fn canonical_order(&self, other: &LabelRef<'_>) -> Ordering
+        ensures { result ≡ canonical_cmp (lent_seen self.now) (lent_seen other.now) }
+    {
+        match self.encoded_length().cmp(&other.encoded_length()) {
+            Ordering::Equal => self.order(other),
+            unequal => unequal,
+        }
+    }
+}
