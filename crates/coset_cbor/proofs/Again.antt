@@ -13,7 +13,7 @@ use Rattle.coset_cbor.specs.Heads as places
 use Rattle.coset_value.specs.Item.{half, single, double, Item, integer, bytes, float, text, boolean, null, tag, array, dict, Items, no_items, item, Pairs}
 use Rattle.coset_value.specs.Item.{no_pairs, pair, items_count, pairs_count, depth, items_depth, pairs_depth}
 use Rattle.coset_value.specs.View.{items_of, pairs_of}
-use Rattle.coset_cbor.specs.Grammar.{Width, within, one, two, four, eight, Holds, head_in, IsHead, IsHeaded, IsIndefinite, EachInOrder, IsStringContent}
+use Rattle.coset_cbor.specs.Grammar.{HeadWidth, within, one, two, four, eight, Holds, head_in, IsHead, IsHeaded, IsIndefinite, EachInOrder, IsStringContent}
 use Rattle.coset_cbor.specs.Grammar.{string_type, IsDefinite, IsStringEncoding, IsHeld, IsEncoding, AreEncodings, ArePairEncodings}
 use Rattle.coset_cbor.specs.Reading.{◌>>=◌, Parse, major_type_of, number_of, argument_at, argument_by, head_at, is_string_content, string_at, begins_chunk}
 use Rattle.coset_cbor.specs.Reading.{chunk_at, begins_break, times_at, until_at, chunks_at, any_string_by, pair_at, array_by, map_by, Inside, nothing, things}
@@ -44,14 +44,14 @@ argument_again place w limit wide n rest lt =
     let long : ltb (length (to_be_bytes w n ++ rest)) (byte_len w) ≡ false = le-ltb _ _ (omega (arith, length-append (to_be_bytes w n) rest)) in
     rw (long, take_at (to_be_bytes w n) rest (byte_len w) len, drop_at (to_be_bytes w n) rest (byte_len w) len, wide.again n lt) refl
 
-abbrev pub argument_in : Width → ℕ → Argument
+abbrev pub argument_in : HeadWidth → ℕ → Argument
 argument_in within n = places.Within n
 argument_in one n = places.One n
 argument_in two n = places.Two n
 argument_in four n = places.Four n
 argument_in eight n = places.Eight n
 
-number_of-argument_in : (p : Width) (n : ℕ) → number_of (argument_in p n) ≡ Some n
+number_of-argument_in : (p : HeadWidth) (n : ℕ) → number_of (argument_in p n) ≡ Some n
 number_of-argument_in within n = refl
 number_of-argument_in one n = refl
 number_of-argument_in two n = refl
@@ -72,7 +72,7 @@ first_again : (m k : ℕ) (s : List ℕ) → k < 32 → head_at ((32 * m + k) �
 unfolding head_at
 first_again m k s lt = rw (first_div m k lt, first_mod m k lt) refl
 
-pub head_again : (p : Width) (m n : ℕ) (rest : List ℕ) → Holds p n → head_at (head_in p m n ++ rest) ≡ Ok (head_of m (argument_in p n), rest)
+pub head_again : (p : HeadWidth) (m n : ℕ) (rest : List ℕ) → Holds p n → head_at (head_in p m n ++ rest) ≡ Ok (head_of m (argument_in p n), rest)
 head_again within m n rest h =
     let small : ltb n 24 ≡ true = lt-ltb n 24 h in
     first_again m n rest (omega arith) ∙ rw small refl
@@ -115,7 +115,7 @@ pub record Begins (b : List ℕ) : Type 0 where
   pub parts : b ≡ first ∷ more
   pub low : first < 255
 
-head_begins : (p : Width) (m n : ℕ) → m < 7 → Holds p n → Begins (head_in p m n)
+head_begins : (p : HeadWidth) (m n : ℕ) → m < 7 → Holds p n → Begins (head_in p m n)
 head_begins within m n lt h = record { first = 32 * m + n; more = []; parts = refl; low = omega arith }
 head_begins one m n lt h = record { first = 32 * m + 24; more = to_be_bytes w8 n; parts = refl; low = omega arith }
 head_begins two m n lt h = record { first = 32 * m + 25; more = to_be_bytes w16 n; parts = refl; low = omega arith }

@@ -12,7 +12,7 @@ use Rattle.coset_cbor.specs.declared.fault.Fault.{Fault}
 use Rattle.coset_cbor.specs.declared.fault.Fault.TheVariants.{End}
 use Rattle.coset_cbor.specs.declared.head.MajorType.TheVariants as major_types
 use Rattle.coset_cbor.specs.Heads.{HeadSeen}
-use Rattle.coset_cbor.specs.Grammar.{Width, within, one, two, four, eight, Holds, head_in, IsStringEncoding, IsHead, IsHeaded, IsEncoding, AreEncodings}
+use Rattle.coset_cbor.specs.Grammar.{HeadWidth, within, one, two, four, eight, Holds, head_in, IsStringEncoding, IsHead, IsHeaded, IsEncoding, AreEncodings}
 use Rattle.coset_cbor.specs.Faults.{is_even, Opens, in_array, in_map, in_tag, in_open_array, in_open_map, Due, at_start, innermost, outer}
 use Rattle.coset_cbor.specs.Reading.{◌>>=◌, number_of, begins_break, times_at, until_at, pair_at, array_by, map_by, things, item_by, item_at}
 use Rattle.coset_cbor.proofs.Again.{Begins, begins_append, IsHead-begins, IsEncoding-begins, IsHeaded-begins, IsHead-again, IsHeaded-again, opening_again}
@@ -268,7 +268,7 @@ pub record HeadStarts (m : ℕ) (h : List ℕ) : Type 0 where
 sized : (k : ℕ) (more : List ℕ) → 2 ^ k ≡ length more → k < 4 → (j : ℕ) → j < 4 → 24 + k ≡ 24 + j → 2 ^ j ≤ length more
 sized k more e low j lt is = let same : k ≡ j = omega arith in subst (λ (i : ℕ). 2 ^ i ≤ length more) same (omega arith)
 
-head_in_starts : (p : Width) (m n : ℕ) → Holds p n → HeadStarts m (head_in p m n)
+head_in_starts : (p : HeadWidth) (m n : ℕ) → Holds p n → HeadStarts m (head_in p m n)
 head_in_starts within m n h = record { info = n; more = []; parts = refl; low = omega arith; argument = λ j lt is. absurd (omega arith) }
 head_in_starts one m n h = record {
   info = 24;

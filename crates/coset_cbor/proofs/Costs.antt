@@ -334,7 +334,7 @@ nest zero = array no_items
 nest (suc n) = array (item (nest n) no_items)
 
 headed : (m : ℕ) (s : List ℕ) → m < 24 → IsHeaded 4 m s ((32 * 4 + m) ∷ s)
-headed m s lt = record { head = (32 * 4 + m) ∷ []; is_head = record { place = within; holds = lt; spelled = refl }; parts = refl }
+headed m s lt = record { head = (32 * 4 + m) ∷ []; is_head = record { width = within; holds = lt; spelled = refl }; parts = refl }
 
 nested_cost : (n : ℕ) → IsCost (nest n) (replicate n 0x81 ++ 0x80 ∷ []) (suc n)
 nested_cost zero = ([], 0, (refl, refl), inl (headed 0 [] (omega arith), refl))

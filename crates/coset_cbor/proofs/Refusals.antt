@@ -14,7 +14,7 @@ use Rattle.coset_cbor.specs.Heads.{Argument, HeadSeen}
 use Rattle.coset_cbor.specs.Heads as places
 use Rattle.coset_value.specs.Item.{Item, integer, bytes, tag, array, dict, Items, no_items, item, items_count}
 use Rattle.coset_value.specs.View.{items_of, pairs_of}
-use Rattle.coset_cbor.specs.Grammar.{Width, within, one, two, four, eight, Holds, head_in, IsHead, IsHeaded, EachInOrder, joined_chunks, string_type}
+use Rattle.coset_cbor.specs.Grammar.{HeadWidth, within, one, two, four, eight, Holds, head_in, IsHead, IsHeaded, EachInOrder, joined_chunks, string_type}
 use Rattle.coset_cbor.specs.Grammar.{IsDefinite, AreEncodings}
 use Rattle.coset_cbor.specs.Reading.{◌>>=◌, Parse, major_type_of, number_of, argument_by, head_at, unless_none, is_string_content, string_at, begins_chunk}
 use Rattle.coset_cbor.specs.Reading.{chunk_at, begins_break, times_at, until_at, chunks_at, any_string_by, pair_at, simple_at, Inside, nothing, things, item_by}
@@ -343,7 +343,7 @@ pub record InsideFaults (d : ℕ) (inside : Inside) : Type 0 where
   pub pairs : (n : ℕ) (h s : List ℕ) (f : Fault) → IsHead 5 n h → IsBytes s → inside.pairs (Some n) s ≡ Err f → FaultAt d (h ++ s) f
   pub pairs_until : (s : List ℕ) (f : Fault) → IsBytes s → inside.pairs None s ≡ Err f → FaultAt d (0xBF ∷ s) f
 
-width_nests : (p : Width) (m n : ℕ) (s : List ℕ) → 4 ≤ m → m ≤ 6 → Holds p n → Nests (head_in p m n ++ s)
+width_nests : (p : HeadWidth) (m n : ℕ) (s : List ℕ) → 4 ≤ m → m ≤ 6 → Holds p n → Nests (head_in p m n ++ s)
 width_nests within m n s low high h = (omega arith, omega arith)
 width_nests one m n s low high h = (omega arith, omega arith)
 width_nests two m n s low high h = (omega arith, omega arith)
@@ -546,7 +546,7 @@ any_string_fault d is_text s front r f a fits parts shown e = elim (option_cases
       ]
 ]
 
-simple_first : (p : Width) (n : ℕ) (s front r : List ℕ) → s ≡ front ++ r → front ≡ head_in p 7 n → s ≡ head_in p 7 n ++ r
+simple_first : (p : HeadWidth) (n : ℕ) (s front r : List ℕ) → s ≡ front ++ r → front ≡ head_in p 7 n → s ≡ head_in p 7 n ++ r
 simple_first p n s front r parts is = parts ∙ ap (λ (y : List ℕ). y ++ r) is
 
 not_supported : (d : ℕ) (s : List ℕ) (f : Fault) → IsNotSupported s → Simple (length s) ≡ f → FaultAt d s f

@@ -6,21 +6,21 @@ use Rattle.std.proofs.lemmas.List.{length-append}
 use Rattle.coset_value.specs.Item.{half, single, double, Item, integer, bytes, float, text, boolean, null, tag, array, dict, Items, no_items, item, Pairs}
 use Rattle.coset_value.specs.Item.{no_pairs, pair, items_count, pairs_count}
 use Rattle.coset_value.specs.Range.{IsInRange, AreInRange, ArePairsInRange}
-use Rattle.coset_cbor.specs.Grammar.{Width, within, one, two, four, eight, Holds, head_in, IsHead, IsHeaded, IsEncoding, AreEncodings, ArePairEncodings}
+use Rattle.coset_cbor.specs.Grammar.{HeadWidth, within, one, two, four, eight, Holds, head_in, IsHead, IsHeaded, IsEncoding, AreEncodings, ArePairEncodings}
 use Rattle.coset_cbor.specs.Definite.{IsDefiniteEncoding, AreDefiniteEncodings, AreDefinitePairs}
 use Rattle.coset_cbor.specs.Shortest.{IsShortest}
 use Rattle.coset_cbor.specs.Least.{least_width, least_head, least_encoding, least_encodings, least_pair_encodings}
 
 -- ---- which place is the least
 
-abbrev size : Width → ℕ
+abbrev size : HeadWidth → ℕ
 size within = 1
 size one = 2
 size two = 3
 size four = 5
 size eight = 9
 
-length-head_in : (p : Width) (m n : ℕ) → length (head_in p m n) ≡ size p
+length-head_in : (p : HeadWidth) (m n : ℕ) → length (head_in p m n) ≡ size p
 length-head_in within m n = refl
 length-head_in one m n = refl
 length-head_in two m n = refl
@@ -49,13 +49,13 @@ least_eight n a =
     let d : 2 ^ 16 ≤ n = omega arith in
     rw (le-ltb n 24 b, le-ltb n (2 ^ 8) c, le-ltb n (2 ^ 16) d, le-ltb n (2 ^ 32) a) refl
 
-abbrev IsLeastWidth : Width → ℕ → Type 0
+abbrev IsLeastWidth : HeadWidth → ℕ → Type 0
 IsLeastWidth p n = (least_width n ≡ p) ⊎ (size (least_width n) < size p)
 
-smaller : (p q : Width) (n : ℕ) → least_width n ≡ q → size q < size p → IsLeastWidth p n
-smaller p q n e lt = inr (subst (λ (x : Width). size x < size p) (sym e) lt)
+smaller : (p q : HeadWidth) (n : ℕ) → least_width n ≡ q → size q < size p → IsLeastWidth p n
+smaller p q n e lt = inr (subst (λ (x : HeadWidth). size x < size p) (sym e) lt)
 
-least_of_width : (p : Width) (n : ℕ) → Holds p n → IsLeastWidth p n
+least_of_width : (p : HeadWidth) (n : ℕ) → Holds p n → IsLeastWidth p n
 least_of_width within n h = inl (least_within n h)
 least_of_width one n h = elim (cases_lt n 24) [
   | inl a ↦ smaller one within n (least_within n a) (omega arith)
@@ -116,10 +116,10 @@ least_append s t c d b p q e =
       same = λ h. e ∙ ap₂ (λ (x y : List ℕ). x ++ y) (p.same (omega arith)) (q.same (omega arith));
     }
 
-least_in : (p : Width) (m n : ℕ) → Holds p n → IsLeast (least_head m n) (head_in p m n)
+least_in : (p : HeadWidth) (m n : ℕ) → Holds p n → IsLeast (least_head m n) (head_in p m n)
 unfolding least_head
 least_in p m n h = elim (least_of_width p n h) [
-  | inl e ↦ subst (λ (q : Width). IsLeast (head_in (least_width n) m n) (head_in q m n)) e (least_self (head_in (least_width n) m n))
+  | inl e ↦ subst (λ (q : HeadWidth). IsLeast (head_in (least_width n) m n) (head_in q m n)) e (least_self (head_in (least_width n) m n))
   | inr lt ↦
       let a = length-head_in (least_width n) m n in
       let b = length-head_in p m n in
@@ -171,7 +171,7 @@ least_holds n lt =
 
 least_is_head : (m n : ℕ) → n < 2 ^ 64 → IsHead m n (least_head m n)
 unfolding least_head
-least_is_head m n lt = record { place = least_width n; holds = least_holds n lt; spelled = refl }
+least_is_head m n lt = record { width = least_width n; holds = least_holds n lt; spelled = refl }
 
 least_headed : (m n : ℕ) (s : List ℕ) → n < 2 ^ 64 → IsHeaded m n s (least_head m n ++ s)
 least_headed m n s lt = record { head = least_head m n; is_head = least_is_head m n lt; parts = refl }
@@ -251,7 +251,7 @@ mutual
 
 -- ---- it is of an item in range
 
-holds_in_range : (p : Width) (n : ℕ) → Holds p n → n < 2 ^ 64
+holds_in_range : (p : HeadWidth) (n : ℕ) → Holds p n → n < 2 ^ 64
 holds_in_range within n h = omega arith
 holds_in_range one n h = omega arith
 holds_in_range two n h = omega arith

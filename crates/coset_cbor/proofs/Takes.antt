@@ -109,12 +109,12 @@ some_is m n e = cc
 
 pub number_head : (m n : ℕ) (a : Argument) (f : List ℕ) → IsArgumentEncoding m a f → number_of a ≡ Some n → IsHead m n f
 number_head m n (places.Within k) f h e = let s : k ≡ n = some_is k n e in
-    subst (λ (x : ℕ). IsHead m x f) s (record { place = within; holds = h.0; spelled = h.1 })
-number_head m n (places.One k) f h e = let s : k ≡ n = some_is k n e in subst (λ (x : ℕ). IsHead m x f) s (record { place = one; holds = h.0; spelled = h.1 })
-number_head m n (places.Two k) f h e = let s : k ≡ n = some_is k n e in subst (λ (x : ℕ). IsHead m x f) s (record { place = two; holds = h.0; spelled = h.1 })
-number_head m n (places.Four k) f h e = let s : k ≡ n = some_is k n e in subst (λ (x : ℕ). IsHead m x f) s (record { place = four; holds = h.0; spelled = h.1 })
+    subst (λ (x : ℕ). IsHead m x f) s (record { width = within; holds = h.0; spelled = h.1 })
+number_head m n (places.One k) f h e = let s : k ≡ n = some_is k n e in subst (λ (x : ℕ). IsHead m x f) s (record { width = one; holds = h.0; spelled = h.1 })
+number_head m n (places.Two k) f h e = let s : k ≡ n = some_is k n e in subst (λ (x : ℕ). IsHead m x f) s (record { width = two; holds = h.0; spelled = h.1 })
+number_head m n (places.Four k) f h e = let s : k ≡ n = some_is k n e in subst (λ (x : ℕ). IsHead m x f) s (record { width = four; holds = h.0; spelled = h.1 })
 number_head m n (places.Eight k) f h e = let s : k ≡ n = some_is k n e in
-    subst (λ (x : ℕ). IsHead m x f) s (record { place = eight; holds = h.0; spelled = h.1 })
+    subst (λ (x : ℕ). IsHead m x f) s (record { width = eight; holds = h.0; spelled = h.1 })
 number_head m n places.Indefinite f h e = absurd cc
 
 pub none_head : (m : ℕ) (a : Argument) (f : List ℕ) → IsArgumentEncoding m a f → number_of a ≡ None → f ≡ (32 * m + 31) ∷ []

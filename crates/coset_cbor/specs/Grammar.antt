@@ -9,11 +9,11 @@ use Rattle.coset_value.specs.Item.{no_pairs, pair, items_count, pairs_count, dep
 -- ---- heads (RFC 8949, section 3)
 
 -- how wide the argument of a head is: within the first byte, or one, two, four or eight bytes behind it
-pub data Width : Type 0 where
-  within one two four eight : Width
+pub data HeadWidth : Type 0 where
+  within one two four eight : HeadWidth
 
 -- the argument n fits that width
-abbrev pub Holds : Width → ℕ → Type 0
+abbrev pub Holds : HeadWidth → ℕ → Type 0
 Holds within n = n < 24
 Holds one n = n < 2 ^ 8
 Holds two n = n < 2 ^ 16
@@ -21,7 +21,7 @@ Holds four n = n < 2 ^ 32
 Holds eight n = n < 2 ^ 64
 
 -- the head of major type m with an argument n of that width, most significant byte first
-abbrev pub head_in : Width → ℕ → ℕ → List ℕ
+abbrev pub head_in : HeadWidth → ℕ → ℕ → List ℕ
 head_in within m n = (32 * m + n) ∷ []
 head_in one m n = (32 * m + 24) ∷ to_be_bytes w8 n
 head_in two m n = (32 * m + 25) ∷ to_be_bytes w16 n
@@ -30,7 +30,7 @@ head_in eight m n = (32 * m + 27) ∷ to_be_bytes w64 n
 
 -- h is a head of major type m with argument n, of any width that holds it
 pub record IsHead (m n : ℕ) (h : List ℕ) : Type 0 where
-  pub width : Width
+  pub width : HeadWidth
   pub holds : Holds width n
   pub spelled : h ≡ head_in width m n
 

@@ -6,9 +6,9 @@ use Rattle.coset_cbor.specs.declared.head.MajorType.{MajorType}
 use Rattle.coset_cbor.specs.declared.head.MajorType.TheVariants as major_types
 use Rattle.coset_value.specs.Item.{Bits, half, single, double, Item, integer, bytes, float, text, boolean, null, tag, array, dict, Items, no_items, item, Pairs}
 use Rattle.coset_value.specs.Item.{no_pairs, pair, items_count, pairs_count}
-use Rattle.coset_cbor.specs.Grammar.{Width, within, one, two, four, eight, head_in}
+use Rattle.coset_cbor.specs.Grammar.{HeadWidth, within, one, two, four, eight, head_in}
 
-abbrev pub least_width : ℕ → Width
+abbrev pub least_width : ℕ → HeadWidth
 least_width n = if nat_lt n 24 then within else (if nat_lt n (2 ^ 8) then one
     else (if nat_lt n (2 ^ 16) then two else (if nat_lt n (2 ^ 32) then four else eight)))
 

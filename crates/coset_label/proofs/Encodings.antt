@@ -3,13 +3,13 @@ use Rattle.std.proofs.Common.{◌≡◌, ◌<◌, ◌^◌, ℕ, List, Ordering, 
 use Rattle.std.specs.Prelude.{pos, negsuc, length}
 use Rattle.coset_value.specs.Item.{Item}
 use Rattle.coset_value.specs.Range.{IsInRange}
-use Rattle.coset_cbor.specs.Grammar.{Width, within, one, two, four, eight, Holds}
+use Rattle.coset_cbor.specs.Grammar.{HeadWidth, within, one, two, four, eight, Holds}
 use Rattle.coset_cbor.specs.Least.{least_encoding}
 use Rattle.coset_cbor.specs.Shortest.{IsShortest}
 use Rattle.coset_label.specs.Names.{Name, number, text_label, name_item, IsNamed, ComparesEncodings}
 
 -- what a head holds is below 2 ^ 64
-holds-below : (p : Width) (n : ℕ) → Holds p n → n < 2 ^ 64
+holds-below : (p : HeadWidth) (n : ℕ) → Holds p n → n < 2 ^ 64
 holds-below within n h = omega (arith, h)
 holds-below one n h = omega (arith, h)
 holds-below two n h = omega (arith, h)

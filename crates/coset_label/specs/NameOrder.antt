@@ -12,7 +12,7 @@ use Rattle.std.specs.Ordering.{ordering_then, is_eq}
 use Rattle.std.specs.Cmp.{IsTotalOrder, Equal-is, tied_itself}
 use Rattle.std.specs.Cmp.Lexicographic.{slice_cmp}
 use Rattle.std.specs.Cmp.Rules.{comparing}
-use Rattle.coset_cbor.specs.Grammar.{Width, within, one, two, four, eight, head_in}
+use Rattle.coset_cbor.specs.Grammar.{HeadWidth, within, one, two, four, eight, head_in}
 use Rattle.coset_cbor.specs.Least.{least_width, least_head, least_encoding}
 use Rattle.coset_label.specs.Names.{Name, number, text_label, RegisteredName, assigned, private_use, text_name}
 use Rattle.coset_label.specs.Names.{as_name, private_rank, name_item, major_type, argument, content}
@@ -75,7 +75,7 @@ whole-compare k n l s t hn hl = rw (mod-eq_of_lt hn, mod-eq_of_lt hl) at (bytes-
 -- ---- the five forms of a head
 
 -- n is in the range for which this place is the shortest
-abbrev Spans : Width → ℕ → Type 0
+abbrev Spans : HeadWidth → ℕ → Type 0
 Spans within n = n < 24
 Spans one n = (24 ≤ n) × (n < 2 ^ 8)
 Spans two n = (2 ^ 8 ≤ n) × (n < 2 ^ 16)
@@ -87,7 +87,7 @@ spans : (n : ℕ) → n < 2 ^ 64 → Spans (least_width n) n
 spans n h = grind arith
 
 -- the low five bits of a head's first byte
-abbrev low : Width → ℕ → ℕ
+abbrev low : HeadWidth → ℕ → ℕ
 low within n = n
 low one n = 24
 low two n = 25
@@ -95,7 +95,7 @@ low four n = 26
 low eight n = 27
 
 -- how many bytes are behind the first
-abbrev behind : Width → ℕ
+abbrev behind : HeadWidth → ℕ
 behind within = 0
 behind one = 1
 behind two = 2
@@ -103,7 +103,7 @@ behind four = 4
 behind eight = 8
 
 -- a head is its first byte and the bytes behind
-head-parts : (p : Width) (m n : ℕ) → head_in p m n ≡ (32 * m + low p n) ∷ bytes_high_first (behind p) n
+head-parts : (p : HeadWidth) (m n : ℕ) → head_in p m n ≡ (32 * m + low p n) ∷ bytes_high_first (behind p) n
 head-parts within m n = refl
 head-parts one m n = refl
 head-parts two m n = refl
@@ -111,25 +111,25 @@ head-parts four m n = refl
 head-parts eight m n = refl
 
 -- these bits are below 32
-low-small : (p : Width) (n : ℕ) → Spans p n → low p n < 32
+low-small : (p : HeadWidth) (n : ℕ) → Spans p n → low p n < 32
 low-small p n h = grind arith
 
 -- smaller low bits belong to a smaller argument
-low-less : (p q : Width) (n l : ℕ) → Spans p n → Spans q l → low p n < low q l → n < l
+low-less : (p q : HeadWidth) (n l : ℕ) → Spans p n → Spans q l → low p n < low q l → n < l
 low-less p q n l hn hl h = grind arith
 
 -- equal low bits belong to one place
-low-same : (p q : Width) (n l : ℕ) → Spans p n → Spans q l → low p n ≡ low q l → p ≡ q
+low-same : (p q : HeadWidth) (n l : ℕ) → Spans p n → Spans q l → low p n ≡ low q l → p ≡ q
 low-same p q n l hn hl h = grind arith
 
 -- the low bits, the bytes behind and what follows the head compare as the arguments and what follows
-abbrev Agree : Width → Width → ℕ → ℕ → List ℕ → List ℕ → Type 0
+abbrev Agree : HeadWidth → HeadWidth → ℕ → ℕ → List ℕ → List ℕ → Type 0
 Agree p q n l s t =
     ordering_then (nat_cmp (low p n) (low q l)) (slice_cmp nat_cmp (bytes_high_first (behind p) n ++ s) (bytes_high_first (behind q) l ++ t))
     ≡ ordering_then (nat_cmp n l) (slice_cmp nat_cmp s t)
 
 -- so they do where both arguments have one place
-same-width : (p : Width) (n l : ℕ) (s t : List ℕ) → Spans p n → Spans p l → Agree p p n l s t
+same-width : (p : HeadWidth) (n l : ℕ) (s t : List ℕ) → Spans p n → Spans p l → Agree p p n l s t
 same-width within n l s t hn hl = refl
 same-width one n l s t hn hl = whole-compare 1 n l s t hn.1 hl.1
 same-width two n l s t hn hl = whole-compare 2 n l s t hn.1 hl.1
@@ -137,9 +137,9 @@ same-width four n l s t hn hl = whole-compare 4 n l s t hn.1 hl.1
 same-width eight n l s t hn hl = whole-compare 8 n l s t hn.1 hl.1
 
 -- and where they may have two
-widths-compare : (p q : Width) (n l : ℕ) (s t : List ℕ) → Spans p n → Spans q l → Agree p q n l s t
+widths-compare : (p q : HeadWidth) (n l : ℕ) (s t : List ℕ) → Spans p n → Spans q l → Agree p q n l s t
 widths-compare p q n l s t hn hl = elim (cases_order (low p n) (low q l)) [
-  | inl e ↦ subst (λ (r : Width). Spans r l → Agree p r n l s t) (low-same p q n l hn hl e) (same-width p n l s t hn) hl
+  | inl e ↦ subst (λ (r : HeadWidth). Spans r l → Agree p r n l s t) (low-same p q n l hn hl e) (same-width p n l s t hn) hl
   | inr (inl lt) ↦ rw (less (low p n) (low q l) lt, less n l (low-less p q n l hn hl lt))
   | inr (inr lt) ↦ rw (greater (low p n) (low q l) lt, greater n l (low-less q p l n hl hn lt))
 ]
