@@ -53,7 +53,7 @@ fn decrypt(alloc: Global, words: &Words<'_>) -> Result<String> {
     asked.opened(alloc, answer)
 }
 
-/// The same of a message whose ciphertext may be missing.
+/// As above, for a message whose ciphertext may be missing.
 fn decrypt_ciphertext(alloc: Global, words: &Words<'_>) -> Result<String> {
     let message = message(alloc, words, 2, 5)?;
     let external_aad = words.bytes(alloc, 3)?;

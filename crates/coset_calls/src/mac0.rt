@@ -58,7 +58,7 @@ fn verify_tag(alloc: Global, words: &Words<'_>) -> Result<String> {
     asked.judged(alloc, answer)
 }
 
-/// The same of a message whose payload may be missing.
+/// As above, for a message whose payload may be missing.
 fn verify_payload_tag(alloc: Global, words: &Words<'_>) -> Result<String> {
     let says_yes = words.says_yes(1)?;
     let message = message(alloc, words, 2, 4)?;

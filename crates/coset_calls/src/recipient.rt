@@ -83,7 +83,7 @@ fn decrypt(alloc: Global, words: &Words<'_>) -> Result<String> {
     asked.opened(alloc, answer)
 }
 
-/// The same of a recipient whose ciphertext may be missing.
+/// As above, for a recipient whose ciphertext may be missing.
 fn decrypt_ciphertext(alloc: Global, words: &Words<'_>) -> Result<String> {
     let recipient = recipient(alloc, words, 2, 6)?;
     let context = recipient_context(words.word(3))?;

@@ -1,5 +1,6 @@
 -- How numbers compare whose units are multiplied by powers of 2.
-use Rattle.std.proofs.Common.{◌≡◌, ℕ, zero, suc, ◌-◌, ◌+◌, ◌*◌, ◌/◌, ◌%◌, ◌^◌, ◌<◌, ◌≤◌, ap, sym, subst, refl, arith, ◌∙◌, ◌≢◌, ℤ, pos, negsuc, ◌<ℤ◌, ◌*ℤ◌, neg_ℤ}
+use Rattle.std.proofs.Common.{◌≡◌, ℕ, zero, suc, ◌-◌, ◌+◌, ◌*◌, ◌/◌, ◌%◌, ◌^◌, ◌<◌, ◌≤◌, ap, sym}
+use Rattle.std.proofs.Common.{subst, refl, arith, ◌∙◌, ◌≢◌, ℤ, pos, negsuc, ◌<ℤ◌, ◌*ℤ◌, neg_ℤ}
 use Rattle.std.specs.declared.cmp.Ordering.{Ordering}
 use Rattle.std.specs.declared.cmp.Ordering.TheVariants.{Less, Equal, Greater}
 use Rattle.std.specs.Ordering.{int_cmp, nat_cmp, ordering_then, ordering_reverse, MatchOrdering}
@@ -7,7 +8,8 @@ use Rattle.std.specs.Cmp.{int_cmp_is, nat_cmp_is}
 use Rattle.std.proofs.lemmas.Cmp.{ranked}
 use Rattle.std.proofs.lemmas.Int.{ints}
 use Rattle.std.proofs.lemmas.Nat.{pow-add, pow_pos, div-add-mod'}
-use Rattle.std.proofs.Math.Nat.{mul-lt-mul_of_pos_right, mul-le-mul_right, mul_assoc, mod-lt, mod-eq_of_lt, div-mul-le_self, pow-le-pow_right, le-mul_of_pos_right, mul_comm, one-le-mul}
+use Rattle.std.proofs.Math.Nat.{mul-lt-mul_of_pos_right, mul-le-mul_right, mul_assoc, mod-lt, mod-eq_of_lt, div-mul-le_self}
+use Rattle.std.proofs.Math.Nat.{pow-le-pow_right, le-mul_of_pos_right, mul_comm, one-le-mul}
 use Rattle.std.proofs.Math.IntN.{pos-*ℤ-pos}
 
 as_ordered : (x y a b : ℕ) → (x < y → a < b) → (x ≡ y → a ≡ b) → (y < x → b < a) → (r : Ordering) → MatchOrdering r (x < y) (x ≡ y) (y < x)

@@ -1,4 +1,4 @@
--- That a derived `==` is equality of what contracts see of a value, from the same of its parts.
+-- That a derived `==` is equality of what contracts see of a value, from that of its parts.
 use Rattle.std.specs.Prelude.{◌≡◌, ◌==◌, Bool, Decides, List, [], ◌∷◌, Some, None, ℕ, map, option_map, refl, ◌&&◌}
 use Rattle.std.specs.Option.{option_eq}
 use Rattle.std.specs.Cmp.Lexicographic.{pointwise, bytes_decides}

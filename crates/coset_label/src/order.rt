@@ -63,7 +63,8 @@ impl Ord for Label {
 impl PartialOrd for Label {
     ghost partial_cmp = { as_partial_cmp (on label_seen name_cmp) };
 
-    ghost laws = { partial_order_from_own_ties (Prim.search (comparing, rules) depth 9) (Prim.search (comparing, rules) depth 9) };
+    ghost laws = { partial_order_from_own_ties (Prim.search (comparing, rules) depth 9)
+        (Prim.search (comparing, rules) depth 9) };
 
     fn partial_cmp(&self, other: &Label) -> Option<Ordering> {
         Some(self.cmp(other))
@@ -125,7 +126,8 @@ impl<T: EnumI64> Ord for RegisteredLabel<T> {
 impl<T: EnumI64> PartialOrd for RegisteredLabel<T> {
     ghost partial_cmp = { as_partial_cmp (on (registered_seen T.number) name_cmp) };
 
-    ghost laws = { partial_order_from_own_ties (Prim.search (comparing, rules) depth 9) (Prim.search (comparing, rules) depth 9) };
+    ghost laws = { partial_order_from_own_ties (Prim.search (comparing, rules) depth 9)
+        (Prim.search (comparing, rules) depth 9) };
 
     fn partial_cmp(&self, other: &RegisteredLabel<T>) -> Option<Ordering> {
         Some(self.cmp(other))
@@ -133,7 +135,8 @@ impl<T: EnumI64> PartialOrd for RegisteredLabel<T> {
 }
 
 impl<T: EnumI64> PartialEq for RegisteredLabel<T> {
-    ghost eq = { λ a b. is_eq (name_cmp (registered_seen T.number a) (registered_seen T.number b)) };
+    ghost eq = { λ a b.
+        is_eq (name_cmp (registered_seen T.number a) (registered_seen T.number b)) };
 
     ghost laws = { Prim.search (comparing, rules) };
 
@@ -203,7 +206,8 @@ impl<T: EnumI64> Ord for RegisteredLabelWithPrivate<T> {
 impl<T: EnumI64> PartialOrd for RegisteredLabelWithPrivate<T> {
     ghost partial_cmp = { as_partial_cmp (on (registered_or_private_seen T.number) registered_cmp) };
 
-    ghost laws = { partial_order_from_own_ties (Prim.search (comparing, rules) depth 9) (Prim.search (comparing, rules) depth 9) };
+    ghost laws = { partial_order_from_own_ties (Prim.search (comparing, rules) depth 9)
+        (Prim.search (comparing, rules) depth 9) };
 
     fn partial_cmp(&self, other: &RegisteredLabelWithPrivate<T>) -> Option<Ordering> {
         Some(self.cmp(other))
@@ -211,9 +215,11 @@ impl<T: EnumI64> PartialOrd for RegisteredLabelWithPrivate<T> {
 }
 
 impl<T: EnumI64> PartialEq for RegisteredLabelWithPrivate<T> {
-    ghost eq = { λ a b. is_eq (registered_cmp (registered_or_private_seen T.number a) (registered_or_private_seen T.number b)) };
+    ghost eq = { λ a b. is_eq (registered_cmp (registered_or_private_seen T.number a)
+        (registered_or_private_seen T.number b)) };
 
-    ghost laws = { partial_equiv_from_equiv (eq_by_cmp_equiv (on_total (registered_or_private_seen T.number) registered_cmp_total)) };
+    ghost laws = { partial_equiv_from_equiv
+        (eq_by_cmp_equiv (on_total (registered_or_private_seen T.number) registered_cmp_total)) };
 
     /// Whether the two are one number, both of the registry or both for private use, or one text.
     fn eq(&self, other: &RegisteredLabelWithPrivate<T>) -> bool

@@ -200,7 +200,8 @@ impl<T: EnumI64 + WithPrivateRange + Drop> Lawful for RegisteredLabelWithPrivate
 }
 
 impl<T: EnumI64 + WithPrivateRange> Encode for RegisteredLabelWithPrivate<T> {
-    ghost image = { λ l. (registered_or_private_in T.value_of T.is_private).image (registered_or_private_seen T.number l) };
+    ghost image = { λ l. (registered_or_private_in T.value_of T.is_private).image
+        (registered_or_private_seen T.number l) };
 
     #[inline(always)]
     fn encode(&self, alloc: Global, out: &mut Vec<u8>) -> Result<()> {

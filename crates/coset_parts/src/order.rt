@@ -57,7 +57,7 @@ pub fn cmp_key_types(alloc: Global, words: &Words<'_>) -> Result<String> {
     told(alloc, &all)
 }
 
-/// The same of algorithms. `private=NUMBER` is a label for private use, whether or not the number has a name.
+/// As above, for algorithms. `private=NUMBER` is a label for private use, whether or not the number has a name.
 ///
 /// # Errors
 /// What the call is given can't be made of the words.

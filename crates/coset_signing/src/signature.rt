@@ -39,7 +39,7 @@ fn signature(alloc: Global, words: &Words<'_>) -> Result<CoseSignature> {
     Ok(signature)
 }
 
-/// The same of a countersignature.
+/// As above, a countersignature.
 fn countersignature(alloc: Global, words: &Words<'_>) -> Result<CoseCountersignature> {
     let mut one: CoseCountersignature = words.value(alloc, 1)?;
     header::change(&mut one.protected, words.word(2))?;

@@ -26,7 +26,7 @@ fn is_end<T: Drop>(answer: Result<T>) -> bool {
     matches!(&answer, Err(CoseError::DecodeFailed(Error::Io(_))))
 }
 
-/// The same of these bytes with one more behind them.
+/// What is wrong with these bytes and one more behind them.
 fn followed<F: Form<T>, T: Drop>(alloc: Global, bytes: &[u8]) -> Result<String, AllocError> {
     let mut longer = Vec::from_slice(alloc, bytes)?;
     longer.push(0)?;

@@ -3,7 +3,9 @@
 use crate::answer::answer;
 use crate::form::{AsValue, Form, InString, Plain, Tagged};
 use crate::fronts::flaw;
-use crate::structures::{Countersigned, EncRecipient, MacRecipient, RecRecipient, Structures};
+use crate::structures::{
+    Countersignatures, EncRecipient, MacRecipient, Of, RecRecipient, Structures,
+};
 use coset::cbor::value::Value;
 use coset::cwt::{ClaimName, ClaimsSet, Timestamp};
 use coset::iana::{EllipticCurve, HeaderParameter};
@@ -103,11 +105,11 @@ pub enum Kind {
     SignTbs,
     /// What is authenticated of a message with a MAC (RFC 8152, section 6.3).
     Mac0Tbm,
-    /// The same of one with recipients.
+    /// What is authenticated of one with recipients.
     MacTbm,
     /// What goes with the ciphertext of an encrypted message (RFC 8152, section 5.3).
     Encrypt0Aad,
-    /// The same of one with recipients.
+    /// What goes with the ciphertext of one with recipients.
     EncryptAad,
     /// What goes with the ciphertext of a recipient of an encrypted message.
     EncRecipientAad,
@@ -117,15 +119,15 @@ pub enum Kind {
     RecRecipientAad,
     /// What the counter signatures of a message with one signature are over (RFC 8152, section 4.5; RFC 9338, section 3.3).
     Sign1Countersigned,
-    /// The same of one with any number of signatures.
+    /// What those of a message with any number of signatures are over.
     SignCountersigned,
-    /// The same of one with a MAC.
+    /// What those of a message with a MAC are over.
     Mac0Countersigned,
-    /// The same of one with a MAC and recipients.
+    /// What those of a message with a MAC and recipients are over.
     MacCountersigned,
-    /// The same of an encrypted one.
+    /// What those of an encrypted message are over.
     Encrypt0Countersigned,
-    /// The same of an encrypted one with recipients.
+    /// What those of an encrypted message with recipients are over.
     EncryptCountersigned,
     /// A key (RFC 8152, section 7).
     Key,
@@ -287,21 +289,27 @@ impl Kind {
             Kind::TaggedEncrypt => question.of::<Tagged, CoseEncrypt>(alloc, bytes),
             Kind::Encrypt0 => question.of::<Plain, CoseEncrypt0>(alloc, bytes),
             Kind::TaggedEncrypt0 => question.of::<Tagged, CoseEncrypt0>(alloc, bytes),
-            Kind::Sign1Tbs => question.of::<Structures, CoseSign1>(alloc, bytes),
-            Kind::SignTbs => question.of::<Structures, CoseSign>(alloc, bytes),
-            Kind::Mac0Tbm => question.of::<Structures, CoseMac0>(alloc, bytes),
-            Kind::MacTbm => question.of::<Structures, CoseMac>(alloc, bytes),
-            Kind::Encrypt0Aad => question.of::<Structures, CoseEncrypt0>(alloc, bytes),
-            Kind::EncryptAad => question.of::<Structures, CoseEncrypt>(alloc, bytes),
-            Kind::EncRecipientAad => question.of::<EncRecipient, CoseRecipient>(alloc, bytes),
-            Kind::MacRecipientAad => question.of::<MacRecipient, CoseRecipient>(alloc, bytes),
-            Kind::RecRecipientAad => question.of::<RecRecipient, CoseRecipient>(alloc, bytes),
-            Kind::Sign1Countersigned => question.of::<Countersigned, CoseSign1>(alloc, bytes),
-            Kind::SignCountersigned => question.of::<Countersigned, CoseSign>(alloc, bytes),
-            Kind::Mac0Countersigned => question.of::<Countersigned, CoseMac0>(alloc, bytes),
-            Kind::MacCountersigned => question.of::<Countersigned, CoseMac>(alloc, bytes),
-            Kind::Encrypt0Countersigned => question.of::<Countersigned, CoseEncrypt0>(alloc, bytes),
-            Kind::EncryptCountersigned => question.of::<Countersigned, CoseEncrypt>(alloc, bytes),
+            Kind::Sign1Tbs => question.of::<Of<Structures>, CoseSign1>(alloc, bytes),
+            Kind::SignTbs => question.of::<Of<Structures>, CoseSign>(alloc, bytes),
+            Kind::Mac0Tbm => question.of::<Of<Structures>, CoseMac0>(alloc, bytes),
+            Kind::MacTbm => question.of::<Of<Structures>, CoseMac>(alloc, bytes),
+            Kind::Encrypt0Aad => question.of::<Of<Structures>, CoseEncrypt0>(alloc, bytes),
+            Kind::EncryptAad => question.of::<Of<Structures>, CoseEncrypt>(alloc, bytes),
+            Kind::EncRecipientAad => question.of::<Of<EncRecipient>, CoseRecipient>(alloc, bytes),
+            Kind::MacRecipientAad => question.of::<Of<MacRecipient>, CoseRecipient>(alloc, bytes),
+            Kind::RecRecipientAad => question.of::<Of<RecRecipient>, CoseRecipient>(alloc, bytes),
+            Kind::Sign1Countersigned => question.of::<Of<Countersignatures>, CoseSign1>(
+                alloc, bytes,
+            ),
+            Kind::SignCountersigned => question.of::<Of<Countersignatures>, CoseSign>(alloc, bytes),
+            Kind::Mac0Countersigned => question.of::<Of<Countersignatures>, CoseMac0>(alloc, bytes),
+            Kind::MacCountersigned => question.of::<Of<Countersignatures>, CoseMac>(alloc, bytes),
+            Kind::Encrypt0Countersigned => question.of::<Of<Countersignatures>, CoseEncrypt0>(
+                alloc, bytes,
+            ),
+            Kind::EncryptCountersigned => question.of::<Of<Countersignatures>, CoseEncrypt>(
+                alloc, bytes,
+            ),
             Kind::Key => question.of::<Plain, CoseKey>(alloc, bytes),
             Kind::Keyset => question.of::<Plain, CoseKeySet>(alloc, bytes),
             Kind::Claims => question.of::<Plain, ClaimsSet>(alloc, bytes),

@@ -10,6 +10,8 @@ use coset::{
     sig_structure_data,
 };
 use std::alloc::Global;
+use std::marker::PhantomData;
+use std::slice::from_ref;
 
 /// Messages, as what of them there is a structure of.
 pub trait Structured: Sized {
@@ -19,11 +21,8 @@ pub trait Structured: Sized {
     /// What is authenticated has no payload, or memory ran out.
     fn structures(&self, alloc: Global, external_aad: &[u8]) -> Result<Vec<u8>>;
 
-    /// What the counter signatures are over that stand in its unprotected header.
-    ///
-    /// # Errors
-    /// Memory ran out.
-    fn countersigned(self, alloc: Global, external_aad: &[u8]) -> Result<Vec<u8>>;
+    /// What of it is countersigned.
+    fn countersigned(&self) -> Countersigned<'_>;
 }
 
 impl Structured for CoseSign1 {
@@ -31,17 +30,9 @@ impl Structured for CoseSign1 {
         self.tbs_data(alloc, external_aad)
     }
 
-    fn countersigned(self, alloc: Global, external_aad: &[u8]) -> Result<Vec<u8>> {
-        let others = [self.signature];
-        let content = content(&self.payload);
-        countersigned_of(
-            alloc,
-            &self.protected,
-            &self.unprotected,
-            external_aad,
-            content,
-            &others,
-        )
+    fn countersigned(&self) -> Countersigned<'_> {
+        let others = from_ref(&self.signature);
+        Countersigned::new(&self.protected, &self.unprotected, &self.payload, others)
     }
 }
 
@@ -54,60 +45,30 @@ impl Structured for CoseSign {
         Ok(all)
     }
 
-    fn countersigned(self, alloc: Global, external_aad: &[u8]) -> Result<Vec<u8>> {
-        let content = content(&self.payload);
-        countersigned_of(
-            alloc,
-            &self.protected,
-            &self.unprotected,
-            external_aad,
-            content,
-            &[],
-        )
+    fn countersigned(&self) -> Countersigned<'_> {
+        Countersigned::new(&self.protected, &self.unprotected, &self.payload, &[])
     }
 }
 
 impl Structured for CoseMac0 {
     fn structures(&self, alloc: Global, external_aad: &[u8]) -> Result<Vec<u8>> {
-        match self.tbm(alloc, external_aad)? {
-            Some(bytes) => Ok(bytes),
-            None => Err(no_payload()),
-        }
+        self.tbm(alloc, external_aad)?.ok_or(NO_PAYLOAD)
     }
 
-    fn countersigned(self, alloc: Global, external_aad: &[u8]) -> Result<Vec<u8>> {
-        let others = [self.tag];
-        let content = content(&self.payload);
-        countersigned_of(
-            alloc,
-            &self.protected,
-            &self.unprotected,
-            external_aad,
-            content,
-            &others,
-        )
+    fn countersigned(&self) -> Countersigned<'_> {
+        let others = from_ref(&self.tag);
+        Countersigned::new(&self.protected, &self.unprotected, &self.payload, others)
     }
 }
 
 impl Structured for CoseMac {
     fn structures(&self, alloc: Global, external_aad: &[u8]) -> Result<Vec<u8>> {
-        match self.tbm(alloc, external_aad)? {
-            Some(bytes) => Ok(bytes),
-            None => Err(no_payload()),
-        }
+        self.tbm(alloc, external_aad)?.ok_or(NO_PAYLOAD)
     }
 
-    fn countersigned(self, alloc: Global, external_aad: &[u8]) -> Result<Vec<u8>> {
-        let others = [self.tag];
-        let content = content(&self.payload);
-        countersigned_of(
-            alloc,
-            &self.protected,
-            &self.unprotected,
-            external_aad,
-            content,
-            &others,
-        )
+    fn countersigned(&self) -> Countersigned<'_> {
+        let others = from_ref(&self.tag);
+        Countersigned::new(&self.protected, &self.unprotected, &self.payload, others)
     }
 }
 
@@ -116,16 +77,8 @@ impl Structured for CoseEncrypt0 {
         self.aad(alloc, external_aad)
     }
 
-    fn countersigned(self, alloc: Global, external_aad: &[u8]) -> Result<Vec<u8>> {
-        let content = content(&self.ciphertext);
-        countersigned_of(
-            alloc,
-            &self.protected,
-            &self.unprotected,
-            external_aad,
-            content,
-            &[],
-        )
+    fn countersigned(&self) -> Countersigned<'_> {
+        Countersigned::new(&self.protected, &self.unprotected, &self.ciphertext, &[])
     }
 }
 
@@ -134,114 +87,106 @@ impl Structured for CoseEncrypt {
         self.aad(alloc, external_aad)
     }
 
-    fn countersigned(self, alloc: Global, external_aad: &[u8]) -> Result<Vec<u8>> {
-        let content = content(&self.ciphertext);
-        countersigned_of(
-            alloc,
-            &self.protected,
-            &self.unprotected,
-            external_aad,
-            content,
-            &[],
-        )
+    fn countersigned(&self) -> Countersigned<'_> {
+        Countersigned::new(&self.protected, &self.unprotected, &self.ciphertext, &[])
     }
 }
 
 /// Why nothing is authenticated where a message carries no payload.
-fn no_payload() -> CoseError {
-    CoseError::UnexpectedItem("nul", "bstr")
+const NO_PAYLOAD: CoseError = CoseError::UnexpectedItem("nul", "bstr");
+
+/// What of a message is countersigned, and the header in which its counter signatures are.
+#[derive(Drop)]
+pub struct Countersigned<'a> {
+    body: &'a ProtectedHeader,
+    header: &'a Header,
+    /// The payload or the ciphertext: nothing where it is detached.
+    content: &'a [u8],
+    /// What the message has besides: its signature or its tag.
+    others: &'a [Vec<u8>],
 }
 
-/// What is countersigned of a payload or ciphertext: nothing where it is detached.
-fn content(sent: &Option<Vec<u8>>) -> &[u8] {
-    match sent {
-        Some(bytes) => bytes,
-        None => &[],
+impl<'a> Countersigned<'a> {
+    fn new(
+        body: &'a ProtectedHeader,
+        header: &'a Header,
+        content: &'a Option<Vec<u8>>,
+        others: &'a [Vec<u8>],
+    ) -> Countersigned<'a> {
+        let content: &[u8] = match content {
+            Some(bytes) => bytes,
+            None => &[],
+        };
+        Countersigned {
+            body,
+            header,
+            content,
+            others,
+        }
+    }
+
+    /// What these are over, one behind the other: each counter signature of label 7 (RFC 8152, section 4.5), each
+    /// countersignature of label 11, and the abbreviated one of label 12 where there are other fields (RFC 9338, section 3.3).
+    fn structures(&self, alloc: Global, external_aad: &[u8]) -> Result<Vec<u8>> {
+        let mut all = Vec::new(alloc);
+        for signature in &self.header.counter_signatures {
+            let one = self.by(alloc, &signature.protected, external_aad, &[])?;
+            all.extend_from_slice(&one)?;
+        }
+        self.push_version_2(alloc, external_aad, &mut all)?;
+        if self.header.countersignature0_v2.is_some() && !self.others.is_empty() {
+            let body = self.body.clone()?;
+            let (content, others) = (self.content, self.others);
+            let one = countersign0_v2_structure_data(alloc, body, external_aad, content, others)?;
+            all.extend_from_slice(&one)?;
+        }
+        Ok(all)
+    }
+
+    /// Appends what each countersignature of label 11 is over.
+    fn push_version_2(&self, alloc: Global, external_aad: &[u8], all: &mut Vec<u8>) -> Result<()> {
+        for signature in &self.header.countersignatures_v2 {
+            let one = self.by(alloc, &signature.protected, external_aad, self.others)?;
+            all.extend_from_slice(&one)?;
+        }
+        Ok(())
+    }
+
+    /// What the countersignature with this protected header is over.
+    fn by(
+        &self,
+        alloc: Global,
+        signer: &ProtectedHeader,
+        external_aad: &[u8],
+        others: &[Vec<u8>],
+    ) -> Result<Vec<u8>> {
+        let body = self.body.clone()?;
+        let signer = signer.clone()?;
+        let content = self.content;
+        if others.is_empty() {
+            let context = SignatureContext::CounterSignature;
+            sig_structure_data(alloc, context, body, Some(signer), external_aad, content)
+        } else {
+            countersign_v2_structure_data(alloc, body, signer, external_aad, content, others)
+        }
     }
 }
 
-/// What these are over, one behind the other: each counter signature of label 7 (RFC 8152, section 4.5), each
-/// countersignature of label 11, and the abbreviated one of label 12 where there are other fields (RFC 9338, section 3.3).
-fn countersigned_of(
-    alloc: Global,
-    body: &ProtectedHeader,
-    header: &Header,
-    external_aad: &[u8],
-    content: &[u8],
-    others: &[Vec<u8>],
-) -> Result<Vec<u8>> {
-    let mut all = Vec::new(alloc);
-    for signature in &header.counter_signatures {
-        let signer = &signature.protected;
-        let one = countersigned_by(alloc, body, signer, external_aad, content, &[])?;
-        all.extend_from_slice(&one)?;
-    }
-    push_version_2(alloc, body, header, external_aad, content, others, &mut all)?;
-    if header.countersignature0_v2.is_some() {
-        push_abbreviated(alloc, body, external_aad, content, others, &mut all)?;
-    }
-    Ok(all)
+/// What is written of a value that is read as it stands.
+pub trait Made<T> {
+    /// The bytes that are written.
+    ///
+    /// # Errors
+    /// Why there are none, or that memory ran out.
+    fn made(alloc: Global, value: &T, external_aad: &[u8]) -> Result<Vec<u8>>;
 }
 
-/// Appends what each countersignature of label 11 is over.
-fn push_version_2(
-    alloc: Global,
-    body: &ProtectedHeader,
-    header: &Header,
-    external_aad: &[u8],
-    content: &[u8],
-    others: &[Vec<u8>],
-    all: &mut Vec<u8>,
-) -> Result<()> {
-    for signature in &header.countersignatures_v2 {
-        let signer = &signature.protected;
-        let one = countersigned_by(alloc, body, signer, external_aad, content, others)?;
-        all.extend_from_slice(&one)?;
-    }
-    Ok(())
+/// The item of the type itself, of which is written what `M` makes.
+pub struct Of<M> {
+    made: PhantomData<M>,
 }
 
-/// Appends what an abbreviated countersignature is over, where there are other fields.
-fn push_abbreviated(
-    alloc: Global,
-    body: &ProtectedHeader,
-    external_aad: &[u8],
-    content: &[u8],
-    others: &[Vec<u8>],
-    all: &mut Vec<u8>,
-) -> Result<()> {
-    if others.is_empty() {
-        return Ok(());
-    }
-    let body = body.clone()?;
-    let one = countersign0_v2_structure_data(alloc, body, external_aad, content, others)?;
-    all.extend_from_slice(&one)?;
-    Ok(())
-}
-
-/// What the countersignature with this protected header is over.
-fn countersigned_by(
-    alloc: Global,
-    body: &ProtectedHeader,
-    signer: &ProtectedHeader,
-    external_aad: &[u8],
-    content: &[u8],
-    others: &[Vec<u8>],
-) -> Result<Vec<u8>> {
-    let body = body.clone()?;
-    let signer = signer.clone()?;
-    if others.is_empty() {
-        let context = SignatureContext::CounterSignature;
-        sig_structure_data(alloc, context, body, Some(signer), external_aad, content)
-    } else {
-        countersign_v2_structure_data(alloc, body, signer, external_aad, content, others)
-    }
-}
-
-/// A message, of which its structures are written.
-pub struct Structures;
-
-impl<T: CborSerializable + Structured + Drop> Form<T> for Structures {
+impl<T: CborSerializable + Drop, M: Made<T>> Form<T> for Of<M> {
     fn read(alloc: Global, bytes: &[u8]) -> Result<T> {
         T::from_slice(alloc, bytes)
     }
@@ -251,40 +196,33 @@ impl<T: CborSerializable + Structured + Drop> Form<T> for Structures {
     }
 
     fn write(alloc: Global, value: T, external_aad: &[u8]) -> Result<Vec<u8>> {
+        M::made(alloc, &value, external_aad)
+    }
+}
+
+/// The structures of a message.
+pub struct Structures;
+
+impl<T: Structured> Made<T> for Structures {
+    fn made(alloc: Global, value: &T, external_aad: &[u8]) -> Result<Vec<u8>> {
         value.structures(alloc, external_aad)
     }
 }
 
-/// A message, of which it is written what its counter signatures are over.
-pub struct Countersigned;
+/// What a message's counter signatures are over.
+pub struct Countersignatures;
 
-impl<T: CborSerializable + Structured + Drop> Form<T> for Countersigned {
-    fn read(alloc: Global, bytes: &[u8]) -> Result<T> {
-        T::from_slice(alloc, bytes)
-    }
-
-    fn read_item(alloc: Global, item: Value) -> Result<T> {
-        T::from_cbor_value(alloc, item)
-    }
-
-    fn write(alloc: Global, value: T, external_aad: &[u8]) -> Result<Vec<u8>> {
-        value.countersigned(alloc, external_aad)
+impl<T: Structured> Made<T> for Countersignatures {
+    fn made(alloc: Global, value: &T, external_aad: &[u8]) -> Result<Vec<u8>> {
+        value.countersigned().structures(alloc, external_aad)
     }
 }
 
-/// A recipient of an encrypted message, of which it is written what goes with its ciphertext (RFC 8152, section 5.3).
+/// What goes with the ciphertext of a recipient of an encrypted message (RFC 8152, section 5.3).
 pub struct EncRecipient;
 
-impl Form<CoseRecipient> for EncRecipient {
-    fn read(alloc: Global, bytes: &[u8]) -> Result<CoseRecipient> {
-        CoseRecipient::from_slice(alloc, bytes)
-    }
-
-    fn read_item(alloc: Global, item: Value) -> Result<CoseRecipient> {
-        CoseRecipient::from_cbor_value(alloc, item)
-    }
-
-    fn write(alloc: Global, value: CoseRecipient, external_aad: &[u8]) -> Result<Vec<u8>> {
+impl Made<CoseRecipient> for EncRecipient {
+    fn made(alloc: Global, value: &CoseRecipient, external_aad: &[u8]) -> Result<Vec<u8>> {
         value.aad(alloc, EncryptionContext::EncRecipient, external_aad)
     }
 }
@@ -292,16 +230,8 @@ impl Form<CoseRecipient> for EncRecipient {
 /// As for an encrypted message, for a message with a MAC.
 pub struct MacRecipient;
 
-impl Form<CoseRecipient> for MacRecipient {
-    fn read(alloc: Global, bytes: &[u8]) -> Result<CoseRecipient> {
-        CoseRecipient::from_slice(alloc, bytes)
-    }
-
-    fn read_item(alloc: Global, item: Value) -> Result<CoseRecipient> {
-        CoseRecipient::from_cbor_value(alloc, item)
-    }
-
-    fn write(alloc: Global, value: CoseRecipient, external_aad: &[u8]) -> Result<Vec<u8>> {
+impl Made<CoseRecipient> for MacRecipient {
+    fn made(alloc: Global, value: &CoseRecipient, external_aad: &[u8]) -> Result<Vec<u8>> {
         value.aad(alloc, EncryptionContext::MacRecipient, external_aad)
     }
 }
@@ -309,16 +239,8 @@ impl Form<CoseRecipient> for MacRecipient {
 /// As for an encrypted message, for another recipient.
 pub struct RecRecipient;
 
-impl Form<CoseRecipient> for RecRecipient {
-    fn read(alloc: Global, bytes: &[u8]) -> Result<CoseRecipient> {
-        CoseRecipient::from_slice(alloc, bytes)
-    }
-
-    fn read_item(alloc: Global, item: Value) -> Result<CoseRecipient> {
-        CoseRecipient::from_cbor_value(alloc, item)
-    }
-
-    fn write(alloc: Global, value: CoseRecipient, external_aad: &[u8]) -> Result<Vec<u8>> {
+impl Made<CoseRecipient> for RecRecipient {
+    fn made(alloc: Global, value: &CoseRecipient, external_aad: &[u8]) -> Result<Vec<u8>> {
         value.aad(alloc, EncryptionContext::RecRecipient, external_aad)
     }
 }
