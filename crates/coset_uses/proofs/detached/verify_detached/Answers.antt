@@ -21,7 +21,7 @@ returns-in_err-verify_detached_signature g c =
     c.from_residual-in_err-verify_detached_signature.ensures.1
     (not_verified_apart g.F.FnOnce c.args.verify c.signed_when_read.ensures.plain c.args.external_aad.now c.args.payload.now c.args.message.now m
     c.in_ok-message.ensures.read (carries_none c.in_ok-message.message.payload c.is_some.ensures c.if-is_some.false) _
-      c.in_err-verify_detached_signature.ensures)
+    c.in_err-verify_detached_signature.ensures)
 
 pub returns : goal.returns
 returns g c = (

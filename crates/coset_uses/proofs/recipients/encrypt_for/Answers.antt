@@ -28,7 +28,7 @@ returns-in_err-sealed g c =
     ∙ (λ i. record ((c.protected.ensures ∙ (λ l. record (c.new-3.ensures l) { protected = unread (named l) })) i) { unprotected = timed i })) in
     passed_as (EncryptsFor g.F.FnOnce c.args.encrypt (assigned n) iv r c.args.external_aad.now c.args.plaintext.now) _ _ c.from_residual-in_err-sealed.ensures.1
     (not_sealed g.F.FnOnce c.args.encrypt n iv r c.args.external_aad.now c.args.plaintext.now (encrypt_seen c.in_ok-unsealed.unsealed) is _
-      c.in_err-sealed.ensures)
+    c.in_err-sealed.ensures)
 
 pub returns-in_err-to_vec : goal.returns-in_err-to_vec
 returns-in_err-to_vec g c =
@@ -44,7 +44,7 @@ returns-in_err-to_vec g c =
     ∙ (λ i. record ((c.protected.ensures ∙ (λ l. record (c.new-3.ensures l) { protected = unread (named l) })) i) { unprotected = timed i })) in
     let m = c.in_ok-sealed.ensures in
     passed_as (EncryptsFor g.F.FnOnce c.args.encrypt (assigned n) iv r c.args.external_aad.now c.args.plaintext.now) _ _
-      c.from_residual-in_err-to_vec.ensures.1 (
+    c.from_residual-in_err-to_vec.ensures.1 (
       m.1.items,
       subst (λ x. HasNoImage (encrypt.image x) c.in_err-to_vec.field-0.0) (ap encrypt_seen c.build.ensures ∙ (m.4 ∙ ap (with_ciphertext m.1.items) is))
           c.in_err-to_vec.ensures,

@@ -50,7 +50,7 @@ returns-in_err-to_vec g c =
     c.in_ok-tagged.ensures in
     passed_as (MacsFor g.F.FnOnce c.args.mac (assigned n) k c.args.external_aad.now p) _ _ c.from_residual-in_err-to_vec.ensures.1
     (only_memory _ (λ other. mac-has n k p made.1.items (subst (λ m. mac.image m ≡ None) (ap mac_seen c.build.ensures ∙ made.4)
-      (c.in_err-to_vec.ensures other).1)))
+    (c.in_err-to_vec.ensures other).1)))
 
 pub returns : goal.returns
 returns g c =

@@ -31,14 +31,14 @@ pub returns-then-not-are_direct : goal.returns-then-not-are_direct
 returns-then-not-are_direct g c =
     let m = mac_seen c.in_ok-message.message in
     let none : list_any (is_direct_to c.args.key_id.now) m.recipients ≡ false = told c.args.key_id.now _ _ _ c.deref.ensures.value c.are_direct.ensures ∙
-      c.if-not-are_direct.true in
+    c.if-not-are_direct.true in
     (m, c.in_ok-message.ensures.read, inl (inr none, refl))
 
 pub returns-in_err-verify_tag : goal.returns-in_err-verify_tag
 returns-in_err-verify_tag g c =
     let m = mac_seen c.in_ok-message.message in
     let some : list_any (is_direct_to c.args.key_id.now) m.recipients ≡ true = told c.args.key_id.now _ _ _ c.deref.ensures.value c.are_direct.ensures ∙
-      c.if-not-are_direct.false in
+    c.if-not-are_direct.false in
     let asked = when_some (λ p. NotSaid g.F.FnOnce c.args.verify m.tag (mac_structure_of m c.args.external_aad.now p) c.in_err-verify_tag.field-0.0) m.payload
     (there c.in_ok-message.message.payload c.is_none.result c.is_none.ensures c.if-is_none.false) c.in_err-verify_tag.ensures in
     passed_as (VerifiesFor g.F.FnOnce c.args.verify c.args.key_id.now c.args.external_aad.now c.args.absent c.args.message.now) _ _
@@ -50,7 +50,7 @@ pub returns : goal.returns
 returns g c =
     let m = mac_seen c.in_ok-message.message in
     let some : list_any (is_direct_to c.args.key_id.now) m.recipients ≡ true = told c.args.key_id.now _ _ _ c.deref.ensures.value c.are_direct.ensures ∙
-      c.if-not-are_direct.false in
+    c.if-not-are_direct.false in
     let asked = when_some (λ p. Says g.F.FnOnce c.args.verify m.tag (mac_structure_of m c.args.external_aad.now p) (Ok tt)) m.payload
     (there c.in_ok-message.message.payload c.is_none.result c.is_none.ensures c.if-is_none.false) c.in_ok-verify_tag.ensures in
     (c.in_ok-message.ensures.read, (asked.0, asked.1, some, asked.2))

@@ -15,7 +15,7 @@ returns-in_err-once g c =
     let first = signature_seen c.args.first in
     let second = signature_seen c.args.second in
     let is : sign_seen c.payload-unsigned.result ≡ signed_by p [] = c.payload-unsigned.ensures ∙ ap (λ (m : SignSeen). record m { payload = Some p })
-      c.new.ensures in
+    c.new.ensures in
     passed_as (SignsByTwo g.F.FnOnce c.args.sign_first g.G.FnOnce c.args.sign_second x p first second) _ _ c.from_residual.ensures.1
     (first_refused g.F.FnOnce c.args.sign_first g.G.FnOnce c.args.sign_second x p first second _ is _ c.in_err-once.ensures)
 
@@ -26,7 +26,7 @@ returns-in_err-twice g c =
     let first = signature_seen c.args.first in
     let second = signature_seen c.args.second in
     let is : sign_seen c.payload-unsigned.result ≡ signed_by p [] = c.payload-unsigned.ensures ∙ ap (λ (m : SignSeen). record m { payload = Some p })
-      c.new.ensures in
+    c.new.ensures in
     passed_as (SignsByTwo g.F.FnOnce c.args.sign_first g.G.FnOnce c.args.sign_second x p first second) _ _ c.from_residual-in_err-twice.ensures.1
     (second_refused g.F.FnOnce c.args.sign_first g.G.FnOnce c.args.sign_second x p first second _ (sign_seen c.in_ok-once.once)
     c.in_ok-once.ensures.1.items is c.in_ok-once.ensures.4 _ c.in_err-twice.ensures)
@@ -38,7 +38,7 @@ returns-in_err-to_vec g c =
     let first = signature_seen c.args.first in
     let second = signature_seen c.args.second in
     let is : sign_seen c.payload-unsigned.result ≡ signed_by p [] = c.payload-unsigned.ensures ∙ ap (λ (m : SignSeen). record m { payload = Some p })
-      c.new.ensures in
+    c.new.ensures in
     let s = c.in_ok-once.ensures.1.items in
     let t = c.in_ok-twice.ensures.1.items in
     let built = ap sign_seen c.build.ensures ∙ both_signed p s t first second _ (sign_seen c.in_ok-once.once) (sign_seen c.in_ok-twice.twice) is
@@ -51,7 +51,7 @@ returns g c =
     let p = c.args.payload.items in
     let x = c.args.external_aad.now in
     let is : sign_seen c.payload-unsigned.result ≡ signed_by p [] = c.payload-unsigned.ensures ∙ ap (λ (m : SignSeen). record m { payload = Some p })
-      c.new.ensures in
+    c.new.ensures in
     signed_by_two g.F.FnOnce c.args.sign_first g.G.FnOnce c.args.sign_second x p (signature_seen c.args.first) (signature_seen c.args.second)
     c.in_ok-to_vec.field-0.items _ (sign_seen c.in_ok-once.once) (sign_seen c.in_ok-twice.twice) is c.in_ok-once.ensures c.in_ok-twice.ensures
     (subst (λ m. IsWritten sign (sign_seen m) c.in_ok-to_vec.field-0.items) c.build.ensures c.in_ok-to_vec.ensures)

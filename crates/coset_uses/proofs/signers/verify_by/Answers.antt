@@ -21,22 +21,28 @@ returns-in_err-message g c =
 
 pub returns-in_default : goal.returns-in_default
 returns-in_default g c =
-    let m = sign_seen c.in_ok-message.message in
-    (m, c.in_ok-message.ensures.read, inl (no_number (is_by c.args.key_id.now) m.signatures 0
-      (numbered c.args.key_id.now _ _ _ c.deref.ensures.value c.number_by.ensures ∙ c.in_default.is), refl))
+    let m = sign_seen c.in_ok-message.message in (
+      m,
+      c.in_ok-message.ensures.read,
+      inl (
+        no_number (is_by c.args.key_id.now) m.signatures 0
+            (numbered c.args.key_id.now _ _ _ c.deref.ensures.value c.number_by.ensures ∙ c.in_default.is),
+        refl,
+      ),
+    )
 
 pub verify_signature-requires-clause-there : goal.verify_signature-requires-clause-there
 verify_signature-requires-clause-there g c =
     let m = sign_seen c.in_ok-message.message in
     let found = at_number (is_by c.args.key_id.now) m.signatures c.in-Some.number
-      (numbered c.args.key_id.now _ _ _ c.deref.ensures.value c.number_by.ensures ∙ c.in-Some.is) in
+    (numbered c.args.key_id.now _ _ _ c.deref.ensures.value c.number_by.ensures ∙ c.in-Some.is) in
     within signature_seen c.in_ok-message.message.signatures.items c.in-Some.number found.0 found.1
 
 pub returns-in_err-verify_signature : goal.returns-in_err-verify_signature
 returns-in_err-verify_signature g c =
     let m = sign_seen c.in_ok-message.message in
     let found = at_number (is_by c.args.key_id.now) m.signatures c.in-Some.number
-      (numbered c.args.key_id.now _ _ _ c.deref.ensures.value c.number_by.ensures ∙ c.in-Some.is) in
+    (numbered c.args.key_id.now _ _ _ c.deref.ensures.value c.number_by.ensures ∙ c.in-Some.is) in
     passed_as (VerifiesBy g.F.FnOnce c.args.verify c.args.key_id.now c.args.external_aad.now c.args.absent c.args.message.now) _ _
     c.from_residual-in_err-verify_signature.ensures.1
     (not_verified_by g.F.FnOnce c.args.verify c.each_signed_when_read.ensures.plain c.args.key_id.now c.args.external_aad.now c.args.message.now c.args.absent
@@ -46,5 +52,5 @@ pub returns : goal.returns
 returns g c =
     let m = sign_seen c.in_ok-message.message in
     let found = at_number (is_by c.args.key_id.now) m.signatures c.in-Some.number
-      (numbered c.args.key_id.now _ _ _ c.deref.ensures.value c.number_by.ensures ∙ c.in-Some.is) in
+    (numbered c.args.key_id.now _ _ _ c.deref.ensures.value c.number_by.ensures ∙ c.in-Some.is) in
     (c.in_ok-message.ensures.read, (found.0, found.2, c.in_ok-verify_signature.ensures found.0 found.1))

@@ -14,7 +14,7 @@ returns-clause-fills c = λ all ps o z walks within.
     subst (FillsFields all o z f (state c.match-ask_distinct.input) m) (sym c.store_error.ensures.answers)
     (elim c.match-ask_distinct.branch [
       | in-Ok w ↦ rw (w.input-is, w.distinct-is) (distinct all o f (state c.fill_until_signatures-filled.new.input) z m
-        c.fill_until_signatures-filled.result some
+          c.fill_until_signatures-filled.result some
           (rw c.deref.ensures.value at w.in-Ok.ensures.ok))
       | in-Err w ↦ rw (w.input-is, w.distinct-is)
           (repeats all o f (state c.fill_until_signatures-filled.new.input)

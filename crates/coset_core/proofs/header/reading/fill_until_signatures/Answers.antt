@@ -54,7 +54,7 @@ returns-in_err-set_parameter-clause-fills c = λ all ps o z walks within.
     let w = c.loop-label.invariant.fills all ps o z walks within in
     let next = rw c.in-Some.is at c.in_ok-label.ensures.nexts in
     stops all o (fields_seen c.set_parameter.new.header) (state c.set_parameter.new.input) z c.next_key.new.self c.from_residual-in_err-set_parameter.result
-      c.in_err-set_parameter.field-0.0
+    c.in_err-set_parameter.field-0.0
     c.from_residual-in_err-set_parameter.ensures.1
     (at_value all o (fields_seen c.loop-label.header) (fields_seen c.set_parameter.new.header) (state c.loop-label.input) (state c.next_key.new.input)
     (state c.set_parameter.new.input) z c.loop-label.pairs c.next_key.new.self
