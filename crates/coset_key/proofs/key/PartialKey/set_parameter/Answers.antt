@@ -8,7 +8,7 @@ use Rattle.coset_key.specs.KeyLabels as labels
 use Rattle.coset_key.specs.Keys.{key_ops, key_type, kty_seen, operation_seen}
 use Rattle.coset_key.specs.Reading.{so_far_seen}
 use Rattle.coset_key.proofs.Putting.{adds_at, refuses_at, adds_rest}
-use Rattle.coset_key.proofs.key.PartialKey.put.Goals as goal
+use Rattle.coset_key.proofs.key.PartialKey.set_parameter.Goals as goal
 
 pub returns-then-is_parameter-clause-takes : goal.returns-then-is_parameter-clause-takes
 unfolding key_type
