@@ -24,3 +24,4 @@ pub use label::{Label, Map, integer_of, string_of, value_of};
 pub use part::{Part, count_of, member_of, part_of};
 pub use refusal::{Refusal, Status};
 pub use structure::structure_of;
+pub use written::write_found;

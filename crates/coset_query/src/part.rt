@@ -31,7 +31,7 @@ pub enum Part {
 
 impl Kind {
     /// Whether its items begin with two headers (RFC 8152, section 3).
-    pub(crate) fn has_headers(self) -> bool
+    pub fn has_headers(self) -> bool
         ensures { result ≡ has_headers self }
     {
         !matches!(self, Kind::Header | Kind::Key | Kind::KeySet | Kind::Claims)

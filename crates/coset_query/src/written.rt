@@ -21,11 +21,11 @@ fn put(bytes: &[u8], out: &mut [u8]) -> Result<usize, Refusal>
     Ok(bytes.len())
 }
 
-/// Writes what was found to the front of `out`.
+/// Writes what was found to the front of `out`, and answers its length. `coset_make` answers by it too.
 ///
 /// # Errors
 /// `Short`; `Absent` where nothing was found; or why nothing is known of it. `out` is then as it was.
-pub(crate) fn write_found(found: Result<Option<Vec<u8>>>, out: &mut [u8]) -> Result<usize, Refusal>
+pub fn write_found(found: Result<Option<Vec<u8>>>, out: &mut [u8]) -> Result<usize, Refusal>
     ensures { WritesFound (λ b. b.items) found out.old out.new result }
 {
     match found {

@@ -1,0 +1,3 @@
+pub mod Making
+pub mod Lists
+pub mod Agreeing

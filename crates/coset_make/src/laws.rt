@@ -1,0 +1,17 @@
+//! What `coset_query` tells of what was made here. Each law is the contract of a function that does nothing.
+
+ghost use Rattle.coset_make.specs.Laws.{MadeUnsigned, SignatureAdded, StructureOfMade, StructureOfSigner};
+
+/// What is signed, authenticated or goes with the ciphertext of a message that [`make`](crate::make) made, as
+/// `coset_query::structure_of` tells it, is what [`structure_of`](crate::structure_of) told of the same parts before.
+pub fn structure_of_made()
+    ensures { StructureOfMade }
+{}
+
+/// The same of a message with signers: it is made without signatures, those that are added stand one behind the other, and
+/// the signer of each signs what [`structure_of`](crate::structure_of) told of the parts and of the signer's header.
+pub fn structures_of_signers()
+    ensures made { MadeUnsigned }
+    ensures added { SignatureAdded }
+    ensures signed { StructureOfSigner }
+{}
