@@ -2,7 +2,7 @@
  * and calls in several threads do not touch one another. What each call answers is proved of its code; the contracts stand
  * beside the functions of the same names in crates/coset_c/src/lib.rt, and docs/C.md tells them in words.
  *
- * in, in_len     the bytes of an item of the kind. Any pointer may be NULL where the length beside it is 0.
+ * in, in_len     the bytes of an item of the kind. Any pointer to bytes may be NULL where the length beside it is 0.
  * out, cap, len  where an answer goes, and how long it is. COSET_SHORT: it is longer than cap, and *len says how long.
  *                Where the status isn't COSET_OK, out is as it was; where it is neither that nor COSET_SHORT, *len is 0.
  * No two of the places that a call is given may overlap. len, count, offset and value are never NULL.
@@ -18,7 +18,8 @@ extern "C" {
 #endif
 
 /* Statuses. Those from COSET_ENDS to COSET_NOT_PRIVATE are faults of the bytes, or of a byte string in them that holds a
- * header: the bytes are then no item of the kind. */
+ * header: the bytes are then no item of the kind. Of a call that makes they are faults of what is given, or of what would be
+ * made of it. */
 enum {
   COSET_OK = 0,
   COSET_SHORT = 1,         /* the answer is longer than the memory for it */
@@ -32,8 +33,8 @@ enum {
   COSET_OUT_OF_RANGE = 9,  /* an integer lies outside the range of its place */
   COSET_UNREGISTERED = 10, /* an integer without a name, in a registry without a private range */
   COSET_NOT_PRIVATE = 11,  /* an integer without a name, and outside the private range of its registry */
-  COSET_ABSENT = 12,       /* the bytes are of the kind, and what is asked for isn't in them */
-  COSET_MISUSE = 13        /* a number that stands for no kind, no part or no map */
+  COSET_ABSENT = 12,       /* what is asked for isn't in the bytes, or what is given has no place in items of the kind */
+  COSET_MISUSE = 13        /* a number that stands for no kind, no part, no map or no order */
 };
 
 /* Kinds. */
@@ -69,6 +70,14 @@ enum {
   COSET_IN_ITEM = 3         /* the item itself: of COSET_HEADER, COSET_KEY and COSET_CLAIMS */
 };
 
+/* Orders of labels, by their encodings. */
+enum {
+  COSET_LEXICOGRAPHIC = 1, /* by their bytes (RFC 8949, section 4.2.1) */
+  COSET_LENGTH_FIRST = 2   /* by their lengths, and then by their bytes (RFC 7049, section 3.9) */
+};
+
+/* ---- Reading */
+
 /* Whether the bytes are an item of the kind. *offset is where they stop being one item of CBOR: of the head at fault, of the
  * bytes that follow the item, or their end; SIZE_MAX where nothing is said of that. */
 int32_t coset_check(uint32_t kind, const uint8_t *in, size_t in_len, size_t *offset);
@@ -101,6 +110,48 @@ int32_t coset_text_label(uint32_t kind, const uint8_t *in, size_t in_len, uint32
 int32_t coset_structure(uint32_t kind, const uint8_t *in, size_t in_len, size_t index, const uint8_t *external_aad,
                         size_t external_aad_len, uint32_t has_detached, const uint8_t *detached, size_t detached_len,
                         uint8_t *out, size_t cap, size_t *len);
+
+/* ---- Making: the structure first, then your signature, tag or ciphertext, then the message. Each answer is the shortest
+ * encoding of an item of the kind. */
+
+/* The header, key or claims set `in`, which may be empty, with one pair more, behind the others: an integer label with a value
+ * by its encoding, with a byte string, with a text (by its UTF-8 bytes), with an integer; and a text label with a value by its
+ * encoding. COSET_DUPLICATE where the label is there already. A key begins with its type, label 1. */
+int32_t coset_put(uint32_t kind, const uint8_t *in, size_t in_len, int64_t label, const uint8_t *value, size_t value_len,
+                  uint8_t *out, size_t cap, size_t *len);
+int32_t coset_put_bytes(uint32_t kind, const uint8_t *in, size_t in_len, int64_t label, const uint8_t *value,
+                        size_t value_len, uint8_t *out, size_t cap, size_t *len);
+int32_t coset_put_text(uint32_t kind, const uint8_t *in, size_t in_len, int64_t label, const uint8_t *value,
+                       size_t value_len, uint8_t *out, size_t cap, size_t *len);
+int32_t coset_put_int(uint32_t kind, const uint8_t *in, size_t in_len, int64_t label, int64_t value, uint8_t *out, size_t cap,
+                      size_t *len);
+int32_t coset_put_text_label(uint32_t kind, const uint8_t *in, size_t in_len, const uint8_t *label, size_t label_len,
+                             const uint8_t *value, size_t value_len, uint8_t *out, size_t cap, size_t *len);
+
+/* As coset_structure, of a message that isn't made yet. prot is its protected header, a map or nothing; signer is that of the
+ * signer, of a COSET_SIGN alone; content is the payload, carried or detached. Enc_structure has none. */
+int32_t coset_structure_of(uint32_t kind, const uint8_t *prot, size_t prot_len, const uint8_t *signer, size_t signer_len,
+                           const uint8_t *external_aad, size_t external_aad_len, const uint8_t *content, size_t content_len,
+                           uint8_t *out, size_t cap, size_t *len);
+
+/* A message (under its tag, with COSET_TAGGED), a COSET_SIGNATURE or a COSET_RECIPIENT, of its protected header, its
+ * unprotected one, each a map or nothing, its payload or ciphertext, and its signature or tag. Where has_content is 0, the
+ * content is detached. A message with signers or recipients is made without them, for coset_add. */
+int32_t coset_make(uint32_t kind, const uint8_t *prot, size_t prot_len, const uint8_t *unprot, size_t unprot_len,
+                   uint32_t has_content, const uint8_t *content, size_t content_len, const uint8_t *proof, size_t proof_len,
+                   uint8_t *out, size_t cap, size_t *len);
+
+/* The item with one signature, recipient or key more, behind the others. A COSET_KEY_SET may begin with nothing. What was
+ * signed, authenticated or goes with a ciphertext stays. */
+int32_t coset_add(uint32_t kind, const uint8_t *in, size_t in_len, const uint8_t *member, size_t member_len, uint8_t *out,
+                  size_t cap, size_t *len);
+
+/* The item in its shortest encoding. Pairs keep their order, and protected headers their bytes. */
+int32_t coset_write(uint32_t kind, const uint8_t *in, size_t in_len, uint8_t *out, size_t cap, size_t *len);
+
+/* The COSET_KEY in its shortest encoding, with its labels in that order: the same bytes for keys that agree but for the order
+ * of their pairs. */
+int32_t coset_canonical_key(uint32_t order, const uint8_t *in, size_t in_len, uint8_t *out, size_t cap, size_t *len);
 
 #ifdef __cplusplus
 }

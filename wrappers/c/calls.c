@@ -3,10 +3,16 @@
  *   check KIND IN | count KIND IN | part KIND IN CAP PART | member KIND IN CAP INDEX | label KIND IN CAP MAP LABEL
  *   label_bytes KIND IN CAP MAP LABEL | label_int KIND IN MAP LABEL | text_label KIND IN CAP MAP LABEL
  *   structure KIND IN CAP INDEX AAD HAS DETACHED | verified KIND IN CAP ALG KID SIGNED SIGNATURE
+ *   put, put_bytes, put_text, put_int or put_text_label KIND IN CAP LABEL VALUE
+ *   structure_of KIND PROTECTED CAP SIGNER AAD CONTENT | make KIND PROTECTED CAP UNPROTECTED HAS CONTENT PROOF
+ *   add KIND IN CAP MEMBER | write KIND IN CAP | canonical_key ORDER IN CAP
+ *   issued 0 KID CAP ISS SUB AUD CTI EXP NBF IAT SIGNED SIGNATURE
  *
- * IN, AAD, DETACHED and the label of text_label are hexadecimal, `-` for none, which is passed as NULL. To `verified` of
- * verify.c a signature is good where all four are as the line says. Beside the status and the number the whole buffer is told, of CAP bytes and 8 more, each of which was ee before; each input is in memory of its
- * own, and with REFUSE=N in the environment, the N-th request for memory of each call is refused. */
+ * Bytes, and labels and values that aren't integers, are hexadecimal, `-` for none, which is passed as NULL. To `verified` of
+ * verify.c a signature is good where all four are as the line says, and to `issued` of issue.c it is SIGNATURE, where SIGNED
+ * is what it is asked for. Beside the status and the number the whole buffer is told, of CAP bytes and 8 more, each of which
+ * was ee before; each input is in memory of its own, and with REFUSE=N in the environment, the N-th request for memory of each
+ * call is refused. */
 #include "coset.h"
 #include <inttypes.h>
 #include <stdio.h>
@@ -80,12 +86,67 @@ static int is_as_said(void *words, int64_t alg, const uint8_t *kid, size_t kid_l
   return atoll(word[0]) == alg && same(word[1], kid, kid_len) && same(word[2], tbs, tbs_len) && same(word[3], sig, sig_len);
 }
 
+/* In issue.c. */
+struct string {
+  const uint8_t *at;
+  size_t len;
+};
+struct token {
+  struct string iss, sub, aud, cti, kid;
+  int64_t exp, nbf, iat;
+};
+typedef int (*signer)(void *key, const uint8_t *tbs, size_t tbs_len, uint8_t *sig, size_t cap, size_t *sig_len);
+int32_t issued(const struct token *t, signer sign, void *key, uint8_t *out, size_t cap, size_t *len);
+
+/* The signature of the second word, where the first is what is to be signed. */
+static int sign_as_said(void *words, const uint8_t *tbs, size_t tbs_len, uint8_t *sig, size_t cap, size_t *sig_len) {
+  char **word = words;
+  struct bytes b = spelled(word[1]);
+  int is = same(word[0], tbs, tbs_len) && b.len <= cap;
+  if (is && b.len) memcpy(sig, b.at, b.len);
+  *sig_len = b.len;
+  free(b.at);
+  return is;
+}
+
+/* What the call that the words name answers, of those that make. -2: none of these. */
+static int32_t made(char **word, uint32_t kind, struct bytes in, uint8_t *out, size_t cap, size_t *len) {
+  const char *call = word[0];
+  struct bytes b[4];
+  int32_t status = -2;
+  int64_t label = strtoll(word[4], NULL, 0);
+  for (int i = 0; i < 4; i++) b[i] = spelled(word[4 + i]);
+  if (!strcmp(call, "put")) status = coset_put(kind, in.at, in.len, label, b[1].at, b[1].len, out, cap, len);
+  if (!strcmp(call, "put_bytes")) status = coset_put_bytes(kind, in.at, in.len, label, b[1].at, b[1].len, out, cap, len);
+  if (!strcmp(call, "put_text")) status = coset_put_text(kind, in.at, in.len, label, b[1].at, b[1].len, out, cap, len);
+  if (!strcmp(call, "put_int"))
+    status = coset_put_int(kind, in.at, in.len, label, strtoll(word[5], NULL, 0), out, cap, len);
+  if (!strcmp(call, "put_text_label"))
+    status = coset_put_text_label(kind, in.at, in.len, b[0].at, b[0].len, b[1].at, b[1].len, out, cap, len);
+  if (!strcmp(call, "structure_of"))
+    status = coset_structure_of(kind, in.at, in.len, b[0].at, b[0].len, b[1].at, b[1].len, b[2].at, b[2].len, out, cap, len);
+  if (!strcmp(call, "make"))
+    status = coset_make(kind, in.at, in.len, b[0].at, b[0].len, (uint32_t)strtoul(word[5], NULL, 0), b[2].at, b[2].len,
+                        b[3].at, b[3].len, out, cap, len);
+  if (!strcmp(call, "add")) status = coset_add(kind, in.at, in.len, b[0].at, b[0].len, out, cap, len);
+  if (!strcmp(call, "write")) status = coset_write(kind, in.at, in.len, out, cap, len);
+  if (!strcmp(call, "canonical_key")) status = coset_canonical_key(kind, in.at, in.len, out, cap, len);
+  if (!strcmp(call, "issued")) {
+    char *words[2] = {word[11], word[12]};
+    struct token t = {{b[0].at, b[0].len}, {b[1].at, b[1].len}, {b[2].at, b[2].len}, {b[3].at, b[3].len}, {in.at, in.len},
+                      strtoll(word[8], NULL, 0), strtoll(word[9], NULL, 0), strtoll(word[10], NULL, 0)};
+    status = issued(&t, sign_as_said, words, out, cap, len);
+  }
+  for (int i = 0; i < 4; i++) free(b[i].at);
+  return status;
+}
+
 int main(void) {
   static char line[1 << 23];
-  char *word[9], number[32];
+  char *word[13], number[32];
   const char *refused = getenv("REFUSE");
   while (fgets(line, sizeof line, stdin)) {
-    for (int i = 0; i < 9; i++) {
+    for (int i = 0; i < 13; i++) {
       char *next = strtok(i ? NULL : line, " \n");
       word[i] = next ? next : "-";
     }
@@ -97,7 +158,7 @@ int main(void) {
     uint8_t *out = malloc(room);
     memset(out, 0xee, room);
     left = refused ? atol(refused) : -1;
-    int32_t status = -1;
+    int32_t status = made(word, kind, in, out, cap, &len);
     if (!strcmp(call, "check")) status = coset_check(kind, in.at, in.len, &len);
     if (!strcmp(call, "count")) status = coset_count(kind, in.at, in.len, &len);
     if (!strcmp(call, "part")) status = coset_part(kind, in.at, in.len, w4, out, cap, &len);

@@ -3,6 +3,7 @@ and the answer, or the error."""
 import sys
 
 import coset
+from issue import issued
 from verify import verified
 
 _NAMES = {3: "Ends", 4: "Malformed", 5: "Deep", 6: "Extraneous", 7: "Unexpected", 8: "Duplicate", 9: "OutOfRange",
@@ -13,8 +14,40 @@ def data(word):
     return bytes.fromhex("" if word == "-" else word)
 
 
+def made(name, kind, given, *words):
+    """What that call answers, of those that make."""
+    if name == "put_int":
+        return coset.put(kind, given, int(words[1]), int(words[2]))
+    if name == "put_bytes":
+        return coset.put(kind, given, int(words[1]), data(words[2]))
+    if name == "put_text":
+        return coset.put(kind, given, int(words[1]), data(words[2]).decode())
+    if name == "put":
+        return coset.put_encoded(kind, given, int(words[1]), data(words[2]))
+    if name == "put_text_label":
+        return coset.put_encoded(kind, given, data(words[1]).decode(), data(words[2]))
+    if name == "structure_of":
+        signer, aad, content = map(data, words[1:])
+        return coset.structure_of(kind, given, content, signer, aad)
+    if name == "make":
+        return coset.make(kind, given, data(words[1]), None if words[2] == "0" else data(words[3]), data(words[4]))
+    if name == "add":
+        return coset.add(kind, given, data(words[1]))
+    return coset.write(kind, given) if name == "write" else coset.canonical_key(kind, given)
+
+
+def token(key_id, issuer, subject, audience, token_id, *words):
+    """The token of the words of `issued`."""
+    texts = [data(word).decode() for word in (issuer, subject, audience)]
+    claims = dict(zip(range(1, 8), [*texts, *map(int, words[:3]), data(token_id)]))
+    found = issued(claims, key_id, lambda signed: data(words[4]) if signed.hex() == words[3] else None)
+    return "no" if found is None else found.hex()
+
+
 def answer(name, kind, given, *words):
     kind, given = int(kind), data(given)
+    if name == "issued":
+        return token(given, *words[1:])
     if name == "check":
         return coset.check(kind, given) or ""
     if name == "count":
@@ -37,7 +70,7 @@ def answer(name, kind, given, *words):
     if name == "verified":
         payload = verified(given, lambda a, k, t, s: [str(a), k.hex(), t.hex(), s.hex()] == list(words[1:]))
         return "no" if payload is None else payload.hex()
-    raise ValueError(name)
+    return made(name, kind, given, *words).hex()
 
 
 for line in sys.stdin:

@@ -1,7 +1,7 @@
 """coset from Python: the calls of include/coset.h over libcoset.so, which stands beside this file or where COSET_LIBRARY says.
 
-A call is given bytes and answers bytes, a number or None, and raises Fault where the bytes are no item of the kind, Absent
-where what is asked for isn't in them, and MemoryError. What is promised of each call stands in the header and in docs/C.md.
+A call is given bytes and answers bytes, a number or None, and raises Fault where the bytes, or what would be made of them, are
+no item of the kind, Absent where what is asked for isn't in them or what is given has no place, and MemoryError. What is promised of each call stands in the header and in docs/C.md.
 """
 import ctypes
 import os
@@ -10,6 +10,7 @@ SIGN1, SIGN, MAC0, MAC, ENCRYPT0, ENCRYPT, SIGNATURE, RECIPIENT, HEADER, KEY, KE
 TAGGED, EITHER = 0x100, 0x200  # added to a message's kind, one of the first six
 PROTECTED, PAYLOAD, CIPHERTEXT, PROOF = range(1, 5)
 IN_PROTECTED, IN_UNPROTECTED, IN_ITEM = range(1, 4)
+LEXICOGRAPHIC, LENGTH_FIRST = range(1, 3)  # orders of labels
 
 _OK, _SHORT, _MEMORY, _ABSENT, _MISUSE = 0, 1, 2, 12, 13
 _FAULTS = {
@@ -30,7 +31,7 @@ _library = ctypes.CDLL(os.environ.get("COSET_LIBRARY", _beside))
 
 
 class Fault(ValueError):
-    """The bytes are no item of the kind. `status` is the status of the call; `offset`, which `check` alone tells, where they
+    """The bytes, or what would be made of them, are no item of the kind. `status` is the status of the call; `offset`, which `check` alone tells, where they
     stop being one item of CBOR, or None."""
 
     def __init__(self, status, offset=None):
@@ -39,7 +40,7 @@ class Fault(ValueError):
 
 
 class Absent(LookupError):
-    """The bytes are of the kind, and what is asked for isn't in them."""
+    """What is asked for isn't in the bytes, or what is given has no place in items of the kind."""
 
 
 def _declare():
@@ -55,6 +56,16 @@ def _declare():
         "label_int": [number, integer, ctypes.POINTER(integer)],
         "text_label": [number, at, size] + to,
         "structure": [size, at, size, number, at, size] + to,
+        "put": [integer, at, size] + to,
+        "put_bytes": [integer, at, size] + to,
+        "put_text": [integer, at, size] + to,
+        "put_int": [integer, integer] + to,
+        "put_text_label": [at, size, at, size] + to,
+        "structure_of": [at, size, at, size, at, size] + to,
+        "make": [at, size, number, at, size, at, size] + to,
+        "add": [at, size] + to,
+        "write": to,
+        "canonical_key": to,
     }
     for name, arguments in calls.items():
         call = getattr(_library, "coset_" + name)
@@ -69,9 +80,9 @@ def _raise(status, offset=None):
     if status == _MEMORY:
         raise MemoryError
     if status == _ABSENT:
-        raise Absent("what is asked for isn't there")
+        raise Absent("what is asked for isn't there, or what is given has no place")
     if status == _MISUSE:
-        raise TypeError("a number that stands for no kind, no part or no map")
+        raise TypeError("a number that stands for no kind, no part, no map or no order")
     if status != _OK:
         raise Fault(status, offset)
 
@@ -84,7 +95,7 @@ def _bytes(data):
 
 def _int64(number):
     if not -(1 << 63) <= number < 1 << 63:
-        raise OverflowError("a label of more than 64 bits")
+        raise OverflowError("a number of more than 64 bits")
     return number
 
 
@@ -165,3 +176,53 @@ def structure(kind, data, index=0, external_aad=b"", detached=None):
     return _written(
         _library.coset_structure, kind, *_bytes(data), _size(index), *_bytes(external_aad), detached is not None, *content
     )
+
+
+def put(kind, data, name, value):
+    """The header, key or claims set, which may be empty, with one pair more, behind the others: an integer label, and an int,
+    a str, or bytes."""
+    given = kind, *_bytes(data), _int64(name)
+    if isinstance(value, int):
+        return _written(_library.coset_put_int, *given, _int64(value))
+    if isinstance(value, str):
+        return _written(_library.coset_put_text, *given, *_bytes(value.encode()))
+    return _written(_library.coset_put_bytes, *given, *_bytes(value))
+
+
+def put_encoded(kind, data, name, value):
+    """The same of a label that is an int or a str, and a value by its encoding, one item of CBOR."""
+    if isinstance(name, str):
+        return _written(_library.coset_put_text_label, kind, *_bytes(data), *_bytes(name.encode()), *_bytes(value))
+    return _written(_library.coset_put, kind, *_bytes(data), _int64(name), *_bytes(value))
+
+
+def structure_of(kind, protected, content=b"", signer=b"", external_aad=b""):
+    """As `structure`, of a message that isn't made yet: of its protected header, of the payload (a structure that goes with a
+    ciphertext has none), and of the signer's protected header, for SIGN alone."""
+    return _written(
+        _library.coset_structure_of, kind, *_bytes(protected), *_bytes(signer), *_bytes(external_aad), *_bytes(content)
+    )
+
+
+def make(kind, protected, unprotected, content=None, proof=b""):
+    """A message, a signature or a recipient, of its headers, its payload or ciphertext (None: detached), and its signature or
+    tag. A message with signers or recipients is made without them."""
+    held = _bytes(b"" if content is None else content)
+    return _written(
+        _library.coset_make, kind, *_bytes(protected), *_bytes(unprotected), content is not None, *held, *_bytes(proof)
+    )
+
+
+def add(kind, data, item):
+    """The item with one signature, recipient or key more, behind the others. A set of keys may begin with nothing."""
+    return _written(_library.coset_add, kind, *_bytes(data), *_bytes(item))
+
+
+def write(kind, data):
+    """The item in its shortest encoding."""
+    return _written(_library.coset_write, kind, *_bytes(data))
+
+
+def canonical_key(order, data):
+    """The key in its shortest encoding, with its labels in that order: LEXICOGRAPHIC or LENGTH_FIRST."""
+    return _written(_library.coset_canonical_key, order, *_bytes(data))

@@ -2,9 +2,10 @@
 //! (`tools/c`): `ok` and the answer, or the error.
 
 mod coset;
+mod issue;
 mod verify;
 
-use coset::{Error, Form, Kind, Map, Part};
+use coset::{Entry, Error, Form, Kind, Map, Order, Part};
 use std::io::BufRead;
 
 fn kind(word: &str) -> Kind {
@@ -38,6 +39,14 @@ fn map(word: &str) -> Map {
     [Map::InProtected, Map::InUnprotected, Map::InItem][word.parse::<usize>().unwrap() - 1]
 }
 
+fn order(word: &str) -> Order {
+    if word == "1" { Order::Lexicographic } else { Order::LengthFirst }
+}
+
+fn text(word: &str) -> String {
+    String::from_utf8(bytes(word)).unwrap()
+}
+
 fn bytes(word: &str) -> Vec<u8> {
     let word = if word == "-" { "" } else { word };
     (0..word.len() / 2).map(|i| u8::from_str_radix(&word[2 * i..2 * i + 2], 16).unwrap()).collect()
@@ -47,7 +56,45 @@ fn hex(bytes: &[u8]) -> String {
     bytes.iter().map(|b| format!("{b:02x}")).collect()
 }
 
+/// What the call that the words name answers, of those that make.
+fn made(w: &[&str]) -> Result<Vec<u8>, Error> {
+    let (k, input, label) = (kind(w[1]), bytes(w[2]), w.get(4).and_then(|word| word.parse().ok()).unwrap_or(0));
+    match w[0] {
+        "put" => coset::put(k, &input, label, Entry::Encoded(&bytes(w[5]))),
+        "put_bytes" => coset::put(k, &input, label, Entry::Bytes(&bytes(w[5]))),
+        "put_text" => coset::put(k, &input, label, Entry::Text(&text(w[5]))),
+        "put_int" => coset::put(k, &input, label, Entry::Int(w[5].parse().unwrap())),
+        "put_text_label" => coset::put_text_label(k, &input, &text(w[4]), &bytes(w[5])),
+        "structure_of" => coset::structure_of(k, &input, &bytes(w[4]), &bytes(w[5]), &bytes(w[6])),
+        "make" => coset::make(k, &input, &bytes(w[4]), (w[5] != "0").then_some(&bytes(w[6])), &bytes(w[7])),
+        "add" => coset::add(k, &input, &bytes(w[4])),
+        "write" => coset::write(k, &input),
+        "canonical_key" => coset::canonical_key(order(w[1]), &input),
+        call => panic!("{call}"),
+    }
+}
+
+/// The token of `issued`'s words.
+fn issued(w: &[&str]) -> Result<String, Error> {
+    let (issuer, subject, audience, id) = (text(w[4]), text(w[5]), text(w[6]), bytes(w[7]));
+    let time = |place: usize| Entry::Int(w[place].parse().unwrap());
+    let claims = [
+        (1, Entry::Text(&issuer)),
+        (2, Entry::Text(&subject)),
+        (3, Entry::Text(&audience)),
+        (4, time(8)),
+        (5, time(9)),
+        (6, time(10)),
+        (7, Entry::Bytes(&id)),
+    ];
+    let token = issue::issued(&claims, &bytes(w[2]), |signed| (hex(signed) == w[11]).then(|| bytes(w[12])))?;
+    Ok(token.map_or("no".to_string(), |token| hex(&token)))
+}
+
 fn answer(w: &[&str]) -> Result<String, Error> {
+    if w[0] == "issued" {
+        return issued(w);
+    }
     let (k, input) = (kind(w[1]), bytes(w[2]));
     Ok(match w[0] {
         "check" => coset::check(k, &input).map(|()| String::new()).map_err(|f| f.error)?,
@@ -68,7 +115,7 @@ fn answer(w: &[&str]) -> Result<String, Error> {
             })?;
             payload.map_or("no".to_string(), |payload| hex(&payload))
         }
-        call => panic!("{call}"),
+        _ => hex(&made(w)?),
     })
 }
 

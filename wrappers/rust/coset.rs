@@ -45,6 +45,25 @@ pub enum Map {
     InItem = 3,
 }
 
+/// An order of labels, by their encodings.
+#[derive(Clone, Copy, Debug, PartialEq, Eq)]
+pub enum Order {
+    /// By their bytes (RFC 8949, section 4.2.1).
+    Lexicographic = 1,
+    /// By their lengths, and then by their bytes (RFC 7049, section 3.9).
+    LengthFirst = 2,
+}
+
+/// A value of a map.
+#[derive(Clone, Copy, Debug, PartialEq)]
+pub enum Entry<'a> {
+    Int(i64),
+    Bytes(&'a [u8]),
+    Text(&'a str),
+    /// One item of CBOR.
+    Encoded(&'a [u8]),
+}
+
 /// Why a call has no answer.
 #[derive(Clone, Copy, Debug, PartialEq, Eq)]
 pub enum Error {
@@ -68,7 +87,7 @@ pub enum Error {
     Unregistered,
     /// An integer without a name and outside the private range of its registry.
     NotPrivate,
-    /// The bytes are of the kind, and what is asked for isn't in them.
+    /// What is asked for isn't in the bytes, or what is given has no place in items of the kind.
     Absent,
 }
 
@@ -85,7 +104,7 @@ impl fmt::Display for Error {
             Error::OutOfRange => "an integer lies outside the range of its place",
             Error::Unregistered => "an integer isn't registered",
             Error::NotPrivate => "an integer isn't registered, nor for private use",
-            Error::Absent => "what is asked for isn't there",
+            Error::Absent => "what is asked for isn't there, or what is given has no place",
         })
     }
 }
@@ -110,6 +129,16 @@ mod c {
         pub fn coset_label_int(kind: u32, input: *const u8, input_len: usize, map: u32, label: i64, value: *mut i64) -> i32;
         pub fn coset_text_label(kind: u32, input: *const u8, input_len: usize, map: u32, label: *const u8, label_len: usize, out: *mut u8, cap: usize, len: *mut usize) -> i32;
         pub fn coset_structure(kind: u32, input: *const u8, input_len: usize, index: usize, external_aad: *const u8, external_aad_len: usize, has_detached: u32, detached: *const u8, detached_len: usize, out: *mut u8, cap: usize, len: *mut usize) -> i32;
+        pub fn coset_put(kind: u32, input: *const u8, input_len: usize, label: i64, value: *const u8, value_len: usize, out: *mut u8, cap: usize, len: *mut usize) -> i32;
+        pub fn coset_put_bytes(kind: u32, input: *const u8, input_len: usize, label: i64, value: *const u8, value_len: usize, out: *mut u8, cap: usize, len: *mut usize) -> i32;
+        pub fn coset_put_text(kind: u32, input: *const u8, input_len: usize, label: i64, value: *const u8, value_len: usize, out: *mut u8, cap: usize, len: *mut usize) -> i32;
+        pub fn coset_put_int(kind: u32, input: *const u8, input_len: usize, label: i64, value: i64, out: *mut u8, cap: usize, len: *mut usize) -> i32;
+        pub fn coset_put_text_label(kind: u32, input: *const u8, input_len: usize, label: *const u8, label_len: usize, value: *const u8, value_len: usize, out: *mut u8, cap: usize, len: *mut usize) -> i32;
+        pub fn coset_structure_of(kind: u32, prot: *const u8, prot_len: usize, signer: *const u8, signer_len: usize, external_aad: *const u8, external_aad_len: usize, content: *const u8, content_len: usize, out: *mut u8, cap: usize, len: *mut usize) -> i32;
+        pub fn coset_make(kind: u32, prot: *const u8, prot_len: usize, unprot: *const u8, unprot_len: usize, has_content: u32, content: *const u8, content_len: usize, proof: *const u8, proof_len: usize, out: *mut u8, cap: usize, len: *mut usize) -> i32;
+        pub fn coset_add(kind: u32, input: *const u8, input_len: usize, member: *const u8, member_len: usize, out: *mut u8, cap: usize, len: *mut usize) -> i32;
+        pub fn coset_write(kind: u32, input: *const u8, input_len: usize, out: *mut u8, cap: usize, len: *mut usize) -> i32;
+        pub fn coset_canonical_key(order: u32, input: *const u8, input_len: usize, out: *mut u8, cap: usize, len: *mut usize) -> i32;
     }
 }
 
@@ -234,4 +263,66 @@ pub fn structure(kind: Kind, bytes: &[u8], index: usize, external_aad: &[u8], de
             detached.is_some().into(), content.as_ptr(), content.len(), out, cap, len,
         )
     })
+}
+
+/// The header, key or claims set, which may be empty, with one pair more, behind the others.
+pub fn put(kind: Kind, map: &[u8], label: i64, value: Entry<'_>) -> Result<Vec<u8>, Error> {
+    let (kind, at, n) = (kind.number(), map.as_ptr(), map.len());
+    written(|out, cap, len| unsafe {
+        match value {
+            Entry::Int(value) => c::coset_put_int(kind, at, n, label, value, out, cap, len),
+            Entry::Bytes(value) => c::coset_put_bytes(kind, at, n, label, value.as_ptr(), value.len(), out, cap, len),
+            Entry::Text(value) => c::coset_put_text(kind, at, n, label, value.as_ptr(), value.len(), out, cap, len),
+            Entry::Encoded(value) => c::coset_put(kind, at, n, label, value.as_ptr(), value.len(), out, cap, len),
+        }
+    })
+}
+
+/// The same with a text label, and a value by its encoding.
+pub fn put_text_label(kind: Kind, map: &[u8], label: &str, value: &[u8]) -> Result<Vec<u8>, Error> {
+    written(|out, cap, len| unsafe {
+        c::coset_put_text_label(
+            kind.number(), map.as_ptr(), map.len(), label.as_ptr(), label.len(), value.as_ptr(), value.len(), out, cap, len,
+        )
+    })
+}
+
+/// As `structure`, of a message that isn't made yet: of its protected header, of the signer's for `Kind::Sign` alone, and of
+/// the payload; a structure that goes with a ciphertext has none.
+pub fn structure_of(kind: Kind, protected: &[u8], signer: &[u8], external_aad: &[u8], content: &[u8]) -> Result<Vec<u8>, Error> {
+    written(|out, cap, len| unsafe {
+        c::coset_structure_of(
+            kind.number(), protected.as_ptr(), protected.len(), signer.as_ptr(), signer.len(), external_aad.as_ptr(),
+            external_aad.len(), content.as_ptr(), content.len(), out, cap, len,
+        )
+    })
+}
+
+/// A message, a signature or a recipient, of its headers, its payload or ciphertext (`None`: detached), and its signature or
+/// tag. A message with signers or recipients is made without them.
+pub fn make(kind: Kind, protected: &[u8], unprotected: &[u8], content: Option<&[u8]>, proof: &[u8]) -> Result<Vec<u8>, Error> {
+    let held = content.unwrap_or_default();
+    written(|out, cap, len| unsafe {
+        c::coset_make(
+            kind.number(), protected.as_ptr(), protected.len(), unprotected.as_ptr(), unprotected.len(),
+            content.is_some().into(), held.as_ptr(), held.len(), proof.as_ptr(), proof.len(), out, cap, len,
+        )
+    })
+}
+
+/// The item with one signature, recipient or key more, behind the others. A set of keys may begin with nothing.
+pub fn add(kind: Kind, bytes: &[u8], member: &[u8]) -> Result<Vec<u8>, Error> {
+    written(|out, cap, len| unsafe {
+        c::coset_add(kind.number(), bytes.as_ptr(), bytes.len(), member.as_ptr(), member.len(), out, cap, len)
+    })
+}
+
+/// The item in its shortest encoding.
+pub fn write(kind: Kind, bytes: &[u8]) -> Result<Vec<u8>, Error> {
+    written(|out, cap, len| unsafe { c::coset_write(kind.number(), bytes.as_ptr(), bytes.len(), out, cap, len) })
+}
+
+/// The key in its shortest encoding, with its labels in that order.
+pub fn canonical_key(order: Order, bytes: &[u8]) -> Result<Vec<u8>, Error> {
+    written(|out, cap, len| unsafe { c::coset_canonical_key(order as u32, bytes.as_ptr(), bytes.len(), out, cap, len) })
 }

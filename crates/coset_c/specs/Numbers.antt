@@ -1,6 +1,8 @@
 -- Numbers as kinds, parts and maps.
 use Rattle.std.specs.Prelude.{◌==◌, ◌%◌, ◌-◌, ℕ, List, Option, Some, None, if◌then◌else◌}
 use Rattle.coset.specs.Shape.{both}
+use Rattle.coset_label.specs.declared.ordering.CborOrdering.{CborOrdering}
+use Rattle.coset_label.specs.declared.ordering.CborOrdering.TheVariants.{Lexicographic, LengthFirstLexicographic}
 use Rattle.coset_query.specs.declared.kind.Form as forms
 use Rattle.coset_query.specs.declared.kind.Form.TheVariants.{Plain, Tagged, Either}
 use Rattle.coset_query.specs.declared.kind.Kind as kinds
@@ -68,5 +70,9 @@ abbrev pub map_query : ℕ → ℕ → Option (kinds.Kind × maps.Map)
 map_query k m = both (λ x y. (x, y)) (kind_of k) (map_of m)
 
 -- the bytes, where the number isn't 0
-abbrev pub detached_of : ℕ → List ℕ → Option (List ℕ)
-detached_of n d = if n == 0 then None else Some d
+abbrev pub bytes_if : ℕ → List ℕ → Option (List ℕ)
+bytes_if n b = if n == 0 then None else Some b
+
+-- the order of labels of that number
+abbrev pub order_of : ℕ → Option CborOrdering
+order_of n = if n == 1 then Some Lexicographic else (if n == 2 then Some LengthFirstLexicographic else None)

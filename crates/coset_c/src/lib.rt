@@ -1,5 +1,6 @@
-//! `coset_query` for C: the functions that `include/coset.h` declares. What crosses are numbers, slices (in C a pointer and a
-//! length) and places for a number; nothing is kept between calls. `docs/C.md` tells how they are called.
+//! `coset_query` and `coset_make` for C: the functions that `include/coset.h` declares. What crosses are numbers, slices (in
+//! C a pointer and a length) and places for a number; nothing is kept between calls. `docs/C.md` tells how they are called.
+//! Those that read stand here, and those that make in `making`.
 #![tactic(auto)]
 
 ghost use Rattle.std.specs.Prelude.{◌≡◌, MatchOption, pos};
@@ -8,16 +9,17 @@ ghost use Rattle.coset_query.specs.Labels.{IsNumberOf, IsStringOf, IsValueOf};
 ghost use Rattle.coset_query.specs.Parts.{IsCount, IsMember, IsPart};
 ghost use Rattle.coset_query.specs.Structures.{IsStructure};
 ghost use Rattle.coset.specs.Names.{number, text_label};
-ghost use Rattle.coset_c.specs.Numbers.{detached_of, kind_of, map_query, part_query};
+ghost use Rattle.coset_c.specs.Numbers.{bytes_if, kind_of, map_query, part_query};
 ghost use Rattle.coset_c.specs.Replies.{IsMisuse, Replies, RepliesCheck, RepliesInteger};
 
+mod making;
 mod numbers;
 mod replies;
 
 use coset_query::{
     Label, check, count_of, integer_of, member_of, part_of, string_of, structure_of, value_of,
 };
-use numbers::{detached_of, kind_of, map_query, part_query};
+use numbers::{bytes_if, kind_of, map_query, part_query};
 use replies::{misused, reply, reply_check, reply_integer};
 use std::alloc::Global;
 
@@ -196,11 +198,11 @@ pub extern "C" fn coset_structure(
 ) -> i32
     ensures { MatchOption (kind_of kind) (IsMisuse result len.new 0 × (out.new ≡ out.old))
         (λ k. Replies (Answers k input.now (IsStructure k index external_aad.now
-        (detached_of has_detached detached.now)) out.old out.new) result len.new) }
+        (bytes_if has_detached detached.now)) out.old out.new) result len.new) }
 {
     match kind_of(kind) {
         Some(kind) => {
-            let detached = detached_of(has_detached, detached);
+            let detached = bytes_if(has_detached, detached);
             reply(
                 structure_of(alloc, kind, input, index, external_aad, detached, out),
                 len,

@@ -2,8 +2,9 @@
 
 ghost use Rattle.std.specs.Prelude.{◌≡◌};
 ghost use Rattle.std.specs.Option.{option_copied};
-ghost use Rattle.coset_c.specs.Numbers.{detached_of, form_of, kind_of, map_of, map_query, message_of, other_of, part_of, part_query};
+ghost use Rattle.coset_c.specs.Numbers.{bytes_if, form_of, kind_of, map_of, map_query, message_of, order_of, other_of, part_of, part_query};
 
+use coset::CborOrdering;
 use coset_query::{Form, Kind, Map, Part};
 
 const COSET_SIGN1: u32 = 1;
@@ -48,6 +49,10 @@ const COSET_IN_PROTECTED: u32 = 1;
 const COSET_IN_UNPROTECTED: u32 = 2;
 
 const COSET_IN_ITEM: u32 = 3;
+
+const COSET_LEXICOGRAPHIC: u32 = 1;
+
+const COSET_LENGTH_FIRST: u32 = 2;
 
 /// The form of a message, by what is added to its number.
 fn form_of(added: u32) -> Option<Form>
@@ -150,12 +155,19 @@ pub(crate) fn map_query(kind: u32, map: u32) -> Option<(Kind, Map)>
 }
 
 /// The bytes, where the number isn't 0.
-pub(crate) fn detached_of(has_detached: u32, detached: &[u8]) -> Option<&[u8]>
-    ensures { option_copied result ≡ detached_of has_detached detached.now }
+pub(crate) fn bytes_if(has_bytes: u32, bytes: &[u8]) -> Option<&[u8]>
+    ensures { option_copied result ≡ bytes_if has_bytes bytes.now }
 {
-    if has_detached == 0 {
-        None
-    } else {
-        Some(detached)
+    if has_bytes == 0 { None } else { Some(bytes) }
+}
+
+/// The order of labels of that number.
+pub(crate) fn order_of(number: u32) -> Option<CborOrdering>
+    ensures { result ≡ order_of number }
+{
+    match number {
+        COSET_LEXICOGRAPHIC => Some(CborOrdering::Lexicographic),
+        COSET_LENGTH_FIRST => Some(CborOrdering::LengthFirstLexicographic),
+        _ => None,
     }
 }

@@ -3,7 +3,7 @@ use mir.Val.{of_z, to_z}
 use Rattle.std.proofs.Common.{◌≡◌, rules, subst}
 use Rattle.coset_query.specs.Answers.{Answers}
 use Rattle.coset_query.specs.Structures.{IsStructure}
-use Rattle.coset_c.specs.Numbers.{detached_of}
+use Rattle.coset_c.specs.Numbers.{bytes_if}
 use Rattle.coset_c.specs.Replies.{Replies, reply_status}
 use Rattle.coset_c.proofs.Replying.{replied}
 use Rattle.coset_c.proofs.coset_structure.Goals as goal
@@ -14,10 +14,10 @@ returns-in-Some c =
     let b = c.args.input.now in
     let i = c.args.index in
     let aad = c.args.external_aad.now in
-    let answers = subst (λ d. Answers k b (IsStructure k i aad d) c.args.out.now c.structure_of.new.out c.structure_of.result) c.detached_of-detached.ensures
+    let answers = subst (λ d. Answers k b (IsStructure k i aad d) c.args.out.now c.structure_of.new.out c.structure_of.result) c.bytes_if-detached.ensures
     c.structure_of.ensures in
     let status : to_z w32 (of_z w32 c.reply.result) ≡ reply_status c.structure_of.result = search rules in
     replied
-    (λ j. Replies (Answers j b (IsStructure j i aad (detached_of c.args.has_detached c.args.detached.now)) c.args.out.now c.structure_of.new.out)
+    (λ j. Replies (Answers j b (IsStructure j i aad (bytes_if c.args.has_detached c.args.detached.now)) c.args.out.now c.structure_of.new.out)
     (to_z w32 (of_z w32 c.reply.result)) c.reply.new.place)
     _ _ k c.in-Some.ensures (c.structure_of.result, answers, status, c.reply.ensures.number)

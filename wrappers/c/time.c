@@ -1,0 +1,80 @@
+/* Times verifying and issuing a token, without any cryptography (tools/c --time): the token is the argument, in hexadecimal. It
+ * tells the least time of a call among the rounds, in nanoseconds. */
+#define _POSIX_C_SOURCE 199309L
+#include "coset.h"
+#include <stdio.h>
+#include <stdlib.h>
+#include <string.h>
+#include <time.h>
+
+enum { ROUNDS = 40, CALLS = 5000 };
+
+/* In verify.c and issue.c. */
+typedef int (*verifier)(void *keys, int64_t alg, const uint8_t *kid, size_t kid_len, const uint8_t *tbs, size_t tbs_len,
+                        const uint8_t *sig, size_t sig_len);
+int32_t verified(const uint8_t *in, size_t n, verifier verify, void *keys, uint8_t *out, size_t cap, size_t *len);
+struct string {
+  const uint8_t *at;
+  size_t len;
+};
+struct token {
+  struct string iss, sub, aud, cti, kid;
+  int64_t exp, nbf, iat;
+};
+typedef int (*signer)(void *key, const uint8_t *tbs, size_t tbs_len, uint8_t *sig, size_t cap, size_t *sig_len);
+int32_t issued(const struct token *t, signer sign, void *key, uint8_t *out, size_t cap, size_t *len);
+
+static uint8_t in[4096], out[4096], held[4096], sig[128];
+static size_t in_len, sig_len;
+
+static int yes(void *keys, int64_t alg, const uint8_t *kid, size_t kid_len, const uint8_t *tbs, size_t tbs_len,
+               const uint8_t *s, size_t s_len) {
+  return (void)keys, (void)kid, (void)tbs, (void)s, alg == -7 && kid_len && tbs_len && s_len;
+}
+
+static int sign(void *key, const uint8_t *tbs, size_t tbs_len, uint8_t *s, size_t cap, size_t *s_len) {
+  (void)key, (void)tbs, (void)cap;
+  memcpy(s, sig, *s_len = sig_len);
+  return tbs_len != 0;
+}
+
+static double now(void) {
+  struct timespec t;
+  clock_gettime(CLOCK_MONOTONIC, &t);
+  return t.tv_sec * 1e9 + t.tv_nsec;
+}
+
+int main(int argc, char **argv) {
+  struct token t = {0};
+  struct string *texts[] = {&t.iss, &t.sub, &t.aud, &t.cti};
+  const int64_t labels[] = {1, 2, 3, 7};
+  size_t at = 0, len, claims_len;
+  double verifying = 1e18, issuing = 1e18;
+  unsigned byte;
+  for (const char *c = argc > 1 ? argv[1] : ""; sscanf(c, "%2x", &byte) == 1 && in_len < sizeof in; c += 2) in[in_len++] = (uint8_t)byte;
+  if (verified(in, in_len, yes, NULL, out, sizeof out, &claims_len)) return 1;
+  for (int i = 0; i < 4; i++, at += len) {
+    if (coset_label_bytes(COSET_CLAIMS, out, claims_len, COSET_IN_ITEM, labels[i], held + at, sizeof held - at, &len)) return 1;
+    *texts[i] = (struct string){held + at, len};
+  }
+  if (coset_label_bytes(COSET_SIGN1 + COSET_EITHER, in, in_len, COSET_IN_UNPROTECTED, 4, held + at, sizeof held - at, &len)) return 1;
+  t.kid = (struct string){held + at, len};
+  coset_label_int(COSET_CLAIMS, out, claims_len, COSET_IN_ITEM, 4, &t.exp);
+  coset_label_int(COSET_CLAIMS, out, claims_len, COSET_IN_ITEM, 5, &t.nbf);
+  coset_label_int(COSET_CLAIMS, out, claims_len, COSET_IN_ITEM, 6, &t.iat);
+  coset_part(COSET_SIGN1 + COSET_EITHER, in, in_len, COSET_PROOF, sig, sizeof sig, &sig_len);
+  for (int round = 0; round < ROUNDS; round++) {
+    double began = now();
+    for (int i = 0; i < CALLS; i++)
+      if (verified(in, in_len, yes, NULL, out, sizeof out, &len)) return 1;
+    double between = now();
+    for (int i = 0; i < CALLS; i++)
+      if (issued(&t, sign, NULL, out, sizeof out, &len)) return 1;
+    double took = (between - began) / CALLS, took_too = (now() - between) / CALLS;
+    if (took < verifying) verifying = took;
+    if (took_too < issuing) issuing = took_too;
+  }
+  if (len != in_len || memcmp(in, out, len)) return 1;
+  printf("verifying %.0f ns, issuing %.0f ns\n", verifying, issuing);
+  return 0;
+}
