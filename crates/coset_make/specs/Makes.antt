@@ -57,6 +57,7 @@ FindsText text_of P IsNone faults (Ok None) = IsNone
 FindsText text_of P IsNone faults (Err e) = UnlessMemory e faults
 
 -- writing what was made, or why it wasn't
-abbrev pub WritesMade : {V : Type 0} → kinds.Kind → (Option V → Option Item) → Result (Option V) CoseError → List ℕ → List ℕ → Result ℕ refusals.Refusal → Type 0
+abbrev pub WritesMade : {V : Type 0} → kinds.Kind → (Option V → Option Item) → Result (Option V) CoseError → List ℕ → List ℕ → Result ℕ refusals.Refusal
+    → Type 0
 WritesMade k items_of (Ok o) old new r = Makes k (items_of o) old new r
 WritesMade k items_of (Err e) old new r = (r ≡ Err (Cose e)) × (new ≡ old)

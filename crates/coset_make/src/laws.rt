@@ -8,7 +8,7 @@ pub fn structure_of_made()
     ensures { StructureOfMade }
 {}
 
-/// The same of a message with signers: it is made without signatures, those that are added stand one behind the other, and
+/// A message with signers is made without signatures, those that are added stand one behind the other, and
 /// the signer of each signs what [`structure_of`](crate::structure_of) told of the parts and of the signer's header.
 pub fn structures_of_signers()
     ensures made { MadeUnsigned }

@@ -124,7 +124,7 @@ fn find_structure(
 /// (RFC 8152, sections 4.4, 5.3 and 6.3).
 ///
 /// `protected` is what the byte string of the message's protected header will hold: a map, or nothing for an empty header.
-/// `signer` is the same of the signer's header, for [`Kind::Sign`] alone. `content` is the payload, whether it will be
+/// `signer` is what that of the signer holds, for [`Kind::Sign`] alone. `content` is the payload, whether it will be
 /// carried or is detached; a structure that goes with a ciphertext has none.
 ///
 /// # Errors

@@ -17,4 +17,5 @@ returns-clause-places c =
     view-Array c.in_ok-list.list ∙ ap array (c.in_ok-list.ensures.values ∙ ap (λ vs. and_item (items_view vs) m) c.new.ensures.items) in
     subst (λ us. IfOk r (λ vs. items_view vs.items ≡ us)) (two_more ps v (array (item m no_items)))
     (subst (λ w. IfOk r (λ vs. items_view vs.items ≡ and_item (and_item ps v) w)) list
-    (subst (λ us. IfOk r (λ vs. items_view vs.items ≡ and_item us (view (Array c.in_ok-list.list)))) c.in_ok-places.ensures.values c.and_value-3.ensures.values))
+    (subst (λ us. IfOk r (λ vs. items_view vs.items ≡ and_item us (view (Array c.in_ok-list.list)))) c.in_ok-places.ensures.values
+    c.and_value-3.ensures.values))
