@@ -1,8 +1,8 @@
 -- What is signed before a message is made is what is signed of it afterwards.
-use Rattle.std.proofs.Common.{◌≡◌, ◌∙◌, ◌==◌, ℕ, List, [], ◌∷◌, Option, Some, None, Bool, true, false, cond, ap, sym, subst, refl}
+use Rattle.std.proofs.Common.{◌≡◌, ◌∙◌, ℕ, List, [], ◌∷◌, Option, Some, None, cond, ap, sym, refl}
 use Rattle.std.specs.Prelude.{codes, option_and_then}
 use Rattle.std.specs.Cmp.{unsigned_Decides}
-use Rattle.coset.specs.Item.{Item, bytes, array, tag, Items, no_items, item}
+use Rattle.coset.specs.Item.{Item, array, tag, Items}
 use Rattle.coset.specs.PerhapsTagged.{untagged}
 use Rattle.coset.specs.ShapeLaws.{some-none, some-one}
 use Rattle.coset_query.specs.declared.kind.Form as forms
@@ -11,9 +11,8 @@ use Rattle.coset_query.specs.declared.kind.Kind as kinds
 use Rattle.coset_query.specs.declared.kind.Kind.TheVariants.{Sign1, Sign, Mac0, Mac, Encrypt0, Encrypt, Signature, Recipient, Header, Key, KeySet, Claims}
 use Rattle.coset_query.specs.Places.{bytes_in, nth}
 use Rattle.coset_query.specs.Structures.{content_at, structure_in, structure_of_three, structure_of_two}
-use Rattle.coset_make.specs.Laws.{IsOver, MadeUnsigned, SignatureAdded, StructureOfMade, StructureOfSigner, inside}
+use Rattle.coset_make.specs.Laws.{MadeUnsigned, SignatureAdded, StructureOfMade, StructureOfSigner, inside}
 use Rattle.coset_make.specs.Messages.{content_item, in_tag, message, places, tag_in_form}
-use Rattle.coset_make.specs.StructuresMade.{structure_made}
 
 -- what is made under a tag, or without, without it
 without_tag_again : (f : forms.Form) (n : ℕ) (vs : Items) → untagged n (in_tag (tag_in_form f (Some n)) (array vs)) ≡ array vs

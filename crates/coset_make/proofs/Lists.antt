@@ -1,8 +1,8 @@
 -- Lists of items and of pairs, one behind the other.
-use Rattle.std.proofs.Common.{◌≡◌, ◌∙◌, ◌++◌, ℕ, List, [], ◌∷◌, Option, Some, None, map, option_map, ap, sym, refl}
+use Rattle.std.proofs.Common.{◌≡◌, ◌∙◌, ◌++◌, List, [], ◌∷◌, Option, Some, None, map, option_map, ap, refl}
 use Rattle.std.proofs.lemmas.List.{map-append}
 use Rattle.std.specs.Prelude.{option_to_list}
-use Rattle.coset.specs.Item.{Item, Items, no_items, item, Pairs, no_pairs, pair}
+use Rattle.coset.specs.Item.{Item, Items, no_items, item, no_pairs, pair}
 use Rattle.coset.specs.View.{items_of, items_view, pair_view, pairs_of, pairs_view, view}
 use Rattle.coset_value.specs.declared.value.Value.{Value}
 use Rattle.coset_make.specs.Members.{in_last}

@@ -1,6 +1,6 @@
 -- From what was found or made to what is answered.
 use Rattle.std.proofs.Common.{◌≡◌, ℕ, List, [], ◌∷◌, length, Option, Some, None, Result, Ok, Err, refl, sym, subst}
-use Rattle.std.specs.Prelude.{IfOk, IfErr, IsErrAnd, option_map}
+use Rattle.std.specs.Prelude.{IfOk, IfErr, IsErrAnd}
 use Rattle.coset.specs.Item.{Item}
 use Rattle.coset.specs.CoseError.{CoseError}
 use Rattle.coset.specs.CoseError.TheVariants.{OutOfMemory}
@@ -12,7 +12,7 @@ use Rattle.coset_query.specs.declared.kind.Kind.TheVariants.{Header}
 use Rattle.coset_query.specs.Answers.{WritesFound}
 use Rattle.coset_query.specs.Kinds.{Checks}
 use Rattle.coset_make.specs.StructuresMade.{ChecksHeader}
-use Rattle.coset_make.specs.Makes.{FindsText, IsMade, IsMisfit, Makes, Writes, WritesMade}
+use Rattle.coset_make.specs.Makes.{FindsText, Makes, Writes, WritesMade}
 
 -- a text that was found, written, is what is answered
 pub written :

@@ -1,5 +1,5 @@
 -- Keys in a canonical encoding (RFC 8949, section 4.2.1; RFC 7049, section 3.9).
-use Rattle.std.specs.Prelude.{◌≡◌, ℕ, List, Some, Option, Result}
+use Rattle.std.specs.Prelude.{ℕ, List, Result}
 use Rattle.coset.specs.CoseError.{CoseError}
 use Rattle.coset_label.specs.declared.ordering.CborOrdering.{CborOrdering}
 use Rattle.coset.specs.Answers.{Describes, DescribesNothing, SliceFaults}

@@ -5,7 +5,6 @@ use Rattle.coset.specs.Grammar.{IsItem}
 use Rattle.coset.specs.Answers.{IsWholeFault}
 use Rattle.coset.specs.CoseError.{CoseError}
 use Rattle.coset.specs.Errors.{UnlessMemory}
-use Rattle.coset.specs.Shortest.{IsShortest}
 use Rattle.coset_query.specs.declared.kind.Kind as kinds
 use Rattle.coset_query.specs.declared.refusal.Refusal as refusals
 use Rattle.coset_query.specs.declared.refusal.Refusal.TheVariants.{Short, Absent, Cose}

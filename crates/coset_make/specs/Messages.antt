@@ -2,9 +2,9 @@
 use Rattle.std.specs.Prelude.{ℕ, List, [], ◌∷◌, Option, Some, None, Bool, true, false, if◌then◌else◌, Result}
 use Rattle.coset.specs.Item.{Item, bytes, null, tag, array, dict, Items, no_items, item, no_pairs}
 use Rattle.coset_query.specs.declared.kind.Form as forms
-use Rattle.coset_query.specs.declared.kind.Form.TheVariants.{Plain, Tagged, Either}
+use Rattle.coset_query.specs.declared.kind.Form.TheVariants.{Plain, Tagged}
 use Rattle.coset_query.specs.declared.kind.Kind as kinds
-use Rattle.coset_query.specs.declared.kind.Kind.TheVariants.{Sign1, Sign, Mac0, Mac, Encrypt0, Encrypt, Signature, Recipient, Header, Key, KeySet, Claims}
+use Rattle.coset_query.specs.declared.kind.Kind.TheVariants.{Sign1, Sign, Mac0, Mac, Encrypt0, Encrypt, Signature}
 use Rattle.coset_query.specs.declared.refusal.Refusal as refusals
 use Rattle.coset_query.specs.Kinds.{tag_of}
 use Rattle.coset_query.specs.Parts.{has_headers}

@@ -1,4 +1,3 @@
-use Rattle.std.proofs.Common.{sym}
 use Rattle.coset.specs.ShapeLaws.{some-none}
 use Rattle.coset.specs.Keys.{key_seen}
 use Rattle.coset_make.specs.Canonical.{IsCanonicalKey, IsNoKey}

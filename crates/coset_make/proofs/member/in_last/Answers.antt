@@ -1,4 +1,4 @@
-use Rattle.std.proofs.Common.{◌≡◌, Vec, Global, IfOk, option_map, subst, sym}
+use Rattle.std.proofs.Common.{◌≡◌, IfOk, option_map, subst, sym}
 use Rattle.coset.specs.View.{items_view, view}
 use Rattle.coset_make.specs.Members.{member_in}
 use Rattle.coset_make.proofs.Lists.{popped}
