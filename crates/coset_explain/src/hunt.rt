@@ -1,11 +1,11 @@
 //! Where the fault stands for which a type's reading refused the bytes.
 
 use crate::fault::Fault;
-use crate::frame::{Container, Frame, content};
-use crate::head::{Form, Head, behind};
+use crate::frame::{Container, Frame};
+use crate::head::{Form, Head};
 use crate::role::{Message, Part, Role, is_private, name_of};
 use coset::cbor::de::Pull;
-use coset::{CborSerializable, CoseError, CoseSignature};
+use coset::{CborSerializable, CoseError, CoseSignature, Header};
 use std::alloc::{AllocError, Global};
 use std::collections::BTreeSet;
 
@@ -32,8 +32,10 @@ enum Sought {
 
 /// What is sought, and which labels came.
 #[derive(Drop)]
-pub(crate) struct Hunt {
+pub(crate) struct Hunt<'e> {
     sought: Sought,
+    /// The error that tells of it.
+    error: Option<&'e CoseError>,
     labels: BTreeSet<String>,
 }
 
@@ -187,6 +189,45 @@ fn is_signature(alloc: Global, bytes: &[u8]) -> Result<bool, AllocError> {
     }
 }
 
+/// The text string at the front of the bytes, whose chunks are joined; `None` of another item.
+fn text_of(alloc: Global, bytes: &[u8]) -> Result<Option<String>, AllocError> {
+    let Ok((pull, _)) = Pull::new(bytes) else {
+        return Ok(None);
+    };
+    match pull.to_text(alloc) {
+        Ok(text) => Ok(text),
+        Err(_) => Err(AllocError),
+    }
+}
+
+/// The byte string at the front of the bytes, whose chunks are joined; it is empty of another item.
+fn content_of(alloc: Global, bytes: &[u8]) -> Result<Vec<u8>, AllocError> {
+    let Ok((pull, _)) = Pull::new(bytes) else {
+        return Ok(Vec::new(alloc));
+    };
+    match pull.to_bytes(alloc) {
+        Ok(Some(content)) => Ok(content),
+        Ok(None) => Ok(Vec::new(alloc)),
+        Err(_) => Err(AllocError),
+    }
+}
+
+/// Whether the header that the byte string at the front holds is refused for this error (RFC 8152, section 3).
+fn is_refused_for(alloc: Global, bytes: &[u8], error: &CoseError) -> Result<bool, AllocError> {
+    let content = content_of(alloc, bytes)?;
+    if content.is_empty() {
+        return Ok(false);
+    }
+    match Header::from_slice(alloc, &content) {
+        Ok(_) => Ok(false),
+        Err(CoseError::OutOfMemory) => Err(AllocError),
+        Err(found) => {
+            let (found, error) = (format!(in alloc; "{found}")?, format!(in alloc; "{error}")?);
+            Ok(found == error)
+        }
+    }
+}
+
 /// Whether the number has no name in the registry of its role, and whether that has no private range.
 fn is_unregistered(role: Role, head: &Head, has_private: bool) -> bool {
     let Some(number) = head.integer() else {
@@ -203,9 +244,9 @@ fn is_unregistered(role: Role, head: &Head, has_private: bool) -> bool {
     asks && name_of(role, number).is_none() && !is_private(role, number)
 }
 
-impl Hunt {
+impl<'e> Hunt<'e> {
     /// The fault that the error tells of.
-    pub(crate) fn of(alloc: Global, error: Option<&CoseError>) -> Hunt {
+    pub(crate) fn of(alloc: Global, error: Option<&'e CoseError>) -> Hunt<'e> {
         let sought = match error {
             Some(CoseError::UnexpectedItem(got, want)) => match *got {
                 "non-signature" => Sought::Signature,
@@ -220,6 +261,7 @@ impl Hunt {
         };
         Hunt {
             sought,
+            error,
             labels: BTreeSet::new(alloc),
         }
     }
@@ -240,7 +282,9 @@ impl Hunt {
             return Ok(None);
         }
         let role = part.role;
-        let rest = behind(head, bytes);
+        if role == Role::Protected && head.form == Form::Bytes && head.is_open {
+            return self.in_chunks(alloc, bytes);
+        }
         let found = match self.sought {
             Sought::Nothing => false,
             Sought::Unexpected(got, want) => {
@@ -248,9 +292,9 @@ impl Hunt {
             }
             Sought::Signature => frame.role == Role::Signatures && !is_signature(alloc, bytes)?,
             Sought::Operation => {
-                role == Role::Operation && self.repeats(alloc, frame, head, rest)?
+                role == Role::Operation && self.repeats(alloc, frame, head, bytes)?
             }
-            Sought::Repeated => frame.is_at_key() && self.repeats(alloc, frame, head, rest)?,
+            Sought::Repeated => frame.is_at_key() && self.repeats(alloc, frame, head, bytes)?,
             Sought::OutOfRange => is_out_of_range(role, head),
             Sought::Unregistered => is_unregistered(role, head, false),
             Sought::UnregisteredNonPrivate => is_unregistered(role, head, true),
@@ -258,19 +302,27 @@ impl Hunt {
         Ok(if found { Some(Fault::Shape) } else { None })
     }
 
-    /// Whether the label came already in this map.
+    /// The fault that is sought, where a protected header in chunks, which isn't opened, has it.
+    fn in_chunks(&self, alloc: Global, bytes: &[u8]) -> Result<Option<Fault>, AllocError> {
+        match self.error {
+            Some(error) if is_refused_for(alloc, bytes, error)? => Ok(Some(Fault::Shape)),
+            _ => Ok(None),
+        }
+    }
+
+    /// Whether the label at the front of the bytes came already in this map.
     fn repeats(
         &mut self,
         alloc: Global,
         frame: &Frame,
         head: &Head,
-        rest: &[u8],
+        bytes: &[u8],
     ) -> Result<bool, AllocError> {
         let map = frame.id;
         let label = match head.integer() {
             Some(number) => format!(in alloc; "{map} {number}")?,
             None => {
-                let Ok(text) = str::from_utf8(content(head, rest)) else {
+                let Some(text) = text_of(alloc, bytes)? else {
                     return Ok(false);
                 };
                 format!(in alloc; "{map} t{text}")?

@@ -15,6 +15,7 @@ mod note;
 mod opening;
 mod print;
 mod role;
+mod structure;
 mod text;
 mod walk;
 
@@ -23,3 +24,4 @@ pub use column::Line;
 pub use fault::Fault;
 pub use kind::Kind;
 pub use print::{annotated, notation};
+pub use structure::{annotated_structures, structure};

@@ -111,6 +111,11 @@ fn special(head: &Head) -> Option<&'static str> {
     }
 }
 
+/// Whether a float is no number.
+pub(crate) fn is_nan(head: &Head) -> bool {
+    special(head) == Some("NaN")
+}
+
 /// Adds a float.
 fn push_float(text: &mut String, head: &Head) -> Result<(), AllocError> {
     match special(head) {

@@ -17,12 +17,12 @@ use std::alloc::{AllocError, Global};
 
 /// A place in the walk.
 #[derive(Drop)]
-pub(crate) struct Walk<'a> {
+pub(crate) struct Walk<'a, 'e> {
     pub(crate) column: Column<'a>,
     /// What is open, from the input on.
     open: Vec<Frame>,
     /// What is sought.
-    hunt: Hunt,
+    hunt: Hunt<'e>,
     /// The moment at which the token is looked at, in seconds since 1970 began.
     now: Option<i64>,
     /// What is at fault at the place, where the walk ended for that.
@@ -36,15 +36,15 @@ fn within<'a>(column: &Column<'a>, frame: &Frame) -> &'a [u8] {
     bytes
 }
 
-impl<'a> Walk<'a> {
+impl<'a, 'e> Walk<'a, 'e> {
     /// The front of the bytes, which are for that.
     pub(crate) fn new(
         alloc: Global,
         bytes: &'a [u8],
         role: Role,
-        hunt: Hunt,
+        hunt: Hunt<'e>,
         now: Option<i64>,
-    ) -> Result<Walk<'a>, AllocError>
+    ) -> Result<Walk<'a, 'e>, AllocError>
         ensures whole { IfOk result (λ w. whole w.column ≡ bytes.now) }
         ensures lines { IfOk result (λ w. shown w.column ≡ 0) }
     {

@@ -2,7 +2,7 @@
 
 use crate::asked::Asked;
 use crate::spelled;
-use coset_explain::{annotated, explain, notation};
+use coset_explain::{annotated, annotated_structures, explain, notation};
 use std::alloc::{AllocError, Global};
 
 /// The status of an input that is of the kind.
@@ -27,7 +27,9 @@ pub fn look(alloc: Global, asked: &Asked, input: &[u8]) -> Result<(String, u8), 
     let text = if asked.is_plain {
         notation(alloc, &explained.lines)?
     } else {
-        annotated(alloc, &explained.lines)?
+        let mut text = annotated(alloc, &explained.lines)?;
+        text.push_str(annotated_structures(alloc, asked.kind, &bytes)?.as_str())?;
+        text
     };
     let status = if explained.error.is_some() {
         REFUSED
