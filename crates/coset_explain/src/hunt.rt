@@ -1,13 +1,14 @@
 //! Where the fault stands for which a type's reading refused the bytes.
 
-use crate::fault::Fault;
 use crate::frame::{Container, Frame};
-use crate::head::{Form, Head};
+use crate::head::{integer, is_integer, kind_name};
 use crate::role::{Message, Part, Role, is_private, name_of};
-use coset::cbor::de::Pull;
+use coset::cbor::de::{Error, Pull};
+use coset::cbor::value::Integer;
 use coset::{CborSerializable, CoseError, CoseSignature, Header};
+use coset_fault::{Fault, Form, Head};
 use std::alloc::{AllocError, Global};
-use std::collections::BTreeSet;
+use std::collections::BTreeMap;
 
 /// What is sought.
 #[derive(Clone, Copy, Debug)]
@@ -22,6 +23,10 @@ enum Sought {
     Operation,
     /// A label that repeats.
     Repeated,
+    /// IV beside Partial IV.
+    BothIvs,
+    /// The 17th protected header inside others.
+    Depth,
     /// An integer outside of the range of its place.
     OutOfRange,
     /// A number without a name, in a registry without a private range.
@@ -36,7 +41,10 @@ pub(crate) struct Hunt<'e> {
     sought: Sought,
     /// The error that tells of it.
     error: Option<&'e CoseError>,
-    labels: BTreeSet<String>,
+    /// Labels by the map that they came in, each with its index there.
+    labels: BTreeMap<String, usize>,
+    /// Where a label was found that came already, the index at which it came first.
+    pub(crate) earlier: Option<usize>,
 }
 
 /// Whether an item with this head may stand at the place.
@@ -63,10 +71,10 @@ fn fits(frame: &Frame, role: Role, head: &Head) -> bool {
         Role::Payload(_) | Role::MaybeBytes => {
             head.form == Form::Bytes || head.form == Form::Null
         }
-        Role::Nonce => { head.form == Form::Bytes || head.form == Form::Null || head.is_integer() }
+        Role::Nonce => { head.form == Form::Bytes || head.form == Form::Null || is_integer(head) }
         Role::Text => head.form == Form::Text,
-        Role::Length => head.is_integer(),
-        Role::Expiry | Role::Start | Role::Time => head.is_integer() || head.form == Form::Float,
+        Role::Length => is_integer(head),
+        Role::Expiry | Role::Start | Role::Time => is_integer(head) || head.form == Form::Float,
         Role::CriticalLabel
         | Role::Algorithm
         | Role::ContentFormat
@@ -74,7 +82,7 @@ fn fits(frame: &Frame, role: Role, head: &Head) -> bool {
         | Role::Operation
         | Role::HeaderLabel(_)
         | Role::KeyLabel(_)
-        | Role::ClaimName => head.is_integer() || head.form == Form::Text,
+        | Role::ClaimName => is_integer(head) || head.form == Form::Text,
         _ => true,
     }
 }
@@ -92,6 +100,36 @@ fn tag_of(role: Role) -> u64 {
     }
 }
 
+/// How many elements the array with this head has, which stands at the front of the bytes.
+fn count_of(head: &Head, bytes: &[u8]) -> u64 {
+    if !head.is_open {
+        return head.number;
+    }
+    let Ok((pull, _)) = Pull::new(bytes) else {
+        return 0;
+    };
+    match pull.items() {
+        Some(elements) => elements.count() as u64,
+        None => 0,
+    }
+}
+
+/// Whether the map at the front of the bytes has the type of a key, which isn't the reserved one.
+fn has_key_type(bytes: &[u8]) -> bool {
+    let Ok((pull, _)) = Pull::new(bytes) else {
+        return false;
+    };
+    let Some(pairs) = pull.pairs() else {
+        return false;
+    };
+    for (label, value) in pairs {
+        if label.integer() == Some(Integer::from(1u8)) {
+            return value.integer() != Some(Integer::from(0u8));
+        }
+    }
+    false
+}
+
 /// Whether an array with this role may have so many elements.
 fn has_count(role: Role, count: u64) -> bool {
     match role {
@@ -105,19 +143,48 @@ fn has_count(role: Role, count: u64) -> bool {
     }
 }
 
-/// What an item without content is called where one with content is asked for; `None` where it isn't.
-fn empty_kind(role: Role, head: &Head) -> Option<&'static str> {
-    if head.is_open || head.number != 0 {
-        return None;
+/// What an item is called that lacks what its role asks for; `None` where it lacks nothing.
+fn lacking(role: Role, head: &Head, bytes: &[u8]) -> Option<&'static str> {
+    if role == Role::Key && !has_key_type(bytes) {
+        return Some("no kty label");
     }
     match role {
-        Role::FilledBytes => Some("empty bstr"),
-        Role::ContentFormat if head.form == Form::Text => Some("empty tstr"),
-        Role::Countersignatures => Some("empty sig array"),
-        Role::Key => Some("no kty label"),
-        Role::Labels | Role::Operations => Some("empty array"),
+        Role::FilledBytes if is_empty(head, bytes) => Some("empty bstr"),
+        Role::ContentFormat if head.form == Form::Text && is_empty(head, bytes) => {
+            Some("empty tstr")
+        }
+        Role::Countersignatures if is_empty(head, bytes) => Some("empty sig array"),
+        Role::Labels | Role::Operations if is_empty(head, bytes) => Some("empty array"),
         _ => None,
     }
+}
+
+/// Whether the array or the string with this head, which stands at the front of the bytes, holds nothing.
+fn is_empty(head: &Head, bytes: &[u8]) -> bool {
+    match head.form {
+        Form::Array => count_of(head, bytes) == 0,
+        _ if head.is_open => content_length(bytes) == 0,
+        _ => head.number == 0,
+    }
+}
+
+/// How long the string in chunks is that stands at the front.
+fn content_length(bytes: &[u8]) -> u64 {
+    let Ok((pull, _)) = Pull::new(bytes) else {
+        return 0;
+    };
+    let mut length = 0;
+    if let Some(chunks) = pull.bytes_chunks() {
+        for chunk in chunks {
+            length = chunk.len().max(length);
+        }
+    }
+    if let Some(chunks) = pull.text_chunks() {
+        for chunk in chunks {
+            length = chunk.len().max(length);
+        }
+    }
+    length as u64
 }
 
 /// Whether an error asks for this where an item with this role stands.
@@ -140,14 +207,14 @@ fn asks(role: Role, want: &str) -> bool {
 }
 
 /// What an item is called that may not stand at its place; `None` of one that may.
-fn unexpected(frame: &Frame, role: Role, head: &Head) -> Option<&'static str> {
+fn unexpected(frame: &Frame, role: Role, head: &Head, bytes: &[u8]) -> Option<&'static str> {
     if !fits(frame, role, head) {
-        return Some(head.kind_name());
+        return Some(kind_name(head));
     }
-    if head.form == Form::Array && !head.is_open && !has_count(role, head.number) {
+    if head.form == Form::Array && !has_count(role, count_of(head, bytes)) {
         return Some("array");
     }
-    empty_kind(role, head)
+    lacking(role, head, bytes)
 }
 
 /// Whether an integer with this role has to be one of 64 bits with a sign.
@@ -174,7 +241,7 @@ fn is_out_of_range(role: Role, head: &Head) -> bool {
     if role == Role::Length {
         return head.form == Form::Negative;
     }
-    is_bounded(role) && head.is_integer() && head.integer().is_none()
+    is_bounded(role) && is_integer(head) && integer(head).is_none()
 }
 
 /// Whether the item at the front of the bytes is a signature (RFC 8152, section 4.1).
@@ -212,13 +279,16 @@ fn content_of(alloc: Global, bytes: &[u8]) -> Result<Vec<u8>, AllocError> {
     }
 }
 
-/// Whether the header that the byte string at the front holds is refused for this error (RFC 8152, section 3).
-fn is_refused_for(alloc: Global, bytes: &[u8], error: &CoseError) -> Result<bool, AllocError> {
-    let content = content_of(alloc, bytes)?;
+/// Whether the bytes are something, and no header for this error (RFC 8152, section 3).
+fn is_no_header_for(
+    alloc: Global,
+    content: &[u8],
+    error: &CoseError,
+) -> Result<bool, AllocError> {
     if content.is_empty() {
         return Ok(false);
     }
-    match Header::from_slice(alloc, &content) {
+    match Header::from_slice(alloc, content) {
         Ok(_) => Ok(false),
         Err(CoseError::OutOfMemory) => Err(AllocError),
         Err(found) => {
@@ -230,7 +300,7 @@ fn is_refused_for(alloc: Global, bytes: &[u8], error: &CoseError) -> Result<bool
 
 /// Whether the number has no name in the registry of its role, and whether that has no private range.
 fn is_unregistered(role: Role, head: &Head, has_private: bool) -> bool {
-    let Some(number) = head.integer() else {
+    let Some(number) = integer(head) else {
         return false;
     };
     let asks = if has_private {
@@ -251,18 +321,21 @@ impl<'e> Hunt<'e> {
             Some(CoseError::UnexpectedItem(got, want)) => match *got {
                 "non-signature" => Sought::Signature,
                 "repeated array entry" => Sought::Operation,
+                "IV and partial-IV specified" => Sought::BothIvs,
                 got => Sought::Unexpected(got, *want),
             },
             Some(CoseError::DuplicateMapKey) => Sought::Repeated,
             Some(CoseError::OutOfRangeIntegerValue) => Sought::OutOfRange,
             Some(CoseError::UnregisteredIanaValue) => Sought::Unregistered,
             Some(CoseError::UnregisteredIanaNonPrivateValue) => Sought::UnregisteredNonPrivate,
+            Some(CoseError::DecodeFailed(Error::RecursionLimitExceeded)) => Sought::Depth,
             _ => Sought::Nothing,
         };
         Hunt {
             sought,
             error,
-            labels: BTreeSet::new(alloc),
+            labels: BTreeMap::new(alloc),
+            earlier: None,
         }
     }
 
@@ -288,13 +361,22 @@ impl<'e> Hunt<'e> {
         let found = match self.sought {
             Sought::Nothing => false,
             Sought::Unexpected(got, want) => {
-                asks(role, want) && unexpected(frame, role, head) == Some(got)
+                asks(role, want) && unexpected(frame, role, head, bytes) == Some(got)
             }
             Sought::Signature => frame.role == Role::Signatures && !is_signature(alloc, bytes)?,
             Sought::Operation => {
                 role == Role::Operation && self.repeats(alloc, frame, head, bytes)?
             }
             Sought::Repeated => frame.is_at_key() && self.repeats(alloc, frame, head, bytes)?,
+            Sought::BothIvs => {
+                matches!(role, Role::HeaderLabel(_)) && self.is_other_iv(alloc, frame, head)?
+            }
+            Sought::Depth => {
+                if role == Role::Protected && frame.layers == 0 {
+                    return Ok(Some(Fault::Layers));
+                }
+                false
+            }
             Sought::OutOfRange => is_out_of_range(role, head),
             Sought::Unregistered => is_unregistered(role, head, false),
             Sought::UnregisteredNonPrivate => is_unregistered(role, head, true),
@@ -305,8 +387,38 @@ impl<'e> Hunt<'e> {
     /// The fault that is sought, where a protected header in chunks, which isn't opened, has it.
     fn in_chunks(&self, alloc: Global, bytes: &[u8]) -> Result<Option<Fault>, AllocError> {
         match self.error {
-            Some(error) if is_refused_for(alloc, bytes, error)? => Ok(Some(Fault::Shape)),
+            Some(error) if is_no_header_for(alloc, &content_of(alloc, bytes)?, error)? => {
+                Ok(Some(Fault::Shape))
+            }
             _ => Ok(None),
+        }
+    }
+
+    /// Whether what is sought is in a protected header that these bytes hold, which aren't one item.
+    pub(crate) fn is_in(
+        &self,
+        alloc: Global,
+        part: &Part,
+        content: &[u8],
+    ) -> Result<bool, AllocError> {
+        match self.error {
+            Some(error @ (CoseError::DecodeFailed(_) | CoseError::ExtraneousData))
+                if part.is_read && part.role == Role::Protected =>
+            {
+                is_no_header_for(alloc, content, error)
+            }
+            _ => Ok(false),
+        }
+    }
+
+    /// Keeps a label, and says whether it came already.
+    fn keep(&mut self, label: String, index: usize) -> Result<bool, AllocError> {
+        match self.labels.insert(label, index)? {
+            Some(earlier) => {
+                self.earlier = Some(earlier);
+                Ok(true)
+            }
+            None => Ok(false),
         }
     }
 
@@ -319,7 +431,7 @@ impl<'e> Hunt<'e> {
         bytes: &[u8],
     ) -> Result<bool, AllocError> {
         let map = frame.id;
-        let label = match head.integer() {
+        let label = match integer(head) {
             Some(number) => format!(in alloc; "{map} {number}")?,
             None => {
                 let Some(text) = text_of(alloc, bytes)? else {
@@ -328,25 +440,20 @@ impl<'e> Hunt<'e> {
                 format!(in alloc; "{map} t{text}")?
             }
         };
-        Ok(!self.labels.insert(label)?)
+        self.keep(label, frame.place())
     }
 
-    /// The fault that is sought, where what ends here has it: an array whose number of elements wasn't announced, or a key
-    /// without a type.
-    pub(crate) fn at_end(&self, frame: &Frame) -> Option<Fault> {
-        let Sought::Unexpected(got, _) = self.sought else {
-            return None;
-        };
-        if !frame.is_read {
-            return None;
+    /// Whether the head is that of IV or Partial IV, and the other came already in this map.
+    fn is_other_iv(
+        &mut self,
+        alloc: Global,
+        frame: &Frame,
+        head: &Head,
+    ) -> Result<bool, AllocError> {
+        if !matches!(integer(head), Some(5 | 6)) {
+            return Ok(false);
         }
-        let found = match frame.container {
-            Container::Array => got == "array" && !has_count(frame.role, frame.index),
-            Container::Map => {
-                got == "no kty label" && frame.role == Role::Key && !frame.has_type
-            }
-            _ => false,
-        };
-        if found { Some(Fault::Shape) } else { None }
+        let map = frame.id;
+        self.keep(format!(in alloc; "{map}")?, frame.place())
     }
 }

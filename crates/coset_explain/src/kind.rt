@@ -5,7 +5,6 @@ ghost use Rattle.coset.specs.PerhapsTagged.{perhaps_tagged};
 ghost use Rattle.coset_explain.specs.Kind.{kind_name, is_by_tag, Names};
 ghost use Rattle.coset_explain.specs.Refusal.{Judges, JudgesNamed, JudgesAs};
 
-use crate::head::{Form, head_of};
 use crate::role::{Message, Role};
 use coset::cbor::value::Value;
 use coset::cwt::ClaimsSet;
@@ -13,6 +12,7 @@ use coset::{
     CborSerializable, CoseCountersignature, CoseEncrypt, CoseEncrypt0, CoseError, CoseKdfContext,
     CoseKey, CoseKeySet, CoseMac, CoseMac0, CoseSign, CoseSign1, TaggedCborSerializable,
 };
+use coset_fault::{Form, head_of};
 use std::alloc::Global;
 
 /// What bytes should be.
@@ -54,10 +54,7 @@ fn without_tag(number: u64, bytes: &[u8]) -> &[u8]
     ensures { (front : List ℕ) × (bytes.now ≡ front ++ result.now) }
 {
     match head_of(bytes) {
-        Ok(head) if head.form == Form::Tag && head.number == number => {
-            let (_, rest) = bytes.split_at(head.size);
-            rest
-        }
+        Ok((head, rest)) if head.form == Form::Tag && head.number == number => rest,
         _ => bytes,
     }
 }
@@ -113,7 +110,7 @@ impl Kind {
     /// The kind that the tag at the front says (RFC 8152, table 1).
     fn by_tag(bytes: &[u8]) -> Kind {
         let number = match head_of(bytes) {
-            Ok(head) if head.form == Form::Tag => head.number,
+            Ok((head, _)) if head.form == Form::Tag => head.number,
             _ => return Kind::Value,
         };
         match number {

@@ -2,9 +2,10 @@
 
 use crate::date::{has_date, push_date};
 use crate::frame::{Container, Frame};
-use crate::head::{Form, Head};
+use crate::head::{integer, is_shortest};
 use crate::role::{Message, Part, Role, is_private, is_registered, name_of, title};
 use crate::text::is_nan;
+use coset_fault::{Form, Head};
 use std::alloc::AllocError;
 
 /// The note of a line, to which pieces are added.
@@ -134,7 +135,7 @@ pub(crate) fn push(
     notes.add(part.name)?;
     notes.add(coverage(frame))?;
     notes.add(detached(frame, head))?;
-    if let Some(number) = head.integer() {
+    if let Some(number) = integer(head) {
         notes.add(name(part.role, number))?;
         notes.add_date(part.role, number, now)?;
     }
@@ -146,7 +147,7 @@ pub(crate) fn push(
         notes.add("in chunks, and not opened")?;
     }
     add_bits(&mut notes, head)?;
-    if head.form != Form::Float && !head.is_shortest() {
+    if head.form != Form::Float && !is_shortest(head) {
         notes.add("not the shortest head")?;
     }
     Ok(())

@@ -1,4 +1,4 @@
-//! `coset_look [--edn] [--now=SECONDS] [KIND] [FILE]..`: takes apart what files spell, or standard input where there are
+//! `coset_look [--edn | --where] [--now=SECONDS] [KIND] [FILE]..`: takes apart what files spell, or standard input where there are
 //! none, in hexadecimal or base64. How a file is looked at is said in front of it.
 #![tactic(auto)]
 
@@ -14,7 +14,7 @@ use std::rt::{Env, Files};
 use std::{env, fs, io};
 
 /// What is told where a file can't be read.
-const USAGE: &str = "usage: coset_look [--edn] [--now=SECONDS] [KIND] [FILE]..
+const USAGE: &str = "usage: coset_look [--edn | --where] [--now=SECONDS] [KIND] [FILE]..
 A file, or standard input where none is named, is hexadecimal, also with 0x, spaces and colons, or base64, or base64url.
 KIND is auto (what its tag says), cwt (a web token, with claims as its payload), value, sign1, sign, mac, mac0, encrypt,
 encrypt0, countersignature, key, keyset, claims or kdf.
