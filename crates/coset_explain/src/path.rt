@@ -66,13 +66,15 @@ pub(crate) fn steps(
     Ok(steps)
 }
 
-/// Adds a label, with which the bytes begin.
+/// Adds a label, with which the bytes begin; `?` for a key that has parts.
 fn push_label(alloc: Global, path: &mut String, bytes: &[u8]) -> Result<(), AllocError> {
     match head_of(bytes) {
-        Ok((head, rest)) if head.form != Form::Break => {
-            push_leaf(alloc, path, &head, content(&head, rest))
-        }
-        _ => path.push('?'),
+        Ok((head, rest)) => match head.form {
+            Form::Array | Form::Map | Form::Tag | Form::Break => path.push('?'),
+            _ if head.is_open => path.push('?'),
+            _ => push_leaf(alloc, path, &head, content(&head, rest)),
+        },
+        Err(_) => path.push('?'),
     }
 }
 

@@ -53,8 +53,8 @@ Holds b n s = (o : List ℕ) × (rest : List ℕ) × (b ≡ o ++ (s ++ rest)) ×
 -- from the item at the front of b the step leads n bytes on, to the front of s
 abbrev pub Goes : Step → List ℕ → ℕ → List ℕ → Type 0
 Goes (Element i) b n s = Splits (Opens 4 i) b n s
-Goes (Key i) b n s = Splits (Opens 5 (2 * i)) b n s
-Goes (Value i) b n s = Splits (Opens 5 (2 * i + 1)) b n s
+Goes (Key i) b n s = Splits (Opens 5 (i * 2)) b n s
+Goes (Value i) b n s = Splits (Opens 5 (i * 2 + 1)) b n s
 Goes Enclosed b n s = Splits Encloses b n s
 Goes (ByteChunk i) b n s = Splits (Opens 2 i) b n s
 Goes (TextChunk i) b n s = Splits (Opens 3 i) b n s

@@ -11,8 +11,8 @@ const TAKEN: u8 = 0;
 /// The status of an input that was refused.
 const REFUSED: u8 = 1;
 
-/// The status of a call that names no file that can be read.
-pub const MISUSED: u8 = 2;
+/// The status of a call that names no file that can be read, or for which there wasn't memory enough.
+pub const UNANSWERED: u8 = 2;
 
 /// The offset of the fault, the path there and the error, in one line; `accepted` where there is none.
 fn fault_line(alloc: Global, asked: &Asked, bytes: &[u8]) -> Result<(String, u8), AllocError> {

@@ -1,0 +1,4 @@
+pub mod Arguments
+pub mod Heads
+pub mod Leading
+pub mod Members
