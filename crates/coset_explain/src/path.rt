@@ -33,14 +33,19 @@ fn before(frame: &Frame) -> Frame {
     frame
 }
 
-/// What is open, from the input on, with the item in it that leads on to the place or stands there.
-fn frames(alloc: Global, open: &[Frame]) -> Result<Vec<Frame>, AllocError> {
+/// What is open, from the input on, with the item in it that leads on to the place, or stands there: so many bytes of the input
+/// stand from that on.
+fn frames(alloc: Global, open: &[Frame], left: usize) -> Result<Vec<Frame>, AllocError> {
     let mut frames = Vec::new(alloc);
     if let Some((last, outer)) = open.split_last() {
         for frame in outer {
             frames.push(before(frame))?;
         }
-        frames.push(*last)?;
+        let mut last = *last;
+        if last.is_at_key() {
+            last.key_left = left;
+        }
+        frames.push(last)?;
     }
     Ok(frames)
 }
@@ -55,7 +60,7 @@ pub(crate) fn steps(
     is_behind: bool,
 ) -> Result<Vec<Step>, AllocError> {
     let mut steps = Vec::new(alloc);
-    for frame in &frames(alloc, open)? {
+    for frame in &frames(alloc, open, 0)? {
         if let Some(step) = step(frame) {
             steps.push(step)?;
         }
@@ -66,25 +71,34 @@ pub(crate) fn steps(
     Ok(steps)
 }
 
-/// Adds a label, with which the bytes begin; `?` for a key that has parts.
+/// Adds a label, with which the bytes begin; `?` for a key that has parts, or that can't be read.
 fn push_label(alloc: Global, path: &mut String, bytes: &[u8]) -> Result<(), AllocError> {
+    let so_far = path.len();
+    push_leaf_at(alloc, path, bytes)?;
+    if path.len() == so_far {
+        path.push('?')?;
+    }
+    Ok(())
+}
+
+/// Adds an item without parts, with which the bytes begin, and nothing of another.
+fn push_leaf_at(alloc: Global, path: &mut String, bytes: &[u8]) -> Result<(), AllocError> {
     match head_of(bytes) {
         Ok((head, rest)) => match head.form {
-            Form::Array | Form::Map | Form::Tag | Form::Break => path.push('?'),
-            _ if head.is_open => path.push('?'),
+            Form::Array | Form::Map | Form::Tag | Form::Break => Ok(()),
+            _ if head.is_open => Ok(()),
             _ => push_leaf(alloc, path, &head, content(&head, rest)),
         },
-        Err(_) => path.push('?'),
+        Err(_) => Ok(()),
     }
 }
 
-/// Adds how the item is come to that what is open leads to; so many bytes stand from the place on.
+/// Adds how the item is come to that what is open leads to.
 fn push_step(
     alloc: Global,
     path: &mut String,
     bytes: &[u8],
     frame: &Frame,
-    left: usize,
 ) -> Result<(), AllocError> {
     let index = frame.place();
     match frame.container {
@@ -99,8 +113,7 @@ fn push_step(
         }
         Container::Map => {
             let is_key = frame.is_at_key();
-            let left = if is_key { left } else { frame.key_left };
-            let (_, label) = bytes.split_at(bytes.len().saturating_sub(left));
+            let (_, label) = bytes.split_at(bytes.len().saturating_sub(frame.key_left));
             path.push(if is_key { '{' } else { '.' })?;
             push_label(alloc, path, label)?;
             if is_key { path.push('}') } else { Ok(()) }
@@ -124,8 +137,8 @@ pub(crate) fn path(
     left: usize,
 ) -> Result<String, AllocError> {
     let mut path = String::new(alloc);
-    for frame in &frames(alloc, open)? {
-        push_step(alloc, &mut path, bytes, frame, left)?;
+    for frame in &frames(alloc, open, left)? {
+        push_step(alloc, &mut path, bytes, frame)?;
     }
     if path.is_empty() {
         path.push('.')?;
