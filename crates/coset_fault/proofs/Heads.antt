@@ -1,33 +1,29 @@
 -- Heads at the front of bytes.
-use Rattle.std.proofs.Common.{◌≡◌, ℕ, suc, ◌+◌, ◌*◌, ◌/◌, ◌%◌, ◌<◌, ◌≤◌, Bool, true, false, List, [], ◌∷◌, ◌++◌, length, drop, refl, sym, ap, subst, ◌∙◌, arith}
+use Rattle.std.proofs.Common.{◌≡◌, ℕ, suc, ◌+◌, ◌*◌, ◌/◌, ◌%◌, ◌<◌, true, false, List, [], ◌∷◌, ◌++◌, length, sym, ap, subst, ◌∙◌, arith}
 use Rattle.coset.specs.Grammar.{IsHead}
 use Rattle.coset_fault.specs.declared.argument.Argument.{Argument}
 use Rattle.coset_fault.specs.declared.head.Head.{Head}
 use Rattle.coset_fault.specs.Heads.{BeginsWith, HasArgument, type_of}
-use Rattle.std.proofs.Math.Seq.{drop-append_seam}
 
 -- a first byte and its argument are a head
 pub begins :
-    (x : ℕ) (s : List ℕ) (a : Argument) (h : Head) → x < 256 → HasArgument (x % 32) s a → type_of h.form ≡ x / 32 → h.size ≡ 1 + a.width → h.number ≡ a.number
-    → (h.is_open ≡ true → x % 32 ≡ 31) → (h.is_open ≡ false → x % 32 < 28) → BeginsWith (x ∷ s) h (drop a.width s)
-begins x s a h low arg type size number open closed =
+    (x : ℕ) (b s rest : List ℕ) (a : Argument) (h : Head) → b ≡ x ∷ s → x < 256 → HasArgument (x % 32) s a rest → type_of h.form ≡ x / 32
+    → h.size ≡ 1 + a.width → h.number ≡ a.number → (h.is_open ≡ true → x % 32 ≡ 31) → (h.is_open ≡ false → x % 32 < 28) → BeginsWith b h rest
+begins x b s rest a h is low arg type size number open closed =
     let split : 32 * (x / 32) + x % 32 ≡ x = omega arith in
     record {
       head = x ∷ arg.tail;
-      parts = ap (λ (t : List ℕ). x ∷ t) (behind arg.tail arg.rest s a.width arg.parts arg.width);
-      size = ap suc arg.width ∙ sym size;
-      is_head = λ no.
+      parts = is ∙ ap (λ (t : List ℕ). x ∷ t) arg.parts;
+      size = omega (arith, arg.width, size);
+      is_head =
+          λ no.
           subst (λ (n : ℕ). IsHead (type_of h.form) n (x ∷ arg.tail)) (sym number)
           (subst (λ (m : ℕ). IsHead m a.number (x ∷ arg.tail)) (sym type)
           (subst (λ (y : ℕ). IsHead (x / 32) a.number (y ∷ arg.tail)) split (arg.is_head (closed no) (x / 32))));
-      open = λ yes.
+      open =
+          λ yes.
           let is31 : x % 32 ≡ 31 = open yes in
           let spelled : x ≡ 32 * type_of h.form + 31 = omega (arith, split, is31, type) in
           let empty : arg.tail ≡ [] = arg.none (omega (arith, is31)) in
           ap (λ (y : ℕ). y ∷ arg.tail) spelled ∙ ap (λ (t : List ℕ). (32 * type_of h.form + 31) ∷ t) empty;
     }
-  where
-    behind : (tail rest s : List ℕ) (n : ℕ) → s ≡ tail ++ rest → length tail ≡ n → s ≡ tail ++ drop n s
-    behind tail rest s n parts len =
-        let same : drop n s ≡ rest = ap (drop n) parts ∙ subst (λ (k : ℕ). drop k (tail ++ rest) ≡ rest) len (drop-append_seam tail rest) in
-        parts ∙ ap (λ (t : List ℕ). tail ++ t) (sym same)

@@ -9,11 +9,10 @@ use Rattle.coset_fault.specs.declared.head.Head.{Head}
 use Rattle.coset_fault.specs.declared.fault.Fault.{Fault}
 use Rattle.coset_fault.specs.declared.fault.Fault.TheVariants as faults
 
--- behind a first byte with these low five bits s begins with so many bytes that are the argument: with any major type they are a head
--- with it. Low bits 31 announce none
-pub record HasArgument (info : ℕ) (s : List ℕ) (a : Argument) : Type 0 where
+-- s begins with the bytes of the argument that these low five bits of a first byte announce, and the rest follows: behind a first byte
+-- of any major type they are a head with it. Low bits 31 announce none
+pub record HasArgument (info : ℕ) (s : List ℕ) (a : Argument) (rest : List ℕ) : Type 0 where
   pub tail : List ℕ
-  pub rest : List ℕ
   pub parts : s ≡ tail ++ rest
   pub width : length tail ≡ a.width
   pub is_head : info < 28 → (m : ℕ) → IsHead m a.number ((32 * m + info) ∷ tail)

@@ -1,6 +1,6 @@
 //! Heads: the first bytes of an item (RFC 8949, section 3).
 
-ghost use Rattle.std.specs.Prelude.{◌≡◌, ◌≤◌, ◌<◌, ◌/◌, ◌++◌, IfErr, IfOk, List, MatchResult, length, take, drop, ℕ};
+ghost use Rattle.std.specs.Prelude.{◌≡◌, ◌≤◌, ◌<◌, ◌/◌, IfOk, MatchResult, length};
 ghost use Rattle.coset_fault.specs.Heads.{BeginsWith, HasNoHead, type_of};
 
 use crate::argument::argument;
@@ -88,10 +88,9 @@ pub fn head_of(bytes: &[u8]) -> Result<(Head, &[u8]), Fault>
     if 28 <= info && info <= 30 {
         return Err(Fault::Malformed);
     }
-    let Some(argument) = argument(info, tail) else {
+    let Some((argument, rest)) = argument(info, tail) else {
         return Err(Fault::Ends);
     };
-    let (_, rest) = tail.split_at(usize::from(argument.width).min(tail.len()));
     Ok((
         Head {
             form: form_of(*first, argument.number),
