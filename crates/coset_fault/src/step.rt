@@ -35,7 +35,9 @@ fn pass(bytes: &[u8], count: usize) -> Option<&[u8]>
 {
     let mut rest = bytes;
     for _ in 0..count {
-        let (_, behind) = Pull::new(rest).ok()?;
+        let Ok((_, behind)) = Pull::new(rest) else {
+            return None;
+        };
         rest = behind;
     }
     Some(rest)
@@ -57,7 +59,9 @@ fn announces(head: &Head, index: usize) -> bool
 fn member(bytes: &[u8], form: Form, index: usize) -> Option<(usize, &[u8])>
     ensures { IfSome result (λ p. Splits (Opens (type_of form) index) bytes.now p.0 p.1.now) }
 {
-    let (head, rest) = head_of(bytes).ok()?;
+    let Ok((head, rest)) = head_of(bytes) else {
+        return None;
+    };
     if head.form != form || !announces(&head, index) {
         return None;
     }
@@ -69,7 +73,9 @@ fn member(bytes: &[u8], form: Form, index: usize) -> Option<(usize, &[u8])>
 fn enclosed(bytes: &[u8]) -> Option<(usize, &[u8])>
     ensures { IfSome result (λ p. Splits Encloses bytes.now p.0 p.1.now) }
 {
-    let (head, rest) = head_of(bytes).ok()?;
+    let Ok((head, rest)) = head_of(bytes) else {
+        return None;
+    };
     if head.form != Form::Tag || head.is_open {
         return None;
     }
@@ -80,7 +86,9 @@ fn enclosed(bytes: &[u8]) -> Option<(usize, &[u8])>
 fn content(bytes: &[u8]) -> Option<(usize, &[u8])>
     ensures { IfSome result (λ p. Holds bytes.now p.0 p.1.now) }
 {
-    let (head, rest) = head_of(bytes).ok()?;
+    let Ok((head, rest)) = head_of(bytes) else {
+        return None;
+    };
     if head.form != Form::Bytes || head.is_open || (rest.len() as u64) < head.number {
         return None;
     }
@@ -92,7 +100,9 @@ fn content(bytes: &[u8]) -> Option<(usize, &[u8])>
 fn behind(bytes: &[u8]) -> Option<(usize, &[u8])>
     ensures { IfSome result (λ p. Splits (IsFront p.1.now) bytes.now p.0 p.1.now) }
 {
-    let (pull, rest) = Pull::new(bytes).ok()?;
+    let Ok((pull, rest)) = Pull::new(bytes) else {
+        return None;
+    };
     if rest.is_empty() {
         return None;
     }
