@@ -2,6 +2,7 @@
 
 use crate::frame::{Container, Frame};
 use crate::head::{integer, is_integer, kind_name};
+use crate::names::parameter;
 use crate::role::{Message, Part, Role, is_private, name_of};
 use coset::cbor::de::{Error, Pull};
 use coset::cbor::value::Integer;
@@ -25,6 +26,8 @@ enum Sought {
     Repeated,
     /// IV beside Partial IV.
     BothIvs,
+    /// A text that names no media type: for white space at its ends, or else for its slashes.
+    MediaType(bool),
     /// The 17th protected header inside others.
     Depth,
     /// An integer outside of the range of its place.
@@ -267,6 +270,25 @@ fn text_of(alloc: Global, bytes: &[u8]) -> Result<Option<String>, AllocError> {
     }
 }
 
+/// Whether the text at the front of the bytes names no media type, for white space at its ends, or else for its slashes (RFC
+/// 8152, section 3.1).
+fn is_no_media_type(
+    alloc: Global,
+    bytes: &[u8],
+    is_spaced: bool,
+) -> Result<bool, AllocError> {
+    let Some(text) = text_of(alloc, bytes)? else {
+        return Ok(false);
+    };
+    let has_spaces = text.trim() != text.as_str();
+    let slashes = text.as_bytes().iter().filter(|b| **b == b'/').count();
+    Ok(if is_spaced {
+        has_spaces
+    } else {
+        !has_spaces && slashes != 1
+    })
+}
+
 /// The byte string at the front of the bytes, whose chunks are joined; it is empty of another item.
 fn content_of(alloc: Global, bytes: &[u8]) -> Result<Vec<u8>, AllocError> {
     let Ok((pull, _)) = Pull::new(bytes) else {
@@ -303,15 +325,15 @@ fn is_unregistered(role: Role, head: &Head, has_private: bool) -> bool {
     let Some(number) = integer(head) else {
         return false;
     };
-    let asks = if has_private {
-        matches!(
-            role,
-            Role::CriticalLabel | Role::Algorithm | Role::ClaimName
-        )
-    } else {
-        matches!(role, Role::ContentFormat | Role::KeyType | Role::Operation)
+    let (asks, is_named) = match role {
+        Role::CriticalLabel => (has_private, parameter(number).is_some()),
+        Role::Algorithm | Role::ClaimName => (has_private, name_of(role, number).is_some()),
+        Role::ContentFormat | Role::KeyType | Role::Operation => {
+            (!has_private, name_of(role, number).is_some())
+        }
+        _ => (false, true),
     };
-    asks && name_of(role, number).is_none() && !is_private(role, number)
+    asks && !is_named && !is_private(role, number)
 }
 
 impl<'e> Hunt<'e> {
@@ -322,6 +344,8 @@ impl<'e> Hunt<'e> {
                 "non-signature" => Sought::Signature,
                 "repeated array entry" => Sought::Operation,
                 "IV and partial-IV specified" => Sought::BothIvs,
+                "leading/trailing whitespace" => Sought::MediaType(true),
+                "arbitrary text" => Sought::MediaType(false),
                 got => Sought::Unexpected(got, *want),
             },
             Some(CoseError::DuplicateMapKey) => Sought::Repeated,
@@ -370,6 +394,9 @@ impl<'e> Hunt<'e> {
             Sought::Repeated => frame.is_at_key() && self.repeats(alloc, frame, head, bytes)?,
             Sought::BothIvs => {
                 matches!(role, Role::HeaderLabel(_)) && self.is_other_iv(alloc, frame, head)?
+            }
+            Sought::MediaType(is_spaced) => {
+                role == Role::ContentFormat && is_no_media_type(alloc, bytes, is_spaced)?
             }
             Sought::Depth => {
                 if role == Role::Protected && frame.layers == 0 {
@@ -450,10 +477,18 @@ impl<'e> Hunt<'e> {
         frame: &Frame,
         head: &Head,
     ) -> Result<bool, AllocError> {
-        if !matches!(integer(head), Some(5 | 6)) {
-            return Ok(false);
-        }
-        let map = frame.id;
-        self.keep(format!(in alloc; "{map}")?, frame.place())
+        let number = match integer(head) {
+            Some(5) => 5,
+            Some(6) => 6,
+            _ => return Ok(false),
+        };
+        let (map, other) = (frame.id, 11 - number);
+        let (label, other) = (
+            format!(in alloc; "{map} {number}")?,
+            format!(in alloc; "{map} {other}")?,
+        );
+        self.labels.insert(label, frame.place())?;
+        self.earlier = self.labels.get(other.as_str()).copied();
+        Ok(self.earlier.is_some())
     }
 }
