@@ -35,7 +35,7 @@ none_behind info s a low is number = record {
   tail = [];
   parts = refl;
   width = sym is;
-  is_head = λ _ m. subst (λ (n : ℕ). IsHead m n ((32 * m + info) ∷ [])) (sym number) (record { place = within; holds = low; spelled = refl });
+  is_head = λ _ m. subst (λ (n : ℕ). IsHead m n ((32 * m + info) ∷ [])) (sym number) (record { width = within; holds = low; spelled = refl });
   none = λ _. refl;
 }
 
@@ -56,7 +56,7 @@ one_behind x rest s a parts fits is number = record {
   is_head =
       λ _ m.
           subst (λ (n : ℕ). IsHead m n ((32 * m + 24) ∷ x ∷ [])) (sym number)
-          (record { place = one; holds = fits; spelled = let same : x % 256 ≡ x = omega arith in ap (λ (y : ℕ). (32 * m + 24) ∷ y ∷ []) (sym same) });
+          (record { width = one; holds = fits; spelled = let same : x % 256 ≡ x = omega arith in ap (λ (y : ℕ). (32 * m + 24) ∷ y ∷ []) (sym same) });
   none = λ high. absurd (omega (arith, high));
 }
 
@@ -67,7 +67,7 @@ two_behind s rest a fits long behind is number =
     let front = IsBytes-take 2 s fits in
     let len : length (take 2 s) ≡ 2 = omega (arith, length-take 2 s) in
     argued 25 2 s rest a long is (omega arith) behind (λ m. record {
-      place = two;
+      width = two;
       holds = omega (arith, number, front 0, front 1);
       spelled = ap (λ (t : List ℕ). (32 * m + 25) ∷ t) (sym (be_bytes_2 (take 2 s) a.number len front number));
     })
@@ -79,7 +79,7 @@ four_behind s rest a fits long behind is number =
     let front = IsBytes-take 4 s fits in
     let len : length (take 4 s) ≡ 4 = omega (arith, length-take 4 s) in
     argued 26 4 s rest a long is (omega arith) behind (λ m. record {
-      place = four;
+      width = four;
       holds = omega (arith, number, front 0, front 1, front 2, front 3);
       spelled = ap (λ (t : List ℕ). (32 * m + 26) ∷ t) (sym (be_bytes_4 (take 4 s) a.number len front number));
     })
@@ -91,7 +91,7 @@ eight_behind s rest a fits long behind is number =
     let front = IsBytes-take 8 s fits in
     let len : length (take 8 s) ≡ 8 = omega (arith, length-take 8 s) in
     argued 27 8 s rest a long is (omega arith) behind (λ m. record {
-      place = eight;
+      width = eight;
       holds = omega (arith, number, front 0, front 1, front 2, front 3, front 4, front 5, front 6, front 7);
       spelled = ap (λ (t : List ℕ). (32 * m + 27) ∷ t) (sym (be_bytes_8 (take 8 s) a.number len front number));
     })

@@ -1,4 +1,5 @@
 pub mod Arguments
+pub mod Faults
 pub mod Heads
 pub mod Leading
 pub mod Members

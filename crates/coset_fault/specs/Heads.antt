@@ -1,5 +1,5 @@
 -- Heads at the front of bytes (RFC 8949, section 3).
-use Rattle.std.specs.Prelude.{◌≡◌, ◌≢◌, ◌<◌, ◌+◌, ◌*◌, ◌%◌, ◌/◌, ◌^◌, ◌⊎◌, ℕ, List, [], ◌∷◌, ◌++◌, length, Bool, true, false}
+use Rattle.std.specs.Prelude.{◌≡◌, ◌<◌, ◌≤◌, ◌+◌, ◌*◌, ◌%◌, ◌/◌, ◌^◌, ◌⊎◌, ℕ, List, [], ◌∷◌, ◌++◌, length, true, false}
 use Rattle.coset.specs.Grammar.{IsHead}
 use Rattle.coset.specs.Faults as grammar
 use Rattle.coset_fault.specs.declared.argument.Argument.{Argument}
@@ -48,3 +48,7 @@ pub record BeginsWith (b : List ℕ) (h : Head) (s : List ℕ) : Type 0 where
 abbrev pub HasNoHead : List ℕ → Fault → Type 0
 HasNoHead b faults.Ends = (b ≡ []) ⊎ grammar.LacksArgument b
 HasNoHead b f = grammar.HasBadInfo b
+
+-- a string, an array or a map with that head needs more than so many bytes behind it
+abbrev pub AnnouncesMore : Head → ℕ → Type 0
+AnnouncesMore h left = ((2 ≤ type_of h.form) × (type_of h.form ≤ 4) × (left < h.number)) ⊎ ((type_of h.form ≡ 5) × (left < 2 * h.number))

@@ -27,7 +27,10 @@ fn label_at(alloc: Global, bytes: &[u8]) -> Result<Option<Label>, AllocError>
 pub(crate) fn are_same(alloc: Global, one: &[u8], other: &[u8]) -> Result<bool, AllocError>
     ensures { IfOk result (λ b. IsTrue b → StandTogether SameLabel one.now other.now) }
 {
-    let (Some(first), Some(second)) = (label_at(alloc, one)?, label_at(alloc, other)?) else {
+    let Some(first) = label_at(alloc, one)? else {
+        return Ok(false);
+    };
+    let Some(second) = label_at(alloc, other)? else {
         return Ok(false);
     };
     Ok(first == second)

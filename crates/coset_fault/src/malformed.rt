@@ -1,13 +1,13 @@
 //! Faults of CBOR, where they stand (RFC 8949, section 5.3).
 
-ghost use Rattle.std.specs.Prelude.{◌≡◌, ◌+◌, IsTrue, option_map, Option, ℕ};
-ghost use Rattle.std.specs.Option.{option_copied};
+ghost use Rattle.std.specs.Prelude.{◌≡◌, IsTrue, []};
 ghost use Rattle.coset.specs.Faults.{Ends, IsNotSupported, Nests, NoChunk, SyntaxAt};
-ghost use Rattle.coset_fault.specs.Places.{IsByteString, IsMalformed, IsSyntaxFault, IsTooDeep, Stands};
-ghost use Rattle.coset_fault.specs.Steps.{layers, levels, levels_from};
+ghost use Rattle.coset_fault.specs.Heads.{AnnouncesMore};
+ghost use Rattle.coset_fault.specs.Places.{BeginsNoChunk, IsByteString, IsMalformed, IsSyntaxFault, IsTooDeep, Stands, last_step};
+ghost use Rattle.coset_fault.specs.Steps.{layers, levels};
 
 use crate::fault::Fault;
-use crate::head::{Form, head_of};
+use crate::head::{Form, Head, head_of};
 use crate::step::Step;
 use coset::EndOfFile;
 use coset::cbor::de::{Error, Pull};
@@ -23,17 +23,21 @@ fn ends(bytes: &[u8]) -> bool
     ensures { IsTrue result → Ends bytes.now }
 {
     match head_of(bytes) {
-        Ok((head, rest)) => {
-            let left = rest.len() as u64;
-            match head.form {
-                _ if head.is_open => false,
-                Form::Bytes | Form::Text | Form::Array => left < head.number,
-                Form::Map => left / 2 < head.number,
-                _ => false,
-            }
-        }
-        Err(Fault::Ends) => true,
-        Err(_) => false,
+        Ok((head, rest)) => !head.is_open && announces_more(&head, rest.len()),
+        Err(fault) => fault == Fault::Ends,
+    }
+}
+
+/// Whether the head announces more than so many bytes can be.
+fn announces_more(head: &Head, left: usize) -> bool
+    ensures { IsTrue result → AnnouncesMore head.now left }
+{
+    match head.form {
+        Form::Bytes => (left as u64) < head.number,
+        Form::Text => (left as u64) < head.number,
+        Form::Array => (left as u64) < head.number,
+        Form::Map => (left as u64) / 2 < head.number,
+        _ => false,
     }
 }
 
@@ -48,23 +52,54 @@ fn begins_no_chunk(is_text: bool, bytes: &[u8]) -> bool
     *first != 255 && !(*first / 32 == major_type && *first % 32 <= 27)
 }
 
+/// Whether the step leads to a chunk, and no chunk begins as the bytes do.
+fn begins_no_chunk_there(last: Option<Step>, bytes: &[u8]) -> bool
+    ensures { IsTrue result → BeginsNoChunk last bytes.now }
+{
+    match last {
+        Some(step) => match step {
+            Step::ByteChunk(_) => begins_no_chunk(false, bytes),
+            Step::TextChunk(_) => begins_no_chunk(true, bytes),
+            _ => false,
+        },
+        None => false,
+    }
+}
+
 /// Whether the front of the bytes is not well-formed, to which the last step leads.
 fn is_syntax_fault(last: Option<Step>, bytes: &[u8]) -> bool
     ensures { IsTrue result → IsSyntaxFault last bytes.now }
 {
-    match last {
-        Some(Step::ByteChunk(_)) if begins_no_chunk(false, bytes) => return true,
-        Some(Step::TextChunk(_)) if begins_no_chunk(true, bytes) => return true,
-        _ => {}
+    if begins_no_chunk_there(last, bytes) {
+        return true;
     }
-    matches!(Pull::new(bytes), Err(Error::Syntax(0)))
+    is_syntax_fault_at_front(bytes)
+}
+
+/// Whether no item begins as the bytes do.
+fn is_syntax_fault_at_front(bytes: &[u8]) -> bool
+    ensures { IsTrue result → SyntaxAt [] bytes.now }
+{
+    match Pull::new(bytes) {
+        Ok(_) => false,
+        Err(error) => match &error {
+            Error::Syntax(offset) => *offset == 0,
+            _ => false,
+        },
+    }
 }
 
 /// Whether a simple value stands at the front that isn't false, true or null.
 fn is_not_supported(bytes: &[u8]) -> bool
     ensures { IsTrue result → IsNotSupported bytes.now }
 {
-    matches!(Pull::new(bytes), Err(Error::Semantic(Some(0), _)))
+    match Pull::new(bytes) {
+        Ok(_) => false,
+        Err(error) => match &error {
+            Error::Semantic(offset, _) => *offset == Some(0),
+            _ => false,
+        },
+    }
 }
 
 /// How many arrays, maps and tags the steps lead into, since the last byte string whose content they lead to.
@@ -125,13 +160,23 @@ fn is_too_deep(steps: &[Step], bytes: &[u8]) -> bool
     is_byte_string(bytes) && layers(steps) == LAYERS
 }
 
+/// The last of the steps.
+pub(crate) fn last_step(steps: &[Step]) -> Option<Step>
+    ensures { result ≡ last_step steps.now }
+{
+    match steps.last() {
+        Some(step) => Some(*step),
+        None => None,
+    }
+}
+
 /// Whether the fault of CBOR that the error tells of stands at the front of the bytes, to which the steps lead.
 pub(crate) fn is_malformed(error: &Error<EndOfFile>, steps: &[Step], bytes: &[u8]) -> bool
     ensures { IsTrue result → IsMalformed error.now steps.now bytes.now }
 {
     match error {
         Error::Io(_) => ends(bytes),
-        Error::Syntax(_) => is_syntax_fault(steps.last().copied(), bytes),
+        Error::Syntax(_) => is_syntax_fault(last_step(steps), bytes),
         Error::Semantic(_, _) => is_not_supported(bytes),
         Error::RecursionLimitExceeded => is_too_deep(steps, bytes),
         Error::OutOfMemory => false,

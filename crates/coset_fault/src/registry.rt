@@ -1,6 +1,7 @@
 //! Numbers that are out of range, or have no name (RFC 8152, section 16).
 
-ghost use Rattle.std.specs.Prelude.{IfSome, IsTrue, ◌≡◌};
+ghost use Rattle.std.specs.Prelude.{◌≡◌, IfSome, IsTrue, Some};
+ghost use Rattle.coset.specs.Parts.{as_integer};
 ghost use Rattle.coset_fault.specs.Places.{IsOutOfRange, Stands};
 ghost use Rattle.coset_fault.specs.Registries.{IsUnassigned, IsUnassignedAndNotPrivate};
 
@@ -8,15 +9,19 @@ use coset::cbor::de::Pull;
 use coset::cbor::value::Integer;
 use coset::iana::{
     Algorithm, CoapContentFormat, CwtClaimName, EnumI64, HeaderParameter, KeyOperation, KeyType,
+    WithPrivateRange,
 };
 
 /// Whether an integer stands at the front that isn't one of 64 bits with a sign, or is negative.
 pub(crate) fn is_out_of_range(bytes: &[u8]) -> bool
     ensures { IsTrue result → Stands IsOutOfRange bytes.now }
 {
-    match integer_at(bytes) {
-        Some(number) => i64::try_from(number).is_err() || u64::try_from(number).is_err(),
-        None => false,
+    let Some(number) = integer_at(bytes) else {
+        return false;
+    };
+    match i64::try_from(number) {
+        Ok(_) => u64::try_from(number).is_err(),
+        Err(_) => true,
     }
 }
 
@@ -24,15 +29,18 @@ pub(crate) fn is_out_of_range(bytes: &[u8]) -> bool
 fn integer_at(bytes: &[u8]) -> Option<Integer>
     ensures { IfSome result (λ z. Stands (λ v. as_integer v ≡ Some z) bytes.now) }
 {
-    let (pull, _) = Pull::new(bytes).ok()?;
-    pull.integer()
+    match Pull::new(bytes) {
+        Ok((item, _)) => item.integer(),
+        Err(_) => None,
+    }
 }
 
 /// The integer at the front, where it is one of 64 bits with a sign.
 fn number_at(bytes: &[u8]) -> Option<i64>
     ensures { IfSome result (λ z. Stands (λ v. as_integer v ≡ Some z) bytes.now) }
 {
-    i64::try_from(integer_at(bytes)?).ok()
+    let number = integer_at(bytes)?;
+    i64::try_from(number).ok()
 }
 
 /// Whether an integer stands at the front that has no name in a registry without a private range: of formats of content, of
@@ -40,14 +48,12 @@ fn number_at(bytes: &[u8]) -> Option<i64>
 pub(crate) fn is_unassigned(bytes: &[u8]) -> bool
     ensures { IsTrue result → Stands IsUnassigned bytes.now }
 {
-    match number_at(bytes) {
-        Some(number) => {
-            CoapContentFormat::from_i64(number).is_none()
-                || KeyType::from_i64(number).is_none()
-                || KeyOperation::from_i64(number).is_none()
-        }
-        None => false,
-    }
+    let Some(number) = number_at(bytes) else {
+        return false;
+    };
+    CoapContentFormat::from_i64(number).is_none()
+        || KeyType::from_i64(number).is_none()
+        || KeyOperation::from_i64(number).is_none()
 }
 
 /// Whether an integer stands at the front that has no name in a registry with a private range, and is outside of that: of
@@ -55,13 +61,13 @@ pub(crate) fn is_unassigned(bytes: &[u8]) -> bool
 pub(crate) fn is_unassigned_and_not_private(bytes: &[u8]) -> bool
     ensures { IsTrue result → Stands IsUnassignedAndNotPrivate bytes.now }
 {
-    match number_at(bytes) {
-        Some(number) => {
-            -65_536 <= number
-                && (Algorithm::from_i64(number).is_none()
-                    || HeaderParameter::from_i64(number).is_none()
-                    || CwtClaimName::from_i64(number).is_none())
-        }
-        None => false,
+    let Some(number) = number_at(bytes) else {
+        return false;
+    };
+    if Algorithm::is_private(number) {
+        return false;
     }
+    Algorithm::from_i64(number).is_none()
+        || HeaderParameter::from_i64(number).is_none()
+        || CwtClaimName::from_i64(number).is_none()
 }

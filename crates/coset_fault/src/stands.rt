@@ -3,7 +3,7 @@
 ghost use Rattle.std.specs.Prelude.{◌≡◌, IfOk, IsTrue, Some};
 ghost use Rattle.coset_fault.specs.Places.{HoldsNoHeader, IsUnexpected, StandsThere, last_step};
 
-use crate::malformed::is_malformed;
+use crate::malformed::{is_malformed, last_step};
 use crate::registry::{is_out_of_range, is_unassigned, is_unassigned_and_not_private};
 use crate::repeats::{has_both_ivs, repeats_label};
 use crate::step::Step;
@@ -45,7 +45,7 @@ pub(crate) fn stands_there(
 {
     match error {
         CoseError::DecodeFailed(error) => Ok(is_malformed(error, steps, bytes)),
-        CoseError::ExtraneousData => Ok(matches!(steps.last(), Some(Step::Behind))),
+        CoseError::ExtraneousData => Ok(last_step(steps) == Some(Step::Behind)),
         CoseError::DuplicateMapKey => repeats_label(alloc, whole, steps, earlier),
         CoseError::OutOfRangeIntegerValue => Ok(is_out_of_range(bytes)),
         CoseError::UnexpectedItem(got, _) => {
@@ -62,7 +62,10 @@ pub(crate) fn stands_there(
 pub(crate) fn holds_no_header(alloc: Global, bytes: &[u8]) -> Result<bool, AllocError>
     ensures { IfOk result (λ b. IsTrue b → HoldsNoHeader bytes.now) }
 {
-    if bytes.first().copied() != Some(0x5f) {
+    let Some((first, _)) = bytes.split_first() else {
+        return Ok(false);
+    };
+    if *first != 0x5f {
         return Ok(false);
     }
     let Ok((item, _)) = Pull::new(bytes) else {
