@@ -1,5 +1,5 @@
 -- Structures over payloads that may be detached.
-use Rattle.std.proofs.Common.{◌≡◌, ℕ, List, Option, Some, None, Result, Ok, Err, refl}
+use Rattle.std.proofs.Common.{◌≡◌, ℕ, List, Option, Some, None, Result, Ok, Err, refl, subst}
 use Rattle.std.specs.Prelude.{IfOk, IfSome}
 use Rattle.coset.specs.Answers.{Describes}
 use Rattle.coset.specs.CoseError.{CoseError}
@@ -8,7 +8,9 @@ use Rattle.coset.specs.Presence.{WritesWherePresent}
 use Rattle.coset.specs.Shape.{Shape}
 use Rattle.coset.specs.Shortest.{IsShortest}
 use Rattle.coset.specs.Signed.{or_empty}
-use Rattle.coset_explain.specs.Structure.{IsOver, over_payload}
+use Rattle.coset_explain.specs.Kind.{Names}
+use Rattle.coset_explain.specs.Structure.{IsOver, IsStructure, IsStructureOfNamed, over_payload}
+use Rattle.coset_explain.specs.declared.kind.Kind.{Kind}
 
 -- over a payload that is there, which would count as empty where it is missing
 pub over_present : (structure : List ℕ → Option Item) (payload : Option (List ℕ)) (v : Item) → (payload ≡ None → ⊥) → structure (or_empty payload) ≡ Some v
@@ -34,3 +36,20 @@ over_written {A} {V} shape structure payload bytes_of b x r is writes = go (payl
     go (Some p) (Ok None) made w = absurd w
     go (Some p) (Ok (Some b)) made w = made (bytes_of b) w.0 w.1 w.2
     go (Some p) (Err e) made w = tt
+
+-- what is the structure of the kind by name is that of the kind
+of_kind :
+    (kind named : Kind) (i : ℕ) (bytes rest t : List ℕ) → Names kind bytes named rest → IsStructureOfNamed named i rest t → IsStructure kind i bytes t
+of_kind kind named i bytes rest t names over = record {
+  by_tag = λ _. record { kind = named; front = names.behind.0; rest = rest; parts = names.behind.1; over = over };
+  named =
+      λ no.
+      let is = names.same no in
+      subst (λ (k : Kind). IsStructureOfNamed k i bytes t) is.0 (subst (λ (b : List ℕ). IsStructureOfNamed named i b t) is.1 over);
+}
+
+pub found_of_kind :
+    {V : Type 0} (bytes_of : V → List ℕ) (kind named : Kind) (i : ℕ) (bytes rest : List ℕ) (o : Option V) → Names kind bytes named rest
+    → IfSome o (λ b. IsStructureOfNamed named i rest (bytes_of b)) → IfSome o (λ b. IsStructure kind i bytes (bytes_of b))
+found_of_kind bytes_of kind named i bytes rest None names over = tt
+found_of_kind bytes_of kind named i bytes rest (Some b) names over = of_kind kind named i bytes rest (bytes_of b) names over
