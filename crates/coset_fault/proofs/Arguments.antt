@@ -95,3 +95,6 @@ eight_behind s rest a fits long behind is number =
       holds = omega (arith, number, front 0, front 1, front 2, front 3, front 4, front 5, front 6, front 7);
       spelled = ap (λ (t : List ℕ). (32 * m + 27) ∷ t) (sym (be_bytes_8 (take 8 s) a.number len front number));
     })
+
+pub first_fits : (b s : List ℕ) (x : ℕ) → IsBytes b → b ≡ x ∷ s → x < 256
+first_fits b s x fits parts = subst (λ (t : List ℕ). get_or t 0 0 < 256) parts (fits 0)

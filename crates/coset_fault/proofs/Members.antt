@@ -39,7 +39,7 @@ passes_one b n r p s v before is parts = record {
 -- ---- where steps lead
 
 opening : (b : List ℕ) (h : Head) (rest : List ℕ) (i : ℕ) (w : BeginsWith b h rest) → Announces h i → Opening (type_of h.form) i w.head
-opening b h rest i w (inl open) = inr (w.open open)
+opening b h rest i w (inl yes) = inr (w.indefinite yes)
 opening b h rest i w (inr closed) = inl (h.number, w.is_head closed.0, closed.1)
 
 pub opens :

@@ -42,7 +42,7 @@ pub record BeginsWith (b : List ℕ) (h : Head) (s : List ℕ) : Type 0 where
   pub parts : b ≡ head ++ s
   pub size : length head ≡ h.size
   pub is_head : h.is_open ≡ false → IsHead (type_of h.form) h.number head
-  pub open : h.is_open ≡ true → head ≡ (32 * type_of h.form + 31) ∷ []
+  pub indefinite : h.is_open ≡ true → head ≡ (32 * type_of h.form + 31) ∷ []
 
 -- why no head stands at the front of b: it ends too early; or else its low five bits are reserved
 abbrev pub HasNoHead : List ℕ → Fault → Type 0

@@ -1,6 +1,6 @@
 //! Arguments of heads (RFC 8949, section 3).
 
-ghost use Rattle.std.specs.Prelude.{◌≡◌, ◌≤◌, ◌<◌, ◌×◌, MatchOption, length, take, drop};
+ghost use Rattle.std.specs.Prelude.{◌≡◌, ◌≤◌, ◌<◌, MatchOption, length, take, drop};
 ghost use Rattle.std.specs.Int.{w16, w32, w64, from_be_bytes};
 ghost use Rattle.coset_fault.specs.Heads.{HasArgument, LacksArgument};
 
@@ -100,7 +100,7 @@ fn in_eight(bytes: &[u8]) -> Option<(Argument, &[u8])>
 
 /// The argument that the low five bits of a first byte announce, behind which these bytes stand, and what follows it; `None`
 /// where the bytes end before it does.
-pub(crate) fn argument(info: u8, bytes: &[u8]) -> Option<(Argument, &[u8])>
+pub(crate) fn argument_of(info: u8, bytes: &[u8]) -> Option<(Argument, &[u8])>
     ensures { MatchOption result (LacksArgument info bytes.now)
         (λ x. HasArgument info bytes.now x.0 x.1.now) }
 {

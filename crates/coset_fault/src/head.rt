@@ -3,7 +3,7 @@
 ghost use Rattle.std.specs.Prelude.{◌≡◌, ◌≤◌, ◌<◌, ◌/◌, IfOk, MatchResult, length};
 ghost use Rattle.coset_fault.specs.Heads.{BeginsWith, HasNoHead, type_of};
 
-use crate::argument::argument;
+use crate::argument::argument_of;
 use crate::fault::Fault;
 
 /// What an item is, as far as its head tells.
@@ -88,7 +88,7 @@ pub fn head_of(bytes: &[u8]) -> Result<(Head, &[u8]), Fault>
     if 28 <= info && info <= 30 {
         return Err(Fault::Malformed);
     }
-    let Some((argument, rest)) = argument(info, tail) else {
+    let Some((argument, rest)) = argument_of(info, tail) else {
         return Err(Fault::Ends);
     };
     Ok((

@@ -1,6 +1,6 @@
 //! Items that aren't as their place asks, by what errors call them.
 
-ghost use Rattle.std.specs.Prelude.{◌≡◌, IfOk, IsTrue, Some, [], length, filter, ◌==◌, ⊥};
+ghost use Rattle.std.specs.Prelude.{◌≡◌, IfOk, IsTrue, Some, [], length, filter, ◌==◌};
 ghost use Rattle.coset.specs.Answers.{DescribesNothing};
 ghost use Rattle.coset.specs.Fields.{IsMediaType};
 ghost use Rattle.coset.specs.Item.{no_items};
