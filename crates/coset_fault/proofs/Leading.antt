@@ -1,5 +1,6 @@
 -- Steps one after the other.
 use Rattle.std.proofs.Common.{◌≡◌, ℕ, ◌+◌, ◌≤◌, List, [], ◌∷◌, ◌++◌, length, refl, sym, ap, subst, ◌∙◌, arith}
+use Rattle.std.proofs.lemmas.List.{length-append}
 use Rattle.coset_fault.specs.Steps.{Goes, Leads, Splits}
 use Rattle.coset_fault.specs.declared.step.Step.{Step}
 use Rattle.coset_fault.specs.declared.step.Step.TheVariants.{Element, Key, Value, Enclosed, ByteChunk, TextChunk, Content, Behind}
@@ -13,10 +14,7 @@ leads_on (first ∷ steps) step b s t n k m (i, j, mid, goes_first, leads, total
     (i, j + k, mid, goes_first, leads_on steps step mid s t j k (j + k) leads goes refl, omega (arith, sum, total))
 
 split_within : (P : List ℕ → Type 0) (b s : List ℕ) (n : ℕ) → Splits P b n s → n + length s ≡ length b
-split_within P b s n (o, parts, len, is) = omega (arith, ap length parts, length_append o s, len)
-  where
-    length_append : (x y : List ℕ) → length (x ++ y) ≡ length x + length y
-    length_append x y = grind arith
+split_within P b s n (o, parts, len, is) = omega (arith, ap length parts, length-append o s, len)
 
 -- a step leads no farther than to the end
 goes_within : (step : Step) (b s : List ℕ) (n : ℕ) → Goes step b n s → n + length s ≤ length b
@@ -26,10 +24,7 @@ goes_within (Value i) b s n goes = omega (arith, split_within _ b s n goes)
 goes_within Enclosed b s n goes = omega (arith, split_within _ b s n goes)
 goes_within (ByteChunk i) b s n goes = omega (arith, split_within _ b s n goes)
 goes_within (TextChunk i) b s n goes = omega (arith, split_within _ b s n goes)
-goes_within Content b s n (o, rest, parts, len, is) = omega (arith, ap length parts, appended o s rest, len)
-  where
-    appended : (x y z : List ℕ) → length (x ++ (y ++ z)) ≡ length x + (length y + length z)
-    appended x y z = grind arith
+goes_within Content b s n (o, rest, parts, len, is) = omega (arith, ap length parts, length-append o (s ++ rest), length-append s rest, len)
 goes_within Behind b s n goes = omega (arith, split_within _ b s n goes)
 
 -- and steps neither

@@ -3,3 +3,4 @@ pub mod Faults
 pub mod Heads
 pub mod Leading
 pub mod Members
+pub mod Standing

@@ -1,17 +1,16 @@
 -- Members behind a head, one after the other.
-use Rattle.std.proofs.Common.{◌≡◌, ℕ, suc, ◌+◌, ◌-◌, ◌*◌, ◌≤◌, true, false, List, [], ◌∷◌, ◌++◌, length, take, drop, refl, sym, ap, subst, ◌∙◌, append_assoc, arith}
+use Rattle.std.proofs.Common.{◌≡◌, ℕ, suc, ◌+◌, ◌-◌, List, [], ◌∷◌, ◌++◌, length, refl, sym, ap, subst, ◌∙◌, append_assoc, arith}
 use Rattle.std.proofs.Common.{inl, inr}
-use Rattle.std.proofs.lemmas.List.{append-nil, length-append, length-take, take-append-drop}
+use Rattle.std.proofs.lemmas.List.{append-nil, length-append}
 use Rattle.coset.specs.Item.{Item, Items, no_items, item, items_count}
-use Rattle.coset.specs.Grammar.{AreEncodings, IsEncoding, IsHead}
+use Rattle.coset.specs.Grammar.{AreEncodings, IsEncoding}
 use Rattle.coset_fault.specs.Heads.{BeginsWith, type_of}
-use Rattle.coset_fault.specs.Steps.{Announces, Encloses, Holds, Opening, Opens, Passes, Splits}
+use Rattle.coset_fault.specs.Steps.{Announces, Opening, Opens, Passes, Splits}
 use Rattle.coset_fault.specs.declared.head.Form.{Form}
-use Rattle.coset_fault.specs.declared.head.Form.TheVariants as forms
 use Rattle.coset_fault.specs.declared.head.Head.{Head}
 
 -- one more at the end
-and_item : Items → Item → Items
+abbrev and_item : Items → Item → Items
 and_item no_items v = item v no_items
 and_item (item w ws) v = item w (and_item ws v)
 
@@ -27,19 +26,19 @@ and_item_encodings (item w ws) v c p (a, d, first, are, parts) is =
 pub passes_none : (b : List ℕ) → Passes b 0 b
 passes_none b = record { items = no_items; encodings = []; are = refl; number = refl; parts = refl }
 
-pub passes_one : (b : List ℕ) (n : ℕ) (r p s : List ℕ) (v : Item) → Passes b n r → IsEncoding v p → r ≡ p ++ s → Passes b (suc n) s
+pub passes_one : (b : List ℕ) (n : ℕ) (r p s : List ℕ) (v : Item) → Passes b n r → IsEncoding v p → r ≡ p ++ s → Passes b (n + 1) s
 passes_one b n r p s v before is parts = record {
   items = and_item before.items v;
   encodings = before.encodings ++ p;
   are = and_item_encodings before.items v before.encodings p before.are is;
-  number = and_item_count before.items v ∙ ap suc before.number;
+  number = omega (arith, and_item_count before.items v, before.number);
   parts = before.parts ∙ ap (λ (x : List ℕ). before.encodings ++ x) parts ∙ sym (append_assoc before.encodings p s);
 }
 
 -- ---- where steps lead
 
 opening : (b : List ℕ) (h : Head) (rest : List ℕ) (i : ℕ) (w : BeginsWith b h rest) → Announces h i → Opening (type_of h.form) i w.head
-opening b h rest i w (inl yes) = inr (w.indefinite yes)
+opening b h rest i w (inl indefinite) = inr (w.indefinite indefinite)
 opening b h rest i w (inr closed) = inl (h.number, w.is_head closed.0, closed.1)
 
 pub opens :
@@ -60,21 +59,4 @@ opens b h rest part form i n w same announced p is =
         passes = record { items = p.items; encodings = p.encodings; are = p.are; number = p.number; parts = sym (append-nil p.encodings) };
         parts = refl;
       },
-    )
-
-pub encloses : (b : List ℕ) (h : Head) (rest : List ℕ) → BeginsWith b h rest → h.form ≡ forms.Tag → h.is_open ≡ false → Splits Encloses b h.size rest
-encloses b h rest w form closed = (w.head, w.parts, w.size, (h.number, subst (λ (f : Form). IsHead (type_of f) h.number w.head) form (w.is_head closed)))
-
-pub holds :
-    (b : List ℕ) (h : Head) (rest s : List ℕ) → BeginsWith b h rest → h.form ≡ forms.Bytes → h.is_open ≡ false → h.number ≤ length rest
-    → s ≡ take h.number rest → Holds b h.size s
-holds b h rest s w form closed long front =
-    let len : length s ≡ h.number = ap length front ∙ omega (arith, length-take h.number rest, long) in
-    let parts : rest ≡ s ++ drop h.number rest =
-    sym (take-append-drop h.number rest) ∙ ap (λ (t : List ℕ). t ++ drop h.number rest) (sym front) in (
-      w.head,
-      drop h.number rest,
-      w.parts ∙ ap (λ (t : List ℕ). w.head ++ t) parts,
-      w.size,
-      subst (λ (n : ℕ). IsHead 2 n w.head) (sym len) (subst (λ (f : Form). IsHead (type_of f) h.number w.head) form (w.is_head closed)),
     )

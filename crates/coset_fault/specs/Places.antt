@@ -1,6 +1,7 @@
 -- What errors tell of, at the place where it stands.
-use Rattle.std.specs.Prelude.{◌≡◌, ◌⊎◌, ◌<◌, ◌<ℤ◌, ◌++◌, ℕ, ℤ, pos, List, [], ◌∷◌, take, codes, Option, Some, None, Bool, true, false, FitsSigned}
+use Rattle.std.specs.Prelude.{◌≡◌, ◌⊎◌, ◌<◌, ◌<ℤ◌, ◌++◌, ◌-◌, ℕ, ℤ, pos, List, [], ◌∷◌, length, codes, Option, Some, None, Bool, true, false, FitsSigned}
 use Rattle.std.specs.Int.{w64}
+use Rattle.std.specs.List.{slice_get}
 use Rattle.coset.specs.Answers.{DescribesNothing}
 use Rattle.coset.specs.CoseError.{CoseError}
 use Rattle.coset.specs.CoseError.TheVariants.{DecodeFailed, DuplicateMapKey, EncodeFailed, ExtraneousData, OutOfRangeIntegerValue, UnexpectedItem}
@@ -33,9 +34,7 @@ Stands P t = StandsAs (λ b v. P v) t
 
 -- the last of the steps
 abbrev pub last_step : List Step → Option Step
-last_step [] = None
-last_step (step ∷ []) = Some step
-last_step (step ∷ steps) = last_step steps
+last_step steps = slice_get steps (length steps - 1)
 
 -- t begins with no chunk of the string that the last step leads to a chunk of
 abbrev pub BeginsNoChunk : Option Step → List ℕ → Type 0

@@ -3,7 +3,7 @@
 ghost use Rattle.std.specs.Prelude.{◌≡◌, IfSome, IsTrue, Some};
 ghost use Rattle.coset.specs.Parts.{as_integer};
 ghost use Rattle.coset_fault.specs.Places.{IsOutOfRange, Stands};
-ghost use Rattle.coset_fault.specs.Registries.{IsUnassigned, IsUnassignedAndNotPrivate};
+ghost use Rattle.coset_fault.specs.Registries.{HasNoName, IsUnassigned, IsUnassignedAndNotPrivate};
 
 use coset::cbor::de::Pull;
 use coset::cbor::value::Integer;
@@ -43,6 +43,16 @@ fn number_at(bytes: &[u8]) -> Option<i64>
     i64::try_from(number).ok()
 }
 
+/// Whether no value of the registry has the number.
+fn has_no_name<T: EnumI64 + Drop>(number: i64) -> bool
+    ensures { IsTrue result → HasNoName T.value_of number }
+{
+    match T::from_i64(number) {
+        Some(_) => false,
+        None => true,
+    }
+}
+
 /// Whether an integer stands at the front that has no name in a registry without a private range: of formats of content, of
 /// types of keys, or of operations.
 pub(crate) fn is_unassigned(bytes: &[u8]) -> bool
@@ -51,9 +61,13 @@ pub(crate) fn is_unassigned(bytes: &[u8]) -> bool
     let Some(number) = number_at(bytes) else {
         return false;
     };
-    CoapContentFormat::from_i64(number).is_none()
-        || KeyType::from_i64(number).is_none()
-        || KeyOperation::from_i64(number).is_none()
+    if has_no_name::<CoapContentFormat>(number) {
+        return true;
+    }
+    if has_no_name::<KeyType>(number) {
+        return true;
+    }
+    has_no_name::<KeyOperation>(number)
 }
 
 /// Whether an integer stands at the front that has no name in a registry with a private range, and is outside of that: of
@@ -67,7 +81,11 @@ pub(crate) fn is_unassigned_and_not_private(bytes: &[u8]) -> bool
     if Algorithm::is_private(number) {
         return false;
     }
-    Algorithm::from_i64(number).is_none()
-        || HeaderParameter::from_i64(number).is_none()
-        || CwtClaimName::from_i64(number).is_none()
+    if has_no_name::<Algorithm>(number) {
+        return true;
+    }
+    if has_no_name::<HeaderParameter>(number) {
+        return true;
+    }
+    has_no_name::<CwtClaimName>(number)
 }

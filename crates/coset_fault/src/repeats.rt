@@ -1,8 +1,7 @@
 //! What stands at a second place in an array or a map, and shouldn't.
 
-ghost use Rattle.std.specs.Prelude.{◌≡◌, IfOk, IfSome, IsTrue, List};
-ghost use Rattle.coset_fault.specs.Places.{BothIvs, IsEarlier, Repeats, SameLabel, StandTogether};
-ghost use Rattle.coset_fault.specs.Steps.{Goes, Leads};
+ghost use Rattle.std.specs.Prelude.{IfOk, IfSome, IsTrue};
+ghost use Rattle.coset_fault.specs.Places.{AreTwo, BothIvs, IsEarlier, Repeats, SameLabel};
 
 use crate::label::{are_both_ivs, are_same};
 use crate::step::{Step, follow, go};

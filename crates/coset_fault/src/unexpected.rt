@@ -1,19 +1,30 @@
 //! Items that aren't as their place asks, by what errors call them.
 
-ghost use Rattle.std.specs.Prelude.{◌≡◌, IfOk, IsTrue, Some, [], length, filter, ◌==◌};
+ghost use Rattle.std.specs.Prelude.{◌≡◌, IfOk, IfSome, IsTrue, Some, [], length, filter, ◌==◌};
 ghost use Rattle.coset.specs.Answers.{DescribesNothing};
+ghost use Rattle.coset.specs.Errors.{UnlessMemory};
 ghost use Rattle.coset.specs.Fields.{IsMediaType};
 ghost use Rattle.coset.specs.Item.{no_items};
 ghost use Rattle.coset.specs.Kinds.{kind};
 ghost use Rattle.coset.specs.Parts.{as_array, as_bytes, as_text};
 ghost use Rattle.coset.specs.Pulls.{pull_bytes, pull_item};
 ghost use Rattle.coset_fault.specs.Called.{IsCalled, IsNoMediaType};
-ghost use Rattle.coset_fault.specs.Places.{Stands};
+ghost use Rattle.coset_fault.specs.Places.{BeginsCalled};
 
 use coset::cbor::de::Pull;
 use coset::{CborSerializable, CoseError, CoseKey, CoseSignature};
 use coset_codec::util::pull_type_error;
 use std::alloc::{AllocError, Global};
+
+/// Why the bytes don't describe a value of the type.
+fn refusal<T: CborSerializable + Drop>(alloc: Global, bytes: &[u8]) -> Option<CoseError>
+    ensures { IfSome result (λ e. UnlessMemory e (λ _. DescribesNothing T.shape bytes.now)) }
+{
+    match T::from_slice(alloc, bytes) {
+        Ok(_) => None,
+        Err(error) => Some(error),
+    }
+}
 
 /// Whether the bytes describe no value of the type.
 pub(crate) fn describe_none<T: CborSerializable + Drop>(
@@ -22,10 +33,12 @@ pub(crate) fn describe_none<T: CborSerializable + Drop>(
 ) -> Result<bool, AllocError>
     ensures { IfOk result (λ b. IsTrue b → DescribesNothing T.shape bytes.now) }
 {
-    match T::from_slice(alloc, bytes) {
-        Ok(_) => Ok(false),
-        Err(CoseError::OutOfMemory) => Err(AllocError),
-        Err(_) => Ok(true),
+    let Some(error) = refusal::<T>(alloc, bytes) else {
+        return Ok(false);
+    };
+    match error {
+        CoseError::OutOfMemory => Err(AllocError),
+        _ => Ok(true),
     }
 }
 
