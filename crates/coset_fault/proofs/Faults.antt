@@ -1,7 +1,7 @@
 -- Faults at the front of bytes.
-use Rattle.std.proofs.Common.{◌≡◌, ℕ, suc, ◌+◌, ◌*◌, ◌<◌, ◌≤◌, true, false, List, [], ◌∷◌, ◌++◌, length, Option, Some, None, sym, subst, arith}
+use Rattle.std.proofs.Common.{◌≡◌, ℕ, false, List, [], ◌∷◌, ◌++◌, length, sym, subst, arith}
 use Rattle.coset.specs.Error.TheVariants as errors
-use Rattle.coset.specs.Faults.{Ends, IsNotSupported, LacksContent, SimpleAt, SyntaxAt}
+use Rattle.coset.specs.Faults.{LacksContent, SyntaxAt}
 use Rattle.coset.specs.ReadErrors.{FaultIn}
 use Rattle.coset_fault.specs.declared.head.Head.{Head}
 use Rattle.coset_fault.specs.Heads.{AnnouncesMore, BeginsWith, type_of}

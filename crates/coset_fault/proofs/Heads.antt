@@ -1,5 +1,5 @@
 -- Heads at the front of bytes.
-use Rattle.std.proofs.Common.{◌≡◌, ℕ, suc, ◌+◌, ◌*◌, ◌/◌, ◌%◌, ◌<◌, true, false, List, [], ◌∷◌, ◌++◌, length, sym, ap, subst, ◌∙◌, arith}
+use Rattle.std.proofs.Common.{◌≡◌, ℕ, ◌+◌, ◌*◌, ◌/◌, ◌%◌, ◌<◌, true, false, List, [], ◌∷◌, sym, ap, subst, ◌∙◌, arith}
 use Rattle.coset.specs.Grammar.{IsHead}
 use Rattle.coset_fault.specs.declared.argument.Argument.{Argument}
 use Rattle.coset_fault.specs.declared.head.Head.{Head}

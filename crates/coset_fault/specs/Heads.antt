@@ -1,5 +1,5 @@
 -- Heads at the front of bytes (RFC 8949, section 3).
-use Rattle.std.specs.Prelude.{◌≡◌, ◌<◌, ◌≤◌, ◌+◌, ◌*◌, ◌%◌, ◌/◌, ◌^◌, ◌⊎◌, ℕ, List, [], ◌∷◌, ◌++◌, length, true, false}
+use Rattle.std.specs.Prelude.{◌≡◌, ◌<◌, ◌≤◌, ◌+◌, ◌*◌, ◌^◌, ◌⊎◌, ℕ, List, [], ◌∷◌, ◌++◌, length, true, false}
 use Rattle.coset.specs.Grammar.{IsHead}
 use Rattle.coset.specs.Faults as grammar
 use Rattle.coset_fault.specs.declared.argument.Argument.{Argument}

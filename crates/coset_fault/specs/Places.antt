@@ -1,5 +1,5 @@
 -- What errors tell of, at the place where it stands.
-use Rattle.std.specs.Prelude.{◌≡◌, ◌⊎◌, ◌<◌, ◌<ℤ◌, ◌++◌, ◌-◌, ℕ, ℤ, pos, List, [], ◌∷◌, length, codes, Option, Some, None, Bool, true, false, FitsSigned}
+use Rattle.std.specs.Prelude.{◌≡◌, ◌⊎◌, ◌<◌, ◌<ℤ◌, ◌++◌, ◌-◌, ℕ, ℤ, pos, List, [], ◌∷◌, length, codes, Option, Some, true, false, FitsSigned}
 use Rattle.std.specs.Int.{w64}
 use Rattle.std.specs.List.{slice_get}
 use Rattle.coset.specs.Answers.{DescribesNothing}

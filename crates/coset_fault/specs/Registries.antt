@@ -1,5 +1,5 @@
 -- Numbers without a name in registries of IANA (RFC 8152, section 16).
-use Rattle.std.specs.Prelude.{◌≡◌, ◌⊎◌, ℤ, Option, Some, None, true, false}
+use Rattle.std.specs.Prelude.{◌≡◌, ◌⊎◌, ℤ, Option, Some, None, false}
 use Rattle.coset.specs.Item.{Item}
 use Rattle.coset.specs.Parts.{as_integer}
 use Rattle.coset.specs.Registry.{first_numbered}

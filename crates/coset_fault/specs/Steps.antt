@@ -1,10 +1,8 @@
 -- Where steps lead in bytes, by the grammar of CBOR (RFC 8949, section 3).
-use Rattle.std.specs.Prelude.{◌≡◌, ◌≢◌, ◌⊎◌, ◌<◌, ◌+◌, ◌*◌, ℕ, suc, List, [], ◌∷◌, ◌++◌, length, ⊤, Bool, true, false}
+use Rattle.std.specs.Prelude.{◌≡◌, ◌≢◌, ◌⊎◌, ◌<◌, ◌+◌, ◌*◌, ℕ, suc, List, [], ◌∷◌, ◌++◌, length, true, false}
 use Rattle.coset.specs.Item.{Item, Items, items_count}
 use Rattle.coset.specs.Grammar.{AreEncodings, IsHead, IsItem}
 use Rattle.coset_fault.specs.Heads.{type_of}
-use Rattle.coset_fault.specs.declared.head.Form.{Form}
-use Rattle.coset_fault.specs.declared.head.Form.TheVariants as forms
 use Rattle.coset_fault.specs.declared.head.Head.{Head}
 use Rattle.coset_fault.specs.declared.step.Step.{Step}
 use Rattle.coset_fault.specs.declared.step.Step.TheVariants.{Element, Key, Value, Enclosed, ByteChunk, TextChunk, Content, Behind}

@@ -1,4 +1,4 @@
-use Rattle.std.proofs.Common.{◌≡◌, ◌<◌, ◌%◌, ◌∷◌, true, false, nat_eq, rules, refl, arith}
+use Rattle.std.proofs.Common.{◌≡◌, ◌∷◌, rules, refl, arith}
 use Rattle.std.proofs.lemmas.Bool.{eqb-true, eqb-false}
 use Rattle.coset_fault.proofs.Arguments.{first_fits}
 use Rattle.coset_fault.proofs.Heads.{begins}

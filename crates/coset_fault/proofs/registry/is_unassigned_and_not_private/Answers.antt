@@ -19,7 +19,7 @@ returns-then-has_no_name c = λ _.
     standing c.args.bytes.now (λ v same. (
       c.in-Some.number,
       same,
-      (subst (λ (z : ℤ). is_private_use z ≡ false) number (sym c.is_private.ensures ∙ c.if-is_private.false)),
+      subst (λ (z : ℤ). is_private_use z ≡ false) number (sym c.is_private.ensures ∙ c.if-is_private.false),
       inl (subst (λ (z : ℤ). HasNoName (first_numbered algorithms.number ALGORITHMS) z) number (c.has_no_name.ensures c.if-has_no_name.true)),
     )) c.in-Some.ensures
 
@@ -29,7 +29,7 @@ returns-then-has_no_name-2 c = λ _.
     standing c.args.bytes.now (λ v same. (
       c.in-Some.number,
       same,
-      (subst (λ (z : ℤ). is_private_use z ≡ false) number (sym c.is_private.ensures ∙ c.if-is_private.false)),
+      subst (λ (z : ℤ). is_private_use z ≡ false) number (sym c.is_private.ensures ∙ c.if-is_private.false),
       inr (inl (subst (λ (z : ℤ). HasNoName (first_numbered parameters.number HEADER_PARAMETERS) z) number (c.has_no_name-2.ensures c.if-has_no_name-2.true))),
     )) c.in-Some.ensures
 
@@ -39,6 +39,6 @@ returns c = λ none.
     standing c.args.bytes.now (λ v same. (
       c.in-Some.number,
       same,
-      (subst (λ (z : ℤ). is_private_use z ≡ false) number (sym c.is_private.ensures ∙ c.if-is_private.false)),
+      subst (λ (z : ℤ). is_private_use z ≡ false) number (sym c.is_private.ensures ∙ c.if-is_private.false),
       inr (inr (subst (λ (z : ℤ). HasNoName (first_numbered claims.number CWT_CLAIM_NAMES) z) number (c.has_no_name-3.ensures none))),
     )) c.in-Some.ensures

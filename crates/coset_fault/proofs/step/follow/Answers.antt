@@ -1,4 +1,4 @@
-use Rattle.std.proofs.Common.{◌≡◌, ◌+◌, List, take, sym, subst, rules}
+use Rattle.std.proofs.Common.{List, take, sym, subst}
 use Rattle.std.proofs.lemmas.List.{take_more}
 use Rattle.coset_fault.specs.Steps.{Leads}
 use Rattle.coset_fault.specs.declared.step.Step.{Step}
