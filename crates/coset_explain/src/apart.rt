@@ -8,7 +8,7 @@ ghost use Rattle.coset_fault.specs.Places.{IsPlace};
 use crate::column::{Column, Line};
 use crate::hunt::Hunt;
 use crate::kind::Kind;
-use crate::path::{path, steps};
+use crate::paths::{path, steps};
 use crate::walk::Walk;
 use coset::CoseError;
 use coset_fault::{Fault, Step, fault_at};

@@ -111,10 +111,13 @@ fn count_of(head: &Head, bytes: &[u8]) -> u64 {
     let Ok((pull, _)) = Pull::new(bytes) else {
         return 0;
     };
-    match pull.items() {
-        Some(elements) => elements.count() as u64,
-        None => 0,
+    let mut count = 0u64;
+    if let Some(elements) = pull.items() {
+        for _element in elements {
+            count = count.saturating_add(1);
+        }
     }
+    count
 }
 
 /// Whether the map at the front of the bytes has the type of a key, which isn't the reserved one.

@@ -12,10 +12,10 @@ mod kind;
 mod names;
 mod note;
 mod opening;
-mod path;
+mod paths;
 mod print;
 mod role;
-mod structure;
+mod structures;
 mod text;
 mod walk;
 
@@ -24,4 +24,4 @@ pub use column::Line;
 pub use coset_fault::{Fault, Step};
 pub use kind::Kind;
 pub use print::{annotated, notation};
-pub use structure::{annotated_structures, structure};
+pub use structures::{annotated_structures, structure};

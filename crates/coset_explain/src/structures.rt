@@ -25,10 +25,11 @@ fn of_sign1(alloc: Global, bytes: &[u8]) -> Result<Option<Vec<u8>>, CoseError>
         (λ m. over_payload (sign1_structure m []) m.payload) bytes.now b.items)) }
 {
     let message = CoseSign1::from_any_slice(alloc, bytes)?;
-    if message.payload.is_none() {
-        return Ok(None);
+    let signed = message.tbs_data(alloc, &[])?;
+    match &message.payload {
+        Some(_) => Ok(Some(signed)),
+        None => Ok(None),
     }
-    Ok(Some(message.tbs_data(alloc, &[])?))
 }
 
 /// What the signature of this index signs.
@@ -38,11 +39,12 @@ fn of_sign(alloc: Global, bytes: &[u8], index: usize) -> Result<Option<Vec<u8>>,
         (slice_get m.signatures index)) bytes.now b.items)) }
 {
     let message = CoseSign::from_any_slice(alloc, bytes)?;
-    if message.payload.is_none() {
+    let Some(signature) = message.signatures.get(index) else {
         return Ok(None);
-    }
-    match message.signatures.get(index) {
-        Some(signature) => Ok(Some(message.tbs_data(alloc, &[], signature)?)),
+    };
+    let signed = message.tbs_data(alloc, &[], signature)?;
+    match &message.payload {
+        Some(_) => Ok(Some(signed)),
         None => Ok(None),
     }
 }

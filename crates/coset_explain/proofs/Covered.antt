@@ -1,7 +1,7 @@
 -- Structures over payloads that may be detached.
-use Rattle.std.proofs.Common.{◌≡◌, ℕ, List, Option, Some, None, Result, Ok, Err, refl, subst}
-use Rattle.std.specs.Prelude.{IfOk, IfSome}
-use Rattle.coset.specs.Answers.{Describes}
+use Rattle.std.proofs.Common.{◌≡◌, ℕ, List, Option, Some, None, Result, Ok, Err, refl, sym, ap, subst, ◌∙◌}
+use Rattle.std.specs.Prelude.{IfOk, IfSome, option_map}
+use Rattle.coset.specs.Answers.{Describes, Writes}
 use Rattle.coset.specs.CoseError.{CoseError}
 use Rattle.coset.specs.Item.{Item}
 use Rattle.coset.specs.Presence.{WritesWherePresent}
@@ -17,6 +17,20 @@ pub over_present : (structure : List ℕ → Option Item) (payload : Option (Lis
     → over_payload structure payload ≡ Some v
 over_present structure (Some p) v some e = e
 over_present structure None v some e = absurd (some refl)
+
+-- of what is there something is seen
+pub is_there : {T : Type 0} (f : T → List ℕ) (o : Option T) (x : T) → o ≡ Some x → option_map f o ≡ None → ⊥
+is_there f o x is none = differ (sym (ap (option_map f) is) ∙ none)
+  where
+    differ : ◌≡◌ {A = Option (List ℕ)} (Some (f x)) None → ⊥
+    differ e = cc
+
+-- what is written of a value is its structure
+pub over_any :
+    {A V : Type 0} (shape : Shape A) (structure : A → Option Item) (bytes_of : V → List ℕ) (b : List ℕ) (x : A) (r : Result V CoseError)
+    → Describes shape b x → Writes (structure x) bytes_of r → IfOk r (λ t. IsOver shape structure b (bytes_of t))
+over_any shape structure bytes_of b x (Ok t) is w = (x, is, w.0, w.1, w.2)
+over_any shape structure bytes_of b x (Err e) is w = tt
 
 -- what is written where there is a payload is the structure of the value
 pub over_written :

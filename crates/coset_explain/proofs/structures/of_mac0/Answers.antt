@@ -1,8 +1,8 @@
 use Rattle.std.proofs.Common.{[]}
 use Rattle.coset.specs.Mac0.{mac0, mac0_structure, mac0_seen}
 use Rattle.coset.specs.PerhapsTagged.{perhaps_tagged}
-use Rattle.coset_explain.proofs.Structures.{over_written}
-use Rattle.coset_explain.proofs.structure.of_mac0.Goals as goal
+use Rattle.coset_explain.proofs.Covered.{over_written}
+use Rattle.coset_explain.proofs.structures.of_mac0.Goals as goal
 
 pub returns : goal.returns
 returns c =
