@@ -1,5 +1,5 @@
 -- What a signature or a MAC of a message is over, and what goes with a ciphertext (RFC 8152, sections 4.4, 5.3 and 6.3).
-use Rattle.std.specs.Prelude.{◌≡◌, ℕ, List, [], ◌++◌, Option, Some, None, true, false, option_and_then}
+use Rattle.std.specs.Prelude.{◌≡◌, ℕ, List, [], ◌++◌, Option, Some, true, false, option_and_then}
 use Rattle.std.specs.List.{slice_get}
 use Rattle.coset.specs.Answers.{Describes}
 use Rattle.coset.specs.Encrypt.{encrypt, encrypt_structure_of}

@@ -1,4 +1,4 @@
-use Rattle.std.proofs.Common.{◌≡◌, ℕ, refl, subst}
+use Rattle.std.proofs.Common.{ℕ, refl, subst}
 use Rattle.coset_explain.specs.Column.{EndsAt, place}
 use Rattle.coset_explain.proofs.Columns.{place_is}
 use Rattle.coset_explain.proofs.apart.explain.Goals as goal

@@ -1,4 +1,4 @@
-use Rattle.std.proofs.Common.{◌≡◌, List, ℕ, sym, subst}
+use Rattle.std.proofs.Common.{List, ℕ, subst}
 use Rattle.coset_explain.specs.declared.kind.Kind.{Kind}
 use Rattle.coset_explain.specs.Refusal.{JudgesNamed}
 use Rattle.coset_explain.proofs.kind.Kind.refusal.Goals as goal
