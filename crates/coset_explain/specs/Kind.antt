@@ -1,5 +1,5 @@
 -- Kinds by name.
-use Rattle.std.specs.Prelude.{ℕ, List, codes}
+use Rattle.std.specs.Prelude.{◌≡◌, ◌++◌, ℕ, List, Bool, true, false, codes}
 use Rattle.coset_explain.specs.declared.kind.Kind.{Kind}
 use Rattle.coset_explain.specs.declared.kind.Kind.TheVariants as kinds
 
@@ -19,3 +19,14 @@ kind_name kinds.Key = codes "key"
 kind_name kinds.Keyset = codes "keyset"
 kind_name kinds.Claims = codes "claims"
 kind_name kinds.Kdf = codes "kdf"
+
+-- the kinds whose tag says what they are
+abbrev pub is_by_tag : Kind → Bool
+is_by_tag kinds.Auto = true
+is_by_tag kinds.Cwt = true
+is_by_tag _ = false
+
+-- `named` is the kind, and `rest` are the bytes; or where the tag says what it is, some kind, and what stands behind some of the bytes
+pub record Names (kind : Kind) (bytes : List ℕ) (named : Kind) (rest : List ℕ) : Type 0 where
+  pub behind : (front : List ℕ) × (bytes ≡ front ++ rest)
+  pub same : is_by_tag kind ≡ false → (named ≡ kind) × (rest ≡ bytes)

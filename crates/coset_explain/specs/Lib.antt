@@ -1,3 +1,4 @@
 pub mod Column
 pub mod Kind
 pub mod Refusal
+pub mod Structure

@@ -1,5 +1,5 @@
 -- Why bytes aren't of a kind, as the library reads them.
-use Rattle.std.specs.Prelude.{◌≡◌, Bool, true, false, ℕ, List, ◌++◌, Option, Some, None}
+use Rattle.std.specs.Prelude.{◌≡◌, true, false, ℕ, List, ◌++◌, Option, Some, None}
 use Rattle.coset.specs.Answers.{Describes, SliceFaults, DescribesNothing}
 use Rattle.coset.specs.Claims.{claims}
 use Rattle.coset.specs.Context.{context}
@@ -15,6 +15,7 @@ use Rattle.coset.specs.Shape.{Shape, any}
 use Rattle.coset.specs.Sign.{sign}
 use Rattle.coset.specs.Sign1.{sign1}
 use Rattle.coset.specs.PerhapsTagged.{perhaps_tagged}
+use Rattle.coset_explain.specs.Kind.{is_by_tag}
 use Rattle.coset_explain.specs.declared.kind.Kind.{Kind}
 use Rattle.coset_explain.specs.declared.kind.Kind.TheVariants as kinds
 
@@ -48,12 +49,6 @@ pub record JudgesSome (bytes : List ℕ) (error : Option CoseError) : Type 0 whe
   pub rest : List ℕ
   pub parts : bytes ≡ front ++ rest
   pub judged : JudgesNamed kind rest error
-
--- the kinds whose tag says what they are
-abbrev pub is_by_tag : Kind → Bool
-is_by_tag kinds.Auto = true
-is_by_tag kinds.Cwt = true
-is_by_tag _ = false
 
 -- of any kind; of one whose tag says what it is, it isn't said here which that is
 pub record JudgesAs (kind : Kind) (bytes : List ℕ) (error : Option CoseError) : Type 0 where

@@ -1,15 +1,17 @@
 //! The input, taken apart.
 
-ghost use Rattle.std.specs.Prelude.{◌≡◌, ◌≤◌, ◌+◌, ◌*◌, IfOk, IfSome, IsSome, length};
+ghost use Rattle.std.specs.Prelude.{◌≡◌, ◌≤◌, ◌+◌, ◌*◌, IfOk, IfSome, IsSome, MatchOption, None, Some, length};
 ghost use Rattle.coset_explain.specs.Column.{EndsAt, column, place, shown, whole};
 ghost use Rattle.coset_explain.specs.Refusal.{JudgesAs};
+ghost use Rattle.coset_fault.specs.Places.{IsPlace};
 
 use crate::column::{Column, Line};
-use crate::fault::Fault;
 use crate::hunt::Hunt;
 use crate::kind::Kind;
+use crate::paths::{path, steps};
 use crate::walk::Walk;
 use coset::CoseError;
+use coset_fault::{Fault, Step, fault_at};
 use std::alloc::{AllocError, Global};
 
 /// An input, taken apart.
@@ -23,19 +25,55 @@ pub struct Explained<'a> {
     pub fault: Option<(usize, Fault)>,
 }
 
+/// Why an input isn't of a kind.
+#[derive(Drop)]
+pub struct Refusal {
+    /// The error of the library's reading.
+    pub error: CoseError,
+    /// Where what it tells of stands, if that was found.
+    pub place: Option<Place>,
+}
+
+/// A place in an input.
+#[derive(Drop)]
+pub struct Place {
+    /// The offset in the input.
+    pub offset: usize,
+    /// The steps there.
+    pub steps: Vec<Step>,
+    /// The same in words: `.` and a label, or the name of an element; `[` and the index of another element `]`; `{` a label
+    /// `}` for that label itself; `()` for what a tag encloses, `<<>>` for what a byte string holds, `(_` and an index `)` for
+    /// a chunk; `.` alone for the whole.
+    pub path: String,
+}
+
+/// What is said of a fault.
+fn fault_text(fault: Fault) -> &'static str {
+    match fault {
+        Fault::Ends => "the bytes end, or more is announced than is left",
+        Fault::Malformed => "not well-formed",
+        Fault::Simple => "a simple value other than false, true and null",
+        Fault::Levels => "more than 256 levels of arrays, maps and tags",
+        Fault::Layers => "more than 16 protected headers inside one another",
+        Fault::Extraneous => "bytes behind the item",
+        Fault::Shape => "not as its place asks",
+    }
+}
+
 /// Adds to the note of the next line that the input was refused, and where.
 fn push_refusal(
     note: &mut String,
     error: Option<&CoseError>,
     fault: Option<(usize, Fault)>,
+    path: &str,
 ) -> Result<(), AllocError> {
     match (fault, error) {
         (Some((offset, Fault::Shape)), Some(error)) => {
-            write!(note, "refused at offset {offset}: {error}")
+            write!(note, "refused at offset {offset}, {path}: {error}")
         }
         (Some((offset, fault)), _) => {
-            let text = fault.text();
-            write!(note, "refused at offset {offset}: {text}")
+            let text = fault_text(fault);
+            write!(note, "refused at offset {offset}, {path}: {text}")
         }
         (None, Some(error)) => write!(note, "refused: {error}"),
         (None, None) => Ok(()),
@@ -47,6 +85,7 @@ fn lines_of<'a>(
     mut so_far: Column<'a>,
     error: Option<&CoseError>,
     fault: Option<(usize, Fault)>,
+    path: &str,
 ) -> Result<Vec<Line<'a>>, AllocError>
     ensures column { IfOk result (λ lines. column lines.items ≡ whole so_far.entry) }
     ensures lines { IfOk result (λ lines. length lines.items ≤ shown so_far.entry + 1) }
@@ -55,8 +94,52 @@ fn lines_of<'a>(
     if fault.is_none() && error.is_none() {
         return so_far.finish();
     }
-    push_refusal(&mut so_far.note, error, fault)?;
+    push_refusal(&mut so_far.note, error, fault, path)?;
     so_far.end_with_rest()
+}
+
+/// The walk over bytes that should be of that kind, to its end: a fault, or that of the input.
+fn walked<'a, 'e>(
+    alloc: Global,
+    kind: Kind,
+    bytes: &'a [u8],
+    error: Option<&'e CoseError>,
+    now: Option<i64>,
+) -> Result<Walk<'a, 'e>, AllocError>
+    ensures whole { IfOk result (λ w. whole w.column ≡ bytes.now) }
+    ensures lines { IfOk result (λ w. shown w.column ≤ 2 * length bytes.now + 2) }
+{
+    let hunt = Hunt::of(alloc, error);
+    let mut walk = Walk::new(alloc, bytes, kind.role(), hunt, now)?;
+    walk.run(alloc, bytes.len())?;
+    walk.end_line(alloc)?;
+    Ok(walk)
+}
+
+/// The place at which the walk ended, where what the error tells of stands there.
+fn place_of(
+    alloc: Global,
+    bytes: &[u8],
+    error: &CoseError,
+    walk: &Walk<'_, '_>,
+) -> Result<Option<Place>, AllocError>
+    ensures place { IfOk result (λ o. IfSome o
+        (λ p. IsPlace error.now bytes.now p.steps.items p.offset)) }
+    ensures within { IfOk result (λ o. IfSome o (λ p. p.offset ≤ length bytes.now)) }
+{
+    let Some(fault) = walk.fault else {
+        return Ok(None);
+    };
+    let steps = steps(alloc, &walk.open, fault == Fault::Extraneous)?;
+    let path = path(alloc, bytes, &walk.open, walk.column.left())?;
+    match fault_at(alloc, bytes, error, &steps, walk.hunt.earlier)? {
+        Some(offset) => Ok(Some(Place {
+            offset,
+            steps,
+            path,
+        })),
+        None => Ok(None),
+    }
 }
 
 /// Takes the bytes apart as something of that kind: line by line what they are, under registered names, and what there is to
@@ -88,18 +171,47 @@ pub fn explain<'a>(
     if matches!(error, Some(CoseError::OutOfMemory)) {
         return Err(AllocError);
     }
-    let hunt = Hunt::of(alloc, error.as_ref());
-    let mut walk = Walk::new(alloc, bytes, kind.role(), hunt, now)?;
-    walk.run(alloc, bytes.len())?;
-    walk.end_line(alloc)?;
+    let walk = walked(alloc, kind, bytes, error.as_ref(), now)?;
+    let left = walk.column.left();
     let fault = match walk.fault {
-        Some(fault) => Some((bytes.len().saturating_sub(walk.column.left()), fault)),
+        Some(fault) => Some((bytes.len().saturating_sub(left), fault)),
         None => None,
     };
-    let lines = lines_of(walk.column, error.as_ref(), fault)?;
+    let path = path(alloc, bytes, &walk.open, left)?;
+    let lines = lines_of(walk.column, error.as_ref(), fault, path.as_str())?;
     Ok(Explained {
         lines,
         error,
         fault,
     })
+}
+
+/// Says why the bytes aren't of that kind, and where what is at fault stands: its offset, which lies in the input also where it
+/// stands in a protected byte string, and the path there; `None` where they are of the kind.
+///
+/// What the error names stands there: it was looked at again, with the steps from the front of the bytes. Where several items
+/// have the fault that the error tells of, it is the first of them.
+///
+/// # Errors
+/// `AllocError` alone.
+pub fn fault(alloc: Global, kind: Kind, bytes: &[u8]) -> Result<Option<Refusal>, AllocError>
+    // The error is what the library's reading says.
+    ensures error { IfOk result (λ o. MatchOption o (JudgesAs kind bytes.now None)
+        (λ r. JudgesAs kind bytes.now (Some r.error))) }
+    // What the error tells of stands at the offset, to which the steps lead.
+    ensures place { IfOk result (λ o. IfSome o (λ r. IfSome r.place
+        (λ p. IsPlace r.error bytes.now p.steps.items p.offset))) }
+    // The offset lies in the bytes, or at their end.
+    ensures within { IfOk result (λ o. IfSome o (λ r. IfSome r.place
+        (λ p. p.offset ≤ length bytes.now))) }
+{
+    let Some(error) = kind.refusal(alloc, bytes) else {
+        return Ok(None);
+    };
+    if matches!(error, CoseError::OutOfMemory) {
+        return Err(AllocError);
+    }
+    let walk = walked(alloc, kind, bytes, Some(&error), None)?;
+    let place = place_of(alloc, bytes, &error, &walk)?;
+    Ok(Some(Refusal { error, place }))
 }

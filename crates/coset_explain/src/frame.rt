@@ -1,8 +1,8 @@
 //! What is open at a place: arrays, maps, tags, strings in chunks, and byte strings whose content is shown.
 
-use crate::fault::Fault;
-use crate::head::{Form, Head};
+use crate::head::integer;
 use crate::role::{Part, Role, label_of, place, value_of};
+use coset_fault::{Fault, Form, Head};
 
 /// How deep arrays, maps and tags may nest in one item.
 const LEVELS: u32 = 256;
@@ -42,8 +42,8 @@ pub(crate) struct Frame {
     label: Option<i64>,
     /// The type of a key, where it is a number.
     key_type: Option<i64>,
-    /// Whether the type of a key was read, and isn't the reserved one.
-    pub(crate) has_type: bool,
+    /// How many bytes of the input stood from the last key on.
+    pub(crate) key_left: usize,
     /// The width that the head of a byte string is told to have.
     pub(crate) width: u8,
     /// How many bytes of the input stand behind the byte string that this is in.
@@ -66,7 +66,7 @@ impl Frame {
             index: 0,
             label: None,
             key_type: None,
-            has_type: false,
+            key_left: 0,
             width: 0,
             behind: 0,
             levels: LEVELS,
@@ -92,7 +92,7 @@ impl Frame {
             index: 0,
             label: None,
             key_type: None,
-            has_type: false,
+            key_left: 0,
             width: 0,
             behind: self.behind,
             levels: self.levels.saturating_sub(1),
@@ -117,7 +117,7 @@ impl Frame {
             index: 0,
             label: None,
             key_type: None,
-            has_type: false,
+            key_left: 0,
             width,
             behind: self.behind.saturating_add(behind),
             levels: LEVELS,
@@ -133,6 +133,16 @@ impl Frame {
     /// Whether the next item is the value of a key.
     pub(crate) fn is_at_value(&self) -> bool {
         self.container == Container::Map && self.index % 2 == 1
+    }
+
+    /// The index of the next item: of a map that of its pair.
+    pub(crate) fn place(&self) -> usize {
+        let index = if self.container == Container::Map {
+            self.index / 2
+        } else {
+            self.index
+        };
+        index.min(usize::MAX as u64) as usize
     }
 
     /// What the next item is for.
@@ -163,12 +173,11 @@ impl Frame {
         }
     }
 
-    /// Passes an item with this head.
-    pub(crate) fn pass(&mut self, head: &Head) {
+    /// Passes an item with this head, from which on so many bytes stand that belong to this.
+    pub(crate) fn pass(&mut self, head: &Head, left: usize) {
         if self.is_at_key() {
-            self.label = head.integer();
-        } else if self.role == Role::Key && self.label == Some(1) {
-            self.has_type = head.integer() != Some(0);
+            self.label = integer(head);
+            self.key_left = self.behind.saturating_add(left);
         }
         self.index = self.index.saturating_add(1);
         if let Some(left) = self.left {

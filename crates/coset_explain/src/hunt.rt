@@ -1,13 +1,15 @@
 //! Where the fault stands for which a type's reading refused the bytes.
 
-use crate::fault::Fault;
-use crate::frame::{Container, Frame, content};
-use crate::head::{Form, Head, behind};
+use crate::frame::{Container, Frame};
+use crate::head::{integer, is_integer, kind_name};
+use crate::names::parameter;
 use crate::role::{Message, Part, Role, is_private, name_of};
-use coset::cbor::de::Pull;
-use coset::{CborSerializable, CoseError, CoseSignature};
+use coset::cbor::de::{Error, Pull};
+use coset::cbor::value::Integer;
+use coset::{CborSerializable, CoseError, CoseSignature, Header};
+use coset_fault::{Fault, Form, Head};
 use std::alloc::{AllocError, Global};
-use std::collections::BTreeSet;
+use std::collections::BTreeMap;
 
 /// What is sought.
 #[derive(Clone, Copy, Debug)]
@@ -22,6 +24,12 @@ enum Sought {
     Operation,
     /// A label that repeats.
     Repeated,
+    /// IV beside Partial IV.
+    BothIvs,
+    /// A text that names no media type: for white space at its ends, or else for its slashes.
+    MediaType(bool),
+    /// The 17th protected header inside others.
+    Depth,
     /// An integer outside of the range of its place.
     OutOfRange,
     /// A number without a name, in a registry without a private range.
@@ -32,9 +40,14 @@ enum Sought {
 
 /// What is sought, and which labels came.
 #[derive(Drop)]
-pub(crate) struct Hunt {
+pub(crate) struct Hunt<'e> {
     sought: Sought,
-    labels: BTreeSet<String>,
+    /// The error that tells of it.
+    error: Option<&'e CoseError>,
+    /// Labels by the map that they came in, each with its index there.
+    labels: BTreeMap<String, usize>,
+    /// Where a label was found that came already, the index at which it came first.
+    pub(crate) earlier: Option<usize>,
 }
 
 /// Whether an item with this head may stand at the place.
@@ -61,10 +74,10 @@ fn fits(frame: &Frame, role: Role, head: &Head) -> bool {
         Role::Payload(_) | Role::MaybeBytes => {
             head.form == Form::Bytes || head.form == Form::Null
         }
-        Role::Nonce => { head.form == Form::Bytes || head.form == Form::Null || head.is_integer() }
+        Role::Nonce => { head.form == Form::Bytes || head.form == Form::Null || is_integer(head) }
         Role::Text => head.form == Form::Text,
-        Role::Length => head.is_integer(),
-        Role::Expiry | Role::Start | Role::Time => head.is_integer() || head.form == Form::Float,
+        Role::Length => is_integer(head),
+        Role::Expiry | Role::Start | Role::Time => is_integer(head) || head.form == Form::Float,
         Role::CriticalLabel
         | Role::Algorithm
         | Role::ContentFormat
@@ -72,7 +85,7 @@ fn fits(frame: &Frame, role: Role, head: &Head) -> bool {
         | Role::Operation
         | Role::HeaderLabel(_)
         | Role::KeyLabel(_)
-        | Role::ClaimName => head.is_integer() || head.form == Form::Text,
+        | Role::ClaimName => is_integer(head) || head.form == Form::Text,
         _ => true,
     }
 }
@@ -90,6 +103,39 @@ fn tag_of(role: Role) -> u64 {
     }
 }
 
+/// How many elements the array with this head has, which stands at the front of the bytes.
+fn count_of(head: &Head, bytes: &[u8]) -> u64 {
+    if !head.is_open {
+        return head.number;
+    }
+    let Ok((pull, _)) = Pull::new(bytes) else {
+        return 0;
+    };
+    let mut count = 0u64;
+    if let Some(elements) = pull.items() {
+        for _element in elements {
+            count = count.saturating_add(1);
+        }
+    }
+    count
+}
+
+/// Whether the map at the front of the bytes has the type of a key, which isn't the reserved one.
+fn has_key_type(bytes: &[u8]) -> bool {
+    let Ok((pull, _)) = Pull::new(bytes) else {
+        return false;
+    };
+    let Some(pairs) = pull.pairs() else {
+        return false;
+    };
+    for (label, value) in pairs {
+        if label.integer() == Some(Integer::from(1u8)) {
+            return value.integer() != Some(Integer::from(0u8));
+        }
+    }
+    false
+}
+
 /// Whether an array with this role may have so many elements.
 fn has_count(role: Role, count: u64) -> bool {
     match role {
@@ -103,19 +149,48 @@ fn has_count(role: Role, count: u64) -> bool {
     }
 }
 
-/// What an item without content is called where one with content is asked for; `None` where it isn't.
-fn empty_kind(role: Role, head: &Head) -> Option<&'static str> {
-    if head.is_open || head.number != 0 {
-        return None;
+/// What an item is called that lacks what its role asks for; `None` where it lacks nothing.
+fn lacking(role: Role, head: &Head, bytes: &[u8]) -> Option<&'static str> {
+    if role == Role::Key && !has_key_type(bytes) {
+        return Some("no kty label");
     }
     match role {
-        Role::FilledBytes => Some("empty bstr"),
-        Role::ContentFormat if head.form == Form::Text => Some("empty tstr"),
-        Role::Countersignatures => Some("empty sig array"),
-        Role::Key => Some("no kty label"),
-        Role::Labels | Role::Operations => Some("empty array"),
+        Role::FilledBytes if is_empty(head, bytes) => Some("empty bstr"),
+        Role::ContentFormat if head.form == Form::Text && is_empty(head, bytes) => {
+            Some("empty tstr")
+        }
+        Role::Countersignatures if is_empty(head, bytes) => Some("empty sig array"),
+        Role::Labels | Role::Operations if is_empty(head, bytes) => Some("empty array"),
         _ => None,
     }
+}
+
+/// Whether the array or the string with this head, which stands at the front of the bytes, holds nothing.
+fn is_empty(head: &Head, bytes: &[u8]) -> bool {
+    match head.form {
+        Form::Array => count_of(head, bytes) == 0,
+        _ if head.is_open => content_length(bytes) == 0,
+        _ => head.number == 0,
+    }
+}
+
+/// How long the string in chunks is that stands at the front.
+fn content_length(bytes: &[u8]) -> u64 {
+    let Ok((pull, _)) = Pull::new(bytes) else {
+        return 0;
+    };
+    let mut length = 0;
+    if let Some(chunks) = pull.bytes_chunks() {
+        for chunk in chunks {
+            length = chunk.len().max(length);
+        }
+    }
+    if let Some(chunks) = pull.text_chunks() {
+        for chunk in chunks {
+            length = chunk.len().max(length);
+        }
+    }
+    length as u64
 }
 
 /// Whether an error asks for this where an item with this role stands.
@@ -138,14 +213,14 @@ fn asks(role: Role, want: &str) -> bool {
 }
 
 /// What an item is called that may not stand at its place; `None` of one that may.
-fn unexpected(frame: &Frame, role: Role, head: &Head) -> Option<&'static str> {
+fn unexpected(frame: &Frame, role: Role, head: &Head, bytes: &[u8]) -> Option<&'static str> {
     if !fits(frame, role, head) {
-        return Some(head.kind_name());
+        return Some(kind_name(head));
     }
-    if head.form == Form::Array && !head.is_open && !has_count(role, head.number) {
+    if head.form == Form::Array && !has_count(role, count_of(head, bytes)) {
         return Some("array");
     }
-    empty_kind(role, head)
+    lacking(role, head, bytes)
 }
 
 /// Whether an integer with this role has to be one of 64 bits with a sign.
@@ -172,7 +247,7 @@ fn is_out_of_range(role: Role, head: &Head) -> bool {
     if role == Role::Length {
         return head.form == Form::Negative;
     }
-    is_bounded(role) && head.is_integer() && head.integer().is_none()
+    is_bounded(role) && is_integer(head) && integer(head).is_none()
 }
 
 /// Whether the item at the front of the bytes is a signature (RFC 8152, section 4.1).
@@ -187,40 +262,107 @@ fn is_signature(alloc: Global, bytes: &[u8]) -> Result<bool, AllocError> {
     }
 }
 
-/// Whether the number has no name in the registry of its role, and whether that has no private range.
-fn is_unregistered(role: Role, head: &Head, has_private: bool) -> bool {
-    let Some(number) = head.integer() else {
-        return false;
+/// The text string at the front of the bytes, whose chunks are joined; `None` of another item.
+fn text_of(alloc: Global, bytes: &[u8]) -> Result<Option<String>, AllocError> {
+    let Ok((pull, _)) = Pull::new(bytes) else {
+        return Ok(None);
     };
-    let asks = if has_private {
-        matches!(
-            role,
-            Role::CriticalLabel | Role::Algorithm | Role::ClaimName
-        )
-    } else {
-        matches!(role, Role::ContentFormat | Role::KeyType | Role::Operation)
-    };
-    asks && name_of(role, number).is_none() && !is_private(role, number)
+    match pull.to_text(alloc) {
+        Ok(text) => Ok(text),
+        Err(_) => Err(AllocError),
+    }
 }
 
-impl Hunt {
+/// Whether the text at the front of the bytes names no media type, for white space at its ends, or else for its slashes (RFC
+/// 8152, section 3.1).
+fn is_no_media_type(
+    alloc: Global,
+    bytes: &[u8],
+    is_spaced: bool,
+) -> Result<bool, AllocError> {
+    let Some(text) = text_of(alloc, bytes)? else {
+        return Ok(false);
+    };
+    let has_spaces = text.trim() != text.as_str();
+    let slashes = text.as_bytes().iter().filter(|b| **b == b'/').count();
+    Ok(if is_spaced {
+        has_spaces
+    } else {
+        !has_spaces && slashes != 1
+    })
+}
+
+/// The byte string at the front of the bytes, whose chunks are joined; it is empty of another item.
+fn content_of(alloc: Global, bytes: &[u8]) -> Result<Vec<u8>, AllocError> {
+    let Ok((pull, _)) = Pull::new(bytes) else {
+        return Ok(Vec::new(alloc));
+    };
+    match pull.to_bytes(alloc) {
+        Ok(Some(content)) => Ok(content),
+        Ok(None) => Ok(Vec::new(alloc)),
+        Err(_) => Err(AllocError),
+    }
+}
+
+/// Whether the bytes are something, and no header for this error (RFC 8152, section 3).
+fn is_no_header_for(
+    alloc: Global,
+    content: &[u8],
+    error: &CoseError,
+) -> Result<bool, AllocError> {
+    if content.is_empty() {
+        return Ok(false);
+    }
+    match Header::from_slice(alloc, content) {
+        Ok(_) => Ok(false),
+        Err(CoseError::OutOfMemory) => Err(AllocError),
+        Err(found) => {
+            let (found, error) = (format!(in alloc; "{found}")?, format!(in alloc; "{error}")?);
+            Ok(found == error)
+        }
+    }
+}
+
+/// Whether the number has no name in the registry of its role, and whether that has no private range.
+fn is_unregistered(role: Role, head: &Head, has_private: bool) -> bool {
+    let Some(number) = integer(head) else {
+        return false;
+    };
+    let (asks, is_named) = match role {
+        Role::CriticalLabel => (has_private, parameter(number).is_some()),
+        Role::Algorithm | Role::ClaimName => (has_private, name_of(role, number).is_some()),
+        Role::ContentFormat | Role::KeyType | Role::Operation => {
+            (!has_private, name_of(role, number).is_some())
+        }
+        _ => (false, true),
+    };
+    asks && !is_named && !is_private(role, number)
+}
+
+impl<'e> Hunt<'e> {
     /// The fault that the error tells of.
-    pub(crate) fn of(alloc: Global, error: Option<&CoseError>) -> Hunt {
+    pub(crate) fn of(alloc: Global, error: Option<&'e CoseError>) -> Hunt<'e> {
         let sought = match error {
             Some(CoseError::UnexpectedItem(got, want)) => match *got {
                 "non-signature" => Sought::Signature,
                 "repeated array entry" => Sought::Operation,
+                "IV and partial-IV specified" => Sought::BothIvs,
+                "leading/trailing whitespace" => Sought::MediaType(true),
+                "arbitrary text" => Sought::MediaType(false),
                 got => Sought::Unexpected(got, *want),
             },
             Some(CoseError::DuplicateMapKey) => Sought::Repeated,
             Some(CoseError::OutOfRangeIntegerValue) => Sought::OutOfRange,
             Some(CoseError::UnregisteredIanaValue) => Sought::Unregistered,
             Some(CoseError::UnregisteredIanaNonPrivateValue) => Sought::UnregisteredNonPrivate,
+            Some(CoseError::DecodeFailed(Error::RecursionLimitExceeded)) => Sought::Depth,
             _ => Sought::Nothing,
         };
         Hunt {
             sought,
-            labels: BTreeSet::new(alloc),
+            error,
+            labels: BTreeMap::new(alloc),
+            earlier: None,
         }
     }
 
@@ -240,17 +382,31 @@ impl Hunt {
             return Ok(None);
         }
         let role = part.role;
-        let rest = behind(head, bytes);
+        if role == Role::Protected && head.form == Form::Bytes && head.is_open {
+            return self.in_chunks(alloc, bytes);
+        }
         let found = match self.sought {
             Sought::Nothing => false,
             Sought::Unexpected(got, want) => {
-                asks(role, want) && unexpected(frame, role, head) == Some(got)
+                asks(role, want) && unexpected(frame, role, head, bytes) == Some(got)
             }
             Sought::Signature => frame.role == Role::Signatures && !is_signature(alloc, bytes)?,
             Sought::Operation => {
-                role == Role::Operation && self.repeats(alloc, frame, head, rest)?
+                role == Role::Operation && self.repeats(alloc, frame, head, bytes)?
             }
-            Sought::Repeated => frame.is_at_key() && self.repeats(alloc, frame, head, rest)?,
+            Sought::Repeated => frame.is_at_key() && self.repeats(alloc, frame, head, bytes)?,
+            Sought::BothIvs => {
+                matches!(role, Role::HeaderLabel(_)) && self.is_other_iv(alloc, frame, head)?
+            }
+            Sought::MediaType(is_spaced) => {
+                role == Role::ContentFormat && is_no_media_type(alloc, bytes, is_spaced)?
+            }
+            Sought::Depth => {
+                if role == Role::Protected && frame.layers == 0 {
+                    return Ok(Some(Fault::Layers));
+                }
+                false
+            }
             Sought::OutOfRange => is_out_of_range(role, head),
             Sought::Unregistered => is_unregistered(role, head, false),
             Sought::UnregisteredNonPrivate => is_unregistered(role, head, true),
@@ -258,43 +414,84 @@ impl Hunt {
         Ok(if found { Some(Fault::Shape) } else { None })
     }
 
-    /// Whether the label came already in this map.
+    /// The fault that is sought, where a protected header in chunks, which isn't opened, has it.
+    fn in_chunks(&self, alloc: Global, bytes: &[u8]) -> Result<Option<Fault>, AllocError> {
+        match self.error {
+            Some(error) if is_no_header_for(alloc, &content_of(alloc, bytes)?, error)? => {
+                Ok(Some(Fault::Shape))
+            }
+            _ => Ok(None),
+        }
+    }
+
+    /// Whether what is sought is in a protected header that these bytes hold, which aren't one item.
+    pub(crate) fn is_in(
+        &self,
+        alloc: Global,
+        part: &Part,
+        content: &[u8],
+    ) -> Result<bool, AllocError> {
+        match self.error {
+            Some(error @ (CoseError::DecodeFailed(_) | CoseError::ExtraneousData))
+                if part.is_read && part.role == Role::Protected =>
+            {
+                is_no_header_for(alloc, content, error)
+            }
+            _ => Ok(false),
+        }
+    }
+
+    /// Keeps a label, and says whether it came already.
+    fn keep(&mut self, label: String, index: usize) -> Result<bool, AllocError> {
+        match self.labels.insert(label, index)? {
+            Some(earlier) => {
+                self.earlier = Some(earlier);
+                Ok(true)
+            }
+            None => Ok(false),
+        }
+    }
+
+    /// Whether the label at the front of the bytes came already in this map.
     fn repeats(
         &mut self,
         alloc: Global,
         frame: &Frame,
         head: &Head,
-        rest: &[u8],
+        bytes: &[u8],
     ) -> Result<bool, AllocError> {
         let map = frame.id;
-        let label = match head.integer() {
+        let label = match integer(head) {
             Some(number) => format!(in alloc; "{map} {number}")?,
             None => {
-                let Ok(text) = str::from_utf8(content(head, rest)) else {
+                let Some(text) = text_of(alloc, bytes)? else {
                     return Ok(false);
                 };
                 format!(in alloc; "{map} t{text}")?
             }
         };
-        Ok(!self.labels.insert(label)?)
+        self.keep(label, frame.place())
     }
 
-    /// The fault that is sought, where what ends here has it: an array whose number of elements wasn't announced, or a key
-    /// without a type.
-    pub(crate) fn at_end(&self, frame: &Frame) -> Option<Fault> {
-        let Sought::Unexpected(got, _) = self.sought else {
-            return None;
+    /// Whether the head is that of IV or Partial IV, and the other came already in this map.
+    fn is_other_iv(
+        &mut self,
+        alloc: Global,
+        frame: &Frame,
+        head: &Head,
+    ) -> Result<bool, AllocError> {
+        let number = match integer(head) {
+            Some(5) => 5,
+            Some(6) => 6,
+            _ => return Ok(false),
         };
-        if !frame.is_read {
-            return None;
-        }
-        let found = match frame.container {
-            Container::Array => got == "array" && !has_count(frame.role, frame.index),
-            Container::Map => {
-                got == "no kty label" && frame.role == Role::Key && !frame.has_type
-            }
-            _ => false,
-        };
-        if found { Some(Fault::Shape) } else { None }
+        let (map, other) = (frame.id, 11 - number);
+        let (label, other) = (
+            format!(in alloc; "{map} {number}")?,
+            format!(in alloc; "{map} {other}")?,
+        );
+        self.labels.insert(label, frame.place())?;
+        self.earlier = self.labels.get(other.as_str()).copied();
+        Ok(self.earlier.is_some())
     }
 }

@@ -2,10 +2,9 @@
 
 ghost use Rattle.std.specs.Prelude.{◌≡◌, ◌++◌, List, MatchOption, ℕ};
 ghost use Rattle.coset.specs.PerhapsTagged.{perhaps_tagged};
-ghost use Rattle.coset_explain.specs.Kind.{kind_name};
-ghost use Rattle.coset_explain.specs.Refusal.{Judges, JudgesNamed, JudgesAs, is_by_tag};
+ghost use Rattle.coset_explain.specs.Kind.{kind_name, is_by_tag, Names};
+ghost use Rattle.coset_explain.specs.Refusal.{Judges, JudgesNamed, JudgesAs};
 
-use crate::head::{Form, head_of};
 use crate::role::{Message, Role};
 use coset::cbor::value::Value;
 use coset::cwt::ClaimsSet;
@@ -13,6 +12,7 @@ use coset::{
     CborSerializable, CoseCountersignature, CoseEncrypt, CoseEncrypt0, CoseError, CoseKdfContext,
     CoseKey, CoseKeySet, CoseMac, CoseMac0, CoseSign, CoseSign1, TaggedCborSerializable,
 };
+use coset_fault::{Form, head_of};
 use std::alloc::Global;
 
 /// What bytes should be.
@@ -54,10 +54,7 @@ fn without_tag(number: u64, bytes: &[u8]) -> &[u8]
     ensures { (front : List ℕ) × (bytes.now ≡ front ++ result.now) }
 {
     match head_of(bytes) {
-        Ok(head) if head.form == Form::Tag && head.number == number => {
-            let (_, rest) = bytes.split_at(head.size);
-            rest
-        }
+        Ok((head, rest)) if head.form == Form::Tag && head.number == number => rest,
         _ => bytes,
     }
 }
@@ -113,7 +110,7 @@ impl Kind {
     /// The kind that the tag at the front says (RFC 8152, table 1).
     fn by_tag(bytes: &[u8]) -> Kind {
         let number = match head_of(bytes) {
-            Ok(head) if head.form == Form::Tag => head.number,
+            Ok((head, _)) if head.form == Form::Tag => head.number,
             _ => return Kind::Value,
         };
         match number {
@@ -148,16 +145,25 @@ impl Kind {
         }
     }
 
+    /// The kind by name, and the bytes that should be of it: of a kind whose tag says what it is, the kind that the tag
+    /// says, and what stands behind tag 61.
+    pub(crate) fn named(self, bytes: &[u8]) -> (Kind, &[u8])
+        ensures { Names self bytes.now result.0 result.1.now }
+    {
+        if self.is_by_tag() {
+            let inner = without_tag(61, bytes);
+            (Kind::by_tag(inner), inner)
+        } else {
+            (self, bytes)
+        }
+    }
+
     /// Why the bytes aren't of the kind, as the library's reading says, or that memory ran out; `None` where they are.
     pub fn refusal(self, alloc: Global, bytes: &[u8]) -> Option<CoseError>
         ensures { JudgesAs self bytes.now result }
     {
-        if self.is_by_tag() {
-            let inner = without_tag(61, bytes);
-            Kind::by_tag(inner).refusal_of_named(alloc, inner)
-        } else {
-            self.refusal_of_named(alloc, bytes)
-        }
+        let (kind, named) = self.named(bytes);
+        kind.refusal_of_named(alloc, named)
     }
 
     /// Whether the tag says what it is.

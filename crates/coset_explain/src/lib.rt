@@ -5,7 +5,6 @@
 mod apart;
 mod column;
 mod date;
-mod fault;
 mod frame;
 mod head;
 mod hunt;
@@ -13,13 +12,16 @@ mod kind;
 mod names;
 mod note;
 mod opening;
+mod paths;
 mod print;
 mod role;
+mod structures;
 mod text;
 mod walk;
 
-pub use apart::{Explained, explain};
+pub use apart::{Explained, Place, Refusal, explain, fault};
 pub use column::Line;
-pub use fault::Fault;
+pub use coset_fault::{Fault, Step};
 pub use kind::Kind;
 pub use print::{annotated, notation};
+pub use structures::{annotated_structures, structure};

@@ -1,9 +1,11 @@
 //! What there is to say of an item, by its head.
 
 use crate::date::{has_date, push_date};
-use crate::frame::Frame;
-use crate::head::{Form, Head};
-use crate::role::{Part, Role, is_private, is_registered, name_of, title};
+use crate::frame::{Container, Frame};
+use crate::head::{integer, is_shortest};
+use crate::role::{Message, Part, Role, is_private, is_registered, name_of, title};
+use crate::text::is_nan;
+use coset_fault::{Form, Head};
 use std::alloc::AllocError;
 
 /// The note of a line, to which pieces are added.
@@ -78,6 +80,42 @@ fn unprotected(frame: &Frame, role: Role) -> &'static str {
     }
 }
 
+/// Whether a signature or a MAC is over an element of a message, or it goes with the ciphertext, by its place: protected
+/// header, unprotected header, payload (RFC 8152, sections 4.4, 5.3 and 6.3); it may be empty.
+fn coverage(frame: &Frame) -> &'static str {
+    if frame.container != Container::Array {
+        return "";
+    }
+    match (frame.role, frame.index) {
+        (Role::Message(Message::Sign1 | Message::Sign, _), 0 | 2) | (Role::Signature, 0) => {
+            "signed"
+        }
+        (Role::Message(Message::Sign1 | Message::Sign, _) | Role::Signature, 1) => "not signed",
+        (Role::Message(Message::Mac0 | Message::Mac, _), 0 | 2) => "authenticated",
+        (Role::Message(Message::Encrypt0 | Message::Encrypt, _), 0) => "authenticated",
+        (Role::Message(_, _) | Role::Recipient, 1) => "not authenticated",
+        _ => "",
+    }
+}
+
+/// That the payload or the ciphertext is detached, with `nil` in its place (RFC 8152, section 4.1); it may be empty.
+fn detached(frame: &Frame, head: &Head) -> &'static str {
+    match (frame.role, frame.index) {
+        (Role::Message(_, _), 2) if head.form == Form::Null => "detached",
+        _ => "",
+    }
+}
+
+/// Adds the bits of a NaN, whose payload diagnostic notation doesn't show (RFC 8949, section 8).
+fn add_bits(notes: &mut Notes<'_>, head: &Head) -> Result<(), AllocError> {
+    if head.form != Form::Float || !is_nan(head) {
+        return Ok(());
+    }
+    notes.begin()?;
+    let number = head.number;
+    write!(notes.text, "bits 0x{number:x}")
+}
+
 /// Adds what there is to say of the item with this head, which is for that.
 ///
 /// # Errors
@@ -95,7 +133,9 @@ pub(crate) fn push(
         separator,
     };
     notes.add(part.name)?;
-    if let Some(number) = head.integer() {
+    notes.add(coverage(frame))?;
+    notes.add(detached(frame, head))?;
+    if let Some(number) = integer(head) {
         notes.add(name(part.role, number))?;
         notes.add_date(part.role, number, now)?;
     }
@@ -103,10 +143,11 @@ pub(crate) fn push(
     if head.form == Form::Array || head.form == Form::Map {
         notes.add(title(part.role))?;
     }
-    if part.role == Role::Protected && head.is_open {
+    if part.role == Role::Protected && head.form == Form::Bytes && head.is_open {
         notes.add("in chunks, and not opened")?;
     }
-    if head.form != Form::Float && !head.is_shortest() {
+    add_bits(&mut notes, head)?;
+    if head.form != Form::Float && !is_shortest(head) {
         notes.add("not the shortest head")?;
     }
     Ok(())

@@ -1,12 +1,12 @@
 //! What items with parts open, and what opens them in diagnostic notation.
 
-use crate::fault::Fault;
 use crate::frame::{Container, Frame, begins_break, content};
-use crate::head::{Form, Head, behind};
+use crate::head::behind;
 use crate::role::{Part, Role, under_tag};
 use crate::text::{told_width, width_mark};
 use coset::cbor::de::Pull;
 use coset::cbor::value::Integer;
+use coset_fault::{Form, Head};
 use std::alloc::AllocError;
 
 /// How many items a map of this many pairs holds.
@@ -17,10 +17,11 @@ fn items(pairs: Option<u64>) -> Option<u64> {
     }
 }
 
-/// What an array or a map with this part is for, where these bytes follow its head: countersignatures that begin with a
-/// byte string are one.
-fn opened_part(part: Part, rest: &[u8]) -> Part {
-    if part.role != Role::Countersignatures {
+/// What an item with this part and this head is for, where these bytes follow: countersignatures that begin with a byte string
+/// are one.
+pub(crate) fn opened_part(part: Part, head: &Head, rest: &[u8]) -> Part {
+    let has_first = head.form == Form::Array && (head.is_open || 0 < head.number);
+    if part.role != Role::Countersignatures || !has_first {
         return part;
     }
     match rest.first() {
@@ -53,8 +54,15 @@ fn opened_map(opened: Frame, bytes: &[u8]) -> Frame {
     }
 }
 
-/// What the item with this head, which stands at the front of these bytes, opens; `None` where it has no parts to show.
-pub(crate) fn opening(frame: &Frame, part: Part, head: &Head, bytes: &[u8]) -> Option<Frame> {
+/// What the item with this head, which stands at the front of these bytes, opens; `None` where it has no parts to show. The
+/// content of a protected byte string is opened where it is one item, or what is sought is in it.
+pub(crate) fn opening(
+    frame: &Frame,
+    part: Part,
+    head: &Head,
+    bytes: &[u8],
+    is_sought: bool,
+) -> Option<Frame> {
     let rest = behind(head, bytes);
     let announced = if head.is_open {
         None
@@ -65,7 +73,7 @@ pub(crate) fn opening(frame: &Frame, part: Part, head: &Head, bytes: &[u8]) -> O
         Form::Array if announced != Some(0) => {
             Some(frame.nested(
                 Container::Array,
-                opened_part(part, rest),
+                opened_part(part, head, rest),
                 announced,
                 rest.len(),
             ))
@@ -86,17 +94,23 @@ pub(crate) fn opening(frame: &Frame, part: Part, head: &Head, bytes: &[u8]) -> O
             let part = Part::named(Role::Plain, "");
             Some(frame.nested(Container::Chunks(head.form), part, None, 0))
         }
-        Form::Bytes => embedding(frame, part, head, rest),
+        Form::Bytes => embedding(frame, part, head, rest, is_sought),
         _ => None,
     }
 }
 
 /// What the content of a byte string is, where it is shown: a protected header, or the claims of a token.
-fn embedding(frame: &Frame, part: Part, head: &Head, rest: &[u8]) -> Option<Frame> {
+fn embedding(
+    frame: &Frame,
+    part: Part,
+    head: &Head,
+    rest: &[u8],
+    is_sought: bool,
+) -> Option<Frame> {
     let content = content(head, rest);
     let behind = rest.len().saturating_sub(content.len());
     match part.role {
-        Role::Protected if opens_protected(frame, part, content) => {
+        Role::Protected if 0 < frame.layers && (is_sought || is_item(content)) => {
             let part = Part {
                 role: Role::Header(true),
                 name: "",
@@ -114,20 +128,6 @@ fn embedding(frame: &Frame, part: Part, head: &Head, rest: &[u8]) -> Option<Fram
             Some(frame.embedded(part, behind, frame.layers, told_width(head)))
         }
         _ => None,
-    }
-}
-
-/// Whether this content of a byte string is shown as a protected header: where it is one, or has to be.
-fn opens_protected(frame: &Frame, part: Part, content: &[u8]) -> bool {
-    !content.is_empty() && 0 < frame.layers && (part.is_read || is_item(content))
-}
-
-/// The fault of a protected header that is the 17th inside others.
-pub(crate) fn layer_fault(frame: &Frame, part: &Part) -> Option<Fault> {
-    if part.is_read && part.role == Role::Protected && frame.layers == 0 {
-        Some(Fault::Layers)
-    } else {
-        None
     }
 }
 

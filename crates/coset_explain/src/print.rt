@@ -32,6 +32,16 @@ fn push_note(text: &mut String, note: &str) -> Result<(), AllocError> {
     text.push_str(" /")
 }
 
+/// Adds a line that has no bytes, and is a comment.
+///
+/// # Errors
+/// `AllocError` alone.
+pub(crate) fn push_comment(text: &mut String, comment: &str) -> Result<(), AllocError> {
+    write!(text, "{:32} ", "")?;
+    push_note(text, comment)?;
+    text.push('\n')
+}
+
 /// Adds a row of bytes in hexadecimal, as wide as any.
 fn push_bytes(alloc: Global, text: &mut String, bytes: &[u8]) -> Result<(), AllocError> {
     let digits = hex::encode(alloc, bytes)?;

@@ -1,6 +1,7 @@
 //! Diagnostic notation of what has no parts (RFC 8949, section 8).
 
-use crate::head::{Form, Head};
+use crate::head::is_shortest;
+use coset_fault::{Form, Head};
 use std::alloc::{AllocError, Global};
 use std::num::{f32_from_bits_with_nan, f64_from_bits_with_nan};
 
@@ -111,6 +112,11 @@ fn special(head: &Head) -> Option<&'static str> {
     }
 }
 
+/// Whether a float is no number.
+pub(crate) fn is_nan(head: &Head) -> bool {
+    special(head) == Some("NaN")
+}
+
 /// Adds a float.
 fn push_float(text: &mut String, head: &Head) -> Result<(), AllocError> {
     match special(head) {
@@ -135,7 +141,7 @@ fn push_simple(text: &mut String, number: u64) -> Result<(), AllocError> {
 
 /// The width of a head that is told: of one that isn't the shortest, and of a float's; else 0.
 pub(crate) fn told_width(head: &Head) -> u8 {
-    if head.form != Form::Float && head.is_shortest() {
+    if head.form != Form::Float && is_shortest(head) {
         0
     } else {
         head.width

@@ -5,24 +5,23 @@ ghost use Rattle.std.specs.Prelude.{◌≡◌, ◌≤◌, ◌+◌, ◌*◌, IfOk
 ghost use Rattle.coset_explain.specs.Column.{whole, shown};
 
 use crate::column::Column;
-use crate::fault::Fault;
 use crate::frame::{Container, Frame, content};
-use crate::head::{Head, behind, head_of};
 use crate::hunt::Hunt;
 use crate::note;
-use crate::opening::{layer_fault, opening, push_opening};
+use crate::opening::{opened_part, opening, push_opening};
 use crate::role::Role;
 use crate::text::{push_leaf, width_mark};
+use coset_fault::{Fault, Head, head_of};
 use std::alloc::{AllocError, Global};
 
 /// A place in the walk.
 #[derive(Drop)]
-pub(crate) struct Walk<'a> {
+pub(crate) struct Walk<'a, 'e> {
     pub(crate) column: Column<'a>,
-    /// What is open, from the input on.
-    open: Vec<Frame>,
+    /// What is open, from the input on; where the walk ended for a fault, the last is where that stands.
+    pub(crate) open: Vec<Frame>,
     /// What is sought.
-    hunt: Hunt,
+    pub(crate) hunt: Hunt<'e>,
     /// The moment at which the token is looked at, in seconds since 1970 began.
     now: Option<i64>,
     /// What is at fault at the place, where the walk ended for that.
@@ -36,15 +35,15 @@ fn within<'a>(column: &Column<'a>, frame: &Frame) -> &'a [u8] {
     bytes
 }
 
-impl<'a> Walk<'a> {
+impl<'a, 'e> Walk<'a, 'e> {
     /// The front of the bytes, which are for that.
     pub(crate) fn new(
         alloc: Global,
         bytes: &'a [u8],
         role: Role,
-        hunt: Hunt,
+        hunt: Hunt<'e>,
         now: Option<i64>,
-    ) -> Result<Walk<'a>, AllocError>
+    ) -> Result<Walk<'a, 'e>, AllocError>
         ensures whole { IfOk result (λ w. whole w.column ≡ bytes.now) }
         ensures lines { IfOk result (λ w. shown w.column ≡ 0) }
     {
@@ -75,26 +74,18 @@ impl<'a> Walk<'a> {
             return self.close(alloc, frame, bytes);
         }
         match head_of(bytes) {
-            Ok(head) => self.item(alloc, frame, &head, bytes),
-            Err(fault) => Ok(self.stop(fault)),
+            Ok((head, rest)) => self.item(alloc, frame, &head, bytes, rest),
+            Err(fault) => self.stop(frame, fault),
         }
     }
 
     /// Ends the walk at this place.
-    fn stop(&mut self, fault: Fault) -> bool
+    fn stop(&mut self, frame: Frame, fault: Fault) -> Result<bool, AllocError>
         ensures column { self.new.column ≡ self.old.column }
     {
         self.fault = Some(fault);
-        false
-    }
-
-    /// The fault at the end of what is open, where these bytes follow: bytes behind the one item, or the fault that is sought.
-    fn end_fault(&self, frame: &Frame, bytes: &[u8]) -> Option<Fault> {
-        let holds_one = matches!(frame.container, Container::Input | Container::Embedded);
-        if holds_one && !bytes.is_empty() {
-            return Some(Fault::Extraneous);
-        }
-        self.hunt.at_end(frame)
+        self.open.push(frame)?;
+        Ok(false)
     }
 
     /// Shows the end of what is open.
@@ -102,8 +93,9 @@ impl<'a> Walk<'a> {
         ensures whole { OnOk result (whole self.new.column ≡ whole self.old.column) }
         ensures lines { OnOk result (shown self.new.column ≤ shown self.old.column + 1) }
     {
-        if let Some(fault) = self.end_fault(&frame, bytes) {
-            return Ok(self.stop(fault));
+        let holds_one = matches!(frame.container, Container::Input | Container::Embedded);
+        if holds_one && !bytes.is_empty() {
+            return self.stop(frame, Fault::Extraneous);
         }
         if frame.container == Container::Input {
             return Ok(false);
@@ -128,33 +120,49 @@ impl<'a> Walk<'a> {
         }
     }
 
-    /// Shows an item with this head at the front of these bytes.
+    /// The fault of an item with this head at the front of these bytes, of which `rest` are behind the head: one of CBOR, or
+    /// the one that is sought.
+    fn fault_of(
+        &mut self,
+        alloc: Global,
+        frame: &Frame,
+        head: &Head,
+        bytes: &[u8],
+        rest: &[u8],
+    ) -> Result<Option<Fault>, AllocError>
+        ensures column { self.new.column ≡ self.old.column }
+    {
+        match frame.fault(head, rest) {
+            Some(fault) => Ok(Some(fault)),
+            None => {
+                let part = opened_part(frame.next_part(), head, rest);
+                self.hunt.at(alloc, frame, &part, head, bytes)
+            }
+        }
+    }
+
+    /// Shows an item with this head at the front of these bytes, of which `rest` are behind the head.
     fn item(
         &mut self,
         alloc: Global,
         frame: Frame,
         head: &Head,
         bytes: &[u8],
+        rest: &[u8],
     ) -> Result<bool, AllocError>
         ensures whole { OnOk result (whole self.new.column ≡ whole self.old.column) }
         ensures lines { OnOk result (shown self.new.column ≤ shown self.old.column + 1) }
     {
-        let rest = behind(head, bytes);
+        if let Some(fault) = self.fault_of(alloc, &frame, head, bytes, rest)? {
+            return self.stop(frame, fault);
+        }
         let part = frame.next_part();
-        if let Some(fault) = frame.fault(head, rest) {
-            return Ok(self.stop(fault));
-        }
-        if let Some(fault) = layer_fault(&frame, &part) {
-            return Ok(self.stop(fault));
-        }
-        if let Some(fault) = self.hunt.at(alloc, &frame, &part, head, bytes)? {
-            return Ok(self.stop(fault));
-        }
         let now = self.now;
         note::push(&mut self.column.note, &frame, &part, head, now)?;
-        let opened = opening(&frame, part, head, bytes);
+        let is_sought = self.hunt.is_in(alloc, &part, content(head, rest))?;
+        let opened = opening(&frame, part, head, bytes, is_sought);
         let mut passed = frame;
-        passed.pass(head);
+        passed.pass(head, bytes.len());
         match opened {
             Some(opened) => self.enter(alloc, passed, opened, head),
             None => self.leaf(alloc, passed, head, rest),
@@ -238,7 +246,7 @@ impl<'a> Walk<'a> {
         ensures lines { OnOk result (shown self.new.column ≤ shown self.old.column + 1) }
     {
         if self.column.has_begun() {
-            let depth = self.open.len();
+            let depth = self.open.len().saturating_sub(1);
             self.column.end_line(alloc, depth)?;
         }
         Ok(())

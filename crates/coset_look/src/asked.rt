@@ -2,13 +2,24 @@
 
 use coset_explain::Kind;
 
+/// What is written of an input.
+#[derive(Clone, Copy, Debug, PartialEq, Eq)]
+pub enum Form {
+    /// Its lines, with bytes and notes.
+    Annotated,
+    /// Diagnostic notation alone.
+    Plain,
+    /// Where the fault stands, and which it is.
+    Where,
+}
+
 /// How an input is looked at.
 #[derive(Clone, Copy, Debug)]
 pub struct Asked {
     /// What the input should be.
     pub kind: Kind,
-    /// Whether diagnostic notation alone is written, without bytes and notes.
-    pub is_plain: bool,
+    /// What is written.
+    pub form: Form,
     /// The moment at which a token is looked at, in seconds since 1970 began.
     pub now: Option<i64>,
 }
@@ -18,7 +29,7 @@ impl Asked {
     pub fn new() -> Asked {
         Asked {
             kind: Kind::Auto,
-            is_plain: false,
+            form: Form::Annotated,
             now: None,
         }
     }
@@ -26,7 +37,11 @@ impl Asked {
     /// Takes an argument that says how, and says whether it is one.
     pub fn takes(&mut self, argument: &str) -> bool {
         if argument == "--edn" {
-            self.is_plain = true;
+            self.form = Form::Plain;
+            return true;
+        }
+        if argument == "--where" {
+            self.form = Form::Where;
             return true;
         }
         if let Some(moment) = argument.strip_prefix("--now=") {

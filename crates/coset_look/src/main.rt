@@ -1,5 +1,6 @@
-//! `coset_look [--edn] [--now=SECONDS] [KIND] [FILE]..`: takes apart what files spell, or standard input where there are
-//! none, in hexadecimal or base64. How a file is looked at is said in front of it.
+//! `coset_look [--edn | --where] [--now=SECONDS] [KIND] [FILE]..`: takes apart what files spell, or standard input where there are
+//! none, in hexadecimal or base64. How a file is looked at is said in front of it. The status is 0 where all are of their
+//! kinds, 1 where one was refused, 2 where one couldn't be read, or memory ran out.
 #![tactic(auto)]
 
 mod asked;
@@ -7,17 +8,18 @@ mod look;
 mod spelled;
 
 use asked::Asked;
-use look::{MISUSED, look};
-use std::io::Read;
+use look::{UNANSWERED, look};
+use std::io::{ErrorKind, Read};
 use std::process::ExitCode;
 use std::rt::{Env, Files};
 use std::{env, fs, io};
 
 /// What is told where a file can't be read.
-const USAGE: &str = "usage: coset_look [--edn] [--now=SECONDS] [KIND] [FILE]..
+const USAGE: &str = "usage: coset_look [--edn | --where] [--now=SECONDS] [KIND] [FILE]..
 A file, or standard input where none is named, is hexadecimal, also with 0x, spaces and colons, or base64, or base64url.
 KIND is auto (what its tag says), cwt (a web token, with claims as its payload), value, sign1, sign, mac, mac0, encrypt,
-encrypt0, countersignature, key, keyset, claims or kdf.
+encrypt0, countersignature, key, keyset, claims or kdf. With --edn diagnostic notation alone is written; with --where only the
+offset of the fault, the path there, and the fault, or that the input is accepted.
 ";
 
 /// Takes a file apart, and answers the status.
@@ -60,8 +62,10 @@ fn main(rt: HostRuntime) -> ExitCode {
         Ok(status) => ExitCode::from(status),
         Err(error) => {
             let _ = eprintln!(rt; "error: {error}");
-            let _ = eprint!(rt; "{USAGE}");
-            ExitCode::from(MISUSED)
+            if error.kind() != ErrorKind::OutOfMemory {
+                let _ = eprint!(rt; "{USAGE}");
+            }
+            ExitCode::from(UNANSWERED)
         }
     }
 }

@@ -18,18 +18,3 @@ pub enum Fault {
     /// What the type's reading was refused for.
     Shape,
 }
-
-impl Fault {
-    /// What to say of it.
-    pub(crate) fn text(self) -> &'static str {
-        match self {
-            Fault::Ends => "the bytes end, or more is announced than is left",
-            Fault::Malformed => "not well-formed",
-            Fault::Simple => "a simple value other than false, true and null",
-            Fault::Levels => "more than 256 levels of arrays, maps and tags",
-            Fault::Layers => "more than 16 protected headers inside one another",
-            Fault::Extraneous => "bytes behind the item",
-            Fault::Shape => "not as its place asks",
-        }
-    }
-}

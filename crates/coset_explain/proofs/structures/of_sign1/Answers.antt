@@ -1,0 +1,15 @@
+use Rattle.std.proofs.Common.{[]}
+use Rattle.coset.specs.Sign1.{sign1_structure, sign1_seen}
+use Rattle.coset_explain.proofs.Covered.{is_there, over_present}
+use Rattle.coset_explain.proofs.structures.of_sign1.Goals as goal
+
+pub returns-in-Some : goal.returns-in-Some
+returns-in-Some c =
+    let m = sign1_seen c.in_ok-message.message in
+    let w = c.in_ok-signed.ensures in (
+      m,
+      c.in_ok-message.ensures.read,
+      w.0,
+      over_present (sign1_structure m []) m.payload w.0 (is_there (λ b. b.items) c.in_ok-message.message.payload _ c.in-Some.is) w.1,
+      w.2,
+    )
