@@ -275,11 +275,7 @@ fn text_of(alloc: Global, bytes: &[u8]) -> Result<Option<String>, AllocError> {
 
 /// Whether the text at the front of the bytes names no media type, for white space at its ends, or else for its slashes (RFC
 /// 8152, section 3.1).
-fn is_no_media_type(
-    alloc: Global,
-    bytes: &[u8],
-    is_spaced: bool,
-) -> Result<bool, AllocError> {
+fn is_no_media_type(alloc: Global, bytes: &[u8], is_spaced: bool) -> Result<bool, AllocError> {
     let Some(text) = text_of(alloc, bytes)? else {
         return Ok(false);
     };
@@ -305,11 +301,7 @@ fn content_of(alloc: Global, bytes: &[u8]) -> Result<Vec<u8>, AllocError> {
 }
 
 /// Whether the bytes are something, and no header for this error (RFC 8152, section 3).
-fn is_no_header_for(
-    alloc: Global,
-    content: &[u8],
-    error: &CoseError,
-) -> Result<bool, AllocError> {
+fn is_no_header_for(alloc: Global, content: &[u8], error: &CoseError) -> Result<bool, AllocError> {
     if content.is_empty() {
         return Ok(false);
     }
@@ -433,8 +425,7 @@ impl<'e> Hunt<'e> {
     ) -> Result<bool, AllocError> {
         match self.error {
             Some(error @ (CoseError::DecodeFailed(_) | CoseError::ExtraneousData))
-                if part.is_read && part.role == Role::Protected =>
-            {
+                if part.is_read && part.role == Role::Protected => {
                 is_no_header_for(alloc, content, error)
             }
             _ => Ok(false),

@@ -144,12 +144,7 @@ fn title(kind: Kind) -> &'static str {
 }
 
 /// What there is to say of a message's structure with that index: its title and its bytes.
-fn note(
-    alloc: Global,
-    kind: Kind,
-    index: usize,
-    structure: &[u8],
-) -> Result<String, AllocError> {
+fn note(alloc: Global, kind: Kind, index: usize, structure: &[u8]) -> Result<String, AllocError> {
     let mut note = String::from_str(alloc, title(kind))?;
     if kind == Kind::Sign {
         write!(note, " of signature {index}")?;
@@ -164,11 +159,7 @@ fn note(
 ///
 /// # Errors
 /// `AllocError` alone.
-pub fn annotated_structures(
-    alloc: Global,
-    kind: Kind,
-    bytes: &[u8],
-) -> Result<String, AllocError> {
+pub fn annotated_structures(alloc: Global, kind: Kind, bytes: &[u8]) -> Result<String, AllocError> {
     let mut text = String::new(alloc);
     let (named, bytes) = kind.named(bytes);
     let count = if named == Kind::Sign { SHOWN } else { 1 };

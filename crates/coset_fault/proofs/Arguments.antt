@@ -55,8 +55,8 @@ one_behind x rest s a parts fits is number = record {
   width = sym is;
   is_head =
       λ _ m.
-          subst (λ (n : ℕ). IsHead m n ((32 * m + 24) ∷ x ∷ [])) (sym number)
-          (record { width = one; holds = fits; spelled = let same : x % 256 ≡ x = omega arith in ap (λ (y : ℕ). (32 * m + 24) ∷ y ∷ []) (sym same) });
+      subst (λ (n : ℕ). IsHead m n ((32 * m + 24) ∷ x ∷ [])) (sym number)
+      (record { width = one; holds = fits; spelled = let same : x % 256 ≡ x = omega arith in ap (λ (y : ℕ). (32 * m + 24) ∷ y ∷ []) (sym same) });
   none = λ high. absurd (omega (arith, high));
 }
 

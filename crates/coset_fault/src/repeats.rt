@@ -20,11 +20,7 @@ fn earlier_step(last: Step, index: usize) -> Option<Step>
 
 /// Where the last of the steps leads, and before it where the key or the element with that index stands in the same array or
 /// map.
-fn both_places<'a>(
-    bytes: &'a [u8],
-    steps: &[Step],
-    index: usize,
-) -> Option<(&'a [u8], &'a [u8])>
+fn both_places<'a>(bytes: &'a [u8], steps: &[Step], index: usize) -> Option<(&'a [u8], &'a [u8])>
     ensures { IfSome result (λ p. AreTwo bytes.now steps.now p.0.now p.1.now) }
 {
     let (last, front) = steps.split_last()?;

@@ -125,7 +125,7 @@ fn is_item_called(alloc: Global, got: &str, item: Pull<'_>) -> Result<bool, Allo
     }
 }
 
-/// The same of the item at the front of the bytes.
+/// As above, of the item at the front of the bytes.
 pub(crate) fn is_called(alloc: Global, got: &str, bytes: &[u8]) -> Result<bool, AllocError>
     ensures { IfOk result (λ b. IsTrue b → BeginsCalled got.now bytes.now) }
 {

@@ -6,5 +6,6 @@ use Rattle.coset_explain.proofs.structures.of_mac.Goals as goal
 
 pub returns : goal.returns
 returns c =
-    over_written (perhaps_tagged 97 mac) (λ m. mac_structure_of m []) (λ m. m.payload) (λ b. b.items) c.args.bytes.now (mac_seen c.in_ok-message.message) c.tbm.result
+    over_written (perhaps_tagged 97 mac) (λ m. mac_structure_of m []) (λ m. m.payload) (λ b. b.items) c.args.bytes.now (mac_seen c.in_ok-message.message)
+    c.tbm.result
     c.in_ok-message.ensures.read c.tbm.ensures

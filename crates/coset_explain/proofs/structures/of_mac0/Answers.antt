@@ -6,5 +6,6 @@ use Rattle.coset_explain.proofs.structures.of_mac0.Goals as goal
 
 pub returns : goal.returns
 returns c =
-    over_written (perhaps_tagged 17 mac0) (λ m. mac0_structure m []) (λ m. m.payload) (λ b. b.items) c.args.bytes.now (mac0_seen c.in_ok-message.message) c.tbm.result
+    over_written (perhaps_tagged 17 mac0) (λ m. mac0_structure m []) (λ m. m.payload) (λ b. b.items) c.args.bytes.now (mac0_seen c.in_ok-message.message)
+    c.tbm.result
     c.in_ok-message.ensures.read c.tbm.ensures
