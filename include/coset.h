@@ -141,8 +141,8 @@ int32_t coset_make(uint32_t kind, const uint8_t *prot, size_t prot_len, const ui
                    uint32_t has_content, const uint8_t *content, size_t content_len, const uint8_t *proof, size_t proof_len,
                    uint8_t *out, size_t cap, size_t *len);
 
-/* The item with one signature, recipient or key more, behind the others. A COSET_KEY_SET may begin with nothing. What was
- * signed, authenticated or goes with a ciphertext stays. */
+/* The item with one signature, recipient or key more, behind the others. A COSET_KEY_SET may begin with nothing. All
+ * else of the item stays. */
 int32_t coset_add(uint32_t kind, const uint8_t *in, size_t in_len, const uint8_t *member, size_t member_len, uint8_t *out,
                   size_t cap, size_t *len);
 
