@@ -190,7 +190,7 @@ def put(kind, data, name, value):
 
 
 def put_encoded(kind, data, name, value):
-    """The same of a label that is an int or a str, and a value by its encoding, one item of CBOR."""
+    """Such a map with one pair more: a label, an int or a str, and a value by its encoding, one item of CBOR."""
     if isinstance(name, str):
         return _written(_library.coset_put_text_label, kind, *_bytes(data), *_bytes(name.encode()), *_bytes(value))
     return _written(_library.coset_put, kind, *_bytes(data), _int64(name), *_bytes(value))
