@@ -26,7 +26,10 @@ pub fn time_read<T: CborSerializable + Drop, R: AllocGlobal + Clock>(
     let alloc = rt.alloc();
     let start = Instant::now(rt)?;
     for _ in 0..calls {
-        drop(T::from_slice(alloc, bytes)?);
+        match T::from_slice(alloc, bytes) {
+            Ok(value) => drop(value),
+            Err(error) => return Err(Fault::from(error)),
+        }
     }
     Ok(start.elapsed(rt)?)
 }
@@ -47,12 +50,14 @@ pub fn time_refusal<T: CborSerializable + Drop, R: AllocGlobal + Clock>(
     Ok(start.elapsed(rt)?)
 }
 
-/// That many copies of the value.
+/// That many copies of the value, the first one last: so they are taken from the end in the order in which they were made,
+/// and each is moved no more than that takes.
 fn copies<T: Clone + Drop>(alloc: Global, value: &T, calls: usize) -> Result<Vec<T>, Fault> {
     let mut copies = Vec::with_capacity(alloc, calls)?;
     for _ in 0..calls {
         copies.push(value.clone()?)?;
     }
+    copies.as_mut_slice().reverse();
     Ok(copies)
 }
 
@@ -64,10 +69,13 @@ pub fn time_write<T: CborSerializable + Clone + Drop, R: AllocGlobal + Clock>(
 ) -> Result<Duration, Fault> {
     let alloc = rt.alloc();
     let value = T::from_slice(alloc, bytes)?;
-    let copies = copies(alloc, &value, calls)?;
+    let mut copies = copies(alloc, &value, calls)?;
     let length = value.to_vec(alloc)?.len();
     let start = Instant::now(rt)?;
-    for copy in copies {
+    for _ in 0..calls {
+        let Some(copy) = copies.pop() else {
+            return Err(Fault::Unexpected);
+        };
         if copy.to_vec(alloc)?.len() != length {
             return Err(Fault::Unexpected);
         }
@@ -115,10 +123,13 @@ pub fn time_canonicalize<R: AllocGlobal + Clock>(
 ) -> Result<Duration, Fault> {
     let alloc = rt.alloc();
     let key = CoseKey::from_slice(alloc, bytes)?;
-    let copies = copies(alloc, &key, calls)?;
+    let mut copies = copies(alloc, &key, calls)?;
     let start = Instant::now(rt)?;
-    for mut copy in copies {
-        copy.canonicalize(alloc, CborOrdering::Lexicographic)?;
+    for _ in 0..calls {
+        match copies.pop() {
+            Some(mut copy) => copy.canonicalize(alloc, CborOrdering::Lexicographic)?,
+            None => return Err(Fault::Unexpected),
+        }
     }
     Ok(start.elapsed(rt)?)
 }

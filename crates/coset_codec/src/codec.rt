@@ -10,8 +10,8 @@ ghost use Rattle.coset_codec.specs.ShapeLaws.{Lawful as LawfulShape};
 use crate::error::Result;
 use crate::read::{Input, ItemSource};
 use crate::traits::{
-    AsCborValue, CborSerializable, FromPull, Lawful, TaggedCborSerializable, read_any_slice,
-    read_slice, read_tagged_slice,
+    AsCborValue, CborSerializable, FromPull, Lawful, TaggedCborSerializable, item_under_tag,
+    item_without_tag, whole_item,
 };
 use crate::write::{Encode, encode_to_tagged_vec, encode_to_value, encode_to_vec};
 use coset_cbor::de::Pull;
@@ -120,9 +120,11 @@ impl<T: Codec> FromPull for T {
 
 impl<T: Codec> CborSerializable for T {
     fn from_slice(alloc: Global, s: &[u8]) -> Result<T> {
-        read_slice(alloc, s)
+        let item = whole_item(s)?;
+        T::read(alloc, &mut Input::new(ItemSource::Lent(item)))
     }
 
+    #[inline(always)]
     fn to_vec(self, alloc: Global) -> Result<Vec<u8>> {
         encode_to_vec(alloc, &self)
     }
@@ -134,13 +136,16 @@ impl<T: TaggedCodec> TaggedCborSerializable for T {
     const TAG: u64 = T::TAG_NUMBER;
 
     fn from_tagged_slice(alloc: Global, s: &[u8]) -> Result<T> {
-        read_tagged_slice(alloc, T::TAG_NUMBER, s)
+        let item = item_under_tag(T::TAG_NUMBER, whole_item(s)?)?;
+        T::read(alloc, &mut Input::new(ItemSource::Lent(item)))
     }
 
     fn from_any_slice(alloc: Global, s: &[u8]) -> Result<T> {
-        read_any_slice(alloc, T::TAG_NUMBER, s)
+        let item = item_without_tag(T::TAG_NUMBER, whole_item(s)?);
+        T::read(alloc, &mut Input::new(ItemSource::Lent(item)))
     }
 
+    #[inline(always)]
     fn to_tagged_vec(self, alloc: Global) -> Result<Vec<u8>> {
         encode_to_tagged_vec(alloc, T::TAG_NUMBER, &self)
     }

@@ -275,7 +275,10 @@ pub fn read_slice<T: FromPull>(alloc: Global, s: &[u8]) -> Result<T>
 }
 
 /// The item under the tag of that number.
-fn item_under_tag(number: u64, pull: Pull<'_>) -> Result<Pull<'_>>
+///
+/// # Errors
+/// `UnexpectedItem` of another tag, and of an item without one.
+pub(crate) fn item_under_tag(number: u64, pull: Pull<'_>) -> Result<Pull<'_>>
     ensures { Untags number (pull_item pull.entry) (λ p. pull_item p) result }
 {
     match pull.tag() {
@@ -285,38 +288,12 @@ fn item_under_tag(number: u64, pull: Pull<'_>) -> Result<Pull<'_>>
     }
 }
 
-/// What `from_tagged_slice` is made of for a type that is read from lent bytes, under the tag of that number. The
-/// answers are those of [`TaggedCborSerializable::from_tagged_slice`].
-///
-/// # Errors
-/// The same as [`TaggedCborSerializable::from_tagged_slice`].
-pub fn read_tagged_slice<T: FromPull>(alloc: Global, number: u64, s: &[u8]) -> Result<T>
-    ensures read { ReadsSlice (tagged number T.shape) T.seen s.now result }
-    ensures refused { RefusesSlice (tagged number T.shape) s.now result }
-    ensures memory { AllocatesForItems s.now result }
-{
-    T::from_pull(alloc, item_under_tag(number, whole_item(s)?)?)
-}
-
 /// What the tag of that number encloses, and any other item as it is.
-fn item_without_tag(number: u64, pull: Pull<'_>) -> Pull<'_>
+pub(crate) fn item_without_tag(number: u64, pull: Pull<'_>) -> Pull<'_>
     ensures { pull_item result ≡ untagged number (pull_item pull.entry) }
 {
     match pull.tag() {
         Some((found, inner)) if found == number => inner,
         _ => pull,
     }
-}
-
-/// What `from_any_slice` is made of for a type that is read from lent bytes, plain or under the tag of that number. The
-/// answers are those of [`TaggedCborSerializable::from_any_slice`].
-///
-/// # Errors
-/// The same as [`TaggedCborSerializable::from_any_slice`].
-pub fn read_any_slice<T: FromPull>(alloc: Global, number: u64, s: &[u8]) -> Result<T>
-    ensures read { ReadsSlice (perhaps_tagged number T.shape) T.seen s.now result }
-    ensures refused { RefusesSlice (perhaps_tagged number T.shape) s.now result }
-    ensures memory { AllocatesForItems s.now result }
-{
-    T::from_pull(alloc, item_without_tag(number, whole_item(s)?))
 }

@@ -68,6 +68,7 @@ impl<'a> LabelRef<'a> {
     }
 
     /// The byte order of the labels' encodings.
+    #[inline(always)]
     pub(crate) fn order(&self, other: &LabelRef<'_>) -> Ordering
         ensures { result ≡ name_cmp (lent_seen self.now) (lent_seen other.now) }
     {

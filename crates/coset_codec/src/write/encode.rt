@@ -263,6 +263,7 @@ pub fn encode_five<A: Encode, B: Encode, C: Encode, D: Encode, E: Encode>(
 ///
 /// # Errors
 /// The same as [`Encode::encode`].
+#[inline(always)]
 pub fn encode_to_vec<T: Encode>(alloc: Global, value: &T) -> Result<Vec<u8>>
     ensures { Writes (T.image value.now) (λ b. b.items) result }
 {
@@ -276,6 +277,7 @@ pub fn encode_to_vec<T: Encode>(alloc: Global, value: &T) -> Result<Vec<u8>>
 ///
 /// # Errors
 /// The same as [`Encode::encode`].
+#[inline(always)]
 pub fn encode_to_tagged_vec<T: Encode>(alloc: Global, number: u64, value: &T) -> Result<Vec<u8>>
     ensures { Writes (option_map (tag number) (T.image value.now)) (λ b. b.items) result }
 {
