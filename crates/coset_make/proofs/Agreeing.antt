@@ -20,7 +20,7 @@ without_tag_again Plain n vs = refl
 without_tag_again Tagged n vs = ap (λ b. cond b (array vs) (tag n (array vs))) ((unsigned_Decides n n).1 refl)
 without_tag_again Either n vs = refl
 
-none_is : {A : Type 0} {x : A} → None ≡ Some x → ⊥
+pub none_is : {A : Type 0} {x : A} → None ≡ Some x → ⊥
 none_is p = some-none refl (sym p)
 
 module _ (i : ℕ) (p : List ℕ) (u : Item) (c d : Option (List ℕ)) (x aad : List ℕ) (w y : Item) where
