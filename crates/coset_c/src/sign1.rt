@@ -100,6 +100,16 @@ fn no_view() -> View
     }
 }
 
+/// What stands there after an answer: the view, and else nothing but zeros.
+fn view_of(answer: &Result<Sign1View, Refusal>) -> View
+    ensures { result ≡ view_of answer.now }
+{
+    match answer {
+        Ok(told) => view_told(*told),
+        Err(_) => no_view(),
+    }
+}
+
 /// How long the texts are that go with a view.
 fn length_told(answer: Result<Sign1View, Refusal>) -> Result<usize, Refusal>
     ensures { result ≡ length_told answer }
@@ -117,10 +127,7 @@ fn reply_view(answer: Result<Sign1View, Refusal>, len: &mut usize, view: &mut Vi
     ensures number { len.new ≡ length_of (length_told answer) }
     ensures told { view.new ≡ view_of answer }
 {
-    *view = match &answer {
-        Ok(told) => view_told(*told),
-        Err(_) => no_view(),
-    };
+    *view = view_of(&answer);
     reply(length_told(answer), len)
 }
 

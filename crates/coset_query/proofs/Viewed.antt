@@ -1,5 +1,5 @@
 -- What is told of a message with one signature.
-use Rattle.std.proofs.Common.{◌≡◌, ◌∙◌, ◌==◌, ℕ, List, Option, Some, None, Result, Ok, Err, Bool, true, false, ap, sym, subst, refl, true≢false}
+use Rattle.std.proofs.Common.{◌≡◌, ◌∙◌, ◌==◌, ℕ, List, Result, Ok, Err, Bool, true, false, ap, sym, subst, arith, true≢false}
 use Rattle.std.proofs.lemmas.Bool.{eqb-true}
 use Rattle.coset.specs.Item.{Item, integer, bytes, float, text, boolean, null, tag, array, dict}
 use Rattle.coset.specs.Grammar.{IsItem}
@@ -39,7 +39,9 @@ tells_tag n b w false is e =
 
 -- ---- the algorithm
 
-pub algorithm_found : (k : kinds.Kind) (v w : Item) (a : algorithms.Algorithm) → IsUnder k of.Protected alg_label v w → IsAlgorithm w a → HasAlgorithm k v a
+pub algorithm_found :
+    (k : kinds.Kind) (v w : Item) (a : algorithms.Algorithm) → IsUnder k of.Protected alg_label v w → IsAlgorithm w a
+    → HasAlgorithm k v a
 algorithm_found k v w named.Absent u h = absurd h
 algorithm_found k v w (named.Number n) u h = (w, u, h)
 algorithm_found k v w named.Text u h = (w, u, h)
@@ -47,8 +49,8 @@ algorithm_found k v w named.Text u h = (w, u, h)
 -- ---- from what is told to what is answered
 
 pub viewed :
-    {N : Type 0} (k : kinds.Kind) (b old new : List ℕ) (P : Item → N → List ℕ → Type 0) (v : Item) (n : N) (t : List ℕ) (r : Result N refusals.Refusal)
-    → IsItemOf k b v → P v n t → PutsWith n t old new r → AnswersWith k b P old new r
+    {N : Type 0} (k : kinds.Kind) (b old new : List ℕ) (P : Item → N → List ℕ → Type 0) (v : Item) (n : N) (t : List ℕ)
+    (r : Result N refusals.Refusal) → IsItemOf k b v → P v n t → PutsWith n t old new r → AnswersWith k b P old new r
 viewed k b old new P v n t (Ok m) i p w = (v, i, (t, subst (λ x. P v x t) (sym w.0) p, w.1))
 viewed k b old new P v n t (Err (Short m)) i p w = (v, i, (n, (t, p, w)))
 viewed k b old new P v n t (Err Absent) i p w = absurd w

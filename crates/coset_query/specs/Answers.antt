@@ -32,7 +32,8 @@ Answers k b P old new (Err (Cose e)) = IsRefused k b e × (new ≡ old)
 -- What a call answers that writes a text and tells something beside it, of both of which P tells, of the item that the bytes
 -- are: the text stands at the front of the memory, or that has no room for it, and the length that is needed is answered; or
 -- there are no such two; or the bytes are no such item. But for the first the memory is as it was
-abbrev pub AnswersWith : {N : Type 0} → kinds.Kind → List ℕ → (Item → N → List ℕ → Type 0) → List ℕ → List ℕ → Result N refusals.Refusal → Type 0
+abbrev pub AnswersWith :
+    {N : Type 0} → kinds.Kind → List ℕ → (Item → N → List ℕ → Type 0) → List ℕ → List ℕ → Result N refusals.Refusal → Type 0
 AnswersWith k b P old new (Ok n) = (v : Item) × IsItemOf k b v × ((t : List ℕ) × P v n t × BeginsWith t old new)
 AnswersWith {N} k b P old new (Err (Short m)) =
     (v : Item) × IsItemOf k b v × ((n : N) × ((t : List ℕ) × P v n t × Puts t old new (Err (Short m))))
@@ -62,6 +63,11 @@ WritesFound bytes_of (Err e) old new r = (r ≡ Err (Cose e)) × (new ≡ old)
 abbrev pub Finds : {T A : Type 0} → (T → A) → (A → Type 0) → Option T → Type 0
 Finds seen P (Some x) = P (seen x)
 Finds {A = A} seen P None = (a : A) → P a → ⊥
+
+-- something was found, with a text, of both of which P tells, or there are no such two
+abbrev pub FindsWith : {T N : Type 0} → (T → N) → (T → List ℕ) → (N → List ℕ → Type 0) → Option T → Type 0
+FindsWith seen text_of P (Some x) = P (seen x) (text_of x)
+FindsWith {N = N} seen text_of P None = (n : N) (t : List ℕ) → P n t → ⊥
 
 -- the shortest encoding of that item, where there is one
 abbrev pub IsEncodingOf : Option Item → List ℕ → Type 0

@@ -372,7 +372,10 @@ pub fn recipient_structure_of(
         out.old out.new result }
 {
     match item_of(alloc, Kind::Recipient, bytes) {
-        Ok(item) => write_found(find_recipient_structure(alloc, holder, item, external_aad), out),
+        Ok(item) => write_found(
+            find_recipient_structure(alloc, holder, item, external_aad),
+            out,
+        ),
         Err(error) => Err(Refusal::Cose(error)),
     }
 }

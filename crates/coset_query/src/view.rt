@@ -5,7 +5,7 @@ ghost use Rattle.std.specs.Option.{option_copied};
 ghost use Rattle.coset.specs.CoseError.TheVariants.{OutOfMemory};
 ghost use Rattle.coset.specs.Pulls.{pull_item};
 ghost use Rattle.coset.specs.View.{view};
-ghost use Rattle.coset_query.specs.Answers.{AnswersWith, Finds, PutsWith};
+ghost use Rattle.coset_query.specs.Answers.{AnswersWith, FindsWith, PutsWith};
 ghost use Rattle.coset_query.specs.View.{HasAlgorithm, IsAlgorithm, IsCarried, IsCritical, IsKeyId, IsSign1View, IsTold};
 
 use crate::item::{is_under, whole_of, without_tag};
@@ -130,10 +130,19 @@ fn find_key_id(alloc: Global, kind: Kind, item: Pull<'_>) -> Result<KeyId>
     ensures memory { IfErr result (λ e. e ≡ OutOfMemory) }
 {
     match find_string(alloc, kind, item, Map::Protected, Label::Number(4))? {
-        Some(bytes) => Ok(KeyId { place: KeyIdPlace::Protected, bytes }),
+        Some(bytes) => Ok(KeyId {
+            place: KeyIdPlace::Protected,
+            bytes,
+        }),
         None => match find_string(alloc, kind, item, Map::Unprotected, Label::Number(4))? {
-            Some(bytes) => Ok(KeyId { place: KeyIdPlace::Unprotected, bytes }),
-            None => Ok(KeyId { place: KeyIdPlace::Absent, bytes: Vec::new(alloc) }),
+            Some(bytes) => Ok(KeyId {
+                place: KeyIdPlace::Unprotected,
+                bytes,
+            }),
+            None => Ok(KeyId {
+                place: KeyIdPlace::Absent,
+                bytes: Vec::new(alloc),
+            }),
         },
     }
 }
@@ -192,8 +201,8 @@ fn find_told(
     detached: Option<&[u8]>,
     is_tagged: bool,
 ) -> Result<Option<Told>>
-    ensures told { IfOk result (Finds (λ x. (x.view, x.text.items)) (λ a. IsTold kind
-        external_aad.now (option_copied detached.entry) (pull_item item.entry) a.0 a.1)) }
+    ensures told { IfOk result (FindsWith (λ x. x.view) (λ x. x.text.items) (IsTold kind
+        external_aad.now (option_copied detached.entry) (pull_item item.entry))) }
     ensures tag { IfOk result (λ o. IfSome o (λ x. x.view.is_tagged ≡ is_tagged)) }
     ensures memory { IfErr result (λ e. e ≡ OutOfMemory) }
 {
@@ -249,8 +258,8 @@ fn put_told(told: Told, out: &mut [u8]) -> Result<Sign1View, Refusal>
 ///
 /// # Errors
 /// `Short` where `out` has no room for the four, with the length that they have together; `Absent` where the message carries
-/// no payload and none is given, and where it carries one and another is given; `Cose` as [`check`](crate::check) says. `out`
-/// is then as it was.
+/// no payload and none is given, and where it carries one and another is given; `Cose` as [`check`](crate::check) says.
+/// `out` is then as it was.
 pub fn sign1_view(
     alloc: Global,
     form: Form,
@@ -268,7 +277,14 @@ pub fn sign1_view(
         Err(error) => return Err(Refusal::Cose(error)),
     };
     let item = without_tag(Some(18), whole);
-    match find_told(alloc, kind, item, external_aad, detached, is_under(18, whole)) {
+    match find_told(
+        alloc,
+        kind,
+        item,
+        external_aad,
+        detached,
+        is_under(18, whole),
+    ) {
         Ok(Some(told)) => put_told(told, out),
         Ok(None) => Err(Refusal::Absent),
         Err(error) => Err(Refusal::Cose(error)),

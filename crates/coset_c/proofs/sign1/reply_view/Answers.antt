@@ -1,0 +1,10 @@
+use Rattle.std.proofs.Common.{◌∙◌, ap}
+use Rattle.coset_c.specs.Replies.{length_of, reply_status}
+use Rattle.coset_c.proofs.Replying.{same_status}
+use Rattle.coset_c.proofs.sign1.reply_view.Goals as goal
+
+pub returns-clause-status : goal.returns-clause-status
+returns-clause-status c = c.reply.ensures.status ∙ (ap reply_status c.length_told.ensures ∙ same_status c.args.answer)
+
+pub returns-clause-number : goal.returns-clause-number
+returns-clause-number c = c.reply.ensures.number ∙ ap length_of c.length_told.ensures
