@@ -1,5 +1,5 @@
-//! All that verifying a message with one signature takes, in one call. Beside a status, a length and a text it tells numbers,
-//! in a struct of the caller's.
+//! All that verifying a message with one signature takes, in one call. Beside a status, a length and a text it tells
+//! numbers, in a struct of the caller's.
 
 ghost use Rattle.std.specs.Prelude.{◌≡◌, MatchOption, if◌then◌else◌};
 ghost use Rattle.coset_query.specs.declared.kind.Kind.TheVariants.{Sign1};

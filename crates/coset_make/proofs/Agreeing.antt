@@ -12,7 +12,7 @@ use Rattle.coset_query.specs.declared.kind.Kind.TheVariants.{Sign1, Sign, Mac0, 
 use Rattle.coset_query.specs.Places.{bytes_in, nth}
 use Rattle.coset_query.specs.Structures.{content_at, structure_in, structure_of_three, structure_of_two}
 use Rattle.coset_make.specs.Laws.{MadeUnsigned, SignatureAdded, StructureOfMade, StructureOfSigner, inside}
-use Rattle.coset_make.specs.Messages.{content_item, in_tag, message, places, tag_in_form}
+use Rattle.coset_make.specs.Messages.{content_item, in_tag, places, tag_in_form}
 
 -- what is made under a tag, or without, without it
 without_tag_again : (f : forms.Form) (n : ℕ) (vs : Items) → untagged n (in_tag (tag_in_form f (Some n)) (array vs)) ≡ array vs

@@ -1,5 +1,6 @@
 -- What stays of an item where members are added to it.
-use Rattle.std.proofs.Common.{◌≡◌, ◌∙◌, ◌⊎◌, ◌==◌, ℕ, zero, suc, List, [], ◌∷◌, Option, Some, None, Bool, true, false, cond, option_map, ap, sym, refl, inl, inr}
+use Rattle.std.proofs.Common.{◌≡◌, ◌∙◌, ◌⊎◌, ◌==◌, ℕ, zero, suc, List, [], ◌∷◌, Option, Some, None, Bool, true, false, cond}
+use Rattle.std.proofs.Common.{option_map, ap, sym, refl, inl, inr}
 use Rattle.std.specs.Prelude.{codes, option_and_then}
 use Rattle.coset.specs.Item.{Item, integer, bytes, float, text, boolean, null, tag, array, dict, Items, no_items, item}
 use Rattle.coset.specs.Parts.{as_array, as_bytes}
@@ -73,7 +74,7 @@ keeps_header : (b : Bool) (m : Item) (i : ℕ) → Keeps (member_in b m) (header
 keeps_header b m i a us x h e =
     elim (last_is b m a us h) [
       | inl l ↦
-        ap (λ ws. option_and_then (header_of i) (nth 0 ws)) l.2 ∙ more_behind (bytes_in 0) m i l.0 x (ap (header_of i) (sym l.1) ∙ e)
+          ap (λ ws. option_and_then (header_of i) (nth 0 ws)) l.2 ∙ more_behind (bytes_in 0) m i l.0 x (ap (header_of i) (sym l.1) ∙ e)
       | inr l ↦ ap (λ ws. option_and_then (header_of i) (nth 0 ws)) l.1 ∙ e
     ]
 
@@ -104,12 +105,15 @@ module _ (b : Bool) (m : Item) (vs us : Items) (l : in_last (member_in b m) vs �
   content_kept : (d : Option (List ℕ)) (c : List ℕ) → content_in (element 2 (array vs)) d ≡ Some c → content_in (element 2 (array us)) d ≡ Some c
   content_kept d c e = kept (member_in b m) (λ v. content_at v d) (keeps_other b m (λ v. content_at v d) (no_content d)) 2 vs us c l e
 
-header_is : (i : ℕ) (o : Option Item) → option_and_then (bytes_in 0) (option_and_then (nth i) (option_and_then as_array o)) ≡ option_and_then (header_of i) o
+header_is :
+    (i : ℕ) (o : Option Item)
+    → option_and_then (bytes_in 0) (option_and_then (nth i) (option_and_then as_array o)) ≡ option_and_then (header_of i) o
 header_is i None = refl
 header_is i (Some a) = refl
 
 signer_kept :
-    (f : forms.Form) (i : ℕ) (m : Item) (vs us : Items) → in_last (member_in false m) vs ≡ Some us → (p : List ℕ) → signer_in (Sign f) i (array vs) ≡ Some p
+    (f : forms.Form) (i : ℕ) (m : Item) (vs us : Items) → in_last (member_in false m) vs ≡ Some us → (p : List ℕ)
+    → signer_in (Sign f) i (array vs) ≡ Some p
     → signer_in (Sign f) i (array us) ≡ Some p
 signer_kept f i m vs us l p e =
     header_is i (nth 3 us) ∙ kept (member_in false m) (header_of i) (keeps_header false m i) 3 vs us p l (sym (header_is i (nth 3 vs)) ∙ e)
@@ -118,7 +122,9 @@ signer_kept f i m vs us l p e =
 abbrev Stays : Option (List ℕ) → Option (List ℕ) → Type 0
 Stays o q = (p : List ℕ) → o ≡ Some p → q ≡ Some p
 
-one_stays : (context aad : List ℕ) (o q : Option (List ℕ)) (y : Item) → Stays o q → structure_of_one context aad o ≡ Some y → structure_of_one context aad q ≡ Some y
+one_stays :
+    (context aad : List ℕ) (o q : Option (List ℕ)) (y : Item) → Stays o q → structure_of_one context aad o ≡ Some y
+    → structure_of_one context aad q ≡ Some y
 one_stays context aad None q y h e = absurd (none_is e)
 one_stays context aad (Some p) q y h e = ap (structure_of_one context aad) (h p refl) ∙ e
 
@@ -143,7 +149,8 @@ three_stay aad (Some p) q (Some x) s (Some c) u y h g k e =
 -- ---- items under a tag, and without one
 
 module _
-    (k : kinds.Kind) (m y : Item) (S : Item → Option Item) (stays : (vs us : Items) → places_with k m vs ≡ Some us → S (array vs) ≡ Some y → S (array us) ≡ Some y)
+    (k : kinds.Kind) (m y : Item) (S : Item → Option Item)
+    (stays : (vs us : Items) → places_with k m vs ≡ Some us → S (array vs) ≡ Some y → S (array us) ≡ Some y)
     (no_tag : (t : ℕ) (v : Item) → S (tag t v) ≡ None) where
   in_array : (v x : Item) → with_member k m v ≡ Some x → S v ≡ Some y → S x ≡ Some y
   in_array (array vs) x h e = let p = mapped array (places_with k m vs) x h in ap S p.2 ∙ stays vs p.0 p.1 e
@@ -194,23 +201,24 @@ structure_kept (Sign1 f) i m w x y aad d h e =
 structure_kept (Sign f) i m w x y aad d h e =
     in_either (Sign f) m y (structure_in (Sign f) i aad d)
     (λ vs us l s.
-      three_stay aad (bytes_in 0 (array vs)) (bytes_in 0 (array us)) (signer_in (Sign f) i (array vs)) (signer_in (Sign f) i (array us))
-      (content_in (element 2 (array vs)) d) (content_in (element 2 (array us)) d) y (protected_kept false m vs us l) (signer_kept f i m vs us l)
-      (content_kept false m vs us l d) s)
+    three_stay aad (bytes_in 0 (array vs)) (bytes_in 0 (array us)) (signer_in (Sign f) i (array vs)) (signer_in (Sign f) i (array us))
+    (content_in (element 2 (array vs)) d) (content_in (element 2 (array us)) d) y (protected_kept false m vs us l) (signer_kept f i m vs us l)
+    (content_kept false m vs us l d) s)
     (λ t v. refl) 98 w x h e
 structure_kept (Mac0 f) i m w x y aad d h e =
     in_either (Mac0 f) m y (structure_in (Mac0 f) i aad d) (λ vs us l s. absurd (none_is l)) (λ t v. refl) 17 w x h e
 structure_kept (Mac f) i m w x y aad d h e =
     in_either (Mac f) m y (structure_in (Mac f) i aad d)
     (λ vs us l s.
-      two_stay (codes "MAC") aad (bytes_in 0 (array vs)) (bytes_in 0 (array us)) (content_in (element 2 (array vs)) d) (content_in (element 2 (array us)) d) y
-      (protected_kept false m vs us l) (content_kept false m vs us l d) s)
+    two_stay (codes "MAC") aad (bytes_in 0 (array vs)) (bytes_in 0 (array us)) (content_in (element 2 (array vs)) d) (content_in (element 2 (array us)) d) y
+    (protected_kept false m vs us l) (content_kept false m vs us l d) s)
     (λ t v. refl) 97 w x h e
 structure_kept (Encrypt0 f) i m w x y aad d h e =
     in_either (Encrypt0 f) m y (structure_in (Encrypt0 f) i aad d) (λ vs us l s. absurd (none_is l)) (λ t v. refl) 16 w x h e
 structure_kept (Encrypt f) i m w x y aad d h e =
     in_either (Encrypt f) m y (structure_in (Encrypt f) i aad d)
-    (λ vs us l s. one_stays (codes "Encrypt") aad (bytes_in 0 (array vs)) (bytes_in 0 (array us)) y (protected_kept false m vs us l) s) (λ t v. refl) 96 w x h e
+    (λ vs us l s. one_stays (codes "Encrypt") aad (bytes_in 0 (array vs)) (bytes_in 0 (array us)) y (protected_kept false m vs us l) s)
+    (λ t v. refl) 96 w x h e
 structure_kept Signature i m w x y aad d h e = absurd (none_is e)
 structure_kept Recipient i m w x y aad d h e = absurd (none_is e)
 structure_kept Header i m w x y aad d h e = absurd (none_is e)
@@ -219,14 +227,16 @@ structure_kept KeySet i m w x y aad d h e = absurd (none_is e)
 structure_kept Claims i m w x y aad d h e = absurd (none_is e)
 
 recipient_kept :
-    (k : kinds.Kind) (context : List ℕ) (m w x y : Item) (aad : List ℕ) → ((v : Item) → recipient_structure_in k aad v ≡ structure_of_one context aad (bytes_in 0 v))
+    (k : kinds.Kind) (context : List ℕ) (m w x y : Item) (aad : List ℕ)
+    → ((v : Item) → recipient_structure_in k aad v ≡ structure_of_one context aad (bytes_in 0 v))
     → within_tag (with_member Recipient m) w ≡ Some x
     → recipient_structure_in k aad w ≡ Some y
     → recipient_structure_in k aad x ≡ Some y
 recipient_kept k context m w x y aad is h e =
     is x
     ∙ in_neither Recipient m y (λ v. structure_of_one context aad (bytes_in 0 v))
-      (λ vs us l s. one_stays context aad (bytes_in 0 (array vs)) (bytes_in 0 (array us)) y (protected_kept true m vs us l) s) (λ t v. refl) w x h (sym (is w) ∙ e)
+    (λ vs us l s. one_stays context aad (bytes_in 0 (array vs)) (bytes_in 0 (array us)) y (protected_kept true m vs us l) s) (λ t v. refl) w x h
+    (sym (is w) ∙ e)
 
 pub recipient_structure_kept : RecipientStructureKept
 recipient_structure_kept (Encrypt f) m w x y aad h e = recipient_kept (Encrypt f) (codes "Enc_Recipient") m w x y aad (λ v. refl) h e

@@ -1,5 +1,5 @@
-//! What is signed, what is authenticated, and what goes with a ciphertext, of a message or of a recipient that isn't made yet
-//! (RFC 8152, sections 4.4, 5.3 and 6.3).
+//! What is signed, what is authenticated, and what goes with a ciphertext, of a message or of a recipient that isn't made
+//! yet (RFC 8152, sections 4.4, 5.3 and 6.3).
 
 ghost use Rattle.std.specs.Prelude.{◌≡◌, IfOk, IfErr};
 ghost use Rattle.coset.specs.CoseError.TheVariants.{OutOfMemory};
@@ -193,8 +193,8 @@ fn find_recipient_structure(
     }
 }
 
-/// Writes what goes with the ciphertext of a recipient that isn't made yet to the front of `out`, and answers its length: the
-/// shortest encoding of `Enc_structure` (RFC 8152, section 5.3).
+/// Writes what goes with the ciphertext of a recipient that isn't made yet to the front of `out`, and answers its length:
+/// the shortest encoding of `Enc_structure` (RFC 8152, section 5.3).
 ///
 /// `protected` is what the byte string of the recipient's protected header will hold: a map, or nothing for an empty header.
 /// The context is `Enc_Recipient` where `holder`, which will hold the recipient, is a [`Kind::Encrypt`] in whichever form,
