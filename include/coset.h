@@ -5,7 +5,7 @@
  * in, in_len     the bytes of an item of the kind. Any pointer to bytes may be NULL where the length beside it is 0.
  * out, cap, len  where an answer goes, and how long it is. COSET_SHORT: it is longer than cap, and *len says how long.
  *                Where the status isn't COSET_OK, out is as it was; where it is neither that nor COSET_SHORT, *len is 0.
- * No two of the places that a call is given may overlap. len, count, offset and value are never NULL.
+ * No two of the places that a call is given may overlap. len, count, offset, value and view are never NULL.
  * A call may take 1 MB of stack, and is not for signal handlers. */
 #ifndef COSET_H
 #define COSET_H
@@ -34,7 +34,7 @@ enum {
   COSET_UNREGISTERED = 10, /* an integer without a name, in a registry without a private range */
   COSET_NOT_PRIVATE = 11,  /* an integer without a name, and outside the private range of its registry */
   COSET_ABSENT = 12,       /* what is asked for isn't in the bytes, or what is given has no place in items of the kind */
-  COSET_MISUSE = 13        /* a number that stands for no kind, no part, no map or no order */
+  COSET_MISUSE = 13        /* a number that stands for no kind, no part, no map or no order, or for a kind of another call */
 };
 
 /* Kinds. */
@@ -68,6 +68,13 @@ enum {
   COSET_IN_PROTECTED = 1,   /* the protected header of a message, a signature or a recipient */
   COSET_IN_UNPROTECTED = 2, /* its unprotected header */
   COSET_IN_ITEM = 3         /* the item itself: of COSET_HEADER, COSET_KEY and COSET_CLAIMS */
+};
+
+/* Forms in which a message names its algorithm. */
+enum {
+  COSET_NONE = 0, /* it names none */
+  COSET_INT = 1,  /* by an integer */
+  COSET_TEXT = 2  /* by a text */
 };
 
 /* Orders of labels, by their encodings. */
@@ -111,6 +118,33 @@ int32_t coset_structure(uint32_t kind, const uint8_t *in, size_t in_len, size_t 
                         size_t external_aad_len, uint32_t has_detached, const uint8_t *detached, size_t detached_len,
                         uint8_t *out, size_t cap, size_t *len);
 
+/* What goes with the ciphertext of the COSET_RECIPIENT, an Enc_structure (RFC 8152, section 5.3), by the kind that holds it:
+ * COSET_ENCRYPT, COSET_MAC or COSET_RECIPIENT. COSET_ABSENT where items of that kind hold no recipients. */
+int32_t coset_recipient_structure(uint32_t holder, const uint8_t *in, size_t in_len, const uint8_t *external_aad,
+                                  size_t external_aad_len, uint8_t *out, size_t cap, size_t *len);
+
+/* What coset_sign1 tells in numbers, of a message with one signature: nothing but zeros where the status isn't COSET_OK. */
+typedef struct coset_sign1_view {
+  int64_t algorithm;       /* alg, label 1, of the protected header, where the form is COSET_INT, else 0 */
+  uint32_t algorithm_form; /* COSET_NONE, COSET_INT or COSET_TEXT */
+  uint32_t key_id_map;     /* where kid, label 4, stands: COSET_IN_PROTECTED; else COSET_IN_UNPROTECTED, which isn't signed;
+                              else 0 */
+  uint32_t has_critical;   /* 1 where either header has crit, label 2: labels that must be understood; else 0 */
+  uint32_t is_tagged;      /* 1 where the message is under its tag, else 0 */
+  size_t structure_len;    /* the lengths of the four texts */
+  size_t signature_len;
+  size_t payload_len;      /* 0 where the payload is detached */
+  size_t key_id_len;       /* 0 where there is no kid */
+} coset_sign1_view;
+
+/* All that verifying a COSET_SIGN1 (with COSET_TAGGED or COSET_EITHER, or neither) takes: out then begins with four texts,
+ * one behind the other, which are what is signed, as coset_structure tells it; the signature; the payload that the message
+ * carries; and the key's identifier. *len is the length of the four together. Verify the signature over what is signed, by a
+ * key that you trust and an algorithm that you allow for it, before you use the payload; and refuse a message that has crit. */
+int32_t coset_sign1(uint32_t kind, const uint8_t *in, size_t in_len, const uint8_t *external_aad, size_t external_aad_len,
+                    uint32_t has_detached, const uint8_t *detached, size_t detached_len, uint8_t *out, size_t cap,
+                    size_t *len, coset_sign1_view *view);
+
 /* ---- Making: the structure first, then your signature, tag or ciphertext, then the message. Each answer is the shortest
  * encoding of an item of the kind. */
 
@@ -133,6 +167,10 @@ int32_t coset_put_text_label(uint32_t kind, const uint8_t *in, size_t in_len, co
 int32_t coset_structure_of(uint32_t kind, const uint8_t *prot, size_t prot_len, const uint8_t *signer, size_t signer_len,
                            const uint8_t *external_aad, size_t external_aad_len, const uint8_t *content, size_t content_len,
                            uint8_t *out, size_t cap, size_t *len);
+
+/* As coset_recipient_structure, of the protected header of a recipient that isn't made yet, a map or nothing. */
+int32_t coset_recipient_structure_of(uint32_t holder, const uint8_t *prot, size_t prot_len, const uint8_t *external_aad,
+                                     size_t external_aad_len, uint8_t *out, size_t cap, size_t *len);
 
 /* A message (under its tag, with COSET_TAGGED), a COSET_SIGNATURE or a COSET_RECIPIENT, of its protected header, its
  * unprotected one, each a map or nothing, its payload or ciphertext, and its signature or tag. Where has_content is 0, the

@@ -2,17 +2,20 @@
  *
  *   check KIND IN | count KIND IN | part KIND IN CAP PART | member KIND IN CAP INDEX | label KIND IN CAP MAP LABEL
  *   label_bytes KIND IN CAP MAP LABEL | label_int KIND IN MAP LABEL | text_label KIND IN CAP MAP LABEL
- *   structure KIND IN CAP INDEX AAD HAS DETACHED | verified KIND IN CAP ALG KID SIGNED SIGNATURE
+ *   structure KIND IN CAP INDEX AAD HAS DETACHED | recipient_structure HOLDER IN CAP AAD
+ *   sign1 KIND IN CAP AAD HAS DETACHED | verified KIND IN CAP ALG KID SIGNED SIGNATURE
  *   put, put_bytes, put_text, put_int or put_text_label KIND IN CAP LABEL VALUE
- *   structure_of KIND PROTECTED CAP SIGNER AAD CONTENT | make KIND PROTECTED CAP UNPROTECTED HAS CONTENT PROOF
+ *   structure_of KIND PROTECTED CAP SIGNER AAD CONTENT | recipient_structure_of HOLDER PROTECTED CAP AAD
+ *   make KIND PROTECTED CAP UNPROTECTED HAS CONTENT PROOF
  *   add KIND IN CAP MEMBER | write KIND IN CAP | canonical_key ORDER IN CAP
  *   issued 0 KID CAP ISS SUB AUD CTI EXP NBF IAT SIGNED SIGNATURE
  *
  * Bytes, and labels and values that aren't integers, are hexadecimal, `-` for none, which is passed as NULL. To `verified` of
  * verify.c a signature is good where all four are as the line says, and to `issued` of issue.c it is SIGNATURE, where SIGNED
  * is what it is asked for. Beside the status and the number the whole buffer is told, of CAP bytes and 8 more, each of which
- * was ee before; each input is in memory of its own, and with REFUSE=N in the environment, the N-th request for memory of each
- * call is refused. */
+ * was ee before; behind it, of `sign1`, the numbers of its view, which were 77. What `verified` points to is told in place of
+ * what its buffer holds. Each input is in memory of its own, and with REFUSE=N in the environment, the N-th request for memory
+ * of each call is refused. */
 #include "coset.h"
 #include <inttypes.h>
 #include <stdio.h>
@@ -61,16 +64,21 @@ static struct bytes spelled(const char *word) {
   return b;
 }
 
-static void tell(int32_t status, const char *number, const uint8_t *out, size_t len) {
+static void tell(int32_t status, const char *number, const uint8_t *out, size_t len, const coset_sign1_view *view) {
   printf("%" PRId32 " %s ", status, number);
   for (size_t i = 0; i < len; i++) printf("%02x", out[i]);
+  if (view)
+    printf(" %" PRId64 " %" PRIu32 " %" PRIu32 " %" PRIu32 " %" PRIu32 " %zu %zu %zu %zu", view->algorithm, view->algorithm_form,
+           view->key_id_map, view->has_critical, view->is_tagged, view->structure_len, view->signature_len, view->payload_len,
+           view->key_id_len);
   puts("");
 }
 
 /* In verify.c. */
 typedef int (*verifier)(void *keys, int64_t alg, const uint8_t *kid, size_t kid_len, const uint8_t *tbs, size_t tbs_len,
                         const uint8_t *sig, size_t sig_len);
-int32_t verified(const uint8_t *in, size_t n, verifier verify, void *keys, uint8_t *out, size_t cap, size_t *len);
+int32_t verified(const uint8_t *in, size_t n, verifier verify, void *keys, uint8_t *out, size_t cap, const uint8_t **payload,
+                 size_t *len);
 
 static int same(const char *word, const uint8_t *at, size_t len) {
   struct bytes b = spelled(word);
@@ -84,6 +92,16 @@ static int is_as_said(void *words, int64_t alg, const uint8_t *kid, size_t kid_l
                       const uint8_t *sig, size_t sig_len) {
   char **word = words;
   return atoll(word[0]) == alg && same(word[1], kid, kid_len) && same(word[2], tbs, tbs_len) && same(word[3], sig, sig_len);
+}
+
+/* The status of `verified`, by those words. The payload that it points to then stands at the front of `out`, and nothing else. */
+static int32_t verified_as_said(char **words, struct bytes in, uint8_t *out, size_t cap, size_t *len) {
+  const uint8_t *payload = out;
+  int32_t status = verified(in.at, in.len, is_as_said, words, out, cap, &payload, len);
+  if ((status == 0) != (payload != NULL)) return -2;
+  if (payload) memmove(out, payload, *len);
+  if (payload || status == -1) memset(out + *len, 0xee, cap - *len);
+  return status;
 }
 
 /* In issue.c. */
@@ -125,6 +143,8 @@ static int32_t made(char **word, uint32_t kind, struct bytes in, uint8_t *out, s
     status = coset_put_text_label(kind, in.at, in.len, b[0].at, b[0].len, b[1].at, b[1].len, out, cap, len);
   if (!strcmp(call, "structure_of"))
     status = coset_structure_of(kind, in.at, in.len, b[0].at, b[0].len, b[1].at, b[1].len, b[2].at, b[2].len, out, cap, len);
+  if (!strcmp(call, "recipient_structure_of"))
+    status = coset_recipient_structure_of(kind, in.at, in.len, b[0].at, b[0].len, out, cap, len);
   if (!strcmp(call, "make"))
     status = coset_make(kind, in.at, in.len, b[0].at, b[0].len, (uint32_t)strtoul(word[5], NULL, 0), b[2].at, b[2].len,
                         b[3].at, b[3].len, out, cap, len);
@@ -156,6 +176,7 @@ int main(void) {
     size_t cap = strtoul(word[3], NULL, 0), len = 77, room = cap + 8;
     int64_t value = 77, label = strtoll(word[5], NULL, 0);
     uint8_t *out = malloc(room);
+    coset_sign1_view view = {77, 77, 77, 77, 77, 77, 77, 77, 77};
     memset(out, 0xee, room);
     left = refused ? atol(refused) : -1;
     int32_t status = made(word, kind, in, out, cap, &len);
@@ -178,13 +199,22 @@ int main(void) {
     }
     if (!strcmp(call, "verified")) {
       char *words[4] = {word[4], word[5], word[6], word[7]};
-      status = verified(in.at, in.len, is_as_said, words, out, cap, &len);
+      status = verified_as_said(words, in, out, cap, &len);
+    }
+    if (!strcmp(call, "recipient_structure")) {
+      aad = spelled(word[4]);
+      status = coset_recipient_structure(kind, in.at, in.len, aad.at, aad.len, out, cap, &len);
+    }
+    if (!strcmp(call, "sign1")) {
+      aad = spelled(word[4]), extra = spelled(word[6]);
+      status = coset_sign1(kind, in.at, in.len, aad.at, aad.len, (uint32_t)strtoul(word[5], NULL, 0), extra.at, extra.len, out,
+                           cap, &len, &view);
     }
     left = -1;
     int integer = !strcmp(call, "label_int"), writes = strcmp(call, "check") && strcmp(call, "count") && !integer;
     if (integer) snprintf(number, sizeof number, "%" PRId64, value);
     else snprintf(number, sizeof number, "%zu", len);
-    tell(status, number, out, writes ? room : 0);
+    tell(status, number, out, writes ? room : 0, strcmp(call, "sign1") ? NULL : &view);
     free(in.at), free(aad.at), free(extra.at), free(out);
     if (live) return fprintf(stderr, "%ld blocks are left\n", live), 1;
   }

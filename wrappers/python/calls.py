@@ -29,6 +29,8 @@ def made(name, kind, given, *words):
     if name == "structure_of":
         signer, aad, content = map(data, words[1:])
         return coset.structure_of(kind, given, content, signer, aad)
+    if name == "recipient_structure_of":
+        return coset.recipient_structure_of(kind, given, data(words[1]))
     if name == "make":
         return coset.make(kind, given, data(words[1]), None if words[2] == "0" else data(words[3]), data(words[4]))
     if name == "add":
@@ -42,6 +44,14 @@ def token(key_id, issuer, subject, audience, token_id, *words):
     claims = dict(zip(range(1, 8), [*texts, *map(int, words[:3]), data(token_id)]))
     found = issued(claims, key_id, lambda signed: data(words[4]) if signed.hex() == words[3] else None)
     return "no" if found is None else found.hex()
+
+
+def told(kind, given, aad, has, content):
+    """What `sign1` tells: its texts one behind the other, and the numbers of the view that coset_sign1 told."""
+    m = coset.sign1(kind, given, data(aad), None if has == "0" else data(content))
+    texts = [m.signed, m.signature, m.payload, m.key_id]
+    numbers = [m.algorithm or 0, m.algorithm_form, m.key_id_map or 0, int(m.has_critical), int(m.is_tagged), *map(len, texts)]
+    return " ".join([b"".join(texts).hex(), *map(str, numbers)])
 
 
 def answer(name, kind, given, *words):
@@ -67,6 +77,10 @@ def answer(name, kind, given, *words):
     if name == "structure":
         detached = None if words[3] == "0" else data(words[4])
         return coset.structure(kind, given, int(words[1]), data(words[2]), detached).hex()
+    if name == "recipient_structure":
+        return coset.recipient_structure(kind, given, data(words[1])).hex()
+    if name == "sign1":
+        return told(kind, given, *words[1:])
     if name == "verified":
         payload = verified(given, lambda a, k, t, s: [str(a), k.hex(), t.hex(), s.hex()] == list(words[1:]))
         return "no" if payload is None else payload.hex()

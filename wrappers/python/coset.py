@@ -5,12 +5,14 @@ no item of the kind, Absent where what is asked for isn't in them or what is giv
 """
 import ctypes
 import os
+from collections import namedtuple
 
 SIGN1, SIGN, MAC0, MAC, ENCRYPT0, ENCRYPT, SIGNATURE, RECIPIENT, HEADER, KEY, KEY_SET, CLAIMS = range(1, 13)
 TAGGED, EITHER = 0x100, 0x200  # added to a message's kind, one of the first six
 PROTECTED, PAYLOAD, CIPHERTEXT, PROOF = range(1, 5)
 IN_PROTECTED, IN_UNPROTECTED, IN_ITEM = range(1, 4)
 LEXICOGRAPHIC, LENGTH_FIRST = range(1, 3)  # orders of labels
+NONE, INT, TEXT = range(0, 3)  # forms in which a message names its algorithm
 
 _OK, _SHORT, _MEMORY, _ABSENT, _MISUSE = 0, 1, 2, 12, 13
 _FAULTS = {
@@ -43,6 +45,34 @@ class Absent(LookupError):
     """What is asked for isn't in the bytes, or what is given has no place in items of the kind."""
 
 
+class Sign1(namedtuple("Sign1", "algorithm algorithm_form key_id_map has_critical is_tagged signed signature payload key_id")):
+    """All that verifying a message with one signature takes: the algorithm that the protected header names, an int or None, and
+    its form, NONE, INT or TEXT; where the key's identifier stands, IN_PROTECTED, else IN_UNPROTECTED, which isn't signed, else
+    None; whether either header has crit, labels that must be understood; whether the message is under its tag; and what is
+    signed, the signature, the payload that the message carries (empty where it is detached), and the key's identifier.
+
+    Verify the signature over what is signed, by a key that you trust and an algorithm that you allow for it, before you use the
+    payload; and refuse a message that has crit."""
+
+    __slots__ = ()
+
+
+class _View(ctypes.Structure):
+    """coset_sign1_view of the header."""
+
+    _fields_ = [
+        ("algorithm", ctypes.c_int64),
+        ("algorithm_form", ctypes.c_uint32),
+        ("key_id_map", ctypes.c_uint32),
+        ("has_critical", ctypes.c_uint32),
+        ("is_tagged", ctypes.c_uint32),
+        ("structure_len", ctypes.c_size_t),
+        ("signature_len", ctypes.c_size_t),
+        ("payload_len", ctypes.c_size_t),
+        ("key_id_len", ctypes.c_size_t),
+    ]
+
+
 def _declare():
     number, size, integer, at = ctypes.c_uint32, ctypes.c_size_t, ctypes.c_int64, ctypes.c_char_p
     given, to = [number, at, size], [ctypes.c_void_p, size, ctypes.POINTER(size)]
@@ -56,12 +86,15 @@ def _declare():
         "label_int": [number, integer, ctypes.POINTER(integer)],
         "text_label": [number, at, size] + to,
         "structure": [size, at, size, number, at, size] + to,
+        "recipient_structure": [at, size] + to,
+        "sign1": [at, size, number, at, size] + to + [ctypes.POINTER(_View)],
         "put": [integer, at, size] + to,
         "put_bytes": [integer, at, size] + to,
         "put_text": [integer, at, size] + to,
         "put_int": [integer, integer] + to,
         "put_text_label": [at, size, at, size] + to,
         "structure_of": [at, size, at, size, at, size] + to,
+        "recipient_structure_of": [at, size] + to,
         "make": [at, size, number, at, size, at, size] + to,
         "add": [at, size] + to,
         "write": to,
@@ -82,7 +115,7 @@ def _raise(status, offset=None):
     if status == _ABSENT:
         raise Absent("what is asked for isn't there, or what is given has no place")
     if status == _MISUSE:
-        raise TypeError("a number that stands for no kind, no part, no map or no order")
+        raise TypeError("a number that stands for no kind, no part, no map or no order, or for a kind of another call")
     if status != _OK:
         raise Fault(status, offset)
 
@@ -105,12 +138,12 @@ def _size(number):
     return number
 
 
-def _written(call, *arguments):
-    """What the call writes: it is made again where the memory was short."""
+def _written(call, *arguments, behind=()):
+    """What the call writes, with arguments behind those for that too: it is made again where the memory was short."""
     room, length = 256, ctypes.c_size_t()
     while True:
         out = ctypes.create_string_buffer(room)
-        status = call(*arguments, out, room, ctypes.byref(length))
+        status = call(*arguments, out, room, ctypes.byref(length), *behind)
         if status != _SHORT:
             _raise(status)
             return out.raw[: length.value]
@@ -178,6 +211,25 @@ def structure(kind, data, index=0, external_aad=b"", detached=None):
     )
 
 
+def recipient_structure(holder, data, external_aad=b""):
+    """What goes with the ciphertext of a recipient, by the kind that holds it: ENCRYPT, MAC or RECIPIENT."""
+    return _written(_library.coset_recipient_structure, holder, *_bytes(data), *_bytes(external_aad))
+
+
+def sign1(kind, data, external_aad=b"", detached=None):
+    """All that verifying a message with one signature takes (Sign1), of a kind SIGN1, with TAGGED or EITHER or neither: over the
+    payload that the message carries, or over `detached`, where that isn't None and it carries none."""
+    content, view = _bytes(b"" if detached is None else detached), _View()
+    given = kind, *_bytes(data), *_bytes(external_aad), detached is not None, *content
+    text = _written(_library.coset_sign1, *given, behind=(ctypes.byref(view),))
+    texts, start = [], 0
+    for length in (view.structure_len, view.signature_len, view.payload_len, view.key_id_len):
+        texts.append(text[start : start + length])
+        start += length
+    algorithm = view.algorithm if view.algorithm_form == INT else None
+    return Sign1(algorithm, view.algorithm_form, view.key_id_map or None, bool(view.has_critical), bool(view.is_tagged), *texts)
+
+
 def put(kind, data, name, value):
     """The header, key or claims set, which may be empty, with one pair more, behind the others: an integer label, and an int,
     a str, or bytes."""
@@ -202,6 +254,11 @@ def structure_of(kind, protected, content=b"", signer=b"", external_aad=b""):
     return _written(
         _library.coset_structure_of, kind, *_bytes(protected), *_bytes(signer), *_bytes(external_aad), *_bytes(content)
     )
+
+
+def recipient_structure_of(holder, protected, external_aad=b""):
+    """As `recipient_structure`, of the protected header of a recipient that isn't made yet."""
+    return _written(_library.coset_recipient_structure_of, holder, *_bytes(protected), *_bytes(external_aad))
 
 
 def make(kind, protected, unprotected, content=None, proof=b""):

@@ -4,15 +4,11 @@ import coset
 
 def verified(token, verify):
     """The payload of a token, once `verify` said that its signature is one; None where it said that it isn't, and where the token
-    names labels that must be understood (`crit`). `verify` is given the algorithm, the key's identifier, what is signed, and the
-    signature."""
-    kind = coset.SIGN1 + coset.EITHER
-    algorithm = coset.label_int(kind, token, coset.IN_PROTECTED, 1)
-    if coset.has(kind, token, coset.IN_PROTECTED, 2):
+    names labels that must be understood (`crit`), or no algorithm by a number, or no key. `verify` is given the algorithm, the
+    key's identifier, what is signed, and the signature."""
+    message = coset.sign1(coset.SIGN1 + coset.EITHER, token)
+    if message.has_critical or message.algorithm is None or message.key_id_map is None:
         return None
-    key_id = coset.label_bytes(kind, token, coset.IN_UNPROTECTED, 4)
-    signed = coset.structure(kind, token)
-    signature = coset.part(kind, token, coset.PROOF)
-    if not verify(algorithm, key_id, signed, signature):
+    if not verify(message.algorithm, message.key_id, message.signed, message.signature):
         return None
-    return coset.part(kind, token, coset.PAYLOAD)
+    return message.payload

@@ -5,17 +5,20 @@ mod coset;
 mod issue;
 mod verify;
 
-use coset::{Entry, Error, Form, Kind, Map, Order, Part};
+use coset::{Algorithm, Entry, Error, Form, Kind, Map, Order, Part};
 use std::io::BufRead;
 
-fn kind(word: &str) -> Kind {
-    let number: u32 = word.parse().unwrap();
-    let form = match number & !0xff {
+fn form(word: &str) -> Form {
+    match word.parse::<u32>().unwrap() & !0xff {
         0 => Form::Plain,
         0x100 => Form::Tagged,
         _ => Form::Either,
-    };
-    match number & 0xff {
+    }
+}
+
+fn kind(word: &str) -> Kind {
+    let form = form(word);
+    match word.parse::<u32>().unwrap() & 0xff {
         1 => Kind::Sign1(form),
         2 => Kind::Sign(form),
         3 => Kind::Mac0(form),
@@ -66,6 +69,7 @@ fn made(w: &[&str]) -> Result<Vec<u8>, Error> {
         "put_int" => coset::put(k, &input, label, Entry::Int(w[5].parse().unwrap())),
         "put_text_label" => coset::put_text_label(k, &input, &text(w[4]), &bytes(w[5])),
         "structure_of" => coset::structure_of(k, &input, &bytes(w[4]), &bytes(w[5]), &bytes(w[6])),
+        "recipient_structure_of" => coset::recipient_structure_of(k, &input, &bytes(w[4])),
         "make" => coset::make(k, &input, &bytes(w[4]), (w[5] != "0").then_some(&bytes(w[6])), &bytes(w[7])),
         "add" => coset::add(k, &input, &bytes(w[4])),
         "write" => coset::write(k, &input),
@@ -91,9 +95,27 @@ fn issued(w: &[&str]) -> Result<String, Error> {
     Ok(token.map_or("no".to_string(), |token| hex(&token)))
 }
 
+/// What `sign1` tells: its texts one behind the other, and the numbers of the view that `coset_sign1` told.
+fn told(w: &[&str]) -> Result<String, Error> {
+    let content = bytes(w[6]);
+    let m = coset::sign1(form(w[1]), &bytes(w[2]), &bytes(w[4]), (w[5] != "0").then_some(content.as_slice()))?;
+    let (number, named) = match m.algorithm {
+        Algorithm::Absent => (0, 0),
+        Algorithm::Int(number) => (number, 1),
+        Algorithm::Text => (0, 2),
+    };
+    let map = m.key_id_map.map_or(0, |map| map as u32);
+    let lengths = [m.signed.len(), m.signature.len(), m.payload.len(), m.key_id.len()].map(|n| n.to_string()).join(" ");
+    let texts = hex(&[m.signed, m.signature, m.payload, m.key_id].concat());
+    Ok(format!("{texts} {number} {named} {map} {} {} {lengths}", u32::from(m.has_critical), u32::from(m.is_tagged)))
+}
+
 fn answer(w: &[&str]) -> Result<String, Error> {
     if w[0] == "issued" {
         return issued(w);
+    }
+    if w[0] == "sign1" {
+        return told(w);
     }
     let (k, input) = (kind(w[1]), bytes(w[2]));
     Ok(match w[0] {
@@ -109,6 +131,7 @@ fn answer(w: &[&str]) -> Result<String, Error> {
             let (aad, content) = (bytes(w[5]), bytes(w[7]));
             hex(&coset::structure(k, &input, w[4].parse().unwrap(), &aad, (w[6] != "0").then_some(content.as_slice()))?)
         }
+        "recipient_structure" => hex(&coset::recipient_structure(k, &input, &bytes(w[4]))?),
         "verified" => {
             let payload = verify::verified(&input, |algorithm, key_id, signed, signature| {
                 [algorithm.to_string(), hex(key_id), hex(signed), hex(signature)] == [w[4], w[5], w[6], w[7]]

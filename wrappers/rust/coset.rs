@@ -64,6 +64,35 @@ pub enum Entry<'a> {
     Encoded(&'a [u8]),
 }
 
+/// The algorithm that a protected header names (RFC 8152, section 3.1).
+#[derive(Clone, Copy, Debug, PartialEq, Eq)]
+pub enum Algorithm {
+    Absent,
+    Int(i64),
+    Text,
+}
+
+/// All that verifying a message with one signature takes. Verify the signature over what is signed, by a key that you trust and
+/// an algorithm that you allow for it, before you use the payload; and refuse a message that has `crit`.
+#[derive(Clone, Debug, PartialEq, Eq)]
+pub struct Sign1 {
+    /// The algorithm that the protected header names.
+    pub algorithm: Algorithm,
+    /// Where the key's identifier stands: in the protected header; else in the unprotected one, which isn't signed.
+    pub key_id_map: Option<Map>,
+    /// Whether either header has `crit`: labels that must be understood.
+    pub has_critical: bool,
+    /// Whether the message is under its tag.
+    pub is_tagged: bool,
+    /// What is signed.
+    pub signed: Vec<u8>,
+    pub signature: Vec<u8>,
+    /// The payload that the message carries, which is the one that is signed; empty where it is detached.
+    pub payload: Vec<u8>,
+    /// The identifier of the key, empty where there is none.
+    pub key_id: Vec<u8>,
+}
+
 /// Why a call has no answer.
 #[derive(Clone, Copy, Debug, PartialEq, Eq)]
 pub enum Error {
@@ -119,6 +148,21 @@ pub struct Fault {
 }
 
 mod c {
+    /// `coset_sign1_view` of the header.
+    #[repr(C)]
+    #[derive(Default)]
+    pub struct View {
+        pub algorithm: i64,
+        pub algorithm_form: u32,
+        pub key_id_map: u32,
+        pub has_critical: u32,
+        pub is_tagged: u32,
+        pub structure_len: usize,
+        pub signature_len: usize,
+        pub payload_len: usize,
+        pub key_id_len: usize,
+    }
+
     unsafe extern "C" {
         pub fn coset_check(kind: u32, input: *const u8, input_len: usize, offset: *mut usize) -> i32;
         pub fn coset_count(kind: u32, input: *const u8, input_len: usize, count: *mut usize) -> i32;
@@ -129,12 +173,15 @@ mod c {
         pub fn coset_label_int(kind: u32, input: *const u8, input_len: usize, map: u32, label: i64, value: *mut i64) -> i32;
         pub fn coset_text_label(kind: u32, input: *const u8, input_len: usize, map: u32, label: *const u8, label_len: usize, out: *mut u8, cap: usize, len: *mut usize) -> i32;
         pub fn coset_structure(kind: u32, input: *const u8, input_len: usize, index: usize, external_aad: *const u8, external_aad_len: usize, has_detached: u32, detached: *const u8, detached_len: usize, out: *mut u8, cap: usize, len: *mut usize) -> i32;
+        pub fn coset_recipient_structure(holder: u32, input: *const u8, input_len: usize, external_aad: *const u8, external_aad_len: usize, out: *mut u8, cap: usize, len: *mut usize) -> i32;
+        pub fn coset_sign1(kind: u32, input: *const u8, input_len: usize, external_aad: *const u8, external_aad_len: usize, has_detached: u32, detached: *const u8, detached_len: usize, out: *mut u8, cap: usize, len: *mut usize, view: *mut View) -> i32;
         pub fn coset_put(kind: u32, input: *const u8, input_len: usize, label: i64, value: *const u8, value_len: usize, out: *mut u8, cap: usize, len: *mut usize) -> i32;
         pub fn coset_put_bytes(kind: u32, input: *const u8, input_len: usize, label: i64, value: *const u8, value_len: usize, out: *mut u8, cap: usize, len: *mut usize) -> i32;
         pub fn coset_put_text(kind: u32, input: *const u8, input_len: usize, label: i64, value: *const u8, value_len: usize, out: *mut u8, cap: usize, len: *mut usize) -> i32;
         pub fn coset_put_int(kind: u32, input: *const u8, input_len: usize, label: i64, value: i64, out: *mut u8, cap: usize, len: *mut usize) -> i32;
         pub fn coset_put_text_label(kind: u32, input: *const u8, input_len: usize, label: *const u8, label_len: usize, value: *const u8, value_len: usize, out: *mut u8, cap: usize, len: *mut usize) -> i32;
         pub fn coset_structure_of(kind: u32, prot: *const u8, prot_len: usize, signer: *const u8, signer_len: usize, external_aad: *const u8, external_aad_len: usize, content: *const u8, content_len: usize, out: *mut u8, cap: usize, len: *mut usize) -> i32;
+        pub fn coset_recipient_structure_of(holder: u32, prot: *const u8, prot_len: usize, external_aad: *const u8, external_aad_len: usize, out: *mut u8, cap: usize, len: *mut usize) -> i32;
         pub fn coset_make(kind: u32, prot: *const u8, prot_len: usize, unprot: *const u8, unprot_len: usize, has_content: u32, content: *const u8, content_len: usize, proof: *const u8, proof_len: usize, out: *mut u8, cap: usize, len: *mut usize) -> i32;
         pub fn coset_add(kind: u32, input: *const u8, input_len: usize, member: *const u8, member_len: usize, out: *mut u8, cap: usize, len: *mut usize) -> i32;
         pub fn coset_write(kind: u32, input: *const u8, input_len: usize, out: *mut u8, cap: usize, len: *mut usize) -> i32;
@@ -265,6 +312,47 @@ pub fn structure(kind: Kind, bytes: &[u8], index: usize, external_aad: &[u8], de
     })
 }
 
+/// What goes with the ciphertext of a recipient, by the kind that holds it: an encrypted message with recipients, a message with
+/// a MAC and recipients, or a recipient.
+pub fn recipient_structure(holder: Kind, bytes: &[u8], external_aad: &[u8]) -> Result<Vec<u8>, Error> {
+    written(|out, cap, len| unsafe {
+        c::coset_recipient_structure(
+            holder.number(), bytes.as_ptr(), bytes.len(), external_aad.as_ptr(), external_aad.len(), out, cap, len,
+        )
+    })
+}
+
+/// All that verifying a message with one signature takes: over the payload that the message carries, or over `detached` where
+/// it carries none.
+pub fn sign1(form: Form, bytes: &[u8], external_aad: &[u8], detached: Option<&[u8]>) -> Result<Sign1, Error> {
+    let (kind, content) = (Kind::Sign1(form).number(), detached.unwrap_or_default());
+    let mut view = c::View::default();
+    let told: *mut c::View = &mut view;
+    let mut signed = written(|out, cap, len| unsafe {
+        c::coset_sign1(
+            kind, bytes.as_ptr(), bytes.len(), external_aad.as_ptr(), external_aad.len(), detached.is_some().into(),
+            content.as_ptr(), content.len(), out, cap, len, told,
+        )
+    })?;
+    let mut signature = signed.split_off(view.structure_len);
+    let mut payload = signature.split_off(view.signature_len);
+    let key_id = payload.split_off(view.payload_len);
+    Ok(Sign1 {
+        algorithm: match view.algorithm_form {
+            0 => Algorithm::Absent,
+            1 => Algorithm::Int(view.algorithm),
+            _ => Algorithm::Text,
+        },
+        key_id_map: [None, Some(Map::InProtected), Some(Map::InUnprotected)][view.key_id_map as usize],
+        has_critical: view.has_critical != 0,
+        is_tagged: view.is_tagged != 0,
+        signed,
+        signature,
+        payload,
+        key_id,
+    })
+}
+
 /// The header, key or claims set, which may be empty, with one pair more, behind the others.
 pub fn put(kind: Kind, map: &[u8], label: i64, value: Entry<'_>) -> Result<Vec<u8>, Error> {
     let (kind, at, n) = (kind.number(), map.as_ptr(), map.len());
@@ -294,6 +382,15 @@ pub fn structure_of(kind: Kind, protected: &[u8], signer: &[u8], external_aad: &
         c::coset_structure_of(
             kind.number(), protected.as_ptr(), protected.len(), signer.as_ptr(), signer.len(), external_aad.as_ptr(),
             external_aad.len(), content.as_ptr(), content.len(), out, cap, len,
+        )
+    })
+}
+
+/// As `recipient_structure`, of the protected header of a recipient that isn't made yet.
+pub fn recipient_structure_of(holder: Kind, protected: &[u8], external_aad: &[u8]) -> Result<Vec<u8>, Error> {
+    written(|out, cap, len| unsafe {
+        c::coset_recipient_structure_of(
+            holder.number(), protected.as_ptr(), protected.len(), external_aad.as_ptr(), external_aad.len(), out, cap, len,
         )
     })
 }

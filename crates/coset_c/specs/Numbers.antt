@@ -50,6 +50,15 @@ or_else None o = o
 abbrev pub kind_of : ℕ → Option kinds.Kind
 kind_of n = or_else (other_of n) (message_in (n % 0x100) (form_of (n - n % 0x100)))
 
+-- the form in which a message with one signature is asked for, where the kind is one
+abbrev pub form_of_sign1 : Option kinds.Kind → Option forms.Form
+form_of_sign1 (Some (Sign1 f)) = Some f
+form_of_sign1 o = None
+
+-- the same by the kind's number
+abbrev pub sign1_form : ℕ → Option forms.Form
+sign1_form n = form_of_sign1 (kind_of n)
+
 -- the part of that number
 abbrev pub part_of : ℕ → Option parts.Part
 part_of n =

@@ -1,13 +1,14 @@
 //! `coset_query` and `coset_make` for C: the functions that `include/coset.h` declares. What crosses are numbers, slices (in
-//! C a pointer and a length) and places for a number; nothing is kept between calls. `docs/C.md` tells how they are called.
-//! Those that read stand here, and those that make in `making`.
+//! C a pointer and a length) and places for a number or for a struct of numbers; nothing is kept between calls. `docs/C.md`
+//! tells how they are called. Those that read stand here, but for the one in `sign1`, and those that make in `making`.
 #![tactic(auto)]
 
 ghost use Rattle.std.specs.Prelude.{◌≡◌, MatchOption, pos};
+ghost use Rattle.coset_query.specs.declared.kind.Kind.TheVariants.{Recipient};
 ghost use Rattle.coset_query.specs.Answers.{Answers, AnswersNumber};
 ghost use Rattle.coset_query.specs.Labels.{IsNumberOf, IsStringOf, IsValueOf};
 ghost use Rattle.coset_query.specs.Parts.{IsCount, IsMember, IsPart};
-ghost use Rattle.coset_query.specs.Structures.{IsStructure};
+ghost use Rattle.coset_query.specs.Structures.{IsRecipientStructure, IsStructure};
 ghost use Rattle.coset.specs.Names.{number, text_label};
 ghost use Rattle.coset_c.specs.Numbers.{bytes_if, kind_of, map_query, part_query};
 ghost use Rattle.coset_c.specs.Replies.{IsMisuse, Replies, RepliesCheck, RepliesInteger};
@@ -15,9 +16,11 @@ ghost use Rattle.coset_c.specs.Replies.{IsMisuse, Replies, RepliesCheck, Replies
 mod making;
 mod numbers;
 mod replies;
+mod sign1;
 
 use coset_query::{
-    Label, check, count_of, integer_of, member_of, part_of, string_of, structure_of, value_of,
+    Label, check, count_of, integer_of, member_of, part_of, recipient_structure_of, string_of,
+    structure_of, value_of,
 };
 use numbers::{bytes_if, kind_of, map_query, part_query};
 use replies::{misused, reply, reply_check, reply_integer};
@@ -208,6 +211,29 @@ pub extern "C" fn coset_structure(
                 len,
             )
         }
+        None => misused(0, len),
+    }
+}
+
+/// Writes what goes with the ciphertext of the recipient that the input is, by the kind that holds it.
+#[unsafe(no_mangle)]
+pub extern "C" fn coset_recipient_structure(
+    alloc: Global,
+    holder: u32,
+    input: &[u8],
+    external_aad: &[u8],
+    out: &mut [u8],
+    len: &mut usize,
+) -> i32
+    ensures { MatchOption (kind_of holder) (IsMisuse result len.new 0 × (out.new ≡ out.old))
+        (λ k. Replies (Answers Recipient input.now (IsRecipientStructure k external_aad.now)
+        out.old out.new) result len.new) }
+{
+    match kind_of(holder) {
+        Some(holder) => reply(
+            recipient_structure_of(alloc, holder, input, external_aad, out),
+            len,
+        ),
         None => misused(0, len),
     }
 }

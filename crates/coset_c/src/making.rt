@@ -8,13 +8,15 @@ ghost use Rattle.coset_make.specs.Makes.{WritesAgain};
 ghost use Rattle.coset_make.specs.Members.{AddsMember};
 ghost use Rattle.coset_make.specs.Messages.{MakesMessage};
 ghost use Rattle.coset_make.specs.PairsMade.{PutsPair};
-ghost use Rattle.coset_make.specs.StructuresMade.{MakesStructure};
+ghost use Rattle.coset_make.specs.StructuresMade.{MakesRecipientStructure, MakesStructure};
 ghost use Rattle.coset_c.specs.Numbers.{bytes_if, kind_of, order_of};
 ghost use Rattle.coset_c.specs.Replies.{IsMisuse, Replies};
 
 use crate::numbers::{bytes_if, kind_of, order_of};
 use crate::replies::{misused, reply};
-use coset_make::{Entry, add, canonical_key, make, put, structure_of, write};
+use coset_make::{
+    Entry, add, canonical_key, make, put, recipient_structure_of, structure_of, write,
+};
 use coset_query::Label;
 use std::alloc::Global;
 
@@ -164,6 +166,29 @@ pub extern "C" fn coset_structure_of(
             let made = structure_of(alloc, kind, protected, signer, external_aad, content, out);
             reply(made, len)
         },
+        None => misused(0, len),
+    }
+}
+
+/// Writes what goes with the ciphertext of a recipient that isn't made yet, by the kind that will hold it.
+#[unsafe(no_mangle)]
+pub extern "C" fn coset_recipient_structure_of(
+    alloc: Global,
+    holder: u32,
+    protected: &[u8],
+    external_aad: &[u8],
+    out: &mut [u8],
+    len: &mut usize,
+) -> i32
+    ensures { MatchOption (kind_of holder) (IsMisuse result len.new 0 × (out.new ≡ out.old))
+        (λ k. Replies (MakesRecipientStructure k protected.now external_aad.now
+        out.old out.new) result len.new) }
+{
+    match kind_of(holder) {
+        Some(holder) => {
+            let made = recipient_structure_of(alloc, holder, protected, external_aad, out);
+            reply(made, len)
+        }
         None => misused(0, len),
     }
 }

@@ -2,7 +2,7 @@
 
 ghost use Rattle.std.specs.Prelude.{◌≡◌};
 ghost use Rattle.std.specs.Option.{option_copied};
-ghost use Rattle.coset_c.specs.Numbers.{bytes_if, form_of, kind_of, map_of, map_query, message_of, order_of, other_of, part_of, part_query};
+ghost use Rattle.coset_c.specs.Numbers.{bytes_if, form_of, kind_of, map_of, map_query, message_of, order_of, other_of, part_of, part_query, sign1_form};
 
 use coset::CborOrdering;
 use coset_query::{Form, Kind, Map, Part};
@@ -44,9 +44,9 @@ const COSET_CIPHERTEXT: u32 = 3;
 
 const COSET_PROOF: u32 = 4;
 
-const COSET_IN_PROTECTED: u32 = 1;
+pub(crate) const COSET_IN_PROTECTED: u32 = 1;
 
-const COSET_IN_UNPROTECTED: u32 = 2;
+pub(crate) const COSET_IN_UNPROTECTED: u32 = 2;
 
 const COSET_IN_ITEM: u32 = 3;
 
@@ -106,6 +106,16 @@ pub(crate) fn kind_of(number: u32) -> Option<Kind>
     match form_of(number - number % 0x100) {
         Some(form) => message_of(number % 0x100, form),
         None => None,
+    }
+}
+
+/// The form in which a message with one signature is asked for, where the number stands for one.
+pub(crate) fn sign1_form(number: u32) -> Option<Form>
+    ensures { result ≡ sign1_form number }
+{
+    match kind_of(number) {
+        Some(Kind::Sign1(form)) => Some(form),
+        _ => None,
     }
 }
 

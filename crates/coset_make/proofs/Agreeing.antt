@@ -12,7 +12,7 @@ use Rattle.coset_query.specs.declared.kind.Kind.TheVariants.{Sign1, Sign, Mac0, 
 use Rattle.coset_query.specs.Places.{bytes_in, nth}
 use Rattle.coset_query.specs.Structures.{content_at, structure_in, structure_of_three, structure_of_two}
 use Rattle.coset_make.specs.Laws.{MadeUnsigned, SignatureAdded, StructureOfMade, StructureOfSigner, inside}
-use Rattle.coset_make.specs.Messages.{content_item, in_tag, message, places, tag_in_form}
+use Rattle.coset_make.specs.Messages.{content_item, in_tag, places, tag_in_form}
 
 -- what is made under a tag, or without, without it
 without_tag_again : (f : forms.Form) (n : ℕ) (vs : Items) → untagged n (in_tag (tag_in_form f (Some n)) (array vs)) ≡ array vs
@@ -20,7 +20,7 @@ without_tag_again Plain n vs = refl
 without_tag_again Tagged n vs = ap (λ b. cond b (array vs) (tag n (array vs))) ((unsigned_Decides n n).1 refl)
 without_tag_again Either n vs = refl
 
-none_is : {A : Type 0} {x : A} → None ≡ Some x → ⊥
+pub none_is : {A : Type 0} {x : A} → None ≡ Some x → ⊥
 none_is p = some-none refl (sym p)
 
 module _ (i : ℕ) (p : List ℕ) (u : Item) (c d : Option (List ℕ)) (x aad : List ℕ) (w y : Item) where

@@ -1,3 +1,4 @@
 pub mod Making
 pub mod Lists
 pub mod Agreeing
+pub mod Keeping

@@ -1,15 +1,15 @@
--- What is signed before a message is made is what is signed of it afterwards.
+-- What is signed before a message is made is what is signed of it afterwards, also once members were added.
 use Rattle.std.specs.Prelude.{◌≡◌, ⊤, ℕ, List, [], Option, Some}
 use Rattle.coset.specs.Item.{Item, bytes, array, Items, no_items, item}
 use Rattle.coset_query.specs.declared.kind.Form as forms
 use Rattle.coset_query.specs.declared.kind.Kind as kinds
-use Rattle.coset_query.specs.declared.kind.Kind.TheVariants.{Sign, Encrypt0, Encrypt}
+use Rattle.coset_query.specs.declared.kind.Kind.TheVariants.{Sign, Encrypt0, Encrypt, Recipient}
 use Rattle.coset_query.specs.Kinds.{tag_of, without_tag}
 use Rattle.coset_query.specs.Places.{bytes_in, nth}
-use Rattle.coset_query.specs.Structures.{content_at, structure_in}
-use Rattle.coset_make.specs.Members.{with_member}
+use Rattle.coset_query.specs.Structures.{content_at, recipient_structure_in, structure_in}
+use Rattle.coset_make.specs.Members.{with_member, within_tag}
 use Rattle.coset_make.specs.Messages.{and_item, content_item, message}
-use Rattle.coset_make.specs.StructuresMade.{structure_made}
+use Rattle.coset_make.specs.StructuresMade.{recipient_structure_made, structure_made}
 
 -- the item without the tag that a message of the kind may be under
 abbrev pub inside : kinds.Kind → Item → Item
@@ -52,3 +52,23 @@ StructureOfSigner =
     (f : forms.Form) (i : ℕ) (p q x aad : List ℕ) (u m : Item) (c d : Option (List ℕ)) (ms : Items) → nth i ms ≡ Some m → bytes_in 0 m ≡ Some q
     → content_at (content_item c) d ≡ Some x
     → structure_in (Sign f) i aad d (signed_by p u c ms) ≡ structure_made (Sign f) p q aad x
+
+-- the structure of a recipient's header is that of the recipient w which is made of it
+abbrev pub RecipientStructureOfMade : Type 0
+RecipientStructureOfMade =
+    (h : kinds.Kind) (p : List ℕ) (u : Item) (c : Option (List ℕ)) (s aad : List ℕ) (w : Item) → message Recipient p u c s ≡ Some w
+    → recipient_structure_in h aad (inside Recipient w) ≡ recipient_structure_made h p aad
+
+-- the item w of a kind, whatever it is, has the structure that it had once it has one member more
+abbrev pub StructureKept : Type 0
+StructureKept =
+    (k : kinds.Kind) (i : ℕ) (m w x y : Item) (aad : List ℕ) (d : Option (List ℕ)) → within_tag (with_member k m) w ≡ Some x
+    → structure_in k i aad d (inside k w) ≡ Some y
+    → structure_in k i aad d (inside k x) ≡ Some y
+
+-- and so has a recipient w once it has one recipient more, by whatever holds it
+abbrev pub RecipientStructureKept : Type 0
+RecipientStructureKept =
+    (h : kinds.Kind) (m w x y : Item) (aad : List ℕ) → within_tag (with_member Recipient m) w ≡ Some x
+    → recipient_structure_in h aad (inside Recipient w) ≡ Some y
+    → recipient_structure_in h aad (inside Recipient x) ≡ Some y

@@ -1,12 +1,12 @@
--- What is signed, authenticated, or goes with a ciphertext, of a message that isn't made yet (RFC 8152, sections 4.4, 5.3 and
--- 6.3).
+-- What is signed, authenticated, or goes with a ciphertext, of a message or of a recipient that isn't made yet (RFC 8152,
+-- sections 4.4, 5.3 and 6.3).
 use Rattle.std.specs.Prelude.{◌≡◌, ◌⊎◌, ⊤, ℕ, List, [], ◌∷◌, Option, Some, None, Result, Ok, Err, codes}
 use Rattle.coset.specs.Item.{Item}
 use Rattle.coset.specs.CoseError.{CoseError}
 use Rattle.coset.specs.Errors.{UnlessMemory}
 use Rattle.coset.specs.Structure.{structure}
 use Rattle.coset_query.specs.declared.kind.Kind as kinds
-use Rattle.coset_query.specs.declared.kind.Kind.TheVariants.{Sign1, Sign, Mac0, Mac, Encrypt0, Encrypt, Header}
+use Rattle.coset_query.specs.declared.kind.Kind.TheVariants.{Sign1, Sign, Mac0, Mac, Encrypt0, Encrypt, Recipient, Header}
 use Rattle.coset_query.specs.declared.refusal.Refusal as refusals
 use Rattle.coset_query.specs.Answers.{IsEncodingOf}
 use Rattle.coset_query.specs.Kinds.{IsOf, IsRefused}
@@ -54,6 +54,17 @@ structure_made (Encrypt0 f) p q aad c = beside_ciphertext (codes "Encrypt0") p q
 structure_made (Encrypt f) p q aad c = beside_ciphertext (codes "Encrypt") p q aad c
 structure_made k p q aad c = None
 
+-- Enc_structure of a recipient: [context, protected, external_aad]
+abbrev pub of_recipient : List ℕ → List ℕ → List ℕ → Option Item
+of_recipient context p aad = Some (structure context (p ∷ aad ∷ []))
+
+-- the structure of a recipient with this protected header, by what holds it
+abbrev pub recipient_structure_made : kinds.Kind → List ℕ → List ℕ → Option Item
+recipient_structure_made (Encrypt f) p aad = of_recipient (codes "Enc_Recipient") p aad
+recipient_structure_made (Mac f) p aad = of_recipient (codes "Mac_Recipient") p aad
+recipient_structure_made Recipient p aad = of_recipient (codes "Rec_Recipient") p aad
+recipient_structure_made k p aad = None
+
 -- the text is its shortest encoding, or there is none
 abbrev pub FindsEncoding : {T : Type 0} → (T → List ℕ) → Option Item → Option T → Type 0
 FindsEncoding text_of o (Some x) = IsEncodingOf o (text_of x)
@@ -68,3 +79,9 @@ WritesItem o old new r = Writes (IsEncodingOf o) (o ≡ None) (λ e. ⊥) old ne
 abbrev pub MakesStructure : kinds.Kind → List ℕ → List ℕ → List ℕ → List ℕ → List ℕ → List ℕ → Result ℕ refusals.Refusal → Type 0
 MakesStructure k p q aad c old new r =
     (IsHeader p × IsHeader q × WritesItem (structure_made k p q aad c) old new r) ⊎ RefusesInputs (λ e. HeaderFaults p e ⊎ HeaderFaults q e) old new r
+
+-- What `recipient_structure_of` answers, of the protected header p of a recipient: the shortest encoding of the structure; or
+-- that there is none; or why that isn't a header
+abbrev pub MakesRecipientStructure : kinds.Kind → List ℕ → List ℕ → List ℕ → List ℕ → Result ℕ refusals.Refusal → Type 0
+MakesRecipientStructure h p aad old new r =
+    (IsHeader p × WritesItem (recipient_structure_made h p aad) old new r) ⊎ RefusesInputs (HeaderFaults p) old new r

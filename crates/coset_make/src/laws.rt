@@ -1,6 +1,6 @@
 //! What `coset_query` tells of what was made here. Each law is the contract of a function that does nothing.
 
-ghost use Rattle.coset_make.specs.Laws.{MadeUnsigned, SignatureAdded, StructureOfMade, StructureOfSigner};
+ghost use Rattle.coset_make.specs.Laws.{MadeUnsigned, RecipientStructureKept, RecipientStructureOfMade, SignatureAdded, StructureKept, StructureOfMade, StructureOfSigner};
 
 /// What is signed, authenticated or goes with the ciphertext of a message that [`make`](crate::make) made, as
 /// `coset_query::structure_of` tells it, is what [`structure_of`](crate::structure_of) told of the same parts before.
@@ -14,4 +14,17 @@ pub fn structures_of_signers()
     ensures made { MadeUnsigned }
     ensures added { SignatureAdded }
     ensures signed { StructureOfSigner }
+{}
+
+/// What goes with the ciphertext of a recipient that [`make`](crate::make) made, as `coset_query::recipient_structure_of`
+/// tells it, is what [`recipient_structure_of`](crate::recipient_structure_of) told of its protected header before.
+pub fn recipient_structure_of_made()
+    ensures { RecipientStructureOfMade }
+{}
+
+/// A signature or a recipient that [`add`](crate::add) puts into an item leaves what is signed, authenticated or goes with a
+/// ciphertext as it was: by each signer, of the message, and of a recipient that others are added to.
+pub fn structures_are_kept()
+    ensures kept { StructureKept }
+    ensures recipient { RecipientStructureKept }
 {}

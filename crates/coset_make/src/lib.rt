@@ -26,4 +26,4 @@ pub use made::write;
 pub use member::add;
 pub use message::make;
 pub use pair::put;
-pub use structure::structure_of;
+pub use structure::{recipient_structure_of, structure_of};

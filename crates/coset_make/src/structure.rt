@@ -1,9 +1,9 @@
-//! What is signed, what is authenticated, and what goes with a ciphertext, of a message that isn't made yet (RFC 8152,
-//! sections 4.4, 5.3 and 6.3).
+//! What is signed, what is authenticated, and what goes with a ciphertext, of a message or of a recipient that isn't made
+//! yet (RFC 8152, sections 4.4, 5.3 and 6.3).
 
 ghost use Rattle.std.specs.Prelude.{◌≡◌, IfOk, IfErr};
 ghost use Rattle.coset.specs.CoseError.TheVariants.{OutOfMemory};
-ghost use Rattle.coset_make.specs.StructuresMade.{ChecksHeader, FindsEncoding, MakesStructure, beside_ciphertext, of_signer, over_content, structure_made};
+ghost use Rattle.coset_make.specs.StructuresMade.{ChecksHeader, FindsEncoding, MakesRecipientStructure, MakesStructure, beside_ciphertext, of_recipient, of_signer, over_content, recipient_structure_made, structure_made};
 
 use coset::Result;
 use coset_core::structure::structure_bytes;
@@ -150,6 +150,73 @@ pub fn structure_of(
     }
     write_found(
         find_structure(alloc, kind, protected, signer, external_aad, content),
+        out,
+    )
+}
+
+/// A structure that goes with the ciphertext of a recipient.
+///
+/// # Errors
+/// `OutOfMemory` alone.
+fn of_recipient(
+    alloc: Global,
+    context: &str,
+    protected: &[u8],
+    external_aad: &[u8],
+) -> Result<Option<Vec<u8>>>
+    ensures found { IfOk result (FindsEncoding (λ b. b.items)
+        (of_recipient context.now protected.now external_aad.now)) }
+    ensures memory { IfErr result (λ e. e ≡ OutOfMemory) }
+{
+    Ok(Some(structure_bytes(alloc, context, &[protected, external_aad])?))
+}
+
+/// The shortest encoding of the structure of a recipient, by what holds it.
+///
+/// # Errors
+/// `OutOfMemory` alone.
+fn find_recipient_structure(
+    alloc: Global,
+    holder: Kind,
+    protected: &[u8],
+    external_aad: &[u8],
+) -> Result<Option<Vec<u8>>>
+    ensures found { IfOk result (FindsEncoding (λ b. b.items)
+        (recipient_structure_made holder protected.now external_aad.now)) }
+    ensures memory { IfErr result (λ e. e ≡ OutOfMemory) }
+{
+    match holder {
+        Kind::Encrypt(_) => of_recipient(alloc, "Enc_Recipient", protected, external_aad),
+        Kind::Mac(_) => of_recipient(alloc, "Mac_Recipient", protected, external_aad),
+        Kind::Recipient => of_recipient(alloc, "Rec_Recipient", protected, external_aad),
+        _ => Ok(None),
+    }
+}
+
+/// Writes what goes with the ciphertext of a recipient that isn't made yet to the front of `out`, and answers its length:
+/// the shortest encoding of `Enc_structure` (RFC 8152, section 5.3).
+///
+/// `protected` is what the byte string of the recipient's protected header will hold: a map, or nothing for an empty header.
+/// The context is `Enc_Recipient` where `holder`, which will hold the recipient, is a [`Kind::Encrypt`] in whichever form,
+/// `Mac_Recipient` where it is a [`Kind::Mac`], and `Rec_Recipient` where it is a [`Kind::Recipient`] itself.
+///
+/// # Errors
+/// `Short` where `out` has no room for it; `Absent` where items of the kind `holder` hold no recipients; `Cose` where the
+/// header is none, or where memory runs out. `out` is then as it was.
+pub fn recipient_structure_of(
+    alloc: Global,
+    holder: Kind,
+    protected: &[u8],
+    external_aad: &[u8],
+    out: &mut [u8],
+) -> Result<usize, Refusal>
+    ensures { MakesRecipientStructure holder protected.now external_aad.now out.old out.new result }
+{
+    if let Err(error) = check_header(alloc, protected) {
+        return Err(Refusal::Cose(error));
+    }
+    write_found(
+        find_recipient_structure(alloc, holder, protected, external_aad),
         out,
     )
 }

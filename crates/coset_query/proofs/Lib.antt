@@ -1,3 +1,4 @@
 pub mod EachKind
 pub mod Answering
 pub mod Valued
+pub mod Viewed

@@ -29,6 +29,17 @@ Answers k b P old new (Err (Short n)) = (v : Item) × IsItemOf k b v × ((t : Li
 Answers k b P old new (Err Absent) = (v : Item) × IsItemOf k b v × ((t : List ℕ) → P v t → ⊥) × (new ≡ old)
 Answers k b P old new (Err (Cose e)) = IsRefused k b e × (new ≡ old)
 
+-- What a call answers that writes a text and tells something beside it, of both of which P tells, of the item that the bytes
+-- are: the text stands at the front of the memory, or that has no room for it, and the length that is needed is answered; or
+-- there are no such two; or the bytes are no such item. But for the first the memory is as it was
+abbrev pub AnswersWith :
+    {N : Type 0} → kinds.Kind → List ℕ → (Item → N → List ℕ → Type 0) → List ℕ → List ℕ → Result N refusals.Refusal → Type 0
+AnswersWith k b P old new (Ok n) = (v : Item) × IsItemOf k b v × ((t : List ℕ) × P v n t × BeginsWith t old new)
+AnswersWith {N} k b P old new (Err (Short m)) =
+    (v : Item) × IsItemOf k b v × ((n : N) × ((t : List ℕ) × P v n t × Puts t old new (Err (Short m))))
+AnswersWith {N} k b P old new (Err Absent) = (v : Item) × IsItemOf k b v × ((n : N) (t : List ℕ) → P v n t → ⊥) × (new ≡ old)
+AnswersWith k b P old new (Err (Cose e)) = IsRefused k b e × (new ≡ old)
+
 -- What a call answers that tells a number of which P says what it is, of the item that the bytes are: the number; or that
 -- there is none; or why the bytes are no such item
 abbrev pub AnswersNumber : {N : Type 0} → kinds.Kind → List ℕ → (Item → N → Type 0) → Result N refusals.Refusal → Type 0
@@ -36,6 +47,11 @@ AnswersNumber k b P (Ok n) = (v : Item) × IsItemOf k b v × P v n
 AnswersNumber k b P (Err (Short n)) = ⊥
 AnswersNumber {N} k b P (Err Absent) = (v : Item) × IsItemOf k b v × ((n : N) → P v n → ⊥)
 AnswersNumber k b P (Err (Cose e)) = IsRefused k b e
+
+-- Writing the text into the memory, and telling n where it has room
+abbrev pub PutsWith : {N : Type 0} → N → List ℕ → List ℕ → List ℕ → Result N refusals.Refusal → Type 0
+PutsWith n t old new (Ok m) = (m ≡ n) × BeginsWith t old new
+PutsWith n t old new (Err r) = Puts t old new (Err r)
 
 -- Writing what was found
 abbrev pub WritesFound : {T : Type 0} → (T → List ℕ) → Result (Option T) CoseError → List ℕ → List ℕ → Result ℕ refusals.Refusal → Type 0
@@ -47,6 +63,11 @@ WritesFound bytes_of (Err e) old new r = (r ≡ Err (Cose e)) × (new ≡ old)
 abbrev pub Finds : {T A : Type 0} → (T → A) → (A → Type 0) → Option T → Type 0
 Finds seen P (Some x) = P (seen x)
 Finds {A = A} seen P None = (a : A) → P a → ⊥
+
+-- something was found, with a text, of both of which P tells, or there are no such two
+abbrev pub FindsWith : {T N : Type 0} → (T → N) → (T → List ℕ) → (N → List ℕ → Type 0) → Option T → Type 0
+FindsWith seen text_of P (Some x) = P (seen x) (text_of x)
+FindsWith {N = N} seen text_of P None = (n : N) (t : List ℕ) → P n t → ⊥
 
 -- the shortest encoding of that item, where there is one
 abbrev pub IsEncodingOf : Option Item → List ℕ → Type 0

@@ -6,3 +6,4 @@ pub mod Places
 pub mod Parts
 pub mod Labels
 pub mod Structures
+pub mod View

@@ -5,7 +5,7 @@ use Rattle.coset.specs.Item.{Item, null}
 use Rattle.coset.specs.Parts.{as_bytes}
 use Rattle.coset.specs.Structure.{structure}
 use Rattle.coset_query.specs.declared.kind.Kind as kinds
-use Rattle.coset_query.specs.declared.kind.Kind.TheVariants.{Sign1, Sign, Mac0, Mac, Encrypt0, Encrypt}
+use Rattle.coset_query.specs.declared.kind.Kind.TheVariants.{Sign1, Sign, Mac0, Mac, Encrypt0, Encrypt, Recipient}
 use Rattle.coset_query.specs.Answers.{IsEncodingOf}
 use Rattle.coset_query.specs.Places.{bytes_in, element, member_at}
 
@@ -64,3 +64,14 @@ structure_in k i aad d v = None
 -- t is its shortest encoding
 abbrev pub IsStructure : kinds.Kind → ℕ → List ℕ → Option (List ℕ) → Item → List ℕ → Type 0
 IsStructure k i aad d v t = IsEncodingOf (structure_in k i aad d v) t
+
+-- the structure of the recipient v, by what holds it: context : "Enc_Recipient" / "Mac_Recipient" / "Rec_Recipient"
+abbrev pub recipient_structure_in : kinds.Kind → List ℕ → Item → Option Item
+recipient_structure_in (Encrypt f) aad v = encryption_structure (codes "Enc_Recipient") aad v
+recipient_structure_in (Mac f) aad v = encryption_structure (codes "Mac_Recipient") aad v
+recipient_structure_in Recipient aad v = encryption_structure (codes "Rec_Recipient") aad v
+recipient_structure_in k aad v = None
+
+-- t is the shortest encoding of the structure of a recipient
+abbrev pub IsRecipientStructure : kinds.Kind → List ℕ → Item → List ℕ → Type 0
+IsRecipientStructure h aad v t = IsEncodingOf (recipient_structure_in h aad v) t

@@ -7,7 +7,7 @@ ghost use Rattle.coset.specs.PerhapsTagged.{untagged};
 ghost use Rattle.coset.specs.Pulls.{pull_item};
 ghost use Rattle.coset.specs.Shortest.{IsShortest};
 ghost use Rattle.coset.specs.View.{view};
-ghost use Rattle.coset_query.specs.Kinds.{IsItemOf, IsRefused, without_tag};
+ghost use Rattle.coset_query.specs.Kinds.{IsItemOf, IsRefused, IsWholeOf, is_under, without_tag};
 ghost use Rattle.coset_query.specs.Places.{array_in, bytes_in, element, member_at, members, nth};
 
 use crate::kind::{Kind, check};
@@ -29,13 +29,35 @@ fn untagged(number: u64, item: Pull<'_>) -> Pull<'_>
 }
 
 /// The item without the tag of that number, where there is a number.
-fn without_tag(number: Option<u64>, item: Pull<'_>) -> Pull<'_>
+pub(crate) fn without_tag(number: Option<u64>, item: Pull<'_>) -> Pull<'_>
     ensures { pull_item result ≡ without_tag number (pull_item item.entry) }
 {
     match number {
         Some(number) => untagged(number, item),
         None => item,
     }
+}
+
+/// Whether the item is a tag of that number.
+pub(crate) fn is_under(number: u64, item: Pull<'_>) -> bool
+    ensures { result ≡ is_under number (pull_item item.entry) }
+{
+    match item.tag() {
+        Some((found, _)) => found == number,
+        None => false,
+    }
+}
+
+/// The item of that kind that the bytes are, with the tag that a message may be under.
+///
+/// # Errors
+/// The same as [`check`].
+pub(crate) fn whole_of(alloc: Global, kind: Kind, bytes: &[u8]) -> Result<Pull<'_>>
+    ensures { MatchResult result (λ item. IsWholeOf kind bytes.now (pull_item item)) (λ e.
+        IsRefused kind bytes.now e) }
+{
+    check(alloc, kind, bytes)?;
+    Ok(whole_item(bytes)?)
 }
 
 /// The item of that kind that the bytes are, without the tag that a message may be under.
@@ -46,9 +68,8 @@ pub(crate) fn item_of(alloc: Global, kind: Kind, bytes: &[u8]) -> Result<Pull<'_
     ensures { MatchResult result (λ item. IsItemOf kind bytes.now (pull_item item)) (λ e.
         IsRefused kind bytes.now e) }
 {
-    check(alloc, kind, bytes)?;
-    let item = whole_item(bytes)?;
-    Ok(without_tag(kind.tag(), item))
+    let whole = whole_of(alloc, kind, bytes)?;
+    Ok(without_tag(kind.tag(), whole))
 }
 
 /// The member of that index.

@@ -140,7 +140,7 @@ fn unprotected_value(alloc: Global, label: Label<'_>, item: Pull<'_>) -> Result<
 ///
 /// # Errors
 /// `OutOfMemory` alone.
-fn find_value(
+pub(crate) fn find_value(
     alloc: Global,
     kind: Kind,
     item: Pull<'_>,
@@ -229,7 +229,7 @@ fn string_in(value: Value) -> Option<Vec<u8>>
 ///
 /// # Errors
 /// `OutOfMemory` alone.
-fn find_string(
+pub(crate) fn find_string(
     alloc: Global,
     kind: Kind,
     item: Pull<'_>,
@@ -270,7 +270,7 @@ pub fn string_of(
 }
 
 /// The number of an integer, where it has 64 bits.
-fn number_in(value: &Value) -> Option<i64>
+pub(crate) fn number_in(value: &Value) -> Option<i64>
     ensures { Finds (λ n. n) (IsNumber (view value.now)) result }
 {
     match value.as_integer() {

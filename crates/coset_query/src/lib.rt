@@ -1,5 +1,6 @@
 //! What is asked of bytes that may be an item of COSE, in one call each: whether they are one, the parts of it, the values
-//! of its labels, and what is signed, authenticated or goes with a ciphertext of it.
+//! of its labels, and what is signed, authenticated or goes with a ciphertext of it; and of a message with one signature all
+//! that verifying it takes, in one call.
 //!
 //! Each call is a function of its input's bytes. It keeps nothing, and what it answers it writes into the caller's memory,
 //! which is left as it was where the answer has no room there, and where there is none. So these are the calls that a
@@ -16,6 +17,7 @@ mod label;
 mod part;
 mod refusal;
 mod structure;
+mod view;
 mod written;
 
 pub use fault::fault_offset;
@@ -23,5 +25,6 @@ pub use kind::{Form, Kind, check};
 pub use label::{Label, Map, integer_of, string_of, value_of};
 pub use part::{Part, count_of, member_of, part_of};
 pub use refusal::{Refusal, Status};
-pub use structure::structure_of;
+pub use structure::{recipient_structure_of, structure_of};
+pub use view::{Algorithm, KeyIdPlace, Sign1View, sign1_view};
 pub use written::write_found;

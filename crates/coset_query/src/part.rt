@@ -64,7 +64,12 @@ impl Kind {
 ///
 /// # Errors
 /// `OutOfMemory` alone.
-fn find_part(alloc: Global, kind: Kind, item: Pull<'_>, part: Part) -> Result<Option<Vec<u8>>>
+pub(crate) fn find_part(
+    alloc: Global,
+    kind: Kind,
+    item: Pull<'_>,
+    part: Part,
+) -> Result<Option<Vec<u8>>>
     ensures found { IfOk result (Finds (λ b. b.items) (IsPart kind part (pull_item item.entry))) }
     ensures memory { IfErr result (λ e. e ≡ OutOfMemory) }
 {

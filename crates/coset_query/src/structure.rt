@@ -9,7 +9,7 @@ ghost use Rattle.coset.specs.Shortest.{IsShortest};
 ghost use Rattle.coset.specs.Structure.{structure};
 ghost use Rattle.coset_query.specs.Answers.{Answers, Finds, IsEncodingOf};
 ghost use Rattle.coset_query.specs.Places.{element};
-ghost use Rattle.coset_query.specs.Structures.{IsStructure, content_at, content_in, content_structure, encryption_structure, signer_in, signer_structure, structure_of_one, structure_of_three, structure_of_two};
+ghost use Rattle.coset_query.specs.Structures.{IsRecipientStructure, IsStructure, content_at, content_in, content_structure, encryption_structure, signer_in, signer_structure, structure_of_one, structure_of_three, structure_of_two};
 
 use crate::item::{bytes_in, element, item_of, member_at};
 use crate::kind::Kind;
@@ -273,7 +273,7 @@ fn signer_structure(
 ///
 /// # Errors
 /// `OutOfMemory` alone.
-fn find_structure(
+pub(crate) fn find_structure(
     alloc: Global,
     kind: Kind,
     item: Pull<'_>,
@@ -324,6 +324,56 @@ pub fn structure_of(
     match item_of(alloc, kind, bytes) {
         Ok(item) => write_found(
             find_structure(alloc, kind, item, index, external_aad, detached),
+            out,
+        ),
+        Err(error) => Err(Refusal::Cose(error)),
+    }
+}
+
+/// The structure that goes with the ciphertext of a recipient, by what holds it.
+///
+/// # Errors
+/// `OutOfMemory` alone.
+fn find_recipient_structure(
+    alloc: Global,
+    holder: Kind,
+    item: Pull<'_>,
+    aad: &[u8],
+) -> Result<Option<Vec<u8>>>
+    ensures found { IfOk result (Finds (λ b. b.items)
+        (IsRecipientStructure holder aad.now (pull_item item.entry))) }
+    ensures memory { IfErr result (λ e. e ≡ OutOfMemory) }
+{
+    match holder {
+        Kind::Encrypt(_) => encryption_structure(alloc, "Enc_Recipient", item, aad),
+        Kind::Mac(_) => encryption_structure(alloc, "Mac_Recipient", item, aad),
+        Kind::Recipient => encryption_structure(alloc, "Rec_Recipient", item, aad),
+        _ => Ok(None),
+    }
+}
+
+/// Writes what goes with the ciphertext of a recipient to the front of `out`, and answers its length: the shortest encoding
+/// of `Enc_structure` (RFC 8152, section 5.3), with the bytes of the protected header as they were received.
+///
+/// The bytes are a [`Kind::Recipient`]. Its context is `Enc_Recipient` where `holder` is a [`Kind::Encrypt`] in whichever
+/// form, `Mac_Recipient` where it is a [`Kind::Mac`], and `Rec_Recipient` where it is a [`Kind::Recipient`] itself.
+///
+/// # Errors
+/// `Short` where `out` has no room for it; `Absent` where items of the kind `holder` hold no recipients; `Cose` as
+/// [`check`](crate::check) says. `out` is then as it was.
+pub fn recipient_structure_of(
+    alloc: Global,
+    holder: Kind,
+    bytes: &[u8],
+    external_aad: &[u8],
+    out: &mut [u8],
+) -> Result<usize, Refusal>
+    ensures { Answers Kind.Recipient bytes.now (IsRecipientStructure holder external_aad.now)
+        out.old out.new result }
+{
+    match item_of(alloc, Kind::Recipient, bytes) {
+        Ok(item) => write_found(
+            find_recipient_structure(alloc, holder, item, external_aad),
             out,
         ),
         Err(error) => Err(Refusal::Cose(error)),

@@ -10,7 +10,7 @@ use coset::Result;
 ///
 /// # Errors
 /// `Short` where `out` has no room for them: it is then as it was.
-fn put(bytes: &[u8], out: &mut [u8]) -> Result<usize, Refusal>
+pub(crate) fn put(bytes: &[u8], out: &mut [u8]) -> Result<usize, Refusal>
     ensures { Puts bytes.now out.old out.new result }
 {
     if out.len() < bytes.len() {
