@@ -1,6 +1,7 @@
-//! What the program reads from and writes to, and whether it is known not to fail.
+//! What the program reads from and writes to, and whether it is known not to fail. The program's own ends may fail, but its
+//! code is the same for all ends: what is promised of those that can't keeps it from telling of a failure that there wasn't.
 
-ghost use Rattle.std.specs.Prelude.{◌≡◌, Bool, true, false, IsTrue, IsOk, IfErr, OnOk};
+ghost use Rattle.std.specs.Prelude.{◌≡◌, Bool, false, IsTrue, IsOk, IfErr, OnOk};
 ghost use Rattle.std.specs.Io.{ReadsAtMost};
 ghost use Rattle.std.specs.Io.KnownBytes.{Appends, ReadConsumes};
 ghost use Rattle.std.specs.IoError.{error_kind};
@@ -24,15 +25,6 @@ pub trait Reader: Read {
         ensures sure { IsTrue is_sure → IsOk result };
 }
 
-/// Bytes in memory.
-impl Reader for &[u8] {
-    ghost is_sure = { true };
-
-    fn read_once(&mut self, buffer: &mut [u8]) -> io::Result<usize> {
-        self.read(buffer)
-    }
-}
-
 impl Reader for Stdin {
     ghost is_sure = { false };
 
@@ -54,16 +46,6 @@ pub trait Writer: Write {
         ensures bytes { OnOk result
             (Appends (Self.contents self.old) (Self.contents self.new) bytes.now) }
         ensures sure { IsTrue is_sure → IfErr result (λ e. error_kind e ≡ ErrorKind.OutOfMemory) };
-}
-
-/// Bytes in memory.
-impl Writer for Vec<u8> {
-    ghost is_sure = { true };
-
-    fn put(&mut self, bytes: &[u8]) -> io::Result<()> {
-        self.write(bytes)?;
-        Ok(())
-    }
 }
 
 impl Writer for Stdout {

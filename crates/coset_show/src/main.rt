@@ -7,14 +7,10 @@ ghost use Rattle.coset_show.specs.Arguments.{AreNameAnd, AreNoNameAndOne};
 
 mod ends;
 mod kind;
-#[cfg(test)]
-mod message_tests;
 mod refusal;
 mod run;
 mod show;
 mod stream;
-#[cfg(test)]
-mod tests;
 
 use std::env;
 use std::env::Args;

@@ -29,14 +29,6 @@ impl<T> Stream<T> {
             failed: false,
         }
     }
-
-    /// The reader or the writer itself.
-    #[cfg(test)]
-    pub fn into_inner(self) -> T
-        ensures { result ≡ inside self }
-    {
-        self.inner
-    }
 }
 
 impl<R: Reader> Stream<R> {
