@@ -25,14 +25,23 @@ const COSET_TEXT: u32 = 2;
 #[repr(C)]
 #[derive(Clone, Copy)]
 pub struct View {
+    /// The number of the algorithm that the protected header names, where the form is `COSET_INT`, else 0.
     pub algorithm: i64,
+    /// `COSET_NONE`, `COSET_INT` or `COSET_TEXT`.
     pub algorithm_form: u32,
+    /// `COSET_IN_PROTECTED` or `COSET_IN_UNPROTECTED`, where the key's identifier stands, else 0.
     pub key_id_map: u32,
+    /// 1 where either header has `crit`, else 0.
     pub has_critical: u32,
+    /// 1 where the message is under its tag, else 0.
     pub is_tagged: u32,
+    /// How many bytes `Sig_structure` has.
     pub structure_len: usize,
+    /// How many bytes the signature has.
     pub signature_len: usize,
+    /// How many bytes the payload has that the message carries.
     pub payload_len: usize,
+    /// How many bytes the key's identifier has.
     pub key_id_len: usize,
 }
 
