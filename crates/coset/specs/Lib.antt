@@ -44,7 +44,7 @@ pub use Rattle.coset_msg.specs.EncStructure
 pub use Rattle.coset_msg.specs.Presence
 pub use Rattle.coset_msg.specs.Mac0
 pub use Rattle.coset_msg.specs.Encrypt0
-pub use Rattle.coset_msg.specs.Structured
+pub use Rattle.coset_recipient.specs.Structured
 pub use Rattle.coset_recipient.specs.Recipient
 pub use Rattle.coset_recipient.specs.RecipientSame
 pub use Rattle.coset_recipient.specs.RecipientView

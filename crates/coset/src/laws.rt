@@ -19,12 +19,10 @@ pub use coset_key::laws::{
 pub use coset_label::laws::{
     one_order, orders_are_of_encodings, orders_are_total, orders_tell_apart,
 };
-pub use coset_msg::laws::{
-    kept_in_messages, one_of_all_structures, structure_as_written, structure_when_read,
-};
+pub use coset_msg::laws::{kept_in_messages, structure_as_written, structure_when_read};
 pub use coset_recipient::laws::{
-    kept_with_recipients, no_tag_is_a_message, recipients_hold_recipients, structures_as_written,
-    structures_when_read,
+    kept_with_recipients, no_tag_is_a_message, one_of_all_structures, recipients_hold_recipients,
+    structures_as_written, structures_when_read,
 };
 pub use coset_sign::laws::{
     carried_as_written, each_signed_as_written, each_signed_when_read, one_signature_structure,

@@ -1,3 +1,2 @@
-mod Contexts
 pub mod Present
 pub mod Written

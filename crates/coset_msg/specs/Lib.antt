@@ -4,4 +4,3 @@ pub mod Presence
 pub mod Mac0
 pub mod Encrypt0
 pub mod Equality
-pub mod Structured

@@ -201,19 +201,15 @@ impl Codec for CoseEncrypt0 {
 
     fn read(alloc: Global, input: &mut Input<'_>) -> Result<CoseEncrypt0> {
         let mut message = CoseEncrypt0::new(alloc);
-        match read_headed::<(Content, ())>(
+        let (Content(ciphertext), ()) = read_headed(
             &mut message.protected,
             &mut message.unprotected,
             alloc,
             input,
             PLACES,
-        ) {
-            Ok((Content(ciphertext), _)) => {
-                message.ciphertext = ciphertext;
-                Ok(message)
-            }
-            Err(error) => Err(error),
-        }
+        )?;
+        message.ciphertext = ciphertext;
+        Ok(message)
     }
 
     fn size_hint(&self) -> usize {

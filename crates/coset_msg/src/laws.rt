@@ -1,7 +1,6 @@
 //! Laws of the structures, which callers may cite. Each is the contract of a function that does nothing.
 
-ghost use Rattle.std.specs.Prelude.{◌≡◌, ℕ, List};
-ghost use Rattle.coset_cbor.specs.Shortest.{IsShortest};
+ghost use Rattle.std.specs.Prelude.{◌≡◌};
 ghost use Rattle.coset_codec.specs.AsWritten.{AsWritten, WhenRead};
 ghost use Rattle.coset_codec.specs.Shape.{tagged};
 ghost use Rattle.coset_core.specs.Headers.{protected_bytes};
@@ -9,21 +8,8 @@ ghost use Rattle.coset_msg.specs.EncStructure.{Encrypts, EncryptsSame};
 ghost use Rattle.coset_msg.specs.Encrypt0.{encrypt0};
 ghost use Rattle.coset_msg.specs.Mac0.{mac0};
 ghost use Rattle.coset_msg.specs.MacStructure.{Authenticates, AuthenticatesSame};
-ghost use Rattle.coset_msg.specs.Structured.{Structured, structure_of};
 
-use coset_cbor::laws::{one_item, shortest_is_encoding};
 use coset_core::laws::kept_as_written;
-
-/// Bytes are the structure of at most one context, of what is signed, authenticated or goes with a ciphertext, and of one
-/// list of parts: of one protected header, one signer or none, one `external_aad`, one payload, where there is one, and
-/// the same other fields, where it is a countersignature's of version 2.
-pub fn one_of_all_structures()
-    ensures { (b : List ℕ) (x y : Structured) → IsShortest b (structure_of x)
-        → IsShortest b (structure_of y) → x ≡ y }
-{
-    one_item();
-    shortest_is_encoding();
-}
 
 /// Of a message that was read from what another is written as, plain or under its tag, the same bytes stand for the
 /// protected header, however the item was spelled.

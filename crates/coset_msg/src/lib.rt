@@ -8,15 +8,13 @@ pub mod laws;
 mod mac0;
 pub mod mac_structure;
 
-pub use coset_sign::{
+pub use coset_core::{
     Algorithm, AsCborValue, Bstr, CallError, CborOrdering, CborSerializable, ClaimName, Codec,
-    ContentType, CoseCountersignature, CoseCountersignatureBuilder, CoseError, CoseSign, CoseSign1,
-    CoseSign1Builder, CoseSignBuilder, CoseSignature, CoseSignatureBuilder, Encode, EndOfFile,
-    FromPull, Header, HeaderBuilder, ItemSource, KeyOperation, KeyType, Label, Lawful,
-    ProtectedBstr, ProtectedHeader, RegisteredLabel, RegisteredLabelWithPrivate, Result,
-    SignatureContext, TaggedCborSerializable, TaggedCodec, cbor, codec,
-    countersign_v2_structure_data, countersign0_v2_structure_data, has_repeats, iana,
-    sig_structure_data, util, verify_countersignature,
+    ContentType, CoseCountersignature, CoseCountersignatureBuilder, CoseError, CoseSignature,
+    CoseSignatureBuilder, Encode, EndOfFile, FromPull, Header, HeaderBuilder, ItemSource,
+    KeyOperation, KeyType, Label, Lawful, ProtectedBstr, ProtectedHeader, RegisteredLabel,
+    RegisteredLabelWithPrivate, Result, TaggedCborSerializable, TaggedCodec, cbor, codec,
+    has_repeats, iana, util,
 };
 pub use enc_structure::{EncryptionContext, enc_structure_data};
 pub use encrypt0::{CoseEncrypt0, CoseEncrypt0Builder};

@@ -228,20 +228,16 @@ impl Codec for CoseMac0 {
 
     fn read(alloc: Global, input: &mut Input<'_>) -> Result<CoseMac0> {
         let mut message = CoseMac0::new(alloc);
-        match read_headed::<(Content, (Vec<u8>, ()))>(
+        let (Content(payload), (tag, ())) = read_headed(
             &mut message.protected,
             &mut message.unprotected,
             alloc,
             input,
             PLACES,
-        ) {
-            Ok((Content(payload), (tag, _))) => {
-                message.payload = payload;
-                message.tag = tag;
-                Ok(message)
-            }
-            Err(error) => Err(error),
-        }
+        )?;
+        message.payload = payload;
+        message.tag = tag;
+        Ok(message)
     }
 
     fn size_hint(&self) -> usize {

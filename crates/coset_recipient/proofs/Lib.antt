@@ -2,3 +2,4 @@ pub mod Reading
 pub mod Writing
 pub mod Lists
 pub mod Written
+mod Contexts

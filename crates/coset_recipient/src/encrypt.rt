@@ -213,20 +213,16 @@ impl Codec for CoseEncrypt {
 
     fn read(alloc: Global, input: &mut Input<'_>) -> Result<CoseEncrypt> {
         let mut message = CoseEncrypt::new(alloc);
-        match read_headed::<(Content, (Recipients, ()))>(
+        let (Content(ciphertext), (Recipients(recipients), ())) = read_headed(
             &mut message.protected,
             &mut message.unprotected,
             alloc,
             input,
             PLACES,
-        ) {
-            Ok((Content(ciphertext), (Recipients(recipients), _))) => {
-                message.ciphertext = ciphertext;
-                message.recipients = recipients;
-                Ok(message)
-            }
-            Err(error) => Err(error),
-        }
+        )?;
+        message.ciphertext = ciphertext;
+        message.recipients = recipients;
+        Ok(message)
     }
 
     fn size_hint(&self) -> usize {

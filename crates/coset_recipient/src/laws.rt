@@ -1,8 +1,9 @@
 //! Laws of recipients and of the messages that have them, which callers may cite. Each is the contract of a function that
 //! does nothing.
 
-ghost use Rattle.std.specs.Prelude.{◌≡◌, ◌↔◌, ℕ};
+ghost use Rattle.std.specs.Prelude.{◌≡◌, ◌↔◌, ℕ, List};
 ghost use Rattle.coset_value.specs.Item.{Item};
+ghost use Rattle.coset_cbor.specs.Shortest.{IsShortest};
 ghost use Rattle.coset_codec.specs.AsWritten.{AsWritten, WhenRead};
 ghost use Rattle.coset_codec.specs.PerhapsTagged.{DescribesNoTag};
 ghost use Rattle.coset_codec.specs.Shape.{tagged};
@@ -15,8 +16,10 @@ ghost use Rattle.coset_recipient.specs.Mac.{mac};
 ghost use Rattle.coset_recipient.specs.Recipient.{RecipientSeen, recipient, recipient_step};
 ghost use Rattle.coset_sign.specs.Sign.{sign};
 ghost use Rattle.coset_sign.specs.Sign1.{sign1};
+ghost use Rattle.coset_recipient.specs.Structured.{Structured, structure_of};
 ghost use Rattle.coset_recipient.specs.Structures.{EncryptsAll, EncryptsAllSame, Macs, MacsSame, RecipientEncrypts, RecipientEncryptsSame};
 
+use coset_cbor::laws::{one_item, shortest_is_encoding};
 use coset_core::laws::kept_as_written;
 
 /// A recipient is an array of its headers, its ciphertext and, where there are any, an array of recipients: the shape of
@@ -70,6 +73,17 @@ pub fn structures_when_read()
     ensures encrypt { WhenRead encrypt EncryptsAll }
     ensures tagged_encrypt { WhenRead (tagged 96 encrypt) EncryptsAll }
 {}
+
+/// Bytes are the structure of at most one context, of what is signed, authenticated or goes with a ciphertext, and of one
+/// list of parts: of one protected header, one signer or none, one `external_aad`, one payload, where there is one, and
+/// the same other fields, where it is a countersignature's of version 2.
+pub fn one_of_all_structures()
+    ensures { (b : List ℕ) (x y : Structured) → IsShortest b (structure_of x)
+        → IsShortest b (structure_of y) → x ≡ y }
+{
+    one_item();
+    shortest_is_encoding();
+}
 
 /// No tag is a message, or a countersignature: these are arrays (RFC 8152, sections 4 to 6; RFC 9338, section 3.1). So what
 /// `from_any_slice` reads was either plain or under the tag, and it reads all that `from_slice` reads.

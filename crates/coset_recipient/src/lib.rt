@@ -10,13 +10,16 @@ mod recipient;
 pub use coset_msg::{
     Algorithm, AsCborValue, Bstr, CallError, CborOrdering, CborSerializable, ClaimName, Codec,
     ContentType, CoseCountersignature, CoseCountersignatureBuilder, CoseEncrypt0,
-    CoseEncrypt0Builder, CoseError, CoseMac0, CoseMac0Builder, CoseSign, CoseSign1,
-    CoseSign1Builder, CoseSignBuilder, CoseSignature, CoseSignatureBuilder, Encode,
-    EncryptionContext, EndOfFile, FromPull, Header, HeaderBuilder, ItemSource, KeyOperation,
-    KeyType, Label, Lawful, MacContext, ProtectedBstr, ProtectedHeader, RegisteredLabel,
-    RegisteredLabelWithPrivate, Result, SignatureContext, TaggedCborSerializable, TaggedCodec,
-    cbor, codec, countersign_v2_structure_data, countersign0_v2_structure_data, enc_structure_data,
-    has_repeats, iana, mac_structure_data, sig_structure_data, util, verify_countersignature,
+    CoseEncrypt0Builder, CoseError, CoseMac0, CoseMac0Builder, CoseSignature, CoseSignatureBuilder,
+    Encode, EncryptionContext, EndOfFile, FromPull, Header, HeaderBuilder, ItemSource,
+    KeyOperation, KeyType, Label, Lawful, MacContext, ProtectedBstr, ProtectedHeader,
+    RegisteredLabel, RegisteredLabelWithPrivate, Result, TaggedCborSerializable, TaggedCodec, cbor,
+    codec, enc_structure_data, has_repeats, iana, mac_structure_data, util,
+};
+pub use coset_sign::{
+    CoseSign, CoseSign1, CoseSign1Builder, CoseSignBuilder, SignatureContext,
+    countersign_v2_structure_data, countersign0_v2_structure_data, sig_structure_data,
+    verify_countersignature,
 };
 pub use encrypt::{CoseEncrypt, CoseEncryptBuilder};
 pub use mac::{CoseMac, CoseMacBuilder};

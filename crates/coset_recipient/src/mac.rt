@@ -240,21 +240,17 @@ impl Codec for CoseMac {
 
     fn read(alloc: Global, input: &mut Input<'_>) -> Result<CoseMac> {
         let mut message = CoseMac::new(alloc);
-        match read_headed::<(Content, (Vec<u8>, (Recipients, ())))>(
+        let (Content(payload), (tag, (Recipients(recipients), ()))) = read_headed(
             &mut message.protected,
             &mut message.unprotected,
             alloc,
             input,
             PLACES,
-        ) {
-            Ok((Content(payload), (tag, (Recipients(recipients), _)))) => {
-                message.payload = payload;
-                message.tag = tag;
-                message.recipients = recipients;
-                Ok(message)
-            }
-            Err(error) => Err(error),
-        }
+        )?;
+        message.payload = payload;
+        message.tag = tag;
+        message.recipients = recipients;
+        Ok(message)
     }
 
     fn size_hint(&self) -> usize {

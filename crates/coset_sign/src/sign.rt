@@ -258,20 +258,16 @@ impl Codec for CoseSign {
 
     fn read(alloc: Global, input: &mut Input<'_>) -> Result<CoseSign> {
         let mut message = CoseSign::new(alloc);
-        match read_headed::<(Option<Vec<u8>>, (Signatures, ()))>(
+        let (payload, (Signatures(signatures), ())) = read_headed(
             &mut message.protected,
             &mut message.unprotected,
             alloc,
             input,
             PLACES,
-        ) {
-            Ok((payload, (Signatures(signatures), _))) => {
-                message.payload = payload;
-                message.signatures = signatures;
-                Ok(message)
-            }
-            Err(error) => Err(error),
-        }
+        )?;
+        message.payload = payload;
+        message.signatures = signatures;
+        Ok(message)
     }
 
     fn size_hint(&self) -> usize {

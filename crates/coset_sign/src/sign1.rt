@@ -185,20 +185,16 @@ impl Codec for CoseSign1 {
 
     fn read(alloc: Global, input: &mut Input<'_>) -> Result<CoseSign1> {
         let mut message = CoseSign1::new(alloc);
-        match read_headed::<(Option<Vec<u8>>, (Vec<u8>, ()))>(
+        let (payload, (signature, ())) = read_headed(
             &mut message.protected,
             &mut message.unprotected,
             alloc,
             input,
             PLACES,
-        ) {
-            Ok((payload, (signature, _))) => {
-                message.payload = payload;
-                message.signature = signature;
-                Ok(message)
-            }
-            Err(error) => Err(error),
-        }
+        )?;
+        message.payload = payload;
+        message.signature = signature;
+        Ok(message)
     }
 
     fn size_hint(&self) -> usize {

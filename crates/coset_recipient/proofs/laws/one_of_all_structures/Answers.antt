@@ -1,7 +1,7 @@
 use Rattle.std.proofs.Common.{[], refl}
-use Rattle.coset_msg.specs.Structured.{structure_of}
-use Rattle.coset_msg.proofs.Contexts.{same_structured}
-use Rattle.coset_msg.proofs.laws.one_of_all_structures.Goals as goal
+use Rattle.coset_recipient.specs.Structured.{structure_of}
+use Rattle.coset_recipient.proofs.Contexts.{same_structured}
+use Rattle.coset_recipient.proofs.laws.one_of_all_structures.Goals as goal
 
 pub returns : goal.returns
 returns c = λ b x y h k.

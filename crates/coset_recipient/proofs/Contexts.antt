@@ -9,7 +9,7 @@ use Rattle.coset_sign.specs.declared.signature.SignatureContext.{SignatureContex
 use Rattle.coset_sign.specs.declared.signature.SignatureContext.TheVariants as signatures
 use Rattle.coset_msg.specs.EncStructure.{enc_text}
 use Rattle.coset_msg.specs.MacStructure.{mac_text}
-use Rattle.coset_msg.specs.Structured.{Structured, signed, authenticated, encrypted, countersigned, structure_of}
+use Rattle.coset_recipient.specs.Structured.{Structured, signed, authenticated, encrypted, countersigned, structure_of}
 use Rattle.coset_msg.specs.declared.enc_structure.EncryptionContext.{EncryptionContext}
 use Rattle.coset_msg.specs.declared.enc_structure.EncryptionContext.TheVariants as encryptions
 use Rattle.coset_msg.specs.declared.mac_structure.MacContext.{MacContext}
