@@ -1,5 +1,6 @@
-//! `coset_signing`: makes the calls of messages that are signed, signatures, countersignatures and their builders, whose
-//! closures sign and verify, and those that make structures, by their names, line by line, and tells what each gave.
+//! `coset_signing`: makes the calls of messages with one signature and their builders, whose closures sign and verify, those
+//! of countersignatures of version 2, and those that make structures, by their names, line by line, and tells what each
+//! gave.
 //!
 //! A line is `TYPE::CALL WORD..`, the name of a call and what it is given, as hexadecimal, numbers and words; a call that
 //! is of no type is named alone. An empty line, and a comment, which begins with `#`, is answered by itself.
@@ -9,9 +10,7 @@
 #![tactic(auto)]
 
 mod countersign;
-mod sign;
 mod sign1;
-mod signature;
 mod structures;
 
 use coset::Result;
@@ -27,13 +26,6 @@ impl Calls for SigningCalls {
     fn call(&self, alloc: Global, words: &Words<'_>) -> Result<String> {
         match words.word(0).split_once("::") {
             Some(("CoseSign1" | "CoseSign1Builder", name)) => sign1::call(alloc, name, words),
-            Some(("CoseSign" | "CoseSignBuilder", name)) => sign::call(alloc, name, words),
-            Some(("CoseSignature" | "CoseSignatureBuilder", name)) => signature::call(
-                alloc, name, words,
-            ),
-            Some(("CoseCountersignature" | "CoseCountersignatureBuilder", name)) => {
-                signature::countersignature_call(alloc, name, words)
-            }
             None => structures::call(alloc, words.word(0), words),
             _ => Err(unknown()),
         }
