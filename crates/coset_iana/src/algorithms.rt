@@ -1,11 +1,10 @@
 //! Algorithms.
 
 ghost use Rattle.std.specs.Prelude.{refl};
-ghost use Rattle.coset_iana.specs.Registry.{first_numbered, number-first_numbered};
 ghost use Rattle.coset_iana.specs.WithPrivateRange.{is_private_use};
 
-use crate::registry::{Numbered, look_up};
-use crate::{EnumI64, WithPrivateRange};
+use crate::WithPrivateRange;
+use crate::registry::Registry;
 
 /// Algorithms below this number are for private use (RFC 8152, section 16.4).
 pub const ALGORITHM_PRIVATE_USE_MAX: i64 = -65536;
@@ -271,36 +270,26 @@ pub const ALGORITHMS: [Algorithm; 83] = [
     Algorithm::IV_GENERATION,
 ];
 
-impl Numbered for Algorithm {
-    ghost use Rattle.coset_iana.specs.Algorithm.{number};
-
-    ghost number = { number };
-
-    fn number(self) -> i64 {
-        self as i64
-    }
-}
-
-impl EnumI64 for Algorithm {
+impl Registry for Algorithm {
     ghost use Rattle.coset_iana.specs.Algorithm.{number};
     ghost use Rattle.coset_iana.specs.declared.algorithms.Algorithm.TheVariants.{RS1};
     ghost use Rattle.coset_iana.specs.declared.algorithms.TheConstants.{ALGORITHMS};
 
     ghost number = { number };
 
-    ghost value_of = { first_numbered number ALGORITHMS };
+    ghost values = { ALGORITHMS };
 
-    fn from_i64(i: i64) -> Option<Self> {
-        look_up(&ALGORITHMS, i)
+    ghost ascending = { refl };
+
+    ghost has_each = { elim [ RS1 ↦ refl | _ ↦ refl ] };
+
+    fn values() -> &'static [Algorithm] {
+        &ALGORITHMS
     }
 
-    fn to_i64(&self) -> i64 {
-        self.number()
+    fn number(self) -> i64 {
+        self as i64
     }
-
-    ghost value_of_number = { elim [ RS1 ↦ refl | _ ↦ refl ] };
-
-    ghost number_of_value = { number-first_numbered number ALGORITHMS };
 }
 
 impl WithPrivateRange for Algorithm {

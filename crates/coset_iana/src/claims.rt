@@ -1,11 +1,10 @@
 //! Names of claims.
 
 ghost use Rattle.std.specs.Prelude.{refl};
-ghost use Rattle.coset_iana.specs.Registry.{first_numbered, number-first_numbered};
 ghost use Rattle.coset_iana.specs.WithPrivateRange.{is_private_use};
 
-use crate::registry::{Numbered, look_up};
-use crate::{EnumI64, WithPrivateRange};
+use crate::WithPrivateRange;
+use crate::registry::Registry;
 
 /// Names of claims below this number are for private use (RFC 8392, section 9.1).
 pub const CWT_CLAIM_PRIVATE_USE_MAX: i64 = -65536;
@@ -233,36 +232,26 @@ pub const CWT_CLAIM_NAMES: [CwtClaimName; 70] = [
     CwtClaimName::PsaVerificationServiceIndicator,
 ];
 
-impl Numbered for CwtClaimName {
-    ghost use Rattle.coset_iana.specs.CwtClaimName.{number};
-
-    ghost number = { number };
-
-    fn number(self) -> i64 {
-        self as i64
-    }
-}
-
-impl EnumI64 for CwtClaimName {
+impl Registry for CwtClaimName {
     ghost use Rattle.coset_iana.specs.CwtClaimName.{number};
     ghost use Rattle.coset_iana.specs.declared.claims.CwtClaimName.TheVariants.{GlobalPlatformComponents};
     ghost use Rattle.coset_iana.specs.declared.claims.TheConstants.{CWT_CLAIM_NAMES};
 
     ghost number = { number };
 
-    ghost value_of = { first_numbered number CWT_CLAIM_NAMES };
+    ghost values = { CWT_CLAIM_NAMES };
 
-    fn from_i64(i: i64) -> Option<Self> {
-        look_up(&CWT_CLAIM_NAMES, i)
+    ghost ascending = { refl };
+
+    ghost has_each = { elim [ GlobalPlatformComponents ↦ refl | _ ↦ refl ] };
+
+    fn values() -> &'static [CwtClaimName] {
+        &CWT_CLAIM_NAMES
     }
 
-    fn to_i64(&self) -> i64 {
-        self.number()
+    fn number(self) -> i64 {
+        self as i64
     }
-
-    ghost value_of_number = { elim [ GlobalPlatformComponents ↦ refl | _ ↦ refl ] };
-
-    ghost number_of_value = { number-first_numbered number CWT_CLAIM_NAMES };
 }
 
 impl WithPrivateRange for CwtClaimName {

@@ -1,10 +1,8 @@
 //! Formats of content.
 
 ghost use Rattle.std.specs.Prelude.{refl};
-ghost use Rattle.coset_iana.specs.Registry.{first_numbered, number-first_numbered};
 
-use crate::EnumI64;
-use crate::registry::{Numbered, look_up};
+use crate::registry::Registry;
 
 /// What content holds, as IANA's registry "CoAP Content-Formats" assigns it (RFC 7252, section
 /// 12.3): a media type, with its coding where it has one.
@@ -253,34 +251,24 @@ pub const COAP_CONTENT_FORMATS: [CoapContentFormat; 79] = [
     CoapContentFormat::ImageSvgXml,
 ];
 
-impl Numbered for CoapContentFormat {
-    ghost use Rattle.coset_iana.specs.CoapContentFormat.{number};
-
-    ghost number = { number };
-
-    fn number(self) -> i64 {
-        self as i64
-    }
-}
-
-impl EnumI64 for CoapContentFormat {
+impl Registry for CoapContentFormat {
     ghost use Rattle.coset_iana.specs.CoapContentFormat.{number};
     ghost use Rattle.coset_iana.specs.declared.content_formats.CoapContentFormat.TheVariants.{TextPlainUtf8};
     ghost use Rattle.coset_iana.specs.declared.content_formats.TheConstants.{COAP_CONTENT_FORMATS};
 
     ghost number = { number };
 
-    ghost value_of = { first_numbered number COAP_CONTENT_FORMATS };
+    ghost values = { COAP_CONTENT_FORMATS };
 
-    fn from_i64(i: i64) -> Option<Self> {
-        look_up(&COAP_CONTENT_FORMATS, i)
+    ghost ascending = { refl };
+
+    ghost has_each = { elim [ TextPlainUtf8 ↦ refl | _ ↦ refl ] };
+
+    fn values() -> &'static [CoapContentFormat] {
+        &COAP_CONTENT_FORMATS
     }
 
-    fn to_i64(&self) -> i64 {
-        self.number()
+    fn number(self) -> i64 {
+        self as i64
     }
-
-    ghost value_of_number = { elim [ TextPlainUtf8 ↦ refl | _ ↦ refl ] };
-
-    ghost number_of_value = { number-first_numbered number COAP_CONTENT_FORMATS };
 }

@@ -1,11 +1,10 @@
 //! Labels of headers and of what recipients add to them.
 
 ghost use Rattle.std.specs.Prelude.{refl};
-ghost use Rattle.coset_iana.specs.Registry.{first_numbered, number-first_numbered};
 ghost use Rattle.coset_iana.specs.WithPrivateRange.{is_private_use};
 
-use crate::registry::{Numbered, look_up};
-use crate::{EnumI64, WithPrivateRange};
+use crate::WithPrivateRange;
+use crate::registry::Registry;
 
 /// Labels of headers below this number are for private use (RFC 8152, section 16.2).
 pub const HEADER_PARAMETER_PRIVATE_USE_MAX: i64 = -65536;
@@ -86,36 +85,26 @@ pub const HEADER_PARAMETERS: [HeaderParameter; 22] = [
     HeaderParameter::CuphOwnerPubKey,
 ];
 
-impl Numbered for HeaderParameter {
-    ghost use Rattle.coset_iana.specs.HeaderParameter.{number};
-
-    ghost number = { number };
-
-    fn number(self) -> i64 {
-        self as i64
-    }
-}
-
-impl EnumI64 for HeaderParameter {
+impl Registry for HeaderParameter {
     ghost use Rattle.coset_iana.specs.HeaderParameter.{number};
     ghost use Rattle.coset_iana.specs.declared.headers.HeaderParameter.TheVariants.{Reserved};
     ghost use Rattle.coset_iana.specs.declared.headers.TheConstants.{HEADER_PARAMETERS};
 
     ghost number = { number };
 
-    ghost value_of = { first_numbered number HEADER_PARAMETERS };
+    ghost values = { HEADER_PARAMETERS };
 
-    fn from_i64(i: i64) -> Option<Self> {
-        look_up(&HEADER_PARAMETERS, i)
+    ghost ascending = { refl };
+
+    ghost has_each = { elim [ Reserved ↦ refl | _ ↦ refl ] };
+
+    fn values() -> &'static [HeaderParameter] {
+        &HEADER_PARAMETERS
     }
 
-    fn to_i64(&self) -> i64 {
-        self.number()
+    fn number(self) -> i64 {
+        self as i64
     }
-
-    ghost value_of_number = { elim [ Reserved ↦ refl | _ ↦ refl ] };
-
-    ghost number_of_value = { number-first_numbered number HEADER_PARAMETERS };
 }
 
 impl WithPrivateRange for HeaderParameter {
@@ -176,34 +165,24 @@ pub const HEADER_ALGORITHM_PARAMETERS: [HeaderAlgorithmParameter; 13] = [
     HeaderAlgorithmParameter::EphemeralKey,
 ];
 
-impl Numbered for HeaderAlgorithmParameter {
-    ghost use Rattle.coset_iana.specs.HeaderAlgorithmParameter.{number};
-
-    ghost number = { number };
-
-    fn number(self) -> i64 {
-        self as i64
-    }
-}
-
-impl EnumI64 for HeaderAlgorithmParameter {
+impl Registry for HeaderAlgorithmParameter {
     ghost use Rattle.coset_iana.specs.HeaderAlgorithmParameter.{number};
     ghost use Rattle.coset_iana.specs.declared.headers.HeaderAlgorithmParameter.TheVariants.{X5ChainSender};
     ghost use Rattle.coset_iana.specs.declared.headers.TheConstants.{HEADER_ALGORITHM_PARAMETERS};
 
     ghost number = { number };
 
-    ghost value_of = { first_numbered number HEADER_ALGORITHM_PARAMETERS };
+    ghost values = { HEADER_ALGORITHM_PARAMETERS };
 
-    fn from_i64(i: i64) -> Option<Self> {
-        look_up(&HEADER_ALGORITHM_PARAMETERS, i)
+    ghost ascending = { refl };
+
+    ghost has_each = { elim [ X5ChainSender ↦ refl | _ ↦ refl ] };
+
+    fn values() -> &'static [HeaderAlgorithmParameter] {
+        &HEADER_ALGORITHM_PARAMETERS
     }
 
-    fn to_i64(&self) -> i64 {
-        self.number()
+    fn number(self) -> i64 {
+        self as i64
     }
-
-    ghost value_of_number = { elim [ X5ChainSender ↦ refl | _ ↦ refl ] };
-
-    ghost number_of_value = { number-first_numbered number HEADER_ALGORITHM_PARAMETERS };
 }

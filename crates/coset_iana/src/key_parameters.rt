@@ -1,10 +1,8 @@
 //! Labels of keys that go with the kind of key. The numbers of one kind mean other things in another.
 
 ghost use Rattle.std.specs.Prelude.{refl};
-ghost use Rattle.coset_iana.specs.Registry.{first_numbered, number-first_numbered};
 
-use crate::EnumI64;
-use crate::registry::{Numbered, look_up};
+use crate::registry::Registry;
 
 /// A label of an octet key pair, as IANA's registry "COSE Key Type Parameters" assigns it to key
 /// type 1 (RFC 8152, sections 13.2 and 16.6).
@@ -25,36 +23,26 @@ pub const OKP_KEY_PARAMETERS: [OkpKeyParameter; 3] = [
     OkpKeyParameter::Crv,
 ];
 
-impl Numbered for OkpKeyParameter {
-    ghost use Rattle.coset_iana.specs.OkpKeyParameter.{number};
-
-    ghost number = { number };
-
-    fn number(self) -> i64 {
-        self as i64
-    }
-}
-
-impl EnumI64 for OkpKeyParameter {
+impl Registry for OkpKeyParameter {
     ghost use Rattle.coset_iana.specs.OkpKeyParameter.{number};
     ghost use Rattle.coset_iana.specs.declared.key_parameters.OkpKeyParameter.TheVariants.{Crv};
     ghost use Rattle.coset_iana.specs.declared.key_parameters.TheConstants.{OKP_KEY_PARAMETERS};
 
     ghost number = { number };
 
-    ghost value_of = { first_numbered number OKP_KEY_PARAMETERS };
+    ghost values = { OKP_KEY_PARAMETERS };
 
-    fn from_i64(i: i64) -> Option<Self> {
-        look_up(&OKP_KEY_PARAMETERS, i)
+    ghost ascending = { refl };
+
+    ghost has_each = { elim [ Crv ↦ refl | _ ↦ refl ] };
+
+    fn values() -> &'static [OkpKeyParameter] {
+        &OKP_KEY_PARAMETERS
     }
 
-    fn to_i64(&self) -> i64 {
-        self.number()
+    fn number(self) -> i64 {
+        self as i64
     }
-
-    ghost value_of_number = { elim [ Crv ↦ refl | _ ↦ refl ] };
-
-    ghost number_of_value = { number-first_numbered number OKP_KEY_PARAMETERS };
 }
 
 /// A label of a key on an elliptic curve with two coordinates, as IANA's registry "COSE Key Type
@@ -79,36 +67,26 @@ pub const EC2_KEY_PARAMETERS: [Ec2KeyParameter; 4] = [
     Ec2KeyParameter::Crv,
 ];
 
-impl Numbered for Ec2KeyParameter {
-    ghost use Rattle.coset_iana.specs.Ec2KeyParameter.{number};
-
-    ghost number = { number };
-
-    fn number(self) -> i64 {
-        self as i64
-    }
-}
-
-impl EnumI64 for Ec2KeyParameter {
+impl Registry for Ec2KeyParameter {
     ghost use Rattle.coset_iana.specs.Ec2KeyParameter.{number};
     ghost use Rattle.coset_iana.specs.declared.key_parameters.Ec2KeyParameter.TheVariants.{Crv};
     ghost use Rattle.coset_iana.specs.declared.key_parameters.TheConstants.{EC2_KEY_PARAMETERS};
 
     ghost number = { number };
 
-    ghost value_of = { first_numbered number EC2_KEY_PARAMETERS };
+    ghost values = { EC2_KEY_PARAMETERS };
 
-    fn from_i64(i: i64) -> Option<Self> {
-        look_up(&EC2_KEY_PARAMETERS, i)
+    ghost ascending = { refl };
+
+    ghost has_each = { elim [ Crv ↦ refl | _ ↦ refl ] };
+
+    fn values() -> &'static [Ec2KeyParameter] {
+        &EC2_KEY_PARAMETERS
     }
 
-    fn to_i64(&self) -> i64 {
-        self.number()
+    fn number(self) -> i64 {
+        self as i64
     }
-
-    ghost value_of_number = { elim [ Crv ↦ refl | _ ↦ refl ] };
-
-    ghost number_of_value = { number-first_numbered number EC2_KEY_PARAMETERS };
 }
 
 /// A label of an RSA key, as IANA's registry "COSE Key Type Parameters" assigns it to key type 3
@@ -157,36 +135,26 @@ pub const RSA_KEY_PARAMETERS: [RsaKeyParameter; 12] = [
     RsaKeyParameter::N,
 ];
 
-impl Numbered for RsaKeyParameter {
-    ghost use Rattle.coset_iana.specs.RsaKeyParameter.{number};
-
-    ghost number = { number };
-
-    fn number(self) -> i64 {
-        self as i64
-    }
-}
-
-impl EnumI64 for RsaKeyParameter {
+impl Registry for RsaKeyParameter {
     ghost use Rattle.coset_iana.specs.RsaKeyParameter.{number};
     ghost use Rattle.coset_iana.specs.declared.key_parameters.RsaKeyParameter.TheVariants.{N};
     ghost use Rattle.coset_iana.specs.declared.key_parameters.TheConstants.{RSA_KEY_PARAMETERS};
 
     ghost number = { number };
 
-    ghost value_of = { first_numbered number RSA_KEY_PARAMETERS };
+    ghost values = { RSA_KEY_PARAMETERS };
 
-    fn from_i64(i: i64) -> Option<Self> {
-        look_up(&RSA_KEY_PARAMETERS, i)
+    ghost ascending = { refl };
+
+    ghost has_each = { elim [ N ↦ refl | _ ↦ refl ] };
+
+    fn values() -> &'static [RsaKeyParameter] {
+        &RSA_KEY_PARAMETERS
     }
 
-    fn to_i64(&self) -> i64 {
-        self.number()
+    fn number(self) -> i64 {
+        self as i64
     }
-
-    ghost value_of_number = { elim [ N ↦ refl | _ ↦ refl ] };
-
-    ghost number_of_value = { number-first_numbered number RSA_KEY_PARAMETERS };
 }
 
 /// A label of a symmetric key, as IANA's registry "COSE Key Type Parameters" assigns it to key type
@@ -200,36 +168,26 @@ pub enum SymmetricKeyParameter {
 // In ascending order of their numbers.
 pub const SYMMETRIC_KEY_PARAMETERS: [SymmetricKeyParameter; 1] = [SymmetricKeyParameter::K];
 
-impl Numbered for SymmetricKeyParameter {
-    ghost use Rattle.coset_iana.specs.SymmetricKeyParameter.{number};
-
-    ghost number = { number };
-
-    fn number(self) -> i64 {
-        self as i64
-    }
-}
-
-impl EnumI64 for SymmetricKeyParameter {
+impl Registry for SymmetricKeyParameter {
     ghost use Rattle.coset_iana.specs.SymmetricKeyParameter.{number};
     ghost use Rattle.coset_iana.specs.declared.key_parameters.SymmetricKeyParameter.TheVariants.{K};
     ghost use Rattle.coset_iana.specs.declared.key_parameters.TheConstants.{SYMMETRIC_KEY_PARAMETERS};
 
     ghost number = { number };
 
-    ghost value_of = { first_numbered number SYMMETRIC_KEY_PARAMETERS };
+    ghost values = { SYMMETRIC_KEY_PARAMETERS };
 
-    fn from_i64(i: i64) -> Option<Self> {
-        look_up(&SYMMETRIC_KEY_PARAMETERS, i)
+    ghost ascending = { refl };
+
+    ghost has_each = { elim [ K ↦ refl ] };
+
+    fn values() -> &'static [SymmetricKeyParameter] {
+        &SYMMETRIC_KEY_PARAMETERS
     }
 
-    fn to_i64(&self) -> i64 {
-        self.number()
+    fn number(self) -> i64 {
+        self as i64
     }
-
-    ghost value_of_number = { elim [ K ↦ refl ] };
-
-    ghost number_of_value = { number-first_numbered number SYMMETRIC_KEY_PARAMETERS };
 }
 
 /// A label of a key of HSS/LMS, as IANA's registry "COSE Key Type Parameters" assigns it to key
@@ -243,36 +201,26 @@ pub enum HssLmsKeyParameter {
 // In ascending order of their numbers.
 pub const HSS_LMS_KEY_PARAMETERS: [HssLmsKeyParameter; 1] = [HssLmsKeyParameter::Pub];
 
-impl Numbered for HssLmsKeyParameter {
-    ghost use Rattle.coset_iana.specs.HssLmsKeyParameter.{number};
-
-    ghost number = { number };
-
-    fn number(self) -> i64 {
-        self as i64
-    }
-}
-
-impl EnumI64 for HssLmsKeyParameter {
+impl Registry for HssLmsKeyParameter {
     ghost use Rattle.coset_iana.specs.HssLmsKeyParameter.{number};
     ghost use Rattle.coset_iana.specs.declared.key_parameters.HssLmsKeyParameter.TheVariants.{Pub};
     ghost use Rattle.coset_iana.specs.declared.key_parameters.TheConstants.{HSS_LMS_KEY_PARAMETERS};
 
     ghost number = { number };
 
-    ghost value_of = { first_numbered number HSS_LMS_KEY_PARAMETERS };
+    ghost values = { HSS_LMS_KEY_PARAMETERS };
 
-    fn from_i64(i: i64) -> Option<Self> {
-        look_up(&HSS_LMS_KEY_PARAMETERS, i)
+    ghost ascending = { refl };
+
+    ghost has_each = { elim [ Pub ↦ refl ] };
+
+    fn values() -> &'static [HssLmsKeyParameter] {
+        &HSS_LMS_KEY_PARAMETERS
     }
 
-    fn to_i64(&self) -> i64 {
-        self.number()
+    fn number(self) -> i64 {
+        self as i64
     }
-
-    ghost value_of_number = { elim [ Pub ↦ refl ] };
-
-    ghost number_of_value = { number-first_numbered number HSS_LMS_KEY_PARAMETERS };
 }
 
 /// A label of a key of WalnutDSA, as IANA's registry "COSE Key Type Parameters" assigns it to key
@@ -303,36 +251,26 @@ pub const WALNUT_DSA_KEY_PARAMETERS: [WalnutDsaKeyParameter; 6] = [
     WalnutDsaKeyParameter::N,
 ];
 
-impl Numbered for WalnutDsaKeyParameter {
-    ghost use Rattle.coset_iana.specs.WalnutDsaKeyParameter.{number};
-
-    ghost number = { number };
-
-    fn number(self) -> i64 {
-        self as i64
-    }
-}
-
-impl EnumI64 for WalnutDsaKeyParameter {
+impl Registry for WalnutDsaKeyParameter {
     ghost use Rattle.coset_iana.specs.WalnutDsaKeyParameter.{number};
     ghost use Rattle.coset_iana.specs.declared.key_parameters.WalnutDsaKeyParameter.TheVariants.{N};
     ghost use Rattle.coset_iana.specs.declared.key_parameters.TheConstants.{WALNUT_DSA_KEY_PARAMETERS};
 
     ghost number = { number };
 
-    ghost value_of = { first_numbered number WALNUT_DSA_KEY_PARAMETERS };
+    ghost values = { WALNUT_DSA_KEY_PARAMETERS };
 
-    fn from_i64(i: i64) -> Option<Self> {
-        look_up(&WALNUT_DSA_KEY_PARAMETERS, i)
+    ghost ascending = { refl };
+
+    ghost has_each = { elim [ N ↦ refl | _ ↦ refl ] };
+
+    fn values() -> &'static [WalnutDsaKeyParameter] {
+        &WALNUT_DSA_KEY_PARAMETERS
     }
 
-    fn to_i64(&self) -> i64 {
-        self.number()
+    fn number(self) -> i64 {
+        self as i64
     }
-
-    ghost value_of_number = { elim [ N ↦ refl | _ ↦ refl ] };
-
-    ghost number_of_value = { number-first_numbered number WALNUT_DSA_KEY_PARAMETERS };
 }
 
 /// A label of an algorithm key pair, as IANA's registry "COSE Key Type Parameters" assigns it to
@@ -348,34 +286,24 @@ pub enum AkpKeyParameter {
 // In ascending order of their numbers.
 pub const AKP_KEY_PARAMETERS: [AkpKeyParameter; 2] = [AkpKeyParameter::Priv, AkpKeyParameter::Pub];
 
-impl Numbered for AkpKeyParameter {
-    ghost use Rattle.coset_iana.specs.AkpKeyParameter.{number};
-
-    ghost number = { number };
-
-    fn number(self) -> i64 {
-        self as i64
-    }
-}
-
-impl EnumI64 for AkpKeyParameter {
+impl Registry for AkpKeyParameter {
     ghost use Rattle.coset_iana.specs.AkpKeyParameter.{number};
     ghost use Rattle.coset_iana.specs.declared.key_parameters.AkpKeyParameter.TheVariants.{Pub};
     ghost use Rattle.coset_iana.specs.declared.key_parameters.TheConstants.{AKP_KEY_PARAMETERS};
 
     ghost number = { number };
 
-    ghost value_of = { first_numbered number AKP_KEY_PARAMETERS };
+    ghost values = { AKP_KEY_PARAMETERS };
 
-    fn from_i64(i: i64) -> Option<Self> {
-        look_up(&AKP_KEY_PARAMETERS, i)
+    ghost ascending = { refl };
+
+    ghost has_each = { elim [ Pub ↦ refl | _ ↦ refl ] };
+
+    fn values() -> &'static [AkpKeyParameter] {
+        &AKP_KEY_PARAMETERS
     }
 
-    fn to_i64(&self) -> i64 {
-        self.number()
+    fn number(self) -> i64 {
+        self as i64
     }
-
-    ghost value_of_number = { elim [ Pub ↦ refl | _ ↦ refl ] };
-
-    ghost number_of_value = { number-first_numbered number AKP_KEY_PARAMETERS };
 }

@@ -1,11 +1,10 @@
 //! What a key says of itself, whatever its kind.
 
 ghost use Rattle.std.specs.Prelude.{refl};
-ghost use Rattle.coset_iana.specs.Registry.{first_numbered, number-first_numbered};
 ghost use Rattle.coset_iana.specs.WithPrivateRange.{is_private_use};
 
-use crate::registry::{Numbered, look_up};
-use crate::{EnumI64, WithPrivateRange};
+use crate::WithPrivateRange;
+use crate::registry::Registry;
 
 /// Elliptic curves below this number are for private use (RFC 8152, section 16.8).
 pub const ELLIPTIC_CURVE_PRIVATE_USE_MAX: i64 = -65536;
@@ -38,36 +37,26 @@ pub const KEY_PARAMETERS: [KeyParameter; 6] = [
     KeyParameter::BaseIv,
 ];
 
-impl Numbered for KeyParameter {
-    ghost use Rattle.coset_iana.specs.KeyParameter.{number};
-
-    ghost number = { number };
-
-    fn number(self) -> i64 {
-        self as i64
-    }
-}
-
-impl EnumI64 for KeyParameter {
+impl Registry for KeyParameter {
     ghost use Rattle.coset_iana.specs.KeyParameter.{number};
     ghost use Rattle.coset_iana.specs.declared.keys.KeyParameter.TheVariants.{Reserved};
     ghost use Rattle.coset_iana.specs.declared.keys.TheConstants.{KEY_PARAMETERS};
 
     ghost number = { number };
 
-    ghost value_of = { first_numbered number KEY_PARAMETERS };
+    ghost values = { KEY_PARAMETERS };
 
-    fn from_i64(i: i64) -> Option<Self> {
-        look_up(&KEY_PARAMETERS, i)
+    ghost ascending = { refl };
+
+    ghost has_each = { elim [ Reserved ↦ refl | _ ↦ refl ] };
+
+    fn values() -> &'static [KeyParameter] {
+        &KEY_PARAMETERS
     }
 
-    fn to_i64(&self) -> i64 {
-        self.number()
+    fn number(self) -> i64 {
+        self as i64
     }
-
-    ghost value_of_number = { elim [ Reserved ↦ refl | _ ↦ refl ] };
-
-    ghost number_of_value = { number-first_numbered number KEY_PARAMETERS };
 }
 
 /// A kind of key, as IANA's registry "COSE Key Types" assigns it (RFC 8152, sections 13 and 16.7).
@@ -104,36 +93,26 @@ pub const KEY_TYPES: [KeyType; 8] = [
     KeyType::AKP,
 ];
 
-impl Numbered for KeyType {
-    ghost use Rattle.coset_iana.specs.KeyType.{number};
-
-    ghost number = { number };
-
-    fn number(self) -> i64 {
-        self as i64
-    }
-}
-
-impl EnumI64 for KeyType {
+impl Registry for KeyType {
     ghost use Rattle.coset_iana.specs.KeyType.{number};
     ghost use Rattle.coset_iana.specs.declared.keys.KeyType.TheVariants.{Reserved};
     ghost use Rattle.coset_iana.specs.declared.keys.TheConstants.{KEY_TYPES};
 
     ghost number = { number };
 
-    ghost value_of = { first_numbered number KEY_TYPES };
+    ghost values = { KEY_TYPES };
 
-    fn from_i64(i: i64) -> Option<Self> {
-        look_up(&KEY_TYPES, i)
+    ghost ascending = { refl };
+
+    ghost has_each = { elim [ Reserved ↦ refl | _ ↦ refl ] };
+
+    fn values() -> &'static [KeyType] {
+        &KEY_TYPES
     }
 
-    fn to_i64(&self) -> i64 {
-        self.number()
+    fn number(self) -> i64 {
+        self as i64
     }
-
-    ghost value_of_number = { elim [ Reserved ↦ refl | _ ↦ refl ] };
-
-    ghost number_of_value = { number-first_numbered number KEY_TYPES };
 }
 
 /// An elliptic curve, as IANA's registry "COSE Elliptic Curves" assigns it (RFC 8152, sections
@@ -186,36 +165,26 @@ pub const ELLIPTIC_CURVES: [EllipticCurve; 13] = [
     EllipticCurve::BrainpoolP512R1,
 ];
 
-impl Numbered for EllipticCurve {
-    ghost use Rattle.coset_iana.specs.EllipticCurve.{number};
-
-    ghost number = { number };
-
-    fn number(self) -> i64 {
-        self as i64
-    }
-}
-
-impl EnumI64 for EllipticCurve {
+impl Registry for EllipticCurve {
     ghost use Rattle.coset_iana.specs.EllipticCurve.{number};
     ghost use Rattle.coset_iana.specs.declared.keys.EllipticCurve.TheVariants.{Reserved};
     ghost use Rattle.coset_iana.specs.declared.keys.TheConstants.{ELLIPTIC_CURVES};
 
     ghost number = { number };
 
-    ghost value_of = { first_numbered number ELLIPTIC_CURVES };
+    ghost values = { ELLIPTIC_CURVES };
 
-    fn from_i64(i: i64) -> Option<Self> {
-        look_up(&ELLIPTIC_CURVES, i)
+    ghost ascending = { refl };
+
+    ghost has_each = { elim [ Reserved ↦ refl | _ ↦ refl ] };
+
+    fn values() -> &'static [EllipticCurve] {
+        &ELLIPTIC_CURVES
     }
 
-    fn to_i64(&self) -> i64 {
-        self.number()
+    fn number(self) -> i64 {
+        self as i64
     }
-
-    ghost value_of_number = { elim [ Reserved ↦ refl | _ ↦ refl ] };
-
-    ghost number_of_value = { number-first_numbered number ELLIPTIC_CURVES };
 }
 
 impl WithPrivateRange for EllipticCurve {
@@ -266,34 +235,24 @@ pub const KEY_OPERATIONS: [KeyOperation; 10] = [
     KeyOperation::MacVerify,
 ];
 
-impl Numbered for KeyOperation {
-    ghost use Rattle.coset_iana.specs.KeyOperation.{number};
-
-    ghost number = { number };
-
-    fn number(self) -> i64 {
-        self as i64
-    }
-}
-
-impl EnumI64 for KeyOperation {
+impl Registry for KeyOperation {
     ghost use Rattle.coset_iana.specs.KeyOperation.{number};
     ghost use Rattle.coset_iana.specs.declared.keys.KeyOperation.TheVariants.{Sign};
     ghost use Rattle.coset_iana.specs.declared.keys.TheConstants.{KEY_OPERATIONS};
 
     ghost number = { number };
 
-    ghost value_of = { first_numbered number KEY_OPERATIONS };
+    ghost values = { KEY_OPERATIONS };
 
-    fn from_i64(i: i64) -> Option<Self> {
-        look_up(&KEY_OPERATIONS, i)
+    ghost ascending = { refl };
+
+    ghost has_each = { elim [ Sign ↦ refl | _ ↦ refl ] };
+
+    fn values() -> &'static [KeyOperation] {
+        &KEY_OPERATIONS
     }
 
-    fn to_i64(&self) -> i64 {
-        self.number()
+    fn number(self) -> i64 {
+        self as i64
     }
-
-    ghost value_of_number = { elim [ Sign ↦ refl | _ ↦ refl ] };
-
-    ghost number_of_value = { number-first_numbered number KEY_OPERATIONS };
 }

@@ -1,25 +1,47 @@
 //! What all registries share: the look-up of a number.
 
-ghost use Rattle.std.specs.Prelude.{◌≡◌, ℤ, IsTrue};
-ghost use Rattle.coset_iana.specs.Registry.{first_numbered, is_ascending};
+ghost use Rattle.std.specs.Prelude.{◌≡◌, ℤ, List, Some, IsTrue};
+ghost use Rattle.coset_iana.specs.Registry.{first_numbered, is_ascending, number-first_numbered};
 
-/// A value that stands for a number of `i64`.
-pub(crate) trait Numbered: Copy {
+use crate::EnumI64;
+
+/// A registry: an enum of which each value stands for a number of `i64`.
+pub(crate) trait Registry: Copy + Eq + 'static {
     ghost number: { Self → ℤ };
+
+    ghost values: { List Self };
+
+    ghost ascending: { IsTrue (is_ascending number values) };
+
+    ghost has_each: { (x : Self) → first_numbered number values (number x) ≡ Some x };
+
+    /// Its values, in ascending order of their numbers.
+    fn values() -> &'static [Self]
+        ensures { result.now ≡ values };
 
     /// The number of this value.
     fn number(self) -> i64
         ensures { result ≡ number self };
 }
 
-/// The value with the number `i`, or `None` where `values` has none. It is a binary search, so
-/// `values` stand in ascending order of their numbers.
-pub(crate) fn look_up<T: Numbered>(values: &[T], i: i64) -> Option<T>
-    requires { IsTrue (is_ascending T.number values.now) }
-    ensures { result ≡ first_numbered T.number values.now i }
-{
-    match values.binary_search_by_key(&i, |value| value.number()) {
-        Ok(place) => Some(values[place]),
-        Err(_) => None,
+impl<T: Registry> EnumI64 for T {
+    ghost number = { T.number };
+
+    ghost value_of = { first_numbered T.number T.values };
+
+    fn from_i64(i: i64) -> Option<T> {
+        let values = T::values();
+        match values.binary_search_by_key(&i, |value| value.number()) {
+            Ok(place) => Some(values[place]),
+            Err(_) => None,
+        }
     }
+
+    fn to_i64(&self) -> i64 {
+        self.number()
+    }
+
+    ghost value_of_number = { T.has_each };
+
+    ghost number_of_value = { number-first_numbered T.number T.values };
 }

@@ -1,10 +1,8 @@
 //! Tags of CBOR.
 
 ghost use Rattle.std.specs.Prelude.{refl};
-ghost use Rattle.coset_iana.specs.Registry.{first_numbered, number-first_numbered};
 
-use crate::EnumI64;
-use crate::registry::{Numbered, look_up};
+use crate::registry::Registry;
 
 /// A tag that names a kind of COSE message or a token, as IANA's registry "CBOR Tags" assigns it
 /// (RFC 8949, section 9.2; RFC 8152, section 2).
@@ -40,34 +38,24 @@ pub const CBOR_TAGS: [CborTag; 8] = [
     CborTag::CoseSign,
 ];
 
-impl Numbered for CborTag {
-    ghost use Rattle.coset_iana.specs.CborTag.{number};
-
-    ghost number = { number };
-
-    fn number(self) -> i64 {
-        self as i64
-    }
-}
-
-impl EnumI64 for CborTag {
+impl Registry for CborTag {
     ghost use Rattle.coset_iana.specs.CborTag.{number};
     ghost use Rattle.coset_iana.specs.declared.tags.CborTag.TheVariants.{CoseEncrypt0};
     ghost use Rattle.coset_iana.specs.declared.tags.TheConstants.{CBOR_TAGS};
 
     ghost number = { number };
 
-    ghost value_of = { first_numbered number CBOR_TAGS };
+    ghost values = { CBOR_TAGS };
 
-    fn from_i64(i: i64) -> Option<Self> {
-        look_up(&CBOR_TAGS, i)
+    ghost ascending = { refl };
+
+    ghost has_each = { elim [ CoseEncrypt0 ↦ refl | _ ↦ refl ] };
+
+    fn values() -> &'static [CborTag] {
+        &CBOR_TAGS
     }
 
-    fn to_i64(&self) -> i64 {
-        self.number()
+    fn number(self) -> i64 {
+        self as i64
     }
-
-    ghost value_of_number = { elim [ CoseEncrypt0 ↦ refl | _ ↦ refl ] };
-
-    ghost number_of_value = { number-first_numbered number CBOR_TAGS };
 }
