@@ -237,7 +237,7 @@ fn end_elements(
 /// Reads the array of one signature into an empty list.
 ///
 /// # Errors
-/// The same as [`fill_places`].
+/// The same as [`fill_elements`].
 #[cycle(read)]
 pub(crate) fn fill_bare(
     all: &mut Vec<CoseSignature>,
@@ -315,7 +315,7 @@ fn begin_items(
 /// Reads a signature into one that holds nothing.
 ///
 /// # Errors
-/// `UnexpectedItem`: the item is no array; or the same as [`fill_places`].
+/// `UnexpectedItem`: the item is no array; or the same as [`fill_elements`].
 #[cycle(read)]
 fn fill_signature(
     signed: &mut CoseSignature,

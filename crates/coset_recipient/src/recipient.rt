@@ -167,7 +167,7 @@ fn fill_listed(
 /// Reads a recipient into one that holds nothing.
 ///
 /// # Errors
-/// `UnexpectedItem`: the item is no array; or the same as [`fill_places`].
+/// `UnexpectedItem`: the item is no array; or the same as [`fill_elements`].
 #[cycle(read)]
 fn fill_recipient(
     recipient: &mut CoseRecipient,
