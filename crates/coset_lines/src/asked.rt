@@ -81,7 +81,7 @@ impl Asked {
     ///
     /// # Errors
     /// `OutOfMemory` alone.
-    fn behind(&self, alloc: Global, text: String) -> Result<String> {
+    pub fn behind(&self, alloc: Global, text: String) -> Result<String> {
         if self.count == 0 {
             return Ok(format!(in alloc; "{text} asked 0")?);
         }
