@@ -201,13 +201,16 @@ impl Codec for CoseEncrypt0 {
 
     fn read(alloc: Global, input: &mut Input<'_>) -> Result<CoseEncrypt0> {
         let mut message = CoseEncrypt0::new(alloc);
-        let (Content(ciphertext), ()) = read_headed(
+        let (Content(ciphertext), ()) = match read_headed(
             &mut message.protected,
             &mut message.unprotected,
             alloc,
             input,
             PLACES,
-        )?;
+        ) {
+            Ok(elements) => elements,
+            Err(error) => return Err(error),
+        };
         message.ciphertext = ciphertext;
         Ok(message)
     }

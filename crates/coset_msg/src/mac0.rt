@@ -228,13 +228,16 @@ impl Codec for CoseMac0 {
 
     fn read(alloc: Global, input: &mut Input<'_>) -> Result<CoseMac0> {
         let mut message = CoseMac0::new(alloc);
-        let (Content(payload), (tag, ())) = read_headed(
+        let (Content(payload), (tag, ())) = match read_headed(
             &mut message.protected,
             &mut message.unprotected,
             alloc,
             input,
             PLACES,
-        )?;
+        ) {
+            Ok(elements) => elements,
+            Err(error) => return Err(error),
+        };
         message.payload = payload;
         message.tag = tag;
         Ok(message)

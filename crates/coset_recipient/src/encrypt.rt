@@ -213,13 +213,16 @@ impl Codec for CoseEncrypt {
 
     fn read(alloc: Global, input: &mut Input<'_>) -> Result<CoseEncrypt> {
         let mut message = CoseEncrypt::new(alloc);
-        let (Content(ciphertext), (Recipients(recipients), ())) = read_headed(
+        let (Content(ciphertext), (Recipients(recipients), ())) = match read_headed(
             &mut message.protected,
             &mut message.unprotected,
             alloc,
             input,
             PLACES,
-        )?;
+        ) {
+            Ok(elements) => elements,
+            Err(error) => return Err(error),
+        };
         message.ciphertext = ciphertext;
         message.recipients = recipients;
         Ok(message)

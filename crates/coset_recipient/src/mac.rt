@@ -240,13 +240,16 @@ impl Codec for CoseMac {
 
     fn read(alloc: Global, input: &mut Input<'_>) -> Result<CoseMac> {
         let mut message = CoseMac::new(alloc);
-        let (Content(payload), (tag, (Recipients(recipients), ()))) = read_headed(
+        let (Content(payload), (tag, (Recipients(recipients), ()))) = match read_headed(
             &mut message.protected,
             &mut message.unprotected,
             alloc,
             input,
             PLACES,
-        )?;
+        ) {
+            Ok(elements) => elements,
+            Err(error) => return Err(error),
+        };
         message.payload = payload;
         message.tag = tag;
         message.recipients = recipients;

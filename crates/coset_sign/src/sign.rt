@@ -258,13 +258,16 @@ impl Codec for CoseSign {
 
     fn read(alloc: Global, input: &mut Input<'_>) -> Result<CoseSign> {
         let mut message = CoseSign::new(alloc);
-        let (payload, (Signatures(signatures), ())) = read_headed(
+        let (payload, (Signatures(signatures), ())) = match read_headed(
             &mut message.protected,
             &mut message.unprotected,
             alloc,
             input,
             PLACES,
-        )?;
+        ) {
+            Ok(elements) => elements,
+            Err(error) => return Err(error),
+        };
         message.payload = payload;
         message.signatures = signatures;
         Ok(message)

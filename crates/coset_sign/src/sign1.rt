@@ -185,13 +185,16 @@ impl Codec for CoseSign1 {
 
     fn read(alloc: Global, input: &mut Input<'_>) -> Result<CoseSign1> {
         let mut message = CoseSign1::new(alloc);
-        let (payload, (signature, ())) = read_headed(
+        let (payload, (signature, ())) = match read_headed(
             &mut message.protected,
             &mut message.unprotected,
             alloc,
             input,
             PLACES,
-        )?;
+        ) {
+            Ok(elements) => elements,
+            Err(error) => return Err(error),
+        };
         message.payload = payload;
         message.signature = signature;
         Ok(message)
