@@ -1,6 +1,6 @@
 //! Calls of `CoseEncrypt` and its builder.
 
-use crate::given;
+use crate::given::{self, and_each, built};
 use coset::{CoseEncrypt, CoseEncryptBuilder, CoseError, CoseRecipient, Result};
 use coset_lines::asked::{Asked, No, and_missing};
 use coset_lines::words::Words;
@@ -106,16 +106,6 @@ fn aad(alloc: Global, words: &Words<'_>) -> Result<String> {
     tell::bytes(alloc, answer)
 }
 
-/// What was built, where the builder was made.
-fn built<E: Drop>(
-    made: std::result::Result<CoseEncryptBuilder, E>,
-) -> std::result::Result<CoseEncrypt, E> {
-    match made {
-        Ok(builder) => Ok(builder.build()),
-        Err(error) => Err(error),
-    }
-}
-
 /// A builder with the message's headers and recipients.
 ///
 /// # Errors
@@ -131,20 +121,6 @@ fn filled(alloc: Global, message: CoseEncrypt) -> Result<CoseEncryptBuilder> {
         .protected(protected.header)
         .unprotected(unprotected);
     and_each(builder, recipients)
-}
-
-/// The builder with these recipients behind its own.
-///
-/// # Errors
-/// `OutOfMemory` alone.
-fn and_each(
-    mut builder: CoseEncryptBuilder,
-    recipients: Vec<CoseRecipient>,
-) -> Result<CoseEncryptBuilder> {
-    for recipient in recipients {
-        builder = builder.add_recipient(recipient)?;
-    }
-    Ok(builder)
 }
 
 /// The message; the plaintext; `external_aad`; the ciphertext that the closure makes; what becomes of the header.

@@ -1,6 +1,6 @@
 //! Calls of `CoseEncrypt0` and its builder.
 
-use crate::given;
+use crate::given::{self, built};
 use coset::{CoseEncrypt0, CoseEncrypt0Builder, CoseError, Result};
 use coset_lines::asked::{Asked, No, and_missing};
 use coset_lines::words::Words;
@@ -103,16 +103,6 @@ fn aad(alloc: Global, words: &Words<'_>) -> Result<String> {
     let answer = message.aad(alloc, &external_aad);
     mark::end(alloc);
     tell::bytes(alloc, answer)
-}
-
-/// What was built, where the builder was made.
-fn built<E: Drop>(
-    made: std::result::Result<CoseEncrypt0Builder, E>,
-) -> std::result::Result<CoseEncrypt0, E> {
-    match made {
-        Ok(builder) => Ok(builder.build()),
-        Err(error) => Err(error),
-    }
 }
 
 /// A builder with the message's headers.

@@ -1,6 +1,6 @@
 //! Calls of `CoseMac` and its builder.
 
-use crate::given;
+use crate::given::{self, and_each, built};
 use coset::{CoseError, CoseMac, CoseMacBuilder, CoseRecipient, Result};
 use coset_lines::asked::{Asked, No, and_missing};
 use coset_lines::words::Words;
@@ -119,14 +119,6 @@ fn tbm_detached(alloc: Global, words: &Words<'_>) -> Result<String> {
     tell::bytes(alloc, answer)
 }
 
-/// What was built, where the builder was made.
-fn built<E: Drop>(made: std::result::Result<CoseMacBuilder, E>) -> std::result::Result<CoseMac, E> {
-    match made {
-        Ok(builder) => Ok(builder.build()),
-        Err(error) => Err(error),
-    }
-}
-
 /// A builder with the message's headers and recipients.
 ///
 /// # Errors
@@ -143,17 +135,6 @@ fn filled(alloc: Global, message: CoseMac) -> Result<CoseMacBuilder> {
         .protected(protected.header)
         .unprotected(unprotected);
     and_each(builder, recipients)
-}
-
-/// The builder with these recipients behind its own.
-///
-/// # Errors
-/// `OutOfMemory` alone.
-fn and_each(mut builder: CoseMacBuilder, recipients: Vec<CoseRecipient>) -> Result<CoseMacBuilder> {
-    for recipient in recipients {
-        builder = builder.add_recipient(recipient)?;
-    }
-    Ok(builder)
 }
 
 /// The message; `external_aad`; the tag that the closure makes; what becomes of the header.

@@ -1,6 +1,6 @@
 //! Calls of `CoseMac0` and its builder.
 
-use crate::given;
+use crate::given::{self, built};
 use coset::{CoseError, CoseMac0, CoseMac0Builder, Result};
 use coset_lines::asked::{Asked, No, and_missing};
 use coset_lines::words::Words;
@@ -116,16 +116,6 @@ fn tbm_detached(alloc: Global, words: &Words<'_>) -> Result<String> {
     let answer = message.tbm_detached(alloc, &payload, &external_aad);
     mark::end(alloc);
     tell::bytes(alloc, answer)
-}
-
-/// What was built, where the builder was made.
-fn built<E: Drop>(
-    made: std::result::Result<CoseMac0Builder, E>,
-) -> std::result::Result<CoseMac0, E> {
-    match made {
-        Ok(builder) => Ok(builder.build()),
-        Err(error) => Err(error),
-    }
 }
 
 /// The message; `external_aad`; the tag that the closure makes; what becomes of the header.

@@ -3,6 +3,7 @@
 ghost use Rattle.std.specs.Prelude.{IfOk};
 ghost use Rattle.coset_recipient.specs.Recipient.{IsOfRecipient};
 
+use crate::given::{and_each, built};
 use coset::{CoseError, CoseRecipient, CoseRecipientBuilder, EncryptionContext, Result};
 use coset_lines::asked::{Asked, No, and_missing};
 use coset_lines::words::Words;
@@ -119,16 +120,6 @@ fn aad(alloc: Global, words: &Words<'_>) -> Result<String> {
     tell::bytes(alloc, answer)
 }
 
-/// What was built, where the builder was made.
-fn built<E: Drop>(
-    made: std::result::Result<CoseRecipientBuilder, E>,
-) -> std::result::Result<CoseRecipient, E> {
-    match made {
-        Ok(builder) => Ok(builder.build()),
-        Err(error) => Err(error),
-    }
-}
-
 /// A builder with the recipient's headers and recipients.
 ///
 /// # Errors
@@ -144,20 +135,6 @@ fn filled(alloc: Global, recipient: CoseRecipient) -> Result<CoseRecipientBuilde
         .protected(protected.header)
         .unprotected(unprotected);
     and_each(builder, recipients)
-}
-
-/// The builder with these recipients behind its own.
-///
-/// # Errors
-/// `OutOfMemory` alone.
-fn and_each(
-    mut builder: CoseRecipientBuilder,
-    recipients: Vec<CoseRecipient>,
-) -> Result<CoseRecipientBuilder> {
-    for recipient in recipients {
-        builder = builder.add_recipient(recipient)?;
-    }
-    Ok(builder)
 }
 
 /// The recipient; the context; the plaintext; `external_aad`; the ciphertext that the closure makes; what becomes of
