@@ -1,8 +1,9 @@
 //! Calls of `CoseEncrypt` and its builder.
 
-use crate::given::{self, and_each, built};
+use crate::given;
 use coset::{CoseEncrypt, CoseEncryptBuilder, CoseError, CoseRecipient, Result};
 use coset_lines::asked::{Asked, No, and_missing};
+use coset_lines::builder::{and_each, built};
 use coset_lines::words::Words;
 use coset_lines::{header, mark, tell};
 use std::alloc::Global;
@@ -39,15 +40,14 @@ fn message(alloc: Global, words: &Words<'_>, place: usize, header: usize) -> Res
 fn decrypt(alloc: Global, words: &Words<'_>) -> Result<String> {
     let message = message(alloc, words, 2, 5)?;
     let external_aad = words.bytes(alloc, 3)?;
-    let plaintext = words.made(alloc, 1, 4)?;
-    let mut asked = Asked::new(alloc)?;
+    let mut asked = Asked::making(alloc, words.made(alloc, 1, 4)?)?;
     let count = &mut asked;
     if message.ciphertext.is_none() {
         return Err(CoseError::UnexpectedItem("no ciphertext", "ciphertext"));
     }
     mark::begin(alloc);
     let answer = message.decrypt(alloc, &external_aad, move |ciphertext, structure| {
-        count.try_make(ciphertext, structure, plaintext)
+        count.try_make(ciphertext, structure)
     });
     mark::end(alloc);
     asked.opened(alloc, answer)
@@ -57,8 +57,7 @@ fn decrypt(alloc: Global, words: &Words<'_>) -> Result<String> {
 fn decrypt_ciphertext(alloc: Global, words: &Words<'_>) -> Result<String> {
     let message = message(alloc, words, 2, 5)?;
     let external_aad = words.bytes(alloc, 3)?;
-    let plaintext = words.made(alloc, 1, 4)?;
-    let mut asked = Asked::new(alloc)?;
+    let mut asked = Asked::making(alloc, words.made(alloc, 1, 4)?)?;
     let mut missed = 0u32;
     let count = &mut asked;
     let misses = &mut missed;
@@ -70,7 +69,7 @@ fn decrypt_ciphertext(alloc: Global, words: &Words<'_>) -> Result<String> {
             *misses = misses.saturating_add(1);
             No
         },
-        move |ciphertext, structure| count.try_make(ciphertext, structure, plaintext),
+        move |ciphertext, structure| count.try_make(ciphertext, structure),
     );
     mark::end(alloc);
     and_missing(alloc, asked.opened(alloc, answer)?, missed)
@@ -82,15 +81,14 @@ fn decrypt_detached(alloc: Global, words: &Words<'_>) -> Result<String> {
     let message = message(alloc, words, 2, 6)?;
     let ciphertext = words.bytes(alloc, 3)?;
     let external_aad = words.bytes(alloc, 4)?;
-    let plaintext = words.made(alloc, 1, 5)?;
-    let mut asked = Asked::new(alloc)?;
+    let mut asked = Asked::making(alloc, words.made(alloc, 1, 5)?)?;
     let count = &mut asked;
     mark::begin(alloc);
     let answer = message.decrypt_detached(
         alloc,
         &ciphertext,
         &external_aad,
-        move |ciphertext, structure| count.try_make(ciphertext, structure, plaintext),
+        move |ciphertext, structure| count.try_make(ciphertext, structure),
     );
     mark::end(alloc);
     asked.opened(alloc, answer)
@@ -128,15 +126,14 @@ fn create_ciphertext(alloc: Global, words: &Words<'_>) -> Result<String> {
     let builder = filled(alloc, message(alloc, words, 1, 5)?)?;
     let plaintext = words.bytes(alloc, 2)?;
     let external_aad = words.bytes(alloc, 3)?;
-    let ciphertext = words.bytes(alloc, 4)?;
-    let mut asked = Asked::new(alloc)?;
+    let mut asked = Asked::making(alloc, Some(words.bytes(alloc, 4)?))?;
     let count = &mut asked;
     mark::begin(alloc);
     let answer = builder.create_ciphertext(
         alloc,
         &plaintext,
         &external_aad,
-        move |plaintext, structure| count.make(plaintext, structure, ciphertext),
+        move |plaintext, structure| count.make(plaintext, structure),
     );
     mark::end(alloc);
     asked.made(alloc, built(answer))
@@ -147,15 +144,14 @@ fn try_create_ciphertext(alloc: Global, words: &Words<'_>) -> Result<String> {
     let builder = filled(alloc, message(alloc, words, 2, 6)?)?;
     let plaintext = words.bytes(alloc, 3)?;
     let external_aad = words.bytes(alloc, 4)?;
-    let ciphertext = words.made(alloc, 1, 5)?;
-    let mut asked = Asked::new(alloc)?;
+    let mut asked = Asked::making(alloc, words.made(alloc, 1, 5)?)?;
     let count = &mut asked;
     mark::begin(alloc);
     let answer = builder.try_create_ciphertext(
         alloc,
         &plaintext,
         &external_aad,
-        move |plaintext, structure| count.try_make(plaintext, structure, ciphertext),
+        move |plaintext, structure| count.try_make(plaintext, structure),
     );
     mark::end(alloc);
     asked.tried(alloc, built(answer))
@@ -167,15 +163,14 @@ fn create_detached_ciphertext(alloc: Global, words: &Words<'_>) -> Result<String
     let builder = filled(alloc, message(alloc, words, 1, 5)?)?;
     let plaintext = words.bytes(alloc, 2)?;
     let external_aad = words.bytes(alloc, 3)?;
-    let ciphertext = words.bytes(alloc, 4)?;
-    let mut asked = Asked::new(alloc)?;
+    let mut asked = Asked::making(alloc, Some(words.bytes(alloc, 4)?))?;
     let count = &mut asked;
     mark::begin(alloc);
     let answer = builder.create_detached_ciphertext(
         alloc,
         &plaintext,
         &external_aad,
-        move |plaintext, structure| count.make(plaintext, structure, ciphertext),
+        move |plaintext, structure| count.make(plaintext, structure),
     );
     mark::end(alloc);
     given::sealed(alloc, &asked, answer)
@@ -186,15 +181,14 @@ fn try_create_detached_ciphertext(alloc: Global, words: &Words<'_>) -> Result<St
     let builder = filled(alloc, message(alloc, words, 2, 6)?)?;
     let plaintext = words.bytes(alloc, 3)?;
     let external_aad = words.bytes(alloc, 4)?;
-    let ciphertext = words.made(alloc, 1, 5)?;
-    let mut asked = Asked::new(alloc)?;
+    let mut asked = Asked::making(alloc, words.made(alloc, 1, 5)?)?;
     let count = &mut asked;
     mark::begin(alloc);
     let answer = builder.try_create_detached_ciphertext(
         alloc,
         &plaintext,
         &external_aad,
-        move |plaintext, structure| count.try_make(plaintext, structure, ciphertext),
+        move |plaintext, structure| count.try_make(plaintext, structure),
     );
     mark::end(alloc);
     asked.opened(alloc, answer)

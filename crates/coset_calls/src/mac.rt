@@ -1,8 +1,9 @@
 //! Calls of `CoseMac` and its builder.
 
-use crate::given::{self, and_each, built};
+use crate::given;
 use coset::{CoseError, CoseMac, CoseMacBuilder, CoseRecipient, Result};
 use coset_lines::asked::{Asked, No, and_missing};
+use coset_lines::builder::{and_each, built};
 use coset_lines::words::Words;
 use coset_lines::{header, mark, tell};
 use std::alloc::Global;
@@ -145,13 +146,10 @@ fn create_tag(alloc: Global, words: &Words<'_>) -> Result<String> {
     };
     let builder = filled(alloc, message)?.payload(payload);
     let external_aad = words.bytes(alloc, 2)?;
-    let tag = words.bytes(alloc, 3)?;
-    let mut asked = Asked::new(alloc)?;
+    let mut asked = Asked::making(alloc, Some(words.bytes(alloc, 3)?))?;
     let count = &mut asked;
     mark::begin(alloc);
-    let answer = builder.create_tag(alloc, &external_aad, move |tbm| {
-        count.make(&[], tbm, tag)
-    });
+    let answer = builder.create_tag(alloc, &external_aad, move |tbm| { count.make(&[], tbm) });
     mark::end(alloc);
     asked.made(alloc, built(answer))
 }
@@ -164,12 +162,11 @@ fn try_create_tag(alloc: Global, words: &Words<'_>) -> Result<String> {
     };
     let builder = filled(alloc, message)?.payload(payload);
     let external_aad = words.bytes(alloc, 3)?;
-    let tag = words.made(alloc, 1, 4)?;
-    let mut asked = Asked::new(alloc)?;
+    let mut asked = Asked::making(alloc, words.made(alloc, 1, 4)?)?;
     let count = &mut asked;
     mark::begin(alloc);
     let answer = builder.try_create_tag(alloc, &external_aad, move |tbm| {
-        count.try_make(&[], tbm, tag)
+        count.try_make(&[], tbm)
     });
     mark::end(alloc);
     asked.tried(alloc, built(answer))
@@ -194,12 +191,11 @@ fn create_detached_tag(alloc: Global, words: &Words<'_>) -> Result<String> {
     let builder = with_payload(alloc, message(alloc, words, 1, 5)?)?;
     let payload = words.bytes(alloc, 2)?;
     let external_aad = words.bytes(alloc, 3)?;
-    let tag = words.bytes(alloc, 4)?;
-    let mut asked = Asked::new(alloc)?;
+    let mut asked = Asked::making(alloc, Some(words.bytes(alloc, 4)?))?;
     let count = &mut asked;
     mark::begin(alloc);
     let answer = builder.create_detached_tag(alloc, &payload, &external_aad, move |tbm| {
-        count.make(&[], tbm, tag)
+        count.make(&[], tbm)
     });
     mark::end(alloc);
     asked.made(alloc, built(answer))
@@ -210,12 +206,11 @@ fn try_create_detached_tag(alloc: Global, words: &Words<'_>) -> Result<String> {
     let builder = with_payload(alloc, message(alloc, words, 2, 6)?)?;
     let payload = words.bytes(alloc, 3)?;
     let external_aad = words.bytes(alloc, 4)?;
-    let tag = words.made(alloc, 1, 5)?;
-    let mut asked = Asked::new(alloc)?;
+    let mut asked = Asked::making(alloc, words.made(alloc, 1, 5)?)?;
     let count = &mut asked;
     mark::begin(alloc);
     let answer = builder.try_create_detached_tag(alloc, &payload, &external_aad, move |tbm| {
-        count.try_make(&[], tbm, tag)
+        count.try_make(&[], tbm)
     });
     mark::end(alloc);
     asked.tried(alloc, built(answer))

@@ -3,9 +3,9 @@
 ghost use Rattle.std.specs.Prelude.{IfOk};
 ghost use Rattle.coset_recipient.specs.Recipient.{IsOfRecipient};
 
-use crate::given::{and_each, built};
 use coset::{CoseError, CoseRecipient, CoseRecipientBuilder, EncryptionContext, Result};
 use coset_lines::asked::{Asked, No, and_missing};
+use coset_lines::builder::{and_each, built};
 use coset_lines::words::Words;
 use coset_lines::{header, mark, tell};
 use std::alloc::Global;
@@ -67,8 +67,7 @@ fn decrypt(alloc: Global, words: &Words<'_>) -> Result<String> {
     let recipient = recipient(alloc, words, 2, 6)?;
     let context = recipient_context(words.word(3))?;
     let external_aad = words.bytes(alloc, 4)?;
-    let plaintext = words.made(alloc, 1, 5)?;
-    let mut asked = Asked::new(alloc)?;
+    let mut asked = Asked::making(alloc, words.made(alloc, 1, 5)?)?;
     let count = &mut asked;
     if recipient.ciphertext.is_none() {
         return Err(CoseError::UnexpectedItem("no ciphertext", "ciphertext"));
@@ -78,7 +77,7 @@ fn decrypt(alloc: Global, words: &Words<'_>) -> Result<String> {
         alloc,
         context,
         &external_aad,
-        move |ciphertext, structure| { count.try_make(ciphertext, structure, plaintext) },
+        move |ciphertext, structure| { count.try_make(ciphertext, structure) },
     );
     mark::end(alloc);
     asked.opened(alloc, answer)
@@ -89,8 +88,7 @@ fn decrypt_ciphertext(alloc: Global, words: &Words<'_>) -> Result<String> {
     let recipient = recipient(alloc, words, 2, 6)?;
     let context = recipient_context(words.word(3))?;
     let external_aad = words.bytes(alloc, 4)?;
-    let plaintext = words.made(alloc, 1, 5)?;
-    let mut asked = Asked::new(alloc)?;
+    let mut asked = Asked::making(alloc, words.made(alloc, 1, 5)?)?;
     let mut missed = 0u32;
     let count = &mut asked;
     let misses = &mut missed;
@@ -103,7 +101,7 @@ fn decrypt_ciphertext(alloc: Global, words: &Words<'_>) -> Result<String> {
             *misses = misses.saturating_add(1);
             No
         },
-        move |ciphertext, structure| count.try_make(ciphertext, structure, plaintext),
+        move |ciphertext, structure| count.try_make(ciphertext, structure),
     );
     mark::end(alloc);
     and_missing(alloc, asked.opened(alloc, answer)?, missed)
@@ -144,8 +142,7 @@ fn create_ciphertext(alloc: Global, words: &Words<'_>) -> Result<String> {
     let context = recipient_context(words.word(2))?;
     let plaintext = words.bytes(alloc, 3)?;
     let external_aad = words.bytes(alloc, 4)?;
-    let ciphertext = words.bytes(alloc, 5)?;
-    let mut asked = Asked::new(alloc)?;
+    let mut asked = Asked::making(alloc, Some(words.bytes(alloc, 5)?))?;
     let count = &mut asked;
     mark::begin(alloc);
     let answer = builder.create_ciphertext(
@@ -153,7 +150,7 @@ fn create_ciphertext(alloc: Global, words: &Words<'_>) -> Result<String> {
         context,
         &plaintext,
         &external_aad,
-        move |plaintext, structure| count.make(plaintext, structure, ciphertext),
+        move |plaintext, structure| count.make(plaintext, structure),
     );
     mark::end(alloc);
     asked.made(alloc, built(answer))
@@ -165,8 +162,7 @@ fn try_create_ciphertext(alloc: Global, words: &Words<'_>) -> Result<String> {
     let context = recipient_context(words.word(3))?;
     let plaintext = words.bytes(alloc, 4)?;
     let external_aad = words.bytes(alloc, 5)?;
-    let ciphertext = words.made(alloc, 1, 6)?;
-    let mut asked = Asked::new(alloc)?;
+    let mut asked = Asked::making(alloc, words.made(alloc, 1, 6)?)?;
     let count = &mut asked;
     mark::begin(alloc);
     let answer = builder.try_create_ciphertext(
@@ -174,7 +170,7 @@ fn try_create_ciphertext(alloc: Global, words: &Words<'_>) -> Result<String> {
         context,
         &plaintext,
         &external_aad,
-        move |plaintext, structure| count.try_make(plaintext, structure, ciphertext),
+        move |plaintext, structure| count.try_make(plaintext, structure),
     );
     mark::end(alloc);
     asked.tried(alloc, built(answer))

@@ -8,11 +8,12 @@ use std::alloc::Global;
 #[derive(Clone, Copy, Debug, Drop, PartialEq, Eq)]
 pub struct No;
 
-/// What a closure was handed, and how often it was called. It takes no memory while it is told of that.
+/// What a closure was handed, how often it was called, and what it makes. It takes no memory while it is told of that.
 #[derive(Drop)]
 pub struct Asked {
     count: u32,
     handed: Vec<u8>,
+    made: Option<Vec<u8>>,
 }
 
 /// As many bytes as closures are handed at most.
@@ -24,9 +25,18 @@ impl Asked {
     /// # Errors
     /// `OutOfMemory` alone.
     pub fn new(alloc: Global) -> Result<Asked> {
+        Asked::making(alloc, None)
+    }
+
+    /// That a closure wasn't called yet which makes these bytes, or none.
+    ///
+    /// # Errors
+    /// `OutOfMemory` alone.
+    pub fn making(alloc: Global, made: Option<Vec<u8>>) -> Result<Asked> {
         Ok(Asked {
             count: 0,
             handed: Vec::with_capacity(alloc, MOST)?,
+            made,
         })
     }
 
@@ -54,24 +64,22 @@ impl Asked {
         if says_yes { Ok(()) } else { Err(No) }
     }
 
-    /// A closure is called that makes these bytes.
-    pub fn make(&mut self, first: &[u8], second: &[u8], made: Vec<u8>) -> Vec<u8> {
+    /// A closure is called that makes bytes.
+    pub fn make(&mut self, first: &[u8], second: &[u8]) -> Vec<u8> {
         self.ask(first, second);
-        made
+        match self.made.take() {
+            Some(made) => made,
+            None => Vec::new(*self.handed.allocator()),
+        }
     }
 
-    /// A closure is called that makes these bytes, or none.
+    /// A closure is called that makes bytes, or none.
     ///
     /// # Errors
     /// It makes none.
-    pub fn try_make(
-        &mut self,
-        first: &[u8],
-        second: &[u8],
-        made: Option<Vec<u8>>,
-    ) -> std::result::Result<Vec<u8>, No> {
+    pub fn try_make(&mut self, first: &[u8], second: &[u8]) -> std::result::Result<Vec<u8>, No> {
         self.ask(first, second);
-        match made {
+        match self.made.take() {
             Some(made) => Ok(made),
             None => Err(No),
         }

@@ -2,6 +2,7 @@
 #![tactic(auto)]
 
 pub mod asked;
+pub mod builder;
 pub mod header;
 pub mod line;
 pub mod mark;

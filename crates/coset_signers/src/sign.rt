@@ -2,6 +2,7 @@
 
 use coset::{CoseError, CoseSign, CoseSignBuilder, CoseSignature, Result};
 use coset_lines::asked::Asked;
+use coset_lines::builder::{and_each, built};
 use coset_lines::words::Words;
 use coset_lines::{header, mark, tell};
 use std::alloc::Global;
@@ -151,30 +152,6 @@ fn filled(alloc: Global, message: CoseSign) -> Result<CoseSignBuilder> {
     and_each(builder, signatures)
 }
 
-/// The builder with these signatures behind its own.
-///
-/// # Errors
-/// `OutOfMemory` alone.
-fn and_each(
-    mut builder: CoseSignBuilder,
-    signatures: Vec<CoseSignature>,
-) -> Result<CoseSignBuilder> {
-    for signature in signatures {
-        builder = builder.add_signature(signature)?;
-    }
-    Ok(builder)
-}
-
-/// What was built, where the builder was made.
-fn built<E: Drop>(
-    made: std::result::Result<CoseSignBuilder, E>,
-) -> std::result::Result<CoseSign, E> {
-    match made {
-        Ok(builder) => Ok(builder.build()),
-        Err(error) => Err(error),
-    }
-}
-
 /// The message; a signature more.
 fn add_signature(alloc: Global, words: &Words<'_>) -> Result<String> {
     let builder = filled(alloc, words.value(alloc, 1)?)?;
@@ -191,12 +168,11 @@ fn add_created_signature(alloc: Global, words: &Words<'_>) -> Result<String> {
     let builder = filled(alloc, message(alloc, words, 1, 5)?)?;
     let signature = signature(alloc, words, 2, 6)?;
     let external_aad = words.bytes(alloc, 3)?;
-    let made = words.bytes(alloc, 4)?;
-    let mut asked = Asked::new(alloc)?;
+    let mut asked = Asked::making(alloc, Some(words.bytes(alloc, 4)?))?;
     let count = &mut asked;
     mark::begin(alloc);
     let answer = builder.add_created_signature(alloc, signature, &external_aad, move |tbs| {
-        count.make(&[], tbs, made)
+        count.make(&[], tbs)
     });
     mark::end(alloc);
     asked.made(alloc, built(answer))
@@ -207,12 +183,11 @@ fn try_add_created_signature(alloc: Global, words: &Words<'_>) -> Result<String>
     let builder = filled(alloc, message(alloc, words, 2, 6)?)?;
     let signature = signature(alloc, words, 3, 7)?;
     let external_aad = words.bytes(alloc, 4)?;
-    let made = words.made(alloc, 1, 5)?;
-    let mut asked = Asked::new(alloc)?;
+    let mut asked = Asked::making(alloc, words.made(alloc, 1, 5)?)?;
     let count = &mut asked;
     mark::begin(alloc);
     let answer = builder.try_add_created_signature(alloc, signature, &external_aad, move |tbs| {
-        count.try_make(&[], tbs, made)
+        count.try_make(&[], tbs)
     });
     mark::end(alloc);
     asked.tried(alloc, built(answer))
@@ -233,8 +208,7 @@ fn add_detached_signature(alloc: Global, words: &Words<'_>) -> Result<String> {
     let signature = signature(alloc, words, 2, 7)?;
     let payload = words.bytes(alloc, 3)?;
     let external_aad = words.bytes(alloc, 4)?;
-    let made = words.bytes(alloc, 5)?;
-    let mut asked = Asked::new(alloc)?;
+    let mut asked = Asked::making(alloc, Some(words.bytes(alloc, 5)?))?;
     let count = &mut asked;
     mark::begin(alloc);
     let answer = builder.add_detached_signature(
@@ -242,7 +216,7 @@ fn add_detached_signature(alloc: Global, words: &Words<'_>) -> Result<String> {
         signature,
         &payload,
         &external_aad,
-        move |tbs| count.make(&[], tbs, made),
+        move |tbs| count.make(&[], tbs),
     );
     mark::end(alloc);
     asked.made(alloc, built(answer))
@@ -262,8 +236,7 @@ fn try_add_detached_signature(alloc: Global, words: &Words<'_>) -> Result<String
     let signature = signature(alloc, words, 3, 8)?;
     let payload = words.bytes(alloc, 4)?;
     let external_aad = words.bytes(alloc, 5)?;
-    let made = words.made(alloc, 1, 6)?;
-    let mut asked = Asked::new(alloc)?;
+    let mut asked = Asked::making(alloc, words.made(alloc, 1, 6)?)?;
     let count = &mut asked;
     mark::begin(alloc);
     let answer = builder.try_add_detached_signature(
@@ -271,7 +244,7 @@ fn try_add_detached_signature(alloc: Global, words: &Words<'_>) -> Result<String
         signature,
         &payload,
         &external_aad,
-        move |tbs| count.try_make(&[], tbs, made),
+        move |tbs| count.try_make(&[], tbs),
     );
     mark::end(alloc);
     asked.tried(alloc, built(answer))

@@ -2,6 +2,7 @@
 
 use coset::{CoseError, CoseSign1, CoseSign1Builder, Result};
 use coset_lines::asked::Asked;
+use coset_lines::builder::built;
 use coset_lines::words::Words;
 use coset_lines::{header, mark, tell};
 use std::alloc::Global;
@@ -107,26 +108,15 @@ fn filled(alloc: Global, message: CoseSign1) -> CoseSign1Builder {
     }
 }
 
-/// What was built, where the builder was made.
-fn built<E: Drop>(
-    made: std::result::Result<CoseSign1Builder, E>,
-) -> std::result::Result<CoseSign1, E> {
-    match made {
-        Ok(builder) => Ok(builder.build()),
-        Err(error) => Err(error),
-    }
-}
-
 /// The message; `external_aad`; the signature that the closure makes; what becomes of the header.
 fn create_signature(alloc: Global, words: &Words<'_>) -> Result<String> {
     let builder = filled(alloc, message(alloc, words, 1, 4)?);
     let external_aad = words.bytes(alloc, 2)?;
-    let signature = words.bytes(alloc, 3)?;
-    let mut asked = Asked::new(alloc)?;
+    let mut asked = Asked::making(alloc, Some(words.bytes(alloc, 3)?))?;
     let count = &mut asked;
     mark::begin(alloc);
     let answer = builder.create_signature(alloc, &external_aad, move |tbs| {
-        count.make(&[], tbs, signature)
+        count.make(&[], tbs)
     });
     mark::end(alloc);
     asked.made(alloc, built(answer))
@@ -136,12 +126,11 @@ fn create_signature(alloc: Global, words: &Words<'_>) -> Result<String> {
 fn try_create_signature(alloc: Global, words: &Words<'_>) -> Result<String> {
     let builder = filled(alloc, message(alloc, words, 2, 5)?);
     let external_aad = words.bytes(alloc, 3)?;
-    let signature = words.made(alloc, 1, 4)?;
-    let mut asked = Asked::new(alloc)?;
+    let mut asked = Asked::making(alloc, words.made(alloc, 1, 4)?)?;
     let count = &mut asked;
     mark::begin(alloc);
     let answer = builder.try_create_signature(alloc, &external_aad, move |tbs| {
-        count.try_make(&[], tbs, signature)
+        count.try_make(&[], tbs)
     });
     mark::end(alloc);
     asked.tried(alloc, built(answer))
@@ -160,12 +149,11 @@ fn create_detached_signature(alloc: Global, words: &Words<'_>) -> Result<String>
         .unprotected(unprotected);
     let payload = words.bytes(alloc, 2)?;
     let external_aad = words.bytes(alloc, 3)?;
-    let signature = words.bytes(alloc, 4)?;
-    let mut asked = Asked::new(alloc)?;
+    let mut asked = Asked::making(alloc, Some(words.bytes(alloc, 4)?))?;
     let count = &mut asked;
     mark::begin(alloc);
     let answer = builder.create_detached_signature(alloc, &payload, &external_aad, move |tbs| {
-        count.make(&[], tbs, signature)
+        count.make(&[], tbs)
     });
     mark::end(alloc);
     asked.made(alloc, built(answer))
@@ -185,15 +173,14 @@ fn try_create_detached_signature(alloc: Global, words: &Words<'_>) -> Result<Str
         .unprotected(unprotected);
     let payload = words.bytes(alloc, 3)?;
     let external_aad = words.bytes(alloc, 4)?;
-    let signature = words.made(alloc, 1, 5)?;
-    let mut asked = Asked::new(alloc)?;
+    let mut asked = Asked::making(alloc, words.made(alloc, 1, 5)?)?;
     let count = &mut asked;
     mark::begin(alloc);
     let answer = builder.try_create_detached_signature(
         alloc,
         &payload,
         &external_aad,
-        move |tbs| count.try_make(&[], tbs, signature),
+        move |tbs| count.try_make(&[], tbs),
     );
     mark::end(alloc);
     asked.tried(alloc, built(answer))
