@@ -20,31 +20,47 @@ pub least_pair_encodings-push : (ps : List (Item × Item)) (p : Item × Item)
 least_pair_encodings-push [] p = ap (λ (x : List ℕ). least_encoding p.0 ++ x) (append-nil (least_encoding p.1))
 least_pair_encodings-push (q ∷ ps) p = ap (λ (x : List ℕ). least_encoding q.0 ++ (least_encoding q.1 ++ x)) (least_pair_encodings-push ps p) ∙ simp append_assoc
 
+-- one more is taken from the front of what is left
+pub moved : {A : Type 0} (ys : List A) (x : A) (old new all : List A) → ys ++ old ≡ all → old ≡ x ∷ new → (ys ++ x ∷ []) ++ new ≡ all
+moved ys x old new all p q = append_assoc ys (x ∷ []) new ∙ (ap (λ zs. ys ++ zs) (sym q) ∙ p)
+
+pub item_pushed : (xs : List Value) (x : Value) (old middle new : List ℕ)
+    → middle ≡ old ++ least_encodings (items_view xs) → new ≡ middle ++ least_encoding (view x)
+    → new ≡ old ++ least_encodings (items_view (xs ++ x ∷ []))
+item_pushed xs x old middle new so_far put =
+    let total : least_encodings (items_view (xs ++ x ∷ [])) ≡ least_encodings (items_view xs) ++ least_encoding (view x) =
+    ap (λ (zs : List Item). least_encodings (items_of zs)) (map_push view xs x) ∙ least_encodings-push (map view xs) (view x) in
+    put ∙ ap (λ (s : List ℕ). s ++ least_encoding (view x)) so_far ∙ append_assoc old (least_encodings (items_view xs)) (least_encoding (view x))
+    ∙ ap (λ (s : List ℕ). old ++ s) (sym total)
+
+pub pair_pushed : (xs : List (Value × Value)) (x : Value × Value) (old middle half new : List ℕ)
+    → middle ≡ old ++ least_pair_encodings (pairs_view xs) → half ≡ middle ++ least_encoding (view x.0) → new ≡ half ++ least_encoding (view x.1)
+    → new ≡ old ++ least_pair_encodings (pairs_view (xs ++ x ∷ []))
+pair_pushed xs x old middle half new so_far key put =
+    let both = least_encoding (view x.0) ++ least_encoding (view x.1) in
+    let total : least_pair_encodings (pairs_view (xs ++ x ∷ [])) ≡ least_pair_encodings (pairs_view xs) ++ both =
+    ap (λ (zs : List (Item × Item)). least_pair_encodings (pairs_of zs)) (map_push pair_view xs x)
+    ∙ least_pair_encodings-push (map pair_view xs) (pair_view x) in
+    let all : new ≡ middle ++ both = put ∙ ap (λ (s : List ℕ). s ++ least_encoding (view x.1)) key
+    ∙ append_assoc middle (least_encoding (view x.0)) (least_encoding (view x.1)) in
+    all ∙ ap (λ (s : List ℕ). s ++ both) so_far ∙ append_assoc old (least_pair_encodings (pairs_view xs)) both
+    ∙ ap (λ (s : List ℕ). old ++ s) (sym total)
+
+-- the next one of a list
+one_more : {A : Type 0} (xs : List A) (i : ℕ) (x : A) → i < length xs → x ≡ get_or xs i x → take i xs ++ x ∷ [] ≡ take (i + 1) xs
+one_more xs i x lt is = sym (take_more xs i x lt ∙ ap (λ y. take i xs ++ y ∷ []) (sym is))
+
 pub item_put : (xs : List Value) (i : ℕ) (x : Value) (old middle new : List ℕ) → i < length xs → x ≡ get_or xs i x
     → middle ≡ old ++ least_encodings (items_view (take i xs)) → new ≡ middle ++ least_encoding (view x)
     → new ≡ old ++ least_encodings (items_view (take (i + 1) xs))
-item_put xs i x old middle new lt is so_far put =
-    let more : take (i + 1) xs ≡ take i xs ++ x ∷ [] = take_more xs i x lt ∙ ap (λ (y : Value). take i xs ++ y ∷ []) (sym is) in
-    let total : least_encodings (items_view (take (i + 1) xs)) ≡ least_encodings (items_view (take i xs)) ++ least_encoding (view x) =
-    ap (λ (ys : List Value). least_encodings (items_view ys)) more ∙ ap (λ (zs : List Item). least_encodings (items_of zs)) (map_push view (take i xs) x)
-    ∙ least_encodings-push (map view (take i xs)) (view x) in
-    put ∙ ap (λ (s : List ℕ). s ++ least_encoding (view x)) so_far ∙ append_assoc old (least_encodings (items_view (take i xs))) (least_encoding (view x))
-    ∙ ap (λ (s : List ℕ). old ++ s) (sym total)
+item_put xs i x old middle new lt is so_far put = subst (λ ys. new ≡ old ++ least_encodings (items_view ys)) (one_more xs i x lt is)
+    (item_pushed (take i xs) x old middle new so_far put)
 
 pub pair_put : (xs : List (Value × Value)) (i : ℕ) (x : Value × Value) (old middle half new : List ℕ) → i < length xs → x ≡ get_or xs i x
     → middle ≡ old ++ least_pair_encodings (pairs_view (take i xs)) → half ≡ middle ++ least_encoding (view x.0) → new ≡ half ++ least_encoding (view x.1)
     → new ≡ old ++ least_pair_encodings (pairs_view (take (i + 1) xs))
-pair_put xs i x old middle half new lt is so_far key put =
-    let more : take (i + 1) xs ≡ take i xs ++ x ∷ [] = take_more xs i x lt ∙ ap (λ (y : Value × Value). take i xs ++ y ∷ []) (sym is) in
-    let both = least_encoding (view x.0) ++ least_encoding (view x.1) in
-    let total : least_pair_encodings (pairs_view (take (i + 1) xs)) ≡ least_pair_encodings (pairs_view (take i xs)) ++ both =
-    ap (λ (ys : List (Value × Value)). least_pair_encodings (pairs_view ys)) more
-    ∙ ap (λ (zs : List (Item × Item)). least_pair_encodings (pairs_of zs)) (map_push pair_view (take i xs) x)
-    ∙ least_pair_encodings-push (map pair_view (take i xs)) (pair_view x) in
-    let all : new ≡ middle ++ both = put ∙ ap (λ (s : List ℕ). s ++ least_encoding (view x.1)) key
-    ∙ append_assoc middle (least_encoding (view x.0)) (least_encoding (view x.1)) in
-    all ∙ ap (λ (s : List ℕ). s ++ both) so_far ∙ append_assoc old (least_pair_encodings (pairs_view (take i xs))) both
-    ∙ ap (λ (s : List ℕ). old ++ s) (sym total)
+pair_put xs i x old middle half new lt is so_far key put = subst (λ ys. new ≡ old ++ least_pair_encodings (pairs_view ys)) (one_more xs i x lt is)
+    (pair_pushed (take i xs) x old middle half new so_far key put)
 
 in_range-push : (vs : List Item) (v : Item) → AreInRange (items_of vs) → IsInRange v → AreInRange (items_of (vs ++ v ∷ []))
 in_range-push [] v h k = (k, tt)
@@ -55,22 +71,23 @@ pairs_in_range-push : (ps : List (Item × Item)) (p : Item × Item) → ArePairs
 pairs_in_range-push [] p h k l = (k, l, tt)
 pairs_in_range-push (q ∷ ps) p h k l = (h.0, h.1, pairs_in_range-push ps p h.2 k l)
 
+pub items_in_range : (xs : List Value) (x : Value) → AreInRange (items_view xs) → IsInRange (view x) → AreInRange (items_view (xs ++ x ∷ []))
+items_in_range xs x so_far here = subst (λ zs. AreInRange (items_of zs)) (sym (map_push view xs x)) (in_range-push (map view xs) (view x) so_far here)
+
+pub pairs_in_range : (xs : List (Value × Value)) (x : Value × Value) → ArePairsInRange (pairs_view xs) → IsInRange (view x.0) → IsInRange (view x.1)
+    → ArePairsInRange (pairs_view (xs ++ x ∷ []))
+pairs_in_range xs x so_far key value = subst (λ zs. ArePairsInRange (pairs_of zs)) (sym (map_push pair_view xs x))
+    (pairs_in_range-push (map pair_view xs) (pair_view x) so_far key value)
+
 pub item_in_range : (xs : List Value) (i : ℕ) (x : Value) → i < length xs → x ≡ get_or xs i x → AreInRange (items_view (take i xs)) → IsInRange (view x)
     → AreInRange (items_view (take (i + 1) xs))
-item_in_range xs i x lt is so_far here =
-    let more : take (i + 1) xs ≡ take i xs ++ x ∷ [] = take_more xs i x lt ∙ ap (λ (y : Value). take i xs ++ y ∷ []) (sym is) in
-    let views : items_view (take (i + 1) xs) ≡ items_of (map view (take i xs) ++ view x ∷ []) = ap items_view more
-    ∙ ap items_of (map_push view (take i xs) x) in
-    subst AreInRange (sym views) (in_range-push (map view (take i xs)) (view x) so_far here)
+item_in_range xs i x lt is so_far here = subst (λ ys. AreInRange (items_view ys)) (one_more xs i x lt is) (items_in_range (take i xs) x so_far here)
 
 pub pair_in_range : (xs : List (Value × Value)) (i : ℕ) (x : Value × Value) → i < length xs → x ≡ get_or xs i x → ArePairsInRange (pairs_view (take i xs))
     → IsInRange (view x.0) → IsInRange (view x.1)
     → ArePairsInRange (pairs_view (take (i + 1) xs))
-pair_in_range xs i x lt is so_far key value =
-    let more : take (i + 1) xs ≡ take i xs ++ x ∷ [] = take_more xs i x lt ∙ ap (λ (y : Value × Value). take i xs ++ y ∷ []) (sym is) in
-    let views : pairs_view (take (i + 1) xs) ≡ pairs_of (map pair_view (take i xs) ++ pair_view x ∷ []) = ap pairs_view more
-    ∙ ap pairs_of (map_push pair_view (take i xs) x) in
-    subst ArePairsInRange (sym views) (pairs_in_range-push (map pair_view (take i xs)) (pair_view x) so_far key value)
+pair_in_range xs i x lt is so_far key value = subst (λ ys. ArePairsInRange (pairs_view ys)) (one_more xs i x lt is)
+    (pairs_in_range (take i xs) x so_far key value)
 
 pub headed_put : {A B : Type 0} (r : Result A B) (m n k : ℕ) (body old middle new whole : List ℕ) → whole ≡ least_head m k ++ body → n ≡ k
     → middle ≡ old ++ least_head m n → OnOk r (new ≡ middle ++ body) → OnOk r (new ≡ old ++ whole)

@@ -8,7 +8,7 @@ use Rattle.coset_value.specs.Item.{no_pairs, pair, items_count, pairs_count}
 use Rattle.coset_value.specs.Range.{IsInRange, AreInRange, ArePairsInRange}
 use Rattle.coset_cbor.specs.Grammar.{HeadWidth, within, one, two, four, eight, Holds, head_in, IsHead, IsHeaded, IsEncoding, AreEncodings, ArePairEncodings}
 use Rattle.coset_cbor.specs.Definite.{IsDefiniteEncoding, AreDefiniteEncodings, AreDefinitePairs}
-use Rattle.coset_cbor.specs.Shortest.{IsShortest}
+use Rattle.coset_cbor.specs.Shortest.{IsShortest, AppendsShortest}
 use Rattle.coset_cbor.specs.Least.{least_width, least_head, least_encoding, least_encodings, least_pair_encodings}
 
 -- ---- which place is the least
@@ -284,3 +284,6 @@ mutual
   definite_pairs_in_range : (ps : Pairs) (b : List ℕ) → AreDefinitePairs ps b → ArePairsInRange ps
   definite_pairs_in_range no_pairs b h = tt
   definite_pairs_in_range (pair k v ps) b h = (definite_in_range k h.0 h.3, definite_in_range v h.1 h.4, definite_pairs_in_range ps h.2 h.5)
+
+pub appends : (old new : List ℕ) (v : Item) → IsInRange v → new ≡ old ++ least_encoding v → AppendsShortest old new v
+appends old new v h e = record { encoding = least_encoding v; is_shortest = least_is_shortest v h; parts = e }

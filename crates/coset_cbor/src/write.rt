@@ -19,6 +19,7 @@ fn first_byte(major_type: MajorType, low: u8) -> u8
 }
 
 /// Writes a byte and some bytes, or nothing.
+#[inline(always)]
 fn put_two(out: &mut Vec<u8>, first: u8, more: &[u8]) -> Result<(), AllocError>
     ensures ok { OnOk result (out.new.items ≡ out.old.items ++ first ∷ more.now) }
     ensures kept { Extends out.old.items out.new.items }
@@ -153,6 +154,57 @@ fn put_pairs(out: &mut Vec<u8>, pairs: &Vec<(Value, Value)>) -> Result<(), Alloc
     for (key, value) in pairs {
         put(out, key)?;
         put(out, value)?;
+    }
+    Ok(())
+}
+
+/// Writes the shortest encoding of the value at the end, and lets each part go as soon as it is written. An `Err` may
+/// leave part of it there.
+#[cycle(put_owned)]
+pub(crate) fn put_owned(out: &mut Vec<u8>, value: Value) -> Result<(), AllocError>
+    ensures ok { OnOk result (out.new.items ≡ out.old.items ++ least_encoding (view value)) }
+    ensures in_range { OnOk result (IsInRange (view value)) }
+    ensures kept { Extends out.old.items out.new.items }
+{
+    match value {
+        Value::Integer(n) => put_integer(out, n),
+        Value::Bytes(bytes) => put_string(out, MajorType::Bytes, &bytes),
+        Value::Text(text) => put_text(out, text.as_str()),
+        Value::Array(array) => {
+            put_head(out, MajorType::Array, array.len() as u64)?;
+            put_owned_items(out, array)
+        }
+        Value::Map(map) => {
+            put_head(out, MajorType::Map, map.len() as u64)?;
+            put_owned_pairs(out, map)
+        }
+        other => put(out, &other),
+    }
+}
+
+#[cycle(put_owned)]
+fn put_owned_items(out: &mut Vec<u8>, items: Vec<Value>) -> Result<(), AllocError>
+    ensures ok { OnOk result (out.new.items ≡ out.old.items
+        ++ least_encodings (items_view items.items)) }
+    ensures in_range { OnOk result (AreInRange (items_view items.items)) }
+    ensures kept { Extends out.old.items out.new.items }
+{
+    for item in items {
+        put_owned(out, item)?;
+    }
+    Ok(())
+}
+
+#[cycle(put_owned)]
+fn put_owned_pairs(out: &mut Vec<u8>, pairs: Vec<(Value, Value)>) -> Result<(), AllocError>
+    ensures ok { OnOk result (out.new.items ≡ out.old.items
+        ++ least_pair_encodings (pairs_view pairs.items)) }
+    ensures in_range { OnOk result (ArePairsInRange (pairs_view pairs.items)) }
+    ensures kept { Extends out.old.items out.new.items }
+{
+    for (key, value) in pairs {
+        put_owned(out, key)?;
+        put_owned(out, value)?;
     }
     Ok(())
 }

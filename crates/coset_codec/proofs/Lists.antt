@@ -70,10 +70,6 @@ yields-more steps s t u (y ∷ ys) x p h = (p.0, p.1, yields-more steps p.0 t u 
 pub view-Array : (vs : Vec Value Global) → view (Array vs) ≡ array (items_view vs.items)
 view-Array vs = search (rules, the_lemmas)
 
--- one more of what is yielded, one less of what is left
-pub moved : {A : Type 0} (ys : List A) (x : A) (old new all : List A) → ys ++ old ≡ all → old ≡ x ∷ new → (ys ++ x ∷ []) ++ new ≡ all
-moved ys x old new all p q = append_assoc ys (x ∷ []) new ∙ (ap (λ zs. ys ++ zs) (sym q) ∙ p)
-
 -- the first of a list, where there is one
 pub begins_with : {A : Type 0} (xs : List A) (x : A) → slice_get xs 0 ≡ Some x → (ys : List A) × (xs ≡ x ∷ ys)
 begins_with [] x e = absurd (none-some x e)

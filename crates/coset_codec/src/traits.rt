@@ -17,7 +17,7 @@ use crate::read::{Input, ItemSource};
 use crate::util::{ValueTryAs, pull_type_error};
 use coset_cbor::de::Pull;
 use coset_cbor::laws;
-use coset_cbor::ser::write_value;
+use coset_cbor::ser::write_owned_value;
 use coset_cbor::value::Value;
 use std::alloc::Global;
 
@@ -82,11 +82,11 @@ fn whole_value(alloc: Global, s: &[u8]) -> Result<Value>
 }
 
 /// The shortest encoding of an item (RFC 8949, section 4.2.1).
-fn encoding_of(alloc: Global, value: &Value) -> Result<Vec<u8>>
-    ensures { Writes (Some (view value.now)) (λ b. b.items) result }
+fn encoding_of(alloc: Global, value: Value) -> Result<Vec<u8>>
+    ensures { Writes (Some (view value)) (λ b. b.items) result }
 {
     let mut encoded = Vec::new(alloc);
-    write_value(value, &mut encoded)?;
+    write_owned_value(value, &mut encoded)?;
     Ok(encoded)
 }
 
@@ -113,8 +113,7 @@ pub trait CborSerializable: AsCborValue {
     fn to_vec(self, alloc: Global) -> Result<Vec<u8>>
         ensures { Writes (Self.shape.image (Self.seen self)) (λ b. b.items) result }
     {
-        let value = self.to_cbor_value(alloc)?;
-        encoding_of(alloc, &value)
+        encoding_of(alloc, self.to_cbor_value(alloc)?)
     }
 }
 
@@ -190,7 +189,7 @@ pub trait TaggedCborSerializable: AsCborValue {
         ensures { Writes ((tagged TAG Self.shape).image (Self.seen self)) (λ b. b.items) result }
     {
         let value = self.to_cbor_value(alloc)?;
-        encoding_of(alloc, &Value::Tag(Self::TAG, Box::new(alloc, value)?))
+        encoding_of(alloc, Value::Tag(Self::TAG, Box::new(alloc, value)?))
     }
 }
 

@@ -17,6 +17,7 @@ use std::alloc::Global;
 pub fn call(alloc: Global, name: &str, words: &Words<'_>) -> Result<String> {
     match name {
         "write_value" => write_value(alloc, words),
+        "write_owned_value" => write_owned_value(alloc, words),
         "write_array_head" => write_array_head(alloc, words),
         "write_map_head" => write_map_head(alloc, words),
         "write_tag_head" => write_tag_head(alloc, words),
@@ -33,6 +34,16 @@ fn write_value(alloc: Global, words: &Words<'_>) -> Result<String> {
     let value = spelled::item(alloc, words.word(2))?;
     mark::begin(alloc);
     let answer = ser::write_value(&value, &mut out);
+    mark::end(alloc);
+    told(alloc, answer, &out)
+}
+
+/// A value, which is gone then.
+fn write_owned_value(alloc: Global, words: &Words<'_>) -> Result<String> {
+    let mut out = words.bytes(alloc, 1)?;
+    let value = spelled::item(alloc, words.word(2))?;
+    mark::begin(alloc);
+    let answer = ser::write_owned_value(value, &mut out);
     mark::end(alloc);
     told(alloc, answer, &out)
 }

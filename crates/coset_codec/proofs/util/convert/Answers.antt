@@ -1,4 +1,5 @@
-use Rattle.coset_codec.proofs.Lists.{with-more, moved}
+use Rattle.coset_cbor.proofs.Kept.{moved}
+use Rattle.coset_codec.proofs.Lists.{with-more}
 use Rattle.coset_codec.proofs.util.convert.Goals as goal
 
 pub loop-value-preserved : goal.loop-value-preserved

@@ -4,7 +4,8 @@ use Rattle.coset_codec.specs.Answers.{DescribesNothing, SliceFaults}
 use Rattle.coset_codec.specs.Errors.{UnlessMemory}
 use Rattle.coset_codec.specs.Lists.{EachWith}
 use Rattle.coset_codec.specs.declared.error.CoseError.{CoseError}
-use Rattle.coset_codec.proofs.Lists.{moved, on_err, with-more}
+use Rattle.coset_cbor.proofs.Kept.{moved}
+use Rattle.coset_codec.proofs.Lists.{on_err, with-more}
 use Rattle.coset_key.specs.Keys.{KeySeen, key_seen, key_set}
 use Rattle.coset_uses.specs.KeySets.{IsHeldOf}
 use Rattle.coset_uses.proofs.KeySets.{all_yielded, each-mapped, refused_for_memory}

@@ -4,7 +4,7 @@ use Rattle.coset_cbor.specs.Least.{least_head}
 use Rattle.coset_codec.specs.Encoding.{AppendsElements}
 use Rattle.coset_codec.specs.Shape.{images}
 use Rattle.coset_codec.proofs.Encoding.{member-put, array-put, nothing-put}
-use Rattle.coset_codec.proofs.Lists.{moved}
+use Rattle.coset_cbor.proofs.Kept.{moved}
 use Rattle.coset_key.specs.Keys.{operation, operation_seen}
 use Rattle.coset_key.proofs.key_ops.KeyOpsEncode.encode.Goals as goal
 
