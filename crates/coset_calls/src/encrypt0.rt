@@ -14,10 +14,10 @@ use std::alloc::Global;
 /// What it is given can't be made of the words, or the name isn't known.
 pub fn call(alloc: Global, name: &str, words: &Words<'_>) -> Result<String> {
     match name {
-        "decrypt" => decrypt(alloc, words),
-        "decrypt_ciphertext" => decrypt_ciphertext(alloc, words),
-        "decrypt_detached" => decrypt_detached(alloc, words),
-        "aad" => aad(alloc, words),
+        "decrypt" => decrypt(alloc, words, &message(alloc, words, 2, 5)?),
+        "decrypt_ciphertext" => decrypt_ciphertext(alloc, words, &message(alloc, words, 2, 5)?),
+        "decrypt_detached" => decrypt_detached(alloc, words, &message(alloc, words, 2, 6)?),
+        "aad" => aad(alloc, words, &message(alloc, words, 1, 3)?),
         "create_ciphertext" => create_ciphertext(alloc, words),
         "try_create_ciphertext" => try_create_ciphertext(alloc, words),
         "create_detached_ciphertext" => create_detached_ciphertext(alloc, words),
@@ -36,8 +36,7 @@ fn message(alloc: Global, words: &Words<'_>, place: usize, header: usize) -> Res
 }
 
 /// `yes` or `no`; the message; `external_aad`; the plaintext that the closure makes; what becomes of the header.
-fn decrypt(alloc: Global, words: &Words<'_>) -> Result<String> {
-    let message = message(alloc, words, 2, 5)?;
+fn decrypt(alloc: Global, words: &Words<'_>, message: &CoseEncrypt0) -> Result<String> {
     let external_aad = words.bytes(alloc, 3)?;
     let mut asked = Asked::making(alloc, words.made(alloc, 1, 4)?)?;
     let count = &mut asked;
@@ -53,8 +52,7 @@ fn decrypt(alloc: Global, words: &Words<'_>) -> Result<String> {
 }
 
 /// As above, for a message whose ciphertext may be missing.
-fn decrypt_ciphertext(alloc: Global, words: &Words<'_>) -> Result<String> {
-    let message = message(alloc, words, 2, 5)?;
+fn decrypt_ciphertext(alloc: Global, words: &Words<'_>, message: &CoseEncrypt0) -> Result<String> {
     let external_aad = words.bytes(alloc, 3)?;
     let mut asked = Asked::making(alloc, words.made(alloc, 1, 4)?)?;
     let mut missed = 0u32;
@@ -76,8 +74,7 @@ fn decrypt_ciphertext(alloc: Global, words: &Words<'_>) -> Result<String> {
 
 /// `yes` or `no`; the message; the detached ciphertext; `external_aad`; the plaintext that the closure makes;
 /// what becomes of the header.
-fn decrypt_detached(alloc: Global, words: &Words<'_>) -> Result<String> {
-    let message = message(alloc, words, 2, 6)?;
+fn decrypt_detached(alloc: Global, words: &Words<'_>, message: &CoseEncrypt0) -> Result<String> {
     let ciphertext = words.bytes(alloc, 3)?;
     let external_aad = words.bytes(alloc, 4)?;
     let mut asked = Asked::making(alloc, words.made(alloc, 1, 5)?)?;
@@ -94,8 +91,7 @@ fn decrypt_detached(alloc: Global, words: &Words<'_>) -> Result<String> {
 }
 
 /// The message; `external_aad`; what becomes of the header.
-fn aad(alloc: Global, words: &Words<'_>) -> Result<String> {
-    let message = message(alloc, words, 1, 3)?;
+fn aad(alloc: Global, words: &Words<'_>, message: &CoseEncrypt0) -> Result<String> {
     let external_aad = words.bytes(alloc, 2)?;
     mark::begin(alloc);
     let answer = message.aad(alloc, &external_aad);
@@ -117,10 +113,10 @@ fn with_headers(alloc: Global, message: CoseEncrypt0) -> CoseEncrypt0Builder {
 
 /// The message; the plaintext; `external_aad`; the ciphertext that the closure makes; what becomes of the header.
 fn create_ciphertext(alloc: Global, words: &Words<'_>) -> Result<String> {
-    let builder = with_headers(alloc, message(alloc, words, 1, 5)?);
     let plaintext = words.bytes(alloc, 2)?;
     let external_aad = words.bytes(alloc, 3)?;
     let mut asked = Asked::making(alloc, Some(words.bytes(alloc, 4)?))?;
+    let builder = with_headers(alloc, message(alloc, words, 1, 5)?);
     let count = &mut asked;
     mark::begin(alloc);
     let answer = builder.create_ciphertext(
@@ -135,10 +131,10 @@ fn create_ciphertext(alloc: Global, words: &Words<'_>) -> Result<String> {
 
 /// `yes` or `no`, and the same.
 fn try_create_ciphertext(alloc: Global, words: &Words<'_>) -> Result<String> {
-    let builder = with_headers(alloc, message(alloc, words, 2, 6)?);
     let plaintext = words.bytes(alloc, 3)?;
     let external_aad = words.bytes(alloc, 4)?;
     let mut asked = Asked::making(alloc, words.made(alloc, 1, 5)?)?;
+    let builder = with_headers(alloc, message(alloc, words, 2, 6)?);
     let count = &mut asked;
     mark::begin(alloc);
     let answer = builder.try_create_ciphertext(
@@ -154,10 +150,10 @@ fn try_create_ciphertext(alloc: Global, words: &Words<'_>) -> Result<String> {
 /// The message; the plaintext; `external_aad`; the ciphertext that the closure makes; what becomes of the header. It is
 /// told what the call answers: the ciphertext, which isn't put into the message.
 fn create_detached_ciphertext(alloc: Global, words: &Words<'_>) -> Result<String> {
-    let builder = with_headers(alloc, message(alloc, words, 1, 5)?);
     let plaintext = words.bytes(alloc, 2)?;
     let external_aad = words.bytes(alloc, 3)?;
     let mut asked = Asked::making(alloc, Some(words.bytes(alloc, 4)?))?;
+    let builder = with_headers(alloc, message(alloc, words, 1, 5)?);
     let count = &mut asked;
     mark::begin(alloc);
     let answer = builder.create_detached_ciphertext(
@@ -172,10 +168,10 @@ fn create_detached_ciphertext(alloc: Global, words: &Words<'_>) -> Result<String
 
 /// `yes` or `no`, and the same.
 fn try_create_detached_ciphertext(alloc: Global, words: &Words<'_>) -> Result<String> {
-    let builder = with_headers(alloc, message(alloc, words, 2, 6)?);
     let plaintext = words.bytes(alloc, 3)?;
     let external_aad = words.bytes(alloc, 4)?;
     let mut asked = Asked::making(alloc, words.made(alloc, 1, 5)?)?;
+    let builder = with_headers(alloc, message(alloc, words, 2, 6)?);
     let count = &mut asked;
     mark::begin(alloc);
     let answer = builder.try_create_detached_ciphertext(

@@ -14,11 +14,11 @@ use std::alloc::Global;
 /// What it is given can't be made of the words, or the name isn't known.
 pub fn call(alloc: Global, name: &str, words: &Words<'_>) -> Result<String> {
     match name {
-        "verify_tag" => verify_tag(alloc, words),
-        "verify_payload_tag" => verify_payload_tag(alloc, words),
-        "verify_detached_tag" => verify_detached_tag(alloc, words),
-        "tbm" => tbm(alloc, words),
-        "tbm_detached" => tbm_detached(alloc, words),
+        "verify_tag" => verify_tag(alloc, words, &message(alloc, words, 2, 4)?),
+        "verify_payload_tag" => verify_payload_tag(alloc, words, &message(alloc, words, 2, 4)?),
+        "verify_detached_tag" => verify_detached_tag(alloc, words, &message(alloc, words, 2, 5)?),
+        "tbm" => tbm(alloc, words, &message(alloc, words, 1, 3)?),
+        "tbm_detached" => tbm_detached(alloc, words, &message(alloc, words, 1, 4)?),
         "create_tag" => create_tag(alloc, words),
         "try_create_tag" => try_create_tag(alloc, words),
         "create_detached_tag" => create_detached_tag(alloc, words),
@@ -43,9 +43,8 @@ fn no_payload() -> CoseError {
 }
 
 /// `yes` or `no`; the message; `external_aad`; what becomes of the header.
-fn verify_tag(alloc: Global, words: &Words<'_>) -> Result<String> {
+fn verify_tag(alloc: Global, words: &Words<'_>, message: &CoseMac) -> Result<String> {
     let says_yes = words.says_yes(1)?;
-    let message = message(alloc, words, 2, 4)?;
     let external_aad = words.bytes(alloc, 3)?;
     let mut asked = Asked::new(alloc)?;
     let count = &mut asked;
@@ -61,9 +60,8 @@ fn verify_tag(alloc: Global, words: &Words<'_>) -> Result<String> {
 }
 
 /// As above, for a message whose payload may be missing.
-fn verify_payload_tag(alloc: Global, words: &Words<'_>) -> Result<String> {
+fn verify_payload_tag(alloc: Global, words: &Words<'_>, message: &CoseMac) -> Result<String> {
     let says_yes = words.says_yes(1)?;
-    let message = message(alloc, words, 2, 4)?;
     let external_aad = words.bytes(alloc, 3)?;
     let mut asked = Asked::new(alloc)?;
     let mut missed = 0u32;
@@ -84,9 +82,8 @@ fn verify_payload_tag(alloc: Global, words: &Words<'_>) -> Result<String> {
 }
 
 /// `yes` or `no`; the message; the detached payload; `external_aad`; what becomes of the header.
-fn verify_detached_tag(alloc: Global, words: &Words<'_>) -> Result<String> {
+fn verify_detached_tag(alloc: Global, words: &Words<'_>, message: &CoseMac) -> Result<String> {
     let says_yes = words.says_yes(1)?;
-    let message = message(alloc, words, 2, 5)?;
     let payload = words.bytes(alloc, 3)?;
     let external_aad = words.bytes(alloc, 4)?;
     let mut asked = Asked::new(alloc)?;
@@ -100,8 +97,7 @@ fn verify_detached_tag(alloc: Global, words: &Words<'_>) -> Result<String> {
 }
 
 /// The message; `external_aad`; what becomes of the header.
-fn tbm(alloc: Global, words: &Words<'_>) -> Result<String> {
-    let message = message(alloc, words, 1, 3)?;
+fn tbm(alloc: Global, words: &Words<'_>, message: &CoseMac) -> Result<String> {
     let external_aad = words.bytes(alloc, 2)?;
     mark::begin(alloc);
     let answer = message.tbm(alloc, &external_aad);
@@ -110,8 +106,7 @@ fn tbm(alloc: Global, words: &Words<'_>) -> Result<String> {
 }
 
 /// The message; the detached payload; `external_aad`; what becomes of the header.
-fn tbm_detached(alloc: Global, words: &Words<'_>) -> Result<String> {
-    let message = message(alloc, words, 1, 4)?;
+fn tbm_detached(alloc: Global, words: &Words<'_>, message: &CoseMac) -> Result<String> {
     let payload = words.bytes(alloc, 2)?;
     let external_aad = words.bytes(alloc, 3)?;
     mark::begin(alloc);
@@ -140,13 +135,13 @@ fn filled(alloc: Global, message: CoseMac) -> Result<CoseMacBuilder> {
 
 /// The message; `external_aad`; the tag that the closure makes; what becomes of the header.
 fn create_tag(alloc: Global, words: &Words<'_>) -> Result<String> {
+    let external_aad = words.bytes(alloc, 2)?;
+    let mut asked = Asked::making(alloc, Some(words.bytes(alloc, 3)?))?;
     let mut message = message(alloc, words, 1, 4)?;
     let Some(payload) = message.payload.take() else {
         return Err(no_payload());
     };
     let builder = filled(alloc, message)?.payload(payload);
-    let external_aad = words.bytes(alloc, 2)?;
-    let mut asked = Asked::making(alloc, Some(words.bytes(alloc, 3)?))?;
     let count = &mut asked;
     mark::begin(alloc);
     let answer = builder.create_tag(alloc, &external_aad, move |tbm| { count.make(&[], tbm) });
@@ -156,13 +151,13 @@ fn create_tag(alloc: Global, words: &Words<'_>) -> Result<String> {
 
 /// `yes` or `no`, and the same.
 fn try_create_tag(alloc: Global, words: &Words<'_>) -> Result<String> {
+    let external_aad = words.bytes(alloc, 3)?;
+    let mut asked = Asked::making(alloc, words.made(alloc, 1, 4)?)?;
     let mut message = message(alloc, words, 2, 5)?;
     let Some(payload) = message.payload.take() else {
         return Err(no_payload());
     };
     let builder = filled(alloc, message)?.payload(payload);
-    let external_aad = words.bytes(alloc, 3)?;
-    let mut asked = Asked::making(alloc, words.made(alloc, 1, 4)?)?;
     let count = &mut asked;
     mark::begin(alloc);
     let answer = builder.try_create_tag(alloc, &external_aad, move |tbm| {
@@ -188,10 +183,10 @@ fn with_payload(alloc: Global, mut message: CoseMac) -> Result<CoseMacBuilder> {
 /// The message; the detached payload; `external_aad`; the tag that the closure makes; what becomes of the
 /// header.
 fn create_detached_tag(alloc: Global, words: &Words<'_>) -> Result<String> {
-    let builder = with_payload(alloc, message(alloc, words, 1, 5)?)?;
     let payload = words.bytes(alloc, 2)?;
     let external_aad = words.bytes(alloc, 3)?;
     let mut asked = Asked::making(alloc, Some(words.bytes(alloc, 4)?))?;
+    let builder = with_payload(alloc, message(alloc, words, 1, 5)?)?;
     let count = &mut asked;
     mark::begin(alloc);
     let answer = builder.create_detached_tag(alloc, &payload, &external_aad, move |tbm| {
@@ -203,10 +198,10 @@ fn create_detached_tag(alloc: Global, words: &Words<'_>) -> Result<String> {
 
 /// `yes` or `no`, and the same.
 fn try_create_detached_tag(alloc: Global, words: &Words<'_>) -> Result<String> {
-    let builder = with_payload(alloc, message(alloc, words, 2, 6)?)?;
     let payload = words.bytes(alloc, 3)?;
     let external_aad = words.bytes(alloc, 4)?;
     let mut asked = Asked::making(alloc, words.made(alloc, 1, 5)?)?;
+    let builder = with_payload(alloc, message(alloc, words, 2, 6)?)?;
     let count = &mut asked;
     mark::begin(alloc);
     let answer = builder.try_create_detached_tag(alloc, &payload, &external_aad, move |tbm| {

@@ -14,11 +14,11 @@ use std::alloc::Global;
 /// What it is given can't be made of the words, or the name isn't known.
 pub fn call(alloc: Global, name: &str, words: &Words<'_>) -> Result<String> {
     match name {
-        "verify_tag" => verify_tag(alloc, words),
-        "verify_payload_tag" => verify_payload_tag(alloc, words),
-        "verify_detached_tag" => verify_detached_tag(alloc, words),
-        "tbm" => tbm(alloc, words),
-        "tbm_detached" => tbm_detached(alloc, words),
+        "verify_tag" => verify_tag(alloc, words, &message(alloc, words, 2, 4)?),
+        "verify_payload_tag" => verify_payload_tag(alloc, words, &message(alloc, words, 2, 4)?),
+        "verify_detached_tag" => verify_detached_tag(alloc, words, &message(alloc, words, 2, 5)?),
+        "tbm" => tbm(alloc, words, &message(alloc, words, 1, 3)?),
+        "tbm_detached" => tbm_detached(alloc, words, &message(alloc, words, 1, 4)?),
         "create_tag" => create_tag(alloc, words),
         "try_create_tag" => try_create_tag(alloc, words),
         "create_detached_tag" => create_detached_tag(alloc, words),
@@ -42,9 +42,8 @@ fn no_payload() -> CoseError {
 }
 
 /// `yes` or `no`; the message; `external_aad`; what becomes of the header.
-fn verify_tag(alloc: Global, words: &Words<'_>) -> Result<String> {
+fn verify_tag(alloc: Global, words: &Words<'_>, message: &CoseMac0) -> Result<String> {
     let says_yes = words.says_yes(1)?;
-    let message = message(alloc, words, 2, 4)?;
     let external_aad = words.bytes(alloc, 3)?;
     let mut asked = Asked::new(alloc)?;
     let count = &mut asked;
@@ -60,9 +59,8 @@ fn verify_tag(alloc: Global, words: &Words<'_>) -> Result<String> {
 }
 
 /// As above, for a message whose payload may be missing.
-fn verify_payload_tag(alloc: Global, words: &Words<'_>) -> Result<String> {
+fn verify_payload_tag(alloc: Global, words: &Words<'_>, message: &CoseMac0) -> Result<String> {
     let says_yes = words.says_yes(1)?;
-    let message = message(alloc, words, 2, 4)?;
     let external_aad = words.bytes(alloc, 3)?;
     let mut asked = Asked::new(alloc)?;
     let mut missed = 0u32;
@@ -83,9 +81,8 @@ fn verify_payload_tag(alloc: Global, words: &Words<'_>) -> Result<String> {
 }
 
 /// `yes` or `no`; the message; the detached payload; `external_aad`; what becomes of the header.
-fn verify_detached_tag(alloc: Global, words: &Words<'_>) -> Result<String> {
+fn verify_detached_tag(alloc: Global, words: &Words<'_>, message: &CoseMac0) -> Result<String> {
     let says_yes = words.says_yes(1)?;
-    let message = message(alloc, words, 2, 5)?;
     let payload = words.bytes(alloc, 3)?;
     let external_aad = words.bytes(alloc, 4)?;
     let mut asked = Asked::new(alloc)?;
@@ -99,8 +96,7 @@ fn verify_detached_tag(alloc: Global, words: &Words<'_>) -> Result<String> {
 }
 
 /// The message; `external_aad`; what becomes of the header.
-fn tbm(alloc: Global, words: &Words<'_>) -> Result<String> {
-    let message = message(alloc, words, 1, 3)?;
+fn tbm(alloc: Global, words: &Words<'_>, message: &CoseMac0) -> Result<String> {
     let external_aad = words.bytes(alloc, 2)?;
     mark::begin(alloc);
     let answer = message.tbm(alloc, &external_aad);
@@ -109,8 +105,7 @@ fn tbm(alloc: Global, words: &Words<'_>) -> Result<String> {
 }
 
 /// The message; the detached payload; `external_aad`; what becomes of the header.
-fn tbm_detached(alloc: Global, words: &Words<'_>) -> Result<String> {
-    let message = message(alloc, words, 1, 4)?;
+fn tbm_detached(alloc: Global, words: &Words<'_>, message: &CoseMac0) -> Result<String> {
     let payload = words.bytes(alloc, 2)?;
     let external_aad = words.bytes(alloc, 3)?;
     mark::begin(alloc);
@@ -121,6 +116,7 @@ fn tbm_detached(alloc: Global, words: &Words<'_>) -> Result<String> {
 
 /// The message; `external_aad`; the tag that the closure makes; what becomes of the header.
 fn create_tag(alloc: Global, words: &Words<'_>) -> Result<String> {
+    let mut asked = Asked::making(alloc, Some(words.bytes(alloc, 3)?))?;
     let CoseMac0 {
         protected,
         unprotected,
@@ -135,7 +131,6 @@ fn create_tag(alloc: Global, words: &Words<'_>) -> Result<String> {
         .unprotected(unprotected)
         .payload(payload);
     let external_aad = words.bytes(alloc, 2)?;
-    let mut asked = Asked::making(alloc, Some(words.bytes(alloc, 3)?))?;
     let count = &mut asked;
     mark::begin(alloc);
     let answer = builder.create_tag(alloc, &external_aad, move |tbm| { count.make(&[], tbm) });
@@ -145,6 +140,7 @@ fn create_tag(alloc: Global, words: &Words<'_>) -> Result<String> {
 
 /// `yes` or `no`, and the same.
 fn try_create_tag(alloc: Global, words: &Words<'_>) -> Result<String> {
+    let mut asked = Asked::making(alloc, words.made(alloc, 1, 4)?)?;
     let CoseMac0 {
         protected,
         unprotected,
@@ -159,7 +155,6 @@ fn try_create_tag(alloc: Global, words: &Words<'_>) -> Result<String> {
         .unprotected(unprotected)
         .payload(payload);
     let external_aad = words.bytes(alloc, 3)?;
-    let mut asked = Asked::making(alloc, words.made(alloc, 1, 4)?)?;
     let count = &mut asked;
     mark::begin(alloc);
     let answer = builder.try_create_tag(alloc, &external_aad, move |tbm| {
@@ -189,10 +184,10 @@ fn with_payload(alloc: Global, message: CoseMac0) -> CoseMac0Builder {
 /// The message; the detached payload; `external_aad`; the tag that the closure makes; what becomes of the
 /// header.
 fn create_detached_tag(alloc: Global, words: &Words<'_>) -> Result<String> {
-    let builder = with_payload(alloc, message(alloc, words, 1, 5)?);
     let payload = words.bytes(alloc, 2)?;
     let external_aad = words.bytes(alloc, 3)?;
     let mut asked = Asked::making(alloc, Some(words.bytes(alloc, 4)?))?;
+    let builder = with_payload(alloc, message(alloc, words, 1, 5)?);
     let count = &mut asked;
     mark::begin(alloc);
     let answer = builder.create_detached_tag(alloc, &payload, &external_aad, move |tbm| {
@@ -204,10 +199,10 @@ fn create_detached_tag(alloc: Global, words: &Words<'_>) -> Result<String> {
 
 /// `yes` or `no`, and the same.
 fn try_create_detached_tag(alloc: Global, words: &Words<'_>) -> Result<String> {
-    let builder = with_payload(alloc, message(alloc, words, 2, 6)?);
     let payload = words.bytes(alloc, 3)?;
     let external_aad = words.bytes(alloc, 4)?;
     let mut asked = Asked::making(alloc, words.made(alloc, 1, 5)?)?;
+    let builder = with_payload(alloc, message(alloc, words, 2, 6)?);
     let count = &mut asked;
     mark::begin(alloc);
     let answer = builder.try_create_detached_tag(alloc, &payload, &external_aad, move |tbm| {

@@ -16,9 +16,9 @@ use std::alloc::Global;
 /// What it is given can't be made of the words, or the name isn't known.
 pub fn call(alloc: Global, name: &str, words: &Words<'_>) -> Result<String> {
     match name {
-        "decrypt" => decrypt(alloc, words),
-        "decrypt_ciphertext" => decrypt_ciphertext(alloc, words),
-        "aad" => aad(alloc, words),
+        "decrypt" => decrypt(alloc, words, &recipient(alloc, words, 2, 6)?),
+        "decrypt_ciphertext" => decrypt_ciphertext(alloc, words, &recipient(alloc, words, 2, 6)?),
+        "aad" => aad(alloc, words, &recipient(alloc, words, 1, 4)?),
         "create_ciphertext" => create_ciphertext(alloc, words),
         "try_create_ciphertext" => try_create_ciphertext(alloc, words),
         "add_recipient" => add_recipient(alloc, words),
@@ -63,8 +63,7 @@ fn recipient(
 
 /// `yes` or `no`; the recipient; the context; `external_aad`; the plaintext that the closure makes; what becomes of
 /// the header.
-fn decrypt(alloc: Global, words: &Words<'_>) -> Result<String> {
-    let recipient = recipient(alloc, words, 2, 6)?;
+fn decrypt(alloc: Global, words: &Words<'_>, recipient: &CoseRecipient) -> Result<String> {
     let context = recipient_context(words.word(3))?;
     let external_aad = words.bytes(alloc, 4)?;
     let mut asked = Asked::making(alloc, words.made(alloc, 1, 5)?)?;
@@ -84,8 +83,11 @@ fn decrypt(alloc: Global, words: &Words<'_>) -> Result<String> {
 }
 
 /// As above, for a recipient whose ciphertext may be missing.
-fn decrypt_ciphertext(alloc: Global, words: &Words<'_>) -> Result<String> {
-    let recipient = recipient(alloc, words, 2, 6)?;
+fn decrypt_ciphertext(
+    alloc: Global,
+    words: &Words<'_>,
+    recipient: &CoseRecipient,
+) -> Result<String> {
     let context = recipient_context(words.word(3))?;
     let external_aad = words.bytes(alloc, 4)?;
     let mut asked = Asked::making(alloc, words.made(alloc, 1, 5)?)?;
@@ -108,8 +110,7 @@ fn decrypt_ciphertext(alloc: Global, words: &Words<'_>) -> Result<String> {
 }
 
 /// The recipient; the context, whatever it is of; `external_aad`; what becomes of the header.
-fn aad(alloc: Global, words: &Words<'_>) -> Result<String> {
-    let recipient = recipient(alloc, words, 1, 4)?;
+fn aad(alloc: Global, words: &Words<'_>, recipient: &CoseRecipient) -> Result<String> {
     let context = any_context(words.word(2))?;
     let external_aad = words.bytes(alloc, 3)?;
     mark::begin(alloc);
@@ -138,11 +139,11 @@ fn filled(alloc: Global, recipient: CoseRecipient) -> Result<CoseRecipientBuilde
 /// The recipient; the context; the plaintext; `external_aad`; the ciphertext that the closure makes; what becomes of
 /// the header.
 fn create_ciphertext(alloc: Global, words: &Words<'_>) -> Result<String> {
-    let builder = filled(alloc, recipient(alloc, words, 1, 6)?)?;
     let context = recipient_context(words.word(2))?;
     let plaintext = words.bytes(alloc, 3)?;
     let external_aad = words.bytes(alloc, 4)?;
     let mut asked = Asked::making(alloc, Some(words.bytes(alloc, 5)?))?;
+    let builder = filled(alloc, recipient(alloc, words, 1, 6)?)?;
     let count = &mut asked;
     mark::begin(alloc);
     let answer = builder.create_ciphertext(
@@ -158,11 +159,11 @@ fn create_ciphertext(alloc: Global, words: &Words<'_>) -> Result<String> {
 
 /// `yes` or `no`, and the same.
 fn try_create_ciphertext(alloc: Global, words: &Words<'_>) -> Result<String> {
-    let builder = filled(alloc, recipient(alloc, words, 2, 7)?)?;
     let context = recipient_context(words.word(3))?;
     let plaintext = words.bytes(alloc, 4)?;
     let external_aad = words.bytes(alloc, 5)?;
     let mut asked = Asked::making(alloc, words.made(alloc, 1, 6)?)?;
+    let builder = filled(alloc, recipient(alloc, words, 2, 7)?)?;
     let count = &mut asked;
     mark::begin(alloc);
     let answer = builder.try_create_ciphertext(

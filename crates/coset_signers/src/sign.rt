@@ -165,10 +165,10 @@ fn add_signature(alloc: Global, words: &Words<'_>) -> Result<String> {
 /// The message; a signature to be; `external_aad`; what the closure makes; what becomes of the message's header, and
 /// of the signature's.
 fn add_created_signature(alloc: Global, words: &Words<'_>) -> Result<String> {
-    let builder = filled(alloc, message(alloc, words, 1, 5)?)?;
-    let signature = signature(alloc, words, 2, 6)?;
     let external_aad = words.bytes(alloc, 3)?;
     let mut asked = Asked::making(alloc, Some(words.bytes(alloc, 4)?))?;
+    let signature = signature(alloc, words, 2, 6)?;
+    let builder = filled(alloc, message(alloc, words, 1, 5)?)?;
     let count = &mut asked;
     mark::begin(alloc);
     let answer = builder.add_created_signature(alloc, signature, &external_aad, move |tbs| {
@@ -180,10 +180,10 @@ fn add_created_signature(alloc: Global, words: &Words<'_>) -> Result<String> {
 
 /// `yes` or `no`, and the same.
 fn try_add_created_signature(alloc: Global, words: &Words<'_>) -> Result<String> {
-    let builder = filled(alloc, message(alloc, words, 2, 6)?)?;
-    let signature = signature(alloc, words, 3, 7)?;
     let external_aad = words.bytes(alloc, 4)?;
     let mut asked = Asked::making(alloc, words.made(alloc, 1, 5)?)?;
+    let signature = signature(alloc, words, 3, 7)?;
+    let builder = filled(alloc, message(alloc, words, 2, 6)?)?;
     let count = &mut asked;
     mark::begin(alloc);
     let answer = builder.try_add_created_signature(alloc, signature, &external_aad, move |tbs| {
@@ -196,6 +196,9 @@ fn try_add_created_signature(alloc: Global, words: &Words<'_>) -> Result<String>
 /// The message, of which the headers alone count; a signature to be; the payload; `external_aad`; what the closure
 /// makes; what becomes of the message's header, and of the signature's.
 fn add_detached_signature(alloc: Global, words: &Words<'_>) -> Result<String> {
+    let payload = words.bytes(alloc, 3)?;
+    let external_aad = words.bytes(alloc, 4)?;
+    let mut asked = Asked::making(alloc, Some(words.bytes(alloc, 5)?))?;
     let CoseSign {
         protected,
         unprotected,
@@ -206,9 +209,6 @@ fn add_detached_signature(alloc: Global, words: &Words<'_>) -> Result<String> {
         .protected(protected.header)
         .unprotected(unprotected);
     let signature = signature(alloc, words, 2, 7)?;
-    let payload = words.bytes(alloc, 3)?;
-    let external_aad = words.bytes(alloc, 4)?;
-    let mut asked = Asked::making(alloc, Some(words.bytes(alloc, 5)?))?;
     let count = &mut asked;
     mark::begin(alloc);
     let answer = builder.add_detached_signature(
@@ -224,6 +224,9 @@ fn add_detached_signature(alloc: Global, words: &Words<'_>) -> Result<String> {
 
 /// `yes` or `no`, and the same.
 fn try_add_detached_signature(alloc: Global, words: &Words<'_>) -> Result<String> {
+    let payload = words.bytes(alloc, 4)?;
+    let external_aad = words.bytes(alloc, 5)?;
+    let mut asked = Asked::making(alloc, words.made(alloc, 1, 6)?)?;
     let CoseSign {
         protected,
         unprotected,
@@ -234,9 +237,6 @@ fn try_add_detached_signature(alloc: Global, words: &Words<'_>) -> Result<String
         .protected(protected.header)
         .unprotected(unprotected);
     let signature = signature(alloc, words, 3, 8)?;
-    let payload = words.bytes(alloc, 4)?;
-    let external_aad = words.bytes(alloc, 5)?;
-    let mut asked = Asked::making(alloc, words.made(alloc, 1, 6)?)?;
     let count = &mut asked;
     mark::begin(alloc);
     let answer = builder.try_add_detached_signature(

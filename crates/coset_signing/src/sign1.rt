@@ -13,9 +13,9 @@ use std::alloc::Global;
 /// What it is given can't be made of the words, or the name isn't known.
 pub fn call(alloc: Global, name: &str, words: &Words<'_>) -> Result<String> {
     match name {
-        "verify_signature" => verify_signature(alloc, words),
+        "verify_signature" => verify_signature(alloc, words, &message(alloc, words, 2, 4)?),
         "verify_detached_signature" => verify_detached_signature(alloc, words),
-        "tbs_data" => tbs_data(alloc, words),
+        "tbs_data" => tbs_data(alloc, words, &message(alloc, words, 1, 3)?),
         "tbs_detached_data" => tbs_detached_data(alloc, words),
         "create_signature" => create_signature(alloc, words),
         "try_create_signature" => try_create_signature(alloc, words),
@@ -35,9 +35,8 @@ fn message(alloc: Global, words: &Words<'_>, place: usize, header: usize) -> Res
 }
 
 /// `yes` or `no`; the message; `external_aad`; what becomes of the header.
-fn verify_signature(alloc: Global, words: &Words<'_>) -> Result<String> {
+fn verify_signature(alloc: Global, words: &Words<'_>, message: &CoseSign1) -> Result<String> {
     let says_yes = words.says_yes(1)?;
-    let message = message(alloc, words, 2, 4)?;
     let external_aad = words.bytes(alloc, 3)?;
     let mut asked = Asked::new(alloc)?;
     let count = &mut asked;
@@ -70,8 +69,7 @@ fn verify_detached_signature(alloc: Global, words: &Words<'_>) -> Result<String>
 }
 
 /// The message; `external_aad`; what becomes of the header.
-fn tbs_data(alloc: Global, words: &Words<'_>) -> Result<String> {
-    let message = message(alloc, words, 1, 3)?;
+fn tbs_data(alloc: Global, words: &Words<'_>, message: &CoseSign1) -> Result<String> {
     let external_aad = words.bytes(alloc, 2)?;
     mark::begin(alloc);
     let answer = message.tbs_data(alloc, &external_aad);
@@ -110,9 +108,9 @@ fn filled(alloc: Global, message: CoseSign1) -> CoseSign1Builder {
 
 /// The message; `external_aad`; the signature that the closure makes; what becomes of the header.
 fn create_signature(alloc: Global, words: &Words<'_>) -> Result<String> {
-    let builder = filled(alloc, message(alloc, words, 1, 4)?);
     let external_aad = words.bytes(alloc, 2)?;
     let mut asked = Asked::making(alloc, Some(words.bytes(alloc, 3)?))?;
+    let builder = filled(alloc, message(alloc, words, 1, 4)?);
     let count = &mut asked;
     mark::begin(alloc);
     let answer = builder.create_signature(alloc, &external_aad, move |tbs| {
@@ -124,9 +122,9 @@ fn create_signature(alloc: Global, words: &Words<'_>) -> Result<String> {
 
 /// `yes` or `no`; the message; `external_aad`; the signature that the closure makes; what becomes of the header.
 fn try_create_signature(alloc: Global, words: &Words<'_>) -> Result<String> {
-    let builder = filled(alloc, message(alloc, words, 2, 5)?);
     let external_aad = words.bytes(alloc, 3)?;
     let mut asked = Asked::making(alloc, words.made(alloc, 1, 4)?)?;
+    let builder = filled(alloc, message(alloc, words, 2, 5)?);
     let count = &mut asked;
     mark::begin(alloc);
     let answer = builder.try_create_signature(alloc, &external_aad, move |tbs| {
@@ -138,6 +136,8 @@ fn try_create_signature(alloc: Global, words: &Words<'_>) -> Result<String> {
 
 /// The message; its payload; `external_aad`; the signature that the closure makes; what becomes of the header.
 fn create_detached_signature(alloc: Global, words: &Words<'_>) -> Result<String> {
+    let external_aad = words.bytes(alloc, 3)?;
+    let mut asked = Asked::making(alloc, Some(words.bytes(alloc, 4)?))?;
     let CoseSign1 {
         protected,
         unprotected,
@@ -148,8 +148,6 @@ fn create_detached_signature(alloc: Global, words: &Words<'_>) -> Result<String>
         .protected(protected.header)
         .unprotected(unprotected);
     let payload = words.bytes(alloc, 2)?;
-    let external_aad = words.bytes(alloc, 3)?;
-    let mut asked = Asked::making(alloc, Some(words.bytes(alloc, 4)?))?;
     let count = &mut asked;
     mark::begin(alloc);
     let answer = builder.create_detached_signature(alloc, &payload, &external_aad, move |tbs| {
@@ -162,6 +160,8 @@ fn create_detached_signature(alloc: Global, words: &Words<'_>) -> Result<String>
 /// `yes` or `no`; the message; its payload; `external_aad`; the signature that the closure makes; what becomes of the
 /// header.
 fn try_create_detached_signature(alloc: Global, words: &Words<'_>) -> Result<String> {
+    let external_aad = words.bytes(alloc, 4)?;
+    let mut asked = Asked::making(alloc, words.made(alloc, 1, 5)?)?;
     let CoseSign1 {
         protected,
         unprotected,
@@ -172,8 +172,6 @@ fn try_create_detached_signature(alloc: Global, words: &Words<'_>) -> Result<Str
         .protected(protected.header)
         .unprotected(unprotected);
     let payload = words.bytes(alloc, 3)?;
-    let external_aad = words.bytes(alloc, 4)?;
-    let mut asked = Asked::making(alloc, words.made(alloc, 1, 5)?)?;
     let count = &mut asked;
     mark::begin(alloc);
     let answer = builder.try_create_detached_signature(
