@@ -22,6 +22,7 @@ pub use Rattle.coset_codec.specs.AsWritten
 pub use Rattle.coset_label.specs.Names
 pub use Rattle.coset_label.specs.Labels
 pub use Rattle.coset_label.specs.LabelLaws
+pub use Rattle.coset_label.specs.Views as LabelViews
 pub use Rattle.coset_core.specs.Fields
 pub use Rattle.coset_core.specs.Headers
 pub use Rattle.coset_core.specs.HeaderLaws

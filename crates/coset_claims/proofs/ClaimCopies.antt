@@ -1,7 +1,7 @@
 -- A copy of an option is seen as what it is a copy of, where that holds of what the two hold.
 use Rattle.std.proofs.Common.{◌≡◌, ℕ, List, [], ◌∷◌, Option, Some, None, option_map, refl, ap}
 use Rattle.std.specs.List.{AllZip}
-use Rattle.coset_core.proofs.Copies.{Copied}
+use Rattle.coset_label.proofs.Copies.{Copied}
 
 pub option_copied : {A B : Type 0} (f : A → B) (R : A → A → Type 0) → ((x y : A) → R x y → f y ≡ f x) → (o p : Option A) → Copied R o p
     → option_map f p ≡ option_map f o

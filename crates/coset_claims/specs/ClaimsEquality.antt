@@ -7,7 +7,7 @@ use Rattle.coset_value.specs.Same.{item_eq}
 use Rattle.coset_value.specs.SameLaws.{item_eq-decides}
 use Rattle.coset_label.specs.NameOrder.{registered_cmp-apart}
 use Rattle.coset_label.specs.Names.{RegisteredName}
-use Rattle.coset_core.specs.SameLaws.{IsEquality}
+use Rattle.coset_label.specs.Same.{IsEquality}
 use Rattle.coset_claims.specs.Claims.{ClaimsSeen, same_name}
 
 -- the same name, and the same item

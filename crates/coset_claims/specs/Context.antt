@@ -6,9 +6,9 @@ use Rattle.coset_iana.specs.declared.algorithms.Algorithm.TheVariants.{Reserved}
 use Rattle.coset_codec.specs.Shape.{Shape, mapped, both, bstr, array_of, ◌then◌, any_number}
 use Rattle.coset_codec.specs.ShapeLaws.{Lawful, mapped_laws, bstr_laws, array_of_laws, then_laws, any_number_laws}
 use Rattle.coset_label.specs.Names.{RegisteredName, assigned}
-use Rattle.coset_core.specs.Fields.{algorithm}
-use Rattle.coset_core.specs.FieldLaws.{algorithm_laws}
-use Rattle.coset_core.specs.Views.{algorithm_seen}
+use Rattle.coset_label.specs.Labels.{algorithm}
+use Rattle.coset_label.specs.LabelLaws.{algorithm_laws}
+use Rattle.coset_label.specs.Views.{algorithm_seen}
 use Rattle.coset_claims.specs.Party.{PartySeen, empty_party, party, party_laws, party_seen}
 use Rattle.coset_claims.specs.SuppPub.{SuppPubSeen, empty_supp_pub, supp_pub, supp_pub_laws, supp_pub_seen}
 use Rattle.coset_claims.specs.declared.context.CoseKdfContext.{CoseKdfContext}

@@ -7,8 +7,8 @@ use Rattle.std.specs.Cmp.Lexicographic.{pointwise, bytes_decides}
 use Rattle.std.proofs.Common.{ap, sym, true≢false}
 use Rattle.std.proofs.lemmas.Bool.Decides.{Decides-like, Decides-and}
 use Rattle.coset_codec.specs.Told.{Tells, bstr_told, options_told}
+use Rattle.coset_label.specs.Same.{IsEquality}
 use Rattle.coset_core.specs.Same.{protected_eq}
-use Rattle.coset_core.specs.SameLaws.{IsEquality}
 use Rattle.coset_core.specs.Told.{protected_told}
 use Rattle.coset_core.specs.Views.{protected_seen}
 use Rattle.coset_claims.specs.Party.{NonceSeen, nonce_integer, nonce_bytes, nonce_seen, party_seen}

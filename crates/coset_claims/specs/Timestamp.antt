@@ -10,7 +10,7 @@ use Rattle.coset_value.specs.View.{bits_of}
 use Rattle.coset_codec.specs.Shape.{Shape, mapped, either, floating, int64}
 use Rattle.coset_codec.specs.ShapeLaws.{Lawful, mapped_laws, either_laws, floating_laws, int64_laws, some-one}
 use Rattle.coset_label.specs.Labels.{is_integer}
-use Rattle.coset_core.specs.SameLaws.{IsEquality}
+use Rattle.coset_label.specs.Same.{IsEquality}
 use Rattle.coset_claims.specs.declared.timestamp.Timestamp.{Timestamp}
 use Rattle.coset_claims.specs.declared.timestamp.Timestamp.TheVariants.{WholeSeconds, FractionalSeconds}
 

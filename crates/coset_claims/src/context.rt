@@ -11,8 +11,8 @@ ghost use Rattle.coset_codec.specs.Sources.{source_item};
 ghost use Rattle.coset_codec.specs.Lists.{ReadsEach};
 ghost use Rattle.coset_codec.specs.Shape.{bstr, images};
 ghost use Rattle.coset_label.specs.Names.{assigned};
-ghost use Rattle.coset_core.specs.Fields.{algorithm};
-ghost use Rattle.coset_core.specs.Views.{algorithm_seen};
+ghost use Rattle.coset_label.specs.Labels.{algorithm};
+ghost use Rattle.coset_label.specs.Views.{algorithm_seen};
 ghost use Rattle.coset_claims.specs.Context.{and_supp_priv_info, context, context_seen, empty_context, four_elements_and};
 ghost use Rattle.coset_claims.specs.Party.{party_seen};
 ghost use Rattle.coset_claims.specs.SuppPub.{supp_pub_seen};
@@ -102,7 +102,7 @@ fn read_byte_strings(
 }
 
 /// Reads an algorithm.
-#[tactic(auto, unfolding(coset_core::specs::Fields::algorithm))]
+#[tactic(auto, unfolding(coset_label::specs::Labels::algorithm))]
 fn read_algorithm(alloc: Global, input: &mut Input<'_>) -> Result<Algorithm>
     ensures shrinks { length_left (state input.new) ≤ length_left (state input.old) }
     ensures reads { ReadsAt (state input.old) (state input.new)
@@ -115,9 +115,9 @@ fn read_algorithm(alloc: Global, input: &mut Input<'_>) -> Result<Algorithm>
 const FOUR: &str = "array with at least 4 items";
 
 impl Codec for CoseKdfContext {
-    ghost use Rattle.coset_claims.specs.ContextSame.{context_told, party_told, supp_pub_told};
     ghost use Rattle.coset_codec.specs.Told.{bytes_told, lists_told};
-    ghost use Rattle.coset_core.specs.Told.{algorithm_told};
+    ghost use Rattle.coset_label.specs.SameLaws.{algorithm_told};
+    ghost use Rattle.coset_claims.specs.ContextSame.{context_told, party_told, supp_pub_told};
     ghost use Rattle.coset_claims.specs.Context.{ContextSeen, context_laws};
 
     ghost Seen = { ContextSeen };
@@ -166,7 +166,7 @@ impl Codec for CoseKdfContext {
             .saturating_add(self.supp_pub_info.room())
     }
 
-    #[tactic(auto, unfolding(coset_core::specs::Fields::algorithm))]
+    #[tactic(auto, unfolding(coset_label::specs::Labels::algorithm))]
     fn write(&self, alloc: Global, out: &mut Vec<u8>) -> Result<()> {
         encode_four_and_more(
             alloc,

@@ -11,11 +11,13 @@ use Rattle.coset_codec.specs.Inputs.{State, NextsKey, PairsWithin, ReadsAt}
 use Rattle.coset_codec.specs.Maps.{Adds, Refuses, RefusesKey, ExcludesKey, GatherFaults, are_distinct, optional}
 use Rattle.coset_codec.specs.Shape.{any}
 use Rattle.coset_codec.proofs.Walking.{goes_on, refuses, stumbles}
-use Rattle.coset_label.specs.Labels.{label}
+use Rattle.coset_label.specs.Labels.{label, names}
 use Rattle.coset_label.specs.Views.{label_seen}
 use Rattle.coset_label.specs.declared.label.Label.{Label}
-use Rattle.coset_core.specs.Fields.{FieldsSeen, Versions, names, fields, parts_of, same_name, excludes}
-use Rattle.coset_core.specs.FieldLaws.{names_laws, partial_fields_laws}
+use Rattle.coset_label.specs.Names.{same_name}
+use Rattle.coset_label.specs.LabelLaws.{names_laws}
+use Rattle.coset_core.specs.Fields.{FieldsSeen, Versions, fields, parts_of, excludes}
+use Rattle.coset_core.specs.FieldLaws.{partial_fields_laws}
 use Rattle.coset_core.specs.Filling.{WalksTo, AtHeld, AtEnd, AtFault, FillsSome, FillsFields, IsDistinctRest, label_of}
 use Rattle.coset_core.specs.declared.header.reading.Version.{Version}
 

@@ -12,15 +12,17 @@ use Rattle.coset_codec.specs.declared.error.ErrorStored.{ErrorStored}
 use Rattle.coset_codec.specs.Errors.{UnlessMemory, IsUnexpected, stored}
 use Rattle.coset_codec.specs.Inputs.{State, ItemAt, AreWithin, PairsWithin, EntersMap, Nexts, ReadsAt}
 use Rattle.coset_codec.specs.Maps.{GatherFaults, labelled, SomePair, and_pairs, optional, unless_empty, is_nonempty}
-use Rattle.coset_core.specs.OneOrMore.{Begins}
 use Rattle.coset_codec.specs.Shape.{Shape, Each, any, bstr, any_number, one_or_more, one_or_many}
 use Rattle.coset_codec.proofs.Walking.{sets_out, goes_on, arrives, refuses}
-use Rattle.coset_label.specs.Labels.{label}
-use Rattle.coset_core.specs.FieldLabels as labels
 use Rattle.coset_codec.specs.InPlace.{Fills, FillsEach}
-use Rattle.coset_core.specs.Fields.{FieldsSeen, Versions, empty_fields, names, fields, parts_of, excludes, HasOneIv, partial_header, HoldsSignatures}
+use Rattle.coset_codec.proofs.InPlace.{not_filled}
+use Rattle.coset_label.specs.Labels.{label, names}
+use Rattle.coset_label.specs.LabelLaws.{names_laws}
+use Rattle.coset_core.specs.OneOrMore.{Begins}
+use Rattle.coset_core.specs.FieldLabels as labels
+use Rattle.coset_core.specs.Fields.{FieldsSeen, Versions, empty_fields, fields, parts_of, excludes, HasOneIv, partial_header, HoldsSignatures}
 use Rattle.coset_core.specs.Fields.{SomeCounterSignatures}
-use Rattle.coset_core.specs.FieldLaws.{names_laws, partial_fields_laws, join, barred_fault}
+use Rattle.coset_core.specs.FieldLaws.{partial_fields_laws, join, barred_fault}
 use Rattle.coset_core.specs.FieldsView.{signatures_held, fields_seen, counter_signatures_held, countersignatures_held}
 use Rattle.coset_core.specs.Filling.{WalksTo, AtHeld, AtEnd, FillsFields, IsDistinctRest, Keeps, BeginsElements, EndsElements, FirstPlace, label_of, at_version}
 use Rattle.coset_core.specs.Filling.{with_version, held, held_of}
@@ -35,7 +37,6 @@ use Rattle.coset_core.specs.declared.header.reading.Version.{Version}
 use Rattle.coset_core.specs.declared.header.reading.Version.TheVariants.{V1, V2}
 use Rattle.coset_core.proofs.Putting.{none_held}
 use Rattle.coset_core.proofs.Reading.{no_string, header_whole}
-use Rattle.coset_codec.proofs.InPlace.{not_filled}
 
 -- ---- a header's map
 

@@ -5,11 +5,12 @@ use Rattle.coset_codec.specs.declared.error.CoseError.{CoseError}
 use Rattle.coset_codec.specs.Maps.{FieldShape, unless_empty, optional, IfThenElse, SomePair, PairFaults, entries_image, may_write}
 use Rattle.coset_codec.specs.Serialized.{ContentDescribes, ContentFaults}
 use Rattle.coset_codec.specs.Shape.{Shape, Each, EachFaults, both, any, bstr, ◌then◌, end, one_or_array}
-use Rattle.coset_label.specs.Labels.{label}
-use Rattle.coset_label.specs.Names.{Name}
+use Rattle.coset_label.specs.Labels.{label, names}
+use Rattle.coset_label.specs.Names.{Name, same_name}
+use Rattle.coset_label.specs.LabelLaws.{names_laws}
 use Rattle.coset_core.specs.FieldLabels as labels
-use Rattle.coset_core.specs.FieldLaws.{names_laws, join, image_with}
-use Rattle.coset_core.specs.Fields.{FieldsSeen, Versions, same_name, names, fields, map_with, partial_header, HoldsSignatures, SomeCounterSignatures}
+use Rattle.coset_core.specs.FieldLaws.{join, image_with}
+use Rattle.coset_core.specs.Fields.{FieldsSeen, Versions, fields, map_with, partial_header, HoldsSignatures, SomeCounterSignatures}
 use Rattle.coset_core.specs.HeaderMap.{each_of, header_with, header_parts, header_map}
 use Rattle.coset_core.specs.HeaderReads.{signed_as, ProtectedOf, header_read_with, faults_read, protected_faults, unprotected_faults}
 use Rattle.coset_core.specs.HeaderWrites.{images_signatures}

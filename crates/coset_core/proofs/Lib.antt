@@ -4,13 +4,11 @@ pub mod Reading
 pub mod Writing
 pub mod WritingHeaders
 pub mod Keeping
-pub mod Copies
 pub mod Building
 pub mod Kept
 pub mod Filling
 pub mod Forward
 pub mod HeaderMap
 pub mod Messages
-pub mod Memory
 pub mod Structures
 pub mod Calling

@@ -6,12 +6,13 @@ use Rattle.coset_codec.specs.Maps.{Fields, optional, unless_empty, IfThenElse, i
 use Rattle.coset_codec.specs.Errors.{UnlessMemory}
 use Rattle.coset_codec.specs.declared.error.CoseError.{CoseError}
 use Rattle.coset_codec.specs.Shape.{any, bstr, some_of, nonempty_bstr}
-use Rattle.coset_label.specs.Names.{Name, RegisteredName}
+use Rattle.coset_label.specs.Names.{Name, RegisteredName, same_name}
+use Rattle.coset_label.specs.Labels.{algorithm, names}
+use Rattle.coset_label.specs.LabelLaws.{names_laws, same_name-sym}
 use Rattle.coset_core.specs.FieldLabels as labels
 use Rattle.coset_core.specs.Headers.{SignatureSeen, no_signatures, signatures_of}
 use Rattle.coset_core.specs.Filling.{NamesNoVersion}
-use Rattle.coset_core.specs.Fields.{algorithm, critical, content_type, FieldsSeen, Versions, FieldTuple, fields, names, same_name, excludes, parts_of}
-use Rattle.coset_core.specs.FieldLaws.{names_laws, same_name-sym}
+use Rattle.coset_core.specs.Fields.{critical, content_type, FieldsSeen, Versions, FieldTuple, fields, excludes, parts_of}
 
 -- none of nine tests passes
 none :

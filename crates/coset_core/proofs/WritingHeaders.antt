@@ -20,17 +20,17 @@ use Rattle.coset_codec.specs.RestLaws.{no-entries}
 use Rattle.coset_codec.specs.Shape.{any, both, bstr, nonempty_bstr, images, one_or_array, present_image, some_of}
 use Rattle.coset_codec.proofs.Encoding.{array-put as array-put-elements, place-put, nothing-put, and_items, images-append, images-missing}
 use Rattle.coset_codec.proofs.EncodingMaps.{AppendsFields, no-field, field-put, filled-seen, filled-there, map-written, pair-added}
-use Rattle.coset_label.specs.Labels.{label}
-use Rattle.coset_label.specs.Names.{Name, number, text_label, RegisteredName, assigned, private_use, text_name}
-use Rattle.coset_label.specs.Views.{label_seen}
+use Rattle.coset_label.specs.Labels.{label, names, algorithm}
+use Rattle.coset_label.specs.Names.{Name, number, text_label, RegisteredName, assigned, private_use, text_name, same_name}
+use Rattle.coset_label.specs.Views.{label_seen, algorithm_seen, entry_seen}
 use Rattle.coset_label.specs.declared.label.Label.{Label}
-use Rattle.coset_core.specs.Fields.{FieldsSeen, same_name, names, fields, parts_of, partial_header, algorithm, critical, content_type}
+use Rattle.coset_core.specs.Fields.{FieldsSeen, fields, parts_of, partial_header, critical, content_type}
 use Rattle.coset_core.specs.Headers.{HeaderSeen, header_of, fields_in, counter_signatures_in, countersignatures_in, ProtectedSeen, SignatureSeen, Signatures}
 use Rattle.coset_core.specs.Headers.{no_signatures, signature_and, signatures_of, are_none, counter_signatures_item, header_item, signatures_image}
 use Rattle.coset_core.specs.Headers.{header_image, protected_bytes}
 use Rattle.coset_core.specs.HeaderWrites.{images_signatures, signature_image_is}
 use Rattle.coset_core.specs.ViewLaws.{HeaderLevel, header_level}
-use Rattle.coset_core.specs.Views.{algorithm_seen, content_type_seen, countersignature_seen, critical_seen, entry_seen, signature_seen}
+use Rattle.coset_core.specs.Views.{content_type_seen, countersignature_seen, critical_seen, signature_seen}
 use Rattle.coset_core.specs.Written.{AppendsItems, AppendsFirst, AppendsCounterSignatures, AppendsSignatures, are_there, count_pairs, signature_array}
 use Rattle.coset_core.proofs.Signatures.{are_none_of}
 use Rattle.coset_core.proofs.Writing.{items-push, array-put}

@@ -1,5 +1,5 @@
 -- The laws of a header's fields, and of maps of them.
-use Rattle.std.proofs.Common.{◌≡◌, ℕ, List, [], ◌∷◌, Option, Some, None, Bool, true, false, inl, inr, ◌⊎◌, refl, ap, sym, ◌∙◌, subst, rules}
+use Rattle.std.proofs.Common.{◌≡◌, ℕ, List, [], ◌∷◌, Option, Some, None, true, inl, inr, ◌⊎◌, refl, ap, sym, ◌∙◌, subst, rules}
 use Rattle.std.specs.Prelude.{ℤ}
 use Rattle.std.specs.List.{IsDistinct}
 use Rattle.std.specs.Map.{keys_of, lookup}
@@ -10,41 +10,17 @@ use Rattle.coset_codec.specs.Shape.{any, bstr, nonempty_bstr, some_of}
 use Rattle.coset_codec.specs.ShapeLaws.{Lawful, Again, some-one, mapped_laws, such_that_laws, any_laws, bstr_laws, nonempty_bstr_laws, some_of_laws}
 use Rattle.coset_codec.specs.Maps.{FieldShape, optional, unless_empty, Named, HasLabel, SomePair, SoFar, IsExcluded, and_pairs}
 use Rattle.coset_codec.specs.declared.error.CoseError.{CoseError}
-use Rattle.coset_codec.specs.MapLaws.{LawfulNames, LawfulFieldShape, LawfulFields, Flat, field_laws}
+use Rattle.coset_codec.specs.MapLaws.{LawfulFieldShape, LawfulFields, Flat, field_laws}
 use Rattle.coset_codec.specs.MapLaws.{no_field_laws, optional_laws, unless_empty_laws, labelled_laws}
 use Rattle.coset_codec.specs.MapLaws.{new_of, not_new, has_label, lookup_none, lookup_later}
-use Rattle.coset_label.specs.Names.{Name, number, RegisteredName}
-use Rattle.coset_label.specs.Labels.{label}
-use Rattle.coset_label.specs.LabelLaws.{label_laws, registered_laws, registered_or_private_laws}
-use Rattle.coset_label.specs.NameOrder.{name_cmp-apart}
+use Rattle.coset_label.specs.Names.{Name, number, RegisteredName, same_name}
+use Rattle.coset_label.specs.Labels.{label, algorithm, names}
+use Rattle.coset_label.specs.LabelLaws.{label_laws, names_laws, algorithm_laws, registered_laws, registered_or_private_laws}
 use Rattle.coset_core.specs.FieldLabels as labels
-use Rattle.coset_core.specs.Fields.{FieldsSeen, algorithm, critical, content_type, IsContentType, same_name, names, Versions, FieldTuple, fields, fields_of}
+use Rattle.coset_core.specs.Fields.{FieldsSeen, critical, content_type, IsContentType, Versions, FieldTuple, fields, fields_of}
 use Rattle.coset_core.specs.Fields.{parts_of, HasOneIv, HasBothIvs, map_of, map_with, partial_header, HoldsSignatures, SomeCounterSignatures, excludes}
 
-pub names_laws : LawfulNames Name names
-names_laws = record {
-  shape = label_laws;
-  same_is = λ l m h. (name_cmp-apart l m).0 h;
-  same_self = λ l. (name_cmp-apart l l).1 refl;
-}
-
--- of two labels it is the same which is asked whether it is the other
-sym-either : (l m : Name) (b : Bool) → same_name l m ≡ b → same_name m l ≡ b
-sym-either l m true h = ap (λ n. same_name n l) (sym (names_laws.same_is l m h)) ∙ names_laws.same_self l
-sym-either l m false h = go (same_name m l) refl
-  where
-    go : (b : Bool) → same_name m l ≡ b → same_name m l ≡ false
-    go true e = let same : m ≡ l = names_laws.same_is m l e in ap (λ n. same_name n l) same ∙ (sym (ap (λ n. same_name l n) same) ∙ h)
-    go false e = e
-
-pub same_name-sym : (l m : Name) → same_name l m ≡ same_name m l
-same_name-sym l m = sym (sym-either l m (same_name l m) refl)
-
 -- ---- the fields' values
-
-pub algorithm_laws : Lawful RegisteredName algorithm
-unfolding algorithm
-algorithm_laws = registered_or_private_laws _ _
 
 pub critical_laws : Lawful RegisteredName critical
 unfolding critical

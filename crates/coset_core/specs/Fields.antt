@@ -1,22 +1,19 @@
 -- What a header holds beside its counter signatures of both versions, and maps of that (RFC 8152, section 3.1).
-use Rattle.std.specs.Prelude.{◌≡◌, ◌≢◌, ◌⊎◌, ℕ, ◌==◌, List, [], filter, length, Option, Some, None, Bool, true, is_some, ⊤}
-use Rattle.std.specs.Ordering.{is_eq}
+use Rattle.std.specs.Prelude.{◌≡◌, ◌≢◌, ◌⊎◌, ℕ, ◌==◌, List, [], filter, length, Option, Some, None, true, is_some, ⊤}
 use Rattle.std.specs.Str.{trim}
 use Rattle.coset_value.specs.Item.{Item, Pairs}
 use Rattle.coset_value.specs.Parts.{as_map}
-use Rattle.coset_iana.specs.Algorithm as algorithms
 use Rattle.coset_iana.specs.CoapContentFormat as content_formats
 use Rattle.coset_iana.specs.HeaderParameter as parameters
 use Rattle.coset_iana.specs.Registry.{first_numbered}
 use Rattle.coset_iana.specs.WithPrivateRange.{is_private_use}
-use Rattle.coset_iana.specs.declared.algorithms.TheConstants.{ALGORITHMS}
 use Rattle.coset_iana.specs.declared.content_formats.TheConstants.{COAP_CONTENT_FORMATS}
 use Rattle.coset_iana.specs.declared.headers.TheConstants.{HEADER_PARAMETERS}
 use Rattle.coset_codec.specs.Errors.{IsUnexpected}
 use Rattle.coset_codec.specs.Shape.{Shape, such_that, any, mapped, some_of, bstr, nonempty_bstr}
-use Rattle.coset_codec.specs.Maps.{Names, Fields, FieldShape, HasLabel, SomePair, Excludes, field, no_field, optional, unless_empty, labelled}
-use Rattle.coset_label.specs.Names.{Name, number, text_label, RegisteredName, name_cmp}
-use Rattle.coset_label.specs.Labels.{label, registered, registered_or_private}
+use Rattle.coset_codec.specs.Maps.{Fields, FieldShape, HasLabel, SomePair, Excludes, field, no_field, optional, unless_empty, labelled}
+use Rattle.coset_label.specs.Names.{Name, number, text_label, RegisteredName, same_name}
+use Rattle.coset_label.specs.Labels.{label, registered, registered_or_private, algorithm, names}
 use Rattle.coset_core.specs.FieldLabels as labels
 
 -- a header without its memory and its counter signatures
@@ -35,10 +32,6 @@ abbrev pub empty_fields : FieldsSeen
 empty_fields = record { alg = None; crit = []; content_type = None; key_id = []; iv = []; partial_iv = []; countersignature0_v2 = None; rest = [] }
 
 -- ---- the fields' values
-
--- an algorithm: the number of one that IANA assigned, else a number for private use, or a text
-unfoldable pub algorithm : Shape RegisteredName
-algorithm = registered_or_private (λ i. is_some (first_numbered algorithms.number ALGORITHMS i)) is_private_use
 
 -- a label that must be understood: the number of a header parameter that IANA assigned, else a number for private use,
 -- or a text
@@ -60,14 +53,6 @@ unfoldable pub content_type : Shape Name
 content_type = such_that IsUnexpected IsContentType (registered (λ i. is_some (first_numbered content_formats.number COAP_CONTENT_FORMATS i)))
 
 -- ---- maps of them
-
--- two labels are one
-abbrev pub same_name : Name → Name → Bool
-same_name a b = is_eq (name_cmp a b)
-
--- labels are compared as numbers and texts
-abbrev pub names : Names Name
-names = record { shape = label; same = same_name }
 
 -- what stands under the two labels whose values hold counter signatures: 7 and 11
 abbrev pub Versions : Type 0 → Type 0

@@ -10,10 +10,10 @@ use Rattle.coset_codec.specs.Errors.{UnlessMemory}
 use Rattle.coset_codec.specs.Inputs.{State, ItemAt, AreWithin, PairsWithin}
 use Rattle.coset_codec.specs.Maps.{Walks, RefusesKey, ExcludesKey, GatherFaults, are_distinct, optional}
 use Rattle.coset_codec.specs.Shape.{any}
-use Rattle.coset_label.specs.Labels.{label}
-use Rattle.coset_label.specs.Names.{Name}
+use Rattle.coset_label.specs.Labels.{label, names}
+use Rattle.coset_label.specs.Names.{Name, same_name}
 use Rattle.coset_core.specs.FieldLabels as labels
-use Rattle.coset_core.specs.Fields.{FieldsSeen, Versions, FieldTuple, names, fields, parts_of, same_name, excludes}
+use Rattle.coset_core.specs.Fields.{FieldsSeen, Versions, FieldTuple, fields, parts_of, excludes}
 use Rattle.coset_core.specs.FieldsView.{counter_signatures_held, countersignatures_held, fields_seen}
 use Rattle.coset_core.specs.Headers.{SignatureSeen, layered_protected, layered_signature}
 use Rattle.coset_core.specs.Views.{countersignature_seen, signature_seen}

@@ -3,15 +3,10 @@ use Rattle.std.specs.Prelude.{Bool, true, false, ◌&&◌, ◌==◌}
 use Rattle.std.specs.Option.{option_eq}
 use Rattle.std.specs.Ordering.{is_eq}
 use Rattle.std.specs.Cmp.Lexicographic.{pointwise}
-use Rattle.coset_value.specs.Item.{Item}
-use Rattle.coset_value.specs.Same.{item_eq}
-use Rattle.coset_label.specs.Names.{Name, RegisteredName, registered_cmp}
-use Rattle.coset_core.specs.Fields.{FieldsSeen, same_name}
+use Rattle.coset_label.specs.Names.{Name, RegisteredName, registered_cmp, same_name}
+use Rattle.coset_label.specs.Same.{algorithm_eq, entry_eq}
+use Rattle.coset_core.specs.Fields.{FieldsSeen}
 use Rattle.coset_core.specs.Headers.{HeaderSeen, header_of, Signatures, no_signatures, signature_and, ProtectedSeen, SignatureSeen}
-
--- the same algorithm
-abbrev pub algorithm_eq : RegisteredName → RegisteredName → Bool
-algorithm_eq a b = is_eq (registered_cmp a b)
 
 -- the same label that must be understood
 abbrev pub critical_eq : RegisteredName → RegisteredName → Bool
@@ -20,10 +15,6 @@ critical_eq a b = is_eq (registered_cmp a b)
 -- the same content type
 abbrev pub content_type_eq : Name → Name → Bool
 content_type_eq = same_name
-
--- the same label, and the same item
-abbrev pub entry_eq : Name × Item → Name × Item → Bool
-entry_eq e f = same_name e.0 f.0 && item_eq e.1 f.1
 
 -- each field the same; the lists have as many members, each the same as its counterpart
 abbrev pub fields_eq : FieldsSeen → FieldsSeen → Bool

@@ -1,22 +1,16 @@
 -- The tests of `Same` answer `true` exactly where what they compare is equal.
 use Rattle.std.specs.Prelude.{◌≡◌, Bool, true, ◌==◌, ◌&&◌, Option, Some, None, refl}
 use Rattle.std.specs.Option.{option_eq}
-use Rattle.std.specs.Bool.{Decides}
 use Rattle.std.specs.Cmp.{IsEquivalence, decided}
 use Rattle.std.specs.Cmp.Lexicographic.{pointwise, pointwise_decides, bytes_decides}
 use Rattle.std.proofs.Common.{sym, ap, subst, true≢false}
 use Rattle.std.proofs.lemmas.Bool.{and_parts}
 use Rattle.std.proofs.lemmas.Bool.Decides.{Decides-like, Decides-and}
-use Rattle.coset_value.specs.Same.{item_eq}
-use Rattle.coset_value.specs.SameLaws.{item_eq-decides}
-use Rattle.coset_label.specs.NameOrder.{name_cmp-apart, registered_cmp-apart}
-use Rattle.coset_core.specs.Fields.{same_name}
+use Rattle.coset_label.specs.NameOrder.{registered_cmp-apart}
+use Rattle.coset_label.specs.Same.{IsEquality, algorithm_eq, entry_eq}
+use Rattle.coset_label.specs.SameLaws.{algorithm_eq-decides, entry_eq-decides, same_name-decides}
 use Rattle.coset_core.specs.Headers.{HeaderSeen, header_of, Signatures, no_signatures, signature_and}
-use Rattle.coset_core.specs.Same.{algorithm_eq, critical_eq, content_type_eq, entry_eq, fields_eq, signatures_eq, header_eq, protected_eq, signature_eq}
-
--- a test that tells equal from unequal
-abbrev pub IsEquality : {A : Type 0} → (A → A → Bool) → Type 0
-IsEquality {A} test = (x y : A) → Decides (test x y) (x ≡ y)
+use Rattle.coset_core.specs.Same.{critical_eq, content_type_eq, fields_eq, signatures_eq, header_eq, protected_eq, signature_eq}
 
 -- a test is that where what passes it is equal, and all passes it against itself
 told : {A : Type 0} (test : A → A → Bool) → ((x y : A) → test x y ≡ true → x ≡ y) → ((x : A) → test x x ≡ true) → IsEquality test
@@ -35,19 +29,8 @@ module _ {A : Type 0} (test : A → A → Bool) (decides : IsEquality test) wher
   pub option_eq-decides : IsEquality (option_eq test)
   option_eq-decides = told (option_eq test) option-sound option-itself
 
-pub algorithm_eq-decides : IsEquality algorithm_eq
-algorithm_eq-decides = registered_cmp-apart
-
 pub critical_eq-decides : IsEquality critical_eq
 critical_eq-decides = registered_cmp-apart
-
-pub same_name-decides : IsEquality same_name
-same_name-decides = name_cmp-apart
-
-pub entry_eq-decides : IsEquality entry_eq
-entry_eq-decides e f =
-    Decides-like (entry_eq e f) (λ p i. (p.0 i, p.1 i)) (λ p. (ap (λ x. x.0) p, ap (λ x. x.1) p))
-    (Decides-and (same_name e.0 f.0) (item_eq e.1 f.1) (same_name-decides e.0 f.0) (item_eq-decides e.1 f.1))
 
 kept-decides : IsEquality (option_eq (pointwise ◌==◌))
 kept-decides = option_eq-decides (pointwise ◌==◌) bytes_decides

@@ -1,9 +1,9 @@
--- `==` of what messages, keys and claims are made of is equality of what contracts see.
+-- `==` of what messages and claims are made of is equality of what contracts see.
 use Rattle.std.specs.Ordering.{on}
 use Rattle.coset_codec.specs.Told.{Tells}
-use Rattle.coset_core.specs.Same.{algorithm_eq, entry_eq, header_eq, protected_eq, signature_eq}
-use Rattle.coset_core.specs.SameLaws.{algorithm_eq-decides, entry_eq-decides, header_eq-decides, protected_eq-decides, signature_eq-decides}
-use Rattle.coset_core.specs.Views.{algorithm_seen, entry_seen, header_seen, protected_seen, signature_seen}
+use Rattle.coset_core.specs.Same.{header_eq, protected_eq, signature_eq}
+use Rattle.coset_core.specs.SameLaws.{header_eq-decides, protected_eq-decides, signature_eq-decides}
+use Rattle.coset_core.specs.Views.{header_seen, protected_seen, signature_seen}
 
 pub header_told : Tells header_seen (on header_seen header_eq)
 header_told x y = header_eq-decides (header_seen x) (header_seen y)
@@ -13,10 +13,3 @@ protected_told x y = protected_eq-decides (protected_seen x) (protected_seen y)
 
 pub signature_told : Tells signature_seen (on signature_seen signature_eq)
 signature_told x y = signature_eq-decides (signature_seen x) (signature_seen y)
-
-pub algorithm_told : Tells algorithm_seen (on algorithm_seen algorithm_eq)
-algorithm_told x y = algorithm_eq-decides (algorithm_seen x) (algorithm_seen y)
-
--- a label and its value
-pub entry_told : Tells entry_seen (on entry_seen entry_eq)
-entry_told x y = entry_eq-decides (entry_seen x) (entry_seen y)

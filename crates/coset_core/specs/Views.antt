@@ -1,17 +1,11 @@
 -- Headers without their memory.
 use Rattle.std.specs.Prelude.{map, option_map}
-use Rattle.coset_value.specs.Item.{Item}
-use Rattle.coset_value.specs.View.{view}
-use Rattle.coset_value.specs.declared.value.Value.{Value}
-use Rattle.coset_iana.specs.Algorithm as algorithms
 use Rattle.coset_iana.specs.CoapContentFormat as content_formats
 use Rattle.coset_iana.specs.HeaderParameter as parameters
-use Rattle.coset_iana.specs.declared.algorithms.Algorithm.{Algorithm}
 use Rattle.coset_iana.specs.declared.content_formats.CoapContentFormat.{CoapContentFormat}
 use Rattle.coset_iana.specs.declared.headers.HeaderParameter.{HeaderParameter}
 use Rattle.coset_label.specs.Names.{Name, RegisteredName}
-use Rattle.coset_label.specs.Views.{label_seen, registered_seen, registered_or_private_seen}
-use Rattle.coset_label.specs.declared.label.Label.{Label}
+use Rattle.coset_label.specs.Views.{algorithm_seen, entry_seen, registered_seen, registered_or_private_seen}
 use Rattle.coset_label.specs.declared.registered.RegisteredLabel.{RegisteredLabel}
 use Rattle.coset_label.specs.declared.registered.RegisteredLabelWithPrivate.{RegisteredLabelWithPrivate}
 use Rattle.coset_core.specs.Fields.{FieldsSeen}
@@ -21,17 +15,11 @@ use Rattle.coset_core.specs.declared.header.Header.{Header, Header-F, fold-Heade
 use Rattle.coset_core.specs.declared.protected.ProtectedHeader.{ProtectedHeader, ProtectedHeader-F, fold-ProtectedHeader}
 use Rattle.coset_core.specs.declared.signature.CoseSignature.{CoseSignature, CoseSignature-F, fold-CoseSignature}
 
-abbrev pub algorithm_seen : RegisteredLabelWithPrivate Algorithm → RegisteredName
-algorithm_seen = registered_or_private_seen algorithms.number
-
 abbrev pub critical_seen : RegisteredLabelWithPrivate HeaderParameter → RegisteredName
 critical_seen = registered_or_private_seen parameters.number
 
 abbrev pub content_type_seen : RegisteredLabel CoapContentFormat → Name
 content_type_seen = registered_seen content_formats.number
-
-abbrev pub entry_seen : Label × Value → Name × Item
-entry_seen e = (label_seen e.0, view e.1)
 
 -- what one level of a header holds beside its counter signatures
 abbrev pub fields_step : {C H P S : Type 0} → Header-F C H P S → FieldsSeen

@@ -11,7 +11,8 @@ use Rattle.coset_iana.specs.declared.headers.HeaderParameter.TheVariants.{Alg, C
 use Rattle.coset_codec.specs.Encoding.{AppendsField}
 use Rattle.coset_codec.specs.Maps.{is_nonempty, unless_empty, optional}
 use Rattle.coset_codec.specs.Shape.{nonempty_bstr, some_of}
-use Rattle.coset_core.specs.Fields.{FieldsSeen, algorithm, critical, content_type as content_type_shape}
+use Rattle.coset_label.specs.Labels.{algorithm}
+use Rattle.coset_core.specs.Fields.{FieldsSeen, critical, content_type as content_type_shape}
 use Rattle.coset_core.specs.Headers.{HeaderSeen, header_of, fields_in, SignatureSeen, Signatures, signatures_of, are_none, is_empty_header}
 use Rattle.coset_core.specs.Headers.{counter_signatures_item, signature_item, signatures_image, header_image, protected_bytes}
 

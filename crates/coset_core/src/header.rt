@@ -4,16 +4,17 @@ ghost use Rattle.std.specs.Prelude.{◌≡◌, map, option_map, OnOk, IfOk, IfEr
 ghost use Rattle.std.specs.Map.{lookup};
 ghost use Rattle.coset_value.specs.View.{view};
 ghost use Rattle.coset_codec.specs.declared.error.CoseError.TheVariants as errors;
-ghost use Rattle.coset_label.specs.Views.{label_seen};
-ghost use Rattle.coset_core.specs.Fields.{same_name};
+ghost use Rattle.coset_label.specs.Views.{algorithm_seen, entry_seen, label_seen};
+ghost use Rattle.coset_label.specs.Names.{same_name};
 ghost use Rattle.coset_core.specs.FieldsView.{fields_seen, signatures_held};
-ghost use Rattle.coset_core.specs.Views.{algorithm_seen, entry_seen, header_seen};
+ghost use Rattle.coset_core.specs.Views.{header_seen};
 ghost use Rattle.coset_core.specs.Headers.{empty_header, fields_in, is_empty_header, layered_header, header as header_shape};
 ghost use Rattle.std.specs.Option.{option_eq};
 ghost use Rattle.std.specs.Ordering.{on};
 ghost use Rattle.std.specs.Cmp.{on_equiv, on_per, partial_equiv_from_equiv};
 ghost use Rattle.std.specs.Cmp.Lexicographic.{pointwise};
-ghost use Rattle.coset_core.specs.Same.{algorithm_eq, entry_eq, fields_eq, header_eq};
+ghost use Rattle.coset_label.specs.Same.{algorithm_eq, entry_eq};
+ghost use Rattle.coset_core.specs.Same.{fields_eq, header_eq};
 ghost use Rattle.coset_core.specs.SameLaws.{header_eq_equiv};
 
 use crate::content_type::same_content_type;
@@ -38,7 +39,6 @@ pub(crate) mod reading;
 pub(crate) mod writing;
 
 pub use builder::HeaderBuilder;
-pub use reading::is_parameter;
 
 /// About what a header takes beside its byte strings.
 const HEADS: usize = 24;

@@ -21,7 +21,7 @@ pub use coset_label::{
     TaggedCodec, cbor, codec, has_repeats, iana, util,
 };
 pub use countersignature::{CoseCountersignature, CoseCountersignatureBuilder};
-pub use header::{Header, HeaderBuilder, copy_header, is_parameter};
+pub use header::{Header, HeaderBuilder, copy_header};
 pub use headers::{Content, fill_protected_header, fill_unprotected_header, read_headed};
 pub use protected::{Bstr, ProtectedHeader, copy_protected};
 pub use protected_bstr::ProtectedBstr;

@@ -13,13 +13,12 @@ use Rattle.coset_codec.specs.MapLaws.{IsRest, rest_apart}
 use Rattle.coset_codec.specs.Maps.{Named, entries_image, may_write, named_image, put_field}
 use Rattle.coset_codec.specs.Shape.{both}
 use Rattle.coset_codec.specs.ShapeLaws.{some-one}
-use Rattle.coset_label.specs.Labels.{label}
+use Rattle.coset_label.specs.Labels.{label, names}
 use Rattle.coset_label.specs.Names.{Name, number, text_label, argument, encoded_length, head_length, name_cmp, name_item}
 use Rattle.coset_label.specs.Orderings.{name_cmp_by}
 use Rattle.coset_label.specs.SortedLaws.{strictly, above, in-cases}
 use Rattle.coset_label.specs.declared.ordering.CborOrdering.{CborOrdering}
 use Rattle.coset_label.specs.declared.ordering.CborOrdering.TheVariants.{Lexicographic, LengthFirstLexicographic}
-use Rattle.coset_core.specs.Fields.{names}
 use Rattle.coset_key.specs.Canonical.{IsCanonicalOf, LabelsAscend, ZeroBehindFields, is_field}
 use Rattle.coset_key.specs.Keys.{KeySeen, FieldTuple, key, fields, parts_of}
 use Rattle.coset_key.proofs.CanonicalKeys.{canonical_differ, total_by}

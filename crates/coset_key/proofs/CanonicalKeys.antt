@@ -13,13 +13,13 @@ use Rattle.coset_codec.specs.MapLaws.{labelled_arranged, rest_distinct}
 use Rattle.coset_codec.specs.ReadAgain.{EncodesApart, again_reads}
 use Rattle.coset_codec.specs.ShapeLaws.{Again}
 use Rattle.coset_label.specs.NameOrder.{name_cmp_total, canonical_cmp_total, name_cmp-apart, canonical_cmp-apart}
-use Rattle.coset_label.specs.Names.{Name, TellsApart}
+use Rattle.coset_label.specs.Names.{Name, TellsApart, same_name}
 use Rattle.coset_label.specs.Orderings.{name_cmp_by}
 use Rattle.coset_label.specs.SortedLaws.{has_one_order}
 use Rattle.coset_label.specs.declared.ordering.CborOrdering.{CborOrdering}
 use Rattle.coset_label.specs.declared.ordering.CborOrdering.TheVariants.{Lexicographic, LengthFirstLexicographic}
-use Rattle.coset_core.specs.Fields.{names, same_name}
-use Rattle.coset_core.specs.FieldLaws.{names_laws}
+use Rattle.coset_label.specs.Labels.{names}
+use Rattle.coset_label.specs.LabelLaws.{names_laws}
 use Rattle.coset_key.specs.Canonical.{with_params, AgreeButForOrder, IsCanonicalOf, CanonicalReadsAgain, CanonicalApart}
 use Rattle.coset_key.specs.KeyLaws.{fields_laws}
 use Rattle.coset_key.specs.Keys.{KeySeen, key, fields, parts_of}

@@ -4,7 +4,7 @@ use Rattle.coset_value.specs.Item.{Item}
 use Rattle.coset_codec.specs.Answers.{Reads}
 use Rattle.coset_codec.specs.Maps.{labelled}
 use Rattle.coset_codec.specs.declared.error.CoseError.{CoseError}
-use Rattle.coset_core.specs.Fields.{names}
+use Rattle.coset_label.specs.Labels.{names}
 use Rattle.coset_key.specs.Keys.{Parts, HasKeyType, fields, key, key_seen}
 use Rattle.coset_key.specs.Reading.{IsFinished}
 use Rattle.coset_key.specs.declared.key.CoseKey.{CoseKey}

@@ -5,9 +5,9 @@ use Rattle.coset_value.specs.Item.{Item}
 use Rattle.coset_codec.specs.Errors.{UnlessMemory}
 use Rattle.coset_codec.specs.Maps.{IfThenElse, is_core, Adds, Refuses}
 use Rattle.coset_codec.specs.declared.error.CoseError.{CoseError}
-use Rattle.coset_label.specs.Names.{Name}
-use Rattle.coset_core.specs.FieldLaws.{names_laws, same_name-sym}
-use Rattle.coset_core.specs.Fields.{names, same_name}
+use Rattle.coset_label.specs.Names.{Name, same_name}
+use Rattle.coset_label.specs.LabelLaws.{names_laws, same_name-sym}
+use Rattle.coset_label.specs.Labels.{names}
 use Rattle.coset_key.specs.KeyLabels as labels
 use Rattle.coset_key.specs.Keys.{Parts, fields}
 

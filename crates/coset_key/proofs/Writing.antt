@@ -4,7 +4,7 @@ use Rattle.coset_value.specs.Item.{Item, Items, item, array}
 use Rattle.coset_codec.specs.Maps.{field_shape_image, is_nonempty}
 use Rattle.coset_codec.specs.Shape.{both, images, list_of}
 use Rattle.coset_label.specs.Names.{Name, number, text_label, name_item, RegisteredName, assigned, private_use, text_name}
-use Rattle.coset_core.specs.Fields.{algorithm}
+use Rattle.coset_label.specs.Labels.{algorithm}
 use Rattle.coset_key.specs.Keys.{operation, key_ops}
 
 -- a set is there where it isn't empty

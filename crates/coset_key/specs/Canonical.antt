@@ -8,12 +8,11 @@ use Rattle.coset_codec.specs.Maps.{Named, is_core}
 use Rattle.coset_codec.specs.ReadAgain.{IsWritten, ReadsAgain}
 use Rattle.coset_codec.specs.declared.error.CoseError.{CoseError}
 use Rattle.coset_codec.specs.declared.error.CoseError.TheVariants.{OutOfMemory}
-use Rattle.coset_label.specs.Labels.{label}
+use Rattle.coset_label.specs.Labels.{label, names}
 use Rattle.coset_label.specs.Names.{Name, number}
 use Rattle.coset_label.specs.Orderings.{name_cmp_by}
 use Rattle.coset_label.specs.Sorted.{AreInOrder}
 use Rattle.coset_label.specs.declared.ordering.CborOrdering.{CborOrdering}
-use Rattle.coset_core.specs.Fields.{names}
 use Rattle.coset_key.specs.Keys.{KeySeen, fields, key}
 
 -- with these params, and all else as it was

@@ -6,11 +6,10 @@ use Rattle.std.specs.Ordering.{on}
 use Rattle.std.proofs.Common.{ap}
 use Rattle.std.proofs.lemmas.Bool.Decides.{Decides-like, Decides-and}
 use Rattle.coset_codec.specs.Told.{Tells, bytes_told, lists_told, options_told}
-use Rattle.coset_core.specs.Fields.{same_name}
-use Rattle.coset_core.specs.Same.{algorithm_eq, entry_eq}
-use Rattle.coset_core.specs.SameLaws.{same_name-decides}
-use Rattle.coset_core.specs.Told.{algorithm_told, entry_told}
-use Rattle.coset_core.specs.Views.{algorithm_seen, entry_seen}
+use Rattle.coset_label.specs.Names.{same_name}
+use Rattle.coset_label.specs.Same.{algorithm_eq, entry_eq}
+use Rattle.coset_label.specs.SameLaws.{same_name-decides, algorithm_told, entry_told}
+use Rattle.coset_label.specs.Views.{algorithm_seen, entry_seen}
 use Rattle.coset_key.specs.Keys.{key_seen, kty_seen, operation_seen}
 use Rattle.coset_key.specs.declared.key.CoseKey.{CoseKey}
 

@@ -10,12 +10,10 @@ use Rattle.coset_codec.specs.MapLaws.{LawfulFieldShape, LawfulFields, Flat, fiel
 use Rattle.coset_codec.specs.SetLaws.{set_nonempty, set_of_laws}
 use Rattle.coset_codec.specs.Shape.{nonempty_bstr}
 use Rattle.coset_codec.specs.ShapeLaws.{Lawful, mapped_laws, such_that_laws, nonempty_bstr_laws, list_of_laws}
-use Rattle.coset_label.specs.LabelLaws.{registered_laws}
-use Rattle.coset_label.specs.Labels.{label}
+use Rattle.coset_label.specs.LabelLaws.{registered_laws, names_laws, algorithm_laws}
+use Rattle.coset_label.specs.Labels.{label, algorithm, names}
 use Rattle.coset_label.specs.NameOrder.{name_cmp_total, name_cmp-apart}
 use Rattle.coset_label.specs.Names.{Name, number, name_cmp}
-use Rattle.coset_core.specs.Fields.{algorithm, names}
-use Rattle.coset_core.specs.FieldLaws.{names_laws, algorithm_laws}
 use Rattle.coset_key.specs.KeyLabels as labels
 use Rattle.coset_key.specs.Keys.{KeySeen, key_type, operation, key_ops, FieldTuple, fields, key_of, parts_of, HasKeyType, key, key_set}
 

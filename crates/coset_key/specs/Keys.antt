@@ -12,12 +12,10 @@ use Rattle.coset_codec.specs.Errors.{IsUnexpected}
 use Rattle.coset_codec.specs.Maps.{Fields, field, no_field, optional, unless_empty, labelled}
 use Rattle.coset_codec.specs.Sets.{set_of}
 use Rattle.coset_codec.specs.Shape.{Shape, mapped, such_that, nonempty_bstr, list_of}
-use Rattle.coset_label.specs.Labels.{registered}
+use Rattle.coset_label.specs.Labels.{registered, algorithm, names}
 use Rattle.coset_label.specs.Names.{Name, number, RegisteredName, name_cmp}
-use Rattle.coset_label.specs.Views.{registered_seen}
+use Rattle.coset_label.specs.Views.{registered_seen, algorithm_seen, entry_seen}
 use Rattle.coset_label.specs.declared.registered.RegisteredLabel.{RegisteredLabel}
-use Rattle.coset_core.specs.Fields.{algorithm, names}
-use Rattle.coset_core.specs.Views.{algorithm_seen, entry_seen}
 use Rattle.coset_key.specs.KeyLabels as labels
 use Rattle.coset_key.specs.declared.key.CoseKey.{CoseKey}
 use Rattle.coset_key.specs.declared.key_set.CoseKeySet.{CoseKeySet}

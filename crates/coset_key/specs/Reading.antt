@@ -4,14 +4,14 @@ use Rattle.std.specs.Global.{Global}
 use Rattle.std.specs.declared.cmp.Ordering.{Ordering}
 use Rattle.std.specs.declared.collections.BTreeSet.{BTreeSet}
 use Rattle.coset_value.specs.Item.{Items}
+use Rattle.coset_iana.specs.declared.keys.KeyOperation.{KeyOperation}
 use Rattle.coset_codec.specs.Errors.{IsUnexpected, UnlessMemory}
 use Rattle.coset_codec.specs.Sets.{IsSetOf, IsDistinctBy, Repeats}
 use Rattle.coset_codec.specs.Shape.{Shape, Each, EachFaults}
 use Rattle.coset_codec.specs.declared.error.CoseError.{CoseError}
-use Rattle.coset_iana.specs.declared.keys.KeyOperation.{KeyOperation}
 use Rattle.coset_label.specs.Names.{Name}
 use Rattle.coset_label.specs.declared.registered.RegisteredLabel.{RegisteredLabel}
-use Rattle.coset_core.specs.Views.{algorithm_seen, entry_seen}
+use Rattle.coset_label.specs.Views.{algorithm_seen, entry_seen}
 use Rattle.coset_key.specs.Keys.{Parts, parts_of, HasKeyType, kty_seen, operation_seen, key_seen}
 use Rattle.coset_key.specs.declared.key.CoseKey.{CoseKey}
 use Rattle.coset_key.specs.declared.key.PartialKey.{PartialKey}

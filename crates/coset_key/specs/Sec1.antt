@@ -9,8 +9,7 @@ use Rattle.coset_iana.specs.declared.keys.KeyType.TheVariants.{EC2}
 use Rattle.coset_codec.specs.declared.error.CoseError.TheVariants as errors
 use Rattle.coset_codec.specs.declared.error.CallError.{CallError}
 use Rattle.coset_codec.specs.declared.error.CallError.TheVariants.{Coset, Caller}
-use Rattle.coset_label.specs.Names.{Name, number}
-use Rattle.coset_core.specs.Fields.{same_name}
+use Rattle.coset_label.specs.Names.{Name, number, same_name}
 use Rattle.coset_key.specs.Keys.{KeySeen, key_seen}
 use Rattle.coset_key.specs.KeyBuilt.{ec2_key, x_label, y_label}
 use Rattle.coset_key.specs.declared.key.CoseKey.{CoseKey}

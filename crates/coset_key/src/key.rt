@@ -15,11 +15,10 @@ ghost use Rattle.coset_codec.specs.Encoding.{AppendsField};
 ghost use Rattle.coset_codec.specs.Errors.{UnlessMemory};
 ghost use Rattle.coset_codec.specs.Inputs.{ReadsAt, length_left, state};
 ghost use Rattle.coset_codec.specs.Maps.{Adds, Refuses, are_distinct, unless_empty};
-ghost use Rattle.coset_label.specs.Names.{assigned, number};
+ghost use Rattle.coset_label.specs.Names.{assigned, number, same_name};
 ghost use Rattle.coset_label.specs.Orderings.{name_cmp_by};
 ghost use Rattle.coset_label.specs.Views.{label_seen};
-ghost use Rattle.coset_core.specs.Fields.{algorithm, names, same_name};
-ghost use Rattle.coset_core.specs.Views.{algorithm_seen};
+ghost use Rattle.coset_label.specs.Labels.{algorithm, names};
 ghost use Rattle.coset_key.specs.Canonical.{Canonicalizes};
 ghost use Rattle.coset_key.specs.KeyBuilt.{and_operation, and_param, ec2_key, ec2_private_key, ml_dsa_key, okp_key, symmetric_key, with_algorithm, with_base_iv, with_key_id, with_kty, IsOtherLabel};
 ghost use Rattle.coset_key.specs.Keys.{empty_key, fields, key as key_shape, key_ops as key_ops_shape, key_seen, kty_seen, operation_seen};
@@ -33,12 +32,12 @@ use coset_codec::write::{
     write_field, write_nonempty, write_optional, write_pairs_head, write_rest,
 };
 use coset_codec::{Codec, find_value};
-use coset_core::{
-    Algorithm, CborOrdering, CoseError, Encode, KeyOperation, KeyType, Label, RegisteredLabel,
-    RegisteredLabelWithPrivate, Result, has_repeats, iana, is_parameter,
-};
 use coset_iana::{
     AkpKeyParameter, Ec2KeyParameter, EllipticCurve, EnumI64, KeyParameter, SymmetricKeyParameter,
+};
+use coset_label::{
+    Algorithm, CborOrdering, CoseError, Encode, KeyOperation, KeyType, Label, RegisteredLabel,
+    RegisteredLabelWithPrivate, Result, has_repeats, iana, is_parameter,
 };
 use std::alloc::{AllocError, Global};
 use std::collections::BTreeSet;
@@ -240,7 +239,7 @@ impl PartialKey {
 
 impl Gather for PartialKey {
     ghost use Rattle.coset_label.specs.Names.{Name};
-    ghost use Rattle.coset_core.specs.FieldLaws.{names_laws};
+    ghost use Rattle.coset_label.specs.LabelLaws.{names_laws};
     ghost use Rattle.coset_key.specs.Keys.{FieldTuple};
     ghost use Rattle.coset_key.specs.KeyLaws.{fields_laws};
 

@@ -14,7 +14,7 @@ ghost use Rattle.coset_key.specs.Reading.{ReadsSet, operations_seen};
 
 use coset_cbor::ser::write_array_head;
 use coset_codec::read::{Input, InputItems};
-use coset_core::{CoseError, Encode, FromPull, KeyOperation, Result};
+use coset_label::{CoseError, Encode, FromPull, KeyOperation, Result};
 use std::alloc::Global;
 use std::collections::BTreeSet;
 

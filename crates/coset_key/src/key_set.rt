@@ -8,7 +8,7 @@ use crate::key::CoseKey;
 use coset_codec::Codec;
 use coset_codec::read::{Input, read_list};
 use coset_codec::write::Array;
-use coset_core::{Encode, Result};
+use coset_label::{Encode, Result};
 use std::alloc::{AllocError, Global};
 
 /// Keys, in order: `COSE_KeySet` (RFC 8152, section 7).
@@ -49,9 +49,9 @@ impl CoseKeySet {
 }
 
 impl Codec for CoseKeySet {
+    ghost use Rattle.coset_codec.specs.Told.{lists_told};
     ghost use Rattle.coset_key.specs.Equality.{key_told};
     ghost use Rattle.coset_key.specs.Keys.{key_seen};
-    ghost use Rattle.coset_codec.specs.Told.{lists_told};
     ghost use Rattle.std.specs.Prelude.{List};
     ghost use Rattle.coset_key.specs.Keys.{KeySeen};
     ghost use Rattle.coset_key.specs.KeyLaws.{key_set_laws};

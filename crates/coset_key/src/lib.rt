@@ -8,13 +8,6 @@ pub mod laws;
 mod ml_dsa;
 mod sec1;
 
-pub use coset_core::{
-    Algorithm, AsCborValue, Bstr, CallError, CborOrdering, CborSerializable, ClaimName, Codec,
-    ContentType, CoseError, CoseSignature, CoseSignatureBuilder, Encode, EndOfFile, FromPull,
-    Header, HeaderBuilder, ItemSource, KeyOperation, KeyType, Label, Lawful, ProtectedBstr,
-    ProtectedHeader, RegisteredLabel, RegisteredLabelWithPrivate, Result, TaggedCborSerializable,
-    TaggedCodec, cbor, codec, has_repeats, iana, util,
-};
 pub use key::{CoseKey, CoseKeyBuilder};
 pub use key_set::CoseKeySet;
 pub use ml_dsa::MlDsaVariant;

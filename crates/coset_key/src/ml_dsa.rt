@@ -3,7 +3,7 @@
 ghost use Rattle.std.specs.Prelude.{◌≡◌};
 ghost use Rattle.coset_key.specs.MlDsa.{IsVariant, algorithm_of};
 
-use coset_core::{CoseError, Result, iana};
+use coset_label::{CoseError, Result, iana};
 
 /// A variant of ML-DSA (FIPS 204).
 #[derive(Clone, Copy, Debug, PartialEq, Eq, Hash)]

@@ -11,8 +11,8 @@ ghost use Rattle.coset_key.specs.declared.sec1.ToSec1OctetStringError.TheVariant
 
 use crate::key::{CoseKey, CoseKeyBuilder};
 use coset_cbor::value::Value;
-use coset_core::{CallError, RegisteredLabel, Result, iana, is_parameter};
 use coset_iana::{Ec2KeyParameter, EllipticCurve};
+use coset_label::{CallError, RegisteredLabel, Result, iana, is_parameter};
 use std::alloc::{AllocError, AllocFailed, Global};
 use std::error::Error;
 use std::fmt;

@@ -1,2 +1,4 @@
 pub mod Numbers
 pub mod Encodings
+pub mod Copies
+pub mod Memory

@@ -1,11 +1,14 @@
 -- The laws of labels' shapes.
 use Rattle.std.proofs.Common.{◌≡◌, ◌⊎◌, ℕ, ℤ, List, Some, Bool, true, false, refl, sym, ◌∙◌, ap, inl, inr}
 use Rattle.coset_value.specs.Item.{Item, integer, text}
+use Rattle.coset_codec.specs.MapLaws.{LawfulNames}
 use Rattle.coset_codec.specs.Shape.{either, such_that, int64, tstr}
 use Rattle.coset_codec.specs.ShapeLaws.{Lawful, mapped_laws, either_laws, such_that_laws, int64_laws, tstr_laws, some-one}
 use Rattle.coset_label.specs.Names.{Name, number, text_label, RegisteredName, assigned, private_use, text_name}
+use Rattle.coset_label.specs.Names.{name_cmp, same_name}
+use Rattle.coset_label.specs.NameOrder.{name_cmp-apart}
 use Rattle.coset_label.specs.Labels.{label, registered, registered_or_private, is_integer, is_known, holds, name_of, of_name, registered_name_of}
-use Rattle.coset_label.specs.Labels.{of_registered_name, IsUnregistered, IsNotPrivate}
+use Rattle.coset_label.specs.Labels.{of_registered_name, IsUnregistered, IsNotPrivate, algorithm, names}
 
 name-back : (x : Name) → name_of (of_name x) ≡ x
 name-back (number i) = refl
@@ -52,3 +55,26 @@ registered_or_private_laws known private =
     (λ v i w f d e. same-known known true v i w f d e)
     (λ v i w f d e. same-known known false v i w f d.0 e))
     tstr_laws (λ v x w f d e. ints-told known private x w e) (λ v s w f d e. text-told s w e))
+
+pub algorithm_laws : Lawful RegisteredName algorithm
+unfolding algorithm
+algorithm_laws = registered_or_private_laws _ _
+
+pub names_laws : LawfulNames Name names
+names_laws = record {
+  shape = label_laws;
+  same_is = λ l m h. (name_cmp-apart l m).0 h;
+  same_self = λ l. (name_cmp-apart l l).1 refl;
+}
+
+-- of two labels it is the same which is asked whether it is the other
+sym-either : (l m : Name) (b : Bool) → same_name l m ≡ b → same_name m l ≡ b
+sym-either l m true h = ap (λ n. same_name n l) (sym (names_laws.same_is l m h)) ∙ names_laws.same_self l
+sym-either l m false h = go (same_name m l) refl
+  where
+    go : (b : Bool) → same_name m l ≡ b → same_name m l ≡ false
+    go true e = let same : m ≡ l = names_laws.same_is m l e in ap (λ n. same_name n l) same ∙ (sym (ap (λ n. same_name l n) same) ∙ h)
+    go false e = e
+
+pub same_name-sym : (l m : Name) → same_name l m ≡ same_name m l
+same_name-sym l m = sym (sym-either l m (same_name l m) refl)

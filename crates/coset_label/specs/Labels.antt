@@ -3,10 +3,15 @@ use Rattle.std.specs.Prelude.{◌≡◌, ◌⊎◌, ℕ, ℤ, List, Option, Some
 use Rattle.std.proofs.Common.{inl, inr}
 use Rattle.coset_value.specs.Item.{Item}
 use Rattle.coset_value.specs.Parts.{as_integer}
+use Rattle.coset_iana.specs.Algorithm as algorithms
+use Rattle.coset_iana.specs.Registry.{first_numbered}
+use Rattle.coset_iana.specs.WithPrivateRange.{is_private_use}
+use Rattle.coset_iana.specs.declared.algorithms.TheConstants.{ALGORITHMS}
 use Rattle.coset_codec.specs.declared.error.CoseError.{CoseError}
 use Rattle.coset_codec.specs.declared.error.CoseError.TheVariants as errors
+use Rattle.coset_codec.specs.Maps.{Names}
 use Rattle.coset_codec.specs.Shape.{Shape, mapped, either, such_that, int64, tstr}
-use Rattle.coset_label.specs.Names.{Name, number, text_label, RegisteredName, assigned, private_use, text_name}
+use Rattle.coset_label.specs.Names.{Name, number, text_label, RegisteredName, assigned, private_use, text_name, same_name}
 
 abbrev pub is_integer : Item → Bool
 is_integer v = is_some (as_integer v)
@@ -22,6 +27,10 @@ of_name (text_label s) = inr s
 -- int / tstr
 abbrev pub label : Shape Name
 label = mapped name_of of_name (either is_integer int64 tstr)
+
+-- the labels of a map: they are compared as numbers and texts
+abbrev pub names : Names Name
+names = record { shape = label; same = same_name }
 
 abbrev pub IsUnregistered : CoseError → Type 0
 IsUnregistered e = e ≡ errors.UnregisteredIanaValue
@@ -62,3 +71,7 @@ registered_in value_of = registered (λ i. is_some (value_of i))
 -- a registered label, one for private use, or a text, of the registry whose values `value_of` gives
 abbrev pub registered_or_private_in : {T : Type 0} → (ℤ → Option T) → (ℤ → Bool) → Shape RegisteredName
 registered_or_private_in value_of private = registered_or_private (λ i. is_some (value_of i)) private
+
+-- an algorithm: the number of one that IANA assigned, else a number for private use, or a text
+unfoldable pub algorithm : Shape RegisteredName
+algorithm = registered_or_private (λ i. is_some (first_numbered algorithms.number ALGORITHMS i)) is_private_use

@@ -7,3 +7,5 @@ pub mod LabelRefs
 pub mod Orderings
 pub mod Sorted
 pub mod SortedLaws
+pub mod Same
+pub mod SameLaws

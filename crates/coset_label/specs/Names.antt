@@ -1,6 +1,6 @@
 -- Labels apart from where they lie in memory, and the order of their encodings, as functions.
 -- That the encodings compare so is proved in `NameOrder.antt`.
-use Rattle.std.specs.Prelude.{◌≡◌, ◌↔◌, IsTrue, ℕ, ◌+◌, ◌^◌, ◌<◌, ℤ, pos, negsuc, List, [], length, nat_lt, if◌then◌else◌}
+use Rattle.std.specs.Prelude.{◌≡◌, ◌↔◌, IsTrue, ℕ, ◌+◌, ◌^◌, ◌<◌, ℤ, pos, negsuc, List, [], Bool, length, nat_lt, if◌then◌else◌}
 use Rattle.std.specs.declared.cmp.Ordering.{Ordering}
 use Rattle.std.specs.Ordering.{nat_cmp, on, ordering_then, then_cmp, is_eq}
 use Rattle.std.specs.Cmp.Lexicographic.{slice_cmp}
@@ -55,6 +55,10 @@ content (text_label s) = s
 -- the order of the three parts, one after the other
 abbrev pub name_cmp : Name → Name → Ordering
 name_cmp = then_cmp (on major_type nat_cmp) (then_cmp (on argument nat_cmp) (on content (slice_cmp nat_cmp)))
+
+-- two labels are one
+abbrev pub same_name : Name → Name → Bool
+same_name a b = is_eq (name_cmp a b)
 
 -- a label of a registry: the label as such, and then a value of the registry before private use of its number
 abbrev pub registered_cmp : RegisteredName → RegisteredName → Ordering

@@ -6,6 +6,7 @@ ghost use Rattle.coset_codec.specs.declared.error.CoseError.TheVariants.{OutOfMe
 ghost use Rattle.coset_codec.specs.Answers.{Reads};
 ghost use Rattle.coset_codec.specs.Inputs.{state, GoesBehind, IsLent, ReadsAt, length_left};
 ghost use Rattle.coset_label.specs.Labels.{label};
+ghost use Rattle.coset_label.specs.Names.{number, same_name};
 ghost use Rattle.coset_label.specs.Views.{label_seen};
 
 use coset_cbor::de::Pull;
@@ -14,6 +15,7 @@ use coset_codec::read::Input;
 use coset_codec::traits::{FromPull, read_slice};
 use coset_codec::write::{Encode, encode_to_vec};
 use coset_codec::{AsCborValue, CborSerializable, ItemSource, Lawful, Result};
+use coset_iana::EnumI64;
 use std::alloc::{AllocError, Global};
 
 /// A label: an integer within 64 bits with a sign, or a text (RFC 8152, section 1.4).
@@ -132,5 +134,15 @@ impl Label {
         ensures memory { IfErr result (λ e. e ≡ OutOfMemory) }
     {
         Ok(Clone::clone(self)?)
+    }
+}
+
+/// Whether the label is that of this parameter, of whatever registry.
+pub fn is_parameter<P: EnumI64 + Copy>(label: &Label, parameter: P) -> bool
+    ensures { result ≡ same_name (number (P.number parameter)) (label_seen label.now) }
+{
+    match label {
+        Label::Int(number) => *number == parameter.to_i64(),
+        Label::Text(_) => false,
     }
 }

@@ -6,8 +6,9 @@ use Rattle.std.specs.Cmp.Lexicographic.{pointwise, bytes_decides}
 use Rattle.std.proofs.Common.{sym, ap, subst, true≢false}
 use Rattle.std.proofs.lemmas.Bool.{and_parts}
 use Rattle.std.proofs.lemmas.Bool.Decides.{Decides-like, Decides-and}
+use Rattle.coset_label.specs.Same.{IsEquality}
 use Rattle.coset_core.specs.Same.{header_eq, protected_eq}
-use Rattle.coset_core.specs.SameLaws.{IsEquality, option_eq-decides, header_eq-decides, protected_eq-decides}
+use Rattle.coset_core.specs.SameLaws.{option_eq-decides, header_eq-decides, protected_eq-decides}
 use Rattle.std.specs.Ordering.{on}
 use Rattle.coset_codec.specs.Told.{Tells}
 use Rattle.coset_recipient.specs.RecipientView.{recipient_seen}

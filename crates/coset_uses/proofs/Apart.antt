@@ -8,8 +8,9 @@ use Rattle.coset_codec.specs.ReadAgain.{IsWritten}
 use Rattle.coset_codec.specs.declared.error.CallError.{CallError}
 use Rattle.coset_codec.specs.declared.error.CallError.TheVariants.{Coset, Caller}
 use Rattle.coset_label.specs.Names.{RegisteredName, assigned}
+use Rattle.coset_label.specs.Labels.{algorithm}
 use Rattle.coset_core.specs.Calls.{IsStructure}
-use Rattle.coset_core.specs.Fields.{algorithm, partial_header}
+use Rattle.coset_core.specs.Fields.{partial_header}
 use Rattle.coset_core.specs.Headers.{layered_header, layered_protected}
 use Rattle.coset_sign.specs.Sign1.{Sign1Seen, sign1, sign1_structure, with_signature}
 use Rattle.coset_uses.specs.Asked.{Asker, Maker}

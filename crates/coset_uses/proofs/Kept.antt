@@ -17,12 +17,10 @@ use Rattle.coset_codec.specs.ShapeLaws.{some-none, some-one}
 use Rattle.coset_codec.specs.declared.error.CoseError.{CoseError}
 use Rattle.coset_codec.specs.declared.error.CoseError.TheVariants.{DuplicateMapKey}
 use Rattle.coset_label.specs.LabelLaws.{label_laws}
-use Rattle.coset_label.specs.Labels.{label}
+use Rattle.coset_label.specs.Labels.{label, names}
 use Rattle.coset_label.specs.Names.{Name, RegisteredName}
-use Rattle.coset_label.specs.Views.{label_seen}
+use Rattle.coset_label.specs.Views.{label_seen, entry_seen}
 use Rattle.coset_label.specs.declared.label.Label.{Label}
-use Rattle.coset_core.specs.Fields.{names}
-use Rattle.coset_core.specs.Views.{entry_seen}
 use Rattle.coset_claims.specs.Claims.{ClaimsSeen, claim_name, claims}
 use Rattle.coset_claims.specs.ClaimsLaws.{claims_laws}
 use Rattle.cwt_gate.specs.Gate.{IsRefused}

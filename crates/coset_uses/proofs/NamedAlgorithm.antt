@@ -18,8 +18,9 @@ use Rattle.coset_codec.specs.Answers.{Describes}
 use Rattle.coset_codec.specs.ReadAgain.{IsWritten}
 use Rattle.coset_codec.specs.ShapeLaws.{some-one}
 use Rattle.coset_label.specs.Names.{number, assigned}
+use Rattle.coset_label.specs.Labels.{algorithm}
 use Rattle.coset_core.specs.Built.{with_algorithm}
-use Rattle.coset_core.specs.Fields.{algorithm, partial_header}
+use Rattle.coset_core.specs.Fields.{partial_header}
 use Rattle.coset_core.specs.Headers.{HeaderSeen, empty_header, header, layered_header, layered_protected, protected}
 use Rattle.coset_sign.specs.Sign1.{Sign1Seen, sign1, sign1_carried, with_signature}
 use Rattle.coset_uses.specs.Refusals.{unsigned}

@@ -9,7 +9,8 @@ use Rattle.coset_codec.specs.ShapeLaws.{some-none}
 use Rattle.coset_codec.specs.declared.error.CallError.{CallError}
 use Rattle.coset_codec.specs.declared.error.CallError.TheVariants.{Coset, Caller}
 use Rattle.coset_label.specs.Names.{RegisteredName, assigned}
-use Rattle.coset_core.specs.Fields.{algorithm, partial_header}
+use Rattle.coset_label.specs.Labels.{algorithm}
+use Rattle.coset_core.specs.Fields.{partial_header}
 use Rattle.coset_core.specs.Headers.{layered_header, layered_protected}
 use Rattle.coset_msg.specs.declared.mac_structure.MacContext.TheVariants.{CoseMac}
 use Rattle.coset_recipient.specs.Mac.{MacSeen, mac, mac_seen, mac_structure_of, with_tag}

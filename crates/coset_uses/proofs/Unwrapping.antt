@@ -9,8 +9,9 @@ use Rattle.coset_codec.specs.ReadAgain.{IsWritten}
 use Rattle.coset_codec.specs.declared.error.CallError.{CallError}
 use Rattle.coset_codec.specs.declared.error.CallError.TheVariants.{Coset, Caller}
 use Rattle.coset_label.specs.Names.{RegisteredName, assigned}
+use Rattle.coset_label.specs.Labels.{algorithm}
 use Rattle.coset_core.specs.Calls.{AsksAbout, IsStructure}
-use Rattle.coset_core.specs.Fields.{algorithm, partial_header}
+use Rattle.coset_core.specs.Fields.{partial_header}
 use Rattle.coset_msg.specs.declared.enc_structure.EncryptionContext.TheVariants.{CoseEncrypt, EncRecipient}
 use Rattle.coset_recipient.specs.Encrypt.{EncryptSeen, encrypt, encrypt_structure_of, with_ciphertext}
 use Rattle.coset_recipient.specs.Recipient as inner

@@ -9,10 +9,9 @@ use Rattle.coset_codec.specs.Maps.{SomePair, are_distinct}
 use Rattle.coset_codec.specs.Shape.{Shape}
 use Rattle.coset_codec.specs.declared.error.CoseError.{CoseError}
 use Rattle.coset_codec.specs.declared.error.CoseError.TheVariants.{DuplicateMapKey}
-use Rattle.coset_label.specs.Labels.{label}
+use Rattle.coset_label.specs.Labels.{label, names}
 use Rattle.coset_label.specs.Names.{Name, RegisteredName}
-use Rattle.coset_core.specs.Fields.{names}
-use Rattle.coset_core.specs.Views.{entry_seen}
+use Rattle.coset_label.specs.Views.{entry_seen}
 use Rattle.coset_claims.specs.Claims.{ClaimsSeen, claim_name, claims, claims_seen}
 use Rattle.coset_uses.specs.declared.kept_claims.KeptClaims.{KeptClaims}
 use Rattle.coset_uses.specs.declared.kept_claims.Parts.{Parts}

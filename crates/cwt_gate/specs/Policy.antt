@@ -5,11 +5,11 @@ use Rattle.std.specs.Ordering.{int_eq}
 use Rattle.std.specs.Cmp.Lexicographic.{pointwise}
 use Rattle.coset.specs.Claims.{ClaimsSeen}
 use Rattle.coset.specs.Claims as claims
-use Rattle.coset.specs.Fields.{same_name}
 use Rattle.coset.specs.Headers.{HeaderSeen, header_of, fields_in, are_none}
-use Rattle.coset.specs.Names.{Name, number, text_label, RegisteredName, as_name}
+use Rattle.coset.specs.LabelViews.{algorithm_seen}
+use Rattle.coset.specs.Names.{Name, number, text_label, RegisteredName, as_name, same_name}
 use Rattle.coset.specs.Sign1.{Sign1Seen}
-use Rattle.coset.specs.Views.{algorithm_seen, critical_seen}
+use Rattle.coset.specs.Views.{critical_seen}
 use Rattle.cwt_gate.specs.declared.policy.Policy.{Policy}
 
 -- a policy without its memory

@@ -2,10 +2,10 @@
 
 ghost use Rattle.std.specs.Prelude.{◌≡◌};
 ghost use Rattle.coset.specs.Claims.{claims_seen};
-ghost use Rattle.coset.specs.Fields as fields;
-ghost use Rattle.coset.specs.Names.{as_name};
+ghost use Rattle.coset.specs.LabelViews.{entry_seen};
+ghost use Rattle.coset.specs.Names.{as_name, same_name};
 ghost use Rattle.coset.specs.Sign1.{sign1_seen};
-ghost use Rattle.coset.specs.Views.{critical_seen, entry_seen, header_seen};
+ghost use Rattle.coset.specs.Views.{critical_seen, header_seen};
 ghost use Rattle.cwt_gate.specs.Policy.{allows, has_label, is_for, is_parameter, is_understood, number_in, parameters, policy_seen, understands};
 
 use coset::cbor::value::Value;
@@ -124,7 +124,7 @@ fn is_parameter(header: &Header, label: &Critical) -> bool
 
 /// Whether the pair has this label.
 fn is_labelled(pair: &(Label, Value), label: &Critical) -> bool
-    ensures { result ≡ fields.same_name (entry_seen pair.now).0
+    ensures { result ≡ same_name (entry_seen pair.now).0
         (as_name (critical_seen label.now)) }
 {
     orders_tell_apart();

@@ -1,15 +1,16 @@
 //! The builder of headers (RFC 8152, section 3).
 
 ghost use Rattle.std.specs.Prelude.{◌≡◌, IfOk, IfErr, ◌<◌, Some, string_bytes};
-ghost use Rattle.coset_codec.specs.declared.error.CoseError.TheVariants as errors;
-ghost use Rattle.coset_core.specs.Views.{algorithm_seen, countersignature_seen, critical_seen, header_seen, signature_seen};
-ghost use Rattle.coset_core.specs.Fields.{algorithm};
-ghost use Rattle.coset_label.specs.Names.{number, text_label, assigned};
+ghost use Rattle.coset_value.specs.View.{view};
 ghost use Rattle.coset_iana.specs.Algorithm as algorithms;
 ghost use Rattle.coset_iana.specs.CoapContentFormat as content_formats;
 ghost use Rattle.coset_iana.specs.HeaderParameter as parameters;
+ghost use Rattle.coset_codec.specs.declared.error.CoseError.TheVariants as errors;
+ghost use Rattle.coset_label.specs.Views.{algorithm_seen};
+ghost use Rattle.coset_label.specs.Labels.{algorithm};
+ghost use Rattle.coset_label.specs.Names.{number, text_label, assigned};
+ghost use Rattle.coset_core.specs.Views.{countersignature_seen, critical_seen, header_seen, signature_seen};
 ghost use Rattle.coset_core.specs.Headers.{empty_header};
-ghost use Rattle.coset_value.specs.View.{view};
 ghost use Rattle.coset_core.specs.Built.{with_algorithm, and_critical, with_content_type, with_key_id, with_iv, with_partial_iv, with_countersignature0_v2, and_counter_signature, and_countersignature_v2, and_pair, IsOtherLabel};
 
 use crate::countersignature::CoseCountersignature;

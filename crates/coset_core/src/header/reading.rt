@@ -6,20 +6,22 @@
 //! `layers` each byte string of a protected header takes one.
 
 ghost use Rattle.std.specs.Prelude.{MatchOption, ◌≡◌, ◌≢◌, [], map, OnOk, IfOk, IfErr, ◌⊎◌, ◌≤◌, ◌<◌, Option, true, false, IsSome, IsErrAnd, OnErr, Err, Some};
+ghost use Rattle.coset_value.specs.Item.{Item, Pairs, dict};
 ghost use Rattle.coset_codec.specs.declared.error.CoseError.TheVariants as errors;
 ghost use Rattle.coset_codec.specs.declared.error.CoseError.TheVariants.{DuplicateMapKey};
 ghost use Rattle.coset_codec.specs.InPlace.{Fills};
-ghost use Rattle.coset_core.specs.FieldsView.{fields_seen, signatures_held};
-ghost use Rattle.coset_core.specs.Views.{header_seen, signature_seen};
 ghost use Rattle.coset_codec.specs.Errors.{IsUnexpected, UnlessMemory, stored, made_in_place};
-ghost use Rattle.coset_core.specs.Fields.{FieldsSeen, Versions, names, fields, parts_of, same_name, HasOneIv, excludes};
-ghost use Rattle.coset_value.specs.Item.{Item, Pairs, dict};
 ghost use Rattle.coset_codec.specs.Inputs.{State, state, GoesBehind, ReadsAt, length_left, input_size, pairs_size, pairs_turns, PairsWithin, items_size, ItemAt, EntersMap};
 ghost use Rattle.coset_codec.specs.Maps.{Adds, Refuses, RefusesValue, TakesValue, is_nonempty, optional, unless_empty};
 ghost use Rattle.coset_codec.specs.Shape.{any, nonempty_bstr, any_number, one_or_many};
+ghost use Rattle.coset_codec.specs.declared.read.input.InputPairs.{InputPairs};
+ghost use Rattle.coset_label.specs.Labels.{names};
+ghost use Rattle.coset_label.specs.Names.{same_name};
 ghost use Rattle.coset_label.specs.Names.{number};
 ghost use Rattle.coset_label.specs.Views.{label_seen};
-ghost use Rattle.coset_codec.specs.declared.read.input.InputPairs.{InputPairs};
+ghost use Rattle.coset_core.specs.FieldsView.{fields_seen, signatures_held};
+ghost use Rattle.coset_core.specs.Views.{header_seen, signature_seen};
+ghost use Rattle.coset_core.specs.Fields.{FieldsSeen, Versions, fields, parts_of, HasOneIv, excludes};
 ghost use Rattle.coset_core.specs.Filling.{FillsFields, FillsSome, Keeps, NamesNoVersion, WalksTo, held_of, label_of};
 ghost use Rattle.coset_core.specs.Headers.{empty_header, layered_header, layered_signature};
 ghost use Rattle.coset_core.specs.OneOrMore.{EntersOnes};
@@ -34,19 +36,9 @@ use crate::signature::{CoseSignature, drop_nested, fill_bare, fill_listed};
 use coset_codec::error::{ErrorStored, store_error};
 use coset_codec::read::{Input, InputItems, InputPairs, set_field, set_nonempty};
 use coset_codec::{CoseError, Result};
-use coset_iana::{EnumI64, HeaderParameter};
-use coset_label::Label;
+use coset_iana::HeaderParameter;
+use coset_label::{Label, is_parameter};
 use std::alloc::Global;
-
-/// Whether the label is that of this parameter, of whatever registry.
-pub fn is_parameter<P: EnumI64 + Copy>(label: &Label, parameter: P) -> bool
-    ensures { result ≡ same_name (number (P.number parameter)) (label_seen label.now) }
-{
-    match label {
-        Label::Int(number) => *number == parameter.to_i64(),
-        Label::Text(_) => false,
-    }
-}
 
 /// Sets IV or Partial IV, where neither it nor the other is there yet.
 fn set_iv(alloc: Global, field: &mut Vec<u8>, other: &Vec<u8>, input: &mut Input<'_>) -> Result<()>

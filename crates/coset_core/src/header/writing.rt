@@ -1,19 +1,21 @@
 //! Writing headers, straight from where their fields lie.
 
 ghost use Rattle.std.specs.Prelude.{◌≡◌, map, OnOk, IfErr, ◌<◌, ◌^◌, true, false, ◌≢◌, ◌++◌};
-ghost use Rattle.coset_codec.specs.declared.error.CoseError.TheVariants.{DuplicateMapKey, OutOfMemory as out_of_memory};
-ghost use Rattle.coset_core.specs.FieldsView.{fields_seen};
-ghost use Rattle.coset_core.specs.Views.{countersignature_seen, critical_seen, entry_seen, header_seen, signature_seen};
-ghost use Rattle.coset_codec.specs.Errors.{UnlessMemory};
-ghost use Rattle.coset_core.specs.Fields.{critical, same_name};
-ghost use Rattle.coset_codec.specs.Maps.{are_distinct, unless_empty};
-ghost use Rattle.coset_codec.specs.Shape.{some_of};
+ghost use Rattle.coset_value.specs.Item.{integer};
 ghost use Rattle.coset_iana.specs.HeaderParameter as parameters;
 ghost use Rattle.coset_iana.specs.declared.headers.HeaderParameter.TheVariants.{CounterSignature, CounterSignatureV2, Crit};
-ghost use Rattle.coset_core.specs.Headers.{signatures_of, signatures_image, header_image};
-ghost use Rattle.coset_value.specs.Item.{integer};
-ghost use Rattle.coset_core.specs.Written.{AppendsCounterSignatures, AppendsFirst, count_pairs};
+ghost use Rattle.coset_codec.specs.declared.error.CoseError.TheVariants.{DuplicateMapKey, OutOfMemory as out_of_memory};
+ghost use Rattle.coset_codec.specs.Errors.{UnlessMemory};
+ghost use Rattle.coset_codec.specs.Maps.{are_distinct, unless_empty};
+ghost use Rattle.coset_codec.specs.Shape.{some_of};
 ghost use Rattle.coset_codec.specs.Encoding.{HasNoImage, AppendsField, AppendsItem, Encodes};
+ghost use Rattle.coset_label.specs.Views.{entry_seen};
+ghost use Rattle.coset_label.specs.Names.{same_name};
+ghost use Rattle.coset_core.specs.FieldsView.{fields_seen};
+ghost use Rattle.coset_core.specs.Views.{countersignature_seen, critical_seen, header_seen, signature_seen};
+ghost use Rattle.coset_core.specs.Fields.{critical};
+ghost use Rattle.coset_core.specs.Headers.{signatures_of, signatures_image, header_image};
+ghost use Rattle.coset_core.specs.Written.{AppendsCounterSignatures, AppendsFirst, count_pairs};
 ghost use Rattle.std.specs.Map.{keys_of};
 ghost use Rattle.coset_cbor.specs.Least.{least_head};
 

@@ -1,7 +1,8 @@
 use Rattle.coset_iana.specs.declared.algorithms.Algorithm.{Algorithm}
 use Rattle.coset_iana.specs.declared.content_formats.CoapContentFormat.{CoapContentFormat}
-use Rattle.coset_core.proofs.Copies.{registered_copied, list_copied}
-use Rattle.coset_core.specs.Views.{algorithm_seen, critical_seen, content_type_seen, entry_seen}
+use Rattle.coset_label.proofs.Copies.{registered_copied, list_copied}
+use Rattle.coset_label.specs.Views.{algorithm_seen, entry_seen}
+use Rattle.coset_core.specs.Views.{critical_seen, content_type_seen}
 use Rattle.coset_core.specs.declared.header.Header.{out-Header, out-roll-Header}
 use Rattle.coset_core.proofs.header.copy_fields.Goals as goal
 

@@ -1,7 +1,7 @@
 use Rattle.std.proofs.Common.{◌∙◌, sym}
 use Rattle.std.specs.Cmp.Derive.Mapped.{pointwise-map}
-use Rattle.coset_core.specs.Same.{entry_eq}
-use Rattle.coset_core.specs.Views.{entry_seen}
+use Rattle.coset_label.specs.Same.{entry_eq}
+use Rattle.coset_label.specs.Views.{entry_seen}
 use Rattle.coset_core.proofs.header.same_rest.Goals as goal
 
 pub returns : goal.returns

@@ -2,8 +2,8 @@ use Rattle.std.proofs.Common.{◌≡◌, ℤ, Some, option_map, map, not, pos, s
 use Rattle.coset_codec.specs.Encoding.{AppendsField}
 use Rattle.coset_codec.specs.Shape.{list_of}
 use Rattle.coset_codec.proofs.EncodingMaps.{left-out}
+use Rattle.coset_label.proofs.Memory.{refused_memory}
 use Rattle.coset_key.specs.Keys.{operation, operation_seen}
-use Rattle.coset_core.proofs.Memory.{refused_memory}
 use Rattle.coset_key.proofs.Writing.{set-there, key_ops_image, key_ops_list}
 use Rattle.coset_key.proofs.key.write_key_ops.Goals as goal
 

@@ -5,11 +5,11 @@ use Rattle.coset_value.specs.Item.{Item, array, bytes}
 use Rattle.coset_codec.specs.Shape.{images}
 use Rattle.coset_codec.specs.declared.error.CoseError.{CoseError}
 use Rattle.coset_codec.specs.declared.error.CoseError.TheVariants.{OutOfMemory}
-use Rattle.coset_core.proofs.Memory.{refused_memory}
-use Rattle.coset_sign.specs.Countersigned.{countersign_text}
-use Rattle.coset_sign.specs.SignatureStructure.{signed_parts}
+use Rattle.coset_label.proofs.Memory.{refused_memory}
 use Rattle.coset_core.specs.Structure.{byte_strings}
 use Rattle.coset_core.proofs.Structures.{list_written, strings_image}
+use Rattle.coset_sign.specs.Countersigned.{countersign_text}
+use Rattle.coset_sign.specs.SignatureStructure.{signed_parts}
 use Rattle.coset_sign.proofs.countersign.countersign_bytes.Goals as goal
 
 -- other fields, and the list that they are written as

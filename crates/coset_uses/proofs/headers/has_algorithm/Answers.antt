@@ -1,9 +1,9 @@
 use Rattle.std.proofs.Common.{◌∙◌, ap, sym, option_map}
 use Rattle.coset_iana.specs.Algorithm as algorithms
 use Rattle.coset_label.specs.Names.{assigned}
-use Rattle.coset_claims.specs.Claims.{same_name}
+use Rattle.coset_label.specs.Views.{algorithm_seen}
 use Rattle.coset_core.specs.Fields.{FieldsSeen}
-use Rattle.coset_core.specs.Views.{algorithm_seen}
+use Rattle.coset_claims.specs.Claims.{same_name}
 use Rattle.cwt_gate.specs.Policy.{is_there_and}
 use Rattle.coset_uses.proofs.Opened.{opened}
 use Rattle.coset_uses.proofs.headers.has_algorithm.Goals as goal

@@ -3,9 +3,8 @@ use Rattle.coset_value.specs.View.{pairs_view, view}
 use Rattle.coset_cbor.specs.Members.{pairs_left}
 use Rattle.coset_cbor.specs.Pulls.{pull_item}
 use Rattle.coset_codec.specs.RestLaws.{repeats-seen}
-use Rattle.coset_label.specs.Views.{label_seen}
-use Rattle.coset_core.specs.Fields.{same_name}
-use Rattle.coset_core.specs.Views.{entry_seen}
+use Rattle.coset_label.specs.Views.{label_seen, entry_seen}
+use Rattle.coset_label.specs.Names.{same_name}
 use Rattle.coset_claims.specs.Claims.{claims, claims_seen}
 use Rattle.cwt_gate.specs.Gate.{IsRefused}
 use Rattle.coset_uses.specs.Kept.{kept}

@@ -3,8 +3,7 @@ use Rattle.coset_value.specs.View.{pairs_view}
 use Rattle.coset_cbor.specs.Members.{pairs_left}
 use Rattle.coset_cbor.specs.Pulls.{pull_item}
 use Rattle.coset_codec.specs.Maps.{SomePair}
-use Rattle.coset_label.specs.Views.{label_seen}
-use Rattle.coset_core.specs.Views.{entry_seen}
+use Rattle.coset_label.specs.Views.{label_seen, entry_seen}
 use Rattle.coset_uses.specs.Kept.{IsNamed, IsNoLabel, Splits, parts_seen}
 use Rattle.coset_uses.proofs.Kept.{all_split, masked, blames_on, entries_pushed, named_on, not_split, other_on, pairs_pushed}
 use Rattle.coset_uses.proofs.kept_claims.split.Goals as goal

@@ -1,7 +1,7 @@
 use Rattle.std.proofs.Common.{map}
 use Rattle.coset_value.specs.View.{pairs_view}
 use Rattle.coset_cbor.specs.Members.{pairs_left}
-use Rattle.coset_core.specs.Views.{entry_seen}
+use Rattle.coset_label.specs.Views.{entry_seen}
 use Rattle.coset_uses.proofs.Kept.{Blames, GoesOn}
 use Rattle.coset_uses.proofs.kept_claims.split.Given as goal
 

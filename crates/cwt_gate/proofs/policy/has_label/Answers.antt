@@ -2,10 +2,11 @@ use Rattle.std.proofs.Common.{◌≡◌, ◌∙◌, ◌||◌, Bool, false, ap, s
 use Rattle.std.specs.List.{list_any}
 use Rattle.std.proofs.lemmas.Iterator.{YieldsList-from_slice}
 use Rattle.std.proofs.lemmas.Iterator.Search.{any_from_yields_List}
-use Rattle.coset.specs.Names.{as_name}
-use Rattle.coset.specs.Fields.{FieldsSeen, same_name}
+use Rattle.coset.specs.Names.{as_name, same_name}
+use Rattle.coset.specs.Fields.{FieldsSeen}
+use Rattle.coset.specs.LabelViews.{entry_seen}
 use Rattle.coset.specs.Headers.{fields_in}
-use Rattle.coset.specs.Views.{critical_seen, entry_seen, header_seen}
+use Rattle.coset.specs.Views.{critical_seen, header_seen}
 use Rattle.coset.specs.Header.{out-Header}
 use Rattle.cwt_gate.specs.Policy.{is_parameter}
 use Rattle.cwt_gate.proofs.Opened.{any-map, opened}

@@ -1,5 +1,5 @@
 use Rattle.std.specs.Prelude.{string_bytes}
-use Rattle.coset_core.proofs.Copies.{list_copied}
+use Rattle.coset_label.proofs.Copies.{list_copied}
 use Rattle.coset_claims.specs.Claims.{entry_seen}
 use Rattle.coset_claims.specs.Timestamp.{timestamp_seen}
 use Rattle.coset_claims.proofs.ClaimCopies.{numbers_copied, option_copied}

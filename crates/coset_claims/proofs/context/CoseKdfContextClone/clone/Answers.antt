@@ -1,4 +1,4 @@
-use Rattle.coset_core.proofs.Copies.{list_copied}
+use Rattle.coset_label.proofs.Copies.{list_copied}
 use Rattle.coset_claims.proofs.ClaimCopies.{numbers_copied}
 use Rattle.coset_claims.proofs.context.CoseKdfContextClone.clone.Goals as goal
 

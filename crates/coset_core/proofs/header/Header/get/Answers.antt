@@ -3,7 +3,7 @@ use Rattle.std.specs.Map.{lookup}
 use Rattle.coset_value.specs.View.{view}
 use Rattle.coset_codec.proofs.Finding.{found_seen}
 use Rattle.coset_label.specs.Views.{label_seen}
-use Rattle.coset_core.specs.Fields.{same_name}
+use Rattle.coset_label.specs.Names.{same_name}
 use Rattle.coset_core.specs.Headers.{fields_in}
 use Rattle.coset_core.specs.ViewLaws.{header-opened}
 use Rattle.coset_core.specs.declared.header.Header.{out-Header}

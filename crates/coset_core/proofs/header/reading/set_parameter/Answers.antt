@@ -2,11 +2,11 @@ use Rattle.std.proofs.Common.{◌≡◌, [], ◌∷◌, ◌++◌, map, refl, sym
 use Rattle.std.proofs.lemmas.List.{map_push}
 use Rattle.coset_codec.specs.Maps.{Adds, RefusesValue, optional}
 use Rattle.coset_codec.specs.Shape.{any}
-use Rattle.coset_label.specs.Views.{label_seen}
+use Rattle.coset_label.specs.Views.{label_seen, entry_seen}
+use Rattle.coset_label.specs.Labels.{algorithm, names}
 use Rattle.coset_core.specs.FieldLabels as labels
-use Rattle.coset_core.specs.Fields.{HasOneIv, algorithm, fields, names, parts_of}
+use Rattle.coset_core.specs.Fields.{HasOneIv, fields, parts_of}
 use Rattle.coset_core.specs.FieldsView.{fields_level, fields_seen}
-use Rattle.coset_core.specs.Views.{entry_seen}
 use Rattle.coset_core.specs.declared.header.Header.{out-Header, out-roll-Header}
 use Rattle.coset_core.proofs.Putting.{adds_rest, adds_alg, adds_crit, adds_content_type, adds_key_id, adds_iv, adds_partial_iv, adds_countersignature0_v2}
 use Rattle.coset_core.proofs.Putting.{refuses_at, swapped}

@@ -2,7 +2,7 @@ use Rattle.std.proofs.Common.{refl}
 use Rattle.coset_value.specs.View.{view}
 use Rattle.coset_codec.specs.RestLaws.{repeated-seen, distinct-seen}
 use Rattle.coset_label.specs.Views.{label_seen}
-use Rattle.coset_core.specs.Fields.{same_name}
+use Rattle.coset_label.specs.Names.{same_name}
 use Rattle.coset_core.proofs.header.writing.ask_distinct.Goals as goal
 
 pub returns-then-branch-clause-refused : goal.returns-then-branch-clause-refused

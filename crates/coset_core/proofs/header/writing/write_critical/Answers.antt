@@ -8,9 +8,9 @@ use Rattle.coset_codec.specs.Maps.{field_shape_image}
 use Rattle.coset_codec.specs.Shape.{images}
 use Rattle.coset_codec.proofs.Encoding.{images-mapped}
 use Rattle.coset_codec.proofs.EncodingMaps.{filled-seen, left-out}
+use Rattle.coset_label.proofs.Memory.{never_none}
 use Rattle.coset_core.specs.Fields.{critical}
 use Rattle.coset_core.specs.Views.{critical_seen}
-use Rattle.coset_core.proofs.Memory.{never_none}
 use Rattle.coset_core.proofs.WritingHeaders.{critical-has, list-has}
 use Rattle.coset_core.proofs.header.writing.write_critical.Goals as goal
 

@@ -1,9 +1,11 @@
 use Rattle.std.proofs.Common.{refl, ◌∙◌, rules}
 use Rattle.coset_codec.proofs.EncodingMaps.{optional-has, optional-seen}
-use Rattle.coset_core.specs.Fields.{algorithm, content_type}
-use Rattle.coset_core.specs.Views.{algorithm_seen, content_type_seen}
+use Rattle.coset_label.specs.Labels.{algorithm}
+use Rattle.coset_label.specs.Views.{algorithm_seen}
+use Rattle.coset_label.proofs.Memory.{passed_memory}
+use Rattle.coset_core.specs.Fields.{content_type}
+use Rattle.coset_core.specs.Views.{content_type_seen}
 use Rattle.coset_core.specs.declared.header.Header.{out-Header}
-use Rattle.coset_core.proofs.Memory.{passed_memory}
 use Rattle.coset_core.proofs.WritingHeaders.{algorithm-has, content_type-has, field-seen}
 use Rattle.coset_core.proofs.header.writing.write_fields.Goals as goal
 

@@ -2,8 +2,9 @@ use Rattle.std.specs.Prelude.{◌≡◌, ◌==◌, OnOk, not, filter, length, is
 use Rattle.std.proofs.Common.{List, [], ◌∷◌, ◌+◌, ◌++◌, ◌<◌, ◌^◌, sym, ◌∙◌, ap, subst, rules}
 use Rattle.std.proofs.lemmas.List.{length-map}
 use Rattle.coset_cbor.specs.Least.{least_head}
+use Rattle.coset_label.specs.Views.{entry_seen}
 use Rattle.coset_core.specs.ViewLaws.{header-opened}
-use Rattle.coset_core.specs.Views.{entry_seen, header_seen}
+use Rattle.coset_core.specs.Views.{header_seen}
 use Rattle.coset_core.specs.Written.{count_pairs}
 use Rattle.coset_core.specs.declared.header.Header.{out-Header}
 use Rattle.coset_core.proofs.WritingHeaders.{fields-there}

@@ -5,8 +5,7 @@ use Rattle.std.proofs.lemmas.List.{with_items_is}
 use Rattle.std.proofs.lemmas.List.Sorted.{ranks_by, IsPermutation-map}
 use Rattle.coset_label.specs.Orderings.{name_cmp_by}
 use Rattle.coset_label.specs.Sorted.{AreInOrder}
-use Rattle.coset_label.specs.Views.{label_seen}
-use Rattle.coset_core.specs.Views.{entry_seen}
+use Rattle.coset_label.specs.Views.{label_seen, entry_seen}
 use Rattle.coset_key.proofs.CanonicalKeys.{total_by}
 use Rattle.coset_key.proofs.Sorting.{sorted-seen}
 use Rattle.coset_key.proofs.key.CoseKey.canonicalize.Goals as goal

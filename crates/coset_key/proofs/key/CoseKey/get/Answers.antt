@@ -1,7 +1,7 @@
 use Rattle.coset_value.specs.View.{view}
 use Rattle.coset_codec.proofs.Finding.{found_seen}
 use Rattle.coset_label.specs.Views.{label_seen}
-use Rattle.coset_core.specs.Fields.{same_name}
+use Rattle.coset_label.specs.Names.{same_name}
 use Rattle.coset_key.proofs.key.CoseKey.get.Goals as goal
 
 pub returns : goal.returns

@@ -1,9 +1,8 @@
 use Rattle.std.proofs.Common.{◌≡◌, map, drop}
 use Rattle.std.specs.Map.{lookup}
 use Rattle.coset_iana.specs.Ec2KeyParameter as ec2
-use Rattle.coset_label.specs.Names.{number}
-use Rattle.coset_core.specs.Fields.{same_name}
-use Rattle.coset_core.specs.Views.{entry_seen}
+use Rattle.coset_label.specs.Names.{number, same_name}
+use Rattle.coset_label.specs.Views.{entry_seen}
 use Rattle.coset_key.proofs.key.CoseKey.param.Given as goal
 
 abbrev pub invariant-loop-label : goal.invariant-loop-label

@@ -1,6 +1,6 @@
 use Rattle.coset_iana.specs.declared.algorithms.Algorithm.{Algorithm}
-use Rattle.coset_core.proofs.Copies.{registered_copied, list_copied}
-use Rattle.coset_core.specs.Views.{algorithm_seen, entry_seen}
+use Rattle.coset_label.proofs.Copies.{registered_copied, list_copied}
+use Rattle.coset_label.specs.Views.{algorithm_seen, entry_seen}
 use Rattle.coset_key.specs.Keys.{operation_seen}
 use Rattle.coset_key.proofs.key.CoseKeyClone.clone.Goals as goal
 

@@ -5,10 +5,9 @@ use Rattle.coset_codec.specs.RestLaws.{as_seen, repeated-seen, distinct-seen, no
 use Rattle.coset_codec.specs.Shape.{nonempty_bstr}
 use Rattle.coset_codec.proofs.Encoding.{passes}
 use Rattle.coset_codec.proofs.EncodingMaps.{no-field, field-put, optional-put, listed-put, optional-has, filled-there, map-written}
-use Rattle.coset_label.specs.Names.{number}
-use Rattle.coset_label.specs.Views.{label_seen}
-use Rattle.coset_core.specs.Fields.{algorithm, names, same_name}
-use Rattle.coset_core.specs.Views.{algorithm_seen}
+use Rattle.coset_label.specs.Names.{number, same_name}
+use Rattle.coset_label.specs.Views.{label_seen, algorithm_seen}
+use Rattle.coset_label.specs.Labels.{algorithm, names}
 use Rattle.coset_key.specs.Keys.{key, key_type, key_ops, kty_seen, operation_seen}
 use Rattle.coset_key.proofs.Writing.{algorithm-has, set-there}
 use Rattle.coset_key.proofs.key.CoseKeyCodec.write.Goals as goal

@@ -1,9 +1,8 @@
 use Rattle.std.proofs.Common.{◌≡◌, [], ◌∷◌, ◌++◌, map, option_map, refl, sym, ◌∙◌, ap}
 use Rattle.std.proofs.lemmas.List.{map_push}
 use Rattle.coset_codec.specs.Maps.{RefusesValue, TakesValue, optional, unless_empty}
-use Rattle.coset_label.specs.Views.{label_seen}
-use Rattle.coset_core.specs.Fields.{algorithm}
-use Rattle.coset_core.specs.Views.{algorithm_seen, entry_seen}
+use Rattle.coset_label.specs.Views.{label_seen, algorithm_seen, entry_seen}
+use Rattle.coset_label.specs.Labels.{algorithm}
 use Rattle.coset_key.specs.KeyLabels as labels
 use Rattle.coset_key.specs.Keys.{key_ops, key_type, kty_seen, operation_seen}
 use Rattle.coset_key.specs.Reading.{so_far_seen}

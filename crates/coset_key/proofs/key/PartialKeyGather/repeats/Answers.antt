@@ -2,7 +2,7 @@ use Rattle.std.proofs.Common.{refl}
 use Rattle.coset_value.specs.View.{view}
 use Rattle.coset_codec.specs.RestLaws.{if_ok, repeats-seen}
 use Rattle.coset_label.specs.Views.{label_seen}
-use Rattle.coset_core.specs.Fields.{same_name}
+use Rattle.coset_label.specs.Names.{same_name}
 use Rattle.coset_key.proofs.key.PartialKeyGather.repeats.Goals as goal
 
 pub returns-clause-repeats : goal.returns-clause-repeats

@@ -1,4 +1,4 @@
-use Rattle.coset_core.proofs.Copies.{list_copied}
+use Rattle.coset_label.proofs.Copies.{list_copied}
 use Rattle.coset_key.specs.Keys.{key_seen}
 use Rattle.coset_key.proofs.key_set.CoseKeySetClone.clone.Goals as goal
 

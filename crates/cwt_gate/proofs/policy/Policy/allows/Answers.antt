@@ -2,7 +2,7 @@ use Rattle.std.proofs.Common.{◌∙◌, ap, sym, option_map}
 use Rattle.std.specs.Ordering.{is_eq}
 use Rattle.coset.specs.Names.{registered_cmp}
 use Rattle.coset.specs.Fields.{FieldsSeen}
-use Rattle.coset.specs.Views.{algorithm_seen}
+use Rattle.coset.specs.LabelViews.{algorithm_seen}
 use Rattle.cwt_gate.specs.Policy.{is_one_of, is_there_and, policy_seen}
 use Rattle.cwt_gate.proofs.Opened.{any-map, opened}
 use Rattle.cwt_gate.proofs.policy.Policy.allows.Goals as goal

@@ -1,0 +1,29 @@
+-- The tests of `Same` answer `true` exactly where what they compare is equal, and `==` is equality of what contracts see.
+use Rattle.std.specs.Ordering.{on}
+use Rattle.std.proofs.Common.{ap}
+use Rattle.std.proofs.lemmas.Bool.Decides.{Decides-like, Decides-and}
+use Rattle.coset_value.specs.Same.{item_eq}
+use Rattle.coset_value.specs.SameLaws.{item_eq-decides}
+use Rattle.coset_codec.specs.Told.{Tells}
+use Rattle.coset_label.specs.Names.{same_name}
+use Rattle.coset_label.specs.NameOrder.{name_cmp-apart, registered_cmp-apart}
+use Rattle.coset_label.specs.Same.{IsEquality, algorithm_eq, entry_eq}
+use Rattle.coset_label.specs.Views.{algorithm_seen, entry_seen}
+
+pub algorithm_eq-decides : IsEquality algorithm_eq
+algorithm_eq-decides = registered_cmp-apart
+
+pub same_name-decides : IsEquality same_name
+same_name-decides = name_cmp-apart
+
+pub entry_eq-decides : IsEquality entry_eq
+entry_eq-decides e f =
+    Decides-like (entry_eq e f) (λ p i. (p.0 i, p.1 i)) (λ p. (ap (λ x. x.0) p, ap (λ x. x.1) p))
+    (Decides-and (same_name e.0 f.0) (item_eq e.1 f.1) (same_name-decides e.0 f.0) (item_eq-decides e.1 f.1))
+
+pub algorithm_told : Tells algorithm_seen (on algorithm_seen algorithm_eq)
+algorithm_told x y = algorithm_eq-decides (algorithm_seen x) (algorithm_seen y)
+
+-- a label and its value
+pub entry_told : Tells entry_seen (on entry_seen entry_eq)
+entry_told x y = entry_eq-decides (entry_seen x) (entry_seen y)
