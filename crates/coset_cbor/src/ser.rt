@@ -45,8 +45,9 @@ pub fn write_value(value: &Value, out: &mut Vec<u8>) -> Result<(), OutOfMemory>
     rolled_back(written, before, out)
 }
 
-/// Appends the shortest encoding of a value that isn't needed any more, as [`write_value`] does, and lets each part of it
-/// go as soon as it is written: faster than one after the other, since the part is still near.
+/// Appends the shortest encoding of a value that isn't needed any more, as [`write_value`] does, and lets each member of
+/// its arrays and maps go as soon as it is written: faster than one after the other, since the member is still near.
+/// What a tag encloses goes with the tag.
 ///
 /// # Errors
 /// The same as [`write_value`]. The value is gone all the same.

@@ -158,8 +158,8 @@ fn put_pairs(out: &mut Vec<u8>, pairs: &Vec<(Value, Value)>) -> Result<(), Alloc
     Ok(())
 }
 
-/// Writes the shortest encoding of the value at the end, and lets each part go as soon as it is written. An `Err` may
-/// leave part of it there.
+/// Writes the shortest encoding of the value at the end, and lets each member of an array or a map go as soon as it is
+/// written; what a tag encloses goes with the tag. An `Err` may leave part of it there.
 #[cycle(put_owned)]
 pub(crate) fn put_owned(out: &mut Vec<u8>, value: Value) -> Result<(), AllocError>
     ensures ok { OnOk result (out.new.items ≡ out.old.items ++ least_encoding (view value)) }
