@@ -23,6 +23,18 @@ pub fn has_repeats<K: Ord, V>(alloc: Global, pairs: &[(K, V)]) -> Result<bool>
     if pairs.len() <= MAX_PAIRWISE {
         return Ok(has_repeats_pairwise(pairs));
     }
+    has_repeats_sorted(alloc, pairs)
+}
+
+/// Whether two of the keys are equal, where they are sorted by reference.
+///
+/// # Errors
+/// `OutOfMemory` alone.
+#[inline(never)]
+fn has_repeats_sorted<K: Ord, V>(alloc: Global, pairs: &[(K, V)]) -> Result<bool>
+    ensures answer { IfOk result (λ b. b ≡ not (are_distinct K.eq (keys_of pairs.now))) }
+    ensures memory { IfErr result (λ e. e ≡ OutOfMemory) }
+{
     let mut keys = Vec::with_capacity(alloc, pairs.len())?;
     keys.extend(pairs.iter().map(|(key, _)| key))?;
     keys.sort_unstable();

@@ -223,10 +223,10 @@ impl Codec for Header {
     fn read(alloc: Global, input: &mut Input<'_>) -> Result<Header> {
         let mut header = Header::new(alloc);
         let mut error = CoseError::OutOfMemory;
-        match fill_header(&mut header, alloc, input, LAYERS, &mut error) {
-            Ok(()) => Ok(header),
-            Err(ErrorStored) => Err(error),
+        if let Err(ErrorStored) = fill_header(&mut header, alloc, input, LAYERS, &mut error) {
+            return Err(error);
         }
+        Ok(header)
     }
 
     /// Enough for all but counter signatures of both versions, where the values of the rest are short.

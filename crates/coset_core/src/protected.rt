@@ -342,10 +342,10 @@ pub(crate) fn read_protected(alloc: Global, input: &mut Input<'_>) -> Result<Pro
 {
     let mut protected = ProtectedHeader::new(alloc);
     let mut error = CoseError::OutOfMemory;
-    match fill_bstr(&mut protected, alloc, input, &mut error) {
-        Ok(()) => Ok(protected),
-        Err(ErrorStored) => Err(error),
+    if let Err(ErrorStored) = fill_bstr(&mut protected, alloc, input, &mut error) {
+        return Err(error);
     }
+    Ok(protected)
 }
 
 /// Appends the byte string that stands for the protected header. Bytes that were read aren't copied first.

@@ -135,10 +135,10 @@ impl Codec for CoseSignature {
     fn read(alloc: Global, input: &mut Input<'_>) -> Result<CoseSignature> {
         let mut signed = CoseSignature::new(alloc);
         let mut error = CoseError::OutOfMemory;
-        match fill_signature(&mut signed, alloc, input, LAYERS, &mut error) {
-            Ok(()) => Ok(signed),
-            Err(ErrorStored) => Err(error),
+        if let Err(ErrorStored) = fill_signature(&mut signed, alloc, input, LAYERS, &mut error) {
+            return Err(error);
         }
+        Ok(signed)
     }
 
     fn size_hint(&self) -> usize {

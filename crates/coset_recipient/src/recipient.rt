@@ -567,10 +567,10 @@ impl Codec for CoseRecipient {
     fn read(alloc: Global, input: &mut Input<'_>) -> Result<CoseRecipient> {
         let mut recipient = CoseRecipient::new(alloc);
         let mut error = CoseError::OutOfMemory;
-        match fill_recipient(&mut recipient, alloc, input, &mut error) {
-            Ok(()) => Ok(recipient),
-            Err(ErrorStored) => Err(error),
+        if let Err(ErrorStored) = fill_recipient(&mut recipient, alloc, input, &mut error) {
+            return Err(error);
         }
+        Ok(recipient)
     }
 
     fn size_hint(&self) -> usize {

@@ -7,7 +7,7 @@ use Rattle.std.proofs.lemmas.Iterator.Adapters.{fact_from_extend}
 use Rattle.std.proofs.lemmas.Iterator.Consumers.{YieldsList-at}
 use Rattle.std.proofs.lemmas.List.Sorted.{answers_always}
 use Rattle.coset_codec.proofs.Distinct.{are_distinct-sorted}
-use Rattle.coset_codec.proofs.repeats.has_repeats.Goals as goal
+use Rattle.coset_codec.proofs.repeats.has_repeats_sorted.Goals as goal
 
 pub returns-clause-answer : goal.returns-clause-answer
 returns-clause-answer g c =
