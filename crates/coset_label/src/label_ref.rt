@@ -2,7 +2,7 @@
 //! and then by what follows it (RFC 8949, sections 3 and 4.2.1). Nothing is encoded, and no memory taken.
 
 ghost use Rattle.std.specs.Prelude.{◌≡◌};
-ghost use Rattle.coset_label.specs.Names.{name_cmp, canonical_cmp, major_type, argument, content, head_length, encoded_length};
+ghost use Rattle.coset_label.specs.Names.{number, name_cmp, canonical_cmp, major_type, argument, content, head_length, encoded_length};
 ghost use Rattle.coset_label.specs.LabelRefs.{lent_seen};
 
 use std::cmp::Ordering;
@@ -24,6 +24,18 @@ fn head_length(argument: u64) -> u64
         0x100..=0xffff => 3,
         0x1_0000..=0xffff_ffff => 5,
         _ => 9,
+    }
+}
+
+/// The byte order of the encodings of two integers: those from 0 up come first, and then those from -1 down.
+fn number_order(a: i64, b: i64) -> Ordering
+    ensures { result ≡ name_cmp (number a) (number b) }
+{
+    match (a >= 0, b >= 0) {
+        (true, true) => a.cmp(&b),
+        (true, false) => Ordering::Less,
+        (false, true) => Ordering::Greater,
+        (false, false) => b.cmp(&a),
     }
 }
 
@@ -72,6 +84,9 @@ impl<'a> LabelRef<'a> {
     pub(crate) fn order(&self, other: &LabelRef<'_>) -> Ordering
         ensures { result ≡ name_cmp (lent_seen self.now) (lent_seen other.now) }
     {
+        if let (LabelRef::Int(a), LabelRef::Int(b)) = (self, other) {
+            return number_order(*a, *b);
+        }
         let major_types = self.major_type().cmp(&other.major_type());
         match major_types.then(self.argument().cmp(&other.argument())) {
             Ordering::Equal => self.content().cmp(other.content()),
