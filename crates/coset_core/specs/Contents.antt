@@ -3,7 +3,7 @@ use Rattle.std.specs.Prelude.{ℕ, List, [], None, Result, Ok, Err}
 use Rattle.coset_codec.specs.declared.error.CoseError.{CoseError}
 use Rattle.coset_codec.specs.Errors.{UnlessMemory}
 use Rattle.coset_codec.specs.Serialized.{ContentDescribes, ContentFaults}
-use Rattle.coset_core.specs.Headers.{HeaderSeen, SignatureSeen, empty_header, layered_header, header, protected}
+use Rattle.coset_core.specs.Headers.{HeaderSeen, SignatureSeen, empty_header, layered_header}
 
 -- the place holds the header that the bytes hold, with k layers left; or, out of memory aside, an error that tells of a
 -- fault in them

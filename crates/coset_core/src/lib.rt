@@ -25,4 +25,4 @@ pub use header::{Header, HeaderBuilder, copy_header};
 pub use headers::{Content, fill_protected_header, fill_unprotected_header, read_headed};
 pub use protected::{Bstr, ProtectedHeader, copy_protected};
 pub use protected_bstr::ProtectedBstr;
-pub use signature::{CoseSignature, CoseSignatureBuilder};
+pub use signature::{CoseSignature, CoseSignatureBuilder, read_signatures};

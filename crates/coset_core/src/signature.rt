@@ -1,13 +1,17 @@
 //! Signatures: those of a message, and those that countersign (RFC 8152, sections 4.1 and 4.5).
 
-ghost use Rattle.std.specs.Prelude.{◌≡◌, [], map, option_map, OnOk, IfOk, IfErr, codes, ◌≤◌, ◌<◌, IsTrue, None, ◌↔◌, ◌+◌, IfSome};
+ghost use Rattle.std.specs.Prelude.{◌≡◌, ◌≢◌, [], map, option_map, OnOk, IfOk, IfErr, codes, ◌≤◌, ◌<◌, IsTrue, None, ◌↔◌, ◌+◌, IfSome};
 ghost use Rattle.coset_codec.specs.declared.error.CoseError.TheVariants.{OutOfMemory};
 ghost use Rattle.coset_core.specs.Contents.{empty_signature};
 ghost use Rattle.coset_codec.specs.InPlace.{Fills, FillsEach};
 ghost use Rattle.coset_core.specs.Views.{header_seen, protected_seen, signature_seen};
-ghost use Rattle.coset_codec.specs.Errors.{stored, made_in_place};
+ghost use Rattle.coset_codec.specs.Errors.{IsUnexpected, UnlessMemory, stored, made_in_place};
 ghost use Rattle.coset_value.specs.Item.{Item, array, Items, no_items, item};
-ghost use Rattle.coset_codec.specs.Inputs.{State, state, length_left, input_size, items_size, ItemAt, GoesBehind, AreWithin, EntersArray};
+ghost use Rattle.coset_value.specs.Parts.{as_array};
+ghost use Rattle.coset_codec.specs.Answers.{Reads};
+ghost use Rattle.coset_codec.specs.Kinds.{Says, kind};
+ghost use Rattle.coset_codec.specs.Shape.{list_of, masked};
+ghost use Rattle.coset_codec.specs.Inputs.{State, state, length_left, input_size, items_size, ItemAt, GoesBehind, AreWithin, EntersArray, ReadsAt};
 ghost use Rattle.coset_core.specs.Filling.{BeginsElements, EndsElements};
 ghost use Rattle.coset_core.specs.Headers.{empty_header, layered_signature, signature as signature_shape, signatures_of, signatures_image};
 ghost use Rattle.coset_core.specs.Written.{AppendsSignatures, signature_array};
@@ -288,6 +292,49 @@ pub(crate) fn fill_listed(
         fill_signature(&mut all[last], alloc, input, layers, error)?;
     }
     Ok(())
+}
+
+/// Reads an array of signatures, each where it stands in the list. Whatever is at fault with one of them, it is
+/// `UnexpectedItem` with the two texts of `blame`.
+///
+/// # Errors
+/// `OutOfMemory`; or `UnexpectedItem`, which asks for an array where the item is none.
+pub fn read_signatures(
+    alloc: Global,
+    input: &mut Input<'_>,
+    blame: (&'static str, &'static str),
+) -> Result<Vec<CoseSignature>>
+    ensures shrinks { length_left (state input.new) ≤ length_left (state input.old) }
+    ensures reads { ReadsAt (state input.old) (state input.new)
+        (λ v. Reads (list_of (masked IsUnexpected signature_shape))
+        (λ all. map signature_seen all.items) v result) }
+    ensures says { ReadsAt (state input.old) (state input.new)
+        (λ v. IfErr result (λ e. as_array v ≡ None → Says (kind v) (codes "array") e)) }
+    ensures blames { ReadsAt (state input.old) (state input.new)
+        (λ v. IfErr result (λ e. as_array v ≢ None
+        → UnlessMemory e (Says blame.entry.0.now blame.entry.1.now))) }
+{
+    let mut members = input.enter_array("array")?;
+    let mut all = Vec::new(alloc);
+    let mut error = CoseError::OutOfMemory;
+    let filled = fill_listed(&mut all, alloc, &mut members, input, LAYERS, &mut error);
+    members.finish(input);
+    match filled {
+        Ok(()) => Ok(all),
+        Err(ErrorStored) => Err(masked_error(error, blame)),
+    }
+}
+
+/// The error with these two texts, in place of one that tells of another fault.
+fn masked_error(error: CoseError, blame: (&'static str, &'static str)) -> CoseError
+    ensures memory { error ≡ OutOfMemory → result ≡ OutOfMemory }
+    ensures blames { UnlessMemory error (λ e. IsUnexpected result
+        × Says blame.entry.0.now blame.entry.1.now result) }
+{
+    match error {
+        CoseError::OutOfMemory => CoseError::OutOfMemory,
+        _ => CoseError::UnexpectedItem(blame.0, blame.1),
+    }
 }
 
 /// The members of an array.

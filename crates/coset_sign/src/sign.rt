@@ -11,12 +11,12 @@ ghost use Rattle.coset_core.specs.Calls.{AsksAbout, Creates, TriesToCreate};
 ghost use Rattle.coset_sign.specs.Sign.{and_signature, empty_sign, sign, sign_seen, signed_with, signer_carried, signer_structure};
 
 use crate::signature::{SignatureContext, sig_structure_of};
-use coset_codec::read::{Decode, Input, read_masked_list};
+use coset_codec::read::{Decode, Input};
 use coset_codec::util::copy_bstr;
 use coset_codec::write::{Array, Encode, encode_four};
 use coset_codec::{CallError, Codec, CoseError, Result, TaggedCodec};
 use coset_core::calls::{ask, make};
-use coset_core::{Bstr, CoseSignature, Header, ProtectedHeader, read_headed};
+use coset_core::{Bstr, CoseSignature, Header, ProtectedHeader, read_headed, read_signatures};
 use std::alloc::{AllocError, Global};
 use std::marker::Model;
 
@@ -59,7 +59,7 @@ impl Decode for Signatures {
 
     fn decode(alloc: Global, input: &mut Input<'_>) -> Result<Signatures> {
         let blame = ("non-signature", "map for COSE_Signature");
-        match read_masked_list(alloc, input, "array", blame) {
+        match read_signatures(alloc, input, blame) {
             Ok(all) => Ok(Signatures(all)),
             Err(error) => Err(error),
         }

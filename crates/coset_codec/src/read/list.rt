@@ -1,15 +1,14 @@
 //! Lists, read member by member.
 
-ghost use Rattle.std.specs.Prelude.{◌≡◌, ◌≢◌, ◌≤◌, Some, None, map, IfErr, OnOk};
+ghost use Rattle.std.specs.Prelude.{◌≡◌, ◌≤◌, Some, None, map, IfErr, OnOk};
 ghost use Rattle.coset_value.specs.Item.{Items, no_items};
 ghost use Rattle.coset_value.specs.Parts.{as_array};
-ghost use Rattle.coset_codec.specs.declared.error.CoseError.TheVariants.{OutOfMemory};
 ghost use Rattle.coset_codec.specs.Answers.{Reads};
 ghost use Rattle.coset_codec.specs.Lists.{ReadsEach};
-ghost use Rattle.coset_codec.specs.Errors.{IsUnexpected, UnlessMemory};
+ghost use Rattle.coset_codec.specs.Errors.{UnlessMemory};
 ghost use Rattle.coset_codec.specs.Inputs.{State, state, AreWithin, GoesBehind, ReadsAt, length_left};
 ghost use Rattle.coset_codec.specs.Kinds.{Says, kind};
-ghost use Rattle.coset_codec.specs.Shape.{masked, list_of, some_of};
+ghost use Rattle.coset_codec.specs.Shape.{list_of, some_of};
 
 use crate::error::{CoseError, Result};
 use crate::read::{Input, InputItems};
@@ -29,7 +28,11 @@ fn read_each<T: FromPull + Drop>(
 {
     let mut all = Vec::new(alloc);
     while members.next(input) {
-        all.push(T::from_input(alloc, input)?)?;
+        let member = match T::from_input(alloc, input) {
+            Ok(member) => member,
+            Err(error) => return Err(error),
+        };
+        all.push(member)?;
     }
     Ok(all)
 }
@@ -55,48 +58,6 @@ pub fn read_list<T: FromPull + Drop>(
     let all = read_each(alloc, &mut members, input);
     members.finish(input);
     all
-}
-
-/// Reads an array whose members are of one type, from the first on. Whatever is at fault with a member, it is
-/// `UnexpectedItem` with the two texts of `blame`.
-///
-/// # Errors
-/// `OutOfMemory`; or `UnexpectedItem`, with `want` where the item is no array.
-pub fn read_masked_list<T: FromPull + Drop>(
-    alloc: Global,
-    input: &mut Input<'_>,
-    want: &'static str,
-    blame: (&'static str, &'static str),
-) -> Result<Vec<T>>
-    ensures shrinks { length_left (state input.new) ≤ length_left (state input.old) }
-    ensures reads { ReadsAt (state input.old) (state input.new)
-        (λ v. Reads (list_of (masked IsUnexpected T.shape)) (λ all. map T.seen all.items) v
-        result) }
-    ensures says { ReadsAt (state input.old) (state input.new)
-        (λ v. IfErr result (λ e. as_array v ≡ None → Says (kind v) want.now e)) }
-    ensures blames { ReadsAt (state input.old) (state input.new)
-        (λ v. IfErr result (λ e. as_array v ≢ None
-        → UnlessMemory e (Says blame.entry.0.now blame.entry.1.now))) }
-{
-    let mut members = input.enter_array(want)?;
-    let all = read_each(alloc, &mut members, input);
-    members.finish(input);
-    match all {
-        Ok(all) => Ok(all),
-        Err(error) => Err(masked_error(error, blame)),
-    }
-}
-
-/// The error with these two texts, in place of one that tells of another fault.
-fn masked_error(error: CoseError, blame: (&'static str, &'static str)) -> CoseError
-    ensures memory { error ≡ OutOfMemory → result ≡ OutOfMemory }
-    ensures blames { UnlessMemory error (λ e. IsUnexpected result
-        × Says blame.entry.0.now blame.entry.1.now result) }
-{
-    match error {
-        CoseError::OutOfMemory => CoseError::OutOfMemory,
-        _ => CoseError::UnexpectedItem(blame.0, blame.1),
-    }
 }
 
 /// Reads such an array that isn't empty. An empty one is `UnexpectedItem` with these two texts.
