@@ -37,10 +37,6 @@ pub lent_next :
     → AreWithin (items.Lent p) vs (lent (bytes_left k)) z → Nexts vs (lent (bytes_left k)) z (items.Lent q) more
 lent_next p q k more next vs z w = by_lent p q (bytes_left k) more next vs z w
 
--- where lent items stand
-pub lent_there : (t z : State) (p : Remaining) (vs : Items) → AreWithin (items.Lent p) vs t z → IsLent t
-lent_there t z p vs (b, a, at, end, w) = subst IsLent (sym at) tt
-
 pub lent_size : (m : InputItems) (p : Remaining) (t : State) → m ≡ items.Lent p → IsLent t → input_size t ≤ items_size m t
 lent_size m p (lent s) is there = subst (λ (n : InputItems). length_left (lent s) ≤ items_size n (lent s)) (sym is) (omega arith)
 lent_size m p (tree w) is there = absurd there
@@ -48,14 +44,6 @@ lent_size m p (tree w) is there = absurd there
 pub lent_turns : (m : InputItems) (p : Remaining) (t u : State) → m ≡ items.Lent p → IsLent t → GoesBehind t u → length_left u < items_turns m t
 lent_turns m p (lent s) u is there goes = subst (λ (n : InputItems). length_left u < items_turns n (lent s)) (sym is) goes
 lent_turns m p (tree w) u is there goes = absurd there
-
-pub lent_left : (t : State) → IsLent t → input_size t ≤ length_left t
-lent_left (lent s) there = omega arith
-lent_left (tree w) there = absurd there
-
-pub lent_behind : (t u : State) → IsLent t → GoesBehind t u → length_left u < length_left t
-lent_behind (lent s) u there goes = goes
-lent_behind (tree w) u there goes = absurd there
 
 -- the size of what is left, where fewer bytes are left
 pub items_smaller : (m : InputItems) (s t : State) → length_left t ≤ length_left s → items_size m t ≤ items_size m s

@@ -1,12 +1,11 @@
 -- Elements of an array that were read one after the other.
-use Rattle.std.proofs.Common.{◌≡◌, Result, Ok, Err, sym, ap, subst, ◌∙◌}
+use Rattle.std.proofs.Common.{◌≡◌, Result, Ok, Err, sym, subst, ◌∙◌}
 use Rattle.std.specs.Prelude.{IsErrAnd}
-use Rattle.coset_value.specs.Item.{Item, Items, no_items, item}
+use Rattle.coset_value.specs.Item.{Item, Items, item}
 use Rattle.coset_codec.specs.declared.error.CoseError.{CoseError}
 use Rattle.coset_codec.specs.declared.read.input.InputItems.{InputItems}
 use Rattle.coset_codec.specs.Answers.{Reads}
 use Rattle.coset_codec.specs.Errors.{UnlessMemory}
-use Rattle.coset_codec.specs.InPlace.{Fills}
 use Rattle.coset_codec.specs.Inputs.{State, ItemAt, AreWithin, ReadsAt}
 use Rattle.coset_codec.specs.Shape.{Shape}
 
@@ -25,31 +24,8 @@ placed t u z n p reads =
     let here = reads p.0 p.2 p.4 in
     record { first = p.0; others = p.1; parts = p.3; read = here.1; within = subst (λ (y : State). AreWithin n p.1 y z) (sym here.0) p.5 }
 
--- so many elements, and no other
-pub two_are : {vs ws none : Items} {v w : Item} → vs ≡ item v ws → ws ≡ item w none → none ≡ no_items → vs ≡ item v (item w no_items)
-two_are {v = v} {w = w} p q e = p ∙ ap (item v) (q ∙ ap (item w) e)
-
-pub three_are : {vs ws us none : Items} {v w u : Item} → vs ≡ item v ws → ws ≡ item w us → us ≡ item u none → none ≡ no_items
-    → vs ≡ item v (item w (item u no_items))
-three_are {v = v} p q r e = p ∙ ap (item v) (two_are q r e)
-
-pub four_are :
-    {vs ws us ts none : Items} {v w u t : Item} → vs ≡ item v ws → ws ≡ item w us → us ≡ item u ts → ts ≡ item t none → none ≡ no_items
-    → vs ≡ item v (item w (item u (item t no_items)))
-four_are {v = v} p q r s e = p ∙ ap (item v) (three_are q r s e)
-
-pub five_are :
-    {vs ws us ts ss none : Items} {v w u t x : Item} → vs ≡ item v ws → ws ≡ item w us → us ≡ item u ts → ts ≡ item t ss → ss ≡ item x none → none ≡ no_items
-    → vs ≡ item v (item w (item u (item t (item x no_items))))
-five_are {v = v} p q r s o e = p ∙ ap (item v) (four_are q r s o e)
-
 -- an error that is passed on
 pub passed_on : {T A : Type 0} (s : Shape A) (seen : T → A) (v : Item) (r : Result T CoseError) (e : CoseError) → IsErrAnd r (λ f. f ≡ e)
     → UnlessMemory e (s.faults v) → Reads s seen v r
 passed_on s seen v (Ok x) e is h = absurd is
 passed_on s seen v (Err f) e is h = λ n. subst (s.faults v) (sym is) (h (λ m. n (is ∙ m)))
-
-pub passed_into : {A : Type 0} (s : Shape A) (x : A) (v : Item) (r : Result (Unit {0}) CoseError) (e : CoseError) → IsErrAnd r (λ f. f ≡ e)
-    → UnlessMemory e (s.faults v) → Fills s v x r
-passed_into s x v (Ok u) e is h = absurd is
-passed_into s x v (Err f) e is h = λ n. subst (s.faults v) (sym is) (h (λ m. n (is ∙ m)))

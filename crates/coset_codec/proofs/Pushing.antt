@@ -4,10 +4,6 @@ use Rattle.coset_value.specs.Item.{Item, Pairs, no_pairs, pair}
 use Rattle.coset_codec.specs.Shape.{both}
 use Rattle.coset_codec.specs.Maps.{named_image, and_pairs}
 
-pub and_pairs-assoc : (ps qs rs : Pairs) → and_pairs (and_pairs ps qs) rs ≡ and_pairs ps (and_pairs qs rs)
-and_pairs-assoc no_pairs qs rs = refl
-and_pairs-assoc (pair k v ps) qs rs = ap (pair k v) (and_pairs-assoc ps qs rs)
-
 module _ {N : Type 0} (f : N → Option Item) where
   both-is : (o : Option Item) (q : Option Pairs) (v : Item) (k : Item) (ps : Pairs) → o ≡ Some k → q ≡ Some ps
       → both (λ j qs. pair j v qs) o q ≡ Some (pair k v ps)

@@ -118,11 +118,6 @@ abbrev pub put_field : {N : Type 0} → N → Option Item → List (N × Item) �
 put_field l (Some v) es = (l, v) ∷ es
 put_field l None es = es
 
--- the fields that are there, in order
-abbrev pub put_fields : {N : Type 0} → List (N × Option Item) → List (N × Item)
-put_fields [] = []
-put_fields (f ∷ fs) = put_field f.0 f.1 (put_fields fs)
-
 -- ? l => h, and then the others
 abbrev pub field : {N A B : Type 0} → Names N → N → FieldShape A → Fields N B → Fields N (A × B)
 field n l h fs = record {
@@ -250,7 +245,3 @@ pub record IsExcluded (N A : Type 0) (n : Names N) (fs : Fields N A) (excludes :
 -- what is wrong with an item that is read pair by pair
 abbrev pub GatherFaults : {N A : Type 0} → Names N → Fields N A → Excludes N A → Item → CoseError → Type 0
 GatherFaults {N} {A} n fs excludes v e = (labelled n fs).faults v e ⊎ ((ps : Pairs) × (as_map v ≡ Some ps) × IsExcluded N A n fs excludes ps e)
-
--- of an item's pairs some were taken, which made y of x; or it is no map, and none were
-abbrev pub Gathers : {N A : Type 0} → Names N → Fields N A → Item → A × List (N × Item) → A × List (N × Item) → Type 0
-Gathers {N} {A} n fs v x y = ((as_map v ≡ None) × (y ≡ x)) ⊎ ((ps : Pairs) × (left : Pairs) × (as_map v ≡ Some ps) × Walks N A n fs ps y left)

@@ -1,10 +1,10 @@
 -- What is described plain or under a tag (RFC 8152, section 2: `COSE_Tagged_Message / COSE_Untagged_Message`).
-use Rattle.std.proofs.Common.{◌≡◌, ◌⊎◌, ◌≤◌, ◌==◌, ℕ, suc, Option, Some, None, Bool, true, false, cond, refl, sym, ap, subst, inl, inr, arith}
+use Rattle.std.proofs.Common.{◌≡◌, ◌⊎◌, ◌==◌, ℕ, Option, Some, None, Bool, true, false, cond, refl, sym, ap, subst, inl, inr, arith}
 use Rattle.std.proofs.lemmas.Bool.{eqb-true}
-use Rattle.coset_value.specs.Item.{Item, integer, bytes, float, text, boolean, null, tag, array, dict, depth}
+use Rattle.coset_value.specs.Item.{Item, integer, bytes, float, text, boolean, null, tag, array, dict}
 use Rattle.coset_value.specs.Parts.{as_tag}
 use Rattle.coset_codec.specs.Shape.{Shape, tagged}
-use Rattle.coset_codec.specs.ShapeLaws.{Again, Lawful, some-one}
+use Rattle.coset_codec.specs.ShapeLaws.{some-one}
 
 -- what a tag of that number encloses, and any other item as it is
 abbrev pub or_enclosed : ℕ → Item → Option (ℕ × Item) → Item
@@ -58,13 +58,6 @@ as_tag-is (boolean b) t w p = absurd (cc)
 as_tag-is null t w p = absurd (cc)
 as_tag-is (dict ps) t w p = absurd (cc)
 
-untagged_depth : (number : ℕ) (v : Item) → depth (untagged number v) ≤ depth v
-untagged_depth number v =
-    elim (untagged_cases number v) [
-      | inl c ↦ let d : depth v ≡ suc (depth c.0) = ap depth (as_tag-is v number c.0 c.1) in rw c.2 (omega (arith, d))
-      | inr same ↦ rw same (omega arith)
-    ]
-
 module _ {A : Type 0} (number : ℕ) (s : Shape A) where
   -- what is described plain or under the tag is described by the one or by the other
   pub perhaps_tagged_is : (v : Item) (x : A) → (perhaps_tagged number s).describes v x → s.describes v x ⊎ (tagged number s).describes v x
@@ -87,14 +80,3 @@ module _ {A : Type 0} (number : ℕ) (s : Shape A) where
         | inl c ↦ absurd (none c.0 x (subst (λ w. s.describes w x) (as_tag-is v number c.0 c.1) p))
         | inr same ↦ subst (λ w. s.describes w x) (sym same) p
       ]
-
-  pub perhaps_tagged_laws : DescribesNoTag number s → Lawful A s → Lawful A (perhaps_tagged number s)
-  perhaps_tagged_laws none l =
-      record {
-        unique = λ v x y p q. l.unique (untagged number v) x y p q;
-        again = λ v x p.
-            let a : Again A s (untagged number v) x = l.again (untagged number v) x p in
-            let d : depth (untagged number v) ≤ depth v = untagged_depth number v in
-            record { image = a.image; is_image = a.is_image; described = plain_is_perhaps none a.image x a.described; shallow = omega (arith, a.shallow, d) };
-        sound = λ v x e p f. l.sound (untagged number v) x e p f;
-      }

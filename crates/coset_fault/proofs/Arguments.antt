@@ -1,10 +1,10 @@
 -- Arguments behind first bytes.
-use Rattle.std.proofs.Common.{◌≡◌, ℕ, ◌+◌, ◌*◌, ◌%◌, ◌<◌, ◌≤◌, List, [], ◌∷◌, ◌++◌, length, get_or, take, drop, refl, sym, ap, subst, ◌∙◌, arith, inl, inr}
+use Rattle.std.proofs.Common.{◌≡◌, ℕ, ◌+◌, ◌*◌, ◌%◌, ◌<◌, ◌≤◌, List, [], ◌∷◌, ◌++◌, length, get_or, take, drop, sym, ap, subst, ◌∙◌, arith, inl, inr}
 use Rattle.std.specs.Int.{w16, w32, w64, from_be_bytes}
 use Rattle.std.proofs.lemmas.Bool.{cases_lt}
 use Rattle.std.proofs.lemmas.List.{take-append-drop, length-take, get_or-take, get_or_past}
 use Rattle.std.proofs.lemmas.Nat.{be_bytes_2, be_bytes_4, be_bytes_8}
-use Rattle.coset.specs.Grammar.{IsHead, within, one, two, four, eight}
+use Rattle.coset.specs.Grammar.{IsHead, one, two, four, eight}
 use Rattle.coset_fault.specs.declared.argument.Argument.{Argument}
 use Rattle.coset_fault.specs.Heads.{HasArgument}
 
@@ -28,24 +28,6 @@ argued info width s rest a long is low behind head = record {
   width = omega (arith, length-take width s, is);
   is_head = λ _ m. head m;
   none = λ high. absurd (omega (arith, low, high));
-}
-
-pub none_behind : (info : ℕ) (s : List ℕ) (a : Argument) → info < 24 → a.width ≡ 0 → a.number ≡ info → HasArgument info s a s
-none_behind info s a low is number = record {
-  tail = [];
-  parts = refl;
-  width = sym is;
-  is_head = λ _ m. subst (λ (n : ℕ). IsHead m n ((32 * m + info) ∷ [])) (sym number) (record { width = within; holds = low; spelled = refl });
-  none = λ _. refl;
-}
-
-pub none_announced : (info : ℕ) (s : List ℕ) (a : Argument) → 28 ≤ info → a.width ≡ 0 → HasArgument info s a s
-none_announced info s a high is = record {
-  tail = [];
-  parts = refl;
-  width = sym is;
-  is_head = λ low. absurd (omega (arith, low, high));
-  none = λ _. refl;
 }
 
 pub one_behind : (x : ℕ) (rest s : List ℕ) (a : Argument) → s ≡ x ∷ rest → x < 256 → a.width ≡ 1 → a.number ≡ x → HasArgument 24 s a rest

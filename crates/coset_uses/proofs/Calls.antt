@@ -1,5 +1,5 @@
 -- What closures answered, from the clauses of calls that pass it on.
-use Rattle.std.proofs.Common.{◌≡◌, ℕ, List, Option, Some, None, Ok, Err, Vec, refl, subst}
+use Rattle.std.proofs.Common.{◌≡◌, ℕ, List, Option, Some, None, Ok, Err, Vec, refl}
 use Rattle.std.specs.Prelude.{IfSome}
 use Rattle.std.specs.Fn.{FnOnceReturnsAt}
 use Rattle.std.specs.Global.{Global}
@@ -28,6 +28,3 @@ NotSaid {U = U} g f s o (Caller e) = Says g f s o (Err e)
 pub when_some : {A : Type 0} (P : A → Type 0) (o : Option A) → (o ≡ None → ⊥) → IfSome o P → (x : A) × (o ≡ Some x) × P x
 when_some P None there h = absurd (there refl)
 when_some P (Some x) there h = (x, refl, h)
-
-pub at_some : {A : Type 0} (P : A → Type 0) (o : Option A) (x : A) → o ≡ Some x → IfSome o P → P x
-at_some P o x e h = subst (λ q. IfSome q P) e h

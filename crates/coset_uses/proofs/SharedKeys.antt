@@ -1,11 +1,10 @@
 -- A message with a MAC by a key that is shared.
-use Rattle.std.proofs.Common.{◌≡◌, ℕ, ℤ, List, [], ◌∷◌, Some, None, Err, ap, inr, option_map, refl, subst, true}
+use Rattle.std.proofs.Common.{◌≡◌, ℕ, ℤ, List, [], ◌∷◌, Some, None, Err, inr, refl, subst, true}
 use Rattle.std.specs.List.{list_any}
 use Rattle.std.specs.Prelude.{IfSome}
 use Rattle.coset_codec.specs.Answers.{Describes}
 use Rattle.coset_codec.specs.AsWritten.{WhenRead}
 use Rattle.coset_codec.specs.ReadAgain.{IsWritten}
-use Rattle.coset_codec.specs.ShapeLaws.{some-none}
 use Rattle.coset_codec.specs.declared.error.CallError.{CallError}
 use Rattle.coset_codec.specs.declared.error.CallError.TheVariants.{Coset, Caller}
 use Rattle.coset_label.specs.Names.{RegisteredName, assigned}
@@ -13,8 +12,7 @@ use Rattle.coset_label.specs.Labels.{algorithm}
 use Rattle.coset_core.specs.Fields.{partial_header}
 use Rattle.coset_core.specs.Headers.{layered_header, layered_protected}
 use Rattle.coset_msg.specs.declared.mac_structure.MacContext.TheVariants.{CoseMac}
-use Rattle.coset_recipient.specs.Mac.{MacSeen, mac, mac_seen, mac_structure_of, with_tag}
-use Rattle.coset_recipient.specs.declared.mac.CoseMac as declared
+use Rattle.coset_recipient.specs.Mac.{MacSeen, mac, mac_structure_of, with_tag}
 use Rattle.coset_recipient.specs.Recipient.{recipient}
 use Rattle.coset_recipient.specs.Structures.{Macs}
 use Rattle.coset_uses.specs.Asked.{Asker, Maker}
@@ -40,10 +38,6 @@ pub is_mac_for :
     → IsMacFor g f a key_id external_aad payload b
 is_mac_for g f a k x p b untagged built is made w =
     let m = tagged g f a k x p untagged built is made in (m.1.items, subst (λ n. IsWritten mac n b) m.4 w, (m.0, m.1, m.2, m.3, refl))
-
--- its payload is there
-pub is_carried : (u : declared.CoseMac) (a : RegisteredName) (key_id payload : List ℕ) → mac_seen u ≡ shared_with a key_id payload → u.payload ≡ None → ⊥
-is_carried u a k p is none = some-none (ap (λ m. m.payload) is) (ap (option_map (λ b. b.items)) none)
 
 -- there is something that is authenticated
 has_tagged : (n : ℤ) (key_id external_aad payload : List ℕ) → mac_structure_of (shared_with (assigned n) key_id payload) external_aad payload ≡ None → ⊥

@@ -1,10 +1,8 @@
 -- Members of an array that are read, or passed over.
-use Rattle.std.proofs.Common.{◌≡◌, ◌++◌, ◌∙◌, List, [], ◌∷◌, ap, append_assoc, append-nil, inl, inr, refl, subst, sym}
+use Rattle.std.proofs.Common.{◌≡◌, ◌++◌, ◌∙◌, List, [], ◌∷◌, ap, append_assoc, append-nil, inl, refl, subst, sym}
 use Rattle.coset_value.specs.Item.{Item, Items, no_items, item}
 use Rattle.coset_codec.specs.Shape.{Shape}
-use Rattle.coset_codec.specs.ShapeLaws.{some-none}
-use Rattle.coset_codec.specs.declared.error.CoseError.{CoseError}
-use Rattle.coset_uses.specs.Readable.{AreThoseRead, those_of}
+use Rattle.coset_uses.specs.Readable.{AreThoseRead}
 
 module _ {A : Type 0} (s : Shape A) where
   -- xs, and what is read of the members that are left, is what is read of all
@@ -17,12 +15,5 @@ module _ {A : Type 0} (s : Shape A) where
       subst (AreThoseRead s all) (sym (ap (λ ws. ws ++ ys) q ∙ append_assoc xs (x ∷ []) ys))
       (g (x ∷ ys) (subst (λ us. AreThoseRead s us (x ∷ ys)) (sym e) (inl (x, ys, refl, d, h))))
 
-  pub passed_over : (all old new : Items) (v : Item) (xs : List A) → GoesOn all xs old → old ≡ item v new → ((x : A) → s.describes v x → ⊥) → GoesOn all xs new
-  passed_over all old new v xs g e n = λ ys h. g ys (subst (λ us. AreThoseRead s us ys) (sym e) (inr (n, h)))
-
   pub all_passed : (all left : Items) (xs : List A) → GoesOn all xs left → left ≡ no_items → AreThoseRead s all xs
   all_passed all left xs g e = subst (AreThoseRead s all) (append-nil xs) (g [] (subst (λ us. AreThoseRead s us []) (sym e) refl))
-
-  -- what is no array describes nothing
-  pub those_sound : (v : Item) (xs : List A) (e : CoseError) → (those_of s).describes v xs → (those_of s).faults v e → ⊥
-  those_sound v xs e d f = some-none d.1 f.0
