@@ -11,7 +11,7 @@ mod source;
 
 pub use elements::{DecodeElements, decode_array, decode_four, decode_three, decode_two};
 pub use field::{Decode, set_field, set_nonempty};
-pub use in_place::{InPlace, copy_bstr_to, make_room, next_place, push_empty};
+pub use in_place::{InPlace, copy_bstr_to, drop_refused, make_room, next_place, push_empty};
 pub use input::{Input, InputItems, InputPairs, wrong_length};
 pub use list::{read_list, read_nonempty_list};
 pub use map::{Gather, read_map};

@@ -27,7 +27,7 @@ use crate::header::writing::write_header;
 use crate::signature::{CoseSignature, Held, copy_signatures, drop_held, same_signatures};
 use coset_cbor::value::Value;
 use coset_codec::error::ErrorStored;
-use coset_codec::read::Input;
+use coset_codec::read::{Input, drop_refused};
 use coset_codec::util::copy_bstr;
 use coset_codec::{Codec, CoseError, Result, find_value};
 use coset_iana::HeaderParameter;
@@ -224,6 +224,7 @@ impl Codec for Header {
         let mut header = Header::new(alloc);
         let mut error = CoseError::OutOfMemory;
         if let Err(ErrorStored) = fill_header(&mut header, alloc, input, LAYERS, &mut error) {
+            drop_refused(header);
             return Err(error);
         }
         Ok(header)

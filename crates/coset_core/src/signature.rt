@@ -33,7 +33,7 @@ use crate::protected::{
 use coset_cbor::ser::{write_array_head, write_bytes};
 use coset_codec::error::{ErrorStored, store_error};
 use coset_codec::read::{
-    InPlace, Input, InputItems, make_room, next_place, push_empty, wrong_length,
+    InPlace, Input, InputItems, drop_refused, make_room, next_place, push_empty, wrong_length,
 };
 use coset_codec::write::Encode;
 use coset_codec::{Codec, CoseError, Result};
@@ -140,6 +140,7 @@ impl Codec for CoseSignature {
         let mut signed = CoseSignature::new(alloc);
         let mut error = CoseError::OutOfMemory;
         if let Err(ErrorStored) = fill_signature(&mut signed, alloc, input, LAYERS, &mut error) {
+            drop_refused(signed);
             return Err(error);
         }
         Ok(signed)

@@ -10,7 +10,7 @@ ghost use Rattle.coset_msg.specs.Encrypt0.{empty_encrypt0, encrypt0, encrypt0_se
 ghost use Rattle.coset_msg.specs.Presence.{AsksWherePresent, CreatesOf, TriesToCreateOf};
 
 use crate::enc_structure::{EncryptionContext, enc_structure_of};
-use coset_codec::read::Input;
+use coset_codec::read::{Input, drop_refused};
 use coset_codec::util::copy_bstr;
 use coset_codec::write::{Encode, encode_three};
 use coset_codec::{CallError, Codec, Result, TaggedCodec};
@@ -201,17 +201,21 @@ impl Codec for CoseEncrypt0 {
 
     fn read(alloc: Global, input: &mut Input<'_>) -> Result<CoseEncrypt0> {
         let mut message = CoseEncrypt0::new(alloc);
-        let (Content(ciphertext), ()) = match read_headed(
+        match read_headed(
             &mut message.protected,
             &mut message.unprotected,
             alloc,
             input,
             PLACES,
         ) {
-            Ok(elements) => elements,
-            Err(error) => return Err(error),
-        };
-        message.ciphertext = ciphertext;
+            Ok((Content(ciphertext), ())) => {
+                message.ciphertext = ciphertext;
+            }
+            Err(error) => {
+                drop_refused(message);
+                return Err(error);
+            }
+        }
         Ok(message)
     }
 

@@ -10,7 +10,7 @@ ghost use Rattle.coset_msg.specs.Mac0.{empty_mac0, mac0, mac0_seen, mac0_structu
 ghost use Rattle.coset_msg.specs.Presence.{AsksWherePresent, WritesWherePresent};
 
 use crate::mac_structure::{MacContext, mac_structure_of};
-use coset_codec::read::Input;
+use coset_codec::read::{Input, drop_refused};
 use coset_codec::util::copy_bstr;
 use coset_codec::write::{Encode, encode_four};
 use coset_codec::{CallError, Codec, Result, TaggedCodec};
@@ -228,18 +228,22 @@ impl Codec for CoseMac0 {
 
     fn read(alloc: Global, input: &mut Input<'_>) -> Result<CoseMac0> {
         let mut message = CoseMac0::new(alloc);
-        let (Content(payload), (tag, ())) = match read_headed(
+        match read_headed(
             &mut message.protected,
             &mut message.unprotected,
             alloc,
             input,
             PLACES,
         ) {
-            Ok(elements) => elements,
-            Err(error) => return Err(error),
-        };
-        message.payload = payload;
-        message.tag = tag;
+            Ok((Content(payload), (tag, ()))) => {
+                message.payload = payload;
+                message.tag = tag;
+            }
+            Err(error) => {
+                drop_refused(message);
+                return Err(error);
+            }
+        }
         Ok(message)
     }
 

@@ -11,7 +11,7 @@ ghost use Rattle.coset_recipient.specs.Encrypt.{and_encrypt_recipient, empty_enc
 ghost use Rattle.coset_recipient.specs.RecipientView.{recipient_seen};
 
 use crate::recipient::{CoseRecipient, Recipients, copy_recipient_list};
-use coset_codec::read::Input;
+use coset_codec::read::{Input, drop_refused};
 use coset_codec::util::copy_bstr;
 use coset_codec::write::{Array, Encode, encode_four};
 use coset_codec::{CallError, Codec, Result, TaggedCodec};
@@ -213,18 +213,22 @@ impl Codec for CoseEncrypt {
 
     fn read(alloc: Global, input: &mut Input<'_>) -> Result<CoseEncrypt> {
         let mut message = CoseEncrypt::new(alloc);
-        let (Content(ciphertext), (Recipients(recipients), ())) = match read_headed(
+        match read_headed(
             &mut message.protected,
             &mut message.unprotected,
             alloc,
             input,
             PLACES,
         ) {
-            Ok(elements) => elements,
-            Err(error) => return Err(error),
-        };
-        message.ciphertext = ciphertext;
-        message.recipients = recipients;
+            Ok((Content(ciphertext), (Recipients(recipients), ()))) => {
+                message.ciphertext = ciphertext;
+                message.recipients = recipients;
+            }
+            Err(error) => {
+                drop_refused(message);
+                return Err(error);
+            }
+        }
         Ok(message)
     }
 

@@ -11,7 +11,7 @@ ghost use Rattle.coset_recipient.specs.Mac.{and_mac_recipient, empty_mac, mac, m
 ghost use Rattle.coset_recipient.specs.RecipientView.{recipient_seen};
 
 use crate::recipient::{CoseRecipient, Recipients, copy_recipient_list};
-use coset_codec::read::Input;
+use coset_codec::read::{Input, drop_refused};
 use coset_codec::util::copy_bstr;
 use coset_codec::write::{Array, Encode, encode_five};
 use coset_codec::{CallError, Codec, Result, TaggedCodec};
@@ -240,19 +240,23 @@ impl Codec for CoseMac {
 
     fn read(alloc: Global, input: &mut Input<'_>) -> Result<CoseMac> {
         let mut message = CoseMac::new(alloc);
-        let (Content(payload), (tag, (Recipients(recipients), ()))) = match read_headed(
+        match read_headed(
             &mut message.protected,
             &mut message.unprotected,
             alloc,
             input,
             PLACES,
         ) {
-            Ok(elements) => elements,
-            Err(error) => return Err(error),
-        };
-        message.payload = payload;
-        message.tag = tag;
-        message.recipients = recipients;
+            Ok((Content(payload), (tag, (Recipients(recipients), ())))) => {
+                message.payload = payload;
+                message.tag = tag;
+                message.recipients = recipients;
+            }
+            Err(error) => {
+                drop_refused(message);
+                return Err(error);
+            }
+        }
         Ok(message)
     }
 

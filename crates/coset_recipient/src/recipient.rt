@@ -25,8 +25,8 @@ ghost use Rattle.coset_recipient.specs.RecipientView.{recipient_seen};
 use coset_cbor::ser::write_array_head;
 use coset_codec::error::{ErrorStored, store_error};
 use coset_codec::read::{
-    Decode, InPlace, Input, InputItems, copy_bstr_to, make_room, next_place, push_empty,
-    wrong_length,
+    Decode, InPlace, Input, InputItems, copy_bstr_to, drop_refused, make_room, next_place,
+    push_empty, wrong_length,
 };
 use coset_codec::write::Encode;
 use coset_codec::{CallError, Codec, CoseError, Result};
@@ -568,6 +568,7 @@ impl Codec for CoseRecipient {
         let mut recipient = CoseRecipient::new(alloc);
         let mut error = CoseError::OutOfMemory;
         if let Err(ErrorStored) = fill_recipient(&mut recipient, alloc, input, &mut error) {
+            drop_refused(recipient);
             return Err(error);
         }
         Ok(recipient)

@@ -11,7 +11,7 @@ ghost use Rattle.coset_core.specs.Calls.{AsksAbout, Creates, TriesToCreate};
 ghost use Rattle.coset_sign.specs.Sign.{and_signature, empty_sign, sign, sign_seen, signed_with, signer_carried, signer_structure};
 
 use crate::signature::{SignatureContext, sig_structure_of};
-use coset_codec::read::{Decode, Input};
+use coset_codec::read::{Decode, Input, drop_refused};
 use coset_codec::util::copy_bstr;
 use coset_codec::write::{Array, Encode, encode_four};
 use coset_codec::{CallError, Codec, CoseError, Result, TaggedCodec};
@@ -258,18 +258,22 @@ impl Codec for CoseSign {
 
     fn read(alloc: Global, input: &mut Input<'_>) -> Result<CoseSign> {
         let mut message = CoseSign::new(alloc);
-        let (payload, (Signatures(signatures), ())) = match read_headed(
+        match read_headed(
             &mut message.protected,
             &mut message.unprotected,
             alloc,
             input,
             PLACES,
         ) {
-            Ok(elements) => elements,
-            Err(error) => return Err(error),
-        };
-        message.payload = payload;
-        message.signatures = signatures;
+            Ok((payload, (Signatures(signatures), ()))) => {
+                message.payload = payload;
+                message.signatures = signatures;
+            }
+            Err(error) => {
+                drop_refused(message);
+                return Err(error);
+            }
+        }
         Ok(message)
     }
 

@@ -9,7 +9,7 @@ ghost use Rattle.coset_core.specs.Calls.{AsksAbout, Creates, TriesToCreate};
 ghost use Rattle.coset_sign.specs.Sign1.{empty_sign1, sign1, sign1_seen, sign1_carried, sign1_structure, with_signature};
 
 use crate::signature::{SignatureContext, sig_structure_of};
-use coset_codec::read::Input;
+use coset_codec::read::{Input, drop_refused};
 use coset_codec::util::copy_bstr;
 use coset_codec::write::{Encode, encode_four};
 use coset_codec::{CallError, Codec, Result, TaggedCodec};
@@ -185,18 +185,22 @@ impl Codec for CoseSign1 {
 
     fn read(alloc: Global, input: &mut Input<'_>) -> Result<CoseSign1> {
         let mut message = CoseSign1::new(alloc);
-        let (payload, (signature, ())) = match read_headed(
+        match read_headed(
             &mut message.protected,
             &mut message.unprotected,
             alloc,
             input,
             PLACES,
         ) {
-            Ok(elements) => elements,
-            Err(error) => return Err(error),
-        };
-        message.payload = payload;
-        message.signature = signature;
+            Ok((payload, (signature, ()))) => {
+                message.payload = payload;
+                message.signature = signature;
+            }
+            Err(error) => {
+                drop_refused(message);
+                return Err(error);
+            }
+        }
         Ok(message)
     }
 

@@ -30,9 +30,11 @@ pub fn push_empty<T: InPlace>(all: &mut Vec<T>) -> Result<(), AllocError>
 {
     if all.is_empty() {
         all.reserve_exact(1)?;
+    } else {
+        all.reserve(1)?;
     }
-    let empty = T::empty(*all.allocator());
-    all.push(empty)?;
+    let alloc = *all.allocator();
+    all.push_reserved(T::empty(alloc));
     Ok(())
 }
 
@@ -68,6 +70,12 @@ pub fn next_place<T: InPlace>(
     }
     Ok(true)
 }
+
+/// Drops a value that was read in part, where its item is refused. It is a function of its own, since a function that drops a
+/// value keeps room for it in its frame, and clears that room on every path, also on those that drop nothing.
+#[cold]
+#[inline(never)]
+pub fn drop_refused<T: Drop>(_value: T) {}
 
 /// Empties a list, and makes room for that many members.
 #[inline(never)]
