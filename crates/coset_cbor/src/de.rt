@@ -19,7 +19,8 @@ use crate::read;
 pub use crate::steps::Steps;
 use coset_value::Value;
 use std::alloc::Global;
-use std::sync::ledger::Ledger;
+use std::marker::Brand;
+use std::sync::ledger::{Blank, Ledger};
 use std::{error, fmt};
 
 /// How deep arrays, maps and tags may nest in what is read.
@@ -112,6 +113,38 @@ pub fn check<L: Ledger>(bytes: &[u8], steps: &mut Steps<L>) -> Result<usize, Err
         Ok(rest) => Ok(bytes.len() - rest.len()),
         Err(fault) => Err(error_of(fault, bytes.len())),
     }
+}
+
+/// The length of the item at the front of the bytes: [`check`], for who doesn't count its steps. It takes no memory.
+///
+/// # Errors
+/// The same as [`check`].
+pub fn front_length(bytes: &[u8]) -> Result<usize, Error<EndOfFile>>
+    ensures length { IfOk result (λ n. n ≤ length bytes.now) }
+    // An item stands there.
+    ensures found { IfOk result (λ n. (v : Item) × IsItem (take n bytes.now) v) }
+    // No front of what is refused is an item.
+    ensures refused { IfErr result (λ e. HasNoItem bytes.now) }
+    ensures memory { IfErr result (λ e. IsMemory e → ⊥) }
+    // The fault stands in the bytes, at the offset that it carries.
+    ensures stands { IfErr result (λ e. FaultIn bytes.now e) }
+{
+    counted_length::<Brand>(bytes, Blank::new(1))
+}
+
+/// The length of the item at the front, by a check with a counter of its own.
+fn counted_length<L: Ledger>(bytes: &[u8], blank: Blank) -> Result<usize, Error<EndOfFile>>
+    requires name { blank.name ≡ L.name }
+    requires parts { blank.parts ≡ L.parts }
+    requires some { L.parts ≡ 1 }
+    ensures length { IfOk result (λ n. n ≤ length bytes.now) }
+    ensures found { IfOk result (λ n. (v : Item) × IsItem (take n bytes.now) v) }
+    ensures refused { IfErr result (λ e. HasNoItem bytes.now) }
+    ensures memory { IfErr result (λ e. IsMemory e → ⊥) }
+    ensures stands { IfErr result (λ e. FaultIn bytes.now e) }
+{
+    let mut steps: Steps<L> = Steps::new(blank);
+    check(bytes, &mut steps)
 }
 
 /// Reads the item at the front of the bytes: its value, and how many bytes it takes. Bytes may follow it.

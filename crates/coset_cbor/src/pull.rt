@@ -1,6 +1,6 @@
 //! One checked item, lent, and how it is taken apart.
 
-ghost use Rattle.std.specs.Prelude.{◌≡◌, ◌≤◌, ◌↔◌, true, take, length, IfOk, IfErr, IfSome, IsTrue, option_map, string_bytes};
+ghost use Rattle.std.specs.Prelude.{◌≡◌, ◌↔◌, true, IfOk, IfErr, IfSome, IsTrue, option_map, string_bytes};
 ghost use Rattle.coset_value.specs.Item.{Item, null};
 ghost use Rattle.coset_value.specs.Parts.{as_integer, as_bytes, as_text, as_bool, as_tag};
 ghost use Rattle.coset_value.specs.View.{view, bits_of};
@@ -13,38 +13,20 @@ ghost use Rattle.coset_cbor.specs.Scalars.{as_scalar, as_float, scalar_by, integ
 ghost use Rattle.coset_cbor.specs.Whole.{is_one_item};
 
 use crate::check::begins_chunk;
-use crate::de::{EndOfFile, Error, MAX_DEPTH, check};
+use crate::de::{EndOfFile, Error, MAX_DEPTH, front_length};
 use crate::fault::ReadError;
 use crate::head::{Head, MajorType, head_of};
 use crate::memory::OutOfMemory;
 use crate::read;
-use crate::steps::Steps;
 use crate::string::{byte_string, text_string};
 use coset_value::{Float, Integer, Value};
 use std::alloc::Global;
-use std::marker::Brand;
-use std::sync::ledger::{Blank, Ledger};
 
 /// One item that was checked, as the bytes that spell it: a part of the input.
 #[derive(Clone, Copy, Debug)]
 pub struct Pull<'a> {
     pub(crate) bytes: &'a [u8],
     ghost checked: { is_one_item bytes.now ≡ true },
-}
-
-/// The length of the item at the front, by a check whose steps nobody counts.
-fn front_length<L: Ledger>(bytes: &[u8], blank: Blank) -> Result<usize, Error<EndOfFile>>
-    requires name { blank.name ≡ L.name }
-    requires parts { blank.parts ≡ L.parts }
-    requires some { L.parts ≡ 1 }
-    ensures length { IfOk result (λ n. n ≤ length bytes.now) }
-    ensures found { IfOk result (λ n. (v : Item) × IsItem (take n bytes.now) v) }
-    ensures refused { IfErr result (λ e. HasNoItem bytes.now) }
-    ensures memory { IfErr result (λ e. IsMemory e → ⊥) }
-    ensures stands { IfErr result (λ e. FaultIn bytes.now e) }
-{
-    let mut steps: Steps<L> = Steps::new(blank);
-    check(bytes, &mut steps)
 }
 
 /// The value of an integer, a float or a simple value, as its head says.
@@ -112,7 +94,7 @@ impl<'a> Pull<'a> {
         ensures memory { IfErr result (λ e. IsMemory e → ⊥) }
         ensures stands { IfErr result (λ e. FaultIn bytes.now e) }
     {
-        let length = front_length::<Brand>(bytes, Blank::new(1))?;
+        let length = front_length(bytes)?;
         let (front, rest) = bytes.split_at(length);
         Ok((Pull { bytes: front }, rest))
     }
