@@ -2,6 +2,7 @@ pub mod Whole
 pub mod Described
 pub mod Refusals
 pub mod Lists
+pub mod Alone
 pub mod Walking
 pub mod Gathering
 pub mod Pushing

@@ -1,5 +1,5 @@
 -- How bytes that aren't one item are refused, and items that describe nothing.
-use Rattle.std.proofs.Common.{◌≡◌, ◌⊎◌, ◌<◌, ℕ, List, [], ◌++◌, Result, Ok, Err, length, take, drop, refl, sym, ap, ◌∙◌, inl, inr, append-nil, arith}
+use Rattle.std.proofs.Common.{◌≡◌, ◌⊎◌, ◌<◌, ℕ, List, [], ◌++◌, Some, Result, Ok, Err, length, take, drop, refl, sym, ap, subst, ◌∙◌, inl, inr, append-nil, arith}
 use Rattle.std.proofs.Common.{take-append-drop, length-take-le}
 use Rattle.coset_value.specs.Item.{Item}
 use Rattle.coset_cbor.specs.Fronts.{AreBytes, HasNoItem}
@@ -10,10 +10,11 @@ use Rattle.coset_cbor.specs.declared.de.Error.{Error}
 use Rattle.coset_codec.specs.declared.error.CoseError.{CoseError}
 use Rattle.coset_codec.specs.declared.error.CoseError.TheVariants.{DecodeFailed, DuplicateMapKey, EncodeFailed, ExtraneousData, OutOfRangeIntegerValue}
 use Rattle.coset_codec.specs.declared.error.CoseError.TheVariants.{UnexpectedItem, UnregisteredIanaValue, UnregisteredIanaNonPrivateValue, OutOfMemory}
-use Rattle.coset_codec.specs.Shape.{Shape}
-use Rattle.coset_codec.specs.Answers.{AllocatesForItems, Reads, ReadsSlice, RefusesItem}
-use Rattle.coset_codec.specs.Refusals.{NamesByteFault, NamesExtraneous, NamesWholeFault}
-use Rattle.coset_codec.proofs.Whole.{OneItem}
+use Rattle.coset_codec.specs.Shape.{Shape, tagged}
+use Rattle.coset_codec.specs.Answers.{AllocatesForItems, DescribesNothing, IsOnlyItem, IsRefused, IsWholeFault, Reads, ReadsSlice, RefusesItem, SliceFaults}
+use Rattle.coset_codec.specs.Errors.{UnlessMemory}
+use Rattle.coset_codec.specs.Refusals.{IsNoTag, NamesByteFault, NamesExtraneous, NamesUnexpected, NamesWholeFault}
+use Rattle.coset_codec.proofs.Whole.{OneItem, one_of}
 
 -- memory ran out, or it is another error
 memory_or_not : (e : CoseError) → (e ≡ OutOfMemory) ⊎ (e ≡ OutOfMemory → ⊥)
@@ -69,6 +70,18 @@ module _ {A T : Type 0} (shape : Shape A) (seen : T → A) (s : List ℕ) where
             ]
       ]
 
+  pub reads_item : OneItem → NoItemAtFault → (v : Item) (r : Result T CoseError) → AreBytes s → IsItem s v → ReadsSlice shape seen s r → Reads shape seen v r
+  reads_item one at_fault v (Ok x) bytes is read = subst (λ w. shape.describes w (seen x)) (one_of one s read.0 v read.1 is) read.2
+  reads_item one at_fault v (Err e) bytes is read = λ m.
+      elim (read m) [
+        | inl f ↦ absurd (no_whole (at_fault s f.0 bytes f.2 f.3) v is)
+        | inr g ↦
+            elim g [
+              | inl x ↦ absurd (front_alone one s x.1 x.2 v x.3 x.4 is)
+              | inr x ↦ subst (λ w. shape.faults w e) (one_of one s x.0 v x.1 is) x.2
+            ]
+      ]
+
   pub names_whole_fault : OneItem → NoItemAtFault → (r : Result T CoseError) → ReadsSlice shape seen s r → AllocatesForItems s r → NamesWholeFault s r
   names_whole_fault one at_fault r read memory = (names_byte_fault r read memory, names_extraneous one at_fault r read memory)
 
@@ -79,3 +92,35 @@ pub refuses_item :
     → RefusesItem shape v r
 refuses_item shape sound seen v (Ok x) p = tt
 refuses_item shape sound seen v (Err e) p = λ n x d. sound v x e d (p n)
+
+-- an item that is no tag of the number is unexpected
+pub names_unexpected :
+    {T A : Type 0} (n : ℕ) (shape : Shape A) (seen : T → A) (v : Item) (r : Result T CoseError) → IsNoTag n v → Reads (tagged n shape) seen v r
+    → NamesUnexpected r
+names_unexpected n shape seen v (Ok x) none read = absurd (none read.0 read.1)
+names_unexpected n shape seen v (Err e) none read = λ m.
+    elim (read m) [
+      | inl f ↦ f.1
+      | inr f ↦ elim f.3 [ inl g ↦ g.1 | inr g ↦ absurd (none f.1 (f.2 ∙ ap (λ t. Some (t, f.1)) g.0)) ]
+    ]
+
+-- ---- bytes that are refused as a whole, or for a fault of the one item that they are
+
+module _ {A : Type 0} (shape : Shape A) where
+  whole_fault : (s : List ℕ) (e : CoseError) → IsWholeFault s e → SliceFaults shape s e × DescribesNothing shape s
+  whole_fault s e (inl f, none) = (inl f, λ x d. none d.0 d.1)
+  whole_fault s e (inr f, none) = (inr (inl f), λ x d. none d.0 d.1)
+
+  -- they aren't one item
+  pub no_item : (s : List ℕ) (e : CoseError) → UnlessMemory e (IsWholeFault s) → IsRefused shape s e
+  no_item s e h = λ k. whole_fault s e (h k)
+
+  -- a fault is in the item that they are
+  pub at_fault :
+      ((v : Item) (x : A) (f : CoseError) → shape.describes v x → shape.faults v f → ⊥) → (s : List ℕ) (v : Item) (e : CoseError) → IsOnlyItem s v
+      → UnlessMemory e (shape.faults v)
+      → IsRefused shape s e
+  at_fault sound s v e only h = λ k. (
+    inr (inr (v, only.0, h k)),
+    λ x d. sound v x e (subst (λ w. shape.describes w x) (only.1 d.0 d.1) d.2) (h k),
+  )

@@ -79,6 +79,10 @@ DescribesNothing {A} shape s = (x : A) → Describes shape s x → ⊥
 abbrev pub RefusesSlice : {T A : Type 0} → Shape A → List ℕ → Result T CoseError → Type 0
 RefusesSlice shape s r = IfErr r (λ e. UnlessMemory e (λ _. DescribesNothing shape s))
 
+-- bytes are refused, out of memory aside, only where they describe nothing, for a fault that is in them
+abbrev pub IsRefused : {A : Type 0} → Shape A → List ℕ → CoseError → Type 0
+IsRefused shape s e = UnlessMemory e (λ f. SliceFaults shape s f × DescribesNothing shape s)
+
 -- Reading the item v is refused, out of memory aside, only where it describes no value
 abbrev pub RefusesItem : {T A : Type 0} → Shape A → Item → Result T CoseError → Type 0
 RefusesItem {T} {A} s v r = IfErr r (λ e. UnlessMemory e (λ _. (x : A) → s.describes v x → ⊥))

@@ -10,6 +10,7 @@ pub mod MapLaws
 pub mod RestLaws
 pub mod Answers
 pub mod Refusals
+pub mod Alone
 pub mod Serialized
 pub mod SerializedLaws
 pub mod ReadAgain

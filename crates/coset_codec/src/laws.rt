@@ -2,11 +2,12 @@
 
 ghost use Rattle.std.specs.Prelude.{◌≡◌, ◌↔◌, ◌≤◌, ◌⊎◌, IsTrue, List, Result, ℕ};
 ghost use Rattle.coset_value.specs.Item.{Item, depth};
+ghost use Rattle.coset_cbor.specs.Fronts.{AreBytes};
 ghost use Rattle.coset_cbor.specs.Grammar.{IsItem};
 ghost use Rattle.coset_codec.specs.Answers.{AllocatesForItems, Describes, Reads, ReadsSlice, RefusesItem};
 ghost use Rattle.coset_codec.specs.PerhapsTagged.{DescribesNoTag, perhaps_tagged};
 ghost use Rattle.coset_codec.specs.ReadAgain.{EncodesApart, ImagesApart, ReadsAgain, StaysAsWritten};
-ghost use Rattle.coset_codec.specs.Refusals.{NamesWholeFault};
+ghost use Rattle.coset_codec.specs.Refusals.{IsNoTag, NamesUnexpected, NamesWholeFault};
 ghost use Rattle.coset_codec.specs.Shape.{tagged};
 ghost use Rattle.coset_codec.specs.ShapeLaws.{Again};
 ghost use Rattle.coset_codec.specs.declared.error.CoseError.{CoseError};
@@ -45,6 +46,23 @@ pub fn refused_as_bytes<T: AsCborValue>()
         → AllocatesForItems s r → NamesWholeFault s r }
     ensures tagged { (n : ℕ) (s : List ℕ) (r : Result T CoseError)
         → ReadsSlice (tagged n T.shape) T.seen s r → AllocatesForItems s r → NamesWholeFault s r }
+{
+    one_item();
+    no_item_at_a_fault();
+}
+
+/// Bytes that are one item are read, plain or under a tag, as that item is: the answer is the value that the item stands
+/// for, or, unless memory ran out, a fault of the type that is in the item. Under a tag, an item without one, or with
+/// another, is `UnexpectedItem`. The premise is the clause `read` of `from_slice` and `from_tagged_slice`.
+pub fn read_as_item<T: AsCborValue>()
+    ensures plain { (s : List ℕ) (v : Item) (r : Result T CoseError) → AreBytes s → IsItem s v
+        → ReadsSlice T.shape T.seen s r → Reads T.shape T.seen v r }
+    ensures tagged { (n : ℕ) (s : List ℕ) (v : Item) (r : Result T CoseError) → AreBytes s
+        → IsItem s v → ReadsSlice (tagged n T.shape) T.seen s r
+        → Reads (tagged n T.shape) T.seen v r }
+    ensures untagged { (n : ℕ) (s : List ℕ) (v : Item) (r : Result T CoseError) → AreBytes s
+        → IsItem s v → IsNoTag n v → ReadsSlice (tagged n T.shape) T.seen s r
+        → NamesUnexpected r }
 {
     one_item();
     no_item_at_a_fault();

@@ -1,5 +1,6 @@
 //! Reading: items where they stand, in a tree or in bytes that were checked as a whole, and lists and maps of them.
 
+mod alone;
 mod elements;
 mod field;
 mod forward;
@@ -9,6 +10,7 @@ mod list;
 mod map;
 mod source;
 
+pub use alone::{each_from_slice, read_alone};
 pub use elements::{DecodeElements, decode_array, decode_four, decode_three, decode_two};
 pub use field::{Decode, set_field, set_nonempty};
 pub use in_place::{InPlace, copy_bstr_to, drop_refused, make_room, next_place, push_empty};

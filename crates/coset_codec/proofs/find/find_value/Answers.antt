@@ -1,4 +1,4 @@
-use Rattle.std.proofs.Common.{◌∙◌, ap, sym, option_map, rules, tests}
+use Rattle.std.proofs.Common.{◌∙◌, ap, option_map, rules, tests}
 use Rattle.std.proofs.lemmas.Iterator.{YieldsList-from_slice}
 use Rattle.std.proofs.lemmas.Iterator.Search.{find_from_yields_List}
 use Rattle.coset_codec.proofs.Finding.{lookup_from_find}

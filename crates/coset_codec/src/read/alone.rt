@@ -1,0 +1,49 @@
+//! Items that are read each by itself, so that one that isn't understood leaves the others.
+
+ghost use Rattle.std.specs.Prelude.{◌≡◌, IfOk, IfErr};
+ghost use Rattle.coset_cbor.specs.Pulls.{pull_item};
+ghost use Rattle.coset_codec.specs.Alone.{AreReadAlone, IsReadAlone, elements};
+ghost use Rattle.coset_codec.specs.Answers.{IsRefused};
+ghost use Rattle.coset_codec.specs.declared.error.CoseError.TheVariants.{OutOfMemory};
+
+use crate::error::{CoseError, Result};
+use crate::laws::refused_describes_nothing;
+use crate::traits::{FromPull, whole_item};
+use crate::util::pull_type_error;
+use coset_cbor::de::Pull;
+use std::alloc::Global;
+
+/// The value that the item describes, or else why it describes none.
+///
+/// # Errors
+/// `OutOfMemory` alone: it says nothing of the item.
+pub fn read_alone<T: FromPull + Drop>(alloc: Global, item: Pull<'_>) -> Result<Result<T>>
+    ensures alone { IfOk result (IsReadAlone T.shape T.seen (pull_item item.entry)) }
+    ensures memory { IfErr result (λ e. e ≡ OutOfMemory) }
+{
+    refused_describes_nothing::<T>();
+    match T::from_pull(alloc, item) {
+        Err(CoseError::OutOfMemory) => Err(CoseError::OutOfMemory),
+        read => Ok(read),
+    }
+}
+
+/// Reads each element of the array that the bytes are by itself, in order: the value that it describes, or else why it
+/// describes none. So a key of an unknown type leaves the other keys of its set (RFC 9052, section 7).
+///
+/// # Errors
+/// Why the bytes aren't an array, or `OutOfMemory`.
+pub fn each_from_slice<T: FromPull + Drop>(alloc: Global, bytes: &[u8]) -> Result<Vec<Result<T>>>
+    ensures each { IfOk result (λ all. AreReadAlone T.shape T.seen bytes.now all.items) }
+    ensures refused { IfErr result (λ e. IsRefused elements bytes.now e) }
+{
+    let whole = whole_item(bytes)?;
+    let Some(members) = whole.items() else {
+        return Err(pull_type_error(whole, "array"));
+    };
+    let mut all = Vec::new(alloc);
+    for element in members {
+        all.push(read_alone(alloc, element)?)?;
+    }
+    Ok(all)
+}
