@@ -13,6 +13,7 @@ pub use Rattle.coset_codec.specs.ShapeLaws
 pub use Rattle.coset_codec.specs.PerhapsTagged
 pub use Rattle.coset_codec.specs.Maps
 pub use Rattle.coset_codec.specs.Answers
+pub use Rattle.coset_codec.specs.Alone
 pub use Rattle.coset_codec.specs.Refusals
 pub use Rattle.coset_codec.specs.Kinds
 pub use Rattle.coset_codec.specs.Sources
@@ -87,7 +88,9 @@ pub use Rattle.coset_claims.specs.Number
 pub use Rattle.coset_claims.specs.Timestamp
 pub use Rattle.coset_claims.specs.Seconds
 pub use Rattle.coset_claims.specs.Claims
+pub use Rattle.coset_claims.specs.Known
 pub use Rattle.coset_claims.specs.declared.claims_set.ClaimsSet
+pub use Rattle.coset_claims.specs.declared.known.KnownClaims
 pub use Rattle.coset_claims.specs.Party
 pub use Rattle.coset_claims.specs.SuppPub
 pub use Rattle.coset_claims.specs.Context

@@ -1,4 +1,4 @@
 //! CBOR web tokens (RFC 8392).
 
-pub use coset_claims::{ClaimsSet, ClaimsSetBuilder, Timestamp};
+pub use coset_claims::{ClaimsSet, ClaimsSetBuilder, KnownClaims, Timestamp};
 pub use coset_recipient::ClaimName;

@@ -7,8 +7,8 @@ pub use coset_cbor::laws::{
     only_the_end_in_a_front, shortest_is_encoding, shortest_is_in_range,
 };
 pub use coset_codec::laws::{
-    equal_as_seen, image_is_described, one_value, plain_or_tagged, reads_again, refused_as_bytes,
-    refused_describes_nothing, spellings_agree, stays_as_written, written_apart,
+    equal_as_seen, image_is_described, one_value, plain_or_tagged, read_as_item, reads_again,
+    refused_as_bytes, refused_describes_nothing, spellings_agree, stays_as_written, written_apart,
 };
 pub use coset_core::laws::{headers_hold_signatures, kept_as_received, kept_as_written};
 pub use coset_iana::laws::{numbers_are_inverse, orders_are_by_number};

@@ -1,5 +1,5 @@
 -- Claims that are taken apart by their keys.
-use Rattle.std.proofs.Common.{◌≡◌, ◌++◌, ◌∙◌, ℕ, List, [], ◌∷◌, Bool, true, false, not, Option, Some, None, Result, Ok, Err, Vec, is_some, map, true≢false, ap}
+use Rattle.std.proofs.Common.{◌≡◌, ◌++◌, ◌∙◌, ℕ, List, [], ◌∷◌, Bool, true, false, not, Some, Result, Ok, Err, Vec, is_ok, map, true≢false, ap}
 use Rattle.std.proofs.Common.{ap₂, append_assoc, append-nil, inl, inr, refl, rules, subst, sym}
 use Rattle.std.proofs.lemmas.List.{map-append}
 use Rattle.std.specs.Map.{keys_of}
@@ -23,31 +23,31 @@ use Rattle.coset_label.specs.Views.{label_seen, entry_seen}
 use Rattle.coset_label.specs.declared.label.Label.{Label}
 use Rattle.coset_claims.specs.Claims.{ClaimsSeen, claim_name, claims}
 use Rattle.coset_claims.specs.ClaimsLaws.{claims_laws}
-use Rattle.cwt_gate.specs.Gate.{IsRefused}
-use Rattle.coset_uses.specs.Kept.{AreKept, IsName, IsNamed, IsNoLabel, KeptFaults, Splits, SplitsOff, Unassigned, kept}
-use Rattle.coset_uses.specs.Readable.{IsRead}
-use Rattle.coset_uses.proofs.Refused.{at_fault}
+use Rattle.coset_codec.specs.Answers.{IsRefused}
+use Rattle.coset_claims.specs.Known.{AreKnown, IsName, IsNamed, IsNoLabel, KnownFaults, Splits, SplitsOff, Others, known}
+use Rattle.coset_codec.specs.Alone.{IsReadAlone}
+use Rattle.coset_codec.proofs.Refusals.{at_fault}
 
 -- ---- pair by pair
 
 -- the claims' pairs ns and the others us, and what the pairs that are left are taken apart to, is what all are taken
 -- apart to
-abbrev pub GoesOn : Pairs → Pairs → Unassigned → Pairs → Type 0
-GoesOn all ns us left = (ms : Pairs) (ws : Unassigned) → Splits left ms ws → Splits all (and_pairs ns ms) (us ++ ws)
+abbrev pub GoesOn : Pairs → Pairs → Others → Pairs → Type 0
+GoesOn all ns us left = (ms : Pairs) (ws : Others) → Splits left ms ws → Splits all (and_pairs ns ms) (us ++ ws)
 
 -- a key among those that are left which is no label is one of all
 abbrev pub Blames : Pairs → Pairs → Type 0
 Blames all left = (e : CoseError) → SomePair (IsNoLabel e) left → SomePair (IsNoLabel e) all
 
 pub named_on :
-    (all old new ns qs : Pairs) (us : Unassigned) (k v : Item) → GoesOn all ns us old → old ≡ pair k v new → IsName k → qs ≡ with_pair ns k v
+    (all old new ns qs : Pairs) (us : Others) (k v : Item) → GoesOn all ns us old → old ≡ pair k v new → IsName k → qs ≡ with_pair ns k v
     → GoesOn all qs us new
 named_on all old new ns qs us k v g e n q = λ ms ws h.
     subst (λ ps. Splits all ps (us ++ ws)) (sym (ap (λ ps. and_pairs ps ms) q ∙ and_pairs-with ns k v ms))
     (g (pair k v ms) ws (subst (λ ps. Splits ps (pair k v ms) ws) (sym e) (inl (n, (ms, refl, h)))))
 
 pub other_on :
-    (all old new ns : Pairs) (us vs : Unassigned) (k v : Item) (l : Name) → GoesOn all ns us old → old ≡ pair k v new → (IsName k → ⊥) → label.describes k l
+    (all old new ns : Pairs) (us vs : Others) (k v : Item) (l : Name) → GoesOn all ns us old → old ≡ pair k v new → (IsName k → ⊥) → label.describes k l
     → vs ≡ us ++ (l, v) ∷ []
     → GoesOn all ns vs new
 other_on all old new ns us vs k v l g e n d q = λ ms ws h.
@@ -61,7 +61,7 @@ pub masked : (all old new : Pairs) (k v : Item) (f : CoseError) → Blames all o
     → SomePair (IsNoLabel f) all
 masked all old new k v f b e n h = b f (subst (SomePair (IsNoLabel f)) (sym e) (inl (n, h)))
 
-pub all_split : (all left ns : Pairs) (us : Unassigned) → GoesOn all ns us left → left ≡ no_pairs → Splits all ns us
+pub all_split : (all left ns : Pairs) (us : Others) → GoesOn all ns us left → left ≡ no_pairs → Splits all ns us
 all_split all left ns us g e =
     let h : Splits all (and_pairs ns no_pairs) (us ++ []) = g no_pairs [] (subst (λ ps. Splits ps no_pairs []) (sym e) (refl, refl)) in
     subst (λ ps. Splits all ps us) (and_pairs-none ns) (subst (Splits all (and_pairs ns no_pairs)) (append-nil us) h)
@@ -80,19 +80,19 @@ pub entries_pushed :
 entries_pushed old new l y v e q = ap (map entry_seen) e ∙ (map-append entry_seen old ((l, y) ∷ []) ∙ ap (λ w. map entry_seen old ++ (label_seen l, w) ∷ []) q)
 
 -- whether a key is a name, where it is read
-pub is_named : {T : Type 0} (seen : T → RegisteredName) (k : Item) (o : Option T) (b : Bool) → IsRead claim_name seen k o → is_some o ≡ b → IsNamed b k
-is_named seen k None b h e = subst (λ x. IsNamed x k) e (λ n. h n.0 n.1)
-is_named seen k (Some x) b h e = subst (λ y. IsNamed y k) e (seen x, h)
+pub is_named : {T : Type 0} (seen : T → RegisteredName) (k : Item) (r : Result T CoseError) (b : Bool) → IsReadAlone claim_name seen k r → is_ok r ≡ b → IsNamed b k
+is_named seen k (Err f) b h e = subst (λ x. IsNamed x k) e (λ n. h.2 n.0 n.1)
+is_named seen k (Ok x) b h e = subst (λ y. IsNamed y k) e (seen x, h)
 
 pub not_split :
-    {T : Type 0} (ps : Pairs) (seen : T → Pairs × Unassigned) (e : CoseError) (r : Result T CoseError) → IsErrAnd r (λ x. x ≡ e)
+    {T : Type 0} (ps : Pairs) (seen : T → Pairs × Others) (e : CoseError) (r : Result T CoseError) → IsErrAnd r (λ x. x ≡ e)
     → UnlessMemory e (λ f. SomePair (IsNoLabel f) ps) → SplitsOff ps seen r
 not_split ps seen e (Ok x) is h = absurd is
 not_split ps seen e (Err x) is h = λ n. subst (λ f. SomePair (IsNoLabel f) ps) (sym is) (h (λ m. n (is ∙ m)))
 
--- ---- what is kept has no fault
+-- ---- what is known has no fault
 
-splits_unique : (ps ns ms : Pairs) (us ws : Unassigned) → Splits ps ns us → Splits ps ms ws → (ns ≡ ms) × (us ≡ ws)
+splits_unique : (ps ns ms : Pairs) (us ws : Others) → Splits ps ns us → Splits ps ms ws → (ns ≡ ms) × (us ≡ ws)
 splits_unique no_pairs ns ms us ws p q = (p.0 ∙ sym q.0, p.1 ∙ sym q.1)
 splits_unique (pair k v ps) ns ms us ws (inl p) (inl q) =
     let r = splits_unique ps p.1.0 q.1.0 us ws p.1.2 q.1.2 in
@@ -102,16 +102,16 @@ splits_unique (pair k v ps) ns ms us ws (inr p) (inl q) = absurd (p.0 q.0)
 splits_unique (pair k v ps) ns ms us ws (inr p) (inr q) =
     let r = splits_unique ps ns ms p.1.1 q.1.1 p.1.4 q.1.4 in
     let l : p.1.0 ≡ q.1.0 = label_laws.unique k p.1.0 q.1.0 p.1.2 q.1.2 in
-    (r.0, p.1.3 ∙ (ap₂ (λ (x : Name) (y : Unassigned). (x, v) ∷ y) l r.1 ∙ sym q.1.3))
+    (r.0, p.1.3 ∙ (ap₂ (λ (x : Name) (y : Others). (x, v) ∷ y) l r.1 ∙ sym q.1.3))
 
-labels_sound : (ps ns : Pairs) (us : Unassigned) (e : CoseError) → Splits ps ns us → SomePair (IsNoLabel e) ps → ⊥
+labels_sound : (ps ns : Pairs) (us : Others) (e : CoseError) → Splits ps ns us → SomePair (IsNoLabel e) ps → ⊥
 labels_sound no_pairs ns us e p h = h
 labels_sound (pair k v ps) ns us e (inl p) (inl h) = h.0 p.0
 labels_sound (pair k v ps) ns us e (inl p) (inr h) = labels_sound ps p.1.0 us e p.1.2 h
 labels_sound (pair k v ps) ns us e (inr p) (inl h) = label_laws.sound k p.1.0 e p.1.2 h.1
 labels_sound (pair k v ps) ns us e (inr p) (inr h) = labels_sound ps ns p.1.1 e p.1.4 h
 
-pairs_sound : (ps : Pairs) (x : ClaimsSeen × Unassigned) (e : CoseError) → AreKept ps x → KeptFaults ps e → ⊥
+pairs_sound : (ps : Pairs) (x : ClaimsSeen × Others) (e : CoseError) → AreKnown ps x → KnownFaults ps e → ⊥
 pairs_sound ps x e k (inl h) = labels_sound ps k.0 x.1 e k.1 h
 pairs_sound ps x e k (inr h) =
     let same = splits_unique ps h.0 k.0 h.1 x.1 h.2 k.1 in
@@ -120,9 +120,9 @@ pairs_sound ps x e k (inr h) =
       | inr f ↦ claims_laws.sound (dict k.0) x.0 e k.2 (subst (λ ns. claims.faults (dict ns) e) same.0 f)
     ]
 
-pub kept_sound : (v : Item) (x : ClaimsSeen × Unassigned) (e : CoseError) → kept.describes v x → kept.faults v e → ⊥
-kept_sound v x e d (inl f) = some-none d.1 f.0
-kept_sound v x e d (inr f) = pairs_sound d.0 x e d.2 (subst (λ ps. KeptFaults ps e) (some-one f.1 d.1) f.2)
+pub known_sound : (v : Item) (x : ClaimsSeen × Others) (e : CoseError) → known.describes v x → known.faults v e → ⊥
+known_sound v x e d (inl f) = some-none d.1 f.0
+known_sound v x e d (inr f) = pairs_sound d.0 x e d.2 (subst (λ ps. KnownFaults ps e) (some-one f.1 d.1) f.2)
 
 -- ---- what is answered
 
@@ -140,15 +140,15 @@ told_not b false e f = refl
 told_not b true e f = absurd (true≢false (sym f ∙ e))
 
 module _ (s : List ℕ) (v : Item) (only : IsOnlyItem s v) (ps : Pairs) (is : as_map v ≡ Some ps) where
-  pub no_labels : (e : CoseError) → UnlessMemory e (λ f. SomePair (IsNoLabel f) ps) → IsRefused kept s e
-  no_labels e h = at_fault kept kept_sound s v e only (λ n. inr (ps, is, inl (h n)))
+  pub no_labels : (e : CoseError) → UnlessMemory e (λ f. SomePair (IsNoLabel f) ps) → IsRefused known s e
+  no_labels e h = at_fault known known_sound s v e only (λ n. inr (ps, is, inl (h n)))
 
-  pub repeated : (ns : Pairs) (us : Unassigned) → Splits ps ns us → are_distinct names.same (keys_of us) ≡ false → IsRefused kept s DuplicateMapKey
-  repeated ns us p d = at_fault kept kept_sound s v DuplicateMapKey only (λ n. inr (ps, is, inr (ns, us, p, inl (d, refl))))
+  pub repeated : (ns : Pairs) (us : Others) → Splits ps ns us → are_distinct names.same (keys_of us) ≡ false → IsRefused known s DuplicateMapKey
+  repeated ns us p d = at_fault known known_sound s v DuplicateMapKey only (λ n. inr (ps, is, inr (ns, us, p, inl (d, refl))))
 
-  pub no_claims : (ns : Pairs) (us : Unassigned) → Splits ps ns us → (e : CoseError) → UnlessMemory e (claims.faults (dict ns)) → IsRefused kept s e
-  no_claims ns us p e h = at_fault kept kept_sound s v e only (λ n. inr (ps, is, inr (ns, us, p, inr (h n))))
+  pub no_claims : (ns : Pairs) (us : Others) → Splits ps ns us → (e : CoseError) → UnlessMemory e (claims.faults (dict ns)) → IsRefused known s e
+  no_claims ns us p e h = at_fault known known_sound s v e only (λ n. inr (ps, is, inr (ns, us, p, inr (h n))))
 
-  pub all_kept : (ns : Pairs) (us : Unassigned) (c : ClaimsSeen) → Splits ps ns us → are_distinct names.same (keys_of us) ≡ true → claims.describes (dict ns) c
-      → Describes kept s (c, us)
-  all_kept ns us c p d h = (v, only.0, (ps, is, (ns, p, h, d)))
+  pub all_known : (ns : Pairs) (us : Others) (c : ClaimsSeen) → Splits ps ns us → are_distinct names.same (keys_of us) ≡ true → claims.describes (dict ns) c
+      → Describes known s (c, us)
+  all_known ns us c p d h = (v, only.0, (ps, is, (ns, p, h, d)))

@@ -3,4 +3,5 @@ pub mod ClaimWriting
 pub mod ClaimCopies
 pub mod Elements
 pub mod ByteStrings
+pub mod Known
 mod Comparing

@@ -1,4 +1,4 @@
--- A claims set of which also those claims are kept whose numbers IANA hasn't assigned (RFC 8392, section 3).
+-- The claims of a claims set that are understood, and beside them those whose numbers IANA hasn't assigned (RFC 8392, section 3).
 use Rattle.std.specs.Prelude.{◌≡◌, ◌⊎◌, List, [], ◌∷◌, Some, None, Bool, true, false, Result, Ok, Err, map}
 use Rattle.std.specs.Map.{keys_of}
 use Rattle.coset_value.specs.Item.{Item, Pairs, no_pairs, pair, dict}
@@ -13,8 +13,8 @@ use Rattle.coset_label.specs.Labels.{label, names}
 use Rattle.coset_label.specs.Names.{Name, RegisteredName}
 use Rattle.coset_label.specs.Views.{entry_seen}
 use Rattle.coset_claims.specs.Claims.{ClaimsSeen, claim_name, claims, claims_seen}
-use Rattle.coset_uses.specs.declared.kept_claims.KeptClaims.{KeptClaims}
-use Rattle.coset_uses.specs.declared.kept_claims.Parts.{Parts}
+use Rattle.coset_claims.specs.declared.known.KnownClaims.{KnownClaims}
+use Rattle.coset_claims.specs.declared.known.Parts.{Parts}
 
 -- the key is the name of a claim that a claims set holds
 abbrev pub IsName : Item → Type 0
@@ -25,46 +25,46 @@ IsNamed true k = IsName k
 IsNamed false k = IsName k → ⊥
 
 -- the labels and values of claims that no claims set holds
-abbrev pub Unassigned : Type 0
-Unassigned = List (Name × Item)
+abbrev pub Others : Type 0
+Others = List (Name × Item)
 
 -- the pairs whose keys are claims' names, and all others with the labels that their keys are, both in order
-abbrev pub Splits : Pairs → Pairs → Unassigned → Type 0
+abbrev pub Splits : Pairs → Pairs → Others → Type 0
 Splits no_pairs ns us = (ns ≡ no_pairs) × (us ≡ [])
 Splits (pair k v ps) ns us =
     (IsName k × ((ms : Pairs) × (ns ≡ pair k v ms) × Splits ps ms us))
-    ⊎ ((IsName k → ⊥) × ((l : Name) × (ws : Unassigned) × label.describes k l × (us ≡ (l, v) ∷ ws) × Splits ps ns ws))
+    ⊎ ((IsName k → ⊥) × ((l : Name) × (ws : Others) × label.describes k l × (us ≡ (l, v) ∷ ws) × Splits ps ns ws))
 
 -- a key is no claim's name, and no label either
 abbrev pub IsNoLabel : CoseError → Item → Item → Type 0
 IsNoLabel e k v = (IsName k → ⊥) × label.faults k e
 
 -- what the first of these make, and the others, no two of which have one label
-abbrev pub AreKept : Pairs → ClaimsSeen × Unassigned → Type 0
-AreKept ps x = (ns : Pairs) × Splits ps ns x.1 × claims.describes (dict ns) x.0 × (are_distinct names.same (keys_of x.1) ≡ true)
+abbrev pub AreKnown : Pairs → ClaimsSeen × Others → Type 0
+AreKnown ps x = (ns : Pairs) × Splits ps ns x.1 × claims.describes (dict ns) x.0 × (are_distinct names.same (keys_of x.1) ≡ true)
 
 -- what is wrong with pairs: a key that is no label; two keys that are one; or what a claims set of the first refuses
-abbrev pub KeptFaults : Pairs → CoseError → Type 0
-KeptFaults ps e =
+abbrev pub KnownFaults : Pairs → CoseError → Type 0
+KnownFaults ps e =
     SomePair (IsNoLabel e) ps
-    ⊎ ((ns : Pairs) × (us : Unassigned) × Splits ps ns us
+    ⊎ ((ns : Pairs) × (us : Others) × Splits ps ns us
     × (((are_distinct names.same (keys_of us) ≡ false) × (e ≡ DuplicateMapKey)) ⊎ claims.faults (dict ns) e))
 
 -- {claims, * label => any}: claims as a claims set holds them, and all others. It isn't written
-abbrev pub kept : Shape (ClaimsSeen × Unassigned)
-kept = record {
-  describes = λ v x. (ps : Pairs) × (as_map v ≡ Some ps) × AreKept ps x;
+abbrev pub known : Shape (ClaimsSeen × Others)
+known = record {
+  describes = λ v x. (ps : Pairs) × (as_map v ≡ Some ps) × AreKnown ps x;
   image = λ x. None;
-  faults = λ v e. ((as_map v ≡ None) × IsUnexpected e) ⊎ ((ps : Pairs) × (as_map v ≡ Some ps) × KeptFaults ps e);
+  faults = λ v e. ((as_map v ≡ None) × IsUnexpected e) ⊎ ((ps : Pairs) × (as_map v ≡ Some ps) × KnownFaults ps e);
 }
 
-abbrev pub kept_seen : KeptClaims → ClaimsSeen × Unassigned
-kept_seen c = (claims_seen c.claims, map entry_seen c.unassigned.items)
+abbrev pub known_seen : KnownClaims → ClaimsSeen × Others
+known_seen c = (claims_seen c.claims, map entry_seen c.others.items)
 
-abbrev pub parts_seen : Parts → Pairs × Unassigned
-parts_seen s = (pairs_view s.named.items, map entry_seen s.unassigned.items)
+abbrev pub parts_seen : Parts → Pairs × Others
+parts_seen s = (pairs_view s.named.items, map entry_seen s.others.items)
 
 -- what taking pairs apart answers
-abbrev pub SplitsOff : {T : Type 0} → Pairs → (T → Pairs × Unassigned) → Result T CoseError → Type 0
+abbrev pub SplitsOff : {T : Type 0} → Pairs → (T → Pairs × Others) → Result T CoseError → Type 0
 SplitsOff ps seen (Ok s) = Splits ps (seen s).0 (seen s).1
 SplitsOff ps seen (Err e) = UnlessMemory e (λ f. SomePair (IsNoLabel f) ps)

@@ -18,7 +18,7 @@ use coset_cbor::value::Value;
 use coset_codec::read::{Gather, Input, InputPairs, read_map, set_field};
 use coset_codec::write::{Encode, write_optional, write_pairs_head, write_rest};
 use coset_codec::{Codec, Result, find_value, has_repeats};
-use coset_iana::{CwtClaimName, EnumI64};
+use coset_iana::{CwtClaimName, EnumI64, WithPrivateRange};
 use coset_label::{ClaimName, RegisteredLabelWithPrivate};
 use std::alloc::{AllocError, Global};
 use std::marker::Model;
@@ -456,6 +456,8 @@ impl ClaimsSetBuilder {
             ≡ and_claim (assigned (claim_names.number name)) (view value) (claims_seen self)) }
         ensures memory { IfErr result (λ e. e ≡ OutOfMemory) }
     {
+        let number = name.to_i64();
+        prove!(number < 1 || 7 < number);
         self.0.rest.push((ClaimName::Assigned(name), value))?;
         Ok(self)
     }
@@ -485,6 +487,7 @@ impl ClaimsSetBuilder {
             ≡ and_claim (private_use id) (view value) (claims_seen self)) }
         ensures memory { IfErr result (λ e. e ≡ OutOfMemory) }
     {
+        prove!(CwtClaimName::is_private(id));
         self.0.rest.push((ClaimName::PrivateUse(id), value))?;
         Ok(self)
     }

@@ -3,6 +3,7 @@
 
 mod claims_set;
 mod context;
+mod known;
 mod number;
 mod party;
 mod supp_pub;
@@ -17,6 +18,7 @@ pub use coset_core::{
     ProtectedHeader, RegisteredLabel, RegisteredLabelWithPrivate, Result, TaggedCborSerializable,
     TaggedCodec, cbor, codec, has_repeats, iana, util,
 };
+pub use known::KnownClaims;
 pub use party::{Nonce, PartyInfo, PartyInfoBuilder};
 pub use supp_pub::{SuppPubInfo, SuppPubInfoBuilder};
 pub use timestamp::Timestamp;

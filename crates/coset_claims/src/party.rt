@@ -8,7 +8,7 @@ ghost use Rattle.coset_claims.specs.Party.{empty_party, nonce, nonce_or_nil, non
 ghost use Rattle.coset_claims.specs.ContextSame.{nonce_eq, nonce_eq_equiv};
 
 use coset_cbor::value::Value;
-use coset_codec::read::{Decode, Input, decode_three};
+use coset_codec::read::{Decode, Input, decode_array};
 use coset_codec::util::copy_bstr;
 use coset_codec::write::{Encode, encode_three};
 use coset_codec::{Codec, Result};
@@ -219,14 +219,16 @@ impl Codec for PartyInfo {
     ghost equal = { party_told };
 
     fn read(alloc: Global, input: &mut Input<'_>) -> Result<PartyInfo> {
-        let (BstrOrNil(identity), NonceOrNil(nonce), BstrOrNil(other)) = decode_three(
-            alloc, input,
-        )?;
-        Ok(PartyInfo {
-            identity,
-            nonce,
-            other,
-        })
+        match decode_array(alloc, input, "array with 3 items") {
+            Ok((BstrOrNil(identity), (NonceOrNil(nonce), (BstrOrNil(other), ())))) => {
+                Ok(PartyInfo {
+                    identity,
+                    nonce,
+                    other,
+                })
+            }
+            Err(error) => Err(error),
+        }
     }
 
     fn size_hint(&self) -> usize {

@@ -11,7 +11,7 @@ mod map;
 mod source;
 
 pub use alone::{each_from_slice, read_alone};
-pub use elements::{DecodeElements, decode_array, decode_four, decode_three, decode_two};
+pub use elements::{DecodeElements, decode_array};
 pub use field::{Decode, set_field, set_nonempty};
 pub use in_place::{InPlace, copy_bstr_to, drop_refused, make_room, next_place, push_empty};
 pub use input::{Input, InputItems, InputPairs, wrong_length};

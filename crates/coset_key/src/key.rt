@@ -560,6 +560,7 @@ impl CoseKeyBuilder {
             ≡ and_param (number label) (view value) (key_seen self)) }
         ensures memory { IfErr result (λ e. e ≡ OutOfMemory) }
     {
+        prove!(label < 0 || 5 < label);
         self.and_param(label, value)
     }
 

@@ -2,11 +2,13 @@
 
 ghost use Rattle.std.specs.Prelude.{◌≡◌, [], IfOk, IfErr};
 ghost use Rattle.coset_codec.specs.declared.error.CoseError.TheVariants.{OutOfMemory};
-ghost use Rattle.coset_key.specs.Keys.{key_set, key_set_seen};
+ghost use Rattle.coset_codec.specs.Alone.{AreReadAlone, elements};
+ghost use Rattle.coset_codec.specs.Answers.{IsRefused};
+ghost use Rattle.coset_key.specs.Keys.{key, key_seen, key_set, key_set_seen};
 
 use crate::key::CoseKey;
 use coset_codec::Codec;
-use coset_codec::read::{Input, read_list};
+use coset_codec::read::{Input, each_from_slice, read_list};
 use coset_codec::write::Array;
 use coset_label::{Encode, Result};
 use std::alloc::{AllocError, Global};
@@ -36,6 +38,18 @@ impl CoseKeySet {
         CoseKeySet(Vec::new(alloc))
     }
 
+    /// Reads each key of the set that the bytes are by itself, in order: the key, or else why it isn't read. So a key of a
+    /// type that isn't known leaves the others (RFC 9052, section 7); `from_slice` refuses such a set.
+    ///
+    /// # Errors
+    /// Why the bytes aren't an array, or `OutOfMemory`.
+    pub fn each_from_slice(alloc: Global, bytes: &[u8]) -> Result<Vec<Result<CoseKey>>>
+        ensures each { IfOk result (λ keys. AreReadAlone key key_seen bytes.now keys.items) }
+        ensures refused { IfErr result (λ e. IsRefused elements bytes.now e) }
+    {
+        each_from_slice(alloc, bytes)
+    }
+
     /// Keys that equal these.
     ///
     /// # Errors
@@ -51,7 +65,6 @@ impl CoseKeySet {
 impl Codec for CoseKeySet {
     ghost use Rattle.coset_codec.specs.Told.{lists_told};
     ghost use Rattle.coset_key.specs.Equality.{key_told};
-    ghost use Rattle.coset_key.specs.Keys.{key_seen};
     ghost use Rattle.std.specs.Prelude.{List};
     ghost use Rattle.coset_key.specs.Keys.{KeySeen};
     ghost use Rattle.coset_key.specs.KeyLaws.{key_set_laws};

@@ -10,6 +10,7 @@
 
 mod claims;
 mod context;
+mod each;
 mod get;
 mod header_builder;
 mod headers;

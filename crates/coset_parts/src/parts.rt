@@ -1,8 +1,8 @@
 //! Calls of builders, labels, keys, registries and CBOR: all but those of messages, and those that every type has.
 
 use crate::{
-    claims, context, get, header_builder, headers, key, key_builder, label, order, pull, reading,
-    registry, value, writing,
+    claims, context, each, get, header_builder, headers, key, key_builder, label, order, pull,
+    reading, registry, value, writing,
 };
 use coset::Result;
 use coset_lines::words::Words;
@@ -54,6 +54,8 @@ fn of_order(alloc: Global, kind: &str, name: &str, words: &Words<'_>) -> Option<
 /// Another call of a type.
 fn of_type(alloc: Global, kind: &str, name: &str, words: &Words<'_>) -> Option<Result<String>> {
     match (kind, name) {
+        ("ClaimsSet", "known_from_slice") => Some(each::claims(alloc, words)),
+        ("CoseKeySet", "each_from_slice") => Some(each::keys(alloc, words)),
         ("Header", "is_empty") => Some(headers::is_empty(alloc, words)),
         ("ProtectedHeader", "is_empty") => Some(headers::is_empty_protected(alloc, words)),
         ("ProtectedHeader", "protected_bytes") => Some(headers::protected_bytes(alloc, words)),
@@ -77,6 +79,7 @@ fn of_cbor(alloc: Global, name: &str, words: &Words<'_>) -> Option<Result<String
         "read_value" => Some(reading::read(alloc, words)),
         "decode_encoded" => Some(reading::decode(alloc, words)),
         "check" => Some(reading::check_front(alloc, words)),
+        "front_length" => Some(reading::front(alloc, words)),
         "to_cbor_array" => Some(writing::array(alloc, words)),
         "de_error" => Some(value::reader_error(alloc, words)),
         "ser_error" => Some(value::writer_error(alloc, words)),

@@ -2,7 +2,7 @@
 
 ghost use Rattle.std.specs.Prelude.{◌≡◌, ◌+◌, ◌<◌, ℕ, [], ◌∷◌, ◌++◌, replicate, Ok};
 
-use coset::cbor::de::{EndOfFile, Error, Steps, check, decode_encoded, read_value};
+use coset::cbor::de::{EndOfFile, Error, Steps, check, decode_encoded, front_length, read_value};
 use coset::{CborSerializable, CoseError, Result, laws};
 use coset_lines::words::Words;
 use coset_lines::{mark, tell};
@@ -53,6 +53,26 @@ pub fn check_front(alloc: Global, words: &Words<'_>) -> Result<String> {
     mark::begin(alloc);
     let answer = check_counted::<Brand>(&bytes, Blank::new(1));
     mark::end(alloc);
+    tell_length(alloc, answer)
+}
+
+/// The same, without a counter.
+///
+/// # Errors
+/// The word is no hexadecimal, or memory ran out.
+pub fn front(alloc: Global, words: &Words<'_>) -> Result<String> {
+    let bytes = words.bytes(alloc, 1)?;
+    mark::begin(alloc);
+    let answer = front_length(&bytes);
+    mark::end(alloc);
+    tell_length(alloc, answer)
+}
+
+/// The length that was found, or the error's text.
+fn tell_length(
+    alloc: Global,
+    answer: std::result::Result<usize, Error<EndOfFile>>,
+) -> Result<String> {
     match answer {
         Ok(length) => Ok(format!(in alloc; "ok {length}")?),
         Err(error) => tell::unread(alloc, &error),

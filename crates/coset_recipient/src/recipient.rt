@@ -403,6 +403,18 @@ pub(crate) fn copy_recipient_list(
     Ok(Clone::clone(all)?)
 }
 
+/// Whether this is one of the three contexts of a recipient.
+fn is_of_recipient(context: EncryptionContext) -> bool
+    ensures { IsOfRecipient context → IsTrue result }
+{
+    match context {
+        EncryptionContext::CoseEncrypt | EncryptionContext::CoseEncrypt0 => false,
+        EncryptionContext::EncRecipient
+        | EncryptionContext::MacRecipient
+        | EncryptionContext::RecRecipient => true,
+    }
+}
+
 impl CoseRecipient {
     /// An empty recipient: empty headers, no ciphertext, no recipients. It takes no memory.
     pub fn new(alloc: Global) -> CoseRecipient
@@ -471,6 +483,7 @@ impl CoseRecipient {
         ensures { IfSome (recipient_seen self.now).ciphertext (λ c. AsksAbout F.FnOnce cipher c
             (recipient_structure context (recipient_seen self.now) external_aad.now) result) }
     {
+        prove!(is_of_recipient(context));
         let structure = self.aad(alloc, context, external_aad);
         ask(self.carried(), structure, cipher)
     }
@@ -502,6 +515,7 @@ impl CoseRecipient {
         let Some(ciphertext) = &self.ciphertext else {
             return Err(CallError::Caller(missing()));
         };
+        prove!(is_of_recipient(context));
         let structure = self.aad(alloc, context, external_aad);
         ask(ciphertext, structure, cipher)
     }
@@ -698,6 +712,7 @@ impl CoseRecipientBuilder {
             (recipient_structure context (recipient_seen self) external_aad.now) (λ c b.
             recipient_seen b ≡ with_ciphertext c.items (recipient_seen self)) result }
     {
+        prove!(is_of_recipient(context));
         let structure = self.0.aad(alloc, context, external_aad)?;
         Ok(self.ciphertext(cipher(plaintext, &structure)))
     }
@@ -723,6 +738,7 @@ impl CoseRecipientBuilder {
             (recipient_structure context (recipient_seen self) external_aad.now) (λ c b.
             recipient_seen b ≡ with_ciphertext c.items (recipient_seen self)) result }
     {
+        prove!(is_of_recipient(context));
         let structure = self.0.aad(alloc, context, external_aad);
         let ciphertext = ask(plaintext, structure, cipher)?;
         Ok(self.ciphertext(ciphertext))

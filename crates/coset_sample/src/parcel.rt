@@ -7,7 +7,7 @@
 ghost use Rattle.coset_sample.specs.Parcel.{seen, parcel};
 
 use crate::reading::Mark;
-use coset_codec::read::{Input, decode_four};
+use coset_codec::read::{Input, decode_array};
 use coset_codec::write::{Array, Encode, encode_four};
 use coset_codec::{Codec, Result};
 use std::alloc::Global;
@@ -42,13 +42,15 @@ impl Codec for Parcel {
         (λ x y. signed_Decides x.0 y.0) a.marks.items b.marks.items))))) };
 
     fn read(alloc: Global, input: &mut Input<'_>) -> Result<Parcel> {
-        let (number, receiver, note, marks) = decode_four(alloc, input)?;
-        Ok(Parcel {
-            number,
-            receiver,
-            note,
-            marks,
-        })
+        match decode_array(alloc, input, "array with 4 items") {
+            Ok((number, (receiver, (note, (marks, ()))))) => Ok(Parcel {
+                number,
+                receiver,
+                note,
+                marks,
+            }),
+            Err(error) => Err(error),
+        }
     }
 
     fn write(&self, alloc: Global, out: &mut Vec<u8>) -> Result<()> {

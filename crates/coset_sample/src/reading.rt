@@ -5,7 +5,7 @@ ghost use Rattle.coset_codec.specs.Shape.{int64};
 ghost use Rattle.coset_codec.specs.ShapeLaws.{int64_laws};
 ghost use Rattle.coset_sample.specs.Reading.{mark_seen, seen, reading};
 
-use coset_codec::read::{Input, decode_three};
+use coset_codec::read::{Input, decode_array};
 use coset_codec::write::{Array, Encode, encode_three};
 use coset_codec::{Codec, Result, TaggedCodec};
 use std::alloc::Global;
@@ -67,12 +67,14 @@ impl Codec for Reading {
         a.marks.items b.marks.items)))) };
 
     fn read(alloc: Global, input: &mut Input<'_>) -> Result<Reading> {
-        let (number, payload, marks) = decode_three(alloc, input)?;
-        Ok(Reading {
-            number,
-            payload,
-            marks,
-        })
+        match decode_array(alloc, input, "array with 3 items") {
+            Ok((number, (payload, (marks, ())))) => Ok(Reading {
+                number,
+                payload,
+                marks,
+            }),
+            Err(error) => Err(error),
+        }
     }
 
     fn write(&self, alloc: Global, out: &mut Vec<u8>) -> Result<()> {

@@ -13,7 +13,7 @@ ghost use Rattle.coset_sample.specs.Report.{seen, report};
 use crate::reading::Reading;
 use coset_cbor::de::Pull;
 use coset_cbor::value::Value;
-use coset_codec::read::{Input, decode_two};
+use coset_codec::read::{Input, decode_array};
 use coset_codec::traits::FromPull;
 use coset_codec::write::{Array, Encode, encode_to_value, encode_two};
 use coset_codec::{
@@ -36,8 +36,10 @@ fn read_report(alloc: Global, input: &mut Input<'_>) -> Result<Report>
     ensures strictly { OnOk result (GoesBehind (state input.old) (state input.new)) }
     ensures reads { ReadsAt (state input.old) (state input.new) (λ v. Reads report seen v result) }
 {
-    let (sender, readings) = decode_two(alloc, input)?;
-    Ok(Report { sender, readings })
+    match decode_array(alloc, input, "array with 2 items") {
+        Ok((sender, (readings, ()))) => Ok(Report { sender, readings }),
+        Err(error) => Err(error),
+    }
 }
 
 impl AsCborValue for Report {

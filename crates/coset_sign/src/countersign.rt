@@ -85,10 +85,12 @@ fn countersigned_bytes(
     payload: &[u8],
     other_fields: &[Vec<u8>],
 ) -> Result<Vec<u8>>
+    requires { other_fields.now ≢ [] }
     ensures { Writes (countersigned_item (protected_seen body.now)
         (option_map (λ s. protected_seen s.now) signer.entry) external_aad.now payload.now
         (map (λ field. field.items) other_fields.now)) (λ b. b.items) result }
 {
+    prove!(!other_fields.is_empty());
     let body = body.protected_bytes(alloc)?;
     match signer {
         Some(signer) => {

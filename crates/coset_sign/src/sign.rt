@@ -138,6 +138,7 @@ impl CoseSign {
         ensures { Writes (signer_structure (sign_seen self.now) (signature_seen signature.now)
             external_aad.now payload.now) (λ b. b.items) result }
     {
+        prove!(self.payload.is_none());
         self.structure(alloc, external_aad, payload, signature)
     }
 

@@ -90,6 +90,7 @@ impl CoseSign1 {
         ensures { Writes (sign1_structure (sign1_seen self.now) external_aad.now payload.now) (λ b.
             b.items) result }
     {
+        prove!(self.payload.is_none());
         self.structure(alloc, external_aad, payload)
     }
 

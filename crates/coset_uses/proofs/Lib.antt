@@ -4,16 +4,13 @@ pub mod Calls
 pub mod Countersigned
 pub mod Found
 pub mod Issued
-pub mod Kept
 pub mod KeySets
 pub mod LetIn
 pub mod NamedAlgorithm
 pub mod OneByOne
 pub mod Opened
-pub mod Refused
 pub mod Refusing
 pub mod SharedKeys
 pub mod Signing
-pub mod Skipping
 pub mod Spellings
 pub mod Unwrapping

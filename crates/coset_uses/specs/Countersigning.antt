@@ -2,7 +2,7 @@
 use Rattle.std.specs.Prelude.{◌≡◌, ◌⊎◌, ℕ, List, [], ◌∷◌, Option, Some, None, Result, Ok, Err, Vec}
 use Rattle.std.specs.Global.{Global}
 use Rattle.coset_value.specs.Item.{Item}
-use Rattle.coset_codec.specs.Answers.{Describes}
+use Rattle.coset_codec.specs.Answers.{Describes, IsRefused}
 use Rattle.coset_codec.specs.Encoding.{HasNoImage}
 use Rattle.coset_codec.specs.Errors.{IsUnexpected}
 use Rattle.coset_codec.specs.ReadAgain.{IsWritten}
@@ -17,7 +17,6 @@ use Rattle.coset_sign.specs.Countersigned.{countersigned_item}
 use Rattle.coset_sign.specs.Sign.{signed_with}
 use Rattle.coset_sign.specs.Sign1.{Sign1Seen, sign1, sign1_seen}
 use Rattle.coset_sign.specs.declared.sign1.CoseSign1.{CoseSign1}
-use Rattle.cwt_gate.specs.Gate.{IsRefused}
 use Rattle.coset_uses.specs.Asked.{Asker, Declines, Maker, Makes, Says}
 use Rattle.coset_uses.specs.Signers.{signature_by}
 

@@ -1,7 +1,7 @@
 -- A message with one signature whose payload is detached (RFC 8152, section 4.1).
 use Rattle.std.specs.Prelude.{◌≡◌, ◌≢◌, ◌⊎◌, ℕ, List, None, Result, Ok, Err, Vec}
 use Rattle.std.specs.Global.{Global}
-use Rattle.coset_codec.specs.Answers.{Describes}
+use Rattle.coset_codec.specs.Answers.{Describes, IsRefused}
 use Rattle.coset_codec.specs.Errors.{IsUnexpected}
 use Rattle.coset_codec.specs.ReadAgain.{IsWritten}
 use Rattle.coset_codec.specs.declared.error.CallError.{CallError}
@@ -13,7 +13,6 @@ use Rattle.coset_core.specs.Headers.{empty_header}
 use Rattle.coset_core.specs.Messages.{unread}
 use Rattle.coset_sign.specs.Sign1.{Sign1Seen, empty_sign1, sign1, sign1_seen, sign1_structure, with_signature}
 use Rattle.coset_sign.specs.declared.sign1.CoseSign1.{CoseSign1}
-use Rattle.cwt_gate.specs.Gate.{IsRefused}
 use Rattle.coset_uses.specs.Asked.{Asker, Declines, Maker, Makes, Says}
 
 -- a message that carries no payload, with this algorithm in its protected header, before it is signed

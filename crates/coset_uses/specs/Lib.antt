@@ -6,7 +6,6 @@ pub mod Exchange
 pub mod FindKey
 pub mod HeaderParts
 pub mod Inside
-pub mod Kept
 pub mod KeySets
 pub mod LetIn
 pub mod Oscore

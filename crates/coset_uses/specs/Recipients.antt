@@ -3,7 +3,7 @@ use Rattle.std.specs.Prelude.{◌≡◌, ◌⊎◌, ℕ, List, [], ◌∷◌, Bo
 use Rattle.std.specs.List.{find}
 use Rattle.std.specs.Global.{Global}
 use Rattle.coset_value.specs.Item.{Item}
-use Rattle.coset_codec.specs.Answers.{Describes}
+use Rattle.coset_codec.specs.Answers.{Describes, IsRefused}
 use Rattle.coset_codec.specs.Encoding.{HasNoImage}
 use Rattle.coset_codec.specs.Errors.{IsUnexpected}
 use Rattle.coset_codec.specs.ReadAgain.{IsWritten}
@@ -20,7 +20,6 @@ use Rattle.coset_recipient.specs.Recipient as inner
 use Rattle.coset_recipient.specs.Recipient.{RecipientSeen, empty_recipient, recipient_structure}
 use Rattle.coset_recipient.specs.RecipientView.{recipient_seen}
 use Rattle.coset_recipient.specs.declared.recipient.CoseRecipient.{CoseRecipient}
-use Rattle.cwt_gate.specs.Gate.{IsRefused}
 use Rattle.coset_uses.specs.Asked.{Asker, AskerOfThree, MakesOf, Says, SaysOfThree}
 use Rattle.coset_uses.specs.HeaderParts.{one_names_key}
 

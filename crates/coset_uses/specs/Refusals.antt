@@ -2,7 +2,7 @@
 -- `OutOfMemory`, which each of them may answer.
 use Rattle.std.specs.Prelude.{◌≡◌, ◌⊎◌, ◌++◌, ℕ, List, Option, Some, None}
 use Rattle.coset_value.specs.Item.{Item}
-use Rattle.coset_codec.specs.Answers.{Describes}
+use Rattle.coset_codec.specs.Answers.{Describes, IsRefused}
 use Rattle.coset_codec.specs.Encoding.{HasNoImage}
 use Rattle.coset_codec.specs.Errors.{IsUnexpected}
 use Rattle.coset_codec.specs.ReadAgain.{IsWritten}
@@ -18,7 +18,6 @@ use Rattle.coset_claims.specs.Claims.{ClaimsSeen, claims}
 use Rattle.coset_core.specs.Calls.{IsStructure}
 use Rattle.coset_sign.specs.Sign1.{Sign1Seen, empty_sign1, sign1, sign1_carried, with_signature}
 use Rattle.coset_msg.specs.Encrypt0.{Encrypt0Seen, encrypt0, encrypt0_structure}
-use Rattle.cwt_gate.specs.Gate.{IsRefused}
 use Rattle.coset_uses.specs.Exchange.{IsSent, IsVerified}
 use Rattle.coset_uses.specs.declared.cipher.Refused.{Refused}
 use Rattle.coset_uses.specs.declared.cipher.Refused.TheVariants as keys

@@ -4,7 +4,7 @@ use Rattle.std.specs.List.{list_any}
 use Rattle.std.specs.Global.{Global}
 use Rattle.coset_iana.specs.Algorithm as algorithms
 use Rattle.coset_iana.specs.declared.algorithms.Algorithm.TheVariants.{Direct}
-use Rattle.coset_codec.specs.Answers.{Describes}
+use Rattle.coset_codec.specs.Answers.{Describes, IsRefused}
 use Rattle.coset_codec.specs.ReadAgain.{IsWritten}
 use Rattle.coset_codec.specs.declared.error.CallError.{CallError}
 use Rattle.coset_codec.specs.declared.error.CallError.TheVariants.{Coset, Caller}
@@ -16,7 +16,6 @@ use Rattle.coset_core.specs.Messages.{unread}
 use Rattle.coset_recipient.specs.Mac.{MacSeen, empty_mac, mac, mac_seen, mac_structure_of, with_tag}
 use Rattle.coset_recipient.specs.Recipient.{RecipientSeen, empty_recipient}
 use Rattle.coset_recipient.specs.declared.mac.CoseMac.{CoseMac}
-use Rattle.cwt_gate.specs.Gate.{IsRefused}
 use Rattle.coset_uses.specs.Asked.{Asker, Declines, Maker, Makes, Says}
 use Rattle.coset_uses.specs.HeaderParts.{has_algorithm, names_key}
 

@@ -2,7 +2,7 @@
 use Rattle.std.specs.Prelude.{◌≡◌, ◌⊎◌, ℕ, List, [], ◌∷◌, Bool, Option, Some, None, Result, Ok, Err, Vec}
 use Rattle.std.specs.List.{find}
 use Rattle.std.specs.Global.{Global}
-use Rattle.coset_codec.specs.Answers.{Describes}
+use Rattle.coset_codec.specs.Answers.{Describes, IsRefused}
 use Rattle.coset_codec.specs.Encoding.{HasNoImage}
 use Rattle.coset_codec.specs.ReadAgain.{IsWritten}
 use Rattle.coset_codec.specs.declared.error.CallError.{CallError}
@@ -15,7 +15,6 @@ use Rattle.coset_core.specs.Headers.{SignatureSeen, empty_header}
 use Rattle.coset_core.specs.Messages.{unread}
 use Rattle.coset_sign.specs.Sign.{SignSeen, empty_sign, sign, sign_seen, signed_with, signer_carried}
 use Rattle.coset_sign.specs.declared.sign.CoseSign.{CoseSign}
-use Rattle.cwt_gate.specs.Gate.{IsRefused}
 use Rattle.coset_uses.specs.Asked.{Asker, Declines, Maker, Makes, Says}
 use Rattle.coset_uses.specs.HeaderParts.{one_names_key}
 

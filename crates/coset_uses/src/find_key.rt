@@ -2,7 +2,7 @@
 
 ghost use Rattle.std.specs.Prelude.{◌≡◌, IfOk, IfErr, option_map};
 ghost use Rattle.coset_key.specs.Keys.{key_seen, key_set, key_set_seen};
-ghost use Rattle.cwt_gate.specs.Gate.{IsRefused};
+ghost use Rattle.coset_codec.specs.Answers.{IsRefused};
 ghost use Rattle.coset_uses.specs.FindKey.{IsKeyOf, first_with};
 
 use coset::{CborOrdering, CborSerializable, CoseKey, CoseKeySet, Result};

@@ -13,7 +13,6 @@ pub mod find_key;
 pub mod headers;
 pub mod inside;
 pub mod issue;
-pub mod kept_claims;
 pub mod key_sets;
 pub mod let_in;
 pub mod oscore;

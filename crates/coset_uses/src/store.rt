@@ -6,8 +6,7 @@
 ghost use Rattle.std.specs.Prelude.{◌≡◌, ◌⊎◌, ◌↔◌, IfOk, IfErr, IsTrue};
 ghost use Rattle.coset_key.specs.Canonical.{AgreeButForOrder};
 ghost use Rattle.coset_key.specs.Keys.{KeySeen, key};
-ghost use Rattle.coset_codec.specs.Answers.{Describes};
-ghost use Rattle.cwt_gate.specs.Gate.{IsRefused};
+ghost use Rattle.coset_codec.specs.Answers.{Describes, IsRefused};
 ghost use Rattle.coset_uses.specs.Store.{IsStored};
 
 use coset::{CborOrdering, CborSerializable, CoseKey, Result};

@@ -4,7 +4,7 @@ use coset::cbor::value::Value;
 use coset::iana::HeaderParameter;
 use coset::{CborSerializable, Header, RegisteredLabelWithPrivate};
 use coset_uses::headers::{is_understood, signer_certificate};
-use coset_uses::sequences::{and_value, values_in};
+use coset_uses::sequences::{and_value, uncounted_lengths, values_in};
 use std::alloc::Global;
 use std::test::*;
 
@@ -51,5 +51,7 @@ fn items_one_after_the_other(rt: HostRuntime) -> Result<(), Fail> {
     assert!(rt; values.first() == Some(&Value::from(500u16)));
     assert!(rt; values.last() == Some(&Value::Null));
     assert!(rt; values_in(alloc, b"\xf6\x19\x01").is_err());
+    assert!(rt; matches!(uncounted_lengths(b"\xf6\x00", b"\x81\x05"), Ok((1, 2))));
+    assert!(rt; uncounted_lengths(b"\xf6", b"\x82\x05").is_err());
     Ok(())
 }

@@ -4,7 +4,7 @@ use mir.Val.{SFits, of_z, to_z}
 use Rattle.std.specs.Prelude.{IsErrAnd}
 use Rattle.std.proofs.lemmas.Int.{to_z-of_z}
 use Rattle.std.proofs.Common.{◌≡◌, ℕ, ℤ, Bool, List, [], Some, None, Result, Ok, Err, sym, subst}
-use Rattle.coset.specs.Answers.{Describes}
+use Rattle.coset.specs.Answers.{Describes, IsRefused}
 use Rattle.coset.specs.CallError.{CallError}
 use Rattle.coset.specs.CallError.TheVariants.{Coset, Caller}
 use Rattle.coset.specs.Calls.{AsksAbout}
@@ -13,7 +13,7 @@ use Rattle.coset.specs.CoseError.{CoseError}
 use Rattle.coset.specs.Encoding.{HasNoImage}
 use Rattle.coset.specs.Item.{Item}
 use Rattle.coset.specs.Sign1.{Sign1Seen, sign1, sign1_carried, sign1_structure}
-use Rattle.cwt_gate.specs.Gate.{GivesClaims, IsAdmitted, IsRefused, Judges, JudgesWith, Says, Verifies, refusal_of}
+use Rattle.cwt_gate.specs.Gate.{GivesClaims, IsAdmitted, Judges, JudgesWith, Says, Verifies, refusal_of}
 use Rattle.cwt_gate.specs.Policy.{PolicySeen}
 use Rattle.cwt_gate.specs.Token.{token}
 use Rattle.cwt_gate.specs.declared.error.GateError.{GateError}

@@ -2,7 +2,7 @@
 use Rattle.std.specs.Prelude.{◌≡◌, ℕ, ℤ, List, [], true, false, Some, None, Result, Ok, Err}
 use Rattle.std.specs.Borrow.{Bor}
 use Rattle.std.specs.Fn.{Once, FnOnceReturnsAtPair}
-use Rattle.coset.specs.Answers.{Describes, DescribesNothing, SliceFaults}
+use Rattle.coset.specs.Answers.{Describes, IsRefused}
 use Rattle.coset.specs.CallError.{CallError}
 use Rattle.coset.specs.CallError.TheVariants as calls
 use Rattle.coset.specs.Calls.{IsStructure}
@@ -10,7 +10,6 @@ use Rattle.coset.specs.Claims.{ClaimsSeen, claims, claims_seen}
 use Rattle.coset.specs.ClaimsSet.{ClaimsSet}
 use Rattle.coset.specs.CoseError.{CoseError}
 use Rattle.coset.specs.Encoding.{HasNoImage}
-use Rattle.coset.specs.Errors.{UnlessMemory}
 use Rattle.coset.specs.Shape.{Shape}
 use Rattle.coset.specs.Sign1.{Sign1Seen, sign1_carried}
 use Rattle.cwt_gate.specs.Moment.{has_expired, has_fraction, is_early}
@@ -29,10 +28,6 @@ Verifies F E = Once F (Bor (List ℕ) × (Bor (List ℕ) × Unit {0})) (Result (
 abbrev pub refusal_of : {E : Type 0} → CallError E → GateError E
 refusal_of (calls.Coset e) = Token e
 refusal_of (calls.Caller e) = Caller e
-
--- bytes are refused, out of memory aside, only where they describe nothing, for a fault that stands in them
-abbrev pub IsRefused : {A : Type 0} → Shape A → List ℕ → CoseError → Type 0
-IsRefused s b e = UnlessMemory e (λ f. SliceFaults s b f × DescribesNothing s b)
 
 -- the message m carries the payload p; and asked about its signature and what that is over, where `external_aad` is empty
 -- (RFC 8152, section 4.4), f gives this answer

@@ -88,7 +88,8 @@ impl<A: Decode + Drop, P: DecodeElements + Drop> DecodeElements for (A, P) {
     }
 }
 
-/// Reads an array of these elements, from the first to the last.
+/// Reads an array of these elements, from the first to the last: `(A, (B, ()))` are two, told by
+/// `"array with 2 items"`.
 ///
 /// # Errors
 /// `OutOfMemory`; `UnexpectedItem` where the item is no array, or, with `want`, one of another number of elements; or the fault of
@@ -106,67 +107,4 @@ pub fn decode_array<P: DecodeElements>(
 {
     let mut members = input.enter_array("array")?;
     P::decode_elements(alloc, &mut members, input, want)
-}
-
-/// Reads an array of two elements.
-///
-/// # Errors
-/// Those of the last element that has one; before these `UnexpectedItem` of another number of elements, and of another item.
-#[inline]
-pub fn decode_two<A: Decode + Drop, B: Decode + Drop>(
-    alloc: Global,
-    input: &mut Input<'_>,
-) -> Result<(A, B)>
-    ensures shrinks { length_left (state input.new) ≤ length_left (state input.old) }
-    ensures strictly { OnOk result (GoesBehind (state input.old) (state input.new)) }
-    ensures reads { ReadsAt (state input.old) (state input.new)
-        (λ v. Reads (array_of (A.shape then B.shape then end))
-        (λ x. (A.seen x.0, (B.seen x.1, tt))) v result) }
-{
-    match decode_array::<(A, (B, ()))>(alloc, input, "array with 2 items") {
-        Ok((a, (b, _))) => Ok((a, b)),
-        Err(error) => Err(error),
-    }
-}
-
-/// Reads an array of three elements.
-///
-/// # Errors
-/// The same as [`decode_two`].
-#[inline]
-pub fn decode_three<A: Decode + Drop, B: Decode + Drop, C: Decode + Drop>(
-    alloc: Global,
-    input: &mut Input<'_>,
-) -> Result<(A, B, C)>
-    ensures shrinks { length_left (state input.new) ≤ length_left (state input.old) }
-    ensures strictly { OnOk result (GoesBehind (state input.old) (state input.new)) }
-    ensures reads { ReadsAt (state input.old) (state input.new)
-        (λ v. Reads (array_of (A.shape then B.shape then C.shape then end))
-        (λ x. (A.seen x.0, (B.seen x.1, (C.seen x.2, tt)))) v result) }
-{
-    match decode_array::<(A, (B, (C, ())))>(alloc, input, "array with 3 items") {
-        Ok((a, (b, (c, _)))) => Ok((a, b, c)),
-        Err(error) => Err(error),
-    }
-}
-
-/// Reads an array of four elements.
-///
-/// # Errors
-/// The same as [`decode_two`].
-#[inline]
-pub fn decode_four<A: Decode + Drop, B: Decode + Drop, C: Decode + Drop, D: Decode + Drop>(
-    alloc: Global,
-    input: &mut Input<'_>,
-) -> Result<(A, B, C, D)>
-    ensures shrinks { length_left (state input.new) ≤ length_left (state input.old) }
-    ensures strictly { OnOk result (GoesBehind (state input.old) (state input.new)) }
-    ensures reads { ReadsAt (state input.old) (state input.new)
-        (λ v. Reads (array_of (A.shape then B.shape then C.shape then D.shape then end))
-        (λ x. (A.seen x.0, (B.seen x.1, (C.seen x.2, (D.seen x.3, tt))))) v result) }
-{
-    match decode_array::<(A, (B, (C, (D, ()))))>(alloc, input, "array with 4 items") {
-        Ok((a, (b, (c, (d, _))))) => Ok((a, b, c, d)),
-        Err(error) => Err(error),
-    }
 }

@@ -251,6 +251,7 @@ impl HeaderBuilder {
             ≡ and_pair (number label) (view value) (header_seen self)) }
         ensures memory { IfErr result (λ e. e ≡ errors.OutOfMemory) }
     {
+        prove!(label < 1 || (7 < label && !(label == 11 || label == 12)));
         self.0.rest.push((Label::Int(label), value))?;
         Ok(self)
     }

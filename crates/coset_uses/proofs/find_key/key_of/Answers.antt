@@ -1,5 +1,5 @@
 use Rattle.coset_key.specs.Keys.{key_set}
-use Rattle.cwt_gate.specs.Gate.{IsRefused}
+use Rattle.coset_codec.specs.Answers.{IsRefused}
 use Rattle.coset_uses.proofs.Refusing.{passed}
 use Rattle.coset_uses.proofs.find_key.key_of.Goals as goal
 

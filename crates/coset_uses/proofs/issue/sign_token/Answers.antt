@@ -1,11 +1,10 @@
 use Rattle.std.proofs.Common.{◌≡◌, ◌∙◌, Some, None, ap, inl, inr, of_calls, refl, rules, subst}
-use Rattle.coset_codec.specs.Answers.{Describes}
+use Rattle.coset_codec.specs.Answers.{Describes, IsRefused}
 use Rattle.coset_codec.specs.ReadAgain.{IsWritten}
 use Rattle.coset_core.specs.Messages.{unread}
 use Rattle.coset_core.specs.Views.{header_seen}
 use Rattle.coset_core.specs.Calls.{IsStructure}
 use Rattle.coset_sign.specs.Sign1.{Sign1Seen, sign1, sign1_carried, sign1_seen, with_signature}
-use Rattle.cwt_gate.specs.Gate.{IsRefused}
 use Rattle.coset_uses.specs.Refusals.{IsNotSent, unsigned}
 use Rattle.coset_uses.proofs.Asked.{made, not_signed}
 use Rattle.coset_uses.proofs.Issued.{unsigned_unwritten}

@@ -3,7 +3,7 @@ use Rattle.std.specs.Cmp.Lexicographic.{bytes_decides}
 use Rattle.coset_key.specs.Canonical.{IsCanonicalOf}
 use Rattle.coset_key.specs.Keys.{key}
 use Rattle.coset_label.specs.declared.ordering.CborOrdering.TheVariants.{Lexicographic}
-use Rattle.cwt_gate.specs.Gate.{IsRefused}
+use Rattle.coset_codec.specs.Answers.{IsRefused}
 use Rattle.coset_uses.proofs.Refusing.{passed}
 use Rattle.coset_uses.proofs.store.hold_the_same.Goals as goal
 

@@ -1,6 +1,6 @@
 use Rattle.coset_key.specs.Keys.{key, key_seen}
 use Rattle.coset_codec.specs.ShapeLaws.{some-none}
-use Rattle.cwt_gate.specs.Gate.{IsRefused}
+use Rattle.coset_codec.specs.Answers.{IsRefused}
 use Rattle.coset_uses.proofs.Refusing.{passed, written}
 use Rattle.coset_uses.proofs.store.stored.Goals as goal
 

@@ -2,7 +2,7 @@ use Rattle.std.proofs.Common.{ap, option_map, subst}
 use Rattle.coset.specs.Claims.{claims, claims_seen}
 use Rattle.coset.specs.Answers.{Describes}
 use Rattle.coset.specs.Sign1.{sign1_seen}
-use Rattle.cwt_gate.specs.Gate.{IsRefused}
+use Rattle.coset.specs.Answers.{IsRefused}
 use Rattle.cwt_gate.proofs.Judging.{not_verified, says_yes}
 use Rattle.cwt_gate.proofs.verified.verified_claims.Goals as goal
 

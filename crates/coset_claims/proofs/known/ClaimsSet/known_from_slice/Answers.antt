@@ -6,47 +6,47 @@ use Rattle.coset_codec.specs.RestLaws.{repeats-seen}
 use Rattle.coset_label.specs.Views.{label_seen, entry_seen}
 use Rattle.coset_label.specs.Names.{same_name}
 use Rattle.coset_claims.specs.Claims.{claims, claims_seen}
-use Rattle.cwt_gate.specs.Gate.{IsRefused}
-use Rattle.coset_uses.specs.Kept.{kept}
-use Rattle.coset_uses.proofs.Kept.{all_kept, no_claims, no_labels, repeated, told, told_not, view-Map}
-use Rattle.coset_uses.proofs.Refusing.{passed}
-use Rattle.coset_uses.proofs.kept_claims.claims_kept.Goals as goal
+use Rattle.coset_codec.specs.Answers.{IsRefused}
+use Rattle.coset_claims.specs.Known.{known}
+use Rattle.coset_claims.proofs.Known.{all_known, no_claims, no_labels, repeated, told, told_not, view-Map}
+use Rattle.coset_codec.proofs.Lists.{on_err}
+use Rattle.coset_claims.proofs.known.ClaimsSet.known_from_slice.Goals as goal
 
 pub returns-in_err-parts-clause-refused : goal.returns-in_err-parts-clause-refused
 returns-in_err-parts-clause-refused c =
-    passed (IsRefused kept c.args.bytes.now) _ _ c.from_residual-in_err-parts.ensures.1
+    on_err _ _ (IsRefused known c.args.bytes.now) c.from_residual-in_err-parts.ensures.1
     (no_labels c.args.bytes.now (pull_item c.in_ok-set.set) c.in_ok-set.ensures.whole (pairs_left c.in-Some.pairs)
     (sym c.in-Some.ensures.pairs) c.in_err-parts.field-0.0 c.in_err-parts.ensures)
 
 pub returns-in_err-has_repeats-clause-refused : goal.returns-in_err-has_repeats-clause-refused
 returns-in_err-has_repeats-clause-refused c =
-    passed (IsRefused kept c.args.bytes.now) c.in_err-has_repeats.field-0.0 _ c.from_residual-in_err-has_repeats.ensures.1
+    on_err _ c.in_err-has_repeats.field-0.0 (IsRefused known c.args.bytes.now) c.from_residual-in_err-has_repeats.ensures.1
     (λ n. absurd (n c.in_err-has_repeats.ensures.memory.0))
 
 pub returns-then-branch-clause-refused : goal.returns-then-branch-clause-refused
 returns-then-branch-clause-refused c =
     let parts = c.in_ok-parts.parts in
-    let repeats = repeats-seen label_seen view _ same_name (λ x y. refl) c.in_ok-has_repeats.field-0 parts.unassigned.items
+    let repeats = repeats-seen label_seen view _ same_name (λ x y. refl) c.in_ok-has_repeats.field-0 parts.others.items
     (rw c.deref.ensures.value at c.in_ok-has_repeats.ensures.answer) in
     repeated c.args.bytes.now (pull_item c.in_ok-set.set) c.in_ok-set.ensures.whole (pairs_left c.in-Some.pairs) (sym c.in-Some.ensures.pairs)
-    (pairs_view parts.named.items) (map entry_seen parts.unassigned.items) c.in_ok-parts.ensures
+    (pairs_view parts.named.items) (map entry_seen parts.others.items) c.in_ok-parts.ensures
     (told_not c.in_ok-has_repeats.field-0 _ repeats c.if-branch.true)
 
 pub returns-in_err-claims-clause-refused : goal.returns-in_err-claims-clause-refused
 returns-in_err-claims-clause-refused c =
     let parts = c.in_ok-parts.parts in
     let e = c.in_err-claims.field-0.0 in
-    passed (IsRefused kept c.args.bytes.now) e _ c.from_residual-in_err-claims.ensures.1
+    on_err _ e (IsRefused known c.args.bytes.now) c.from_residual-in_err-claims.ensures.1
     (no_claims c.args.bytes.now (pull_item c.in_ok-set.set) c.in_ok-set.ensures.whole (pairs_left c.in-Some.pairs) (sym c.in-Some.ensures.pairs)
-    (pairs_view parts.named.items) (map entry_seen parts.unassigned.items) c.in_ok-parts.ensures e
+    (pairs_view parts.named.items) (map entry_seen parts.others.items) c.in_ok-parts.ensures e
     (λ n. subst (λ w. claims.faults w e) (view-Map parts.named) (c.in_err-claims.ensures n)))
 
 pub returns-clause-read : goal.returns-clause-read
 returns-clause-read c =
     let parts = c.in_ok-parts.parts in
     let x = claims_seen c.in_ok-claims.claims in
-    let repeats = repeats-seen label_seen view _ same_name (λ x y. refl) c.in_ok-has_repeats.field-0 parts.unassigned.items
+    let repeats = repeats-seen label_seen view _ same_name (λ x y. refl) c.in_ok-has_repeats.field-0 parts.others.items
     (rw c.deref.ensures.value at c.in_ok-has_repeats.ensures.answer) in
-    all_kept c.args.bytes.now (pull_item c.in_ok-set.set) c.in_ok-set.ensures.whole (pairs_left c.in-Some.pairs) (sym c.in-Some.ensures.pairs)
-    (pairs_view parts.named.items) (map entry_seen parts.unassigned.items) x c.in_ok-parts.ensures
+    all_known c.args.bytes.now (pull_item c.in_ok-set.set) c.in_ok-set.ensures.whole (pairs_left c.in-Some.pairs) (sym c.in-Some.ensures.pairs)
+    (pairs_view parts.named.items) (map entry_seen parts.others.items) x c.in_ok-parts.ensures
     (told c.in_ok-has_repeats.field-0 _ repeats c.if-branch.false) (subst (λ w. claims.describes w x) (view-Map parts.named) c.in_ok-claims.ensures)

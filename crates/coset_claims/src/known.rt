@@ -1,0 +1,92 @@
+//! The claims of a web token that are understood, where a claims set as a whole is refused for one whose number IANA hasn't
+//! assigned: claims that aren't understood are ignored (RFC 8392, section 3).
+
+ghost use Rattle.std.specs.Prelude.{◌≡◌, IfOk, IfErr};
+ghost use Rattle.coset_cbor.specs.Members.{pairs_left};
+ghost use Rattle.coset_cbor.specs.Pulls.{pull_item};
+ghost use Rattle.coset_codec.specs.Answers.{Describes, IsRefused};
+ghost use Rattle.coset_codec.specs.declared.error.CoseError.TheVariants.{OutOfMemory};
+ghost use Rattle.coset_claims.specs.Known.{IsNamed, SplitsOff, known, known_seen, parts_seen};
+
+use crate::claims_set::ClaimsSet;
+use coset_cbor::de::{Pairs, Pull};
+use coset_cbor::value::Value;
+use coset_codec::read::read_alone;
+use coset_codec::traits::whole_item;
+use coset_codec::util::pull_type_error;
+use coset_codec::{AsCborValue, CoseError, FromPull, Result, has_repeats};
+use coset_label::{ClaimName, Label};
+use std::alloc::Global;
+
+/// The claims of a token that are understood, and the others.
+#[derive(Debug, Drop)]
+pub struct KnownClaims {
+    /// The claims whose names are numbers that IANA assigned, numbers for private use, or texts.
+    pub claims: ClaimsSet,
+    /// All others, in order, with their labels.
+    pub others: Vec<(Label, Value)>,
+}
+
+/// The pairs of a claims set, and the labels and values of claims that it can't hold.
+#[derive(Drop)]
+struct Parts {
+    named: Vec<(Value, Value)>,
+    others: Vec<(Label, Value)>,
+}
+
+/// Whether the key is a claim's name that a claims set holds.
+///
+/// # Errors
+/// `OutOfMemory` alone.
+fn is_name(alloc: Global, key: Pull<'_>) -> Result<bool>
+    ensures named { IfOk result (λ b. IsNamed b (pull_item key.entry)) }
+    ensures memory { IfErr result (λ e. e ≡ OutOfMemory) }
+{
+    Ok(read_alone::<ClaimName>(alloc, key)?.is_ok())
+}
+
+/// Takes the pairs apart by their keys.
+///
+/// # Errors
+/// Why a key that is no claim's name is no label either; or `OutOfMemory`.
+fn split(alloc: Global, pairs: Pairs<'_>) -> Result<Parts>
+    ensures { SplitsOff (pairs_left pairs.entry) parts_seen result }
+{
+    let mut named = Vec::new(alloc);
+    let mut others = Vec::new(alloc);
+    for (key, value) in pairs {
+        if is_name(alloc, key)? {
+            named.push((key.to_value(alloc)?, value.to_value(alloc)?))?;
+        } else {
+            others.push((Label::from_pull(alloc, key)?, value.to_value(alloc)?))?;
+        }
+    }
+    Ok(Parts { named, others })
+}
+
+impl ClaimsSet {
+    /// Reads the claims that are understood, and beside them the others: those with a number that IANA hasn't assigned and
+    /// that isn't for private use (RFC 8392, section 3). `from_slice` refuses a claims set with such a claim.
+    ///
+    /// # Errors
+    /// Why the bytes aren't a map whose keys are labels; `DuplicateMapKey`, where two of them are one; why the claims that
+    /// are understood aren't those of a claims set; or `OutOfMemory`.
+    pub fn known_from_slice(alloc: Global, bytes: &[u8]) -> Result<KnownClaims>
+        ensures read { IfOk result (λ c. Describes known bytes.now (known_seen c)) }
+        ensures refused { IfErr result (λ e. IsRefused known bytes.now e) }
+    {
+        let set = whole_item(bytes)?;
+        let Some(pairs) = set.pairs() else {
+            return Err(pull_type_error(set, "map"));
+        };
+        let parts = split(alloc, pairs)?;
+        if has_repeats(alloc, &parts.others)? {
+            return Err(CoseError::DuplicateMapKey);
+        }
+        let claims = ClaimsSet::from_cbor_value(alloc, Value::Map(parts.named))?;
+        Ok(KnownClaims {
+            claims,
+            others: parts.others,
+        })
+    }
+}
