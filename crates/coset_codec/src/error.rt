@@ -37,12 +37,15 @@ pub enum CoseError {
 /// A result whose error is a `CoseError` where none is named.
 pub type Result<T, E = CoseError> = std::result::Result<T, E>;
 
-/// That a call was refused: why stands in the place for an error that the call was given. So in functions that call each
-/// other, as deep as the input asks, an answer takes a byte of stack.
+/// A call was refused, and the error is in the place for one that the call was given. So functions that call each other, as
+/// deep as the input says, return a byte of stack each.
 #[derive(Clone, Copy, Debug)]
 pub struct ErrorStored;
 
-/// The same answer, with its error in the place.
+/// The same result, with its error put into the place.
+///
+/// # Errors
+/// That there is one: it is in the place then, which is left as it was otherwise.
 pub fn store_error<T: Drop>(given: Result<T>, error: &mut CoseError) -> Result<T, ErrorStored>
     ensures answers { stored error.new result ≡ given }
     ensures kept { OnOk result (error.new ≡ error.old) }

@@ -44,7 +44,10 @@ pub(crate) fn type_error(value: &Value, want: &'static str) -> CoseError
     CoseError::UnexpectedItem(kind_name(value), want)
 }
 
-/// The refusal of a value of another kind than was asked for: `UnexpectedItem` with the name of its kind, and `want`.
+/// Refuses a value of another kind than `want`.
+///
+/// # Errors
+/// `UnexpectedItem` with the name of the value's kind, and `want`, always.
 pub fn cbor_type_error<T>(value: &Value, want: &'static str) -> Result<T>
     ensures { MatchResult result (λ _. ⊥) (λ e. IsUnexpected e
         × Says (kind (view value.now)) want.now e) }
@@ -259,6 +262,9 @@ where
 }
 
 /// A copy of a byte string that may be missing.
+///
+/// # Errors
+/// That memory ran out.
 pub fn copy_bstr(bytes: &Option<Vec<u8>>) -> Result<Option<Vec<u8>>, AllocError>
     ensures { IfOk result (λ copy. option_map (λ b. b.items) copy
         ≡ option_map (λ b. b.items) bytes.now) }

@@ -263,6 +263,9 @@ fn copy_fields(header: &Header, copy: &mut Header) -> Result<(), AllocError>
 }
 
 /// Copies a header into another.
+///
+/// # Errors
+/// That memory ran out. The copy may then have a part of the header.
 #[cycle(copy)]
 pub fn copy_header(header: &Header, copy: &mut Header) -> Result<(), AllocError>
     ensures { OnOk result (header_seen copy.new ≡ header_seen header.now) }

@@ -389,6 +389,9 @@ fn fresh_bytes(alloc: Global, header: &Header) -> Result<Vec<u8>>
 }
 
 /// Copies a protected header into another, with the bytes that it keeps.
+///
+/// # Errors
+/// That memory ran out. The copy may then have a part of the header.
 #[cycle(copy)]
 pub fn copy_protected(
     protected: &ProtectedHeader,

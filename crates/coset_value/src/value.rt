@@ -122,7 +122,10 @@ impl Value {
         matches!(self, Value::Null)
     }
 
-    /// An equal value in memory of its own, or an error where that memory is refused.
+    /// An equal value in memory of its own.
+    ///
+    /// # Errors
+    /// That memory ran out.
     pub fn clone(&self) -> Result<Value, AllocError>
         ensures { IfOk result (λ copy. view copy ≡ view self.now) }
     {

@@ -23,7 +23,10 @@ pub trait InPlace: Sized + Drop {
         ensures { is_empty result };
 }
 
-/// One more member at the end of a list, an empty one. The first takes room for itself alone.
+/// Adds an empty value at the end of a list. The first takes room for itself alone.
+///
+/// # Errors
+/// That memory ran out.
 #[inline(never)]
 pub fn push_empty<T: InPlace>(all: &mut Vec<T>) -> Result<(), AllocError>
     ensures { OnOk result (GetsOne T.is_empty all.old.items all.new.items) }
@@ -77,7 +80,10 @@ pub fn next_place<T: InPlace>(
 #[inline(never)]
 pub fn drop_refused<T: Drop>(_value: T) {}
 
-/// Empties a list, and makes room for that many members.
+/// Empties a list, and makes room for that many values.
+///
+/// # Errors
+/// That memory ran out. The list is empty all the same.
 #[inline(never)]
 pub fn make_room<T: Drop>(copies: &mut Vec<T>, count: usize) -> Result<(), AllocError>
     ensures { copies.new.items ≡ [] }
@@ -86,7 +92,10 @@ pub fn make_room<T: Drop>(copies: &mut Vec<T>, count: usize) -> Result<(), Alloc
     copies.reserve_exact(count)
 }
 
-/// Copies bytes that may be missing to where the copy stands.
+/// Copies bytes that may be missing into `copy`.
+///
+/// # Errors
+/// That memory ran out.
 #[inline(never)]
 pub fn copy_bstr_to(bytes: &Option<Vec<u8>>, copy: &mut Option<Vec<u8>>) -> Result<(), AllocError>
     ensures { OnOk result (option_map (λ b. b.items) copy.new
