@@ -150,9 +150,9 @@ pub enum CoapContentFormat {
     Oscore = 10001,
     /// `application/javascript`
     Javascript = 10002,
-    /// `application/eat+cwt` of the PSA token's profile of 2023.
+    /// `application/eat+cwt; eat_profile="tag:psacertified.org,2023:psa#tfm"` (RFC 9783)
     EatCwtTfm = 10003,
-    /// `application/eat+cwt` of the PSA token's profile of 2019.
+    /// `application/eat+cwt; eat_profile="tag:psacertified.org,2019:psa#legacy"` (RFC 9783)
     EatCwtLegacy = 10004,
     /// `application/json`, compressed by deflate.
     JsonDeflate = 11050,
