@@ -35,10 +35,13 @@ fn shown<T: CborSerializable + Debug + Display + Drop>(
     mark::begin(alloc);
     let answer = T::from_slice(alloc, &bytes);
     mark::end(alloc);
-    match answer {
-        Ok(label) if call == "display" => Ok(format!(in alloc; "ok {label}")?),
-        Ok(label) => Ok(format!(in alloc; "ok {label:?}")?),
-        Err(error) => tell::refused(alloc, error),
+    let label = match answer {
+        Ok(label) => label,
+        Err(error) => return tell::refused(alloc, error),
+    };
+    match call {
+        "display" => Ok(format!(in alloc; "ok {label}")?),
+        _ => Ok(format!(in alloc; "ok {label:?}")?),
     }
 }
 
