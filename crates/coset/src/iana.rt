@@ -4,6 +4,7 @@ pub use coset_iana::{
     ALGORITHM_PRIVATE_USE_MAX, AkpKeyParameter, Algorithm, CWT_CLAIM_PRIVATE_USE_MAX, CborTag,
     CoapContentFormat, CwtClaimName, ELLIPTIC_CURVE_PRIVATE_USE_MAX, Ec2KeyParameter,
     EllipticCurve, EnumI64, HEADER_PARAMETER_PRIVATE_USE_MAX, HeaderAlgorithmParameter,
-    HeaderParameter, HssLmsKeyParameter, KeyOperation, KeyParameter, KeyType, OkpKeyParameter,
-    RsaKeyParameter, SymmetricKeyParameter, WalnutDsaKeyParameter, WithPrivateRange,
+    HeaderParameter, HssLmsKeyParameter, KeyOperation, KeyParameter, KeyType, Named,
+    OkpKeyParameter, RsaKeyParameter, SymmetricKeyParameter, WalnutDsaKeyParameter,
+    WithPrivateRange,
 };

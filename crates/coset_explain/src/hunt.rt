@@ -2,10 +2,10 @@
 
 use crate::frame::{Container, Frame};
 use crate::head::{integer, is_integer, kind_name};
-use crate::names::parameter;
 use crate::role::{Message, Part, Role, is_private, name_of};
 use coset::cbor::de::{Error, Pull};
 use coset::cbor::value::Integer;
+use coset::iana::{EnumI64, HeaderParameter};
 use coset::{CborSerializable, CoseError, CoseSignature, Header};
 use coset_fault::{Fault, Form, Head};
 use std::alloc::{AllocError, Global};
@@ -321,7 +321,7 @@ fn is_unregistered(role: Role, head: &Head, has_private: bool) -> bool {
         return false;
     };
     let (asks, is_named) = match role {
-        Role::CriticalLabel => (has_private, parameter(number).is_some()),
+        Role::CriticalLabel => (has_private, HeaderParameter::from_i64(number).is_some()),
         Role::Algorithm | Role::ClaimName => (has_private, name_of(role, number).is_some()),
         Role::ContentFormat | Role::KeyType | Role::Operation => {
             (!has_private, name_of(role, number).is_some())

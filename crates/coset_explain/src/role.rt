@@ -1,7 +1,10 @@
 //! What an item is for, by its place: which names its labels and numbers have, and what its parts are for.
 
 use crate::names;
-use coset::iana::{Algorithm, CwtClaimName, EllipticCurve, HeaderParameter, WithPrivateRange};
+use coset::iana::{
+    Algorithm, CoapContentFormat, CwtClaimName, EllipticCurve, HeaderParameter, KeyOperation,
+    KeyType, WithPrivateRange,
+};
 
 /// A message (RFC 8152, section 2).
 #[derive(Clone, Copy, Debug, PartialEq, Eq)]
@@ -280,21 +283,15 @@ pub(crate) fn title(role: Role) -> &'static str {
 /// The name that a number with this role has in its registry.
 pub(crate) fn name_of(role: Role, number: i64) -> Option<&'static str> {
     match role {
-        Role::HeaderLabel(_) | Role::CriticalLabel => match names::parameter(number) {
-            Some(name) => Some(name),
-            None => names::algorithm_parameter(number),
-        },
-        Role::KeyLabel(key_type) => match names::common(number) {
-            Some(name) => Some(name),
-            None => names::of_type(key_type?, number),
-        },
-        Role::ClaimName => names::claim(number),
+        Role::HeaderLabel(_) | Role::CriticalLabel => names::header_label(number),
+        Role::KeyLabel(key_type) => names::key_label(key_type, number),
+        Role::ClaimName => names::registered::<CwtClaimName>(number),
         Role::ConfirmationLabel => confirmation(number),
-        Role::Algorithm => names::algorithm(number),
-        Role::ContentFormat => names::content_format(number),
-        Role::KeyType => names::key_type(number),
-        Role::Operation => names::operation(number),
-        Role::Curve => names::curve(number),
+        Role::Algorithm => names::registered::<Algorithm>(number),
+        Role::ContentFormat => names::registered::<CoapContentFormat>(number),
+        Role::KeyType => names::registered::<KeyType>(number),
+        Role::Operation => names::registered::<KeyOperation>(number),
+        Role::Curve => names::registered::<EllipticCurve>(number),
         _ => None,
     }
 }

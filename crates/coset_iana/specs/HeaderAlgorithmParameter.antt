@@ -1,5 +1,5 @@
--- The numbers of the labels of headers that go with an algorithm (RFC 8152, section 16.3).
-use Rattle.std.specs.Prelude.{ℤ}
+-- The numbers and names of the labels of headers that go with an algorithm (RFC 8152, section 16.3).
+use Rattle.std.specs.Prelude.{ℕ, ℤ, List, codes}
 use Rattle.coset_iana.specs.Registry.{minus}
 use Rattle.coset_iana.specs.declared.headers.HeaderAlgorithmParameter.{HeaderAlgorithmParameter}
 use Rattle.coset_iana.specs.declared.headers.HeaderAlgorithmParameter.TheVariants.{X5ChainSender, X5USender, X5TSender, PartyVOther, PartyVNonce}
@@ -20,3 +20,19 @@ number Salt = minus 20
 number StaticKeyId = minus 3
 number StaticKey = minus 2
 number EphemeralKey = minus 1
+
+-- the name of each, as IANA's registry "COSE Header Algorithm Parameters" spells it
+abbrev pub name : HeaderAlgorithmParameter → List ℕ
+name X5ChainSender = codes "x5chain-sender"
+name X5USender = codes "x5u-sender"
+name X5TSender = codes "x5t-sender"
+name PartyVOther = codes "PartyV other"
+name PartyVNonce = codes "PartyV nonce"
+name PartyVIdentity = codes "PartyV identity"
+name PartyUOther = codes "PartyU other"
+name PartyUNonce = codes "PartyU nonce"
+name PartyUIdentity = codes "PartyU identity"
+name Salt = codes "salt"
+name StaticKeyId = codes "static key id"
+name StaticKey = codes "static key"
+name EphemeralKey = codes "ephemeral key"

@@ -1,5 +1,5 @@
--- The numbers of the labels of headers (RFC 8152, sections 3.1 and 16.2).
-use Rattle.std.specs.Prelude.{ℤ, pos}
+-- The numbers and names of the labels of headers (RFC 8152, sections 3.1 and 16.2).
+use Rattle.std.specs.Prelude.{ℕ, ℤ, pos, List, codes}
 use Rattle.coset_iana.specs.declared.headers.HeaderParameter.{HeaderParameter}
 use Rattle.coset_iana.specs.declared.headers.HeaderParameter.TheVariants.{Reserved, Alg, Crit, ContentType, Kid, Iv, PartialIv, CounterSignature}
 use Rattle.coset_iana.specs.declared.headers.HeaderParameter.TheVariants.{CounterSignature0, KidContext, CounterSignatureV2, CounterSignature0V2, KeyCwt}
@@ -29,3 +29,28 @@ number X5T = pos 34
 number X5U = pos 35
 number CuphNonce = pos 256
 number CuphOwnerPubKey = pos 257
+
+-- the name of each, as IANA's registry "COSE Header Parameters" spells it
+abbrev pub name : HeaderParameter → List ℕ
+name Reserved = codes "Reserved"
+name Alg = codes "alg"
+name Crit = codes "crit"
+name ContentType = codes "content type"
+name Kid = codes "kid"
+name Iv = codes "IV"
+name PartialIv = codes "Partial IV"
+name CounterSignature = codes "counter signature"
+name CounterSignature0 = codes "CounterSignature0"
+name KidContext = codes "kid context"
+name CounterSignatureV2 = codes "Countersignature version 2"
+name CounterSignature0V2 = codes "Countersignature0 version 2"
+name KeyCwt = codes "kcwt"
+name KeyCwtClaimsSet = codes "kccs"
+name CwtClaims = codes "CWT Claims"
+name ObjectContentType = codes "typ"
+name X5Bag = codes "x5bag"
+name X5Chain = codes "x5chain"
+name X5T = codes "x5t"
+name X5U = codes "x5u"
+name CuphNonce = codes "CUPHNonce"
+name CuphOwnerPubKey = codes "CUPHOwnerPubKey"

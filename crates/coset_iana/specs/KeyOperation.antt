@@ -1,5 +1,5 @@
--- The numbers of the uses of keys (RFC 8152, section 7.1, table 4).
-use Rattle.std.specs.Prelude.{ℤ, pos}
+-- The numbers and names of the uses of keys (RFC 8152, section 7.1, table 4).
+use Rattle.std.specs.Prelude.{ℕ, ℤ, pos, List, codes}
 use Rattle.coset_iana.specs.declared.keys.KeyOperation.{KeyOperation}
 use Rattle.coset_iana.specs.declared.keys.KeyOperation.TheVariants.{Sign, Verify, Encrypt, Decrypt, WrapKey, UnwrapKey, DeriveKey, DeriveBits, MacCreate}
 use Rattle.coset_iana.specs.declared.keys.KeyOperation.TheVariants.{MacVerify}
@@ -15,3 +15,16 @@ number DeriveKey = pos 7
 number DeriveBits = pos 8
 number MacCreate = pos 9
 number MacVerify = pos 10
+
+-- the name of each, as RFC 8152 has it
+abbrev pub name : KeyOperation → List ℕ
+name Sign = codes "sign"
+name Verify = codes "verify"
+name Encrypt = codes "encrypt"
+name Decrypt = codes "decrypt"
+name WrapKey = codes "wrap key"
+name UnwrapKey = codes "unwrap key"
+name DeriveKey = codes "derive key"
+name DeriveBits = codes "derive bits"
+name MacCreate = codes "MAC create"
+name MacVerify = codes "MAC verify"

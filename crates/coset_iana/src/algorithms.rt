@@ -1,10 +1,11 @@
 //! Algorithms.
 
-ghost use Rattle.std.specs.Prelude.{refl};
+ghost use Rattle.std.specs.Prelude.{Some, refl};
 ghost use Rattle.coset_iana.specs.WithPrivateRange.{is_private_use};
 
-use crate::WithPrivateRange;
 use crate::registry::Registry;
+use crate::{Named, WithPrivateRange};
+use std::fmt;
 
 /// Algorithms below this number are for private use (RFC 8152, section 16.4).
 pub const ALGORITHM_PRIVATE_USE_MAX: i64 = -65536;
@@ -183,7 +184,7 @@ pub enum Algorithm {
     IV_GENERATION = 34,
 }
 
-// In ascending order of their numbers.
+/// The algorithms, in ascending order of their numbers.
 pub const ALGORITHMS: [Algorithm; 83] = [
     Algorithm::RS1,
     Algorithm::AesCtr128,
@@ -289,6 +290,110 @@ impl Registry for Algorithm {
 
     fn number(self) -> i64 {
         self as i64
+    }
+}
+
+impl Named for Algorithm {
+    ghost use Rattle.coset_iana.specs.Algorithm.{name};
+
+    ghost name = { name };
+
+    fn name(&self) -> &'static str {
+        match self {
+            Algorithm::RS1 => "RS1",
+            Algorithm::AesCtr128 => "A128CTR",
+            Algorithm::AesCtr192 => "A192CTR",
+            Algorithm::AesCtr256 => "A256CTR",
+            Algorithm::AesCbc128 => "A128CBC",
+            Algorithm::AesCbc192 => "A192CBC",
+            Algorithm::AesCbc256 => "A256CBC",
+            Algorithm::ESB512 => "ESB512",
+            Algorithm::ESB384 => "ESB384",
+            Algorithm::ESB320 => "ESB320",
+            Algorithm::ESB256 => "ESB256",
+            Algorithm::WalnutDSA => "WalnutDSA",
+            Algorithm::RS512 => "RS512",
+            Algorithm::RS384 => "RS384",
+            Algorithm::RS256 => "RS256",
+            Algorithm::Ed448 => "Ed448",
+            Algorithm::ESP512 => "ESP512",
+            Algorithm::ESP384 => "ESP384",
+            Algorithm::ML_DSA_87 => "ML-DSA-87",
+            Algorithm::ML_DSA_65 => "ML-DSA-65",
+            Algorithm::ML_DSA_44 => "ML-DSA-44",
+            Algorithm::ES256K => "ES256K",
+            Algorithm::HSS_LMS => "HSS-LMS",
+            Algorithm::SHAKE256 => "SHAKE256",
+            Algorithm::SHA_512 => "SHA-512",
+            Algorithm::SHA_384 => "SHA-384",
+            Algorithm::RSAES_OAEP_SHA_512 => "RSAES-OAEP w/ SHA-512",
+            Algorithm::RSAES_OAEP_SHA_256 => "RSAES-OAEP w/ SHA-256",
+            Algorithm::RSAES_OAEP_RFC_8017_default => "RSAES-OAEP w/ RFC 8017 default parameters",
+            Algorithm::PS512 => "PS512",
+            Algorithm::PS384 => "PS384",
+            Algorithm::PS256 => "PS256",
+            Algorithm::ES512 => "ES512",
+            Algorithm::ES384 => "ES384",
+            Algorithm::ECDH_SS_A256KW => "ECDH-SS + A256KW",
+            Algorithm::ECDH_SS_A192KW => "ECDH-SS + A192KW",
+            Algorithm::ECDH_SS_A128KW => "ECDH-SS + A128KW",
+            Algorithm::ECDH_ES_A256KW => "ECDH-ES + A256KW",
+            Algorithm::ECDH_ES_A192KW => "ECDH-ES + A192KW",
+            Algorithm::ECDH_ES_A128KW => "ECDH-ES + A128KW",
+            Algorithm::ECDH_SS_HKDF_512 => "ECDH-SS + HKDF-512",
+            Algorithm::ECDH_SS_HKDF_256 => "ECDH-SS + HKDF-256",
+            Algorithm::ECDH_ES_HKDF_512 => "ECDH-ES + HKDF-512",
+            Algorithm::ECDH_ES_HKDF_256 => "ECDH-ES + HKDF-256",
+            Algorithm::Ed25519 => "Ed25519",
+            Algorithm::SHAKE128 => "SHAKE128",
+            Algorithm::SHA_512_256 => "SHA-512/256",
+            Algorithm::SHA_256 => "SHA-256",
+            Algorithm::SHA_256_64 => "SHA-256/64",
+            Algorithm::SHA_1 => "SHA-1",
+            Algorithm::Direct_HKDF_AES_256 => "direct+HKDF-AES-256",
+            Algorithm::Direct_HKDF_AES_128 => "direct+HKDF-AES-128",
+            Algorithm::Direct_HKDF_SHA_512 => "direct+HKDF-SHA-512",
+            Algorithm::Direct_HKDF_SHA_256 => "direct+HKDF-SHA-256",
+            Algorithm::ESP256 => "ESP256",
+            Algorithm::EdDSA => "EdDSA",
+            Algorithm::ES256 => "ES256",
+            Algorithm::Direct => "direct",
+            Algorithm::A256KW => "A256KW",
+            Algorithm::A192KW => "A192KW",
+            Algorithm::A128KW => "A128KW",
+            Algorithm::Reserved => "Reserved",
+            Algorithm::A128GCM => "A128GCM",
+            Algorithm::A192GCM => "A192GCM",
+            Algorithm::A256GCM => "A256GCM",
+            Algorithm::HMAC_256_64 => "HMAC 256/64",
+            Algorithm::HMAC_256_256 => "HMAC 256/256",
+            Algorithm::HMAC_384_384 => "HMAC 384/384",
+            Algorithm::HMAC_512_512 => "HMAC 512/512",
+            Algorithm::AES_CCM_16_64_128 => "AES-CCM-16-64-128",
+            Algorithm::AES_CCM_16_64_256 => "AES-CCM-16-64-256",
+            Algorithm::AES_CCM_64_64_128 => "AES-CCM-64-64-128",
+            Algorithm::AES_CCM_64_64_256 => "AES-CCM-64-64-256",
+            Algorithm::AES_MAC_128_64 => "AES-MAC 128/64",
+            Algorithm::AES_MAC_256_64 => "AES-MAC 256/64",
+            Algorithm::ChaCha20Poly1305 => "ChaCha20/Poly1305",
+            Algorithm::AES_MAC_128_128 => "AES-MAC 128/128",
+            Algorithm::AES_MAC_256_128 => "AES-MAC 256/128",
+            Algorithm::AES_CCM_16_128_128 => "AES-CCM-16-128-128",
+            Algorithm::AES_CCM_16_128_256 => "AES-CCM-16-128-256",
+            Algorithm::AES_CCM_64_128_128 => "AES-CCM-64-128-128",
+            Algorithm::AES_CCM_64_128_256 => "AES-CCM-64-128-256",
+            Algorithm::IV_GENERATION => "IV-GENERATION",
+        }
+    }
+}
+
+impl fmt::Display for Algorithm {
+    ghost use Rattle.coset_iana.specs.Algorithm.{name};
+
+    ghost output = { λ x. Some (name x) };
+
+    fn fmt<W: fmt::Write>(&self, f: &mut fmt::Formatter<W>) -> fmt::Result {
+        f.pad(self.name())
     }
 }
 

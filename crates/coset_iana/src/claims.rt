@@ -1,10 +1,11 @@
 //! Names of claims.
 
-ghost use Rattle.std.specs.Prelude.{refl};
+ghost use Rattle.std.specs.Prelude.{Some, refl};
 ghost use Rattle.coset_iana.specs.WithPrivateRange.{is_private_use};
 
-use crate::WithPrivateRange;
 use crate::registry::Registry;
+use crate::{Named, WithPrivateRange};
+use std::fmt;
 
 /// Names of claims below this number are for private use (RFC 8392, section 9.1).
 pub const CWT_CLAIM_PRIVATE_USE_MAX: i64 = -65536;
@@ -158,7 +159,7 @@ pub enum CwtClaimName {
     PsaVerificationServiceIndicator = 2400,
 }
 
-// In ascending order of their numbers.
+/// The names of claims, in ascending order of their numbers.
 pub const CWT_CLAIM_NAMES: [CwtClaimName; 70] = [
     CwtClaimName::GlobalPlatformComponents,
     CwtClaimName::Hcert,
@@ -251,6 +252,97 @@ impl Registry for CwtClaimName {
 
     fn number(self) -> i64 {
         self as i64
+    }
+}
+
+impl Named for CwtClaimName {
+    ghost use Rattle.coset_iana.specs.CwtClaimName.{name};
+
+    ghost name = { name };
+
+    fn name(&self) -> &'static str {
+        match self {
+            CwtClaimName::GlobalPlatformComponents => "GlobalPlatform Components",
+            CwtClaimName::Hcert => "hcert",
+            CwtClaimName::EuphNonce => "EUPHNonce",
+            CwtClaimName::EatMaroePrefix => "EATMAROEPrefix",
+            CwtClaimName::EatFido => "EAT-FDO",
+            CwtClaimName::Reserved => "Reserved",
+            CwtClaimName::Iss => "iss",
+            CwtClaimName::Sub => "sub",
+            CwtClaimName::Aud => "aud",
+            CwtClaimName::Exp => "exp",
+            CwtClaimName::Nbf => "nbf",
+            CwtClaimName::Iat => "iat",
+            CwtClaimName::Cti => "cti",
+            CwtClaimName::Cnf => "cnf",
+            CwtClaimName::Scope => "scope",
+            CwtClaimName::Nonce => "nonce",
+            CwtClaimName::AceProfile => "ace_profile",
+            CwtClaimName::CNonce => "cnonce",
+            CwtClaimName::Exi => "exi",
+            CwtClaimName::UEID => "ueid",
+            CwtClaimName::SUEIDs => "sueids",
+            CwtClaimName::HardwareOemid => "oemid",
+            CwtClaimName::HardwareModel => "hwmodel",
+            CwtClaimName::HardwareVersion => "hwversion",
+            CwtClaimName::Uptime => "uptime",
+            CwtClaimName::OemAuthorizedBoot => "oemboot",
+            CwtClaimName::DebugStatus => "dbgstat",
+            CwtClaimName::Location => "location",
+            CwtClaimName::EatProfile => "eat_profile",
+            CwtClaimName::SubmodulesSection => "submods",
+            CwtClaimName::BootCount => "bootcount",
+            CwtClaimName::BootSeed => "bootseed",
+            CwtClaimName::DLoAs => "dloas",
+            CwtClaimName::SoftwareName => "swname",
+            CwtClaimName::SoftwareVersion => "swversion",
+            CwtClaimName::SoftwareManifests => "manifests",
+            CwtClaimName::Measurements => "measurements",
+            CwtClaimName::SoftwareMeasurementResults => "measres",
+            CwtClaimName::IntendedUse => "intuse",
+            CwtClaimName::Geohash => "geohash",
+            CwtClaimName::WmVersion => "wmver",
+            CwtClaimName::WmVendor => "wmvnd",
+            CwtClaimName::WmPatternLen => "wmpatlen",
+            CwtClaimName::WmSegmentDuration => "wmsegduration",
+            CwtClaimName::WmPattern => "wmpat",
+            CwtClaimName::WmId => "wmid",
+            CwtClaimName::WmOpId => "wmopid",
+            CwtClaimName::WmKeyVer => "wmkeyver",
+            CwtClaimName::CatReplay => "catreplay",
+            CwtClaimName::CatPor => "catpor",
+            CwtClaimName::CatVersion => "catv",
+            CwtClaimName::CatNetworkIp => "catnip",
+            CwtClaimName::CatUri => "catu",
+            CwtClaimName::CatMethod => "catm",
+            CwtClaimName::CatAlpn => "catalpn",
+            CwtClaimName::CatHeader => "cath",
+            CwtClaimName::CatGeoIso3166 => "catgeoiso3166",
+            CwtClaimName::CatGeoCoord => "catgeocoord",
+            CwtClaimName::CatGeoAlt => "catgeoalt",
+            CwtClaimName::CatTlsPublicKey => "cattpk",
+            CwtClaimName::CatIfData => "catifdata",
+            CwtClaimName::CatDPoP => "catdpop",
+            CwtClaimName::CatIf => "catif",
+            CwtClaimName::CatRenewal => "catr",
+            CwtClaimName::PsaClientId => "psa-client-id",
+            CwtClaimName::PsaSecurityLifecycle => "psa-security-lifecycle",
+            CwtClaimName::PsaImplementationId => "psa-implementation-id",
+            CwtClaimName::PsaCertificationReference => "psa-certification-reference",
+            CwtClaimName::PsaSoftwareComponents => "psa-software-components",
+            CwtClaimName::PsaVerificationServiceIndicator => "psa-verification-service-indicator",
+        }
+    }
+}
+
+impl fmt::Display for CwtClaimName {
+    ghost use Rattle.coset_iana.specs.CwtClaimName.{name};
+
+    ghost output = { λ x. Some (name x) };
+
+    fn fmt<W: fmt::Write>(&self, f: &mut fmt::Formatter<W>) -> fmt::Result {
+        f.pad(self.name())
     }
 }
 

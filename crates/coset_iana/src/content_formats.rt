@@ -1,8 +1,10 @@
 //! Formats of content.
 
-ghost use Rattle.std.specs.Prelude.{refl};
+ghost use Rattle.std.specs.Prelude.{Some, refl};
 
+use crate::Named;
 use crate::registry::Registry;
+use std::fmt;
 
 /// What content holds, as IANA's registry "CoAP Content-Formats" assigns it (RFC 7252, section
 /// 12.3): a media type, with its coding where it has one.
@@ -148,9 +150,9 @@ pub enum CoapContentFormat {
     Oscore = 10001,
     /// `application/javascript`
     Javascript = 10002,
-    /// `application/eat+cwt` of the PSA token's profile of 2023.
+    /// `application/eat+cwt; eat_profile="tag:psacertified.org,2023:psa#tfm"` (RFC 9783)
     EatCwtTfm = 10003,
-    /// `application/eat+cwt` of the PSA token's profile of 2019.
+    /// `application/eat+cwt; eat_profile="tag:psacertified.org,2019:psa#legacy"` (RFC 9783)
     EatCwtLegacy = 10004,
     /// `application/json`, compressed by deflate.
     JsonDeflate = 11050,
@@ -168,7 +170,7 @@ pub enum CoapContentFormat {
     ImageSvgXml = 30000,
 }
 
-// In ascending order of their numbers.
+/// The formats of content, in ascending order of their numbers.
 pub const COAP_CONTENT_FORMATS: [CoapContentFormat; 79] = [
     CoapContentFormat::TextPlainUtf8,
     CoapContentFormat::CoseEncrypt0,
@@ -270,5 +272,112 @@ impl Registry for CoapContentFormat {
 
     fn number(self) -> i64 {
         self as i64
+    }
+}
+
+impl Named for CoapContentFormat {
+    ghost use Rattle.coset_iana.specs.CoapContentFormat.{name};
+
+    ghost name = { name };
+
+    fn name(&self) -> &'static str {
+        match self {
+            CoapContentFormat::TextPlainUtf8 => "text/plain; charset=utf-8",
+            CoapContentFormat::CoseEncrypt0 => "application/cose; cose-type=\"cose-encrypt0\"",
+            CoapContentFormat::CoseMac0 => "application/cose; cose-type=\"cose-mac0\"",
+            CoapContentFormat::CoseSign1 => "application/cose; cose-type=\"cose-sign1\"",
+            CoapContentFormat::AceCbor => "application/ace+cbor",
+            CoapContentFormat::ImageGif => "image/gif",
+            CoapContentFormat::ImageJpeg => "image/jpeg",
+            CoapContentFormat::ImagePng => "image/png",
+            CoapContentFormat::LinkFormat => "application/link-format",
+            CoapContentFormat::Xml => "application/xml",
+            CoapContentFormat::OctetStream => "application/octet-stream",
+            CoapContentFormat::Exi => "application/exi",
+            CoapContentFormat::Json => "application/json",
+            CoapContentFormat::JsonPatchJson => "application/json-patch+json",
+            CoapContentFormat::MergePatchJson => "application/merge-patch+json",
+            CoapContentFormat::Cbor => "application/cbor",
+            CoapContentFormat::Cwt => "application/cwt",
+            CoapContentFormat::MultipartCore => "application/multipart-core",
+            CoapContentFormat::CborSeq => "application/cbor-seq",
+            CoapContentFormat::EdhocCborSeq => "application/edhoc+cbor-seq",
+            CoapContentFormat::CidEdhocCborSeq => "application/cid-edhoc+cbor-seq",
+            CoapContentFormat::CoseEncrypt => "application/cose; cose-type=\"cose-encrypt\"",
+            CoapContentFormat::CoseMac => "application/cose; cose-type=\"cose-mac\"",
+            CoapContentFormat::CoseSign => "application/cose; cose-type=\"cose-sign\"",
+            CoapContentFormat::CoseKey => "application/cose-key",
+            CoapContentFormat::CoseKeySet => "application/cose-key-set",
+            CoapContentFormat::SenmlJson => "application/senml+json",
+            CoapContentFormat::SensmlJson => "application/sensml+json",
+            CoapContentFormat::SenmlCbor => "application/senml+cbor",
+            CoapContentFormat::SensmlCbor => "application/sensml+cbor",
+            CoapContentFormat::SenmlExi => "application/senml-exi",
+            CoapContentFormat::SensmlExi => "application/sensml-exi",
+            CoapContentFormat::YangData => "application/yang-data+cbor; id=sid",
+            CoapContentFormat::CoapGroupJson => "application/coap-group+json",
+            CoapContentFormat::ConciseProblemDetailsCbor =>
+                "application/concise-problem-details+cbor",
+            CoapContentFormat::SwidCbor => "application/swid+cbor",
+            CoapContentFormat::PkixCmp => "application/pkixcmp",
+            CoapContentFormat::YangSidJson => "application/yang-sid+json",
+            CoapContentFormat::AceGroupcommCbor => "application/ace-groupcomm+cbor",
+            CoapContentFormat::AceTrlCbor => "application/ace-trl+cbor",
+            CoapContentFormat::EatCwt => "application/eat+cwt",
+            CoapContentFormat::EatJwt => "application/eat+jwt",
+            CoapContentFormat::EatBunCbor => "application/eat-bun+cbor",
+            CoapContentFormat::EatBunJson => "application/eat-bun+json",
+            CoapContentFormat::EatUcsCbor => "application/eat-ucs+cbor",
+            CoapContentFormat::EatUcsJson => "application/eat-ucs+json",
+            CoapContentFormat::DotsCbor => "application/dots+cbor",
+            CoapContentFormat::MissingBlocksCborSeq => "application/missing-blocks+cbor-seq",
+            CoapContentFormat::Pkcs7MimeSmimeTypeServerGeneratedKey =>
+                "application/pkcs7-mime; smime-type=server-generated-key",
+            CoapContentFormat::Pkcs7MimeSmimeTypeCertsOnly =>
+                "application/pkcs7-mime; smime-type=certs-only",
+            CoapContentFormat::Pkcs7MimeSmimeTypeCmcRequest =>
+                "application/pkcs7-mime; smime-type=CMC-request",
+            CoapContentFormat::Pkcs7MimeSmimeTypeCmcResponse =>
+                "application/pkcs7-mime; smime-type=CMC-response",
+            CoapContentFormat::Pkcs8 => "application/pkcs8",
+            CoapContentFormat::Csrattrs => "application/csrattrs",
+            CoapContentFormat::Pkcs10 => "application/pkcs10",
+            CoapContentFormat::PkixCert => "application/pkix-cert",
+            CoapContentFormat::AifCbor => "application/aif+cbor",
+            CoapContentFormat::AifJson => "application/aif+json",
+            CoapContentFormat::SenmlXml => "application/senml+xml",
+            CoapContentFormat::SensmlXml => "application/sensml+xml",
+            CoapContentFormat::SenmlEtchJson => "application/senml-etch+json",
+            CoapContentFormat::SenmlEtchCbor => "application/senml-etch+cbor",
+            CoapContentFormat::YangDataCbor => "application/yang-data+cbor",
+            CoapContentFormat::YangDataCborName => "application/yang-data+cbor; id=name",
+            CoapContentFormat::TdJson => "application/td+json",
+            CoapContentFormat::TmJson => "application/tm+json",
+            CoapContentFormat::UccsCbor => "application/uccs+cbor",
+            CoapContentFormat::VndOcfCbor => "application/vnd.ocf+cbor",
+            CoapContentFormat::Oscore => "application/oscore",
+            CoapContentFormat::Javascript => "application/javascript",
+            CoapContentFormat::EatCwtTfm =>
+                "application/eat+cwt; eat_profile=\"tag:psacertified.org,2023:psa#tfm\"",
+            CoapContentFormat::EatCwtLegacy =>
+                "application/eat+cwt; eat_profile=\"tag:psacertified.org,2019:psa#legacy\"",
+            CoapContentFormat::JsonDeflate => "application/json (deflate)",
+            CoapContentFormat::CborDeflate => "application/cbor (deflate)",
+            CoapContentFormat::VndOmaLwm2mTlv => "application/vnd.oma.lwm2m+tlv",
+            CoapContentFormat::VndOmaLwm2mJson => "application/vnd.oma.lwm2m+json",
+            CoapContentFormat::VndOmaLwm2mCbor => "application/vnd.oma.lwm2m+cbor",
+            CoapContentFormat::TextCss => "text/css",
+            CoapContentFormat::ImageSvgXml => "image/svg+xml",
+        }
+    }
+}
+
+impl fmt::Display for CoapContentFormat {
+    ghost use Rattle.coset_iana.specs.CoapContentFormat.{name};
+
+    ghost output = { λ x. Some (name x) };
+
+    fn fmt<W: fmt::Write>(&self, f: &mut fmt::Formatter<W>) -> fmt::Result {
+        f.pad(self.name())
     }
 }

@@ -1,10 +1,11 @@
 //! Labels of headers and of what recipients add to them.
 
-ghost use Rattle.std.specs.Prelude.{refl};
+ghost use Rattle.std.specs.Prelude.{Some, refl};
 ghost use Rattle.coset_iana.specs.WithPrivateRange.{is_private_use};
 
-use crate::WithPrivateRange;
 use crate::registry::Registry;
+use crate::{Named, WithPrivateRange};
+use std::fmt;
 
 /// Labels of headers below this number are for private use (RFC 8152, section 16.2).
 pub const HEADER_PARAMETER_PRIVATE_USE_MAX: i64 = -65536;
@@ -59,7 +60,7 @@ pub enum HeaderParameter {
     CuphOwnerPubKey = 257,
 }
 
-// In ascending order of their numbers.
+/// The labels of headers, in ascending order of their numbers.
 pub const HEADER_PARAMETERS: [HeaderParameter; 22] = [
     HeaderParameter::Reserved,
     HeaderParameter::Alg,
@@ -107,6 +108,49 @@ impl Registry for HeaderParameter {
     }
 }
 
+impl Named for HeaderParameter {
+    ghost use Rattle.coset_iana.specs.HeaderParameter.{name};
+
+    ghost name = { name };
+
+    fn name(&self) -> &'static str {
+        match self {
+            HeaderParameter::Reserved => "Reserved",
+            HeaderParameter::Alg => "alg",
+            HeaderParameter::Crit => "crit",
+            HeaderParameter::ContentType => "content type",
+            HeaderParameter::Kid => "kid",
+            HeaderParameter::Iv => "IV",
+            HeaderParameter::PartialIv => "Partial IV",
+            HeaderParameter::CounterSignature => "counter signature",
+            HeaderParameter::CounterSignature0 => "CounterSignature0",
+            HeaderParameter::KidContext => "kid context",
+            HeaderParameter::CounterSignatureV2 => "Countersignature version 2",
+            HeaderParameter::CounterSignature0V2 => "Countersignature0 version 2",
+            HeaderParameter::KeyCwt => "kcwt",
+            HeaderParameter::KeyCwtClaimsSet => "kccs",
+            HeaderParameter::CwtClaims => "CWT Claims",
+            HeaderParameter::ObjectContentType => "typ",
+            HeaderParameter::X5Bag => "x5bag",
+            HeaderParameter::X5Chain => "x5chain",
+            HeaderParameter::X5T => "x5t",
+            HeaderParameter::X5U => "x5u",
+            HeaderParameter::CuphNonce => "CUPHNonce",
+            HeaderParameter::CuphOwnerPubKey => "CUPHOwnerPubKey",
+        }
+    }
+}
+
+impl fmt::Display for HeaderParameter {
+    ghost use Rattle.coset_iana.specs.HeaderParameter.{name};
+
+    ghost output = { λ x. Some (name x) };
+
+    fn fmt<W: fmt::Write>(&self, f: &mut fmt::Formatter<W>) -> fmt::Result {
+        f.pad(self.name())
+    }
+}
+
 impl WithPrivateRange for HeaderParameter {
     ghost is_private = { is_private_use };
 
@@ -148,7 +192,7 @@ pub enum HeaderAlgorithmParameter {
     EphemeralKey = -1,
 }
 
-// In ascending order of their numbers.
+/// The labels of headers that go with an algorithm, in ascending order of their numbers.
 pub const HEADER_ALGORITHM_PARAMETERS: [HeaderAlgorithmParameter; 13] = [
     HeaderAlgorithmParameter::X5ChainSender,
     HeaderAlgorithmParameter::X5USender,
@@ -184,5 +228,39 @@ impl Registry for HeaderAlgorithmParameter {
 
     fn number(self) -> i64 {
         self as i64
+    }
+}
+
+impl Named for HeaderAlgorithmParameter {
+    ghost use Rattle.coset_iana.specs.HeaderAlgorithmParameter.{name};
+
+    ghost name = { name };
+
+    fn name(&self) -> &'static str {
+        match self {
+            HeaderAlgorithmParameter::X5ChainSender => "x5chain-sender",
+            HeaderAlgorithmParameter::X5USender => "x5u-sender",
+            HeaderAlgorithmParameter::X5TSender => "x5t-sender",
+            HeaderAlgorithmParameter::PartyVOther => "PartyV other",
+            HeaderAlgorithmParameter::PartyVNonce => "PartyV nonce",
+            HeaderAlgorithmParameter::PartyVIdentity => "PartyV identity",
+            HeaderAlgorithmParameter::PartyUOther => "PartyU other",
+            HeaderAlgorithmParameter::PartyUNonce => "PartyU nonce",
+            HeaderAlgorithmParameter::PartyUIdentity => "PartyU identity",
+            HeaderAlgorithmParameter::Salt => "salt",
+            HeaderAlgorithmParameter::StaticKeyId => "static key id",
+            HeaderAlgorithmParameter::StaticKey => "static key",
+            HeaderAlgorithmParameter::EphemeralKey => "ephemeral key",
+        }
+    }
+}
+
+impl fmt::Display for HeaderAlgorithmParameter {
+    ghost use Rattle.coset_iana.specs.HeaderAlgorithmParameter.{name};
+
+    ghost output = { λ x. Some (name x) };
+
+    fn fmt<W: fmt::Write>(&self, f: &mut fmt::Formatter<W>) -> fmt::Result {
+        f.pad(self.name())
     }
 }

@@ -1,8 +1,10 @@
 //! Labels of keys that go with the kind of key. The numbers of one kind mean other things in another.
 
-ghost use Rattle.std.specs.Prelude.{refl};
+ghost use Rattle.std.specs.Prelude.{Some, refl};
 
+use crate::Named;
 use crate::registry::Registry;
+use std::fmt;
 
 /// A label of an octet key pair, as IANA's registry "COSE Key Type Parameters" assigns it to key
 /// type 1 (RFC 8152, sections 13.2 and 16.6).
@@ -16,7 +18,7 @@ pub enum OkpKeyParameter {
     D = -4,
 }
 
-// In ascending order of their numbers.
+/// The labels of octet key pairs, in ascending order of their numbers.
 pub const OKP_KEY_PARAMETERS: [OkpKeyParameter; 3] = [
     OkpKeyParameter::D,
     OkpKeyParameter::X,
@@ -45,6 +47,30 @@ impl Registry for OkpKeyParameter {
     }
 }
 
+impl Named for OkpKeyParameter {
+    ghost use Rattle.coset_iana.specs.OkpKeyParameter.{name};
+
+    ghost name = { name };
+
+    fn name(&self) -> &'static str {
+        match self {
+            OkpKeyParameter::Crv => "crv",
+            OkpKeyParameter::X => "x",
+            OkpKeyParameter::D => "d",
+        }
+    }
+}
+
+impl fmt::Display for OkpKeyParameter {
+    ghost use Rattle.coset_iana.specs.OkpKeyParameter.{name};
+
+    ghost output = { λ x. Some (name x) };
+
+    fn fmt<W: fmt::Write>(&self, f: &mut fmt::Formatter<W>) -> fmt::Result {
+        f.pad(self.name())
+    }
+}
+
 /// A label of a key on an elliptic curve with two coordinates, as IANA's registry "COSE Key Type
 /// Parameters" assigns it to key type 2 (RFC 8152, sections 13.1.1 and 16.6).
 #[derive(Clone, Copy, Debug, Eq, Ord, PartialEq, PartialOrd)]
@@ -59,7 +85,7 @@ pub enum Ec2KeyParameter {
     D = -4,
 }
 
-// In ascending order of their numbers.
+/// The labels of keys with two coordinates, in ascending order of their numbers.
 pub const EC2_KEY_PARAMETERS: [Ec2KeyParameter; 4] = [
     Ec2KeyParameter::D,
     Ec2KeyParameter::Y,
@@ -86,6 +112,31 @@ impl Registry for Ec2KeyParameter {
 
     fn number(self) -> i64 {
         self as i64
+    }
+}
+
+impl Named for Ec2KeyParameter {
+    ghost use Rattle.coset_iana.specs.Ec2KeyParameter.{name};
+
+    ghost name = { name };
+
+    fn name(&self) -> &'static str {
+        match self {
+            Ec2KeyParameter::Crv => "crv",
+            Ec2KeyParameter::X => "x",
+            Ec2KeyParameter::Y => "y",
+            Ec2KeyParameter::D => "d",
+        }
+    }
+}
+
+impl fmt::Display for Ec2KeyParameter {
+    ghost use Rattle.coset_iana.specs.Ec2KeyParameter.{name};
+
+    ghost output = { λ x. Some (name x) };
+
+    fn fmt<W: fmt::Write>(&self, f: &mut fmt::Formatter<W>) -> fmt::Result {
+        f.pad(self.name())
     }
 }
 
@@ -119,7 +170,7 @@ pub enum RsaKeyParameter {
     TI = -12,
 }
 
-// In ascending order of their numbers.
+/// The labels of RSA keys, in ascending order of their numbers.
 pub const RSA_KEY_PARAMETERS: [RsaKeyParameter; 12] = [
     RsaKeyParameter::TI,
     RsaKeyParameter::DI,
@@ -157,6 +208,39 @@ impl Registry for RsaKeyParameter {
     }
 }
 
+impl Named for RsaKeyParameter {
+    ghost use Rattle.coset_iana.specs.RsaKeyParameter.{name};
+
+    ghost name = { name };
+
+    fn name(&self) -> &'static str {
+        match self {
+            RsaKeyParameter::N => "n",
+            RsaKeyParameter::E => "e",
+            RsaKeyParameter::D => "d",
+            RsaKeyParameter::P => "p",
+            RsaKeyParameter::Q => "q",
+            RsaKeyParameter::DP => "dP",
+            RsaKeyParameter::DQ => "dQ",
+            RsaKeyParameter::QInv => "qInv",
+            RsaKeyParameter::Other => "other",
+            RsaKeyParameter::RI => "r_i",
+            RsaKeyParameter::DI => "d_i",
+            RsaKeyParameter::TI => "t_i",
+        }
+    }
+}
+
+impl fmt::Display for RsaKeyParameter {
+    ghost use Rattle.coset_iana.specs.RsaKeyParameter.{name};
+
+    ghost output = { λ x. Some (name x) };
+
+    fn fmt<W: fmt::Write>(&self, f: &mut fmt::Formatter<W>) -> fmt::Result {
+        f.pad(self.name())
+    }
+}
+
 /// A label of a symmetric key, as IANA's registry "COSE Key Type Parameters" assigns it to key type
 /// 4 (RFC 8152, sections 13.3 and 16.6).
 #[derive(Clone, Copy, Debug, Eq, Ord, PartialEq, PartialOrd)]
@@ -165,7 +249,7 @@ pub enum SymmetricKeyParameter {
     K = -1,
 }
 
-// In ascending order of their numbers.
+/// The label of symmetric keys.
 pub const SYMMETRIC_KEY_PARAMETERS: [SymmetricKeyParameter; 1] = [SymmetricKeyParameter::K];
 
 impl Registry for SymmetricKeyParameter {
@@ -190,6 +274,28 @@ impl Registry for SymmetricKeyParameter {
     }
 }
 
+impl Named for SymmetricKeyParameter {
+    ghost use Rattle.coset_iana.specs.SymmetricKeyParameter.{name};
+
+    ghost name = { name };
+
+    fn name(&self) -> &'static str {
+        match self {
+            SymmetricKeyParameter::K => "k",
+        }
+    }
+}
+
+impl fmt::Display for SymmetricKeyParameter {
+    ghost use Rattle.coset_iana.specs.SymmetricKeyParameter.{name};
+
+    ghost output = { λ x. Some (name x) };
+
+    fn fmt<W: fmt::Write>(&self, f: &mut fmt::Formatter<W>) -> fmt::Result {
+        f.pad(self.name())
+    }
+}
+
 /// A label of a key of HSS/LMS, as IANA's registry "COSE Key Type Parameters" assigns it to key
 /// type 5 (RFC 8778).
 #[derive(Clone, Copy, Debug, Eq, Ord, PartialEq, PartialOrd)]
@@ -198,7 +304,7 @@ pub enum HssLmsKeyParameter {
     Pub = -1,
 }
 
-// In ascending order of their numbers.
+/// The label of keys of HSS/LMS.
 pub const HSS_LMS_KEY_PARAMETERS: [HssLmsKeyParameter; 1] = [HssLmsKeyParameter::Pub];
 
 impl Registry for HssLmsKeyParameter {
@@ -223,6 +329,28 @@ impl Registry for HssLmsKeyParameter {
     }
 }
 
+impl Named for HssLmsKeyParameter {
+    ghost use Rattle.coset_iana.specs.HssLmsKeyParameter.{name};
+
+    ghost name = { name };
+
+    fn name(&self) -> &'static str {
+        match self {
+            HssLmsKeyParameter::Pub => "pub",
+        }
+    }
+}
+
+impl fmt::Display for HssLmsKeyParameter {
+    ghost use Rattle.coset_iana.specs.HssLmsKeyParameter.{name};
+
+    ghost output = { λ x. Some (name x) };
+
+    fn fmt<W: fmt::Write>(&self, f: &mut fmt::Formatter<W>) -> fmt::Result {
+        f.pad(self.name())
+    }
+}
+
 /// A label of a key of WalnutDSA, as IANA's registry "COSE Key Type Parameters" assigns it to key
 /// type 6 (RFC 9021).
 #[derive(Clone, Copy, Debug, Eq, Ord, PartialEq, PartialOrd)]
@@ -241,7 +369,7 @@ pub enum WalnutDsaKeyParameter {
     Matrix2 = -6,
 }
 
-// In ascending order of their numbers.
+/// The labels of keys of WalnutDSA, in ascending order of their numbers.
 pub const WALNUT_DSA_KEY_PARAMETERS: [WalnutDsaKeyParameter; 6] = [
     WalnutDsaKeyParameter::Matrix2,
     WalnutDsaKeyParameter::Permutation1,
@@ -273,6 +401,33 @@ impl Registry for WalnutDsaKeyParameter {
     }
 }
 
+impl Named for WalnutDsaKeyParameter {
+    ghost use Rattle.coset_iana.specs.WalnutDsaKeyParameter.{name};
+
+    ghost name = { name };
+
+    fn name(&self) -> &'static str {
+        match self {
+            WalnutDsaKeyParameter::N => "N",
+            WalnutDsaKeyParameter::Q => "q",
+            WalnutDsaKeyParameter::TValues => "t-values",
+            WalnutDsaKeyParameter::Matrix1 => "matrix 1",
+            WalnutDsaKeyParameter::Permutation1 => "permutation 1",
+            WalnutDsaKeyParameter::Matrix2 => "matrix 2",
+        }
+    }
+}
+
+impl fmt::Display for WalnutDsaKeyParameter {
+    ghost use Rattle.coset_iana.specs.WalnutDsaKeyParameter.{name};
+
+    ghost output = { λ x. Some (name x) };
+
+    fn fmt<W: fmt::Write>(&self, f: &mut fmt::Formatter<W>) -> fmt::Result {
+        f.pad(self.name())
+    }
+}
+
 /// A label of an algorithm key pair, as IANA's registry "COSE Key Type Parameters" assigns it to
 /// key type 7.
 #[derive(Clone, Copy, Debug, Eq, Ord, PartialEq, PartialOrd)]
@@ -283,7 +438,7 @@ pub enum AkpKeyParameter {
     Priv = -2,
 }
 
-// In ascending order of their numbers.
+/// The labels of algorithm key pairs, in ascending order of their numbers.
 pub const AKP_KEY_PARAMETERS: [AkpKeyParameter; 2] = [AkpKeyParameter::Priv, AkpKeyParameter::Pub];
 
 impl Registry for AkpKeyParameter {
@@ -305,5 +460,28 @@ impl Registry for AkpKeyParameter {
 
     fn number(self) -> i64 {
         self as i64
+    }
+}
+
+impl Named for AkpKeyParameter {
+    ghost use Rattle.coset_iana.specs.AkpKeyParameter.{name};
+
+    ghost name = { name };
+
+    fn name(&self) -> &'static str {
+        match self {
+            AkpKeyParameter::Pub => "pub",
+            AkpKeyParameter::Priv => "priv",
+        }
+    }
+}
+
+impl fmt::Display for AkpKeyParameter {
+    ghost use Rattle.coset_iana.specs.AkpKeyParameter.{name};
+
+    ghost output = { λ x. Some (name x) };
+
+    fn fmt<W: fmt::Write>(&self, f: &mut fmt::Formatter<W>) -> fmt::Result {
+        f.pad(self.name())
     }
 }

@@ -1,10 +1,11 @@
 //! What a key says of itself, whatever its kind.
 
-ghost use Rattle.std.specs.Prelude.{refl};
+ghost use Rattle.std.specs.Prelude.{Some, refl};
 ghost use Rattle.coset_iana.specs.WithPrivateRange.{is_private_use};
 
-use crate::WithPrivateRange;
 use crate::registry::Registry;
+use crate::{Named, WithPrivateRange};
+use std::fmt;
 
 /// Elliptic curves below this number are for private use (RFC 8152, section 16.8).
 pub const ELLIPTIC_CURVE_PRIVATE_USE_MAX: i64 = -65536;
@@ -27,7 +28,7 @@ pub enum KeyParameter {
     BaseIv = 5,
 }
 
-// In ascending order of their numbers.
+/// The labels of every key, in ascending order of their numbers.
 pub const KEY_PARAMETERS: [KeyParameter; 6] = [
     KeyParameter::Reserved,
     KeyParameter::Kty,
@@ -59,6 +60,33 @@ impl Registry for KeyParameter {
     }
 }
 
+impl Named for KeyParameter {
+    ghost use Rattle.coset_iana.specs.KeyParameter.{name};
+
+    ghost name = { name };
+
+    fn name(&self) -> &'static str {
+        match self {
+            KeyParameter::Reserved => "Reserved",
+            KeyParameter::Kty => "kty",
+            KeyParameter::Kid => "kid",
+            KeyParameter::Alg => "alg",
+            KeyParameter::KeyOps => "key_ops",
+            KeyParameter::BaseIv => "Base IV",
+        }
+    }
+}
+
+impl fmt::Display for KeyParameter {
+    ghost use Rattle.coset_iana.specs.KeyParameter.{name};
+
+    ghost output = { λ x. Some (name x) };
+
+    fn fmt<W: fmt::Write>(&self, f: &mut fmt::Formatter<W>) -> fmt::Result {
+        f.pad(self.name())
+    }
+}
+
 /// A kind of key, as IANA's registry "COSE Key Types" assigns it (RFC 8152, sections 13 and 16.7).
 #[derive(Clone, Copy, Debug, Eq, Ord, PartialEq, PartialOrd)]
 #[allow(non_camel_case_types)]
@@ -81,7 +109,7 @@ pub enum KeyType {
     AKP = 7,
 }
 
-// In ascending order of their numbers.
+/// The kinds of keys, in ascending order of their numbers.
 pub const KEY_TYPES: [KeyType; 8] = [
     KeyType::Reserved,
     KeyType::OKP,
@@ -112,6 +140,35 @@ impl Registry for KeyType {
 
     fn number(self) -> i64 {
         self as i64
+    }
+}
+
+impl Named for KeyType {
+    ghost use Rattle.coset_iana.specs.KeyType.{name};
+
+    ghost name = { name };
+
+    fn name(&self) -> &'static str {
+        match self {
+            KeyType::Reserved => "Reserved",
+            KeyType::OKP => "OKP",
+            KeyType::EC2 => "EC2",
+            KeyType::RSA => "RSA",
+            KeyType::Symmetric => "Symmetric",
+            KeyType::HSS_LMS => "HSS-LMS",
+            KeyType::WalnutDSA => "WalnutDSA",
+            KeyType::AKP => "AKP",
+        }
+    }
+}
+
+impl fmt::Display for KeyType {
+    ghost use Rattle.coset_iana.specs.KeyType.{name};
+
+    ghost output = { λ x. Some (name x) };
+
+    fn fmt<W: fmt::Write>(&self, f: &mut fmt::Formatter<W>) -> fmt::Result {
+        f.pad(self.name())
     }
 }
 
@@ -148,7 +205,7 @@ pub enum EllipticCurve {
     BrainpoolP512R1 = 259,
 }
 
-// In ascending order of their numbers.
+/// The elliptic curves, in ascending order of their numbers.
 pub const ELLIPTIC_CURVES: [EllipticCurve; 13] = [
     EllipticCurve::Reserved,
     EllipticCurve::P_256,
@@ -187,6 +244,40 @@ impl Registry for EllipticCurve {
     }
 }
 
+impl Named for EllipticCurve {
+    ghost use Rattle.coset_iana.specs.EllipticCurve.{name};
+
+    ghost name = { name };
+
+    fn name(&self) -> &'static str {
+        match self {
+            EllipticCurve::Reserved => "Reserved",
+            EllipticCurve::P_256 => "P-256",
+            EllipticCurve::P_384 => "P-384",
+            EllipticCurve::P_521 => "P-521",
+            EllipticCurve::X25519 => "X25519",
+            EllipticCurve::X448 => "X448",
+            EllipticCurve::Ed25519 => "Ed25519",
+            EllipticCurve::Ed448 => "Ed448",
+            EllipticCurve::Secp256k1 => "secp256k1",
+            EllipticCurve::BrainpoolP256R1 => "brainpoolP256r1",
+            EllipticCurve::BrainpoolP320R1 => "brainpoolP320r1",
+            EllipticCurve::BrainpoolP384R1 => "brainpoolP384r1",
+            EllipticCurve::BrainpoolP512R1 => "brainpoolP512r1",
+        }
+    }
+}
+
+impl fmt::Display for EllipticCurve {
+    ghost use Rattle.coset_iana.specs.EllipticCurve.{name};
+
+    ghost output = { λ x. Some (name x) };
+
+    fn fmt<W: fmt::Write>(&self, f: &mut fmt::Formatter<W>) -> fmt::Result {
+        f.pad(self.name())
+    }
+}
+
 impl WithPrivateRange for EllipticCurve {
     ghost is_private = { is_private_use };
 
@@ -221,7 +312,7 @@ pub enum KeyOperation {
     MacVerify = 10,
 }
 
-// In ascending order of their numbers.
+/// The uses of keys, in ascending order of their numbers.
 pub const KEY_OPERATIONS: [KeyOperation; 10] = [
     KeyOperation::Sign,
     KeyOperation::Verify,
@@ -254,5 +345,36 @@ impl Registry for KeyOperation {
 
     fn number(self) -> i64 {
         self as i64
+    }
+}
+
+impl Named for KeyOperation {
+    ghost use Rattle.coset_iana.specs.KeyOperation.{name};
+
+    ghost name = { name };
+
+    fn name(&self) -> &'static str {
+        match self {
+            KeyOperation::Sign => "sign",
+            KeyOperation::Verify => "verify",
+            KeyOperation::Encrypt => "encrypt",
+            KeyOperation::Decrypt => "decrypt",
+            KeyOperation::WrapKey => "wrap key",
+            KeyOperation::UnwrapKey => "unwrap key",
+            KeyOperation::DeriveKey => "derive key",
+            KeyOperation::DeriveBits => "derive bits",
+            KeyOperation::MacCreate => "MAC create",
+            KeyOperation::MacVerify => "MAC verify",
+        }
+    }
+}
+
+impl fmt::Display for KeyOperation {
+    ghost use Rattle.coset_iana.specs.KeyOperation.{name};
+
+    ghost output = { λ x. Some (name x) };
+
+    fn fmt<W: fmt::Write>(&self, f: &mut fmt::Formatter<W>) -> fmt::Result {
+        f.pad(self.name())
     }
 }

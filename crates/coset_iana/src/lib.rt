@@ -3,10 +3,11 @@
 //! Each enum's variants carry the registry's numbers, `to_i64` gives a value's number, and `from_i64`
 //! the value of a number, if it has one. The two are inverse to each other, which [`EnumI64`] has as a
 //! law, so that generic code holds for these seventeen registries and for a caller's own. Values are
-//! ordered by their numbers.
+//! ordered by their numbers. `name` gives the registry's own name of a value ([`Named`]), which
+//! `Display` writes.
 #![tactic(auto)]
 
-ghost use Rattle.std.specs.Prelude.{◌≡◌, ℤ, Bool, Option, Some};
+ghost use Rattle.std.specs.Prelude.{◌≡◌, ℕ, ℤ, Bool, List, Option, Some};
 
 mod algorithms;
 mod claims;
@@ -52,6 +53,17 @@ pub trait EnumI64: Sized + Eq {
     ghost value_of_number: { (x : Self) → value_of (number x) ≡ Some x };
 
     ghost number_of_value: { (i : ℤ) (x : Self) → value_of i ≡ Some x → number x ≡ i };
+}
+
+/// An enum whose values have names in a registry.
+///
+/// Contracts see `name`, the bytes of a value's name.
+pub trait Named {
+    ghost name: { Self → List ℕ };
+
+    /// The name of this value, as its registry spells it.
+    fn name(&self) -> &'static str
+        ensures { result.now ≡ name self.now };
 }
 
 /// An enum beside whose numbers stands a range that is left to private use.

@@ -1,8 +1,10 @@
 //! Tags of CBOR.
 
-ghost use Rattle.std.specs.Prelude.{refl};
+ghost use Rattle.std.specs.Prelude.{Some, refl};
 
+use crate::Named;
 use crate::registry::Registry;
+use std::fmt;
 
 /// A tag that names a kind of COSE message or a token, as IANA's registry "CBOR Tags" assigns it
 /// (RFC 8949, section 9.2; RFC 8152, section 2).
@@ -26,7 +28,7 @@ pub enum CborTag {
     CoseSign = 98,
 }
 
-// In ascending order of their numbers.
+/// The tags of COSE messages and tokens, in ascending order of their numbers.
 pub const CBOR_TAGS: [CborTag; 8] = [
     CborTag::CoseEncrypt0,
     CborTag::CoseMac0,
@@ -57,5 +59,34 @@ impl Registry for CborTag {
 
     fn number(self) -> i64 {
         self as i64
+    }
+}
+
+impl Named for CborTag {
+    ghost use Rattle.coset_iana.specs.CborTag.{name};
+
+    ghost name = { name };
+
+    fn name(&self) -> &'static str {
+        match self {
+            CborTag::CoseEncrypt0 => "COSE Single Recipient Encrypted Data Object",
+            CborTag::CoseMac0 => "COSE Mac w/o Recipients Object",
+            CborTag::CoseSign1 => "COSE Single Signer Data Object",
+            CborTag::CoseCountersignature => "COSE standalone V2 countersignature",
+            CborTag::Cwt => "CBOR Web Token (CWT)",
+            CborTag::CoseEncrypt => "COSE Encrypted Data Object",
+            CborTag::CoseMac => "COSE MACed Data Object",
+            CborTag::CoseSign => "COSE Signed Data Object",
+        }
+    }
+}
+
+impl fmt::Display for CborTag {
+    ghost use Rattle.coset_iana.specs.CborTag.{name};
+
+    ghost output = { λ x. Some (name x) };
+
+    fn fmt<W: fmt::Write>(&self, f: &mut fmt::Formatter<W>) -> fmt::Result {
+        f.pad(self.name())
     }
 }

@@ -1,5 +1,6 @@
--- Labels without their memory.
-use Rattle.std.specs.Prelude.{ℤ, string_bytes}
+-- Labels without their memory, and what is printed of them.
+use Rattle.std.specs.Prelude.{ℕ, ℤ, List, Option, Some, string_bytes}
+use Rattle.std.specs.Fmt.{debug_str, signed_decimal}
 use Rattle.coset_value.specs.Item.{Item}
 use Rattle.coset_value.specs.View.{view}
 use Rattle.coset_value.specs.declared.value.Value.{Value}
@@ -33,3 +34,18 @@ algorithm_seen = registered_or_private_seen algorithms.number
 -- a label and its value
 abbrev pub entry_seen : Label × Value → Name × Item
 entry_seen e = (label_seen e.0, view e.1)
+
+-- what `{}` writes of a label: a number in decimal, or a text as `{:?}` writes it, in double quotes. Of a text past ASCII no definition of std says that
+abbrev pub label_output : Label → Option (List ℕ)
+label_output (Int i) = Some (signed_decimal i)
+label_output (Text s) = debug_str (string_bytes s)
+
+-- a value of a registry is written as `value_output` has it
+abbrev pub registered_output : {T : Type 0} → (T → Option (List ℕ)) → RegisteredLabel T → Option (List ℕ)
+registered_output value_output (registered.Assigned x) = value_output x
+registered_output value_output (registered.Text s) = debug_str (string_bytes s)
+
+abbrev pub registered_or_private_output : {T : Type 0} → (T → Option (List ℕ)) → RegisteredLabelWithPrivate T → Option (List ℕ)
+registered_or_private_output value_output (with_private.PrivateUse i) = Some (signed_decimal i)
+registered_or_private_output value_output (with_private.Assigned x) = value_output x
+registered_or_private_output value_output (with_private.Text s) = debug_str (string_bytes s)

@@ -17,6 +17,7 @@ use coset_codec::write::{Encode, encode_to_vec};
 use coset_codec::{AsCborValue, CborSerializable, ItemSource, Lawful, Result};
 use coset_iana::EnumI64;
 use std::alloc::{AllocError, Global};
+use std::fmt;
 
 /// A label: an integer within 64 bits with a sign, or a text (RFC 8152, section 1.4).
 ///
@@ -120,6 +121,20 @@ impl Clone for Label {
         match self {
             Label::Int(number) => Ok(Label::Int(*number)),
             Label::Text(text) => Ok(Label::Text(text.clone()?)),
+        }
+    }
+}
+
+/// The number in decimal, or the text as its `Debug` writes it: in double quotes, with escapes.
+impl fmt::Display for Label {
+    ghost use Rattle.coset_label.specs.Views.{label_output};
+
+    ghost output = { label_output };
+
+    fn fmt<W: fmt::Write>(&self, f: &mut fmt::Formatter<W>) -> fmt::Result {
+        match self {
+            Label::Int(number) => fmt::Display::fmt(number, f),
+            Label::Text(text) => fmt::Debug::fmt(text, f),
         }
     }
 }

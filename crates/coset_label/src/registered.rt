@@ -16,6 +16,7 @@ use coset_codec::write::{Encode, encode_to_vec};
 use coset_codec::{AsCborValue, CborSerializable, CoseError, ItemSource, Lawful, Result};
 use coset_iana::{EnumI64, WithPrivateRange};
 use std::alloc::{AllocError, Global};
+use std::fmt;
 
 /// A label of a registry without a private range: one of its values, or a text (RFC 8152, section 16).
 ///
@@ -230,6 +231,37 @@ impl<T: EnumI64 + WithPrivateRange + Drop> CborSerializable for RegisteredLabelW
 
     fn to_vec(self, alloc: Global) -> Result<Vec<u8>> {
         encode_to_vec(alloc, &self)
+    }
+}
+
+/// The value as its own `Display` writes it, which is its name, or the text as its `Debug` writes it: in double quotes, with
+/// escapes.
+impl<T: fmt::Display> fmt::Display for RegisteredLabel<T> {
+    ghost use Rattle.coset_label.specs.Views.{registered_output};
+
+    ghost output = { registered_output T.output };
+
+    fn fmt<W: fmt::Write>(&self, f: &mut fmt::Formatter<W>) -> fmt::Result {
+        match self {
+            RegisteredLabel::Assigned(value) => fmt::Display::fmt(value, f),
+            RegisteredLabel::Text(text) => fmt::Debug::fmt(text, f),
+        }
+    }
+}
+
+/// The number for private use in decimal, the value as its own `Display` writes it, which is its name, or the text as its
+/// `Debug` writes it: in double quotes, with escapes.
+impl<T: fmt::Display> fmt::Display for RegisteredLabelWithPrivate<T> {
+    ghost use Rattle.coset_label.specs.Views.{registered_or_private_output};
+
+    ghost output = { registered_or_private_output T.output };
+
+    fn fmt<W: fmt::Write>(&self, f: &mut fmt::Formatter<W>) -> fmt::Result {
+        match self {
+            RegisteredLabelWithPrivate::PrivateUse(number) => fmt::Display::fmt(number, f),
+            RegisteredLabelWithPrivate::Assigned(value) => fmt::Display::fmt(value, f),
+            RegisteredLabelWithPrivate::Text(text) => fmt::Debug::fmt(text, f),
+        }
     }
 }
 

@@ -10,30 +10,38 @@ use coset::{
 use coset_lines::words::{self, Words};
 use coset_lines::{mark, tell};
 use std::alloc::Global;
-use std::fmt::Debug;
+use std::fmt::{Debug, Display};
 
-/// A label's bytes: which label is read of them.
+/// A label's bytes: which label is read of them, as its `Debug` writes it or, by the call `display`, its `Display`.
 ///
 /// # Errors
 /// What the call is given can't be made of the words, or the kind of labels isn't known.
-pub fn debug(alloc: Global, kind: &str, words: &Words<'_>) -> Result<String> {
+pub fn show(alloc: Global, kind: &str, call: &str, words: &Words<'_>) -> Result<String> {
     match kind {
-        "Label" => told::<Label>(alloc, words),
-        "KeyType" => told::<KeyType>(alloc, words),
-        "Algorithm" => told::<Algorithm>(alloc, words),
-        "Own" => told::<RegisteredLabelWithPrivate<Own>>(alloc, words),
+        "Label" => shown::<Label>(alloc, call, words),
+        "KeyType" => shown::<KeyType>(alloc, call, words),
+        "Algorithm" => shown::<Algorithm>(alloc, call, words),
+        "Own" => shown::<RegisteredLabelWithPrivate<Own>>(alloc, call, words),
         _ => Err(CoseError::UnexpectedItem("name", "kind of labels")),
     }
 }
 
-fn told<T: CborSerializable + Debug + Drop>(alloc: Global, words: &Words<'_>) -> Result<String> {
+fn shown<T: CborSerializable + Debug + Display + Drop>(
+    alloc: Global,
+    call: &str,
+    words: &Words<'_>,
+) -> Result<String> {
     let bytes = words.bytes(alloc, 1)?;
     mark::begin(alloc);
     let answer = T::from_slice(alloc, &bytes);
     mark::end(alloc);
-    match answer {
-        Ok(label) => Ok(format!(in alloc; "ok {label:?}")?),
-        Err(error) => tell::refused(alloc, error),
+    let label = match answer {
+        Ok(label) => label,
+        Err(error) => return tell::refused(alloc, error),
+    };
+    match call {
+        "display" => Ok(format!(in alloc; "ok {label}")?),
+        _ => Ok(format!(in alloc; "ok {label:?}")?),
     }
 }
 

@@ -1,9 +1,10 @@
 //! A registry of a caller's own, in which every number without a name is for private use.
 
-ghost use Rattle.std.specs.Prelude.{[], ◌∷◌, pos, true, refl};
+ghost use Rattle.std.specs.Prelude.{[], ◌∷◌, codes, pos, true, refl};
 ghost use Rattle.coset.specs.Registry.{minus};
 
-use coset::iana::{EnumI64, WithPrivateRange};
+use coset::iana::{EnumI64, Named, WithPrivateRange};
+use std::fmt;
 
 /// What has a name in the registry.
 #[derive(Clone, Copy, Debug, Eq, Ord, PartialEq, PartialOrd)]
@@ -44,6 +45,30 @@ impl EnumI64 for Own {
     ghost number_of_value = { number-first_numbered
         (elim [ Reserved ↦ pos 0 | Something ↦ pos 1 | Other ↦ minus 1 ])
         (Reserved ∷ Something ∷ Other ∷ []) };
+}
+
+impl Named for Own {
+    ghost use Rattle.coset_parts.specs.declared.own.Own.TheVariants.{Reserved, Something, Other};
+
+    ghost name = { elim [
+      | Reserved ↦ codes "reserved"
+      | Something ↦ codes "something"
+      | Other ↦ codes "other"
+    ] };
+
+    fn name(&self) -> &'static str {
+        match self {
+            Own::Reserved => "reserved",
+            Own::Something => "something",
+            Own::Other => "other",
+        }
+    }
+}
+
+impl fmt::Display for Own {
+    fn fmt<W: fmt::Write>(&self, f: &mut fmt::Formatter<W>) -> fmt::Result {
+        f.pad(self.name())
+    }
 }
 
 impl WithPrivateRange for Own {

@@ -10,13 +10,17 @@ use coset_lines::words::{self, Words};
 use coset_lines::{mark, tell};
 use std::alloc::Global;
 use std::cmp::Ordering;
-use std::fmt::Debug;
+use std::fmt::{Debug, Display};
 
 /// What is asked of a registry.
 #[derive(Clone, Copy)]
 enum Question {
     /// What has this number.
+    Value(i64),
+    /// What the registry calls the value of this number.
     Name(i64),
+    /// What is printed of the value of this number.
+    Display(i64),
     /// How many numbers have a name, from the first on, the second not counted.
     Count(i64, i64),
     /// How the name of the first number stands to that of the second.
@@ -34,7 +38,9 @@ pub fn call(alloc: Global, name: &str, words: &Words<'_>) -> Result<String> {
     let first = words::number(words.word(1))?;
     match call {
         "is_private" => is_private(alloc, registry, first),
-        "from_i64" => answer(alloc, registry, Question::Name(first)),
+        "from_i64" => answer(alloc, registry, Question::Value(first)),
+        "name" => answer(alloc, registry, Question::Name(first)),
+        "display" => answer(alloc, registry, Question::Display(first)),
         "count" => {
             let to = words::number(words.word(2))?;
             answer(alloc, registry, Question::Count(first, to))
@@ -107,10 +113,15 @@ fn answer(alloc: Global, registry: &str, question: Question) -> Result<String> {
     }
 }
 
-/// A name and its number, or `none`; a count; or an order.
-fn told<T: EnumI64 + Ord + Debug + Drop>(alloc: Global, question: Question) -> Result<String> {
+/// A value and its number, its name or what is printed of it, or `none`; a count; or an order.
+fn told<T: EnumI64 + Named + Ord + Debug + Display + Drop>(
+    alloc: Global,
+    question: Question,
+) -> Result<String> {
     match question {
+        Question::Value(i) => told_value::<T>(alloc, i),
         Question::Name(i) => told_name::<T>(alloc, i),
+        Question::Display(i) => told_display::<T>(alloc, i),
         Question::Count(from, to) => {
             mark::begin(alloc);
             let count = counted::<T>(from, to);
@@ -129,12 +140,32 @@ fn told<T: EnumI64 + Ord + Debug + Drop>(alloc: Global, question: Question) -> R
     }
 }
 
-fn told_name<T: EnumI64 + Debug + Drop>(alloc: Global, i: i64) -> Result<String> {
+fn told_value<T: EnumI64 + Debug + Drop>(alloc: Global, i: i64) -> Result<String> {
     mark::begin(alloc);
     let found = found::<T>(i);
     mark::end(alloc);
     match found {
         Some((value, number)) => Ok(format!(in alloc; "{value:?} {number}")?),
+        None => tell::none(alloc),
+    }
+}
+
+fn told_name<T: EnumI64 + Named + Drop>(alloc: Global, i: i64) -> Result<String> {
+    mark::begin(alloc);
+    let name = named::<T>(i);
+    mark::end(alloc);
+    match name {
+        Some(name) => Ok(String::from_str(alloc, name)?),
+        None => tell::none(alloc),
+    }
+}
+
+fn told_display<T: EnumI64 + Display + Drop>(alloc: Global, i: i64) -> Result<String> {
+    mark::begin(alloc);
+    let value = T::from_i64(i);
+    mark::end(alloc);
+    match value {
+        Some(value) => Ok(format!(in alloc; "{value}")?),
         None => tell::none(alloc),
     }
 }
@@ -152,6 +183,10 @@ fn found<T: EnumI64 + Drop>(i: i64) -> Option<(T, i64)>
     let value = T::from_i64(i)?;
     let number = value.to_i64();
     Some((value, number))
+}
+
+fn named<T: EnumI64 + Named + Drop>(i: i64) -> Option<&'static str> {
+    Some(T::from_i64(i)?.name())
 }
 
 fn counted<T: EnumI64 + Drop>(from: i64, to: i64) -> usize {
