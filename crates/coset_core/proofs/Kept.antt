@@ -16,9 +16,9 @@ use Rattle.coset_core.specs.HeaderWrites.{protected_image_is}
 use Rattle.coset_core.specs.Headers.{HeaderSeen, header_of, Signatures, no_signatures, signature_and, ProtectedSeen, SignatureSeen, are_none, elements_of}
 use Rattle.coset_core.specs.Headers.{empty_header, is_empty_header, header_image, layered_header, layered_protected, layered_signature, protected_bytes}
 use Rattle.coset_core.specs.Headers.{signatures_within}
-use Rattle.coset_core.specs.Kept.{KeepsOwn, first_bytes, KeepsReceived, KeepsSignature, KeepsSignatures, SignaturesReadAs}
+use Rattle.coset_core.specs.Kept.{KeepsAbbreviated, KeepsOwn, first_bytes, KeepsReceived, KeepsSignature, KeepsSignatures, SignaturesReadAs}
 use Rattle.coset_core.proofs.HeaderMap.{header_told, header_written}
-use Rattle.coset_core.proofs.Labelled.{both_parts, mapped_part, map_as_written, map_when_read}
+use Rattle.coset_core.proofs.Labelled.{abbreviated_as_written, both_parts, mapped_part, map_when_read, signatures_as_written}
 
 -- what a byte string holds which is that of o
 pub held_of : (o : Option (List ℕ)) (v : Item) (b : List ℕ) → option_map bytes o ≡ Some v → as_bytes v ≡ Some b → Some b ≡ o
@@ -53,7 +53,7 @@ first_when_read k (item v vs) s d = protected_when_read k v s.protected d.0
 pub signature_when_read : (k : ℕ) (v : Item) (s : SignatureSeen) → (layered_signature k).describes v s → KeepsReceived v s
 signature_when_read k v s d = let first = first_when_read k d.0 s d.2 in (first.0, (d.0, d.1, first.1))
 
-keeps_own : (k : ℕ) → WhenRead (layered_signature k) (λ s. KeepsOwn s.protected)
+pub keeps_own : (k : ℕ) → WhenRead (layered_signature k) (λ s. KeepsOwn s.protected)
 keeps_own k v s d = (signature_when_read k v s d).0
 
 pub signature_as_written : (k : ℕ) → AsWritten (layered_signature k) KeepsSignature
@@ -103,9 +103,13 @@ within_when_read k v ss d = list_when_read (layered_signature k) (λ s. KeepsOwn
 
 -- ---- those in a header
 
-pub header_as_written : (k : ℕ) → AsWritten (layered_header k) (SignaturesReadAs KeepsSignature)
+pub header_as_written : (k : ℕ) → AsWritten (layered_header k) (λ h g. SignaturesReadAs KeepsSignature h g × KeepsAbbreviated h g)
 header_as_written k v h g e d =
-    map_as_written (signatures_within k) KeepsSignature (within_as_written k) v h g (sym (header_written k h) ∙ e) (header_told k v g d)
+    let image = sym (header_written k h) ∙ e in
+    let described = header_told k v g d in (
+      signatures_as_written (signatures_within k) h g v image described KeepsSignature (within_as_written k),
+      abbreviated_as_written (signatures_within k) h g v image described,
+    )
 
 pub header_when_read : (k : ℕ) → WhenRead (layered_header k) KeepsSignatures
 header_when_read k v h d = map_when_read (signatures_within k) (λ s. KeepsOwn s.protected) (within_when_read k) v h (header_told k v h d)

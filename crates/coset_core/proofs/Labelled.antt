@@ -1,20 +1,20 @@
 -- What stands under the labels of signatures in a header's map, where it was written.
-use Rattle.std.proofs.Common.{◌≡◌, List, [], ◌∷◌, ◌++◌, Option, Some, None, Bool, true, false, cond, option_map, refl, sym, ap, subst, ◌∙◌}
+use Rattle.std.proofs.Common.{◌≡◌, ℕ, List, [], ◌∷◌, ◌++◌, Option, Some, None, Bool, true, false, cond, option_map, refl, sym, ap, subst, ◌∙◌}
 use Rattle.std.specs.Map.{lookup}
-use Rattle.coset_value.specs.Item.{Item, Pairs, no_pairs, pair, dict, integer, text}
+use Rattle.coset_value.specs.Item.{Item, Pairs, no_pairs, pair, bytes, dict, integer, text}
 use Rattle.coset_value.specs.Parts.{as_integer, as_text, as_map}
 use Rattle.coset_codec.specs.AsWritten.{AsWritten, WhenRead}
 use Rattle.coset_codec.specs.Lists.{EachHas, EachWith}
-use Rattle.coset_codec.specs.Maps.{FieldShape, Named, named_image, put_field, unless_empty, entries_image, may_write}
-use Rattle.coset_codec.specs.Shape.{Shape, both}
+use Rattle.coset_codec.specs.Maps.{FieldShape, Named, named_image, put_field, optional, unless_empty, entries_image, may_write}
+use Rattle.coset_codec.specs.Shape.{Shape, both, bstr}
 use Rattle.coset_codec.specs.ShapeLaws.{some-one}
 use Rattle.coset_label.specs.Labels.{is_integer, label, names}
 use Rattle.coset_label.specs.Names.{Name, number, text_label, same_name}
 use Rattle.coset_core.specs.FieldLabels as labels
 use Rattle.coset_core.specs.Fields.{FieldTuple, fields, parts_of}
 use Rattle.coset_core.specs.HeaderMap.{each_of, header_map, header_parts}
-use Rattle.coset_core.specs.Headers.{SignatureSeen, counter_signatures_in, countersignatures_in, fields_in}
-use Rattle.coset_core.specs.Kept.{EachReadAs, EachSignature, SignaturesReadAs}
+use Rattle.coset_core.specs.Headers.{HeaderSeen, SignatureSeen, counter_signatures_in, countersignatures_in, fields_in}
+use Rattle.coset_core.specs.Kept.{EachReadAs, EachSignature, KeepsAbbreviated, SignaturesReadAs}
 
 -- ---- answers of parts
 
@@ -134,7 +134,7 @@ module _ (test : Name → Bool) where
         let held = more parts.1 parts.3 in
         (held.0, held.1, ap (lookup test) parts.4 ∙ (other_put l parts.0 parts.1 h ∙ held.2))
 
--- what the fields of labels 7 and 11 are written as stands under these labels
+-- what the fields of labels 7, 11 and 12 are written as stands under these labels
 module _ {C : Type 0} (c d : FieldShape C) (x : FieldTuple C) where
   under_first : (es : List (Name × Item)) → (fields c d).image x ≡ Some es → Holds (same_name labels.counter_signature) (c.image x.1.1.1.1.1.1.0) es
   under_first =
@@ -161,6 +161,20 @@ module _ {C : Type 0} (c d : FieldShape C) (x : FieldTuple C) where
       beyond t f labels.partial_iv refl _ _ (
       beyond t f labels.counter_signature refl _ _ (
       here t f labels.countersignature_v2 refl _ (none_beyond t labels.countersignature0_v2 refl _ _ (no_more t)))))))))
+
+  under_third : (es : List (Name × Item)) → (fields c d).image x ≡ Some es
+      → Holds (same_name labels.countersignature0_v2) ((optional bstr).image x.1.1.1.1.1.1.1.1.0) es
+  under_third =
+      let t = same_name labels.countersignature0_v2 in
+      let f = (optional bstr).image x.1.1.1.1.1.1.1.1.0 in
+      beyond t f labels.alg refl _ _ (
+      beyond t f labels.crit refl _ _ (
+      beyond t f labels.content_type refl _ _ (
+      beyond t f labels.kid refl _ _ (
+      beyond t f labels.iv refl _ _ (
+      beyond t f labels.partial_iv refl _ _ (
+      beyond t f labels.counter_signature refl _ _ (
+      beyond t f labels.countersignature_v2 refl _ _ (here t f labels.countersignature0_v2 refl _ (no_more t)))))))))
 
 -- ---- maps
 
@@ -194,24 +208,45 @@ module _ (s : Shape (List SignatureSeen)) (R : SignatureSeen → SignatureSeen �
       let first = found_first (same_name l) es rest m.0 (stands ∙ m.2) in
       law m.0 (x ∷ ss) ts m.1 (subst (λ o. (unless_empty s).describes o ts) (looked ∙ first) d)
 
-  pub map_as_written : AsWritten (header_map s) (SignaturesReadAs R)
-  map_as_written v h g e d =
-      let c = unless_empty s in
-      let f = fields_in h in
-      let tuple = (parts_of (header_parts h)).0 in
-      let m = is_map (may_write names true f.rest) f.rest ((fields c c).image tuple) v e in
-      let read = d.0.2 in
-      let same : d.0.0 ≡ m.pairs = some-one d.0.1 (ap as_map m.is) in
-      let named : Named label.describes m.pairs read.entries = subst (λ ps. Named label.describes ps read.entries) same read.named in
-      let looked : (l : Name) → lookup (same_name l) read.entries ≡ lookup (same_name l) (m.entries ++ f.rest) =
-      λ l. lookup_again (same_name l) (m.entries ++ f.rest) read.entries m.pairs m.are_pairs named in
-      let first = under_first c c tuple m.entries m.is_image in
-      let second = under_second c c tuple m.entries m.is_image in (
-        read_as labels.counter_signature f.rest (each_of (counter_signatures_in h)) (each_of (counter_signatures_in g)) m.entries _ first.0 first.1 first.2
-            (looked labels.counter_signature) read.fields.1.1.1.1.1.1.0,
-        read_as labels.countersignature_v2 f.rest (each_of (countersignatures_in h)) (each_of (countersignatures_in g)) m.entries _ second.0 second.1 second.2
-            (looked labels.countersignature_v2) read.fields.1.1.1.1.1.1.1.0,
+-- an abbreviated one
+string_again : (s : List ℕ) (y : Option (List ℕ)) → (optional bstr).describes (Some (bytes s)) y → y ≡ Some s
+string_again s (Some t) d = sym d
+string_again s None d = absurd d
+
+module _ (s : Shape (List SignatureSeen)) (h g : HeaderSeen) (v : Item) (e : (header_map s).image h ≡ Some v) (d : (header_map s).describes v g) where
+  abbrev tuple : FieldTuple (List SignatureSeen)
+  tuple = (parts_of (header_parts h)).0
+
+  abbrev rest : List (Name × Item)
+  rest = (fields_in h).rest
+
+  written : IsMap ((fields (unless_empty s) (unless_empty s)).image tuple) rest v
+  written = is_map (may_write names true rest) rest ((fields (unless_empty s) (unless_empty s)).image tuple) v e
+
+  looked : (l : Name) → lookup (same_name l) d.0.2.entries ≡ lookup (same_name l) (written.entries ++ rest)
+  looked l =
+      let same : d.0.0 ≡ written.pairs = some-one d.0.1 (ap as_map written.is) in
+      lookup_again (same_name l) (written.entries ++ rest) d.0.2.entries written.pairs written.are_pairs
+      (subst (λ ps. Named label.describes ps d.0.2.entries) same d.0.2.named)
+
+  pub signatures_as_written : (R : SignatureSeen → SignatureSeen → Type 0) → AsWritten s (EachWith R) → SignaturesReadAs R h g
+  signatures_as_written R law =
+      let first = under_first (unless_empty s) (unless_empty s) tuple written.entries written.is_image in
+      let second = under_second (unless_empty s) (unless_empty s) tuple written.entries written.is_image in (
+        read_as s R law labels.counter_signature rest (each_of (counter_signatures_in h)) (each_of (counter_signatures_in g)) written.entries _
+            first.0 first.1 first.2 (looked labels.counter_signature) d.0.2.fields.1.1.1.1.1.1.0,
+        read_as s R law labels.countersignature_v2 rest (each_of (countersignatures_in h)) (each_of (countersignatures_in g)) written.entries _
+            second.0 second.1 second.2 (looked labels.countersignature_v2) d.0.2.fields.1.1.1.1.1.1.1.0,
       )
+
+  pub abbreviated_as_written : KeepsAbbreviated h g
+  abbreviated_as_written t is =
+      let third = under_third (unless_empty s) (unless_empty s) tuple written.entries written.is_image in
+      let put : Some (bytes t) ≡ third.0 = some-one (ap (optional bstr).image is) third.1 in
+      let first = found_first (same_name labels.countersignature0_v2) written.entries rest (bytes t) (third.2 ∙ sym put) in
+      string_again t (fields_in g).countersignature0_v2
+      (subst (λ o. (optional bstr).describes o (fields_in g).countersignature0_v2) (looked labels.countersignature0_v2 ∙ first)
+      d.0.2.fields.1.1.1.1.1.1.1.1.0)
 
 module _ (s : Shape (List SignatureSeen)) (P : SignatureSeen → Type 0) (law : WhenRead s (EachHas P)) where
   each_read : (o : Option Item) (ss : List SignatureSeen) → (unless_empty s).describes o ss → EachHas P ss

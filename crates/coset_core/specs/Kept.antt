@@ -21,7 +21,8 @@ abbrev pub first_bytes : Items → Option (List ℕ)
 first_bytes no_items = None
 first_bytes (item v vs) = as_bytes v
 
--- so it is with a signature's protected header, and they are those of the byte string in the array's first place
+-- the bytes that stand for the signature's protected header are those that it was read from: those of the byte string in the
+-- first place of the array v
 abbrev pub KeepsReceived : Item → SignatureSeen → Type 0
 KeepsReceived v s = KeepsOwn s.protected × ((vs : Items) × (as_array v ≡ Some vs) × (first_bytes vs ≡ protected_bytes s.protected))
 
@@ -50,3 +51,7 @@ abbrev pub SignaturesReadAs : (SignatureSeen → SignatureSeen → Type 0) → H
 SignaturesReadAs R h g =
     EachReadAs R labels.counter_signature (fields_in h).rest (each_of (counter_signatures_in h)) (each_of (counter_signatures_in g))
     × EachReadAs R labels.countersignature_v2 (fields_in h).rest (each_of (countersignatures_in h)) (each_of (countersignatures_in g))
+
+-- the abbreviated countersignature of version 2 that was written in the header h, under label 12, where there was one, was read
+abbrev pub KeepsAbbreviated : HeaderSeen → HeaderSeen → Type 0
+KeepsAbbreviated h g = (s : List ℕ) → (fields_in h).countersignature0_v2 ≡ Some s → (fields_in g).countersignature0_v2 ≡ Some s

@@ -11,4 +11,7 @@ pub returns-clause-tagged_signature : goal.returns-clause-tagged_signature
 returns-clause-tagged_signature c = λ n k. tagged_as_written n (layered_signature k) KeepsSignature (signature_as_written k)
 
 pub returns-clause-header : goal.returns-clause-header
-returns-clause-header c = header_as_written
+returns-clause-header c = λ k v h g e d. (header_as_written k v h g e d).0
+
+pub returns-clause-abbreviated : goal.returns-clause-abbreviated
+returns-clause-abbreviated c = λ k v h g e d. (header_as_written k v h g e d).1
