@@ -5,6 +5,7 @@ pub mod Writing
 pub mod WritingHeaders
 pub mod Keeping
 pub mod Building
+pub mod Labelled
 pub mod Kept
 pub mod Filling
 pub mod Forward

@@ -5,7 +5,7 @@ use Rattle.coset_codec.specs.AsWritten.{AsWritten, WhenRead, ElementsAsWritten, 
 use Rattle.coset_codec.proofs.AsWritten.{array_as_written, array_when_read, then_as_written, then_when_read}
 use Rattle.coset_codec.specs.Serialized.{content_bytes}
 use Rattle.coset_codec.specs.Shape.{Elements, ◌then◌}
-use Rattle.coset_core.specs.Headers.{ProtectedSeen, header, header_image, is_empty_header, layered_protected, protected, protected_bytes}
+use Rattle.coset_core.specs.Headers.{HeaderSeen, ProtectedSeen, header, header_image, is_empty_header, layered_protected, protected, protected_bytes}
 use Rattle.coset_core.specs.Messages.{with_headers}
 
 -- ---- what is kept of a message
@@ -50,3 +50,19 @@ module _ {A : Type 0} (ps : Elements A) where
   -- with these elements alone
   pub elements_as_written : (R : A → A → Type 0) → ElementsAsWritten ps R → AsWritten (with_headers ps) (λ x y. R x.1.1 y.1.1)
   elements_as_written R more v x y e d = (message_as_written (λ p q. ⊤) R (λ w p q f g. tt) more v x y e d).1.1
+
+  -- with both headers
+  pub headers_as_written :
+      (Q : ProtectedSeen → ProtectedSeen → Type 0) (R : HeaderSeen → HeaderSeen → Type 0) → AsWritten protected Q → AsWritten header R
+      → AsWritten (with_headers ps) (λ x y. Q x.0 y.0 × R x.1.0 y.1.0)
+  headers_as_written Q R h k v x y e d =
+      let behind = then_as_written header ps R (λ a b. ⊤) k (λ vs a b f g. tt) in
+      let all = array_as_written (protected then header then ps) _ (then_as_written protected (header then ps) Q _ h behind) v x y e d in
+      (all.0, all.1.0)
+
+  pub headers_when_read : (P : ProtectedSeen → Type 0) (R : HeaderSeen → Type 0) → WhenRead protected P → WhenRead header R
+      → WhenRead (with_headers ps) (λ x. P x.0 × R x.1.0)
+  headers_when_read P R h k v x d =
+      let behind = then_when_read header ps R (λ a. ⊤) k (λ vs a f. tt) in
+      let all = array_when_read (protected then header then ps) _ (then_when_read protected (header then ps) P _ h behind) v x d in
+      (all.0, all.1.0)

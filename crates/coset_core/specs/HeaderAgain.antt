@@ -56,7 +56,7 @@ protected_is_bytes o h zero v p = absurd p
 protected_is_bytes o h (suc k) v p = (p.0, bytes-is v p.0 p.1, p.2)
 
 -- a signature is an array that begins with a byte string
-record Begins (v : Item) : Type 0 where
+pub record Begins (v : Item) : Type 0 where
   pub first : List ℕ
   pub others : Items
   pub is : v ≡ array (item (bytes first) others)
@@ -70,7 +70,7 @@ elements_begin o p k R s v (item x vs) e h =
     record { first = b.0; others = vs; is = e ∙ ap (λ y. array (item y vs)) b.1 }
 
 -- so one is told from several
-one_or_array_begins : (v : Item) (vs : Items) → Begins v → one_or_more (one_or_array (item v vs)) ≡ Some (item v vs)
+pub one_or_array_begins : (v : Item) (vs : Items) → Begins v → one_or_more (one_or_array (item v vs)) ≡ Some (item v vs)
 one_or_array_begins v no_items h = rw h.is refl
 one_or_array_begins v (item w vs) h = rw h.is refl
 

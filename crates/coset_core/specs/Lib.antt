@@ -13,6 +13,7 @@ pub mod HeaderSound
 pub mod HeaderAgain
 pub mod HeaderLaws
 pub mod HeaderMap
+pub mod Kept
 pub mod HeaderWrites
 pub mod Written
 pub mod Views

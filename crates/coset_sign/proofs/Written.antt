@@ -15,6 +15,14 @@ use Rattle.coset_sign.specs.Sign1.{SamePayloadAndSignature, sign1, sign1_fields,
 use Rattle.coset_sign.specs.Sign.{SignSeen, sign, sign_fields, sign_elements, signer, signer_structure, EachSigns, EachSignsSame}
 use Rattle.coset_sign.specs.declared.signature.SignatureContext.TheVariants.{CoseSign1, CoseSignature}
 
+-- ---- their protected headers
+
+pub sign1_kept : KeptAsWritten → AsWritten sign1 (λ m n. KeepsBytes m.protected n.protected)
+sign1_kept kept v m n e d = header_as_written sign1_elements KeepsBytes kept v (sign1_fields m) (sign1_fields n) e d
+
+pub sign_kept : KeptAsWritten → AsWritten sign (λ m n. KeepsBytes m.protected n.protected)
+sign_kept kept v m n e d = header_as_written sign_elements KeepsBytes kept v (sign_fields m) (sign_fields n) e d
+
 -- ---- with one signature
 
 signs_same : (p q : ProtectedSeen) → KeepsBytes p q → SignsSame q p
@@ -22,7 +30,7 @@ signs_same p q e context None a l = ap (option_map (λ b. signature_structure co
 signs_same p q e context (Some s) a l = ap (λ o. both (λ b c. signature_structure context b (Some c) a l) o (protected_bytes s)) e
 
 pub signs_as_written : KeptAsWritten → AsWritten sign1 (λ m n. SignsSame n.protected m.protected)
-signs_as_written kept v m n e d = signs_same m.protected n.protected (header_as_written sign1_elements KeepsBytes kept v (sign1_fields m) (sign1_fields n) e d)
+signs_as_written kept v m n e d = signs_same m.protected n.protected (sign1_kept kept v m n e d)
 
 pub carries_as_written : AsWritten sign1 SamePayloadAndSignature
 carries_as_written v m n e d =
