@@ -11,24 +11,24 @@ use Rattle.coset_claims.specs.Timestamp.{timestamp, timestamp_seen}
 use Rattle.coset_claims.proofs.ClaimWriting.{timestamp-has}
 use Rattle.coset_claims.proofs.claims_set.ClaimsSetCodec.write.Goals as goal
 
-pub returns-in_err-write_optional-4 : goal.returns-in_err-write_optional-4
-returns-in_err-write_optional-4 c =
+pub returns-in_err-write_optional-4-clause-written : goal.returns-in_err-write_optional-4-clause-written
+returns-in_err-write_optional-4-clause-written c =
     passes c.from_residual-in_err-write_optional-4.result _ _ c.from_residual-in_err-write_optional-4.ensures.1 c.in_err-write_optional-4.ensures.refused
     (λ e. absurd (optional-has _ timestamp-has c.args.self.now.expiration_time e))
 
-pub returns-in_err-write_optional-5 : goal.returns-in_err-write_optional-5
-returns-in_err-write_optional-5 c =
+pub returns-in_err-write_optional-5-clause-written : goal.returns-in_err-write_optional-5-clause-written
+returns-in_err-write_optional-5-clause-written c =
     passes c.from_residual-in_err-write_optional-5.result _ _ c.from_residual-in_err-write_optional-5.ensures.1 c.in_err-write_optional-5.ensures.refused
     (λ e. absurd (optional-has _ timestamp-has c.args.self.now.not_before e))
 
-pub returns-in_err-write_optional-6 : goal.returns-in_err-write_optional-6
-returns-in_err-write_optional-6 c =
+pub returns-in_err-write_optional-6-clause-written : goal.returns-in_err-write_optional-6-clause-written
+returns-in_err-write_optional-6-clause-written c =
     passes c.from_residual-in_err-write_optional-6.result _ _ c.from_residual-in_err-write_optional-6.ensures.1 c.in_err-write_optional-6.ensures.refused
     (λ e. absurd (optional-has _ timestamp-has c.args.self.now.issued_at e))
 
-pub returns : goal.returns
+pub returns-clause-written : goal.returns-clause-written
 unfolding claim_name claims
-returns c =
+returns-clause-written c =
     let s = c.args.self.now in
     let label : (i j : ℤ) → i ≡ j → names.shape.image (assigned j) ≡ Some (integer i) = λ i j e. ap (λ k. Some (integer k)) (sym e) in
     let f = names.shape.image in
