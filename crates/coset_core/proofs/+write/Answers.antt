@@ -42,7 +42,8 @@ header::writing::write_header-returns-in_err-ask_distinct-clause-written t c =
     unencoded c.from_residual.result c.in_err-ask_distinct.field-0.0 _ (header_image (header_seen c.args.header.now)) _ _ c.from_residual.ensures.1
     (λ e. ap header_image (header-opened c.args.header.now) ∙ unwritten-rest x e) (rw c.deref.ensures.value at c.in_err-ask_distinct.ensures.refused)
 
-pub header::writing::write_header-returns-in_err-write_counter_signatures-clause-written : goal.header::writing::write_header-returns-in_err-write_counter_signatures-clause-written
+pub header::writing::write_header-returns-in_err-write_counter_signatures-clause-written :
+    goal.header::writing::write_header-returns-in_err-write_counter_signatures-clause-written
 header::writing::write_header-returns-in_err-write_counter_signatures-clause-written t c =
     let x = header_level (out-Header c.args.header.now) in
     unencoded c.from_residual-in_err-write_counter_signatures.result c.in_err-write_counter_signatures.field-0.0 _
@@ -50,7 +51,8 @@ header::writing::write_header-returns-in_err-write_counter_signatures-clause-wri
     (λ e. ap header_image (header-opened c.args.header.now) ∙ unwritten-counter_signatures x e)
     (rw c.deref-2.ensures.value at c.in_err-write_counter_signatures.ensures.refused)
 
-pub header::writing::write_header-returns-in_err-write_countersignatures-clause-written : goal.header::writing::write_header-returns-in_err-write_countersignatures-clause-written
+pub header::writing::write_header-returns-in_err-write_countersignatures-clause-written :
+    goal.header::writing::write_header-returns-in_err-write_countersignatures-clause-written
 header::writing::write_header-returns-in_err-write_countersignatures-clause-written t c =
     let x = header_level (out-Header c.args.header.now) in
     unencoded c.from_residual-in_err-write_countersignatures.result c.in_err-write_countersignatures.field-0.0 _
@@ -82,8 +84,8 @@ signature::write_signature-returns-clause-written t c =
     let put : AppendsItem c.write_header.new.out.items c.write_bytes.new.out.items (bytes c.deref.result.now) =
     record { in_range = c.in_ok-write_bytes.ensures.in_range; parts = c.in_ok-write_bytes.ensures.ok } in
     subst (λ s. AppendsImage (signature_array s) c.args.out.now.items c.write_bytes.new.out.items) (sym opened)
-    (signature-put (signature_level (out-CoseSignature c.args.signature.now)) _ _ _ _ _ c.in_ok-write_array_head.ensures.ok c.in_ok-write_protected.ensures.written
-    c.in_ok-write_header.ensures.written
+    (signature-put (signature_level (out-CoseSignature c.args.signature.now)) _ _ _ _ _ c.in_ok-write_array_head.ensures.ok
+    c.in_ok-write_protected.ensures.written c.in_ok-write_header.ensures.written
     (rw c.deref.ensures.value at put))
 
 pub signature::write_signatures-returns-in_err-write_signature-clause-refused : goal.signature::write_signatures-returns-in_err-write_signature-clause-refused
@@ -154,4 +156,5 @@ countersignature::write_each_countersignature-loop-signature-preserved t c =
     let s = c.signature-item.result in
     subst (AppendsSignatures c.args.out.now.items c.write_countersignature.new.out.items)
     (sym (taken countersignature_seen ss i s (omega arith) c.signature-item.is))
-    (signatures-push (map countersignature_seen (take i ss)) (countersignature_seen s) _ _ _ c.loop-signature.invariant c.in_ok-write_countersignature.ensures.written)
+    (signatures-push (map countersignature_seen (take i ss)) (countersignature_seen s) _ _ _ c.loop-signature.invariant
+    c.in_ok-write_countersignature.ensures.written)

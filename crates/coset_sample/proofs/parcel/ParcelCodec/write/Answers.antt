@@ -12,4 +12,5 @@ returns-clause-written c =
     let r = seen c.args.self.now in
     subst (λ o. Encodes (four_elements (int64.image r.number) (bstr.image r.receiver) ((or_nil bstr).image r.note)
     (option_map array o)) c.args.out.now.items c.encode_four.new.out.items c.encode_four.result)
-    (images-mapped int64.image mark_seen c.deref.result.now ∙ ap (λ xs. images int64.image (map mark_seen xs)) c.deref.ensures.value) c.encode_four.ensures.written
+    (images-mapped int64.image mark_seen c.deref.result.now
+    ∙ ap (λ xs. images int64.image (map mark_seen xs)) c.deref.ensures.value) c.encode_four.ensures.written

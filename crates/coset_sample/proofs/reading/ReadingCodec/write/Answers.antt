@@ -11,4 +11,5 @@ returns-clause-written c =
     let r = seen c.args.self.now in
     subst (λ o. Encodes (three_elements (int64.image r.number) ((or_nil bstr).image r.payload)
     (option_map array o)) c.args.out.now.items c.encode_three.new.out.items c.encode_three.result)
-    (images-mapped int64.image mark_seen c.deref.result.now ∙ ap (λ xs. images int64.image (map mark_seen xs)) c.deref.ensures.value) c.encode_three.ensures.written
+    (images-mapped int64.image mark_seen c.deref.result.now
+    ∙ ap (λ xs. images int64.image (map mark_seen xs)) c.deref.ensures.value) c.encode_three.ensures.written
