@@ -9,7 +9,9 @@ use Rattle.coset_codec.proofs.AsWritten.{recursive_as_written, recursive_when_re
 use Rattle.coset_codec.proofs.AsWritten.{then_as_written, then_when_read}
 use Rattle.coset_core.proofs.Messages.{KeepsBytes, KeptAsWritten, header_as_written, message_as_written, message_when_read}
 use Rattle.coset_msg.proofs.Written.{authenticates_as_written, authenticates_when_read, encrypts_as_written, encrypts_when_read}
+use Rattle.coset_msg.specs.Encrypt0.{encrypt0, encrypt0_elements, encrypt0_fields}
 use Rattle.coset_msg.specs.EncStructure.{Encrypts, EncryptsSame}
+use Rattle.coset_msg.specs.Mac0.{mac0, mac0_elements, mac0_fields}
 use Rattle.coset_msg.specs.MacStructure.{Authenticates, AuthenticatesSame}
 use Rattle.coset_recipient.specs.Encrypt.{encrypt, encrypt_fields, encrypt_elements}
 use Rattle.coset_recipient.specs.Mac.{mac, mac_fields, mac_elements}
@@ -18,6 +20,8 @@ use Rattle.coset_recipient.specs.Recipient.{recipient_image, recipient_elements,
 use Rattle.coset_recipient.specs.RecipientLaws.{recipient-of_step, recipient-opened, step}
 use Rattle.coset_recipient.specs.Structures.{EachEncrypts, EachEncryptsSame, EncryptsAll, EncryptsAllSame, Macs, MacsSame, RecipientEncrypts}
 use Rattle.coset_recipient.specs.Structures.{RecipientEncryptsSame}
+use Rattle.coset_sign.specs.Countersigned.{EachCountersignsSame}
+use Rattle.coset_sign.proofs.Countersigned.{SignaturesKeptAsWritten, countersigned_as_written}
 
 -- ---- recipients
 
@@ -107,3 +111,27 @@ mac_kept kept v m n e d = header_as_written mac_elements KeepsBytes kept v (mac_
 
 pub encrypt_kept : KeptAsWritten → AsWritten encrypt (λ m n. KeepsBytes m.protected n.protected)
 encrypt_kept kept v m n e d = header_as_written encrypt_elements KeepsBytes kept v (encrypt_fields m) (encrypt_fields n) e d
+
+-- ---- what their countersignatures are over
+
+pub recipient_countersigned :
+    KeptAsWritten → SignaturesKeptAsWritten → AsWritten recipient (λ r s. EachCountersignsSame r.protected r.unprotected s.protected s.unprotected)
+recipient_countersigned kept signatures v r s e d =
+    countersigned_as_written (recipient_elements (list_of recipient)) kept signatures v (recipient_fields r) (recipient_fields s)
+    (sym (recipient-of_step r) ∙ e) (recipient-opened.describes v s d).1
+
+pub mac_countersigned :
+    KeptAsWritten → SignaturesKeptAsWritten → AsWritten mac (λ m n. EachCountersignsSame m.protected m.unprotected n.protected n.unprotected)
+mac_countersigned kept signatures v m n = countersigned_as_written mac_elements kept signatures v (mac_fields m) (mac_fields n)
+
+pub encrypt_countersigned :
+    KeptAsWritten → SignaturesKeptAsWritten → AsWritten encrypt (λ m n. EachCountersignsSame m.protected m.unprotected n.protected n.unprotected)
+encrypt_countersigned kept signatures v m n = countersigned_as_written encrypt_elements kept signatures v (encrypt_fields m) (encrypt_fields n)
+
+pub mac0_countersigned :
+    KeptAsWritten → SignaturesKeptAsWritten → AsWritten mac0 (λ m n. EachCountersignsSame m.protected m.unprotected n.protected n.unprotected)
+mac0_countersigned kept signatures v m n = countersigned_as_written mac0_elements kept signatures v (mac0_fields m) (mac0_fields n)
+
+pub encrypt0_countersigned :
+    KeptAsWritten → SignaturesKeptAsWritten → AsWritten encrypt0 (λ m n. EachCountersignsSame m.protected m.unprotected n.protected n.unprotected)
+encrypt0_countersigned kept signatures v m n = countersigned_as_written encrypt0_elements kept signatures v (encrypt0_fields m) (encrypt0_fields n)

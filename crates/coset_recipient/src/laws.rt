@@ -14,13 +14,14 @@ ghost use Rattle.coset_msg.specs.Mac0.{mac0};
 ghost use Rattle.coset_recipient.specs.Encrypt.{encrypt};
 ghost use Rattle.coset_recipient.specs.Mac.{mac};
 ghost use Rattle.coset_recipient.specs.Recipient.{RecipientSeen, recipient, recipient_step};
+ghost use Rattle.coset_sign.specs.Countersigned.{EachCountersignsSame};
 ghost use Rattle.coset_sign.specs.Sign.{sign};
 ghost use Rattle.coset_sign.specs.Sign1.{sign1};
 ghost use Rattle.coset_recipient.specs.Structured.{Structured, structure_of};
 ghost use Rattle.coset_recipient.specs.Structures.{EncryptsAll, EncryptsAllSame, Macs, MacsSame, RecipientEncrypts, RecipientEncryptsSame};
 
 use coset_cbor::laws::{one_item, shortest_is_encoding};
-use coset_core::laws::kept_as_written;
+use coset_core::laws::{kept_as_written, signatures_kept_as_written};
 
 /// A recipient is an array of its headers, its ciphertext and, where there are any, an array of recipients: the shape of
 /// recipients, which says how many may be inside one another, is the one that those inside it have too.
@@ -48,6 +49,33 @@ pub fn kept_with_recipients()
         ≡ protected_bytes m.protected) }
 {
     kept_as_written();
+}
+
+/// What each countersignature in the unprotected header of a message or a recipient is over that was read from what another
+/// is written as, plain or under its tag, is what that one's is over, however the item was spelled. Of signed messages
+/// `countersigned_as_written` says so.
+pub fn all_countersigned_as_written()
+    ensures mac0 { AsWritten mac0
+        (λ m n. EachCountersignsSame m.protected m.unprotected n.protected n.unprotected) }
+    ensures tagged_mac0 { AsWritten (tagged 17 mac0)
+        (λ m n. EachCountersignsSame m.protected m.unprotected n.protected n.unprotected) }
+    ensures encrypt0 { AsWritten encrypt0
+        (λ m n. EachCountersignsSame m.protected m.unprotected n.protected n.unprotected) }
+    ensures tagged_encrypt0 { AsWritten (tagged 16 encrypt0)
+        (λ m n. EachCountersignsSame m.protected m.unprotected n.protected n.unprotected) }
+    ensures recipient { AsWritten recipient
+        (λ m n. EachCountersignsSame m.protected m.unprotected n.protected n.unprotected) }
+    ensures mac { AsWritten mac
+        (λ m n. EachCountersignsSame m.protected m.unprotected n.protected n.unprotected) }
+    ensures tagged_mac { AsWritten (tagged 97 mac)
+        (λ m n. EachCountersignsSame m.protected m.unprotected n.protected n.unprotected) }
+    ensures encrypt { AsWritten encrypt
+        (λ m n. EachCountersignsSame m.protected m.unprotected n.protected n.unprotected) }
+    ensures tagged_encrypt { AsWritten (tagged 96 encrypt)
+        (λ m n. EachCountersignsSame m.protected m.unprotected n.protected n.unprotected) }
+{
+    kept_as_written();
+    signatures_kept_as_written();
 }
 
 /// What is authenticated of a message, and what goes with its ciphertext or with that of a recipient, at any depth and in
