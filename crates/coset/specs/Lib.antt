@@ -28,6 +28,7 @@ pub use Rattle.coset_core.specs.Fields
 pub use Rattle.coset_core.specs.Headers
 pub use Rattle.coset_core.specs.HeaderLaws
 pub use Rattle.coset_core.specs.HeaderMap
+pub use Rattle.coset_core.specs.Kept
 pub use Rattle.coset_core.specs.ProtectedMap
 pub use Rattle.coset_core.specs.Views
 pub use Rattle.coset_core.specs.FieldsView

@@ -10,7 +10,10 @@ pub use coset_codec::laws::{
     equal_as_seen, image_is_described, one_value, plain_or_tagged, read_as_item, reads_again,
     refused_as_bytes, refused_describes_nothing, spellings_agree, stays_as_written, written_apart,
 };
-pub use coset_core::laws::{headers_hold_signatures, kept_as_received, kept_as_written};
+pub use coset_core::laws::{
+    headers_hold_signatures, kept_as_received, kept_as_written, one_empty_header,
+    signatures_kept_as_received, signatures_kept_as_written,
+};
 pub use coset_iana::laws::{numbers_are_inverse, orders_are_by_number};
 pub use coset_key::laws::{
     canonical_keys_apart, canonical_keys_read_again, keys_of_a_set, labels_ascend,
@@ -21,11 +24,12 @@ pub use coset_label::laws::{
 };
 pub use coset_msg::laws::{kept_in_messages, structure_as_written, structure_when_read};
 pub use coset_recipient::laws::{
-    kept_with_recipients, no_tag_is_a_message, one_of_all_structures, recipients_hold_recipients,
-    structures_as_written, structures_when_read,
+    all_countersigned_as_written, kept_with_recipients, no_tag_is_a_message, one_of_all_structures,
+    recipients_hold_recipients, structures_as_written, structures_when_read,
 };
 pub use coset_sign::laws::{
-    carried_as_written, each_signed_as_written, each_signed_when_read, one_signature_structure,
+    carried_as_written, countersigned_as_written, countersigned_by_bytes, countersigned_when_read,
+    each_signed_as_written, each_signed_when_read, kept_in_signed, one_signature_structure,
     one_structure, signed_as_written, signed_when_read,
 };
 pub use coset_value::laws::{floats_compare_by_bits, integers_compare_as_numbers};

@@ -10,7 +10,8 @@ use Rattle.coset_codec.specs.declared.error.CallError.{CallError}
 use Rattle.coset_codec.specs.declared.error.CallError.TheVariants.{Coset, Caller}
 use Rattle.coset_codec.specs.declared.error.CoseError.{CoseError}
 use Rattle.coset_core.specs.Built.{and_countersignature_v2}
-use Rattle.coset_core.specs.Headers.{SignatureSeen, Signatures, no_signatures, signature_and, countersignatures_in}
+use Rattle.coset_core.specs.HeaderMap.{each_of}
+use Rattle.coset_core.specs.Headers.{SignatureSeen, countersignatures_in}
 use Rattle.coset_core.specs.Views.{countersignature_seen}
 use Rattle.coset_core.specs.declared.countersignature.CoseCountersignature.{CoseCountersignature}
 use Rattle.coset_sign.specs.Countersigned.{countersigned_item}
@@ -72,15 +73,9 @@ Countersigns g f c external_aad b (Err (Coset e)) =
 
 -- ---- verifying one
 
--- each of them
-abbrev pub each_signature : Signatures → List SignatureSeen
-each_signature no_signatures = []
-each_signature (signature_and o p u s more) =
-    record { protected = record { original = o; header = p }; unprotected = u; signature = s } ∷ each_signature more
-
 -- the first in the message's unprotected header whose headers name this key
 abbrev pub countersignature_by : List ℕ → Sign1Seen → Option SignatureSeen
-countersignature_by key_id m = signature_by key_id (each_signature (countersignatures_in m.unprotected))
+countersignature_by key_id m = signature_by key_id (each_of (countersignatures_in m.unprotected))
 
 -- asked about that one, and what it is over, f gives this answer
 abbrev pub AnswersCountersigned : {F E : Type 0} → Asker F (Unit {0}) E → F → List ℕ → List ℕ → Sign1Seen → Result (Unit {0}) E → Type 0

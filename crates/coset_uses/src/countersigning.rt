@@ -17,7 +17,7 @@ use coset::{
     CallError, CborSerializable, CoseCountersignature, CoseCountersignatureBuilder, CoseError,
     CoseSign1, HeaderBuilder, Result, countersign_v2_structure_data, verify_countersignature,
 };
-use coset_sign::laws::signed_when_read;
+use coset_sign::laws::countersigned_when_read;
 use std::alloc::Global;
 
 /// A countersignature before it is made: its protected header names the algorithm, and its unprotected one the key.
@@ -171,7 +171,7 @@ where
     ensures { VerifiesCountersigned F.FnOnce verify key_id.now external_aad.now absent
         message.now result }
 {
-    signed_when_read();
+    countersigned_when_read();
     let message = CoseSign1::from_slice(alloc, message)?;
     let Some(payload) = &message.payload else {
         return Err(CallError::Coset(CoseError::UnexpectedItem("nil", "bstr")));

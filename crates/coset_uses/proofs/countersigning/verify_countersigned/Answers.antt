@@ -34,7 +34,7 @@ returns-in_err-verify_countersignature g c =
     (ap (λ x. x ∷ []) (c.in_ok-from_slice.ensures.items ∙ c.deref-2.ensures.value)) in
     passed_as (VerifiesCountersigned g.F.FnOnce c.args.verify c.args.key_id.now c.args.external_aad.now c.args.absent c.args.message.now) _ _
     c.from_residual-in_err-verify_countersignature.ensures.1
-    (not_verified g.F.FnOnce c.args.verify c.signed_when_read.ensures.plain c.args.key_id.now c.args.external_aad.now c.args.message.now c.args.absent
+    (not_verified g.F.FnOnce c.args.verify c.countersigned_when_read.ensures.sign1 c.args.key_id.now c.args.external_aad.now c.args.message.now c.args.absent
     (sign1_seen m) s c.in-Some.payload.items c.in_ok-message.ensures.read found (ap (option_map (λ b. b.items)) c.in-Some.is) _
     (subst (λ o. NotSaid g.F.FnOnce c.args.verify s.signature o c.in_err-verify_countersignature.field-0.0) same c.in_err-verify_countersignature.ensures))
 
