@@ -2,6 +2,7 @@
 
 ghost use Rattle.std.specs.Prelude.{◌≡◌, ◌↔◌, ◌≤◌, IsTrue, ℕ, List, Result};
 ghost use Rattle.coset_value.specs.Item.{Item, depth};
+ghost use Rattle.coset_cbor.specs.Fronts.{AreBytes};
 ghost use Rattle.coset_cbor.specs.Grammar.{IsItem};
 ghost use Rattle.coset_codec.specs.Answers.{AllocatesForItems, Describes, Reads, ReadsSlice, RefusesItem};
 ghost use Rattle.coset_codec.specs.ReadAgain.{EncodesApart, ReadsAgain, StaysAsWritten};
@@ -19,13 +20,14 @@ use coset::{
     ProtectedHeader, SuppPubInfo, TaggedCborSerializable,
 };
 use coset_codec::laws::{
-    equal_as_seen, image_is_described, one_value, reads_again, refused_as_bytes,
+    equal_as_seen, image_is_described, one_value, read_as_item, reads_again, refused_as_bytes,
     refused_describes_nothing, spellings_agree, stays_as_written, written_apart,
 };
 use std::fmt;
 
 /// What holds of each type: bytes describe at most one value, and so do two spellings of one item; bytes that aren't
-/// one item are refused for that; an item that is refused describes nothing, unless memory ran out; what was read is
+/// one item are refused for that, and bytes that are one are read as that item is; an item that is refused describes
+/// nothing, unless memory ran out; what was read is
 /// written and read again as itself, and so is what an item within 256 levels describes; values that were read, however
 /// each came, are written as equal bytes exactly where they are equal; and those bytes stay the same when they are read
 /// and written again.
@@ -36,6 +38,8 @@ pub fn keeps_the_laws<T: Lawful + CborSerializable + FromPull + PartialEq + fmt:
         → Describes T.shape s x → Describes T.shape t x }
     ensures refused { (s : List ℕ) (r : Result T CoseError) → ReadsSlice T.shape T.seen s r
         → AllocatesForItems s r → NamesWholeFault s r }
+    ensures as_items { (s : List ℕ) (v : Item) (r : Result T CoseError) → AreBytes s → IsItem s v
+        → ReadsSlice T.shape T.seen s r → Reads T.shape T.seen v r }
     ensures refused_items { (v : Item) (r : Result T CoseError) → Reads T.shape T.seen v r
         → RefusesItem T.shape v r }
     ensures again { (s : List ℕ) (x : T.Seen) → Describes T.shape s x → ReadsAgain T.shape x }
@@ -47,6 +51,7 @@ pub fn keeps_the_laws<T: Lawful + CborSerializable + FromPull + PartialEq + fmt:
     one_value::<T>();
     spellings_agree::<T>();
     refused_as_bytes::<T>();
+    read_as_item::<T>();
     refused_describes_nothing::<T>();
     reads_again::<T>();
     written_apart::<T>();
@@ -62,6 +67,9 @@ pub fn keeps_the_laws_when_tagged<T: Lawful + TaggedCborSerializable>()
         → Describes (tagged n T.shape) s x → Describes (tagged n T.shape) t x }
     ensures refused { (n : ℕ) (s : List ℕ) (r : Result T CoseError)
         → ReadsSlice (tagged n T.shape) T.seen s r → AllocatesForItems s r → NamesWholeFault s r }
+    ensures as_items { (n : ℕ) (s : List ℕ) (v : Item) (r : Result T CoseError) → AreBytes s
+        → IsItem s v → ReadsSlice (tagged n T.shape) T.seen s r
+        → Reads (tagged n T.shape) T.seen v r }
     ensures again { (n : ℕ) (s : List ℕ) (x : T.Seen) → Describes (tagged n T.shape) s x
         → ReadsAgain (tagged n T.shape) x }
     ensures untagged { (n : ℕ) (s : List ℕ) (x : T.Seen) → Describes (tagged n T.shape) s x
@@ -72,6 +80,7 @@ pub fn keeps_the_laws_when_tagged<T: Lawful + TaggedCborSerializable>()
     one_value::<T>();
     spellings_agree::<T>();
     refused_as_bytes::<T>();
+    read_as_item::<T>();
     reads_again::<T>();
     written_apart::<T>();
     stays_as_written::<T>();
