@@ -36,7 +36,7 @@ has_countersigned :
     AlwaysCountersigned → (b : List ℕ) (m : Sign1Seen) → Describes sign1 b m → (key_id : List ℕ) (c : SignatureSeen) → countersignature_by key_id m ≡ Some c
     → (external_aad p : List ℕ) → countersigned m c external_aad p ≡ None → ⊥
 has_countersigned law b m d key_id c found x p =
-    let each = (law d.0 m d.2).2 in
+    let each = (law d.0 m d.2).1.1 in
     let own = of_found (is_by key_id) (λ s. countersigning.Countersigns m.protected s.protected) (each_of (countersignatures_in m.unprotected)) c each found in
     own.second_version x p (m.signature ∷ [])
 
