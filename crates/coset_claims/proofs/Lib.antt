@@ -3,5 +3,5 @@ pub mod ClaimWriting
 pub mod ClaimCopies
 pub mod Elements
 pub mod ByteStrings
-pub mod Known
+pub mod ClaimSplitting
 mod Comparing

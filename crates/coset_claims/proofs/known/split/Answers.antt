@@ -5,7 +5,7 @@ use Rattle.coset_cbor.specs.Pulls.{pull_item}
 use Rattle.coset_codec.specs.Maps.{SomePair}
 use Rattle.coset_label.specs.Views.{label_seen, entry_seen}
 use Rattle.coset_claims.specs.Known.{IsNamed, IsNoLabel, Splits, parts_seen}
-use Rattle.coset_claims.proofs.Known.{all_split, masked, blames_on, entries_pushed, named_on, not_split, other_on, pairs_pushed}
+use Rattle.coset_claims.proofs.ClaimSplitting.{all_split, masked, blames_on, entries_pushed, named_on, not_split, other_on, pairs_pushed}
 use Rattle.coset_claims.proofs.known.split.Goals as goal
 
 pub loop-key-preserved-in_ok-push : goal.loop-key-preserved-in_ok-push

@@ -2,7 +2,7 @@ use Rattle.std.proofs.Common.{map}
 use Rattle.coset_value.specs.View.{pairs_view}
 use Rattle.coset_cbor.specs.Members.{pairs_left}
 use Rattle.coset_label.specs.Views.{entry_seen}
-use Rattle.coset_claims.proofs.Known.{Blames, GoesOn}
+use Rattle.coset_claims.proofs.ClaimSplitting.{Blames, GoesOn}
 use Rattle.coset_claims.proofs.known.split.Given as goal
 
 abbrev pub invariant-loop-key : goal.invariant-loop-key

@@ -8,9 +8,9 @@ use Rattle.coset_label.specs.Names.{same_name}
 use Rattle.coset_claims.specs.Claims.{claims, claims_seen}
 use Rattle.coset_codec.specs.Answers.{IsRefused}
 use Rattle.coset_claims.specs.Known.{known}
-use Rattle.coset_claims.proofs.Known.{all_known, no_claims, no_labels, repeated, told, told_not, view-Map}
+use Rattle.coset_claims.proofs.ClaimSplitting.{all_known, no_claims, no_labels, repeated, told, told_not, view-Map}
 use Rattle.coset_codec.proofs.Lists.{on_err}
-use Rattle.coset_claims.proofs.known.ClaimsSet.known_from_slice.Goals as goal
+use Rattle.coset_claims.proofs.claims_set.ClaimsSet.known_from_slice.Goals as goal
 
 pub returns-in_err-parts-clause-refused : goal.returns-in_err-parts-clause-refused
 returns-in_err-parts-clause-refused c =
