@@ -1,6 +1,7 @@
 //! The short way to a type of one's own: one trait, from which all others follow.
 
 ghost use Rattle.std.specs.Prelude.{◌≡◌, ◌↔◌, ◌≤◌, ℕ, IsTrue, OnOk};
+ghost use Rattle.coset_cbor.specs.Least.{Extends};
 ghost use Rattle.coset_codec.specs.Answers.{Reads};
 ghost use Rattle.coset_codec.specs.Encoding.{Encodes};
 ghost use Rattle.coset_codec.specs.Inputs.{GoesBehind, ReadsAt, length_left, state};
@@ -52,10 +53,11 @@ pub trait Codec: Sized + Drop + PartialEq {
     /// Appends the shortest encoding of the value's item (RFC 8949, section 4.2.1).
     ///
     /// # Errors
-    /// `OutOfMemory`, or `DuplicateMapKey`, only where the value has no item. What was appended before isn't taken
-    /// back.
+    /// `OutOfMemory`, or `DuplicateMapKey`, only where the value has no item. `out` then begins with all that it had;
+    /// what was appended before the error may follow.
     fn write(&self, alloc: Global, out: &mut Vec<u8>) -> Result<()>
-        ensures { Encodes (shape.image (seen self.now)) out.old.items out.new.items result };
+        ensures written { Encodes (shape.image (seen self.now)) out.old.items out.new.items result }
+        ensures kept { Extends out.old.items out.new.items };
 
     /// The laws of its shape.
     ghost laws: { LawfulShape Seen shape };

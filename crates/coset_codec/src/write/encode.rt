@@ -3,6 +3,7 @@
 ghost use Rattle.std.specs.Prelude.{length, Option, Some, option_map, OnOk, IfErr};
 ghost use Rattle.coset_value.specs.Item.{Item, array, item, bytes, tag};
 ghost use Rattle.coset_value.specs.View.{view};
+ghost use Rattle.coset_cbor.specs.Least.{Extends};
 ghost use Rattle.coset_codec.specs.Answers.{Images, Writes};
 ghost use Rattle.coset_codec.specs.Encoding.{AppendsElements, Encodes, HasNoImage, two_elements, three_elements, four_elements, five_elements};
 ghost use Rattle.coset_codec.specs.Shape.{images};
@@ -34,10 +35,11 @@ pub trait Encode {
     /// Appends the shortest encoding of the value's item (RFC 8949, section 4.2.1).
     ///
     /// # Errors
-    /// `OutOfMemory`, or `DuplicateMapKey`, only where the value has no item. What was appended before isn't taken
-    /// back.
+    /// `OutOfMemory`, or `DuplicateMapKey`, only where the value has no item. `out` then begins with all that it had;
+    /// what was appended before the error may follow.
     fn encode(&self, alloc: Global, out: &mut Vec<u8>) -> Result<()>
-        ensures { Encodes (image self.now) out.old.items out.new.items result };
+        ensures written { Encodes (image self.now) out.old.items out.new.items result }
+        ensures kept { Extends out.old.items out.new.items };
 }
 
 impl Encode for Value {
@@ -163,6 +165,7 @@ fn encode_members<T: Encode>(alloc: Global, members: &[T], out: &mut Vec<u8>) ->
     ensures ok { OnOk result (AppendsElements (images T.image members.now) (length members.now)
         out.old.items out.new.items) }
     ensures refused { IfErr result (HasNoImage (images T.image members.now)) }
+    ensures kept { Extends out.old.items out.new.items }
 {
     for member in members {
         member.encode(alloc, out)?;
@@ -173,15 +176,16 @@ fn encode_members<T: Encode>(alloc: Global, members: &[T], out: &mut Vec<u8>) ->
 /// Appends the array of two elements.
 ///
 /// # Errors
-/// Those of the first place that has one.
+/// Those of the first place that has one. `out` is then as [`Encode::encode`] leaves it.
 pub fn encode_two<A: Encode, B: Encode>(
     alloc: Global,
     a: &A,
     b: &B,
     out: &mut Vec<u8>,
 ) -> Result<()>
-    ensures { Encodes (two_elements (A.image a.now) (B.image b.now)) out.old.items out.new.items
-        result }
+    ensures written { Encodes (two_elements (A.image a.now) (B.image b.now)) out.old.items
+        out.new.items result }
+    ensures kept { Extends out.old.items out.new.items }
 {
     write_array_head(2, out)?;
     a.encode(alloc, out)?;
@@ -192,7 +196,7 @@ pub fn encode_two<A: Encode, B: Encode>(
 /// Appends the array of three elements.
 ///
 /// # Errors
-/// Those of the first place that has one.
+/// Those of the first place that has one. `out` is then as [`Encode::encode`] leaves it.
 pub fn encode_three<A: Encode, B: Encode, C: Encode>(
     alloc: Global,
     a: &A,
@@ -200,8 +204,9 @@ pub fn encode_three<A: Encode, B: Encode, C: Encode>(
     c: &C,
     out: &mut Vec<u8>,
 ) -> Result<()>
-    ensures { Encodes (three_elements (A.image a.now) (B.image b.now) (C.image c.now)) out.old.items
-        out.new.items result }
+    ensures written { Encodes (three_elements (A.image a.now) (B.image b.now) (C.image c.now))
+        out.old.items out.new.items result }
+    ensures kept { Extends out.old.items out.new.items }
 {
     write_array_head(3, out)?;
     a.encode(alloc, out)?;
@@ -213,7 +218,7 @@ pub fn encode_three<A: Encode, B: Encode, C: Encode>(
 /// Appends the array of four elements.
 ///
 /// # Errors
-/// Those of the first place that has one.
+/// Those of the first place that has one. `out` is then as [`Encode::encode`] leaves it.
 pub fn encode_four<A: Encode, B: Encode, C: Encode, D: Encode>(
     alloc: Global,
     a: &A,
@@ -222,9 +227,10 @@ pub fn encode_four<A: Encode, B: Encode, C: Encode, D: Encode>(
     d: &D,
     out: &mut Vec<u8>,
 ) -> Result<()>
-    ensures { Encodes
+    ensures written { Encodes
         (four_elements (A.image a.now) (B.image b.now) (C.image c.now) (D.image d.now))
         out.old.items out.new.items result }
+    ensures kept { Extends out.old.items out.new.items }
 {
     write_array_head(4, out)?;
     a.encode(alloc, out)?;
@@ -237,7 +243,7 @@ pub fn encode_four<A: Encode, B: Encode, C: Encode, D: Encode>(
 /// Appends the array of five elements.
 ///
 /// # Errors
-/// Those of the first place that has one.
+/// Those of the first place that has one. `out` is then as [`Encode::encode`] leaves it.
 pub fn encode_five<A: Encode, B: Encode, C: Encode, D: Encode, E: Encode>(
     alloc: Global,
     a: &A,
@@ -247,8 +253,10 @@ pub fn encode_five<A: Encode, B: Encode, C: Encode, D: Encode, E: Encode>(
     e: &E,
     out: &mut Vec<u8>,
 ) -> Result<()>
-    ensures { Encodes (five_elements (A.image a.now) (B.image b.now) (C.image c.now) (D.image d.now)
-        (E.image e.now)) out.old.items out.new.items result }
+    ensures written { Encodes
+        (five_elements (A.image a.now) (B.image b.now) (C.image c.now) (D.image d.now) (E.image e.now))
+        out.old.items out.new.items result }
+    ensures kept { Extends out.old.items out.new.items }
 {
     write_array_head(5, out)?;
     a.encode(alloc, out)?;

@@ -3,7 +3,7 @@
 ghost use Rattle.coset_codec.specs.declared.error.CoseError.TheVariants.{OutOfMemory as out_of_memory};
 ghost use Rattle.std.specs.Prelude.{◌≡◌, ◌+◌, ◌++◌, ◌<◌, ◌^◌, OnOk, IfErr, Some, option_map, is_some, filter, length, map};
 ghost use Rattle.coset_value.specs.View.{view};
-ghost use Rattle.coset_cbor.specs.Least.{least_head};
+ghost use Rattle.coset_cbor.specs.Least.{Extends, least_head};
 ghost use Rattle.coset_codec.specs.Encoding.{AppendsAll, AppendsField, HasNoImage};
 ghost use Rattle.coset_codec.specs.Maps.{field_shape_image, unless_empty, named_image};
 ghost use Rattle.coset_codec.specs.Shape.{nonempty_bstr, present_image};
@@ -40,6 +40,7 @@ pub fn write_pairs_head<L>(
         ++ least_head 5 (length (filter (λ b. b) there.now) + length rest.now)) }
     ensures fits { OnOk result
         (length (filter (λ b. b) there.now) + length rest.now < 2 ^ 64) }
+    ensures kept { Extends out.old.items out.new.items }
 {
     match count_true(there).checked_add(rest.len()) {
         Some(count) => write_map_head(count, out),
@@ -56,6 +57,7 @@ pub fn write_field<T: Encode>(alloc: Global, label: i64, value: &T, out: &mut Ve
     ensures ok { OnOk result
         (AppendsField label (option_map Some (T.image value.now)) out.old.items out.new.items) }
     ensures refused { IfErr result (HasNoImage (T.image value.now)) }
+    ensures kept { Extends out.old.items out.new.items }
 {
     label.encode(alloc, out)?;
     value.encode(alloc, out)
@@ -76,6 +78,7 @@ pub fn write_optional<T: Encode>(
         (present_image T.image value.now)) out.old.items out.new.items) }
     ensures refused { IfErr result
         (HasNoImage (field_shape_image (is_some value.now) (present_image T.image value.now))) }
+    ensures kept { Extends out.old.items out.new.items }
 {
     match value {
         Some(value) => write_field(alloc, label, value, out),
@@ -92,6 +95,7 @@ pub fn write_nonempty(alloc: Global, label: i64, bytes: &Vec<u8>, out: &mut Vec<
     ensures ok { OnOk result (AppendsField label
         ((unless_empty nonempty_bstr).image bytes.now.items) out.old.items out.new.items) }
     ensures memory { IfErr result (λ e. e ≡ out_of_memory) }
+    ensures kept { Extends out.old.items out.new.items }
 {
     if bytes.is_empty() {
         return Ok(());
@@ -109,6 +113,7 @@ pub fn write_rest<L: Encode>(alloc: Global, rest: &[(L, Value)], out: &mut Vec<u
         out.new.items) }
     ensures refused { IfErr result
         (HasNoImage (named_image L.image (map (λ e. (e.0, view e.1)) rest.now))) }
+    ensures kept { Extends out.old.items out.new.items }
 {
     for (label, value) in rest {
         label.encode(alloc, out)?;

@@ -2,8 +2,8 @@ use Rattle.std.proofs.Common.{arith}
 use Rattle.coset_codec.proofs.Encoding.{nothing-put, place-put, array-put}
 use Rattle.coset_codec.proofs.write.encode.encode_four.Goals as goal
 
-pub returns : goal.returns
-returns g c =
+pub returns-clause-written : goal.returns-clause-written
+returns-clause-written g c =
     array-put 4 (omega arith) c.in_ok-write_array_head.ensures.ok
-    (place-put c.in_ok-encode.ensures (place-put c.in_ok-encode-2.ensures
-    (place-put c.in_ok-encode-3.ensures (place-put c.in_ok-encode-4.ensures (nothing-put _)))))
+    (place-put c.in_ok-encode.ensures.written (place-put c.in_ok-encode-2.ensures.written
+    (place-put c.in_ok-encode-3.ensures.written (place-put c.in_ok-encode-4.ensures.written (nothing-put _)))))

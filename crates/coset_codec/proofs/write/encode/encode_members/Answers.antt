@@ -15,7 +15,7 @@ loop-member-preserved g c =
     let i = c.loop-member.member-index in
     subst (λ xs. AppendsElements (images g.T.Encode.image xs) (i + 1) c.args.out.now.items c.encode.new.out.items)
     (sym (one_taken all i c.member-item.result (omega arith) c.member-item.is))
-    (member-put g.T.Encode.image (take i all) c.member-item.result c.loop-member.invariant c.in_ok-encode.ensures)
+    (member-put g.T.Encode.image (take i all) c.member-item.result c.loop-member.invariant c.in_ok-encode.ensures.written)
 
 pub returns-in_err-encode-clause-refused : goal.returns-in_err-encode-clause-refused
 returns-in_err-encode-clause-refused g c =
@@ -24,7 +24,7 @@ returns-in_err-encode-clause-refused g c =
     let x = c.member-item.result in
     on_err c.from_residual.result c.in_err-encode.field-0.0 (HasNoImage (images g.T.Encode.image all)) c.from_residual.ensures.1
     (λ m.
-    let none = c.in_err-encode.ensures m in (
+    let none = c.in_err-encode.ensures.written m in (
       none.0,
       ap (images g.T.Encode.image) (one_between all i x (omega arith) c.member-item.is)
           ∙ images-missing g.T.Encode.image (take i all) (drop (i + 1) all) x none.1,
