@@ -7,6 +7,7 @@ ghost use Rattle.coset_core.specs.Contents.{empty_signature};
 ghost use Rattle.coset_core.specs.Views.{countersignature_seen, header_seen, signature_seen};
 ghost use Rattle.coset_core.specs.Headers.{signature as signature_shape, signatures_of, signatures_image};
 ghost use Rattle.coset_core.specs.Written.{AppendsSignatures, signature_array};
+ghost use Rattle.coset_cbor.specs.Least.{Extends};
 ghost use Rattle.coset_codec.specs.Encoding.{HasNoImage, Encodes};
 ghost use Rattle.std.specs.Ordering.{on};
 ghost use Rattle.std.specs.Cmp.{on_equiv, on_per, partial_equiv_from_equiv};
@@ -182,6 +183,7 @@ pub(crate) fn write_each_countersignature(
         (map countersignature_seen signatures.now)) }
     ensures refused { IfErr result
         (HasNoImage (signatures_image (signatures_of (map countersignature_seen signatures.now)))) }
+    ensures kept { Extends out.old.items out.new.items }
 {
     for signature in signatures {
         write_countersignature(alloc, signature, out)?;
@@ -196,8 +198,9 @@ fn write_countersignature(
     signature: &CoseCountersignature,
     out: &mut Vec<u8>,
 ) -> Result<()>
-    ensures { Encodes (signature_array (countersignature_seen signature.now)) out.old.items
+    ensures written { Encodes (signature_array (countersignature_seen signature.now)) out.old.items
         out.new.items result }
+    ensures kept { Extends out.old.items out.new.items }
 {
     write_array_head(3, out)?;
     write_protected(alloc, &signature.protected, out)?;

@@ -14,6 +14,7 @@ ghost use Rattle.coset_codec.specs.Shape.{bstr};
 ghost use Rattle.coset_core.specs.Headers.{empty_header, is_empty_header, protected_bytes, protected as protected_shape, layered_protected, header_image};
 ghost use Rattle.std.specs.Cow.{cow_slice_items};
 ghost use Rattle.coset_value.specs.View.{view};
+ghost use Rattle.coset_cbor.specs.Least.{Extends};
 ghost use Rattle.coset_cbor.specs.Pulls.{pull_item};
 ghost use Rattle.coset_core.specs.ProtectedMap.{protected_map, protected_map_laws};
 ghost use Rattle.coset_core.specs.Written.{AreShortest, HoldsShortest};
@@ -355,8 +356,9 @@ pub(crate) fn write_protected(
     protected: &ProtectedHeader,
     out: &mut Vec<u8>,
 ) -> Result<()>
-    ensures { Encodes (option_map bytes (protected_bytes (protected_seen protected.now)))
+    ensures written { Encodes (option_map bytes (protected_bytes (protected_seen protected.now)))
         out.old.items out.new.items result }
+    ensures kept { Extends out.old.items out.new.items }
 {
     if let Some(bytes) = &protected.original_data {
         write_bytes(bytes, out)?;

@@ -15,6 +15,7 @@ ghost use Rattle.coset_codec.specs.Inputs.{State, state, length_left, input_size
 ghost use Rattle.coset_core.specs.Filling.{BeginsElements, EndsElements};
 ghost use Rattle.coset_core.specs.Headers.{empty_header, layered_signature, signature as signature_shape, signatures_of, signatures_image};
 ghost use Rattle.coset_core.specs.Written.{AppendsSignatures, signature_array};
+ghost use Rattle.coset_cbor.specs.Least.{Extends};
 ghost use Rattle.coset_codec.specs.Encoding.{HasNoImage, Encodes};
 ghost use Rattle.std.specs.Ordering.{on};
 ghost use Rattle.std.specs.Cmp.{on_equiv, on_per, partial_equiv_from_equiv};
@@ -431,6 +432,7 @@ pub(crate) fn write_signatures(
         (AppendsSignatures out.old.items out.new.items (map signature_seen signatures.now)) }
     ensures refused { IfErr result
         (HasNoImage (signatures_image (signatures_of (map signature_seen signatures.now)))) }
+    ensures kept { Extends out.old.items out.new.items }
 {
     for signature in signatures {
         write_signature(alloc, signature, out)?;
@@ -441,8 +443,9 @@ pub(crate) fn write_signatures(
 /// Appends the array of the signature.
 #[cycle(write)]
 fn write_signature(alloc: Global, signature: &CoseSignature, out: &mut Vec<u8>) -> Result<()>
-    ensures { Encodes (signature_array (signature_seen signature.now)) out.old.items
+    ensures written { Encodes (signature_array (signature_seen signature.now)) out.old.items
         out.new.items result }
+    ensures kept { Extends out.old.items out.new.items }
 {
     write_array_head(3, out)?;
     write_protected(alloc, &signature.protected, out)?;

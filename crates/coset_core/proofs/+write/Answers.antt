@@ -25,7 +25,7 @@ header::writing::write_counter_signatures-returns-clause-ok t c =
     let ss = c.args.signatures.now in
     counter_signatures-put CounterSignature (map signature_seen ss) _ _ _ _ _ (rw (length-map ss signature_seen) (search rules))
     (sym (length-map ss signature_seen)) (omega arith)
-    c.in_ok-write_parameter.ensures c.in_ok-write_counter_signatures_head.ensures.one c.in_ok-write_counter_signatures_head.ensures.array
+    c.in_ok-write_parameter.ensures.written c.in_ok-write_counter_signatures_head.ensures.one c.in_ok-write_counter_signatures_head.ensures.array
     c.in_ok-write_signatures.ensures.ok
 
 pub header::writing::write_countersignatures-returns-clause-ok : goal.header::writing::write_countersignatures-returns-clause-ok
@@ -33,33 +33,35 @@ header::writing::write_countersignatures-returns-clause-ok t c =
     let ss = c.args.signatures.now in
     counter_signatures-put CounterSignatureV2 (map countersignature_seen ss) _ _ _ _ _ (rw (length-map ss countersignature_seen) (search rules))
     (sym (length-map ss countersignature_seen)) (omega arith)
-    c.in_ok-write_parameter.ensures c.in_ok-write_counter_signatures_head.ensures.one c.in_ok-write_counter_signatures_head.ensures.array
+    c.in_ok-write_parameter.ensures.written c.in_ok-write_counter_signatures_head.ensures.one c.in_ok-write_counter_signatures_head.ensures.array
     c.in_ok-write_each_countersignature.ensures.ok
 
-pub header::writing::write_header-returns-in_err-ask_distinct : goal.header::writing::write_header-returns-in_err-ask_distinct
-header::writing::write_header-returns-in_err-ask_distinct t c =
+pub header::writing::write_header-returns-in_err-ask_distinct-clause-written : goal.header::writing::write_header-returns-in_err-ask_distinct-clause-written
+header::writing::write_header-returns-in_err-ask_distinct-clause-written t c =
     let x = header_level (out-Header c.args.header.now) in
     unencoded c.from_residual.result c.in_err-ask_distinct.field-0.0 _ (header_image (header_seen c.args.header.now)) _ _ c.from_residual.ensures.1
     (λ e. ap header_image (header-opened c.args.header.now) ∙ unwritten-rest x e) (rw c.deref.ensures.value at c.in_err-ask_distinct.ensures.refused)
 
-pub header::writing::write_header-returns-in_err-write_counter_signatures : goal.header::writing::write_header-returns-in_err-write_counter_signatures
-header::writing::write_header-returns-in_err-write_counter_signatures t c =
+pub header::writing::write_header-returns-in_err-write_counter_signatures-clause-written :
+    goal.header::writing::write_header-returns-in_err-write_counter_signatures-clause-written
+header::writing::write_header-returns-in_err-write_counter_signatures-clause-written t c =
     let x = header_level (out-Header c.args.header.now) in
     unencoded c.from_residual-in_err-write_counter_signatures.result c.in_err-write_counter_signatures.field-0.0 _
     (header_image (header_seen c.args.header.now)) _ _ c.from_residual-in_err-write_counter_signatures.ensures.1
     (λ e. ap header_image (header-opened c.args.header.now) ∙ unwritten-counter_signatures x e)
     (rw c.deref-2.ensures.value at c.in_err-write_counter_signatures.ensures.refused)
 
-pub header::writing::write_header-returns-in_err-write_countersignatures : goal.header::writing::write_header-returns-in_err-write_countersignatures
-header::writing::write_header-returns-in_err-write_countersignatures t c =
+pub header::writing::write_header-returns-in_err-write_countersignatures-clause-written :
+    goal.header::writing::write_header-returns-in_err-write_countersignatures-clause-written
+header::writing::write_header-returns-in_err-write_countersignatures-clause-written t c =
     let x = header_level (out-Header c.args.header.now) in
     unencoded c.from_residual-in_err-write_countersignatures.result c.in_err-write_countersignatures.field-0.0 _
     (header_image (header_seen c.args.header.now)) _ _ c.from_residual-in_err-write_countersignatures.ensures.1
     (λ e. ap header_image (header-opened c.args.header.now) ∙ unwritten-countersignatures x e)
     (rw c.deref-3.ensures.value at c.in_err-write_countersignatures.ensures.refused)
 
-pub header::writing::write_header-returns : goal.header::writing::write_header-returns
-header::writing::write_header-returns t c =
+pub header::writing::write_header-returns-clause-written : goal.header::writing::write_header-returns-clause-written
+header::writing::write_header-returns-clause-written t c =
     let x = out-Header c.args.header.now in
     let opened = header-opened c.args.header.now in
     let h = header_level x in
@@ -76,14 +78,14 @@ header::writing::write_header-returns t c =
     abbreviated
     (rw c.deref-4.ensures.value at c.write_rest.ensures.ok) (rw c.deref-4.ensures.value at c.write_rest.ensures.refused))
 
-pub signature::write_signature-returns : goal.signature::write_signature-returns
-signature::write_signature-returns t c =
+pub signature::write_signature-returns-clause-written : goal.signature::write_signature-returns-clause-written
+signature::write_signature-returns-clause-written t c =
     let opened = signature-opened c.args.signature.now in
     let put : AppendsItem c.write_header.new.out.items c.write_bytes.new.out.items (bytes c.deref.result.now) =
     record { in_range = c.in_ok-write_bytes.ensures.in_range; parts = c.in_ok-write_bytes.ensures.ok } in
     subst (λ s. AppendsImage (signature_array s) c.args.out.now.items c.write_bytes.new.out.items) (sym opened)
-    (signature-put (signature_level (out-CoseSignature c.args.signature.now)) _ _ _ _ _ c.in_ok-write_array_head.ensures.ok c.in_ok-write_protected.ensures
-    c.in_ok-write_header.ensures
+    (signature-put (signature_level (out-CoseSignature c.args.signature.now)) _ _ _ _ _ c.in_ok-write_array_head.ensures.ok
+    c.in_ok-write_protected.ensures.written c.in_ok-write_header.ensures.written
     (rw c.deref.ensures.value at put))
 
 pub signature::write_signatures-returns-in_err-write_signature-clause-refused : goal.signature::write_signatures-returns-in_err-write_signature-clause-refused
@@ -95,7 +97,7 @@ signature::write_signatures-returns-in_err-write_signature-clause-refused t c =
     passes c.from_residual.result c.in_err-write_signature.field-0.0 (signature_array (signature_seen s) ≡ None)
     (signatures_image (signatures_of (map signature_seen ss)) ≡ None) c.from_residual.ensures.1
     (λ e. ap (λ ss. signatures_image (signatures_of ss)) all
-    ∙ signatures-none (map signature_seen (take i ss)) (map signature_seen (drop (i + 1) ss)) (signature_seen s) e) c.in_err-write_signature.ensures
+    ∙ signatures-none (map signature_seen (take i ss)) (map signature_seen (drop (i + 1) ss)) (signature_seen s) e) c.in_err-write_signature.ensures.written
 
 pub signature::write_signatures-loop-signature-preserved : goal.signature::write_signatures-loop-signature-preserved
 signature::write_signatures-loop-signature-preserved t c =
@@ -103,10 +105,10 @@ signature::write_signatures-loop-signature-preserved t c =
     let i = c.loop-signature.signature-index in
     let s = c.signature-item.result in
     subst (AppendsSignatures c.args.out.now.items c.write_signature.new.out.items) (sym (taken signature_seen ss i s (omega arith) c.signature-item.is))
-    (signatures-push (map signature_seen (take i ss)) (signature_seen s) _ _ _ c.loop-signature.invariant c.in_ok-write_signature.ensures)
+    (signatures-push (map signature_seen (take i ss)) (signature_seen s) _ _ _ c.loop-signature.invariant c.in_ok-write_signature.ensures.written)
 
-pub protected::write_protected-returns-in-Some : goal.protected::write_protected-returns-in-Some
-protected::write_protected-returns-in-Some t c =
+pub protected::write_protected-returns-in-Some-clause-written : goal.protected::write_protected-returns-in-Some-clause-written
+protected::write_protected-returns-in-Some-clause-written t c =
     let p = protected_seen c.args.protected.now in
     let b = c.in-Some.bytes.items in
     let read = ap (λ p. p.original) (protected-opened c.args.protected.now) ∙ ap (option_map (λ v. v.items)) c.in-Some.is in
@@ -114,8 +116,8 @@ protected::write_protected-returns-in-Some t c =
     record { in_range = c.in_ok-write_bytes.ensures.in_range; parts = c.in_ok-write_bytes.ensures.ok } in
     string-put p b _ _ (protected_bytes-read p b read) (rw c.deref.ensures.value at put)
 
-pub protected::write_protected-returns : goal.protected::write_protected-returns
-protected::write_protected-returns t c =
+pub protected::write_protected-returns-clause-written : goal.protected::write_protected-returns-clause-written
+protected::write_protected-returns-clause-written t c =
     let p = protected_seen c.args.protected.now in
     let opened = protected-opened c.args.protected.now in
     let unread = ap (λ p. p.original) opened ∙ ap (option_map (λ v. v.items)) c.in_default.is in
@@ -124,14 +126,14 @@ protected::write_protected-returns t c =
     string-put p c.in_ok-bytes.bytes.items _ _ (protected_bytes-fresh p _ unread (ap (λ p. p.header) opened) ∙ c.in_ok-bytes.ensures.ok)
     (rw c.deref-2.ensures.value at put)
 
-pub countersignature::write_countersignature-returns : goal.countersignature::write_countersignature-returns
-countersignature::write_countersignature-returns t c =
+pub countersignature::write_countersignature-returns-clause-written : goal.countersignature::write_countersignature-returns-clause-written
+countersignature::write_countersignature-returns-clause-written t c =
     let opened = countersignature-opened c.args.signature.now in
     let put : AppendsItem c.write_header.new.out.items c.write_bytes.new.out.items (bytes c.deref.result.now) =
     record { in_range = c.in_ok-write_bytes.ensures.in_range; parts = c.in_ok-write_bytes.ensures.ok } in
     subst (λ s. AppendsImage (signature_array s) c.args.out.now.items c.write_bytes.new.out.items) (sym opened)
     (signature-put (countersignature_level (out-CoseCountersignature c.args.signature.now)) _ _ _ _ _ c.in_ok-write_array_head.ensures.ok
-    c.in_ok-write_protected.ensures c.in_ok-write_header.ensures
+    c.in_ok-write_protected.ensures.written c.in_ok-write_header.ensures.written
     (rw c.deref.ensures.value at put))
 
 pub countersignature::write_each_countersignature-returns-in_err-write_countersignature-clause-refused :
@@ -145,7 +147,7 @@ countersignature::write_each_countersignature-returns-in_err-write_countersignat
     (signatures_image (signatures_of (map countersignature_seen ss)) ≡ None) c.from_residual.ensures.1
     (λ e. ap (λ ss. signatures_image (signatures_of ss)) all
     ∙ signatures-none (map countersignature_seen (take i ss)) (map countersignature_seen (drop (i + 1) ss))
-    (countersignature_seen s) e) c.in_err-write_countersignature.ensures
+    (countersignature_seen s) e) c.in_err-write_countersignature.ensures.written
 
 pub countersignature::write_each_countersignature-loop-signature-preserved : goal.countersignature::write_each_countersignature-loop-signature-preserved
 countersignature::write_each_countersignature-loop-signature-preserved t c =
@@ -154,4 +156,5 @@ countersignature::write_each_countersignature-loop-signature-preserved t c =
     let s = c.signature-item.result in
     subst (AppendsSignatures c.args.out.now.items c.write_countersignature.new.out.items)
     (sym (taken countersignature_seen ss i s (omega arith) c.signature-item.is))
-    (signatures-push (map countersignature_seen (take i ss)) (countersignature_seen s) _ _ _ c.loop-signature.invariant c.in_ok-write_countersignature.ensures)
+    (signatures-push (map countersignature_seen (take i ss)) (countersignature_seen s) _ _ _ c.loop-signature.invariant
+    c.in_ok-write_countersignature.ensures.written)

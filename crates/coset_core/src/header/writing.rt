@@ -17,7 +17,7 @@ ghost use Rattle.coset_core.specs.Fields.{critical};
 ghost use Rattle.coset_core.specs.Headers.{signatures_of, signatures_image, header_image};
 ghost use Rattle.coset_core.specs.Written.{AppendsCounterSignatures, AppendsFirst, count_pairs};
 ghost use Rattle.std.specs.Map.{keys_of};
-ghost use Rattle.coset_cbor.specs.Least.{least_head};
+ghost use Rattle.coset_cbor.specs.Least.{Extends, least_head};
 
 use crate::countersignature::{CoseCountersignature, write_each_countersignature};
 use crate::header::Header;
@@ -35,8 +35,9 @@ use std::alloc::Global;
 
 /// Appends the label of a parameter.
 fn write_parameter(parameter: HeaderParameter, out: &mut Vec<u8>) -> Result<(), OutOfMemory>
-    ensures { OnOk result (AppendsItem out.old.items out.new.items
+    ensures written { OnOk result (AppendsItem out.old.items out.new.items
         (integer (parameters.number parameter))) }
+    ensures kept { Extends out.old.items out.new.items }
 {
     write_integer(Integer::from(parameter.to_i64()), out)
 }
@@ -47,6 +48,7 @@ fn write_head(header: &Header, out: &mut Vec<u8>) -> Result<(), OutOfMemory>
     ensures ok { OnOk result (out.new.items
         ≡ out.old.items ++ least_head 5 (count_pairs (header_seen header.now))) }
     ensures fits { OnOk result (count_pairs (header_seen header.now) < 2 ^ 64) }
+    ensures kept { Extends out.old.items out.new.items }
 {
     let there = [
         header.alg.is_some(),
@@ -72,6 +74,7 @@ fn write_critical(
         ((unless_empty (some_of critical)).image (map critical_seen crit.now)) out.old.items
         out.new.items) }
     ensures memory { IfErr result (λ e. e ≡ out_of_memory) }
+    ensures kept { Extends out.old.items out.new.items }
 {
     if crit.is_empty() {
         return Ok(());
@@ -84,6 +87,7 @@ fn write_fields(alloc: Global, header: &Header, out: &mut Vec<u8>) -> Result<()>
     ensures ok { OnOk result
         (AppendsFirst out.old.items out.new.items (fields_seen header.now)) }
     ensures memory { IfErr result (λ e. e ≡ out_of_memory) }
+    ensures kept { Extends out.old.items out.new.items }
 {
     write_optional(alloc, HeaderParameter::Alg.to_i64(), &header.alg, out)?;
     write_critical(alloc, &header.crit, out)?;
@@ -120,6 +124,7 @@ pub(crate) fn ask_distinct(alloc: Global, rest: &[(Label, Value)]) -> Result<()>
 fn write_counter_signatures_head(count: usize, out: &mut Vec<u8>) -> Result<(), OutOfMemory>
     ensures one { OnOk result (count ≡ 1 → out.new.items ≡ out.old.items) }
     ensures array { OnOk result (count ≢ 1 → out.new.items ≡ out.old.items ++ least_head 4 count) }
+    ensures kept { Extends out.old.items out.new.items }
 {
     if count == 1 {
         return Ok(());
@@ -132,10 +137,12 @@ fn write_counter_signatures_head(count: usize, out: &mut Vec<u8>) -> Result<(), 
 /// # Errors
 /// `OutOfMemory`, or `DuplicateMapKey` where a label stands twice in the rest of the header, or in that of one inside
 /// it. A protected header inside that was read doesn't count, nor what it holds: its bytes are written as they are.
-/// What was appended before an error isn't taken back.
+/// `out` then begins with all that it had; what was appended before the error may follow.
 #[cycle(write)]
 pub(crate) fn write_header(alloc: Global, header: &Header, out: &mut Vec<u8>) -> Result<()>
-    ensures { Encodes (header_image (header_seen header.now)) out.old.items out.new.items result }
+    ensures written { Encodes (header_image (header_seen header.now)) out.old.items out.new.items
+        result }
+    ensures kept { Extends out.old.items out.new.items }
 {
     ask_distinct(alloc, &header.rest)?;
     write_head(header, out)?;
@@ -158,6 +165,7 @@ fn write_counter_signatures(
         out.new.items (signatures_of (map signature_seen signatures.now))) }
     ensures refused { IfErr result
         (HasNoImage (signatures_image (signatures_of (map signature_seen signatures.now)))) }
+    ensures kept { Extends out.old.items out.new.items }
 {
     if signatures.is_empty() {
         return Ok(());
@@ -180,6 +188,7 @@ fn write_countersignatures(
         out.new.items (signatures_of (map countersignature_seen signatures.now))) }
     ensures refused { IfErr result
         (HasNoImage (signatures_image (signatures_of (map countersignature_seen signatures.now)))) }
+    ensures kept { Extends out.old.items out.new.items }
 {
     if signatures.is_empty() {
         return Ok(());

@@ -5,6 +5,6 @@ use Rattle.coset_core.specs.HeaderWrites.{signature_image_is}
 use Rattle.coset_core.specs.Views.{countersignature_seen}
 use Rattle.coset_core.proofs.countersignature.CoseCountersignatureCodec.write.Goals as goal
 
-pub returns : goal.returns
-returns c = subst (λ o. Encodes o c.args.out.now.items c.write_countersignature.new.out.items c.write_countersignature.result)
-    (sym (signature_image_is LAYERS (countersignature_seen c.args.self.now))) c.write_countersignature.ensures
+pub returns-clause-written : goal.returns-clause-written
+returns-clause-written c = subst (λ o. Encodes o c.args.out.now.items c.write_countersignature.new.out.items c.write_countersignature.result)
+    (sym (signature_image_is LAYERS (countersignature_seen c.args.self.now))) c.write_countersignature.ensures.written

@@ -33,4 +33,5 @@ returns c =
       ok = subst (λ k. OnOk c.write_pairs_head.result (c.write_pairs_head.new.out.items ≡ c.args.out.now.items
           ++ least_head 5 k)) all c.write_pairs_head.ensures.ok;
       fits = subst (λ k. OnOk c.write_pairs_head.result (k < 2 ^ 64)) all c.write_pairs_head.ensures.fits;
+      kept = c.write_pairs_head.ensures.kept;
     }

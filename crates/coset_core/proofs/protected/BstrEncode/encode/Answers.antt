@@ -5,6 +5,6 @@ use Rattle.coset_core.specs.HeaderWrites.{protected_image_is}
 use Rattle.coset_core.specs.Views.{protected_seen}
 use Rattle.coset_core.proofs.protected.BstrEncode.encode.Goals as goal
 
-pub returns : goal.returns
-returns c = subst (λ o. Encodes o c.args.out.now.items c.write_protected.new.out.items c.write_protected.result)
-    (sym (protected_image_is LAYERS (protected_seen c.args.self.now.0.now))) c.write_protected.ensures
+pub returns-clause-written : goal.returns-clause-written
+returns-clause-written c = subst (λ o. Encodes o c.args.out.now.items c.write_protected.new.out.items c.write_protected.result)
+    (sym (protected_image_is LAYERS (protected_seen c.args.self.now.0.now))) c.write_protected.ensures.written
