@@ -8,10 +8,10 @@ use Rattle.coset_core.specs.Views.{signature_seen}
 use Rattle.coset_sign.specs.Sign.{sign_seen}
 use Rattle.coset_sign.proofs.sign.CoseSignCodec.write.Goals as goal
 
-pub returns : goal.returns
-returns c =
+pub returns-clause-written : goal.returns-clause-written
+returns-clause-written c =
     let m = sign_seen c.args.self.now in
     subst (λ o. Encodes (four_elements (protected.image m.protected) (header.image m.unprotected) ((or_nil bstr).image m.payload)
     (option_map array o)) c.args.out.now.items c.encode_four.new.out.items c.encode_four.result)
     (images-mapped signature.image signature_seen c.deref.result.now
-    ∙ ap (λ xs. images signature.image (map signature_seen xs)) c.deref.ensures.value) c.encode_four.ensures
+    ∙ ap (λ xs. images signature.image (map signature_seen xs)) c.deref.ensures.value) c.encode_four.ensures.written
