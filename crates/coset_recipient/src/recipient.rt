@@ -4,6 +4,7 @@ ghost use Rattle.std.specs.Prelude.{◌≡◌, ◌≢◌, ◌↔◌, ◌≤◌, 
 ghost use Rattle.std.specs.Ordering.{on};
 ghost use Rattle.std.specs.Cmp.{on_equiv, on_per, partial_equiv_from_equiv};
 ghost use Rattle.coset_value.specs.Item.{Item, array, Items};
+ghost use Rattle.coset_cbor.specs.Least.{Extends};
 ghost use Rattle.coset_codec.specs.declared.error.CoseError.TheVariants.{OutOfMemory};
 ghost use Rattle.coset_codec.specs.Answers.{Reads, Writes};
 ghost use Rattle.coset_codec.specs.Encoding.{AppendsElements, Encodes, HasNoImage};
@@ -296,7 +297,8 @@ fn count_elements(recipient: &CoseRecipient) -> usize
 
 /// Appends the head of a recipient's array, and its first three elements.
 fn write_first(alloc: Global, recipient: &CoseRecipient, out: &mut Vec<u8>) -> Result<()>
-    ensures { Begins (recipient_seen recipient.now) out.old.items out.new.items result }
+    ensures written { Begins (recipient_seen recipient.now) out.old.items out.new.items result }
+    ensures kept { Extends out.old.items out.new.items }
 {
     write_array_head(count_elements(recipient), out)?;
     Bstr(&recipient.protected).encode(alloc, out)?;
@@ -307,8 +309,9 @@ fn write_first(alloc: Global, recipient: &CoseRecipient, out: &mut Vec<u8>) -> R
 /// Appends the array of the recipient.
 #[cycle(write)]
 fn write_recipient(alloc: Global, recipient: &CoseRecipient, out: &mut Vec<u8>) -> Result<()>
-    ensures { Encodes (recipient_image (recipient_seen recipient.now)) out.old.items
+    ensures written { Encodes (recipient_image (recipient_seen recipient.now)) out.old.items
         out.new.items result }
+    ensures kept { Extends out.old.items out.new.items }
 {
     write_first(alloc, recipient, out)?;
     let inside: &[CoseRecipient] = &recipient.recipients;
@@ -321,8 +324,10 @@ fn write_recipient(alloc: Global, recipient: &CoseRecipient, out: &mut Vec<u8>) 
 /// Appends the array of recipients.
 #[cycle(write)]
 fn write_recipients(alloc: Global, all: &[CoseRecipient], out: &mut Vec<u8>) -> Result<()>
-    ensures { Encodes (option_map array (images recipient_image (map recipient_seen all.now)))
-        out.old.items out.new.items result }
+    ensures written { Encodes
+        (option_map array (images recipient_image (map recipient_seen all.now))) out.old.items
+        out.new.items result }
+    ensures kept { Extends out.old.items out.new.items }
 {
     write_array_head(all.len(), out)?;
     write_each(alloc, all, out)
@@ -336,6 +341,7 @@ fn write_each(alloc: Global, all: &[CoseRecipient], out: &mut Vec<u8>) -> Result
         out.new.items) }
     ensures refused { IfErr result
         (HasNoImage (images recipient_image (map recipient_seen all.now))) }
+    ensures kept { Extends out.old.items out.new.items }
 {
     for recipient in all {
         write_recipient(alloc, recipient, out)?;

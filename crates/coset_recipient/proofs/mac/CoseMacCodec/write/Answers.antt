@@ -9,10 +9,10 @@ use Rattle.coset_recipient.specs.Recipient.{recipient}
 use Rattle.coset_recipient.specs.RecipientView.{recipient_seen}
 use Rattle.coset_recipient.proofs.mac.CoseMacCodec.write.Goals as goal
 
-pub returns : goal.returns
-returns c =
+pub returns-clause-written : goal.returns-clause-written
+returns-clause-written c =
     let m = mac_seen c.args.self.now in
     subst (λ o. Encodes (five_elements (protected.image m.protected) (header.image m.unprotected) ((or_nil bstr).image m.payload) (Some (bytes m.tag))
     (option_map array o)) c.args.out.now.items c.encode_five.new.out.items c.encode_five.result)
     (images-mapped recipient.image recipient_seen c.deref.result.now
-    ∙ ap (λ xs. images recipient.image (map recipient_seen xs)) c.deref.ensures.value) c.encode_five.ensures
+    ∙ ap (λ xs. images recipient.image (map recipient_seen xs)) c.deref.ensures.value) c.encode_five.ensures.written

@@ -4,6 +4,6 @@ use Rattle.coset_recipient.specs.RecipientLaws.{recipient-written}
 use Rattle.coset_recipient.specs.RecipientView.{recipient_seen}
 use Rattle.coset_recipient.proofs.recipient.CoseRecipientCodec.write.Goals as goal
 
-pub returns : goal.returns
-returns c = subst (λ o. Encodes o c.args.out.now.items c.write_recipient.new.out.items c.write_recipient.result)
-    (sym (recipient-written (recipient_seen c.args.self.now))) c.write_recipient.ensures
+pub returns-clause-written : goal.returns-clause-written
+returns-clause-written c = subst (λ o. Encodes o c.args.out.now.items c.write_recipient.new.out.items c.write_recipient.result)
+    (sym (recipient-written (recipient_seen c.args.self.now))) c.write_recipient.ensures.written
