@@ -5,6 +5,7 @@ ghost use Rattle.std.specs.List.Sorted.{IsStableByKey};
 ghost use Rattle.std.specs.Map.{keys_of, lookup};
 ghost use Rattle.coset_value.specs.Item.{boolean, bytes};
 ghost use Rattle.coset_value.specs.View.{view};
+ghost use Rattle.coset_cbor.specs.Least.{Extends};
 ghost use Rattle.coset_iana.specs.Algorithm as algorithms;
 ghost use Rattle.coset_iana.specs.KeyOperation as operations;
 ghost use Rattle.coset_iana.specs.KeyParameter as parameters;
@@ -342,6 +343,7 @@ fn write_key_ops(
         ((unless_empty key_ops_shape).image (map operation_seen operations.now.keys)) out.old.items
         out.new.items) }
     ensures memory { IfErr result (λ e. e ≡ OutOfMemory) }
+    ensures kept { Extends out.old.items out.new.items }
 {
     if operations.is_empty() {
         return Ok(());

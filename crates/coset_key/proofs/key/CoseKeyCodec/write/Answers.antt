@@ -12,9 +12,9 @@ use Rattle.coset_key.specs.Keys.{key, key_type, key_ops, kty_seen, operation_see
 use Rattle.coset_key.proofs.Writing.{algorithm-has, set-there}
 use Rattle.coset_key.proofs.key.CoseKeyCodec.write.Goals as goal
 
-pub returns-then-branch : goal.returns-then-branch
+pub returns-then-branch-clause-written : goal.returns-then-branch-clause-written
 unfolding key
-returns-then-branch c =
+returns-then-branch-clause-written c =
     let params = map (as_seen label_seen view) c.args.self.now.params.items in
     λ _. (
       refl,
@@ -22,15 +22,15 @@ returns-then-branch c =
           (rw c.deref.ensures.value at c.in_ok-has_repeats.ensures.answer) c.if-branch.true),
     )
 
-pub returns-in_err-write_optional : goal.returns-in_err-write_optional
+pub returns-in_err-write_optional-clause-written : goal.returns-in_err-write_optional-clause-written
 unfolding algorithm
-returns-in_err-write_optional c =
+returns-in_err-write_optional-clause-written c =
     passes c.from_residual-in_err-write_optional.result _ _ c.from_residual-in_err-write_optional.ensures.1 c.in_err-write_optional.ensures.refused
     (λ e. absurd (optional-has (λ l. algorithm.image (algorithm_seen l)) (λ l. algorithm-has (algorithm_seen l)) c.args.self.now.alg e))
 
-pub returns : goal.returns
+pub returns-clause-written : goal.returns-clause-written
 unfolding key key_type algorithm
-returns c =
+returns-clause-written c =
     let k = c.args.self.now in
     let distinct = distinct-seen label_seen view _ same_name (λ x y. refl) c.in_ok-has_repeats.field-0 k.params.items
     (rw c.deref.ensures.value at c.in_ok-has_repeats.ensures.answer) c.if-branch.false in

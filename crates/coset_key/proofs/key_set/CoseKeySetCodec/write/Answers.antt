@@ -6,7 +6,7 @@ use Rattle.coset_codec.proofs.Encoding.{images-mapped}
 use Rattle.coset_key.specs.Keys.{key, key_seen}
 use Rattle.coset_key.proofs.key_set.CoseKeySetCodec.write.Goals as goal
 
-pub returns : goal.returns
-returns c =
+pub returns-clause-written : goal.returns-clause-written
+returns-clause-written c =
     subst (λ o. Encodes (option_map array o) c.args.out.now.items c.encode.new.out.items c.encode.result)
-    (ap (images (λ x. key.image (key_seen x))) c.deref.ensures.value ∙ images-mapped key.image key_seen c.args.self.now.0.items) c.encode.ensures
+    (ap (images (λ x. key.image (key_seen x))) c.deref.ensures.value ∙ images-mapped key.image key_seen c.args.self.now.0.items) c.encode.ensures.written
