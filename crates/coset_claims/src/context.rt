@@ -2,6 +2,7 @@
 
 ghost use Rattle.std.specs.Prelude.{◌≡◌, ◌≤◌, length, map, IfOk, IfErr, OnOk};
 ghost use Rattle.coset_value.specs.Item.{Items};
+ghost use Rattle.coset_cbor.specs.Least.{Extends};
 ghost use Rattle.coset_iana.specs.Algorithm as algorithms;
 ghost use Rattle.coset_codec.specs.declared.error.CoseError.TheVariants.{OutOfMemory};
 ghost use Rattle.coset_codec.specs.Answers.{Reads};
@@ -185,6 +186,7 @@ fn write_byte_strings(all: &[Vec<u8>], out: &mut Vec<u8>) -> Result<()>
     ensures ok { OnOk result (AppendsElements (images bstr.image (map (λ b. b.items) all.now))
         (length all.now) out.old.items out.new.items) }
     ensures memory { IfErr result (λ e. e ≡ OutOfMemory) }
+    ensures kept { Extends out.old.items out.new.items }
 {
     for bytes in all {
         write_bytes(bytes, out)?;
@@ -205,9 +207,10 @@ fn encode_four_and_more<A: Encode, B: Encode, C: Encode, D: Encode>(
     more: &Vec<Vec<u8>>,
     out: &mut Vec<u8>,
 ) -> Result<()>
-    ensures { Encodes (four_elements_and (A.image a.now) (B.image b.now) (C.image c.now)
+    ensures written { Encodes (four_elements_and (A.image a.now) (B.image b.now) (C.image c.now)
         (D.image d.now) (images bstr.image (map (λ b. b.items) more.now.items)))
         out.old.items out.new.items result }
+    ensures kept { Extends out.old.items out.new.items }
 {
     write_array_head(more.len() + 4, out)?;
     a.encode(alloc, out)?;

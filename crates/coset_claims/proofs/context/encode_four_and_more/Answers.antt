@@ -3,11 +3,11 @@ use Rattle.coset_codec.proofs.Encoding.{place-put, array-put}
 use Rattle.coset_claims.proofs.ByteStrings.{as_many}
 use Rattle.coset_claims.proofs.context.encode_four_and_more.Goals as goal
 
-pub returns : goal.returns
-returns g c =
+pub returns-clause-written : goal.returns-clause-written
+returns-clause-written g c =
     let all = c.args.more.now.items in
     let more = rw c.deref.ensures.value at c.in_ok-write_byte_strings.ensures.ok in
     let count : suc (suc (suc (suc (length all)))) ≡ c.len.result + 4 = omega (arith, c.len.ensures) in
     array-put (c.len.result + 4) (omega arith) c.in_ok-write_array_head.ensures.ok
-    (as_many count (place-put c.in_ok-encode.ensures (place-put c.in_ok-encode-2.ensures
-    (place-put c.in_ok-encode-3.ensures (place-put c.in_ok-encode-4.ensures more)))))
+    (as_many count (place-put c.in_ok-encode.ensures.written (place-put c.in_ok-encode-2.ensures.written
+    (place-put c.in_ok-encode-3.ensures.written (place-put c.in_ok-encode-4.ensures.written more)))))

@@ -1,7 +1,8 @@
-use Rattle.std.proofs.Common.{◌≡◌, Some, true, rules, sym, ◌∙◌, ap, refl}
+use Rattle.std.proofs.Common.{◌≡◌, ℕ, List, ◌++◌, Some, true, rules, sym, ◌∙◌, ap, refl, append_assoc}
 use Rattle.std.specs.Prelude.{ℤ, string_bytes}
 use Rattle.coset_value.specs.Item.{integer}
 use Rattle.coset_value.specs.View.{view}
+use Rattle.coset_cbor.specs.Least.{Extends}
 use Rattle.coset_codec.specs.Shape.{bstr, tstr}
 use Rattle.coset_codec.proofs.Encoding.{passes}
 use Rattle.coset_codec.proofs.EncodingMaps.{optional-put, no-field, optional-has, map-written}
@@ -11,24 +12,28 @@ use Rattle.coset_claims.specs.Timestamp.{timestamp, timestamp_seen}
 use Rattle.coset_claims.proofs.ClaimWriting.{timestamp-has}
 use Rattle.coset_claims.proofs.claims_set.ClaimsSetCodec.write.Goals as goal
 
-pub returns-in_err-write_optional-4 : goal.returns-in_err-write_optional-4
-returns-in_err-write_optional-4 c =
+-- one call after another
+behind : (old mid new : List ℕ) → Extends old mid → Extends mid new → Extends old new
+behind old mid new p q = (p.0 ++ q.0, q.1 ∙ (ap (λ s. s ++ q.0) p.1 ∙ append_assoc old p.0 q.0))
+
+pub returns-in_err-write_optional-4-clause-written : goal.returns-in_err-write_optional-4-clause-written
+returns-in_err-write_optional-4-clause-written c =
     passes c.from_residual-in_err-write_optional-4.result _ _ c.from_residual-in_err-write_optional-4.ensures.1 c.in_err-write_optional-4.ensures.refused
     (λ e. absurd (optional-has _ timestamp-has c.args.self.now.expiration_time e))
 
-pub returns-in_err-write_optional-5 : goal.returns-in_err-write_optional-5
-returns-in_err-write_optional-5 c =
+pub returns-in_err-write_optional-5-clause-written : goal.returns-in_err-write_optional-5-clause-written
+returns-in_err-write_optional-5-clause-written c =
     passes c.from_residual-in_err-write_optional-5.result _ _ c.from_residual-in_err-write_optional-5.ensures.1 c.in_err-write_optional-5.ensures.refused
     (λ e. absurd (optional-has _ timestamp-has c.args.self.now.not_before e))
 
-pub returns-in_err-write_optional-6 : goal.returns-in_err-write_optional-6
-returns-in_err-write_optional-6 c =
+pub returns-in_err-write_optional-6-clause-written : goal.returns-in_err-write_optional-6-clause-written
+returns-in_err-write_optional-6-clause-written c =
     passes c.from_residual-in_err-write_optional-6.result _ _ c.from_residual-in_err-write_optional-6.ensures.1 c.in_err-write_optional-6.ensures.refused
     (λ e. absurd (optional-has _ timestamp-has c.args.self.now.issued_at e))
 
-pub returns : goal.returns
+pub returns-clause-written : goal.returns-clause-written
 unfolding claim_name claims
-returns c =
+returns-clause-written c =
     let s = c.args.self.now in
     let label : (i j : ℤ) → i ≡ j → names.shape.image (assigned j) ≡ Some (integer i) = λ i j e. ap (λ k. Some (integer k)) (sym e) in
     let f = names.shape.image in
@@ -62,3 +67,28 @@ returns c =
     (optional-put f (λ b. b.items) bstr.image s.cwt_id (label _ _ ((search rules) ∙ c.to_i64-7.ensures)) c.in_ok-write_optional-7.ensures.ok
     (no-field f c.write_optional-7.new.out.items))))))))
     (rw c.deref-2.ensures.value at c.write_rest.ensures.ok) (rw c.deref-2.ensures.value at c.write_rest.ensures.refused)
+
+pub returns-in_err-write_optional-7-clause-kept : goal.returns-in_err-write_optional-7-clause-kept
+returns-in_err-write_optional-7-clause-kept c =
+    let new = c.write_optional-7.new.out.items in
+    behind c.args.out.now.items c.write_pairs_head.new.out.items new c.write_pairs_head.ensures.kept
+    (behind c.write_pairs_head.new.out.items c.write_optional.new.out.items new c.write_optional.ensures.kept
+    (behind c.write_optional.new.out.items c.write_optional-2.new.out.items new c.write_optional-2.ensures.kept
+    (behind c.write_optional-2.new.out.items c.write_optional-3.new.out.items new c.write_optional-3.ensures.kept
+    (behind c.write_optional-3.new.out.items c.write_optional-4.new.out.items new c.write_optional-4.ensures.kept
+    (behind c.write_optional-4.new.out.items c.write_optional-5.new.out.items new c.write_optional-5.ensures.kept
+    (behind c.write_optional-5.new.out.items c.write_optional-6.new.out.items new c.write_optional-6.ensures.kept
+    c.write_optional-7.ensures.kept))))))
+
+pub returns-clause-kept : goal.returns-clause-kept
+returns-clause-kept c =
+    let new = c.write_rest.new.out.items in
+    behind c.args.out.now.items c.write_pairs_head.new.out.items new c.write_pairs_head.ensures.kept
+    (behind c.write_pairs_head.new.out.items c.write_optional.new.out.items new c.write_optional.ensures.kept
+    (behind c.write_optional.new.out.items c.write_optional-2.new.out.items new c.write_optional-2.ensures.kept
+    (behind c.write_optional-2.new.out.items c.write_optional-3.new.out.items new c.write_optional-3.ensures.kept
+    (behind c.write_optional-3.new.out.items c.write_optional-4.new.out.items new c.write_optional-4.ensures.kept
+    (behind c.write_optional-4.new.out.items c.write_optional-5.new.out.items new c.write_optional-5.ensures.kept
+    (behind c.write_optional-5.new.out.items c.write_optional-6.new.out.items new c.write_optional-6.ensures.kept
+    (behind c.write_optional-6.new.out.items c.write_optional-7.new.out.items new c.write_optional-7.ensures.kept
+    c.write_rest.ensures.kept)))))))
