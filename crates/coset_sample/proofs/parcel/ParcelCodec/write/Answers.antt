@@ -7,9 +7,10 @@ use Rattle.coset_sample.specs.Reading.{mark_seen}
 use Rattle.coset_sample.specs.Parcel.{seen}
 use Rattle.coset_sample.proofs.parcel.ParcelCodec.write.Goals as goal
 
-pub returns : goal.returns
-returns c =
+pub returns-clause-written : goal.returns-clause-written
+returns-clause-written c =
     let r = seen c.args.self.now in
     subst (λ o. Encodes (four_elements (int64.image r.number) (bstr.image r.receiver) ((or_nil bstr).image r.note)
     (option_map array o)) c.args.out.now.items c.encode_four.new.out.items c.encode_four.result)
-    (images-mapped int64.image mark_seen c.deref.result.now ∙ ap (λ xs. images int64.image (map mark_seen xs)) c.deref.ensures.value) c.encode_four.ensures
+    (images-mapped int64.image mark_seen c.deref.result.now
+    ∙ ap (λ xs. images int64.image (map mark_seen xs)) c.deref.ensures.value) c.encode_four.ensures.written

@@ -9,8 +9,8 @@ use Rattle.coset_codec.proofs.EncodingMaps.{no-field, field-put, optional-put, m
 use Rattle.coset_sample.specs.Settings.{name_seen, names}
 use Rattle.coset_sample.proofs.settings.SettingsCodec.write.Goals as goal
 
-pub returns-then-branch : goal.returns-then-branch
-returns-then-branch c =
+pub returns-then-branch-clause-written : goal.returns-then-branch-clause-written
+returns-then-branch-clause-written c =
     let rest = map (as_seen name_seen view) c.args.self.now.rest.items in
     λ _. (
       refl,
@@ -18,8 +18,8 @@ returns-then-branch c =
           (rw c.deref.ensures.value at c.in_ok-has_repeats.ensures.answer) c.if-branch.true),
     )
 
-pub returns : goal.returns
-returns c =
+pub returns-clause-written : goal.returns-clause-written
+returns-clause-written c =
     let s = c.args.self.now in
     let distinct = distinct-seen name_seen view _ int_eq (λ x y. refl) c.in_ok-has_repeats.field-0 s.rest.items
     (rw c.deref.ensures.value at c.in_ok-has_repeats.ensures.answer) c.if-branch.false in
