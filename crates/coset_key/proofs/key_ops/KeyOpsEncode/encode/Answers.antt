@@ -22,7 +22,8 @@ loop-operation-preserved c =
       subst (λ n. AppendsElements (images operation.image
           (map operation_seen (map (λ b. b.now) (ys ++ x ∷ [])))) n c.write_array_head.new.out.items c.encode.new.out.items) (sym (length_push ys x))
           (subst (λ ns. AppendsElements (images operation.image ns) (length ys + 1) c.write_array_head.new.out.items c.encode.new.out.items) (sym pushed)
-          (member-put operation.image (map operation_seen (map (λ b. b.now) ys)) (operation_seen x.now) c.loop-operation.invariant.0 c.in_ok-encode.ensures.written)),
+          (member-put operation.image (map operation_seen (map (λ b. b.now) ys)) (operation_seen x.now) c.loop-operation.invariant.0
+          c.in_ok-encode.ensures.written)),
       ap (λ zs. zs ++ c.next.new.self) next ∙ moved (map
           (λ b. b.now) ys) x.now c.loop-operation.operation-iterator c.next.new.self c.args.self.now.0.now.keys c.loop-operation.invariant.1
           c.in-Some.ensures.steps,
