@@ -5,6 +5,7 @@ pub mod Countersigned
 pub mod Found
 pub mod Issued
 pub mod KeySets
+pub mod Successes
 pub mod LetIn
 pub mod NamedAlgorithm
 pub mod OneByOne
