@@ -30,6 +30,9 @@ fn count_true(there: &[bool]) -> usize
 }
 
 /// Appends the head of the map of those fields that are there, as `there` says of each, and of the rest.
+///
+/// # Errors
+/// `OutOfMemory` alone. `out` is then as [`Encode::encode`] leaves it.
 #[inline(always)]
 pub fn write_pairs_head<L>(
     there: &[bool],
@@ -51,7 +54,7 @@ pub fn write_pairs_head<L>(
 /// Appends the pair of this number and value.
 ///
 /// # Errors
-/// Those of the value.
+/// Those of the value. `out` is then as [`Encode::encode`] leaves it.
 #[inline(always)]
 pub fn write_field<T: Encode>(alloc: Global, label: i64, value: &T, out: &mut Vec<u8>) -> Result<()>
     ensures ok { OnOk result
@@ -66,7 +69,7 @@ pub fn write_field<T: Encode>(alloc: Global, label: i64, value: &T, out: &mut Ve
 /// Appends the pair of this number, where there is a value.
 ///
 /// # Errors
-/// Those of the value.
+/// Those of the value. `out` is then as [`Encode::encode`] leaves it.
 #[inline(always)]
 pub fn write_optional<T: Encode>(
     alloc: Global,
@@ -106,7 +109,7 @@ pub fn write_nonempty(alloc: Global, label: i64, bytes: &Vec<u8>, out: &mut Vec<
 /// Appends the pairs of the rest.
 ///
 /// # Errors
-/// Those of the first label that has one.
+/// Those of the first label that has one. `out` is then as [`Encode::encode`] leaves it.
 pub fn write_rest<L: Encode>(alloc: Global, rest: &[(L, Value)], out: &mut Vec<u8>) -> Result<()>
     ensures ok { OnOk result
         (AppendsAll (named_image L.image (map (λ e. (e.0, view e.1)) rest.now)) out.old.items
