@@ -115,13 +115,13 @@ pub fn check<L: Ledger>(bytes: &[u8], steps: &mut Steps<L>) -> Result<usize, Err
     }
 }
 
-/// The length of the item at the front of the bytes: [`check`], for who doesn't count its steps. It takes no memory.
+/// Returns the length of the item at the front of the bytes: [`check`] without a counter of steps. It takes no memory.
 ///
 /// # Errors
 /// The same as [`check`].
 pub fn front_length(bytes: &[u8]) -> Result<usize, Error<EndOfFile>>
     ensures length { IfOk result (λ n. n ≤ length bytes.now) }
-    // An item stands there.
+    // So many bytes are an item.
     ensures found { IfOk result (λ n. (v : Item) × IsItem (take n bytes.now) v) }
     // No front of what is refused is an item.
     ensures refused { IfErr result (λ e. HasNoItem bytes.now) }

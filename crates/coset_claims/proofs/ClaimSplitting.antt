@@ -80,7 +80,8 @@ pub entries_pushed :
 entries_pushed old new l y v e q = ap (map entry_seen) e ∙ (map-append entry_seen old ((l, y) ∷ []) ∙ ap (λ w. map entry_seen old ++ (label_seen l, w) ∷ []) q)
 
 -- whether a key is a name, where it is read
-pub is_named : {T : Type 0} (seen : T → RegisteredName) (k : Item) (r : Result T CoseError) (b : Bool) → IsReadAlone claim_name seen k r → is_ok r ≡ b → IsNamed b k
+pub is_named : {T : Type 0} (seen : T → RegisteredName) (k : Item) (r : Result T CoseError) (b : Bool) → IsReadAlone claim_name seen k r → is_ok r ≡ b
+    → IsNamed b k
 is_named seen k (Err f) b h e = subst (λ x. IsNamed x k) e (λ n. h.2 n.0 n.1)
 is_named seen k (Ok x) b h e = subst (λ y. IsNamed y k) e (seen x, h)
 

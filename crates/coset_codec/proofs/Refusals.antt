@@ -1,5 +1,6 @@
 -- How bytes that aren't one item are refused, and items that describe nothing.
-use Rattle.std.proofs.Common.{◌≡◌, ◌⊎◌, ◌<◌, ℕ, List, [], ◌++◌, Some, Result, Ok, Err, length, take, drop, refl, sym, ap, subst, ◌∙◌, inl, inr, append-nil, arith}
+use Rattle.std.proofs.Common.{◌≡◌, ◌⊎◌, ◌<◌, ℕ, List, [], ◌++◌, Some, Result, Ok, Err, length, take, drop, refl, sym, ap, subst, ◌∙◌, inl, inr}
+use Rattle.std.proofs.Common.{append-nil, arith}
 use Rattle.std.proofs.Common.{take-append-drop, length-take-le}
 use Rattle.coset_value.specs.Item.{Item}
 use Rattle.coset_cbor.specs.Fronts.{AreBytes, HasNoItem}
