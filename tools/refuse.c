@@ -7,18 +7,28 @@
 // REFUSE_PLAN is a file with a line for each call in turn: the numbers of the first and of the last request that is
 // refused, from 1 on; none is where the second is less, or the line is missing. REFUSE_COUNT is a file that is written:
 // for each call a line with the number of its requests, those that were refused included.
-#define _GNU_SOURCE
-#include <errno.h>
-#include <stdint.h>
-#include <stdio.h>
-#include <stdlib.h>
-#include <string.h>
-#include <sys/syscall.h>
-#include <unistd.h>
+//
+// It needs no header, since the compiler of the kit brings none: what it calls of the C library (glibc) is declared here.
+typedef __SIZE_TYPE__ size_t;
+typedef long ssize_t;
+typedef struct File FILE;
+
+FILE *fopen(const char *name, const char *mode);
+int fscanf(FILE *file, const char *format, ...);
+int fprintf(FILE *file, const char *format, ...);
+char *getenv(const char *name);
+int strcmp(const char *a, const char *b);
+long syscall(long number, ...);
+int *__errno_location(void);
+
+#define NULL ((void *)0)
 
 enum { BEGIN = 1000003, END = 1000033 };
 
-// The allocator of the C library (glibc), by the names that nothing stands in front of.
+// Numbers of Linux on x86-64.
+enum { SYS_READ = 0, ENOMEM = 12 };
+
+// The allocator of the C library, by the names that nothing is loaded in front of.
 void *__libc_malloc(size_t size);
 void *__libc_calloc(size_t count, size_t size);
 void *__libc_realloc(void *old, size_t size);
@@ -59,7 +69,7 @@ static int is_refused(void) {
     if (!is_counting) return 0;
     requests++;
     if (requests < first || requests > last) return 0;
-    errno = ENOMEM;
+    *__errno_location() = ENOMEM;
     return 1;
 }
 
@@ -98,5 +108,5 @@ ssize_t read(int file, void *buffer, size_t size) {
         was_read = 1;
         begin();
     }
-    return syscall(SYS_read, file, buffer, size);
+    return syscall(SYS_READ, file, buffer, size);
 }

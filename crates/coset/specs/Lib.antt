@@ -6,6 +6,8 @@ pub use Rattle.coset_cbor.specs.Grammar
 pub use Rattle.coset_cbor.specs.Shortest
 pub use Rattle.coset_cbor.specs.Fronts
 pub use Rattle.coset_cbor.specs.ReadErrors
+pub use Rattle.coset_cbor.specs.Heads
+pub use Rattle.coset_cbor.specs.ReadHeads
 pub use Rattle.coset_cbor.specs.Pulls
 pub use Rattle.coset_codec.specs.Errors
 pub use Rattle.coset_codec.specs.Shape
@@ -31,7 +33,7 @@ pub use Rattle.coset_core.specs.HeaderMap
 pub use Rattle.coset_core.specs.Kept
 pub use Rattle.coset_core.specs.ProtectedMap
 pub use Rattle.coset_core.specs.Views
-pub use Rattle.coset_core.specs.FieldsView
+pub use Rattle.coset_core.specs.FieldViews
 pub use Rattle.coset_core.specs.ViewLaws
 pub use Rattle.coset_core.specs.Messages
 pub use Rattle.coset_core.specs.Built
@@ -50,13 +52,13 @@ pub use Rattle.coset_msg.specs.Encrypt0
 pub use Rattle.coset_recipient.specs.Structured
 pub use Rattle.coset_recipient.specs.Recipient
 pub use Rattle.coset_recipient.specs.RecipientSame
-pub use Rattle.coset_recipient.specs.RecipientView
+pub use Rattle.coset_recipient.specs.RecipientViews
 pub use Rattle.coset_recipient.specs.Mac
 pub use Rattle.coset_recipient.specs.Encrypt
 pub use Rattle.coset_recipient.specs.Structures
 pub use Rattle.coset_cbor.specs.Faults
 pub use Rattle.coset_cbor.specs.Cost
-pub use Rattle.coset_cbor.specs.Members
+pub use Rattle.coset_cbor.specs.Elements
 pub use Rattle.coset_cbor.specs.Chunks
 pub use Rattle.coset_cbor.specs.Cursors
 pub use Rattle.coset_iana.specs.EnumI64
@@ -66,6 +68,8 @@ pub use Rattle.coset_label.specs.Orderings
 pub use Rattle.coset_codec.specs.Serialized
 pub use Rattle.coset_cbor.specs.declared.de.Error
 pub use Rattle.coset_cbor.specs.declared.de.EndOfFile
+pub use Rattle.coset_cbor.specs.declared.head.Head
+pub use Rattle.coset_cbor.specs.declared.head.MajorType
 pub use Rattle.coset_codec.specs.declared.error.CoseError
 pub use Rattle.coset_codec.specs.declared.error.CallError
 pub use Rattle.coset_label.specs.declared.label.Label

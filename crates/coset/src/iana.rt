@@ -1,4 +1,4 @@
-//! The registries that COSE and CBOR web tokens stand on: enums whose values stand for the numbers that IANA assigns.
+//! The registries that COSE and CBOR web tokens are built on: enums whose values are the numbers that IANA assigns.
 
 pub use coset_iana::{
     ALGORITHM_PRIVATE_USE_MAX, AkpKeyParameter, Algorithm, CWT_CLAIM_PRIVATE_USE_MAX, CborTag,

@@ -2,12 +2,12 @@
 //! something over it calls that function.
 
 pub use coset_cbor::laws::{
-    least_encoding_is_shortest, least_heads_are_shortest, lent_chunks, lent_item, lent_members,
+    least_encoding_is_shortest, least_heads_are_shortest, lent_chunks, lent_elements, lent_item,
     nested_arrays_cost, no_item_at_a_fault, one_cost, one_item, one_shortest,
     only_the_end_in_a_front, shortest_is_encoding, shortest_is_in_range,
 };
 pub use coset_codec::laws::{
-    equal_as_seen, image_is_described, one_value, plain_or_tagged, read_as_item, reads_again,
+    equal_as_viewed, image_is_described, one_value, plain_or_tagged, read_as_item, reads_again,
     refused_as_bytes, refused_describes_nothing, spellings_agree, stays_as_written, written_apart,
 };
 pub use coset_core::laws::{

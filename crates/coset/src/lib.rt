@@ -1,11 +1,11 @@
 //! COSE (RFC 8152) over CBOR (RFC 8949): messages that are signed, authenticated by a MAC or encrypted, their headers, and
-//! what these stand on. This crate has no code of its own: it shows the public items of the crates below it, under the
+//! what these are built on. This crate has no code of its own: it shows the public items of the crates below it, under the
 //! paths of the Rust crate `coset`.
 //!
 //! Who signs makes a [`CoseSign1`] (its builder's `create_signature` signs it with a closure), and writes it with
 //! `to_vec` of [`CborSerializable`], or `to_tagged_vec` of [`TaggedCborSerializable`]. Who verifies reads it with
 //! `from_slice`, `from_tagged_slice` or, whether it is tagged or not, `from_any_slice`, and calls `verify_signature` with a closure, which is given the signature and
-//! what it is over: the bytes as they were received. Somebody else's signature over a message stands in its header as a
+//! what it is over: the bytes as they were received. Somebody else's signature over a message is in its header as a
 //! [`CoseCountersignature`], which [`verify_countersignature`] verifies. A message with a MAC ([`CoseMac0`]) is made by
 //! `create_tag` and verified by `verify_tag`, an encrypted one ([`CoseEncrypt0`]) is made by `create_ciphertext` and read
 //! by `decrypt`; [`CoseMac`] and [`CoseEncrypt`] have recipients besides ([`CoseRecipient`]). Keys are [`CoseKey`] and

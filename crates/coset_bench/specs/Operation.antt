@@ -36,7 +36,7 @@ structure_name MacTbm = codes "mac_tbm"
 structure_name Encrypt0Aad = codes "encrypt0_aad"
 structure_name EncryptAad = codes "encrypt_aad"
 
--- the name of an operation, as the program is told it
+-- the name of an operation, as the program is given it
 abbrev pub operation_name : Operation → List ℕ
 operation_name Check = codes "check"
 operation_name (Read k) = kind_name k

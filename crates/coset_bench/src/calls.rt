@@ -153,7 +153,7 @@ pub fn time_structure<T: CborSerializable + Structured + Drop, R: AllocGlobal + 
     Ok(start.elapsed(rt)?)
 }
 
-/// Checks the item at the front, each time the bytes that the check before found, and answers how many they are.
+/// Checks the item at the front, each time the bytes that the check before found, and returns how many they are.
 fn check_each<L: Ledger>(
     bytes: &[u8],
     calls: usize,

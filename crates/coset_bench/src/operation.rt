@@ -66,7 +66,7 @@ impl Operation {
         }
     }
 
-    /// Makes the calls over the bytes, and answers how long they took.
+    /// Makes the calls over the bytes, and returns how long they took.
     ///
     /// # Errors
     /// Why a call failed.

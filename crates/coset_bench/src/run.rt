@@ -1,4 +1,4 @@
-//! The rounds, and the line that tells of them.
+//! The rounds, and the line for them.
 
 use crate::command::Command;
 use crate::fault::Fault;

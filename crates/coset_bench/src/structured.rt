@@ -9,14 +9,14 @@ use std::alloc::Global;
 
 /// A message that has such a structure.
 pub trait Structured {
-    /// Makes the structure, without `external_aad`, and answers how long it is.
+    /// Makes the structure, without `external_aad`, and returns how long it is.
     ///
     /// # Errors
     /// `OutOfMemory`; or `Unexpected`, where the message lacks what the structure is over.
     fn structure_length(&self, alloc: Global) -> Result<usize, Fault>;
 }
 
-/// The length that a closure told by refusing; nothing of a message that lacks what the structure is over.
+/// The length that a closure returned by refusing; nothing of a message that lacks what the structure is over.
 fn told<T: Drop>(answer: Result<T, CallError<Option<usize>>>) -> Result<usize, Fault> {
     match answer {
         Err(CallError::Caller(Some(length))) => Ok(length),

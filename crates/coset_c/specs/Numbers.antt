@@ -71,7 +71,7 @@ part_of n =
 abbrev pub map_of : ℕ → Option maps.Map
 map_of n = if n == 1 then Some of.Protected else (if n == 2 then Some of.Unprotected else (if n == 3 then Some of.Item else None))
 
--- both, where each number stands for one
+-- both, where each number means one
 abbrev pub part_query : ℕ → ℕ → Option (kinds.Kind × parts.Part)
 part_query k p = both (λ x y. (x, y)) (kind_of k) (part_of p)
 

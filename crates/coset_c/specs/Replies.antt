@@ -41,14 +41,14 @@ abbrev pub integer_of : Result ℤ refusals.Refusal → ℤ
 integer_of (Ok n) = n
 integer_of (Err r) = pos 0
 
--- the status and the number are those of an answer of which P tells
+-- the status and the number are those of an answer of which P holds
 abbrev pub Replies : (Result ℕ refusals.Refusal → Type 0) → ℤ → ℕ → Type 0
 Replies P status n = (r : Result ℕ refusals.Refusal) × P r × (status ≡ reply_status r) × (n ≡ length_of r)
 
 abbrev pub RepliesInteger : (Result ℤ refusals.Refusal → Type 0) → ℤ → ℤ → Type 0
 RepliesInteger P status n = (r : Result ℤ refusals.Refusal) × P r × (status ≡ reply_status r) × (n ≡ integer_of r)
 
--- a number stands for nothing: the status says so, and the place, which holds n, is given this
+-- a number has no meaning: the status says so, and the place, which holds n, is given this
 abbrev pub IsMisuse : {N : Type 0} → ℤ → N → N → Type 0
 IsMisuse status n given = (status ≡ pos 13) × (n ≡ given)
 

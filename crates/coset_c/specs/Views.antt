@@ -1,4 +1,4 @@
--- What C is told of a message with one signature, beside a status and a text: a struct of numbers, and a length.
+-- What C is given of a message with one signature, beside a status and a text: a struct of numbers, and a length.
 use Rattle.std.specs.Prelude.{◌≡◌, ℕ, ℤ, pos, Result, Ok, Err, if◌then◌else◌}
 use Rattle.coset_query.specs.declared.refusal.Refusal as refusals
 use Rattle.coset_query.specs.declared.view.Algorithm as algorithms
@@ -15,7 +15,7 @@ algorithm_numbers named.Absent = (pos 0, 0)
 algorithm_numbers (named.Number n) = (n, 1)
 algorithm_numbers named.Text = (pos 0, 2)
 
--- the number of the map in which the identifier of the key stands, and 0 where there is none
+-- the number of the map in which the identifier of the key is, and 0 where there is none
 abbrev pub number_of_map : places.KeyIdPlace → ℕ
 number_of_map stands.Absent = 0
 number_of_map stands.Protected = 1
@@ -59,7 +59,7 @@ abbrev pub length_told : Result Sign1View refusals.Refusal → Result ℕ refusa
 length_told (Ok n) = Ok n.len
 length_told (Err r) = Err r
 
--- the status, the number and the struct are those of an answer of which P tells
+-- the status, the number and the struct are those of an answer of which P holds
 abbrev pub RepliesView : (Result Sign1View refusals.Refusal → Type 0) → ℤ → ℕ → View → Type 0
 RepliesView P status n view =
     (r : Result Sign1View refusals.Refusal) × P r × (status ≡ reply_status r) × (n ≡ length_of (length_told r)) × (view ≡ view_of r)

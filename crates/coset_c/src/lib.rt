@@ -1,6 +1,6 @@
 //! `coset_query` and `coset_make` for C: the functions that `include/coset.h` declares. What crosses are numbers, slices (in
 //! C a pointer and a length) and places for a number or for a struct of numbers; nothing is kept between calls. `docs/C.md`
-//! tells how they are called. Those that read stand here, but for the one in `sign1`, and those that make in `making`.
+//! says how they are called. Those that read are here, but for the one in `sign1`, and those that make in `making`.
 #![tactic(auto)]
 
 ghost use Rattle.std.specs.Prelude.{◌≡◌, MatchOption, pos};

@@ -1,4 +1,4 @@
-//! The functions that make: pairs into maps, structures, messages, members into lists, and items written again.
+//! The functions that make: pairs into maps, structures, messages, elements into lists, and items written again.
 
 ghost use Rattle.std.specs.Prelude.{◌≡◌, MatchOption};
 ghost use Rattle.coset.specs.Names.{number, text_label};

@@ -109,7 +109,7 @@ pub(crate) fn kind_of(number: u32) -> Option<Kind>
     }
 }
 
-/// The form in which a message with one signature is asked for, where the number stands for one.
+/// The form in which a message with one signature is asked for, where the number means one.
 pub(crate) fn sign1_form(number: u32) -> Option<Form>
     ensures { result ≡ sign1_form number }
 {

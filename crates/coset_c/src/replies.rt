@@ -33,7 +33,7 @@ const COSET_UNREGISTERED: i32 = 10;
 const COSET_NOT_PRIVATE: i32 = 11;
 /// What is asked for isn't there.
 const COSET_ABSENT: i32 = 12;
-/// A number that stands for no kind, no part or no map.
+/// A number of no kind, no part or no map.
 const COSET_MISUSE: i32 = 13;
 
 /// The number of a status.
@@ -56,7 +56,7 @@ fn status_number(status: Status) -> i32
     }
 }
 
-/// The status of an answer that is a length or a count; that stands in the place afterwards, and so does the length that is
+/// The status of an answer that is a length or a count; that is in the place afterwards, and so is the length that is
 /// needed where the answer is too long, and else 0.
 pub(crate) fn reply(answer: Result<usize, Refusal>, place: &mut usize) -> i32
     ensures status { result ≡ reply_status answer }
@@ -73,7 +73,7 @@ pub(crate) fn reply(answer: Result<usize, Refusal>, place: &mut usize) -> i32
     }
 }
 
-/// The status of an answer that is an integer, which stands in the place afterwards, and else 0.
+/// The status of an answer that is an integer, which is in the place afterwards, and else 0.
 pub(crate) fn reply_integer(answer: Result<i64, Refusal>, place: &mut i64) -> i32
     ensures status { result ≡ reply_status answer }
     ensures number { place.new ≡ integer_of answer }
@@ -90,7 +90,7 @@ pub(crate) fn reply_integer(answer: Result<i64, Refusal>, place: &mut i64) -> i3
     }
 }
 
-/// The status of a check of these bytes; where they stop being one item stands in the place afterwards, or the greatest
+/// The status of a check of these bytes; where they stop being one item is in the place afterwards, or the greatest
 /// number where nothing is said of that.
 pub(crate) fn reply_check(answer: Result<(), CoseError>, bytes: &[u8], place: &mut usize) -> i32
     ensures status { result ≡ check_status answer }
@@ -108,7 +108,7 @@ pub(crate) fn reply_check(answer: Result<(), CoseError>, bytes: &[u8], place: &m
     }
 }
 
-/// The status of a number that stands for nothing. What is given stands in the place afterwards.
+/// The status of a number without a meaning. What is given is in the place afterwards.
 pub(crate) fn misused<N: Copy>(given: N, place: &mut N) -> i32
     ensures { IsMisuse result place.new given }
 {

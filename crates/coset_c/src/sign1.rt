@@ -1,4 +1,4 @@
-//! All that verifying a message with one signature takes, in one call. Beside a status, a length and a text it tells
+//! All that verifying a message with one signature takes, in one call. Beside a status, a length and a text it says
 //! numbers, in a struct of the caller's.
 
 ghost use Rattle.std.specs.Prelude.{◌≡◌, MatchOption, if◌then◌else◌};
@@ -21,7 +21,7 @@ const COSET_INT: u32 = 1;
 /// It is named by a text.
 const COSET_TEXT: u32 = 2;
 
-/// What `coset_sign1` tells in numbers: `coset_sign1_view` of `include/coset.h`.
+/// What `coset_sign1` says in numbers: `coset_sign1_view` of `include/coset.h`.
 #[repr(C)]
 #[derive(Clone, Copy)]
 pub struct View {
@@ -29,7 +29,7 @@ pub struct View {
     pub algorithm: i64,
     /// `COSET_NONE`, `COSET_INT` or `COSET_TEXT`.
     pub algorithm_form: u32,
-    /// `COSET_IN_PROTECTED` or `COSET_IN_UNPROTECTED`, where the key's identifier stands, else 0.
+    /// `COSET_IN_PROTECTED` or `COSET_IN_UNPROTECTED`, where the key's identifier is, else 0.
     pub key_id_map: u32,
     /// 1 where either header has `crit`, else 0.
     pub has_critical: u32,
@@ -56,7 +56,7 @@ fn algorithm_numbers(algorithm: Algorithm) -> (i64, u32)
     }
 }
 
-/// The number of the map in which the identifier of the key stands.
+/// The number of the map in which the identifier of the key is.
 fn number_of_map(place: KeyIdPlace) -> u32
     ensures { result ≡ number_of_map place }
 {
@@ -92,7 +92,7 @@ fn view_told(told: Sign1View) -> View
     }
 }
 
-/// What stands in the caller's struct where nothing is told.
+/// What is in the caller's struct where nothing is returned.
 fn no_view() -> View
     ensures { result ≡ no_view }
 {
@@ -109,7 +109,7 @@ fn no_view() -> View
     }
 }
 
-/// What stands there after an answer: the view, and else nothing but zeros.
+/// What is there after an answer: the view, and else nothing but zeros.
 fn view_of(answer: &Result<Sign1View, Refusal>) -> View
     ensures { result ≡ view_of answer.now }
 {
@@ -129,8 +129,8 @@ fn length_told(answer: Result<Sign1View, Refusal>) -> Result<usize, Refusal>
     }
 }
 
-/// The status of an answer that is a view, which stands in the struct afterwards, and else nothing but zeros; how long the
-/// texts are, as [`reply`] says, stands in the other place.
+/// The status of an answer that is a view, which is in the struct afterwards, and else nothing but zeros; how long the
+/// texts are, as [`reply`] says, is in the other place.
 fn reply_view(answer: Result<Sign1View, Refusal>, len: &mut usize, view: &mut View) -> i32
     ensures status { result ≡ reply_status answer }
     ensures number { len.new ≡ length_of (length_told answer) }
@@ -141,7 +141,7 @@ fn reply_view(answer: Result<Sign1View, Refusal>, len: &mut usize, view: &mut Vi
 }
 
 /// Writes what is signed of the input, the signature, the payload that it carries and the identifier of the key, one behind
-/// the other, and tells the rest in `view`. `detached` is looked at where `has_detached` isn't 0.
+/// the other, and says the rest in `view`. `detached` is looked at where `has_detached` isn't 0.
 #[unsafe(no_mangle)]
 pub extern "C" fn coset_sign1(
     alloc: Global,

@@ -154,7 +154,7 @@ fn try_create_ciphertext(alloc: Global, words: &Words<'_>) -> Result<String> {
 }
 
 /// The message; the plaintext; `external_aad`; the ciphertext that the closure makes; what becomes of the header. It is
-/// told what the call answers: the ciphertext, which isn't put into the message.
+/// given what the call returns: the ciphertext, which isn't put into the message.
 fn create_detached_ciphertext(alloc: Global, words: &Words<'_>) -> Result<String> {
     let plaintext = words.bytes(alloc, 2)?;
     let external_aad = words.bytes(alloc, 3)?;

@@ -17,7 +17,7 @@ pub fn perhaps(alloc: Global, answer: Result<Option<Vec<u8>>>) -> Result<String>
     }
 }
 
-/// What a call gave that answers the bytes which its closure made.
+/// What a call gave that returns the bytes which its closure made.
 ///
 /// # Errors
 /// `OutOfMemory` alone.

@@ -1,10 +1,10 @@
 //! `coset_calls`: makes the calls of messages with a MAC, encrypted messages, recipients and their builders, whose closures
-//! authenticate, verify, encrypt and decrypt, by their names, line by line, and tells what each gave.
+//! authenticate, verify, encrypt and decrypt, by their names, line by line, and prints what each returned.
 //!
-//! A line is `TYPE::CALL WORD..`, the name of a call and what it is given, as hexadecimal, numbers and words. An empty line, and a comment, which begins with `#`, is answered by itself.
+//! A line is `TYPE::CALL WORD..`, the name of a call and what it is given, as hexadecimal, numbers and words. An empty line, and a comment, which begins with `#`, is returned by itself.
 //!
 //! What a call is given is made ready first. Then the call is made, between two marks (`coset_lines::mark`), so that a
-//! process that is refused a request for memory there is refused one of the call's own; and what it gave is told last.
+//! process that is refused a request for memory there is refused one of the call's own; and what it returned is printed last.
 #![tactic(auto)]
 
 mod encrypt;

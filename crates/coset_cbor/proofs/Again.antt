@@ -8,7 +8,7 @@ use Rattle.std.proofs.lemmas.Str.{is_utf8-from_IsUtf8}
 use Rattle.std.proofs.lemmas.List.{take_at, drop_at, length-append, append_cancel_right}
 use Rattle.std.proofs.lemmas.Nat.{from_be_bytes-to_be_bytes_2, from_be_bytes-to_be_bytes_4, from_be_bytes-to_be_bytes_8}
 use Rattle.coset_cbor.specs.declared.fault.Fault.{Fault}
-use Rattle.coset_cbor.specs.Heads.{Argument, HeadSeen}
+use Rattle.coset_cbor.specs.Heads.{Argument, HeadView}
 use Rattle.coset_cbor.specs.Heads as places
 use Rattle.coset_value.specs.Item.{half, single, double, Item, integer, bytes, float, text, boolean, null, tag, array, dict, Items, no_items, item, Pairs}
 use Rattle.coset_value.specs.Item.{no_pairs, pair, items_count, pairs_count, depth, items_depth, pairs_depth}
@@ -64,7 +64,7 @@ first_div m k lt = omega arith
 first_mod : (m k : ℕ) → k < 32 → (32 * m + k) % 32 ≡ k
 first_mod m k lt = omega arith
 
-abbrev pub head_of : ℕ → Argument → HeadSeen
+abbrev pub head_of : ℕ → Argument → HeadView
 head_of m a = record { major_type = major_type_of m; argument = a }
 
 -- the first byte of type m with low bits k

@@ -1,4 +1,4 @@
--- The bytes behind the head of an array or a map are its members, and the first of them stands at the front.
+-- The bytes behind the head of an array or a map are its elements, and the first of them is at the front.
 use Rattle.std.proofs.Common.{◌≡◌, ℕ, zero, suc, ◌<◌, true, false, eqb, ltb, List, [], ◌∷◌, ◌++◌, length, Some, None, Ok, refl, sym, ap, subst, ◌∙◌, arith, inl}
 use Rattle.std.proofs.Common.{inr, ◌⊎◌}
 use Rattle.std.specs.Prelude.{◌≢◌, pos, negsuc, unwrap_or}
@@ -6,7 +6,7 @@ use Rattle.std.proofs.lemmas.List.{append-nil, take_at, drop_at, append_cancel_l
 use Rattle.coset_cbor.specs.declared.fault.Fault.TheVariants.{Simple}
 use Rattle.coset_cbor.specs.declared.head.MajorType.{MajorType}
 use Rattle.coset_cbor.specs.declared.head.MajorType.TheVariants as major_types
-use Rattle.coset_cbor.specs.Heads.{Argument, HeadSeen}
+use Rattle.coset_cbor.specs.Heads.{Argument, HeadView}
 use Rattle.coset_cbor.specs.Heads as places
 use Rattle.coset_value.specs.Item.{half, single, double, Item, integer, bytes, float, text, boolean, null, tag, array, dict, Items, no_items, item, Pairs}
 use Rattle.coset_value.specs.Item.{no_pairs, pair, items_count, pairs_count, items_depth, pairs_depth}
@@ -69,7 +69,7 @@ major_type_by inside left a major_types.Simple s x e = simple_major_type left a 
 
 -- what is read begins with a head of its kind
 record HasHead (b : List ℕ) (v : Item) : Type 0 where
-  head : HeadSeen × List ℕ
+  head : HeadView × List ℕ
   reads : head_at b ≡ Ok head
   major_type : item_major_type v ≡ head.0.major_type
 
@@ -86,10 +86,10 @@ has_head (suc d) b x e = head_from (things (item_at d)) b x e
 one_item_head : (b : List ℕ) → is_one_item b ≡ true → HasHead b (item_of b)
 one_item_head b one = has_head 256 b (item_of b, []) (one_item_read b one)
 
-pub one_item_major_type : (b : List ℕ) (h : HeadSeen × List ℕ) → is_one_item b ≡ true → head_at b ≡ Ok h → item_major_type (item_of b) ≡ h.0.major_type
+pub one_item_major_type : (b : List ℕ) (h : HeadView × List ℕ) → is_one_item b ≡ true → head_at b ≡ Ok h → item_major_type (item_of b) ≡ h.0.major_type
 one_item_major_type b h one e =
     let g = one_item_head b one in
-    g.major_type ∙ ap (λ (x : HeadSeen × List ℕ). x.0.major_type) (ok_is g.head h (sym g.reads ∙ e))
+    g.major_type ∙ ap (λ (x : HeadView × List ℕ). x.0.major_type) (ok_is g.head h (sym g.reads ∙ e))
 
 pub is_array : (v : Item) → ((vs : Items) × (v ≡ array vs)) ⊎ ((as_array v ≡ None) × (item_major_type v ≢ major_types.Array))
 is_array (integer (pos n)) = inr (refl, λ e. cc)
@@ -117,16 +117,16 @@ is_map (dict ps) = inl (ps, refl)
 
 -- ---- bytes behind a head
 
--- what follows a head: all the members, or the members and the break
-held_parts : (m n : ℕ) (c b : List ℕ) (h : HeadSeen × List ℕ) → IsHeld m n c b → head_at b ≡ Ok h → ((number_of h.0.argument ≡ Some n) × (h.1 ≡ c))
+-- what follows a head: all the elements, or the elements and the break
+held_parts : (m n : ℕ) (c b : List ℕ) (h : HeadView × List ℕ) → IsHeld m n c b → head_at b ≡ Ok h → ((number_of h.0.argument ≡ Some n) × (h.1 ≡ c))
     ⊎ ((number_of h.0.argument ≡ None) × (h.1 ≡ c ++ 255 ∷ []))
 held_parts m n c b h (inl is) e =
     let r = IsHeaded-again m n c b [] is in
     let same = ok_is (head_of m r.argument, c ++ []) h (sym r.reads ∙ ap head_at (append-nil b) ∙ e) in
-    inl (ap (λ (x : HeadSeen × List ℕ). number_of x.0.argument) (sym same) ∙ r.number, ap (λ (x : HeadSeen × List ℕ). x.1) (sym same) ∙ append-nil c)
+    inl (ap (λ (x : HeadView × List ℕ). number_of x.0.argument) (sym same) ∙ r.number, ap (λ (x : HeadView × List ℕ). x.1) (sym same) ∙ append-nil c)
 held_parts m n c b h (inr is) e =
     let same = ok_is (head_of m places.Indefinite, c ++ 255 ∷ []) h (sym (opening_again m (c ++ 255 ∷ [])) ∙ ap head_at (sym is) ∙ e) in
-    inr (ap (λ (x : HeadSeen × List ℕ). number_of x.0.argument) (sym same), ap (λ (x : HeadSeen × List ℕ). x.1) (sym same))
+    inr (ap (λ (x : HeadView × List ℕ). number_of x.0.argument) (sym same), ap (λ (x : HeadView × List ℕ). x.1) (sym same))
 
 fits_append : (b c : List ℕ) → IsBytes b → IsBytes c → IsBytes (b ++ c)
 fits_append [] c fits more i = more i
@@ -149,7 +149,7 @@ fits_around x s lt fits = fits_append (x ∷ []) (s ++ 255 ∷ []) (fits_one x l
 fits_inside : (x : ℕ) (s : List ℕ) → IsBytes (x ∷ (s ++ 255 ∷ [])) → IsBytes s
 fits_inside x s fits = fits_front s (255 ∷ []) (IsBytes-rest x (s ++ 255 ∷ []) fits)
 
--- what stands behind the head is what it holds
+-- what follows the head is what it holds
 content_held : (m n : ℕ) (k : MajorType) (c b s : List ℕ) → IsBytes b → IsHeld m n c b → IsContent k b s → (s ≡ c) × IsBytes c
 content_held m n k c b s fits is content =
     let h = content.head in
@@ -167,16 +167,16 @@ record AreItems (b : List ℕ) : Type 0 where
   encodings : AreEncodings items b
   low : items_depth items < 256
   fits : IsBytes b
-  seen : items_in b ≡ items
+  view : items_in b ≡ items
 
-items_seen : (b : List ℕ) (vs : Items) → item_of (array_around b) ≡ array vs → items_in b ≡ vs
+items_view : (b : List ℕ) (vs : Items) → item_of (array_around b) ≡ array vs → items_in b ≡ vs
 unfolding items_in
-items_seen b vs e = ap (λ (v : Item). unwrap_or (as_array v) no_items) e
+items_view b vs e = ap (λ (v : Item). unwrap_or (as_array v) no_items) e
 
 pub array_made : (b : List ℕ) (vs : Items) → AreEncodings vs b → items_depth vs < 256 → IsBytes b → (is_one_item (array_around b) ≡ true) × (items_in b ≡ vs)
 array_made b vs encodings low fits =
     let is : IsItem (array_around b) (array vs) = ((b, encodings, inr refl), omega arith) in
-    (one_item_from (array_around b) (array vs) (fits_around 0x9F b (omega arith) fits) is, items_seen b vs (item_of_one (array_around b) (array vs) is))
+    (one_item_from (array_around b) (array vs) (fits_around 0x9F b (omega arith) fits) is, items_view b vs (item_of_one (array_around b) (array vs) is))
 
 array_inside : (b : List ℕ) (vs : Items) → item_of (array_around b) ≡ array vs → is_one_item (array_around b) ≡ true → AreItems b
 array_inside b vs e one =
@@ -192,7 +192,7 @@ array_inside b vs e one =
       encodings = subst (λ (s : List ℕ). AreEncodings vs s) (sym same) is.0.1;
       low = omega arith;
       fits = fits_inside 0x9F b (one_item_bytes (array_around b) one);
-      seen = items_seen b vs e;
+      view = items_view b vs e;
     }
 
 are_items : (b : List ℕ) → is_one_item (array_around b) ≡ true → AreItems b
@@ -201,10 +201,10 @@ are_items b one = elim (is_array (item_of (array_around b))) [
   | inr a ↦ absurd (a.1 (one_item_major_type (array_around b) (head_of 4 places.Indefinite, b ++ 255 ∷ []) one (opening_again 4 (b ++ 255 ∷ []))))
 ]
 
--- the members of an array that is one item stand behind its head
+-- the elements of an array that is one item follow its head
 pub record HoldsItems (b s : List ℕ) : Type 0 where
   pub one : is_one_item (array_around s) ≡ true
-  pub seen : Some (items_in s) ≡ as_array (item_of b)
+  pub view : Some (items_in s) ≡ as_array (item_of b)
   pub held : IsHeld 4 (items_count (items_in s)) s b
 
 pub array_content : (b s : List ℕ) → is_one_item b ≡ true → IsContent major_types.Array b s → HoldsItems b s
@@ -217,13 +217,13 @@ array_content b s one content = elim (is_array (item_of b)) [
       (subst (λ (x : List ℕ). IsBytes x) (sym held.0) held.1) in
       record {
         one = made.0;
-        seen = ap (λ (vs : Items). Some vs) made.1 ∙ ap as_array (sym a.1);
+        view = ap (λ (vs : Items). Some vs) made.1 ∙ ap as_array (sym a.1);
         held = subst (λ (vs : Items). IsHeld 4 (items_count vs) s b) (sym made.1) (subst (λ (x : List ℕ). IsHeld 4 (items_count a.0) x b) (sym held.0) is.0.2);
       }
   | inr a ↦ absurd (a.1 (one_item_major_type b content.head one content.reads ∙ content.major_type))
 ]
 
-pub no_array : (b : List ℕ) → is_one_item b ≡ true → ((h : HeadSeen × List ℕ) → head_at b ≡ Ok h → h.0.major_type ≢ major_types.Array)
+pub no_array : (b : List ℕ) → is_one_item b ≡ true → ((h : HeadView × List ℕ) → head_at b ≡ Ok h → h.0.major_type ≢ major_types.Array)
     → None ≡ as_array (item_of b)
 no_array b one other = elim (is_array (item_of b)) [
   | inl a ↦ let h = one_item_head b one in absurd (other h.head h.reads (sym h.major_type ∙ ap item_major_type a.1))
@@ -244,28 +244,28 @@ no_item_in_none (x ∷ s) none v f rest e is = omega arith
 -- the first item, and the others
 pub record FirstItem (b rest : List ℕ) (v : Item) : Type 0 where
   pub others : is_one_item (array_around rest) ≡ true
-  pub seen : items_in b ≡ item v (items_in rest)
+  pub view : items_in b ≡ item v (items_in rest)
 
 first_of : (b f rest : List ℕ) (v : Item) (vs : Items) → AreEncodings vs b → items_depth vs < 256 → IsBytes b → items_in b ≡ vs → b ≡ f ++ rest → IsItem f v
     → FirstItem b rest v
-first_of b f rest v no_items encodings low fits seen e is = absurd (no_empty v f rest (sym encodings ∙ e) is.0)
-first_of b f rest v (item w ws) encodings low fits seen e is =
+first_of b f rest v no_items encodings low fits view e is = absurd (no_empty v f rest (sym encodings ∙ e) is.0)
+first_of b f rest v (item w ws) encodings low fits view e is =
     let same = encodings_differ v w f encodings.0 rest encodings.1 is.0 encodings.2 (sym e ∙ encodings.4) in
     let after : encodings.1 ≡ rest = append_cancel_left f encodings.1 rest (ap (λ (s : List ℕ). s ++ encodings.1) same.1 ∙ sym encodings.4 ∙ e) in
     let made = array_made rest ws (subst (λ (s : List ℕ). AreEncodings ws s) after encodings.3) (omega arith)
     (fits_back f rest (subst (λ (s : List ℕ). IsBytes s) e fits)) in
-    record { others = made.0; seen = seen ∙ ap (λ (x : Item). item x ws) (sym same.0) ∙ ap (item v) (sym made.1) }
+    record { others = made.0; view = view ∙ ap (λ (x : Item). item x ws) (sym same.0) ∙ ap (item v) (sym made.1) }
 
 pub first_item : (b f rest : List ℕ) (v : Item) → is_one_item (array_around b) ≡ true → b ≡ f ++ rest → IsItem f v → FirstItem b rest v
-first_item b f rest v one e is = let a = are_items b one in first_of b f rest v a.items a.encodings a.low a.fits a.seen e is
+first_item b f rest v one e is = let a = are_items b one in first_of b f rest v a.items a.encodings a.low a.fits a.view e is
 
 none_of : (b : List ℕ) (vs : Items) → AreEncodings vs b → items_depth vs < 256 → ((v : Item) (f rest : List ℕ) → b ≡ f ++ rest → IsItem f v → ⊥) → vs ≡ no_items
 none_of b no_items encodings low none = refl
 none_of b (item w ws) encodings low none = absurd (none w encodings.0 encodings.1 encodings.4 (encodings.2, omega arith))
 
--- where no item stands at the front, none is left
+-- where no item is at the front, none is left
 pub no_first_item : (b : List ℕ) → is_one_item (array_around b) ≡ true → ((v : Item) (f rest : List ℕ) → b ≡ f ++ rest → IsItem f v → ⊥) → items_in b ≡ no_items
-no_first_item b one none = let a = are_items b one in a.seen ∙ none_of b a.items a.encodings a.low none
+no_first_item b one none = let a = are_items b one in a.view ∙ none_of b a.items a.encodings a.low none
 
 -- ---- maps
 
@@ -275,16 +275,16 @@ record ArePairs (b : List ℕ) : Type 0 where
   encodings : ArePairEncodings pairs b
   low : pairs_depth pairs < 256
   fits : IsBytes b
-  seen : pairs_in b ≡ pairs
+  view : pairs_in b ≡ pairs
 
-pairs_seen : (b : List ℕ) (ps : Pairs) → item_of (map_around b) ≡ dict ps → pairs_in b ≡ ps
+pairs_view : (b : List ℕ) (ps : Pairs) → item_of (map_around b) ≡ dict ps → pairs_in b ≡ ps
 unfolding pairs_in
-pairs_seen b ps e = ap (λ (v : Item). unwrap_or (as_map v) no_pairs) e
+pairs_view b ps e = ap (λ (v : Item). unwrap_or (as_map v) no_pairs) e
 
 pub map_made : (b : List ℕ) (ps : Pairs) → ArePairEncodings ps b → pairs_depth ps < 256 → IsBytes b → (is_one_item (map_around b) ≡ true) × (pairs_in b ≡ ps)
 map_made b ps encodings low fits =
     let is : IsItem (map_around b) (dict ps) = ((b, encodings, inr refl), omega arith) in
-    (one_item_from (map_around b) (dict ps) (fits_around 0xBF b (omega arith) fits) is, pairs_seen b ps (item_of_one (map_around b) (dict ps) is))
+    (one_item_from (map_around b) (dict ps) (fits_around 0xBF b (omega arith) fits) is, pairs_view b ps (item_of_one (map_around b) (dict ps) is))
 
 map_inside : (b : List ℕ) (ps : Pairs) → item_of (map_around b) ≡ dict ps → is_one_item (map_around b) ≡ true → ArePairs b
 map_inside b ps e one =
@@ -300,7 +300,7 @@ map_inside b ps e one =
       encodings = subst (λ (s : List ℕ). ArePairEncodings ps s) (sym same) is.0.1;
       low = omega arith;
       fits = fits_inside 0xBF b (one_item_bytes (map_around b) one);
-      seen = pairs_seen b ps e;
+      view = pairs_view b ps e;
     }
 
 are_pairs : (b : List ℕ) → is_one_item (map_around b) ≡ true → ArePairs b
@@ -309,10 +309,10 @@ are_pairs b one = elim (is_map (item_of (map_around b))) [
   | inr a ↦ absurd (a.1 (one_item_major_type (map_around b) (head_of 5 places.Indefinite, b ++ 255 ∷ []) one (opening_again 5 (b ++ 255 ∷ []))))
 ]
 
--- the pairs of a map that is one item stand behind its head
+-- the pairs of a map that is one item follow its head
 pub record HoldsPairs (b s : List ℕ) : Type 0 where
   pub one : is_one_item (map_around s) ≡ true
-  pub seen : Some (pairs_in s) ≡ as_map (item_of b)
+  pub view : Some (pairs_in s) ≡ as_map (item_of b)
   pub held : IsHeld 5 (pairs_count (pairs_in s)) s b
 
 pub map_content : (b s : List ℕ) → is_one_item b ≡ true → IsContent major_types.Map b s → HoldsPairs b s
@@ -325,13 +325,13 @@ map_content b s one content = elim (is_map (item_of b)) [
       (subst (λ (x : List ℕ). IsBytes x) (sym held.0) held.1) in
       record {
         one = made.0;
-        seen = ap (λ (ps : Pairs). Some ps) made.1 ∙ ap as_map (sym a.1);
+        view = ap (λ (ps : Pairs). Some ps) made.1 ∙ ap as_map (sym a.1);
         held = subst (λ (ps : Pairs). IsHeld 5 (pairs_count ps) s b) (sym made.1) (subst (λ (x : List ℕ). IsHeld 5 (pairs_count a.0) x b) (sym held.0) is.0.2);
       }
   | inr a ↦ absurd (a.1 (one_item_major_type b content.head one content.reads ∙ content.major_type))
 ]
 
-pub no_map : (b : List ℕ) → is_one_item b ≡ true → ((h : HeadSeen × List ℕ) → head_at b ≡ Ok h → h.0.major_type ≢ major_types.Map) → None ≡ as_map (item_of b)
+pub no_map : (b : List ℕ) → is_one_item b ≡ true → ((h : HeadView × List ℕ) → head_at b ≡ Ok h → h.0.major_type ≢ major_types.Map) → None ≡ as_map (item_of b)
 no_map b one other = elim (is_map (item_of b)) [
   | inl a ↦ let h = one_item_head b one in absurd (other h.head h.reads (sym h.major_type ∙ ap item_major_type a.1))
   | inr a ↦ sym a.0
@@ -340,12 +340,12 @@ no_map b one other = elim (is_map (item_of b)) [
 -- the first pair, and the others
 pub record FirstPair (b rest : List ℕ) (k v : Item) : Type 0 where
   pub others : is_one_item (map_around rest) ≡ true
-  pub seen : pairs_in b ≡ pair k v (pairs_in rest)
+  pub view : pairs_in b ≡ pair k v (pairs_in rest)
 
 first_pair_of : (b f mid g rest : List ℕ) (k v : Item) (ps : Pairs) → ArePairEncodings ps b → pairs_depth ps < 256 → IsBytes b → pairs_in b ≡ ps → b ≡ f ++ mid
     → mid ≡ g ++ rest → IsItem f k → IsItem g v → FirstPair b rest k v
-first_pair_of b f mid g rest k v no_pairs encodings low fits seen e d is and = absurd (no_empty k f mid (sym encodings ∙ e) is.0)
-first_pair_of b f mid g rest k v (pair x y ps) (c, i, j, key, value, more, parts) low fits seen e d is and =
+first_pair_of b f mid g rest k v no_pairs encodings low fits view e d is and = absurd (no_empty k f mid (sym encodings ∙ e) is.0)
+first_pair_of b f mid g rest k v (pair x y ps) (c, i, j, key, value, more, parts) low fits view e d is and =
     let first = encodings_differ k x f c mid (i ++ j) is.0 key (sym e ∙ parts) in
     let after : i ++ j ≡ mid = append_cancel_left f (i ++ j) mid (ap (λ (s : List ℕ). s ++ (i ++ j)) first.1 ∙ sym parts ∙ e) in
     let second = encodings_differ v y g i rest j and.0 value (sym d ∙ sym after) in
@@ -354,22 +354,22 @@ first_pair_of b f mid g rest k v (pair x y ps) (c, i, j, key, value, more, parts
     let made = map_made rest ps (subst (λ (s : List ℕ). ArePairEncodings ps s) end more) (omega arith) left in
     record {
       others = made.0;
-      seen = seen ∙ ap (λ (z : Item). pair z y ps) (sym first.0) ∙ ap (λ (z : Item). pair k z ps) (sym second.0)
+      view = view ∙ ap (λ (z : Item). pair z y ps) (sym first.0) ∙ ap (λ (z : Item). pair k z ps) (sym second.0)
           ∙ ap (pair k v) (sym made.1);
     }
 
 pub first_pair : (b f mid g rest : List ℕ) (k v : Item) → is_one_item (map_around b) ≡ true → b ≡ f ++ mid → mid ≡ g ++ rest → IsItem f k → IsItem g v
     → FirstPair b rest k v
-first_pair b f mid g rest k v one e d is and = let a = are_pairs b one in first_pair_of b f mid g rest k v a.pairs a.encodings a.low a.fits a.seen e d is and
+first_pair b f mid g rest k v one e d is and = let a = are_pairs b one in first_pair_of b f mid g rest k v a.pairs a.encodings a.low a.fits a.view e d is and
 
 none_key : (b : List ℕ) (ps : Pairs) → ArePairEncodings ps b → pairs_depth ps < 256 → ((v : Item) (f rest : List ℕ) → b ≡ f ++ rest → IsItem f v → ⊥)
     → ps ≡ no_pairs
 none_key b no_pairs encodings low none = refl
 none_key b (pair x y ps) (c, i, j, key, value, more, parts) low none = absurd (none x c (i ++ j) parts (key, omega arith))
 
--- where no key stands at the front, no pair is left
+-- where no key is at the front, no pair is left
 pub no_first_key : (b : List ℕ) → is_one_item (map_around b) ≡ true → ((v : Item) (f rest : List ℕ) → b ≡ f ++ rest → IsItem f v → ⊥) → pairs_in b ≡ no_pairs
-no_first_key b one none = let a = are_pairs b one in a.seen ∙ none_key b a.pairs a.encodings a.low none
+no_first_key b one none = let a = are_pairs b one in a.view ∙ none_key b a.pairs a.encodings a.low none
 
 value_of : (b f mid : List ℕ) (k : Item) (ps : Pairs) → ArePairEncodings ps b → pairs_depth ps < 256 → b ≡ f ++ mid → IsItem f k
     → ((v : Item) (g rest : List ℕ) → mid ≡ g ++ rest → IsItem g v → ⊥) → ⊥
@@ -379,12 +379,12 @@ value_of b f mid k (pair x y ps) (c, i, j, key, value, more, parts) low e is non
     let after : i ++ j ≡ mid = append_cancel_left f (i ++ j) mid (ap (λ (s : List ℕ). s ++ (i ++ j)) first.1 ∙ sym parts ∙ e) in
     none y i j (sym after) (value, omega arith)
 
--- a value stands behind each key
+-- a value follows each key
 pub has_value : (b f mid : List ℕ) (k : Item) → is_one_item (map_around b) ≡ true → b ≡ f ++ mid → IsItem f k
     → ((v : Item) (g rest : List ℕ) → mid ≡ g ++ rest → IsItem g v → ⊥) → ⊥
 has_value b f mid k one e is none = let a = are_pairs b one in value_of b f mid k a.pairs a.encodings a.low e is none
 
--- ---- bytes are encodings of these members alone
+-- ---- bytes are encodings of these elements alone
 
 only_items : (vs ws : Items) (b : List ℕ) → AreEncodings vs b → AreEncodings ws b → vs ≡ ws
 only_items no_items no_items b h k = refl
@@ -411,13 +411,13 @@ only_pairs (pair x y ps) (pair z w qs) b h k =
 pub items_alone : (b : List ℕ) → is_one_item (array_around b) ≡ true → AreEncodings (items_in b) b × ((vs : Items) → AreEncodings vs b → vs ≡ items_in b)
 items_alone b one =
     let a = are_items b one in
-    let here = subst (λ (vs : Items). AreEncodings vs b) (sym a.seen) a.encodings in
+    let here = subst (λ (vs : Items). AreEncodings vs b) (sym a.view) a.encodings in
     (here, λ vs h. only_items vs (items_in b) b h here)
 
 pub pairs_alone : (b : List ℕ) → is_one_item (map_around b) ≡ true → ArePairEncodings (pairs_in b) b × ((ps : Pairs) → ArePairEncodings ps b → ps ≡ pairs_in b)
 pairs_alone b one =
     let a = are_pairs b one in
-    let here = subst (λ (ps : Pairs). ArePairEncodings ps b) (sym a.seen) a.encodings in
+    let here = subst (λ (ps : Pairs). ArePairEncodings ps b) (sym a.view) a.encodings in
     (here, λ ps h. only_pairs ps (pairs_in b) b h here)
 
 -- ---- bytes that are left begin with an item

@@ -1,4 +1,4 @@
--- Where a fault stands, nothing is read.
+-- Where there is a fault, nothing is read.
 use Rattle.std.proofs.Common.{◌≡◌, ℕ, zero, suc, ◌+◌, ◌*◌, ◌/◌, ◌%◌, ◌^◌, ◌<◌, ◌≤◌, Bool, true, false, ltb, List, [], ◌∷◌, ◌++◌, length, Option, Result, Ok}
 use Rattle.std.proofs.Common.{refl, sym, ap, subst, ◌∙◌, append_assoc, add-zero, add-one, arith, inl, inr, ◌⊎◌}
 use Rattle.std.specs.Prelude.{not, pos, negsuc}
@@ -11,7 +11,7 @@ use Rattle.coset_value.specs.View.{items_of, pairs_of}
 use Rattle.coset_cbor.specs.declared.fault.Fault.{Fault}
 use Rattle.coset_cbor.specs.declared.fault.Fault.TheVariants.{End}
 use Rattle.coset_cbor.specs.declared.head.MajorType.TheVariants as major_types
-use Rattle.coset_cbor.specs.Heads.{HeadSeen}
+use Rattle.coset_cbor.specs.Heads.{HeadView}
 use Rattle.coset_cbor.specs.Grammar.{HeadWidth, within, one, two, four, eight, Holds, head_in, IsStringEncoding, IsHead, IsHeaded, IsEncoding, AreEncodings}
 use Rattle.coset_cbor.specs.Faults.{is_even, Opens, in_array, in_map, in_tag, in_open_array, in_open_map, Due, at_start, innermost, outer}
 use Rattle.coset_cbor.specs.Reading.{◌>>=◌, number_of, begins_break, times_at, until_at, pair_at, array_by, map_by, things, item_by, item_at}
@@ -158,7 +158,7 @@ pairs_until_blocked d (suc turns) (item v (item w vs)) c t x fits h never goes e
 
 -- ---- what opens
 
--- what stands behind an opening and can't be there
+-- what follows an opening and can't be there
 abbrev pub IsBlocked : Bool → ℕ → List ℕ → Type 0
 IsBlocked e d t = NoRead d t × (e ≡ true → begins_break t ≡ false)
 
@@ -170,7 +170,7 @@ unfolding item_at things
 opens_blocked o e (in_tag n p h) d t fits never x is =
     let r = IsHead-again 6 n p t h in
     let whole : item_by (things (item_at d)) (length (p ++ t)) r.argument major_types.Tag t ≡ Ok x =
-    sym (ap (λ (y : Result (HeadSeen × List ℕ) Fault). y >>= λ h. item_by (things (item_at d)) (length (p ++ t)) h.0.argument h.0.major_type h.1) r.reads)
+    sym (ap (λ (y : Result (HeadView × List ℕ) Fault). y >>= λ h. item_by (things (item_at d)) (length (p ++ t)) h.0.argument h.0.major_type h.1) r.reads)
     ∙ is in
     let m = some_ok (length (p ++ t)) (number_of r.argument) (λ n. item_at d t >>= λ y. Ok (tag n y.0, y.1)) x whole in
     let w = bind_ok (item_at d t) (λ y. Ok (tag m.0 y.0, y.1)) x m.2 in
@@ -178,7 +178,7 @@ opens_blocked o e (in_tag n p h) d t fits never x is =
 opens_blocked o e (in_array n vs c p lt encodings h) d t fits never x is =
     let r = IsHeaded-again 4 n c p t h in
     let whole : (array_by (item_at d) (number_of r.argument) (c ++ t) >>= λ y. Ok (array (items_of y.0), y.1)) ≡ Ok x =
-    sym (ap (λ (y : Result (HeadSeen × List ℕ) Fault). y >>= λ h. item_by (things (item_at d)) (length (p ++ t)) h.0.argument h.0.major_type h.1) r.reads)
+    sym (ap (λ (y : Result (HeadView × List ℕ) Fault). y >>= λ h. item_by (things (item_at d)) (length (p ++ t)) h.0.argument h.0.major_type h.1) r.reads)
     ∙ is in
     let w = bind_ok (array_by (item_at d) (number_of r.argument) (c ++ t)) (λ y. Ok (array (items_of y.0), y.1)) x whole in
     let g = guard_ok (ltb (length (c ++ t)) n) End (times_at (item_at d) n (c ++ t)) w.0
@@ -187,7 +187,7 @@ opens_blocked o e (in_array n vs c p lt encodings h) d t fits never x is =
 opens_blocked o e (in_map n vs c p lt encodings h) d t fits never x is =
     let r = IsHeaded-again 5 n c p t h in
     let whole : (map_by (item_at d) (number_of r.argument) (c ++ t) >>= λ y. Ok (dict (pairs_of y.0), y.1)) ≡ Ok x =
-    sym (ap (λ (y : Result (HeadSeen × List ℕ) Fault). y >>= λ h. item_by (things (item_at d)) (length (p ++ t)) h.0.argument h.0.major_type h.1) r.reads)
+    sym (ap (λ (y : Result (HeadView × List ℕ) Fault). y >>= λ h. item_by (things (item_at d)) (length (p ++ t)) h.0.argument h.0.major_type h.1) r.reads)
     ∙ is in
     let w = bind_ok (map_by (item_at d) (number_of r.argument) (c ++ t)) (λ y. Ok (dict (pairs_of y.0), y.1)) x whole in
     let g = guard_ok (ltb (length (c ++ t) / 2) n) End (times_at (pair_at (item_at d)) n (c ++ t)) w.0
@@ -195,13 +195,13 @@ opens_blocked o e (in_map n vs c p lt encodings h) d t fits never x is =
     pairs_blocked d n vs c t w.0 (headed_fits 5 n c p t h fits) encodings lt never.0 g.1
 opens_blocked o e (in_open_array vs c encodings) d t fits never x is =
     let whole : (until_at (item_at d) (length (c ++ t)) (c ++ t) >>= λ y. Ok (array (items_of y.0), y.1)) ≡ Ok x =
-    sym (ap (λ (y : Result (HeadSeen × List ℕ) Fault). y >>= λ h. item_by (things (item_at d)) (suc (length (c ++ t))) h.0.argument h.0.major_type h.1)
+    sym (ap (λ (y : Result (HeadView × List ℕ) Fault). y >>= λ h. item_by (things (item_at d)) (suc (length (c ++ t))) h.0.argument h.0.major_type h.1)
     (opening_again 4 (c ++ t))) ∙ is in
     let w = bind_ok (until_at (item_at d) (length (c ++ t)) (c ++ t)) (λ y. Ok (array (items_of y.0), y.1)) x whole in
     until_blocked d (length (c ++ t)) vs c t w.0 (λ i. fits (suc i)) encodings never.0 (never.1 refl) w.1
 opens_blocked o e (in_open_map vs c encodings) d t fits never x is =
     let whole : (until_at (pair_at (item_at d)) (length (c ++ t)) (c ++ t) >>= λ y. Ok (dict (pairs_of y.0), y.1)) ≡ Ok x =
-    sym (ap (λ (y : Result (HeadSeen × List ℕ) Fault). y >>= λ h. item_by (things (item_at d)) (suc (length (c ++ t))) h.0.argument h.0.major_type h.1)
+    sym (ap (λ (y : Result (HeadView × List ℕ) Fault). y >>= λ h. item_by (things (item_at d)) (suc (length (c ++ t))) h.0.argument h.0.major_type h.1)
     (opening_again 5 (c ++ t))) ∙ is in
     let w = bind_ok (until_at (pair_at (item_at d)) (length (c ++ t)) (c ++ t)) (λ y. Ok (dict (pairs_of y.0), y.1)) x whole in
     pairs_until_blocked d (length (c ++ t)) vs c t w.0 (λ i. fits (suc i)) encodings never.0 never.1 w.1

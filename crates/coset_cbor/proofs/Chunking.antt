@@ -9,7 +9,7 @@ use Rattle.coset_cbor.specs.declared.fault.Fault.{Fault}
 use Rattle.coset_cbor.specs.declared.fault.Fault.TheVariants.{End, Syntax, Simple}
 use Rattle.coset_cbor.specs.declared.head.MajorType.{MajorType}
 use Rattle.coset_cbor.specs.declared.head.MajorType.TheVariants as major_types
-use Rattle.coset_cbor.specs.Heads.{Argument, HeadSeen}
+use Rattle.coset_cbor.specs.Heads.{Argument, HeadView, major_type_number}
 use Rattle.coset_cbor.specs.Heads as places
 use Rattle.std.specs.Prelude.{pos, negsuc}
 use Rattle.coset_cbor.specs.Grammar.{IsHeaded, EachInOrder, joined_chunks, string_type, IsDefinite, IsIndefinite}
@@ -18,7 +18,7 @@ use Rattle.coset_cbor.specs.Reading.{things, item_by, item_at}
 use Rattle.coset_cbor.specs.Whole.{are_bytes, is_one_item, item_of}
 use Rattle.coset_cbor.specs.StringChunks.{as_string, chunks_read, is_all_read, contents_or_none, are_chunks, chunk_contents, AreChunksOf}
 use Rattle.coset_cbor.proofs.Again.{EachInOrder-long, chunk_again, chunk_reads, until_again}
-use Rattle.coset_cbor.proofs.Takes.{IsBytes, IsBytes-take, IsBytes-rest, bind_ok, done, ok_is, chosen, some_ok, head_takes, none_head, major_type_number}
+use Rattle.coset_cbor.proofs.Takes.{IsBytes, IsBytes-take, IsBytes-rest, bind_ok, done, ok_is, chosen, some_ok, head_takes, none_head}
 use Rattle.coset_cbor.proofs.Takes.{chunk_type, chunk_takes, until_take}
 use Rattle.coset_cbor.proofs.Heads.{one_item_by}
 use Rattle.coset_cbor.proofs.Whole.{both, are_bytes_is, are_bytes_from, one_item_bytes}
@@ -143,7 +143,7 @@ pub chunks_alone : (is_text : Bool) (b : List ℕ) → are_chunks is_text b ≡ 
     × ((ss : List (List ℕ)) → EachInOrder (IsDefinite is_text) ss b → ss ≡ chunk_contents is_text b)
 chunks_alone is_text b are = ((chunks_are is_text b are).each, λ ss h. sym (contents_are is_text ss b h))
 
--- ---- the item that stands behind a head
+-- ---- the item that follows a head
 
 abbrev unread : Fault → Result (Item × List ℕ) Fault
 unread f = Err f
@@ -223,7 +223,7 @@ simple_read is_text left (places.Four n) s v rest e = other_is is_text (float (s
 simple_read is_text left (places.Eight n) s v rest e = other_is is_text (float (double n)) v s rest (not_string is_text (float (double n)) refl refl) e
 simple_read is_text left places.Indefinite s v rest e = absurd (item_apart (v, rest) (Syntax left) (sym e))
 
--- behind a head of another kind stands no string of this one
+-- behind a head of another kind is no string of this one
 pub other_read : (is_text : Bool) (inside : Inside) (left : ℕ) (a : Argument) (k : MajorType) (s : List ℕ) (v : Item) (rest : List ℕ)
     → begins_chunk is_text k ≡ false → item_by inside left a k s ≡ Ok (v, rest) → as_string is_text v ≡ None
 other_read is_text inside left a major_types.Unsigned s v rest is e =
@@ -252,7 +252,7 @@ other_read is_text inside left a major_types.Tag s v rest is e =
     other_is is_text (tag n.0 r.0.0) v r.0.1 rest (not_string is_text (tag n.0 r.0.0) refl refl) r.2
 other_read is_text inside left a major_types.Simple s v rest is e = simple_read is_text left a s v rest e
 
-pub no_string : (is_text : Bool) (b : List ℕ) (h : HeadSeen × List ℕ) → is_one_item b ≡ true → head_at b ≡ Ok h → begins_chunk is_text h.0.major_type ≡ false
+pub no_string : (is_text : Bool) (b : List ℕ) (h : HeadView × List ℕ) → is_one_item b ≡ true → head_at b ≡ Ok h → begins_chunk is_text h.0.major_type ≡ false
     → as_string is_text (item_of b) ≡ None
 no_string is_text b h is e major_type = other_read is_text (things (item_at 255)) (length b) h.0.argument h.0.major_type h.1 (item_of b) [] major_type
     (one_item_by b h is e)
@@ -260,7 +260,7 @@ no_string is_text b h is e major_type = other_read is_text (things (item_at 255)
 -- ---- the chunks of a string
 
 -- a string behind its length is its only chunk
-pub whole_chunk : (is_text : Bool) (b : List ℕ) (h : HeadSeen × List ℕ) (n : ℕ) → is_one_item b ≡ true → head_at b ≡ Ok h
+pub whole_chunk : (is_text : Bool) (b : List ℕ) (h : HeadView × List ℕ) (n : ℕ) → is_one_item b ≡ true → head_at b ≡ Ok h
     → begins_chunk is_text h.0.major_type ≡ true → number_of h.0.argument ≡ Some n → AreChunksOf is_text b b
 unfolding chunk_at
 whole_chunk is_text b h n is e major_type number =
@@ -290,7 +290,7 @@ fronts_same s c x y e =
 IsBytes-front : (s : List ℕ) (x : ℕ) → IsBytes (s ++ x ∷ []) → IsBytes s
 IsBytes-front s x fits = subst (λ (c : List ℕ). IsBytes c) (take_at s (x ∷ []) (length s) refl) (IsBytes-take (length s) (s ++ x ∷ []) fits)
 
--- what stands between an opening without a length and the break
+-- what is between an opening without a length and the break
 record Between (is_text : Bool) (b s : List ℕ) : Type 0 where
   contents : List (List ℕ)
   chunks : List ℕ
@@ -300,7 +300,7 @@ record Between (is_text : Bool) (b s : List ℕ) : Type 0 where
   broken : IsIndefinite (string_type is_text) chunks b
   whole : as_string is_text (item_of b) ≡ Some (joined_chunks contents)
 
-between_of : (is_text : Bool) (b : List ℕ) (h : HeadSeen × List ℕ) → is_one_item b ≡ true → head_at b ≡ Ok h → begins_chunk is_text h.0.major_type ≡ true
+between_of : (is_text : Bool) (b : List ℕ) (h : HeadView × List ℕ) → is_one_item b ≡ true → head_at b ≡ Ok h → begins_chunk is_text h.0.major_type ≡ true
     → number_of h.0.argument ≡ None → Between is_text b h.1
 unfolding chunks_at
 between_of is_text b h is e major_type number =
@@ -325,7 +325,7 @@ between_of is_text b h is e major_type number =
       whole = r.is ∙ ap Some (sym content);
     }
 
-pub broken_chunks : (is_text : Bool) (b : List ℕ) (h : HeadSeen × List ℕ) (s : List ℕ) (last : ℕ) → is_one_item b ≡ true → head_at b ≡ Ok h
+pub broken_chunks : (is_text : Bool) (b : List ℕ) (h : HeadView × List ℕ) (s : List ℕ) (last : ℕ) → is_one_item b ≡ true → head_at b ≡ Ok h
     → begins_chunk is_text h.0.major_type ≡ true → number_of h.0.argument ≡ None → h.1 ≡ s ++ last ∷ [] → AreChunksOf is_text b s
 broken_chunks is_text b h s last is e major_type number parts =
     let t = between_of is_text b h is e major_type number in
@@ -345,7 +345,7 @@ broken_chunks is_text b h s last is e major_type number parts =
     }
 
 -- a break follows
-pub has_break : (is_text : Bool) (b : List ℕ) (h : HeadSeen × List ℕ) → is_one_item b ≡ true → head_at b ≡ Ok h → begins_chunk is_text h.0.major_type ≡ true
+pub has_break : (is_text : Bool) (b : List ℕ) (h : HeadView × List ℕ) → is_one_item b ≡ true → head_at b ≡ Ok h → begins_chunk is_text h.0.major_type ≡ true
     → number_of h.0.argument ≡ None → length h.1 ≡ 0 → ⊥
 has_break is_text b h is e major_type number none =
     let t = between_of is_text b h is e major_type number in

@@ -327,7 +327,7 @@ item_exact (suc d) v b rest k h le = from_exact (suc d) (steps_of (item_at d) (i
 pub one_cost_lem : (v : Item) (b : List ℕ) (j k : ℕ) → IsCost v b j → IsCost v b k → j ≡ k
 one_cost_lem v b j k h i = sym (item_exact (depth v) v b [] j h (omega arith)) ∙ item_exact (depth v) v b [] k i (omega arith)
 
--- ---- arrays of one member inside one another
+-- ---- arrays of one element inside one another
 
 abbrev nest : ℕ → Item
 nest zero = array no_items

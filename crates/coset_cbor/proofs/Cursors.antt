@@ -1,4 +1,4 @@
--- Items that stand at the front, and the members of an array behind its head.
+-- Items at the front, and the elements of an array behind its head.
 use Rattle.std.proofs.Common.{◌≡◌, ◌≢◌, ℕ, zero, suc, ◌+◌, ◌<◌, ◌≤◌, true, false, ltb, List, [], ◌∷◌, ◌++◌, length, drop, ◌-◌, inl, inr, ◌⊎◌, Option, Some}
 use Rattle.std.proofs.Common.{None, Result, Ok, Err, option_map, refl, sym, ap, subst, ◌∙◌, arith}
 use Rattle.std.proofs.lemmas.List.{length-append}
@@ -9,7 +9,7 @@ use Rattle.coset_cbor.specs.declared.fault.Fault.{Fault}
 use Rattle.coset_cbor.specs.declared.fault.Fault.TheVariants.{End}
 use Rattle.coset_cbor.specs.declared.head.MajorType.{MajorType}
 use Rattle.coset_cbor.specs.declared.head.MajorType.TheVariants as major_types
-use Rattle.coset_cbor.specs.Heads.{Argument, HeadSeen}
+use Rattle.coset_cbor.specs.Heads.{Argument, HeadView, major_type_number}
 use Rattle.coset_cbor.specs.Heads as places
 use Rattle.coset_value.specs.Item.{Item, array, dict, Items, no_items, item, items_count}
 use Rattle.coset_value.specs.View.{items_of, pairs_of}
@@ -18,7 +18,7 @@ use Rattle.coset_cbor.specs.Grammar.{IsItem}
 use Rattle.coset_cbor.specs.Reading.{◌>>=◌, number_of, head_at, begins_break, times_at, until_at, pair_at, things, item_by, item_at}
 use Rattle.coset_cbor.specs.Skips.{item_major_type}
 use Rattle.coset_cbor.specs.Cursors.{ItemAt, AreAt, AreWithin, Doubles, keys_and_values, map_items}
-use Rattle.coset_cbor.proofs.Takes.{IsBytes, IsArgumentEncoding, major_type_number, bind_ok, ok_is, guard_ok, chosen, break_is, head_takes, item_takes}
+use Rattle.coset_cbor.proofs.Takes.{IsBytes, IsArgumentEncoding, bind_ok, ok_is, guard_ok, chosen, break_is, head_takes, item_takes}
 use Rattle.coset_cbor.proofs.Again.{IsEncoding-begins, item_again}
 use Rattle.coset_cbor.proofs.Between.{major_type_by, is_array, is_map}
 
@@ -31,7 +31,7 @@ one_of x = x.0
 abbrev rest_of : {A : Type 0} → A × List ℕ → List ℕ
 rest_of x = x.1
 
--- ---- an item that stands at the front
+-- ---- an item at the front
 
 pub stands_read : (v : Item) (s a : List ℕ) → ItemAt v s a → item_at 256 s ≡ Ok (v, a)
 unfolding ItemAt
@@ -44,7 +44,7 @@ stands_item v f s a is e = (f, e, is)
 pub stands_same : (v w : Item) (s a b : List ℕ) → ItemAt v s a → ItemAt w s b → a ≡ b
 stands_same v w s a b e f = ap rest_of (ok_is (v, a) (w, b) (sym (stands_read v s a e) ∙ stands_read w s b f))
 
--- one item stands at the front
+-- one item is at the front
 pub stands_is : (v w : Item) (s a b : List ℕ) → ItemAt v s a → ItemAt w s b → v ≡ w
 stands_is v w s a b e f = ap one_of (ok_is (v, a) (w, b) (sym (stands_read v s a e) ∙ stands_read w s b f))
 
@@ -67,20 +67,20 @@ err_ok f y e = cc
 pub stands_head : (v : Item) (s a : List ℕ) (f : Fault) → ItemAt v s a → head_at s ≡ Err f → ⊥
 unfolding item_at
 stands_head v s a f whole e =
-    err_ok f (v, a) (sym (ap (λ (r : Result (HeadSeen × List ℕ) Fault). r >>= λ x. item_by (things (item_at 255)) (length s) x.0.argument x.0.major_type x.1) e)
+    err_ok f (v, a) (sym (ap (λ (r : Result (HeadView × List ℕ) Fault). r >>= λ x. item_by (things (item_at 255)) (length s) x.0.argument x.0.major_type x.1) e)
     ∙ stands_read v s a whole)
 
-pub stands_by : (v : Item) (s a : List ℕ) (h : HeadSeen × List ℕ) → ItemAt v s a → head_at s ≡ Ok h
+pub stands_by : (v : Item) (s a : List ℕ) (h : HeadView × List ℕ) → ItemAt v s a → head_at s ≡ Ok h
     → item_by (things (item_at 255)) (length s) h.0.argument h.0.major_type h.1 ≡ Ok (v, a)
 unfolding item_at
 stands_by v s a h whole e =
-    sym (ap (λ (r : Result (HeadSeen × List ℕ) Fault). r >>= λ x. item_by (things (item_at 255)) (length s) x.0.argument x.0.major_type x.1) e)
+    sym (ap (λ (r : Result (HeadView × List ℕ) Fault). r >>= λ x. item_by (things (item_at 255)) (length s) x.0.argument x.0.major_type x.1) e)
     ∙ stands_read v s a whole
 
-pub stands_major_type : (v : Item) (s a : List ℕ) (h : HeadSeen × List ℕ) → ItemAt v s a → head_at s ≡ Ok h → item_major_type v ≡ h.0.major_type
+pub stands_major_type : (v : Item) (s a : List ℕ) (h : HeadView × List ℕ) → ItemAt v s a → head_at s ≡ Ok h → item_major_type v ≡ h.0.major_type
 stands_major_type v s a h whole e = major_type_by (things (item_at 255)) (length s) h.0.argument h.0.major_type h.1 (v, a) (stands_by v s a h whole e)
 
--- ---- members
+-- ---- elements
 
 deeper : (s : List ℕ) (x : Item × List ℕ) → IsBytes s → item_at 255 s ≡ Ok x → ItemAt x.0 s x.1
 unfolding ItemAt
@@ -89,25 +89,25 @@ deeper s x fits e =
     let low = t.encoding.1 in
     (t.front, t.parts, (t.encoding.0, omega arith))
 
-members_times : (n : ℕ) (s : List ℕ) (x : List Item × List ℕ) → IsBytes s → times_at (item_at 255) n s ≡ Ok x → (n ≡ items_count (items_of x.0))
+elements_times : (n : ℕ) (s : List ℕ) (x : List Item × List ℕ) → IsBytes s → times_at (item_at 255) n s ≡ Ok x → (n ≡ items_count (items_of x.0))
     × AreAt (items_of x.0) s x.1
 unfolding times_at AreAt
-members_times zero s x fits e =
+elements_times zero s x fits e =
     let same = ok_is ([], s) x e in
     subst (λ (y : List Item × List ℕ). (0 ≡ items_count (items_of y.0)) × AreAt (items_of y.0) s y.1) same (refl, refl)
-members_times (suc n) s x fits e =
+elements_times (suc n) s x fits e =
     let a = bind_ok (item_at 255 s) (λ x. times_at (item_at 255) n x.1 >>= λ xs. Ok (x.0 ∷ xs.0, xs.1)) x e in
     let b = bind_ok (times_at (item_at 255) n a.0.1) (λ xs. Ok (a.0.0 ∷ xs.0, xs.1)) x a.2 in
     let t = item_takes 255 s a.0 fits a.1 in
-    let others = members_times n a.0.1 b.0 t.rest_fits b.1 in
+    let others = elements_times n a.0.1 b.0 t.rest_fits b.1 in
     let made : List Item × List ℕ = (a.0.0 ∷ b.0.0, b.0.1) in
     subst (λ (y : List Item × List ℕ). (suc n ≡ items_count (items_of y.0)) × AreAt (items_of y.0) s y.1) (ok_is made x b.2)
     (ap suc others.0, (a.0.1, deeper s a.0 fits a.1, others.1))
 
-members_until : (turns : ℕ) (s : List ℕ) (x : List Item × List ℕ) → IsBytes s → until_at (item_at 255) turns s ≡ Ok x → AreAt (items_of x.0) s (255 ∷ x.1)
+elements_until : (turns : ℕ) (s : List ℕ) (x : List Item × List ℕ) → IsBytes s → until_at (item_at 255) turns s ≡ Ok x → AreAt (items_of x.0) s (255 ∷ x.1)
 unfolding until_at AreAt
-members_until zero s x fits e = absurd cc
-members_until (suc turns) s x fits e = elim (chosen (begins_break s) _ _ _ e) [
+elements_until zero s x fits e = absurd cc
+elements_until (suc turns) s x fits e = elim (chosen (begins_break s) _ _ _ e) [
   | inl c ↦ subst (λ (y : List Item × List ℕ). AreAt (items_of y.0) s (255 ∷ y.1)) (ok_is ([], drop 1 s) x c.1) (break_is s c.0)
   | inr c ↦
       let a = bind_ok (item_at 255 s) (λ x. until_at (item_at 255) turns x.1 >>= λ xs. Ok (x.0 ∷ xs.0, xs.1)) x c.1 in
@@ -115,7 +115,7 @@ members_until (suc turns) s x fits e = elim (chosen (begins_break s) _ _ _ e) [
       let t = item_takes 255 s a.0 fits a.1 in
       let made : List Item × List ℕ = (a.0.0 ∷ b.0.0, b.0.1) in
       subst (λ (y : List Item × List ℕ). AreAt (items_of y.0) s (255 ∷ y.1)) (ok_is made x b.2)
-      (a.0.1, deeper s a.0 fits a.1, members_until turns a.0.1 b.0 t.rest_fits b.1)
+      (a.0.1, deeper s a.0 fits a.1, elements_until turns a.0.1 b.0 t.rest_fits b.1)
 ]
 
 -- ---- arrays
@@ -131,20 +131,20 @@ within_by : (o : Option ℕ) (s : List ℕ) (y : List Item × List ℕ) → IsBy
 unfolding things
 within_by None s y fits e = record {
   definite = λ n is. absurd (none_some n is);
-  indefinite = λ _. members_until (length s) s y fits e;
+  indefinite = λ _. elements_until (length s) s y fits e;
 }
 within_by (Some n) s y fits e =
-    let all = members_times n s y fits (guard_ok (ltb (length s) n) End (times_at (item_at 255) n s) y e).1 in
+    let all = elements_times n s y fits (guard_ok (ltb (length s) n) End (times_at (item_at 255) n s) y e).1 in
     record {
       definite = λ m is. (sym (some_is n m is) ∙ all.0, all.1);
       indefinite = λ is. absurd (none_some n (sym is));
     }
 
--- the members of the array begin behind its head
+-- the elements of the array begin behind its head
 pub record Entered (v : Item) (o : Option ℕ) (s a : List ℕ) : Type 0 where
-  pub members : Items
-  pub is_array : as_array v ≡ Some members
-  pub within : AreWithin (record { left = o }) members s a
+  pub elements : Items
+  pub is_array : as_array v ≡ Some elements
+  pub within : AreWithin (record { left = o }) elements s a
 
 array_by_major_type : (left : ℕ) (g : Argument) (k : MajorType) (s : List ℕ) (v : Item) (a : List ℕ) → IsBytes s → k ≡ major_types.Array
     → item_by (things (item_at 255)) left g k s ≡ Ok (v, a) → Entered v (number_of g) s a
@@ -152,7 +152,7 @@ array_by_major_type left g major_types.Array s v a fits k e =
     let r = bind_ok ((things (item_at 255)).items (number_of g) s) (λ y. Ok (array (items_of y.0), y.1)) (v, a) e in
     let same = ok_is (array (items_of r.0.0), r.0.1) (v, a) r.2 in
     record {
-      members = items_of r.0.0;
+      elements = items_of r.0.0;
       is_array = ap (λ (x : Item × List ℕ). as_array x.0) (sym same);
       within = subst (λ (b : List ℕ). AreWithin (record { left = number_of g }) (items_of r.0.0) s b) (ap rest_of same)
           (within_by (number_of g) s r.0 fits r.1);
@@ -165,13 +165,13 @@ array_by_major_type left g major_types.Map s v a fits k e = absurd cc
 array_by_major_type left g major_types.Tag s v a fits k e = absurd cc
 array_by_major_type left g major_types.Simple s v a fits k e = absurd cc
 
-pub array_read : (v : Item) (s a : List ℕ) (h : HeadSeen × List ℕ) (o : Option ℕ) → IsBytes s → ItemAt v s a → head_at s ≡ Ok h
+pub array_read : (v : Item) (s a : List ℕ) (h : HeadView × List ℕ) (o : Option ℕ) → IsBytes s → ItemAt v s a → head_at s ≡ Ok h
     → h.0.major_type ≡ major_types.Array → o ≡ number_of h.0.argument → Entered v o h.1 a
 array_read v s a h o fits whole e k number =
     subst (λ (p : Option ℕ). Entered v p h.1 a) (sym number)
     (array_by_major_type (length s) h.0.argument h.0.major_type h.1 v a (head_takes s h fits e).rest_fits k (stands_by v s a h whole e))
 
-pub no_array : (v : Item) (s a : List ℕ) (h : HeadSeen × List ℕ) → ItemAt v s a → head_at s ≡ Ok h → h.0.major_type ≢ major_types.Array → as_array v ≡ None
+pub no_array : (v : Item) (s a : List ℕ) (h : HeadView × List ℕ) → ItemAt v s a → head_at s ≡ Ok h → h.0.major_type ≢ major_types.Array → as_array v ≡ None
 no_array v s a h whole e k = elim (is_array v) [
   | inl x ↦ absurd (k (sym (stands_major_type v s a h whole e) ∙ ap item_major_type x.1))
   | inr x ↦ x.0
@@ -185,7 +185,7 @@ head_some m (places.Four n) f h = let l = ap length h.1 in omega (arith, l)
 head_some m (places.Eight n) f h = let l = ap length h.1 in omega (arith, l)
 head_some m places.Indefinite f h = let l = ap length h in omega (arith, l)
 
-pub head_shorter : (s : List ℕ) (h : HeadSeen × List ℕ) → IsBytes s → head_at s ≡ Ok h → length h.1 < length s
+pub head_shorter : (s : List ℕ) (h : HeadView × List ℕ) → IsBytes s → head_at s ≡ Ok h → length h.1 < length s
 head_shorter s h fits e =
     let t = head_takes s h fits e in
     let some = head_some (major_type_number h.0.major_type) h.0.argument t.front t.encoding in
@@ -283,9 +283,9 @@ pairs_within (Some n) (Some d) s y fits least_encoding twice e =
 
 -- the keys and values of the map begin behind its head
 pub record EnteredMap (v : Item) (o : Option ℕ) (s a : List ℕ) : Type 0 where
-  pub members : Items
-  pub is_map : map_items v ≡ Some members
-  pub within : AreWithin (record { left = o }) members s a
+  pub elements : Items
+  pub is_map : map_items v ≡ Some elements
+  pub within : AreWithin (record { left = o }) elements s a
 
 map_by_major_type :
     (left : ℕ) (g : Argument) (d : Option ℕ) (k : MajorType) (s : List ℕ) (v : Item) (a : List ℕ) → IsBytes s → length s < 2 ^ 64 → Doubles (number_of g) d
@@ -295,7 +295,7 @@ map_by_major_type left g d major_types.Map s v a fits least_encoding twice k e =
     let r = bind_ok ((things (item_at 255)).pairs (number_of g) s) (λ y. Ok (dict (pairs_of y.0), y.1)) (v, a) e in
     let same = ok_is (dict (pairs_of r.0.0), r.0.1) (v, a) r.2 in
     record {
-      members = keys_and_values (pairs_of r.0.0);
+      elements = keys_and_values (pairs_of r.0.0);
       is_map = ap (λ (x : Item × List ℕ). map_items x.0) (sym same);
       within = subst (λ (b : List ℕ). AreWithin (record { left = d }) (keys_and_values (pairs_of r.0.0)) s b) (ap rest_of same)
           (pairs_within (number_of g) d s r.0 fits least_encoding twice r.1);
@@ -309,20 +309,20 @@ map_by_major_type left g d major_types.Array s v a fits least_encoding twice k e
 map_by_major_type left g d major_types.Simple s v a fits least_encoding twice k e = absurd cc
 
 pub map_read :
-    (v : Item) (s a : List ℕ) (h : HeadSeen × List ℕ) (d : Option ℕ) → IsBytes s → length s < 2 ^ 64 → ItemAt v s a → head_at s ≡ Ok h
+    (v : Item) (s a : List ℕ) (h : HeadView × List ℕ) (d : Option ℕ) → IsBytes s → length s < 2 ^ 64 → ItemAt v s a → head_at s ≡ Ok h
     → h.0.major_type ≡ major_types.Map → Doubles (number_of h.0.argument) d → EnteredMap v d h.1 a
 map_read v s a h d fits least_encoding whole e k twice =
     let shorter = head_shorter s h fits e in
     map_by_major_type (length s) h.0.argument d h.0.major_type h.1 v a (head_takes s h fits e).rest_fits (omega (arith, least_encoding, shorter)) twice k
     (stands_by v s a h whole e)
 
-pub no_map : (v : Item) (s a : List ℕ) (h : HeadSeen × List ℕ) → ItemAt v s a → head_at s ≡ Ok h → h.0.major_type ≢ major_types.Map → map_items v ≡ None
+pub no_map : (v : Item) (s a : List ℕ) (h : HeadView × List ℕ) → ItemAt v s a → head_at s ≡ Ok h → h.0.major_type ≢ major_types.Map → map_items v ≡ None
 no_map v s a h whole e k = elim (is_map v) [
   | inl x ↦ absurd (k (sym (stands_major_type v s a h whole e) ∙ ap item_major_type x.1))
   | inr x ↦ ap (option_map keys_and_values) x.0
 ]
 
--- ---- the next member
+-- ---- the next element
 
 -- no item begins with a break
 pub no_item_at_break : (v : Item) (s a : List ℕ) → ItemAt v s a → begins_break s ≡ true → ⊥
@@ -340,10 +340,10 @@ next_none vs s a p n left none w =
     let is = none_left vs (sym none ∙ (w.definite n left).0) in
     (is, subst (λ (ws : Items). AreWithin p ws s a) is w)
 
-abbrev pub Member : Items → List ℕ → List ℕ → Remaining → Type 0
-Member vs s a p = (v : Item) × (others : Items) × (mid : List ℕ) × (vs ≡ item v others) × ItemAt v s mid × AreWithin p others mid a
+abbrev pub Element : Items → List ℕ → List ℕ → Remaining → Type 0
+Element vs s a p = (v : Item) × (others : Items) × (mid : List ℕ) × (vs ≡ item v others) × ItemAt v s mid × AreWithin p others mid a
 
-counted_next : (vs : Items) (s a : List ℕ) (n : ℕ) → n ≢ 0 → n ≡ items_count vs → AreAt vs s a → Member vs s a (record { left = Some (n - 1) })
+counted_next : (vs : Items) (s a : List ℕ) (n : ℕ) → n ≢ 0 → n ≡ items_count vs → AreAt vs s a → Element vs s a (record { left = Some (n - 1) })
 unfolding AreAt
 counted_next no_items s a n some count at = absurd (some count)
 counted_next (item v vs) s a n some count at = (
@@ -359,10 +359,10 @@ counted_next (item v vs) s a n some count at = (
 )
 
 pub next_counted : (vs : Items) (s a : List ℕ) (p : Remaining) (n : ℕ) → p.left ≡ Some n → n ≢ 0 → AreWithin p vs s a
-    → Member vs s a (record { left = Some (n - 1) })
+    → Element vs s a (record { left = Some (n - 1) })
 next_counted vs s a p n is some w = let d = w.definite n is in counted_next vs s a n some d.0 d.1
 
-broken_next : (vs : Items) (s a : List ℕ) (p : Remaining) → p.left ≡ None → begins_break s ≡ false → AreAt vs s (255 ∷ a) → Member vs s a p
+broken_next : (vs : Items) (s a : List ℕ) (p : Remaining) → p.left ≡ None → begins_break s ≡ false → AreAt vs s (255 ∷ a) → Element vs s a p
 unfolding AreAt
 broken_next no_items s a p none e at = absurd (true≢false (sym (ap begins_break at) ∙ e))
 broken_next (item v vs) s a p none e at = (
@@ -382,7 +382,7 @@ unfolding AreAt
 broken_end no_items s a e at = refl
 broken_end (item v vs) s a e at = absurd (no_item_at_break v s at.0 at.1 e)
 
-pub next_more : (vs : Items) (s a : List ℕ) (p : Remaining) → p.left ≡ None → begins_break s ≡ false → AreWithin p vs s a → Member vs s a p
+pub next_more : (vs : Items) (s a : List ℕ) (p : Remaining) → p.left ≡ None → begins_break s ≡ false → AreWithin p vs s a → Element vs s a p
 next_more vs s a p none e w = broken_next vs s a p none e (w.indefinite none)
 
 pub next_end : (vs : Items) (s a : List ℕ) (p : Remaining) → p.left ≡ None → begins_break s ≡ true → AreWithin p vs s a → (vs ≡ no_items)
@@ -407,14 +407,14 @@ close_dropped p s a is w = ap (drop 1) (close_broken p s a is w)
 pub close_no_break : (p : Remaining) (s a : List ℕ) → p.left ≡ None → begins_break s ≡ false → AreWithin p no_items s a → ⊥
 close_no_break p s a is e w = true≢false (sym (ap begins_break (close_broken p s a is w)) ∙ e)
 
--- nothing stands in no bytes
+-- nothing is in no bytes
 nothing_there : (v : Item) (t b : List ℕ) → length t ≡ 0 → ItemAt v t b → ⊥
 nothing_there v t b e stands = let some = stands_shorter v t b stands in omega (arith, e, some)
 
-no_member_there : (vs : Items) (s b : List ℕ) → length s ≡ 0 → AreAt vs s b → vs ≡ no_items
+no_element_there : (vs : Items) (s b : List ℕ) → length s ≡ 0 → AreAt vs s b → vs ≡ no_items
 unfolding AreAt
-no_member_there no_items s b e at = refl
-no_member_there (item v vs) s b e at = absurd (nothing_there v s at.0 e at.1)
+no_element_there no_items s b e at = refl
+no_element_there (item v vs) s b e at = absurd (nothing_there v s at.0 e at.1)
 
 left_by : (o : Option ℕ) → (o ≡ None) ⊎ ((n : ℕ) × (o ≡ Some n))
 left_by None = inl refl
@@ -422,8 +422,8 @@ left_by (Some n) = inr (n, refl)
 
 pub close_empty : (vs : Items) (p : Remaining) (s a : List ℕ) → length s ≡ 0 → AreWithin p vs s a → vs ≡ no_items
 close_empty vs p s a e w = elim (left_by p.left) [
-  | inl is ↦ no_member_there vs s (255 ∷ a) e (w.indefinite is)
-  | inr is ↦ no_member_there vs s a e (w.definite is.0 is.1).1
+  | inl is ↦ no_element_there vs s (255 ∷ a) e (w.indefinite is)
+  | inr is ↦ no_element_there vs s a e (w.definite is.0 is.1).1
 ]
 
 -- no items remain where nothing does

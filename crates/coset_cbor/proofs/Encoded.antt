@@ -9,7 +9,7 @@ use Rattle.coset_cbor.specs.Reading.{item_at}
 use Rattle.coset_cbor.proofs.Again.{IsHead-begins, item_again}
 use Rattle.coset_cbor.proofs.Takes.{IsBytes, ok_is, item_takes}
 
--- what stands behind a head is shorter
+-- what follows a head is shorter
 headed_longer : (m n : ℕ) (s b : List ℕ) → m < 7 → IsHeaded m n s b → length s < length b
 headed_longer m n s b low h =
     let first = IsHead-begins m n h.head low h.is_head in

@@ -11,7 +11,7 @@ use Rattle.coset_cbor.specs.declared.fault.Fault.{Fault}
 use Rattle.coset_cbor.specs.declared.fault.Fault.TheVariants.{End, Syntax, Simple}
 use Rattle.coset_cbor.specs.declared.head.MajorType.{MajorType}
 use Rattle.coset_cbor.specs.declared.head.MajorType.TheVariants as major_types
-use Rattle.coset_cbor.specs.Heads.{Argument, HeadSeen}
+use Rattle.coset_cbor.specs.Heads.{Argument, HeadView}
 use Rattle.coset_cbor.specs.Heads as places
 use Rattle.coset_cbor.specs.Grammar.{joined_chunks}
 use Rattle.coset_cbor.specs.Reading.{◌>>=◌, Parse, major_type_of, number_of, argument_at, argument_by, head_at, unless_none, is_string_content, string_at}
@@ -73,7 +73,7 @@ by_shorter info left s =
     shorter_choice (eqb info 31) s (Ok (places.Indefinite, s)) (Err (Syntax left)) (omega arith) tt)))))
 
 -- a head takes a byte at least
-abbrev IsHeadShorter : List ℕ → Result (HeadSeen × List ℕ) Fault → Type 0
+abbrev IsHeadShorter : List ℕ → Result (HeadView × List ℕ) Fault → Type 0
 IsHeadShorter s (Ok h) = suc (length h.1) ≤ length s
 IsHeadShorter s (Err f) = Unit {0}
 
@@ -87,8 +87,8 @@ unfolding head_at
 head_shorter [] = tt
 head_shorter (x ∷ s) = made_shorter x s (argument_by (x % 32) (suc (length s)) s) (by_shorter (x % 32) (suc (length s)) s)
 
-head_then : {B : Type 0} (s : List ℕ) (r : Result (HeadSeen × List ℕ) Fault) (f : HeadSeen × List ℕ → Result (B × List ℕ) Fault) (g : HeadSeen × List ℕ → ℕ)
-    → IsHeadShorter s r → ((h : HeadSeen × List ℕ) → IsWithin (g h) h.1 (f h)) → IsWithin (after r (λ h. suc (g h))) s (r >>= f)
+head_then : {B : Type 0} (s : List ℕ) (r : Result (HeadView × List ℕ) Fault) (f : HeadView × List ℕ → Result (B × List ℕ) Fault) (g : HeadView × List ℕ → ℕ)
+    → IsHeadShorter s r → ((h : HeadView × List ℕ) → IsWithin (g h) h.1 (f h)) → IsWithin (after r (λ h. suc (g h))) s (r >>= f)
 head_then {B} s (Ok h) f g le next = step (g h) (f h) (next h)
   where
     step : (j : ℕ) (r : Result (B × List ℕ) Fault) → IsWithin j h.1 r → IsWithin (suc j) s r

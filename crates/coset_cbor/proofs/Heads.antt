@@ -10,14 +10,14 @@ use Rattle.coset_cbor.specs.declared.fault.Fault.{Fault}
 use Rattle.coset_cbor.specs.declared.fault.Fault.TheVariants.{Simple}
 use Rattle.coset_cbor.specs.declared.head.MajorType.{MajorType}
 use Rattle.coset_cbor.specs.declared.head.MajorType.TheVariants as major_types
-use Rattle.coset_cbor.specs.Heads.{Argument, HeadSeen}
+use Rattle.coset_cbor.specs.Heads.{Argument, HeadView, major_type_number}
 use Rattle.coset_cbor.specs.Heads as places
 use Rattle.coset_cbor.specs.Reading.{◌>>=◌, number_of, unless_none, head_at, begins_chunk, any_string_by, simple_at, Inside, things, item_by, item_from}
 use Rattle.coset_cbor.specs.Reading.{item_at}
 use Rattle.coset_cbor.specs.Grammar.{IsHead, IsHeaded, IsEncoding, IsItem}
 use Rattle.coset_cbor.specs.Scalars.{as_scalar, read_of, scalar_by, integer_by, tag_by}
 use Rattle.coset_cbor.specs.Whole.{is_one_item, item_of}
-use Rattle.coset_cbor.proofs.Takes.{bind_ok, chosen, guard_else, ok_is, some_ok, major_type_number, IsArgumentEncoding, number_head, head_takes, item_takes}
+use Rattle.coset_cbor.proofs.Takes.{bind_ok, chosen, guard_else, ok_is, some_ok, IsArgumentEncoding, number_head, head_takes, item_takes}
 use Rattle.coset_cbor.specs.StringChunks.{as_string}
 use Rattle.coset_cbor.proofs.Between.{simple_major_type}
 use Rattle.coset_cbor.specs.Skips.{item_major_type}
@@ -27,19 +27,19 @@ abbrev done : Item × List ℕ → Result (Item × List ℕ) Fault
 done x = Ok x
 
 -- one item is what its head says
-pub one_item_by : (b : List ℕ) (h : HeadSeen × List ℕ) → is_one_item b ≡ true → head_at b ≡ Ok h
+pub one_item_by : (b : List ℕ) (h : HeadView × List ℕ) → is_one_item b ≡ true → head_at b ≡ Ok h
     → item_by (things (item_at 255)) (length b) h.0.argument h.0.major_type h.1 ≡ Ok (item_of b, [])
 unfolding item_at
 one_item_by b h one e =
     let whole : item_from (things (item_at 255)) b ≡ Ok (item_of b, []) = one_item_read b one in
-    sym (ap (λ (r : Result (HeadSeen × List ℕ) Fault). r >>= λ x. item_by (things (item_at 255)) (length b) x.0.argument x.0.major_type x.1) e) ∙ whole
+    sym (ap (λ (r : Result (HeadView × List ℕ) Fault). r >>= λ x. item_by (things (item_at 255)) (length b) x.0.argument x.0.major_type x.1) e) ∙ whole
 
 -- one item has a head
 pub one_item_head : (b : List ℕ) (f : Fault) → is_one_item b ≡ true → head_at b ≡ Err f → ⊥
 unfolding item_at
 one_item_head b f one e =
     let whole : item_from (things (item_at 255)) b ≡ Ok (item_of b, []) = one_item_read b one in
-    differ (sym (ap (λ (r : Result (HeadSeen × List ℕ) Fault). r >>= λ x. item_by (things (item_at 255)) (length b) x.0.argument x.0.major_type x.1) e) ∙ whole)
+    differ (sym (ap (λ (r : Result (HeadView × List ℕ) Fault). r >>= λ x. item_by (things (item_at 255)) (length b) x.0.argument x.0.major_type x.1) e) ∙ whole)
   where
     differ : ◌≡◌ {A = Result (Item × List ℕ) Fault} (Err f) (Ok (item_of b, [])) → ⊥
     differ e = cc
@@ -152,14 +152,14 @@ string_by is_text inside left a major_types.Tag s x k e = absurd cc
 string_by is_text inside left a major_types.Simple s x k e = absurd cc
 
 -- the string that a lent item is, read again, is its content
-pub string_read : (is_text : Bool) (b : List ℕ) (h : HeadSeen × List ℕ) (o : Option ℕ) (y : List ℕ × List ℕ) → is_one_item b ≡ true → head_at b ≡ Ok h
+pub string_read : (is_text : Bool) (b : List ℕ) (h : HeadView × List ℕ) (o : Option ℕ) (y : List ℕ × List ℕ) → is_one_item b ≡ true → head_at b ≡ Ok h
     → begins_chunk is_text h.0.major_type ≡ true → o ≡ number_of h.0.argument
     → any_string_by is_text (length b) o h.1 ≡ Ok y → Some y.0 ≡ as_string is_text (item_of b)
 string_read is_text b h o y one e k number is =
     let r = string_by is_text (things (item_at 255)) (length b) h.0.argument h.0.major_type h.1 (item_of b, []) k (one_item_by b h one e) in
     ap (λ (z : List ℕ × List ℕ). Some z.0) (ok_is y r.0 (sym is ∙ ap (λ (p : Option ℕ). any_string_by is_text (length b) p h.1) number ∙ r.1)) ∙ r.2
 
-pub string_no_fault : (is_text : Bool) (b : List ℕ) (h : HeadSeen × List ℕ) (o : Option ℕ) (f : Fault) → is_one_item b ≡ true → head_at b ≡ Ok h
+pub string_no_fault : (is_text : Bool) (b : List ℕ) (h : HeadView × List ℕ) (o : Option ℕ) (f : Fault) → is_one_item b ≡ true → head_at b ≡ Ok h
     → begins_chunk is_text h.0.major_type ≡ true → o ≡ number_of h.0.argument
     → any_string_by is_text (length b) o h.1 ≡ Err f → ⊥
 string_no_fault is_text b h o f one e k number is =
@@ -237,7 +237,7 @@ pub record IsEnclosed (n : ℕ) (b s : List ℕ) : Type 0 where
   pub one : is_one_item s ≡ true
   pub item : item_of b ≡ tag n (item_of s)
 
-pub enclosed_item : (b : List ℕ) (h : HeadSeen × List ℕ) (n : ℕ) → is_one_item b ≡ true → head_at b ≡ Ok h → tag_by h.0.argument h.0.major_type ≡ Some n
+pub enclosed_item : (b : List ℕ) (h : HeadView × List ℕ) (n : ℕ) → is_one_item b ≡ true → head_at b ≡ Ok h → tag_by h.0.argument h.0.major_type ≡ Some n
     → IsEnclosed n b h.1
 unfolding things
 enclosed_item b h n one e t =

@@ -6,7 +6,7 @@ use Rattle.std.proofs.lemmas.Result.{on_ok_weaker}
 use Rattle.std.specs.Prelude.{OnOk}
 use Rattle.coset_value.specs.Item.{Item, array, dict, items_count, pairs_count}
 use Rattle.coset_value.specs.Range.{IsInRange, AreInRange, ArePairsInRange}
-use Rattle.coset_value.specs.View.{items_of, pairs_of, view, pair_view, items_view, pairs_view}
+use Rattle.coset_value.specs.View.{items_of, pairs_of, value_item, value_pair, value_items, value_pairs}
 use Rattle.coset_value.specs.declared.value.Value.{Value, Tag, Array, Map, the_lemmas}
 use Rattle.coset_cbor.specs.Least.{least_head, least_encoding, least_encodings, least_pair_encodings}
 
@@ -25,25 +25,25 @@ pub moved : {A : Type 0} (ys : List A) (x : A) (old new all : List A) → ys ++ 
 moved ys x old new all p q = append_assoc ys (x ∷ []) new ∙ (ap (λ zs. ys ++ zs) (sym q) ∙ p)
 
 pub item_pushed : (xs : List Value) (x : Value) (old middle new : List ℕ)
-    → middle ≡ old ++ least_encodings (items_view xs) → new ≡ middle ++ least_encoding (view x)
-    → new ≡ old ++ least_encodings (items_view (xs ++ x ∷ []))
+    → middle ≡ old ++ least_encodings (value_items xs) → new ≡ middle ++ least_encoding (value_item x)
+    → new ≡ old ++ least_encodings (value_items (xs ++ x ∷ []))
 item_pushed xs x old middle new so_far put =
-    let total : least_encodings (items_view (xs ++ x ∷ [])) ≡ least_encodings (items_view xs) ++ least_encoding (view x) =
-    ap (λ (zs : List Item). least_encodings (items_of zs)) (map_push view xs x) ∙ least_encodings-push (map view xs) (view x) in
-    put ∙ ap (λ (s : List ℕ). s ++ least_encoding (view x)) so_far ∙ append_assoc old (least_encodings (items_view xs)) (least_encoding (view x))
+    let total : least_encodings (value_items (xs ++ x ∷ [])) ≡ least_encodings (value_items xs) ++ least_encoding (value_item x) =
+    ap (λ (zs : List Item). least_encodings (items_of zs)) (map_push value_item xs x) ∙ least_encodings-push (map value_item xs) (value_item x) in
+    put ∙ ap (λ (s : List ℕ). s ++ least_encoding (value_item x)) so_far ∙ append_assoc old (least_encodings (value_items xs)) (least_encoding (value_item x))
     ∙ ap (λ (s : List ℕ). old ++ s) (sym total)
 
 pub pair_pushed : (xs : List (Value × Value)) (x : Value × Value) (old middle half new : List ℕ)
-    → middle ≡ old ++ least_pair_encodings (pairs_view xs) → half ≡ middle ++ least_encoding (view x.0) → new ≡ half ++ least_encoding (view x.1)
-    → new ≡ old ++ least_pair_encodings (pairs_view (xs ++ x ∷ []))
+    → middle ≡ old ++ least_pair_encodings (value_pairs xs) → half ≡ middle ++ least_encoding (value_item x.0) → new ≡ half ++ least_encoding (value_item x.1)
+    → new ≡ old ++ least_pair_encodings (value_pairs (xs ++ x ∷ []))
 pair_pushed xs x old middle half new so_far key put =
-    let both = least_encoding (view x.0) ++ least_encoding (view x.1) in
-    let total : least_pair_encodings (pairs_view (xs ++ x ∷ [])) ≡ least_pair_encodings (pairs_view xs) ++ both =
-    ap (λ (zs : List (Item × Item)). least_pair_encodings (pairs_of zs)) (map_push pair_view xs x)
-    ∙ least_pair_encodings-push (map pair_view xs) (pair_view x) in
-    let all : new ≡ middle ++ both = put ∙ ap (λ (s : List ℕ). s ++ least_encoding (view x.1)) key
-    ∙ append_assoc middle (least_encoding (view x.0)) (least_encoding (view x.1)) in
-    all ∙ ap (λ (s : List ℕ). s ++ both) so_far ∙ append_assoc old (least_pair_encodings (pairs_view xs)) both
+    let both = least_encoding (value_item x.0) ++ least_encoding (value_item x.1) in
+    let total : least_pair_encodings (value_pairs (xs ++ x ∷ [])) ≡ least_pair_encodings (value_pairs xs) ++ both =
+    ap (λ (zs : List (Item × Item)). least_pair_encodings (pairs_of zs)) (map_push value_pair xs x)
+    ∙ least_pair_encodings-push (map value_pair xs) (value_pair x) in
+    let all : new ≡ middle ++ both = put ∙ ap (λ (s : List ℕ). s ++ least_encoding (value_item x.1)) key
+    ∙ append_assoc middle (least_encoding (value_item x.0)) (least_encoding (value_item x.1)) in
+    all ∙ ap (λ (s : List ℕ). s ++ both) so_far ∙ append_assoc old (least_pair_encodings (value_pairs xs)) both
     ∙ ap (λ (s : List ℕ). old ++ s) (sym total)
 
 -- the next one of a list
@@ -51,15 +51,16 @@ one_more : {A : Type 0} (xs : List A) (i : ℕ) (x : A) → i < length xs → x 
 one_more xs i x lt is = sym (take_more xs i x lt ∙ ap (λ y. take i xs ++ y ∷ []) (sym is))
 
 pub item_put : (xs : List Value) (i : ℕ) (x : Value) (old middle new : List ℕ) → i < length xs → x ≡ get_or xs i x
-    → middle ≡ old ++ least_encodings (items_view (take i xs)) → new ≡ middle ++ least_encoding (view x)
-    → new ≡ old ++ least_encodings (items_view (take (i + 1) xs))
-item_put xs i x old middle new lt is so_far put = subst (λ ys. new ≡ old ++ least_encodings (items_view ys)) (one_more xs i x lt is)
+    → middle ≡ old ++ least_encodings (value_items (take i xs)) → new ≡ middle ++ least_encoding (value_item x)
+    → new ≡ old ++ least_encodings (value_items (take (i + 1) xs))
+item_put xs i x old middle new lt is so_far put = subst (λ ys. new ≡ old ++ least_encodings (value_items ys)) (one_more xs i x lt is)
     (item_pushed (take i xs) x old middle new so_far put)
 
 pub pair_put : (xs : List (Value × Value)) (i : ℕ) (x : Value × Value) (old middle half new : List ℕ) → i < length xs → x ≡ get_or xs i x
-    → middle ≡ old ++ least_pair_encodings (pairs_view (take i xs)) → half ≡ middle ++ least_encoding (view x.0) → new ≡ half ++ least_encoding (view x.1)
-    → new ≡ old ++ least_pair_encodings (pairs_view (take (i + 1) xs))
-pair_put xs i x old middle half new lt is so_far key put = subst (λ ys. new ≡ old ++ least_pair_encodings (pairs_view ys)) (one_more xs i x lt is)
+    → middle ≡ old ++ least_pair_encodings (value_pairs (take i xs)) → half ≡ middle ++ least_encoding (value_item x.0) → new ≡ half ++ least_encoding
+    (value_item x.1)
+    → new ≡ old ++ least_pair_encodings (value_pairs (take (i + 1) xs))
+pair_put xs i x old middle half new lt is so_far key put = subst (λ ys. new ≡ old ++ least_pair_encodings (value_pairs ys)) (one_more xs i x lt is)
     (pair_pushed (take i xs) x old middle half new so_far key put)
 
 in_range-push : (vs : List Item) (v : Item) → AreInRange (items_of vs) → IsInRange v → AreInRange (items_of (vs ++ v ∷ []))
@@ -71,22 +72,24 @@ pairs_in_range-push : (ps : List (Item × Item)) (p : Item × Item) → ArePairs
 pairs_in_range-push [] p h k l = (k, l, tt)
 pairs_in_range-push (q ∷ ps) p h k l = (h.0, h.1, pairs_in_range-push ps p h.2 k l)
 
-pub items_in_range : (xs : List Value) (x : Value) → AreInRange (items_view xs) → IsInRange (view x) → AreInRange (items_view (xs ++ x ∷ []))
-items_in_range xs x so_far here = subst (λ zs. AreInRange (items_of zs)) (sym (map_push view xs x)) (in_range-push (map view xs) (view x) so_far here)
+pub items_in_range : (xs : List Value) (x : Value) → AreInRange (value_items xs) → IsInRange (value_item x) → AreInRange (value_items (xs ++ x ∷ []))
+items_in_range xs x so_far here = subst (λ zs. AreInRange (items_of zs)) (sym (map_push value_item xs x)) (in_range-push (map value_item xs)
+    (value_item x) so_far here)
 
-pub pairs_in_range : (xs : List (Value × Value)) (x : Value × Value) → ArePairsInRange (pairs_view xs) → IsInRange (view x.0) → IsInRange (view x.1)
-    → ArePairsInRange (pairs_view (xs ++ x ∷ []))
-pairs_in_range xs x so_far key value = subst (λ zs. ArePairsInRange (pairs_of zs)) (sym (map_push pair_view xs x))
-    (pairs_in_range-push (map pair_view xs) (pair_view x) so_far key value)
+pub pairs_in_range : (xs : List (Value × Value)) (x : Value × Value) → ArePairsInRange (value_pairs xs) → IsInRange (value_item x.0) → IsInRange
+    (value_item x.1)
+    → ArePairsInRange (value_pairs (xs ++ x ∷ []))
+pairs_in_range xs x so_far key value = subst (λ zs. ArePairsInRange (pairs_of zs)) (sym (map_push value_pair xs x))
+    (pairs_in_range-push (map value_pair xs) (value_pair x) so_far key value)
 
-pub item_in_range : (xs : List Value) (i : ℕ) (x : Value) → i < length xs → x ≡ get_or xs i x → AreInRange (items_view (take i xs)) → IsInRange (view x)
-    → AreInRange (items_view (take (i + 1) xs))
-item_in_range xs i x lt is so_far here = subst (λ ys. AreInRange (items_view ys)) (one_more xs i x lt is) (items_in_range (take i xs) x so_far here)
+pub item_in_range : (xs : List Value) (i : ℕ) (x : Value) → i < length xs → x ≡ get_or xs i x → AreInRange (value_items (take i xs)) → IsInRange (value_item x)
+    → AreInRange (value_items (take (i + 1) xs))
+item_in_range xs i x lt is so_far here = subst (λ ys. AreInRange (value_items ys)) (one_more xs i x lt is) (items_in_range (take i xs) x so_far here)
 
-pub pair_in_range : (xs : List (Value × Value)) (i : ℕ) (x : Value × Value) → i < length xs → x ≡ get_or xs i x → ArePairsInRange (pairs_view (take i xs))
-    → IsInRange (view x.0) → IsInRange (view x.1)
-    → ArePairsInRange (pairs_view (take (i + 1) xs))
-pair_in_range xs i x lt is so_far key value = subst (λ ys. ArePairsInRange (pairs_view ys)) (one_more xs i x lt is)
+pub pair_in_range : (xs : List (Value × Value)) (i : ℕ) (x : Value × Value) → i < length xs → x ≡ get_or xs i x → ArePairsInRange (value_pairs (take i xs))
+    → IsInRange (value_item x.0) → IsInRange (value_item x.1)
+    → ArePairsInRange (value_pairs (take (i + 1) xs))
+pair_in_range xs i x lt is so_far key value = subst (λ ys. ArePairsInRange (value_pairs ys)) (one_more xs i x lt is)
     (pairs_in_range (take i xs) x so_far key value)
 
 pub headed_put : {A B : Type 0} (r : Result A B) (m n k : ℕ) (body old middle new whole : List ℕ) → whole ≡ least_head m k ++ body → n ≡ k
@@ -95,22 +98,22 @@ headed_put r m n k body old middle new whole is same head put =
     on_ok_weaker r (λ e. e ∙ ap (λ (s : List ℕ). s ++ body) (head ∙ ap (λ (j : ℕ). old ++ least_head m j) same) ∙ append_assoc old (least_head m k) body
     ∙ ap (λ (s : List ℕ). old ++ s) (sym is)) put
 
-pub items_count-items_view : (vs : List Value) → items_count (items_view vs) ≡ length vs
-items_count-items_view [] = refl
-items_count-items_view (v ∷ vs) = ap suc (items_count-items_view vs)
+pub items_count-value_items : (vs : List Value) → items_count (value_items vs) ≡ length vs
+items_count-value_items [] = refl
+items_count-value_items (v ∷ vs) = ap suc (items_count-value_items vs)
 
-pub pairs_count-pairs_view : (vs : List (Value × Value)) → pairs_count (pairs_view vs) ≡ length vs
-pairs_count-pairs_view [] = refl
-pairs_count-pairs_view (v ∷ vs) = ap suc (pairs_count-pairs_view vs)
+pub pairs_count-value_pairs : (vs : List (Value × Value)) → pairs_count (value_pairs vs) ≡ length vs
+pairs_count-value_pairs [] = refl
+pairs_count-value_pairs (v ∷ vs) = ap suc (pairs_count-value_pairs vs)
 
-pub view-Array : (v : Vec Value Global) → view (Array v) ≡ array (items_view v.items)
-view-Array v = search (rules, the_lemmas)
+pub value_item-Array : (v : Vec Value Global) → value_item (Array v) ≡ array (value_items v.items)
+value_item-Array v = search (rules, the_lemmas)
 
-pub view-Map : (v : Vec (Value × Value) Global) → view (Map v) ≡ dict (pairs_view v.items)
-view-Map v = search (rules, the_lemmas)
+pub value_item-Map : (v : Vec (Value × Value) Global) → value_item (Map v) ≡ dict (value_pairs v.items)
+value_item-Map v = search (rules, the_lemmas)
 
-pub view-Tag : (n : ℕ) (b : Box Value Global) → view (Tag n b) ≡ Item.tag n (view b.value)
-view-Tag n b = search (rules, the_lemmas)
+pub value_item-Tag : (n : ℕ) (b : Box Value Global) → value_item (Tag n b) ≡ Item.tag n (value_item b.value)
+value_item-Tag n b = search (rules, the_lemmas)
 
 pub in_range_of : {A B P : Type 0} (r : Result A B) (v w : Item) → v ≡ w → (P → IsInRange w) → OnOk r P → OnOk r (IsInRange v)
 in_range_of r v w is step h = on_ok_weaker r (λ p. subst IsInRange (sym is) (step p)) h

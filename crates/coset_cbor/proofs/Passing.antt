@@ -1,4 +1,4 @@
--- Passing over one thing after the other, as a loop does, with its steps.
+-- Skipping one thing after the other, as a loop does, with its steps.
 use Rattle.std.proofs.Common.{◌≡◌, ℕ, zero, suc, ◌-◌, ◌+◌, ◌≤◌, ◌<◌, Bool, true, false, List, ◌∷◌, drop, length, Option, Result, Ok, Err, refl, sym, ap, subst}
 use Rattle.std.proofs.Common.{◌∙◌, arith}
 use Rattle.coset_cbor.specs.declared.fault.Fault.{Fault}
@@ -7,7 +7,7 @@ use Rattle.coset_value.specs.Item.{Item, array, dict}
 use Rattle.coset_value.specs.View.{items_of, pairs_of}
 use Rattle.coset_cbor.specs.declared.head.MajorType.{MajorType}
 use Rattle.coset_cbor.specs.declared.head.MajorType.TheVariants as major_types
-use Rattle.coset_cbor.specs.Heads.{HeadSeen}
+use Rattle.coset_cbor.specs.Heads.{HeadView}
 use Rattle.coset_cbor.specs.Grammar.{joined_chunks}
 use Rattle.coset_cbor.specs.Reading.{◌>>=◌, Parse, number_of, head_at, begins_break, string_at, chunk_at, chunks_at, times_at, until_at, array_by, map_by}
 use Rattle.coset_cbor.specs.Reading.{things, item_by, item_at}
@@ -229,8 +229,8 @@ pair_steps_left one st old half new s a e more rest = let then = after_left (one
 
 -- ---- an item by its head
 
--- an array whose members are passed is passed
-pub array_passes : (r : Result (Bor (List ℕ)) Fault) (depth : ℕ) (s : List ℕ) (h : HeadSeen × List ℕ) (count : Option ℕ) → 0 < depth → head_at s ≡ Ok h
+-- an array whose elements are passed is passed
+pub array_passes : (r : Result (Bor (List ℕ)) Fault) (depth : ℕ) (s : List ℕ) (h : HeadView × List ℕ) (count : Option ℕ) → 0 < depth → head_at s ≡ Ok h
     → h.0.major_type ≡ major_types.Array → count ≡ number_of h.0.argument
     → Passes r (array_by (item_at (depth - 1)) count h.1) → Passes r (item_at depth s)
 unfolding item_at things
@@ -238,14 +238,14 @@ array_passes r zero s h count lt e major_type number is = absurd (omega arith)
 array_passes r (suc d) s h count lt e major_type number is =
     let back : suc d - 1 ≡ d = omega arith in
     passes_same r (array_by (item_at d) count h.1) (item_at (suc d) s)
-    (ap (λ (x : Result (HeadSeen × List ℕ) Fault). left_of (x >>= λ y. item_by (things (item_at d)) (length s) y.0.argument y.0.major_type y.1)) e
+    (ap (λ (x : Result (HeadView × List ℕ) Fault). left_of (x >>= λ y. item_by (things (item_at d)) (length s) y.0.argument y.0.major_type y.1)) e
     ∙ ap (λ (k : MajorType). left_of (item_by (things (item_at d)) (length s) h.0.argument k h.1)) major_type
     ∙ ap (λ (o : Option ℕ). left_of (array_by (item_at d) o h.1 >>= λ x. Ok (array (items_of x.0), x.1))) (sym number)
     ∙ left_of-made (array_by (item_at d) count h.1) (λ (vs : List Item). array (items_of vs)))
     (subst (λ (n : ℕ). Passes r (array_by (item_at n) count h.1)) back is)
 
 -- what is made of what was read of a map leaves the same
-pub map_passes : (r : Result (Bor (List ℕ)) Fault) (depth : ℕ) (s : List ℕ) (h : HeadSeen × List ℕ) (count : Option ℕ) → 0 < depth → head_at s ≡ Ok h
+pub map_passes : (r : Result (Bor (List ℕ)) Fault) (depth : ℕ) (s : List ℕ) (h : HeadView × List ℕ) (count : Option ℕ) → 0 < depth → head_at s ≡ Ok h
     → h.0.major_type ≡ major_types.Map → count ≡ number_of h.0.argument
     → Passes r (map_by (item_at (depth - 1)) count h.1) → Passes r (item_at depth s)
 unfolding item_at things
@@ -253,7 +253,7 @@ map_passes r zero s h count lt e major_type number is = absurd (omega arith)
 map_passes r (suc d) s h count lt e major_type number is =
     let back : suc d - 1 ≡ d = omega arith in
     passes_same r (map_by (item_at d) count h.1) (item_at (suc d) s)
-    (ap (λ (x : Result (HeadSeen × List ℕ) Fault). left_of (x >>= λ y. item_by (things (item_at d)) (length s) y.0.argument y.0.major_type y.1)) e
+    (ap (λ (x : Result (HeadView × List ℕ) Fault). left_of (x >>= λ y. item_by (things (item_at d)) (length s) y.0.argument y.0.major_type y.1)) e
     ∙ ap (λ (k : MajorType). left_of (item_by (things (item_at d)) (length s) h.0.argument k h.1)) major_type
     ∙ ap (λ (o : Option ℕ). left_of (map_by (item_at d) o h.1 >>= λ x. Ok (dict (pairs_of x.0), x.1))) (sym number)
     ∙ left_of-made (map_by (item_at d) count h.1) (λ (ps : List (Item × Item)). dict (pairs_of ps)))

@@ -1,4 +1,4 @@
--- What an item holds that stands at the front, by its head.
+-- What an item holds that is at the front, by its head.
 use Rattle.std.proofs.Common.{◌≡◌, ◌≢◌, ℕ, ℤ, ◌<◌, List, ◌∷◌, ◌++◌, length, Bool, true, false, eqb, ltb, Option, Some, None, Result, Ok, Err, sym, subst, ap}
 use Rattle.std.proofs.Common.{◌∙◌, inl, inr}
 use Rattle.std.specs.Prelude.{pos, negsuc}
@@ -6,7 +6,7 @@ use Rattle.coset_value.specs.Item.{Item, integer, float, boolean, null, half, si
 use Rattle.coset_value.specs.Parts.{as_integer}
 use Rattle.coset_cbor.specs.declared.fault.Fault.{Fault}
 use Rattle.coset_cbor.specs.declared.fault.Fault.TheVariants.{Simple}
-use Rattle.coset_cbor.specs.Heads.{Argument, HeadSeen}
+use Rattle.coset_cbor.specs.Heads.{Argument, HeadView}
 use Rattle.coset_cbor.specs.Heads as places
 use Rattle.coset_cbor.specs.declared.head.MajorType.{MajorType}
 use Rattle.coset_cbor.specs.declared.head.MajorType.TheVariants as major_types
@@ -25,7 +25,7 @@ done x = Ok x
 abbrev rest_of : {A : Type 0} → A × List ℕ → List ℕ
 rest_of x = x.1
 
--- ---- scalars: nothing of them stands behind their head
+-- ---- scalars: nothing of them follows their head
 
 behind : (v : Item) (s : List ℕ) (x : Item × List ℕ) → done (v, s) ≡ done x → s ≡ x.1
 behind v s x e = ap rest_of (ok_is (v, s) x e)
@@ -58,7 +58,7 @@ scalar_behind inside left g major_types.Tag s x w e is = absurd cc
 scalar_behind inside left g major_types.Simple s x w e is = simple_behind left g s x e
 
 pub scalar_read :
-    (v : Item) (s a : List ℕ) (h : HeadSeen × List ℕ) (w : Item) → ItemAt v s a → head_at s ≡ Ok h
+    (v : Item) (s a : List ℕ) (h : HeadView × List ℕ) (w : Item) → ItemAt v s a → head_at s ≡ Ok h
     → Some w ≡ scalar_by (length s) h.0.argument h.0.major_type h.1 → (as_scalar v ≡ Some w) × (h.1 ≡ a)
 scalar_read v s a h w whole e is =
     let by = stands_by v s a h whole e in
@@ -67,7 +67,7 @@ scalar_read v s a h w whole e is =
       scalar_behind inside (length s) h.0.argument h.0.major_type h.1 (v, a) w by (sym is),
     )
 
-pub no_scalar : (v : Item) (s a : List ℕ) (h : HeadSeen × List ℕ) → ItemAt v s a → head_at s ≡ Ok h
+pub no_scalar : (v : Item) (s a : List ℕ) (h : HeadView × List ℕ) → ItemAt v s a → head_at s ≡ Ok h
     → None ≡ scalar_by (length s) h.0.argument h.0.major_type h.1 → as_scalar v ≡ None
 no_scalar v s a h whole e is = sym (is ∙ scalar_is (things (item_at 255)) (length s) h.0.argument h.0.major_type h.1 (v, a) (stands_by v s a h whole e))
 
@@ -85,7 +85,7 @@ integer_behind inside left g major_types.Tag s x i e is = absurd cc
 integer_behind inside left g major_types.Simple s x i e is = absurd cc
 
 pub integer_read :
-    (v : Item) (s a : List ℕ) (h : HeadSeen × List ℕ) (n : ℤ) → ItemAt v s a → head_at s ≡ Ok h → Some n ≡ integer_by (number_of h.0.argument) h.0.major_type
+    (v : Item) (s a : List ℕ) (h : HeadView × List ℕ) (n : ℤ) → ItemAt v s a → head_at s ≡ Ok h → Some n ≡ integer_by (number_of h.0.argument) h.0.major_type
     → (as_integer v ≡ Some n) × (h.1 ≡ a)
 integer_read v s a h n whole e is =
     let by = stands_by v s a h whole e in
@@ -94,7 +94,7 @@ integer_read v s a h n whole e is =
       integer_behind inside (length s) h.0.argument h.0.major_type h.1 (v, a) n by (sym is),
     )
 
-pub no_integer : (v : Item) (s a : List ℕ) (h : HeadSeen × List ℕ) → ItemAt v s a → head_at s ≡ Ok h → None ≡ integer_by (number_of h.0.argument) h.0.major_type
+pub no_integer : (v : Item) (s a : List ℕ) (h : HeadView × List ℕ) → ItemAt v s a → head_at s ≡ Ok h → None ≡ integer_by (number_of h.0.argument) h.0.major_type
     → as_integer v ≡ None
 no_integer v s a h whole e is = sym (is ∙ integer_is (things (item_at 255)) (length s) h.0.argument h.0.major_type h.1 (v, a) (stands_by v s a h whole e))
 
@@ -121,7 +121,7 @@ no_null v s a rest x whole e other is = other (first x 246 rest a (sym e ∙ nul
 
 -- a string that was read is what the item holds, and what follows it is what follows the item
 pub string_there :
-    (is_text : Bool) (v : Item) (s a : List ℕ) (h : HeadSeen × List ℕ) (o : Option ℕ) (y : List ℕ × List ℕ) → ItemAt v s a → head_at s ≡ Ok h
+    (is_text : Bool) (v : Item) (s a : List ℕ) (h : HeadView × List ℕ) (o : Option ℕ) (y : List ℕ × List ℕ) → ItemAt v s a → head_at s ≡ Ok h
     → begins_chunk is_text h.0.major_type ≡ true → o ≡ number_of h.0.argument
     → any_string_by is_text (length s) o h.1 ≡ Ok y → (Some y.0 ≡ as_string is_text v) × (y.1 ≡ a)
 string_there is_text v s a h o y whole e k number is =
@@ -131,7 +131,7 @@ string_there is_text v s a h o y whole e k number is =
     (ap (λ (z : List ℕ × List ℕ). Some z.0) same ∙ r.2, ap rest_of same ∙ r.3)
 
 pub string_no_fault_there :
-    (is_text : Bool) (v : Item) (s a : List ℕ) (h : HeadSeen × List ℕ) (o : Option ℕ) (f : Fault) → ItemAt v s a → head_at s ≡ Ok h
+    (is_text : Bool) (v : Item) (s a : List ℕ) (h : HeadView × List ℕ) (o : Option ℕ) (f : Fault) → ItemAt v s a → head_at s ≡ Ok h
     → begins_chunk is_text h.0.major_type ≡ true → o ≡ number_of h.0.argument
     → any_string_by is_text (length s) o h.1 ≡ Err f → ⊥
 string_no_fault_there is_text v s a h o f whole e k number is =
@@ -141,7 +141,7 @@ string_no_fault_there is_text v s a h o f whole e k number is =
     differ : (y : List ℕ × List ℕ) → ◌≡◌ {A = Result (List ℕ × List ℕ) Fault} (Err f) (Ok y) → ⊥
     differ y e = cc
 
-pub no_string_there : (is_text : Bool) (v : Item) (s a : List ℕ) (h : HeadSeen × List ℕ) → ItemAt v s a → head_at s ≡ Ok h
+pub no_string_there : (is_text : Bool) (v : Item) (s a : List ℕ) (h : HeadView × List ℕ) → ItemAt v s a → head_at s ≡ Ok h
     → begins_chunk is_text h.0.major_type ≡ false → as_string is_text v ≡ None
 no_string_there is_text v s a h whole e k = other_read is_text (things (item_at 255)) (length s) h.0.argument h.0.major_type h.1 v a k
     (stands_by v s a h whole e)

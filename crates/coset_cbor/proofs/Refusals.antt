@@ -1,4 +1,4 @@
--- Where nothing is read, the fault stands.
+-- Where nothing is read, there is that fault.
 use Rattle.std.proofs.Common.{◌≡◌, ℕ, zero, suc, ◌+◌, ◌*◌, ◌/◌, ◌%◌, ◌^◌, ◌<◌, ◌≤◌, Bool, true, false, cond, ltb, eqb, List, [], ◌∷◌, ◌++◌, length, take}
 use Rattle.std.proofs.Common.{Option, Some, None, Result, Ok, Err, refl, sym, ap, subst, ◌∙◌, append_assoc, arith, inl, inr, ◌⊎◌}
 use Rattle.std.specs.Prelude.{pos, negsuc, not}
@@ -10,7 +10,7 @@ use Rattle.coset_cbor.specs.declared.fault.Fault.{Fault}
 use Rattle.coset_cbor.specs.declared.fault.Fault.TheVariants.{End, Syntax, Simple, Deep}
 use Rattle.coset_cbor.specs.declared.head.MajorType.{MajorType}
 use Rattle.coset_cbor.specs.declared.head.MajorType.TheVariants as major_types
-use Rattle.coset_cbor.specs.Heads.{Argument, HeadSeen}
+use Rattle.coset_cbor.specs.Heads.{Argument, HeadView, major_type_number}
 use Rattle.coset_cbor.specs.Heads as places
 use Rattle.coset_value.specs.Item.{Item, integer, bytes, tag, array, dict, Items, no_items, item, items_count}
 use Rattle.coset_value.specs.View.{items_of, pairs_of}
@@ -18,13 +18,14 @@ use Rattle.coset_cbor.specs.Grammar.{HeadWidth, within, one, two, four, eight, H
 use Rattle.coset_cbor.specs.Grammar.{IsDefinite, AreEncodings}
 use Rattle.coset_cbor.specs.Reading.{◌>>=◌, Parse, major_type_of, number_of, argument_by, head_at, unless_none, is_string_content, string_at, begins_chunk}
 use Rattle.coset_cbor.specs.Reading.{chunk_at, begins_break, times_at, until_at, chunks_at, any_string_by, pair_at, simple_at, Inside, nothing, things, item_by}
+use Rattle.coset_cbor.specs.ReadHeads.{EndsInHead}
 use Rattle.coset_cbor.specs.Reading.{item_from, item_at}
 use Rattle.std.proofs.lemmas.Bool.{ltb-true, false≢true}
 use Rattle.coset_cbor.specs.Faults.{is_even, Opens, in_array, in_map, in_tag, in_open_array, in_open_map, Due, at_start, innermost, outer, DueChunk, IsDue}
 use Rattle.coset_cbor.specs.Faults.{LacksContent, Ends, HasBadInfo, HasNoLength, IsLowSimple, BeginsBreak, NoItem, NoChunk, IsBadTextString, IsNotSupported}
 use Rattle.coset_cbor.specs.Faults.{Nests, FaultAt}
 use Rattle.coset_cbor.proofs.Again.{IsEncodingBelow, IsPairEncodingBelow, Begins, IsEncoding-begins, begins_append, IsHeaded-begins, type_low}
-use Rattle.coset_cbor.proofs.Takes.{IsBytes, bind_ok, chosen, ok_is, major_type_number, chunk_type, option_cases, number_head, none_head, head_takes}
+use Rattle.coset_cbor.proofs.Takes.{IsBytes, bind_ok, chosen, ok_is, chunk_type, option_cases, number_head, none_head, head_takes}
 use Rattle.coset_cbor.proofs.Takes.{IsSoundReader, item_takes, chunk_takes, pair_takes, IsArgumentEncoding}
 
 -- ---- steps that failed
@@ -49,11 +50,15 @@ guard_err false f g x e = absurd cc
 
 -- ---- heads
 
-abbrev HeadFault : List ℕ → Fault → Type 0
-HeadFault s f = ((f ≡ End) × Ends s) ⊎ ((f ≡ Syntax (length s)) × HasBadInfo s)
+abbrev pub HeadFault : List ℕ → Fault → Type 0
+HeadFault s f = ((f ≡ End) × EndsInHead s) ⊎ ((f ≡ Syntax (length s)) × HasBadInfo s)
+
+ends_in_head : (s : List ℕ) → EndsInHead s → Ends s
+ends_in_head s (inl none) = inl none
+ends_in_head s (inr few) = inr (inl few)
 
 lacks : (x k : ℕ) (s : List ℕ) (f : Fault) → k < 4 → x % 32 ≡ 24 + k → ltb (length s) (2 ^ k) ≡ true → End ≡ f → HeadFault (x ∷ s) f
-lacks x k s f lt is least_encoding e = inl (sym e, inr (inl (k, lt, is, ltb-true _ _ least_encoding)))
+lacks x k s f lt is least_encoding e = inl (sym e, inr (k, lt, is, ltb-true _ _ least_encoding))
 
 argument_fault : (x : ℕ) (s : List ℕ) (f : Fault) → argument_by (x % 32) (suc (length s)) s ≡ Err f → HeadFault (x ∷ s) f
 argument_fault x s f e =
@@ -84,9 +89,9 @@ argument_fault x s f e =
       ]
     ]
 
-head_fault : (s : List ℕ) (f : Fault) → head_at s ≡ Err f → HeadFault s f
+pub head_fault : (s : List ℕ) (f : Fault) → head_at s ≡ Err f → HeadFault s f
 unfolding head_at
-head_fault [] f e = inl (sym (fault_is {A = HeadSeen × List ℕ} End f e), inl refl)
+head_fault [] f e = inl (sym (fault_is {A = HeadView × List ℕ} End f e), inl refl)
 head_fault (x ∷ s) f e = argument_fault x s f (bind_made (argument_by (x % 32) (suc (length s)) s)
     (λ a. (record { major_type = major_type_of (x / 32); argument = a.0 }, a.1)) f e)
 
@@ -123,7 +128,7 @@ is_due_nest o f p c (inr h) = inr (h.0, chunk_nest o f p h.0 c h.1)
 moved : (o c t s : List ℕ) → s ≡ c ++ t → o ++ s ≡ (o ++ c) ++ t
 moved o c t s e = ap (λ (x : List ℕ). o ++ x) e ∙ sym (append_assoc o c t)
 
--- no break stands where one may stand
+-- no break is where one may be
 abbrev pub NoBreakAt : Bool → List ℕ → Type 0
 NoBreakAt f s = (f ≡ false) ⊎ (begins_break s ≡ false)
 
@@ -205,12 +210,12 @@ string_fault d is_text s c t h r n f parts due split head e =
     type_four false = omega arith
     type_four true = omega arith
 
-first_major_type : (x : ℕ) (t : List ℕ) (h : HeadSeen × List ℕ) → head_at (x ∷ t) ≡ Ok h → h.0.major_type ≡ major_type_of (x / 32)
+first_major_type : (x : ℕ) (t : List ℕ) (h : HeadView × List ℕ) → head_at (x ∷ t) ≡ Ok h → h.0.major_type ≡ major_type_of (x / 32)
 unfolding head_at
 first_major_type x t h e =
     let r = bind_ok (argument_by (x % 32) (suc (length t)) t) (λ a. Ok (record { major_type = major_type_of (x / 32); argument = a.0 }, a.1)) h e in
-    let made : HeadSeen × List ℕ = (record { major_type = major_type_of (x / 32); argument = r.0.0 }, r.0.1) in
-    ap (λ (y : HeadSeen × List ℕ). y.0.major_type) (sym (ok_is made h r.2))
+    let made : HeadView × List ℕ = (record { major_type = major_type_of (x / 32); argument = r.0.0 }, r.0.1) in
+    ap (λ (y : HeadView × List ℕ). y.0.major_type) (sym (ok_is made h r.2))
 
 begins_chunk-type : (is_text : Bool) → begins_chunk is_text (major_type_of (string_type is_text)) ≡ true
 begins_chunk-type false = refl
@@ -223,7 +228,7 @@ bad_info_no_chunk is_text (x ∷ t) h =
     let high = h.1 in
     (λ e. omega arith, λ k. let le = k.1 in omega arith)
 
-other_no_chunk : (is_text : Bool) (t : List ℕ) (h : HeadSeen × List ℕ) → begins_break t ≡ false → head_at t ≡ Ok h → begins_chunk is_text h.0.major_type ≡ false
+other_no_chunk : (is_text : Bool) (t : List ℕ) (h : HeadView × List ℕ) → begins_break t ≡ false → head_at t ≡ Ok h → begins_chunk is_text h.0.major_type ≡ false
     → NoChunk is_text t
 unfolding head_at
 other_no_chunk is_text [] h goes e other = absurd cc
@@ -248,7 +253,7 @@ chunk_fault d is_text s c t f parts due fits goes e =
     elim (bind_err (head_at t) (λ h. cond (begins_chunk is_text h.0.major_type)
     (unless_none (length t) (number_of h.0.argument) (λ n. string_at is_text (length t) n h.1)) (Err (Syntax (length t)))) f e) [
       | inl a ↦ elim (head_fault t f a) [
-        | inl b ↦ subst (λ (g : Fault). FaultAt d s g) (sym b.0) (c, t, parts, (inr (is_text, due), b.1))
+        | inl b ↦ subst (λ (g : Fault). FaultAt d s g) (sym b.0) (c, t, parts, (inr (is_text, due), ends_in_head t b.1))
         | inr b ↦ subst (λ (g : Fault). FaultAt d s g) (sym b.0) (c, t, parts, refl, inr (inl (is_text, due, bad_info_no_chunk is_text t b.1)))
       ]
       | inr a ↦
@@ -639,7 +644,7 @@ from_fault : (d : ℕ) (inside : Inside) → InsideFaults d inside → Faults d 
 from_fault d inside inner s f fits e =
     elim (bind_err (head_at s) (λ h. item_by inside (length s) h.0.argument h.0.major_type h.1) f e) [
       | inl a ↦ elim (head_fault s f a) [
-        | inl b ↦ subst (λ (g : Fault). FaultAt d s g) (sym b.0) ([], s, refl, (inl (0, false, at_start), b.1))
+        | inl b ↦ subst (λ (g : Fault). FaultAt d s g) (sym b.0) ([], s, refl, (inl (0, false, at_start), ends_in_head s b.1))
         | inr b ↦ no_item d s f (inl b.1) (sym b.0)
       ]
       | inr a ↦
@@ -653,7 +658,7 @@ sound_below d s x fits e =
     let le = t.encoding.1 in
     record { front = t.front; encoding = (t.encoding.0, omega arith); parts = t.parts; rest_fits = t.rest_fits }
 
--- Where nothing is read, the fault stands.
+-- Where nothing is read, there is that fault.
 pub item_fault : (d : ℕ) → Faults d (item_at d)
 unfolding item_at
 item_fault zero s f fits e = from_fault 0 nothing nothing_faults s f fits e

@@ -1,4 +1,4 @@
--- Passing over an item that is known to stand there, its parts not tested again.
+-- Skipping an item that is known to be there, its parts not tested again.
 use Rattle.std.proofs.Common.{◌≡◌, ℕ, zero, suc, ◌+◌, ◌-◌, ◌/◌, ◌<◌, Bool, true, false, cond, eqb, ltb, List, [], ◌∷◌, ◌++◌, length, take, drop, Option, Some}
 use Rattle.std.proofs.Common.{Result, Ok, Err, refl, sym, ap, subst, ◌∙◌, arith, inl, inr}
 use Rattle.std.specs.Prelude.{pos, negsuc}
@@ -6,7 +6,7 @@ use Rattle.coset_cbor.specs.declared.fault.Fault.{Fault}
 use Rattle.coset_cbor.specs.declared.fault.Fault.TheVariants.{End, Syntax, Simple}
 use Rattle.coset_cbor.specs.declared.head.MajorType.{MajorType}
 use Rattle.coset_cbor.specs.declared.head.MajorType.TheVariants as major_types
-use Rattle.coset_cbor.specs.Heads.{Argument, HeadSeen}
+use Rattle.coset_cbor.specs.Heads.{Argument, HeadView}
 use Rattle.coset_cbor.specs.Heads as places
 use Rattle.coset_value.specs.Item.{half, single, double, Item, integer, bytes, float, boolean, null, tag, array, dict}
 use Rattle.coset_value.specs.View.{items_of, pairs_of}
@@ -150,16 +150,16 @@ behind_by major_types.Tag left n a s x fits number e =
     (y.0, deeper s y.0 fits y.1, y.2)
 behind_by major_types.Simple left n a s x fits number e = simple_rest left a s x e
 
-pub behind_head : (s : List ℕ) (h : HeadSeen × List ℕ) (n : ℕ) (t : List ℕ) (x : Item × List ℕ) → IsBytes s → head_at s ≡ Ok h → number_of h.0.argument ≡ Some n
+pub behind_head : (s : List ℕ) (h : HeadView × List ℕ) (n : ℕ) (t : List ℕ) (x : Item × List ℕ) → IsBytes s → head_at s ≡ Ok h → number_of h.0.argument ≡ Some n
     → t ≡ drop (bytes_behind h.0.major_type n) h.1 → item_at 256 s ≡ Ok x → IsPast (items_behind h.0.major_type n) t x.1
 unfolding item_at
 behind_head s h n t x fits e number rest whole =
     let by : item_by (things (item_at 255)) (length s) h.0.argument h.0.major_type h.1 ≡ Ok x =
-    sym (ap (λ (r : Result (HeadSeen × List ℕ) Fault). r >>= λ y. item_by (things (item_at 255)) (length s) y.0.argument y.0.major_type y.1) e) ∙ whole in
+    sym (ap (λ (r : Result (HeadView × List ℕ) Fault). r >>= λ y. item_by (things (item_at 255)) (length s) y.0.argument y.0.major_type y.1) e) ∙ whole in
     subst (λ (r : List ℕ). IsPast (items_behind h.0.major_type n) r x.1) (sym rest)
     (behind_by h.0.major_type (length s) n h.0.argument h.1 x (head_takes s h fits e).rest_fits number by)
 
--- ---- the item that is known to stand at the front
+-- ---- the item known to be at the front
 
 -- b is split where the item ends
 pub record IsSplit (b f rest : List ℕ) : Type 0 where

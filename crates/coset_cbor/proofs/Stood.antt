@@ -1,4 +1,4 @@
--- Where a fault stands, no front is an item; in a proper front of an item only its end stands.
+-- Where there is a fault, no front is an item; in a proper front of an item the end is the only fault.
 use Rattle.std.proofs.Common.{◌≡◌, ◌≢◌, ℕ, zero, suc, ◌+◌, ◌*◌, ◌/◌, ◌%◌, ◌^◌, ◌<◌, ◌≤◌, Bool, true, false, cond, ltb, List, [], ◌∷◌, ◌++◌, length, take, drop}
 use Rattle.std.proofs.Common.{Option, Some, None, Result, Ok, Err, refl, sym, ap, subst, ◌∙◌, append_assoc, arith, inl, inr, ◌⊎◌}
 use Rattle.std.specs.Str.{IsUtf8}
@@ -13,7 +13,7 @@ use Rattle.coset_cbor.specs.declared.de.EndOfFile.{EndOfFile}
 use Rattle.coset_cbor.specs.declared.de.Error.{Error}
 use Rattle.coset_cbor.specs.declared.de.Error.TheVariants as errors
 use Rattle.coset_cbor.specs.declared.head.MajorType.TheVariants as major_types
-use Rattle.coset_cbor.specs.Heads.{Argument, HeadSeen}
+use Rattle.coset_cbor.specs.Heads.{Argument, HeadView}
 use Rattle.coset_cbor.specs.Heads as places
 use Rattle.coset_cbor.specs.Grammar.{IsHeaded, EachInOrder, IsDefinite, joined_chunks, string_type, IsItem}
 use Rattle.coset_cbor.specs.Faults.{Due, DueChunk, LacksArgument, LacksContent, Ends, NoItem, NoChunk, IsBadTextString, IsNotSupported, Nests}
@@ -163,18 +163,18 @@ string_by_blocked is_text left n o s f y num never e =
     let r = bind_ok (any_string_by is_text left o s) (λ x. Ok (f x.0, x.1)) y e in
     never left r.0 (ap (λ (k : Option ℕ). any_string_by is_text left k s) (sym num) ∙ r.1)
 
--- members that can't be there
-record NoMembers (n : ℕ) (s : List ℕ) (inside : Inside) : Type 0 where
+-- elements that can't be there
+record NoElements (n : ℕ) (s : List ℕ) (inside : Inside) : Type 0 where
   items : length s < n → (x : List Item × List ℕ) → inside.items (Some n) s ≡ Ok x → ⊥
   pairs : length s < 2 * n → (x : List (Item × Item) × List ℕ) → inside.pairs (Some n) s ≡ Ok x → ⊥
 
-nothing_members : (n : ℕ) (s : List ℕ) → NoMembers n s nothing
+nothing_elements : (n : ℕ) (s : List ℕ) → NoElements n s nothing
 unfolding nothing
-nothing_members n s = record { items = λ lt x e. cc; pairs = λ lt x e. cc }
+nothing_elements n s = record { items = λ lt x e. cc; pairs = λ lt x e. cc }
 
-things_members : (n : ℕ) (s : List ℕ) (d : ℕ) → NoMembers n s (things (item_at d))
+things_elements : (n : ℕ) (s : List ℕ) (d : ℕ) → NoElements n s (things (item_at d))
 unfolding things
-things_members n s d = record {
+things_elements n s d = record {
   items = λ lt x e.
       let g = guard_ok (ltb (length s) n) End (times_at (item_at d) n s) x e in
       let long : n ≤ length s = ltb-false _ _ g.0 in
@@ -185,7 +185,7 @@ things_members n s d = record {
       omega arith;
 }
 
-lacks_by : (inside : Inside) (left m n : ℕ) (a : Argument) (s : List ℕ) (y : Item × List ℕ) → NoMembers n s inside → number_of a ≡ Some n
+lacks_by : (inside : Inside) (left m n : ℕ) (a : Argument) (s : List ℕ) (y : Item × List ℕ) → NoElements n s inside → number_of a ≡ Some n
     → ((2 ≤ m) × (m ≤ 4) × (length s < n)) ⊎ ((m ≡ 5) × (length s < 2 * n)) → item_by inside left a (major_type_of m) s ≡ Ok y → ⊥
 lacks_by inside left (suc (suc zero)) n a s y none num (inl h) e = string_by_blocked false left n (number_of a) s bytes y num (short_string false n s h.2) e
 lacks_by inside left (suc (suc (suc zero))) n a s y none num (inl h) e =
@@ -202,15 +202,15 @@ lacks_by inside left m n a s y none num (inr h) e =
     none.pairs h.1 r.0 (ap (λ (k : Option ℕ). inside.pairs k s) (sym num) ∙ r.1)
 
 -- what reading an item does with its head
-with_head : (d : ℕ) (t : List ℕ) (h : HeadSeen × List ℕ) (y : Item × List ℕ) → head_at t ≡ Ok h → item_at d t ≡ Ok y
+with_head : (d : ℕ) (t : List ℕ) (h : HeadView × List ℕ) (y : Item × List ℕ) → head_at t ≡ Ok h → item_at d t ≡ Ok y
     → ((item_by nothing (length t) h.0.argument h.0.major_type h.1 ≡ Ok y)
     ⊎ ((c : ℕ) × (item_by (things (item_at c)) (length t) h.0.argument h.0.major_type h.1 ≡ Ok y)))
 unfolding item_at
-with_head zero t h y e is = inl (sym (ap (λ (r : Result (HeadSeen × List ℕ) Fault). r >>= λ x. item_by nothing (length t) x.0.argument x.0.major_type x.1) e)
+with_head zero t h y e is = inl (sym (ap (λ (r : Result (HeadView × List ℕ) Fault). r >>= λ x. item_by nothing (length t) x.0.argument x.0.major_type x.1) e)
     ∙ is)
 with_head (suc d) t h y e is = inr (
   d,
-  sym (ap (λ (r : Result (HeadSeen × List ℕ) Fault). r >>= λ x. item_by (things (item_at d))
+  sym (ap (λ (r : Result (HeadView × List ℕ) Fault). r >>= λ x. item_by (things (item_at d))
       (length t) x.0.argument x.0.major_type x.1) e) ∙ is,
 )
 
@@ -219,8 +219,8 @@ content_blocked e t h d = (
   λ y is.
       let r = head_is h.m h.n h.rest t h.headed in
       elim (with_head d t (head_of h.m r.argument, h.rest) y r.reads is) [
-        | inl w ↦ lacks_by nothing (length t) h.m h.n r.argument h.rest y (nothing_members h.n h.rest) r.number h.lacks w
-        | inr w ↦ lacks_by (things (item_at w.0)) (length t) h.m h.n r.argument h.rest y (things_members h.n h.rest w.0) r.number h.lacks w.1
+        | inl w ↦ lacks_by nothing (length t) h.m h.n r.argument h.rest y (nothing_elements h.n h.rest) r.number h.lacks w
+        | inr w ↦ lacks_by (things (item_at w.0)) (length t) h.m h.n r.argument h.rest y (things_elements h.n h.rest w.0) r.number h.lacks w.1
       ],
   λ even. starts_no_break t h,
 )
@@ -254,16 +254,16 @@ ends_blocked e t fits (inr (inr h)) d = content_blocked e t h d
 
 -- ---- what is left, where a chunk is due
 
--- no chunk is read, and no break stands there
+-- no chunk is read, and no break is there
 abbrev NoChunkRead : Bool → List ℕ → Type 0
 NoChunkRead is_text t = ((x : List ℕ × List ℕ) → chunk_at is_text t ≡ Ok x → ⊥) × (begins_break t ≡ false)
 
 -- what reading a chunk does with its head
-chunk_with : (is_text : Bool) (t : List ℕ) (h : HeadSeen × List ℕ) (x : List ℕ × List ℕ) → head_at t ≡ Ok h → chunk_at is_text t ≡ Ok x
+chunk_with : (is_text : Bool) (t : List ℕ) (h : HeadView × List ℕ) (x : List ℕ × List ℕ) → head_at t ≡ Ok h → chunk_at is_text t ≡ Ok x
     → (begins_chunk is_text h.0.major_type ≡ true) × (n : ℕ) × (number_of h.0.argument ≡ Some n) × (string_at is_text (length t) n h.1 ≡ Ok x)
 unfolding chunk_at
 chunk_with is_text t h x e is =
-    let whole = sym (ap (λ (r : Result (HeadSeen × List ℕ) Fault). r >>= λ h. cond (begins_chunk is_text h.0.major_type)
+    let whole = sym (ap (λ (r : Result (HeadView × List ℕ) Fault). r >>= λ h. cond (begins_chunk is_text h.0.major_type)
     (unless_none (length t) (number_of h.0.argument) (λ n. string_at is_text (length t) n h.1)) (Err (Syntax (length t)))) e) ∙ is in
     let g = guard_else (begins_chunk is_text h.0.major_type) (Syntax (length t)) _ x whole in
     let n = some_ok (length t) (number_of h.0.argument) (λ n. string_at is_text (length t) n h.1) x g.1 in
@@ -455,7 +455,7 @@ stood s errors.RecursionLimitExceeded fits other (c, t, parts, h) =
     (nests_blocked h.0 t (tail_fits s c t fits parts) h.2))
 stood s errors.OutOfMemory fits other h = absurd (other tt)
 
--- Where a fault stands, no front is an item.
+-- Where there is a fault, no front is an item.
 pub no_item_stood : (s : List ℕ) (e : Error EndOfFile) → IsBytes s → (IsMemory e → ⊥) → FaultIn s e → HasNoItem s
 no_item_stood s e fits other h v b rest parts is = stood s e fits other h (v, rest) (ap (item_at 256) parts ∙ item_again 256 v b rest is.0 is.1)
 
@@ -498,7 +498,7 @@ nests_on (x ∷ t) d h = h
 on : (b s d c t : List ℕ) → b ≡ s ++ d → s ≡ c ++ t → b ≡ c ++ (t ++ d)
 on b s d c t whole parts = whole ∙ ap (λ (z : List ℕ). z ++ d) parts ∙ append_assoc c t d
 
--- a fault other than the end still stands where more bytes follow
+-- a fault other than the end remains where more bytes follow
 stands_on : (b s d : List ℕ) (e : Error EndOfFile) → b ≡ s ++ d → FaultIn s e → IsEndOfInput e ⊎ FaultIn b e
 stands_on b s d (errors.Io x) whole h = inl tt
 stands_on b s d (errors.Syntax i) whole (c, t, parts, at, inl h) = inr (c, t ++ d, on b s d c t whole parts, at, inl (h.0, h.1, h.2, no_item_on h.1 t d h.3))
@@ -512,7 +512,7 @@ stands_on b s d (errors.Semantic (Some i) told) whole (is, c, t, parts, at, h) =
 stands_on b s d errors.RecursionLimitExceeded whole (c, t, parts, h) = inr (c, t ++ d, on b s d c t whole parts, (h.0, h.1, nests_on t d h.2))
 stands_on b s d errors.OutOfMemory whole h = inr tt
 
--- In a front of an item only its end stands.
+-- In a front of an item the end is the only fault.
 pub end_in_front : (v : Item) (b s d : List ℕ) (e : Error EndOfFile) → IsBytes b → IsItem b v → b ≡ s ++ d → (IsMemory e → ⊥) → FaultIn s e → IsEndOfInput e
 end_in_front v b s d e fits is whole other h = elim (stands_on b s d e whole h) [
   | inl end ↦ end

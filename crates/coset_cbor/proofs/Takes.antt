@@ -11,7 +11,7 @@ use Rattle.coset_cbor.specs.declared.fault.Fault.{Fault}
 use Rattle.coset_cbor.specs.declared.fault.Fault.TheVariants.{End, Syntax, Simple}
 use Rattle.coset_cbor.specs.declared.head.MajorType.{MajorType}
 use Rattle.coset_cbor.specs.declared.head.MajorType.TheVariants as major_types
-use Rattle.coset_cbor.specs.Heads.{Argument, HeadSeen}
+use Rattle.coset_cbor.specs.Heads.{Argument, HeadView, major_type_number}
 use Rattle.coset_cbor.specs.Heads as places
 use Rattle.coset_value.specs.Item.{half, single, double, Item, integer, bytes, float, boolean, null, tag, array, dict, items_count, pairs_count, depth}
 use Rattle.coset_value.specs.Item.{items_depth, pairs_depth}
@@ -73,16 +73,6 @@ option_cases None = inl refl
 option_cases (Some n) = inr (n, refl)
 
 -- ---- heads
-
-abbrev pub major_type_number : MajorType → ℕ
-major_type_number major_types.Unsigned = 0
-major_type_number major_types.Negative = 1
-major_type_number major_types.Bytes = 2
-major_type_number major_types.Text = 3
-major_type_number major_types.Array = 4
-major_type_number major_types.Map = 5
-major_type_number major_types.Tag = 6
-major_type_number major_types.Simple = 7
 
 major_type_number-major_type_of : (m : ℕ) → m < 8 → major_type_number (major_type_of m) ≡ m
 major_type_number-major_type_of zero lt = refl
@@ -208,13 +198,13 @@ argument_by_takes info left s x fits e =
     plain m = refl
 
 -- what a head takes
-pub record HeadTakes (s : List ℕ) (x : HeadSeen × List ℕ) : Type 0 where
+pub record HeadTakes (s : List ℕ) (x : HeadView × List ℕ) : Type 0 where
   pub front : List ℕ
   pub encoding : IsArgumentEncoding (major_type_number x.0.major_type) x.0.argument front
   pub parts : s ≡ front ++ x.1
   pub rest_fits : IsBytes x.1
 
-pub head_takes : (s : List ℕ) (x : HeadSeen × List ℕ) → IsBytes s → head_at s ≡ Ok x → HeadTakes s x
+pub head_takes : (s : List ℕ) (x : HeadView × List ℕ) → IsBytes s → head_at s ≡ Ok x → HeadTakes s x
 unfolding head_at
 head_takes [] x fits e = absurd cc
 head_takes (b ∷ s) x fits e =
@@ -223,8 +213,8 @@ head_takes (b ∷ s) x fits e =
     let split : b ≡ 32 * (b / 32) + b % 32 = omega arith in
     let r = bind_ok (argument_by (b % 32) (suc (length s)) s) (λ a. Ok (record { major_type = major_type_of (b / 32); argument = a.0 }, a.1)) x e in
     let t = argument_by_takes (b % 32) (suc (length s)) s r.0 (IsBytes-rest b s fits) r.1 in
-    let made : HeadSeen × List ℕ = (record { major_type = major_type_of (b / 32); argument = r.0.0 }, r.0.1) in
-    subst (λ (y : HeadSeen × List ℕ). HeadTakes (b ∷ s) y) (ok_is made x r.2) (record {
+    let made : HeadView × List ℕ = (record { major_type = major_type_of (b / 32); argument = r.0.0 }, r.0.1) in
+    subst (λ (y : HeadView × List ℕ). HeadTakes (b ∷ s) y) (ok_is made x r.2) (record {
       front = b ∷ t.more;
       encoding = subst (λ (m : ℕ). IsArgumentEncoding m r.0.0 (b ∷ t.more)) (sym (major_type_number-major_type_of (b / 32) q))
           (subst (λ (y : ℕ). IsArgumentEncoding (b / 32) r.0.0 (y ∷ t.more)) (sym split) (t.encoding (b / 32)));
@@ -323,7 +313,7 @@ times_take {A} R read sound (suc n) s x fits e =
       ap suc u.1,
     )
 
--- what stands before the break
+-- what is before the break
 pub record TakesBroken {A : Type 0} (R : A → List ℕ → Type 0) (s : List ℕ) (x : List A × List ℕ) : Type 0 where
   pub front : List ℕ
   pub encoding : EachInOrder R x.0 front

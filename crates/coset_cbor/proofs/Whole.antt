@@ -50,7 +50,7 @@ rest_is s = Ok s
 abbrev fault_is : Fault → Result (List ℕ) Fault
 fault_is f = Err f
 
--- what was passed over was read
+-- what was skipped was read
 pub passed_is_read : (r : Result (Item × List ℕ) Fault) (rest : List ℕ) → left_of r ≡ Ok rest → (v : Item) × (r ≡ Ok (v, rest))
 passed_is_read (Ok x) rest e = (x.0, ap (λ (s : List ℕ). done (x.0, s)) (rest_same x.1 rest e))
   where

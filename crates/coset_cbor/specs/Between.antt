@@ -1,10 +1,10 @@
--- The members that bytes are, one after the other: those of the array or the map without a length that has these
+-- The elements that bytes are, one after the other: those of the array or the map without a length that has these
 -- bytes between its opening and its break (RFC 8949, section 3.2.2).
 use Rattle.std.specs.Prelude.{◌≡◌, ℕ, List, [], ◌∷◌, ◌++◌, Some, None, Ok, unwrap_or}
 use Rattle.coset_value.specs.Item.{Items, no_items, Pairs, no_pairs}
 use Rattle.coset_value.specs.Parts.{as_array, as_map}
 use Rattle.coset_cbor.specs.declared.head.MajorType.{MajorType}
-use Rattle.coset_cbor.specs.Heads.{HeadSeen}
+use Rattle.coset_cbor.specs.Heads.{HeadView}
 use Rattle.coset_cbor.specs.Reading.{head_at, number_of}
 use Rattle.coset_cbor.specs.Whole.{item_of}
 
@@ -25,7 +25,7 @@ pairs_in s = unwrap_or (as_map (item_of (map_around s))) no_pairs
 
 -- s is what follows a head of kind k in b, without the break where the head announces no number
 pub record IsContent (k : MajorType) (b s : List ℕ) : Type 0 where
-  pub head : HeadSeen × List ℕ
+  pub head : HeadView × List ℕ
   pub reads : head_at b ≡ Ok head
   pub major_type : head.0.major_type ≡ k
   pub definite : (n : ℕ) → number_of head.0.argument ≡ Some n → s ≡ head.1

@@ -22,7 +22,7 @@ chunks_left c = chunk_contents false c.bytes.now
 abbrev pub text_chunks_left : TextChunks → List (List ℕ)
 text_chunks_left c = chunk_contents true c.bytes.now
 
--- a call gave the content of the first of the chunks that were left, which stood behind its head, before the bytes that
+-- a call gave the content of the first of the chunks that were left, which followed its head, before the bytes that
 -- are left, and left the others; or it gave `None`, and none were left or are
 abbrev pub YieldsChunk : ByteChunks → Option (Bor (List ℕ)) → ByteChunks → Type 0
 YieldsChunk old r new = MatchOption r ((chunks_left old ≡ []) × (chunks_left new ≡ [])) (λ s.

@@ -1,6 +1,6 @@
 -- How many steps the reading of an encoding takes: 1 for each head of an item or a chunk and for each closing break, 1
 -- for each byte of the content of a text string (which is walked, to see that it is UTF-8), and the sum over the parts.
--- The bytes of a byte string are passed over.
+-- The bytes of a byte string are skipped.
 use Rattle.std.specs.Prelude.{◌≡◌, ℕ, suc, ◌+◌, ◌⊎◌, Bool, true, false, List, [], ◌∷◌, ◌++◌, length}
 use Rattle.coset_value.specs.Item.{Item, integer, bytes, float, text, boolean, null, tag, array, dict, Items, no_items, item, Pairs, no_pairs, pair}
 use Rattle.coset_value.specs.Item.{items_count, pairs_count}

@@ -89,13 +89,13 @@ unfoldable pub item_steps : ℕ → List ℕ → ℕ
 item_steps zero s = steps_from no_steps s
 item_steps (suc d) s = steps_from (steps_of (item_at d) (item_steps d)) s
 
--- What a function that passes over bytes returned is what reading leaves.
+-- What a function that skips bytes returned is what reading leaves.
 abbrev pub Passes : {A : Type 0} → Result (Bor (List ℕ)) Fault → Result (A × List ℕ) Fault → Type 0
 Passes (Ok rest) read = left_of read ≡ Ok rest.now
 Passes (Err f) read = left_of read ≡ Err f
 
--- What a function that passes over bytes returned is what reading leaves, where the fault that it was lent says whether
--- it answers.
+-- What a function that skips bytes returned is what reading leaves, where the fault that it was lent says whether
+-- it returns.
 abbrev pub PassesTo : {A : Type 0} → Option Fault → List ℕ → Result (A × List ℕ) Fault → Type 0
 PassesTo None rest read = left_of read ≡ Ok rest
 PassesTo (Some f) rest read = left_of read ≡ Err f

@@ -1,4 +1,4 @@
--- Reading forward over bytes of which items are known to stand at the front (RFC 8949, section 3).
+-- Reading forward over bytes of which items are known to be at the front (RFC 8949, section 3).
 use Rattle.std.specs.Prelude.{◌≡◌, ℕ, ◌+◌, ◌^◌, ◌<◌, List, ◌∷◌, ◌++◌, Bool, true, false, Option, Some, None, Result, Ok, Err, ◌≢◌, option_map}
 use Rattle.coset_value.specs.Item.{Item, null, Items, no_items, item, items_count, Pairs, no_pairs, pair}
 use Rattle.coset_value.specs.Parts.{as_map}
@@ -10,11 +10,11 @@ use Rattle.coset_cbor.specs.Grammar.{IsItem}
 abbrev pub bytes_left : Cursor → List ℕ
 bytes_left c = c.rest.now
 
--- an item within 256 levels stands at the front of s: v, and a follows it
+-- an item within 256 levels is at the front of s: v, and a follows it
 unfoldable pub ItemAt : Item → List ℕ → List ℕ → Type 0
 ItemAt v s a = (b : List ℕ) × (s ≡ b ++ a) × IsItem b v
 
--- these stand there one after the other, and a follows them
+-- these are there one after the other, and a follows them
 unfoldable pub AreAt : Items → List ℕ → List ℕ → Type 0
 AreAt no_items s a = s ≡ a
 AreAt (item v vs) s a = (mid : List ℕ) × ItemAt v s mid × AreAt vs mid a
@@ -33,11 +33,11 @@ pub record AreWithin (p : Remaining) (vs : Items) (s a : List ℕ) : Type 0 wher
   pub definite : (n : ℕ) → p.left ≡ Some n → (n ≡ items_count vs) × AreAt vs s a
   pub indefinite : p.left ≡ None → AreAt vs s (255 ∷ a)
 
--- at t stand the items that the array or the map v gives
+-- at t are the items that the array or the map v gives
 abbrev pub Enters : (Item → Option Items) → Item → List ℕ → List ℕ → Remaining → Type 0
 Enters parts v t a p = (vs : Items) × (parts v ≡ Some vs) × AreWithin p vs t a
 
--- one more stands at the front, or none is left
+-- one more is at the front, or none is left
 abbrev pub Nexts : Items → List ℕ → List ℕ → Remaining → Bool → Type 0
 Nexts vs s a p true = (v : Item) × (others : Items) × (mid : List ℕ) × (vs ≡ item v others) × ItemAt v s mid × AreWithin p others mid a
 Nexts vs s a p false = (vs ≡ no_items) × AreWithin p no_items s a
@@ -49,13 +49,13 @@ Doubles pairs (Some n) = (m : ℕ) × (pairs ≡ Some m) × (m + m < 2 ^ 64 → 
 
 -- what the item v holds was read, and the place t is just behind it; or v holds nothing of the kind, and the place is s as before
 abbrev pub TakesPart : {T P : Type 0} → (Item → Option P) → (T → P) → Item → List ℕ → List ℕ → List ℕ → Option T → Type 0
-TakesPart part seen v s t a (Some x) = (part v ≡ Some (seen x)) × (t ≡ a)
-TakesPart part seen v s t a None = (part v ≡ None) × (t ≡ s)
+TakesPart part view v s t a (Some x) = (part v ≡ Some (view x)) × (t ≡ a)
+TakesPart part view v s t a None = (part v ≡ None) × (t ≡ s)
 
 -- what the item holds was copied, or it holds nothing of the kind; or memory ran out, and the place is behind the item
 abbrev pub CopiesPart : {T P E : Type 0} → (Item → Option P) → (T → P) → Item → List ℕ → List ℕ → List ℕ → Result (Option T) E → Type 0
-CopiesPart part seen v s t a (Ok o) = TakesPart part seen v s t a o
-CopiesPart part seen v s t a (Err e) = t ≡ a
+CopiesPart part view v s t a (Ok o) = TakesPart part view v s t a o
+CopiesPart part view v s t a (Err e) = t ≡ a
 
 -- null was taken, and the reader is behind it; or the item is another, and nothing was
 abbrev pub TakesNull : Item → List ℕ → List ℕ → List ℕ → Bool → Type 0

@@ -1,4 +1,4 @@
--- Which fault stands where in bytes (RFC 8949, section 5.3 and appendix C). A fault stands between what is before
+-- Which fault is where in bytes (RFC 8949, section 5.3 and appendix C). A fault is between what is before
 -- it, c, after which something is due, and what is left, t, which begins with what can't be there.
 use Rattle.std.specs.Prelude.{◌≡◌, ◌≢◌, ℕ, zero, suc, ◌+◌, ◌*◌, ◌/◌, ◌%◌, ◌^◌, ◌<◌, ◌≤◌, ◌⊎◌, Bool, true, false, not, List, [], ◌∷◌, ◌++◌, length, take}
 use Rattle.std.specs.Str.{IsUtf8}
@@ -13,7 +13,7 @@ is_even (suc n) = not (is_even n)
 
 -- ---- what is before
 
--- o opens an array, a map or a tag, and then has some of its members, not all. The flag: the break may stand after o.
+-- o opens an array, a map or a tag, and then has some of its elements, not all. The flag: the break may be after o.
 pub data Opens : List ℕ → Bool → Type 0 where
   in_array : (n : ℕ) (vs : Items) (c o : List ℕ) → items_count vs < n → AreEncodings vs c → IsHeaded 4 n c o → Opens o false
   in_map : (n : ℕ) (vs : Items) (c o : List ℕ) → items_count vs < 2 * n → AreEncodings vs c → IsHeaded 5 n c o → Opens o false
@@ -21,7 +21,7 @@ pub data Opens : List ℕ → Bool → Type 0 where
   in_open_array : (vs : Items) (c : List ℕ) → AreEncodings vs c → Opens (0x9F ∷ c) true
   in_open_map : (vs : Items) (c : List ℕ) → AreEncodings vs c → Opens (0xBF ∷ c) (is_even (items_count vs))
 
--- An item is due after c, inside that many open arrays, maps and tags. The flag: the break may stand there instead.
+-- An item is due after c, inside that many open arrays, maps and tags. The flag: the break may be there instead.
 pub data Due : List ℕ → ℕ → Bool → Type 0 where
   at_start : Due [] 0 false
   innermost : (o : List ℕ) (e : Bool) → Opens o e → Due o 1 e
@@ -77,12 +77,12 @@ IsLowSimple [] = ⊥
 IsLowSimple (x ∷ []) = ⊥
 IsLowSimple (x ∷ y ∷ t) = (x ≡ 0xF8) × (y < 32)
 
--- the break stands at the front
+-- the break is at the front
 abbrev pub BeginsBreak : List ℕ → Type 0
 BeginsBreak [] = ⊥
 BeginsBreak (x ∷ t) = x ≡ 255
 
--- no item begins so, nor a break where one may stand
+-- no item begins so, nor a break where one may be
 abbrev pub NoItem : Bool → List ℕ → Type 0
 NoItem e t = HasBadInfo t ⊎ (HasNoLength t ⊎ (IsLowSimple t ⊎ (BeginsBreak t × (e ≡ false))))
 
@@ -123,7 +123,7 @@ SimpleAt c t = (d : ℕ) × (e : Bool) × Due c d e × IsNotSupported t
 abbrev pub DeepAt : ℕ → List ℕ → List ℕ → Type 0
 DeepAt d c t = (e : Bool) × Due c d e × Nests t
 
--- the fault stands in s, of which a reader goes d deep; a number is how many bytes are left there
+-- the fault is in s, of which a reader goes d deep; a number is how many bytes are left there
 abbrev pub FaultAt : ℕ → List ℕ → Fault → Type 0
 FaultAt d s End = (c : List ℕ) × (t : List ℕ) × (s ≡ c ++ t) × EndAt c t
 FaultAt d s (Syntax left) = (c : List ℕ) × (t : List ℕ) × (s ≡ c ++ t) × (left ≡ length t) × SyntaxAt c t

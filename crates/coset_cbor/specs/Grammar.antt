@@ -44,7 +44,7 @@ pub record IsHeaded (m n : ℕ) (s b : List ℕ) : Type 0 where
 abbrev pub IsIndefinite : ℕ → List ℕ → List ℕ → Type 0
 IsIndefinite m s b = b ≡ (32 * m + 31) ∷ (s ++ 255 ∷ [])
 
--- ---- strings (RFC 8949, sections 3.1 and 3.2.3); the flag tells text strings, of type 3, from byte strings, of type 2
+-- ---- strings (RFC 8949, sections 3.1 and 3.2.3); the flag distinguishes text strings, of type 3, from byte strings, of type 2
 
 -- b is what R makes of each of these, one after the other
 abbrev pub EachInOrder : {A : Type 0} → (A → List ℕ → Type 0) → List A → List ℕ → Type 0

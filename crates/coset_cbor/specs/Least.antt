@@ -2,8 +2,6 @@
 -- That it is the shortest encoding is a law of the crate (`laws::least_heads_are_shortest`).
 use Rattle.std.specs.Prelude.{◌≡◌, ℕ, ◌^◌, ℤ, pos, negsuc, Bool, true, false, List, [], ◌∷◌, ◌++◌, length, nat_lt, if◌then◌else◌}
 use Rattle.std.specs.Int.{w16, w32, w64, to_be_bytes}
-use Rattle.coset_cbor.specs.declared.head.MajorType.{MajorType}
-use Rattle.coset_cbor.specs.declared.head.MajorType.TheVariants as major_types
 use Rattle.coset_value.specs.Item.{Bits, half, single, double, Item, integer, bytes, float, text, boolean, null, tag, array, dict, Items, no_items, item, Pairs}
 use Rattle.coset_value.specs.Item.{no_pairs, pair, items_count, pairs_count}
 use Rattle.coset_cbor.specs.Grammar.{HeadWidth, within, one, two, four, eight, head_in}
@@ -15,16 +13,6 @@ least_width n = if nat_lt n 24 then within else (if nat_lt n (2 ^ 8) then one
 -- the head of least width with this major type and argument
 unfoldable pub least_head : ℕ → ℕ → List ℕ
 least_head m n = head_in (least_width n) m n
-
-abbrev pub major_type_number : MajorType → ℕ
-major_type_number major_types.Unsigned = 0
-major_type_number major_types.Negative = 1
-major_type_number major_types.Bytes = 2
-major_type_number major_types.Text = 3
-major_type_number major_types.Array = 4
-major_type_number major_types.Map = 5
-major_type_number major_types.Tag = 6
-major_type_number major_types.Simple = 7
 
 abbrev pub integer_encoding : ℤ → List ℕ
 integer_encoding (pos n) = least_head 0 n

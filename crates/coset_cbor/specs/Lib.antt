@@ -3,6 +3,7 @@ pub mod Definite
 pub mod Shortest
 pub mod Faults
 pub mod ReadErrors
+pub mod ReadHeads
 pub mod Heads
 pub mod Reading
 pub mod Least
@@ -11,7 +12,7 @@ pub mod Counting
 pub mod Whole
 pub mod Pulls
 pub mod Between
-pub mod Members
+pub mod Elements
 pub mod StringChunks
 pub mod Chunks
 pub mod Scalars

@@ -13,6 +13,6 @@ pull_bytes p = p.bytes.now
 abbrev pub pull_item : Pull → Item
 pull_item p = item_of p.bytes.now
 
--- the lent item stands at the front of b, and the rest follows it
+-- the lent item is at the front of b, and the rest follows it
 abbrev pub BeginsWith : List ℕ → Pull → List ℕ → Type 0
 BeginsWith b p rest = (b ≡ pull_bytes p ++ rest) × IsItem (pull_bytes p) (pull_item p)

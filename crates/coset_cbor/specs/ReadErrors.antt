@@ -13,7 +13,7 @@ IsMemory (errors.Semantic n t) = ⊥
 IsMemory errors.RecursionLimitExceeded = ⊥
 IsMemory errors.OutOfMemory = ⊤
 
--- the fault stands in s, at the offset that it carries
+-- the fault is in s, at the offset that it carries
 abbrev pub FaultIn : List ℕ → Error EndOfFile → Type 0
 FaultIn s (errors.Io x) = (c : List ℕ) × (t : List ℕ) × (s ≡ c ++ t) × EndAt c t
 FaultIn s (errors.Syntax i) = (c : List ℕ) × (t : List ℕ) × (s ≡ c ++ t) × (i ≡ length c) × SyntaxAt c t

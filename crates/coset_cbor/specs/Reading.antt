@@ -10,7 +10,7 @@ use Rattle.coset_cbor.specs.declared.fault.ReadError.{ReadError}
 use Rattle.coset_cbor.specs.declared.fault.ReadError.TheVariants as errors
 use Rattle.coset_cbor.specs.declared.head.MajorType.{MajorType}
 use Rattle.coset_cbor.specs.declared.head.MajorType.TheVariants as major_types
-use Rattle.coset_cbor.specs.Heads.{Argument, HeadSeen}
+use Rattle.coset_cbor.specs.Heads.{Argument, HeadView}
 use Rattle.coset_cbor.specs.Heads as places
 use Rattle.coset_cbor.specs.declared.head.Head.{Head}
 use Rattle.coset_value.specs.Item.{half, single, double, Item, integer, bytes, float, text, boolean, null, tag, array, dict}
@@ -65,7 +65,7 @@ argument_from info n =
     (if info == 27 then places.Eight n else
     places.Indefinite))))
 
-abbrev pub head_from : Head → HeadSeen
+abbrev pub head_from : Head → HeadView
 head_from s = record { major_type = s.major_type; argument = argument_from s.info s.number }
 
 -- a number in k bytes
@@ -82,7 +82,7 @@ argument_by info left s =
     (if info == 31 then Ok (places.Indefinite, s) else
     Err (Syntax left))))))
 
-unfoldable pub head_at : Parse HeadSeen
+unfoldable pub head_at : Parse HeadView
 head_at [] = Err End
 head_at (x ∷ s) = argument_by (x % 32) (suc (length s)) s >>= λ a. Ok (record { major_type = major_type_of (x / 32); argument = a.0 }, a.1)
 
@@ -114,14 +114,14 @@ begins_chunk is_text major_types.Simple = false
 abbrev pub unless_indefinite : {A : Type 0} → ℕ → Argument → (ℕ → Result A Fault) → Result A Fault
 unless_indefinite left a read = unless_none left (number_of a) read
 
--- a definite string of the type that the flag tells
+-- a definite string of the type that the flag says
 unfoldable pub chunk_at : Bool → Parse (List ℕ)
 chunk_at is_text s = head_at s >>= λ h.
     if begins_chunk is_text h.0.major_type then unless_indefinite (length s) h.0.argument (λ n. string_at is_text (length s) n h.1) else Err (Syntax (length s))
 
 -- ---- one after the other
 
--- the break stands at the front
+-- the break is at the front
 abbrev pub begins_break : List ℕ → Bool
 begins_break [] = false
 begins_break (x ∷ s) = x == 255

@@ -1,4 +1,4 @@
--- Passing over items that are known to stand there. Only contracts of private functions cite it.
+-- Skipping items that are known to be there. Only contracts of private functions cite it.
 use Rattle.std.specs.Prelude.{◌≡◌, ℕ, zero, suc, ◌+◌, List, ◌++◌, Ok, pos, negsuc}
 use Rattle.coset_value.specs.Item.{Item, integer, bytes, float, text, boolean, null, tag, array, dict}
 use Rattle.coset_cbor.specs.declared.head.MajorType.{MajorType}
@@ -6,7 +6,7 @@ use Rattle.coset_cbor.specs.declared.head.MajorType.TheVariants as major_types
 use Rattle.coset_cbor.specs.Grammar.{IsItem}
 use Rattle.coset_cbor.specs.Reading.{item_at}
 
--- n items stand at the front of s, and a is what follows them
+-- n items are at the front of s, and a is what follows them
 unfoldable pub IsPast : ℕ → List ℕ → List ℕ → Type 0
 IsPast zero s a = s ≡ a
 IsPast (suc n) s a = (x : Item × List ℕ) × (item_at 256 s ≡ Ok x) × IsPast n x.1 a
@@ -33,7 +33,7 @@ bytes_behind major_types.Map n = 0
 bytes_behind major_types.Tag n = 0
 bytes_behind major_types.Simple n = 0
 
--- an item stands at the front
+-- an item is at the front
 pub record BeginsItem (b : List ℕ) : Type 0 where
   pub item : Item
   pub front : List ℕ

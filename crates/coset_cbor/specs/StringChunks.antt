@@ -1,4 +1,4 @@
--- The chunks of a string (RFC 8949, section 3.2.3); the flag tells text strings from byte strings.
+-- The chunks of a string (RFC 8949, section 3.2.3); the flag distinguishes text strings from byte strings.
 use Rattle.std.specs.Prelude.{◌≡◌, ℕ, suc, ◌≤◌, ◌⊎◌, Bool, true, false, ◌&&◌, List, [], ◌∷◌, ◌++◌, length, Option, Some, Result, Ok, Err}
 use Rattle.coset_value.specs.Item.{Item}
 use Rattle.coset_value.specs.Parts.{as_bytes, as_text}
@@ -18,7 +18,7 @@ HasChunks is_text b ss =
 abbrev pub HoldsChunks : Bool → List ℕ → List ℕ → Type 0
 HoldsChunks is_text b c = (c ≡ b) ⊎ IsIndefinite (string_type is_text) c b
 
--- the content of a string of the type that the flag tells
+-- the content of a string of the type that the flag says
 abbrev pub as_string : Bool → Item → Option (List ℕ)
 as_string false v = as_bytes v
 as_string true v = as_text v

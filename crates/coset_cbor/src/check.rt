@@ -1,4 +1,4 @@
-//! Passing over items without making values of them: the check.
+//! Skipping items without making values of them: the check.
 
 ghost use Rattle.std.specs.Prelude.{◌≡◌, ◌+◌, length, drop, true, false, MatchOption};
 ghost use Rattle.coset_cbor.specs.Reading.{Answers, head_at, begins_break, string_at, chunk_at, begins_chunk, any_string_by, simple_at, argument_from, head_from, times_at, until_at, pair_at, array_by, map_by, item_at};
@@ -140,7 +140,7 @@ fn chunks_here<'a, L: Ledger>(
     Err(Fault::End)
 }
 
-/// Passes chunks up to the break, by a function apart: it answers in registers, and says by `fault` whether what it
+/// Passes chunks up to the break, by a function apart: it returns in registers, and says by `fault` whether what it
 /// answers is to be used.
 #[inline(never)]
 fn chunks_apart<'a, L: Ledger>(
@@ -225,7 +225,7 @@ fn simple_value(left: usize, info: u8, number: u64, bytes: &[u8]) -> Result<&[u8
     }
 }
 
-/// Passes an item in which arrays, maps and tags nest at most `depth` deep.
+/// Skips an item in which arrays, maps and tags nest at most `depth` deep.
 #[cycle(check)]
 #[tactic(auto, unfolding(crate::specs::Reading::item_at, crate::specs::Reading::nothing, crate::specs::Reading::things, crate::specs::Counting::item_steps, crate::specs::Counting::no_steps, crate::specs::Counting::steps_of))]
 #[inline(always)]
@@ -271,7 +271,7 @@ pub(crate) fn item<'a, L: Ledger>(
     }
 }
 
-/// Passes the item that a tag encloses, by a function apart: it answers in registers, and says by `fault` whether
+/// Skips the item that a tag encloses, by a function apart: it returns in registers, and says by `fault` whether
 /// what it answers is to be used.
 #[cycle(check)]
 #[inline(never)]
@@ -296,7 +296,7 @@ fn enclosed_item_apart<'a, L: Ledger>(
     }
 }
 
-/// Passes the item that a tag encloses.
+/// Skips the item that a tag encloses.
 #[cycle(check)]
 #[inline(always)]
 fn enclosed_item<'a, L: Ledger>(
@@ -315,8 +315,8 @@ fn enclosed_item<'a, L: Ledger>(
     }
 }
 
-/// Passes the members of an array of that many, or up to the break where no number is announced, by a function
-/// apart: it answers in registers, and says by `fault` whether what it answers is to be used.
+/// Skips the elements of an array of that many, or up to the break where no number is announced, by a function
+/// apart: it returns in registers, and says by `fault` whether what it answers is to be used.
 #[cycle(check)]
 #[inline(never)]
 fn array_apart<'a, L: Ledger>(
@@ -342,7 +342,7 @@ fn array_apart<'a, L: Ledger>(
     }
 }
 
-/// Passes the members of an array of that many, or up to the break where no number is announced.
+/// Skips the elements of an array of that many, or up to the break where no number is announced.
 #[cycle(check)]
 #[inline(always)]
 fn array<'a, L: Ledger>(
@@ -364,7 +364,7 @@ fn array<'a, L: Ledger>(
 }
 
 /// Passes the pairs of a map of that many, or up to the break where no number is announced, by a function apart: it
-/// answers in registers, and says by `fault` whether what it answers is to be used.
+/// returns in registers, and says by `fault` whether what it answers is to be used.
 #[cycle(check)]
 #[inline(never)]
 fn map_apart<'a, L: Ledger>(
@@ -411,7 +411,7 @@ fn map<'a, L: Ledger>(
     }
 }
 
-/// Passes the members of an array of that many, or up to the break where no number is announced.
+/// Skips the elements of an array of that many, or up to the break where no number is announced.
 #[cycle(check)]
 #[inline(always)]
 fn array_here<'a, L: Ledger>(

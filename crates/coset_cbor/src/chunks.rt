@@ -27,7 +27,7 @@ pub struct TextChunks<'a> {
     ghost counted: { length (chunk_contents true bytes.now) ≤ length bytes.now },
 }
 
-/// The chunks of the string that these bytes are, if they are one of the type that the flag tells. Where its length is
+/// The chunks of the string that these bytes are, if they are one of the type that the flag says. Where its length is
 /// announced, the string is itself a chunk.
 fn chunks_of(is_text: bool, bytes: &[u8]) -> Option<&[u8]>
     requires { is_one_item bytes.now ≡ true }

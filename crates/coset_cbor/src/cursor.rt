@@ -1,6 +1,6 @@
-//! Reading forward: a place in bytes of which an item is known to stand at the front. Whoever reads that item
+//! Reading forward: a place in bytes of which an item is known to be at the front. Whoever reads that item
 //! leaves the
-//! place just behind it, so that nobody has to pass over it to find its end.
+//! place just behind it, so that nobody has to skip it to find its end.
 
 ghost use Rattle.std.specs.Prelude.{◌≡◌, ◌≤◌, ◌<◌, [], List, ℕ, is_some, Some, length, IfErr, IfOk, IfSome, IsOkAnd, IsTrue, OnErr, OnOk, MatchOption};
 ghost use Rattle.coset_value.specs.Item.{Item, Items, no_items};
@@ -31,7 +31,7 @@ pub struct Remaining {
     left: Option<u64>,
 }
 
-/// What follows the item that is known to stand at the front.
+/// What follows the item known to be at the front.
 fn past(bytes: &[u8]) -> &[u8]
     ensures { (v : Item) (a : List ℕ) → ItemAt v bytes.now a
         → (result.now ≡ a) × (length a < length bytes.now) }
@@ -45,7 +45,7 @@ fn past(bytes: &[u8]) -> &[u8]
     }
 }
 
-/// The item that is known to stand at the front, lent, and what follows it.
+/// The item known to be at the front, lent, and what follows it.
 fn front(bytes: &[u8]) -> Result<(Pull<'_>, &[u8]), Error<EndOfFile>>
     ensures strictly { IfOk result (λ x. length x.1.now < length bytes.now) }
     ensures lends { IfOk result (λ x. BeginsWith bytes.now x.0 x.1.now) }
@@ -61,7 +61,7 @@ fn front(bytes: &[u8]) -> Result<(Pull<'_>, &[u8]), Error<EndOfFile>>
     }
 }
 
-/// Where the members of the array begin that stands at the front; `None` of another item.
+/// Where the elements of the array begin that is at the front; `None` of another item.
 fn array_item(bytes: &[u8]) -> Option<(Remaining, &[u8])>
     ensures strictly { IfSome result (λ x. length x.1.now < length bytes.now) }
     ensures enters { (v : Item) (a : List ℕ) → ItemAt v bytes.now a
@@ -79,7 +79,7 @@ fn array_item(bytes: &[u8]) -> Option<(Remaining, &[u8])>
     }
 }
 
-/// The major type of the item that is known to stand at the front.
+/// The major type of the item known to be at the front.
 fn major_type_of(bytes: &[u8]) -> Option<MajorType>
     ensures { (v : Item) (a : List ℕ) → ItemAt v bytes.now a → result ≡ Some (item_major_type v) }
 {
@@ -99,7 +99,7 @@ fn doubled(pairs: Option<u64>) -> Option<u64>
     }
 }
 
-/// Where the keys and values of the map begin that stands at the front; `None` of another item.
+/// Where the keys and values of the map begin that is at the front; `None` of another item.
 fn map_item(bytes: &[u8]) -> Option<(Remaining, &[u8])>
     ensures strictly { IfSome result (λ x. length x.1.now < length bytes.now) }
     ensures enters { (v : Item) (a : List ℕ) → ItemAt v bytes.now a
@@ -153,8 +153,8 @@ impl<'a> Cursor<'a> {
         }
     }
 
-    /// Passes the item. It takes no memory.
-    pub fn pass(&mut self)
+    /// Skips the item. It takes no memory.
+    pub fn skip(&mut self)
         ensures shrinks { length (bytes_left self.new) ≤ length (bytes_left self.old) }
         ensures passes { (v : Item) (a : List ℕ) → ItemAt v (bytes_left self.old) a
             → (bytes_left self.new ≡ a) × (length a < length (bytes_left self.old)) }
@@ -165,7 +165,7 @@ impl<'a> Cursor<'a> {
     /// The item, lent, and goes behind it. It takes no memory.
     ///
     /// # Errors
-    /// The same as [`check`](crate::de::check), where no item stands there; the place is then as before.
+    /// The same as [`check`](crate::de::check), where no item is there; the place is then as before.
     pub fn take(&mut self) -> Result<Pull<'a>, Error<EndOfFile>>
         ensures shrinks { length (bytes_left self.new) ≤ length (bytes_left self.old) }
         ensures strictly { OnOk result (length (bytes_left self.new)
@@ -176,7 +176,7 @@ impl<'a> Cursor<'a> {
         ensures stays { OnErr result (bytes_left self.new ≡ bytes_left self.old) }
         ensures refused { IfErr result (λ e. HasNoItem (bytes_left self.old)) }
         ensures memory { IfErr result (λ e. IsMemory e → ⊥) }
-        // The fault stands in the bytes from the place on, at the offset that it carries.
+        // The fault is in the bytes from the place on, at the offset that it carries.
         ensures fault { IfErr result (λ e. FaultIn (bytes_left self.old) e) }
         ensures passes { (v : Item) (a : List ℕ) → ItemAt v (bytes_left self.old) a
             → (bytes_left self.new ≡ a) × IsOkAnd result (λ p. pull_item p ≡ v) }
@@ -186,7 +186,7 @@ impl<'a> Cursor<'a> {
         Ok(pull)
     }
 
-    /// Goes to the first member of an array; at another item it stays.
+    /// Goes to the first element of an array; at another item it stays.
     pub fn array(&mut self) -> Option<Remaining>
         ensures shrinks { length (bytes_left self.new) ≤ length (bytes_left self.old) }
         ensures strictly { IfSome result (λ _. length (bytes_left self.new)
@@ -215,7 +215,7 @@ impl<'a> Cursor<'a> {
         Some(places)
     }
 
-    /// Passes the break, where no length was announced.
+    /// Skips the break, where no length was announced.
     fn close(&mut self, places: Remaining)
         ensures shrinks { length (bytes_left self.new) ≤ length (bytes_left self.old) }
         ensures passes { (a : List ℕ) → AreWithin places no_items (bytes_left self.old) a
@@ -233,7 +233,7 @@ impl<'a> Cursor<'a> {
 }
 
 impl Remaining {
-    /// Whether one more item stands at the place, which is to be read next.
+    /// Whether one more item is at the place, which is to be read next.
     pub fn next(&mut self, cursor: &Cursor<'_>) -> bool
         ensures { (vs : Items) (a : List ℕ) → AreWithin self.old vs (bytes_left cursor.now) a
             → Nexts vs (bytes_left cursor.now) a self.new result }
@@ -258,7 +258,7 @@ impl Remaining {
         Remaining { left: Some(0) }
     }
 
-    /// Passes the items that are left, and the break.
+    /// Skips the items that are left, and the break.
     pub fn finish(self, cursor: &mut Cursor<'_>)
         ensures shrinks { length (bytes_left cursor.new) ≤ length (bytes_left cursor.old) }
         ensures passes { (vs : Items) (a : List ℕ) → AreWithin self vs (bytes_left cursor.old) a
@@ -270,7 +270,7 @@ impl Remaining {
                 cursor.close(places);
                 return;
             }
-            cursor.pass();
+            cursor.skip();
         }
         cursor.close(places);
     }

@@ -2,7 +2,7 @@
 
 ghost use Rattle.std.specs.Prelude.{◌≡◌, ◌≤◌, ◌+◌, ◌++◌, List, Some, ℕ, codes, take, length, IfOk, IfErr, MatchOption};
 ghost use Rattle.coset_value.specs.Item.{Item};
-ghost use Rattle.coset_value.specs.View.{view};
+ghost use Rattle.coset_value.specs.View.{value_item};
 ghost use Rattle.coset_cbor.specs.Fronts.{HasNoItem};
 ghost use Rattle.coset_cbor.specs.Grammar.{IsItem, IsEncoding};
 ghost use Rattle.coset_cbor.specs.Cost.{IsCost};
@@ -11,8 +11,8 @@ ghost use Rattle.coset_cbor.specs.ReadErrors.{IsMemory, FaultIn};
 
 use crate::check::item as check_item;
 pub use crate::chunks::{ByteChunks, TextChunks};
+pub use crate::elements::{Items, Pairs};
 use crate::fault::{Fault, ReadError};
-pub use crate::members::{Items, Pairs};
 use crate::memory::OutOfMemory;
 pub use crate::pull::Pull;
 use crate::read;
@@ -88,24 +88,24 @@ pub(crate) fn error_of(fault: Fault, len: usize) -> Error<EndOfFile>
     }
 }
 
-/// Checks that an item stands at the front of the bytes, and answers its length. It makes no value and takes no
-/// memory, and goes over the bytes once; those of a byte string it passes over.
+/// Checks that an item is at the front of the bytes, and returns its length. It makes no value and takes no
+/// memory, and goes over the bytes once; those of a byte string it skips.
 ///
 /// The steps go up by what the item costs: one for each head of an item or a chunk and each closing break, and one
 /// for each byte of the content of a text string. Refused or not, they go up by no more than there are bytes.
 ///
 /// # Errors
-/// Bytes are refused only where no front of them is an item within 256 levels, and the error is a fault that stands
+/// Bytes are refused only where no front of them is an item within 256 levels, and the error is a fault that is
 /// in them; never for memory.
 pub fn check<L: Ledger>(bytes: &[u8], steps: &mut Steps<L>) -> Result<usize, Error<EndOfFile>>
     ensures length { IfOk result (λ n. n ≤ length bytes.now) }
-    // An item stands there, and the steps are its cost.
+    // An item is there, and the steps are its cost.
     ensures found { IfOk result (λ n. (v : Item) × (k : ℕ) × IsItem (take n bytes.now) v
         × IsCost v (take n bytes.now) k × (steps.new ≡ steps.old + k)) }
     // No front of what is refused is an item.
     ensures refused { IfErr result (λ e. HasNoItem bytes.now) }
     ensures memory { IfErr result (λ e. IsMemory e → ⊥) }
-    // The fault stands in the bytes, at the offset that it carries.
+    // The fault is in the bytes, at the offset that it carries.
     ensures stands { IfErr result (λ e. FaultIn bytes.now e) }
     ensures bound { steps.new ≤ steps.old + length bytes.now }
 {
@@ -126,7 +126,7 @@ pub fn front_length(bytes: &[u8]) -> Result<usize, Error<EndOfFile>>
     // No front of what is refused is an item.
     ensures refused { IfErr result (λ e. HasNoItem bytes.now) }
     ensures memory { IfErr result (λ e. IsMemory e → ⊥) }
-    // The fault stands in the bytes, at the offset that it carries.
+    // The fault is in the bytes, at the offset that it carries.
     ensures stands { IfErr result (λ e. FaultIn bytes.now e) }
 {
     counted_length::<Brand>(bytes, Blank::new(1))
@@ -154,20 +154,20 @@ fn counted_length<L: Ledger>(bytes: &[u8], blank: Blank) -> Result<usize, Error<
 /// reserved because a head announces it.
 ///
 /// # Errors
-/// Bytes are refused for memory only where an item stands at their front, since they are checked first, without
+/// Bytes are refused for memory only where an item is at their front, since they are checked first, without
 /// memory. Else they are refused only where no front of them is an item within 256 levels, and the error is a fault
-/// that stands in them. Of several faults it is the first in reading order: at a head its form,
+/// that is in them. Of several faults it is the first in reading order: at a head its form,
 /// then its argument, then the depth, then an announced length that can't be there, then what the head holds.
 pub fn read_value(alloc: Global, bytes: &[u8]) -> Result<(Value, usize), Error<EndOfFile>>
     ensures length { IfOk result (λ x. x.1 ≤ length bytes.now) }
     // What is read is the item at the front.
-    ensures found { IfOk result (λ x. IsItem (take x.1 bytes.now) (view x.0)) }
+    ensures found { IfOk result (λ x. IsItem (take x.1 bytes.now) (value_item x.0)) }
     // No front of what is refused is an item, unless memory ran out.
     ensures refused { IfErr result (λ e. (IsMemory e → ⊥) → HasNoItem bytes.now) }
     // Memory runs out only where a front is an item.
     ensures memory { IfErr result (λ e. IsMemory e
         → (v : Item) × (b : List ℕ) × (rest : List ℕ) × (bytes.now ≡ b ++ rest) × IsItem b v) }
-    // The fault stands in the bytes, at the offset that it carries.
+    // The fault is in the bytes, at the offset that it carries.
     ensures stands { IfErr result (λ e. FaultIn bytes.now e) }
 {
     let (pull, _) = Pull::new(bytes)?;
@@ -180,9 +180,9 @@ pub fn read_value(alloc: Global, bytes: &[u8]) -> Result<(Value, usize), Error<E
 ///
 /// # Errors
 /// `OutOfMemory` alone.
-pub fn decode_encoded(alloc: Global, bytes: &[u8]) -> Result<Option<Value>, OutOfMemory>
+pub fn decode_unbounded(alloc: Global, bytes: &[u8]) -> Result<Option<Value>, OutOfMemory>
     ensures { IfOk result (λ o. MatchOption o ((v : Item) → IsEncoding v bytes.now → ⊥)
-        (λ x. IsEncoding (view x) bytes.now)) }
+        (λ x. IsEncoding (value_item x) bytes.now)) }
 {
     match read::item(alloc, bytes, bytes.len()) {
         Ok((value, rest)) => {

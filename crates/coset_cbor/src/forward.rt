@@ -1,10 +1,10 @@
-//! What an item holds, read where it stands: each call reads the item that is known to stand at a place, and goes just
+//! What an item holds, read where it is: each call reads the item that is known to be at a place, and goes just
 //! behind it; at an item of another kind it stays. Nothing that was checked is checked again but the UTF-8 of a text.
 
 ghost use Rattle.std.specs.Prelude.{◌≡◌, ◌≤◌, ◌<◌, List, ℕ, length, false, None, Some, IfErr, IfOk, IfSome, IsSome, IsTrue, MatchOption, MatchResult, OnOk, string_bytes};
 ghost use Rattle.coset_value.specs.Item.{Item};
 ghost use Rattle.coset_value.specs.Parts.{as_integer, as_bytes, as_text};
-ghost use Rattle.coset_value.specs.View.{bits_of, view};
+ghost use Rattle.coset_value.specs.View.{bits_of, value_item};
 ghost use Rattle.coset_cbor.specs.Cursors.{bytes_left, ItemAt, CopiesPart, TakesNull, TakesPart};
 ghost use Rattle.coset_cbor.specs.Fronts.{HasNoItem};
 ghost use Rattle.coset_cbor.specs.ReadErrors.{IsMemory, FaultIn};
@@ -46,7 +46,7 @@ fn scalar_at(bytes: &[u8]) -> Option<(Value, &[u8])>
     ensures strictly { IfSome result (λ x. length x.1.now < length bytes.now) }
     ensures reads { (v : Item) (a : List ℕ) → ItemAt v bytes.now a
         → MatchOption result (as_scalar v ≡ None)
-        (λ x. (as_scalar v ≡ Some (view x.0)) × (x.1.now ≡ a)) }
+        (λ x. (as_scalar v ≡ Some (value_item x.0)) × (x.1.now ≡ a)) }
 {
     let Ok((head, rest)) = head_of(bytes) else {
         return None;
@@ -76,7 +76,7 @@ fn value_at(alloc: Global, bytes: &[u8]) -> Result<(Value, &[u8]), Error<EndOfFi
     ensures refused { IfErr result (λ e. (IsMemory e → ⊥) → HasNoItem bytes.now) }
     ensures fault { IfErr result (λ e. FaultIn bytes.now e) }
     ensures reads { (v : Item) (a : List ℕ) → ItemAt v bytes.now a
-        → MatchResult result (λ x. (x.1.now ≡ a) × (view x.0 ≡ v)) IsMemory }
+        → MatchResult result (λ x. (x.1.now ≡ a) × (value_item x.0 ≡ v)) IsMemory }
 {
     match read::item(alloc, bytes, MAX_DEPTH as usize) {
         Ok((value, rest)) => Ok((value, rest)),
@@ -140,7 +140,7 @@ impl<'a> Cursor<'a> {
     /// The content of a byte string, copied; its chunks are joined (RFC 8949, sections 3.1 and 3.2.3).
     ///
     /// # Errors
-    /// `OutOfMemory` alone; the string is then passed.
+    /// `OutOfMemory` alone; the string is then skipped.
     pub fn bytes(&mut self, alloc: Global) -> Result<Option<Vec<u8>>, OutOfMemory>
         ensures shrinks { length (bytes_left self.new) ≤ length (bytes_left self.old) }
         ensures strictly { IfOk result (λ o. IsSome o → length (bytes_left self.new)
@@ -164,7 +164,7 @@ impl<'a> Cursor<'a> {
                 Ok(Some(found))
             }
             Err(ReadError::Memory) => {
-                self.pass();
+                self.skip();
                 Err(OutOfMemory)
             }
             Err(ReadError::Fault(_)) => Ok(None),
@@ -174,7 +174,7 @@ impl<'a> Cursor<'a> {
     /// The content of a text string, copied; its chunks are joined (RFC 8949, sections 3.1 and 3.2.3).
     ///
     /// # Errors
-    /// `OutOfMemory` alone; the string is then passed.
+    /// `OutOfMemory` alone; the string is then skipped.
     pub fn text(&mut self, alloc: Global) -> Result<Option<String>, OutOfMemory>
         ensures shrinks { length (bytes_left self.new) ≤ length (bytes_left self.old) }
         ensures strictly { IfOk result (λ o. IsSome o → length (bytes_left self.new)
@@ -198,7 +198,7 @@ impl<'a> Cursor<'a> {
                 Ok(Some(found))
             }
             Err(ReadError::Memory) => {
-                self.pass();
+                self.skip();
                 Err(OutOfMemory)
             }
             Err(ReadError::Fault(_)) => Ok(None),
@@ -208,17 +208,17 @@ impl<'a> Cursor<'a> {
     /// The item as a value of its own.
     ///
     /// # Errors
-    /// `OutOfMemory`; the item is then passed. Or, where no item stands there, the fault of
+    /// `OutOfMemory`; the item is then skipped. Or, where no item is there, the fault of
     /// [`check`](crate::de::check); the place is then as before.
     pub fn value(&mut self, alloc: Global) -> Result<Value, Error<EndOfFile>>
         ensures shrinks { length (bytes_left self.new) ≤ length (bytes_left self.old) }
         ensures strictly { OnOk result (length (bytes_left self.new)
             < length (bytes_left self.old)) }
         ensures refused { IfErr result (λ e. (IsMemory e → ⊥) → HasNoItem (bytes_left self.old)) }
-        // The fault stands in the bytes from the place on, at the offset that it carries.
+        // The fault is in the bytes from the place on, at the offset that it carries.
         ensures fault { IfErr result (λ e. FaultIn (bytes_left self.old) e) }
         ensures reads { (v : Item) (a : List ℕ) → ItemAt v (bytes_left self.old) a
-            → (bytes_left self.new ≡ a) × MatchResult result (λ x. view x ≡ v) IsMemory }
+            → (bytes_left self.new ≡ a) × MatchResult result (λ x. value_item x ≡ v) IsMemory }
     {
         match value_at(alloc, self.rest) {
             Ok((value, rest)) => {
@@ -226,7 +226,7 @@ impl<'a> Cursor<'a> {
                 Ok(value)
             }
             Err(Error::OutOfMemory) => {
-                self.pass();
+                self.skip();
                 Err(Error::OutOfMemory)
             }
             Err(error) => Err(error),

@@ -1,45 +1,108 @@
-//! Heads: the first bytes of an item.
+//! Heads: the first bytes of an item (RFC 8949, section 3).
 
-ghost use Rattle.std.specs.Prelude.{◌≡◌, ◌<◌, ◌/◌, length, IfOk};
+ghost use Rattle.std.specs.Prelude.{◌≡◌, ◌≤◌, ◌<◌, ◌/◌, ◌+◌, ◌==◌, ◌↔◌, length, IfOk, IsTrue, MatchResult};
 ghost use Rattle.std.specs.Int.{w8, w16, w32, w64};
 ghost use Rattle.coset_cbor.specs.Heads.{Fits, One, Two, Four, Eight};
-ghost use Rattle.coset_cbor.specs.Reading.{Answers, major_type_of, head_at, argument_at, argument_by, argument_from, head_from, number_of};
+ghost use Rattle.coset_cbor.specs.ReadHeads.{BeginsWithHead, HasNoHead, head_number, width_of};
+ghost use Rattle.coset_cbor.specs.Reading.{Answers, major_type_of, head_at, argument_at, argument_by, argument_from, head_from};
+ghost use Rattle.coset_cbor.specs.declared.head.MajorType.TheVariants as major_types;
 
+use crate::de::{EndOfFile, Error};
 use crate::fault::{Fault, end, syntax};
 
-/// The eight major types.
+/// The eight major types, numbered from 0 (RFC 8949, section 3.1).
 #[derive(Clone, Copy, Debug, PartialEq, Eq)]
-pub(crate) enum MajorType {
+pub enum MajorType {
+    /// An unsigned integer, which is the argument.
     Unsigned,
+    /// A negative integer: -1 minus the argument.
     Negative,
+    /// A byte string of as many bytes as the argument says.
     Bytes,
+    /// A text string of as many bytes as the argument says, in UTF-8.
     Text,
+    /// An array of as many elements as the argument says.
     Array,
+    /// A map of as many pairs as the argument says.
     Map,
+    /// A tag with the argument as its number, which encloses one item.
     Tag,
+    /// A simple value, a float, or the break that ends an indefinite length.
     Simple,
 }
 
-/// A head (RFC 8949, section 3): the major type, the low five bits of the first byte, which say where the argument
-/// stands, and the argument, 0 where there is none.
+/// A head (RFC 8949, section 3).
 #[derive(Clone, Copy, Debug)]
-pub(crate) struct Head {
-    pub(crate) major_type: MajorType,
-    pub(crate) info: u8,
+pub struct Head {
+    /// The high three bits of the initial byte.
+    pub major_type: MajorType,
+    /// The additional information: the low five bits of the initial byte. Below 24 it is the argument, 24 to 27 announce
+    /// an argument of 1, 2, 4 or 8 bytes, and 31 is an indefinite length or the break.
+    pub info: u8,
+    /// The argument, 0 where there is none.
     pub(crate) number: u64,
 }
 
 impl Head {
-    /// The argument, where there is one.
+    /// Returns the argument: a number, a length, or the bits of a float. `None` is an indefinite length or the break.
     #[inline(always)]
-    pub(crate) fn number(self) -> Option<u64>
-        ensures { result ≡ number_of (argument_from self.info self.number) }
+    pub fn number(self) -> Option<u64>
+        ensures { result ≡ head_number self }
     {
         if self.info < 28 {
             Some(self.number)
         } else {
             None
         }
+    }
+
+    /// Returns how many bytes the argument takes behind the initial byte: 0, 1, 2, 4 or 8.
+    pub fn width(self) -> u8
+        ensures { result ≡ width_of self.info }
+    {
+        match self.info {
+            24 => 1,
+            25 => 2,
+            26 => 4,
+            27 => 8,
+            _ => 0,
+        }
+    }
+
+    /// Returns how many bytes the head takes.
+    pub fn size(self) -> usize
+        ensures { result ≡ 1 + width_of self.info }
+    {
+        1 + usize::from(self.width())
+    }
+
+    /// Returns whether the head has additional information 31: an indefinite length (RFC 8949, section 3.2), or the break.
+    pub fn is_indefinite(self) -> bool
+        ensures { result ≡ (self.info == 31) }
+    {
+        self.info == 31
+    }
+
+    /// Returns whether it is the break, which ends an indefinite length (RFC 8949, section 3.2.1).
+    pub fn is_break(self) -> bool
+        ensures { IsTrue result ↔ ((self.major_type ≡ major_types.Simple) × (self.info ≡ 31)) }
+    {
+        self.major_type == MajorType::Simple && self.info == 31
+    }
+
+    /// Returns whether it is null (RFC 8949, section 3.3).
+    pub fn is_null(self) -> bool
+        ensures { IsTrue result ↔ ((self.major_type ≡ major_types.Simple) × (self.info ≡ 22)) }
+    {
+        self.major_type == MajorType::Simple && self.info == 22
+    }
+
+    /// Returns whether it is a float, of 16, 32 or 64 bits (RFC 8949, section 3.3).
+    pub fn is_float(self) -> bool
+        ensures { IsTrue result ↔ ((self.major_type ≡ major_types.Simple)
+            × (25 ≤ self.info) × (self.info ≤ 27)) }
+    {
+        self.major_type == MajorType::Simple && 25 <= self.info && self.info <= 27
     }
 }
 
@@ -113,8 +176,7 @@ fn eight_at(bytes: &[u8]) -> Result<(u64, &[u8]), Fault>
     Ok((number, rest))
 }
 
-/// The number that the low five bits of a first byte announce, 0 where there is none. `left` is what was left at the
-/// head.
+/// The number that the low five bits of a first byte announce, 0 where there is none. `left` is the number of bytes from the head on.
 #[inline(always)]
 fn number_at(info: u8, left: usize, bytes: &[u8]) -> Result<(u64, &[u8]), Fault>
     ensures number { Answers (λ x. (argument_from info x.0, x.1.now)) result
@@ -164,4 +226,20 @@ pub(crate) fn head_of(bytes: &[u8]) -> Result<(Head, &[u8]), Fault>
         },
         rest,
     ))
+}
+
+/// Reads the head at the front of the bytes: the head, and the bytes behind it. It takes no memory.
+///
+/// # Errors
+/// `Io` where the bytes end before the head does, and `Syntax(0)` where the additional information is 28, 29 or 30, which
+/// are reserved (RFC 8949, section 3).
+pub fn read_head(bytes: &[u8]) -> Result<(Head, &[u8]), Error<EndOfFile>>
+    ensures { MatchResult result (λ x. BeginsWithHead bytes.now x.0 x.1.now)
+        (λ e. HasNoHead bytes.now e) }
+{
+    match head_of(bytes) {
+        Ok((head, rest)) => Ok((head, rest)),
+        Err(Fault::End) => Err(Error::Io(EndOfFile)),
+        Err(_) => Err(Error::Syntax(0)),
+    }
 }

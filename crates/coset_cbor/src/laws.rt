@@ -6,12 +6,12 @@ ghost use Rattle.coset_value.specs.Range.{IsInRange};
 ghost use Rattle.coset_value.specs.Item as model;
 ghost use Rattle.coset_cbor.specs.Chunks.{chunks_bytes, chunks_left, text_chunks_bytes, text_chunks_left};
 ghost use Rattle.coset_cbor.specs.Grammar.{IsEncoding, AreEncodings, ArePairEncodings, EachInOrder, IsDefinite, IsItem};
-ghost use Rattle.coset_cbor.specs.Members.{items_bytes, items_left, pairs_bytes, pairs_left};
+ghost use Rattle.coset_cbor.specs.Elements.{items_bytes, items_left, pairs_bytes, pairs_left};
 ghost use Rattle.coset_cbor.specs.Pulls.{pull_bytes, pull_item};
 ghost use Rattle.coset_cbor.specs.declared.chunks.ByteChunks.{ByteChunks};
 ghost use Rattle.coset_cbor.specs.declared.chunks.TextChunks.{TextChunks};
-ghost use Rattle.coset_cbor.specs.declared.members.Items.{Items};
-ghost use Rattle.coset_cbor.specs.declared.members.Pairs.{Pairs};
+ghost use Rattle.coset_cbor.specs.declared.elements.Items.{Items};
+ghost use Rattle.coset_cbor.specs.declared.elements.Pairs.{Pairs};
 ghost use Rattle.coset_cbor.specs.declared.pull.Pull.{Pull};
 ghost use Rattle.coset_cbor.specs.Cost.{IsCost};
 ghost use Rattle.coset_cbor.specs.Fronts.{AreBytes, HasNoItem, IsEndOfInput};
@@ -35,7 +35,7 @@ pub fn lent_item()
 
 /// The bytes that are left of a lent array are encodings of the items that are left, one after the other, and of no
 /// others; those of a lent map are encodings of the keys and values.
-pub fn lent_members()
+pub fn lent_elements()
     ensures items { (it : Items) → AreEncodings (items_left it) (items_bytes it)
         × ((vs : model.Items) → AreEncodings vs (items_bytes it) → vs ≡ items_left it) }
     ensures pairs { (it : Pairs) → ArePairEncodings (pairs_left it) (pairs_bytes it)
@@ -89,20 +89,20 @@ pub fn one_cost()
         → (k : ℕ) × IsCost v b k × ((j : ℕ) → IsCost v b j → j ≡ k) }
 {}
 
-/// Arrays of one member each, n of them inside one another around an empty one, cost n + 1 steps; and they are an item,
+/// Arrays of one element each, n of them inside one another around an empty one, cost n + 1 steps; and they are an item,
 /// where n is below 256.
 pub fn nested_arrays_cost()
     ensures cost { (n k : ℕ) (v : Item) → IsCost v (replicate n 0x81 ++ 0x80 ∷ []) k → k ≡ n + 1 }
     ensures item { (n : ℕ) → n < 256 → (v : Item) × IsItem (replicate n 0x81 ++ 0x80 ∷ []) v }
 {}
 
-/// Where a fault stands in bytes, no front of them is an item.
+/// Where a fault is in bytes, no front of them is an item.
 pub fn no_item_at_a_fault()
     ensures { (s : List ℕ) (e : Error EndOfFile) → AreBytes s → (IsMemory e → ⊥) → FaultIn s e
         → HasNoItem s }
 {}
 
-/// In a front of an item, of the faults other than out of memory only the end of the input stands.
+/// In a front of an item the end of the input is the only fault, out of memory aside.
 pub fn only_the_end_in_a_front()
     ensures { (v : Item) (b s more : List ℕ) (e : Error EndOfFile) → AreBytes b → IsItem b v
         → b ≡ s ++ more → (IsMemory e → ⊥) → FaultIn s e → IsEndOfInput e }

@@ -3,7 +3,7 @@
 ghost use Rattle.std.specs.Prelude.{◌≡◌, ◌↔◌, true, IfOk, IfErr, IfSome, IsTrue, option_map, string_bytes};
 ghost use Rattle.coset_value.specs.Item.{Item, null};
 ghost use Rattle.coset_value.specs.Parts.{as_integer, as_bytes, as_text, as_bool, as_tag};
-ghost use Rattle.coset_value.specs.View.{view, bits_of};
+ghost use Rattle.coset_value.specs.View.{value_item, bits_of};
 ghost use Rattle.coset_cbor.specs.Fronts.{HasNoItem};
 ghost use Rattle.coset_cbor.specs.Grammar.{IsHeaded, IsItem};
 ghost use Rattle.coset_cbor.specs.Heads.{Fits};
@@ -32,7 +32,7 @@ pub struct Pull<'a> {
 /// The value of an integer, a float or a simple value, as its head says.
 pub(crate) fn scalar_of(head: Head, left: usize, bytes: &[u8]) -> Option<Value>
     requires { Fits head.info head.number }
-    ensures { option_map view result
+    ensures { option_map value_item result
         ≡ scalar_by left (argument_from head.info head.number) head.major_type bytes.now }
 {
     match head.major_type {
@@ -83,7 +83,7 @@ fn tag_number(head: Head) -> Option<u64>
 impl<'a> Pull<'a> {
     ghost use Rattle.coset_cbor.specs.Pulls.{pull_bytes, pull_item, BeginsWith};
 
-    /// Checks that an item stands at the front of the bytes, and lends it, with the bytes after it. It takes no
+    /// Checks that an item is at the front of the bytes, and lends it, with the bytes after it. It takes no
     /// memory.
     ///
     /// # Errors
@@ -109,7 +109,7 @@ impl<'a> Pull<'a> {
 
     /// The item as a value, where it is an integer, a float or a simple value, which hold no other bytes.
     fn scalar(&self) -> Option<Value>
-        ensures { option_map view result ≡ as_scalar (pull_item self.now) }
+        ensures { option_map value_item result ≡ as_scalar (pull_item self.now) }
     {
         let Ok((head, rest)) = head_of(self.bytes) else {
             return None;
@@ -217,7 +217,7 @@ impl<'a> Pull<'a> {
     /// # Errors
     /// `OutOfMemory` alone.
     pub fn to_value(&self, alloc: Global) -> Result<Value, OutOfMemory>
-        ensures { IfOk result (λ v. view v ≡ pull_item self.now) }
+        ensures { IfOk result (λ v. value_item v ≡ pull_item self.now) }
     {
         match read::item(alloc, self.bytes, MAX_DEPTH as usize) {
             Ok((value, _)) => Ok(value),

@@ -1,7 +1,7 @@
 //! Items (RFC 8949, section 3).
 
 ghost use Rattle.std.specs.Prelude.{◌≡◌, map, length, negsuc};
-ghost use Rattle.coset_value.specs.View.{view, pair_view};
+ghost use Rattle.coset_value.specs.View.{value_item, value_pair};
 ghost use Rattle.coset_cbor.specs.Heads.{Fits};
 ghost use Rattle.coset_cbor.specs.Reading.{Answers, Gives, argument_from, times_at, until_at, pair_at, array_by, map_by, simple_at, item_at};
 
@@ -21,7 +21,7 @@ pub(crate) fn negative_integer(n: u64) -> Integer
     Integer::try_from(-1 - i128::from(n)).unwrap()
 }
 
-/// A simple value or a float. `left` is what was left at the head.
+/// A simple value or a float. `left` is the number of bytes from the head on.
 pub(crate) fn simple_value(
     left: usize,
     info: u8,
@@ -29,7 +29,7 @@ pub(crate) fn simple_value(
     bytes: &[u8],
 ) -> Result<(Value, &[u8]), Fault>
     requires { Fits info number }
-    ensures { Answers (λ x. (view x.0, x.1.now)) result
+    ensures { Answers (λ x. (value_item x.0, x.1.now)) result
         (simple_at left (argument_from info number) bytes.now) }
 {
     match info {
@@ -57,7 +57,7 @@ pub(crate) fn simple_value(
 #[cycle(item)]
 #[tactic(auto, unfolding(crate::specs::Reading::item_at, crate::specs::Reading::nothing, crate::specs::Reading::things))]
 pub(crate) fn item(alloc: Global, bytes: &[u8], depth: usize) -> Result<(Value, &[u8]), ReadError>
-    ensures { Gives (λ x. (view x.0, x.1.now)) result (item_at depth bytes.now) }
+    ensures { Gives (λ x. (value_item x.0, x.1.now)) result (item_at depth bytes.now) }
 {
     let left = bytes.len();
     let (head, rest) = head_of(bytes)?;
@@ -105,7 +105,7 @@ pub(crate) fn item(alloc: Global, bytes: &[u8], depth: usize) -> Result<(Value, 
     }
 }
 
-/// The members of an array of that many, or up to the break where no number is announced.
+/// The elements of an array of that many, or up to the break where no number is announced.
 #[cycle(item)]
 fn array(
     alloc: Global,
@@ -113,7 +113,7 @@ fn array(
     bytes: &[u8],
     depth: usize,
 ) -> Result<(Vec<Value>, &[u8]), ReadError>
-    ensures { Gives (λ x. (map view x.0.items, x.1.now)) result
+    ensures { Gives (λ x. (map value_item x.0.items, x.1.now)) result
         (array_by (item_at depth) count bytes.now) }
 {
     match count {
@@ -131,7 +131,7 @@ fn map(
     bytes: &[u8],
     depth: usize,
 ) -> Result<(Vec<(Value, Value)>, &[u8]), ReadError>
-    ensures { Gives (λ x. (map pair_view x.0.items, x.1.now)) result
+    ensures { Gives (λ x. (map value_pair x.0.items, x.1.now)) result
         (map_by (item_at depth) count bytes.now) }
 {
     match count {
@@ -149,7 +149,7 @@ fn items(
     bytes: &[u8],
     depth: usize,
 ) -> Result<(Vec<Value>, &[u8]), ReadError>
-    ensures { Gives (λ x. (map view x.0.items, x.1.now)) result
+    ensures { Gives (λ x. (map value_item x.0.items, x.1.now)) result
         (times_at (item_at depth) count bytes.now) }
 {
     let mut found = Vec::with_capacity(alloc, count.min(PLACES) as usize)?;
@@ -162,10 +162,10 @@ fn items(
     Ok((found, rest))
 }
 
-/// The items up to the break. Each takes at least a byte, so the bytes are turns enough.
+/// The items up to the break. Each item takes at least one byte, so the loop needs no more turns than there are bytes.
 #[cycle(item)]
 fn items_until(alloc: Global, bytes: &[u8], depth: usize) -> Result<(Vec<Value>, &[u8]), ReadError>
-    ensures { Gives (λ x. (map view x.0.items, x.1.now)) result
+    ensures { Gives (λ x. (map value_item x.0.items, x.1.now)) result
         (until_at (item_at depth) (length bytes.now) bytes.now) }
 {
     let mut found = Vec::new(alloc);
@@ -184,7 +184,7 @@ fn items_until(alloc: Global, bytes: &[u8], depth: usize) -> Result<(Vec<Value>,
 /// A key and its value.
 #[cycle(item)]
 fn pair(alloc: Global, bytes: &[u8], depth: usize) -> Result<((Value, Value), &[u8]), ReadError>
-    ensures { Gives (λ x. (pair_view x.0, x.1.now)) result (pair_at (item_at depth) bytes.now) }
+    ensures { Gives (λ x. (value_pair x.0, x.1.now)) result (pair_at (item_at depth) bytes.now) }
 {
     let (key, rest) = item(alloc, bytes, depth)?;
     let (value, rest) = item(alloc, rest, depth)?;
@@ -199,7 +199,7 @@ fn pairs(
     bytes: &[u8],
     depth: usize,
 ) -> Result<(Vec<(Value, Value)>, &[u8]), ReadError>
-    ensures { Gives (λ x. (map pair_view x.0.items, x.1.now)) result
+    ensures { Gives (λ x. (map value_pair x.0.items, x.1.now)) result
         (times_at (pair_at (item_at depth)) count bytes.now) }
 {
     let mut found = Vec::with_capacity(alloc, count.min(PLACES) as usize)?;
@@ -219,7 +219,7 @@ fn pairs_until(
     bytes: &[u8],
     depth: usize,
 ) -> Result<(Vec<(Value, Value)>, &[u8]), ReadError>
-    ensures { Gives (λ x. (map pair_view x.0.items, x.1.now)) result
+    ensures { Gives (λ x. (map value_pair x.0.items, x.1.now)) result
         (until_at (pair_at (item_at depth)) (length bytes.now) bytes.now) }
 {
     let mut found = Vec::new(alloc);

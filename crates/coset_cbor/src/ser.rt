@@ -3,7 +3,7 @@
 ghost use Rattle.std.specs.Prelude.{◌≡◌, ◌++◌, take, IsOk, OnOk, OnErr};
 ghost use Rattle.coset_value.specs.Item.{bytes, text, integer};
 ghost use Rattle.coset_value.specs.Range.{IsInRange};
-ghost use Rattle.coset_value.specs.View.{view};
+ghost use Rattle.coset_value.specs.View.{value_item};
 ghost use Rattle.coset_cbor.specs.Least.{least_head, least_encoding};
 ghost use Rattle.coset_cbor.specs.Shortest.{AppendsShortest};
 
@@ -14,7 +14,7 @@ use coset_value::{Integer, Value};
 use std::alloc::AllocError;
 use std::{error, fmt};
 
-/// Why a value was not written. No call of this crate answers it: it stands for the errors of other writers.
+/// Why a value was not written. No call of this crate returns it: it is there for the errors of other writers.
 #[derive(Debug, Drop)]
 pub enum Error<T> {
     /// The writer failed.
@@ -37,7 +37,7 @@ impl<T: fmt::Debug + Drop> error::Error for Error<T> {}
 /// # Errors
 /// `OutOfMemory` alone. The bytes of `out` are then as before; its capacity may have grown.
 pub fn write_value(value: &Value, out: &mut Vec<u8>) -> Result<(), OutOfMemory>
-    ensures ok { OnOk result (AppendsShortest out.old.items out.new.items (view value.now)) }
+    ensures ok { OnOk result (AppendsShortest out.old.items out.new.items (value_item value.now)) }
     ensures refused { OnErr result (out.new.items ≡ out.old.items) }
 {
     let before = out.len();
@@ -45,14 +45,14 @@ pub fn write_value(value: &Value, out: &mut Vec<u8>) -> Result<(), OutOfMemory>
     rolled_back(written, before, out)
 }
 
-/// Appends the shortest encoding of a value that isn't needed any more, as [`write_value`] does, and lets each member of
-/// its arrays and maps go as soon as it is written: faster than one after the other, since the member is still near.
+/// Appends the shortest encoding of a value that isn't needed any more, as [`write_value`] does, and lets each element of
+/// its arrays and maps go as soon as it is written: faster than one after the other, since the element is still near.
 /// What a tag encloses goes with the tag.
 ///
 /// # Errors
 /// The same as [`write_value`]. The value is gone all the same.
 pub fn write_owned_value(value: Value, out: &mut Vec<u8>) -> Result<(), OutOfMemory>
-    ensures ok { OnOk result (AppendsShortest out.old.items out.new.items (view value)) }
+    ensures ok { OnOk result (AppendsShortest out.old.items out.new.items (value_item value)) }
     ensures refused { OnErr result (out.new.items ≡ out.old.items) }
 {
     let before = out.len();

@@ -1,4 +1,4 @@
-//! Passing over an item that is known to stand at the front: a text string is not tested for UTF-8 again, and what
+//! Skipping an item known to be at the front: a text string is not tested for UTF-8 again, and what
 //! nests needs no depth.
 
 ghost use Rattle.std.specs.Prelude.{◌≡◌, IfSome, List, ℕ};
@@ -32,7 +32,7 @@ fn bytes_behind(major_type: MajorType, number: u64) -> u64
     }
 }
 
-/// How many items stand behind the head at the front and its content, before what follows the item, and the bytes
+/// How many items follow the head at the front and its content, before what follows the item, and the bytes
 /// from there on. `None` where no length is announced.
 #[inline(always)]
 fn behind(bytes: &[u8]) -> Option<(u64, &[u8])>

@@ -150,7 +150,7 @@ pub(crate) fn text_chunk(bytes: &[u8]) -> Result<(&str, &[u8]), Fault>
     }
 }
 
-/// The chunks up to the break, joined. Each takes at least a byte, so the bytes are turns enough.
+/// The chunks up to the break, joined. Each item takes at least one byte, so the loop needs no more turns than there are bytes.
 fn byte_chunks(alloc: Global, bytes: &[u8]) -> Result<(Vec<u8>, &[u8]), ReadError>
     ensures { Gives (λ x. (x.0.items, x.1.now)) result (chunks_at false bytes.now) }
 {

@@ -3,8 +3,9 @@
 ghost use Rattle.std.specs.Prelude.{◌≡◌, ◌++◌, ◌∷◌, [], OnOk, length, ◌*◌, ◌+◌, ◌<◌, ◌^◌};
 ghost use Rattle.std.specs.Str.{IsUtf8};
 ghost use Rattle.coset_value.specs.Range.{IsIntegerInRange, AreBitsInRange, IsInRange, AreInRange, ArePairsInRange};
-ghost use Rattle.coset_value.specs.View.{view, bits_of, items_view, pairs_view};
-ghost use Rattle.coset_cbor.specs.Least.{least_head, major_type_number, least_encoding, least_encodings, least_pair_encodings, integer_encoding, float_encoding, Extends};
+ghost use Rattle.coset_value.specs.View.{value_item, bits_of, value_items, value_pairs};
+ghost use Rattle.coset_cbor.specs.Heads.{major_type_number};
+ghost use Rattle.coset_cbor.specs.Least.{least_head, least_encoding, least_encodings, least_pair_encodings, integer_encoding, float_encoding, Extends};
 
 use crate::head::MajorType;
 use coset_value::{Float, Integer, Value};
@@ -104,8 +105,9 @@ pub(crate) fn put_text(out: &mut Vec<u8>, text: &str) -> Result<(), AllocError>
 /// Writes the shortest encoding of the value at the end. An `Err` may leave part of it there.
 #[cycle(put)]
 pub(crate) fn put(out: &mut Vec<u8>, value: &Value) -> Result<(), AllocError>
-    ensures ok { OnOk result (out.new.items ≡ out.old.items ++ least_encoding (view value.now)) }
-    ensures in_range { OnOk result (IsInRange (view value.now)) }
+    ensures ok { OnOk result (out.new.items ≡ out.old.items ++ least_encoding
+        (value_item value.now)) }
+    ensures in_range { OnOk result (IsInRange (value_item value.now)) }
     ensures kept { Extends out.old.items out.new.items }
 {
     match value {
@@ -134,8 +136,8 @@ pub(crate) fn put(out: &mut Vec<u8>, value: &Value) -> Result<(), AllocError>
 #[cycle(put)]
 fn put_items(out: &mut Vec<u8>, items: &Vec<Value>) -> Result<(), AllocError>
     ensures ok { OnOk result (out.new.items ≡ out.old.items
-        ++ least_encodings (items_view items.now.items)) }
-    ensures in_range { OnOk result (AreInRange (items_view items.now.items)) }
+        ++ least_encodings (value_items items.now.items)) }
+    ensures in_range { OnOk result (AreInRange (value_items items.now.items)) }
     ensures kept { Extends out.old.items out.new.items }
 {
     for item in items {
@@ -147,8 +149,8 @@ fn put_items(out: &mut Vec<u8>, items: &Vec<Value>) -> Result<(), AllocError>
 #[cycle(put)]
 fn put_pairs(out: &mut Vec<u8>, pairs: &Vec<(Value, Value)>) -> Result<(), AllocError>
     ensures ok { OnOk result (out.new.items ≡ out.old.items
-        ++ least_pair_encodings (pairs_view pairs.now.items)) }
-    ensures in_range { OnOk result (ArePairsInRange (pairs_view pairs.now.items)) }
+        ++ least_pair_encodings (value_pairs pairs.now.items)) }
+    ensures in_range { OnOk result (ArePairsInRange (value_pairs pairs.now.items)) }
     ensures kept { Extends out.old.items out.new.items }
 {
     for (key, value) in pairs {
@@ -158,12 +160,12 @@ fn put_pairs(out: &mut Vec<u8>, pairs: &Vec<(Value, Value)>) -> Result<(), Alloc
     Ok(())
 }
 
-/// Writes the shortest encoding of the value at the end, and lets each member of an array or a map go as soon as it is
+/// Writes the shortest encoding of the value at the end, and lets each element of an array or a map go as soon as it is
 /// written; what a tag encloses goes with the tag. An `Err` may leave part of it there.
 #[cycle(put_owned)]
 pub(crate) fn put_owned(out: &mut Vec<u8>, value: Value) -> Result<(), AllocError>
-    ensures ok { OnOk result (out.new.items ≡ out.old.items ++ least_encoding (view value)) }
-    ensures in_range { OnOk result (IsInRange (view value)) }
+    ensures ok { OnOk result (out.new.items ≡ out.old.items ++ least_encoding (value_item value)) }
+    ensures in_range { OnOk result (IsInRange (value_item value)) }
     ensures kept { Extends out.old.items out.new.items }
 {
     match value {
@@ -185,8 +187,8 @@ pub(crate) fn put_owned(out: &mut Vec<u8>, value: Value) -> Result<(), AllocErro
 #[cycle(put_owned)]
 fn put_owned_items(out: &mut Vec<u8>, items: Vec<Value>) -> Result<(), AllocError>
     ensures ok { OnOk result (out.new.items ≡ out.old.items
-        ++ least_encodings (items_view items.items)) }
-    ensures in_range { OnOk result (AreInRange (items_view items.items)) }
+        ++ least_encodings (value_items items.items)) }
+    ensures in_range { OnOk result (AreInRange (value_items items.items)) }
     ensures kept { Extends out.old.items out.new.items }
 {
     for item in items {
@@ -198,8 +200,8 @@ fn put_owned_items(out: &mut Vec<u8>, items: Vec<Value>) -> Result<(), AllocErro
 #[cycle(put_owned)]
 fn put_owned_pairs(out: &mut Vec<u8>, pairs: Vec<(Value, Value)>) -> Result<(), AllocError>
     ensures ok { OnOk result (out.new.items ≡ out.old.items
-        ++ least_pair_encodings (pairs_view pairs.items)) }
-    ensures in_range { OnOk result (ArePairsInRange (pairs_view pairs.items)) }
+        ++ least_pair_encodings (value_pairs pairs.items)) }
+    ensures in_range { OnOk result (ArePairsInRange (value_pairs pairs.items)) }
     ensures kept { Extends out.old.items out.new.items }
 {
     for (key, value) in pairs {

@@ -2,7 +2,7 @@
 use Rattle.std.proofs.Common.{◌≡◌, ℕ, List, Option, Some, None, ◌∙◌}
 use Rattle.coset_value.specs.Item.{Items}
 use Rattle.coset_codec.specs.declared.error.CoseError.{CoseError}
-use Rattle.coset_codec.specs.declared.read.input.InputItems.{InputItems}
+use Rattle.coset_codec.specs.declared.read.decoder.ArrayElements.{ArrayElements}
 use Rattle.coset_codec.specs.Inputs.{State, AreWithin}
 use Rattle.coset_codec.specs.Encoding.{AppendsElements}
 use Rattle.coset_codec.specs.Lists.{Continues}
@@ -14,12 +14,12 @@ abbrev pub ReadSoFar : Items → List (List ℕ) → Items → Option CoseError 
 ReadSoFar all xs left None = Continues (List ℕ) bstr.describes bstr.faults all xs left
 ReadSoFar all xs left (Some e) = EachFaults bstr.faults all e × ((f : CoseError) → EachFaults bstr.faults left f → EachFaults bstr.faults all f)
 
--- the same, and what is left stands there
-pub record Midway (all : Items) (z : State) (m : InputItems) (t : State) (xs : List (List ℕ)) (fault : Option CoseError) : Type 0 where
+-- the same, and what is left is there
+pub record Midway (all : Items) (z : State) (m : ArrayElements) (t : State) (xs : List (List ℕ)) (fault : Option CoseError) : Type 0 where
   pub left : Items
   pub so_far : ReadSoFar all xs left fault
   pub within : AreWithin m left t z
 
--- as many elements are written, whichever way their number is told
+-- as many elements are written, whichever way their number is written
 pub as_many : {os : Option Items} {m n : ℕ} {old new : List ℕ} → m ≡ n → AppendsElements os m old new → AppendsElements os n old new
 as_many e p = (p.0, p.1, record { count = p.2.count ∙ e; in_range = p.2.in_range; parts = p.2.parts })

@@ -7,7 +7,7 @@ use Rattle.std.specs.Global.{Global}
 use Rattle.std.specs.Prelude.{IsErrAnd}
 use Rattle.coset_value.specs.Item.{Item, Pairs, no_pairs, pair, dict}
 use Rattle.coset_value.specs.Parts.{as_map}
-use Rattle.coset_value.specs.View.{view, pairs_view}
+use Rattle.coset_value.specs.View.{value_item, value_pairs}
 use Rattle.coset_value.specs.declared.value.Value.{Value, Map, the_lemmas}
 use Rattle.coset_codec.specs.Answers.{Describes, IsOnlyItem}
 use Rattle.coset_codec.specs.Errors.{UnlessMemory}
@@ -19,9 +19,9 @@ use Rattle.coset_codec.specs.declared.error.CoseError.TheVariants.{DuplicateMapK
 use Rattle.coset_label.specs.LabelLaws.{label_laws}
 use Rattle.coset_label.specs.Labels.{label, names}
 use Rattle.coset_label.specs.Names.{Name, RegisteredName}
-use Rattle.coset_label.specs.Views.{label_seen, entry_seen}
+use Rattle.coset_label.specs.Views.{label_view, entry_view}
 use Rattle.coset_label.specs.declared.label.Label.{Label}
-use Rattle.coset_claims.specs.Claims.{ClaimsSeen, claim_name, claims}
+use Rattle.coset_claims.specs.Claims.{ClaimsView, claim_name, claims}
 use Rattle.coset_claims.specs.ClaimsLaws.{claims_laws}
 use Rattle.coset_codec.specs.Answers.{IsRefused}
 use Rattle.coset_claims.specs.Known.{AreKnown, IsName, IsNamed, IsNoLabel, KnownFaults, Splits, SplitsOff, Others, known}
@@ -66,30 +66,30 @@ all_split all left ns us g e =
     let h : Splits all (and_pairs ns no_pairs) (us ++ []) = g no_pairs [] (subst (λ ps. Splits ps no_pairs []) (sym e) (refl, refl)) in
     subst (λ ps. Splits all ps us) (and_pairs-none ns) (subst (Splits all (and_pairs ns no_pairs)) (append-nil us) h)
 
-pub pairs_view-with : (ps : List (Value × Value)) (k v : Value) → pairs_view (ps ++ (k, v) ∷ []) ≡ with_pair (pairs_view ps) (view k) (view v)
-pairs_view-with [] k v = refl
-pairs_view-with (p ∷ ps) k v = ap (pair (view p.0) (view p.1)) (pairs_view-with ps k v)
+pub value_pairs-with : (ps : List (Value × Value)) (k v : Value) → value_pairs (ps ++ (k, v) ∷ []) ≡ with_pair (value_pairs ps) (value_item k) (value_item v)
+value_pairs-with [] k v = refl
+value_pairs-with (p ∷ ps) k v = ap (pair (value_item p.0) (value_item p.1)) (value_pairs-with ps k v)
 
-pub pairs_pushed : (old new : List (Value × Value)) (x y : Value) (k v : Item) → new ≡ old ++ (x, y) ∷ [] → view x ≡ k → view y ≡ v
-    → pairs_view new ≡ with_pair (pairs_view old) k v
-pairs_pushed old new x y k v e p q = ap pairs_view e ∙ (pairs_view-with old x y ∙ ap₂ (with_pair (pairs_view old)) p q)
+pub pairs_pushed : (old new : List (Value × Value)) (x y : Value) (k v : Item) → new ≡ old ++ (x, y) ∷ [] → value_item x ≡ k → value_item y ≡ v
+    → value_pairs new ≡ with_pair (value_pairs old) k v
+pairs_pushed old new x y k v e p q = ap value_pairs e ∙ (value_pairs-with old x y ∙ ap₂ (with_pair (value_pairs old)) p q)
 
 pub entries_pushed :
-    (old new : List (Label × Value)) (l : Label) (y : Value) (v : Item) → new ≡ old ++ (l, y) ∷ [] → view y ≡ v
-    → map entry_seen new ≡ map entry_seen old ++ (label_seen l, v) ∷ []
-entries_pushed old new l y v e q = ap (map entry_seen) e ∙ (map-append entry_seen old ((l, y) ∷ []) ∙ ap (λ w. map entry_seen old ++ (label_seen l, w) ∷ []) q)
+    (old new : List (Label × Value)) (l : Label) (y : Value) (v : Item) → new ≡ old ++ (l, y) ∷ [] → value_item y ≡ v
+    → map entry_view new ≡ map entry_view old ++ (label_view l, v) ∷ []
+entries_pushed old new l y v e q = ap (map entry_view) e ∙ (map-append entry_view old ((l, y) ∷ []) ∙ ap (λ w. map entry_view old ++ (label_view l, w) ∷ []) q)
 
 -- whether a key is a name, where it is read
-pub is_named : {T : Type 0} (seen : T → RegisteredName) (k : Item) (r : Result T CoseError) (b : Bool) → IsReadAlone claim_name seen k r → is_ok r ≡ b
+pub is_named : {T : Type 0} (view : T → RegisteredName) (k : Item) (r : Result T CoseError) (b : Bool) → IsReadAlone claim_name view k r → is_ok r ≡ b
     → IsNamed b k
-is_named seen k (Err f) b h e = subst (λ x. IsNamed x k) e (λ n. h.2 n.0 n.1)
-is_named seen k (Ok x) b h e = subst (λ y. IsNamed y k) e (seen x, h)
+is_named view k (Err f) b h e = subst (λ x. IsNamed x k) e (λ n. h.2 n.0 n.1)
+is_named view k (Ok x) b h e = subst (λ y. IsNamed y k) e (view x, h)
 
 pub not_split :
-    {T : Type 0} (ps : Pairs) (seen : T → Pairs × Others) (e : CoseError) (r : Result T CoseError) → IsErrAnd r (λ x. x ≡ e)
-    → UnlessMemory e (λ f. SomePair (IsNoLabel f) ps) → SplitsOff ps seen r
-not_split ps seen e (Ok x) is h = absurd is
-not_split ps seen e (Err x) is h = λ n. subst (λ f. SomePair (IsNoLabel f) ps) (sym is) (h (λ m. n (is ∙ m)))
+    {T : Type 0} (ps : Pairs) (view : T → Pairs × Others) (e : CoseError) (r : Result T CoseError) → IsErrAnd r (λ x. x ≡ e)
+    → UnlessMemory e (λ f. SomePair (IsNoLabel f) ps) → SplitsOff ps view r
+not_split ps view e (Ok x) is h = absurd is
+not_split ps view e (Err x) is h = λ n. subst (λ f. SomePair (IsNoLabel f) ps) (sym is) (h (λ m. n (is ∙ m)))
 
 -- ---- what is known has no fault
 
@@ -112,7 +112,7 @@ labels_sound (pair k v ps) ns us e (inl p) (inr h) = labels_sound ps p.1.0 us e 
 labels_sound (pair k v ps) ns us e (inr p) (inl h) = label_laws.sound k p.1.0 e p.1.2 h.1
 labels_sound (pair k v ps) ns us e (inr p) (inr h) = labels_sound ps ns p.1.1 e p.1.4 h
 
-pairs_sound : (ps : Pairs) (x : ClaimsSeen × Others) (e : CoseError) → AreKnown ps x → KnownFaults ps e → ⊥
+pairs_sound : (ps : Pairs) (x : ClaimsView × Others) (e : CoseError) → AreKnown ps x → KnownFaults ps e → ⊥
 pairs_sound ps x e k (inl h) = labels_sound ps k.0 x.1 e k.1 h
 pairs_sound ps x e k (inr h) =
     let same = splits_unique ps h.0 k.0 h.1 x.1 h.2 k.1 in
@@ -121,17 +121,17 @@ pairs_sound ps x e k (inr h) =
       | inr f ↦ claims_laws.sound (dict k.0) x.0 e k.2 (subst (λ ns. claims.faults (dict ns) e) same.0 f)
     ]
 
-pub known_sound : (v : Item) (x : ClaimsSeen × Others) (e : CoseError) → known.describes v x → known.faults v e → ⊥
+pub known_sound : (v : Item) (x : ClaimsView × Others) (e : CoseError) → known.describes v x → known.faults v e → ⊥
 known_sound v x e d (inl f) = some-none d.1 f.0
 known_sound v x e d (inr f) = pairs_sound d.0 x e d.2 (subst (λ ps. KnownFaults ps e) (some-one f.1 d.1) f.2)
 
--- ---- what is answered
+-- ---- what is returned
 
 -- a map's view is that of its pairs
-pub view-Map : (ps : Vec (Value × Value) Global) → view (Map ps) ≡ dict (pairs_view ps.items)
-view-Map ps = search (rules, the_lemmas)
+pub value_item-Map : (ps : Vec (Value × Value) Global) → value_item (Map ps) ≡ dict (value_pairs ps.items)
+value_item-Map ps = search (rules, the_lemmas)
 
--- b is not distinct, where it is told so
+-- b is not distinct, where that is known
 pub told : (b d : Bool) → b ≡ not d → b ≡ false → d ≡ true
 told b true e f = refl
 told b false e f = absurd (true≢false (sym e ∙ f))
@@ -150,6 +150,6 @@ module _ (s : List ℕ) (v : Item) (only : IsOnlyItem s v) (ps : Pairs) (is : as
   pub no_claims : (ns : Pairs) (us : Others) → Splits ps ns us → (e : CoseError) → UnlessMemory e (claims.faults (dict ns)) → IsRefused known s e
   no_claims ns us p e h = at_fault known known_sound s v e only (λ n. inr (ps, is, inr (ns, us, p, inr (h n))))
 
-  pub all_known : (ns : Pairs) (us : Others) (c : ClaimsSeen) → Splits ps ns us → are_distinct names.same (keys_of us) ≡ true → claims.describes (dict ns) c
+  pub all_known : (ns : Pairs) (us : Others) (c : ClaimsView) → Splits ps ns us → are_distinct names.same (keys_of us) ≡ true → claims.describes (dict ns) c
       → Describes known s (c, us)
   all_known ns us c p d h = (v, only.0, (ps, is, (ns, p, h, d)))

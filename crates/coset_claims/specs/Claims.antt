@@ -2,7 +2,7 @@
 use Rattle.std.specs.Prelude.{◌≡◌, ◌⊎◌, ℕ, ℤ, pos, int_lt, List, [], ◌∷◌, ◌++◌, Option, None, Bool, true, is_some, map, option_map, string_bytes}
 use Rattle.std.specs.Ordering.{is_eq}
 use Rattle.coset_value.specs.Item.{Item}
-use Rattle.coset_value.specs.View.{view}
+use Rattle.coset_value.specs.View.{value_item}
 use Rattle.coset_value.specs.declared.value.Value.{Value}
 use Rattle.coset_iana.specs.CwtClaimName as claim_names
 use Rattle.coset_iana.specs.Registry.{first_numbered}
@@ -13,47 +13,47 @@ use Rattle.coset_codec.specs.Maps.{Names, Fields, field, no_field, optional, lab
 use Rattle.coset_codec.specs.Shape.{Shape, mapped, bstr, tstr}
 use Rattle.coset_label.specs.Labels.{registered_or_private}
 use Rattle.coset_label.specs.Names.{RegisteredName, registered_cmp}
-use Rattle.coset_label.specs.Views.{registered_or_private_seen}
+use Rattle.coset_label.specs.Views.{registered_or_private_view}
 use Rattle.coset_label.specs.declared.registered.RegisteredLabelWithPrivate.{RegisteredLabelWithPrivate}
 use Rattle.coset_claims.specs.ClaimLabels as labels
-use Rattle.coset_claims.specs.Timestamp.{TimestampSeen, timestamp, timestamp_seen}
+use Rattle.coset_claims.specs.Timestamp.{TimestampView, timestamp, timestamp_view}
 use Rattle.coset_claims.specs.declared.claims_set.ClaimsSet.{ClaimsSet}
 
 -- ---- what contracts see
 
 -- a claims set without its memory
-pub record ClaimsSeen : Type 0 where
+pub record ClaimsView : Type 0 where
   pub issuer : Option (List ℕ)
   pub subject : Option (List ℕ)
   pub audience : Option (List ℕ)
-  pub expiration_time : Option TimestampSeen
-  pub not_before : Option TimestampSeen
-  pub issued_at : Option TimestampSeen
+  pub expiration_time : Option TimestampView
+  pub not_before : Option TimestampView
+  pub issued_at : Option TimestampView
   pub cwt_id : Option (List ℕ)
   pub rest : List (RegisteredName × Item)
 
 -- a claim's name
-abbrev pub name_seen : RegisteredLabelWithPrivate CwtClaimName → RegisteredName
-name_seen = registered_or_private_seen claim_names.number
+abbrev pub name_view : RegisteredLabelWithPrivate CwtClaimName → RegisteredName
+name_view = registered_or_private_view claim_names.number
 
 -- a claim of the rest
-abbrev pub entry_seen : RegisteredLabelWithPrivate CwtClaimName × Value → RegisteredName × Item
-entry_seen e = (name_seen e.0, view e.1)
+abbrev pub entry_view : RegisteredLabelWithPrivate CwtClaimName × Value → RegisteredName × Item
+entry_view e = (name_view e.0, value_item e.1)
 
-abbrev pub claims_seen : ClaimsSet → ClaimsSeen
-claims_seen c = record {
+abbrev pub claims_view : ClaimsSet → ClaimsView
+claims_view c = record {
   issuer = option_map string_bytes c.issuer;
   subject = option_map string_bytes c.subject;
   audience = option_map string_bytes c.audience;
-  expiration_time = option_map timestamp_seen c.expiration_time;
-  not_before = option_map timestamp_seen c.not_before;
-  issued_at = option_map timestamp_seen c.issued_at;
+  expiration_time = option_map timestamp_view c.expiration_time;
+  not_before = option_map timestamp_view c.not_before;
+  issued_at = option_map timestamp_view c.issued_at;
   cwt_id = option_map (λ b. b.items) c.cwt_id;
-  rest = map entry_seen c.rest.items;
+  rest = map entry_view c.rest.items;
 }
 
 -- no claim
-abbrev pub no_claims : ClaimsSeen
+abbrev pub no_claims : ClaimsView
 no_claims = record {
   issuer = None;
   subject = None;
@@ -82,7 +82,7 @@ names = record { shape = claim_name; same = same_name }
 -- the registered claims, in the order of their numbers
 abbrev pub FieldTuple : Type 0
 FieldTuple = Option (List ℕ) × (Option (List ℕ) × (Option (List ℕ)
-    × (Option TimestampSeen × (Option TimestampSeen × (Option TimestampSeen × (Option (List ℕ) × Unit {0}))))))
+    × (Option TimestampView × (Option TimestampView × (Option TimestampView × (Option (List ℕ) × Unit {0}))))))
 
 -- ? 1 => tstr, ? 2 => tstr, ? 3 => tstr, ? 4 => timestamp, ? 5 => timestamp, ? 6 => timestamp, ? 7 => bstr
 abbrev pub fields : Fields RegisteredName FieldTuple
@@ -96,7 +96,7 @@ fields =
     (field names labels.cti (optional bstr)
     no_field))))))
 
-abbrev pub claims_of : FieldTuple × List (RegisteredName × Item) → ClaimsSeen
+abbrev pub claims_of : FieldTuple × List (RegisteredName × Item) → ClaimsView
 claims_of p = record {
   issuer = p.0.0;
   subject = p.0.1.0;
@@ -108,17 +108,17 @@ claims_of p = record {
   rest = p.1;
 }
 
-abbrev pub parts_of : ClaimsSeen → FieldTuple × List (RegisteredName × Item)
+abbrev pub parts_of : ClaimsView → FieldTuple × List (RegisteredName × Item)
 parts_of c = ((c.issuer, (c.subject, (c.audience, (c.expiration_time, (c.not_before, (c.issued_at, (c.cwt_id, tt))))))), c.rest)
 
 -- {fields, * claim_name => any}. No two names are one where a claims set is read; where it is written, that isn't asked
-unfoldable pub claims : Shape ClaimsSeen
+unfoldable pub claims : Shape ClaimsView
 claims = mapped claims_of parts_of (labelled_freely names fields)
 
 -- ---- what a builder's calls make
 
 -- one more claim, behind the others of the rest
-abbrev pub and_claim : RegisteredName → Item → ClaimsSeen → ClaimsSeen
+abbrev pub and_claim : RegisteredName → Item → ClaimsView → ClaimsView
 and_claim l v c = record c { rest = c.rest ++ (l, v) ∷ [] }
 
 -- no claim with a field of its own has this number: it is none of 1 to 7

@@ -8,7 +8,7 @@ use Rattle.coset_value.specs.SameLaws.{item_eq-decides}
 use Rattle.coset_label.specs.NameOrder.{registered_cmp-apart}
 use Rattle.coset_label.specs.Names.{RegisteredName}
 use Rattle.coset_label.specs.Same.{IsEquality}
-use Rattle.coset_claims.specs.Claims.{ClaimsSeen, same_name}
+use Rattle.coset_claims.specs.Claims.{ClaimsView, same_name}
 
 -- the same name, and the same item
 abbrev claim_eq : RegisteredName × Item → RegisteredName × Item → Bool
@@ -19,11 +19,11 @@ claim_eq-decides e f =
     Decides-like (claim_eq e f) (λ p i. (p.0 i, p.1 i)) (λ p. (ap (λ x. x.0) p, ap (λ x. x.1) p))
     (Decides-and (same_name e.0 f.0) (item_eq e.1 f.1) (registered_cmp-apart e.0 f.0) (item_eq-decides e.1 f.1))
 
-pub claims_told : {p q r s t u v w : Bool} {m n : ClaimsSeen} → Decides p (m.issuer ≡ n.issuer) → Decides q (m.subject ≡ n.subject)
+pub claims_decides : {p q r s t u v w : Bool} {m n : ClaimsView} → Decides p (m.issuer ≡ n.issuer) → Decides q (m.subject ≡ n.subject)
     → Decides r (m.audience ≡ n.audience) → Decides s (m.expiration_time ≡ n.expiration_time) → Decides t (m.not_before ≡ n.not_before)
     → Decides u (m.issued_at ≡ n.issued_at) → Decides v (m.cwt_id ≡ n.cwt_id) → Decides w (m.rest ≡ n.rest)
     → Decides (p && (q && (r && (s && (t && (u && (v && w))))))) (m ≡ n)
-claims_told p q r s t u v w =
+claims_decides p q r s t u v w =
     Decides-like _
     (λ e i. record {
       issuer = e.0 i;

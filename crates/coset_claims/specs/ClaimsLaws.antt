@@ -9,7 +9,7 @@ use Rattle.coset_label.specs.LabelLaws.{registered_or_private_laws}
 use Rattle.coset_label.specs.NameOrder.{registered_cmp-apart}
 use Rattle.coset_label.specs.Names.{RegisteredName, assigned}
 use Rattle.coset_claims.specs.ClaimLabels as labels
-use Rattle.coset_claims.specs.Claims.{ClaimsSeen, FieldTuple, claim_name, claims, claims_of, fields, names, parts_of}
+use Rattle.coset_claims.specs.Claims.{ClaimsView, FieldTuple, claim_name, claims, claims_of, fields, names, parts_of}
 use Rattle.coset_claims.specs.Timestamp.{timestamp, timestamp_laws}
 
 claim_name_laws : Lawful RegisteredName claim_name
@@ -66,6 +66,6 @@ fields_laws =
     (field_laws names names_laws labels.cti flat_cti _ (optional_laws bstr bstr_laws) _ (no_field_laws names names_laws) refl)
     refl) refl) refl) refl) refl) refl
 
-pub claims_laws : Lawful ClaimsSeen claims
+pub claims_laws : Lawful ClaimsView claims
 unfolding claims
 claims_laws = mapped_laws claims_of parts_of (λ x. refl) _ (labelled_laws names names_laws false fields fields_laws)

@@ -8,30 +8,30 @@ use Rattle.coset_codec.specs.ShapeLaws.{Lawful, mapped_laws, bstr_laws, array_of
 use Rattle.coset_label.specs.Names.{RegisteredName, assigned}
 use Rattle.coset_label.specs.Labels.{algorithm}
 use Rattle.coset_label.specs.LabelLaws.{algorithm_laws}
-use Rattle.coset_label.specs.Views.{algorithm_seen}
-use Rattle.coset_claims.specs.Party.{PartySeen, empty_party, party, party_laws, party_seen}
-use Rattle.coset_claims.specs.SuppPub.{SuppPubSeen, empty_supp_pub, supp_pub, supp_pub_laws, supp_pub_seen}
+use Rattle.coset_label.specs.Views.{algorithm_view}
+use Rattle.coset_claims.specs.Party.{PartyView, empty_party, party, party_laws, party_view}
+use Rattle.coset_claims.specs.SuppPub.{SuppPubView, empty_supp_pub, supp_pub, supp_pub_laws, supp_pub_view}
 use Rattle.coset_claims.specs.declared.context.CoseKdfContext.{CoseKdfContext}
 
 -- a context without its memory
-pub record ContextSeen : Type 0 where
+pub record ContextView : Type 0 where
   pub algorithm_id : RegisteredName
-  pub party_u_info : PartySeen
-  pub party_v_info : PartySeen
-  pub supp_pub_info : SuppPubSeen
+  pub party_u_info : PartyView
+  pub party_v_info : PartyView
+  pub supp_pub_info : SuppPubView
   pub supp_priv_info : List (List ℕ)
 
-abbrev pub context_seen : CoseKdfContext → ContextSeen
-context_seen c = record {
-  algorithm_id = algorithm_seen c.algorithm_id;
-  party_u_info = party_seen c.party_u_info;
-  party_v_info = party_seen c.party_v_info;
-  supp_pub_info = supp_pub_seen c.supp_pub_info;
+abbrev pub context_view : CoseKdfContext → ContextView
+context_view c = record {
+  algorithm_id = algorithm_view c.algorithm_id;
+  party_u_info = party_view c.party_u_info;
+  party_v_info = party_view c.party_v_info;
+  supp_pub_info = supp_pub_view c.supp_pub_info;
   supp_priv_info = map (λ b. b.items) c.supp_priv_info.items;
 }
 
 -- one in which nothing is said, with the reserved algorithm
-abbrev pub empty_context : ContextSeen
+abbrev pub empty_context : ContextView
 empty_context = record {
   algorithm_id = assigned (algorithms.number Reserved);
   party_u_info = empty_party;
@@ -41,26 +41,26 @@ empty_context = record {
 }
 
 abbrev ContextElements : Type 0
-ContextElements = RegisteredName × (PartySeen × (PartySeen × (SuppPubSeen × List (List ℕ))))
+ContextElements = RegisteredName × (PartyView × (PartyView × (SuppPubView × List (List ℕ))))
 
-abbrev pub context_of : ContextElements → ContextSeen
+abbrev pub context_of : ContextElements → ContextView
 context_of p = record { algorithm_id = p.0; party_u_info = p.1.0; party_v_info = p.1.1.0; supp_pub_info = p.1.1.1.0; supp_priv_info = p.1.1.1.1 }
 
-abbrev pub context_elements : ContextSeen → ContextElements
+abbrev pub context_elements : ContextView → ContextElements
 context_elements c = (c.algorithm_id, (c.party_u_info, (c.party_v_info, (c.supp_pub_info, c.supp_priv_info))))
 
 -- [AlgorithmID : int / tstr, PartyUInfo : PartyInfo, PartyVInfo : PartyInfo, SuppPubInfo, * SuppPrivInfo : bstr]
-abbrev pub context : Shape ContextSeen
+abbrev pub context : Shape ContextView
 context = mapped context_of context_elements (array_of (algorithm then party then party then supp_pub then any_number bstr))
 
-pub context_laws : Lawful ContextSeen context
+pub context_laws : Lawful ContextView context
 context_laws =
     mapped_laws context_of context_elements (λ x. refl) _
     (array_of_laws _ (then_laws _ _ algorithm_laws (then_laws _ _ party_laws
     (then_laws _ _ party_laws (then_laws _ _ supp_pub_laws (any_number_laws bstr bstr_laws))))))
 
 -- with one byte string more behind the others
-abbrev pub and_supp_priv_info : List ℕ → ContextSeen → ContextSeen
+abbrev pub and_supp_priv_info : List ℕ → ContextView → ContextView
 and_supp_priv_info b c = record c { supp_priv_info = c.supp_priv_info ++ b ∷ [] }
 
 -- ---- what its writer is made of

@@ -3,7 +3,7 @@ use Rattle.std.specs.Prelude.{◌≡◌, ◌⊎◌, List, [], ◌∷◌, Some, N
 use Rattle.std.specs.Map.{keys_of}
 use Rattle.coset_value.specs.Item.{Item, Pairs, no_pairs, pair, dict}
 use Rattle.coset_value.specs.Parts.{as_map}
-use Rattle.coset_value.specs.View.{pairs_view}
+use Rattle.coset_value.specs.View.{value_pairs}
 use Rattle.coset_codec.specs.Errors.{IsUnexpected, UnlessMemory}
 use Rattle.coset_codec.specs.Maps.{SomePair, are_distinct}
 use Rattle.coset_codec.specs.Shape.{Shape}
@@ -11,8 +11,8 @@ use Rattle.coset_codec.specs.declared.error.CoseError.{CoseError}
 use Rattle.coset_codec.specs.declared.error.CoseError.TheVariants.{DuplicateMapKey}
 use Rattle.coset_label.specs.Labels.{label, names}
 use Rattle.coset_label.specs.Names.{Name, RegisteredName}
-use Rattle.coset_label.specs.Views.{entry_seen}
-use Rattle.coset_claims.specs.Claims.{ClaimsSeen, claim_name, claims, claims_seen}
+use Rattle.coset_label.specs.Views.{entry_view}
+use Rattle.coset_claims.specs.Claims.{ClaimsView, claim_name, claims, claims_view}
 use Rattle.coset_claims.specs.declared.known.KnownClaims.{KnownClaims}
 use Rattle.coset_claims.specs.declared.known.Parts.{Parts}
 
@@ -40,7 +40,7 @@ abbrev pub IsNoLabel : CoseError → Item → Item → Type 0
 IsNoLabel e k v = (IsName k → ⊥) × label.faults k e
 
 -- what the first of these make, and the others, no two of which have one label
-abbrev pub AreKnown : Pairs → ClaimsSeen × Others → Type 0
+abbrev pub AreKnown : Pairs → ClaimsView × Others → Type 0
 AreKnown ps x = (ns : Pairs) × Splits ps ns x.1 × claims.describes (dict ns) x.0 × (are_distinct names.same (keys_of x.1) ≡ true)
 
 -- what is wrong with pairs: a key that is no label; two keys that are one; or what a claims set of the first refuses
@@ -51,20 +51,20 @@ KnownFaults ps e =
     × (((are_distinct names.same (keys_of us) ≡ false) × (e ≡ DuplicateMapKey)) ⊎ claims.faults (dict ns) e))
 
 -- {claims, * label => any}: claims as a claims set holds them, and all others. It isn't written
-abbrev pub known : Shape (ClaimsSeen × Others)
+abbrev pub known : Shape (ClaimsView × Others)
 known = record {
   describes = λ v x. (ps : Pairs) × (as_map v ≡ Some ps) × AreKnown ps x;
   image = λ x. None;
   faults = λ v e. ((as_map v ≡ None) × IsUnexpected e) ⊎ ((ps : Pairs) × (as_map v ≡ Some ps) × KnownFaults ps e);
 }
 
-abbrev pub known_seen : KnownClaims → ClaimsSeen × Others
-known_seen c = (claims_seen c.claims, map entry_seen c.others.items)
+abbrev pub known_view : KnownClaims → ClaimsView × Others
+known_view c = (claims_view c.claims, map entry_view c.others.items)
 
-abbrev pub parts_seen : Parts → Pairs × Others
-parts_seen s = (pairs_view s.named.items, map entry_seen s.others.items)
+abbrev pub parts_view : Parts → Pairs × Others
+parts_view s = (value_pairs s.named.items, map entry_view s.others.items)
 
--- what taking pairs apart answers
+-- what taking pairs apart returns
 abbrev pub SplitsOff : {T : Type 0} → Pairs → (T → Pairs × Others) → Result T CoseError → Type 0
-SplitsOff ps seen (Ok s) = Splits ps (seen s).0 (seen s).1
-SplitsOff ps seen (Err e) = UnlessMemory e (λ f. SomePair (IsNoLabel f) ps)
+SplitsOff ps view (Ok s) = Splits ps (view s).0 (view s).1
+SplitsOff ps view (Err e) = UnlessMemory e (λ f. SomePair (IsNoLabel f) ps)

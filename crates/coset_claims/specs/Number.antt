@@ -4,7 +4,7 @@ use Rattle.std.specs.declared.cmp.Ordering.{Ordering}
 use Rattle.std.specs.Ordering.{int_cmp}
 use Rattle.coset_value.specs.Item.{Bits, half, single, double}
 
--- a format: how many fractions and how many exponents its bits tell apart; and 2 ^ scale of its least number make 1
+-- a format: how many fractions and how many exponents its bits distinguish; and 2 ^ scale of its least number make 1
 pub record Format : Type 0 where
   pub fractions : ℕ
   pub exponents : ℕ
@@ -16,7 +16,7 @@ pub record Number : Type 0 where
   pub units : ℕ
   pub scale : ℕ
 
--- how many units a fraction is: with the least exponent as it stands, and with each further one behind a 1, times 2
+-- how many units a fraction is: with the least exponent as it is, and with each further one behind a 1, times 2
 abbrev pub units_of : ℕ → ℕ → ℕ → ℕ
 units_of fractions zero f = f
 units_of fractions (suc e) f = (fractions + f) * 2 ^ e

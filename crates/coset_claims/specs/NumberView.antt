@@ -4,11 +4,11 @@ use Rattle.coset_claims.specs.Number as numbers
 use Rattle.coset_claims.specs.declared.number.Format.{Format}
 use Rattle.coset_claims.specs.declared.number.Number.{Number}
 
-abbrev pub number_seen : Number → numbers.Number
-number_seen x = record { is_negative = x.is_negative; units = x.significand * 2 ^ x.exponent; scale = x.scale }
+abbrev pub number_view : Number → numbers.Number
+number_view x = record { is_negative = x.is_negative; units = x.significand * 2 ^ x.exponent; scale = x.scale }
 
-abbrev pub format_seen : Format → numbers.Format
-format_seen m = record { fractions = m.fractions; exponents = m.exponents; scale = m.scale }
+abbrev pub format_view : Format → numbers.Format
+format_view m = record { fractions = m.fractions; exponents = m.exponents; scale = m.scale }
 
 -- a format whose fractions and exponents fit
 pub record IsFormat (m : Format) : Type 0 where

@@ -13,27 +13,27 @@ use Rattle.coset_claims.specs.declared.party.PartyInfo.{PartyInfo}
 -- ---- nonces
 
 -- a nonce without its memory
-pub data NonceSeen : Type 0 where
-  nonce_integer : ℤ → NonceSeen
-  nonce_bytes : List ℕ → NonceSeen
+pub data NonceView : Type 0 where
+  nonce_integer : ℤ → NonceView
+  nonce_bytes : List ℕ → NonceView
 
-abbrev pub nonce_seen : Nonce → NonceSeen
-nonce_seen (Integer i) = nonce_integer i
-nonce_seen (Bytes b) = nonce_bytes b.items
+abbrev pub nonce_view : Nonce → NonceView
+nonce_view (Integer i) = nonce_integer i
+nonce_view (Bytes b) = nonce_bytes b.items
 
-abbrev pub nonce_of : ℤ ⊎ List ℕ → NonceSeen
+abbrev pub nonce_of : ℤ ⊎ List ℕ → NonceView
 nonce_of (inl i) = nonce_integer i
 nonce_of (inr b) = nonce_bytes b
 
-abbrev pub of_nonce : NonceSeen → ℤ ⊎ List ℕ
+abbrev pub of_nonce : NonceView → ℤ ⊎ List ℕ
 of_nonce (nonce_integer i) = inl i
 of_nonce (nonce_bytes b) = inr b
 
 -- int / bstr
-abbrev pub nonce : Shape NonceSeen
+abbrev pub nonce : Shape NonceView
 nonce = mapped nonce_of of_nonce (either is_integer int64 bstr)
 
-nonce-back : (x : NonceSeen) → nonce_of (of_nonce x) ≡ x
+nonce-back : (x : NonceView) → nonce_of (of_nonce x) ≡ x
 nonce-back (nonce_integer i) = refl
 nonce-back (nonce_bytes b) = refl
 
@@ -44,53 +44,53 @@ integer-told i w e = let h : integer i ≡ w = some-one refl e in ap is_integer 
 bytes-told : (b : List ℕ) (w : Item) → bstr.image b ≡ Some w → is_integer w ≡ false
 bytes-told b w e = let h : bytes b ≡ w = some-one refl e in ap is_integer (sym h)
 
-pub nonce_laws : Lawful NonceSeen nonce
+pub nonce_laws : Lawful NonceView nonce
 nonce_laws =
     mapped_laws nonce_of of_nonce nonce-back _
     (either_laws is_integer int64 bstr int64_laws bstr_laws (λ v i w f d e. integer-told i w e) (λ v b w f d e. bytes-told b w e))
 
 -- a nonce is never null
-nonce-no_nil : (x : NonceSeen) (w : Item) → nonce.image x ≡ Some w → is_nil w ≡ false
+nonce-no_nil : (x : NonceView) (w : Item) → nonce.image x ≡ Some w → is_nil w ≡ false
 nonce-no_nil (nonce_integer i) w e = let h : integer i ≡ w = some-one refl e in ap is_nil (sym h)
 nonce-no_nil (nonce_bytes b) w e = bytes_no_nil b w e
 
 -- int / bstr / nil
-abbrev pub nonce_or_nil : Shape (Option NonceSeen)
+abbrev pub nonce_or_nil : Shape (Option NonceView)
 nonce_or_nil = or_nil nonce
 
 -- ---- parties
 
 -- a party without its memory
-pub record PartySeen : Type 0 where
+pub record PartyView : Type 0 where
   pub identity : Option (List ℕ)
-  pub nonce : Option NonceSeen
+  pub nonce : Option NonceView
   pub other : Option (List ℕ)
 
-abbrev pub party_seen : PartyInfo → PartySeen
-party_seen p = record {
+abbrev pub party_view : PartyInfo → PartyView
+party_view p = record {
   identity = option_map (λ b. b.items) p.identity;
-  nonce = option_map nonce_seen p.nonce;
+  nonce = option_map nonce_view p.nonce;
   other = option_map (λ b. b.items) p.other;
 }
 
 -- one of whom nothing is said
-abbrev pub empty_party : PartySeen
+abbrev pub empty_party : PartyView
 empty_party = record { identity = None; nonce = None; other = None }
 
 abbrev PartyElements : Type 0
-PartyElements = Option (List ℕ) × (Option NonceSeen × (Option (List ℕ) × Unit {0}))
+PartyElements = Option (List ℕ) × (Option NonceView × (Option (List ℕ) × Unit {0}))
 
-abbrev pub party_of : PartyElements → PartySeen
+abbrev pub party_of : PartyElements → PartyView
 party_of p = record { identity = p.0; nonce = p.1.0; other = p.1.1.0 }
 
-abbrev pub party_elements : PartySeen → PartyElements
+abbrev pub party_elements : PartyView → PartyElements
 party_elements p = (p.identity, (p.nonce, (p.other, tt)))
 
 -- [identity : bstr / nil, nonce : bstr / int / nil, other : bstr / nil]
-abbrev pub party : Shape PartySeen
+abbrev pub party : Shape PartyView
 party = mapped party_of party_elements (array_of (or_nil bstr then nonce_or_nil then or_nil bstr then end))
 
-pub party_laws : Lawful PartySeen party
+pub party_laws : Lawful PartyView party
 party_laws =
     mapped_laws party_of party_elements (λ x. refl) _
     (array_of_laws _

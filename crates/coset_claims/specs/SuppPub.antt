@@ -4,41 +4,41 @@ use Rattle.std.specs.Global.{Global}
 use Rattle.std.proofs.Common.{true≢false}
 use Rattle.coset_value.specs.Item.{Items, no_items, item}
 use Rattle.coset_codec.specs.declared.error.CoseError.{CoseError}
-use Rattle.coset_codec.specs.declared.read.input.InputItems.{InputItems}
+use Rattle.coset_codec.specs.declared.read.decoder.ArrayElements.{ArrayElements}
 use Rattle.coset_codec.specs.Answers.{Reads}
 use Rattle.coset_codec.specs.Inputs.{State, AreWithin}
 use Rattle.coset_codec.specs.Shape.{Shape, Elements, mapped, uint, bstr, present, optional_last, array_of, ◌then◌}
 use Rattle.coset_codec.specs.ShapeLaws.{Lawful, mapped_laws, uint_laws, bstr_laws, present_laws, optional_last_laws, array_of_laws, then_laws}
-use Rattle.coset_core.specs.Headers.{ProtectedSeen, protected}
+use Rattle.coset_core.specs.Headers.{ProtectedView, protected}
 use Rattle.coset_core.specs.HeaderLaws.{protected_laws}
 use Rattle.coset_core.specs.Messages.{empty_protected}
-use Rattle.coset_core.specs.Views.{protected_seen}
+use Rattle.coset_core.specs.Views.{protected_view}
 use Rattle.coset_claims.specs.declared.supp_pub.SuppPubInfo.{SuppPubInfo}
 
 -- the information without its memory
-pub record SuppPubSeen : Type 0 where
+pub record SuppPubView : Type 0 where
   pub key_data_length : ℕ
-  pub protected : ProtectedSeen
+  pub protected : ProtectedView
   pub other : Option (List ℕ)
 
-abbrev pub supp_pub_seen : SuppPubInfo → SuppPubSeen
-supp_pub_seen s = record {
+abbrev pub supp_pub_view : SuppPubInfo → SuppPubView
+supp_pub_view s = record {
   key_data_length = s.key_data_length;
-  protected = protected_seen s.protected;
+  protected = protected_view s.protected;
   other = option_map (λ b. b.items) s.other;
 }
 
 -- none
-abbrev pub empty_supp_pub : SuppPubSeen
+abbrev pub empty_supp_pub : SuppPubView
 empty_supp_pub = record { key_data_length = 0; protected = empty_protected; other = None }
 
 abbrev SuppPubElements : Type 0
-SuppPubElements = ℤ × (ProtectedSeen × Option (List ℕ))
+SuppPubElements = ℤ × (ProtectedView × Option (List ℕ))
 
-abbrev pub supp_pub_of : SuppPubElements → SuppPubSeen
+abbrev pub supp_pub_of : SuppPubElements → SuppPubView
 supp_pub_of p = record { key_data_length = unsigned_abs p.0; protected = p.1.0; other = p.1.1 }
 
-abbrev pub supp_pub_elements : SuppPubSeen → SuppPubElements
+abbrev pub supp_pub_elements : SuppPubView → SuppPubElements
 supp_pub_elements s = (pos s.key_data_length, (s.protected, s.other))
 
 -- ? other : bstr
@@ -46,14 +46,14 @@ abbrev pub other_place : Elements (Option (List ℕ))
 other_place = optional_last None is_some (present bstr)
 
 -- [keyDataLength : uint, protected : empty_or_serialized_map, ? other : bstr]
-abbrev pub supp_pub : Shape SuppPubSeen
+abbrev pub supp_pub : Shape SuppPubView
 supp_pub = mapped supp_pub_of supp_pub_elements (array_of (uint then protected then other_place))
 
 missing : (o : Option (List ℕ)) → is_some o ≡ false → o ≡ None
 missing None e = refl
 missing (Some b) e = absurd (true≢false e)
 
-pub supp_pub_laws : Lawful SuppPubSeen supp_pub
+pub supp_pub_laws : Lawful SuppPubView supp_pub
 supp_pub_laws =
     mapped_laws supp_pub_of supp_pub_elements (λ x. refl) _
     (array_of_laws _ (then_laws _ _ uint_laws (then_laws _ _ protected_laws
@@ -61,7 +61,7 @@ supp_pub_laws =
 
 -- ---- what its reader and its writer are made of
 
--- none of these elements is left; or the next of them was read as bytes, and the others stand at t
-abbrev pub ReadsOther : Items → State → State → InputItems → Result (Option (Vec ℕ Global)) CoseError → Type 0
+-- none of these elements is left; or the next of them was read as bytes, and the others are at t
+abbrev pub ReadsOther : Items → State → State → ArrayElements → Result (Option (Vec ℕ Global)) CoseError → Type 0
 ReadsOther no_items t z m r = AreWithin m no_items t z × IsOkAnd r (λ o. o ≡ None)
 ReadsOther (item v vs) t z m r = AreWithin m vs t z × Reads (present bstr) (option_map (λ b. b.items)) v r

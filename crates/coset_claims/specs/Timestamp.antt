@@ -15,29 +15,29 @@ use Rattle.coset_claims.specs.declared.timestamp.Timestamp.{Timestamp}
 use Rattle.coset_claims.specs.declared.timestamp.Timestamp.TheVariants.{WholeSeconds, FractionalSeconds}
 
 -- a timestamp: a number of seconds, or a float as its width and bits
-pub data TimestampSeen : Type 0 where
-  whole_seconds : ℤ → TimestampSeen
-  fractional_seconds : Bits → TimestampSeen
+pub data TimestampView : Type 0 where
+  whole_seconds : ℤ → TimestampView
+  fractional_seconds : Bits → TimestampView
 
-abbrev pub timestamp_seen : Timestamp → TimestampSeen
-timestamp_seen (WholeSeconds i) = whole_seconds i
-timestamp_seen (FractionalSeconds x) = fractional_seconds (bits_of x)
+abbrev pub timestamp_view : Timestamp → TimestampView
+timestamp_view (WholeSeconds i) = whole_seconds i
+timestamp_view (FractionalSeconds x) = fractional_seconds (bits_of x)
 
-abbrev pub timestamp_of : ℤ ⊎ Bits → TimestampSeen
+abbrev pub timestamp_of : ℤ ⊎ Bits → TimestampView
 timestamp_of (inl i) = whole_seconds i
 timestamp_of (inr x) = fractional_seconds x
 
-abbrev pub of_timestamp : TimestampSeen → ℤ ⊎ Bits
+abbrev pub of_timestamp : TimestampView → ℤ ⊎ Bits
 of_timestamp (whole_seconds i) = inl i
 of_timestamp (fractional_seconds x) = inr x
 
 -- int / float, where the integer is of 64 bits with a sign
-unfoldable pub timestamp : Shape TimestampSeen
+unfoldable pub timestamp : Shape TimestampView
 timestamp = mapped timestamp_of of_timestamp (either is_integer int64 floating)
 
 -- ---- the laws
 
-timestamp-back : (x : TimestampSeen) → timestamp_of (of_timestamp x) ≡ x
+timestamp-back : (x : TimestampView) → timestamp_of (of_timestamp x) ≡ x
 timestamp-back (whole_seconds i) = refl
 timestamp-back (fractional_seconds x) = refl
 
@@ -48,7 +48,7 @@ whole-told i w e = let h : integer i ≡ w = some-one refl e in ap is_integer (s
 float-told : (x : Bits) (w : Item) → floating.image x ≡ Some w → is_integer w ≡ false
 float-told x w e = let h : float x ≡ w = some-one refl e in ap is_integer (sym h)
 
-pub timestamp_laws : Lawful TimestampSeen timestamp
+pub timestamp_laws : Lawful TimestampView timestamp
 unfolding timestamp
 timestamp_laws =
     mapped_laws timestamp_of of_timestamp timestamp-back _
@@ -57,7 +57,7 @@ timestamp_laws =
 -- ---- equality
 
 -- the same number of seconds, or the same width and bits
-abbrev pub timestamp_eq : TimestampSeen → TimestampSeen → Bool
+abbrev pub timestamp_eq : TimestampView → TimestampView → Bool
 timestamp_eq (whole_seconds i) (whole_seconds j) = int_eq i j
 timestamp_eq (fractional_seconds x) (fractional_seconds y) = bits_eq x y
 timestamp_eq a b = false
@@ -65,16 +65,16 @@ timestamp_eq a b = false
 same-bits : (x y : Bits) → float x ≡ float y → x ≡ y
 same-bits x y e = cc
 
-eq-sound : (a b : TimestampSeen) → timestamp_eq a b ≡ true → a ≡ b
+eq-sound : (a b : TimestampView) → timestamp_eq a b ≡ true → a ≡ b
 eq-sound (whole_seconds i) (whole_seconds j) h = ap whole_seconds ((signed_Decides i j).0 h)
 eq-sound (fractional_seconds x) (fractional_seconds y) h = ap fractional_seconds (same-bits x y ((item_eq-decides (float x) (float y)).0 h))
 eq-sound a b h = absurd (true≢false (sym h))
 
-eq-itself : (a : TimestampSeen) → timestamp_eq a a ≡ true
+eq-itself : (a : TimestampView) → timestamp_eq a a ≡ true
 eq-itself (whole_seconds i) = (signed_Decides i i).1 refl
 eq-itself (fractional_seconds x) = (item_eq-decides (float x) (float x)).1 refl
 
--- the test answers `true` exactly where two timestamps are equal
+-- the test returns `true` exactly where two timestamps are equal
 pub timestamp_eq-decides : IsEquality timestamp_eq
 timestamp_eq-decides a b = (eq-sound a b, λ e. subst (λ c. timestamp_eq a c ≡ true) e (eq-itself a))
 

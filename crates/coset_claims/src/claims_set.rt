@@ -2,7 +2,7 @@
 
 ghost use Rattle.std.specs.Prelude.{◌≡◌, ◌≤◌, ◌<◌, ◌==◌, not, string_bytes, IsTrue, IfOk, IfErr, OnOk, OnErr, Some, option_map};
 ghost use Rattle.std.specs.Map.{keys_of, lookup};
-ghost use Rattle.coset_value.specs.View.{view};
+ghost use Rattle.coset_value.specs.View.{value_item};
 ghost use Rattle.coset_iana.specs.CwtClaimName as claim_names;
 ghost use Rattle.coset_iana.specs.WithPrivateRange.{is_private_use};
 ghost use Rattle.coset_codec.specs.declared.error.CoseError.TheVariants.{OutOfMemory};
@@ -10,12 +10,12 @@ ghost use Rattle.coset_codec.specs.Errors.{UnlessMemory};
 ghost use Rattle.coset_codec.specs.Inputs.{ReadsAt, length_left, state};
 ghost use Rattle.coset_codec.specs.Maps.{Adds, Refuses, are_distinct};
 ghost use Rattle.coset_label.specs.Names.{assigned, text_name, private_use};
-ghost use Rattle.coset_claims.specs.Timestamp.{timestamp_seen};
-ghost use Rattle.coset_claims.specs.Claims.{IsOtherClaim, and_claim, claim_name, claims, claims_seen, fields, name_seen, names, no_claims, parts_of, same_name};
+ghost use Rattle.coset_claims.specs.Timestamp.{timestamp_view};
+ghost use Rattle.coset_claims.specs.Claims.{IsOtherClaim, and_claim, claim_name, claims, claims_view, fields, name_view, names, no_claims, parts_of, same_name};
 
 use crate::timestamp::Timestamp;
 use coset_cbor::value::Value;
-use coset_codec::read::{Gather, Input, InputPairs, read_map, set_field};
+use coset_codec::read::{Decoder, MapEntries, MapVisitor, read_map, set_field};
 use coset_codec::write::{Encode, write_optional, write_pairs_head, write_rest};
 use coset_codec::{Codec, Result, find_value, has_repeats};
 use coset_iana::{CwtClaimName, EnumI64, WithPrivateRange};
@@ -66,7 +66,7 @@ pub struct ClaimsSet {
 impl ClaimsSet {
     /// No claims. It takes no memory.
     pub fn new(alloc: Global) -> ClaimsSet
-        ensures { claims_seen result ≡ no_claims }
+        ensures { claims_view result ≡ no_claims }
     {
         ClaimsSet {
             issuer: None,
@@ -82,16 +82,16 @@ impl ClaimsSet {
 }
 
 /// About what a value takes, where there is one.
-fn room<T: Encode>(value: &Option<T>) -> usize {
+fn size_hint_of<T: Encode>(value: &Option<T>) -> usize {
     match value {
-        Some(value) => value.room(),
+        Some(value) => value.encoded_size_hint(),
         None => 0,
     }
 }
 
 /// Whether the name is that of this claim.
 fn is_claim(name: &ClaimName, claim: CwtClaimName) -> bool
-    ensures { result ≡ same_name (assigned (claim_names.number claim)) (name_seen name.now) }
+    ensures { result ≡ same_name (assigned (claim_names.number claim)) (name_view name.now) }
 {
     match name {
         RegisteredLabelWithPrivate::Assigned(found) => found.to_i64() == claim.to_i64(),
@@ -99,7 +99,7 @@ fn is_claim(name: &ClaimName, claim: CwtClaimName) -> bool
     }
 }
 
-/// Takes one more claim, by its name, and goes behind it. Whether names of the rest repeat isn't asked.
+/// Takes one more claim, by its name, and goes behind it. Whether names of the rest repeat isn't checked.
 ///
 /// # Errors
 /// `OutOfMemory`; `DuplicateMapKey` where a field has a value already; or a fault of its value. The claims are then as
@@ -108,16 +108,16 @@ fn set_claim(
     claims: &mut ClaimsSet,
     alloc: Global,
     name: ClaimName,
-    input: &mut Input<'_>,
+    input: &mut Decoder<'_>,
 ) -> Result<()>
     ensures shrinks { length_left (state input.new) ≤ length_left (state input.old) }
     ensures takes { ReadsAt (state input.old) (state input.new) (λ v. OnOk result
-        (Adds names fields (name_seen name) v
-        (parts_of (claims_seen claims.old)) (parts_of (claims_seen claims.new)))) }
+        (Adds names fields (name_view name) v
+        (parts_of (claims_view claims.old)) (parts_of (claims_view claims.new)))) }
     ensures refused { ReadsAt (state input.old) (state input.new) (λ v. IfErr result
-        (λ e. UnlessMemory e (Refuses names fields (name_seen name) v
-        (parts_of (claims_seen claims.old))))) }
-    ensures kept { OnErr result (claims_seen claims.new ≡ claims_seen claims.old) }
+        (λ e. UnlessMemory e (Refuses names fields (name_view name) v
+        (parts_of (claims_view claims.old))))) }
+    ensures kept { OnErr result (claims_view claims.new ≡ claims_view claims.old) }
 {
     if is_claim(&name, CwtClaimName::Iss) {
         return set_field(alloc, &mut claims.issuer, input);
@@ -146,7 +146,7 @@ fn set_claim(
 }
 
 /// A claims set is read claim by claim.
-impl Gather for ClaimsSet {
+impl MapVisitor for ClaimsSet {
     ghost use Rattle.coset_label.specs.Names.{RegisteredName};
     ghost use Rattle.coset_claims.specs.Claims.{FieldTuple};
     ghost use Rattle.coset_claims.specs.ClaimsLaws.{fields_laws, names_laws};
@@ -161,9 +161,9 @@ impl Gather for ClaimsSet {
 
     ghost fields = { fields };
 
-    ghost named = { name_seen };
+    ghost named = { name_view };
 
-    ghost seen = { λ c. parts_of (claims_seen c) };
+    ghost view = { λ c. parts_of (claims_view c) };
 
     ghost lawful_names = { names_laws };
 
@@ -172,19 +172,19 @@ impl Gather for ClaimsSet {
     #[tactic(auto, unfolding(crate::specs::Claims::claim_name))]
     fn next_label(
         alloc: Global,
-        pairs: &mut InputPairs,
-        input: &mut Input<'_>,
+        pairs: &mut MapEntries,
+        input: &mut Decoder<'_>,
     ) -> Result<Option<ClaimName>> {
         pairs.next_key(alloc, input)
     }
 
-    fn add(&mut self, alloc: Global, name: ClaimName, input: &mut Input<'_>) -> Result<()> {
+    fn add(&mut self, alloc: Global, name: ClaimName, input: &mut Decoder<'_>) -> Result<()> {
         set_claim(self, alloc, name, input)
     }
 
     fn repeats(&self, alloc: Global) -> Result<bool>
         ensures repeats { IfOk result (λ b. b ≡ not
-            (are_distinct names.same (keys_of (claims_seen self.now).rest))) }
+            (are_distinct names.same (keys_of (claims_view self.now).rest))) }
         ensures memory { IfErr result (λ e. e ≡ OutOfMemory) }
     {
         has_repeats(alloc, &self.rest)
@@ -193,32 +193,32 @@ impl Gather for ClaimsSet {
 
 impl Codec for ClaimsSet {
     ghost use Rattle.std.specs.Cmp.Lexicographic.{bytes_decides};
-    ghost use Rattle.coset_codec.specs.Told.{bstr_told, lists_told, options_told};
-    ghost use Rattle.coset_claims.specs.ClaimsEquality.{claim_eq-decides, claims_told};
-    ghost use Rattle.coset_claims.specs.Timestamp.{timestamp_eq-decides, timestamp_seen};
-    ghost use Rattle.coset_claims.specs.Claims.{ClaimsSeen, entry_seen};
+    ghost use Rattle.coset_codec.specs.EqDecides.{bstr_decides, lists_decides, options_decides};
+    ghost use Rattle.coset_claims.specs.ClaimsEquality.{claim_eq-decides, claims_decides};
+    ghost use Rattle.coset_claims.specs.Timestamp.{timestamp_eq-decides, timestamp_view};
+    ghost use Rattle.coset_claims.specs.Claims.{ClaimsView, entry_view};
     ghost use Rattle.coset_claims.specs.ClaimsLaws.{claims_laws};
 
-    ghost Seen = { ClaimsSeen };
+    ghost View = { ClaimsView };
 
-    ghost seen = { claims_seen };
+    ghost view = { claims_view };
 
     ghost shape = { claims };
 
     ghost laws = { claims_laws };
 
-    ghost equal = { λ a b. let text = options_told string_bytes _
+    ghost equal = { λ a b. let text = options_decides string_bytes _
         (λ x y. bytes_decides (string_bytes x) (string_bytes y)) in
-        let time = options_told timestamp_seen _
-        (λ x y. timestamp_eq-decides (timestamp_seen x) (timestamp_seen y)) in
-        claims_told (text a.issuer b.issuer) (text a.subject b.subject) (text a.audience b.audience)
+        let time = options_decides timestamp_view _
+        (λ x y. timestamp_eq-decides (timestamp_view x) (timestamp_view y)) in
+        claims_decides (text a.issuer b.issuer) (text a.subject b.subject) (text a.audience b.audience)
         (time a.expiration_time b.expiration_time) (time a.not_before b.not_before)
-        (time a.issued_at b.issued_at) (bstr_told a.cwt_id b.cwt_id)
-        (lists_told entry_seen _ (λ x y. claim_eq-decides (entry_seen x) (entry_seen y))
+        (time a.issued_at b.issued_at) (bstr_decides a.cwt_id b.cwt_id)
+        (lists_decides entry_view _ (λ x y. claim_eq-decides (entry_view x) (entry_view y))
         a.rest.items b.rest.items) };
 
     #[tactic(auto, unfolding(crate::specs::Claims::claims))]
-    fn read(alloc: Global, input: &mut Input<'_>) -> Result<ClaimsSet> {
+    fn read(alloc: Global, input: &mut Decoder<'_>) -> Result<ClaimsSet> {
         let mut claims = ClaimsSet::new(alloc);
         read_map(alloc, input, &mut claims)?;
         Ok(claims)
@@ -227,10 +227,10 @@ impl Codec for ClaimsSet {
     /// Enough where the values of the other claims are short.
     fn size_hint(&self) -> usize {
         HEADS
-            .saturating_add(room(&self.issuer))
-            .saturating_add(room(&self.subject))
-            .saturating_add(room(&self.audience))
-            .saturating_add(room(&self.cwt_id))
+            .saturating_add(size_hint_of(&self.issuer))
+            .saturating_add(size_hint_of(&self.subject))
+            .saturating_add(size_hint_of(&self.audience))
+            .saturating_add(size_hint_of(&self.cwt_id))
             .saturating_add(self.rest.len().saturating_mul(CLAIM))
     }
 
@@ -263,7 +263,7 @@ impl Codec for ClaimsSet {
 
 /// The same as [`ClaimsSet::clone`], for generic code.
 impl Clone for ClaimsSet {
-    ghost is_clone = { λ claims copy. claims_seen copy ≡ claims_seen claims };
+    ghost is_clone = { λ claims copy. claims_view copy ≡ claims_view claims };
 
     fn clone(&self) -> Result<ClaimsSet, AllocError> {
         Ok(ClaimsSet {
@@ -285,7 +285,7 @@ impl ClaimsSet {
     /// # Errors
     /// `OutOfMemory` alone.
     pub fn clone(&self) -> Result<ClaimsSet>
-        ensures copy { IfOk result (λ c. claims_seen c ≡ claims_seen self.now) }
+        ensures copy { IfOk result (λ c. claims_view c ≡ claims_view self.now) }
         ensures memory { IfErr result (λ e. e ≡ OutOfMemory) }
     {
         Ok(Clone::clone(self)?)
@@ -294,8 +294,9 @@ impl ClaimsSet {
     /// The value of the first claim of `rest` with this name; `None` where none has it. The claims that have a field (1 to
     /// 7) aren't among the rest of a claims set that was read (RFC 8392, section 3.1).
     pub fn get(&self, name: &ClaimName) -> Option<&Value>
-        ensures { option_map (λ v. view v.now) result ≡ lookup (same_name (name_seen name.now))
-            (claims_seen self.now).rest }
+        ensures { option_map (λ v. value_item v.now) result ≡ lookup (same_name
+            (name_view name.now))
+            (claims_view self.now).rest }
     {
         find_value(&self.rest, name)
     }
@@ -323,7 +324,7 @@ impl Model for ClaimsSetBuilder {
 impl ClaimsSetBuilder {
     /// No claims. It takes no memory.
     pub fn new(alloc: Global) -> ClaimsSetBuilder
-        ensures { claims_seen result ≡ no_claims }
+        ensures { claims_view result ≡ no_claims }
     {
         ClaimsSetBuilder(ClaimsSet::new(alloc))
     }
@@ -337,8 +338,8 @@ impl ClaimsSetBuilder {
 
     /// Sets the issuer (claim 1).
     pub fn issuer(mut self, issuer: String) -> ClaimsSetBuilder
-        ensures { claims_seen result ≡ record
-            (claims_seen self) { issuer = Some (string_bytes issuer) } }
+        ensures { claims_view result ≡ record
+            (claims_view self) { issuer = Some (string_bytes issuer) } }
     {
         self.0.issuer = Some(issuer);
         self
@@ -349,8 +350,8 @@ impl ClaimsSetBuilder {
     /// # Errors
     /// `OutOfMemory` alone.
     pub fn issuer_from(self, alloc: Global, issuer: &str) -> Result<ClaimsSetBuilder>
-        ensures ok { IfOk result (λ b. claims_seen b
-            ≡ record (claims_seen self) { issuer = Some issuer.now }) }
+        ensures ok { IfOk result (λ b. claims_view b
+            ≡ record (claims_view self) { issuer = Some issuer.now }) }
         ensures memory { IfErr result (λ e. e ≡ OutOfMemory) }
     {
         Ok(self.issuer(String::from_str(alloc, issuer)?))
@@ -358,8 +359,8 @@ impl ClaimsSetBuilder {
 
     /// Sets the subject (claim 2).
     pub fn subject(mut self, subject: String) -> ClaimsSetBuilder
-        ensures { claims_seen result ≡ record
-            (claims_seen self) { subject = Some (string_bytes subject) } }
+        ensures { claims_view result ≡ record
+            (claims_view self) { subject = Some (string_bytes subject) } }
     {
         self.0.subject = Some(subject);
         self
@@ -370,8 +371,8 @@ impl ClaimsSetBuilder {
     /// # Errors
     /// `OutOfMemory` alone.
     pub fn subject_from(self, alloc: Global, subject: &str) -> Result<ClaimsSetBuilder>
-        ensures ok { IfOk result (λ b. claims_seen b
-            ≡ record (claims_seen self) { subject = Some subject.now }) }
+        ensures ok { IfOk result (λ b. claims_view b
+            ≡ record (claims_view self) { subject = Some subject.now }) }
         ensures memory { IfErr result (λ e. e ≡ OutOfMemory) }
     {
         Ok(self.subject(String::from_str(alloc, subject)?))
@@ -379,8 +380,8 @@ impl ClaimsSetBuilder {
 
     /// Sets the audience (claim 3).
     pub fn audience(mut self, audience: String) -> ClaimsSetBuilder
-        ensures { claims_seen result ≡ record
-            (claims_seen self) { audience = Some (string_bytes audience) } }
+        ensures { claims_view result ≡ record
+            (claims_view self) { audience = Some (string_bytes audience) } }
     {
         self.0.audience = Some(audience);
         self
@@ -391,8 +392,8 @@ impl ClaimsSetBuilder {
     /// # Errors
     /// `OutOfMemory` alone.
     pub fn audience_from(self, alloc: Global, audience: &str) -> Result<ClaimsSetBuilder>
-        ensures ok { IfOk result (λ b. claims_seen b
-            ≡ record (claims_seen self) { audience = Some audience.now }) }
+        ensures ok { IfOk result (λ b. claims_view b
+            ≡ record (claims_view self) { audience = Some audience.now }) }
         ensures memory { IfErr result (λ e. e ≡ OutOfMemory) }
     {
         Ok(self.audience(String::from_str(alloc, audience)?))
@@ -400,8 +401,8 @@ impl ClaimsSetBuilder {
 
     /// Sets the expiration time (claim 4).
     pub fn expiration_time(mut self, expiration_time: Timestamp) -> ClaimsSetBuilder
-        ensures { claims_seen result ≡ record
-            (claims_seen self) { expiration_time = Some (timestamp_seen expiration_time) } }
+        ensures { claims_view result ≡ record
+            (claims_view self) { expiration_time = Some (timestamp_view expiration_time) } }
     {
         self.0.expiration_time = Some(expiration_time);
         self
@@ -409,8 +410,8 @@ impl ClaimsSetBuilder {
 
     /// Sets the time before which the token isn't valid (claim 5).
     pub fn not_before(mut self, not_before: Timestamp) -> ClaimsSetBuilder
-        ensures { claims_seen result ≡ record
-            (claims_seen self) { not_before = Some (timestamp_seen not_before) } }
+        ensures { claims_view result ≡ record
+            (claims_view self) { not_before = Some (timestamp_view not_before) } }
     {
         self.0.not_before = Some(not_before);
         self
@@ -418,8 +419,8 @@ impl ClaimsSetBuilder {
 
     /// Sets the time at which the token is issued (claim 6).
     pub fn issued_at(mut self, issued_at: Timestamp) -> ClaimsSetBuilder
-        ensures { claims_seen result ≡ record
-            (claims_seen self) { issued_at = Some (timestamp_seen issued_at) } }
+        ensures { claims_view result ≡ record
+            (claims_view self) { issued_at = Some (timestamp_view issued_at) } }
     {
         self.0.issued_at = Some(issued_at);
         self
@@ -427,7 +428,7 @@ impl ClaimsSetBuilder {
 
     /// Sets the token's identifier (claim 7).
     pub fn cwt_id(mut self, cwt_id: Vec<u8>) -> ClaimsSetBuilder
-        ensures { claims_seen result ≡ record (claims_seen self) { cwt_id = Some cwt_id.items } }
+        ensures { claims_view result ≡ record (claims_view self) { cwt_id = Some cwt_id.items } }
     {
         self.0.cwt_id = Some(cwt_id);
         self
@@ -438,8 +439,8 @@ impl ClaimsSetBuilder {
     /// # Errors
     /// `OutOfMemory` alone.
     pub fn cwt_id_from(self, alloc: Global, cwt_id: &[u8]) -> Result<ClaimsSetBuilder>
-        ensures ok { IfOk result (λ b. claims_seen b
-            ≡ record (claims_seen self) { cwt_id = Some cwt_id.now }) }
+        ensures ok { IfOk result (λ b. claims_view b
+            ≡ record (claims_view self) { cwt_id = Some cwt_id.now }) }
         ensures memory { IfErr result (λ e. e ≡ OutOfMemory) }
     {
         Ok(self.cwt_id(Vec::from_slice(alloc, cwt_id)?))
@@ -452,8 +453,9 @@ impl ClaimsSetBuilder {
     /// `OutOfMemory` alone.
     pub fn claim(mut self, name: CwtClaimName, value: Value) -> Result<ClaimsSetBuilder>
         requires { IsOtherClaim (claim_names.number name) }
-        ensures ok { IfOk result (λ b. claims_seen b
-            ≡ and_claim (assigned (claim_names.number name)) (view value) (claims_seen self)) }
+        ensures ok { IfOk result (λ b. claims_view b
+            ≡ and_claim (assigned (claim_names.number name)) (value_item value)
+            (claims_view self)) }
         ensures memory { IfErr result (λ e. e ≡ OutOfMemory) }
     {
         let number = name.to_i64();
@@ -468,8 +470,8 @@ impl ClaimsSetBuilder {
     /// # Errors
     /// `OutOfMemory` alone.
     pub fn text_claim(mut self, name: String, value: Value) -> Result<ClaimsSetBuilder>
-        ensures ok { IfOk result (λ b. claims_seen b
-            ≡ and_claim (text_name (string_bytes name)) (view value) (claims_seen self)) }
+        ensures ok { IfOk result (λ b. claims_view b
+            ≡ and_claim (text_name (string_bytes name)) (value_item value) (claims_view self)) }
         ensures memory { IfErr result (λ e. e ≡ OutOfMemory) }
     {
         self.0.rest.push((ClaimName::Text(name), value))?;
@@ -483,8 +485,8 @@ impl ClaimsSetBuilder {
     /// `OutOfMemory` alone.
     pub fn private_claim(mut self, id: i64, value: Value) -> Result<ClaimsSetBuilder>
         requires { IsTrue (is_private_use id) }
-        ensures ok { IfOk result (λ b. claims_seen b
-            ≡ and_claim (private_use id) (view value) (claims_seen self)) }
+        ensures ok { IfOk result (λ b. claims_view b
+            ≡ and_claim (private_use id) (value_item value) (claims_view self)) }
         ensures memory { IfErr result (λ e. e ≡ OutOfMemory) }
     {
         prove!(CwtClaimName::is_private(id));

@@ -13,15 +13,15 @@ ghost use Rattle.coset_codec.specs.Lists.{ReadsEach};
 ghost use Rattle.coset_codec.specs.Shape.{bstr, images};
 ghost use Rattle.coset_label.specs.Names.{assigned};
 ghost use Rattle.coset_label.specs.Labels.{algorithm};
-ghost use Rattle.coset_label.specs.Views.{algorithm_seen};
-ghost use Rattle.coset_claims.specs.Context.{and_supp_priv_info, context, context_seen, empty_context, four_elements_and};
-ghost use Rattle.coset_claims.specs.Party.{party_seen};
-ghost use Rattle.coset_claims.specs.SuppPub.{supp_pub_seen};
+ghost use Rattle.coset_label.specs.Views.{algorithm_view};
+ghost use Rattle.coset_claims.specs.Context.{and_supp_priv_info, context, context_view, empty_context, four_elements_and};
+ghost use Rattle.coset_claims.specs.Party.{party_view};
+ghost use Rattle.coset_claims.specs.SuppPub.{supp_pub_view};
 
 use crate::party::PartyInfo;
 use crate::supp_pub::SuppPubInfo;
 use coset_cbor::ser::{write_array_head, write_bytes};
-use coset_codec::read::{Input, InputItems};
+use coset_codec::read::{ArrayElements, Decoder};
 use coset_codec::traits::FromPull;
 use coset_codec::write::Encode;
 use coset_codec::{Codec, CoseError, ItemSource, Result};
@@ -56,7 +56,7 @@ pub struct CoseKdfContext {
 impl CoseKdfContext {
     /// A context in which nothing is said, with the reserved algorithm. It takes no memory.
     pub fn new(alloc: Global) -> CoseKdfContext
-        ensures { context_seen result ≡ empty_context }
+        ensures { context_view result ≡ empty_context }
     {
         CoseKdfContext {
             algorithm_id: RegisteredLabelWithPrivate::Assigned(iana::Algorithm::Reserved),
@@ -72,24 +72,24 @@ impl CoseKdfContext {
 fn read_byte_string(alloc: Global, source: ItemSource<'_>) -> Result<Vec<u8>>
     ensures { Reads bstr (λ b. b.items) (source_item source.entry) result }
 {
-    let mut input = Input::new(source);
+    let mut input = Decoder::new(source);
     input.bytes(alloc, "bstr")
 }
 
 /// Reads byte strings up to the end of an array. Of those with a fault the last is named.
 fn read_byte_strings(
     alloc: Global,
-    members: &mut InputItems,
-    input: &mut Input<'_>,
+    elements: &mut ArrayElements,
+    input: &mut Decoder<'_>,
 ) -> Result<Vec<Vec<u8>>>
     ensures shrinks { length_left (state input.new) ≤ length_left (state input.old) }
-    ensures reads { (vs : Items) (z : State) → AreWithin members.old vs (state input.old) z
-        → ((left : Items) × AreWithin members.new left (state input.new) z)
+    ensures reads { (vs : Items) (z : State) → AreWithin elements.old vs (state input.old) z
+        → ((left : Items) × AreWithin elements.new left (state input.new) z)
         × ReadsEach bstr (λ b. b.items) vs result }
 {
     let mut all = Vec::new(alloc);
     let mut fault = None;
-    while members.next(input) {
+    while elements.next(input) {
         match read_byte_string(alloc, input.take()?) {
             Ok(bytes) => all.push(bytes)?,
             Err(CoseError::OutOfMemory) => return Err(CoseError::OutOfMemory),
@@ -104,10 +104,10 @@ fn read_byte_strings(
 
 /// Reads an algorithm.
 #[tactic(auto, unfolding(coset_label::specs::Labels::algorithm))]
-fn read_algorithm(alloc: Global, input: &mut Input<'_>) -> Result<Algorithm>
+fn read_algorithm(alloc: Global, input: &mut Decoder<'_>) -> Result<Algorithm>
     ensures shrinks { length_left (state input.new) ≤ length_left (state input.old) }
     ensures reads { ReadsAt (state input.old) (state input.new)
-        (λ v. Reads algorithm algorithm_seen v result) }
+        (λ v. Reads algorithm algorithm_view v result) }
 {
     Algorithm::from_input(alloc, input)
 }
@@ -116,34 +116,34 @@ fn read_algorithm(alloc: Global, input: &mut Input<'_>) -> Result<Algorithm>
 const FOUR: &str = "array with at least 4 items";
 
 impl Codec for CoseKdfContext {
-    ghost use Rattle.coset_codec.specs.Told.{bytes_told, lists_told};
-    ghost use Rattle.coset_label.specs.SameLaws.{algorithm_told};
-    ghost use Rattle.coset_claims.specs.ContextSame.{context_told, party_told, supp_pub_told};
-    ghost use Rattle.coset_claims.specs.Context.{ContextSeen, context_laws};
+    ghost use Rattle.coset_codec.specs.EqDecides.{vec_decides, lists_decides};
+    ghost use Rattle.coset_label.specs.SameLaws.{algorithm_decides};
+    ghost use Rattle.coset_claims.specs.ContextSame.{context_decides, party_decides, supp_pub_decides};
+    ghost use Rattle.coset_claims.specs.Context.{ContextView, context_laws};
 
-    ghost Seen = { ContextSeen };
+    ghost View = { ContextView };
 
-    ghost seen = { context_seen };
+    ghost view = { context_view };
 
     ghost shape = { context };
 
     ghost laws = { context_laws };
 
-    ghost equal = { λ a b. context_told (algorithm_told a.algorithm_id b.algorithm_id)
-        (party_told a.party_u_info b.party_u_info) (party_told a.party_v_info b.party_v_info)
-        (supp_pub_told a.supp_pub_info b.supp_pub_info)
-        (lists_told (λ b. b.items) _ bytes_told a.supp_priv_info.items b.supp_priv_info.items) };
+    ghost equal = { λ a b. context_decides (algorithm_decides a.algorithm_id b.algorithm_id)
+        (party_decides a.party_u_info b.party_u_info) (party_decides a.party_v_info b.party_v_info)
+        (supp_pub_decides a.supp_pub_info b.supp_pub_info)
+        (lists_decides (λ b. b.items) _ vec_decides a.supp_priv_info.items b.supp_priv_info.items) };
 
     /// Reads the elements of a context from the first to the last, and names the fault of the last that has one.
-    fn read(alloc: Global, input: &mut Input<'_>) -> Result<CoseKdfContext> {
+    fn read(alloc: Global, input: &mut Decoder<'_>) -> Result<CoseKdfContext> {
         let mut elements = input.enter_array("array")?;
-        elements.place(input, FOUR)?;
+        elements.next_required(input, FOUR)?;
         let algorithm_id = read_algorithm(alloc, input);
-        elements.place(input, FOUR)?;
+        elements.next_required(input, FOUR)?;
         let party_u_info = PartyInfo::read(alloc, input);
-        elements.place(input, FOUR)?;
+        elements.next_required(input, FOUR)?;
         let party_v_info = PartyInfo::read(alloc, input);
-        elements.place(input, FOUR)?;
+        elements.next_required(input, FOUR)?;
         let supp_pub_info = SuppPubInfo::read(alloc, input);
         let supp_priv_info = read_byte_strings(alloc, &mut elements, input);
         elements.finish(input);
@@ -162,9 +162,9 @@ impl Codec for CoseKdfContext {
 
     fn size_hint(&self) -> usize {
         self.party_u_info
-            .room()
-            .saturating_add(self.party_v_info.room())
-            .saturating_add(self.supp_pub_info.room())
+            .encoded_size_hint()
+            .saturating_add(self.party_v_info.encoded_size_hint())
+            .saturating_add(self.supp_pub_info.encoded_size_hint())
     }
 
     #[tactic(auto, unfolding(coset_label::specs::Labels::algorithm))]
@@ -223,7 +223,7 @@ fn encode_four_and_more<A: Encode, B: Encode, C: Encode, D: Encode>(
 
 /// The same as [`CoseKdfContext::clone`], for generic code.
 impl Clone for CoseKdfContext {
-    ghost is_clone = { λ context copy. context_seen copy ≡ context_seen context };
+    ghost is_clone = { λ context copy. context_view copy ≡ context_view context };
 
     fn clone(&self) -> Result<CoseKdfContext, AllocError> {
         Ok(CoseKdfContext {
@@ -242,7 +242,7 @@ impl CoseKdfContext {
     /// # Errors
     /// `OutOfMemory` alone.
     pub fn clone(&self) -> Result<CoseKdfContext>
-        ensures copy { IfOk result (λ c. context_seen c ≡ context_seen self.now) }
+        ensures copy { IfOk result (λ c. context_view c ≡ context_view self.now) }
         ensures memory { IfErr result (λ e. e ≡ OutOfMemory) }
     {
         Ok(Clone::clone(self)?)
@@ -271,7 +271,7 @@ impl Model for CoseKdfContextBuilder {
 impl CoseKdfContextBuilder {
     /// A context in which nothing is said, with the reserved algorithm. It takes no memory.
     pub fn new(alloc: Global) -> CoseKdfContextBuilder
-        ensures { context_seen result ≡ empty_context }
+        ensures { context_view result ≡ empty_context }
     {
         CoseKdfContextBuilder(CoseKdfContext::new(alloc))
     }
@@ -285,8 +285,8 @@ impl CoseKdfContextBuilder {
 
     /// Sets the algorithm for which the key is derived.
     pub fn algorithm(mut self, algorithm: iana::Algorithm) -> CoseKdfContextBuilder
-        ensures { context_seen result ≡ record
-            (context_seen self) { algorithm_id = assigned (algorithms.number algorithm) } }
+        ensures { context_view result ≡ record
+            (context_view self) { algorithm_id = assigned (algorithms.number algorithm) } }
     {
         self.0.algorithm_id = RegisteredLabelWithPrivate::Assigned(algorithm);
         self
@@ -294,8 +294,8 @@ impl CoseKdfContextBuilder {
 
     /// Sets what is said of party U.
     pub fn party_u_info(mut self, party: PartyInfo) -> CoseKdfContextBuilder
-        ensures { context_seen result ≡ record
-            (context_seen self) { party_u_info = party_seen party } }
+        ensures { context_view result ≡ record
+            (context_view self) { party_u_info = party_view party } }
     {
         self.0.party_u_info = party;
         self
@@ -303,8 +303,8 @@ impl CoseKdfContextBuilder {
 
     /// Sets what is said of party V.
     pub fn party_v_info(mut self, party: PartyInfo) -> CoseKdfContextBuilder
-        ensures { context_seen result ≡ record
-            (context_seen self) { party_v_info = party_seen party } }
+        ensures { context_view result ≡ record
+            (context_view self) { party_v_info = party_view party } }
     {
         self.0.party_v_info = party;
         self
@@ -312,8 +312,8 @@ impl CoseKdfContextBuilder {
 
     /// Sets the public information.
     pub fn supp_pub_info(mut self, info: SuppPubInfo) -> CoseKdfContextBuilder
-        ensures { context_seen result ≡ record
-            (context_seen self) { supp_pub_info = supp_pub_seen info } }
+        ensures { context_view result ≡ record
+            (context_view self) { supp_pub_info = supp_pub_view info } }
     {
         self.0.supp_pub_info = info;
         self
@@ -324,8 +324,8 @@ impl CoseKdfContextBuilder {
     /// # Errors
     /// `OutOfMemory` alone.
     pub fn add_supp_priv_info(mut self, info: Vec<u8>) -> Result<CoseKdfContextBuilder>
-        ensures ok { IfOk result (λ b. context_seen b
-            ≡ and_supp_priv_info info.items (context_seen self)) }
+        ensures ok { IfOk result (λ b. context_view b
+            ≡ and_supp_priv_info info.items (context_view self)) }
         ensures memory { IfErr result (λ e. e ≡ OutOfMemory) }
     {
         self.0.supp_priv_info.push(info)?;

@@ -2,11 +2,11 @@
 //! assigned: claims that aren't understood are ignored (RFC 8392, section 3).
 
 ghost use Rattle.std.specs.Prelude.{◌≡◌, IfOk, IfErr};
-ghost use Rattle.coset_cbor.specs.Members.{pairs_left};
+ghost use Rattle.coset_cbor.specs.Elements.{pairs_left};
 ghost use Rattle.coset_cbor.specs.Pulls.{pull_item};
 ghost use Rattle.coset_codec.specs.Answers.{Describes, IsRefused};
 ghost use Rattle.coset_codec.specs.declared.error.CoseError.TheVariants.{OutOfMemory};
-ghost use Rattle.coset_claims.specs.Known.{IsNamed, SplitsOff, known, known_seen, parts_seen};
+ghost use Rattle.coset_claims.specs.Known.{IsNamed, SplitsOff, known, known_view, parts_view};
 
 use crate::claims_set::ClaimsSet;
 use coset_cbor::de::{Pairs, Pull};
@@ -50,7 +50,7 @@ fn is_name(alloc: Global, key: Pull<'_>) -> Result<bool>
 /// # Errors
 /// Why a key that is no claim's name is no label either; or `OutOfMemory`.
 fn split(alloc: Global, pairs: Pairs<'_>) -> Result<Parts>
-    ensures { SplitsOff (pairs_left pairs.entry) parts_seen result }
+    ensures { SplitsOff (pairs_left pairs.entry) parts_view result }
 {
     let mut named = Vec::new(alloc);
     let mut others = Vec::new(alloc);
@@ -72,7 +72,7 @@ impl ClaimsSet {
     /// Why the bytes aren't a map whose keys are labels; `DuplicateMapKey`, where two of them are one; why the claims that
     /// are understood aren't those of a claims set; or `OutOfMemory`.
     pub fn known_from_slice(alloc: Global, bytes: &[u8]) -> Result<KnownClaims>
-        ensures read { IfOk result (λ c. Describes known bytes.now (known_seen c)) }
+        ensures read { IfOk result (λ c. Describes known bytes.now (known_view c)) }
         ensures refused { IfErr result (λ e. IsRefused known bytes.now e) }
     {
         let set = whole_item(bytes)?;

@@ -12,11 +12,11 @@ mod timestamp;
 pub use claims_set::{ClaimsSet, ClaimsSetBuilder};
 pub use context::{CoseKdfContext, CoseKdfContextBuilder};
 pub use coset_core::{
-    Algorithm, AsCborValue, Bstr, CallError, CborOrdering, CborSerializable, ClaimName, Codec,
+    Algorithm, AsCborValue, CallError, CborOrdering, CborSerializable, ClaimName, Codec,
     ContentType, CoseError, CoseSignature, CoseSignatureBuilder, Encode, EndOfFile, FromPull,
     Header, HeaderBuilder, ItemSource, KeyOperation, KeyType, Label, Lawful, ProtectedBstr,
-    ProtectedHeader, RegisteredLabel, RegisteredLabelWithPrivate, Result, TaggedCborSerializable,
-    TaggedCodec, cbor, codec, has_repeats, iana, util,
+    ProtectedHeader, ProtectedRef, RegisteredLabel, RegisteredLabelWithPrivate, Result,
+    TaggedCborSerializable, TaggedCodec, cbor, codec, has_repeats, iana, util,
 };
 pub use known::KnownClaims;
 pub use party::{Nonce, PartyInfo, PartyInfoBuilder};

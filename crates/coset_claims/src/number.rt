@@ -4,7 +4,7 @@ ghost use Rattle.std.specs.Prelude.{◌≡◌, ◌<◌, ◌*◌, ◌^◌, option
 ghost use Rattle.std.specs.Ordering.{nat_cmp};
 ghost use Rattle.coset_value.specs.View.{bits_of};
 ghost use Rattle.coset_claims.specs.Number.{number, number_cmp, number_in, units_of};
-ghost use Rattle.coset_claims.specs.NumberView.{number_seen, format_seen, IsFormat};
+ghost use Rattle.coset_claims.specs.NumberView.{number_view, format_view, IsFormat};
 
 use coset_cbor::value::Float;
 use std::cmp::Ordering;
@@ -12,9 +12,9 @@ use std::cmp::Ordering;
 /// A format of binary floats (IEEE 754, section 3.4).
 #[derive(Clone, Copy)]
 struct Format {
-    /// How many fractions its bits tell apart.
+    /// How many fractions its bits distinguish.
     fractions: u64,
-    /// How many exponents its bits tell apart.
+    /// How many exponents its bits distinguish.
     exponents: u64,
     /// 2 to the power of this is how many of its least number make 1.
     scale: u32,
@@ -51,7 +51,7 @@ pub(crate) struct Number {
 /// The number of these bits, unless they are of an infinity or of what is no number.
 fn number_in(bits: u64, format: Format) -> Option<Number>
     requires { IsFormat format }
-    ensures { option_map number_seen result ≡ number_in (format_seen format) bits }
+    ensures { option_map number_view result ≡ number_in (format_view format) bits }
 {
     let upper = bits / format.fractions;
     let exponent = upper % format.exponents;
@@ -85,7 +85,7 @@ fn scaled(fractions: u64, exponent: u64, fraction: u64) -> (u64, u32)
 
 /// The number that a float is, unless it is an infinity or no number.
 pub(crate) fn number_of(float: Float) -> Option<Number>
-    ensures { option_map number_seen result ≡ number (bits_of float) }
+    ensures { option_map number_view result ≡ number (bits_of float) }
 {
     match float {
         Float::Half(bits) => number_in(u64::from(bits), HALF),
@@ -112,7 +112,7 @@ fn compare_scaled(a: u128, up: u32, b: u128) -> Ordering
 
 /// How the number, without its sign, compares with k.
 fn compare_units(number: &Number, k: u128) -> Ordering
-    ensures { result ≡ nat_cmp (number_seen number.now).units (k * 2 ^ number.now.scale) }
+    ensures { result ≡ nat_cmp (number_view number.now).units (k * 2 ^ number.now.scale) }
 {
     let significand = u128::from(number.significand);
     if number.exponent >= number.scale {
@@ -124,7 +124,7 @@ fn compare_units(number: &Number, k: u128) -> Ordering
 
 /// How the number compares with k.
 pub(crate) fn compare(number: &Number, k: i128) -> Ordering
-    ensures { result ≡ number_cmp (number_seen number.now) k }
+    ensures { result ≡ number_cmp (number_view number.now) k }
 {
     let order = compare_units(number, k.unsigned_abs());
     if number.is_negative {

@@ -4,11 +4,11 @@ ghost use Rattle.std.specs.Prelude.{◌≡◌, ◌↔◌, IsTrue, IfOk, IfErr, S
 ghost use Rattle.std.specs.Ordering.{on};
 ghost use Rattle.std.specs.Cmp.{on_equiv, on_per, partial_equiv_from_equiv};
 ghost use Rattle.coset_codec.specs.declared.error.CoseError.TheVariants.{OutOfMemory};
-ghost use Rattle.coset_claims.specs.Party.{empty_party, nonce, nonce_or_nil, nonce_seen, party, party_seen};
+ghost use Rattle.coset_claims.specs.Party.{empty_party, nonce, nonce_or_nil, nonce_view, party, party_view};
 ghost use Rattle.coset_claims.specs.ContextSame.{nonce_eq, nonce_eq_equiv};
 
 use coset_cbor::value::Value;
-use coset_codec::read::{Decode, Input, decode_array};
+use coset_codec::read::{Decode, Decoder, decode_array};
 use coset_codec::util::copy_bstr;
 use coset_codec::write::{Encode, encode_three};
 use coset_codec::{Codec, Result};
@@ -34,15 +34,15 @@ struct NonceOrNil(Option<Nonce>);
 
 impl Decode for NonceOrNil {
     ghost use Rattle.std.specs.Prelude.{Option};
-    ghost use Rattle.coset_claims.specs.Party.{NonceSeen};
+    ghost use Rattle.coset_claims.specs.Party.{NonceView};
 
-    ghost Seen = { Option NonceSeen };
+    ghost View = { Option NonceView };
 
-    ghost seen = { λ n. option_map nonce_seen n.0 };
+    ghost view = { λ n. option_map nonce_view n.0 };
 
     ghost shape = { nonce_or_nil };
 
-    fn decode(alloc: Global, input: &mut Input<'_>) -> Result<NonceOrNil> {
+    fn decode(alloc: Global, input: &mut Decoder<'_>) -> Result<NonceOrNil> {
         if input.null() {
             return Ok(NonceOrNil(None));
         }
@@ -62,24 +62,24 @@ impl Decode for BstrOrNil {
     ghost use Rattle.std.specs.Prelude.{List, Option, ℕ};
     ghost use Rattle.coset_codec.specs.Shape.{bstr, or_nil};
 
-    ghost Seen = { Option (List ℕ) };
+    ghost View = { Option (List ℕ) };
 
-    ghost seen = { λ b. option_map (λ v. v.items) b.0 };
+    ghost view = { λ b. option_map (λ v. v.items) b.0 };
 
     ghost shape = { or_nil bstr };
 
-    fn decode(alloc: Global, input: &mut Input<'_>) -> Result<BstrOrNil> {
+    fn decode(alloc: Global, input: &mut Decoder<'_>) -> Result<BstrOrNil> {
         Ok(BstrOrNil(input.bytes_or_nil(alloc, "bstr / nil")?))
     }
 }
 
 impl Encode for Nonce {
-    ghost image = { λ n. nonce.image (nonce_seen n) };
+    ghost image = { λ n. nonce.image (nonce_view n) };
 
-    fn room(&self) -> usize {
+    fn encoded_size_hint(&self) -> usize {
         match self {
-            Nonce::Bytes(bytes) => bytes.room(),
-            Nonce::Integer(number) => number.room(),
+            Nonce::Bytes(bytes) => bytes.encoded_size_hint(),
+            Nonce::Integer(number) => number.encoded_size_hint(),
         }
     }
 
@@ -96,11 +96,11 @@ impl Encode for Nonce {
 struct NoncePlace<'a>(&'a Option<Nonce>);
 
 impl Encode for NoncePlace<'_> {
-    ghost image = { λ p. nonce_or_nil.image (option_map nonce_seen p.0.now) };
+    ghost image = { λ p. nonce_or_nil.image (option_map nonce_view p.0.now) };
 
-    fn room(&self) -> usize {
+    fn encoded_size_hint(&self) -> usize {
         match self.0 {
-            Some(nonce) => nonce.room(),
+            Some(nonce) => nonce.encoded_size_hint(),
             None => 1,
         }
     }
@@ -115,7 +115,7 @@ impl Encode for NoncePlace<'_> {
 
 /// The same as [`Nonce::clone`], for generic code.
 impl Clone for Nonce {
-    ghost is_clone = { λ nonce copy. nonce_seen copy ≡ nonce_seen nonce };
+    ghost is_clone = { λ nonce copy. nonce_view copy ≡ nonce_view nonce };
 
     fn clone(&self) -> Result<Nonce, AllocError> {
         match self {
@@ -131,7 +131,7 @@ impl Nonce {
     /// # Errors
     /// `OutOfMemory` alone.
     pub fn clone(&self) -> Result<Nonce>
-        ensures copy { IfOk result (λ n. nonce_seen n ≡ nonce_seen self.now) }
+        ensures copy { IfOk result (λ n. nonce_view n ≡ nonce_view self.now) }
         ensures memory { IfErr result (λ e. e ≡ OutOfMemory) }
     {
         Ok(Clone::clone(self)?)
@@ -140,25 +140,25 @@ impl Nonce {
 
 /// Equality of the numbers, or of the bytes. A number equals no bytes.
 impl PartialEq for Nonce {
-    ghost eq = { on nonce_seen nonce_eq };
+    ghost eq = { on nonce_view nonce_eq };
 
-    ghost laws = { on_per nonce_seen (partial_equiv_from_equiv nonce_eq_equiv) };
+    ghost laws = { on_per nonce_view (partial_equiv_from_equiv nonce_eq_equiv) };
 
     fn eq(&self, other: &Nonce) -> bool
-        ensures answers { result ≡ nonce_eq (nonce_seen self.now) (nonce_seen other.now) }
-        ensures equal { IsTrue result ↔ (nonce_seen self.now ≡ nonce_seen other.now) }
+        ensures answers { result ≡ nonce_eq (nonce_view self.now) (nonce_view other.now) }
+        ensures equal { IsTrue result ↔ (nonce_view self.now ≡ nonce_view other.now) }
     {
         same_nonce(self, other)
     }
 }
 
 impl Eq for Nonce {
-    ghost laws = { on_equiv nonce_seen nonce_eq_equiv };
+    ghost laws = { on_equiv nonce_view nonce_eq_equiv };
 }
 
 /// Whether two nonces are the same.
 fn same_nonce(a: &Nonce, b: &Nonce) -> bool
-    ensures { result ≡ nonce_eq (nonce_seen a.now) (nonce_seen b.now) }
+    ensures { result ≡ nonce_eq (nonce_view a.now) (nonce_view b.now) }
 {
     match (a, b) {
         (Nonce::Bytes(a), Nonce::Bytes(b)) => *a == *b,
@@ -185,7 +185,7 @@ pub struct PartyInfo {
 impl PartyInfo {
     /// A party of whom nothing is said. It takes no memory.
     pub fn new() -> PartyInfo
-        ensures { party_seen result ≡ empty_party }
+        ensures { party_view result ≡ empty_party }
     {
         PartyInfo {
             identity: None,
@@ -196,7 +196,7 @@ impl PartyInfo {
 }
 
 impl Default for PartyInfo {
-    ghost is_default = { λ p. party_seen p ≡ empty_party };
+    ghost is_default = { λ p. party_view p ≡ empty_party };
 
     /// The same as [`PartyInfo::new`].
     fn default() -> PartyInfo {
@@ -205,20 +205,20 @@ impl Default for PartyInfo {
 }
 
 impl Codec for PartyInfo {
-    ghost use Rattle.coset_claims.specs.ContextSame.{party_told};
-    ghost use Rattle.coset_claims.specs.Party.{PartySeen, party_laws};
+    ghost use Rattle.coset_claims.specs.ContextSame.{party_decides};
+    ghost use Rattle.coset_claims.specs.Party.{PartyView, party_laws};
 
-    ghost Seen = { PartySeen };
+    ghost View = { PartyView };
 
-    ghost seen = { party_seen };
+    ghost view = { party_view };
 
     ghost shape = { party };
 
     ghost laws = { party_laws };
 
-    ghost equal = { party_told };
+    ghost equal = { party_decides };
 
-    fn read(alloc: Global, input: &mut Input<'_>) -> Result<PartyInfo> {
+    fn read(alloc: Global, input: &mut Decoder<'_>) -> Result<PartyInfo> {
         match decode_array(alloc, input, "array with 3 items") {
             Ok((BstrOrNil(identity), (NonceOrNil(nonce), (BstrOrNil(other), ())))) => {
                 Ok(PartyInfo {
@@ -233,9 +233,9 @@ impl Codec for PartyInfo {
 
     fn size_hint(&self) -> usize {
         self.identity
-            .room()
-            .saturating_add(NoncePlace(&self.nonce).room())
-            .saturating_add(self.other.room())
+            .encoded_size_hint()
+            .saturating_add(NoncePlace(&self.nonce).encoded_size_hint())
+            .saturating_add(self.other.encoded_size_hint())
     }
 
     fn write(&self, alloc: Global, out: &mut Vec<u8>) -> Result<()> {
@@ -246,7 +246,7 @@ impl Codec for PartyInfo {
 
 /// A copy of a nonce that may be missing.
 fn copy_nonce(nonce: &Option<Nonce>) -> Result<Option<Nonce>, AllocError>
-    ensures { IfOk result (λ o. option_map nonce_seen o ≡ option_map nonce_seen nonce.now) }
+    ensures { IfOk result (λ o. option_map nonce_view o ≡ option_map nonce_view nonce.now) }
 {
     match nonce {
         Some(nonce) => Ok(Some(Clone::clone(nonce)?)),
@@ -256,7 +256,7 @@ fn copy_nonce(nonce: &Option<Nonce>) -> Result<Option<Nonce>, AllocError>
 
 /// The same as [`PartyInfo::clone`], for generic code.
 impl Clone for PartyInfo {
-    ghost is_clone = { λ party copy. party_seen copy ≡ party_seen party };
+    ghost is_clone = { λ party copy. party_view copy ≡ party_view party };
 
     fn clone(&self) -> Result<PartyInfo, AllocError> {
         Ok(PartyInfo {
@@ -273,7 +273,7 @@ impl PartyInfo {
     /// # Errors
     /// `OutOfMemory` alone.
     pub fn clone(&self) -> Result<PartyInfo>
-        ensures copy { IfOk result (λ p. party_seen p ≡ party_seen self.now) }
+        ensures copy { IfOk result (λ p. party_view p ≡ party_view self.now) }
         ensures memory { IfErr result (λ e. e ≡ OutOfMemory) }
     {
         Ok(Clone::clone(self)?)
@@ -299,7 +299,7 @@ impl Model for PartyInfoBuilder {
 }
 
 impl Default for PartyInfoBuilder {
-    ghost is_default = { λ b. party_seen b ≡ empty_party };
+    ghost is_default = { λ b. party_view b ≡ empty_party };
 
     /// The same as [`PartyInfoBuilder::new`].
     fn default() -> PartyInfoBuilder {
@@ -310,7 +310,7 @@ impl Default for PartyInfoBuilder {
 impl PartyInfoBuilder {
     /// A party of whom nothing is said. It takes no memory.
     pub fn new() -> PartyInfoBuilder
-        ensures { party_seen result ≡ empty_party }
+        ensures { party_view result ≡ empty_party }
     {
         PartyInfoBuilder(PartyInfo::new())
     }
@@ -324,7 +324,7 @@ impl PartyInfoBuilder {
 
     /// Sets who the party is.
     pub fn identity(mut self, identity: Vec<u8>) -> PartyInfoBuilder
-        ensures { party_seen result ≡ record (party_seen self) { identity = Some identity.items } }
+        ensures { party_view result ≡ record (party_view self) { identity = Some identity.items } }
     {
         self.0.identity = Some(identity);
         self
@@ -335,8 +335,8 @@ impl PartyInfoBuilder {
     /// # Errors
     /// `OutOfMemory` alone.
     pub fn identity_from(self, alloc: Global, identity: &[u8]) -> Result<PartyInfoBuilder>
-        ensures ok { IfOk result (λ b. party_seen b
-            ≡ record (party_seen self) { identity = Some identity.now }) }
+        ensures ok { IfOk result (λ b. party_view b
+            ≡ record (party_view self) { identity = Some identity.now }) }
         ensures memory { IfErr result (λ e. e ≡ OutOfMemory) }
     {
         Ok(self.identity(Vec::from_slice(alloc, identity)?))
@@ -344,8 +344,8 @@ impl PartyInfoBuilder {
 
     /// Sets its nonce.
     pub fn nonce(mut self, nonce: Nonce) -> PartyInfoBuilder
-        ensures { party_seen result ≡ record
-            (party_seen self) { nonce = Some (nonce_seen nonce) } }
+        ensures { party_view result ≡ record
+            (party_view self) { nonce = Some (nonce_view nonce) } }
     {
         self.0.nonce = Some(nonce);
         self
@@ -353,7 +353,7 @@ impl PartyInfoBuilder {
 
     /// Sets what else is said of it.
     pub fn other(mut self, other: Vec<u8>) -> PartyInfoBuilder
-        ensures { party_seen result ≡ record (party_seen self) { other = Some other.items } }
+        ensures { party_view result ≡ record (party_view self) { other = Some other.items } }
     {
         self.0.other = Some(other);
         self
@@ -364,8 +364,8 @@ impl PartyInfoBuilder {
     /// # Errors
     /// `OutOfMemory` alone.
     pub fn other_from(self, alloc: Global, other: &[u8]) -> Result<PartyInfoBuilder>
-        ensures ok { IfOk result (λ b. party_seen b
-            ≡ record (party_seen self) { other = Some other.now }) }
+        ensures ok { IfOk result (λ b. party_view b
+            ≡ record (party_view self) { other = Some other.now }) }
         ensures memory { IfErr result (λ e. e ≡ OutOfMemory) }
     {
         Ok(self.other(Vec::from_slice(alloc, other)?))

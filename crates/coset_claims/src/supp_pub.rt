@@ -5,14 +5,14 @@ ghost use Rattle.coset_value.specs.Item.{Items};
 ghost use Rattle.coset_codec.specs.declared.error.CoseError.TheVariants.{OutOfMemory};
 ghost use Rattle.coset_codec.specs.Inputs.{AreWithin, State, length_left, state};
 ghost use Rattle.coset_core.specs.Messages.{unread};
-ghost use Rattle.coset_core.specs.Views.{header_seen};
-ghost use Rattle.coset_claims.specs.SuppPub.{ReadsOther, empty_supp_pub, supp_pub, supp_pub_seen};
+ghost use Rattle.coset_core.specs.Views.{header_view};
+ghost use Rattle.coset_claims.specs.SuppPub.{ReadsOther, empty_supp_pub, supp_pub, supp_pub_view};
 
-use coset_codec::read::{Input, InputItems};
+use coset_codec::read::{ArrayElements, Decoder};
 use coset_codec::util::copy_bstr;
 use coset_codec::write::{Encode, encode_three, encode_two};
 use coset_codec::{Codec, Result};
-use coset_core::{Bstr, Header, ProtectedBstr, ProtectedHeader};
+use coset_core::{Header, ProtectedBstr, ProtectedHeader, ProtectedRef};
 use std::alloc::{AllocError, Global};
 use std::marker::Model;
 
@@ -27,14 +27,14 @@ pub struct SuppPubInfo {
     pub key_data_length: u64,
     /// The protected header of the recipient for whom the key is derived.
     pub protected: ProtectedHeader,
-    /// What else is told.
+    /// What else is known.
     pub other: Option<Vec<u8>>,
 }
 
 impl SuppPubInfo {
     /// No information: the length 0, an empty protected header, nothing else. It takes no memory.
     pub fn new(alloc: Global) -> SuppPubInfo
-        ensures { supp_pub_seen result ≡ empty_supp_pub }
+        ensures { supp_pub_view result ≡ empty_supp_pub }
     {
         SuppPubInfo {
             key_data_length: 0,
@@ -50,8 +50,8 @@ const TWO_OR_THREE: &str = "array with 2 or 3 items";
 /// Reads the last place, if it is there.
 fn read_other(
     alloc: Global,
-    elements: &mut InputItems,
-    input: &mut Input<'_>,
+    elements: &mut ArrayElements,
+    input: &mut Decoder<'_>,
 ) -> Result<Option<Vec<u8>>>
     ensures shrinks { length_left (state input.new) ≤ length_left (state input.old) }
     ensures reads { (vs : Items) (z : State) → AreWithin elements.old vs (state input.old) z
@@ -64,25 +64,25 @@ fn read_other(
 }
 
 impl Codec for SuppPubInfo {
-    ghost use Rattle.coset_claims.specs.ContextSame.{supp_pub_told};
-    ghost use Rattle.coset_claims.specs.SuppPub.{SuppPubSeen, supp_pub_laws};
+    ghost use Rattle.coset_claims.specs.ContextSame.{supp_pub_decides};
+    ghost use Rattle.coset_claims.specs.SuppPub.{SuppPubView, supp_pub_laws};
 
-    ghost Seen = { SuppPubSeen };
+    ghost View = { SuppPubView };
 
-    ghost seen = { supp_pub_seen };
+    ghost view = { supp_pub_view };
 
     ghost shape = { supp_pub };
 
     ghost laws = { supp_pub_laws };
 
-    ghost equal = { supp_pub_told };
+    ghost equal = { supp_pub_decides };
 
     /// Reads the elements from the first to the last, and names the fault of the last that has one.
-    fn read(alloc: Global, input: &mut Input<'_>) -> Result<SuppPubInfo> {
+    fn read(alloc: Global, input: &mut Decoder<'_>) -> Result<SuppPubInfo> {
         let mut elements = input.enter_array("array")?;
-        elements.place(input, TWO_OR_THREE)?;
+        elements.next_required(input, TWO_OR_THREE)?;
         let key_data_length = input.uint("int");
-        elements.place(input, TWO_OR_THREE)?;
+        elements.next_required(input, TWO_OR_THREE)?;
         let protected = ProtectedBstr::read(alloc, input);
         let other = read_other(alloc, &mut elements, input);
         elements.end(input, TWO_OR_THREE)?;
@@ -98,16 +98,16 @@ impl Codec for SuppPubInfo {
     fn size_hint(&self) -> usize {
         let room = self
             .key_data_length
-            .room()
-            .saturating_add(Bstr(&self.protected).room());
+            .encoded_size_hint()
+            .saturating_add(ProtectedRef(&self.protected).encoded_size_hint());
         match &self.other {
-            Some(other) => room.saturating_add(other.room()),
+            Some(other) => room.saturating_add(other.encoded_size_hint()),
             None => room,
         }
     }
 
     fn write(&self, alloc: Global, out: &mut Vec<u8>) -> Result<()> {
-        let protected = Bstr(&self.protected);
+        let protected = ProtectedRef(&self.protected);
         match &self.other {
             Some(other) => encode_three(alloc, &self.key_data_length, &protected, other, out),
             None => encode_two(alloc, &self.key_data_length, &protected, out),
@@ -117,7 +117,7 @@ impl Codec for SuppPubInfo {
 
 /// The same as [`SuppPubInfo::clone`], for generic code.
 impl Clone for SuppPubInfo {
-    ghost is_clone = { λ info copy. supp_pub_seen copy ≡ supp_pub_seen info };
+    ghost is_clone = { λ info copy. supp_pub_view copy ≡ supp_pub_view info };
 
     fn clone(&self) -> Result<SuppPubInfo, AllocError> {
         Ok(SuppPubInfo {
@@ -134,7 +134,7 @@ impl SuppPubInfo {
     /// # Errors
     /// `OutOfMemory` alone.
     pub fn clone(&self) -> Result<SuppPubInfo>
-        ensures copy { IfOk result (λ s. supp_pub_seen s ≡ supp_pub_seen self.now) }
+        ensures copy { IfOk result (λ s. supp_pub_view s ≡ supp_pub_view self.now) }
         ensures memory { IfErr result (λ e. e ≡ OutOfMemory) }
     {
         Ok(Clone::clone(self)?)
@@ -163,7 +163,7 @@ impl Model for SuppPubInfoBuilder {
 impl SuppPubInfoBuilder {
     /// No information: the length 0, an empty protected header, nothing else. It takes no memory.
     pub fn new(alloc: Global) -> SuppPubInfoBuilder
-        ensures { supp_pub_seen result ≡ empty_supp_pub }
+        ensures { supp_pub_view result ≡ empty_supp_pub }
     {
         SuppPubInfoBuilder(SuppPubInfo::new(alloc))
     }
@@ -177,8 +177,8 @@ impl SuppPubInfoBuilder {
 
     /// Sets how many bits the derived key has.
     pub fn key_data_length(mut self, key_data_length: u64) -> SuppPubInfoBuilder
-        ensures { supp_pub_seen result ≡ record
-            (supp_pub_seen self) { key_data_length = key_data_length } }
+        ensures { supp_pub_view result ≡ record
+            (supp_pub_view self) { key_data_length = key_data_length } }
     {
         self.0.key_data_length = key_data_length;
         self
@@ -186,8 +186,8 @@ impl SuppPubInfoBuilder {
 
     /// Sets the protected header: one that was made, and not read, so that it has no bytes of its own yet.
     pub fn protected(mut self, header: Header) -> SuppPubInfoBuilder
-        ensures { supp_pub_seen result ≡ record
-            (supp_pub_seen self) { protected = unread (header_seen header) } }
+        ensures { supp_pub_view result ≡ record
+            (supp_pub_view self) { protected = unread (header_view header) } }
     {
         self.0.protected = ProtectedHeader {
             original_data: None,
@@ -196,9 +196,9 @@ impl SuppPubInfoBuilder {
         self
     }
 
-    /// Sets what else is told.
+    /// Sets what else is known.
     pub fn other(mut self, other: Vec<u8>) -> SuppPubInfoBuilder
-        ensures { supp_pub_seen result ≡ record (supp_pub_seen self) { other = Some other.items } }
+        ensures { supp_pub_view result ≡ record (supp_pub_view self) { other = Some other.items } }
     {
         self.0.other = Some(other);
         self
@@ -209,8 +209,8 @@ impl SuppPubInfoBuilder {
     /// # Errors
     /// `OutOfMemory` alone.
     pub fn other_from(self, alloc: Global, other: &[u8]) -> Result<SuppPubInfoBuilder>
-        ensures ok { IfOk result (λ b. supp_pub_seen b
-            ≡ record (supp_pub_seen self) { other = Some other.now }) }
+        ensures ok { IfOk result (λ b. supp_pub_view b
+            ≡ record (supp_pub_view self) { other = Some other.now }) }
         ensures memory { IfErr result (λ e. e ≡ OutOfMemory) }
     {
         Ok(self.other(Vec::from_slice(alloc, other)?))

@@ -1,4 +1,4 @@
--- What was read is told by what it is written as.
+-- What was read is determined by what it is written as.
 use Rattle.std.proofs.Common.{◌≡◌, ◌≤◌, ℕ, suc, List, [], ◌++◌, option_map, refl, sym, ◌∙◌, ap, subst, arith}
 use Rattle.coset_value.specs.Item.{Item, tag, depth}
 use Rattle.coset_value.specs.Range.{IsInRange}
@@ -13,7 +13,7 @@ use Rattle.coset_codec.specs.ReadAgain.{IsWritten, EncodesApart, ImagesApart, Re
 use Rattle.coset_codec.proofs.Whole.{OneItem}
 
 module _ {A : Type 0} (s : Shape A) (l : Lawful A s) where
-  -- one item stands for both
+  -- one item represents both
   pub one_image : (v w : Item) (x y : A) → s.describes v x → s.describes w y → s.image x ≡ s.image y → x ≡ y
   one_image v w x y p q e =
       let a : Again A s v x = l.again v x p in
@@ -23,7 +23,7 @@ module _ {A : Type 0} (s : Shape A) (l : Lawful A s) where
   pub images_apart : ImagesApart s
   images_apart v w x y p q = (λ e. one_image v w x y p q e, λ e. ap s.image e)
 
-  -- the item that x is written as stands for x
+  -- the item that x is written as represents x
   written_describes : (v : Item) (c : List ℕ) (x : A) → s.describes v x → (m : IsWritten s x c) → s.describes m.0 x
   written_describes v c x p m =
       let a : Again A s v x = l.again v x p in

@@ -30,15 +30,15 @@ module _ {A : Type 0} (n : ℕ) (s : Shape A) where
 
 -- ---- arrays
 
--- the members of an array that was written, and of the same one that was read
-members_written : (os : Option Items) (v : Item) → option_map array os ≡ Some v → (vs : Items) × (os ≡ Some vs) × (as_array v ≡ Some vs)
-members_written None v e = absurd (cc)
-members_written (Some vs) v e = let same : array vs ≡ v = some-one refl e in (vs, refl, ap as_array (sym same))
+-- the elements of an array that was written, and of the same one that was read
+elements_written : (os : Option Items) (v : Item) → option_map array os ≡ Some v → (vs : Items) × (os ≡ Some vs) × (as_array v ≡ Some vs)
+elements_written None v e = absurd (cc)
+elements_written (Some vs) v e = let same : array vs ≡ v = some-one refl e in (vs, refl, ap as_array (sym same))
 
 module _ {A : Type 0} (ps : Elements A) where
   pub array_as_written : (R : A → A → Type 0) → ElementsAsWritten ps R → AsWritten (array_of ps) R
   array_as_written R h v x y e d =
-      let m = members_written (ps.image x) v e in
+      let m = elements_written (ps.image x) v e in
       h m.0 x y m.1 (subst (λ vs. ps.describes vs y) (some-one d.1 m.2) d.2)
 
   pub array_when_read : (P : A → Type 0) → ElementsWhenRead ps P → WhenRead (array_of ps) P

@@ -40,18 +40,18 @@ module _ {K V : Type 0} (eq : K → K → Bool) where
 -- ---- keys in another order, and keys that are read from other values
 
 module _ {K : Type 0} (eq : K → K → Bool) where
-  -- the test that k is new, and what it tells
+  -- the test that k is new, and what it says
   Decides-new : (k : K) (ks : List K) → Decides (list_all (λ m. not (eq k m)) ks) (AllByRecursion (λ m. eq k m ≡ false) ks)
   Decides-new k [] = (λ e. tt, λ h. refl)
   Decides-new k (m ∷ ks) = Decides-and _ _ (not-true (eq k m), not_from_false (eq k m)) (Decides-new k ks)
 
-  -- the test that no two keys are equal, and what it tells
+  -- the test that no two keys are equal, and what it says
   pub Decides-are_distinct : (ks : List K) → Decides (are_distinct eq ks) (IsDistinct eq ks)
   unfolding IsDistinct
   Decides-are_distinct [] = (λ e. tt, λ h. refl)
   Decides-are_distinct (k ∷ ks) = Decides-and _ _ (Decides-new k ks) (Decides-are_distinct ks)
 
-  -- it answers alike of the keys in another order
+  -- it returns alike of the keys in another order
   pub are_distinct-IsPermutation : ((x y : K) → eq x y ≡ eq y x) → (xs ys : List K) → IsPermutation xs ys → are_distinct eq xs ≡ are_distinct eq ys
   are_distinct-IsPermutation flips xs ys moved =
       same_from_decides _ _ (Decides-are_distinct xs)
@@ -62,7 +62,7 @@ module _ {K : Type 0} (eq : K → K → Bool) where
   differs_from_read f k [] = refl
   differs_from_read f k (r ∷ rs) = ap (λ b. not (eq k (f r)) && b) (differs_from_read f k rs)
 
-  -- it answers alike of the values that f reads the keys from
+  -- it returns alike of the values that f reads the keys from
   pub are_distinct-map : {R : Type 0} (f : R → K) (rs : List R) → are_distinct eq (map f rs) ≡ are_distinct (on f eq) rs
   are_distinct-map f [] = refl
   are_distinct-map f (r ∷ rs) = λ i. differs_from_read f (f r) rs i && are_distinct-map f rs i
@@ -80,7 +80,7 @@ Less-from_is_lt Less e = refl
 Less-from_is_lt Equal e = absurd (true≢false e)
 Less-from_is_lt Greater e = absurd (true≢false e)
 
--- sorted values are distinct exactly where each is less than the next, which r tells
+-- sorted values are distinct exactly where each is less than the next, which r says
 Decides-by_neighbours :
     {K : Type 0} {cmp : K → K → Ordering} (o : IsTotalOrder cmp) (ks : List K) (r : Bool) → IsSorted cmp ks
     → IsAllAdjacentAnswer (λ x y b. b ≡ is_lt (cmp x y)) ks r → Decides r (IsDistinct (eq_by_cmp cmp) ks)
@@ -98,7 +98,7 @@ Decides-by_neighbours {K} {cmp} o (k ∷ ks) false s h =
           (apart_from_distinct (eq_by_cmp cmp) (k ∷ ks) h.0 (h.0 + 1) k d (omega arith) h.1),
     )
 
--- f reads the keys ks from the values rs, as references are read. A sort put these in order, and r tells whether each is
+-- f reads the keys ks from the values rs, as references are read. A sort put these in order, and r says whether each is
 -- then less than the next, by the partial order that agrees with the order.
 module _ {R K : Type 0} (f : R → K) {cmp : K → K → Ordering} (o : IsTotalOrder cmp) (eq : K → K → Bool) (ties : (x y : K) → eq x y ≡ is_eq (cmp x y))
     (partial : K → K → Option Ordering) (agrees : (x y : K) → partial x y ≡ Some (cmp x y)) where

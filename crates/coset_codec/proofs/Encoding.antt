@@ -79,10 +79,10 @@ module _ {A : Type 0} (f : A → Option Item) where
   pub images-missing : (xs ys : List A) (x : A) → f x ≡ None → images f (xs ++ x ∷ ys) ≡ None
   images-missing xs ys x e = images-append xs (x ∷ ys) ∙ rw e (both-none (images f xs))
 
-  -- one more member
-  pub member-put : {n : ℕ} {old mid new : List ℕ} (xs : List A) (x : A) → AppendsElements (images f xs) n old mid → AppendsImage (f x) mid new
+  -- one more element
+  pub element-put : {n : ℕ} {old mid new : List ℕ} (xs : List A) (x : A) → AppendsElements (images f xs) n old mid → AppendsImage (f x) mid new
       → AppendsElements (images f (xs ++ x ∷ [])) (n + 1) old new
-  member-put {n} {old} {mid} {new} xs x p q = (
+  element-put {n} {old} {mid} {new} xs x p q = (
     and_items p.0 (item q.0 no_items),
     images-append xs (x ∷ []) ∙ (λ i. both and_items (p.1 i) (both item (q.1 i) (Some no_items))),
     record {
@@ -106,14 +106,14 @@ module _ {A : Type 0} (f : A → Option Item) where
       encoded (item v vs) = ap (λ s. least_encoding v ++ s) (encoded vs) ∙ sym (append_assoc (least_encoding v) (least_encodings vs) (least_encoding q.0))
 
 module _ {A : Type 0} (xs : List A) (i : ℕ) (x : A) (lt : i < length xs) (is : x ≡ get_or xs i x) where
-  -- one more of a list, and the members before one, it and those after it
+  -- one more of a list, and the elements before one, it and those after it
   pub one_taken : take (i + 1) xs ≡ take i xs ++ x ∷ []
   one_taken = take_more xs i x lt ∙ ap (λ y. take i xs ++ y ∷ []) (sym is)
 
   pub one_between : xs ≡ take i xs ++ x ∷ drop (i + 1) xs
   one_between = sym (take-append-drop (i + 1) xs) ∙ (ap (λ ys. ys ++ drop (i + 1) xs) one_taken ∙ append_assoc (take i xs) (x ∷ []) (drop (i + 1) xs))
 
--- a head, and the members behind it
+-- a head, and the elements behind it
 pub array-encoded : {T : Type 0} (os : Option Items) (n : ℕ) (old head new : List ℕ) (r : Result T CoseError) → n < 2 ^ 64 → head ≡ old ++ least_head 4 n
     → OnOk r (AppendsElements os n head new) → IfErr r (HasNoImage os) → Encodes (option_map array os) old new r
 array-encoded os n old head new (Ok x) small first ok refused = array-put n small first ok

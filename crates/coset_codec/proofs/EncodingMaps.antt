@@ -10,7 +10,7 @@ use Rattle.coset_cbor.specs.Least.{least_head, least_encoding, least_pair_encodi
 use Rattle.coset_codec.specs.declared.error.CoseError.{CoseError}
 use Rattle.coset_codec.specs.Encoding.{AppendsItem, AppendsImage, Encodes, HasNoImage, AppendsPairs, AppendsAll, AppendsField}
 use Rattle.coset_codec.specs.Maps.{Names, field_shape_image, named_image, and_pairs, put_field, entries_image, is_nonempty}
-use Rattle.coset_codec.specs.RestLaws.{as_seen}
+use Rattle.coset_codec.specs.RestLaws.{as_view}
 use Rattle.coset_codec.specs.Shape.{both, present_image}
 use Rattle.coset_codec.proofs.Pushing.{named_image-append, named_image-none}
 
@@ -92,11 +92,11 @@ field-put {N} f {l} false o label (None, e, p) more = record {
 field-put f false o label (Some v, e, p) more = absurd (cc)
 
 -- a field that may be left out, as it is seen
-pub optional-seen :
+pub optional-view :
     {X Y : Type 0} (see : X → Y) (f : Y → Option Item) (o : Option X)
     → field_shape_image (is_some o) (present_image (λ x. f (see x)) o) ≡ field_shape_image (is_some (option_map see o)) (present_image f (option_map see o))
-optional-seen see f (Some x) = refl
-optional-seen see f None = refl
+optional-view see f (Some x) = refl
+optional-view see f None = refl
 
 pub optional-put :
     {N X Y : Type 0} (f : N → Option Item) (see : X → Y) (g : Y → Option Item) (x : Option X) {l : N} {i : ℤ} {os : Option (List (N × Item))}
@@ -118,11 +118,11 @@ listed-put {N} f g xs b {l} {os} {there} {old} {new} told label put more =
     (field-put f (is_nonempty xs) (g xs) label put more)
 
 -- the pairs of the rest, as their labels are seen
-pub rest-seen :
-    {L V N : Type 0} (see : L → N) (view : V → Item) (f : N → Option Item) (xs : List (L × V))
-    → named_image (λ l. f (see l)) (map (λ x. (x.0, view x.1)) xs) ≡ named_image f (map (λ x. (see x.0, view x.1)) xs)
-rest-seen see view f [] = refl
-rest-seen see view f (x ∷ xs) = ap (λ o. both (λ k ps. pair k (view x.1) ps) (f (see x.0)) o) (rest-seen see view f xs)
+pub rest-view :
+    {L V N : Type 0} (see : L → N) (value_item : V → Item) (f : N → Option Item) (xs : List (L × V))
+    → named_image (λ l. f (see l)) (map (λ x. (x.0, value_item x.1)) xs) ≡ named_image f (map (λ x. (see x.0, value_item x.1)) xs)
+rest-view see value_item f [] = refl
+rest-view see value_item f (x ∷ xs) = ap (λ o. both (λ k ps. pair k (value_item x.1) ps) (f (see x.0)) o) (rest-view see value_item f xs)
 
 -- as many pairs as there are labels
 named-count : {N : Type 0} (f : N → Option Item) (es : List (N × Item)) (ps : Pairs) → named_image f es ≡ Some ps → pairs_count ps ≡ length es
@@ -154,23 +154,23 @@ unwritten {N} n true rest (Some es) e = rw (none es) refl
 -- A head, which counts the fields that are there and the rest; these fields; and the rest: they are the map, where it may
 -- be written
 pub map-written :
-    {N L V T : Type 0} (n : Names N) (see : L → N) (view : V → Item) (xs : List (L × V)) {o : Option (List (N × Item))} (b : Bool) (there : List Bool)
+    {N L V T : Type 0} (n : Names N) (see : L → N) (value_item : V → Item) (xs : List (L × V)) {o : Option (List (N × Item))} (b : Bool) (there : List Bool)
     {head mid : List ℕ} (old new : List ℕ) (r : Result T CoseError) → b ≡ true
     → length (filter (λ b. b) there) + length xs < 2 ^ 64
     → head ≡ old ++ least_head 5 (length (filter (λ b. b) there) + length xs)
     → AppendsFields N n.shape.image o there head mid
-    → OnOk r (AppendsAll (named_image (λ l. n.shape.image (see l)) (map (λ x. (x.0, view x.1)) xs)) mid new)
-    → IfErr r (HasNoImage (named_image (λ l. n.shape.image (see l)) (map (λ x. (x.0, view x.1)) xs)))
-    → Encodes (entries_image n b (map (as_seen see view) xs) o) old new r
-map-written n see view xs {o} b there old new (Ok x) may small first fields (qs, d, q) refused =
+    → OnOk r (AppendsAll (named_image (λ l. n.shape.image (see l)) (map (λ x. (x.0, value_item x.1)) xs)) mid new)
+    → IfErr r (HasNoImage (named_image (λ l. n.shape.image (see l)) (map (λ x. (x.0, value_item x.1)) xs)))
+    → Encodes (entries_image n b (map (as_view see value_item) xs) o) old new r
+map-written n see value_item xs {o} b there old new (Ok x) may small first fields (qs, d, q) refused =
     let es = fields.entries in
     let ps = fields.appended.0 in
-    let rest = map (as_seen see view) xs in
+    let rest = map (as_view see value_item) xs in
     let all = then-added ps qs fields.appended.2 q in
     let image : named_image n.shape.image (es ++ rest) ≡ Some (and_pairs ps qs) =
-    named_image-append n.shape.image es rest ps qs fields.appended.1 (sym (rest-seen see view n.shape.image xs) ∙ d) in
+    named_image-append n.shape.image es rest ps qs fields.appended.1 (sym (rest-view see value_item n.shape.image xs) ∙ d) in
     let count : pairs_count (and_pairs ps qs) ≡ length (filter (λ b. b) there) + length xs = named-count n.shape.image (es ++ rest) (and_pairs ps qs) image
-    ∙ (length-append es rest ∙ (λ i. fields.count i + length-map xs (as_seen see view) i)) in (
+    ∙ (length-append es rest ∙ (λ i. fields.count i + length-map xs (as_view see value_item) i)) in (
       dict (and_pairs ps qs),
       (λ i. entries_image n (may i) rest (fields.image i)) ∙ ap (option_map dict) image,
       record {
@@ -181,8 +181,8 @@ map-written n see view xs {o} b there old new (Ok x) may small first fields (qs,
             ∙ ap (λ k. old ++ (least_head 5 k ++ least_pair_encodings (and_pairs ps qs))) (sym count)));
       },
     )
-map-written n see view xs {o} b there old new (Err e) may small first fields rest refused =
-    λ m. let none = refused m in (none.0, unwritten n b (map (as_seen see view) xs) o (sym (rest-seen see view n.shape.image xs) ∙ none.1))
+map-written n see value_item xs {o} b there old new (Err e) may small first fields rest refused =
+    λ m. let none = refused m in (none.0, unwritten n b (map (as_view see value_item) xs) o (sym (rest-view see value_item n.shape.image xs) ∙ none.1))
 
 -- ---- which fields are there
 
@@ -191,8 +191,8 @@ pub filled-there : {X : Type 0} (xs : List X) (b : Bool) → b ≡ (length xs ==
 filled-there [] b e = sym (ap not e)
 filled-there (x ∷ xs) b e = sym (ap not e ∙ grind (arith, common_steps))
 
-pub filled-seen : {X Y : Type 0} (see : X → Y) (xs : List X) (b : Bool) → b ≡ (length xs == 0) → is_nonempty (map see xs) ≡ not b
-filled-seen see xs b e = filled-there (map see xs) b (e ∙ ap (λ n. n == 0) (sym (length-map xs see)))
+pub filled-view : {X Y : Type 0} (see : X → Y) (xs : List X) (b : Bool) → b ≡ (length xs == 0) → is_nonempty (map see xs) ≡ not b
+filled-view see xs b e = filled-there (map see xs) b (e ∙ ap (λ n. n == 0) (sym (length-map xs see)))
 
 -- a field that isn't
 pub left-out : (l : ℤ) (s : List ℕ) (b : Bool) (o : Option Item) → b ≡ false → AppendsField l (field_shape_image b o) s s
@@ -234,11 +234,11 @@ around see xs i x lt is =
     ∙ (ap (λ ys. ys ++ after) (taken see xs i x lt is) ∙ append_assoc (map see (take i xs)) (see x ∷ []) after))
 
 pub row-none :
-    {L V : Type 0} (f : L → Option Item) (view : V → Item) (xs : List (L × V)) (i : ℕ) (x : L × V) → i < length xs → x ≡ get_or xs i x → f x.0 ≡ None
-    → named_image f (map (λ e. (e.0, view e.1)) xs) ≡ None
-row-none f view xs i x lt is e =
-    ap (named_image f) (around (λ e. (e.0, view e.1)) xs i x lt is)
-    ∙ named_image-none f (map (λ e. (e.0, view e.1)) (take i xs)) (map (λ e. (e.0, view e.1)) (drop (i + 1) xs)) x.0 (view x.1) e
+    {L V : Type 0} (f : L → Option Item) (value_item : V → Item) (xs : List (L × V)) (i : ℕ) (x : L × V) → i < length xs → x ≡ get_or xs i x → f x.0 ≡ None
+    → named_image f (map (λ e. (e.0, value_item e.1)) xs) ≡ None
+row-none f value_item xs i x lt is e =
+    ap (named_image f) (around (λ e. (e.0, value_item e.1)) xs i x lt is)
+    ∙ named_image-none f (map (λ e. (e.0, value_item e.1)) (take i xs)) (map (λ e. (e.0, value_item e.1)) (drop (i + 1) xs)) x.0 (value_item x.1) e
 
 pub label-added : {o : Option Item} {v : Item} {old mid new : List ℕ} → AppendsImage o old mid → AppendsItem mid new v
     → AppendsAll (both (λ k ps. pair k v ps) o (Some no_pairs)) old new

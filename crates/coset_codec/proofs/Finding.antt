@@ -20,12 +20,12 @@ lookup-map : {K V N X : Type 0} (k : K → N) (v : V → X) (t : N → Bool) (es
 lookup-map k v t [] = refl
 lookup-map k v t (e ∷ es) = ap (cond (t (k e.0)) (Some (v e.1))) (lookup-map k v t es) ∙ cond-map v (t (k e.0)) e.1 (lookup (λ l. t (k l)) es)
 
-seen_lent : {A B : Type 0} (f : A → B) (r : Option (Bor A)) → option_map (λ x. f x.now) r ≡ option_map f (option_map (λ x. x.now) r)
-seen_lent f None = refl
-seen_lent f (Some x) = refl
+view_lent : {A B : Type 0} (f : A → B) (r : Option (Bor A)) → option_map (λ x. f x.now) r ≡ option_map f (option_map (λ x. x.now) r)
+view_lent f None = refl
+view_lent f (Some x) = refl
 
 -- what is found among the pairs is found among what is seen of them
-pub found_seen :
+pub found_view :
     {K V N X : Type 0} (k : K → N) (v : V → X) (t : N → Bool) (es : List (K × V)) (r : Option (Bor V))
     → option_map (λ x. x.now) r ≡ lookup (λ l. t (k l)) es → option_map (λ x. v x.now) r ≡ lookup t (map (λ e. (k e.0, v e.1)) es)
-found_seen k v t es r h = seen_lent v r ∙ (ap (option_map v) h ∙ sym (lookup-map k v t es))
+found_view k v t es r h = view_lent v r ∙ (ap (option_map v) h ∙ sym (lookup-map k v t es))

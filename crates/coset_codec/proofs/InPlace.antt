@@ -1,4 +1,4 @@
--- Lists that are read into places, member by member.
+-- Lists that are read into places, element by element.
 use Rattle.std.proofs.Common.{◌≡◌, ℕ, suc, List, [], ◌∷◌, ◌++◌, ◌+◌, length, map, take, slice_set, ◌-◌, ◌∙◌, true, Result, Ok, Err, refl, sym, ap, subst, inl}
 use Rattle.std.proofs.Common.{arith}
 use Rattle.std.proofs.lemmas.List.{map-append}
@@ -6,7 +6,7 @@ use Rattle.std.specs.Prelude.{IsErrAnd}
 use Rattle.coset_value.specs.Item.{Item, Items}
 use Rattle.coset_codec.specs.declared.error.CoseError.{CoseError}
 use Rattle.coset_codec.specs.declared.error.ErrorStored.{ErrorStored}
-use Rattle.coset_codec.specs.declared.read.input.InputItems.{InputItems}
+use Rattle.coset_codec.specs.declared.read.decoder.ArrayElements.{ArrayElements}
 use Rattle.coset_codec.specs.Errors.{UnlessMemory, stored}
 use Rattle.coset_codec.specs.InPlace.{Fills, FillsEach, BeginsNext}
 use Rattle.coset_codec.specs.Inputs.{State, ItemAt, AreWithin}
@@ -31,32 +31,32 @@ one_longer : {A : Type 0} (old : List A) (x : A) → length (old ++ x ∷ []) �
 one_longer [] x = refl
 one_longer (y ∷ old) x = ap suc (one_longer old x)
 
-module _ {T A : Type 0} (seen : T → A) where
+module _ {T A : Type 0} (view : T → A) where
   pub last_filled : (old new : List T) (n : ℕ) (x y : T) → n ≡ length new → new ≡ old ++ x ∷ []
-      → map seen (slice_set new (n - 1) y) ≡ map seen old ++ seen y ∷ []
+      → map view (slice_set new (n - 1) y) ≡ map view old ++ view y ∷ []
   last_filled old new n x y e g =
       let longer : length new ≡ suc (length old) = ap length g ∙ one_longer old x in
       let at : n - 1 ≡ length old = omega (arith, longer, e) in
-      rw (at, g) (ap (map seen) (last_set old x y) ∙ map-append seen old (y ∷ []))
+      rw (at, g) (ap (map view) (last_set old x y) ∙ map-append view old (y ∷ []))
 
   -- one more is copied
   pub one_more_copied :
-      (old new all : List T) (i n : ℕ) (a x y : T) → map seen old ≡ map seen (take i all) → n ≡ length new → new ≡ old ++ a ∷ []
-      → map seen (take (i + 1) all) ≡ map seen (take i all) ++ seen x ∷ [] → seen y ≡ seen x
-      → map seen (slice_set new (n - 1) y) ≡ map seen (take (i + 1) all)
+      (old new all : List T) (i n : ℕ) (a x y : T) → map view old ≡ map view (take i all) → n ≡ length new → new ≡ old ++ a ∷ []
+      → map view (take (i + 1) all) ≡ map view (take i all) ++ view x ∷ [] → view y ≡ view x
+      → map view (slice_set new (n - 1) y) ≡ map view (take (i + 1) all)
   one_more_copied old new all i n a x y before e gets next same = last_filled old new n a y e gets ∙ ((λ j. before j ++ same j ∷ []) ∙ sym next)
 
--- ---- members that stand where they are read
+-- ---- elements that are where they are read
 
--- of the items vs all those before the others were read as xs, and the others stand there
-pub record Filled (A : Type 0) (s : Shape A) (vs : Items) (z : State) (m : InputItems) (t : State) (xs : List A) : Type 0 where
+-- of the items vs all those before the others were read as xs, and the others are there
+pub record Filled (A : Type 0) (s : Shape A) (vs : Items) (z : State) (m : ArrayElements) (t : State) (xs : List A) : Type 0 where
   pub others : Items
   pub continues : Continues A s.describes s.faults vs xs others
   pub within : AreWithin m others t z
 
 module _ {A : Type 0} (s : Shape A) where
   pub one_filled_more :
-      (vs : Items) (j t u z : State) (m n : InputItems) (xs ys : List A) (x : A) → (p : Filled A s vs z m j xs) → BeginsNext p.others t z n (Ok true)
+      (vs : Items) (j t u z : State) (m n : ArrayElements) (xs ys : List A) (x : A) → (p : Filled A s vs z m j xs) → BeginsNext p.others t z n (Ok true)
       → ((v : Item) (y : State) → ItemAt v t y → (u ≡ y) × s.describes v x)
       → ys ≡ xs ++ x ∷ [] → Filled A s vs z n u ys
   one_filled_more vs j t u z m n xs ys x p b read e =
@@ -68,7 +68,7 @@ module _ {A : Type 0} (s : Shape A) where
       }
 
   pub one_refused_more :
-      (vs : Items) (j t u z : State) (m n : InputItems) (xs ys : List A) (x : A) (r : Result (Unit {0}) ErrorStored) (e : CoseError) (y : ErrorStored)
+      (vs : Items) (j t u z : State) (m n : ArrayElements) (xs ys : List A) (x : A) (r : Result (Unit {0}) ErrorStored) (e : CoseError) (y : ErrorStored)
       → IsErrAnd r (λ i. i ≡ y) → (p : Filled A s vs z m j xs) → BeginsNext p.others t z n (Ok true)
       → ((v : Item) (i : State) → ItemAt v t i → (u ≡ i) × UnlessMemory e (s.faults v)) → ((left : Items) × AreWithin n left u z)
       × FillsEach s vs ys (stored e r)

@@ -6,10 +6,10 @@ use Rattle.coset_cbor.specs.declared.cursor.Remaining.{Remaining}
 use Rattle.coset_cbor.specs.Cursors as bytes
 use Rattle.coset_cbor.specs.Cursors.{keys_and_values, bytes_left}
 use Rattle.coset_codec.specs.declared.error.CoseError.{CoseError}
-use Rattle.coset_codec.specs.declared.read.input.InputItems.{InputItems}
-use Rattle.coset_codec.specs.declared.read.input.InputItems.TheVariants as items
-use Rattle.coset_codec.specs.declared.read.input.InputPairs.{InputPairs}
-use Rattle.coset_codec.specs.declared.read.input.InputPairs.TheVariants as pairs
+use Rattle.coset_codec.specs.declared.read.decoder.ArrayElements.{ArrayElements}
+use Rattle.coset_codec.specs.declared.read.decoder.ArrayElements.TheVariants as items
+use Rattle.coset_codec.specs.declared.read.decoder.MapEntries.{MapEntries}
+use Rattle.coset_codec.specs.declared.read.decoder.MapEntries.TheVariants as pairs
 use Rattle.coset_codec.specs.Answers.{Reads}
 use Rattle.coset_codec.specs.Inputs.{State, tree, lent, length_left, input_size, items_size, items_turns, pairs_size, pairs_turns, IsLent, GoesBehind, ItemAt}
 use Rattle.coset_codec.specs.Inputs.{AreWithin, PairsWithin, Nexts, NextsKey}
@@ -18,7 +18,7 @@ use Rattle.coset_codec.specs.Shape.{Shape}
 lent_is : (s t : List ℕ) → lent s ≡ lent t → s ≡ t
 lent_is s t e = cc
 
--- ---- members
+-- ---- elements
 
 by_lent :
     (p q : Remaining) (s : List ℕ) (more : Bool) → ((vs : Items) (a : List ℕ) → bytes.AreWithin p vs s a → bytes.Nexts vs s a q more) → (vs : Items) (z : State)
@@ -37,24 +37,24 @@ pub lent_next :
     → AreWithin (items.Lent p) vs (lent (bytes_left k)) z → Nexts vs (lent (bytes_left k)) z (items.Lent q) more
 lent_next p q k more next vs z w = by_lent p q (bytes_left k) more next vs z w
 
-pub lent_size : (m : InputItems) (p : Remaining) (t : State) → m ≡ items.Lent p → IsLent t → input_size t ≤ items_size m t
-lent_size m p (lent s) is there = subst (λ (n : InputItems). length_left (lent s) ≤ items_size n (lent s)) (sym is) (omega arith)
+pub lent_size : (m : ArrayElements) (p : Remaining) (t : State) → m ≡ items.Lent p → IsLent t → input_size t ≤ items_size m t
+lent_size m p (lent s) is there = subst (λ (n : ArrayElements). length_left (lent s) ≤ items_size n (lent s)) (sym is) (omega arith)
 lent_size m p (tree w) is there = absurd there
 
-pub lent_turns : (m : InputItems) (p : Remaining) (t u : State) → m ≡ items.Lent p → IsLent t → GoesBehind t u → length_left u < items_turns m t
-lent_turns m p (lent s) u is there goes = subst (λ (n : InputItems). length_left u < items_turns n (lent s)) (sym is) goes
+pub lent_turns : (m : ArrayElements) (p : Remaining) (t u : State) → m ≡ items.Lent p → IsLent t → GoesBehind t u → length_left u < items_turns m t
+lent_turns m p (lent s) u is there goes = subst (λ (n : ArrayElements). length_left u < items_turns n (lent s)) (sym is) goes
 lent_turns m p (tree w) u is there goes = absurd there
 
 -- the size of what is left, where fewer bytes are left
-pub items_smaller : (m : InputItems) (s t : State) → length_left t ≤ length_left s → items_size m t ≤ items_size m s
+pub items_smaller : (m : ArrayElements) (s t : State) → length_left t ≤ length_left s → items_size m t ≤ items_size m s
 items_smaller (items.Tree it) s t h = omega arith
 items_smaller (items.Lent p) s t h = h
 
-pub pairs_smaller : (m : InputPairs) (s t : State) → length_left t ≤ length_left s → pairs_size m t ≤ pairs_size m s
+pub pairs_smaller : (m : MapEntries) (s t : State) → length_left t ≤ length_left s → pairs_size m t ≤ pairs_size m s
 pairs_smaller (pairs.Tree it) s t h = omega arith
 pairs_smaller (pairs.Lent p) s t h = h
 
-pub pairs_fewer : (m : InputPairs) (s t : State) → length_left t ≤ length_left s → pairs_turns m t ≤ pairs_turns m s
+pub pairs_fewer : (m : MapEntries) (s t : State) → length_left t ≤ length_left s → pairs_turns m t ≤ pairs_turns m s
 pairs_fewer (pairs.Tree it) s t h = omega arith
 pairs_fewer (pairs.Lent p) s t h = h
 
@@ -67,9 +67,9 @@ flat_none : (ps : Pairs) → keys_and_values ps ≡ no_items → ps ≡ no_pairs
 flat_none no_pairs e = refl
 flat_none (pair k v ps) e = absurd cc
 
-module _ {K A : Type 0} (shape : Shape A) (seen : K → A) where
+module _ {K A : Type 0} (shape : Shape A) (view : K → A) where
   pub key_none : (ps : Pairs) (s z : State) (p : Remaining) → Nexts (keys_and_values ps) s z (items.Lent p) false
-      → NextsKey shape seen ps s z (pairs.Lent p) (Ok None)
+      → NextsKey shape view ps s z (pairs.Lent p) (Ok None)
   key_none ps s z p n = (flat_none ps n.0, n.1)
 
   -- a key that was read, and behind it its value
@@ -79,13 +79,13 @@ module _ {K A : Type 0} (shape : Shape A) (seen : K → A) where
     pub others : Pairs
     pub mid : State
     pub parts : ps ≡ pair key value others
-    pub reads : Reads shape seen key r
+    pub reads : Reads shape view key r
     pub stands : ItemAt value t mid
     pub within : PairsWithin (pairs.Lent q) others mid z
 
   value_behind :
       (k v : Item) (qs : Pairs) (t z : State) (q : Remaining) (r : Result K CoseError) (others : Items) → item v (keys_and_values qs) ≡ others
-      → Reads shape seen k r → Nexts others t z (items.Lent q) true → Behind (pair k v qs) t z q r
+      → Reads shape view k r → Nexts others t z (items.Lent q) true → Behind (pair k v qs) t z q r
   value_behind k v qs t z q r others e reads n =
       let same = item_is n.0 v n.1 (keys_and_values qs) (sym (e ∙ n.3)) in
       record {
@@ -101,7 +101,7 @@ module _ {K A : Type 0} (shape : Shape A) (seen : K → A) where
 
   pub key_behind :
       (ps : Pairs) (s t z : State) (p q : Remaining) (r : Result K CoseError) → Nexts (keys_and_values ps) s z (items.Lent p) true
-      → ((v : Item) (y : State) → ItemAt v s y → (t ≡ y) × Reads shape seen v r)
+      → ((v : Item) (y : State) → ItemAt v s y → (t ≡ y) × Reads shape view v r)
       → ((vs : Items) (y : State) → AreWithin (items.Lent p) vs t y → Nexts vs t y (items.Lent q) true) → Behind ps t z q r
   key_behind no_pairs s t z p q r n reads next = absurd (none n.3)
     where
@@ -110,14 +110,14 @@ module _ {K A : Type 0} (shape : Shape A) (seen : K → A) where
   key_behind (pair k v qs) s t z p q r n reads next =
       let same = item_is k n.0 (item v (keys_and_values qs)) n.1 n.3 in
       let here = reads n.0 n.2 n.4 in
-      value_behind k v qs t z q r n.1 same.1 (subst (λ (w : Item). Reads shape seen w r) (sym same.0) here.1)
+      value_behind k v qs t z q r n.1 same.1 (subst (λ (w : Item). Reads shape view w r) (sym same.0) here.1)
       (next n.1 z (subst (λ (x : State). AreWithin (items.Lent p) n.1 x z) (sym here.0) n.5))
 
-  pub key_read : (ps : Pairs) (t z : State) (q : Remaining) (key : K) → Behind ps t z q (Ok key) → NextsKey shape seen ps t z (pairs.Lent q) (Ok (Some key))
+  pub key_read : (ps : Pairs) (t z : State) (q : Remaining) (key : K) → Behind ps t z q (Ok key) → NextsKey shape view ps t z (pairs.Lent q) (Ok (Some key))
   key_read ps t z q key x = (x.key, x.value, x.others, x.mid, x.parts, x.reads, x.stands, x.within)
 
   pub key_refused : (ps : Pairs) (t u z : State) (q : Remaining) (e : CoseError) → Behind ps t z q (Err e) → ((v : Item) (y : State) → ItemAt v t y → u ≡ y)
-      → NextsKey shape seen ps u z (pairs.Lent q) (Err e)
+      → NextsKey shape view ps u z (pairs.Lent q) (Err e)
   key_refused ps t u z q e x passes = (
     x.key,
     x.value,
@@ -127,9 +127,9 @@ module _ {K A : Type 0} (shape : Shape A) (seen : K → A) where
     x.reads,
   )
 
-  -- behind a key stands its value
+  -- behind a key is its value
   pub key_without : (ps : Pairs) (s t z : State) (p q : Remaining) (r : Result K CoseError) → Nexts (keys_and_values ps) s z (items.Lent p) true
-      → ((v : Item) (y : State) → ItemAt v s y → (t ≡ y) × Reads shape seen v r)
+      → ((v : Item) (y : State) → ItemAt v s y → (t ≡ y) × Reads shape view v r)
       → ((vs : Items) (y : State) → AreWithin (items.Lent p) vs t y → Nexts vs t y (items.Lent q) false) → ⊥
   key_without no_pairs s t z p q r n reads next = none n.3
     where

@@ -1,4 +1,4 @@
--- A list read member by member.
+-- A list read element by element.
 use Rattle.std.proofs.Common.{◌≡◌, ◌++◌, List, [], ◌∷◌, Option, Some, Result, Ok, Err, refl, sym, ◌∙◌, ap, subst, inr, inl, append_assoc, append-nil, slice_get}
 use Rattle.std.proofs.Common.{rules}
 use Rattle.std.proofs.lemmas.Option.{none-some}
@@ -6,7 +6,7 @@ use Rattle.std.specs.Prelude.{IsErrAnd, IfErr, Vec}
 use Rattle.std.specs.Global.{Global}
 use Rattle.std.specs.Iterator.{Yields}
 use Rattle.coset_value.specs.Item.{Item, array, Items, no_items, item}
-use Rattle.coset_value.specs.View.{view, items_view}
+use Rattle.coset_value.specs.View.{value_item, value_items}
 use Rattle.coset_value.specs.declared.value.Value.{Value, Array, the_lemmas}
 use Rattle.coset_codec.specs.declared.error.CoseError.{CoseError}
 use Rattle.coset_codec.specs.Shape.{Shape, Each, EachFaults, masked, images}
@@ -46,12 +46,12 @@ with-more R (a ∷ xs) [] x y h r = absurd h
 
 -- a value is the image of something
 abbrev pub IsImage : {A : Type 0} → (A → Option Item) → A → Value → Type 0
-IsImage image x v = image x ≡ Some (view v)
+IsImage image x v = image x ≡ Some (value_item v)
 
 pub images-all : {A : Type 0} (image : A → Option Item) (xs : List A) (vs : List Value) → EachWith (IsImage image) xs vs
-    → images image xs ≡ Some (items_view vs)
+    → images image xs ≡ Some (value_items vs)
 images-all image [] [] h = refl
-images-all image (x ∷ xs) (v ∷ vs) h = both-some item (image x) (images image xs) (view v) (items_view vs) h.0 (images-all image xs vs h.1)
+images-all image (x ∷ xs) (v ∷ vs) h = both-some item (image x) (images image xs) (value_item v) (value_items vs) h.0 (images-all image xs vs h.1)
 images-all image [] (v ∷ vs) h = absurd h
 images-all image (x ∷ xs) [] h = absurd h
 
@@ -66,9 +66,9 @@ pub yields-more : {S A : Type 0} (steps : S → Option A → S → Type 0) (s t 
 yields-more steps s t u [] x e h = (u, subst (λ r. steps r (Some x) u) (sym e) h, refl)
 yields-more steps s t u (y ∷ ys) x p h = (p.0, p.1, yields-more steps p.0 t u ys x p.2 h)
 
--- an array's view is that of its members
-pub view-Array : (vs : Vec Value Global) → view (Array vs) ≡ array (items_view vs.items)
-view-Array vs = search (rules, the_lemmas)
+-- an array's view is that of its elements
+pub value_item-Array : (vs : Vec Value Global) → value_item (Array vs) ≡ array (value_items vs.items)
+value_item-Array vs = search (rules, the_lemmas)
 
 -- the first of a list, where there is one
 pub begins_with : {A : Type 0} (xs : List A) (x : A) → slice_get xs 0 ≡ Some x → (ys : List A) × (xs ≡ x ∷ ys)

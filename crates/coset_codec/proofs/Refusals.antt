@@ -29,7 +29,7 @@ memory_or_not UnregisteredIanaValue = inr (λ q. cc)
 memory_or_not UnregisteredIanaNonPrivateValue = inr (λ q. cc)
 memory_or_not OutOfMemory = inl refl
 
--- where a fault stands in bytes, no front of them is an item
+-- where a fault is in bytes, no front of them is an item
 abbrev pub NoItemAtFault : Type 0
 NoItemAtFault = (s : List ℕ) (e : Error EndOfFile) → AreBytes s → (IsMemory e → ⊥) → FaultIn s e → HasNoItem s
 
@@ -43,11 +43,11 @@ front_alone one s n v w short front whole =
     let long : length s ≡ length (take n s) = ap length same in
     omega (arith, short, long, length-take-le n s (omega (arith, short)))
 
-module _ {A T : Type 0} (shape : Shape A) (seen : T → A) (s : List ℕ) where
+module _ {A T : Type 0} (shape : Shape A) (view : T → A) (s : List ℕ) where
   no_whole : HasNoItem s → (v : Item) → IsItem s v → ⊥
   no_whole none v is = none v s [] (sym (append-nil s)) is
 
-  names_byte_fault : (r : Result T CoseError) → ReadsSlice shape seen s r → AllocatesForItems s r → NamesByteFault s r
+  names_byte_fault : (r : Result T CoseError) → ReadsSlice shape view s r → AllocatesForItems s r → NamesByteFault s r
   names_byte_fault (Ok x) read memory none = no_whole none read.0 read.1
   names_byte_fault (Err e) read memory none =
       elim (memory_or_not e) [
@@ -59,7 +59,7 @@ module _ {A T : Type 0} (shape : Shape A) (seen : T → A) (s : List ℕ) where
             ]
       ]
 
-  names_extraneous : OneItem → NoItemAtFault → (r : Result T CoseError) → ReadsSlice shape seen s r → AllocatesForItems s r → NamesExtraneous s r
+  names_extraneous : OneItem → NoItemAtFault → (r : Result T CoseError) → ReadsSlice shape view s r → AllocatesForItems s r → NamesExtraneous s r
   names_extraneous one at_fault (Ok x) read memory bytes n v short front = absurd (front_alone one s n v read.0 short front read.1)
   names_extraneous one at_fault (Err e) read memory bytes n v short front =
       elim (memory_or_not e) [
@@ -71,8 +71,8 @@ module _ {A T : Type 0} (shape : Shape A) (seen : T → A) (s : List ℕ) where
             ]
       ]
 
-  pub reads_item : OneItem → NoItemAtFault → (v : Item) (r : Result T CoseError) → AreBytes s → IsItem s v → ReadsSlice shape seen s r → Reads shape seen v r
-  reads_item one at_fault v (Ok x) bytes is read = subst (λ w. shape.describes w (seen x)) (one_of one s read.0 v read.1 is) read.2
+  pub reads_item : OneItem → NoItemAtFault → (v : Item) (r : Result T CoseError) → AreBytes s → IsItem s v → ReadsSlice shape view s r → Reads shape view v r
+  reads_item one at_fault v (Ok x) bytes is read = subst (λ w. shape.describes w (view x)) (one_of one s read.0 v read.1 is) read.2
   reads_item one at_fault v (Err e) bytes is read = λ m.
       elim (read m) [
         | inl f ↦ absurd (no_whole (at_fault s f.0 bytes f.2 f.3) v is)
@@ -83,23 +83,23 @@ module _ {A T : Type 0} (shape : Shape A) (seen : T → A) (s : List ℕ) where
             ]
       ]
 
-  pub names_whole_fault : OneItem → NoItemAtFault → (r : Result T CoseError) → ReadsSlice shape seen s r → AllocatesForItems s r → NamesWholeFault s r
+  pub names_whole_fault : OneItem → NoItemAtFault → (r : Result T CoseError) → ReadsSlice shape view s r → AllocatesForItems s r → NamesWholeFault s r
   names_whole_fault one at_fault r read memory = (names_byte_fault r read memory, names_extraneous one at_fault r read memory)
 
--- an item that is refused, out of memory aside, describes nothing, where no fault stands in one that describes a value
+-- an item that is refused, out of memory aside, describes nothing, where no fault is in one that describes a value
 pub refuses_item :
     {T A : Type 0} (shape : Shape A) → ((v : Item) (x : A) (e : CoseError) → shape.describes v x → shape.faults v e → ⊥)
-    → (seen : T → A) (v : Item) (r : Result T CoseError) → Reads shape seen v r
+    → (view : T → A) (v : Item) (r : Result T CoseError) → Reads shape view v r
     → RefusesItem shape v r
-refuses_item shape sound seen v (Ok x) p = tt
-refuses_item shape sound seen v (Err e) p = λ n x d. sound v x e d (p n)
+refuses_item shape sound view v (Ok x) p = tt
+refuses_item shape sound view v (Err e) p = λ n x d. sound v x e d (p n)
 
 -- an item that is no tag of the number is unexpected
 pub names_unexpected :
-    {T A : Type 0} (n : ℕ) (shape : Shape A) (seen : T → A) (v : Item) (r : Result T CoseError) → IsNoTag n v → Reads (tagged n shape) seen v r
+    {T A : Type 0} (n : ℕ) (shape : Shape A) (view : T → A) (v : Item) (r : Result T CoseError) → IsNoTag n v → Reads (tagged n shape) view v r
     → NamesUnexpected r
-names_unexpected n shape seen v (Ok x) none read = absurd (none read.0 read.1)
-names_unexpected n shape seen v (Err e) none read = λ m.
+names_unexpected n shape view v (Ok x) none read = absurd (none read.0 read.1)
+names_unexpected n shape view v (Err e) none read = λ m.
     elim (read m) [
       | inl f ↦ f.1
       | inr f ↦ elim f.3 [ inl g ↦ g.1 | inr g ↦ absurd (none f.1 (f.2 ∙ ap (λ t. Some (t, f.1)) g.0)) ]

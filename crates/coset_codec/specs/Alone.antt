@@ -13,15 +13,15 @@ elements = kind_of as_array array
 
 -- what an item by itself is read as: the value that it describes; or, where it describes none, a fault that is in it
 abbrev pub IsReadAlone : {T A : Type 0} → Shape A → (T → A) → Item → Result T CoseError → Type 0
-IsReadAlone s seen v (Ok x) = s.describes v (seen x)
-IsReadAlone {T} {A} s seen v (Err e) = (e ≢ OutOfMemory) × s.faults v e × ((x : A) → s.describes v x → ⊥)
+IsReadAlone s view v (Ok x) = s.describes v (view x)
+IsReadAlone {T} {A} s view v (Err e) = (e ≢ OutOfMemory) × s.faults v e × ((x : A) → s.describes v x → ⊥)
 
 -- what as many items are read as, each by itself
 abbrev pub EachReadAlone : {T A : Type 0} → Shape A → (T → A) → Items → List (Result T CoseError) → Type 0
-EachReadAlone s seen no_items rs = rs ≡ []
-EachReadAlone {T} s seen (item v vs) rs =
-    (r : Result T CoseError) × (qs : List (Result T CoseError)) × (rs ≡ r ∷ qs) × IsReadAlone s seen v r × EachReadAlone s seen vs qs
+EachReadAlone s view no_items rs = rs ≡ []
+EachReadAlone {T} s view (item v vs) rs =
+    (r : Result T CoseError) × (qs : List (Result T CoseError)) × (rs ≡ r ∷ qs) × IsReadAlone s view v r × EachReadAlone s view vs qs
 
 -- the bytes are an array, and this is what its elements are read as, each by itself and in order
 abbrev pub AreReadAlone : {T A : Type 0} → Shape A → (T → A) → List ℕ → List (Result T CoseError) → Type 0
-AreReadAlone s seen b rs = (vs : Items) × Describes elements b vs × EachReadAlone s seen vs rs
+AreReadAlone s view b rs = (vs : Items) × Describes elements b vs × EachReadAlone s view vs rs

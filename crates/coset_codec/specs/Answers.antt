@@ -12,16 +12,16 @@ use Rattle.coset_codec.specs.declared.error.CoseError.TheVariants.{DecodeFailed,
 use Rattle.coset_codec.specs.Errors.{IsUnexpected, UnlessMemory}
 use Rattle.coset_codec.specs.Shape.{Elements, ElementsFaults, Shape}
 
--- Reading the item v: a value that v stands for, or, out of memory aside, an error that tells of a fault in v
+-- Reading the item v: a value that v represents, or, out of memory aside, an error that names a fault in v
 abbrev pub Reads : {T A : Type 0} → Shape A → (T → A) → Item → Result T CoseError → Type 0
-Reads s seen v (Ok x) = s.describes v (seen x)
-Reads s seen v (Err e) = UnlessMemory e (s.faults v)
+Reads s view v (Ok x) = s.describes v (view x)
+Reads s view v (Err e) = UnlessMemory e (s.faults v)
 
--- Reading the members vs of an array: values that they stand for, or, out of memory aside, an error that tells that they are
+-- Reading the elements vs of an array: values that they represent, or, out of memory aside, an error that says that they are
 -- too few or too many, or, where they are not, of a fault in one of them
 abbrev pub ReadsElements : {T A : Type 0} → Elements A → (T → A) → Items → Result T CoseError → Type 0
-ReadsElements ps seen vs (Ok x) = ps.describes vs (seen x)
-ReadsElements ps seen vs (Err e) = UnlessMemory e (ElementsFaults ps vs)
+ReadsElements ps view vs (Ok x) = ps.describes vs (view x)
+ReadsElements ps view vs (Err e) = UnlessMemory e (ElementsFaults ps vs)
 
 -- Making the item that a value is written as: that item, or, out of memory aside, that there is none
 abbrev pub Images : {V : Type 0} → Option Item → (V → Item) → Result V CoseError → Type 0
@@ -33,7 +33,7 @@ abbrev pub Writes : {V : Type 0} → Option Item → (V → List ℕ) → Result
 Writes image bytes_of (Ok b) = (v : Item) × (image ≡ Some v) × IsShortest (bytes_of b) v
 Writes image bytes_of (Err e) = UnlessMemory e (λ f. (f ≡ DuplicateMapKey) × (image ≡ None))
 
--- the bytes are no item, for a fault that stands in them
+-- the bytes are no item, for a fault that is in them
 abbrev pub IsByteFault : List ℕ → CoseError → Type 0
 IsByteFault s e = (d : Error EndOfFile) × (e ≡ DecodeFailed d) × (IsMemory d → ⊥) × FaultIn s d
 
@@ -49,11 +49,11 @@ IsNoItem s = (v : Item) → IsItem s v → ⊥
 abbrev pub IsOnlyItem : List ℕ → Item → Type 0
 IsOnlyItem s v = IsItem s v × ((w : Item) → IsItem s w → w ≡ v)
 
--- an error that tells why the bytes are not one item
+-- an error that says why the bytes are not one item
 abbrev pub IsWholeFault : List ℕ → CoseError → Type 0
 IsWholeFault s e = (IsByteFault s e ⊎ IsExtraneous s e) × IsNoItem s
 
--- Reading the bytes s as one item, whatever it stands for
+-- Reading the bytes s as one item, whatever it represents
 abbrev pub ReadsWhole : {T : Type 0} → (T → Item) → List ℕ → Result T CoseError → Type 0
 ReadsWhole item_of s (Ok x) = IsOnlyItem s (item_of x)
 ReadsWhole item_of s (Err e) = UnlessMemory e (IsWholeFault s)
@@ -62,14 +62,14 @@ ReadsWhole item_of s (Err e) = UnlessMemory e (IsWholeFault s)
 abbrev pub SliceFaults : {A : Type 0} → Shape A → List ℕ → CoseError → Type 0
 SliceFaults shape s e = IsByteFault s e ⊎ IsExtraneous s e ⊎ ((v : Item) × IsItem s v × shape.faults v e)
 
--- the bytes are one item, and that stands for x
+-- the bytes are one item, and that represents x
 abbrev pub Describes : {A : Type 0} → Shape A → List ℕ → A → Type 0
 Describes shape s x = (v : Item) × IsItem s v × shape.describes v x
 
--- Reading the bytes s: a value that they describe, or, out of memory aside, an error that tells of a fault in them
+-- Reading the bytes s: a value that they describe, or, out of memory aside, an error that names a fault in them
 abbrev pub ReadsSlice : {T A : Type 0} → Shape A → (T → A) → List ℕ → Result T CoseError → Type 0
-ReadsSlice shape seen s (Ok x) = Describes shape s (seen x)
-ReadsSlice shape seen s (Err e) = UnlessMemory e (SliceFaults shape s)
+ReadsSlice shape view s (Ok x) = Describes shape s (view x)
+ReadsSlice shape view s (Err e) = UnlessMemory e (SliceFaults shape s)
 
 -- the bytes describe no value
 abbrev pub DescribesNothing : {A : Type 0} → Shape A → List ℕ → Type 0

@@ -17,14 +17,14 @@ pub record AppendsItem (old new : List ℕ) (v : Item) : Type 0 where
 abbrev pub AppendsImage : Option Item → List ℕ → List ℕ → Type 0
 AppendsImage image old new = (v : Item) × (image ≡ Some v) × AppendsItem old new v
 
--- new is old, and then the shortest encodings of so many members of an array
-pub record AppendsMembers (old new : List ℕ) (n : ℕ) (vs : Items) : Type 0 where
+-- new is old, and then the shortest encodings of so many elements of an array
+pub record AppendsInOrder (old new : List ℕ) (n : ℕ) (vs : Items) : Type 0 where
   pub count : items_count vs ≡ n
   pub in_range : AreInRange vs
   pub parts : new ≡ old ++ least_encodings vs
 
 abbrev pub AppendsElements : Option Items → ℕ → List ℕ → List ℕ → Type 0
-AppendsElements images n old new = (vs : Items) × (images ≡ Some vs) × AppendsMembers old new n vs
+AppendsElements images n old new = (vs : Items) × (images ≡ Some vs) × AppendsInOrder old new n vs
 
 -- no item, and the error says so, unless it is `OutOfMemory`
 abbrev pub HasNoImage : {A : Type 0} → Option A → CoseError → Type 0

@@ -1,4 +1,4 @@
--- What the errors say, and which tell of a fault in what is read.
+-- What the errors say, and which name a fault in what is read.
 use Rattle.std.specs.Prelude.{◌≡◌, ℕ, List, ◌++◌, codes, Option, Some, None, Result, Ok, Err, ⊤}
 use Rattle.coset_cbor.specs.declared.de.Error as decoding
 use Rattle.coset_codec.specs.declared.error.CallError.{CallError}
@@ -38,16 +38,16 @@ decode_failure (decoding.TheVariants.Semantic n s) = DecodeFailed (decoding.TheV
 decode_failure decoding.TheVariants.RecursionLimitExceeded = DecodeFailed decoding.TheVariants.RecursionLimitExceeded
 decode_failure decoding.TheVariants.OutOfMemory = OutOfMemory
 
--- what the error tells of stands, unless it is `OutOfMemory`
+-- what is said of the error, unless it is `OutOfMemory`
 abbrev pub UnlessMemory : CoseError → (CoseError → Type 0) → Type 0
 UnlessMemory e stands = (e ≡ OutOfMemory → ⊥) → stands e
 
--- an answer whose parts stand in places: what is made of it, and the error e where it is one
+-- an answer whose parts are in places: what is made of it, and the error e where it is one
 abbrev pub made_in_place : {T A : Type 0} → (A → T) → CoseError → Result A ErrorStored → Result T CoseError
 made_in_place made e (Ok x) = Ok (made x)
 made_in_place made e (Err r) = Err e
 
--- an answer whose error, where it is one, stands in a place that holds e
+-- an answer whose error, where it is one, is in a place that holds e
 abbrev pub stored : {T : Type 0} → CoseError → Result T ErrorStored → Result T CoseError
 stored e (Ok x) = Ok x
 stored e (Err r) = Err e

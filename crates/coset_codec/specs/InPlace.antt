@@ -3,18 +3,18 @@ use Rattle.std.specs.Prelude.{◌≡◌, List, [], ◌∷◌, ◌++◌, Bool, tr
 use Rattle.coset_value.specs.Item.{Item, Items, no_items, item}
 use Rattle.coset_codec.specs.declared.error.CoseError.{CoseError}
 use Rattle.coset_codec.specs.declared.error.CoseError.TheVariants.{OutOfMemory}
-use Rattle.coset_codec.specs.declared.read.input.InputItems.{InputItems}
+use Rattle.coset_codec.specs.declared.read.decoder.ArrayElements.{ArrayElements}
 use Rattle.coset_codec.specs.Errors.{UnlessMemory}
 use Rattle.coset_codec.specs.Inputs.{State, ItemAt, AreWithin}
 use Rattle.coset_codec.specs.Shape.{Shape, Each, EachFaults}
 
--- Reading the item v into a place: it stands for x, which the place holds then, or, out of memory aside, an error that
--- tells of a fault in v
+-- Reading the item v into a place: it represents x, which the place holds then, or, out of memory aside, an error that
+-- names a fault in v
 abbrev pub Fills : {A : Type 0} → Shape A → Item → A → Result (Unit {0}) CoseError → Type 0
 Fills s v x (Ok u) = s.describes v x
 Fills s v x (Err e) = UnlessMemory e (s.faults v)
 
--- Reading items into a list: they stand for the values that it holds then, or, out of memory aside, an error that tells
+-- Reading items into a list: they represent the values that it holds then, or, out of memory aside, an error that says
 -- of a fault in one of them
 abbrev pub FillsEach : {A : Type 0} → Shape A → Items → List A → Result (Unit {0}) CoseError → Type 0
 FillsEach s vs xs (Ok u) = Each s.describes vs xs
@@ -29,8 +29,8 @@ abbrev pub GetsPlace : {T : Type 0} → (T → Type 0) → List T → List T →
 GetsPlace is_empty old new true = GetsOne is_empty old new
 GetsPlace is_empty old new false = new ≡ old
 
--- the next of some members stands at t; or none is left; or it was passed, for which there was no memory
-abbrev pub BeginsNext : Items → State → State → InputItems → Result Bool CoseError → Type 0
+-- the next of some elements is at t; or none is left; or it was skipped, for which there was no memory
+abbrev pub BeginsNext : Items → State → State → ArrayElements → Result Bool CoseError → Type 0
 BeginsNext vs t z m (Ok true) = (v : Item) × (others : Items) × (mid : State) × (vs ≡ item v others) × ItemAt v t mid × AreWithin m others mid z
 BeginsNext vs t z m (Ok false) = (vs ≡ no_items) × AreWithin m no_items t z
 BeginsNext vs t z m (Err e) = (left : Items) × AreWithin m left t z × (e ≡ OutOfMemory)

@@ -1,18 +1,18 @@
--- Reading forward: what stands where something is read, in a tree or in lent bytes.
+-- Reading forward: what is where something is read, in a tree or in lent bytes.
 use Rattle.std.specs.Prelude.{◌≡◌, ◌<◌, ⊤, ℕ, List, length, codes, Bool, true, false, Option, Some, None, Result, Ok, Err}
 use Rattle.std.specs.Vec.Iter.{into_iter_items}
 use Rattle.coset_value.specs.Item.{Item, null, Items, no_items, item, items_count, items_depth, Pairs, no_pairs, pair, pairs_count, pairs_depth, depth}
 use Rattle.coset_value.specs.Parts.{as_array, as_map}
-use Rattle.coset_value.specs.View.{view, items_view, pairs_view}
+use Rattle.coset_value.specs.View.{value_item, value_items, value_pairs}
 use Rattle.coset_cbor.specs.Cursors as bytes
 use Rattle.coset_cbor.specs.Cursors.{bytes_left, keys_and_values}
 use Rattle.coset_codec.specs.declared.error.CoseError.{CoseError}
-use Rattle.coset_codec.specs.declared.read.input.Input.{Input}
-use Rattle.coset_codec.specs.declared.read.input.Input.TheVariants.{Tree, Lent}
-use Rattle.coset_codec.specs.declared.read.input.InputItems.{InputItems}
-use Rattle.coset_codec.specs.declared.read.input.InputItems.TheVariants as items
-use Rattle.coset_codec.specs.declared.read.input.InputPairs.{InputPairs}
-use Rattle.coset_codec.specs.declared.read.input.InputPairs.TheVariants as pairs
+use Rattle.coset_codec.specs.declared.read.decoder.Decoder.{Decoder}
+use Rattle.coset_codec.specs.declared.read.decoder.Decoder.TheVariants.{Tree, Lent}
+use Rattle.coset_codec.specs.declared.read.decoder.ArrayElements.{ArrayElements}
+use Rattle.coset_codec.specs.declared.read.decoder.ArrayElements.TheVariants as items
+use Rattle.coset_codec.specs.declared.read.decoder.MapEntries.{MapEntries}
+use Rattle.coset_codec.specs.declared.read.decoder.MapEntries.TheVariants as pairs
 use Rattle.coset_codec.specs.Errors.{IsUnexpected, UnlessMemory}
 use Rattle.coset_codec.specs.Kinds.{kind, Says}
 use Rattle.coset_codec.specs.Shape.{Shape, is_nil}
@@ -24,35 +24,35 @@ pub data State : Type 0 where
   lent : List ℕ → State
 
 -- what an input has before it
-abbrev pub state : Input → State
-state (Tree v) = tree (view v)
+abbrev pub state : Decoder → State
+state (Tree v) = tree (value_item v)
 state (Lent c) = lent (bytes_left c)
 
--- the item v stands at s, and z is what follows it; a tree leaves null
+-- the item v is at s, and z is what follows it; a tree leaves null
 abbrev pub ItemAt : Item → State → State → Type 0
 ItemAt v (tree w) z = (w ≡ v) × (z ≡ tree null)
 ItemAt v (lent s) z = (a : List ℕ) × (z ≡ lent a) × bytes.ItemAt v s a
 
--- the members vs of an array are still to come at s, and z follows the array
-abbrev pub AreWithin : InputItems → Items → State → State → Type 0
-AreWithin (items.Tree it) vs s z = (items_view (into_iter_items it) ≡ vs) × (s ≡ tree null) × (z ≡ tree null)
+-- the elements vs of an array are still to come at s, and z follows the array
+abbrev pub AreWithin : ArrayElements → Items → State → State → Type 0
+AreWithin (items.Tree it) vs s z = (value_items (into_iter_items it) ≡ vs) × (s ≡ tree null) × (z ≡ tree null)
 AreWithin (items.Lent p) vs s z = (b : List ℕ) × (a : List ℕ) × (s ≡ lent b) × (z ≡ lent a) × bytes.AreWithin p vs b a
 
 -- the pairs ps of a map are
-abbrev pub PairsWithin : InputPairs → Pairs → State → State → Type 0
-PairsWithin (pairs.Tree it) ps s z = (pairs_view (into_iter_items it) ≡ ps) × (s ≡ tree null) × (z ≡ tree null)
+abbrev pub PairsWithin : MapEntries → Pairs → State → State → Type 0
+PairsWithin (pairs.Tree it) ps s z = (value_pairs (into_iter_items it) ≡ ps) × (s ≡ tree null) × (z ≡ tree null)
 PairsWithin (pairs.Lent p) ps s z = (b : List ℕ) × (a : List ℕ) × (s ≡ lent b) × (z ≡ lent a) × bytes.AreWithin p (keys_and_values ps) b a
 
--- ---- what reading answers
+-- ---- what reading returns
 
--- the item that stood at s was read, and t is just behind it; P tells what was answered
+-- the item at s was read, and t is just behind it; P says what was returned
 abbrev pub ReadsAt : State → State → (Item → Type 0) → Type 0
 ReadsAt s t P = (v : Item) (z : State) → ItemAt v s z → (t ≡ z) × P v
 
 -- what the item v holds was read, and t is behind it; or v holds nothing of the kind, and t is s as before
 abbrev pub TakesPart : {T P : Type 0} → (Item → Option P) → (T → P) → Item → State → State → State → Option T → Type 0
-TakesPart part seen v s t z (Some x) = (part v ≡ Some (seen x)) × (t ≡ z)
-TakesPart part seen v s t z None = (part v ≡ None) × (t ≡ s)
+TakesPart part view v s t z (Some x) = (part v ≡ Some (view x)) × (t ≡ z)
+TakesPart part view v s t z None = (part v ≡ None) × (t ≡ s)
 
 -- null was taken, and the reader is behind it; or the item is another, and nothing was
 abbrev pub TakesNull : Item → State → State → State → Bool → Type 0
@@ -64,33 +64,33 @@ abbrev pub IsLent : State → Type 0
 IsLent (tree w) = ⊥
 IsLent (lent s) = ⊤
 
--- the members of the array v stand at t; or v is no array and was passed
-abbrev pub EntersArray : List ℕ → Item → State → State → Result InputItems CoseError → Type 0
+-- the elements of the array v are at t; or v is no array and was passed
+abbrev pub EntersArray : List ℕ → Item → State → State → Result ArrayElements CoseError → Type 0
 EntersArray want v t z (Ok m) = (vs : Items) × (as_array v ≡ Some vs) × AreWithin m vs t z
 EntersArray want v t z (Err e) = (t ≡ z) × (as_array v ≡ None) × IsUnexpected e × Says (kind v) want e
 
--- the pairs of the map v stand at t; or v is no map and was passed
-abbrev pub EntersMap : Item → State → State → Result InputPairs CoseError → Type 0
+-- the pairs of the map v are at t; or v is no map and was passed
+abbrev pub EntersMap : Item → State → State → Result MapEntries CoseError → Type 0
 EntersMap v t z (Ok m) = (ps : Pairs) × (as_map v ≡ Some ps) × PairsWithin m ps t z
 EntersMap v t z (Err e) = (t ≡ z) × (as_map v ≡ None) × IsUnexpected e × Says (kind v) (codes "map") e
 
--- the next of the members stands at t; or none is left
-abbrev pub Nexts : Items → State → State → InputItems → Bool → Type 0
+-- the next of the elements is at t; or none is left
+abbrev pub Nexts : Items → State → State → ArrayElements → Bool → Type 0
 Nexts vs t z m true = (v : Item) × (others : Items) × (mid : State) × (vs ≡ item v others) × ItemAt v t mid × AreWithin m others mid z
 Nexts vs t z m false = (vs ≡ no_items) × AreWithin m no_items t z
 
--- the next of the members stands at t; or none is left, the array was passed, and the error says with `want` that it has too few
-abbrev pub NextPlace : List ℕ → Items → State → State → InputItems → Result (Unit {0}) CoseError → Type 0
+-- the next of the elements is at t; or none is left, the array was skipped, and the error says with `want` that it has too few
+abbrev pub NextPlace : List ℕ → Items → State → State → ArrayElements → Result (Unit {0}) CoseError → Type 0
 NextPlace want vs t z m (Ok x) = (v : Item) × (others : Items) × (mid : State) × (vs ≡ item v others) × ItemAt v t mid × AreWithin m others mid z
 NextPlace want vs t z m (Err e) = (vs ≡ no_items) × (t ≡ z) × IsWrongLength want e
 
--- the value of the next pair stands at t, whose key was read as this; or no pair is left; or the key is at fault, and the value was
+-- the value of the next pair is at t, whose key was read as this; or no pair is left; or the key is at fault, and the value was
 -- passed
-abbrev pub NextsKey : {K A : Type 0} → Shape A → (K → A) → Pairs → State → State → InputPairs → Result (Option K) CoseError → Type 0
-NextsKey s seen ps t z m (Ok (Some key)) =
-    (k : Item) × (v : Item) × (others : Pairs) × (mid : State) × (ps ≡ pair k v others) × s.describes k (seen key) × ItemAt v t mid × PairsWithin m others mid z
-NextsKey s seen ps t z m (Ok None) = (ps ≡ no_pairs) × PairsWithin m no_pairs t z
-NextsKey s seen ps t z m (Err e) = (k : Item) × (v : Item) × (others : Pairs) × (ps ≡ pair k v others) × PairsWithin m others t z × UnlessMemory e (s.faults k)
+abbrev pub NextsKey : {K A : Type 0} → Shape A → (K → A) → Pairs → State → State → MapEntries → Result (Option K) CoseError → Type 0
+NextsKey s view ps t z m (Ok (Some key)) =
+    (k : Item) × (v : Item) × (others : Pairs) × (mid : State) × (ps ≡ pair k v others) × s.describes k (view key) × ItemAt v t mid × PairsWithin m others mid z
+NextsKey s view ps t z m (Ok None) = (ps ≡ no_pairs) × PairsWithin m no_pairs t z
+NextsKey s view ps t z m (Err e) = (k : Item) × (v : Item) × (others : Pairs) × (ps ≡ pair k v others) × PairsWithin m others t z × UnlessMemory e (s.faults k)
 
 -- ---- how far reading still goes
 
@@ -105,23 +105,23 @@ input_size (tree w) = depth w
 input_size (lent s) = length s
 
 -- how much is still to be read of an array: its reader ends, since this falls
-abbrev pub items_size : InputItems → State → ℕ
-items_size (items.Tree it) s = items_depth (items_view (into_iter_items it))
+abbrev pub items_size : ArrayElements → State → ℕ
+items_size (items.Tree it) s = items_depth (value_items (into_iter_items it))
 items_size (items.Lent p) s = length_left s
 
 -- how much is still to be read of a map
-abbrev pub pairs_size : InputPairs → State → ℕ
-pairs_size (pairs.Tree it) s = pairs_depth (pairs_view (into_iter_items it))
+abbrev pub pairs_size : MapEntries → State → ℕ
+pairs_size (pairs.Tree it) s = pairs_depth (value_pairs (into_iter_items it))
 pairs_size (pairs.Lent p) s = length_left s
 
 -- how many turns there are at the most
-abbrev pub items_turns : InputItems → State → ℕ
-items_turns (items.Tree it) s = items_count (items_view (into_iter_items it))
+abbrev pub items_turns : ArrayElements → State → ℕ
+items_turns (items.Tree it) s = items_count (value_items (into_iter_items it))
 items_turns (items.Lent p) s = length_left s
 
 -- how many pairs of a map can still come
-abbrev pub pairs_turns : InputPairs → State → ℕ
-pairs_turns (pairs.Tree it) s = pairs_count (pairs_view (into_iter_items it))
+abbrev pub pairs_turns : MapEntries → State → ℕ
+pairs_turns (pairs.Tree it) s = pairs_count (value_pairs (into_iter_items it))
 pairs_turns (pairs.Lent p) s = length_left s
 
 -- of bytes some were passed

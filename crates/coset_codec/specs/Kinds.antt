@@ -1,4 +1,4 @@
--- Items of the kind that is asked for, and the errors that tell of another.
+-- Items of the kind that is wanted, and the errors for another.
 use Rattle.std.specs.Prelude.{◌≡◌, ◌≢◌, ◌⊎◌, ℕ, List, [], codes, Option, Some, None, Result, Ok, Err}
 use Rattle.coset_value.specs.Item.{Item, integer, bytes, float, text, boolean, null, tag, array, dict}
 use Rattle.coset_value.specs.Parts.{as_bytes}
@@ -25,16 +25,16 @@ Says got want e = ⊥
 
 -- What the item holds, where `part` says that it is of the kind; else the error that names the kind that it has, and `want`
 abbrev pub TriesAs : {T A : Type 0} → (Item → Option A) → (T → A) → List ℕ → Item → Result T CoseError → Type 0
-TriesAs part seen want v (Ok x) = part v ≡ Some (seen x)
-TriesAs part seen want v (Err e) = (part v ≡ None) × IsUnexpected e × Says (kind v) want e
+TriesAs part view want v (Ok x) = part v ≡ Some (view x)
+TriesAs part view want v (Err e) = (part v ≡ None) × IsUnexpected e × Says (kind v) want e
 
 -- What a byte string that isn't empty holds; else the error that names the item's kind, or an empty byte string
 abbrev pub TriesAsFilled : {T : Type 0} → (T → List ℕ) → Item → Result T CoseError → Type 0
-TriesAsFilled seen v (Ok x) = (as_bytes v ≡ Some (seen x)) × (seen x ≢ [])
-TriesAsFilled seen v (Err e) =
+TriesAsFilled view v (Ok x) = (as_bytes v ≡ Some (view x)) × (view x ≢ [])
+TriesAsFilled view v (Err e) =
     ((as_bytes v ≡ None) × IsUnexpected e × Says (kind v) (codes "bstr") e)
     ⊎ ((as_bytes v ≡ Some []) × IsUnexpected e × Says (codes "empty bstr") (codes "non-empty bstr") e)
 
 -- the error's two texts, of an item that should be a byte string that isn't empty
-abbrev pub SaysFilled : Item → CoseError → Type 0
-SaysFilled v e = ((as_bytes v ≡ None) × Says (kind v) (codes "bstr") e) ⊎ ((as_bytes v ≡ Some []) × Says (codes "empty bstr") (codes "non-empty bstr") e)
+abbrev pub SaysNonempty : Item → CoseError → Type 0
+SaysNonempty v e = ((as_bytes v ≡ None) × Says (kind v) (codes "bstr") e) ⊎ ((as_bytes v ≡ Some []) × Says (codes "empty bstr") (codes "non-empty bstr") e)

@@ -2,7 +2,7 @@ pub mod Errors
 pub mod Shape
 pub mod ShapeLaws
 pub mod PerhapsTagged
-pub mod Told
+pub mod EqDecides
 pub mod Sets
 pub mod SetLaws
 pub mod Maps

@@ -1,9 +1,9 @@
--- Lists read and written member by member.
+-- Lists read and written element by element.
 use Rattle.std.specs.Prelude.{◌≡◌, ◌++◌, ◌⊎◌, ⊤, codes, List, [], ◌∷◌, map, Option, Some, None, Result, Ok, Err, Vec}
 use Rattle.std.specs.Global.{Global}
 use Rattle.coset_value.specs.Item.{Item, Items}
 use Rattle.coset_value.specs.Parts.{as_array}
-use Rattle.coset_value.specs.View.{items_view}
+use Rattle.coset_value.specs.View.{value_items}
 use Rattle.coset_value.specs.declared.value.Value.{Value}
 use Rattle.coset_codec.specs.Errors.{IsUnexpected, UnlessMemory}
 use Rattle.coset_codec.specs.Kinds.{kind, Says}
@@ -13,17 +13,17 @@ use Rattle.coset_codec.specs.declared.error.CallError.{CallError}
 use Rattle.coset_codec.specs.declared.error.CallError.TheVariants.{Coset, Caller}
 use Rattle.coset_codec.specs.Shape.{Shape, Each, EachFaults, images}
 
--- Of all the members of a list, so_far was read, and left are still to come: whatever these are read as ends what was
+-- Of all the elements of a list, so_far was read, and left are still to come: whatever these are read as ends what was
 -- read, and what is wrong with them is wrong with the list
 pub record Continues (A : Type 0) (r : Item → A → Type 0) (f : Item → CoseError → Type 0) (all : Items) (so_far : List A) (left : Items) : Type 0 where
   pub ends : (zs : List A) → Each r left zs → Each r all (so_far ++ zs)
   pub blames : (e : CoseError) → EachFaults f left e → EachFaults f all e
 
--- Reading items one after the other: the values that they stand for, or, out of memory aside, an error that tells of a
+-- Reading items one after the other: the values that they represent, or, out of memory aside, an error that names a
 -- fault in one of them
 abbrev pub ReadsEach : {T A : Type 0} → Shape A → (T → A) → Items → Result (Vec T Global) CoseError → Type 0
-ReadsEach s seen vs (Ok all) = Each s.describes vs (map seen all.items)
-ReadsEach s seen vs (Err e) = UnlessMemory e (EachFaults s.faults vs)
+ReadsEach s view vs (Ok all) = Each s.describes vs (map view all.items)
+ReadsEach s view vs (Err e) = UnlessMemory e (EachFaults s.faults vs)
 
 -- the last of these has no image, and those before it have one each
 pub record LastHasNoImage (A : Type 0) (image : A → Option Item) (xs : List A) : Type 0 where
@@ -50,14 +50,14 @@ abbrev pub FirstRefused : {A B : Type 0} → (A → B → Type 0) → (A → Typ
 FirstRefused {A} {B} R P xs = (before : List A) × (made : List B) × (x : A) × (after : List A) × (xs ≡ before ++ x ∷ after) × EachWith R before made × P x
 
 -- memory ran out, or one of the values is refused with this error, and those before it aren't
-abbrev pub RefusesMember : {A B E : Type 0} → (A → B → Type 0) → (A → E → Type 0) → List A → CallError E → Type 0
-RefusesMember R P xs (Coset e) = e ≡ OutOfMemory
-RefusesMember R P xs (Caller e) = FirstRefused R (λ x. P x e) xs
+abbrev pub RefusesElement : {A B E : Type 0} → (A → B → Type 0) → (A → E → Type 0) → List A → CallError E → Type 0
+RefusesElement R P xs (Coset e) = e ≡ OutOfMemory
+RefusesElement R P xs (Caller e) = FirstRefused R (λ x. P x e) xs
 
 abbrev pub NoArray : {E : Type 0} → Item → CallError E → Type 0
 NoArray v (Coset e) = (as_array v ≡ None) × IsUnexpected e × Says (kind v) (codes "array") e
 NoArray v (Caller e) = ⊥
 
--- the item is no array; or one of its members is refused so, of values that stand for them
+-- the item is no array; or one of its elements is refused so, of values that represent them
 abbrev pub RefusesArray : {B E : Type 0} → (Value → B → Type 0) → (Value → E → Type 0) → Item → CallError E → Type 0
-RefusesArray R P v e = NoArray v e ⊎ ((vs : List Value) × (as_array v ≡ Some (items_view vs)) × RefusesMember R P vs e)
+RefusesArray R P v e = NoArray v e ⊎ ((vs : List Value) × (as_array v ≡ Some (value_items vs)) × RefusesElement R P vs e)

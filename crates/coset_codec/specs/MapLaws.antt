@@ -91,7 +91,7 @@ by_where false w f g = g refl w
 
 -- ---- names and values held
 
--- labels whose shape has laws, and the test tells whether two labels are one
+-- labels whose shape has laws, and the test says whether two labels are one
 pub record LawfulNames (N : Type 0) (n : Names N) : Type 0 where
   pub shape : Lawful N n.shape
   pub same_is : (l m : N) → n.same l m ≡ true → l ≡ m
@@ -109,14 +109,14 @@ abbrev pub Within : ℕ → Option Item → Type 0
 Within d (Some v) = depth v ≤ d
 Within d None = Unit {0}
 
--- x is written as a value that stands for x and is no deeper than d, or is left out
+-- x is written as a value that represents x and is no deeper than d, or is left out
 pub record AgainFieldShape (A : Type 0) (h : FieldShape A) (d : ℕ) (x : A) : Type 0 where
   pub value : Option Item
   pub is_image : h.image x ≡ Some value
   pub described : h.describes value x
   pub shallow : Within d value
 
--- `told`: what a value makes is told from what none makes
+-- `told`: what a value makes is distinguished from what none makes
 pub record LawfulFieldShape (A : Type 0) (h : FieldShape A) : Type 0 where
   pub unique : (o : Option Item) (x y : A) → h.describes o x → h.describes o y → x ≡ y
   pub again : (d : ℕ) (o : Option Item) (x : A) → Within d o → h.describes o x → AgainFieldShape A h d x
@@ -183,14 +183,14 @@ record Written (N : Type 0) (n : Names N) (d : ℕ) (es : List (N × Item)) : Ty
 abbrev pub IsNew : {N : Type 0} → Names N → N → List (N × Item) → Type 0
 IsNew n l es = AllByRecursion (λ m. n.same l m ≡ false) (keys_of es)
 
--- each pair's label stands for a field, or none's does
+-- each pair's label has a field, or none's does
 abbrev pub IsCore : {N : Type 0} → Names N → List N → List (N × Item) → Type 0
 IsCore n labels es = AllByRecursion (λ e. is_core n labels e.0 ≡ true) es
 
 abbrev pub IsRest : {N : Type 0} → Names N → List N → List (N × Item) → Type 0
 IsRest n labels es = AllByRecursion (λ e. is_core n labels e.0 ≡ false) es
 
--- x is written as fields that stand for it, with whatever other pairs
+-- x is written as fields that represent it, with whatever other pairs
 pub record AgainFields (N A : Type 0) (n : Names N) (fs : Fields N A) (d : ℕ) (x : A) : Type 0 where
   pub entries : List (N × Item)
   pub is_image : fs.image x ≡ Some entries
@@ -353,7 +353,7 @@ module _ {N : Type 0} (n : Names N) (laws : LawfulNames N n) where
   pub flip : (l m : N) → n.same l m ≡ false → n.same m l ≡ false
   flip l m h = not_same m l (λ p. apart_of l m h (sym p))
 
-  -- and answers the same the other way round
+  -- and returns the same the other way round
   same_flips : (l m : N) → n.same l m ≡ n.same m l
   same_flips l m =
       both_ways (n.same l m) (n.same m l) (λ h. subst (λ k. n.same k l ≡ true) (laws.same_is l m h) (laws.same_self l))
@@ -675,7 +675,7 @@ module _ {N : Type 0} (n : Names N) (laws : LawfulNames N n) where
         let r : x.1 ≡ y.1 = p.rest ∙ (ap (rest_of n fs.labels) e ∙ sym q.rest) in
         λ i. (f i, r i)
 
-    -- no fault stands in a pair, where the labels are distinct and what a look-up finds has none
+    -- no fault is in a pair, where the labels are distinct and what a look-up finds has none
     pairs_sound :
         (e : CoseError) (ps : Pairs) (es : List (N × Item)) → Named n.shape.describes ps es → IsDistinct n.same (keys_of es)
         → ((m : N) (v : Item) → lookup (n.same m) es ≡ Some v → fs.faults m v e → ⊥)
@@ -693,7 +693,7 @@ module _ {N : Type 0} (n : Names N) (laws : LawfulNames N n) where
     entries_sound ps x e p (inl f) = pairs_sound e ps p.entries p.named p.distinct (λ m v q g. fl.sound p.entries x.0 m v e p.fields q g) f
     entries_sound ps x e p (inr f) = not_distinct ps p.entries p.named f.0 p.distinct
 
-    -- the fields, and the rest in any order: they are written as an item that stands for them
+    -- the fields, and the rest in any order: they are written as an item that represents them
     entries_arranged : (ps : Pairs) (x : A × List (N × Item)) (rs : List (N × Item)) → Entries N A n fs ps x → IsPermutation x.1 rs
         → Again (A × List (N × Item)) (labelled_by checks n fs) (dict ps) (x.0, rs)
     entries_arranged ps x rs p moved =
@@ -737,7 +737,7 @@ module _ {N : Type 0} (n : Names N) (laws : LawfulNames N n) where
         all : Written N n (pairs_depth ps) (core.entries ++ rs)
         all = written (pairs_depth ps) (core.entries ++ rs) (all_append (Writable N n (pairs_depth ps)) core.entries rs core.writable writable_rest)
 
-    -- so what a map stands for is written with its rest in any order
+    -- so what a map represents is written with its rest in any order
     pub labelled_arranged : (v : Item) (x : A × List (N × Item)) (rs : List (N × Item)) → (labelled_by checks n fs).describes v x → IsPermutation x.1 rs
         → Again (A × List (N × Item)) (labelled_by checks n fs) v (x.0, rs)
     labelled_arranged v x rs p moved = subst (λ w. Again (A × List (N × Item)) (labelled_by checks n fs) w (x.0, rs)) (as_map-is v p.0 p.1)
@@ -807,7 +807,7 @@ module _ {N : Type 0} (n : Names N) (laws : LawfulNames N n) where
           rest = s.rest;
         }
 
-    -- or a label of the rest stands twice, whatever pairs come after
+    -- or a label of the rest occurs twice, whatever pairs come after
     pub so_far_twice : (ps : Pairs) (x : A × List (N × Item)) → SoFar N A n fs ps x → are_distinct n.same (keys_of x.1) ≡ false → (more : Pairs)
         → Twice n.shape.describes (and_pairs ps more)
     so_far_twice ps x s h more =

@@ -1,4 +1,4 @@
--- Maps whose keys are labels, no two of them one: some labels stand for a field each, and all other pairs are kept in
+-- Maps whose keys are labels, no two of them one: some labels have a field each, and all other pairs are kept in
 -- order (RFC 8152, sections 1.4 and 3).
 use Rattle.std.specs.Prelude.{◌≡◌, ◌⊎◌, ◌&&◌, List, [], ◌∷◌, ◌++◌, Option, Some, None, Bool, true, false, not, filter, option_map, is_some, ⊤}
 use Rattle.std.specs.List.{IsDistinct, list_any, list_all}
@@ -61,7 +61,7 @@ abbrev pub field_shape_image : Bool → Option Item → Option (Option Item)
 field_shape_image true o = option_map Some o
 field_shape_image false o = Some None
 
--- Where there is no value, x is `absent`; `shows x` tells whether x is written
+-- Where there is no value, x is `absent`; `shows x` says whether x is written
 abbrev pub field_shape : {A : Type 0} → A → (A → Bool) → Shape A → FieldShape A
 field_shape absent shows s = record {
   describes = FieldShapeDescribes absent s.describes;
@@ -131,11 +131,11 @@ field n l h fs = record {
 
 -- ---- maps
 
--- a label stands for a field
+-- a label has a field
 abbrev pub is_core : {N : Type 0} → Names N → List N → N → Bool
 is_core n labels l = list_any (n.same l) labels
 
--- the pairs whose labels stand for no field
+-- the pairs whose labels have no field
 abbrev pub rest_of : {N : Type 0} → Names N → List N → List (N × Item) → List (N × Item)
 rest_of n labels es = filter (λ e. not (is_core n labels e.0)) es
 
@@ -176,7 +176,7 @@ labelled_by {N} {A} checks n fs = record {
   faults = λ v e. ((as_map v ≡ None) × IsUnexpected e) ⊎ ((ps : Pairs) × (as_map v ≡ Some ps) × MapFaults n fs ps e);
 }
 
--- {fields, * label => any}, written only where no label of the rest stands twice
+-- {fields, * label => any}, written only where no label of the rest occurs twice
 abbrev pub labelled : {N A : Type 0} → Names N → Fields N A → Shape (A × List (N × Item))
 labelled n fs = labelled_by true n fs
 

@@ -1,4 +1,4 @@
--- What was read is written, read again as itself, and told by what is written from all else that was read.
+-- What was read is written, read again as itself, and distinguished by what is written from all else that was read.
 use Rattle.std.specs.Prelude.{◌↔◌}
 use Rattle.std.proofs.Common.{◌≡◌, ◌≤◌, ℕ, List, Some, arith}
 use Rattle.coset_value.specs.Item.{Item, depth}
@@ -12,7 +12,7 @@ use Rattle.coset_codec.specs.Answers.{Describes}
 abbrev pub ReadsAgain : {A : Type 0} → Shape A → A → Type 0
 ReadsAgain s x = (v : Item) × (s.image x ≡ Some v) × ((b : List ℕ) → IsShortest b v → Describes s b x)
 
--- so is what is written as an item that stands for it and is no deeper than one within 256 levels
+-- so is what is written as an item that represents it and is no deeper than one within 256 levels
 pub again_reads : {A : Type 0} (s : Shape A) (v : Item) (x : A) → Again A s v x → depth v ≤ 256 → ReadsAgain s x
 again_reads s v x a shallow =
     (a.image, a.is_image, λ c short. (a.image, (definite_is_encoding a.image c short.definite, omega (arith, a.shallow, shallow)), a.described))

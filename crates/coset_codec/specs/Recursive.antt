@@ -1,10 +1,10 @@
 -- Types that hold others of themselves, as recipients hold recipients. The shape of one is put together from that of those
--- inside it: this is the step. Of a type that goes through others, as headers do through signatures, `fixed` tells.
+-- inside it: this is the step. Of a type that goes through others, as headers do through signatures, `fixed` has the rest.
 use Rattle.std.specs.Prelude.{ℕ, zero, suc, Option}
 use Rattle.coset_value.specs.Item.{Item}
 use Rattle.coset_codec.specs.Shape.{Shape}
 
--- no item stands for a value, and none has a fault
+-- no item represents a value, and none has a fault
 abbrev pub never_there : {A : Type 0} → (A → Option Item) → Shape A
 never_there image = record { describes = λ v x. ⊥; image = image; faults = λ v e. ⊥ }
 

@@ -86,7 +86,7 @@ pub mapped_passes : {I A B : Type 0} (to : A → B) (from : B → A) (s : Shape 
     → Passes I B (mapped to from s) (λ i. mapped to from (t i))
 mapped_passes to from s t p = record { describes = λ v x h. p.describes v (from x) h; faults = p.faults }
 
--- a list, where each of its members passes on to the same shape
+-- a list, where each of its elements passes on to the same shape
 module _ {A : Type 0} (s t : Shape A) (p : Below A s t) where
   each_above : (vs : Items) (xs : List A) → Each s.describes vs xs → Each t.describes vs xs
   each_above no_items [] h = h
@@ -136,7 +136,7 @@ module _ {A : Type 0} (step : Shape A → Shape A) (image : A → Option Item) (
   written_nested zero x = refl
   written_nested (suc n) x = k.written (nested step image n) (written_nested n) x
 
-  -- an item stands for at most one, what was read is written and read again, and no fault stands where a value does
+  -- an item represents at most one, what was read is written and read again, and no fault is where a value does
   pub recursive_laws : Lawful A (recursive step image)
   recursive_laws =
       record {

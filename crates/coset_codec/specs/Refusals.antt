@@ -9,7 +9,7 @@ use Rattle.coset_codec.specs.declared.error.CoseError.TheVariants.{ExtraneousDat
 use Rattle.coset_codec.specs.Answers.{IsByteFault}
 use Rattle.coset_codec.specs.Errors.{IsUnexpected, UnlessMemory}
 
--- where no front of the bytes s is an item, the answer names a fault that stands in them
+-- where no front of the bytes s is an item, the answer names a fault that is in them
 abbrev pub NamesByteFault : {T : Type 0} → List ℕ → Result T CoseError → Type 0
 NamesByteFault s r = HasNoItem s → IsErrAnd r (IsByteFault s)
 

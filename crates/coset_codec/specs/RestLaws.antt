@@ -12,36 +12,37 @@ if_ok (Ok x) P Q f h = f x h
 if_ok (Err e) P Q f h = tt
 
 -- a pair as contracts see it
-abbrev pub as_seen : {K N V : Type 0} → (K → N) → (V → Item) → K × V → N × Item
-as_seen seen view e = (seen e.0, view e.1)
+abbrev pub as_view : {K N V : Type 0} → (K → N) → (V → Item) → K × V → N × Item
+as_view view value_item e = (view e.0, value_item e.1)
 
 -- Labels that are equal in memory exactly where they are the same as they are seen
-module _ {K N V : Type 0} (seen : K → N) (view : V → Item) (eq : K → K → Bool) (same : N → N → Bool) (agree : (a b : K) → eq a b ≡ same (seen a) (seen b)) where
+module _ {K N V : Type 0} (view : K → N) (value_item : V → Item) (eq : K → K → Bool) (same : N → N → Bool) (agree : (a b : K) → eq a b ≡ same (view a)
+    (view b)) where
   all-apart : (k : K) (es : List (K × V)) → list_all (λ m. not (eq k m)) (keys_of es)
-      ≡ list_all (λ m. not (same (seen k) m)) (keys_of (map (as_seen seen view) es))
+      ≡ list_all (λ m. not (same (view k) m)) (keys_of (map (as_view view value_item) es))
   all-apart k [] = refl
   all-apart k (e ∷ es) = λ i. not (agree k e.0 i) && all-apart k es i
 
-  are_distinct-seen : (es : List (K × V)) → are_distinct eq (keys_of es) ≡ are_distinct same (keys_of (map (as_seen seen view) es))
-  are_distinct-seen [] = refl
-  are_distinct-seen (e ∷ es) = λ i. all-apart e.0 es i && are_distinct-seen es i
+  are_distinct-view : (es : List (K × V)) → are_distinct eq (keys_of es) ≡ are_distinct same (keys_of (map (as_view view value_item) es))
+  are_distinct-view [] = refl
+  are_distinct-view (e ∷ es) = λ i. all-apart e.0 es i && are_distinct-view es i
 
   -- what was asked of the labels in memory, as they are seen
-  pub repeats-seen : (b : Bool) (es : List (K × V)) → b ≡ not (are_distinct eq (keys_of es))
-      → b ≡ not (are_distinct same (keys_of (map (as_seen seen view) es)))
-  repeats-seen b es p = p ∙ ap not (are_distinct-seen es)
+  pub repeats-view : (b : Bool) (es : List (K × V)) → b ≡ not (are_distinct eq (keys_of es))
+      → b ≡ not (are_distinct same (keys_of (map (as_view view value_item) es)))
+  repeats-view b es p = p ∙ ap not (are_distinct-view es)
 
   not-not : (b c : Bool) → b ≡ not c → c ≡ not b
   not-not b true p = ap not (sym p)
   not-not b false p = ap not (sym p)
 
-  pub distinct-seen : (b : Bool) (es : List (K × V)) → b ≡ not (are_distinct eq (keys_of es)) → b ≡ false
-      → are_distinct same (keys_of (map (as_seen seen view) es)) ≡ true
-  distinct-seen b es p q = sym (are_distinct-seen es) ∙ (not-not b (are_distinct eq (keys_of es)) p ∙ ap not q)
+  pub distinct-view : (b : Bool) (es : List (K × V)) → b ≡ not (are_distinct eq (keys_of es)) → b ≡ false
+      → are_distinct same (keys_of (map (as_view view value_item) es)) ≡ true
+  distinct-view b es p q = sym (are_distinct-view es) ∙ (not-not b (are_distinct eq (keys_of es)) p ∙ ap not q)
 
-  pub repeated-seen : (b : Bool) (es : List (K × V)) → b ≡ not (are_distinct eq (keys_of es)) → b ≡ true
-      → are_distinct same (keys_of (map (as_seen seen view) es)) ≡ false
-  repeated-seen b es p q = sym (are_distinct-seen es) ∙ (not-not b (are_distinct eq (keys_of es)) p ∙ ap not q)
+  pub repeated-view : (b : Bool) (es : List (K × V)) → b ≡ not (are_distinct eq (keys_of es)) → b ≡ true
+      → are_distinct same (keys_of (map (as_view view value_item) es)) ≡ false
+  repeated-view b es p q = sym (are_distinct-view es) ∙ (not-not b (are_distinct eq (keys_of es)) p ∙ ap not q)
 
 -- no map is written where labels of the rest repeat and that is looked at
 pub no-entries : {N : Type 0} (n : Names N) (rest : List (N × Item)) (o : Option (List (N × Item))) → are_distinct n.same (keys_of rest) ≡ false

@@ -10,7 +10,7 @@ use Rattle.coset_codec.specs.Errors.{IsUnexpected}
 use Rattle.coset_codec.specs.Shape.{Shape}
 use Rattle.coset_codec.specs.Answers.{Describes, IsWholeFault}
 
--- what the string holds: nothing, which stands for `empty`; or one item, which s describes
+-- what the string holds: nothing, which represents `empty`; or one item, which s describes
 abbrev pub ContentDescribes : {A : Type 0} → A → Shape A → List ℕ → A → Type 0
 ContentDescribes empty s [] x = x ≡ empty
 ContentDescribes empty s (c ∷ b) x = Describes s (c ∷ b) x

@@ -18,14 +18,14 @@ use Rattle.std.proofs.lemmas.Map.Views.{All-insert_key, All-after_first, Contain
 use Rattle.coset_value.specs.Item.{Item, array, Items, no_items, item, depth, items_depth}
 use Rattle.coset_codec.specs.Shape.{Shape, Each, IsNonempty, some_of}
 use Rattle.coset_codec.specs.ShapeLaws.{Again, Lawful, some-one, some_of_laws, up_to_laws, as_array-depth}
-use Rattle.coset_codec.specs.Sets.{IsSetOf, IsDistinctBy, HasMember, Repeats, distinct_of, set_of}
+use Rattle.coset_codec.specs.Sets.{IsSetOf, IsDistinctBy, HasElement, Repeats, distinct_of, set_of}
 
 -- ---- sets of lists
 
 module _ {A : Type 0} {cmp : A → A → Ordering} where
-  -- the members of a set of a list are a set of themselves, and no two of them are the same
+  -- the elements of a set of a list are a set of themselves, and no two of them are the same
   pub set_of_itself : (xs ys : List A) → IsSetOf cmp xs ys → IsSetOf cmp ys ys
-  set_of_itself xs ys m = record { sorted = m.sorted; members = λ x. (λ c. c, λ c. c) }
+  set_of_itself xs ys m = record { sorted = m.sorted; elements = λ x. (λ c. c, λ c. c) }
 
   pub set_distinct : (xs ys : List A) → IsSetOf cmp xs ys → IsDistinctBy cmp ys
   set_distinct xs ys m = IsDistinct-from_sorted cmp ys m.sorted
@@ -33,11 +33,11 @@ module _ {A : Type 0} {cmp : A → A → Ordering} where
   -- a list that isn't empty has a set that isn't
   pub set_nonempty : (xs ys : List A) → IsNonempty xs → IsSetOf cmp xs ys → IsNonempty ys
   set_nonempty [] ys f m e = f refl
-  set_nonempty (x ∷ xs) ys f m e = let c : Contains ys x = (m.members x).1 (0, omega arith, refl) in omega (arith, c.1, ap length e)
+  set_nonempty (x ∷ xs) ys f m e = let c : Contains ys x = (m.elements x).1 (0, omega arith, refl) in omega (arith, c.1, ap length e)
 
-  -- what holds of each of a list holds of each member of its set
+  -- what holds of each of a list holds of each element of its set
   pub All-set : (P : A → Type 0) (xs ys : List A) → IsSetOf cmp xs ys → All P xs → All P ys
-  All-set P xs ys m h = All-weaker (Contains ys) P (λ y c. All-contains P xs y h ((m.members y).0 c)) ys (All-contains_itself ys)
+  All-set P xs ys m h = All-weaker (Contains ys) P (λ y c. All-contains P xs y h ((m.elements y).0 c)) ys (All-contains_itself ys)
 
 module _ {A : Type 0} {cmp : A → A → Ordering} (o : IsTotalOrder cmp) (exact : CmpEqualImpliesEq cmp) where
   -- a list and its set have the same keys
@@ -45,7 +45,7 @@ module _ {A : Type 0} {cmp : A → A → Ordering} (o : IsTotalOrder cmp) (exact
   set_has xs ys m q =
       let found = λ (ks : List A). Contains-from_any (tells_apart exact) q ks in
       let finds = λ (ks : List A). list_any-from_Contains (eq_by_cmp_equiv o) q ks in
-      both_ways _ _ (λ h. finds xs ((m.members q).0 (found ys h))) (λ h. finds ys ((m.members q).1 (found xs h)))
+      both_ways _ _ (λ h. finds xs ((m.elements q).0 (found ys h))) (λ h. finds ys ((m.elements q).1 (found xs h)))
 
   -- a list has one set
   pub set_unique : (xs ys zs : List A) → IsSetOf cmp xs ys → IsSetOf cmp xs zs → ys ≡ zs
@@ -54,7 +54,7 @@ module _ {A : Type 0} {cmp : A → A → Ordering} (o : IsTotalOrder cmp) (exact
       let t : BTreeSet A = record { keys = zs } in
       btree_set_from_contains o s t m.sorted n.sorted (λ q. set_has xs ys m q ∙ sym (set_has xs zs n q)) exact
 
-  -- ---- one more member
+  -- ---- one more element
 
   -- the keys stay in order
   pub IsStrictlySortedBy-insert_key : (ks : List A) (k : A) → IsStrictlySortedBy cmp ks → IsStrictlySortedBy cmp (insert_key cmp ks k)
@@ -104,15 +104,15 @@ module _ {A : Type 0} {cmp : A → A → Ordering} (o : IsTotalOrder cmp) (exact
           ]
       by later Greater p (inr e) = Contains-append_right (y ∷ []) (insert_key cmp ys k) x (later (inr e))
 
-  -- the set of a list with one more member at its end
+  -- the set of a list with one more element at its end
   pub set_push : (xs ys : List A) (k : A) → IsSetOf cmp xs ys → IsSetOf cmp (xs ++ k ∷ []) (insert_key cmp ys k)
   set_push xs ys k m =
       record {
         sorted = IsStrictlySortedBy-insert_key ys k m.sorted;
-        members = λ x. (
+        elements = λ x. (
           (λ c. elim (Contains-insert_key_cases ys k x c)
-              [ inl d ↦ Contains-append_left xs (k ∷ []) x ((m.members x).0 d) | inr e ↦ subst (Contains (xs ++ k ∷ [])) e (Contains-push xs k) ]),
-          λ c. Contains-insert_key ys k x (elim (Contains-push_cases xs k x c) [ inl d ↦ inl ((m.members x).1 d) | inr e ↦ inr e ]),
+              [ inl d ↦ Contains-append_left xs (k ∷ []) x ((m.elements x).0 d) | inr e ↦ subst (Contains (xs ++ k ∷ [])) e (Contains-push xs k) ]),
+          λ c. Contains-insert_key ys k x (elim (Contains-push_cases xs k x c) [ inl d ↦ inl ((m.elements x).1 d) | inr e ↦ inr e ]),
         );
       }
 
@@ -131,15 +131,15 @@ module _ {A : Type 0} {cmp : A → A → Ordering} (o : IsTotalOrder cmp) (exact
       let second : get_or all (length xs) k ≡ k = get_or-append_seam xs k zs k in
       true≢false (sym ((eq_by_cmp_equiv o).refl k) ∙ (sym (ap₂ (eq_by_cmp cmp) first second) ∙ apart))
 
--- of no members
+-- of no elements
 pub set_of_none : {A : Type 0} (cmp : A → A → Ordering) → IsSetOf cmp [] []
 unfolding IsStrictlySortedBy
-set_of_none cmp = record { sorted = tt; members = λ x. (λ c. c, λ c. c) }
+set_of_none cmp = record { sorted = tt; elements = λ x. (λ c. c, λ c. c) }
 
 -- ---- shapes of sets
 
 module _ {A : Type 0} (s : Shape A) where
-  -- an item of at most this depth stands for x
+  -- an item of at most this depth represents x
   abbrev HasItem : ℕ → A → Type 0
   HasItem d x = (w : Item) × s.describes w x × (depth w ≤ d)
 
@@ -162,20 +162,20 @@ module _ {A : Type 0} (s : Shape A) where
       (item a.0 b.0, (a.1, b.1), omega (arith, a.2, b.2))
 
 module _ {A : Type 0} (cmp : A → A → Ordering) (o : IsTotalOrder cmp) (exact : CmpEqualImpliesEq cmp) (s : Shape A) (l : Lawful A s) where
-  -- what one of the items stands for is one of the values
-  member_contained : (vs : Items) (xs : List A) (x : A) → Each s.describes vs xs → HasMember s.describes x vs → Contains xs x
-  member_contained no_items xs x p h = absurd h
-  member_contained (item v vs) [] x p h = absurd p
-  member_contained (item v vs) (y ∷ ys) x p (inl d) = (0, omega arith, l.unique v y x p.0 d)
-  member_contained (item v vs) (y ∷ ys) x p (inr h) = Contains-append_right (y ∷ []) ys x (member_contained vs ys x p.1 h)
+  -- what one of the items represents is one of the values
+  element_contained : (vs : Items) (xs : List A) (x : A) → Each s.describes vs xs → HasElement s.describes x vs → Contains xs x
+  element_contained no_items xs x p h = absurd h
+  element_contained (item v vs) [] x p h = absurd p
+  element_contained (item v vs) (y ∷ ys) x p (inl d) = (0, omega arith, l.unique v y x p.0 d)
+  element_contained (item v vs) (y ∷ ys) x p (inr h) = Contains-append_right (y ∷ []) ys x (element_contained vs ys x p.1 h)
 
-  -- of values no two of which are the same no two items stand for one
+  -- of values no two of which are the same no two items represent one
   no_repeats : (vs : Items) (xs : List A) → Each s.describes vs xs → IsDistinctBy cmp xs → Repeats s.describes vs → ⊥
   no_repeats no_items xs p d h = h
   no_repeats (item v vs) [] p d h = p
   no_repeats (item v vs) (x ∷ xs) p d (inl h) =
       let same : h.0 ≡ x = l.unique v h.0 x h.1 p.0 in
-      let c : Contains xs x = member_contained vs xs x p.1 (subst (λ y. HasMember s.describes y vs) same h.2) in
+      let c : Contains xs x = element_contained vs xs x p.1 (subst (λ y. HasElement s.describes y vs) same h.2) in
       let P : A → Type 0 = λ y. eq_by_cmp cmp x y ≡ false in
       true≢false (sym ((eq_by_cmp_equiv o).refl x) ∙ All-contains P xs x (All-from_recursion P xs (IsDistinct-head (eq_by_cmp cmp) x xs d)) c)
   no_repeats (item v vs) (x ∷ xs) p d (inr h) = no_repeats vs xs p.1 (IsDistinct-tail (eq_by_cmp cmp) x xs d) h
@@ -195,7 +195,7 @@ module _ {A : Type 0} (cmp : A → A → Ordering) (o : IsTotalOrder cmp) (exact
             ];
       }
 
-  -- each member of the set was one of the list, so it has an item
+  -- each element of the set was one of the list, so it has an item
   set_again : (v : Item) (xs ys : List A) → (distinct_of cmp s).describes v xs → IsSetOf cmp xs ys → Again (List A) (distinct_of cmp s) v ys
   set_again v xs ys p m =
       let vs : Items = p.0.0.0 in

@@ -1,4 +1,4 @@
--- Arrays that are read as sets: the order of their members says nothing, and no member may stand twice (RFC 8152, section
+-- Arrays that are read as sets: the order of their elements says nothing, and no element may occur twice (RFC 8152, section
 -- 7.1, of key_ops).
 use Rattle.std.specs.Prelude.{◌≡◌, ◌⊎◌, ◌↔◌, List, Some, Contains}
 use Rattle.std.specs.List.{IsDistinct}
@@ -10,26 +10,26 @@ use Rattle.coset_value.specs.Parts.{as_array}
 use Rattle.coset_codec.specs.Errors.{IsUnexpected}
 use Rattle.coset_codec.specs.Shape.{Shape, some_of, up_to}
 
--- ys are the members of xs in the order of cmp, each once: the keys of a `BTreeSet` of them
+-- ys are the elements of xs in the order of cmp, each once: the keys of a `BTreeSet` of them
 pub record IsSetOf {A : Type 0} (cmp : A → A → Ordering) (xs ys : List A) : Type 0 where
   pub sorted : IsStrictlySortedBy cmp ys
-  pub members : (x : A) → Contains ys x ↔ Contains xs x
+  pub elements : (x : A) → Contains ys x ↔ Contains xs x
 
 -- no two of these are the same in the order of cmp
 abbrev pub IsDistinctBy : {A : Type 0} → (A → A → Ordering) → List A → Type 0
 IsDistinctBy cmp xs = IsDistinct (eq_by_cmp cmp) xs
 
--- one of the items stands for x
-abbrev pub HasMember : {A : Type 0} → (Item → A → Type 0) → A → Items → Type 0
-HasMember r x no_items = ⊥
-HasMember r x (item v vs) = r v x ⊎ HasMember r x vs
+-- one of the items represents x
+abbrev pub HasElement : {A : Type 0} → (Item → A → Type 0) → A → Items → Type 0
+HasElement r x no_items = ⊥
+HasElement r x (item v vs) = r v x ⊎ HasElement r x vs
 
--- two of the items stand for one value, whatever the others are
+-- two of the items represent one value, whatever the others are
 abbrev pub Repeats : {A : Type 0} → (Item → A → Type 0) → Items → Type 0
 Repeats r no_items = ⊥
-Repeats {A} r (item v vs) = ((x : A) × r v x × HasMember r x vs) ⊎ Repeats r vs
+Repeats {A} r (item v vs) = ((x : A) × r v x × HasElement r x vs) ⊎ Repeats r vs
 
--- [+ s], no two members the same
+-- [+ s], no two elements the same
 abbrev pub distinct_of : {A : Type 0} → (A → A → Ordering) → Shape A → Shape (List A)
 distinct_of cmp s = record {
   describes = λ v xs. (some_of s).describes v xs × IsDistinctBy cmp xs;
@@ -37,6 +37,6 @@ distinct_of cmp s = record {
   faults = λ v e. (some_of s).faults v e ⊎ (IsUnexpected e × ((vs : Items) × (as_array v ≡ Some vs) × Repeats s.describes vs));
 }
 
--- [+ s], no two members the same, seen and written as the set of the members, in the order of cmp
+-- [+ s], no two elements the same, seen and written as the set of the elements, in the order of cmp
 abbrev pub set_of : {A : Type 0} → (A → A → Ordering) → Shape A → Shape (List A)
 set_of cmp s = up_to (IsSetOf cmp) (distinct_of cmp s)

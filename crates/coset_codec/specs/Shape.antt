@@ -1,4 +1,4 @@
--- Which items of CBOR stand for which values of a type. A type's shape is put together from those of its parts, in the
+-- Which items of CBOR represent which values of a type. A type's shape is put together from those of its parts, in the
 -- manner of CDDL (RFC 8610); the CDDL of each is in its comment. A value is seen without its memory: a `String` as its
 -- UTF-8 bytes, a struct as a record.
 use Rattle.std.specs.Prelude.{◌≡◌, ◌≢◌, ◌⊎◌, ℕ, ℤ, pos, ◌≤ℤ◌, List, [], ◌∷◌, Option, Some, None, Bool, true, false, option_map, FitsSigned, ⊤}
@@ -11,14 +11,14 @@ use Rattle.coset_codec.specs.declared.error.CoseError.{CoseError}
 use Rattle.coset_codec.specs.declared.error.CoseError.TheVariants as errors
 use Rattle.coset_codec.specs.Errors.{IsUnexpected}
 
--- `describes v x`: the item v stands for x. `image x`: the item that x is written as, where there is one.
--- `faults v e`: what the error e tells of stands in v
+-- `describes v x`: the item v represents x. `image x`: the item that x is written as, where there is one.
+-- `faults v e`: the fault that the error e names is in v
 pub record Shape (A : Type 0) : Type 1 where
   pub describes : Item → A → Type 0
   pub image : A → Option Item
   pub faults : Item → CoseError → Type 0
 
--- Which elements of an array stand for which values. `wrong_length vs`: there are too few, or too many
+-- Which elements of an array represent which values. `wrong_length vs`: there are too few, or too many
 pub record Elements (A : Type 0) : Type 1 where
   pub describes : Items → A → Type 0
   pub image : A → Option Items
@@ -63,7 +63,7 @@ any = record { describes = λ v x. v ≡ x; image = Some; faults = λ v e. ⊥ }
 
 -- ---- conditions, names and choices
 
--- Of what the shape describes only what meets P. `blames` are the errors that tell where it is not met
+-- Of what the shape describes only what meets P. `blames` are the errors that say where it is not met
 abbrev pub such_that : {A : Type 0} → (CoseError → Type 0) → (A → Type 0) → Shape A → Shape A
 such_that {A} blames P s = record {
   describes = λ v x. s.describes v x × P x;
@@ -108,7 +108,7 @@ abbrev pub EitherDescribes : {A B : Type 0} → (A → Type 0) → (B → Type 0
 EitherDescribes P Q (inl x) = P x
 EitherDescribes P Q (inr y) = Q y
 
--- `s / t`, where `is_first` tells the items of s from those of t
+-- `s / t`, where `is_first` distinguishes the items of s from those of t
 abbrev pub either : {A B : Type 0} → (Item → Bool) → Shape A → Shape B → Shape (A ⊎ B)
 either is_first s t = record {
   describes = λ v. EitherDescribes (λ x. (is_first v ≡ true) × s.describes v x) (λ y. (is_first v ≡ false) × t.describes v y);
@@ -154,7 +154,7 @@ present_image f None = None
 abbrev pub present : {A : Type 0} → Shape A → Shape (Option A)
 present s = record { describes = λ v. PresentDescribes (s.describes v); image = present_image s.image; faults = s.faults }
 
--- one value, of which is known which items stand for it, what it is written as, and what faults stand in an item for
+-- one value, of which is known which items represent it, what it is written as, and what faults are in an item for
 -- its type: so a type that holds itself is described by recursion on the value
 abbrev pub fixed : (Item → Type 0) → Option Item → (Item → CoseError → Type 0) → Shape (Unit {0})
 fixed P o faults = record { describes = λ v x. P v; image = λ x. o; faults = faults }
@@ -170,7 +170,7 @@ tagged number s = record {
 
 -- ---- arrays
 
--- what is wrong with an array's members: that there are too few or too many; or, where there are as many as there have to
+-- what is wrong with an array's elements: that there are too few or too many; or, where there are as many as there have to
 -- be, what is wrong with one of them
 abbrev pub ElementsFaults : {A : Type 0} → Elements A → Items → CoseError → Type 0
 ElementsFaults ps vs e = (ps.wrong_length vs × IsUnexpected e) ⊎ ((ps.wrong_length vs → ⊥) × ps.faults vs e)
@@ -240,7 +240,7 @@ list_of s = array_of (any_number s)
 abbrev pub some_of : {A : Type 0} → Shape A → Shape (List A)
 some_of s = such_that IsUnexpected IsNonempty (list_of s)
 
--- ? s, as the last place. Where the place is missing, x is `absent`; `shows x` tells whether x is written
+-- ? s, as the last place. Where the place is missing, x is `absent`; `shows x` says whether x is written
 abbrev pub LastDescribes : {A : Type 0} → A → (Item → A → Type 0) → Items → A → Type 0
 LastDescribes absent r no_items x = x ≡ absent
 LastDescribes absent r (item v no_items) x = r v x
@@ -266,7 +266,7 @@ optional_last absent shows s = record {
   faults = LastFaults s.faults;
 }
 
--- What the shape describes, seen as what R relates it to, and written as that: a list that stands for a set is seen in
+-- What the shape describes, seen as what R relates it to, and written as that: a list that represents a set is seen in
 -- order
 abbrev pub up_to : {A : Type 0} → (A → A → Type 0) → Shape A → Shape A
 up_to {A} R s = record {
@@ -277,7 +277,7 @@ up_to {A} R s = record {
 
 -- ---- one, or a list of them
 
--- Of an array that begins with a byte string, it alone; of one that begins with an array, its members
+-- Of an array that begins with a byte string, it alone; of one that begins with an array, its elements
 abbrev pub one_or_more : Item → Option Items
 one_or_more (array (item (bytes b) vs)) = Some (item (array (item (bytes b) vs)) no_items)
 one_or_more (array (item (array ws) vs)) = Some (item (array ws) vs)

@@ -1,5 +1,5 @@
--- What holds of each shape: an item stands for at most one value; what was read is written as an item that is read to
--- the same value and is no deeper; and no fault stands in an item that stands for a value.
+-- What holds of each shape: an item represents at most one value; what was read is written as an item that is read to
+-- the same value and is no deeper; and no fault is in an item that represents a value.
 use Rattle.std.proofs.Common.{◌≡◌, ◌⊎◌, ◌≤◌, ℕ, suc, max, ℤ, List, [], ◌∷◌, Option, Some, None, Bool, true, false, option_map, refl, sym, ◌∙◌, ap, subst, inl}
 use Rattle.std.proofs.Common.{inr, arith, true≢false}
 use Rattle.coset_value.specs.Item.{Item, integer, bytes, float, text, boolean, null, tag, array, dict, Items, no_items, item, depth, items_depth, items_count}
@@ -11,7 +11,7 @@ use Rattle.coset_codec.specs.Shape.{either, is_nil, nil, option_of, sum_of, or_n
 use Rattle.coset_codec.specs.Shape.{any_number, list_of, some_of, optional_last, LastDescribes, LastWrongLength, LastFaults, last_image, up_to, one_or_more}
 use Rattle.coset_codec.specs.Shape.{one_or_array, one_or_many}
 
--- x is written as an item that stands for x and is no deeper than v
+-- x is written as an item that represents x and is no deeper than v
 pub record Again (A : Type 0) (s : Shape A) (v : Item) (x : A) : Type 0 where
   pub image : Item
   pub is_image : s.image x ≡ Some image
@@ -23,7 +23,7 @@ pub record Lawful (A : Type 0) (s : Shape A) : Type 0 where
   pub again : (v : Item) (x : A) → s.describes v x → Again A s v x
   pub sound : (v : Item) (x : A) (e : CoseError) → s.describes v x → s.faults v e → ⊥
 
--- x is written as members that stand for x and are no deeper than vs
+-- x is written as elements that represent x and are no deeper than vs
 pub record AgainElements (A : Type 0) (s : Elements A) (vs : Items) (x : A) : Type 0 where
   pub image : Items
   pub is_image : s.image x ≡ Some image
@@ -184,7 +184,7 @@ present_sound s l v None e p f = p
 pub present_laws : {A : Type 0} (s : Shape A) → Lawful A s → Lawful (Option A) (present s)
 present_laws s l = record { unique = present_unique s l; again = present_again s l; sound = present_sound s l }
 
--- the value is written, if any item stands for it, as one that stands for it
+-- the value is written, if any item represents it, as one that represents it
 pub fixed_laws :
     (P : Item → Type 0) (o : Option Item) (faults : Item → CoseError → Type 0) → ((v : Item) → P v → (w : Item) × (o ≡ Some w) × P w × (depth w ≤ depth v))
     → ((v : Item) (e : CoseError) → P v → faults v e → ⊥) → Lawful (Unit {0}) (fixed P o faults)
@@ -259,7 +259,7 @@ array_of_again {A} ps l v x p =
           omega (arith, a.shallow, d);
     }
 
--- no fault stands in members that stand for a value
+-- no fault is in elements that represent a value
 elements_sound : {A : Type 0} (ps : Elements A) → LawfulElements A ps → (vs : Items) (x : A) (e : CoseError) → ps.describes vs x → ElementsFaults ps vs e → ⊥
 elements_sound ps l vs x e d (inl m) = l.fits vs x d m.0
 elements_sound ps l vs x e d (inr f) = l.sound vs x e d f.1
@@ -387,7 +387,7 @@ module _ {A : Type 0} (absent : A) (shows : A → Bool) (hidden : shows absent �
   pub optional_last_laws : LawfulElements A (optional_last absent shows s)
   optional_last_laws = record { unique = last_unique; again = last_again; fits = last_fits; sound = last_sound }
 
--- R relates a value to at most one, and that one to itself; and s writes that one as an item that stands for it
+-- R relates a value to at most one, and that one to itself; and s writes that one as an item that represents it
 pub up_to_laws :
     {A : Type 0} (R : A → A → Type 0) (s : Shape A) → ((x y z : A) → R x y → R x z → y ≡ z) → ((x y : A) → R x y → R y y)
     → ((v : Item) (x y : A) → s.describes v x → R x y → Again A s v y) → Lawful A s → Lawful A (up_to R s)
@@ -427,7 +427,7 @@ one_or_array-depth (array (item (array ts) us)) vs (item w (item u ws)) p d c =
     omega (arith, d, deep)
 one_or_array-depth _ vs ws p d c = absurd (cc)
 
--- one that is written as itself is told from an array of more, and as many are written as were read
+-- one that is written as itself is distinguished from an array of more, and as many are written as were read
 pub one_or_many_laws :
     {A : Type 0} (ps : Elements A)
     → ((vs ws : Items) (x : A) → ps.describes vs x → ps.describes ws x → ps.image x ≡ Some ws → (one_or_more (one_or_array ws) ≡ Some ws)

@@ -2,7 +2,7 @@
 -- elements.
 use Rattle.std.specs.Prelude.{◌≡◌, List, codes, ℕ, zero, suc, Result, Ok, Err}
 use Rattle.coset_value.specs.Item.{Item, Items, no_items}
-use Rattle.coset_value.specs.View.{view}
+use Rattle.coset_value.specs.View.{value_item}
 use Rattle.coset_cbor.specs.Pulls.{pull_item}
 use Rattle.coset_codec.specs.declared.error.CoseError.{CoseError}
 use Rattle.coset_codec.specs.declared.error.CoseError.TheVariants.{OutOfMemory}
@@ -14,7 +14,7 @@ use Rattle.coset_codec.specs.Shape.{FirstWrongLength, IsEnd}
 
 -- the item
 abbrev pub source_item : ItemSource → Item
-source_item (Tree v) = view v
+source_item (Tree v) = value_item v
 source_item (Lent p) = pull_item p
 
 -- a value of the item, or `OutOfMemory`

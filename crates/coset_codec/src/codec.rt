@@ -1,15 +1,16 @@
 //! The short way to a type of one's own: one trait, from which all others follow.
 
-ghost use Rattle.std.specs.Prelude.{◌≡◌, ◌↔◌, ◌≤◌, ℕ, IsTrue, OnOk};
+ghost use Rattle.std.specs.Prelude.{◌≡◌, ◌↔◌, ◌≤◌, ℕ, ⊤, IfErr, IsTrue, OnOk};
 ghost use Rattle.coset_cbor.specs.Least.{Extends};
+ghost use Rattle.coset_codec.specs.declared.error.CoseError.TheVariants.{OutOfMemory};
 ghost use Rattle.coset_codec.specs.Answers.{Reads};
 ghost use Rattle.coset_codec.specs.Encoding.{Encodes};
-ghost use Rattle.coset_codec.specs.Inputs.{GoesBehind, ReadsAt, length_left, state};
+ghost use Rattle.coset_codec.specs.Inputs.{State, tree, GoesBehind, ReadsAt, length_left, state};
 ghost use Rattle.coset_codec.specs.Shape.{Shape};
 ghost use Rattle.coset_codec.specs.ShapeLaws.{Lawful as LawfulShape};
 
 use crate::error::Result;
-use crate::read::{Input, ItemSource};
+use crate::read::{Decoder, ItemSource};
 use crate::traits::{
     AsCborValue, CborSerializable, FromPull, Lawful, TaggedCborSerializable, item_under_tag,
     item_without_tag, whole_item,
@@ -22,30 +23,34 @@ use std::alloc::Global;
 /// A type that is read and written straight, without a value in between.
 ///
 /// An implementer says how contracts see its values and its shape, as for [`AsCborValue`], has one reader and one writer,
-/// and proves two laws, of its shape and of `==`: each in a line, from those of the parts (`ShapeLaws` and `Told` of
+/// and proves two laws, of its shape and of `==`: each in a line, from those of the parts (`ShapeLaws` and `EqDecides` of
 /// `specs/`). That of a derived `==` the prover finds by itself where no part is a list. [`AsCborValue`], [`FromPull`],
 /// [`CborSerializable`], [`Encode`] and [`Lawful`] follow from these, and with [`TaggedCodec`] also
 /// [`TaggedCborSerializable`].
 pub trait Codec: Sized + Drop + PartialEq {
     /// What contracts see of a value: all of it but where it lies in memory.
-    ghost Seen: { Type 0 };
+    ghost View: { Type 0 };
 
-    ghost seen: { Self → Seen };
+    ghost view: { Self → View };
 
-    /// Which items stand for which values, what a value is written as, and what may be wrong with an item.
-    ghost shape: { Shape Seen };
+    /// Which items represent which values, what a value is written as, and what may be wrong with an item.
+    ghost shape: { Shape View };
 
-    /// Reads a value from the item that stands at the input, and leaves that just behind it, also where it is refused.
+    /// At which inputs reading may run out of memory: at each, where a type doesn't say.
+    ghost allocates: { State → Type 0 } = { λ s. ⊤ };
+
+    /// Reads a value from the item at the input, and leaves that just behind it, also where it is refused.
     ///
     /// # Errors
-    /// `OutOfMemory`, or a fault that stands in the item; the item then describes no value.
-    fn read(alloc: Global, input: &mut Input<'_>) -> Result<Self>
+    /// `OutOfMemory`, only where `allocates` says so; or a fault that is in the item, which then describes no value.
+    fn read(alloc: Global, input: &mut Decoder<'_>) -> Result<Self>
         ensures shrinks { length_left (state input.new) ≤ length_left (state input.old) }
         ensures strictly { OnOk result (GoesBehind (state input.old) (state input.new)) }
         ensures reads { ReadsAt (state input.old) (state input.new)
-            (λ v. Reads shape seen v result) };
+            (λ v. Reads shape view v result) }
+        ensures memory { IfErr result (λ e. e ≡ OutOfMemory → allocates (state input.old)) };
 
-    /// About as many bytes as the encoding takes ([`Encode::room`]).
+    /// About as many bytes as the encoding takes ([`Encode::encoded_size_hint`]).
     fn size_hint(&self) -> usize {
         0
     }
@@ -56,14 +61,14 @@ pub trait Codec: Sized + Drop + PartialEq {
     /// `OutOfMemory`, or `DuplicateMapKey`, only where the value has no item. `out` then begins with all that it had;
     /// what was appended before the error may follow.
     fn write(&self, alloc: Global, out: &mut Vec<u8>) -> Result<()>
-        ensures written { Encodes (shape.image (seen self.now)) out.old.items out.new.items result }
+        ensures written { Encodes (shape.image (view self.now)) out.old.items out.new.items result }
         ensures kept { Extends out.old.items out.new.items };
 
     /// The laws of its shape.
-    ghost laws: { LawfulShape Seen shape };
+    ghost laws: { LawfulShape View shape };
 
     /// `==` is equality of all that contracts see.
-    ghost equal: { (a b : Self) → IsTrue (Self.PartialEq.eq a b) ↔ (seen a ≡ seen b) };
+    ghost equal: { (a b : Self) → IsTrue (Self.PartialEq.eq a b) ↔ (view a ≡ view b) };
 }
 
 /// A type that is also read and written under a tag of its own (RFC 8949, section 3.4).
@@ -75,18 +80,20 @@ pub trait TaggedCodec: Codec {
 }
 
 impl<T: Codec> AsCborValue for T {
-    ghost Seen = { T.Seen };
+    ghost View = { T.View };
 
-    ghost seen = { T.seen };
+    ghost view = { T.view };
 
     ghost shape = { T.shape };
+
+    ghost allocates = { λ v. T.allocates (tree v) };
 
     ghost unique = { T.Codec.laws.unique };
 
     ghost sound = { T.Codec.laws.sound };
 
     fn from_cbor_value(alloc: Global, value: Value) -> Result<T> {
-        T::read(alloc, &mut Input::Tree(value))
+        T::read(alloc, &mut Decoder::Tree(value))
     }
 
     fn to_cbor_value(self, alloc: Global) -> Result<Value> {
@@ -99,12 +106,13 @@ impl<T: Codec> Lawful for T {
 }
 
 impl<T: Codec> Encode for T {
-    ghost image = { λ t. T.shape.image (T.seen t) };
+    ghost image = { λ t. T.shape.image (T.view t) };
 
-    fn room(&self) -> usize {
+    fn encoded_size_hint(&self) -> usize {
         self.size_hint()
     }
 
+    #[inline(always)]
     fn encode(&self, alloc: Global, out: &mut Vec<u8>) -> Result<()> {
         self.write(alloc, out)
     }
@@ -112,10 +120,11 @@ impl<T: Codec> Encode for T {
 
 impl<T: Codec> FromPull for T {
     fn from_pull(alloc: Global, pull: Pull<'_>) -> Result<T> {
-        T::read(alloc, &mut Input::new(ItemSource::Lent(pull)))
+        T::read(alloc, &mut Decoder::new(ItemSource::Lent(pull)))
     }
 
-    fn from_input(alloc: Global, input: &mut Input<'_>) -> Result<T> {
+    #[inline(always)]
+    fn from_input(alloc: Global, input: &mut Decoder<'_>) -> Result<T> {
         T::read(alloc, input)
     }
 }
@@ -123,7 +132,7 @@ impl<T: Codec> FromPull for T {
 impl<T: Codec> CborSerializable for T {
     fn from_slice(alloc: Global, s: &[u8]) -> Result<T> {
         let item = whole_item(s)?;
-        T::read(alloc, &mut Input::new(ItemSource::Lent(item)))
+        T::read(alloc, &mut Decoder::new(ItemSource::Lent(item)))
     }
 
     #[inline(always)]
@@ -139,12 +148,12 @@ impl<T: TaggedCodec> TaggedCborSerializable for T {
 
     fn from_tagged_slice(alloc: Global, s: &[u8]) -> Result<T> {
         let item = item_under_tag(T::TAG_NUMBER, whole_item(s)?)?;
-        T::read(alloc, &mut Input::new(ItemSource::Lent(item)))
+        T::read(alloc, &mut Decoder::new(ItemSource::Lent(item)))
     }
 
     fn from_any_slice(alloc: Global, s: &[u8]) -> Result<T> {
         let item = item_without_tag(T::TAG_NUMBER, whole_item(s)?);
-        T::read(alloc, &mut Input::new(ItemSource::Lent(item)))
+        T::read(alloc, &mut Decoder::new(ItemSource::Lent(item)))
     }
 
     #[inline(always)]

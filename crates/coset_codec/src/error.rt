@@ -18,7 +18,7 @@ pub enum CoseError {
     DecodeFailed(de::Error<EndOfFile>),
     /// Two keys of a map are one label (RFC 8152, section 3).
     DuplicateMapKey,
-    /// The value couldn't be written. No call of this library answers it: it stands for the errors of other writers.
+    /// The value couldn't be written. No call of this library returns it: it is there for the errors of other writers.
     EncodeFailed,
     /// Bytes follow the one item of the input.
     ExtraneousData,

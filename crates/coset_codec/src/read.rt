@@ -1,20 +1,20 @@
-//! Reading: items where they stand, in a tree or in bytes that were checked as a whole, and lists and maps of them.
+//! Reading: items where they are, in a tree or in bytes that were checked as a whole, and lists and maps of them.
 
 mod alone;
+mod decoder;
 mod elements;
 mod field;
 mod forward;
 mod in_place;
-mod input;
 mod list;
 mod map;
 mod source;
 
 pub use alone::{each_from_slice, read_alone};
+pub use decoder::{ArrayElements, Decoder, MapEntries, wrong_length};
 pub use elements::{DecodeElements, decode_array};
 pub use field::{Decode, set_field, set_nonempty};
 pub use in_place::{InPlace, copy_bstr_to, drop_refused, make_room, next_place, push_empty};
-pub use input::{Input, InputItems, InputPairs, wrong_length};
 pub use list::{read_list, read_nonempty_list};
-pub use map::{Gather, read_map};
+pub use map::{MapVisitor, read_map};
 pub use source::ItemSource;

@@ -1,8 +1,8 @@
 //! How a type is read from CBOR and written to it.
 
-ghost use Rattle.std.specs.Prelude.{◌≡◌, ◌≤◌, ℕ, IfErr, OnOk};
+ghost use Rattle.std.specs.Prelude.{◌≡◌, ◌≤◌, ℕ, ⊤, IfErr, OnOk};
 ghost use Rattle.coset_value.specs.Item.{Item};
-ghost use Rattle.coset_value.specs.View.{view};
+ghost use Rattle.coset_value.specs.View.{value_item};
 ghost use Rattle.coset_cbor.specs.Pulls.{pull_item};
 ghost use Rattle.coset_codec.specs.declared.error.CoseError.{CoseError};
 ghost use Rattle.coset_codec.specs.declared.error.CoseError.TheVariants.{OutOfMemory};
@@ -13,7 +13,7 @@ ghost use Rattle.coset_codec.specs.Shape.{Shape, any, tagged};
 ghost use Rattle.coset_codec.specs.ShapeLaws.{Lawful as LawfulShape};
 
 use crate::error::{CoseError, Result};
-use crate::read::{Input, ItemSource};
+use crate::read::{Decoder, ItemSource};
 use crate::util::{ValueTryAs, pull_type_error};
 use coset_cbor::de::Pull;
 use coset_cbor::laws;
@@ -21,39 +21,43 @@ use coset_cbor::ser::write_owned_value;
 use coset_cbor::value::Value;
 use std::alloc::Global;
 
-/// A type whose values stand for items of CBOR.
+/// A type whose values represent items of CBOR.
 ///
-/// An implementer says how contracts see its values (`Seen`, `seen`) and its shape: which items describe which values,
-/// what a value is written as, and which errors tell of a fault in an item. It proves that an item describes at most
-/// one value, and none where a fault stands in it.
+/// An implementer says how contracts see its values (`View`, `view`) and its shape: which items describe which values,
+/// what a value is written as, and which errors name a fault in an item. It proves that an item describes at most
+/// one value, and none where a fault is in it.
 pub trait AsCborValue: Sized {
     /// What contracts see of a value: all of it but where it lies in memory.
-    ghost Seen: { Type 0 };
+    ghost View: { Type 0 };
 
-    ghost seen: { Self → Seen };
+    ghost view: { Self → View };
 
-    /// Which items stand for which values, what a value is written as, and what may be wrong with an item.
-    ghost shape: { Shape Seen };
+    /// Which items represent which values, what a value is written as, and what may be wrong with an item.
+    ghost shape: { Shape View };
+
+    /// Of which items reading may run out of memory: of each, where a type doesn't say.
+    ghost allocates: { Item → Type 0 } = { λ v. ⊤ };
 
     /// Reads a value from an item.
     ///
     /// # Errors
-    /// `OutOfMemory`, or a fault that stands in the item; the item then describes no value.
+    /// `OutOfMemory`, only where `allocates` says so; or a fault that is in the item, which then describes no value.
     fn from_cbor_value(alloc: Global, value: Value) -> Result<Self>
-        ensures { Reads shape seen (view value) result };
+        ensures read { Reads shape view (value_item value) result }
+        ensures memory { IfErr result (λ e. e ≡ OutOfMemory → allocates (value_item value)) };
 
     /// Makes the item that the value is written as.
     ///
     /// # Errors
     /// `OutOfMemory`, or `DuplicateMapKey`, only where the value has no such item.
     fn to_cbor_value(self, alloc: Global) -> Result<Value>
-        ensures { Images (shape.image (seen self)) view result };
+        ensures { Images (shape.image (view self)) value_item result };
 
     /// An item describes at most one value.
-    ghost unique: { (v : Item) (x y : Seen) → shape.describes v x → shape.describes v y → x ≡ y };
+    ghost unique: { (v : Item) (x y : View) → shape.describes v x → shape.describes v y → x ≡ y };
 
-    /// Where a fault stands in an item, it describes no value.
-    ghost sound: { (v : Item) (x : Seen) (e : CoseError) → shape.describes v x → shape.faults v e
+    /// Where a fault is in an item, it describes no value.
+    ghost sound: { (v : Item) (x : View) (e : CoseError) → shape.describes v x → shape.faults v e
         → ⊥ };
 }
 
@@ -75,7 +79,7 @@ pub fn whole_item(s: &[u8]) -> Result<Pull<'_>>
 
 /// The one item that the bytes are.
 fn whole_value(alloc: Global, s: &[u8]) -> Result<Value>
-    ensures whole { ReadsWhole view s.now result }
+    ensures whole { ReadsWhole value_item s.now result }
     ensures memory { AllocatesForItems s.now result }
 {
     Ok(whole_item(s)?.to_value(alloc)?)
@@ -83,7 +87,7 @@ fn whole_value(alloc: Global, s: &[u8]) -> Result<Value>
 
 /// The shortest encoding of an item (RFC 8949, section 4.2.1).
 fn encoding_of(alloc: Global, value: Value) -> Result<Vec<u8>>
-    ensures { Writes (Some (view value)) (λ b. b.items) result }
+    ensures { Writes (Some (value_item value)) (λ b. b.items) result }
 {
     let mut encoded = Vec::new(alloc);
     write_owned_value(value, &mut encoded)?;
@@ -96,10 +100,10 @@ pub trait CborSerializable: AsCborValue {
     ///
     /// # Errors
     /// The first fault found: the bytes aren't an item within 256 levels (`DecodeFailed`), others follow it
-    /// (`ExtraneousData`), or a fault of the type stands in it; the bytes then describe no value. Or `OutOfMemory`, only
+    /// (`ExtraneousData`), or a fault of the type is in it; the bytes then describe no value. Or `OutOfMemory`, only
     /// where the bytes are one item: others are refused without asking for memory.
     fn from_slice(alloc: Global, s: &[u8]) -> Result<Self>
-        ensures read { ReadsSlice Self.shape Self.seen s.now result }
+        ensures read { ReadsSlice Self.shape Self.view s.now result }
         ensures refused { RefusesSlice Self.shape s.now result }
         ensures memory { AllocatesForItems s.now result }
     {
@@ -111,25 +115,25 @@ pub trait CborSerializable: AsCborValue {
     /// # Errors
     /// `OutOfMemory`, or `DuplicateMapKey`, only where the value has no item.
     fn to_vec(self, alloc: Global) -> Result<Vec<u8>>
-        ensures { Writes (Self.shape.image (Self.seen self)) (λ b. b.items) result }
+        ensures { Writes (Self.shape.image (Self.view self)) (λ b. b.items) result }
     {
         encoding_of(alloc, self.to_cbor_value(alloc)?)
     }
 }
 
 /// A type whose shape keeps the three laws: an item describes at most one value; what an item describes is written as an
-/// item that describes the same value and is no deeper; and where a fault stands in an item, it describes no value.
+/// item that describes the same value and is no deeper; and where a fault is in an item, it describes no value.
 ///
 /// An implementer proves them in one line, from the laws of the parts that its shape is made of. What follows of each
 /// such type is said by the functions of [`laws`](crate::laws) over this trait.
 pub trait Lawful: AsCborValue {
     /// The laws of its shape.
-    ghost laws: { LawfulShape Self.Seen Self.shape };
+    ghost laws: { LawfulShape Self.View Self.shape };
 }
 
 /// What a tag of that number encloses, and any other value as it is.
 fn value_without_tag(number: u64, value: Value) -> Value
-    ensures { view result ≡ untagged number (view value) }
+    ensures { value_item result ≡ untagged number (value_item value) }
 {
     match value {
         Value::Tag(found, inner) => {
@@ -155,7 +159,7 @@ pub trait TaggedCborSerializable: AsCborValue {
     /// # Errors
     /// The same as [`CborSerializable::from_slice`]; an item without a tag, or with another, is `UnexpectedItem`.
     fn from_tagged_slice(alloc: Global, s: &[u8]) -> Result<Self>
-        ensures read { ReadsSlice (tagged TAG Self.shape) Self.seen s.now result }
+        ensures read { ReadsSlice (tagged TAG Self.shape) Self.view s.now result }
         ensures refused { RefusesSlice (tagged TAG Self.shape) s.now result }
         ensures memory { AllocatesForItems s.now result }
     {
@@ -173,7 +177,7 @@ pub trait TaggedCborSerializable: AsCborValue {
     /// # Errors
     /// The same as [`CborSerializable::from_slice`]: where the item is a tag of this number, a fault of what it encloses.
     fn from_any_slice(alloc: Global, s: &[u8]) -> Result<Self>
-        ensures read { ReadsSlice (perhaps_tagged TAG Self.shape) Self.seen s.now result }
+        ensures read { ReadsSlice (perhaps_tagged TAG Self.shape) Self.view s.now result }
         ensures refused { RefusesSlice (perhaps_tagged TAG Self.shape) s.now result }
         ensures memory { AllocatesForItems s.now result }
     {
@@ -186,7 +190,7 @@ pub trait TaggedCborSerializable: AsCborValue {
     /// # Errors
     /// The same as [`CborSerializable::to_vec`].
     fn to_tagged_vec(self, alloc: Global) -> Result<Vec<u8>>
-        ensures { Writes ((tagged TAG Self.shape).image (Self.seen self)) (λ b. b.items) result }
+        ensures { Writes ((tagged TAG Self.shape).image (Self.view self)) (λ b. b.items) result }
     {
         let value = self.to_cbor_value(alloc)?;
         encoding_of(alloc, Value::Tag(Self::TAG, Box::new(alloc, value)?))
@@ -197,16 +201,19 @@ pub trait TaggedCborSerializable: AsCborValue {
 impl AsCborValue for Value {
     ghost use Rattle.coset_codec.specs.ShapeLaws.{any_laws};
 
-    ghost Seen = { Item };
+    ghost View = { Item };
 
-    ghost seen = { view };
+    ghost view = { value_item };
 
     ghost shape = { any };
+
+    ghost allocates = { λ v. ⊥ };
 
     ghost unique = { any_laws.unique };
 
     ghost sound = { any_laws.sound };
 
+    /// It takes no memory.
     fn from_cbor_value(_alloc: Global, value: Value) -> Result<Value> {
         Ok(value)
     }
@@ -231,17 +238,17 @@ pub trait FromPull: AsCborValue {
     /// # Errors
     /// The same as [`AsCborValue::from_cbor_value`].
     fn from_pull(alloc: Global, pull: Pull<'_>) -> Result<Self>
-        ensures { Reads Self.shape Self.seen (pull_item pull.entry) result };
+        ensures { Reads Self.shape Self.view (pull_item pull.entry) result };
 
-    /// Reads a value from the item that stands at the input, and leaves that just behind it, also where it is refused.
+    /// Reads a value from the item at the input, and leaves that just behind it, also where it is refused.
     ///
     /// # Errors
     /// The same as [`AsCborValue::from_cbor_value`].
-    fn from_input(alloc: Global, input: &mut Input<'_>) -> Result<Self>
+    fn from_input(alloc: Global, input: &mut Decoder<'_>) -> Result<Self>
         ensures shrinks { length_left (state input.new) ≤ length_left (state input.old) }
         ensures strictly { OnOk result (GoesBehind (state input.old) (state input.new)) }
         ensures reads { ReadsAt (state input.old) (state input.new)
-            (λ v. Reads Self.shape Self.seen v result) }
+            (λ v. Reads Self.shape Self.view v result) }
     {
         match input.take()? {
             ItemSource::Tree(value) => Self::from_cbor_value(alloc, value),
@@ -255,22 +262,9 @@ impl FromPull for Value {
         Ok(pull.to_value(alloc)?)
     }
 
-    fn from_input(alloc: Global, input: &mut Input<'_>) -> Result<Value> {
+    fn from_input(alloc: Global, input: &mut Decoder<'_>) -> Result<Value> {
         input.value(alloc)
     }
-}
-
-/// What `from_slice` is made of for a type that is read from lent bytes. The answers are those of
-/// [`CborSerializable::from_slice`].
-///
-/// # Errors
-/// The same as [`CborSerializable::from_slice`].
-pub fn read_slice<T: FromPull>(alloc: Global, s: &[u8]) -> Result<T>
-    ensures read { ReadsSlice T.shape T.seen s.now result }
-    ensures refused { RefusesSlice T.shape s.now result }
-    ensures memory { AllocatesForItems s.now result }
-{
-    T::from_pull(alloc, whole_item(s)?)
 }
 
 /// The item under the tag of that number.

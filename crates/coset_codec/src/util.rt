@@ -1,16 +1,16 @@
-//! Values of one kind, or the error that tells which kind was asked for; and arrays of what values are written as.
+//! Values of one kind, or the error that says which kind was wanted; and arrays of what values are written as.
 
 ghost use Rattle.std.specs.Prelude.{◌≡◌, List, Ok, Err, Some, option_map, IfOk, IfErr, codes, string_bytes, MatchResult};
 ghost use Rattle.std.specs.Iterator.{IsFinite, Drains, Yields};
 ghost use Rattle.coset_value.specs.Item.{Item, array};
 ghost use Rattle.coset_value.specs.Parts.{as_integer, as_bytes, as_text, as_array, as_map, as_tag};
-ghost use Rattle.coset_value.specs.View.{view, items_view, pairs_view};
+ghost use Rattle.coset_value.specs.View.{value_item, value_items, value_pairs};
 ghost use Rattle.coset_value.specs.declared.value.Value.{Value};
 ghost use Rattle.coset_cbor.specs.Pulls.{pull_item};
 ghost use Rattle.coset_codec.specs.declared.error.CoseError.{CoseError};
 ghost use Rattle.coset_codec.specs.declared.error.CoseError.TheVariants.{DuplicateMapKey, OutOfMemory};
 ghost use Rattle.coset_codec.specs.Errors.{IsUnexpected, UnlessMemory};
-ghost use Rattle.coset_codec.specs.Lists.{EachWith, LastHasNoImage, RefusesMember, RefusesArray};
+ghost use Rattle.coset_codec.specs.Lists.{EachWith, LastHasNoImage, RefusesElement, RefusesArray};
 ghost use Rattle.coset_codec.specs.Kinds.{kind, Says, TriesAs, TriesAsFilled};
 ghost use Rattle.coset_codec.specs.Shape.{images};
 
@@ -22,7 +22,7 @@ use std::alloc::{AllocError, Global};
 
 /// The name of a value's kind in errors.
 fn kind_name(value: &Value) -> &'static str
-    ensures { result.now ≡ kind (view value.now) }
+    ensures { result.now ≡ kind (value_item value.now) }
 {
     match value {
         Value::Integer(_) => "int",
@@ -37,9 +37,9 @@ fn kind_name(value: &Value) -> &'static str
     }
 }
 
-/// The error that tells of a value of another kind than `want`.
+/// The error for a value of another kind than `want`.
 pub(crate) fn type_error(value: &Value, want: &'static str) -> CoseError
-    ensures { IsUnexpected result × Says (kind (view value.now)) want.now result }
+    ensures { IsUnexpected result × Says (kind (value_item value.now)) want.now result }
 {
     CoseError::UnexpectedItem(kind_name(value), want)
 }
@@ -50,7 +50,7 @@ pub(crate) fn type_error(value: &Value, want: &'static str) -> CoseError
 /// `UnexpectedItem` with the name of the value's kind, and `want`, always.
 pub fn cbor_type_error<T>(value: &Value, want: &'static str) -> Result<T>
     ensures { MatchResult result (λ _. ⊥) (λ e. IsUnexpected e
-        × Says (kind (view value.now)) want.now e) }
+        × Says (kind (value_item value.now)) want.now e) }
 {
     Err(type_error(value, want))
 }
@@ -80,7 +80,7 @@ fn pull_kind_name(pull: Pull<'_>) -> &'static str
     }
 }
 
-/// The error that tells of a lent item of another kind than `want`.
+/// The error for a lent item of another kind than `want`.
 pub fn pull_type_error(pull: Pull<'_>, want: &'static str) -> CoseError
     ensures { IsUnexpected result × Says (kind (pull_item pull.entry)) want.now result }
 {
@@ -93,7 +93,7 @@ pub fn pull_type_error(pull: Pull<'_>, want: &'static str) -> CoseError
 /// `UnexpectedItem`, with the name of the value's kind and that of the kind that was asked for. None of these calls
 /// takes memory.
 pub trait ValueTryAs: Sized {
-    /// The item that the value stands for.
+    /// The item that the value represents.
     ghost item: { Self → Item };
 
     /// The integer.
@@ -108,26 +108,27 @@ pub trait ValueTryAs: Sized {
     fn try_as_nonempty_bytes(self) -> Result<Vec<u8>>
         ensures { TriesAsFilled (λ b. b.items) (item self) result };
 
-    /// The members of an array.
+    /// The elements of an array.
     fn try_as_array(self) -> Result<Vec<Value>>
-        ensures { TriesAs as_array (λ a. items_view a.items) (codes "array") (item self) result };
+        ensures { TriesAs as_array (λ a. value_items a.items) (codes "array") (item self) result };
 
     /// The pairs of a map.
     fn try_as_map(self) -> Result<Vec<(Value, Value)>>
-        ensures { TriesAs as_map (λ m. pairs_view m.items) (codes "map") (item self) result };
+        ensures { TriesAs as_map (λ m. value_pairs m.items) (codes "map") (item self) result };
 
     /// The number of a tag, and the value that it encloses.
     fn try_as_tag(self) -> Result<(u64, Box<Value>)>
-        ensures { TriesAs as_tag (λ t. (t.0, view t.1.value)) (codes "tag") (item self) result };
+        ensures { TriesAs as_tag (λ t. (t.0, value_item t.1.value)) (codes "tag")
+            (item self) result };
 
     /// The text of a text string.
     fn try_as_string(self) -> Result<String>
         ensures { TriesAs as_text string_bytes (codes "tstr") (item self) result };
 
-    /// What `f` makes of the members of an array, in order.
+    /// What `f` makes of the elements of an array, in order.
     ///
     /// # Errors
-    /// `Coset`: the same as of the other calls, or `OutOfMemory`. `Caller`: the first error that `f` answers.
+    /// `Coset`: the same as of the other calls, or `OutOfMemory`. `Caller`: the first error that `f` returns.
     fn try_as_array_then_convert<F, T, E>(self, alloc: Global, f: F) -> Result<Vec<T>, CallError<E>>
     where
         F: Fn(Value) -> Result<T, E> + Drop,
@@ -135,7 +136,7 @@ pub trait ValueTryAs: Sized {
         E: Drop,
         requires { F.IsAlwaysCallable f }
         ensures converted { IfOk result (λ all. (vs : List Value)
-            × (as_array (item self) ≡ Some (items_view vs))
+            × (as_array (item self) ≡ Some (value_items vs))
             × EachWith (λ v t. F.post f v (Ok t)) vs all.items) }
         ensures refused { IfErr result
             (RefusesArray (λ v t. F.post f v (Ok t)) (λ v e. F.post f v (Err e)) (item self)) };
@@ -151,7 +152,7 @@ where
     ensures converted { IfOk result (λ all. EachWith (λ v t. F.post f v (Ok t)) values.items
         all.items) }
     ensures refused { IfErr result
-        (RefusesMember (λ v t. F.post f v (Ok t)) (λ v e. F.post f v (Err e)) values.items) }
+        (RefusesElement (λ v t. F.post f v (Ok t)) (λ v e. F.post f v (Err e)) values.items) }
 {
     let mut all = Vec::new(alloc);
     for value in values {
@@ -167,7 +168,7 @@ where
 }
 
 impl ValueTryAs for Value {
-    ghost item = { view };
+    ghost item = { value_item };
 
     fn try_as_integer(self) -> Result<Integer> {
         match self {
@@ -193,7 +194,7 @@ impl ValueTryAs for Value {
 
     fn try_as_array(self) -> Result<Vec<Value>> {
         match self {
-            Value::Array(members) => Ok(members),
+            Value::Array(elements) => Ok(elements),
             other => cbor_type_error(&other, "array"),
         }
     }
@@ -247,12 +248,12 @@ where
     ensures images { IfOk result (λ v. (it : C.IntoIter) × (xs : List C.Item)
         × C.into_iter_gives values it
         × Drains C.IntoIter.next_gives it xs
-        × (option_map array (images (λ x. C.Item.shape.image (C.Item.seen x)) xs)
-        ≡ Some (view v))) }
+        × (option_map array (images (λ x. C.Item.shape.image (C.Item.view x)) xs)
+        ≡ Some (value_item v))) }
     ensures refused { IfErr result (λ e. UnlessMemory e (λ f. (f ≡ DuplicateMapKey)
         × (it : C.IntoIter) × (xs : List C.Item) × (t : C.IntoIter) × C.into_iter_gives values it
         × Yields C.IntoIter.next_gives it xs t
-        × LastHasNoImage C.Item (λ x. C.Item.shape.image (C.Item.seen x)) xs)) }
+        × LastHasNoImage C.Item (λ x. C.Item.shape.image (C.Item.view x)) xs)) }
 {
     let mut elements = Vec::new(alloc);
     for x in values {

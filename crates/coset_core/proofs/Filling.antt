@@ -5,35 +5,35 @@ use Rattle.coset_value.specs.Item.{Item, dict, Pairs, no_pairs, pair}
 use Rattle.std.specs.Map.{keys_of}
 use Rattle.coset_codec.specs.declared.error.CoseError.{CoseError}
 use Rattle.coset_codec.specs.declared.error.CoseError.TheVariants.{DuplicateMapKey}
-use Rattle.coset_codec.specs.declared.read.input.InputPairs.{InputPairs}
+use Rattle.coset_codec.specs.declared.read.decoder.MapEntries.{MapEntries}
 use Rattle.coset_codec.specs.Errors.{UnlessMemory}
 use Rattle.coset_codec.specs.Inputs.{State, NextsKey, PairsWithin, ReadsAt}
 use Rattle.coset_codec.specs.Maps.{Adds, Refuses, RefusesKey, ExcludesKey, GatherFaults, are_distinct, optional}
 use Rattle.coset_codec.specs.Shape.{any}
 use Rattle.coset_codec.proofs.Walking.{goes_on, refuses, stumbles}
 use Rattle.coset_label.specs.Labels.{label, names}
-use Rattle.coset_label.specs.Views.{label_seen}
+use Rattle.coset_label.specs.Views.{label_view}
 use Rattle.coset_label.specs.declared.label.Label.{Label}
 use Rattle.coset_label.specs.Names.{same_name}
 use Rattle.coset_label.specs.LabelLaws.{names_laws}
-use Rattle.coset_core.specs.Fields.{FieldsSeen, Versions, fields, parts_of, excludes}
+use Rattle.coset_core.specs.Fields.{FieldsView, Versions, fields, parts_of, excludes}
 use Rattle.coset_core.specs.FieldLaws.{partial_fields_laws}
 use Rattle.coset_core.specs.Filling.{WalksTo, AtHeld, AtEnd, AtFault, FillsSome, FillsFields, IsDistinctRest, label_of}
 use Rattle.coset_core.specs.declared.header.reading.Version.{Version}
 
--- the value of the next pair stands at t, whose label this is; or none is left; or the next pair's key is at fault
-abbrev pub NextsLabel : Pairs → State → State → InputPairs → Result (Option Label) CoseError → Type 0
-NextsLabel ps t z m r = NextsKey label label_seen ps t z m r
+-- the value of the next pair is at t, whose label this is; or none is left; or the next pair's key is at fault
+abbrev pub NextsLabel : Pairs → State → State → MapEntries → Result (Option Label) CoseError → Type 0
+NextsLabel ps t z m r = NextsKey label label_view ps t z m r
 
 -- some pairs were read, and others are left
-pub record SoFar (all : Pairs) (o : Versions (Option Item)) (f : FieldsSeen) (t z : State) (m : InputPairs) : Type 0 where
+pub record SoFar (all : Pairs) (o : Versions (Option Item)) (f : FieldsView) (t z : State) (m : MapEntries) : Type 0 where
   pub left : Pairs
   pub walks : WalksTo all f o left
   pub within : PairsWithin m left t z
 
 pub at_held :
-    (version : Version) (all : Pairs) (o : Versions (Option Item)) (f : FieldsSeen) (s t z : State) (m n : InputPairs) (l : Label) → (w : SoFar all o f s z m)
-    → NextsLabel w.left t z n (Ok (Some l)) → same_name (label_of version) (label_seen l) ≡ true
+    (version : Version) (all : Pairs) (o : Versions (Option Item)) (f : FieldsView) (s t z : State) (m n : MapEntries) (l : Label) → (w : SoFar all o f s z m)
+    → NextsLabel w.left t z n (Ok (Some l)) → same_name (label_of version) (label_view l) ≡ true
     → AtHeld version all o f t z n
 at_held version all o f s t z m n l w h named = record {
   key = h.0;
@@ -41,17 +41,17 @@ at_held version all o f s t z m n l w h named = record {
   others = h.2;
   mid = h.3;
   walks = subst (WalksTo all f o) h.4 w.walks;
-  held = subst (label.describes h.0) (sym (names_laws.same_is (label_of version) (label_seen l) named)) h.5;
+  held = subst (label.describes h.0) (sym (names_laws.same_is (label_of version) (label_view l) named)) h.5;
   stands = h.6;
   within = h.7;
 }
 
-pub at_end : (all : Pairs) (o : Versions (Option Item)) (f : FieldsSeen) (s t z : State) (m n : InputPairs) → (w : SoFar all o f s z m)
+pub at_end : (all : Pairs) (o : Versions (Option Item)) (f : FieldsView) (s t z : State) (m n : MapEntries) → (w : SoFar all o f s z m)
     → NextsLabel w.left t z n (Ok None) → AtEnd all o f t z n
 at_end all o f s t z m n w h = record { walks = subst (WalksTo all f o) h.0 w.walks; within = h.1 }
 
 pub at_key :
-    (all : Pairs) (o : Versions (Option Item)) (f : FieldsSeen) (s t z : State) (m n : InputPairs) (e : CoseError) → (w : SoFar all o f s z m)
+    (all : Pairs) (o : Versions (Option Item)) (f : FieldsView) (s t z : State) (m n : MapEntries) (e : CoseError) → (w : SoFar all o f s z m)
     → NextsLabel w.left t z n (Err e) → AtFault all o f t z n e
 at_key all o f s t z m n e w h = record {
   key = h.0;
@@ -64,23 +64,23 @@ at_key all o f s t z m n e w h = record {
 
 -- a value that was read, and one that was refused
 pub on_value :
-    (all : Pairs) (o : Versions (Option Item)) (f g : FieldsSeen) (s t u z : State) (m n : InputPairs) (l : Label) → (w : SoFar all o f s z m)
+    (all : Pairs) (o : Versions (Option Item)) (f g : FieldsView) (s t u z : State) (m n : MapEntries) (l : Label) → (w : SoFar all o f s z m)
     → NextsLabel w.left t z n (Ok (Some l))
-    → ReadsAt t u (λ v. Adds names (fields (optional any) (optional any)) (label_seen l) v (parts_of (f, o)) (parts_of (g, o))) → SoFar all o g u z n
+    → ReadsAt t u (λ v. Adds names (fields (optional any) (optional any)) (label_view l) v (parts_of (f, o)) (parts_of (g, o))) → SoFar all o g u z n
 on_value all o f g s t u z m n l w h takes =
     let here = takes h.1 h.3 h.6 in
     record {
       left = h.2;
       walks = goes_on names names_laws (fields (optional any) (optional any)) partial_fields_laws all w.left h.2 h.0 h.1 (parts_of (f, o))
-          (parts_of (g, o)) w.walks h.4 (label_seen l, h.5, here.1);
+          (parts_of (g, o)) w.walks h.4 (label_view l, h.5, here.1);
       within = subst (λ y. PairsWithin n h.2 y z) (sym here.0) h.7;
     }
 
 pub at_value :
-    (all : Pairs) (o : Versions (Option Item)) (f g : FieldsSeen) (s t u z : State) (m n : InputPairs) (l : Label) (e : CoseError) → (w : SoFar all o f s z m)
+    (all : Pairs) (o : Versions (Option Item)) (f g : FieldsView) (s t u z : State) (m n : MapEntries) (l : Label) (e : CoseError) → (w : SoFar all o f s z m)
     → NextsLabel w.left t z n (Ok (Some l)) → g ≡ f
-    → ReadsAt t u (λ v. UnlessMemory e (λ i. Refuses names (fields (optional any) (optional any)) (label_seen l) v (parts_of (f, o)) i
-    ⊎ excludes (label_seen l) (parts_of (f, o)) i)) → AtFault all o g u z n e
+    → ReadsAt t u (λ v. UnlessMemory e (λ i. Refuses names (fields (optional any) (optional any)) (label_view l) v (parts_of (f, o)) i
+    ⊎ excludes (label_view l) (parts_of (f, o)) i)) → AtFault all o g u z n e
 at_value all o f g s t u z m n l e w h same refused =
     let here = refused h.1 h.3 h.6 in
     subst (λ x. AtFault all o x u z n e) (sym same) (record {
@@ -93,21 +93,21 @@ at_value all o f g s t u z m n l e w h same refused =
     })
   where
     fault :
-        Refuses names (fields (optional any) (optional any)) (label_seen l) h.1 (parts_of (f, o)) e ⊎ excludes (label_seen l) (parts_of (f, o)) e
+        Refuses names (fields (optional any) (optional any)) (label_view l) h.1 (parts_of (f, o)) e ⊎ excludes (label_view l) (parts_of (f, o)) e
         → RefusesKey names (fields (optional any) (optional any)) h.0 h.1 (parts_of (f, o)) e ⊎ ExcludesKey names excludes h.0 (parts_of (f, o)) e
-    fault (inl r) = inl (inr (label_seen l, h.5, r))
-    fault (inr b) = inr (label_seen l, h.5, b)
+    fault (inl r) = inl (inr (label_view l, h.5, r))
+    fault (inr b) = inr (label_view l, h.5, b)
 
 -- an error that is passed on
 pub stops :
-    (all : Pairs) (o : Versions (Option Item)) (f : FieldsSeen) (t z : State) (n : InputPairs) (r : Result (Option Version) CoseError) (e : CoseError)
+    (all : Pairs) (o : Versions (Option Item)) (f : FieldsView) (t z : State) (n : MapEntries) (r : Result (Option Version) CoseError) (e : CoseError)
     → IsErrAnd r (λ x. x ≡ e) → AtFault all o f t z n e → FillsSome all o z f t n r
 stops all o f t z n (Ok b) e h a = absurd h
 stops all o f t z n (Err x) e h a = subst (AtFault all o f t z n) (sym h) a
 
 -- ---- labels of the rest that repeat
 
-walked : (all : Pairs) (o : Versions (Option Item)) (f : FieldsSeen) (t z : State) (m : InputPairs) (r : Result (Option Version) CoseError)
+walked : (all : Pairs) (o : Versions (Option Item)) (f : FieldsView) (t z : State) (m : MapEntries) (r : Result (Option Version) CoseError)
     → FillsSome all o z f t m r → (left : Pairs) × WalksTo all f o left
 walked all o f t z m (Ok (Some version)) s = (pair s.key s.value s.others, s.walks)
 walked all o f t z m (Ok None) s = (no_pairs, s.walks)
@@ -115,7 +115,7 @@ walked all o f t z m (Err e) s = (pair s.key s.value s.others, s.walks)
 
 -- they don't
 pub distinct :
-    (all : Pairs) (o : Versions (Option Item)) (f : FieldsSeen) (t z : State) (m : InputPairs) (r : Result (Option Version) CoseError)
+    (all : Pairs) (o : Versions (Option Item)) (f : FieldsView) (t z : State) (m : MapEntries) (r : Result (Option Version) CoseError)
     → FillsSome all o z f t m r → IsDistinctRest f → FillsFields all o z f t m r
 distinct all o f t z m (Ok (Some version)) s d = (s, d)
 distinct all o f t z m (Ok None) s d = (s, d)
@@ -130,7 +130,7 @@ distinct all o f t z m (Err e) s d = (s.others, s.within, λ i. fault (s.faulty 
 
 -- they do, or there was no memory to ask
 pub repeats :
-    (all : Pairs) (o : Versions (Option Item)) (f : FieldsSeen) (s t z : State) (m : InputPairs) (r q : Result (Option Version) CoseError) (e : CoseError)
+    (all : Pairs) (o : Versions (Option Item)) (f : FieldsView) (s t z : State) (m : MapEntries) (r q : Result (Option Version) CoseError) (e : CoseError)
     → FillsSome all o z f s m r
     → UnlessMemory e (λ i. (i ≡ DuplicateMapKey) × (are_distinct same_name (keys_of f.rest) ≡ false)) → ((left : Pairs) × PairsWithin m left t z)
     × IsErrAnd q (λ i. i ≡ e) → FillsFields all o z f t m q

@@ -6,8 +6,8 @@ use Rattle.coset_value.specs.Item.{Item, bytes, array, dict, Items, no_items, it
 use Rattle.coset_value.specs.Parts.{as_array, as_bytes, as_map}
 use Rattle.coset_codec.specs.declared.error.CoseError.{CoseError}
 use Rattle.coset_codec.specs.declared.error.CoseError.TheVariants.{DuplicateMapKey, OutOfMemory}
-use Rattle.coset_codec.specs.declared.read.input.InputItems.{InputItems}
-use Rattle.coset_codec.specs.declared.read.input.InputPairs.{InputPairs}
+use Rattle.coset_codec.specs.declared.read.decoder.ArrayElements.{ArrayElements}
+use Rattle.coset_codec.specs.declared.read.decoder.MapEntries.{MapEntries}
 use Rattle.coset_codec.specs.declared.error.ErrorStored.{ErrorStored}
 use Rattle.coset_codec.specs.Errors.{UnlessMemory, IsUnexpected, stored}
 use Rattle.coset_codec.specs.Inputs.{State, ItemAt, AreWithin, PairsWithin, EntersMap, Nexts, ReadsAt}
@@ -20,18 +20,18 @@ use Rattle.coset_label.specs.Labels.{label, names}
 use Rattle.coset_label.specs.LabelLaws.{names_laws}
 use Rattle.coset_core.specs.OneOrMore.{Begins}
 use Rattle.coset_core.specs.FieldLabels as labels
-use Rattle.coset_core.specs.Fields.{FieldsSeen, Versions, empty_fields, fields, parts_of, excludes, HasOneIv, partial_header, HoldsSignatures}
+use Rattle.coset_core.specs.Fields.{FieldsView, Versions, empty_fields, fields, parts_of, excludes, HasOneIv, partial_header, HoldsSignatures}
 use Rattle.coset_core.specs.Fields.{SomeCounterSignatures}
 use Rattle.coset_core.specs.FieldLaws.{partial_fields_laws, join, barred_fault}
-use Rattle.coset_core.specs.FieldsView.{signatures_held, fields_seen, counter_signatures_held, countersignatures_held}
+use Rattle.coset_core.specs.FieldViews.{signatures_held, fields_view, counter_signatures_held, countersignatures_held}
 use Rattle.coset_core.specs.Filling.{WalksTo, AtHeld, AtEnd, FillsFields, IsDistinctRest, Keeps, BeginsElements, EndsElements, FirstPlace, label_of, at_version}
 use Rattle.coset_core.specs.Filling.{with_version, held, held_of}
 use Rattle.coset_core.specs.HeaderAgain.{array-is, bytes-is, never_none}
 use Rattle.coset_core.specs.HeaderReads.{partial_header_fault, counter_signatures_fault}
-use Rattle.coset_core.specs.Headers.{HeaderSeen, fields_in, counter_signatures_in, countersignatures_in, SignatureSeen, empty_header, layered_header}
+use Rattle.coset_core.specs.Headers.{HeaderView, fields_in, counter_signatures_in, countersignatures_in, SignatureView, empty_header, layered_header}
 use Rattle.coset_core.specs.Headers.{layered_protected, layered_signature, signatures_within}
 use Rattle.coset_core.specs.ViewLaws.{header-opened}
-use Rattle.coset_core.specs.Views.{countersignature_seen, header_seen, signature_seen}
+use Rattle.coset_core.specs.Views.{countersignature_view, header_view, signature_view}
 use Rattle.coset_core.specs.declared.header.Header.{Header}
 use Rattle.coset_core.specs.declared.header.reading.Version.{Version}
 use Rattle.coset_core.specs.declared.header.reading.Version.TheVariants.{V1, V2}
@@ -46,24 +46,24 @@ unfolding partial_header
 no_map v e m u = inl (inl (m, u))
 
 pub not_entered :
-    (k : ℕ) (v : Item) (h : HeaderSeen) (t z : State) (r : Result (Unit {0}) ErrorStored) (e : CoseError) (y : ErrorStored) → IsErrAnd r (λ f. f ≡ y)
+    (k : ℕ) (v : Item) (h : HeaderView) (t z : State) (r : Result (Unit {0}) ErrorStored) (e : CoseError) (y : ErrorStored) → IsErrAnd r (λ f. f ≡ y)
     → EntersMap v t z (Err e) → (t ≡ z) × Fills (layered_header k) v h (stored e r)
 not_entered k v h t z r e y is m = (m.0, not_filled (layered_header k) h v r e y is (λ _. partial_header_fault k v e (no_map v e m.1 m.2)))
 
 -- an empty header, of whose pairs none was read
-fields_opened : (h : Header) → header_seen h ≡ empty_header → fields_seen h ≡ empty_fields
+fields_opened : (h : Header) → header_view h ≡ empty_header → fields_view h ≡ empty_fields
 fields_opened h e = sym (ap fields_in (header-opened h)) ∙ ap fields_in e
 
-pub none_held_yet : (h : Header) → header_seen h ≡ empty_header → held h ≡ ([], [])
+pub none_held_yet : (h : Header) → header_view h ≡ empty_header → held h ≡ ([], [])
 none_held_yet h e =
-    let first = none_held signature_seen (counter_signatures_held h) (sym (ap counter_signatures_in (header-opened h)) ∙ ap counter_signatures_in e) in
-    let second = none_held countersignature_seen (countersignatures_held h) (sym (ap countersignatures_in (header-opened h)) ∙ ap countersignatures_in e) in
-    λ i. (map signature_seen (first i), map countersignature_seen (second i))
+    let first = none_held signature_view (counter_signatures_held h) (sym (ap counter_signatures_in (header-opened h)) ∙ ap counter_signatures_in e) in
+    let second = none_held countersignature_view (countersignatures_held h) (sym (ap countersignatures_in (header-opened h)) ∙ ap countersignatures_in e) in
+    λ i. (map signature_view (first i), map countersignature_view (second i))
 
-pub one_iv_yet : (h : Header) → header_seen h ≡ empty_header → HasOneIv (fields_seen h)
+pub one_iv_yet : (h : Header) → header_view h ≡ empty_header → HasOneIv (fields_view h)
 one_iv_yet h e = inl (ap (λ f. f.iv) (fields_opened h e))
 
-set_out : (h : Header) (all : Pairs) → header_seen h ≡ empty_header → WalksTo all (fields_seen h) (None, None) all
+set_out : (h : Header) (all : Pairs) → header_view h ≡ empty_header → WalksTo all (fields_view h) (None, None) all
 set_out h all e =
     subst (λ f. WalksTo all f (None, None) all) (sym (fields_opened h e))
     (sets_out names names_laws (fields (optional any) (optional any)) partial_fields_laws all (parts_of (empty_fields, (None, None)))
@@ -75,20 +75,20 @@ unfolding partial_header
 gather_fault v e (inl g) = inl g
 gather_fault v e (inr g) = barred_fault v e g
 
-abbrev pub Passed : InputPairs → State → State → Type 0
+abbrev pub Passed : MapEntries → State → State → Type 0
 Passed m t z = (left : Pairs) × PairsWithin m left t z
 
 -- some pairs were read: the fields that they make, and the counter signatures that the values of labels 7 and 11 hold
-pub record HeaderSoFar (k : ℕ) (all : Pairs) (h : Header) (t z : State) (m : InputPairs) : Type 0 where
+pub record HeaderSoFar (k : ℕ) (all : Pairs) (h : Header) (t z : State) (m : MapEntries) : Type 0 where
   pub values : Versions (Option Item)
   pub left : Pairs
-  pub walks : WalksTo all (fields_seen h) values left
+  pub walks : WalksTo all (fields_view h) values left
   pub within : PairsWithin m left t z
   pub first : (unless_empty (signatures_within k)).describes values.0 (held h).0
   pub second : (unless_empty (signatures_within k)).describes values.1 (held h).1
 
 -- none was read
-pub so_far_none : (k : ℕ) (all : Pairs) (h : Header) (t z : State) (m : InputPairs) → header_seen h ≡ empty_header → PairsWithin m all t z
+pub so_far_none : (k : ℕ) (all : Pairs) (h : Header) (t z : State) (m : MapEntries) → header_view h ≡ empty_header → PairsWithin m all t z
     → HeaderSoFar k all h t z m
 so_far_none k all h t z m e within = record {
   values = (None, None);
@@ -101,7 +101,7 @@ so_far_none k all h t z m e within = record {
 
 -- the next pairs are at fault
 pub pairs_refused :
-    (k : ℕ) (all : Pairs) (o : Versions (Option Item)) (z : State) (f : FieldsSeen) (t : State) (m : InputPairs) (h : HeaderSeen)
+    (k : ℕ) (all : Pairs) (o : Versions (Option Item)) (z : State) (f : FieldsView) (t : State) (m : MapEntries) (h : HeaderView)
     (r : Result (Unit {0}) ErrorStored) (e : CoseError) (y : ErrorStored) → IsErrAnd r (λ i. i ≡ y)
     → FillsFields all o z f t m (Err e) → Passed m t z × Fills (layered_header k) (dict all) h (stored e r)
 pairs_refused k all o z f t m h r e y is p = (
@@ -110,7 +110,7 @@ pairs_refused k all o z f t m h r e y is p = (
 )
 
 -- all pairs were read
-unread_all : (all : Pairs) (o : Versions (Option Item)) (f : FieldsSeen) (t z : State) (m : InputPairs) → AtEnd all o f t z m → IsDistinctRest f → HasOneIv f
+unread_all : (all : Pairs) (o : Versions (Option Item)) (f : FieldsView) (t z : State) (m : MapEntries) → AtEnd all o f t z m → IsDistinctRest f → HasOneIv f
     → partial_header.describes (dict all) (f, o)
 unfolding partial_header
 unread_all all o f t z m p d one = (
@@ -120,16 +120,16 @@ unread_all all o f t z m p d one = (
 )
 
 pub ends :
-    (k : ℕ) (all : Pairs) (z : State) (g h : Header) (s t : State) (m n : InputPairs) → (p : HeaderSoFar k all g s z m)
-    → FillsFields all p.values z (fields_seen h) t n (Ok None) → HasOneIv (fields_seen h) → signatures_held h ≡ signatures_held g
-    → Passed n t z × (layered_header k).describes (dict all) (header_seen h)
+    (k : ℕ) (all : Pairs) (z : State) (g h : Header) (s t : State) (m n : MapEntries) → (p : HeaderSoFar k all g s z m)
+    → FillsFields all p.values z (fields_view h) t n (Ok None) → HasOneIv (fields_view h) → signatures_held h ≡ signatures_held g
+    → Passed n t z × (layered_header k).describes (dict all) (header_view h)
 ends k all z g h s t m n p q one same =
-    let first = subst (λ xs. (unless_empty (signatures_within k)).describes p.values.0 (map signature_seen xs)) (sym (ap (λ x. x.0) same)) p.first in
-    let second = subst (λ xs. (unless_empty (signatures_within k)).describes p.values.1 (map countersignature_seen xs)) (sym (ap (λ x. x.1) same)) p.second in (
+    let first = subst (λ xs. (unless_empty (signatures_within k)).describes p.values.0 (map signature_view xs)) (sym (ap (λ x. x.0) same)) p.first in
+    let second = subst (λ xs. (unless_empty (signatures_within k)).describes p.values.1 (map countersignature_view xs)) (sym (ap (λ x. x.1) same)) p.second in (
       (no_pairs, q.0.within),
-      header_whole k (dict all) (header_seen h) (fields_seen h) (held h).0 (held h).1
-          (join (unless_empty (signatures_within k)) (unless_empty (signatures_within k)) (dict all) (fields_seen h) p.values (held h)
-          (unread_all all p.values (fields_seen h) t z n q.0 q.1 one) first second) (header-opened h),
+      header_whole k (dict all) (header_view h) (fields_view h) (held h).0 (held h).1
+          (join (unless_empty (signatures_within k)) (unless_empty (signatures_within k)) (dict all) (fields_view h) p.values (held h)
+          (unread_all all p.values (fields_view h) t z n q.0 q.1 one) first second) (header-opened h),
     )
 
 -- one of some pairs
@@ -141,7 +141,7 @@ named : (version : Version) (key : Item) → label.describes key (label_of versi
 named V1 key h = inl h
 named V2 key h = inr h
 
-held_there : (version : Version) (all : Pairs) (o : Versions (Option Item)) (f : FieldsSeen) (t z : State) (m : InputPairs) → (s : AtHeld version all o f t z m)
+held_there : (version : Version) (all : Pairs) (o : Versions (Option Item)) (f : FieldsView) (t z : State) (m : MapEntries) → (s : AtHeld version all o f t z m)
     → SomeCounterSignatures (λ u. u ≡ s.value) (dict all)
 held_there version all o f t z m s = (
   all,
@@ -152,8 +152,8 @@ held_there version all o f t z m s = (
 
 -- the value was refused, or there was no memory to keep what was read of it
 pub counter_signatures_refused :
-    (version : Version) (k : ℕ) (all : Pairs) (o : Versions (Option Item)) (f : FieldsSeen) (t u z : State) (m : InputPairs) (xs : List SignatureSeen)
-    (h : HeaderSeen) (r : Result (Unit {0}) ErrorStored) (e : CoseError) (y : ErrorStored)
+    (version : Version) (k : ℕ) (all : Pairs) (o : Versions (Option Item)) (f : FieldsView) (t u z : State) (m : MapEntries) (xs : List SignatureView)
+    (h : HeaderView) (r : Result (Unit {0}) ErrorStored) (e : CoseError) (y : ErrorStored)
     → IsErrAnd r (λ i. i ≡ y) → AtHeld version all o f t z m → ((w : Item) (x : State) → ItemAt w t x → (u ≡ x) × Fills (signatures_within k) w xs (Err e))
     → Passed m u z × Fills (layered_header k) (dict all) h (stored e r)
 counter_signatures_refused version k all o f t u z m xs h r e y is s read =
@@ -164,8 +164,8 @@ counter_signatures_refused version k all o f t u z m xs h r e y is s read =
     )
 
 pub not_kept :
-    (version : Version) (k : ℕ) (all : Pairs) (o : Versions (Option Item)) (f : FieldsSeen) (t u z : State) (m : InputPairs) (xs : List SignatureSeen)
-    (h : HeaderSeen) (r : Result (Unit {0}) ErrorStored) (e : CoseError) (y : ErrorStored)
+    (version : Version) (k : ℕ) (all : Pairs) (o : Versions (Option Item)) (f : FieldsView) (t u z : State) (m : MapEntries) (xs : List SignatureView)
+    (h : HeaderView) (r : Result (Unit {0}) ErrorStored) (e : CoseError) (y : ErrorStored)
     → IsErrAnd r (λ i. i ≡ y) → AtHeld version all o f t z m → ((w : Item) (x : State) → ItemAt w t x → (u ≡ x) × (signatures_within k).describes w xs)
     → e ≡ OutOfMemory → Passed m u z × Fills (layered_header k) (dict all) h (stored e r)
 not_kept version k all o f t u z m xs h r e y is s read memory =
@@ -176,7 +176,7 @@ not_kept version k all o f t u z m xs h r e y is s read memory =
 
 -- the value was read, and is kept
 taken :
-    (version : Version) (all : Pairs) (f : FieldsSeen) (o : Versions (Option Item)) (key value : Item) (others : Pairs)
+    (version : Version) (all : Pairs) (f : FieldsView) (o : Versions (Option Item)) (key value : Item) (others : Pairs)
     → WalksTo all f o (pair key value others) → label.describes key (label_of version) → at_version version o ≡ None
     → WalksTo all f (with_version version (Some value) o) others
 taken V1 all f o key value others w h none =
@@ -196,49 +196,49 @@ never_empty k w d = go d.0 d.1 d.2
     go (item v vs) e each = each
 
 -- where the list is empty, there was no value
-no_value : (k : ℕ) (o : Option Item) (xs : List SignatureSeen) → (unless_empty (signatures_within k)).describes o xs → is_nonempty xs ≡ false → o ≡ None
+no_value : (k : ℕ) (o : Option Item) (xs : List SignatureView) → (unless_empty (signatures_within k)).describes o xs → is_nonempty xs ≡ false → o ≡ None
 no_value k None xs d e = refl
 no_value k (Some w) [] d e = absurd (never_empty k w d)
 no_value k (Some w) (x ∷ xs) d e = absurd (true≢false e)
 
 pub so_far_more :
-    (version : Version) (k : ℕ) (all : Pairs) (g h i : Header) (s t u z : State) (m n : InputPairs) (xs : List SignatureSeen) → (p : HeaderSoFar k all g s z m)
-    → AtHeld version all p.values (fields_seen h) t z n → signatures_held h ≡ signatures_held g
+    (version : Version) (k : ℕ) (all : Pairs) (g h i : Header) (s t u z : State) (m n : MapEntries) (xs : List SignatureView) → (p : HeaderSoFar k all g s z m)
+    → AtHeld version all p.values (fields_view h) t z n → signatures_held h ≡ signatures_held g
     → is_nonempty (held_of version h) ≡ false → ((w : Item) (y : State) → ItemAt w t y → (u ≡ y) × (signatures_within k).describes w xs) → Keeps version xs h i
     → HeaderSoFar k all i u z n
 so_far_more V1 k all g h i s t u z m n xs p at same empty read kept =
     let here = read at.value at.mid at.stands in
-    let first = subst (λ ys. (unless_empty (signatures_within k)).describes p.values.0 (map signature_seen ys)) (sym (ap (λ x. x.0) same)) p.first in
-    let second = subst (λ ys. (unless_empty (signatures_within k)).describes p.values.1 (map countersignature_seen ys)) (sym (ap (λ x. x.1) same)) p.second in
+    let first = subst (λ ys. (unless_empty (signatures_within k)).describes p.values.0 (map signature_view ys)) (sym (ap (λ x. x.0) same)) p.first in
+    let second = subst (λ ys. (unless_empty (signatures_within k)).describes p.values.1 (map countersignature_view ys)) (sym (ap (λ x. x.1) same)) p.second in
     record {
       values = (Some at.value, p.values.1);
       left = at.others;
       walks = subst (λ f. WalksTo all f (Some at.value, p.values.1) at.others) (sym kept.fields)
-          (taken V1 all (fields_seen h) p.values at.key at.value at.others at.walks at.held (no_value k p.values.0 (held h).0 first empty));
+          (taken V1 all (fields_view h) p.values at.key at.value at.others at.walks at.held (no_value k p.values.0 (held h).0 first empty));
       within = subst (λ y. PairsWithin n at.others y z) (sym here.0) at.within;
       first = subst (λ x. (unless_empty (signatures_within k)).describes (Some at.value) x.0) (sym kept.signatures) here.1;
       second = subst (λ x. (unless_empty (signatures_within k)).describes p.values.1 x.1) (sym kept.signatures) second;
     }
 so_far_more V2 k all g h i s t u z m n xs p at same empty read kept =
     let here = read at.value at.mid at.stands in
-    let first = subst (λ ys. (unless_empty (signatures_within k)).describes p.values.0 (map signature_seen ys)) (sym (ap (λ x. x.0) same)) p.first in
-    let second = subst (λ ys. (unless_empty (signatures_within k)).describes p.values.1 (map countersignature_seen ys)) (sym (ap (λ x. x.1) same)) p.second in
+    let first = subst (λ ys. (unless_empty (signatures_within k)).describes p.values.0 (map signature_view ys)) (sym (ap (λ x. x.0) same)) p.first in
+    let second = subst (λ ys. (unless_empty (signatures_within k)).describes p.values.1 (map countersignature_view ys)) (sym (ap (λ x. x.1) same)) p.second in
     record {
       values = (p.values.0, Some at.value);
       left = at.others;
       walks = subst (λ f. WalksTo all f (p.values.0, Some at.value) at.others) (sym kept.fields)
-          (taken V2 all (fields_seen h) p.values at.key at.value at.others at.walks at.held (no_value k p.values.1 (held h).1 second empty));
+          (taken V2 all (fields_view h) p.values at.key at.value at.others at.walks at.held (no_value k p.values.1 (held h).1 second empty));
       within = subst (λ y. PairsWithin n at.others y z) (sym here.0) at.within;
       first = subst (λ x. (unless_empty (signatures_within k)).describes p.values.0 x.0) (sym kept.signatures) first;
       second = subst (λ x. (unless_empty (signatures_within k)).describes (Some at.value) x.1) (sym kept.signatures) here.1;
     }
 
--- the label of a list that is filled stood before
-some_value : (k : ℕ) (o : Option Item) (xs : List SignatureSeen) → (unless_empty (signatures_within k)).describes o xs → is_nonempty xs ≡ true → o ≡ None → ⊥
+-- the label of a list that is filled was there before
+some_value : (k : ℕ) (o : Option Item) (xs : List SignatureView) → (unless_empty (signatures_within k)).describes o xs → is_nonempty xs ≡ true → o ≡ None → ⊥
 some_value k None xs d e none = absurd (true≢false (sym e ∙ ap is_nonempty d))
 some_value k (Some w) xs d e none = absurd (cc)
 
-repeated : (version : Version) (all : Pairs) (f : FieldsSeen) (o : Versions (Option Item)) (key value : Item) (others : Pairs)
+repeated : (version : Version) (all : Pairs) (f : FieldsView) (o : Versions (Option Item)) (key value : Item) (others : Pairs)
     → WalksTo all f o (pair key value others) → label.describes key (label_of version) → (at_version version o ≡ None → ⊥)
     → (labelled names (fields (optional any) (optional any))).faults (dict all) DuplicateMapKey
 repeated V1 all f o key value others w h some =
@@ -249,8 +249,8 @@ repeated V2 all f o key value others w h some =
     (parts_of (f, o)) DuplicateMapKey refl w refl (inr (labels.countersignature_v2, h, inl (some, refl)))
 
 pub second_refused :
-    (version : Version) (k : ℕ) (all : Pairs) (g h : Header) (s t u z : State) (m n : InputPairs) (x : HeaderSeen) (r : Result (Unit {0}) CoseError)
-    → (p : HeaderSoFar k all g s z m) → AtHeld version all p.values (fields_seen h) t z n → signatures_held h ≡ signatures_held g
+    (version : Version) (k : ℕ) (all : Pairs) (g h : Header) (s t u z : State) (m n : MapEntries) (x : HeaderView) (r : Result (Unit {0}) CoseError)
+    → (p : HeaderSoFar k all g s z m) → AtHeld version all p.values (fields_view h) t z n → signatures_held h ≡ signatures_held g
     → is_nonempty (held_of version h) ≡ true → ((w : Item) (y : State) → ItemAt w t y → (u ≡ y) × (r ≡ Err DuplicateMapKey)) → Passed n u z
     × Fills (layered_header k) (dict all) x r
 second_refused version k all g h s t u z m n x r p at same filled read =
@@ -259,14 +259,14 @@ second_refused version k all g h s t u z m n x r p at same filled read =
       subst (Fills (layered_header k) (dict all) x) (sym here.1)
           (λ _. partial_header_fault k (dict all) DuplicateMapKey
           (gather_fault (dict all) DuplicateMapKey
-          (inl (repeated version all (fields_seen h) p.values at.key at.value at.others at.walks at.held (there version filled))))),
+          (inl (repeated version all (fields_view h) p.values at.key at.value at.others at.walks at.held (there version filled))))),
     )
   where
     there : (version : Version) → is_nonempty (held_of version h) ≡ true → at_version version p.values ≡ None → ⊥
     there V1 filled = some_value k p.values.0 (held h).0
-        (subst (λ ys. (unless_empty (signatures_within k)).describes p.values.0 (map signature_seen ys)) (sym (ap (λ x. x.0) same)) p.first) filled
+        (subst (λ ys. (unless_empty (signatures_within k)).describes p.values.0 (map signature_view ys)) (sym (ap (λ x. x.0) same)) p.first) filled
     there V2 filled = some_value k p.values.1 (held h).1
-        (subst (λ ys. (unless_empty (signatures_within k)).describes p.values.1 (map countersignature_seen ys)) (sym (ap (λ x. x.1) same)) p.second) filled
+        (subst (λ ys. (unless_empty (signatures_within k)).describes p.values.1 (map countersignature_view ys)) (sym (ap (λ x. x.1) same)) p.second) filled
 
 -- ---- one, or several
 
@@ -299,14 +299,14 @@ more_filled s v vs xs r e b p = ones_of s v vs xs r (ap one_or_more (array-is v 
 -- ---- a signature's elements
 
 pub elements_refused :
-    (k : ℕ) (vs : Items) (t z : State) (m : InputItems) (o : Option (List ℕ)) (f : CoseError) (x : SignatureSeen) (r : Result (Unit {0}) ErrorStored)
+    (k : ℕ) (vs : Items) (t z : State) (m : ArrayElements) (o : Option (List ℕ)) (f : CoseError) (x : SignatureView) (r : Result (Unit {0}) ErrorStored)
     (e : CoseError) (y : ErrorStored) → IsErrAnd r (λ i. i ≡ y) → BeginsElements vs t z m o f (Err e)
     → ((left : Items) × AreWithin m left t z) × Fills (layered_signature k) (array vs) x (stored e r)
 elements_refused k vs t z m o f x r e y is b = ((b.0, b.1), not_filled (layered_signature k) x (array vs) r e y is (b.2 k))
 
 -- the first place was read, and is no byte string
 pub first_refused :
-    (vs : Items) (s t x z : State) (m n : InputItems) (e : CoseError) → Nexts vs s z m true → ReadsAt s t (λ v. UnlessMemory e (bstr.faults v))
+    (vs : Items) (s t x z : State) (m n : ArrayElements) (e : CoseError) → Nexts vs s z m true → ReadsAt s t (λ v. UnlessMemory e (bstr.faults v))
     → ((us : Items) → AreWithin m us t z → Nexts us x z n true)
     → (w : Item) × (u : Item) × (others : Items) × (mid : State) × (vs ≡ item w (item u others)) × ItemAt u x mid × AreWithin n others mid z
     × ((k : ℕ) → UnlessMemory e ((layered_protected k).faults w))
@@ -315,8 +315,8 @@ first_refused vs s t x z m n e p read next =
     let b = next p.1 (subst (λ y. AreWithin m p.1 y z) (sym here.0) p.5) in
     (p.0, b.0, b.1, b.2, p.3 ∙ ap (item p.0) b.3, b.4, b.5, λ k i. no_string k p.0 e (here.1 i))
 
--- the second place was read, whatever was answered
-pub record Second (vs : Items) (o : Option (List ℕ)) (f : CoseError) (b : Bool) (u z : State) (m : InputItems) (P : Item → Type 0) : Type 0 where
+-- the second place was read, whatever was returned
+pub record Second (vs : Items) (o : Option (List ℕ)) (f : CoseError) (b : Bool) (u z : State) (m : ArrayElements) (P : Item → Type 0) : Type 0 where
   pub first : Item
   pub second : Item
   pub others : Items
@@ -326,7 +326,7 @@ pub record Second (vs : Items) (o : Option (List ℕ)) (f : CoseError) (b : Bool
   pub holds : P second
 
 pub second_read :
-    (vs : Items) (t u z : State) (m : InputItems) (o : Option (List ℕ)) (f : CoseError) (b : Bool) (P : Item → Type 0) → BeginsElements vs t z m o f (Ok b)
+    (vs : Items) (t u z : State) (m : ArrayElements) (o : Option (List ℕ)) (f : CoseError) (b : Bool) (P : Item → Type 0) → BeginsElements vs t z m o f (Ok b)
     → ((v : Item) (y : State) → ItemAt v t y → (u ≡ y) × P v)
     → Second vs o f b u z m P
 second_read vs t u z m o f b P q read =
@@ -335,7 +335,7 @@ second_read vs t u z m o f b P q read =
 
 -- the third place is the last, and no byte string
 pub third_refused :
-    (vs : Items) (s t x z : State) (m n : InputItems) (b : List ℕ) (r : Result (Unit {0}) ErrorStored) (e : CoseError) (y : ErrorStored)
+    (vs : Items) (s t x z : State) (m n : ArrayElements) (b : List ℕ) (r : Result (Unit {0}) ErrorStored) (e : CoseError) (y : ErrorStored)
     → IsErrAnd r (λ i. i ≡ y)
     → Nexts vs s z m true → ReadsAt s t (λ v. UnlessMemory e (bstr.faults v))
     → ((us : Items) → AreWithin m us t z → Nexts us x z n false) → EndsElements vs x z n b (stored e r)
@@ -351,8 +351,8 @@ third_refused vs s t x z m n b (Err f) e y is p read none =
     )
 
 pub last_refused :
-    (k : ℕ) (vs : Items) (u w z : State) (m n : InputItems) (o : Option (List ℕ)) (f : CoseError) (i : Bool) (P : Item → Type 0) (b : List ℕ)
-    (x : SignatureSeen) (r : Result (Unit {0}) ErrorStored) (e : CoseError) (y : ErrorStored)
+    (k : ℕ) (vs : Items) (u w z : State) (m n : ArrayElements) (o : Option (List ℕ)) (f : CoseError) (i : Bool) (P : Item → Type 0) (b : List ℕ)
+    (x : SignatureView) (r : Result (Unit {0}) ErrorStored) (e : CoseError) (y : ErrorStored)
     → IsErrAnd r (λ j. j ≡ y) → (s : Second vs o f i u z m P) → EndsElements s.others w z n b (Err e) → ((left : Items) × AreWithin n left w z)
     × Fills (layered_signature k) (array vs) x (stored e r)
 last_refused k vs u w z m n o f i P b x r e y is s p = (
@@ -362,14 +362,14 @@ last_refused k vs u w z m n o f i P b x r e y is s p = (
 )
 
 -- all elements, of which the last is a byte string
-all_elements : (vs : Items) (o : Option (List ℕ)) (f : CoseError) (i : Bool) (u w z : State) (m n : InputItems) (P : Item → Type 0) (b : List ℕ)
+all_elements : (vs : Items) (o : Option (List ℕ)) (f : CoseError) (i : Bool) (u w z : State) (m n : ArrayElements) (P : Item → Type 0) (b : List ℕ)
     → (s : Second vs o f i u z m P) → (p : EndsElements s.others w z n b (Ok tt))
     → vs ≡ item s.first (item s.second (item p.0 no_items))
 all_elements vs o f i u w z m n P b s p = s.is ∙ ap (λ ws. item s.first (item s.second ws)) p.1
 
 -- the second place was refused
 pub unprotected_refused :
-    (k : ℕ) (vs : Items) (u w z : State) (m n : InputItems) (o : Option (List ℕ)) (f : CoseError) (i : Bool) (b : List ℕ) (x : SignatureSeen)
+    (k : ℕ) (vs : Items) (u w z : State) (m n : ArrayElements) (o : Option (List ℕ)) (f : CoseError) (i : Bool) (b : List ℕ) (x : SignatureView)
     (r : Result (Unit {0}) ErrorStored) (e g : CoseError) (y : ErrorStored)
     → IsErrAnd r (λ j. j ≡ y) → g ≡ e → (s : Second vs o f i u z m (λ v. UnlessMemory e ((layered_header k).faults v))) → EndsElements s.others w z n b (Ok tt)
     → ((left : Items) × AreWithin n left w z) × Fills (layered_signature k) (array vs) x (stored g r)
@@ -384,7 +384,7 @@ unprotected_refused k vs u w z m n o f i b x r e g y is same s p =
 
 -- the first place is no byte string
 pub protected_refused :
-    (k : ℕ) (vs : Items) (u w z : State) (m n : InputItems) (o : Option (List ℕ)) (f : CoseError) (P : Item → Type 0) (b : List ℕ) (x : SignatureSeen)
+    (k : ℕ) (vs : Items) (u w z : State) (m n : ArrayElements) (o : Option (List ℕ)) (f : CoseError) (P : Item → Type 0) (b : List ℕ) (x : SignatureView)
     → (s : Second vs o f false u z m P)
     → EndsElements s.others w z n b (Ok tt) → ((left : Items) × AreWithin n left w z) × Fills (layered_signature k) (array vs) x (Err f)
 protected_refused k vs u w z m n o f P b x s p = (
@@ -394,14 +394,14 @@ protected_refused k vs u w z m n o f P b x s p = (
 )
 
 signature_filled :
-    (k : ℕ) (a b c : Item) (x : SignatureSeen) (r : Result (Unit {0}) CoseError) → (layered_header k).describes b x.unprotected → as_bytes c ≡ Some x.signature
+    (k : ℕ) (a b c : Item) (x : SignatureView) (r : Result (Unit {0}) CoseError) → (layered_header k).describes b x.unprotected → as_bytes c ≡ Some x.signature
     → Fills (layered_protected k) a x.protected r
     → Fills (layered_signature k) (array (item a (item b (item c no_items)))) x r
 signature_filled k a b c x (Ok u) h s p = (item a (item b (item c no_items)), refl, (p, (h, (s, tt))))
 signature_filled k a b c x (Err e) h s p = λ n. inr (item a (item b (item c no_items)), refl, inr (λ m. m tt, inl (p n)))
 
 pub elements_filled :
-    (k : ℕ) (vs : Items) (u w z : State) (m n : InputItems) (o : Option (List ℕ)) (f : CoseError) (x : SignatureSeen) (r : Result (Unit {0}) CoseError)
+    (k : ℕ) (vs : Items) (u w z : State) (m n : ArrayElements) (o : Option (List ℕ)) (f : CoseError) (x : SignatureView) (r : Result (Unit {0}) CoseError)
     → (s : Second vs o f true u z m (λ v. (layered_header k).describes v x.unprotected)) → EndsElements s.others w z n x.signature (Ok tt)
     → ((b : List ℕ) → o ≡ Some b → Fills (layered_protected k) (bytes b) x.protected r) → ((left : Items) × AreWithin n left w z)
     × Fills (layered_signature k) (array vs) x r

@@ -10,11 +10,11 @@ use Rattle.coset_label.specs.Names.{Name, same_name}
 use Rattle.coset_label.specs.LabelLaws.{names_laws}
 use Rattle.coset_core.specs.FieldLabels as labels
 use Rattle.coset_core.specs.FieldLaws.{join, image_with}
-use Rattle.coset_core.specs.Fields.{FieldsSeen, Versions, fields, map_with, partial_header, HoldsSignatures, SomeCounterSignatures}
+use Rattle.coset_core.specs.Fields.{FieldsView, Versions, fields, map_with, partial_header, HoldsSignatures, SomeCounterSignatures}
 use Rattle.coset_core.specs.HeaderMap.{each_of, header_with, header_parts, header_map}
 use Rattle.coset_core.specs.HeaderReads.{signed_as, ProtectedOf, header_read_with, faults_read, protected_faults, unprotected_faults}
 use Rattle.coset_core.specs.HeaderWrites.{images_signatures}
-use Rattle.coset_core.specs.Headers.{HeaderSeen, header_of, Signatures, no_signatures, signature_and, ProtectedSeen, SignatureSeen, signatures_of, empty_header}
+use Rattle.coset_core.specs.Headers.{HeaderView, header_of, Signatures, no_signatures, signature_and, ProtectedView, SignatureView, signatures_of, empty_header}
 use Rattle.coset_core.specs.Headers.{CounterSignaturesAre, DescribesContent, IsHeader, AreSignatures}
 use Rattle.coset_core.specs.Headers.{signed_array, described_by, counter_signatures_item, header_item}
 use Rattle.coset_core.specs.Headers.{signatures_image, counter_signatures_faults, layered_header, layered_protected, layered_signature, signatures_within}
@@ -25,49 +25,49 @@ signatures-again : (ss : Signatures) → signatures_of (each_of ss) ≡ ss
 signatures-again no_signatures = refl
 signatures-again (signature_and o p u s more) = ap (signature_and o p u s) (signatures-again more)
 
-header-back : (h : HeaderSeen) → header_with (header_parts h) ≡ h
+header-back : (h : HeaderView) → header_with (header_parts h) ≡ h
 header-back (header_of f ss ts) = λ i. header_of f (signatures-again ss i) (signatures-again ts i)
 
--- ---- what stands for a header
+-- ---- what represents a header
 
-content_told : (k : ℕ) (h : HeaderSeen) (b : List ℕ) → DescribesContent (IsHeader h k) (h ≡ empty_header) b
+content_told : (k : ℕ) (h : HeaderView) (b : List ℕ) → DescribesContent (IsHeader h k) (h ≡ empty_header) b
     → ContentDescribes empty_header (layered_header k) b h
 unfolding layered_header
 content_told k h [] p = p
 content_told k h (c ∷ b) p = p
 
-protected_told : (k : ℕ) (p : ProtectedSeen) (v : Item) → ProtectedOf p.original p.header k v → (layered_protected k).describes v p
+protected_decides : (k : ℕ) (p : ProtectedView) (v : Item) → ProtectedOf p.original p.header k v → (layered_protected k).describes v p
 unfolding layered_protected
-protected_told zero p v h = h
-protected_told (suc k) p v h = (h.0, h.1, h.2, content_told k p.header h.0 h.3)
+protected_decides zero p v h = h
+protected_decides (suc k) p v h = (h.0, h.1, h.2, content_told k p.header h.0 h.3)
 
-unprotected_told : (k : ℕ) (h : HeaderSeen) (v : Item) → IsHeader h k v → (layered_header k).describes v h
+unprotected_told : (k : ℕ) (h : HeaderView) (v : Item) → IsHeader h k v → (layered_header k).describes v h
 unfolding layered_header
 unprotected_told k h v p = p
 
-signatures_told : (k : ℕ) (ss : Signatures) (vs : Items) → AreSignatures ss k vs → Each (layered_signature k).describes vs (each_of ss)
-signatures_told k no_signatures vs h = subst (λ us. Each (layered_signature k).describes us []) (sym h) tt
-signatures_told k (signature_and o p u s more) no_items h = absurd h
-signatures_told k (signature_and o p u s more) (item v vs) h =
-    let protected : ProtectedSeen = record { original = o; header = p } in (
+signatures_decides : (k : ℕ) (ss : Signatures) (vs : Items) → AreSignatures ss k vs → Each (layered_signature k).describes vs (each_of ss)
+signatures_decides k no_signatures vs h = subst (λ us. Each (layered_signature k).describes us []) (sym h) tt
+signatures_decides k (signature_and o p u s more) no_items h = absurd h
+signatures_decides k (signature_and o p u s more) (item v vs) h =
+    let protected : ProtectedView = record { original = o; header = p } in (
       signed_as (described_by (ProtectedOf o p k)) (described_by (IsHeader u k)) (layered_protected k) (layered_header k) tt tt protected u s
-          (protected_told k protected) (unprotected_told k u) v h.0,
-      signatures_told k more vs h.1,
+          (protected_decides k protected) (unprotected_told k u) v h.0,
+      signatures_decides k more vs h.1,
     )
 
 listed_told :
     (k : ℕ) (ss : Signatures) (o : Option Item) → CounterSignaturesAre (AreSignatures ss k) (ss ≡ no_signatures) o
     → (unless_empty (signatures_within k)).describes o (each_of ss)
-listed_told k ss (Some w) h = (h.0, h.1, signatures_told k ss h.0 h.2)
+listed_told k ss (Some w) h = (h.0, h.1, signatures_decides k ss h.0 h.2)
 listed_told k ss None h = ap each_of h
 
-pub header_told : (k : ℕ) (v : Item) (h : HeaderSeen) → (layered_header k).describes v h → (header_map (signatures_within k)).describes v h
+pub header_decides : (k : ℕ) (v : Item) (h : HeaderView) → (layered_header k).describes v h → (header_map (signatures_within k)).describes v h
 unfolding layered_header
-header_told k v (header_of f ss ts) h =
+header_decides k v (header_of f ss ts) h =
     join (unless_empty (signatures_within k)) (unless_empty (signatures_within k)) v f h.0 (each_of ss, each_of ts) h.1
     (listed_told k ss h.0.0 h.2) (listed_told k ts h.0.1 h.3)
 
-pub header_told_so : (k : ℕ) (v : Item) (h : HeaderSeen) → (header_map (signatures_within k)).describes v h → (layered_header k).describes v h
+pub header_told_so : (k : ℕ) (v : Item) (h : HeaderView) → (header_map (signatures_within k)).describes v h → (layered_header k).describes v h
 header_told_so k v h d =
     let x = header_parts h in
     subst (λ g. (layered_header k).describes v g) (header-back h) (header_read_with k v x.0 x.1.0 x.1.1 d)
@@ -101,7 +101,7 @@ no_entries rest true o h = ap (entries_image names true rest) h
 no_entries rest false o h = refl
 
 -- so a header is written as the map is, where its signatures are
-module _ (c : FieldShape (List SignatureSeen)) (f : FieldsSeen) (x : Versions (List SignatureSeen)) where
+module _ (c : FieldShape (List SignatureView)) (f : FieldsView) (x : Versions (List SignatureView)) where
   map_image : (o p : Option (Option Item)) → c.image x.0 ≡ o → c.image x.1 ≡ p → header_item f o p ≡ (map_with c c).image (f, x)
   map_image (Some v) (Some w) h k = image_with c c f x v w h k
   map_image (Some v) None h k =
@@ -111,7 +111,7 @@ module _ (c : FieldShape (List SignatureSeen)) (f : FieldsSeen) (x : Versions (L
       sym (no_entries f.rest (may_write names true f.rest) _
       (not_later _ _ _ (not_later _ _ _ (not_later _ _ _ (not_later _ _ _ (not_later _ _ _ (not_later _ _ _ (not_first _ _ _ h))))))))
 
-pub header_written : (k : ℕ) (h : HeaderSeen) → (layered_header k).image h ≡ (header_map (signatures_within k)).image h
+pub header_written : (k : ℕ) (h : HeaderView) → (layered_header k).image h ≡ (header_map (signatures_within k)).image h
 unfolding layered_header
 header_written k (header_of f ss ts) =
     map_image (unless_empty (signatures_within k)) f (each_of ss, each_of ts)
@@ -142,7 +142,7 @@ past false P Q R f h = f h
 abbrev IsVersion : Name → Type 0
 IsVersion m = (same_name labels.counter_signature m ≡ true) ⊎ (same_name labels.countersignature_v2 m ≡ true)
 
-module _ (s : Shape (List SignatureSeen)) (e : CoseError) where
+module _ (s : Shape (List SignatureView)) (e : CoseError) where
   -- the value of a field is wrong as one that is left as it is, or as signatures
   field_split :
       (m : Name) (v : Item) → (fields (unless_empty s) (unless_empty s)).faults m v e

@@ -13,11 +13,11 @@ use Rattle.coset_codec.specs.ShapeLaws.{some-one}
 use Rattle.coset_codec.proofs.AsWritten.{array_as_written, bstr_as_written, list_as_written, list_when_read, then_as_written}
 use Rattle.coset_core.specs.HeaderAgain.{Begins, one_or_array_begins}
 use Rattle.coset_core.specs.HeaderWrites.{protected_image_is}
-use Rattle.coset_core.specs.Headers.{HeaderSeen, header_of, Signatures, no_signatures, signature_and, ProtectedSeen, SignatureSeen, are_none, elements_of}
+use Rattle.coset_core.specs.Headers.{HeaderView, header_of, Signatures, no_signatures, signature_and, ProtectedView, SignatureView, are_none, elements_of}
 use Rattle.coset_core.specs.Headers.{empty_header, is_empty_header, header_image, layered_header, layered_protected, layered_signature, protected_bytes}
 use Rattle.coset_core.specs.Headers.{signatures_within}
 use Rattle.coset_core.specs.Kept.{KeepsAbbreviated, KeepsOwn, first_bytes, KeepsReceived, KeepsSignature, KeepsSignatures, SignaturesReadAs}
-use Rattle.coset_core.proofs.HeaderMap.{header_told, header_written}
+use Rattle.coset_core.proofs.HeaderMap.{header_decides, header_written}
 use Rattle.coset_core.proofs.Labelled.{abbreviated_as_written, both_parts, mapped_part, map_when_read, signatures_as_written}
 
 -- what a byte string holds which is that of o
@@ -27,10 +27,10 @@ held_of (Some c) v b e d = let same : bytes c ≡ v = some-one refl e in sym d �
 
 -- ---- protected headers, within k layers
 
-bytes_of : (p : ProtectedSeen) (b : List ℕ) → p.original ≡ Some b → protected_bytes p ≡ Some b
+bytes_of : (p : ProtectedView) (b : List ℕ) → p.original ≡ Some b → protected_bytes p ≡ Some b
 bytes_of p b e = ap (λ o. content_bytes is_empty_header header_image o p.header) e
 
-protected_when_read : (k : ℕ) (v : Item) (p : ProtectedSeen) → (layered_protected k).describes v p → KeepsOwn p × (as_bytes v ≡ protected_bytes p)
+protected_when_read : (k : ℕ) (v : Item) (p : ProtectedView) → (layered_protected k).describes v p → KeepsOwn p × (as_bytes v ≡ protected_bytes p)
 unfolding layered_protected
 protected_when_read zero v p d = absurd d
 protected_when_read (suc k) v p d =
@@ -45,12 +45,12 @@ protected_as_written k v p q e d =
 -- ---- signatures
 
 first_when_read :
-    (k : ℕ) (vs : Items) (s : SignatureSeen) → (layered_protected k then layered_header k then bstr then end).describes vs (elements_of s)
+    (k : ℕ) (vs : Items) (s : SignatureView) → (layered_protected k then layered_header k then bstr then end).describes vs (elements_of s)
     → KeepsOwn s.protected × (first_bytes vs ≡ protected_bytes s.protected)
 first_when_read k no_items s d = absurd d
 first_when_read k (item v vs) s d = protected_when_read k v s.protected d.0
 
-pub signature_when_read : (k : ℕ) (v : Item) (s : SignatureSeen) → (layered_signature k).describes v s → KeepsReceived v s
+pub signature_when_read : (k : ℕ) (v : Item) (s : SignatureView) → (layered_signature k).describes v s → KeepsReceived v s
 signature_when_read k v s d = let first = first_when_read k d.0 s d.2 in (first.0, (d.0, d.1, first.1))
 
 pub keeps_own : (k : ℕ) → WhenRead (layered_signature k) (λ s. KeepsOwn s.protected)
@@ -68,7 +68,7 @@ signature_as_written k v s t e d =
 -- ---- one or several
 
 -- one is an array that begins with a byte string
-signature_begins : (k : ℕ) (s : SignatureSeen) (v : Item) → (layered_signature k).image s ≡ Some v → Begins v
+signature_begins : (k : ℕ) (s : SignatureView) (v : Item) → (layered_signature k).image s ≡ Some v → Begins v
 signature_begins k s v e =
     let places = mapped_part array _ v e in
     let first = both_parts item _ _ places.0 places.1 in
@@ -80,7 +80,7 @@ signature_begins k s v e =
     }
 
 one_or_array_again :
-    (k : ℕ) (ss : List SignatureSeen) (us vs : Items) → images (layered_signature k).image ss ≡ Some us → one_or_more (one_or_array us) ≡ Some vs → vs ≡ us
+    (k : ℕ) (ss : List SignatureView) (us vs : Items) → images (layered_signature k).image ss ≡ Some us → one_or_more (one_or_array us) ≡ Some vs → vs ≡ us
 one_or_array_again k [] us vs e d =
     let none : no_items ≡ us = some-one refl e in
     let never : one_or_more (one_or_array no_items) ≡ Some vs = subst (λ ws. one_or_more (one_or_array ws) ≡ Some vs) (sym none) d in
@@ -106,15 +106,15 @@ within_when_read k v ss d = list_when_read (layered_signature k) (λ s. KeepsOwn
 pub header_as_written : (k : ℕ) → AsWritten (layered_header k) (λ h g. SignaturesReadAs KeepsSignature h g × KeepsAbbreviated h g)
 header_as_written k v h g e d =
     let image = sym (header_written k h) ∙ e in
-    let described = header_told k v g d in (
+    let described = header_decides k v g d in (
       signatures_as_written (signatures_within k) h g v image described KeepsSignature (within_as_written k),
       abbreviated_as_written (signatures_within k) h g v image described,
     )
 
 pub header_when_read : (k : ℕ) → WhenRead (layered_header k) KeepsSignatures
-header_when_read k v h d = map_when_read (signatures_within k) (λ s. KeepsOwn s.protected) (within_when_read k) v h (header_told k v h d)
+header_when_read k v h d = map_when_read (signatures_within k) (λ s. KeepsOwn s.protected) (within_when_read k) v h (header_decides k v h d)
 
-content_when_read : (k : ℕ) (b : List ℕ) (h : HeaderSeen) → ContentDescribes empty_header (layered_header k) b h → KeepsSignatures h
+content_when_read : (k : ℕ) (b : List ℕ) (h : HeaderView) → ContentDescribes empty_header (layered_header k) b h → KeepsSignatures h
 content_when_read k [] h d = subst KeepsSignatures (sym d) (tt, tt)
 content_when_read k (c ∷ b) h d = header_when_read k d.0 h d.2
 
@@ -129,15 +129,15 @@ none_of : {A : Type 0} (o : Option A) → is_none o ≡ true → o ≡ None
 none_of None e = refl
 none_of (Some x) e = absurd (cc)
 
-no_member : {A : Type 0} (xs : List A) → (length xs == 0) ≡ true → xs ≡ []
-no_member [] e = refl
-no_member (x ∷ xs) e = let none : suc (length xs) ≡ 0 = eqb-true _ _ e in absurd (cc)
+no_element : {A : Type 0} (xs : List A) → (length xs == 0) ≡ true → xs ≡ []
+no_element [] e = refl
+no_element (x ∷ xs) e = let none : suc (length xs) ≡ 0 = eqb-true _ _ e in absurd (cc)
 
 no_signature : (ss : Signatures) → are_none ss ≡ true → ss ≡ no_signatures
 no_signature no_signatures e = refl
 no_signature (signature_and o p u s more) e = absurd (cc)
 
-pub is_the_empty_one : (h : HeaderSeen) → is_empty_header h ≡ true → h ≡ empty_header
+pub is_the_empty_one : (h : HeaderView) → is_empty_header h ≡ true → h ≡ empty_header
 is_the_empty_one (header_of f ss ts) e =
     let alg = and_parts _ _ e in
     let crit = and_parts _ _ alg.1 in
@@ -149,15 +149,15 @@ is_the_empty_one (header_of f ss ts) e =
     let second = and_parts _ _ first.1 in
     let last = and_parts _ _ second.1 in
     let alg_is = none_of f.alg alg.0 in
-    let crit_is = no_member f.crit crit.0 in
+    let crit_is = no_element f.crit crit.0 in
     let kind_is = none_of f.content_type kind.0 in
-    let key_is = no_member f.key_id key.0 in
-    let iv_is = no_member f.iv iv.0 in
-    let partial_is = no_member f.partial_iv partial.0 in
+    let key_is = no_element f.key_id key.0 in
+    let iv_is = no_element f.iv iv.0 in
+    let partial_is = no_element f.partial_iv partial.0 in
     let first_is = no_signature ss first.0 in
     let second_is = no_signature ts second.0 in
     let abbreviated_is = none_of f.countersignature0_v2 last.0 in
-    let rest_is = no_member f.rest last.1 in
+    let rest_is = no_element f.rest last.1 in
     λ i.
     header_of
     (record {

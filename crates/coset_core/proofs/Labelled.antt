@@ -1,4 +1,4 @@
--- What stands under the labels of signatures in a header's map, where it was written.
+-- What is under the labels of signatures in a header's map, where it was written.
 use Rattle.std.proofs.Common.{◌≡◌, ℕ, List, [], ◌∷◌, ◌++◌, Option, Some, None, Bool, true, false, cond, option_map, refl, sym, ap, subst, ◌∙◌}
 use Rattle.std.specs.Map.{lookup}
 use Rattle.coset_value.specs.Item.{Item, Pairs, no_pairs, pair, bytes, dict, integer, text}
@@ -13,7 +13,7 @@ use Rattle.coset_label.specs.Names.{Name, number, text_label, same_name}
 use Rattle.coset_core.specs.FieldLabels as labels
 use Rattle.coset_core.specs.Fields.{FieldTuple, fields, parts_of}
 use Rattle.coset_core.specs.HeaderMap.{each_of, header_map, header_parts}
-use Rattle.coset_core.specs.Headers.{HeaderSeen, SignatureSeen, counter_signatures_in, countersignatures_in, fields_in}
+use Rattle.coset_core.specs.Headers.{HeaderView, SignatureView, counter_signatures_in, countersignatures_in, fields_in}
 use Rattle.coset_core.specs.Kept.{EachReadAs, EachSignature, KeepsAbbreviated, SignaturesReadAs}
 
 -- ---- answers of parts
@@ -50,7 +50,7 @@ label_again (text_label s) (text_label t) k e d =
     let same : text s ≡ k = some-one refl e in
     ap text_label (some-one d.1 (ap as_text (sym same)))
 
--- so the same stands under each label
+-- so the same is under each label
 pub lookup_again :
     (test : Name → Bool) (es fs : List (Name × Item)) (ps : Pairs) → named_image label.image es ≡ Some ps → Named label.describes ps fs
     → lookup test fs ≡ lookup test es
@@ -134,7 +134,7 @@ module _ (test : Name → Bool) where
         let held = more parts.1 parts.3 in
         (held.0, held.1, ap (lookup test) parts.4 ∙ (other_put l parts.0 parts.1 h ∙ held.2))
 
--- what the fields of labels 7, 11 and 12 are written as stands under these labels
+-- what the fields of labels 7, 11 and 12 are written as is under these labels
 module _ {C : Type 0} (c d : FieldShape C) (x : FieldTuple C) where
   under_first : (es : List (Name × Item)) → (fields c d).image x ≡ Some es → Holds (same_name labels.counter_signature) (c.image x.1.1.1.1.1.1.0) es
   under_first =
@@ -193,10 +193,10 @@ is_map true rest (Some es) v e =
 is_map true rest None v e = absurd (cc)
 is_map false rest o v e = absurd (cc)
 
-module _ (s : Shape (List SignatureSeen)) (R : SignatureSeen → SignatureSeen → Type 0) (law : AsWritten s (EachWith R)) where
+module _ (s : Shape (List SignatureView)) (R : SignatureView → SignatureView → Type 0) (law : AsWritten s (EachWith R)) where
   -- the signatures under a label: found is what is read there, and put what was written
   read_as :
-      (l : Name) (rest : List (Name × Item)) (ss ts : List SignatureSeen) (es : List (Name × Item)) (found put : Option Item)
+      (l : Name) (rest : List (Name × Item)) (ss ts : List SignatureView) (es : List (Name × Item)) (found put : Option Item)
       → (unless_empty s).image ss ≡ Some put → lookup (same_name l) es ≡ put → found ≡ lookup (same_name l) (es ++ rest)
       → (unless_empty s).describes found ts → EachReadAs R l rest ss ts
   read_as l rest [] ts es found put e stands looked d = λ none.
@@ -213,8 +213,8 @@ string_again : (s : List ℕ) (y : Option (List ℕ)) → (optional bstr).descri
 string_again s (Some t) d = sym d
 string_again s None d = absurd d
 
-module _ (s : Shape (List SignatureSeen)) (h g : HeaderSeen) (v : Item) (e : (header_map s).image h ≡ Some v) (d : (header_map s).describes v g) where
-  abbrev tuple : FieldTuple (List SignatureSeen)
+module _ (s : Shape (List SignatureView)) (h g : HeaderView) (v : Item) (e : (header_map s).image h ≡ Some v) (d : (header_map s).describes v g) where
+  abbrev tuple : FieldTuple (List SignatureView)
   tuple = (parts_of (header_parts h)).0
 
   abbrev rest : List (Name × Item)
@@ -229,7 +229,7 @@ module _ (s : Shape (List SignatureSeen)) (h g : HeaderSeen) (v : Item) (e : (he
       lookup_again (same_name l) (written.entries ++ rest) d.0.2.entries written.pairs written.are_pairs
       (subst (λ ps. Named label.describes ps d.0.2.entries) same d.0.2.named)
 
-  pub signatures_as_written : (R : SignatureSeen → SignatureSeen → Type 0) → AsWritten s (EachWith R) → SignaturesReadAs R h g
+  pub signatures_as_written : (R : SignatureView → SignatureView → Type 0) → AsWritten s (EachWith R) → SignaturesReadAs R h g
   signatures_as_written R law =
       let first = under_first (unless_empty s) (unless_empty s) tuple written.entries written.is_image in
       let second = under_second (unless_empty s) (unless_empty s) tuple written.entries written.is_image in (
@@ -248,8 +248,8 @@ module _ (s : Shape (List SignatureSeen)) (h g : HeaderSeen) (v : Item) (e : (he
       (subst (λ o. (optional bstr).describes o (fields_in g).countersignature0_v2) (looked labels.countersignature0_v2 ∙ first)
       d.0.2.fields.1.1.1.1.1.1.1.1.0)
 
-module _ (s : Shape (List SignatureSeen)) (P : SignatureSeen → Type 0) (law : WhenRead s (EachHas P)) where
-  each_read : (o : Option Item) (ss : List SignatureSeen) → (unless_empty s).describes o ss → EachHas P ss
+module _ (s : Shape (List SignatureView)) (P : SignatureView → Type 0) (law : WhenRead s (EachHas P)) where
+  each_read : (o : Option Item) (ss : List SignatureView) → (unless_empty s).describes o ss → EachHas P ss
   each_read (Some w) ss d = law w ss d
   each_read None ss d = subst (EachHas P) (sym d) tt
 

@@ -5,20 +5,20 @@ use Rattle.coset_codec.specs.AsWritten.{AsWritten, WhenRead, ElementsAsWritten, 
 use Rattle.coset_codec.proofs.AsWritten.{array_as_written, array_when_read, then_as_written, then_when_read}
 use Rattle.coset_codec.specs.Serialized.{content_bytes}
 use Rattle.coset_codec.specs.Shape.{Elements, ◌then◌}
-use Rattle.coset_core.specs.Headers.{HeaderSeen, ProtectedSeen, header, header_image, is_empty_header, layered_protected, protected, protected_bytes}
+use Rattle.coset_core.specs.Headers.{HeaderView, ProtectedView, header, header_image, is_empty_header, layered_protected, protected, protected_bytes}
 use Rattle.coset_core.specs.Messages.{with_headers}
 
 -- ---- what is kept of a message
 
 -- of a protected header that was read from what another is written as, the same bytes are kept
-abbrev pub KeepsBytes : ProtectedSeen → ProtectedSeen → Type 0
+abbrev pub KeepsBytes : ProtectedView → ProtectedView → Type 0
 KeepsBytes p q = protected_bytes q ≡ protected_bytes p
 
 abbrev pub KeptAsWritten : Type 0
 KeptAsWritten = AsWritten protected KeepsBytes
 
--- there are bytes that stand for it
-abbrev pub HasBytes : ProtectedSeen → Type 0
+-- there are bytes that represent it
+abbrev pub HasBytes : ProtectedView → Type 0
 HasBytes p = (b : List ℕ) × (protected_bytes p ≡ Some b)
 
 pub has_bytes : WhenRead protected HasBytes
@@ -28,23 +28,23 @@ has_bytes w p d = (d.0, ap (λ o. content_bytes is_empty_header header_image o p
 module _ {A : Type 0} (ps : Elements A) where
   -- with its protected header, and with the elements behind the headers
   pub message_as_written :
-      (Q : ProtectedSeen → ProtectedSeen → Type 0) (R : A → A → Type 0) → AsWritten protected Q → ElementsAsWritten ps R
+      (Q : ProtectedView → ProtectedView → Type 0) (R : A → A → Type 0) → AsWritten protected Q → ElementsAsWritten ps R
       → AsWritten (with_headers ps) (λ x y. Q x.0 y.0 × (⊤ × R x.1.1 y.1.1))
   message_as_written Q R h more =
       array_as_written (protected then header then ps) _
       (then_as_written protected (header then ps) Q _ h (then_as_written header ps (λ x y. ⊤) R (λ v x y e d. tt) more))
 
-  pub message_when_read : (P : ProtectedSeen → Type 0) (R : A → Type 0) → WhenRead protected P → ElementsWhenRead ps R
+  pub message_when_read : (P : ProtectedView → Type 0) (R : A → Type 0) → WhenRead protected P → ElementsWhenRead ps R
       → WhenRead (with_headers ps) (λ x. P x.0 × (⊤ × R x.1.1))
   message_when_read P R h more =
       array_when_read (protected then header then ps) _
       (then_when_read protected (header then ps) P _ h (then_when_read header ps (λ x. ⊤) R (λ v x d. tt) more))
 
   -- with its protected header alone
-  pub header_as_written : (Q : ProtectedSeen → ProtectedSeen → Type 0) → AsWritten protected Q → AsWritten (with_headers ps) (λ x y. Q x.0 y.0)
+  pub header_as_written : (Q : ProtectedView → ProtectedView → Type 0) → AsWritten protected Q → AsWritten (with_headers ps) (λ x y. Q x.0 y.0)
   header_as_written Q h v x y e d = (message_as_written Q (λ a b. ⊤) h (λ vs a b f g. tt) v x y e d).0
 
-  pub header_when_read : (P : ProtectedSeen → Type 0) → WhenRead protected P → WhenRead (with_headers ps) (λ x. P x.0)
+  pub header_when_read : (P : ProtectedView → Type 0) → WhenRead protected P → WhenRead (with_headers ps) (λ x. P x.0)
   header_when_read P h v x d = (message_when_read P (λ a. ⊤) h (λ vs a f. tt) v x d).0
 
   -- with these elements alone
@@ -53,14 +53,14 @@ module _ {A : Type 0} (ps : Elements A) where
 
   -- with both headers
   pub headers_as_written :
-      (Q : ProtectedSeen → ProtectedSeen → Type 0) (R : HeaderSeen → HeaderSeen → Type 0) → AsWritten protected Q → AsWritten header R
+      (Q : ProtectedView → ProtectedView → Type 0) (R : HeaderView → HeaderView → Type 0) → AsWritten protected Q → AsWritten header R
       → AsWritten (with_headers ps) (λ x y. Q x.0 y.0 × R x.1.0 y.1.0)
   headers_as_written Q R h k v x y e d =
       let behind = then_as_written header ps R (λ a b. ⊤) k (λ vs a b f g. tt) in
       let all = array_as_written (protected then header then ps) _ (then_as_written protected (header then ps) Q _ h behind) v x y e d in
       (all.0, all.1.0)
 
-  pub headers_when_read : (P : ProtectedSeen → Type 0) (R : HeaderSeen → Type 0) → WhenRead protected P → WhenRead header R
+  pub headers_when_read : (P : ProtectedView → Type 0) (R : HeaderView → Type 0) → WhenRead protected P → WhenRead header R
       → WhenRead (with_headers ps) (λ x. P x.0 × R x.1.0)
   headers_when_read P R h k v x d =
       let behind = then_when_read header ps R (λ a. ⊤) k (λ vs a f. tt) in

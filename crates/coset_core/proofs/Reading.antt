@@ -11,9 +11,9 @@ use Rattle.coset_codec.specs.Serialized.{ContentDescribes, ContentFaults}
 use Rattle.coset_codec.specs.Maps.{unless_empty}
 use Rattle.coset_codec.specs.Shape.{any_number, one_or_many}
 use Rattle.coset_core.specs.Contents.{FillsContent}
-use Rattle.coset_core.specs.Fields.{FieldsSeen, map_with}
+use Rattle.coset_core.specs.Fields.{FieldsView, map_with}
 use Rattle.coset_core.specs.HeaderReads.{header_read_with}
-use Rattle.coset_core.specs.Headers.{HeaderSeen, header_of, SignatureSeen, empty_header, layered_header, layered_protected, layered_signature, signatures_of}
+use Rattle.coset_core.specs.Headers.{HeaderView, header_of, SignatureView, empty_header, layered_header, layered_protected, layered_signature, signatures_of}
 
 -- ---- the byte string of a protected header
 
@@ -36,7 +36,7 @@ content_faulty zero j v b e z h f = absurd (cc)
 content_faulty (suc k) j v b e z h f = inr (b, h, subst (λ i. ContentFaults (layered_header i) b e) (ap pred (sym z)) f)
 
 pub content_described :
-    (k j : ℕ) (v : Item) (b : List ℕ) (h : HeaderSeen) → k ≡ suc j → as_bytes v ≡ Some b → ContentDescribes empty_header (layered_header j) b h
+    (k j : ℕ) (v : Item) (b : List ℕ) (h : HeaderView) → k ≡ suc j → as_bytes v ≡ Some b → ContentDescribes empty_header (layered_header j) b h
     → (layered_protected k).describes v (record { original = Some b; header = h })
 unfolding layered_protected
 content_described zero j v b h z i d = absurd (cc)
@@ -44,7 +44,7 @@ content_described (suc k) j v b h z i d = (b, i, refl, subst (λ n. ContentDescr
 
 -- the header that bytes which are kept hold
 pub protected_filled :
-    (k j : ℕ) (b c : List ℕ) (o : Option (List ℕ)) (h : HeaderSeen) (r : Result (Unit {0}) CoseError) → k ≡ suc j → o ≡ Some b → c ≡ b → FillsContent j c h r
+    (k j : ℕ) (b c : List ℕ) (o : Option (List ℕ)) (h : HeaderView) (r : Result (Unit {0}) CoseError) → k ≡ suc j → o ≡ Some b → c ≡ b → FillsContent j c h r
     → Fills (layered_protected k) (bytes b) (record { original = o; header = h }) r
 protected_filled k j b c o h (Ok u) z kept same d =
     subst (λ p. (layered_protected k).describes (bytes b) (record { original = p; header = h })) (sym kept)
@@ -55,7 +55,7 @@ protected_filled k j b c o h (Err e) z kept same d = λ n. content_faulty k j (b
 
 -- a header of these fields and these signatures
 pub header_whole :
-    (k : ℕ) (v : Item) (h : HeaderSeen) (f : FieldsSeen) (xs ys : List SignatureSeen)
+    (k : ℕ) (v : Item) (h : HeaderView) (f : FieldsView) (xs ys : List SignatureView)
     → (map_with (unless_empty (one_or_many (any_number (layered_signature k)))) (unless_empty (one_or_many (any_number (layered_signature k))))).describes v
     (f, (xs, ys))
     → h ≡ header_of f (signatures_of xs) (signatures_of ys) → (layered_header k).describes v h

@@ -4,28 +4,28 @@ use Rattle.std.proofs.lemmas.Bool.{and_right}
 use Rattle.std.proofs.lemmas.Grind.{common_steps}
 use Rattle.std.specs.Prelude.{OnOk, Result, Ok, Err}
 use Rattle.std.specs.declared.alloc.AllocError.{AllocError}
-use Rattle.coset_core.specs.FieldsView.{counter_signatures_held, countersignatures_held, fields_level, fields_seen}
-use Rattle.coset_core.specs.Headers.{SignatureSeen, are_none, signatures_of, header_of}
+use Rattle.coset_core.specs.FieldViews.{counter_signatures_held, countersignatures_held, fields_level, fields_view}
+use Rattle.coset_core.specs.Headers.{SignatureView, are_none, signatures_of, header_of}
 use Rattle.coset_core.specs.Held.{header_count, held_in, signatures_count, signatures_in}
 use Rattle.coset_core.specs.Same.{fields_eq, header_eq, signatures_eq}
 use Rattle.coset_core.specs.ViewLaws.{HeaderLevel, header-made, header-opened}
-use Rattle.coset_core.specs.Views.{countersignature_seen, header_seen, signature_seen}
+use Rattle.coset_core.specs.Views.{countersignature_view, header_view, signature_view}
 use Rattle.coset_core.specs.declared.countersignature.CoseCountersignature.{CoseCountersignature}
 use Rattle.coset_core.specs.declared.header.Header.{Header, roll-Header}
 use Rattle.coset_core.specs.declared.signature.CoseSignature.{CoseSignature}
 
 -- there are none where the list is empty
-pub are_none_of : {T : Type 0} (seen : T → SignatureSeen) (ss : List T) → are_none (signatures_of (map seen ss)) ≡ (length ss == 0)
-are_none_of seen [] = refl
-are_none_of seen (s ∷ ss) = grind (arith, common_steps)
+pub are_none_of : {T : Type 0} (view : T → SignatureView) (ss : List T) → are_none (signatures_of (map view ss)) ≡ (length ss == 0)
+are_none_of view [] = refl
+are_none_of view (s ∷ ss) = grind (arith, common_steps)
 
 -- those of lists of unequal lengths aren't the same
-pub unequal : {T : Type 0} (seen : T → SignatureSeen) (ss ts : List T) → length ss ≢ length ts
-    → false ≡ signatures_eq (signatures_of (map seen ss)) (signatures_of (map seen ts))
-unequal seen [] [] h = absurd (h refl)
-unequal seen (s ∷ ss) (t ∷ ts) h = sym (and_right _ _ (sym (unequal seen ss ts (λ e. h (ap suc e)))))
-unequal seen [] (t ∷ ts) h = refl
-unequal seen (s ∷ ss) [] h = refl
+pub unequal : {T : Type 0} (view : T → SignatureView) (ss ts : List T) → length ss ≢ length ts
+    → false ≡ signatures_eq (signatures_of (map view ss)) (signatures_of (map view ts))
+unequal view [] [] h = absurd (h refl)
+unequal view (s ∷ ss) (t ∷ ts) h = sym (and_right _ _ (sym (unequal view ss ts (λ e. h (ap suc e)))))
+unequal view [] (t ∷ ts) h = refl
+unequal view (s ∷ ss) [] h = refl
 
 -- ---- tests one after the other
 
@@ -43,21 +43,21 @@ goes_by v l h r is holds e = rw (sym is ∙ holds) e
 -- headers are the same where their fields and their signatures are
 pub header_eq-opened :
     (h g : Header)
-    → header_eq (header_seen h) (header_seen g)
-    ≡ fields_eq (fields_seen h) (fields_seen g)
-    && (signatures_eq (signatures_of (map signature_seen (counter_signatures_held h))) (signatures_of (map signature_seen (counter_signatures_held g)))
-    && signatures_eq (signatures_of (map countersignature_seen (countersignatures_held h)))
-    (signatures_of (map countersignature_seen (countersignatures_held g))))
+    → header_eq (header_view h) (header_view g)
+    ≡ fields_eq (fields_view h) (fields_view g)
+    && (signatures_eq (signatures_of (map signature_view (counter_signatures_held h))) (signatures_of (map signature_view (counter_signatures_held g)))
+    && signatures_eq (signatures_of (map countersignature_view (countersignatures_held h)))
+    (signatures_of (map countersignature_view (countersignatures_held g))))
 header_eq-opened h g = λ i. header_eq (header-opened h i) (header-opened g i)
 
 -- ---- headers that are copied
 
 -- a header that has the fields and the counter signatures of another
 pub header_copied :
-    (x : HeaderLevel) (h : Header) (r : Result (Unit {0}) AllocError) → fields_level x ≡ fields_seen h
-    → map signature_seen x.counter_signatures.items ≡ map signature_seen (counter_signatures_held h)
-    → OnOk r (map countersignature_seen x.countersignatures_v2.items ≡ map countersignature_seen (countersignatures_held h))
-    → OnOk r (header_seen (roll-Header x) ≡ header_seen h)
+    (x : HeaderLevel) (h : Header) (r : Result (Unit {0}) AllocError) → fields_level x ≡ fields_view h
+    → map signature_view x.counter_signatures.items ≡ map signature_view (counter_signatures_held h)
+    → OnOk r (map countersignature_view x.countersignatures_v2.items ≡ map countersignature_view (countersignatures_held h))
+    → OnOk r (header_view (roll-Header x) ≡ header_view h)
 header_copied x h (Ok u) f s t = header-made x ∙ ((λ i. header_of (f i) (signatures_of (s i)) (signatures_of (t i))) ∙ sym (header-opened h))
 header_copied x h (Err e) f s t = tt
 
@@ -67,32 +67,32 @@ header_copied x h (Err e) f s t = tt
 abbrev pub held_by : Header → ℕ
 held_by h = held_in (counter_signatures_held h) (countersignatures_held h)
 
-pub opened : (h : Header) → header_count (header_seen h) ≡ held_by h
+pub opened : (h : Header) → header_count (header_view h) ≡ held_by h
 opened h = ap header_count (header-opened h)
 
 -- what the two headers hold of one that was seen
-abbrev pub within : SignatureSeen → ℕ
+abbrev pub within : SignatureView → ℕ
 within s = header_count s.protected.header + header_count s.unprotected
 
 -- one more counts itself, and what it holds
-last_counts : {T : Type 0} (seen : T → SignatureSeen) (ss : List T) (s : T)
-    → signatures_count (signatures_of (map seen (ss ++ s ∷ []))) ≡ suc (within (seen s) + signatures_count (signatures_of (map seen ss)))
-last_counts seen [] s = omega arith
-last_counts seen (x ∷ ss) s = let others = last_counts seen ss s in omega (arith, others)
+last_counts : {T : Type 0} (view : T → SignatureView) (ss : List T) (s : T)
+    → signatures_count (signatures_of (map view (ss ++ s ∷ []))) ≡ suc (within (view s) + signatures_count (signatures_of (map view ss)))
+last_counts view [] s = omega arith
+last_counts view (x ∷ ss) s = let others = last_counts view ss s in omega (arith, others)
 
 -- without the last of either version fewer are left
 pub first_taken :
     (old new : List CoseSignature) (v : List CoseCountersignature) (s : CoseSignature) → old ≡ new ++ s ∷ []
-    → within (signature_seen s) + held_in new v < held_in old v
+    → within (signature_view s) + held_in new v < held_in old v
 first_taken old new v s o =
     let count : signatures_in old ≡ signatures_in (new ++ s ∷ []) = ap signatures_in o in
-    let all = last_counts signature_seen new s in
+    let all = last_counts signature_view new s in
     omega (arith, count, all)
 
 pub second_taken :
     (a : List CoseSignature) (old new : List CoseCountersignature) (s : CoseCountersignature) → old ≡ new ++ s ∷ []
-    → within (countersignature_seen s) + held_in a new < held_in a old
+    → within (countersignature_view s) + held_in a new < held_in a old
 second_taken a old new s o =
     let count : held_in [] old ≡ held_in [] (new ++ s ∷ []) = ap (held_in []) o in
-    let all = last_counts countersignature_seen new s in
+    let all = last_counts countersignature_view new s in
     omega (arith, count, all)

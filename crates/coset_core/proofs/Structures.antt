@@ -75,7 +75,7 @@ part_in_range parts i d lt so_far here =
 
 -- ---- the whole
 
--- byte strings, and what stands behind them
+-- byte strings, and what follows them
 items_count-and : (ss : List (List ℕ)) (vs : Items) → items_count (byte_strings_and ss vs) ≡ length ss + items_count vs
 items_count-and [] vs = omega arith
 items_count-and (s ∷ ss) vs = let more = items_count-and ss vs in omega (arith, more)
@@ -90,7 +90,7 @@ in_range-and : (ss : List (List ℕ)) (vs : Items) → AreInRange (byte_strings 
 in_range-and [] vs h k = k
 in_range-and (s ∷ ss) vs h k = (h.0, in_range-and ss vs h.1 k)
 
--- The beginning of a structure, and then what stands behind it, are the shortest encoding.
+-- The beginning of a structure, and then what follows it, are the shortest encoding.
 pub whole_written :
     ((v : Item) → IsInRange v → IsShortest (least_encoding v) v) → (context : List ℕ) (ss : List (List ℕ)) (vs : Items) (b t : List ℕ)
     → BeginsStructure b context ss (items_count vs) → AreInRange vs

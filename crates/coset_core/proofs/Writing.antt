@@ -28,7 +28,7 @@ items-push old mid new vs v p q = record {
       (append_assoc old (least_encodings (items_of vs)) (least_encoding v));
 }
 
--- as many items as members
+-- as many items as elements
 pub count-items : (vs : List Item) → items_count (items_of vs) ≡ length vs
 count-items [] = refl
 count-items (v ∷ vs) = ap (λ n. suc n) (count-items vs)

@@ -5,7 +5,7 @@ use Rattle.std.proofs.Common.{◌≡◌, ℕ, ℤ, Option, Some, None, option_ma
 use Rattle.std.proofs.Common.{append-nil, arith}
 use Rattle.std.proofs.lemmas.List.{length-append, length-map}
 use Rattle.coset_value.specs.Item.{Item, integer, bytes, array, Items, no_items, item}
-use Rattle.coset_value.specs.View.{items_of, view}
+use Rattle.coset_value.specs.View.{items_of, value_item}
 use Rattle.coset_value.specs.declared.value.Value.{Value}
 use Rattle.coset_cbor.specs.Least.{least_head, least_encoding}
 use Rattle.coset_iana.specs.HeaderParameter as parameters
@@ -19,18 +19,18 @@ use Rattle.coset_codec.specs.Maps.{are_distinct, entries_image, field_shape_imag
 use Rattle.coset_codec.specs.RestLaws.{no-entries}
 use Rattle.coset_codec.specs.Shape.{any, both, bstr, nonempty_bstr, images, one_or_array, present_image, some_of}
 use Rattle.coset_codec.proofs.Encoding.{array-put as array-put-elements, place-put, nothing-put, and_items, images-append, images-missing}
-use Rattle.coset_codec.proofs.EncodingMaps.{AppendsFields, no-field, field-put, filled-seen, filled-there, map-written, pair-added}
+use Rattle.coset_codec.proofs.EncodingMaps.{AppendsFields, no-field, field-put, filled-view, filled-there, map-written, pair-added}
 use Rattle.coset_label.specs.Labels.{label, names, algorithm}
 use Rattle.coset_label.specs.Names.{Name, number, text_label, RegisteredName, assigned, private_use, text_name, same_name}
-use Rattle.coset_label.specs.Views.{label_seen, algorithm_seen, entry_seen}
+use Rattle.coset_label.specs.Views.{label_view, algorithm_view, entry_view}
 use Rattle.coset_label.specs.declared.label.Label.{Label}
-use Rattle.coset_core.specs.Fields.{FieldsSeen, fields, parts_of, partial_header, critical, content_type}
-use Rattle.coset_core.specs.Headers.{HeaderSeen, header_of, fields_in, counter_signatures_in, countersignatures_in, ProtectedSeen, SignatureSeen, Signatures}
+use Rattle.coset_core.specs.Fields.{FieldsView, fields, parts_of, partial_header, critical, content_type}
+use Rattle.coset_core.specs.Headers.{HeaderView, header_of, fields_in, counter_signatures_in, countersignatures_in, ProtectedView, SignatureView, Signatures}
 use Rattle.coset_core.specs.Headers.{no_signatures, signature_and, signatures_of, are_none, counter_signatures_item, header_item, signatures_image}
 use Rattle.coset_core.specs.Headers.{header_image, protected_bytes}
 use Rattle.coset_core.specs.HeaderWrites.{images_signatures, signature_image_is}
 use Rattle.coset_core.specs.ViewLaws.{HeaderLevel, header_level}
-use Rattle.coset_core.specs.Views.{content_type_seen, countersignature_seen, critical_seen, signature_seen}
+use Rattle.coset_core.specs.Views.{content_type_view, countersignature_view, critical_view, signature_view}
 use Rattle.coset_core.specs.Written.{AppendsItems, AppendsFirst, AppendsCounterSignatures, AppendsSignatures, are_there, count_pairs, signature_array}
 use Rattle.coset_core.proofs.Signatures.{are_none_of}
 use Rattle.coset_core.proofs.Writing.{items-push, array-put}
@@ -51,21 +51,21 @@ unencoded {T} (Err e) f P o old new same h tells = passes {T = T} (Err e) f P (o
 
 -- a head, the byte string, the unprotected header and the bytes are the array of a signature
 pub signature-put :
-    (s : SignatureSeen) (old head mid half new : List ℕ) → head ≡ old ++ least_head 4 3 → AppendsImage (option_map bytes (protected_bytes s.protected)) head mid
+    (s : SignatureView) (old head mid half new : List ℕ) → head ≡ old ++ least_head 4 3 → AppendsImage (option_map bytes (protected_bytes s.protected)) head mid
     → AppendsImage (header_image s.unprotected) mid half → AppendsItem half new (bytes s.signature)
     → AppendsImage (signature_array s) old new
 signature-put s old head mid half new first p u b =
     array-put-elements 3 (omega arith) first (place-put p (place-put u (place-put (bytes s.signature, refl, b) (nothing-put new))))
 
 -- a byte string is that of a protected header
-pub string-put : (p : ProtectedSeen) (b old new : List ℕ) → protected_bytes p ≡ Some b → AppendsItem old new (bytes b)
+pub string-put : (p : ProtectedView) (b old new : List ℕ) → protected_bytes p ≡ Some b → AppendsItem old new (bytes b)
     → AppendsImage (option_map bytes (protected_bytes p)) old new
 string-put p b old new e put = (bytes b, ap (option_map bytes) e, put)
 
 -- ---- several
 
 -- the arrays of signatures in a row
-each : (ss : List SignatureSeen) → signatures_image (signatures_of ss) ≡ images signature_array ss
+each : (ss : List SignatureView) → signatures_image (signatures_of ss) ≡ images signature_array ss
 each ss = sym (images_signatures 0 ss) ∙ (λ i. images (λ x. signature_image_is 0 x i) ss)
 
 and_items-of : (vs : List Item) (v : Item) → and_items (items_of vs) (item v no_items) ≡ items_of (vs ++ v ∷ [])
@@ -74,7 +74,7 @@ and_items-of (w ∷ vs) v = ap (item w) (and_items-of vs v)
 
 -- one more signature
 pub signatures-push :
-    (ss : List SignatureSeen) (s : SignatureSeen) (old mid new : List ℕ) → AppendsSignatures old mid ss → AppendsImage (signature_array s) mid new
+    (ss : List SignatureView) (s : SignatureView) (old mid new : List ℕ) → AppendsSignatures old mid ss → AppendsImage (signature_array s) mid new
     → AppendsSignatures old new (ss ++ s ∷ [])
 signatures-push ss s old mid new p q =
     let so_far : images signature_array ss ≡ Some (items_of p.0) = sym (each ss) ∙ p.1 in
@@ -87,7 +87,7 @@ signatures-push ss s old mid new p q =
     )
 
 -- one that can't be written
-pub signatures-none : (ss more : List SignatureSeen) (s : SignatureSeen) → signature_array s ≡ None → signatures_image (signatures_of (ss ++ s ∷ more)) ≡ None
+pub signatures-none : (ss more : List SignatureView) (s : SignatureView) → signature_array s ≡ None → signatures_image (signatures_of (ss ++ s ∷ more)) ≡ None
 signatures-none ss more s e = each (ss ++ s ∷ more) ∙ images-missing signature_array ss more s e
 
 -- ---- labels 7 and 11
@@ -104,7 +104,7 @@ one_or_array-put (v ∷ w ∷ vs) n old head new h count small alone several p =
     array-put (v ∷ w ∷ vs) n old head new count small (several (λ e. absurd (omega (arith, e, count)))) p
 
 pub counter_signatures-put :
-    (label : HeaderParameter) (ss : List SignatureSeen) (n : ℕ) (old mid head new : List ℕ) → not (length ss == 0) ≡ true → n ≡ length ss → n < 2 ^ 64
+    (label : HeaderParameter) (ss : List SignatureView) (n : ℕ) (old mid head new : List ℕ) → not (length ss == 0) ≡ true → n ≡ length ss → n < 2 ^ 64
     → AppendsItem old mid (integer (parameters.number label)) → (n ≡ 1 → head ≡ mid)
     → (n ≢ 1 → head ≡ mid ++ least_head 4 n) → AppendsSignatures head new ss → AppendsCounterSignatures label old new (signatures_of ss)
 counter_signatures-put label [] n old mid head new h count small name alone several p = absurd (true≢false (sym h))
@@ -164,13 +164,13 @@ list-has f has xs e = go (images f xs) (images-has f has xs) e
 
 -- ---- headers
 
-seen-there : {X Y : Type 0} (see : X → Y) (o : Option X) → is_some (option_map see o) ≡ is_some o
-seen-there see (Some x) = refl
-seen-there see None = refl
+view-there : {X Y : Type 0} (see : X → Y) (o : Option X) → is_some (option_map see o) ≡ is_some o
+view-there see (Some x) = refl
+view-there see None = refl
 
 -- the pair of a field, as it is seen
-pub field-seen : {i j : ℤ} {o p : Option (Option Item)} (old new : List ℕ) → i ≡ j → o ≡ p → AppendsField i o old new → AppendsField j p old new
-field-seen {j} {o} old new e h put = subst (λ q. AppendsField j q old new) h (subst (λ (i : ℤ). AppendsField i o old new) e put)
+pub field-view : {i j : ℤ} {o p : Option (Option Item)} (old new : List ℕ) → i ≡ j → o ≡ p → AppendsField i o old new → AppendsField j p old new
+field-view {j} {o} old new e h put = subst (λ q. AppendsField j q old new) h (subst (λ (i : ℤ). AppendsField i o old new) e put)
 
 -- the fields of a header in memory
 pub fields-there :
@@ -180,24 +180,24 @@ pub fields-there :
     ∷ not (length x.counter_signatures.items == 0) ∷ not (length x.countersignatures_v2.items == 0) ∷ is_some x.countersignature0_v2 ∷ []
     ≡ are_there (header_level x)
 fields-there x = sym (λ i.
-    seen-there algorithm_seen x.alg i ∷ filled-seen critical_seen x.crit.items _ refl i ∷ seen-there content_type_seen x.content_type i
+    view-there algorithm_view x.alg i ∷ filled-view critical_view x.crit.items _ refl i ∷ view-there content_type_view x.content_type i
     ∷ filled-there x.key_id.items _ refl i
-    ∷ filled-there x.iv.items _ refl i ∷ filled-there x.partial_iv.items _ refl i ∷ not (are_none_of signature_seen x.counter_signatures.items i)
-    ∷ not (are_none_of countersignature_seen x.countersignatures_v2.items i) ∷ seen-there (λ b. b.items) x.countersignature0_v2 i ∷ [])
+    ∷ filled-there x.iv.items _ refl i ∷ filled-there x.partial_iv.items _ refl i ∷ not (are_none_of signature_view x.counter_signatures.items i)
+    ∷ not (are_none_of countersignature_view x.countersignatures_v2.items i) ∷ view-there (λ b. b.items) x.countersignature0_v2 i ∷ [])
 
 -- a head, the first six fields, the pairs of labels 7, 11 and 12, and the rest are the header's map
 pub map-put :
-    {T : Type 0} (f : FieldsSeen) (ss ts : Signatures) (xs : List (Label × Value)) (old head mid s7 s11 s12 new : List ℕ) (r : Result T CoseError)
-    → f.rest ≡ map entry_seen xs
-    → are_distinct same_name (keys_of (map entry_seen xs)) ≡ true
+    {T : Type 0} (f : FieldsView) (ss ts : Signatures) (xs : List (Label × Value)) (old head mid s7 s11 s12 new : List ℕ) (r : Result T CoseError)
+    → f.rest ≡ map entry_view xs
+    → are_distinct same_name (keys_of (map entry_view xs)) ≡ true
     → count_pairs (header_of f ss ts) < 2 ^ 64
     → head ≡ old ++ least_head 5 (count_pairs (header_of f ss ts))
     → AppendsFirst head mid f
     → AppendsCounterSignatures CounterSignature mid s7 ss
     → AppendsCounterSignatures CounterSignatureV2 s7 s11 ts
     → AppendsField (parameters.number CounterSignature0V2) ((optional bstr).image f.countersignature0_v2) s11 s12
-    → OnOk r (AppendsAll (named_image (λ l. label.image (label_seen l)) (map (λ x. (x.0, view x.1)) xs)) s12 new)
-    → IfErr r (HasNoImage (named_image (λ l. label.image (label_seen l)) (map (λ x. (x.0, view x.1)) xs)))
+    → OnOk r (AppendsAll (named_image (λ l. label.image (label_view l)) (map (λ x. (x.0, value_item x.1)) xs)) s12 new)
+    → IfErr r (HasNoImage (named_image (λ l. label.image (label_view l)) (map (λ x. (x.0, value_item x.1)) xs)))
     → Encodes (header_image (header_of f ss ts)) old new r
 unfolding partial_header
 map-put f ss ts xs old head mid s7 s11 s12 new r rest distinct small first six seven eleven twelve ok refused =
@@ -211,7 +211,7 @@ map-put f ss ts xs old head mid s7 s11 s12 new r rest distinct small first six s
     ∷ sym (signatures-there ss (signatures_image ss) o seven.1) i ∷ sym (signatures-there ts (signatures_image ts) p eleven.1) i
     ∷ is_some f.countersignature0_v2 ∷ [] in
     let count : count_pairs (header_of f ss ts) ≡ length (filter (λ b. b) there) + length xs =
-    λ i. length (filter (λ b. b) (told i)) + (ap length rest ∙ length-map xs entry_seen) i in
+    λ i. length (filter (λ b. b) (told i)) + (ap length rest ∙ length-map xs entry_view) i in
     let fields_appended : AppendsFields Name label.image ((fields (optional any) (optional any)).image (parts_of (f, (o, p))).0) there head s12 =
     (field-put label.image (is_some f.alg) (present_image algorithm.image f.alg) refl six.alg
     (field-put label.image (is_nonempty f.crit) ((some_of critical).image f.crit) refl six.crit
@@ -226,11 +226,11 @@ map-put f ss ts xs old head mid s7 s11 s12 new r rest distinct small first six s
     subst (λ i. Encodes i old new r) (λ i. header_item f (sym seven.1 i) (sym eleven.1 i))
     (subst (λ es. Encodes (entries_image names (may_write names true es) es ((fields (optional any) (optional any)).image (parts_of (f, (o, p))).0)) old new r)
     (sym rest)
-    (map-written names label_seen view xs (may_write names true (map entry_seen xs)) there old new r distinct (subst (λ k. k < 2 ^ 64) count small)
+    (map-written names label_view value_item xs (may_write names true (map entry_view xs)) there old new r distinct (subst (λ k. k < 2 ^ 64) count small)
     (first ∙ ap (λ k. old ++ least_head 5 k) count) fields_appended ok refused))
 
 -- no map is written where a label of the rest repeats, or signatures of either version can't be written
-pub unwritten-rest : (h : HeaderSeen) → are_distinct same_name (keys_of (fields_in h).rest) ≡ false → header_image h ≡ None
+pub unwritten-rest : (h : HeaderView) → are_distinct same_name (keys_of (fields_in h).rest) ≡ false → header_image h ≡ None
 unfolding partial_header
 unwritten-rest (header_of f ss ts) e = by (counter_signatures_item ss (signatures_image ss)) (counter_signatures_item ts (signatures_image ts))
   where
@@ -243,10 +243,10 @@ none_item : (ss : Signatures) → signatures_image ss ≡ None → counter_signa
 none_item no_signatures e = absurd (true≢false (ap is_some e))
 none_item (signature_and b p u s more) e = ap (option_map (λ vs. Some (one_or_array vs))) e
 
-pub unwritten-counter_signatures : (h : HeaderSeen) → signatures_image (counter_signatures_in h) ≡ None → header_image h ≡ None
+pub unwritten-counter_signatures : (h : HeaderView) → signatures_image (counter_signatures_in h) ≡ None → header_image h ≡ None
 unwritten-counter_signatures (header_of f ss ts) e = ap (λ o. header_item f o (counter_signatures_item ts (signatures_image ts))) (none_item ss e)
 
-pub unwritten-countersignatures : (h : HeaderSeen) → signatures_image (countersignatures_in h) ≡ None → header_image h ≡ None
+pub unwritten-countersignatures : (h : HeaderView) → signatures_image (countersignatures_in h) ≡ None → header_image h ≡ None
 unwritten-countersignatures (header_of f ss ts) e = ap (header_item f (counter_signatures_item ss (signatures_image ss))) (none_item ts e)
     ∙ behind (counter_signatures_item ss (signatures_image ss))
   where

@@ -21,7 +21,7 @@ AsksAbout g f s o (Ok u) = (b : List ℕ) × IsStructure o b × FnOnceReturnsAtP
 AsksAbout g f s o (Err (Caller e)) = (b : List ℕ) × IsStructure o b × FnOnceReturnsAtPair g f s b (Err e)
 AsksAbout g f s o (Err (Coset e)) = HasNoImage o e
 
--- f made what is stored of the bytes of the structure: `stores` tells how it is kept
+-- f made what is stored of the bytes of the structure: `stores` says how it is kept
 abbrev pub Creates : {F V B : Type 0} → Once F (Bor (List ℕ) × Unit {0}) V → F → Option Item → (V → B → Type 0) → Result B CoseError → Type 0
 Creates {V = V} g f o stores (Ok x) = (b : List ℕ) × (made : V) × IsStructure o b × FnOnceReturnsAt g f b made × stores made x
 Creates g f o stores (Err e) = HasNoImage o e

@@ -17,7 +17,7 @@ use Rattle.coset_label.specs.Names.{Name, number, RegisteredName, same_name}
 use Rattle.coset_label.specs.Labels.{label, algorithm, names}
 use Rattle.coset_label.specs.LabelLaws.{label_laws, names_laws, algorithm_laws, registered_laws, registered_or_private_laws}
 use Rattle.coset_core.specs.FieldLabels as labels
-use Rattle.coset_core.specs.Fields.{FieldsSeen, critical, content_type, IsContentType, Versions, FieldTuple, fields, fields_of}
+use Rattle.coset_core.specs.Fields.{FieldsView, critical, content_type, IsContentType, Versions, FieldTuple, fields, fields_of}
 use Rattle.coset_core.specs.Fields.{parts_of, HasOneIv, HasBothIvs, map_of, map_with, partial_header, HoldsSignatures, SomeCounterSignatures, excludes}
 
 -- ---- the fields' values
@@ -58,7 +58,7 @@ fields_laws c d l m =
 
 -- ---- maps of them
 
-map_of_laws : {C : Type 0} (c d : FieldShape C) → LawfulFieldShape C c → LawfulFieldShape C d → Lawful (FieldsSeen × Versions C) (map_of c d)
+map_of_laws : {C : Type 0} (c d : FieldShape C) → LawfulFieldShape C c → LawfulFieldShape C d → Lawful (FieldsView × Versions C) (map_of c d)
 map_of_laws c d l m = mapped_laws fields_of parts_of (λ x. refl) _ (labelled_laws names names_laws true (fields c d) (fields_laws c d l m))
 
 -- a vector that some pair has is there
@@ -70,8 +70,8 @@ iv_there l ps es iv n h d none = go (lookup (same_name l) es) refl d
     go (Some w) e p = p.1 none
     go None e p = not_new names names_laws ps es l n h (new_of names l es e)
 
--- so both are where both labels stand
-not_both : {C : Type 0} (c d : FieldShape C) (v : Item) (x : FieldsSeen × Versions C) → (map_of c d).describes v x → HasOneIv x.0 → HasBothIvs v → ⊥
+-- so both are where both labels are
+not_both : {C : Type 0} (c d : FieldShape C) (v : Item) (x : FieldsView × Versions C) → (map_of c d).describes v x → HasOneIv x.0 → HasBothIvs v → ⊥
 not_both c d v x p one both =
     let ps = p.0 in
     let m = p.2 in
@@ -82,13 +82,13 @@ not_both c d v x p one both =
           (subst (HasLabel label.describes labels.partial_iv) same both.3) m.fields.1.1.1.1.1.0 h
     ]
 
-pub map_with_laws : {C : Type 0} (c d : FieldShape C) → LawfulFieldShape C c → LawfulFieldShape C d → Lawful (FieldsSeen × Versions C) (map_with c d)
+pub map_with_laws : {C : Type 0} (c d : FieldShape C) → LawfulFieldShape C c → LawfulFieldShape C d → Lawful (FieldsView × Versions C) (map_with c d)
 map_with_laws {C} c d l k =
     let m = map_of_laws c d l k in
     record {
       unique = λ v x y p q. m.unique v x y p.0 q.0;
       again = λ v x p.
-          let a : Again (FieldsSeen × Versions C) (map_of c d) v x = m.again v x p.0 in
+          let a : Again (FieldsView × Versions C) (map_of c d) v x = m.again v x p.0 in
           record { image = a.image; is_image = a.is_image; described = (a.described, p.1); shallow = a.shallow };
       sound = λ v x e p f. elim f [ inl g ↦ m.sound v x e p.0 g | inr g ↦ not_both c d v x p.0 p.1 g.0 ];
     }
@@ -97,7 +97,7 @@ map_with_laws {C} c d l k =
 pub partial_fields_laws : LawfulFields Name (FieldTuple (Option Item)) names (fields (optional any) (optional any))
 partial_fields_laws = fields_laws (optional any) (optional any) (optional_laws any any_laws) (optional_laws any any_laws)
 
-pub partial_header_laws : Lawful (FieldsSeen × Versions (Option Item)) partial_header
+pub partial_header_laws : Lawful (FieldsView × Versions (Option Item)) partial_header
 unfolding partial_header
 partial_header_laws = map_with_laws (optional any) (optional any) (optional_laws any any_laws) (optional_laws any any_laws)
 
@@ -115,7 +115,7 @@ is_itself None p h = sym h
 
 -- a map is one whose values of labels 7 and 11 are left as they are, and these values
 pub split :
-    {C : Type 0} (c d : FieldShape C) (v : Item) (f : FieldsSeen) (x : Versions C) → (map_with c d).describes v (f, x)
+    {C : Type 0} (c d : FieldShape C) (v : Item) (f : FieldsView) (x : Versions C) → (map_with c d).describes v (f, x)
     → (o : Versions (Option Item)) × partial_header.describes v (f, o) × c.describes o.0 x.0 × d.describes o.1 x.1
 unfolding partial_header
 split c d v f x p =
@@ -143,7 +143,7 @@ split c d v f x p =
     )
 
 pub join :
-    {C : Type 0} (c d : FieldShape C) (v : Item) (f : FieldsSeen) (o : Versions (Option Item)) (x : Versions C) → partial_header.describes v (f, o)
+    {C : Type 0} (c d : FieldShape C) (v : Item) (f : FieldsView) (o : Versions (Option Item)) (x : Versions C) → partial_header.describes v (f, o)
     → c.describes o.0 x.0 → d.describes o.1 x.1
     → (map_with c d).describes v (f, x)
 unfolding partial_header
@@ -186,7 +186,7 @@ join c d v f o x p q r =
 
 -- and it is written as the other, where the values are what c and d write
 pub image_with :
-    {C : Type 0} (c d : FieldShape C) (f : FieldsSeen) (x : Versions C) (o p : Option Item) → c.image x.0 ≡ Some o → d.image x.1 ≡ Some p
+    {C : Type 0} (c d : FieldShape C) (f : FieldsView) (x : Versions C) (o p : Option Item) → c.image x.0 ≡ Some o → d.image x.1 ≡ Some p
     → partial_header.image (f, (o, p)) ≡ (map_with c d).image (f, x)
 unfolding partial_header
 image_with c d f x (Some v) (Some w) h k = rw (h, k) refl
@@ -194,7 +194,7 @@ image_with c d f x (Some v) None h k = rw (h, k) refl
 image_with c d f x None (Some w) h k = rw (h, k) refl
 image_with c d f x None None h k = rw (h, k) refl
 
--- what stands among some pairs is found, where no label stands twice
+-- what is among some pairs is found, where no label occurs twice
 pair_found :
     (P : Item → Type 0) (l : Name) (ps : Pairs) (es : List (Name × Item)) → Named label.describes ps es → IsDistinct same_name (keys_of es)
     → SomePair (λ k u. label.describes k l × P u) ps
@@ -215,7 +215,7 @@ some_of_two P (pair k v ps) (inl f) = elim f.0 [ inl h ↦ inl (inl (h, f.1)) | 
 some_of_two P (pair k v ps) (inr f) = elim (some_of_two P ps f) [ inl g ↦ inl (inr g) | inr g ↦ inr (inr g) ]
 
 pub counter_signatures_found :
-    (P : Item → Type 0) (v : Item) (f : FieldsSeen) (o : Versions (Option Item)) → partial_header.describes v (f, o) → SomeCounterSignatures P v
+    (P : Item → Type 0) (v : Item) (f : FieldsView) (o : Versions (Option Item)) → partial_header.describes v (f, o) → SomeCounterSignatures P v
     → (w : Item) × ((o.0 ≡ Some w) ⊎ (o.1 ≡ Some w)) × P w
 unfolding partial_header
 counter_signatures_found P v f o p s =
@@ -228,7 +228,7 @@ counter_signatures_found P v f o p s =
       | inr h ↦ let g = pair_found P labels.countersignature_v2 p.0.0 m.entries m.named m.distinct h in (g.0, inr (sym second ∙ g.1), g.2)
     ]
 
--- what stands among some pairs stands among them and others
+-- what is among some pairs is among them and others
 label_before : (l : Name) (ps qs : Pairs) → HasLabel label.describes l ps → HasLabel label.describes l (and_pairs ps qs)
 label_before l no_pairs qs f = absurd f
 label_before l (pair k v ps) qs (inl f) = inl f

@@ -17,7 +17,7 @@ use Rattle.coset_label.specs.Labels.{label, registered, registered_or_private, a
 use Rattle.coset_core.specs.FieldLabels as labels
 
 -- a header without its memory and its counter signatures
-pub record FieldsSeen : Type 0 where
+pub record FieldsView : Type 0 where
   pub alg : Option RegisteredName
   pub crit : List RegisteredName
   pub content_type : Option Name
@@ -28,7 +28,7 @@ pub record FieldsSeen : Type 0 where
   pub rest : List (Name × Item)
 
 -- nothing
-abbrev pub empty_fields : FieldsSeen
+abbrev pub empty_fields : FieldsView
 empty_fields = record { alg = None; crit = []; content_type = None; key_id = []; iv = []; partial_iv = []; countersignature0_v2 = None; rest = [] }
 
 -- ---- the fields' values
@@ -54,7 +54,7 @@ content_type = such_that IsUnexpected IsContentType (registered (λ i. is_some (
 
 -- ---- maps of them
 
--- what stands under the two labels whose values hold counter signatures: 7 and 11
+-- what is under the two labels whose values hold counter signatures: 7 and 11
 abbrev pub Versions : Type 0 → Type 0
 Versions C = C × C
 
@@ -75,7 +75,7 @@ fields counter_signatures countersignatures_v2 =
     (field names labels.countersignature0_v2 (optional bstr)
     no_field))))))))
 
-abbrev pub fields_of : {C : Type 0} → FieldTuple C × List (Name × Item) → FieldsSeen × Versions C
+abbrev pub fields_of : {C : Type 0} → FieldTuple C × List (Name × Item) → FieldsView × Versions C
 fields_of p = (
   record {
     alg = p.0.0;
@@ -90,16 +90,16 @@ fields_of p = (
   (p.0.1.1.1.1.1.1.0, p.0.1.1.1.1.1.1.1.0),
 )
 
-abbrev pub parts_of : {C : Type 0} → FieldsSeen × Versions C → FieldTuple C × List (Name × Item)
+abbrev pub parts_of : {C : Type 0} → FieldsView × Versions C → FieldTuple C × List (Name × Item)
 parts_of x =
     ((x.0.alg, (x.0.crit, (x.0.content_type, (x.0.key_id, (x.0.iv, (x.0.partial_iv, (x.1.0, (x.1.1, (x.0.countersignature0_v2, tt))))))))), x.0.rest)
 
 -- not both IV and Partial IV
-abbrev pub HasOneIv : FieldsSeen → Type 0
+abbrev pub HasOneIv : FieldsView → Type 0
 HasOneIv f = (f.iv ≡ []) ⊎ (f.partial_iv ≡ [])
 
 -- the fields by label, and the rest
-abbrev pub map_of : {C : Type 0} → FieldShape C → FieldShape C → Shape (FieldsSeen × Versions C)
+abbrev pub map_of : {C : Type 0} → FieldShape C → FieldShape C → Shape (FieldsView × Versions C)
 map_of c d = mapped fields_of parts_of (labelled names (fields c d))
 
 -- both IV and Partial IV
@@ -108,7 +108,7 @@ HasBothIvs v = (ps : Pairs) × (as_map v ≡ Some ps) × HasLabel label.describe
 
 -- {? 1 => algorithm, ? 2 => [+ critical], ? 3 => content_type, ? 4 => bstr .size (1..), ? 5 => bstr .size (1..) //
 -- 6 => bstr .size (1..), ? 7 => c, ? 11 => d, ? 12 => bstr, * label => any}
-abbrev pub map_with : {C : Type 0} → FieldShape C → FieldShape C → Shape (FieldsSeen × Versions C)
+abbrev pub map_with : {C : Type 0} → FieldShape C → FieldShape C → Shape (FieldsView × Versions C)
 map_with c d = record {
   describes = λ v x. (map_of c d).describes v x × HasOneIv x.0;
   image = (map_of c d).image;
@@ -116,14 +116,14 @@ map_with c d = record {
 }
 
 -- such a map, with the values of labels 7 and 11 as they are
-unfoldable pub partial_header : Shape (FieldsSeen × Versions (Option Item))
+unfoldable pub partial_header : Shape (FieldsView × Versions (Option Item))
 partial_header = map_with (optional any) (optional any)
 
 -- the key of counter signatures: label 7, or label 11
 abbrev pub HoldsSignatures : Item → Type 0
 HoldsSignatures k = label.describes k labels.counter_signature ⊎ label.describes k labels.countersignature_v2
 
--- one of the pairs of a map holds counter signatures, and P tells of its value
+-- one of the pairs of a map holds counter signatures, and P holds of its value
 abbrev pub SomeCounterSignatures : (Item → Type 0) → Item → Type 0
 SomeCounterSignatures P v = (ps : Pairs) × (as_map v ≡ Some ps) × SomePair (λ k w. HoldsSignatures k × P w) ps
 

@@ -1,23 +1,25 @@
--- Reading a header and its signatures forward: what is read so far, and what is answered where reading stops.
+-- Reading a header and its signatures forward: what is read so far, and what is returned where reading stops.
 use Rattle.std.specs.Prelude.{◌≡◌, ◌⊎◌, ℕ, List, map, Bool, true, false, Option, Some, None, Result, Ok, Err}
 use Rattle.std.specs.Map.{keys_of}
 use Rattle.coset_value.specs.Item.{Item, array, dict, Items, no_items, item, Pairs, no_pairs, pair}
 use Rattle.coset_value.specs.Parts.{as_bytes}
 use Rattle.coset_codec.specs.declared.error.CoseError.{CoseError}
-use Rattle.coset_codec.specs.declared.read.input.InputItems.{InputItems}
-use Rattle.coset_codec.specs.declared.read.input.InputPairs.{InputPairs}
+use Rattle.coset_codec.specs.declared.read.decoder.ArrayElements.{ArrayElements}
+use Rattle.coset_codec.specs.declared.read.decoder.MapEntries.{MapEntries}
 use Rattle.coset_codec.specs.Errors.{UnlessMemory}
 use Rattle.coset_codec.specs.Inputs.{State, ItemAt, AreWithin, PairsWithin}
-use Rattle.coset_codec.specs.Maps.{Walks, RefusesKey, ExcludesKey, GatherFaults, are_distinct, optional}
+use Rattle.coset_codec.specs.Maps.{Walks, RefusesKey, ExcludesKey, GatherFaults, are_distinct, is_core, optional}
 use Rattle.coset_codec.specs.Shape.{any}
 use Rattle.coset_label.specs.Labels.{label, names}
 use Rattle.coset_label.specs.Names.{Name, same_name}
 use Rattle.coset_core.specs.FieldLabels as labels
-use Rattle.coset_core.specs.Fields.{FieldsSeen, Versions, FieldTuple, fields, parts_of, excludes}
-use Rattle.coset_core.specs.FieldsView.{counter_signatures_held, countersignatures_held, fields_seen}
-use Rattle.coset_core.specs.Headers.{SignatureSeen, layered_protected, layered_signature}
-use Rattle.coset_core.specs.Views.{countersignature_seen, signature_seen}
+use Rattle.coset_core.specs.Fields.{FieldsView, Versions, FieldTuple, fields, parts_of, excludes}
+use Rattle.coset_core.specs.FieldViews.{counter_signatures_held, countersignatures_held, fields_view}
+use Rattle.coset_core.specs.Headers.{SignatureView, layered_protected, layered_signature}
+use Rattle.coset_core.specs.Views.{countersignature_view, signature_view}
 use Rattle.coset_core.specs.declared.header.Header.{Header}
+use Rattle.coset_core.specs.declared.header.reading.Field.{Field}
+use Rattle.coset_core.specs.declared.header.reading.Field.TheVariants.{Alg, Crit, ContentType, KeyId, Iv, PartialIv, Signatures, Countersignature0V2, Rest}
 use Rattle.coset_core.specs.declared.header.reading.Version.{Version}
 use Rattle.coset_core.specs.declared.header.reading.Version.TheVariants.{V1, V2}
 
@@ -40,12 +42,24 @@ with_version V2 a x = (x.0, a)
 abbrev pub NamesNoVersion : Name → Type 0
 NamesNoVersion m = (same_name labels.counter_signature m ≡ false) × (same_name labels.countersignature_v2 m ≡ false)
 
+-- a pair with the label m goes to this field
+abbrev pub GoesTo : Name → Field → Type 0
+GoesTo m Alg = m ≡ labels.alg
+GoesTo m Crit = m ≡ labels.crit
+GoesTo m ContentType = m ≡ labels.content_type
+GoesTo m KeyId = m ≡ labels.kid
+GoesTo m Iv = m ≡ labels.iv
+GoesTo m PartialIv = m ≡ labels.partial_iv
+GoesTo m (Signatures version) = m ≡ label_of version
+GoesTo m Countersignature0V2 = m ≡ labels.countersignature0_v2
+GoesTo m Rest = is_core names (fields (optional any) (optional any)).labels m ≡ false
+
 -- of all the pairs of a map those before ps make the fields f, and o are the values of labels 7 and 11
-abbrev pub WalksTo : Pairs → FieldsSeen → Versions (Option Item) → Pairs → Type 0
+abbrev pub WalksTo : Pairs → FieldsView → Versions (Option Item) → Pairs → Type 0
 WalksTo all f o ps = Walks Name (FieldTuple (Option Item)) names (fields (optional any) (optional any)) all (parts_of (f, o)) ps
 
--- at t stands the value of a pair that holds counter signatures of this version
-pub record AtHeld (version : Version) (all : Pairs) (o : Versions (Option Item)) (f : FieldsSeen) (t z : State) (m : InputPairs) : Type 0 where
+-- at t is the value of a pair that holds counter signatures of this version
+pub record AtHeld (version : Version) (all : Pairs) (o : Versions (Option Item)) (f : FieldsView) (t z : State) (m : MapEntries) : Type 0 where
   pub key : Item
   pub value : Item
   pub others : Pairs
@@ -56,12 +70,12 @@ pub record AtHeld (version : Version) (all : Pairs) (o : Versions (Option Item))
   pub within : PairsWithin m others mid z
 
 -- all pairs were read
-pub record AtEnd (all : Pairs) (o : Versions (Option Item)) (f : FieldsSeen) (t z : State) (m : InputPairs) : Type 0 where
+pub record AtEnd (all : Pairs) (o : Versions (Option Item)) (f : FieldsView) (t z : State) (m : MapEntries) : Type 0 where
   pub walks : WalksTo all f o no_pairs
   pub within : PairsWithin m no_pairs t z
 
--- the pair was passed that is at fault
-pub record AtFault (all : Pairs) (o : Versions (Option Item)) (f : FieldsSeen) (t z : State) (m : InputPairs) (e : CoseError) : Type 0 where
+-- the pair was skipped that is at fault
+pub record AtFault (all : Pairs) (o : Versions (Option Item)) (f : FieldsView) (t z : State) (m : MapEntries) (e : CoseError) : Type 0 where
   pub key : Item
   pub value : Item
   pub others : Pairs
@@ -71,17 +85,17 @@ pub record AtFault (all : Pairs) (o : Versions (Option Item)) (f : FieldsSeen) (
       ⊎ ExcludesKey names excludes key (parts_of (f, o)) g)
 
 -- where reading pairs one after the other stops
-abbrev pub FillsSome : Pairs → Versions (Option Item) → State → FieldsSeen → State → InputPairs → Result (Option Version) CoseError → Type 0
+abbrev pub FillsSome : Pairs → Versions (Option Item) → State → FieldsView → State → MapEntries → Result (Option Version) CoseError → Type 0
 FillsSome all o z f t m (Ok (Some version)) = AtHeld version all o f t z m
 FillsSome all o z f t m (Ok None) = AtEnd all o f t z m
 FillsSome all o z f t m (Err e) = AtFault all o f t z m e
 
 -- no label of the rest repeats
-abbrev pub IsDistinctRest : FieldsSeen → Type 0
+abbrev pub IsDistinctRest : FieldsView → Type 0
 IsDistinctRest f = are_distinct same_name (keys_of f.rest) ≡ true
 
 -- the same, where labels of the rest that repeat are a fault
-abbrev pub FillsFields : Pairs → Versions (Option Item) → State → FieldsSeen → State → InputPairs → Result (Option Version) CoseError → Type 0
+abbrev pub FillsFields : Pairs → Versions (Option Item) → State → FieldsView → State → MapEntries → Result (Option Version) CoseError → Type 0
 FillsFields all o z f t m (Ok (Some version)) = AtHeld version all o f t z m × IsDistinctRest f
 FillsFields all o z f t m (Ok None) = AtEnd all o f t z m × IsDistinctRest f
 FillsFields all o z f t m (Err e) = (left : Pairs) × PairsWithin m left t z
@@ -90,15 +104,15 @@ FillsFields all o z f t m (Err e) = (left : Pairs) × PairsWithin m left t z
 -- ---- signatures
 
 -- the counter signatures of both versions that a header holds, and those of one
-abbrev pub held : Header → Versions (List SignatureSeen)
-held h = (map signature_seen (counter_signatures_held h), map countersignature_seen (countersignatures_held h))
+abbrev pub held : Header → Versions (List SignatureView)
+held h = (map signature_view (counter_signatures_held h), map countersignature_view (countersignatures_held h))
 
-abbrev pub held_of : Version → Header → List SignatureSeen
+abbrev pub held_of : Version → Header → List SignatureView
 held_of version h = at_version version (held h)
 
 -- the header has these counter signatures of that version, and all else as it was
-pub record Keeps (version : Version) (xs : List SignatureSeen) (old new : Header) : Type 0 where
-  pub fields : fields_seen new ≡ fields_seen old
+pub record Keeps (version : Version) (xs : List SignatureView) (old new : Header) : Type 0 where
+  pub fields : fields_view new ≡ fields_view old
   pub signatures : held new ≡ with_version version xs (held old)
 
 -- ---- a signature's elements
@@ -107,15 +121,15 @@ abbrev pub FirstPlace : Item → Option (List ℕ) → CoseError → Bool → Ty
 FirstPlace w o f true = (b : List ℕ) × (as_bytes w ≡ Some b) × (o ≡ Some b)
 FirstPlace w o f false = (k : ℕ) → UnlessMemory f ((layered_protected k).faults w)
 
--- the second of them stands at t, and the first is a byte string, of the bytes o, or it isn't, as the error f tells; or they
+-- the second of them is at t, and the first is a byte string, of the bytes o, or it isn't, as the error f says; or they
 -- are too few
-abbrev pub BeginsElements : Items → State → State → InputItems → Option (List ℕ) → CoseError → Result Bool CoseError → Type 0
+abbrev pub BeginsElements : Items → State → State → ArrayElements → Option (List ℕ) → CoseError → Result Bool CoseError → Type 0
 BeginsElements vs t z m o f (Ok is) =
     (w : Item) × (u : Item) × (others : Items) × (mid : State) × (vs ≡ item w (item u others)) × ItemAt u t mid × AreWithin m others mid z × FirstPlace w o f is
 BeginsElements vs t z m o f (Err e) = (left : Items) × AreWithin m left t z × ((k : ℕ) → UnlessMemory e ((layered_signature k).faults (array vs)))
 
 -- the third and last is a byte string, of these bytes; or it isn't, or they are too few or too many
-abbrev pub EndsElements : Items → State → State → InputItems → List ℕ → Result (Unit {0}) CoseError → Type 0
+abbrev pub EndsElements : Items → State → State → ArrayElements → List ℕ → Result (Unit {0}) CoseError → Type 0
 EndsElements vs t z m b (Ok x) = (w : Item) × (vs ≡ item w no_items) × (as_bytes w ≡ Some b) × AreWithin m no_items t z
 EndsElements vs t z m b (Err e) = (left : Items) × AreWithin m left t z
     × ((p u : Item) (k : ℕ) → UnlessMemory e ((layered_signature k).faults (array (item p (item u vs)))))

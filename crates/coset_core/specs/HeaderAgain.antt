@@ -1,4 +1,4 @@
--- A header that was read is written as an item that stands for it and is no deeper.
+-- A header that was read is written as an item that represents it and is no deeper.
 use Rattle.std.proofs.Common.{◌≡◌, ℕ, zero, suc, List, Option, Some, None, option_map, refl, sym, ap, ◌∙◌, subst, arith}
 use Rattle.coset_value.specs.Item.{Item, bytes, array, Items, no_items, item, depth, items_count}
 use Rattle.coset_value.specs.Parts.{as_bytes, as_array}
@@ -8,21 +8,21 @@ use Rattle.coset_codec.specs.ShapeLaws.{Again, AgainElements, Lawful, LawfulElem
 use Rattle.coset_codec.specs.ShapeLaws.{one_or_many_laws}
 use Rattle.coset_codec.specs.Maps.{FieldShape}
 use Rattle.coset_codec.specs.MapLaws.{AgainFieldShape, LawfulFieldShape, Within}
-use Rattle.coset_core.specs.Fields.{FieldsSeen, Versions, map_with}
+use Rattle.coset_core.specs.Fields.{FieldsView, Versions, map_with}
 use Rattle.coset_core.specs.FieldLaws.{map_with_laws, split, join, image_with}
-use Rattle.coset_core.specs.Headers.{HeaderSeen, header_of, Signatures, no_signatures, signature_and, CounterSignaturesAre, IsHeader, AreSignatures}
+use Rattle.coset_core.specs.Headers.{HeaderView, header_of, Signatures, no_signatures, signature_and, CounterSignaturesAre, IsHeader, AreSignatures}
 use Rattle.coset_core.specs.Headers.{signed_array, described_by, counter_signatures_item, header_item, protected_item, signatures_image, header_image}
 use Rattle.coset_core.specs.HeaderReads.{ProtectedOf}
 
--- one value, of which it is known which items stand for it, and what it is written as
+-- one value, of which it is known which items represent it, and what it is written as
 abbrev pub told_as : (Item → Type 0) → Option Item → Shape (Unit {0})
 told_as P o = fixed P o (λ v e. ⊥)
 
 abbrev pub known_elements : ℕ → Signatures → Elements (Unit {0})
 known_elements k ss = record { describes = λ vs x. AreSignatures ss k vs; image = λ x. signatures_image ss; wrong_length = λ vs. ⊥; faults = λ vs e. ⊥ }
 
--- whatever items stand for a header or for signatures, these are written so
-abbrev pub IsAgain : ℕ → HeaderSeen → Type 0
+-- whatever items represent a header or signatures, these are written so
+abbrev pub IsAgain : ℕ → HeaderView → Type 0
 IsAgain k h = (v : Item) → IsHeader h k v → Again (Unit {0}) (told_as (IsHeader h k) (header_image h)) v tt
 
 abbrev pub AreAgain : ℕ → Signatures → Type 0
@@ -51,7 +51,7 @@ bytes-is (bytes c) b p = ap bytes (some-one refl p)
 bytes-is _ b p = absurd (cc)
 
 -- a protected header is the byte string that it was read from
-protected_is_bytes : (o : Option (List ℕ)) (h : HeaderSeen) (k : ℕ) (v : Item) → ProtectedOf o h k v → (b : List ℕ) × (v ≡ bytes b) × (o ≡ Some b)
+protected_is_bytes : (o : Option (List ℕ)) (h : HeaderView) (k : ℕ) (v : Item) → ProtectedOf o h k v → (b : List ℕ) × (v ≡ bytes b) × (o ≡ Some b)
 protected_is_bytes o h zero v p = absurd p
 protected_is_bytes o h (suc k) v p = (p.0, bytes-is v p.0 p.1, p.2)
 
@@ -62,25 +62,25 @@ pub record Begins (v : Item) : Type 0 where
   pub is : v ≡ array (item (bytes first) others)
 
 elements_begin :
-    (o : Option (List ℕ)) (p : HeaderSeen) (k : ℕ) (R : Item → Type 0) (s : List ℕ) (v : Item) (vs : Items) → v ≡ array vs
+    (o : Option (List ℕ)) (p : HeaderView) (k : ℕ) (R : Item → Type 0) (s : List ℕ) (v : Item) (vs : Items) → v ≡ array vs
     → (described_by (ProtectedOf o p k) then described_by R then bstr then end).describes vs (tt, (tt, (s, tt))) → Begins v
 elements_begin o p k R s v no_items e h = absurd h
 elements_begin o p k R s v (item x vs) e h =
     let b = protected_is_bytes o p k x h.0 in
     record { first = b.0; others = vs; is = e ∙ ap (λ y. array (item y vs)) b.1 }
 
--- so one is told from several
+-- so one is distinguished from several
 pub one_or_array_begins : (v : Item) (vs : Items) → Begins v → one_or_more (one_or_array (item v vs)) ≡ Some (item v vs)
 one_or_array_begins v no_items h = rw h.is refl
 one_or_array_begins v (item w vs) h = rw h.is refl
 
 one_or_array_told :
-    (o : Option (List ℕ)) (p u : HeaderSeen) (s : List ℕ) (more : Signatures) (k : ℕ) (vs : Items) → AreSignatures (signature_and o p u s more) k vs
+    (o : Option (List ℕ)) (p u : HeaderView) (s : List ℕ) (more : Signatures) (k : ℕ) (vs : Items) → AreSignatures (signature_and o p u s more) k vs
     → one_or_more (one_or_array vs) ≡ Some vs
 one_or_array_told o p u s more k no_items a = absurd a
 one_or_array_told o p u s more k (item v vs) a = one_or_array_begins v vs (elements_begin o p k (IsHeader u k) s v a.0.0 (array-is v a.0.0 a.0.1) a.0.2)
 
--- the value of label 7, or 11, that stands for them
+-- the value of label 7, or 11, that represents them
 abbrev known : ℕ → Signatures → FieldShape (Unit {0})
 known k ss = record {
   describes = λ o x. CounterSignaturesAre (AreSignatures ss k) (ss ≡ no_signatures) o;
@@ -92,8 +92,8 @@ known k ss = record {
 known_elements_laws : (k : ℕ) (ss : Signatures) → AreAgain k ss → LawfulElements (Unit {0}) (known_elements k ss)
 known_elements_laws k ss again = record { unique = λ vs x y p q. refl; again = λ vs x p. again vs p; fits = λ vs x p m. m; sound = λ vs x e p f. f }
 
-known_told : (k : ℕ) (ss : Signatures) (v : Item) → CounterSignaturesAre (AreSignatures ss k) (ss ≡ no_signatures) (Some v) → ss ≡ no_signatures → ⊥
-known_told k ss v h e = let none : h.0 ≡ no_items = subst (λ ts. AreSignatures ts k h.0) e h.2 in never_none v (h.1 ∙ ap Some none)
+known_decides : (k : ℕ) (ss : Signatures) (v : Item) → CounterSignaturesAre (AreSignatures ss k) (ss ≡ no_signatures) (Some v) → ss ≡ no_signatures → ⊥
+known_decides k ss v h e = let none : h.0 ≡ no_items = subst (λ ts. AreSignatures ts k h.0) e h.2 in never_none v (h.1 ∙ ap Some none)
 
 mapped_twice : (o : Option Items) (w : Item) → option_map one_or_array o ≡ Some w → option_map (λ vs. Some (one_or_array vs)) o ≡ Some (Some w)
 mapped_twice (Some vs) w p = ap Some p
@@ -102,7 +102,7 @@ mapped_twice None w p = absurd (cc)
 known_again : (k : ℕ) (ss : Signatures) → AreAgain k ss → (d : ℕ) (o : Option Item) (x : Unit {0}) → Within d o → (known k ss).describes o x
     → AgainFieldShape (Unit {0}) (known k ss) d x
 known_again k no_signatures again d None x w h = record { value = None; is_image = refl; described = refl; shallow = tt }
-known_again k no_signatures again d (Some v) x w h = absurd (known_told k no_signatures v h refl)
+known_again k no_signatures again d (Some v) x w h = absurd (known_decides k no_signatures v h refl)
 known_again k (signature_and o p u s more) again d None x w h = absurd (cc)
 known_again k (signature_and o p u s more) again d (Some v) x w h =
     let ss : Signatures = signature_and o p u s more in
@@ -119,7 +119,7 @@ known_again k (signature_and o p u s more) again d (Some v) x w h =
     }
 
 known_laws : (k : ℕ) (ss : Signatures) → AreAgain k ss → LawfulFieldShape (Unit {0}) (known k ss)
-known_laws k ss again = record { unique = λ o x y p q. refl; again = known_again k ss again; sound = λ v x e p f. f; told = λ v x p q. known_told k ss v p q }
+known_laws k ss again = record { unique = λ o x y p q. refl; again = known_again k ss again; sound = λ v x e p f. f; told = λ v x p q. known_decides k ss v p q }
 
 -- ---- headers
 
@@ -129,10 +129,10 @@ within (Some v) = (depth v, omega arith)
 within None = (0, tt)
 
 -- its map is written so, where its signatures are
-map_again : (f : FieldsSeen) (ss ts : Signatures) (k : ℕ) → AreAgain k ss → AreAgain k ts → IsAgain k (header_of f ss ts)
+map_again : (f : FieldsView) (ss ts : Signatures) (k : ℕ) → AreAgain k ss → AreAgain k ts → IsAgain k (header_of f ss ts)
 map_again f ss ts k again again_v2 v h =
     let two : Versions (Unit {0}) = (tt, tt) in
-    let a : Again (FieldsSeen × Versions (Unit {0})) (map_with (known k ss) (known k ts)) v (f, two) =
+    let a : Again (FieldsView × Versions (Unit {0})) (map_with (known k ss) (known k ts)) v (f, two) =
     (map_with_laws (known k ss) (known k ts) (known_laws k ss again) (known_laws k ts again_v2)).again v (f, two)
     (join (known k ss) (known k ts) v f h.0 two h.1 h.2 h.3) in
     let d = within h.0.0 in
@@ -150,7 +150,7 @@ map_again f ss ts k again again_v2 v h =
 -- ---- signatures
 
 -- the byte string is written as it was read
-pub protected_again : (k : ℕ) (o : Option (List ℕ)) (h : HeaderSeen) (v : Item) → ProtectedOf o h k v
+pub protected_again : (k : ℕ) (o : Option (List ℕ)) (h : HeaderView) (v : Item) → ProtectedOf o h k v
     → Again (Unit {0}) (told_as (ProtectedOf o h k) (protected_item o h (header_image h))) v tt
 protected_again k o h v p =
     let b = protected_is_bytes o h k v p in
@@ -173,7 +173,7 @@ signed_laws p u lp lu = array_of_laws _ (then_laws p _ lp (then_laws u _ lu (the
 
 -- all headers are written so, and all signatures
 mutual
-  pub header_again : (h : HeaderSeen) (k : ℕ) → IsAgain k h
+  pub header_again : (h : HeaderView) (k : ℕ) → IsAgain k h
   header_again (header_of f ss ts) k v h = map_again f ss ts k (λ vs x. signatures_again ss k vs x) (λ vs x. signatures_again ts k vs x) v h
 
   pub signatures_again : (ss : Signatures) (k : ℕ) → AreAgain k ss

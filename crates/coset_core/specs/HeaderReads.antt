@@ -6,14 +6,14 @@ use Rattle.coset_codec.specs.Shape.{Shape, Each, EachFaults, fixed, bstr, ◌the
 use Rattle.coset_codec.specs.Serialized.{ContentDescribes, ContentFaults}
 use Rattle.coset_codec.specs.declared.error.CoseError.{CoseError}
 use Rattle.coset_codec.specs.Maps.{unless_empty, SomePair}
-use Rattle.coset_core.specs.Fields.{FieldsSeen, Versions, map_with, partial_header, SomeCounterSignatures}
+use Rattle.coset_core.specs.Fields.{FieldsView, Versions, map_with, partial_header, SomeCounterSignatures}
 use Rattle.coset_core.specs.FieldLaws.{split}
-use Rattle.coset_core.specs.Headers.{HeaderSeen, header_of, Signatures, no_signatures, ProtectedSeen, SignatureSeen, signatures_of, empty_header}
+use Rattle.coset_core.specs.Headers.{HeaderView, header_of, Signatures, no_signatures, ProtectedView, SignatureView, signatures_of, empty_header}
 use Rattle.coset_core.specs.Headers.{CounterSignaturesAre, DescribesContent, DescribesProtected, IsHeader}
 use Rattle.coset_core.specs.Headers.{AreSignatures, signed_array, described_by, HeaderFaults}
 use Rattle.coset_core.specs.Headers.{ProtectedFaults, counter_signatures_faults, layered_header, layered_protected, layered_signature}
 
--- ---- what stands for a value
+-- ---- what represents a value
 
 -- an array of three, whose first two elements are seen otherwise
 pub signed_as :
@@ -29,28 +29,28 @@ signed_as p u q t a b c d s f g v h = (h.0, h.1, go h.0 h.2)
     go (item x (item y vs)) k = (f x k.0, (g y k.1.0, k.1.1))
 
 -- a protected header
-content_read : (k : ℕ) (h : HeaderSeen) (b : List ℕ) → ContentDescribes empty_header (layered_header k) b h
+content_read : (k : ℕ) (h : HeaderView) (b : List ℕ) → ContentDescribes empty_header (layered_header k) b h
     → DescribesContent (IsHeader h k) (h ≡ empty_header) b
 unfolding layered_header
 content_read k h [] p = p
 content_read k h (c ∷ b) p = p
 
--- the byte string stands for the header, within k layers
-abbrev pub ProtectedOf : Option (List ℕ) → HeaderSeen → ℕ → Item → Type 0
+-- the byte string represents the header, within k layers
+abbrev pub ProtectedOf : Option (List ℕ) → HeaderView → ℕ → Item → Type 0
 ProtectedOf o h k v = DescribesProtected (IsHeader h) (h ≡ empty_header) o k v
 
-protected_read : (k : ℕ) (p : ProtectedSeen) (v : Item) → (layered_protected k).describes v p → ProtectedOf p.original p.header k v
+protected_read : (k : ℕ) (p : ProtectedView) (v : Item) → (layered_protected k).describes v p → ProtectedOf p.original p.header k v
 unfolding layered_protected
 protected_read zero p v h = h
 protected_read (suc k) p v h = (h.0, h.1, h.2, content_read k p.header h.0 h.3)
 
 -- an unprotected one
-unprotected_read : (k : ℕ) (h : HeaderSeen) (v : Item) → (layered_header k).describes v h → IsHeader h k v
+unprotected_read : (k : ℕ) (h : HeaderView) (v : Item) → (layered_header k).describes v h → IsHeader h k v
 unfolding layered_header
 unprotected_read k h v p = p
 
 -- signatures
-pub signatures_read : (k : ℕ) (vs : Items) (xs : List SignatureSeen) → Each (layered_signature k).describes vs xs → AreSignatures (signatures_of xs) k vs
+pub signatures_read : (k : ℕ) (vs : Items) (xs : List SignatureView) → Each (layered_signature k).describes vs xs → AreSignatures (signatures_of xs) k vs
 signatures_read k no_items [] h = refl
 signatures_read k no_items (x ∷ xs) h = h
 signatures_read k (item v vs) [] h = absurd h
@@ -64,13 +64,13 @@ signatures_read k (item v vs) (x ∷ xs) h =
 
 -- one, or several
 pub counter_signatures_read :
-    (k : ℕ) (w : Item) (xs : List SignatureSeen) → (one_or_many (any_number (layered_signature k))).describes w xs → (vs : Items) × (one_or_more w ≡ Some vs)
+    (k : ℕ) (w : Item) (xs : List SignatureView) → (one_or_many (any_number (layered_signature k))).describes w xs → (vs : Items) × (one_or_more w ≡ Some vs)
     × AreSignatures (signatures_of xs) k vs
 counter_signatures_read k w xs h = (h.0, h.1, signatures_read k h.0 xs h.2)
 
--- a header of which that is told
+-- a header of which that is known
 pub header_read :
-    (k : ℕ) (v : Item) (f : FieldsSeen) (o : Versions (Option Item)) (ss ts : Signatures) → partial_header.describes v (f, o)
+    (k : ℕ) (v : Item) (f : FieldsView) (o : Versions (Option Item)) (ss ts : Signatures) → partial_header.describes v (f, o)
     → CounterSignaturesAre (AreSignatures ss k) (ss ≡ no_signatures) o.0
     → CounterSignaturesAre (AreSignatures ts k) (ts ≡ no_signatures) o.1 → (layered_header k).describes v (header_of f ss ts)
 unfolding layered_header
@@ -78,13 +78,13 @@ header_read k v f o ss ts p q r = (o, p, q, r)
 
 -- a map with lists of signatures, which are left out where they are empty
 listed_read :
-    (k : ℕ) (xs : List SignatureSeen) (o : Option Item) → (unless_empty (one_or_many (any_number (layered_signature k)))).describes o xs
+    (k : ℕ) (xs : List SignatureView) (o : Option Item) → (unless_empty (one_or_many (any_number (layered_signature k)))).describes o xs
     → CounterSignaturesAre (AreSignatures (signatures_of xs) k) (signatures_of xs ≡ no_signatures) o
 listed_read k xs (Some w) h = counter_signatures_read k w xs h
 listed_read k xs None h = ap signatures_of h
 
 pub header_read_with :
-    (k : ℕ) (v : Item) (f : FieldsSeen) (xs ys : List SignatureSeen)
+    (k : ℕ) (v : Item) (f : FieldsView) (xs ys : List SignatureView)
     → (map_with (unless_empty (one_or_many (any_number (layered_signature k)))) (unless_empty (one_or_many (any_number (layered_signature k))))).describes v
     (f, (xs, ys))
     → (layered_header k).describes v (header_of f (signatures_of xs) (signatures_of ys))
@@ -150,7 +150,7 @@ pub faults_read : (k : ℕ) (w : Item) (e : CoseError) → (one_or_many (any_num
 faults_read k w e (inl f) = (1, inl f)
 faults_read k w e (inr f) = elim f.2 [ inl m ↦ absurd m.0 | inr m ↦ let g = signatures_fault k f.0 e m.1 in (suc g.0, inr (f.0, f.1, inr (m.0, g.1))) ]
 
--- and of the header that they stand in
+-- and of the header that they are in
 some_as : (P Q : Item → Item → Type 0) (ps : Pairs) → ((k u : Item) → P k u → Q k u) → SomePair P ps → SomePair Q ps
 some_as P Q no_pairs f s = s
 some_as P Q (pair k v ps) f (inl s) = inl (f k v s)

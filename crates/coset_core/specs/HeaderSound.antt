@@ -1,4 +1,4 @@
--- No fault stands in an item that stands for a header.
+-- No fault is in an item that represents a header.
 use Rattle.std.proofs.Common.{◌≡◌, ℕ, zero, suc, List, [], ◌∷◌, Option, Some, refl, subst, inl, inr}
 use Rattle.coset_value.specs.Item.{Item, Items, no_items, item}
 use Rattle.coset_cbor.proofs.Again.{encodings_differ}
@@ -7,18 +7,18 @@ use Rattle.coset_codec.specs.Serialized.{ContentFaults}
 use Rattle.coset_codec.specs.Shape.{EachFaults, one_or_more}
 use Rattle.coset_codec.specs.ShapeLaws.{some-one, some-none}
 use Rattle.coset_core.specs.FieldLaws.{partial_header_laws, counter_signatures_found}
-use Rattle.coset_core.specs.Headers.{HeaderSeen, header_of, Signatures, no_signatures, signature_and}
+use Rattle.coset_core.specs.Headers.{HeaderView, header_of, Signatures, no_signatures, signature_and}
 use Rattle.coset_core.specs.Headers.{empty_header, CounterSignaturesAre, DescribesContent, IsHeader}
 use Rattle.coset_core.specs.Headers.{AreSignatures, signed_array, protected_item, header_image, HeaderFaults, ProtectedFaults, counter_signatures_faults}
 use Rattle.coset_core.specs.HeaderAgain.{fixed_laws, signed_laws, protected_again, header_again}
 use Rattle.coset_core.specs.HeaderReads.{ProtectedOf, protected_faults, unprotected_faults}
 
--- no fault within n signatures is found in a value that stands for signatures
+-- no fault within n signatures is found in a value that represents signatures
 abbrev AreSound : ℕ → Type 0
 AreSound n = (k : ℕ) (w : Item) (e : CoseError) (ss : Signatures) (vs : Items) → one_or_more w ≡ Some vs → AreSignatures ss k vs
     → counter_signatures_faults n k w e → ⊥
 
--- so none is in a value that stands for signatures
+-- so none is in a value that represents signatures
 held_sound :
     (n : ℕ) → AreSound n → (k : ℕ) (e : CoseError) (ss : Signatures) (o : Option Item) (w : Item) → o ≡ Some w
     → CounterSignaturesAre (AreSignatures ss k) (ss ≡ no_signatures) o
@@ -29,7 +29,7 @@ held_sound n sound k e ss o w is a x =
     sound k w e ss are.0 are.1 are.2 x
 
 -- in a map, in the content of a byte string, and in that string
-header_sound : (n : ℕ) → AreSound n → (k : ℕ) (e : CoseError) (h : HeaderSeen) (v : Item) → IsHeader h k v → HeaderFaults (counter_signatures_faults n k) v e
+header_sound : (n : ℕ) → AreSound n → (k : ℕ) (e : CoseError) (h : HeaderView) (v : Item) → IsHeader h k v → HeaderFaults (counter_signatures_faults n k) v e
     → ⊥
 header_sound n sound k e (header_of f ss ts) v a (inl x) = partial_header_laws.sound v (f, a.0) e a.1 x
 header_sound n sound k e (header_of f ss ts) v a (inr x) =
@@ -40,7 +40,7 @@ header_sound n sound k e (header_of f ss ts) v a (inr x) =
     ]
 
 content_sound :
-    (n : ℕ) → AreSound n → (k : ℕ) (e : CoseError) (h : HeaderSeen) (b : List ℕ) → DescribesContent (IsHeader h k) (h ≡ empty_header) b
+    (n : ℕ) → AreSound n → (k : ℕ) (e : CoseError) (h : HeaderView) (b : List ℕ) → DescribesContent (IsHeader h k) (h ≡ empty_header) b
     → ContentFaults (unprotected_faults n k) b e → ⊥
 content_sound n sound k e h [] p x = x
 content_sound n sound k e h (c ∷ b) p (inl x) = x.1 p.0 p.1
@@ -49,7 +49,7 @@ content_sound n sound k e h (c ∷ b) p (inr x) =
     (encodings_differ x.0 p.0 (c ∷ b) (c ∷ b) [] [] x.1.0 p.1.0 refl).0 x.2)
 
 protected_sound :
-    (n : ℕ) → AreSound n → (k : ℕ) (e : CoseError) (o : Option (List ℕ)) (h : HeaderSeen) (v : Item) → ProtectedOf o h k v
+    (n : ℕ) → AreSound n → (k : ℕ) (e : CoseError) (o : Option (List ℕ)) (h : HeaderView) (v : Item) → ProtectedOf o h k v
     → ProtectedFaults (λ j. HeaderFaults (counter_signatures_faults n j)) k v e → ⊥
 protected_sound n sound zero e o h v a x = a
 protected_sound n sound (suc k) e o h v a (inl x) = some-none a.1 x.0
@@ -82,5 +82,5 @@ counter_signatures_sound (suc n) k w e ss vs p a (inr f) =
     ]
 
 -- nor in a header
-pub header_faultless : (k : ℕ) (v : Item) (x : HeaderSeen) (e : CoseError) → IsHeader x k v → (n : ℕ) → HeaderFaults (counter_signatures_faults n k) v e → ⊥
+pub header_faultless : (k : ℕ) (v : Item) (x : HeaderView) (e : CoseError) → IsHeader x k v → (n : ℕ) → HeaderFaults (counter_signatures_faults n k) v e → ⊥
 header_faultless k v x e a n f = header_sound n (counter_signatures_sound n) k e x v a f

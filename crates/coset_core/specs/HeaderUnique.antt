@@ -1,25 +1,25 @@
--- An item stands for one header at most.
+-- An item represents one header at most.
 use Rattle.std.proofs.Common.{◌≡◌, ℕ, zero, suc, List, [], ◌∷◌, Option, Some, None, refl, sym, ap, ◌∙◌, subst}
 use Rattle.coset_value.specs.Item.{Item, Items, no_items, item}
 use Rattle.coset_cbor.proofs.Again.{encodings_differ}
 use Rattle.coset_codec.specs.Shape.{one_or_more, bstr, ◌then◌, end}
 use Rattle.coset_codec.specs.ShapeLaws.{some-one, some-none}
-use Rattle.coset_core.specs.Fields.{FieldsSeen, Versions}
+use Rattle.coset_core.specs.Fields.{FieldsView, Versions}
 use Rattle.coset_core.specs.FieldLaws.{partial_header_laws}
-use Rattle.coset_core.specs.Headers.{HeaderSeen, header_of, Signatures, no_signatures, signature_and}
+use Rattle.coset_core.specs.Headers.{HeaderView, header_of, Signatures, no_signatures, signature_and}
 use Rattle.coset_core.specs.Headers.{empty_header, CounterSignaturesAre, DescribesContent, IsHeader}
 use Rattle.coset_core.specs.Headers.{AreSignatures, signed_array, described_by}
 use Rattle.coset_core.specs.HeaderReads.{ProtectedOf}
 
--- an item stands for one of two headers alone, whatever else is known of them; and some items for one of two lists of
+-- an item represents one of two headers alone, whatever else is known of them; and some items for one of two lists of
 -- signatures
-abbrev SameHeader : HeaderSeen → HeaderSeen → Type 0
+abbrev SameHeader : HeaderView → HeaderView → Type 0
 SameHeader h g = (k : ℕ) (v : Item) → IsHeader h k v → IsHeader g k v → h ≡ g
 
 abbrev SameSignatures : Signatures → Signatures → Type 0
 SameSignatures ss ts = (k : ℕ) (vs : Items) → AreSignatures ss k vs → AreSignatures ts k vs → ss ≡ ts
 
--- so the value of label 7, or 11, stands for the same
+-- so the value of label 7, or 11, represents the same
 counter_signatures_same :
     (k : ℕ) (ss ts : Signatures) → SameSignatures ss ts → (o p : Option Item) → o ≡ p → CounterSignaturesAre (AreSignatures ss k) (ss ≡ no_signatures) o
     → CounterSignaturesAre (AreSignatures ts k) (ts ≡ no_signatures) p → ss ≡ ts
@@ -31,21 +31,21 @@ counter_signatures_same k ss ts same (Some v) (Some w) e a b =
     same k b.0 (subst (AreSignatures ss k) vs a.2) b.2
 
 -- and a map, and the content of a byte string
-map_same : (f g : FieldsSeen) (ss ts us ws : Signatures) → SameSignatures ss us → SameSignatures ts ws → SameHeader (header_of f ss ts) (header_of g us ws)
+map_same : (f g : FieldsView) (ss ts us ws : Signatures) → SameSignatures ss us → SameSignatures ts ws → SameHeader (header_of f ss ts) (header_of g us ws)
 map_same f g ss ts us ws same same_v2 k v a b =
-    let e : ◌≡◌ {A = FieldsSeen × Versions (Option Item)} (f, a.0) (g, b.0) = partial_header_laws.unique v (f, a.0) (g, b.0) a.1 b.1 in
+    let e : ◌≡◌ {A = FieldsView × Versions (Option Item)} (f, a.0) (g, b.0) = partial_header_laws.unique v (f, a.0) (g, b.0) a.1 b.1 in
     let first : f ≡ g = ap (λ x. x.0) e in
     let second : ss ≡ us = counter_signatures_same k ss us same a.0.0 b.0.0 (ap (λ x. x.1.0) e) a.2 b.2 in
     let last : ts ≡ ws = counter_signatures_same k ts ws same_v2 a.0.1 b.0.1 (ap (λ x. x.1.1) e) a.3 b.3 in
     λ i. header_of (first i) (second i) (last i)
 
-content_same : (h g : HeaderSeen) → SameHeader h g → (k : ℕ) (b : List ℕ) → DescribesContent (IsHeader h k) (h ≡ empty_header) b
+content_same : (h g : HeaderView) → SameHeader h g → (k : ℕ) (b : List ℕ) → DescribesContent (IsHeader h k) (h ≡ empty_header) b
     → DescribesContent (IsHeader g k) (g ≡ empty_header) b → h ≡ g
 content_same h g same k [] p q = p ∙ sym q
 content_same h g same k (c ∷ b) p q = same k q.0 (subst (IsHeader h k) (encodings_differ p.0 q.0 (c ∷ b) (c ∷ b) [] [] p.1.0 q.1.0 refl).0 p.2) q.2
 
 -- and of protected ones also the bytes
-protected_same : (o p : Option (List ℕ)) (h g : HeaderSeen) → SameHeader h g → (k : ℕ) (v : Item) → ProtectedOf o h k v → ProtectedOf p g k v → (o ≡ p)
+protected_same : (o p : Option (List ℕ)) (h g : HeaderView) → SameHeader h g → (k : ℕ) (v : Item) → ProtectedOf o h k v → ProtectedOf p g k v → (o ≡ p)
     × (h ≡ g)
 protected_same o p h g same zero v a b = absurd a
 protected_same o p h g same (suc k) v a b =
@@ -78,7 +78,7 @@ signed_same P Q R S s t v a b =
 
 -- all headers, and all signatures
 mutual
-  pub header_same : (h g : HeaderSeen) → SameHeader h g
+  pub header_same : (h g : HeaderView) → SameHeader h g
   header_same (header_of f ss ts) (header_of g us ws) k v a b =
       map_same f g ss ts us ws (λ j vs x y. signatures_same ss us j vs x y) (λ j vs x y. signatures_same ts ws j vs x y) k v a b
 

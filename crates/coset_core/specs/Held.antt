@@ -1,13 +1,13 @@
 -- How many signatures are held, one inside another.
 use Rattle.std.specs.Prelude.{ℕ, suc, ◌+◌, List, map}
-use Rattle.coset_core.specs.Headers.{HeaderSeen, header_of, Signatures, no_signatures, signature_and, signatures_of}
-use Rattle.coset_core.specs.Views.{countersignature_seen, signature_seen}
+use Rattle.coset_core.specs.Headers.{HeaderView, header_of, Signatures, no_signatures, signature_and, signatures_of}
+use Rattle.coset_core.specs.Views.{countersignature_view, signature_view}
 use Rattle.coset_core.specs.declared.countersignature.CoseCountersignature.{CoseCountersignature}
 use Rattle.coset_core.specs.declared.signature.CoseSignature.{CoseSignature}
 
 -- those in a header, and signatures with those in their headers
 abbrev mutual
-  pub header_count : HeaderSeen → ℕ
+  pub header_count : HeaderView → ℕ
   header_count (header_of f ss ts) = signatures_count ss + signatures_count ts
 
   pub signatures_count : Signatures → ℕ
@@ -15,8 +15,8 @@ abbrev mutual
   signatures_count (signature_and o p u s more) = suc (header_count p + header_count u + signatures_count more)
 
 abbrev pub signatures_in : List CoseSignature → ℕ
-signatures_in all = signatures_count (signatures_of (map signature_seen all))
+signatures_in all = signatures_count (signatures_of (map signature_view all))
 
 -- of both versions
 abbrev pub held_in : List CoseSignature → List CoseCountersignature → ℕ
-held_in all version_2 = signatures_in all + signatures_count (signatures_of (map countersignature_seen version_2))
+held_in all version_2 = signatures_in all + signatures_count (signatures_of (map countersignature_view version_2))

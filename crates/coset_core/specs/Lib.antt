@@ -1,7 +1,7 @@
 pub mod FieldLabels
 pub mod Fields
 pub mod FieldLaws
-pub mod FieldsView
+pub mod FieldViews
 pub mod Built
 pub mod Contents
 pub mod ProtectedMap
@@ -21,7 +21,7 @@ pub mod Messages
 pub mod ViewLaws
 pub mod Same
 pub mod SameLaws
-pub mod Told
+pub mod EqDecides
 pub mod Filling
 pub mod OneOrMore
 pub mod Structure

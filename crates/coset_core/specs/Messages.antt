@@ -2,12 +2,12 @@
 use Rattle.std.specs.Prelude.{None}
 use Rattle.coset_codec.specs.Shape.{Shape, Elements, array_of, ◌then◌}
 use Rattle.coset_codec.specs.ShapeLaws.{Lawful, LawfulElements, array_of_laws, then_laws}
-use Rattle.coset_core.specs.Headers.{HeaderSeen, ProtectedSeen, empty_header, header, protected}
+use Rattle.coset_core.specs.Headers.{HeaderView, ProtectedView, empty_header, header, protected}
 use Rattle.coset_core.specs.HeaderLaws.{header_laws, protected_laws}
 
 -- the two headers, and what follows them
 abbrev pub WithHeaders : Type 0 → Type 0
-WithHeaders A = ProtectedSeen × (HeaderSeen × A)
+WithHeaders A = ProtectedView × (HeaderView × A)
 
 -- [Headers, elements], where Headers = ( protected : empty_or_serialized_map, unprotected : header_map )
 abbrev pub with_headers : {A : Type 0} → Elements A → Shape (WithHeaders A)
@@ -17,8 +17,8 @@ pub with_headers_laws : {A : Type 0} (ps : Elements A) → LawfulElements A ps �
 with_headers_laws ps l = array_of_laws _ (then_laws _ _ protected_laws (then_laws _ _ header_laws l))
 
 -- a protected header that was made, and not read; and the empty one
-abbrev pub unread : HeaderSeen → ProtectedSeen
+abbrev pub unread : HeaderView → ProtectedView
 unread h = record { original = None; header = h }
 
-abbrev pub empty_protected : ProtectedSeen
+abbrev pub empty_protected : ProtectedView
 empty_protected = unread empty_header

@@ -5,8 +5,8 @@ use Rattle.std.specs.Ordering.{is_eq}
 use Rattle.std.specs.Cmp.Lexicographic.{pointwise}
 use Rattle.coset_label.specs.Names.{Name, RegisteredName, registered_cmp, same_name}
 use Rattle.coset_label.specs.Same.{algorithm_eq, entry_eq}
-use Rattle.coset_core.specs.Fields.{FieldsSeen}
-use Rattle.coset_core.specs.Headers.{HeaderSeen, header_of, Signatures, no_signatures, signature_and, ProtectedSeen, SignatureSeen}
+use Rattle.coset_core.specs.Fields.{FieldsView}
+use Rattle.coset_core.specs.Headers.{HeaderView, header_of, Signatures, no_signatures, signature_and, ProtectedView, SignatureView}
 
 -- the same label that must be understood
 abbrev pub critical_eq : RegisteredName → RegisteredName → Bool
@@ -16,8 +16,8 @@ critical_eq a b = is_eq (registered_cmp a b)
 abbrev pub content_type_eq : Name → Name → Bool
 content_type_eq = same_name
 
--- each field the same; the lists have as many members, each the same as its counterpart
-abbrev pub fields_eq : FieldsSeen → FieldsSeen → Bool
+-- each field the same; the lists have as many elements, each the same as its counterpart
+abbrev pub fields_eq : FieldsView → FieldsView → Bool
 fields_eq f g =
     option_eq algorithm_eq f.alg g.alg
     && (pointwise critical_eq f.crit g.crit
@@ -30,7 +30,7 @@ fields_eq f g =
 -- the same fields, and the same counter signatures of both versions: as many, each the same as its counterpart, in the bytes that were
 -- kept, the protected header, the unprotected one, and the signature
 abbrev mutual
-  pub header_eq : HeaderSeen → HeaderSeen → Bool
+  pub header_eq : HeaderView → HeaderView → Bool
   header_eq (header_of f ss ts) (header_of g us ws) = fields_eq f g && (signatures_eq ss us && signatures_eq ts ws)
 
   pub signatures_eq : Signatures → Signatures → Bool
@@ -40,9 +40,9 @@ abbrev mutual
   signatures_eq ss ts = false
 
 -- the same bytes kept, or none of either, and the same header
-abbrev pub protected_eq : ProtectedSeen → ProtectedSeen → Bool
+abbrev pub protected_eq : ProtectedView → ProtectedView → Bool
 protected_eq p q = option_eq (pointwise ◌==◌) p.original q.original && header_eq p.header q.header
 
 -- the same headers, and the same bytes
-abbrev pub signature_eq : SignatureSeen → SignatureSeen → Bool
+abbrev pub signature_eq : SignatureView → SignatureView → Bool
 signature_eq s t = protected_eq s.protected t.protected && (header_eq s.unprotected t.unprotected && pointwise ◌==◌ s.signature t.signature)

@@ -9,7 +9,7 @@ use Rattle.std.proofs.lemmas.Bool.Decides.{Decides-like, Decides-and}
 use Rattle.coset_label.specs.NameOrder.{registered_cmp-apart}
 use Rattle.coset_label.specs.Same.{IsEquality, algorithm_eq, entry_eq}
 use Rattle.coset_label.specs.SameLaws.{algorithm_eq-decides, entry_eq-decides, same_name-decides}
-use Rattle.coset_core.specs.Headers.{HeaderSeen, header_of, Signatures, no_signatures, signature_and}
+use Rattle.coset_core.specs.Headers.{HeaderView, header_of, Signatures, no_signatures, signature_and}
 use Rattle.coset_core.specs.Same.{critical_eq, content_type_eq, fields_eq, signatures_eq, header_eq, protected_eq, signature_eq}
 
 -- a test is that where what passes it is equal, and all passes it against itself
@@ -69,7 +69,7 @@ fields_eq-decides f g =
 
 -- headers and signatures that pass the test are equal
 mutual
-  header-sound : (h g : HeaderSeen) → header_eq h g ≡ true → h ≡ g
+  header-sound : (h g : HeaderView) → header_eq h g ≡ true → h ≡ g
   header-sound (header_of f ss ts) (header_of g us ws) h =
       let both = and_parts (fields_eq f g) (signatures_eq ss us && signatures_eq ts ws) h in
       let versions = and_parts (signatures_eq ss us) (signatures_eq ts ws) both.1 in
@@ -97,7 +97,7 @@ mutual
 
 -- and they pass the test against themselves
 mutual
-  header-itself : (h : HeaderSeen) → header_eq h h ≡ true
+  header-itself : (h : HeaderView) → header_eq h h ≡ true
   header-itself (header_of f ss ts) =
       let fields = (fields_eq-decides f f).1 refl in
       rw (fields, signatures-itself ss, signatures-itself ts) refl

@@ -1,9 +1,9 @@
 -- What a header is seen as that was made, and one that is opened.
 use Rattle.std.specs.Prelude.{◌≡◌, map, option_map}
-use Rattle.coset_core.specs.Headers.{HeaderSeen, header_of, ProtectedSeen, SignatureSeen, signatures_of}
-use Rattle.coset_core.specs.FieldsView.{fields_level}
-use Rattle.coset_core.specs.Views.{countersignature_step, header_step, protected_step, signature_step, countersignature_seen, header_seen, protected_seen}
-use Rattle.coset_core.specs.Views.{signature_seen}
+use Rattle.coset_core.specs.Headers.{HeaderView, header_of, ProtectedView, SignatureView, signatures_of}
+use Rattle.coset_core.specs.FieldViews.{fields_level}
+use Rattle.coset_core.specs.Views.{countersignature_step, header_step, protected_step, signature_step, countersignature_view, header_view, protected_view}
+use Rattle.coset_core.specs.Views.{signature_view}
 use Rattle.coset_core.specs.declared.countersignature.CoseCountersignature.{CoseCountersignature, CoseCountersignature-F, out-CoseCountersignature}
 use Rattle.coset_core.specs.declared.countersignature.CoseCountersignature.{fold_out-CoseCountersignature}
 use Rattle.coset_core.specs.declared.header.Header.{Header, Header-F, out-Header, roll-Header, fold-roll-Header, fold_out-Header}
@@ -26,37 +26,37 @@ abbrev pub CountersignatureLevel : Type 0
 CountersignatureLevel = CoseCountersignature-F CoseCountersignature Header ProtectedHeader CoseSignature
 
 -- what each level is seen as
-abbrev pub header_level : HeaderLevel → HeaderSeen
-header_level h = header_of (fields_level h) (signatures_of (map signature_seen h.counter_signatures.items))
-    (signatures_of (map countersignature_seen h.countersignatures_v2.items))
+abbrev pub header_level : HeaderLevel → HeaderView
+header_level h = header_of (fields_level h) (signatures_of (map signature_view h.counter_signatures.items))
+    (signatures_of (map countersignature_view h.countersignatures_v2.items))
 
-abbrev pub protected_level : ProtectedLevel → ProtectedSeen
-protected_level p = record { original = option_map (λ v. v.items) p.original_data; header = header_seen p.header }
+abbrev pub protected_level : ProtectedLevel → ProtectedView
+protected_level p = record { original = option_map (λ v. v.items) p.original_data; header = header_view p.header }
 
-abbrev pub signature_level : SignatureLevel → SignatureSeen
-signature_level s = record { protected = protected_seen s.protected; unprotected = header_seen s.unprotected; signature = s.signature.items }
+abbrev pub signature_level : SignatureLevel → SignatureView
+signature_level s = record { protected = protected_view s.protected; unprotected = header_view s.unprotected; signature = s.signature.items }
 
-abbrev pub countersignature_level : CountersignatureLevel → SignatureSeen
-countersignature_level s = record { protected = protected_seen s.protected; unprotected = header_seen s.unprotected; signature = s.signature.items }
+abbrev pub countersignature_level : CountersignatureLevel → SignatureView
+countersignature_level s = record { protected = protected_view s.protected; unprotected = header_view s.unprotected; signature = s.signature.items }
 
-pub header-made : (x : HeaderLevel) → header_seen (roll-Header x) ≡ header_level x
-header-made = fold-roll-Header SignatureSeen HeaderSeen ProtectedSeen SignatureSeen countersignature_step header_step protected_step signature_step
+pub header-made : (x : HeaderLevel) → header_view (roll-Header x) ≡ header_level x
+header-made = fold-roll-Header SignatureView HeaderView ProtectedView SignatureView countersignature_step header_step protected_step signature_step
 
-pub header-opened : (h : Header) → header_seen h ≡ header_level (out-Header h)
-header-opened = fold_out-Header SignatureSeen HeaderSeen ProtectedSeen SignatureSeen countersignature_step header_step protected_step signature_step
+pub header-opened : (h : Header) → header_view h ≡ header_level (out-Header h)
+header-opened = fold_out-Header SignatureView HeaderView ProtectedView SignatureView countersignature_step header_step protected_step signature_step
 
-pub protected-made : (x : ProtectedLevel) → protected_seen (roll-ProtectedHeader x) ≡ protected_level x
-protected-made = fold-roll-ProtectedHeader SignatureSeen HeaderSeen ProtectedSeen SignatureSeen countersignature_step header_step protected_step signature_step
+pub protected-made : (x : ProtectedLevel) → protected_view (roll-ProtectedHeader x) ≡ protected_level x
+protected-made = fold-roll-ProtectedHeader SignatureView HeaderView ProtectedView SignatureView countersignature_step header_step protected_step signature_step
 
-pub protected-opened : (p : ProtectedHeader) → protected_seen p ≡ protected_level (out-ProtectedHeader p)
-protected-opened = fold_out-ProtectedHeader SignatureSeen HeaderSeen ProtectedSeen SignatureSeen countersignature_step header_step protected_step signature_step
+pub protected-opened : (p : ProtectedHeader) → protected_view p ≡ protected_level (out-ProtectedHeader p)
+protected-opened = fold_out-ProtectedHeader SignatureView HeaderView ProtectedView SignatureView countersignature_step header_step protected_step signature_step
 
-pub signature-made : (x : SignatureLevel) → signature_seen (roll-CoseSignature x) ≡ signature_level x
-signature-made = fold-roll-CoseSignature SignatureSeen HeaderSeen ProtectedSeen SignatureSeen countersignature_step header_step protected_step signature_step
+pub signature-made : (x : SignatureLevel) → signature_view (roll-CoseSignature x) ≡ signature_level x
+signature-made = fold-roll-CoseSignature SignatureView HeaderView ProtectedView SignatureView countersignature_step header_step protected_step signature_step
 
-pub signature-opened : (s : CoseSignature) → signature_seen s ≡ signature_level (out-CoseSignature s)
-signature-opened = fold_out-CoseSignature SignatureSeen HeaderSeen ProtectedSeen SignatureSeen countersignature_step header_step protected_step signature_step
+pub signature-opened : (s : CoseSignature) → signature_view s ≡ signature_level (out-CoseSignature s)
+signature-opened = fold_out-CoseSignature SignatureView HeaderView ProtectedView SignatureView countersignature_step header_step protected_step signature_step
 
-pub countersignature-opened : (s : CoseCountersignature) → countersignature_seen s ≡ countersignature_level (out-CoseCountersignature s)
-countersignature-opened = fold_out-CoseCountersignature SignatureSeen HeaderSeen ProtectedSeen SignatureSeen countersignature_step header_step protected_step
+pub countersignature-opened : (s : CoseCountersignature) → countersignature_view s ≡ countersignature_level (out-CoseCountersignature s)
+countersignature-opened = fold_out-CoseCountersignature SignatureView HeaderView ProtectedView SignatureView countersignature_step header_step protected_step
     signature_step

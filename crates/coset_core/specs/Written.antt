@@ -12,8 +12,8 @@ use Rattle.coset_codec.specs.Encoding.{AppendsField}
 use Rattle.coset_codec.specs.Maps.{is_nonempty, unless_empty, optional}
 use Rattle.coset_codec.specs.Shape.{nonempty_bstr, some_of}
 use Rattle.coset_label.specs.Labels.{algorithm}
-use Rattle.coset_core.specs.Fields.{FieldsSeen, critical, content_type as content_type_shape}
-use Rattle.coset_core.specs.Headers.{HeaderSeen, header_of, fields_in, SignatureSeen, Signatures, signatures_of, are_none, is_empty_header}
+use Rattle.coset_core.specs.Fields.{FieldsView, critical, content_type as content_type_shape}
+use Rattle.coset_core.specs.Headers.{HeaderView, header_of, fields_in, SignatureView, Signatures, signatures_of, are_none, is_empty_header}
 use Rattle.coset_core.specs.Headers.{counter_signatures_item, signature_item, signatures_image, header_image, protected_bytes}
 
 -- ---- items, one after the other
@@ -26,7 +26,7 @@ pub record AppendsItems (old new : List ℕ) (vs : List Item) : Type 0 where
 -- ---- fields
 
 -- new is old, and then the pairs of the first six labels, each where its field is there
-pub record AppendsFirst (old new : List ℕ) (f : FieldsSeen) : Type 0 where
+pub record AppendsFirst (old new : List ℕ) (f : FieldsView) : Type 0 where
   pub behind_alg : List ℕ
   pub behind_crit : List ℕ
   pub behind_content_type : List ℕ
@@ -40,19 +40,19 @@ pub record AppendsFirst (old new : List ℕ) (f : FieldsSeen) : Type 0 where
   pub partial_iv : AppendsField (parameters.number PartialIv) ((unless_empty nonempty_bstr).image f.partial_iv) behind_iv new
 
 -- which of a header's fields are there, in the order of their labels
-abbrev pub are_there : HeaderSeen → List Bool
+abbrev pub are_there : HeaderView → List Bool
 are_there (header_of f ss ts) =
     is_some f.alg ∷ is_nonempty f.crit ∷ is_some f.content_type ∷ is_nonempty f.key_id ∷ is_nonempty f.iv ∷ is_nonempty f.partial_iv
     ∷ not (are_none ss) ∷ not (are_none ts) ∷ is_some f.countersignature0_v2 ∷ []
 
 -- how many pairs a header's map has
-abbrev pub count_pairs : HeaderSeen → ℕ
+abbrev pub count_pairs : HeaderView → ℕ
 count_pairs h = length (filter (λ b. b) (are_there h)) + length (fields_in h).rest
 
 -- ---- headers and signatures
 
 -- new is old, and then the shortest encodings of the arrays of these signatures
-abbrev pub AppendsSignatures : List ℕ → List ℕ → List SignatureSeen → Type 0
+abbrev pub AppendsSignatures : List ℕ → List ℕ → List SignatureView → Type 0
 AppendsSignatures old new ss = (vs : List Item) × (signatures_image (signatures_of ss) ≡ Some (items_of vs)) × (length vs ≡ length ss) × AppendsItems old new vs
 
 -- new is old, and then the pair of that label, where there are signatures
@@ -60,17 +60,17 @@ abbrev pub AppendsCounterSignatures : HeaderParameter → List ℕ → List ℕ 
 AppendsCounterSignatures p old new ss = AppendsField (parameters.number p) (counter_signatures_item ss (signatures_image ss)) old new
 
 -- the array of a signature
-abbrev pub signature_array : SignatureSeen → Option Item
+abbrev pub signature_array : SignatureView → Option Item
 signature_array s = signature_item (option_map bytes (protected_bytes s.protected)) (header_image s.unprotected) s.signature
 
 -- ---- the bytes of protected headers
 
 -- of a header that isn't empty and wasn't read, the bytes are the shortest encoding of its map
-abbrev pub AreShortest : Option (List ℕ) → HeaderSeen → List ℕ → Type 0
+abbrev pub AreShortest : Option (List ℕ) → HeaderView → List ℕ → Type 0
 AreShortest (Some read) h b = ⊤
 AreShortest None h b = is_empty_header h ≡ false → (v : Item) → header_image h ≡ Some v → IsShortest b v
 
 -- of a header that isn't empty and wasn't read, a byte string holds the shortest encoding of its map
-abbrev pub HoldsShortest : Option (List ℕ) → HeaderSeen → Item → Type 0
+abbrev pub HoldsShortest : Option (List ℕ) → HeaderView → Item → Type 0
 HoldsShortest original h (bytes b) = AreShortest original h b
 HoldsShortest original h v = ⊥

@@ -11,8 +11,12 @@ use coset_codec::{CallError, Result};
 /// where the structure could be made, and not at all otherwise.
 ///
 /// # Errors
-/// The structure's; or `Caller` with the error that `f` answers.
-pub fn ask<F, U, E>(bytes: &[u8], structure: Result<Vec<u8>>, f: F) -> Result<U, CallError<E>>
+/// The structure's; or `Caller` with the error that `f` returns.
+pub fn verify_with<F, U, E>(
+    bytes: &[u8],
+    structure: Result<Vec<u8>>,
+    f: F,
+) -> Result<U, CallError<E>>
 where
     F: FnOnce(&[u8], &[u8]) -> Result<U, E> + Drop,
     E: Drop,
@@ -31,8 +35,8 @@ where
 /// all otherwise.
 ///
 /// # Errors
-/// The structure's; or `Caller` with the error that `f` answers.
-pub fn make<F, V, E>(structure: Result<Vec<u8>>, f: F) -> Result<V, CallError<E>>
+/// The structure's; or `Caller` with the error that `f` returns.
+pub fn create_with<F, V, E>(structure: Result<Vec<u8>>, f: F) -> Result<V, CallError<E>>
 where
     F: FnOnce(&[u8]) -> Result<V, E> + Drop,
     E: Drop,

@@ -1,7 +1,7 @@
 //! Content types of headers: formats of CoAP, or media types (RFC 8152, section 3.1).
 
 ghost use Rattle.std.specs.Prelude.{◌≡◌, ◌≤◌, option_map, OnOk, IfOk, IfErr, filter, length, ◌==◌, OnErr};
-ghost use Rattle.coset_core.specs.Views.{content_type_seen};
+ghost use Rattle.coset_core.specs.Views.{content_type_view};
 ghost use Rattle.coset_codec.specs.Answers.{Reads};
 ghost use Rattle.coset_codec.specs.Errors.{IsUnexpected, UnlessMemory};
 ghost use Rattle.coset_codec.specs.Inputs.{state, ReadsAt, length_left};
@@ -10,7 +10,7 @@ ghost use Rattle.coset_codec.specs.Maps.{RefusesValue, TakesValue, optional};
 ghost use Rattle.std.specs.Option.{option_eq};
 ghost use Rattle.coset_core.specs.Same.{content_type_eq};
 
-use coset_codec::read::Input;
+use coset_codec::read::Decoder;
 use coset_codec::traits::FromPull;
 use coset_codec::{CoseError, Result};
 use coset_label::{ContentType, RegisteredLabel};
@@ -48,10 +48,10 @@ fn ask_media_type(text: &str) -> Result<()>
 
 /// Reads a content type.
 #[tactic(auto, unfolding(crate::specs::Fields::content_type))]
-fn read_content_type(alloc: Global, input: &mut Input<'_>) -> Result<ContentType>
+fn read_content_type(alloc: Global, input: &mut Decoder<'_>) -> Result<ContentType>
     ensures shrinks { length_left (state input.new) ≤ length_left (state input.old) }
     ensures reads { ReadsAt (state input.old) (state input.new)
-        (λ v. Reads content_type content_type_seen v result) }
+        (λ v. Reads content_type content_type_view v result) }
 {
     let content_type = ContentType::from_input(alloc, input)?;
     if let RegisteredLabel::Text(text) = &content_type {
@@ -64,15 +64,15 @@ fn read_content_type(alloc: Global, input: &mut Input<'_>) -> Result<ContentType
 pub(crate) fn set_content_type(
     alloc: Global,
     field: &mut Option<ContentType>,
-    input: &mut Input<'_>,
+    input: &mut Decoder<'_>,
 ) -> Result<()>
     ensures shrinks { length_left (state input.new) ≤ length_left (state input.old) }
     ensures takes { ReadsAt (state input.old) (state input.new) (λ v. OnOk result
         (TakesValue (optional content_type) v
-        (option_map content_type_seen field.old) (option_map content_type_seen field.new))) }
+        (option_map content_type_view field.old) (option_map content_type_view field.new))) }
     ensures refused { ReadsAt (state input.old) (state input.new) (λ v. IfErr result
         (λ e. UnlessMemory e (RefusesValue (optional content_type) v
-        (option_map content_type_seen field.old)))) }
+        (option_map content_type_view field.old)))) }
     ensures kept { OnErr result (field.new ≡ field.old) }
 {
     if field.is_some() {
@@ -83,8 +83,8 @@ pub(crate) fn set_content_type(
 }
 
 pub(crate) fn same_content_type(a: &Option<ContentType>, b: &Option<ContentType>) -> bool
-    ensures { result ≡ option_eq content_type_eq (option_map content_type_seen a.now)
-        (option_map content_type_seen b.now) }
+    ensures { result ≡ option_eq content_type_eq (option_map content_type_view a.now)
+        (option_map content_type_view b.now) }
 {
     *a == *b
 }

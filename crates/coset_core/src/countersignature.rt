@@ -4,7 +4,7 @@
 ghost use Rattle.std.specs.Prelude.{◌≡◌, [], map, OnOk, IfOk, IfErr, IfSome, IsTrue, None, ◌↔◌, ◌+◌, ◌<◌};
 ghost use Rattle.coset_codec.specs.declared.error.CoseError.TheVariants.{OutOfMemory};
 ghost use Rattle.coset_core.specs.Contents.{empty_signature};
-ghost use Rattle.coset_core.specs.Views.{countersignature_seen, header_seen, signature_seen};
+ghost use Rattle.coset_core.specs.Views.{countersignature_view, header_view, signature_view};
 ghost use Rattle.coset_core.specs.Headers.{signature as signature_shape, signatures_of, signatures_image};
 ghost use Rattle.coset_core.specs.Written.{AppendsSignatures, signature_array};
 ghost use Rattle.coset_cbor.specs.Least.{Extends};
@@ -18,17 +18,18 @@ ghost use Rattle.coset_core.specs.Held.{held_in};
 use crate::header::writing::write_header;
 use crate::header::{Header, copy_header, same_header};
 use crate::protected::{
-    Bstr, ProtectedHeader, copy_protected, protected_from_header, same_protected, write_protected,
+    ProtectedHeader, ProtectedRef, copy_protected, protected_from_header, same_protected,
+    write_protected,
 };
 use crate::signature::{CoseSignature, Held, copy_into, held_by};
 use coset_cbor::ser::{write_array_head, write_bytes};
-use coset_codec::read::{InPlace, Input, make_room, push_empty};
+use coset_codec::read::{Decoder, InPlace, make_room, push_empty};
 use coset_codec::write::Encode;
 use coset_codec::{Codec, Result, TaggedCodec};
 use std::alloc::{AllocError, Global};
 use std::marker::Model;
 
-/// A countersignature of version 2: its array is that of a signature, and it may stand under tag 19. It stands in headers
+/// A countersignature of version 2: its array is that of a signature, and it may be under tag 19. It is in headers
 /// under label 11 ([`Header::countersignatures_v2`]). It is modelled on RFC 9338, section 3.1.
 ///
 /// ```cddl
@@ -48,7 +49,7 @@ pub struct CoseCountersignature {
 impl CoseCountersignature {
     /// A countersignature of no bytes with empty headers. It takes no memory.
     pub fn new(alloc: Global) -> CoseCountersignature
-        ensures { countersignature_seen result ≡ empty_signature }
+        ensures { countersignature_view result ≡ empty_signature }
     {
         CoseCountersignature {
             protected: ProtectedHeader::new(alloc),
@@ -60,7 +61,7 @@ impl CoseCountersignature {
 
 /// What was read as a signature, as a countersignature.
 fn countersignature_of(signed: CoseSignature) -> CoseCountersignature
-    ensures { countersignature_seen result ≡ signature_seen signed }
+    ensures { countersignature_view result ≡ signature_view signed }
 {
     let CoseSignature {
         protected,
@@ -79,8 +80,8 @@ pub(crate) fn countersignatures_of(
     alloc: Global,
     read: Vec<CoseSignature>,
 ) -> Result<Vec<CoseCountersignature>>
-    ensures ok { IfOk result (λ all. map countersignature_seen all.items
-        ≡ map signature_seen read.items) }
+    ensures ok { IfOk result (λ all. map countersignature_view all.items
+        ≡ map signature_view read.items) }
     ensures memory { IfErr result (λ e. e ≡ OutOfMemory) }
 {
     let mut all = Vec::with_capacity(alloc, read.len())?;
@@ -92,27 +93,27 @@ pub(crate) fn countersignatures_of(
 
 /// Equality of the headers and of the countersignature's bytes.
 impl PartialEq for CoseCountersignature {
-    ghost eq = { on countersignature_seen signature_eq };
+    ghost eq = { on countersignature_view signature_eq };
 
-    ghost laws = { on_per countersignature_seen (partial_equiv_from_equiv signature_eq_equiv) };
+    ghost laws = { on_per countersignature_view (partial_equiv_from_equiv signature_eq_equiv) };
 
     fn eq(&self, other: &CoseCountersignature) -> bool
-        ensures answers { result ≡ signature_eq (countersignature_seen self.now)
-            (countersignature_seen other.now) }
+        ensures answers { result ≡ signature_eq (countersignature_view self.now)
+            (countersignature_view other.now) }
         ensures equal { IsTrue result
-            ↔ (countersignature_seen self.now ≡ countersignature_seen other.now) }
+            ↔ (countersignature_view self.now ≡ countersignature_view other.now) }
     {
         same_countersignature(self, other)
     }
 }
 
 impl Eq for CoseCountersignature {
-    ghost laws = { on_equiv countersignature_seen signature_eq_equiv };
+    ghost laws = { on_equiv countersignature_view signature_eq_equiv };
 }
 
 /// The same as [`CoseCountersignature::clone`], for generic code.
 impl Clone for CoseCountersignature {
-    ghost is_clone = { λ signed copy. countersignature_seen copy ≡ countersignature_seen signed };
+    ghost is_clone = { λ signed copy. countersignature_view copy ≡ countersignature_view signed };
 
     fn clone(&self) -> Result<CoseCountersignature, AllocError> {
         let mut copy = CoseCountersignature::new(*self.signature.allocator());
@@ -127,7 +128,7 @@ impl CoseCountersignature {
     /// # Errors
     /// `OutOfMemory` alone.
     pub fn clone(&self) -> Result<CoseCountersignature>
-        ensures copy { IfOk result (λ s. countersignature_seen s ≡ countersignature_seen self.now) }
+        ensures copy { IfOk result (λ s. countersignature_view s ≡ countersignature_view self.now) }
         ensures memory { IfErr result (λ e. e ≡ OutOfMemory) }
     {
         Ok(Clone::clone(self)?)
@@ -136,29 +137,29 @@ impl CoseCountersignature {
 
 impl Codec for CoseCountersignature {
     ghost use Rattle.coset_core.specs.SameLaws.{signature_eq-decides};
-    ghost use Rattle.coset_core.specs.Headers.{SignatureSeen};
+    ghost use Rattle.coset_core.specs.Headers.{SignatureView};
     ghost use Rattle.coset_core.specs.HeaderLaws.{signature_laws};
 
-    ghost Seen = { SignatureSeen };
+    ghost View = { SignatureView };
 
-    ghost seen = { countersignature_seen };
+    ghost view = { countersignature_view };
 
     ghost shape = { signature_shape };
 
     ghost laws = { signature_laws };
 
-    ghost equal = { λ a b. signature_eq-decides (countersignature_seen a)
-        (countersignature_seen b) };
+    ghost equal = { λ a b. signature_eq-decides (countersignature_view a)
+        (countersignature_view b) };
 
-    fn read(alloc: Global, input: &mut Input<'_>) -> Result<CoseCountersignature> {
+    fn read(alloc: Global, input: &mut Decoder<'_>) -> Result<CoseCountersignature> {
         Ok(countersignature_of(CoseSignature::read(alloc, input)?))
     }
 
     fn size_hint(&self) -> usize {
-        Bstr(&self.protected)
-            .room()
-            .saturating_add(self.unprotected.room())
-            .saturating_add(self.signature.room())
+        ProtectedRef(&self.protected)
+            .encoded_size_hint()
+            .saturating_add(self.unprotected.encoded_size_hint())
+            .saturating_add(self.signature.encoded_size_hint())
     }
 
     fn write(&self, alloc: Global, out: &mut Vec<u8>) -> Result<()> {
@@ -180,9 +181,9 @@ pub(crate) fn write_each_countersignature(
     out: &mut Vec<u8>,
 ) -> Result<()>
     ensures ok { OnOk result (AppendsSignatures out.old.items out.new.items
-        (map countersignature_seen signatures.now)) }
+        (map countersignature_view signatures.now)) }
     ensures refused { IfErr result
-        (HasNoImage (signatures_image (signatures_of (map countersignature_seen signatures.now)))) }
+        (HasNoImage (signatures_image (signatures_of (map countersignature_view signatures.now)))) }
     ensures kept { Extends out.old.items out.new.items }
 {
     for signature in signatures {
@@ -198,7 +199,7 @@ fn write_countersignature(
     signature: &CoseCountersignature,
     out: &mut Vec<u8>,
 ) -> Result<()>
-    ensures written { Encodes (signature_array (countersignature_seen signature.now)) out.old.items
+    ensures written { Encodes (signature_array (countersignature_view signature.now)) out.old.items
         out.new.items result }
     ensures kept { Extends out.old.items out.new.items }
 {
@@ -210,7 +211,7 @@ fn write_countersignature(
 }
 
 impl InPlace for CoseCountersignature {
-    ghost is_empty = { λ s. countersignature_seen s ≡ empty_signature };
+    ghost is_empty = { λ s. countersignature_view s ≡ empty_signature };
 
     fn empty(alloc: Global) -> CoseCountersignature {
         CoseCountersignature::new(alloc)
@@ -223,8 +224,8 @@ pub(crate) fn copy_countersignatures(
     all: &[CoseCountersignature],
     copies: &mut Vec<CoseCountersignature>,
 ) -> Result<(), AllocError>
-    ensures { OnOk result (map countersignature_seen copies.new.items
-        ≡ map countersignature_seen all.now) }
+    ensures { OnOk result (map countersignature_view copies.new.items
+        ≡ map countersignature_view all.now) }
 {
     make_room(copies, all.len())?;
     for signature in all {
@@ -241,8 +242,8 @@ fn copy_countersignature(
     signature: &CoseCountersignature,
     copy: &mut CoseCountersignature,
 ) -> Result<(), AllocError>
-    ensures { OnOk result (countersignature_seen copy.new
-        ≡ countersignature_seen signature.now) }
+    ensures { OnOk result (countersignature_view copy.new
+        ≡ countersignature_view signature.now) }
 {
     copy_protected(&signature.protected, &mut copy.protected)?;
     copy_header(&signature.unprotected, &mut copy.unprotected)?;
@@ -254,8 +255,8 @@ pub(crate) fn same_countersignatures(
     all: &[CoseCountersignature],
     others: &[CoseCountersignature],
 ) -> bool
-    ensures { result ≡ signatures_eq (signatures_of (map countersignature_seen all.now))
-        (signatures_of (map countersignature_seen others.now)) }
+    ensures { result ≡ signatures_eq (signatures_of (map countersignature_view all.now))
+        (signatures_of (map countersignature_view others.now)) }
 {
     if all.len() != others.len() {
         return false;
@@ -270,7 +271,7 @@ pub(crate) fn same_countersignatures(
 
 #[cycle(same)]
 fn same_countersignature(a: &CoseCountersignature, b: &CoseCountersignature) -> bool
-    ensures { result ≡ signature_eq (countersignature_seen a.now) (countersignature_seen b.now) }
+    ensures { result ≡ signature_eq (countersignature_view a.now) (countersignature_view b.now) }
 {
     same_protected(&a.protected, &b.protected)
         && same_header(&a.unprotected, &b.unprotected)
@@ -316,7 +317,7 @@ impl Model for CoseCountersignatureBuilder {
 impl CoseCountersignatureBuilder {
     /// A countersignature of no bytes with empty headers. It takes no memory.
     pub fn new(alloc: Global) -> CoseCountersignatureBuilder
-        ensures { countersignature_seen result ≡ empty_signature }
+        ensures { countersignature_view result ≡ empty_signature }
     {
         CoseCountersignatureBuilder(CoseCountersignature::new(alloc))
     }
@@ -330,8 +331,8 @@ impl CoseCountersignatureBuilder {
 
     /// Sets the protected header: one that was made, and not read, so that it has no bytes of its own yet.
     pub fn protected(mut self, header: Header) -> CoseCountersignatureBuilder
-        ensures { countersignature_seen result ≡ record (countersignature_seen self) {
-          protected = record { original = None; header = header_seen header };
+        ensures { countersignature_view result ≡ record (countersignature_view self) {
+          protected = record { original = None; header = header_view header };
         } }
     {
         self.0.protected = protected_from_header(header);
@@ -340,8 +341,8 @@ impl CoseCountersignatureBuilder {
 
     /// Sets the unprotected header.
     pub fn unprotected(mut self, header: Header) -> CoseCountersignatureBuilder
-        ensures { countersignature_seen result ≡ record
-            (countersignature_seen self) { unprotected = header_seen header } }
+        ensures { countersignature_view result ≡ record
+            (countersignature_view self) { unprotected = header_view header } }
     {
         self.0.unprotected = header;
         self
@@ -349,8 +350,8 @@ impl CoseCountersignatureBuilder {
 
     /// Sets the countersignature's bytes.
     pub fn signature(mut self, signature: Vec<u8>) -> CoseCountersignatureBuilder
-        ensures { countersignature_seen result ≡ record
-            (countersignature_seen self) { signature = signature.items } }
+        ensures { countersignature_view result ≡ record
+            (countersignature_view self) { signature = signature.items } }
     {
         self.0.signature = signature;
         self
@@ -365,8 +366,8 @@ impl CoseCountersignatureBuilder {
         alloc: Global,
         signature: &[u8],
     ) -> Result<CoseCountersignatureBuilder>
-        ensures ok { IfOk result (λ b. countersignature_seen b
-            ≡ record (countersignature_seen self) { signature = signature.now }) }
+        ensures ok { IfOk result (λ b. countersignature_view b
+            ≡ record (countersignature_view self) { signature = signature.now }) }
         ensures memory { IfErr result (λ e. e ≡ OutOfMemory) }
     {
         Ok(self.signature(Vec::from_slice(alloc, signature)?))

@@ -2,12 +2,12 @@
 
 ghost use Rattle.std.specs.Prelude.{◌≡◌, map, option_map, OnOk, IfOk, IfErr, ◌<◌, Option, IsTrue, Err, ◌↔◌, Some};
 ghost use Rattle.std.specs.Map.{lookup};
-ghost use Rattle.coset_value.specs.View.{view};
+ghost use Rattle.coset_value.specs.View.{value_item};
 ghost use Rattle.coset_codec.specs.declared.error.CoseError.TheVariants as errors;
-ghost use Rattle.coset_label.specs.Views.{algorithm_seen, entry_seen, label_seen};
+ghost use Rattle.coset_label.specs.Views.{algorithm_view, entry_view, label_view};
 ghost use Rattle.coset_label.specs.Names.{same_name};
-ghost use Rattle.coset_core.specs.FieldsView.{fields_seen, signatures_held};
-ghost use Rattle.coset_core.specs.Views.{header_seen};
+ghost use Rattle.coset_core.specs.FieldViews.{fields_view, signatures_held};
+ghost use Rattle.coset_core.specs.Views.{header_view};
 ghost use Rattle.coset_core.specs.Headers.{empty_header, fields_in, is_empty_header, layered_header, header as header_shape};
 ghost use Rattle.std.specs.Option.{option_eq};
 ghost use Rattle.std.specs.Ordering.{on};
@@ -27,7 +27,7 @@ use crate::header::writing::write_header;
 use crate::signature::{CoseSignature, Held, copy_signatures, drop_held, same_signatures};
 use coset_cbor::value::Value;
 use coset_codec::error::ErrorStored;
-use coset_codec::read::{Input, drop_refused};
+use coset_codec::read::{Decoder, drop_refused};
 use coset_codec::util::copy_bstr;
 use coset_codec::{Codec, CoseError, Result, find_value};
 use coset_iana::HeaderParameter;
@@ -46,7 +46,7 @@ const HEADS: usize = 24;
 /// About what a pair of the rest takes, a label and a short value.
 const PAIR: usize = 8;
 
-/// At most this many byte strings of protected headers stand within one another.
+/// At most this many byte strings of protected headers are within one another.
 pub(crate) const LAYERS: usize = 16;
 
 /// A header (RFC 8152, section 3.1).
@@ -91,7 +91,7 @@ pub struct Header {
     pub rest: Vec<(Label, Value)>,
 }
 
-/// The counter signatures are let go in a function of their own, since headers in them are as deep as the input asked.
+/// The counter signatures are dropped by a function of their own, since input decides how deep the headers in them nest.
 impl Drop for Header {
     fn drop(self) {
         drop_held(self.into_signatures());
@@ -121,7 +121,7 @@ impl Header {
 
     /// An empty header. It takes no memory.
     pub fn new(alloc: Global) -> Header
-        ensures { header_seen result ≡ empty_header }
+        ensures { header_view result ≡ empty_header }
     {
         Header {
             alg: None,
@@ -139,7 +139,7 @@ impl Header {
 
     /// Whether the header holds nothing.
     pub fn is_empty(&self) -> bool
-        ensures { result ≡ is_empty_header (header_seen self.now) }
+        ensures { result ≡ is_empty_header (header_view self.now) }
     {
         self.alg.is_none()
             && self.crit.is_empty()
@@ -156,8 +156,9 @@ impl Header {
     /// The value of the first pair of `rest` with this label; `None` where none has it. A label that has a field (1 to 7,
     /// 11 and 12) isn't among the rest of a header that was read (RFC 8152, section 3).
     pub fn get(&self, label: &Label) -> Option<&Value>
-        ensures { option_map (λ v. view v.now) result ≡ lookup (same_name (label_seen label.now))
-            (fields_in (header_seen self.now)).rest }
+        ensures { option_map (λ v. value_item v.now) result ≡ lookup (same_name
+            (label_view label.now))
+            (fields_in (header_view self.now)).rest }
     {
         find_value(&self.rest, label)
     }
@@ -165,25 +166,25 @@ impl Header {
 
 /// Equality of every field; the rest is compared pair by pair, in order.
 impl PartialEq for Header {
-    ghost eq = { on header_seen header_eq };
+    ghost eq = { on header_view header_eq };
 
-    ghost laws = { on_per header_seen (partial_equiv_from_equiv header_eq_equiv) };
+    ghost laws = { on_per header_view (partial_equiv_from_equiv header_eq_equiv) };
 
     fn eq(&self, other: &Header) -> bool
-        ensures answers { result ≡ header_eq (header_seen self.now) (header_seen other.now) }
-        ensures equal { IsTrue result ↔ (header_seen self.now ≡ header_seen other.now) }
+        ensures answers { result ≡ header_eq (header_view self.now) (header_view other.now) }
+        ensures equal { IsTrue result ↔ (header_view self.now ≡ header_view other.now) }
     {
         same_header(self, other)
     }
 }
 
 impl Eq for Header {
-    ghost laws = { on_equiv header_seen header_eq_equiv };
+    ghost laws = { on_equiv header_view header_eq_equiv };
 }
 
 /// The same as [`Header::clone`], for generic code.
 impl Clone for Header {
-    ghost is_clone = { λ header copy. header_seen copy ≡ header_seen header };
+    ghost is_clone = { λ header copy. header_view copy ≡ header_view header };
 
     fn clone(&self) -> Result<Header, AllocError> {
         let mut copy = Header::new(*self.rest.allocator());
@@ -198,7 +199,7 @@ impl Header {
     /// # Errors
     /// `OutOfMemory` alone.
     pub fn clone(&self) -> Result<Header>
-        ensures copy { IfOk result (λ h. header_seen h ≡ header_seen self.now) }
+        ensures copy { IfOk result (λ h. header_view h ≡ header_view self.now) }
         ensures memory { IfErr result (λ e. e ≡ errors.OutOfMemory) }
     {
         Ok(Clone::clone(self)?)
@@ -206,21 +207,21 @@ impl Header {
 }
 
 impl Codec for Header {
-    ghost use Rattle.coset_core.specs.Told.{header_told};
-    ghost use Rattle.coset_core.specs.Headers.{HeaderSeen};
+    ghost use Rattle.coset_core.specs.EqDecides.{header_decides};
+    ghost use Rattle.coset_core.specs.Headers.{HeaderView};
     ghost use Rattle.coset_core.specs.HeaderLaws.{header_laws};
 
-    ghost Seen = { HeaderSeen };
+    ghost View = { HeaderView };
 
-    ghost seen = { header_seen };
+    ghost view = { header_view };
 
     ghost shape = { header_shape };
 
     ghost laws = { header_laws };
 
-    ghost equal = { header_told };
+    ghost equal = { header_decides };
 
-    fn read(alloc: Global, input: &mut Input<'_>) -> Result<Header> {
+    fn read(alloc: Global, input: &mut Decoder<'_>) -> Result<Header> {
         let mut header = Header::new(alloc);
         let mut error = CoseError::OutOfMemory;
         if let Err(ErrorStored) = fill_header(&mut header, alloc, input, LAYERS, &mut error) {
@@ -248,7 +249,7 @@ impl Codec for Header {
 /// Copies what a header holds beside its counter signatures.
 #[inline(never)]
 fn copy_fields(header: &Header, copy: &mut Header) -> Result<(), AllocError>
-    ensures copy { OnOk result (fields_seen copy.new ≡ fields_seen header.now) }
+    ensures copy { OnOk result (fields_view copy.new ≡ fields_view header.now) }
     ensures others { signatures_held copy.new ≡ signatures_held copy.old }
 {
     copy.alg = header.alg.clone()?;
@@ -268,7 +269,7 @@ fn copy_fields(header: &Header, copy: &mut Header) -> Result<(), AllocError>
 /// That memory ran out. The copy may then have a part of the header.
 #[cycle(copy)]
 pub fn copy_header(header: &Header, copy: &mut Header) -> Result<(), AllocError>
-    ensures { OnOk result (header_seen copy.new ≡ header_seen header.now) }
+    ensures { OnOk result (header_view copy.new ≡ header_view header.now) }
 {
     copy_fields(header, copy)?;
     copy_signatures(&header.counter_signatures, &mut copy.counter_signatures)?;
@@ -277,7 +278,7 @@ pub fn copy_header(header: &Header, copy: &mut Header) -> Result<(), AllocError>
 
 #[cycle(same)]
 pub(crate) fn same_header(a: &Header, b: &Header) -> bool
-    ensures { result ≡ header_eq (header_seen a.now) (header_seen b.now) }
+    ensures { result ≡ header_eq (header_view a.now) (header_view b.now) }
 {
     same_fields(a, b)
         && same_signatures(&a.counter_signatures, &b.counter_signatures)
@@ -286,7 +287,7 @@ pub(crate) fn same_header(a: &Header, b: &Header) -> bool
 
 /// Whether two headers are the same but for their counter signatures.
 fn same_fields(a: &Header, b: &Header) -> bool
-    ensures { result ≡ fields_eq (fields_seen a.now) (fields_seen b.now) }
+    ensures { result ≡ fields_eq (fields_view a.now) (fields_view b.now) }
 {
     same_algorithm(&a.alg, &b.alg)
         && same_critical(&a.crit, &b.crit)
@@ -299,15 +300,15 @@ fn same_fields(a: &Header, b: &Header) -> bool
 }
 
 fn same_algorithm(a: &Option<Algorithm>, b: &Option<Algorithm>) -> bool
-    ensures { result ≡ option_eq algorithm_eq (option_map algorithm_seen a.now)
-        (option_map algorithm_seen b.now) }
+    ensures { result ≡ option_eq algorithm_eq (option_map algorithm_view a.now)
+        (option_map algorithm_view b.now) }
 {
     *a == *b
 }
 
 fn same_rest(a: &Vec<(Label, Value)>, b: &Vec<(Label, Value)>) -> bool
-    ensures { result ≡ pointwise entry_eq (map entry_seen a.now.items)
-        (map entry_seen b.now.items) }
+    ensures { result ≡ pointwise entry_eq (map entry_view a.now.items)
+        (map entry_view b.now.items) }
 {
     *a == *b
 }

@@ -6,7 +6,7 @@
 
 ghost use Rattle.std.specs.Prelude.{◌≡◌, ◌≤◌, OnOk};
 ghost use Rattle.coset_core.specs.Headers.{empty_header, header as header_shape, protected as protected_shape};
-ghost use Rattle.coset_core.specs.Views.{header_seen, protected_seen};
+ghost use Rattle.coset_core.specs.Views.{header_view, protected_view};
 ghost use Rattle.coset_codec.specs.InPlace.{Fills};
 ghost use Rattle.coset_codec.specs.Answers.{Reads};
 ghost use Rattle.coset_codec.specs.Inputs.{GoesBehind, ReadsAt, length_left, state};
@@ -16,7 +16,7 @@ use crate::header::reading::fill_header;
 use crate::header::{Header, LAYERS};
 use crate::protected::{ProtectedHeader, fill_bstr};
 use coset_codec::error::ErrorStored;
-use coset_codec::read::{Decode, DecodeElements, Input};
+use coset_codec::read::{Decode, DecodeElements, Decoder};
 use coset_codec::{CoseError, Result};
 use std::alloc::Global;
 
@@ -27,12 +27,12 @@ use std::alloc::Global;
 pub fn fill_protected_header(
     protected: &mut ProtectedHeader,
     alloc: Global,
-    input: &mut Input<'_>,
+    input: &mut Decoder<'_>,
 ) -> Result<()>
-    requires empty { (protected_seen protected.old).header ≡ empty_header }
+    requires empty { (protected_view protected.old).header ≡ empty_header }
     ensures shrinks { length_left (state input.new) ≤ length_left (state input.old) }
     ensures fills { ReadsAt (state input.old) (state input.new)
-        (λ v. Fills protected_shape v (protected_seen protected.new) result) }
+        (λ v. Fills protected_shape v (protected_view protected.new) result) }
 {
     let mut error = CoseError::OutOfMemory;
     match fill_bstr(protected, alloc, input, &mut error) {
@@ -48,12 +48,12 @@ pub fn fill_protected_header(
 pub fn fill_unprotected_header(
     unprotected: &mut Header,
     alloc: Global,
-    input: &mut Input<'_>,
+    input: &mut Decoder<'_>,
 ) -> Result<()>
-    requires empty { header_seen unprotected.old ≡ empty_header }
+    requires empty { header_view unprotected.old ≡ empty_header }
     ensures shrinks { length_left (state input.new) ≤ length_left (state input.old) }
     ensures fills { ReadsAt (state input.old) (state input.new)
-        (λ v. Fills header_shape v (header_seen unprotected.new) result) }
+        (λ v. Fills header_shape v (header_view unprotected.new) result) }
 {
     let mut error = CoseError::OutOfMemory;
     match fill_header(unprotected, alloc, input, LAYERS, &mut error) {
@@ -64,24 +64,24 @@ pub fn fill_unprotected_header(
 
 /// A payload or a ciphertext, unless it is detached: `bstr / nil` (RFC 8152, sections 2, 5.1).
 #[derive(Debug, Drop)]
-pub struct Content(pub Option<Vec<u8>>);
+pub struct BstrOrNil(pub Option<Vec<u8>>);
 
-impl Decode for Content {
+impl Decode for BstrOrNil {
     ghost use Rattle.std.specs.Prelude.{List, Option, option_map, ℕ};
     ghost use Rattle.coset_codec.specs.Shape.{bstr, or_nil};
 
-    ghost Seen = { Option (List ℕ) };
+    ghost View = { Option (List ℕ) };
 
-    ghost seen = { λ c. option_map (λ b. b.items) c.0 };
+    ghost view = { λ c. option_map (λ b. b.items) c.0 };
 
     ghost shape = { or_nil bstr };
 
-    fn decode(alloc: Global, input: &mut Input<'_>) -> Result<Content> {
-        Ok(Content(input.bytes_or_nil(alloc, "bstr")?))
+    fn decode(alloc: Global, input: &mut Decoder<'_>) -> Result<BstrOrNil> {
+        Ok(BstrOrNil(input.bytes_or_nil(alloc, "bstr")?))
     }
 }
 
-/// Reads a message: its first two elements into empty headers, where these stand, and the elements behind them.
+/// Reads a message: its first two elements into empty headers, where these are, and the elements behind them.
 ///
 /// # Errors
 /// `OutOfMemory`; `UnexpectedItem` where the item is no array, or, with `want`, one of another number of elements; or the
@@ -90,23 +90,23 @@ pub fn read_headed<P: DecodeElements + Drop>(
     protected: &mut ProtectedHeader,
     unprotected: &mut Header,
     alloc: Global,
-    input: &mut Input<'_>,
+    input: &mut Decoder<'_>,
     want: &'static str,
 ) -> Result<P>
-    requires protected { (protected_seen protected.old).header ≡ empty_header }
-    requires unprotected { header_seen unprotected.old ≡ empty_header }
+    requires protected { (protected_view protected.old).header ≡ empty_header }
+    requires unprotected { header_view unprotected.old ≡ empty_header }
     ensures shrinks { length_left (state input.new) ≤ length_left (state input.old) }
     ensures strictly { OnOk result (GoesBehind (state input.old) (state input.new)) }
     ensures reads { ReadsAt (state input.old) (state input.new)
         (λ v. Reads (with_headers P.elements)
-        (λ x. (protected_seen protected.new, (header_seen unprotected.new, P.seen x))) v result) }
+        (λ x. (protected_view protected.new, (header_view unprotected.new, P.view x))) v result) }
 {
-    let mut members = input.enter_array("array")?;
-    members.place(input, want)?;
+    let mut elements = input.enter_array("array")?;
+    elements.next_required(input, want)?;
     let first = fill_protected_header(protected, alloc, input);
-    members.place(input, want)?;
+    elements.next_required(input, want)?;
     let second = fill_unprotected_header(unprotected, alloc, input);
-    let others = P::decode_elements(alloc, &mut members, input, want)?;
+    let others = P::decode_elements(alloc, &mut elements, input, want)?;
     second?;
     first?;
     Ok(others)

@@ -22,7 +22,7 @@ pub use coset_label::{
 };
 pub use countersignature::{CoseCountersignature, CoseCountersignatureBuilder};
 pub use header::{Header, HeaderBuilder, copy_header};
-pub use headers::{Content, fill_protected_header, fill_unprotected_header, read_headed};
-pub use protected::{Bstr, ProtectedHeader, copy_protected};
+pub use headers::{BstrOrNil, fill_protected_header, fill_unprotected_header, read_headed};
+pub use protected::{ProtectedHeader, ProtectedRef, copy_protected};
 pub use protected_bstr::ProtectedBstr;
 pub use signature::{CoseSignature, CoseSignatureBuilder, read_signatures};

@@ -4,7 +4,7 @@ ghost use Rattle.std.specs.Prelude.{◌≡◌, ◌≤◌, option_map, OnOk, IfOk
 ghost use Rattle.coset_codec.specs.declared.error.CoseError.TheVariants.{OutOfMemory};
 ghost use Rattle.coset_core.specs.Contents.{FillsContent};
 ghost use Rattle.coset_codec.specs.InPlace.{Fills};
-ghost use Rattle.coset_core.specs.Views.{header_seen, protected_seen};
+ghost use Rattle.coset_core.specs.Views.{header_view, protected_view};
 ghost use Rattle.coset_codec.specs.Answers.{Reads, Images, RefusesItem};
 ghost use Rattle.coset_codec.specs.Errors.{stored};
 ghost use Rattle.coset_codec.specs.Inputs.{state, GoesBehind, ReadsAt, length_left};
@@ -13,7 +13,7 @@ ghost use Rattle.coset_value.specs.Item.{bytes};
 ghost use Rattle.coset_codec.specs.Shape.{bstr};
 ghost use Rattle.coset_core.specs.Headers.{empty_header, is_empty_header, protected_bytes, protected as protected_shape, layered_protected, header_image};
 ghost use Rattle.std.specs.Cow.{cow_slice_items};
-ghost use Rattle.coset_value.specs.View.{view};
+ghost use Rattle.coset_value.specs.View.{value_item};
 ghost use Rattle.coset_cbor.specs.Least.{Extends};
 ghost use Rattle.coset_cbor.specs.Pulls.{pull_item};
 ghost use Rattle.coset_core.specs.ProtectedMap.{protected_map, protected_map_laws};
@@ -33,7 +33,7 @@ use coset_cbor::ser::write_bytes;
 use coset_cbor::value::Value;
 use coset_cbor::{de, laws};
 use coset_codec::error::{ErrorStored, store_error};
-use coset_codec::read::{Input, copy_bstr_to};
+use coset_codec::read::{Decoder, copy_bstr_to};
 use coset_codec::traits::whole_item;
 use coset_codec::write::Encode;
 use coset_codec::{Codec, CoseError, ItemSource, Result};
@@ -57,7 +57,7 @@ pub struct ProtectedHeader {
 impl ProtectedHeader {
     /// An empty header, which wasn't read. It takes no memory.
     pub fn new(alloc: Global) -> ProtectedHeader
-        ensures { protected_seen result ≡ record { original = None; header = empty_header } }
+        ensures { protected_view result ≡ record { original = None; header = empty_header } }
     {
         ProtectedHeader {
             original_data: None,
@@ -67,7 +67,7 @@ impl ProtectedHeader {
 
     /// Whether the header holds nothing, whatever bytes were kept.
     pub fn is_empty(&self) -> bool
-        ensures { result ≡ is_empty_header (protected_seen self.now).header }
+        ensures { result ≡ is_empty_header (protected_view self.now).header }
     {
         self.header.is_empty()
     }
@@ -78,8 +78,8 @@ impl ProtectedHeader {
     /// `OutOfMemory`, or the first fault found: the value is no byte string (`UnexpectedItem`), what it holds isn't an
     /// item within 256 levels (`DecodeFailed`), others follow that (`ExtraneousData`), or it isn't a header.
     pub fn from_cbor_bstr(alloc: Global, value: Value) -> Result<ProtectedHeader>
-        ensures read { Reads protected_shape protected_seen (view value) result }
-        ensures refused { RefusesItem protected_shape (view value) result }
+        ensures read { Reads protected_shape protected_view (value_item value) result }
+        ensures refused { RefusesItem protected_shape (value_item value) result }
     {
         ProtectedHeader::from_source_bstr(alloc, ItemSource::Tree(value))
     }
@@ -89,7 +89,7 @@ impl ProtectedHeader {
     /// # Errors
     /// The same as [`ProtectedHeader::from_cbor_bstr`].
     pub fn from_pull_bstr(alloc: Global, pull: Pull<'_>) -> Result<ProtectedHeader>
-        ensures read { Reads protected_shape protected_seen (pull_item pull.entry) result }
+        ensures read { Reads protected_shape protected_view (pull_item pull.entry) result }
         ensures refused { RefusesItem protected_shape (pull_item pull.entry) result }
     {
         ProtectedHeader::from_source_bstr(alloc, ItemSource::Lent(pull))
@@ -100,24 +100,24 @@ impl ProtectedHeader {
     /// # Errors
     /// The same as [`ProtectedHeader::from_cbor_bstr`].
     pub fn from_source_bstr(alloc: Global, source: ItemSource<'_>) -> Result<ProtectedHeader>
-        ensures read { Reads protected_shape protected_seen (source_item source.entry) result }
+        ensures read { Reads protected_shape protected_view (source_item source.entry) result }
         ensures refused { RefusesItem protected_shape (source_item source.entry) result }
     {
-        read_protected(alloc, &mut Input::new(source))
+        read_protected(alloc, &mut Decoder::new(source))
     }
 
-    /// The bytes that stand for the header in messages and under signatures (RFC 8152, sections 3 and 4.4): those that
+    /// The bytes that represent the header in messages and under signatures (RFC 8152, sections 3 and 4.4): those that
     /// were read; else none where the header is empty; else the shortest encoding of its map.
     ///
     /// # Errors
-    /// `OutOfMemory`, or `DuplicateMapKey` where no bytes were read, and a label stands twice in the rest of the
+    /// `OutOfMemory`, or `DuplicateMapKey` where no bytes were read, and a label occurs twice in the rest of the
     /// header, or in that of one inside it whose bytes weren't read either.
     pub fn protected_bytes(&self, alloc: Global) -> Result<CowSlice<'_, u8, Global>>
-        ensures ok { IfOk result (λ b. protected_bytes (protected_seen self.now)
+        ensures ok { IfOk result (λ b. protected_bytes (protected_view self.now)
             ≡ Some (cow_slice_items b)) }
-        ensures shortest { IfOk result (λ b. AreShortest (protected_seen self.now).original
-            (protected_seen self.now).header (cow_slice_items b)) }
-        ensures refused { IfErr result (HasNoImage (protected_bytes (protected_seen self.now))) }
+        ensures shortest { IfOk result (λ b. AreShortest (protected_view self.now).original
+            (protected_view self.now).header (cow_slice_items b)) }
+        ensures refused { IfErr result (HasNoImage (protected_bytes (protected_view self.now))) }
     {
         if let Some(bytes) = &self.original_data {
             return Ok(CowSlice::Borrowed(bytes));
@@ -125,14 +125,14 @@ impl ProtectedHeader {
         Ok(CowSlice::Owned(fresh_bytes(alloc, &self.header)?))
     }
 
-    /// The byte string that stands for the header in messages.
+    /// The byte string that represents the header in messages.
     ///
     /// # Errors
     /// The same as [`ProtectedHeader::protected_bytes`].
     pub fn cbor_bstr(self, alloc: Global) -> Result<Value>
-        ensures image { Images (protected_shape.image (protected_seen self)) view result }
-        ensures shortest { IfOk result (λ v. HoldsShortest (protected_seen self).original
-            (protected_seen self).header (view v)) }
+        ensures image { Images (protected_shape.image (protected_view self)) value_item result }
+        ensures shortest { IfOk result (λ v. HoldsShortest (protected_view self).original
+            (protected_view self).header (value_item v)) }
     {
         let ProtectedHeader {
             original_data,
@@ -147,26 +147,26 @@ impl ProtectedHeader {
 
 /// Equality of the header and of the bytes that were kept, if any.
 impl PartialEq for ProtectedHeader {
-    ghost eq = { on protected_seen protected_eq };
+    ghost eq = { on protected_view protected_eq };
 
-    ghost laws = { on_per protected_seen (partial_equiv_from_equiv protected_eq_equiv) };
+    ghost laws = { on_per protected_view (partial_equiv_from_equiv protected_eq_equiv) };
 
     fn eq(&self, other: &ProtectedHeader) -> bool
-        ensures answers { result ≡ protected_eq (protected_seen self.now)
-            (protected_seen other.now) }
-        ensures equal { IsTrue result ↔ (protected_seen self.now ≡ protected_seen other.now) }
+        ensures answers { result ≡ protected_eq (protected_view self.now)
+            (protected_view other.now) }
+        ensures equal { IsTrue result ↔ (protected_view self.now ≡ protected_view other.now) }
     {
         same_protected(self, other)
     }
 }
 
 impl Eq for ProtectedHeader {
-    ghost laws = { on_equiv protected_seen protected_eq_equiv };
+    ghost laws = { on_equiv protected_view protected_eq_equiv };
 }
 
 /// The same as [`ProtectedHeader::clone`], for generic code.
 impl Clone for ProtectedHeader {
-    ghost is_clone = { λ protected copy. protected_seen copy ≡ protected_seen protected };
+    ghost is_clone = { λ protected copy. protected_view copy ≡ protected_view protected };
 
     fn clone(&self) -> Result<ProtectedHeader, AllocError> {
         let mut copy = ProtectedHeader::new(*self.header.rest.allocator());
@@ -181,7 +181,7 @@ impl ProtectedHeader {
     /// # Errors
     /// `OutOfMemory` alone.
     pub fn clone(&self) -> Result<ProtectedHeader>
-        ensures copy { IfOk result (λ p. protected_seen p ≡ protected_seen self.now) }
+        ensures copy { IfOk result (λ p. protected_view p ≡ protected_view self.now) }
         ensures memory { IfErr result (λ e. e ≡ OutOfMemory) }
     {
         Ok(Clone::clone(self)?)
@@ -190,7 +190,7 @@ impl ProtectedHeader {
 
 /// A protected header that wasn't read from a byte string.
 pub(crate) fn protected_from_header(header: Header) -> ProtectedHeader
-    ensures { protected_seen result ≡ record { original = None; header = header_seen header } }
+    ensures { protected_view result ≡ record { original = None; header = header_view header } }
 {
     ProtectedHeader {
         original_data: None,
@@ -199,25 +199,25 @@ pub(crate) fn protected_from_header(header: Header) -> ProtectedHeader
 }
 
 impl Codec for ProtectedHeader {
-    ghost use Rattle.coset_core.specs.Told.{protected_told};
-    ghost use Rattle.coset_core.specs.Headers.{ProtectedSeen};
+    ghost use Rattle.coset_core.specs.EqDecides.{protected_decides};
+    ghost use Rattle.coset_core.specs.Headers.{ProtectedView};
 
-    ghost Seen = { ProtectedSeen };
+    ghost View = { ProtectedView };
 
-    ghost seen = { protected_seen };
+    ghost view = { protected_view };
 
     ghost shape = { protected_map };
 
     ghost laws = { protected_map_laws };
 
-    ghost equal = { protected_told };
+    ghost equal = { protected_decides };
 
-    fn read(alloc: Global, input: &mut Input<'_>) -> Result<ProtectedHeader> {
+    fn read(alloc: Global, input: &mut Decoder<'_>) -> Result<ProtectedHeader> {
         Ok(protected_from_header(Header::read(alloc, input)?))
     }
 
     fn size_hint(&self) -> usize {
-        self.header.room()
+        self.header.encoded_size_hint()
     }
 
     /// Writes the header's map, whatever bytes were kept.
@@ -226,17 +226,17 @@ impl Codec for ProtectedHeader {
     }
 }
 
-/// A protected header as the byte string that stands for it in messages.
+/// A protected header as the byte string that represents it in messages.
 #[derive(Clone, Copy)]
-pub struct Bstr<'a>(pub &'a ProtectedHeader);
+pub struct ProtectedRef<'a>(pub &'a ProtectedHeader);
 
-impl Encode for Bstr<'_> {
-    ghost image = { λ p. protected_shape.image (protected_seen p.0.now) };
+impl Encode for ProtectedRef<'_> {
+    ghost image = { λ p. protected_shape.image (protected_view p.0.now) };
 
-    fn room(&self) -> usize {
+    fn encoded_size_hint(&self) -> usize {
         match &self.0.original_data {
-            Some(bytes) => bytes.room(),
-            None => self.0.header.room(),
+            Some(bytes) => bytes.encoded_size_hint(),
+            None => self.0.header.encoded_size_hint(),
         }
     }
 
@@ -252,7 +252,7 @@ impl Encode for Bstr<'_> {
 /// `OutOfMemory`, or `UnexpectedItem`: the item is no byte string.
 pub(crate) fn string_bytes(
     alloc: Global,
-    input: &mut Input<'_>,
+    input: &mut Decoder<'_>,
     error: &mut CoseError,
 ) -> Result<Vec<u8>, ErrorStored>
     ensures shrinks { length_left (state input.new) ≤ length_left (state input.old) }
@@ -276,9 +276,9 @@ pub(crate) fn fill_protected(
     layers: usize,
     error: &mut CoseError,
 ) -> Result<(), ErrorStored>
-    requires empty { (protected_seen protected.old).header ≡ empty_header }
-    ensures { (b : List ℕ) → (protected_seen protected.old).original ≡ Some b
-        → Fills (layered_protected layers) (bytes b) (protected_seen protected.new)
+    requires empty { (protected_view protected.old).header ≡ empty_header }
+    ensures { (b : List ℕ) → (protected_view protected.old).original ≡ Some b
+        → Fills (layered_protected layers) (bytes b) (protected_view protected.new)
         (stored error.new result) }
 {
     let Some(content) = &protected.original_data else {
@@ -304,15 +304,15 @@ fn fill_content(
     layers: usize,
     error: &mut CoseError,
 ) -> Result<(), ErrorStored>
-    requires empty { header_seen header.old ≡ empty_header }
-    ensures { FillsContent layers content.now (header_seen header.new)
+    requires empty { header_view header.old ≡ empty_header }
+    ensures { FillsContent layers content.now (header_view header.new)
         (stored error.new result) }
 {
     if content.is_empty() {
         return Ok(());
     }
     store_error(whole_item(content), error)?;
-    let mut input = Input::of_bytes(content);
+    let mut input = Decoder::of_bytes(content);
     fill_header(header, alloc, &mut input, layers, error)
 }
 
@@ -320,26 +320,26 @@ fn fill_content(
 pub(crate) fn fill_bstr(
     protected: &mut ProtectedHeader,
     alloc: Global,
-    input: &mut Input<'_>,
+    input: &mut Decoder<'_>,
     error: &mut CoseError,
 ) -> Result<(), ErrorStored>
-    requires empty { (protected_seen protected.old).header ≡ empty_header }
+    requires empty { (protected_view protected.old).header ≡ empty_header }
     ensures shrinks { length_left (state input.new) ≤ length_left (state input.old) }
     ensures strictly { OnOk result (GoesBehind (state input.old) (state input.new)) }
     ensures fills { ReadsAt (state input.old) (state input.new)
-        (λ v. Fills protected_shape v (protected_seen protected.new) (stored error.new result)) }
+        (λ v. Fills protected_shape v (protected_view protected.new) (stored error.new result)) }
 {
     let bytes = string_bytes(alloc, input, error)?;
     protected.original_data = Some(bytes);
     fill_protected(protected, alloc, LAYERS, error)
 }
 
-/// A protected header.
-pub(crate) fn read_protected(alloc: Global, input: &mut Input<'_>) -> Result<ProtectedHeader>
+/// Reads a protected header.
+pub(crate) fn read_protected(alloc: Global, input: &mut Decoder<'_>) -> Result<ProtectedHeader>
     ensures shrinks { length_left (state input.new) ≤ length_left (state input.old) }
     ensures strictly { OnOk result (GoesBehind (state input.old) (state input.new)) }
     ensures reads { ReadsAt (state input.old) (state input.new)
-        (λ v. Reads protected_shape protected_seen v result) }
+        (λ v. Reads protected_shape protected_view v result) }
 {
     let mut protected = ProtectedHeader::new(alloc);
     let mut error = CoseError::OutOfMemory;
@@ -349,14 +349,14 @@ pub(crate) fn read_protected(alloc: Global, input: &mut Input<'_>) -> Result<Pro
     Ok(protected)
 }
 
-/// Appends the byte string that stands for the protected header. Bytes that were read aren't copied first.
+/// Appends the byte string that represents the protected header. Bytes that were read aren't copied first.
 #[cycle(write)]
 pub(crate) fn write_protected(
     alloc: Global,
     protected: &ProtectedHeader,
     out: &mut Vec<u8>,
 ) -> Result<()>
-    ensures written { Encodes (option_map bytes (protected_bytes (protected_seen protected.now)))
+    ensures written { Encodes (option_map bytes (protected_bytes (protected_view protected.now)))
         out.old.items out.new.items result }
     ensures kept { Extends out.old.items out.new.items }
 {
@@ -375,12 +375,12 @@ pub(crate) fn write_protected(
 /// The same as [`write_header`].
 #[cycle(write)]
 fn fresh_bytes(alloc: Global, header: &Header) -> Result<Vec<u8>>
-    ensures ok { IfOk result (λ b. fresh_bytes (is_empty_header (header_seen header.now))
-        (header_image (header_seen header.now)) ≡ Some b.items) }
-    ensures shortest { IfOk result (λ b. AreShortest None (header_seen header.now) b.items) }
+    ensures ok { IfOk result (λ b. fresh_bytes (is_empty_header (header_view header.now))
+        (header_image (header_view header.now)) ≡ Some b.items) }
+    ensures shortest { IfOk result (λ b. AreShortest None (header_view header.now) b.items) }
     ensures refused { IfErr result
-        (HasNoImage (fresh_bytes (is_empty_header (header_seen header.now))
-        (header_image (header_seen header.now)))) }
+        (HasNoImage (fresh_bytes (is_empty_header (header_view header.now))
+        (header_image (header_view header.now)))) }
 {
     laws::least_encoding_is_shortest();
     let mut bytes = Vec::new(alloc);
@@ -399,7 +399,7 @@ pub fn copy_protected(
     protected: &ProtectedHeader,
     copy: &mut ProtectedHeader,
 ) -> Result<(), AllocError>
-    ensures { OnOk result (protected_seen copy.new ≡ protected_seen protected.now) }
+    ensures { OnOk result (protected_view copy.new ≡ protected_view protected.now) }
 {
     copy_bstr_to(&protected.original_data, &mut copy.original_data)?;
     copy_header(&protected.header, &mut copy.header)
@@ -407,7 +407,7 @@ pub fn copy_protected(
 
 #[cycle(same)]
 pub(crate) fn same_protected(a: &ProtectedHeader, b: &ProtectedHeader) -> bool
-    ensures { result ≡ protected_eq (protected_seen a.now) (protected_seen b.now) }
+    ensures { result ≡ protected_eq (protected_view a.now) (protected_view b.now) }
 {
     a.original_data == b.original_data && same_header(&a.header, &b.header)
 }

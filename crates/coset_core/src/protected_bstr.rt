@@ -1,15 +1,15 @@
-//! Protected headers as they stand in messages: in byte strings.
+//! Protected headers as they are in messages: in byte strings.
 
 ghost use Rattle.coset_core.specs.Headers.{protected};
-ghost use Rattle.coset_core.specs.Views.{protected_seen};
+ghost use Rattle.coset_core.specs.Views.{protected_view};
 
-use crate::protected::{Bstr, ProtectedHeader, read_protected};
-use coset_codec::read::Input;
+use crate::protected::{ProtectedHeader, ProtectedRef, read_protected};
+use coset_codec::read::Decoder;
 use coset_codec::write::Encode;
 use coset_codec::{Codec, Result};
 use std::alloc::Global;
 
-/// A protected header as a type whose item is the byte string that stands for it in messages (RFC 8152, section 3). A
+/// A protected header as a type whose item is the byte string that represents it in messages (RFC 8152, section 3). A
 /// [`ProtectedHeader`] as such is read from its map, and written as that.
 ///
 /// ```cddl
@@ -19,29 +19,29 @@ use std::alloc::Global;
 pub struct ProtectedBstr(pub ProtectedHeader);
 
 impl Codec for ProtectedBstr {
-    ghost use Rattle.coset_core.specs.Told.{protected_told};
-    ghost use Rattle.coset_core.specs.Headers.{ProtectedSeen};
+    ghost use Rattle.coset_core.specs.EqDecides.{protected_decides};
+    ghost use Rattle.coset_core.specs.Headers.{ProtectedView};
     ghost use Rattle.coset_core.specs.HeaderLaws.{protected_laws};
 
-    ghost Seen = { ProtectedSeen };
+    ghost View = { ProtectedView };
 
-    ghost seen = { λ p. protected_seen p.0 };
+    ghost view = { λ p. protected_view p.0 };
 
     ghost shape = { protected };
 
     ghost laws = { protected_laws };
 
-    ghost equal = { λ a b. protected_told a.0 b.0 };
+    ghost equal = { λ a b. protected_decides a.0 b.0 };
 
-    fn read(alloc: Global, input: &mut Input<'_>) -> Result<ProtectedBstr> {
+    fn read(alloc: Global, input: &mut Decoder<'_>) -> Result<ProtectedBstr> {
         Ok(ProtectedBstr(read_protected(alloc, input)?))
     }
 
     fn size_hint(&self) -> usize {
-        Bstr(&self.0).room()
+        ProtectedRef(&self.0).encoded_size_hint()
     }
 
     fn write(&self, alloc: Global, out: &mut Vec<u8>) -> Result<()> {
-        Bstr(&self.0).encode(alloc, out)
+        ProtectedRef(&self.0).encode(alloc, out)
     }
 }

@@ -4,7 +4,7 @@ ghost use Rattle.std.specs.Prelude.{◌≡◌, ◌≢◌, [], map, option_map, O
 ghost use Rattle.coset_codec.specs.declared.error.CoseError.TheVariants.{OutOfMemory};
 ghost use Rattle.coset_core.specs.Contents.{empty_signature};
 ghost use Rattle.coset_codec.specs.InPlace.{Fills, FillsEach};
-ghost use Rattle.coset_core.specs.Views.{header_seen, protected_seen, signature_seen};
+ghost use Rattle.coset_core.specs.Views.{header_view, protected_view, signature_view};
 ghost use Rattle.coset_codec.specs.Errors.{IsUnexpected, UnlessMemory, stored, made_in_place};
 ghost use Rattle.coset_value.specs.Item.{Item, array, Items, no_items, item};
 ghost use Rattle.coset_value.specs.Parts.{as_array};
@@ -28,13 +28,13 @@ use crate::header::reading::fill_header;
 use crate::header::writing::write_header;
 use crate::header::{Header, LAYERS, copy_header, same_header};
 use crate::protected::{
-    Bstr, ProtectedHeader, copy_protected, fill_protected, protected_from_header, same_protected,
-    string_bytes, write_protected,
+    ProtectedHeader, ProtectedRef, copy_protected, fill_protected, protected_from_header,
+    same_protected, string_bytes, write_protected,
 };
 use coset_cbor::ser::{write_array_head, write_bytes};
 use coset_codec::error::{ErrorStored, store_error};
 use coset_codec::read::{
-    InPlace, Input, InputItems, drop_refused, make_room, next_place, push_empty, wrong_length,
+    ArrayElements, Decoder, InPlace, drop_refused, make_room, next_place, push_empty, wrong_length,
 };
 use coset_codec::write::Encode;
 use coset_codec::{Codec, CoseError, Result};
@@ -64,7 +64,7 @@ const PLACES: &str = "array with 3 items";
 impl CoseSignature {
     /// A signature of no bytes with empty headers. It takes no memory.
     pub fn new(alloc: Global) -> CoseSignature
-        ensures { signature_seen result
+        ensures { signature_view result
             ≡ record {
               protected = record { original = None; header = empty_header };
               unprotected = empty_header;
@@ -81,26 +81,26 @@ impl CoseSignature {
 
 /// Equality of the headers and of the signature's bytes.
 impl PartialEq for CoseSignature {
-    ghost eq = { on signature_seen signature_eq };
+    ghost eq = { on signature_view signature_eq };
 
-    ghost laws = { on_per signature_seen (partial_equiv_from_equiv signature_eq_equiv) };
+    ghost laws = { on_per signature_view (partial_equiv_from_equiv signature_eq_equiv) };
 
     fn eq(&self, other: &CoseSignature) -> bool
-        ensures answers { result ≡ signature_eq (signature_seen self.now)
-            (signature_seen other.now) }
-        ensures equal { IsTrue result ↔ (signature_seen self.now ≡ signature_seen other.now) }
+        ensures answers { result ≡ signature_eq (signature_view self.now)
+            (signature_view other.now) }
+        ensures equal { IsTrue result ↔ (signature_view self.now ≡ signature_view other.now) }
     {
         same_signature(self, other)
     }
 }
 
 impl Eq for CoseSignature {
-    ghost laws = { on_equiv signature_seen signature_eq_equiv };
+    ghost laws = { on_equiv signature_view signature_eq_equiv };
 }
 
 /// The same as [`CoseSignature::clone`], for generic code.
 impl Clone for CoseSignature {
-    ghost is_clone = { λ signed copy. signature_seen copy ≡ signature_seen signed };
+    ghost is_clone = { λ signed copy. signature_view copy ≡ signature_view signed };
 
     fn clone(&self) -> Result<CoseSignature, AllocError> {
         let mut copy = CoseSignature::new(*self.signature.allocator());
@@ -115,7 +115,7 @@ impl CoseSignature {
     /// # Errors
     /// `OutOfMemory` alone.
     pub fn clone(&self) -> Result<CoseSignature>
-        ensures copy { IfOk result (λ s. signature_seen s ≡ signature_seen self.now) }
+        ensures copy { IfOk result (λ s. signature_view s ≡ signature_view self.now) }
         ensures memory { IfErr result (λ e. e ≡ OutOfMemory) }
     {
         Ok(Clone::clone(self)?)
@@ -123,21 +123,21 @@ impl CoseSignature {
 }
 
 impl Codec for CoseSignature {
-    ghost use Rattle.coset_core.specs.Told.{signature_told};
-    ghost use Rattle.coset_core.specs.Headers.{SignatureSeen};
+    ghost use Rattle.coset_core.specs.EqDecides.{signature_decides};
+    ghost use Rattle.coset_core.specs.Headers.{SignatureView};
     ghost use Rattle.coset_core.specs.HeaderLaws.{signature_laws};
 
-    ghost Seen = { SignatureSeen };
+    ghost View = { SignatureView };
 
-    ghost seen = { signature_seen };
+    ghost view = { signature_view };
 
     ghost shape = { signature_shape };
 
     ghost laws = { signature_laws };
 
-    ghost equal = { signature_told };
+    ghost equal = { signature_decides };
 
-    fn read(alloc: Global, input: &mut Input<'_>) -> Result<CoseSignature> {
+    fn read(alloc: Global, input: &mut Decoder<'_>) -> Result<CoseSignature> {
         let mut signed = CoseSignature::new(alloc);
         let mut error = CoseError::OutOfMemory;
         if let Err(ErrorStored) = fill_signature(&mut signed, alloc, input, LAYERS, &mut error) {
@@ -148,10 +148,10 @@ impl Codec for CoseSignature {
     }
 
     fn size_hint(&self) -> usize {
-        Bstr(&self.protected)
-            .room()
-            .saturating_add(self.unprotected.room())
-            .saturating_add(self.signature.room())
+        ProtectedRef(&self.protected)
+            .encoded_size_hint()
+            .saturating_add(self.unprotected.encoded_size_hint())
+            .saturating_add(self.signature.encoded_size_hint())
     }
 
     fn write(&self, alloc: Global, out: &mut Vec<u8>) -> Result<()> {
@@ -160,14 +160,14 @@ impl Codec for CoseSignature {
 }
 
 impl InPlace for CoseSignature {
-    ghost is_empty = { λ s. signature_seen s ≡ empty_signature };
+    ghost is_empty = { λ s. signature_view s ≡ empty_signature };
 
     fn empty(alloc: Global) -> CoseSignature {
         CoseSignature::new(alloc)
     }
 }
 
-/// Reads the first place of a signature's array, a byte string that is kept; the second then stands at the input. It says
+/// Reads the first place of a signature's array, a byte string that is kept; the second then is at the input. It says
 /// whether the first is one, and why not in a place of its own, since the later elements are judged before it.
 ///
 /// # Errors
@@ -177,25 +177,25 @@ fn begin_elements(
     kept: &mut Option<Vec<u8>>,
     why: &mut CoseError,
     alloc: Global,
-    members: &mut InputItems,
-    input: &mut Input<'_>,
+    elements: &mut ArrayElements,
+    input: &mut Decoder<'_>,
     error: &mut CoseError,
 ) -> Result<bool, ErrorStored>
     ensures shrinks { length_left (state input.new) ≤ length_left (state input.old) }
-    ensures size { items_size members.new (state input.new) ≤ items_size members.old
+    ensures size { items_size elements.new (state input.new) ≤ items_size elements.old
         (state input.old) }
     ensures place { OnOk result
-        (input_size (state input.new) ≤ items_size members.old (state input.old)) }
-    ensures begins { (vs : Items) (z : State) → AreWithin members.old vs (state input.old) z
-        → BeginsElements vs (state input.new) z members.new (option_map (λ b. b.items) kept.new)
+        (input_size (state input.new) ≤ items_size elements.old (state input.old)) }
+    ensures begins { (vs : Items) (z : State) → AreWithin elements.old vs (state input.old) z
+        → BeginsElements vs (state input.new) z elements.new (option_map (λ b. b.items) kept.new)
         why.new (stored error.new result) }
 {
-    if !members.next(input) {
+    if !elements.next(input) {
         *error = wrong_length(PLACES);
         return Err(ErrorStored);
     }
     let first = string_bytes(alloc, input, why);
-    if !members.next(input) {
+    if !elements.next(input) {
         *error = wrong_length(PLACES);
         return Err(ErrorStored);
     }
@@ -216,23 +216,23 @@ fn begin_elements(
 fn end_elements(
     signature: &mut Vec<u8>,
     alloc: Global,
-    members: &mut InputItems,
-    input: &mut Input<'_>,
+    elements: &mut ArrayElements,
+    input: &mut Decoder<'_>,
     error: &mut CoseError,
 ) -> Result<(), ErrorStored>
     ensures shrinks { length_left (state input.new) ≤ length_left (state input.old) }
-    ensures ends { (vs : Items) (z : State) → AreWithin members.old vs (state input.old) z
-        → EndsElements vs (state input.new) z members.new signature.new.items
+    ensures ends { (vs : Items) (z : State) → AreWithin elements.old vs (state input.old) z
+        → EndsElements vs (state input.new) z elements.new signature.new.items
         (stored error.new result) }
     ensures kept { OnOk result (error.new ≡ error.old) }
 {
-    if !members.next(input) {
+    if !elements.next(input) {
         *error = wrong_length(PLACES);
         return Err(ErrorStored);
     }
     let last = string_bytes(alloc, input, error);
-    if members.next(input) {
-        input.pass();
+    if elements.next(input) {
+        input.skip();
         *error = wrong_length(PLACES);
         return Err(ErrorStored);
     }
@@ -248,17 +248,17 @@ fn end_elements(
 pub(crate) fn fill_bare(
     all: &mut Vec<CoseSignature>,
     alloc: Global,
-    members: &mut InputItems,
-    input: &mut Input<'_>,
+    elements: &mut ArrayElements,
+    input: &mut Decoder<'_>,
     layers: usize,
     error: &mut CoseError,
 ) -> Result<(), ErrorStored>
-    requires empty { map signature_seen all.old.items ≡ [] }
+    requires empty { map signature_view all.old.items ≡ [] }
     ensures shrinks { length_left (state input.new) ≤ length_left (state input.old) }
-    ensures fills { (vs : Items) (z : State) → AreWithin members.old vs (state input.old) z
-        → ((left : Items) × AreWithin members.new left (state input.new) z)
+    ensures fills { (vs : Items) (z : State) → AreWithin elements.old vs (state input.old) z
+        → ((left : Items) × AreWithin elements.new left (state input.new) z)
         × FillsEach (layered_signature layers) (item (array vs) no_items)
-        (map signature_seen all.new.items)
+        (map signature_view all.new.items)
         (stored error.new result) }
 {
     if push_empty(all).is_err() {
@@ -266,7 +266,7 @@ pub(crate) fn fill_bare(
         return Err(ErrorStored);
     }
     let last = all.len() - 1;
-    fill_elements(&mut all[last], alloc, members, input, layers, error)
+    fill_elements(&mut all[last], alloc, elements, input, layers, error)
 }
 
 /// Reads each of some signatures into an empty list.
@@ -277,57 +277,57 @@ pub(crate) fn fill_bare(
 pub(crate) fn fill_listed(
     all: &mut Vec<CoseSignature>,
     alloc: Global,
-    members: &mut InputItems,
-    input: &mut Input<'_>,
+    elements: &mut ArrayElements,
+    input: &mut Decoder<'_>,
     layers: usize,
     error: &mut CoseError,
 ) -> Result<(), ErrorStored>
-    requires empty { map signature_seen all.old.items ≡ [] }
+    requires empty { map signature_view all.old.items ≡ [] }
     ensures shrinks { length_left (state input.new) ≤ length_left (state input.old) }
-    ensures fills { (vs : Items) (z : State) → AreWithin members.old vs (state input.old) z
-        → ((left : Items) × AreWithin members.new left (state input.new) z)
-        × FillsEach (layered_signature layers) vs (map signature_seen all.new.items)
+    ensures fills { (vs : Items) (z : State) → AreWithin elements.old vs (state input.old) z
+        → ((left : Items) × AreWithin elements.new left (state input.new) z)
+        × FillsEach (layered_signature layers) vs (map signature_view all.new.items)
         (stored error.new result) }
 {
-    while next_place(all, members, input, error)? {
+    while next_place(all, elements, input, error)? {
         let last = all.len() - 1;
         fill_signature(&mut all[last], alloc, input, layers, error)?;
     }
     Ok(())
 }
 
-/// Reads an array of signatures, each where it stands in the list. Whatever is at fault with one of them, it is
+/// Reads an array of signatures, each where it is in the list. Whatever is at fault with one of them, it is
 /// `UnexpectedItem` with the two texts of `blame`.
 ///
 /// # Errors
 /// `OutOfMemory`; or `UnexpectedItem`, which asks for an array where the item is none.
 pub fn read_signatures(
     alloc: Global,
-    input: &mut Input<'_>,
+    input: &mut Decoder<'_>,
     blame: (&'static str, &'static str),
 ) -> Result<Vec<CoseSignature>>
     ensures shrinks { length_left (state input.new) ≤ length_left (state input.old) }
     ensures reads { ReadsAt (state input.old) (state input.new)
         (λ v. Reads (list_of (masked IsUnexpected signature_shape))
-        (λ all. map signature_seen all.items) v result) }
+        (λ all. map signature_view all.items) v result) }
     ensures says { ReadsAt (state input.old) (state input.new)
         (λ v. IfErr result (λ e. as_array v ≡ None → Says (kind v) (codes "array") e)) }
     ensures blames { ReadsAt (state input.old) (state input.new)
         (λ v. IfErr result (λ e. as_array v ≢ None
         → UnlessMemory e (Says blame.entry.0.now blame.entry.1.now))) }
 {
-    let mut members = input.enter_array("array")?;
+    let mut elements = input.enter_array("array")?;
     let mut all = Vec::new(alloc);
     let mut error = CoseError::OutOfMemory;
-    let filled = fill_listed(&mut all, alloc, &mut members, input, LAYERS, &mut error);
-    members.finish(input);
+    let filled = fill_listed(&mut all, alloc, &mut elements, input, LAYERS, &mut error);
+    elements.finish(input);
     match filled {
         Ok(()) => Ok(all),
         Err(ErrorStored) => Err(masked_error(error, blame)),
     }
 }
 
-/// The error with these two texts, in place of one that tells of another fault.
+/// The error with these two texts, in place of one for another fault.
 fn masked_error(error: CoseError, blame: (&'static str, &'static str)) -> CoseError
     ensures memory { error ≡ OutOfMemory → result ≡ OutOfMemory }
     ensures blames { UnlessMemory error (λ e. IsUnexpected result
@@ -339,25 +339,25 @@ fn masked_error(error: CoseError, blame: (&'static str, &'static str)) -> CoseEr
     }
 }
 
-/// The members of an array.
+/// Goes to the first element of an array.
 ///
 /// # Errors
-/// `UnexpectedItem`: the item is no array; it is passed.
+/// `UnexpectedItem`: the item is no array; it is skipped.
 #[inline(never)]
 fn begin_items(
-    members: &mut InputItems,
-    input: &mut Input<'_>,
+    elements: &mut ArrayElements,
+    input: &mut Decoder<'_>,
     error: &mut CoseError,
 ) -> Result<(), ErrorStored>
     ensures shrinks { length_left (state input.new) ≤ length_left (state input.old) }
     ensures strictly { OnOk result (GoesBehind (state input.old) (state input.new)) }
     ensures deeper { OnOk result
-        (items_size members.new (state input.new) < input_size (state input.old)) }
+        (items_size elements.new (state input.new) < input_size (state input.old)) }
     ensures enters { (v : Item) (z : State) → ItemAt v (state input.old) z
         → EntersArray (codes "array") v (state input.new) z
-        (made_in_place (λ _. members.new) error.new result) }
+        (made_in_place (λ _. elements.new) error.new result) }
 {
-    *members = store_error(input.enter_array("array"), error)?;
+    *elements = store_error(input.enter_array("array"), error)?;
     Ok(())
 }
 
@@ -369,21 +369,21 @@ fn begin_items(
 fn fill_signature(
     signed: &mut CoseSignature,
     alloc: Global,
-    input: &mut Input<'_>,
+    input: &mut Decoder<'_>,
     layers: usize,
     error: &mut CoseError,
 ) -> Result<(), ErrorStored>
-    requires empty { signature_seen signed.old ≡ empty_signature }
+    requires empty { signature_view signed.old ≡ empty_signature }
     ensures shrinks { length_left (state input.new) ≤ length_left (state input.old) }
     ensures strictly { OnOk result (GoesBehind (state input.old) (state input.new)) }
     ensures fills { (v : Item) (z : State) → ItemAt v (state input.old) z → (state input.new ≡ z)
-        × Fills (layered_signature layers) v (signature_seen signed.new)
+        × Fills (layered_signature layers) v (signature_view signed.new)
         (stored error.new result) }
 {
-    let mut members = InputItems::none();
-    begin_items(&mut members, input, error)?;
-    let filled = fill_elements(signed, alloc, &mut members, input, layers, error);
-    members.finish(input);
+    let mut elements = ArrayElements::none();
+    begin_items(&mut elements, input, error)?;
+    let filled = fill_elements(signed, alloc, &mut elements, input, layers, error);
+    elements.finish(input);
     filled
 }
 
@@ -396,23 +396,23 @@ fn fill_signature(
 fn fill_elements(
     signed: &mut CoseSignature,
     alloc: Global,
-    members: &mut InputItems,
-    input: &mut Input<'_>,
+    elements: &mut ArrayElements,
+    input: &mut Decoder<'_>,
     layers: usize,
     error: &mut CoseError,
 ) -> Result<(), ErrorStored>
-    requires empty { signature_seen signed.old ≡ empty_signature }
+    requires empty { signature_view signed.old ≡ empty_signature }
     ensures shrinks { length_left (state input.new) ≤ length_left (state input.old) }
-    ensures fills { (vs : Items) (z : State) → AreWithin members.old vs (state input.old) z
-        → ((left : Items) × AreWithin members.new left (state input.new) z)
-        × Fills (layered_signature layers) (array vs) (signature_seen signed.new)
+    ensures fills { (vs : Items) (z : State) → AreWithin elements.old vs (state input.old) z
+        → ((left : Items) × AreWithin elements.new left (state input.new) z)
+        × Fills (layered_signature layers) (array vs) (signature_view signed.new)
         (stored error.new result) }
 {
     let mut why = CoseError::OutOfMemory;
     let kept = &mut signed.protected.original_data;
-    let is_string = begin_elements(kept, &mut why, alloc, members, input, error)?;
+    let is_string = begin_elements(kept, &mut why, alloc, elements, input, error)?;
     let unprotected = fill_header(&mut signed.unprotected, alloc, input, layers, error);
-    end_elements(&mut signed.signature, alloc, members, input, error)?;
+    end_elements(&mut signed.signature, alloc, elements, input, error)?;
     unprotected?;
     if !is_string {
         *error = why;
@@ -429,9 +429,9 @@ pub(crate) fn write_signatures(
     out: &mut Vec<u8>,
 ) -> Result<()>
     ensures ok { OnOk result
-        (AppendsSignatures out.old.items out.new.items (map signature_seen signatures.now)) }
+        (AppendsSignatures out.old.items out.new.items (map signature_view signatures.now)) }
     ensures refused { IfErr result
-        (HasNoImage (signatures_image (signatures_of (map signature_seen signatures.now)))) }
+        (HasNoImage (signatures_image (signatures_of (map signature_view signatures.now)))) }
     ensures kept { Extends out.old.items out.new.items }
 {
     for signature in signatures {
@@ -443,7 +443,7 @@ pub(crate) fn write_signatures(
 /// Appends the array of the signature.
 #[cycle(write)]
 fn write_signature(alloc: Global, signature: &CoseSignature, out: &mut Vec<u8>) -> Result<()>
-    ensures written { Encodes (signature_array (signature_seen signature.now)) out.old.items
+    ensures written { Encodes (signature_array (signature_view signature.now)) out.old.items
         out.new.items result }
     ensures kept { Extends out.old.items out.new.items }
 {
@@ -469,7 +469,7 @@ pub(crate) fn copy_signatures(
     all: &[CoseSignature],
     copies: &mut Vec<CoseSignature>,
 ) -> Result<(), AllocError>
-    ensures { OnOk result (map signature_seen copies.new.items ≡ map signature_seen all.now) }
+    ensures { OnOk result (map signature_view copies.new.items ≡ map signature_view all.now) }
 {
     make_room(copies, all.len())?;
     for signature in all {
@@ -483,7 +483,7 @@ pub(crate) fn copy_signatures(
 /// Copies a signature into another.
 #[cycle(copy)]
 fn copy_signature(signature: &CoseSignature, copy: &mut CoseSignature) -> Result<(), AllocError>
-    ensures { OnOk result (signature_seen copy.new ≡ signature_seen signature.now) }
+    ensures { OnOk result (signature_view copy.new ≡ signature_view signature.now) }
 {
     copy_protected(&signature.protected, &mut copy.protected)?;
     copy_header(&signature.unprotected, &mut copy.unprotected)?;
@@ -492,8 +492,8 @@ fn copy_signature(signature: &CoseSignature, copy: &mut CoseSignature) -> Result
 
 #[cycle(same)]
 pub(crate) fn same_signatures(all: &[CoseSignature], others: &[CoseSignature]) -> bool
-    ensures { result ≡ signatures_eq (signatures_of (map signature_seen all.now))
-        (signatures_of (map signature_seen others.now)) }
+    ensures { result ≡ signatures_eq (signatures_of (map signature_view all.now))
+        (signatures_of (map signature_view others.now)) }
 {
     if all.len() != others.len() {
         return false;
@@ -508,7 +508,7 @@ pub(crate) fn same_signatures(all: &[CoseSignature], others: &[CoseSignature]) -
 
 #[cycle(same)]
 fn same_signature(a: &CoseSignature, b: &CoseSignature) -> bool
-    ensures { result ≡ signature_eq (signature_seen a.now) (signature_seen b.now) }
+    ensures { result ≡ signature_eq (signature_view a.now) (signature_view b.now) }
 {
     same_protected(&a.protected, &b.protected)
         && same_header(&a.unprotected, &b.unprotected)
@@ -522,7 +522,7 @@ pub(crate) type Held = (Vec<CoseSignature>, Vec<CoseCountersignature>);
 #[inline(always)]
 pub(crate) fn held_by(protected: ProtectedHeader, unprotected: Header) -> (Held, Held)
     ensures { held_in result.0.0.items result.0.1.items + held_in result.1.0.items result.1.1.items
-        ≡ header_count (protected_seen protected).header + header_count (header_seen unprotected) }
+        ≡ header_count (protected_view protected).header + header_count (header_view unprotected) }
 {
     let ProtectedHeader {
         original_data: _,
@@ -615,7 +615,7 @@ impl Model for CoseSignatureBuilder {
 impl CoseSignatureBuilder {
     /// A signature of no bytes with empty headers. It takes no memory.
     pub fn new(alloc: Global) -> CoseSignatureBuilder
-        ensures { signature_seen result ≡ empty_signature }
+        ensures { signature_view result ≡ empty_signature }
     {
         CoseSignatureBuilder(CoseSignature::new(alloc))
     }
@@ -629,8 +629,8 @@ impl CoseSignatureBuilder {
 
     /// Sets the protected header: one that was made, and not read, so that it has no bytes of its own yet.
     pub fn protected(mut self, header: Header) -> CoseSignatureBuilder
-        ensures { signature_seen result ≡ record (signature_seen self) {
-          protected = record { original = None; header = header_seen header };
+        ensures { signature_view result ≡ record (signature_view self) {
+          protected = record { original = None; header = header_view header };
         } }
     {
         self.0.protected = protected_from_header(header);
@@ -639,8 +639,8 @@ impl CoseSignatureBuilder {
 
     /// Sets the unprotected header.
     pub fn unprotected(mut self, header: Header) -> CoseSignatureBuilder
-        ensures { signature_seen result ≡ record
-            (signature_seen self) { unprotected = header_seen header } }
+        ensures { signature_view result ≡ record
+            (signature_view self) { unprotected = header_view header } }
     {
         self.0.unprotected = header;
         self
@@ -648,8 +648,8 @@ impl CoseSignatureBuilder {
 
     /// Sets the signature's bytes.
     pub fn signature(mut self, signature: Vec<u8>) -> CoseSignatureBuilder
-        ensures { signature_seen result ≡ record
-            (signature_seen self) { signature = signature.items } }
+        ensures { signature_view result ≡ record
+            (signature_view self) { signature = signature.items } }
     {
         self.0.signature = signature;
         self
@@ -660,8 +660,8 @@ impl CoseSignatureBuilder {
     /// # Errors
     /// `OutOfMemory` alone.
     pub fn signature_from(self, alloc: Global, signature: &[u8]) -> Result<CoseSignatureBuilder>
-        ensures ok { IfOk result (λ b. signature_seen b
-            ≡ record (signature_seen self) { signature = signature.now }) }
+        ensures ok { IfOk result (λ b. signature_view b
+            ≡ record (signature_view self) { signature = signature.now }) }
         ensures memory { IfErr result (λ e. e ≡ OutOfMemory) }
     {
         Ok(self.signature(Vec::from_slice(alloc, signature)?))

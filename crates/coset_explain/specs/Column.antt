@@ -8,7 +8,7 @@ abbrev pub column : List Line → List ℕ
 column [] = []
 column (line ∷ lines) = line.bytes.now ++ column lines
 
--- the last line shows what stands from the offset on
+-- the last line shows what is from the offset on
 pub record EndsAt (offset : ℕ) (lines : List Line) : Type 0 where
   pub front : List Line
   pub last : Line
@@ -23,6 +23,6 @@ whole c = column c.lines.items ++ c.rest.now
 abbrev pub shown : Column → ℕ
 shown c = length c.lines.items
 
--- where the first byte stands that no line has shown
+-- where the first byte is that no line has shown
 abbrev pub place : Column → ℕ
 place c = length (column c.lines.items)

@@ -26,7 +26,7 @@ is_by_tag kinds.Auto = true
 is_by_tag kinds.Cwt = true
 is_by_tag _ = false
 
--- `named` is the kind, and `rest` are the bytes; or where the tag says what it is, some kind, and what stands behind some of the bytes
+-- `named` is the kind, and `rest` are the bytes; or where the tag says what it is, some kind, and what follows some of the bytes
 pub record Names (kind : Kind) (bytes : List ℕ) (named : Kind) (rest : List ℕ) : Type 0 where
   pub behind : (front : List ℕ) × (bytes ≡ front ++ rest)
   pub same : is_by_tag kind ≡ false → (named ≡ kind) × (rest ≡ bytes)

@@ -19,7 +19,7 @@ use Rattle.coset_explain.specs.Kind.{is_by_tag}
 use Rattle.coset_explain.specs.declared.kind.Kind.{Kind}
 use Rattle.coset_explain.specs.declared.kind.Kind.TheVariants as kinds
 
--- Nothing, where the bytes describe a value of that shape; or an error that tells of a fault in them, where they describe
+-- Nothing, where the bytes describe a value of that shape; or an error that names a fault in them, where they describe
 -- none; or that memory ran out
 abbrev pub Judges : {A : Type 0} → Shape A → List ℕ → Option CoseError → Type 0
 Judges {A} shape bytes None = (x : A) × Describes shape bytes x
@@ -42,7 +42,7 @@ JudgesNamed kinds.Auto = Judges any
 JudgesNamed kinds.Cwt = Judges any
 JudgesNamed kinds.Value = Judges any
 
--- some kind is judged, over all of the bytes or what stands behind some of them
+-- some kind is judged, over all of the bytes or what follows some of them
 pub record JudgesSome (bytes : List ℕ) (error : Option CoseError) : Type 0 where
   pub kind : Kind
   pub front : List ℕ

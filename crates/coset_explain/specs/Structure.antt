@@ -36,7 +36,7 @@ IsStructureOfNamed kinds.Encrypt i bytes t = IsOver (perhaps_tagged 96 encrypt) 
 IsStructureOfNamed kinds.Encrypt0 i bytes t = IsOver (perhaps_tagged 16 encrypt0) (λ m. encrypt0_structure m []) bytes t
 IsStructureOfNamed k i bytes t = ⊥
 
--- of some kind, over all of the bytes or what stands behind some of them
+-- of some kind, over all of the bytes or what follows some of them
 pub record IsStructureOfSome (i : ℕ) (bytes t : List ℕ) : Type 0 where
   pub kind : Kind
   pub front : List ℕ

@@ -6,12 +6,13 @@ ghost use Rattle.coset_explain.specs.Refusal.{JudgesAs};
 ghost use Rattle.coset_fault.specs.Places.{IsPlace};
 
 use crate::column::{Column, Line};
+use crate::faults::Fault;
 use crate::hunt::Hunt;
 use crate::kind::Kind;
 use crate::paths::{path, steps};
 use crate::walk::Walk;
 use coset::CoseError;
-use coset_fault::{Fault, Step, fault_at};
+use coset_fault::{Step, fault_at};
 use std::alloc::{AllocError, Global};
 
 /// An input, taken apart.
@@ -30,7 +31,7 @@ pub struct Explained<'a> {
 pub struct Refusal {
     /// The error of the library's reading.
     pub error: CoseError,
-    /// Where what it tells of stands, if that was found.
+    /// Where what it names is, if that was found.
     pub place: Option<Place>,
 }
 
@@ -116,7 +117,7 @@ fn walked<'a, 'e>(
     Ok(walk)
 }
 
-/// The place at which the walk ended, where what the error tells of stands there.
+/// The place at which the walk ended, where what the error names is there.
 fn place_of(
     alloc: Global,
     bytes: &[u8],
@@ -146,8 +147,8 @@ fn place_of(
 /// say of them. With a moment `now`, in seconds since 1970 began, it is said of a token whether it is valid then.
 ///
 /// What the lines show, one after the other, is the input: each of its bytes once and in order, whatever it is. Of bytes
-/// that are refused all that stands before the fault is shown; and the last line holds the rest of them. The place of a
-/// fault of CBOR is known; that of a fault of a type is where an item of the kind that the error tells of stands, or a
+/// that are refused all that is before the fault is shown; and the last line holds the rest of them. The place of a
+/// fault of CBOR is known; that of a fault of a type is where an item of the kind that the error names is, or a
 /// label that repeats, where there is one.
 ///
 /// # Errors
@@ -162,7 +163,7 @@ pub fn explain<'a>(
     ensures column { IfOk result (λ e. column e.lines.items ≡ bytes.now) }
     // There are no more than two lines for each byte, and three.
     ensures lines { IfOk result (λ e. length e.lines.items ≤ 2 * length bytes.now + 3) }
-    // Where a fault has a place, the last line shows what stands from there on.
+    // Where a fault has a place, the last line shows what is from there on.
     ensures place { IfOk result (λ e. IfSome e.fault (λ f. EndsAt f.0 e.lines.items)) }
     // The error is what the library's reading says.
     ensures error { IfOk result (λ e. JudgesAs kind bytes.now e.error) }
@@ -186,11 +187,11 @@ pub fn explain<'a>(
     })
 }
 
-/// Says why the bytes aren't of that kind, and where what is at fault stands: its offset, which lies in the input also where it
-/// stands in a protected byte string, and the path there; `None` where they are of the kind.
+/// Says why the bytes aren't of that kind, and where what is at fault is: its offset, which lies in the input also where it
+/// is in a protected byte string, and the path there; `None` where they are of the kind.
 ///
-/// What the error names stands there: it was looked at again, with the steps from the front of the bytes. Where several items
-/// have the fault that the error tells of, it is the first of them.
+/// What the error names is there: it was looked at again, with the steps from the front of the bytes. Where several items
+/// have the fault that the error names, it is the first of them.
 ///
 /// # Errors
 /// `AllocError` alone.
@@ -198,7 +199,7 @@ pub fn fault(alloc: Global, kind: Kind, bytes: &[u8]) -> Result<Option<Refusal>,
     // The error is what the library's reading says.
     ensures error { IfOk result (λ o. MatchOption o (JudgesAs kind bytes.now None)
         (λ r. JudgesAs kind bytes.now (Some r.error))) }
-    // What the error tells of stands at the offset, to which the steps lead.
+    // What the error names is at the offset, to which the steps lead.
     ensures place { IfOk result (λ o. IfSome o (λ r. IfSome r.place
         (λ p. IsPlace r.error bytes.now p.steps.items p.offset))) }
     // The offset lies in the bytes, or at their end.

@@ -12,7 +12,7 @@ pub struct Line<'a> {
     /// The bytes, a part of the input. There are none where an array, a map, a tag or a byte string that was opened ends
     /// without a break.
     pub bytes: &'a [u8],
-    /// How many of these the line stands in.
+    /// How many of these the line is in.
     pub depth: usize,
     /// What they are, in diagnostic notation (RFC 8949, section 8).
     pub text: String,

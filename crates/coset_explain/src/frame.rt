@@ -1,8 +1,9 @@
 //! What is open at a place: arrays, maps, tags, strings in chunks, and byte strings whose content is shown.
 
-use crate::head::integer;
+use crate::faults::Fault;
+use crate::head::{argument, integer};
 use crate::role::{Part, Role, label_of, place, value_of};
-use coset_fault::{Fault, Form, Head};
+use coset::cbor::head::{Head, MajorType};
 
 /// How deep arrays, maps and tags may nest in one item.
 const LEVELS: u32 = 256;
@@ -21,7 +22,7 @@ pub(crate) enum Container {
     /// A byte string whose content is shown as the item that it is.
     Embedded,
     /// A byte string in chunks, or a text string.
-    Chunks(Form),
+    Chunks(MajorType),
 }
 
 /// What is open, and how far it was read.
@@ -34,7 +35,7 @@ pub(crate) struct Frame {
     pub(crate) is_read: bool,
     /// How many items are still to come; of what has no announced length nothing.
     pub(crate) left: Option<u64>,
-    /// How many bytes stood from its head on, by which it is told from others.
+    /// How many bytes there were from its head on, by which it is distinguished from others.
     pub(crate) id: usize,
     /// How many items came.
     pub(crate) index: u64,
@@ -42,15 +43,15 @@ pub(crate) struct Frame {
     label: Option<i64>,
     /// The type of a key, where it is a number.
     key_type: Option<i64>,
-    /// How many bytes of the input stood from the last key on.
+    /// How many bytes of the input there were from the last key on.
     pub(crate) key_left: usize,
-    /// The width that the head of a byte string is told to have.
+    /// The width that the head of a byte string is to have.
     pub(crate) width: u8,
-    /// How many bytes of the input stand behind the byte string that this is in.
+    /// How many bytes of the input follow the byte string that this is in.
     pub(crate) behind: usize,
     /// How many levels may still nest.
     pub(crate) levels: u32,
-    /// How many protected headers may still stand inside one another.
+    /// How many protected headers may still be inside one another.
     pub(crate) layers: u32,
 }
 
@@ -74,7 +75,7 @@ impl Frame {
         }
     }
 
-    /// An array, a map, a tag or a string in chunks that is opened in this one, behind whose head so many bytes stand that
+    /// An array, a map, a tag or a string in chunks that is opened in this one, whose head so many bytes follow that
     /// belong to this one.
     pub(crate) fn nested(
         &self,
@@ -106,7 +107,7 @@ impl Frame {
         self
     }
 
-    /// The content of a byte string in this one, behind which so many bytes stand.
+    /// The content of a byte string in this one, which so many bytes follow.
     pub(crate) fn embedded(&self, part: Part, behind: usize, layers: u32, width: u8) -> Frame {
         Frame {
             container: Container::Embedded,
@@ -173,7 +174,7 @@ impl Frame {
         }
     }
 
-    /// Passes an item with this head, from which on so many bytes stand that belong to this.
+    /// Skips an item with this head, from which on there are so many bytes that belong to this.
     pub(crate) fn pass(&mut self, head: &Head, left: usize) {
         if self.is_at_key() {
             self.label = integer(head);
@@ -193,7 +194,7 @@ impl Frame {
         }
     }
 
-    /// What stands behind an item that was passed, where these bytes follow it.
+    /// What follows an item that was passed, where these bytes follow it.
     pub(crate) fn mark(&self, bytes: &[u8]) -> &'static str {
         if self.is_at_value() {
             ": "
@@ -215,26 +216,23 @@ impl Frame {
         }
     }
 
-    /// The fault of an item with this head where these bytes stand, of which `rest` are behind the head; what was read
+    /// The fault of an item with this head where these bytes are, of which `rest` are behind the head; what was read
     /// before it has none.
     pub(crate) fn fault(&self, head: &Head, rest: &[u8]) -> Option<Fault> {
-        if let Container::Chunks(form) = self.container {
-            if head.form != form || head.is_open {
+        if let Container::Chunks(major_type) = self.container {
+            if head.major_type != major_type || head.is_indefinite() {
                 return Some(Fault::Malformed);
             }
         }
-        match head.form {
-            Form::Unsigned | Form::Negative => open_fault(head),
-            Form::Bytes | Form::Text => string_fault(head, rest),
-            Form::Array | Form::Map => self.nested_fault(head, rest),
-            Form::Tag => match open_fault(head) {
+        match head.major_type {
+            MajorType::Unsigned | MajorType::Negative => open_fault(head),
+            MajorType::Bytes | MajorType::Text => string_fault(head, rest),
+            MajorType::Array | MajorType::Map => self.nested_fault(head, rest),
+            MajorType::Tag => match open_fault(head) {
                 Some(fault) => Some(fault),
                 None => self.level_fault(),
             },
-            Form::Simple => simple_fault(head),
-            Form::Null => null_fault(head),
-            Form::Float => None,
-            Form::Break => Some(Fault::Malformed),
+            MajorType::Simple => simple_fault(head),
         }
     }
 
@@ -247,16 +245,16 @@ impl Frame {
         }
     }
 
-    /// The fault of an array or a map: a level too many, or more members than bytes are left.
+    /// The fault of an array or a map: a level too many, or more elements than bytes are left.
     fn nested_fault(&self, head: &Head, rest: &[u8]) -> Option<Fault> {
         if self.levels == 0 {
             return Some(Fault::Levels);
         }
-        let most = match head.form {
-            Form::Map => (rest.len() as u64) / 2,
+        let most = match head.major_type {
+            MajorType::Map => (rest.len() as u64) / 2,
             _ => rest.len() as u64,
         };
-        if most < head.number {
+        if most < argument(head) {
             return Some(Fault::Ends);
         }
         None
@@ -270,7 +268,7 @@ pub(crate) fn begins_break(bytes: &[u8]) -> bool {
 
 /// The fault of a head that announces no length, where it has to.
 fn open_fault(head: &Head) -> Option<Fault> {
-    if head.is_open {
+    if head.is_indefinite() {
         Some(Fault::Malformed)
     } else {
         None
@@ -279,38 +277,30 @@ fn open_fault(head: &Head) -> Option<Fault> {
 
 /// The fault of a string: more bytes than are left, or a text that isn't UTF-8.
 fn string_fault(head: &Head, rest: &[u8]) -> Option<Fault> {
-    if (rest.len() as u64) < head.number {
+    if (rest.len() as u64) < argument(head) {
         return Some(Fault::Ends);
     }
-    if head.form == Form::Text && str::from_utf8(content(head, rest)).is_err() {
+    if head.major_type == MajorType::Text && str::from_utf8(content(head, rest)).is_err() {
         return Some(Fault::Malformed);
     }
     None
 }
 
-/// The fault of a simple value.
+/// The fault of a simple value, or of a break where an item is due; a float has none.
 fn simple_fault(head: &Head) -> Option<Fault> {
-    match head.number {
-        20 | 21 if head.width == 0 => None,
-        0..=31 if 0 < head.width => Some(Fault::Malformed),
+    match head.info {
+        20..=22 | 25..=27 => None,
+        24 if argument(head) < 32 => Some(Fault::Malformed),
+        31 => Some(Fault::Malformed),
         _ => Some(Fault::Simple),
     }
 }
 
-/// The fault of a null in two bytes.
-fn null_fault(head: &Head) -> Option<Fault> {
-    if 0 < head.width {
-        Some(Fault::Malformed)
-    } else {
-        None
-    }
-}
-
-/// The content of a string whose head this is, where these bytes stand behind it; nothing of another item.
+/// The content of a string whose head this is, where these bytes are behind it; nothing of another item.
 pub(crate) fn content<'a>(head: &Head, rest: &'a [u8]) -> &'a [u8] {
-    match head.form {
-        Form::Bytes | Form::Text => {
-            let count = head.number.min(rest.len() as u64) as usize;
+    match head.major_type {
+        MajorType::Bytes | MajorType::Text => {
+            let count = argument(head).min(rest.len() as u64) as usize;
             let (content, _) = rest.split_at(count);
             content
         }

@@ -1,13 +1,14 @@
-//! Where the fault stands for which a type's reading refused the bytes.
+//! Where the fault is for which a type's reading refused the bytes.
 
+use crate::faults::Fault;
 use crate::frame::{Container, Frame};
-use crate::head::{integer, is_integer, kind_name};
+use crate::head::{integer, is_integer, kind_name, tag};
 use crate::role::{Message, Part, Role, is_private, name_of};
 use coset::cbor::de::{Error, Pull};
+use coset::cbor::head::{Head, MajorType};
 use coset::cbor::value::Integer;
 use coset::iana::{EnumI64, HeaderParameter};
 use coset::{CborSerializable, CoseError, CoseSignature, Header};
-use coset_fault::{Fault, Form, Head};
 use std::alloc::{AllocError, Global};
 use std::collections::BTreeMap;
 
@@ -42,7 +43,7 @@ enum Sought {
 #[derive(Drop)]
 pub(crate) struct Hunt<'e> {
     sought: Sought,
-    /// The error that tells of it.
+    /// The error that names it.
     error: Option<&'e CoseError>,
     /// Labels by the map that they came in, each with its index there.
     labels: BTreeMap<String, usize>,
@@ -50,14 +51,12 @@ pub(crate) struct Hunt<'e> {
     pub(crate) earlier: Option<usize>,
 }
 
-/// Whether an item with this head may stand at the place.
+/// Whether an item with this head may be at the place.
 fn fits(frame: &Frame, role: Role, head: &Head) -> bool {
     match role {
         Role::Message(_, _) | Role::Signature => {
-            head.form == Form::Array
-                || (head.form == Form::Tag
-                    && frame.container == Container::Input
-                    && tag_of(role) == head.number)
+            head.major_type == MajorType::Array
+                || (frame.container == Container::Input && tag(head) == Some(tag_of(role)))
         }
         Role::Signatures
         | Role::Countersignatures
@@ -68,16 +67,16 @@ fn fits(frame: &Frame, role: Role, head: &Head) -> bool {
         | Role::KeySet
         | Role::Context
         | Role::Party
-        | Role::PublicInformation => head.form == Form::Array,
-        Role::Header(_) | Role::Key | Role::Claims => head.form == Form::Map,
-        Role::Protected | Role::Bytes | Role::FilledBytes => head.form == Form::Bytes,
+        | Role::PublicInformation => head.major_type == MajorType::Array,
+        Role::Header(_) | Role::Key | Role::Claims => head.major_type == MajorType::Map,
+        Role::Protected | Role::Bytes | Role::FilledBytes => head.major_type == MajorType::Bytes,
         Role::Payload(_) | Role::MaybeBytes => {
-            head.form == Form::Bytes || head.form == Form::Null
+            head.major_type == MajorType::Bytes || head.is_null()
         }
-        Role::Nonce => { head.form == Form::Bytes || head.form == Form::Null || is_integer(head) }
-        Role::Text => head.form == Form::Text,
+        Role::Nonce => { head.major_type == MajorType::Bytes || head.is_null() || is_integer(head) }
+        Role::Text => head.major_type == MajorType::Text,
         Role::Length => is_integer(head),
-        Role::Expiry | Role::Start | Role::Time => is_integer(head) || head.form == Form::Float,
+        Role::Expiry | Role::Start | Role::Time => is_integer(head) || head.is_float(),
         Role::CriticalLabel
         | Role::Algorithm
         | Role::ContentFormat
@@ -85,7 +84,7 @@ fn fits(frame: &Frame, role: Role, head: &Head) -> bool {
         | Role::Operation
         | Role::HeaderLabel(_)
         | Role::KeyLabel(_)
-        | Role::ClaimName => is_integer(head) || head.form == Form::Text,
+        | Role::ClaimName => is_integer(head) || head.major_type == MajorType::Text,
         _ => true,
     }
 }
@@ -103,10 +102,10 @@ fn tag_of(role: Role) -> u64 {
     }
 }
 
-/// How many elements the array with this head has, which stands at the front of the bytes.
+/// How many elements the array with this head has, which is at the front of the bytes.
 fn count_of(head: &Head, bytes: &[u8]) -> u64 {
-    if !head.is_open {
-        return head.number;
+    if let Some(count) = head.number() {
+        return count;
     }
     let Ok((pull, _)) = Pull::new(bytes) else {
         return 0;
@@ -156,7 +155,7 @@ fn lacking(role: Role, head: &Head, bytes: &[u8]) -> Option<&'static str> {
     }
     match role {
         Role::FilledBytes if is_empty(head, bytes) => Some("empty bstr"),
-        Role::ContentFormat if head.form == Form::Text && is_empty(head, bytes) => {
+        Role::ContentFormat if head.major_type == MajorType::Text && is_empty(head, bytes) => {
             Some("empty tstr")
         }
         Role::Countersignatures if is_empty(head, bytes) => Some("empty sig array"),
@@ -165,16 +164,18 @@ fn lacking(role: Role, head: &Head, bytes: &[u8]) -> Option<&'static str> {
     }
 }
 
-/// Whether the array or the string with this head, which stands at the front of the bytes, holds nothing.
+/// Whether the array or the string with this head, which is at the front of the bytes, holds nothing.
 fn is_empty(head: &Head, bytes: &[u8]) -> bool {
-    match head.form {
-        Form::Array => count_of(head, bytes) == 0,
-        _ if head.is_open => content_length(bytes) == 0,
-        _ => head.number == 0,
+    if head.major_type == MajorType::Array {
+        return count_of(head, bytes) == 0;
+    }
+    match head.number() {
+        Some(length) => length == 0,
+        None => content_length(bytes) == 0,
     }
 }
 
-/// How long the string in chunks is that stands at the front.
+/// How long the string in chunks is that is at the front.
 fn content_length(bytes: &[u8]) -> u64 {
     let Ok((pull, _)) = Pull::new(bytes) else {
         return 0;
@@ -193,7 +194,7 @@ fn content_length(bytes: &[u8]) -> u64 {
     length as u64
 }
 
-/// Whether an error asks for this where an item with this role stands.
+/// Whether an error asks for this where an item with this role is.
 fn asks(role: Role, want: &str) -> bool {
     match want {
         "bstr" => matches!(
@@ -212,12 +213,12 @@ fn asks(role: Role, want: &str) -> bool {
     }
 }
 
-/// What an item is called that may not stand at its place; `None` of one that may.
+/// What an item is called that may not be at its place; `None` of one that may.
 fn unexpected(frame: &Frame, role: Role, head: &Head, bytes: &[u8]) -> Option<&'static str> {
     if !fits(frame, role, head) {
         return Some(kind_name(head));
     }
-    if head.form == Form::Array && !has_count(role, count_of(head, bytes)) {
+    if head.major_type == MajorType::Array && !has_count(role, count_of(head, bytes)) {
         return Some("array");
     }
     lacking(role, head, bytes)
@@ -245,7 +246,7 @@ fn is_bounded(role: Role) -> bool {
 /// Whether an integer is outside of the range of its role.
 fn is_out_of_range(role: Role, head: &Head) -> bool {
     if role == Role::Length {
-        return head.form == Form::Negative;
+        return head.major_type == MajorType::Negative;
     }
     is_bounded(role) && is_integer(head) && integer(head).is_none()
 }
@@ -332,7 +333,7 @@ fn is_unregistered(role: Role, head: &Head, has_private: bool) -> bool {
 }
 
 impl<'e> Hunt<'e> {
-    /// The fault that the error tells of.
+    /// The fault that the error names.
     pub(crate) fn of(alloc: Global, error: Option<&'e CoseError>) -> Hunt<'e> {
         let sought = match error {
             Some(CoseError::UnexpectedItem(got, want)) => match *got {
@@ -358,7 +359,7 @@ impl<'e> Hunt<'e> {
         }
     }
 
-    /// The fault that is sought, where the item with this head, which stands at the front of these bytes, is at fault.
+    /// The fault that is sought, where the item with this head, which is at the front of these bytes, is at fault.
     ///
     /// # Errors
     /// `AllocError` alone.
@@ -374,7 +375,7 @@ impl<'e> Hunt<'e> {
             return Ok(None);
         }
         let role = part.role;
-        if role == Role::Protected && head.form == Form::Bytes && head.is_open {
+        if role == Role::Protected && head.major_type == MajorType::Bytes && head.is_indefinite() {
             return self.in_chunks(alloc, bytes);
         }
         let found = match self.sought {

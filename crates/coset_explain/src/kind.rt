@@ -5,14 +5,15 @@ ghost use Rattle.coset.specs.PerhapsTagged.{perhaps_tagged};
 ghost use Rattle.coset_explain.specs.Kind.{kind_name, is_by_tag, Names};
 ghost use Rattle.coset_explain.specs.Refusal.{Judges, JudgesNamed, JudgesAs};
 
+use crate::head::tag;
 use crate::role::{Message, Role};
+use coset::cbor::head::read_head;
 use coset::cbor::value::Value;
 use coset::cwt::ClaimsSet;
 use coset::{
     CborSerializable, CoseCountersignature, CoseEncrypt, CoseEncrypt0, CoseError, CoseKdfContext,
     CoseKey, CoseKeySet, CoseMac, CoseMac0, CoseSign, CoseSign1, TaggedCborSerializable,
 };
-use coset_fault::{Form, head_of};
 use std::alloc::Global;
 
 /// What bytes should be.
@@ -53,8 +54,8 @@ pub enum Kind {
 fn without_tag(number: u64, bytes: &[u8]) -> &[u8]
     ensures { (front : List ℕ) × (bytes.now ≡ front ++ result.now) }
 {
-    match head_of(bytes) {
-        Ok((head, rest)) if head.form == Form::Tag && head.number == number => rest,
+    match read_head(bytes) {
+        Ok((head, rest)) if tag(&head) == Some(number) => rest,
         _ => bytes,
     }
 }
@@ -109,18 +110,17 @@ impl Kind {
 
     /// The kind that the tag at the front says (RFC 8152, table 1).
     fn by_tag(bytes: &[u8]) -> Kind {
-        let number = match head_of(bytes) {
-            Ok((head, _)) if head.form == Form::Tag => head.number,
-            _ => return Kind::Value,
+        let Ok((head, _)) = read_head(bytes) else {
+            return Kind::Value;
         };
-        match number {
-            16 => Kind::Encrypt0,
-            17 => Kind::Mac0,
-            18 => Kind::Sign1,
-            19 => Kind::Countersignature,
-            96 => Kind::Encrypt,
-            97 => Kind::Mac,
-            98 => Kind::Sign,
+        match tag(&head) {
+            Some(16) => Kind::Encrypt0,
+            Some(17) => Kind::Mac0,
+            Some(18) => Kind::Sign1,
+            Some(19) => Kind::Countersignature,
+            Some(96) => Kind::Encrypt,
+            Some(97) => Kind::Mac,
+            Some(98) => Kind::Sign,
             _ => Kind::Value,
         }
     }
@@ -146,7 +146,7 @@ impl Kind {
     }
 
     /// The kind by name, and the bytes that should be of it: of a kind whose tag says what it is, the kind that the tag
-    /// says, and what stands behind tag 61.
+    /// says, and what follows tag 61.
     pub(crate) fn named(self, bytes: &[u8]) -> (Kind, &[u8])
         ensures { Names self bytes.now result.0 result.1.now }
     {

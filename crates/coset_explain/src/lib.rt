@@ -1,10 +1,11 @@
 //! A COSE message, a key, a set of keys, claims, or any CBOR, taken apart for whoever debugs it: diagnostic notation (RFC
-//! 8949, section 8) line by line, each beside the bytes that it tells of.
+//! 8949, section 8) line by line, each beside the bytes that it shows.
 #![tactic(auto)]
 
 mod apart;
 mod column;
 mod date;
+mod faults;
 mod frame;
 mod head;
 mod hunt;
@@ -21,7 +22,8 @@ mod walk;
 
 pub use apart::{Explained, Place, Refusal, explain, fault};
 pub use column::Line;
-pub use coset_fault::{Fault, Step};
+pub use coset_fault::Step;
+pub use faults::Fault;
 pub use kind::Kind;
 pub use print::{annotated, notation};
 pub use structures::{annotated_structures, structure};

@@ -2,17 +2,17 @@
 
 use crate::date::{has_date, push_date};
 use crate::frame::{Container, Frame};
-use crate::head::{integer, is_shortest};
+use crate::head::{argument, integer, is_shortest};
 use crate::role::{Message, Part, Role, is_private, is_registered, name_of, title};
 use crate::text::is_nan;
-use coset_fault::{Form, Head};
+use coset::cbor::head::{Head, MajorType};
 use std::alloc::AllocError;
 
 /// The note of a line, to which pieces are added.
 #[derive(Drop)]
 struct Notes<'a> {
     text: &'a mut String,
-    /// What stands between the note so far and the next piece.
+    /// What is between the note so far and the next piece.
     separator: &'static str,
 }
 
@@ -101,18 +101,18 @@ fn coverage(frame: &Frame) -> &'static str {
 /// That the payload or the ciphertext is detached, with `nil` in its place (RFC 8152, section 4.1); it may be empty.
 fn detached(frame: &Frame, head: &Head) -> &'static str {
     match (frame.role, frame.index) {
-        (Role::Message(_, _), 2) if head.form == Form::Null => "detached",
+        (Role::Message(_, _), 2) if head.is_null() => "detached",
         _ => "",
     }
 }
 
 /// Adds the bits of a NaN, whose payload diagnostic notation doesn't show (RFC 8949, section 8).
 fn add_bits(notes: &mut Notes<'_>, head: &Head) -> Result<(), AllocError> {
-    if head.form != Form::Float || !is_nan(head) {
+    if !head.is_float() || !is_nan(head) {
         return Ok(());
     }
     notes.begin()?;
-    let number = head.number;
+    let number = argument(head);
     write!(notes.text, "bits 0x{number:x}")
 }
 
@@ -140,14 +140,14 @@ pub(crate) fn push(
         notes.add_date(part.role, number, now)?;
     }
     notes.add(unprotected(frame, part.role))?;
-    if head.form == Form::Array || head.form == Form::Map {
+    if head.major_type == MajorType::Array || head.major_type == MajorType::Map {
         notes.add(title(part.role))?;
     }
-    if part.role == Role::Protected && head.form == Form::Bytes && head.is_open {
+    if part.role == Role::Protected && head.major_type == MajorType::Bytes && head.is_indefinite() {
         notes.add("in chunks, and not opened")?;
     }
     add_bits(&mut notes, head)?;
-    if head.form != Form::Float && !is_shortest(head) {
+    if !head.is_float() && !is_shortest(head) {
         notes.add("not the shortest head")?;
     }
     Ok(())

@@ -1,12 +1,12 @@
 //! What items with parts open, and what opens them in diagnostic notation.
 
 use crate::frame::{Container, Frame, begins_break, content};
-use crate::head::behind;
+use crate::head::{argument, behind};
 use crate::role::{Part, Role, under_tag};
 use crate::text::{told_width, width_mark};
 use coset::cbor::de::Pull;
+use coset::cbor::head::{Head, MajorType};
 use coset::cbor::value::Integer;
-use coset_fault::{Form, Head};
 use std::alloc::AllocError;
 
 /// How many items a map of this many pairs holds.
@@ -20,7 +20,7 @@ fn items(pairs: Option<u64>) -> Option<u64> {
 /// What an item with this part and this head is for, where these bytes follow: countersignatures that begin with a byte string
 /// are one.
 pub(crate) fn opened_part(part: Part, head: &Head, rest: &[u8]) -> Part {
-    let has_first = head.form == Form::Array && (head.is_open || 0 < head.number);
+    let has_first = head.major_type == MajorType::Array && head.number() != Some(0);
     if part.role != Role::Countersignatures || !has_first {
         return part;
     }
@@ -34,7 +34,7 @@ pub(crate) fn opened_part(part: Part, head: &Head, rest: &[u8]) -> Part {
     }
 }
 
-/// The type of the key that stands at the front of the bytes, where it is a number (RFC 8152, section 7.1).
+/// The type of the key at the front of the bytes, where it is a number (RFC 8152, section 7.1).
 fn key_type_of(bytes: &[u8]) -> Option<i64> {
     let (pull, _) = Pull::new(bytes).ok()?;
     for (label, value) in pull.pairs()? {
@@ -54,7 +54,7 @@ fn opened_map(opened: Frame, bytes: &[u8]) -> Frame {
     }
 }
 
-/// What the item with this head, which stands at the front of these bytes, opens; `None` where it has no parts to show. The
+/// What the item with this head, which is at the front of these bytes, opens; `None` where it has no parts to show. The
 /// content of a protected byte string is opened where it is one item, or what is sought is in it.
 pub(crate) fn opening(
     frame: &Frame,
@@ -64,13 +64,9 @@ pub(crate) fn opening(
     is_sought: bool,
 ) -> Option<Frame> {
     let rest = behind(head, bytes);
-    let announced = if head.is_open {
-        None
-    } else {
-        Some(head.number)
-    };
-    match head.form {
-        Form::Array if announced != Some(0) => {
+    let announced = head.number();
+    match head.major_type {
+        MajorType::Array if announced != Some(0) => {
             Some(frame.nested(
                 Container::Array,
                 opened_part(part, head, rest),
@@ -78,23 +74,23 @@ pub(crate) fn opening(
                 rest.len(),
             ))
         }
-        Form::Map if announced != Some(0) => {
+        MajorType::Map if announced != Some(0) => {
             let opened = frame.nested(Container::Map, part, items(announced), rest.len());
             Some(opened_map(opened, bytes))
         }
-        Form::Tag => {
+        MajorType::Tag => {
             let part = Part {
-                role: under_tag(part.role, head.number),
+                role: under_tag(part.role, argument(head)),
                 name: "",
                 is_read: part.is_read,
             };
             Some(frame.nested(Container::Tag, part, Some(1), 0))
         }
-        Form::Bytes | Form::Text if head.is_open && !begins_break(rest) => {
+        MajorType::Bytes | MajorType::Text if announced.is_none() && !begins_break(rest) => {
             let part = Part::named(Role::Plain, "");
-            Some(frame.nested(Container::Chunks(head.form), part, None, 0))
+            Some(frame.nested(Container::Chunks(head.major_type), part, None, 0))
         }
-        Form::Bytes => embedding(frame, part, head, rest, is_sought),
+        MajorType::Bytes => embedding(frame, part, head, rest, is_sought),
         _ => None,
     }
 }
@@ -147,7 +143,7 @@ pub(crate) fn push_opening(
 ) -> Result<(), AllocError> {
     match opened.container {
         Container::Tag => {
-            let number = head.number;
+            let number = argument(head);
             write!(text, "{number}")?;
             text.push_str(width_mark(told_width(head)))?;
             text.push('(')
@@ -162,7 +158,7 @@ pub(crate) fn push_opening(
 /// Adds the bracket that opens an array or a map.
 fn push_bracket(text: &mut String, bracket: char, head: &Head) -> Result<(), AllocError> {
     text.push(bracket)?;
-    if head.is_open {
+    if head.is_indefinite() {
         text.push('_')
     } else {
         text.push_str(width_mark(told_width(head)))

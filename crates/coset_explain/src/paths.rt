@@ -1,9 +1,10 @@
-//! How a place is come to: the steps there, and the path that is told.
+//! How a place is reached: the steps there, and the path that is shown.
 
 use crate::frame::{Container, Frame, content};
 use crate::role::place;
 use crate::text::push_leaf;
-use coset_fault::{Form, Step, head_of};
+use coset::cbor::head::{MajorType, read_head};
+use coset_fault::Step;
 use std::alloc::{AllocError, Global};
 
 /// The step from what is open to the item in it that comes next; `None` from the input, which is no item.
@@ -21,7 +22,7 @@ fn step(frame: &Frame) -> Option<Step> {
         }
         Container::Tag => Some(Step::Enclosed),
         Container::Embedded => Some(Step::Content),
-        Container::Chunks(Form::Text) => Some(Step::TextChunk(index)),
+        Container::Chunks(MajorType::Text) => Some(Step::TextChunk(index)),
         Container::Chunks(_) => Some(Step::ByteChunk(index)),
     }
 }
@@ -33,8 +34,8 @@ fn before(frame: &Frame) -> Frame {
     frame
 }
 
-/// What is open, from the input on, with the item in it that leads on to the place, or stands there: so many bytes of the input
-/// stand from that on.
+/// What is open, from the input on, with the item in it that leads on to the place, or is there: so many bytes of the input
+/// are from that on.
 fn frames(alloc: Global, open: &[Frame], left: usize) -> Result<Vec<Frame>, AllocError> {
     let mut frames = Vec::new(alloc);
     if let Some((last, outer)) = open.split_last() {
@@ -50,7 +51,7 @@ fn frames(alloc: Global, open: &[Frame], left: usize) -> Result<Vec<Frame>, Allo
     Ok(frames)
 }
 
-/// The steps to the next item of the last that is open, or to what stands behind the one item.
+/// The steps to the next item of the last that is open, or to what follows the one item.
 ///
 /// # Errors
 /// `AllocError` alone.
@@ -83,10 +84,10 @@ fn push_label(alloc: Global, path: &mut String, bytes: &[u8]) -> Result<(), Allo
 
 /// Adds an item without parts, with which the bytes begin, and nothing of another.
 fn push_leaf_at(alloc: Global, path: &mut String, bytes: &[u8]) -> Result<(), AllocError> {
-    match head_of(bytes) {
-        Ok((head, rest)) => match head.form {
-            Form::Array | Form::Map | Form::Tag | Form::Break => Ok(()),
-            _ if head.is_open => Ok(()),
+    match read_head(bytes) {
+        Ok((head, rest)) => match head.major_type {
+            MajorType::Array | MajorType::Map | MajorType::Tag => Ok(()),
+            _ if head.is_indefinite() => Ok(()),
             _ => push_leaf(alloc, path, &head, content(&head, rest)),
         },
         Err(_) => Ok(()),
@@ -124,7 +125,7 @@ fn push_step(
     }
 }
 
-/// The path to the next item of the last that is open, from which on so many of the bytes stand: `.` and a label or the name of
+/// The path to the next item of the last that is open, from which on there are so many of the bytes: `.` and a label or the name of
 /// an element, `[` an index `]`, `{` a label `}` for that label itself, `()` for what a tag encloses, `<<>>` for what a byte
 /// string holds, `(_` an index `)` for a chunk. It is `.` for the whole.
 ///

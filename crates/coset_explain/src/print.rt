@@ -3,10 +3,10 @@
 use crate::column::Line;
 use std::alloc::{AllocError, Global};
 
-/// How many bytes stand in a row.
+/// How many bytes are in a row.
 const BYTES: usize = 16;
 
-/// How many of the things that a line stands in are seen by its indentation.
+/// How many of the things that a line is in are seen by its indentation.
 const STEPS: usize = 32;
 
 /// Adds the indentation of a line.

@@ -20,9 +20,9 @@ pub(crate) enum Message {
 /// What an item is for.
 #[derive(Clone, Copy, Debug, PartialEq, Eq)]
 pub(crate) enum Role {
-    /// Nothing is known, and tags tell nothing.
+    /// Nothing is known, and tags say nothing.
     Plain,
-    /// Nothing is known but what tags tell.
+    /// Nothing is known but what tags say.
     Any,
     /// What tag 61 encloses (RFC 8392, section 6).
     Token,
@@ -296,7 +296,7 @@ pub(crate) fn name_of(role: Role, number: i64) -> Option<&'static str> {
     }
 }
 
-/// The name of a member of the claim `cnf` (RFC 8747, section 3.1).
+/// The name of an element of the claim `cnf` (RFC 8747, section 3.1).
 fn confirmation(number: i64) -> Option<&'static str> {
     match number {
         1 => Some("COSE_Key"),

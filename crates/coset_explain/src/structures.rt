@@ -155,7 +155,7 @@ fn note(alloc: Global, kind: Kind, index: usize, structure: &[u8]) -> Result<Str
 }
 
 /// What the signatures or the MAC of a message are over, or what goes with its ciphertext, as comments for under the lines,
-/// one for each of up to four signatures; nothing where [`structure`] answers `None`.
+/// one for each of up to four signatures; nothing where [`structure`] returns `None`.
 ///
 /// # Errors
 /// `AllocError` alone.

@@ -1,7 +1,7 @@
 //! Diagnostic notation of what has no parts (RFC 8949, section 8).
 
-use crate::head::is_shortest;
-use coset_fault::{Form, Head};
+use crate::head::{argument, is_shortest};
+use coset::cbor::head::{Head, MajorType};
 use std::alloc::{AllocError, Global};
 use std::num::{f32_from_bits_with_nan, f64_from_bits_with_nan};
 
@@ -83,20 +83,22 @@ fn half_value(half: u16) -> f64 {
 
 /// The value of a float that is finite.
 fn float_value(head: &Head) -> f64 {
-    match head.width {
-        2 => half_value((head.number % 65_536) as u16),
-        4 => f64::from(f32_from_bits_with_nan((head.number % 4_294_967_296) as u32)),
-        _ => f64_from_bits_with_nan(head.number),
+    let number = argument(head);
+    match head.width() {
+        2 => half_value((number % 65_536) as u16),
+        4 => f64::from(f32_from_bits_with_nan((number % 4_294_967_296) as u32)),
+        _ => f64_from_bits_with_nan(number),
     }
 }
 
 /// How a float is spelled that is no finite number; `None` of others.
 fn special(head: &Head) -> Option<&'static str> {
-    let (bits, sign, infinity) = match head.width {
-        2 => (head.number % 32_768, 32_768, 0x7c00),
-        4 => (head.number % 2_147_483_648, 2_147_483_648, 0x7f80_0000),
+    let number = argument(head);
+    let (bits, sign, infinity) = match head.width() {
+        2 => (number % 32_768, 32_768, 0x7c00),
+        4 => (number % 2_147_483_648, 2_147_483_648, 0x7f80_0000),
         _ => (
-            head.number % 0x8000_0000_0000_0000,
+            number % 0x8000_0000_0000_0000,
             0x8000_0000_0000_0000,
             0x7ff0_0000_0000_0000,
         ),
@@ -105,7 +107,7 @@ fn special(head: &Head) -> Option<&'static str> {
         None
     } else if infinity < bits {
         Some("NaN")
-    } else if head.number < sign {
+    } else if number < sign {
         Some("Infinity")
     } else {
         Some("-Infinity")
@@ -139,16 +141,16 @@ fn push_simple(text: &mut String, number: u64) -> Result<(), AllocError> {
     }
 }
 
-/// The width of a head that is told: of one that isn't the shortest, and of a float's; else 0.
+/// The width of a head that is shown: of one that isn't the shortest, and of a float's; else 0.
 pub(crate) fn told_width(head: &Head) -> u8 {
-    if head.form != Form::Float && is_shortest(head) {
+    if !head.is_float() && is_shortest(head) {
         0
     } else {
-        head.width
+        head.width()
     }
 }
 
-/// How a width is told (RFC 8949, section 8.1); it may be empty.
+/// How a width is shown (RFC 8949, section 8.1); it may be empty.
 pub(crate) fn width_mark(width: u8) -> &'static str {
     match width {
         1 => "_0",
@@ -170,33 +172,33 @@ pub(crate) fn push_leaf(
     head: &Head,
     content: &[u8],
 ) -> Result<(), AllocError> {
-    if head.is_open {
-        return text.push_str(if head.form == Form::Text {
+    if head.is_indefinite() {
+        return text.push_str(if head.major_type == MajorType::Text {
             "\"\"_"
         } else {
             "''_"
         });
     }
-    match head.form {
-        Form::Unsigned => {
-            let number = head.number;
+    match head.major_type {
+        MajorType::Unsigned => {
+            let number = argument(head);
             write!(text, "{number}")?;
         }
-        Form::Negative => push_negative(text, head.number)?,
-        Form::Bytes => push_bytes(alloc, text, content)?,
-        Form::Text => push_text(text, content)?,
-        Form::Array => {
+        MajorType::Negative => push_negative(text, argument(head))?,
+        MajorType::Bytes => push_bytes(alloc, text, content)?,
+        MajorType::Text => push_text(text, content)?,
+        MajorType::Array => {
             text.push('[')?;
             text.push_str(width_mark(told_width(head)))?;
             return text.push(']');
         }
-        Form::Map => {
+        MajorType::Map => {
             text.push('{')?;
             text.push_str(width_mark(told_width(head)))?;
             return text.push('}');
         }
-        Form::Float => push_float(text, head)?,
-        Form::Simple | Form::Null | Form::Break | Form::Tag => push_simple(text, head.number)?,
+        MajorType::Simple if head.is_float() => push_float(text, head)?,
+        MajorType::Simple | MajorType::Tag => push_simple(text, argument(head))?,
     }
     text.push_str(width_mark(told_width(head)))
 }

@@ -5,20 +5,22 @@ ghost use Rattle.std.specs.Prelude.{◌≡◌, ◌≤◌, ◌+◌, ◌*◌, IfOk
 ghost use Rattle.coset_explain.specs.Column.{whole, shown};
 
 use crate::column::Column;
+use crate::faults::Fault;
 use crate::frame::{Container, Frame, content};
+use crate::head::head_fault;
 use crate::hunt::Hunt;
 use crate::note;
 use crate::opening::{opened_part, opening, push_opening};
 use crate::role::Role;
 use crate::text::{push_leaf, width_mark};
-use coset_fault::{Fault, Head, head_of};
+use coset::cbor::head::{Head, read_head};
 use std::alloc::{AllocError, Global};
 
 /// A place in the walk.
 #[derive(Drop)]
 pub(crate) struct Walk<'a, 'e> {
     pub(crate) column: Column<'a>,
-    /// What is open, from the input on; where the walk ended for a fault, the last is where that stands.
+    /// What is open, from the input on; where the walk ended for a fault, the last is where that is.
     pub(crate) open: Vec<Frame>,
     /// What is sought.
     pub(crate) hunt: Hunt<'e>,
@@ -73,9 +75,9 @@ impl<'a, 'e> Walk<'a, 'e> {
         if frame.has_ended(bytes) {
             return self.close(alloc, frame, bytes);
         }
-        match head_of(bytes) {
+        match read_head(bytes) {
             Ok((head, rest)) => self.item(alloc, frame, &head, bytes, rest),
-            Err(fault) => self.stop(frame, fault),
+            Err(error) => self.stop(frame, head_fault(&error)),
         }
     }
 
@@ -112,7 +114,7 @@ impl<'a, 'e> Walk<'a, 'e> {
         Ok(true)
     }
 
-    /// What stands behind what was closed.
+    /// What follows what was closed.
     fn mark_behind(&self) -> &'static str {
         match self.open.last() {
             Some(frame) => frame.mark(within(&self.column, frame)),
@@ -182,9 +184,9 @@ impl<'a, 'e> Walk<'a, 'e> {
     {
         let content = content(head, rest);
         push_leaf(alloc, &mut self.column.text, head, content)?;
-        self.column.hold(head.size);
+        self.column.hold(head.size());
         self.column.hold(content.len());
-        if head.is_open {
+        if head.is_indefinite() {
             // A string in chunks, of which there are none: what ends it.
             self.column.hold(1);
         }
@@ -211,7 +213,7 @@ impl<'a, 'e> Walk<'a, 'e> {
         ensures lines { OnOk result (shown self.new.column ≤ shown self.old.column + 1) }
     {
         push_opening(&mut self.column.text, &opened, head)?;
-        self.column.hold(head.size);
+        self.column.hold(head.size());
         let depth = self.open.len();
         self.open.push(passed)?;
         self.open.push(opened)?;

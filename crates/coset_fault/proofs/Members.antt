@@ -1,13 +1,15 @@
--- Members behind a head, one after the other.
-use Rattle.std.proofs.Common.{◌≡◌, ℕ, suc, ◌+◌, ◌-◌, List, [], ◌++◌, length, refl, sym, ap, subst, ◌∙◌, append_assoc, arith}
+-- Elements behind a head, one after the other.
+use Rattle.std.proofs.Common.{◌≡◌, ℕ, suc, ◌+◌, ◌-◌, List, [], ◌∷◌, ◌++◌, length, Option, Some, refl, sym, ap, subst, ◌∙◌, append_assoc, arith}
 use Rattle.std.proofs.Common.{inl, inr}
 use Rattle.std.proofs.lemmas.List.{append-nil, length-append}
 use Rattle.coset.specs.Item.{Item, Items, no_items, item, items_count}
-use Rattle.coset.specs.Grammar.{AreEncodings, IsEncoding}
-use Rattle.coset_fault.specs.Heads.{BeginsWith, type_of}
-use Rattle.coset_fault.specs.Steps.{Announces, Opening, Opens, Passes, Splits}
-use Rattle.coset_fault.specs.declared.head.Form.{Form}
-use Rattle.coset_fault.specs.declared.head.Head.{Head}
+use Rattle.coset.specs.Grammar.{AreEncodings, IsEncoding, IsHead}
+use Rattle.coset.specs.Head.{Head}
+use Rattle.coset.specs.Heads.{major_type_number}
+use Rattle.coset.specs.MajorType.{MajorType}
+use Rattle.coset.specs.MajorType.TheVariants.{Tag, Bytes}
+use Rattle.coset.specs.ReadHeads.{BeginsWithHead, IsHeadOf, head_number, initial_byte, width_of}
+use Rattle.coset_fault.specs.Steps.{Announces, Encloses, Holds, Opening, Opens, Passes, Splits}
 
 -- one more at the end
 abbrev and_item : Items → Item → Items
@@ -37,26 +39,57 @@ passes_one b n r p s v before is parts = record {
 
 -- ---- where steps lead
 
-opening : (b : List ℕ) (h : Head) (rest : List ℕ) (i : ℕ) (w : BeginsWith b h rest) → Announces h i → Opening (type_of h.form) i w.head
-opening b h rest i w (inl indefinite) = inr (w.indefinite indefinite)
-opening b h rest i w (inr closed) = inl (h.number, w.is_head closed.0, closed.1)
+-- a head with that argument
+pub is_headed :
+    (b : List ℕ) (h : Head) (rest : List ℕ) (n : ℕ) (w : BeginsWithHead b h rest) → head_number h ≡ Some n
+    → IsHead (major_type_number h.major_type) n (initial_byte h ∷ w.argument)
+is_headed b h rest n w is = subst (λ (o : Option ℕ). IsHeadOf (major_type_number h.major_type) o (initial_byte h ∷ w.argument)) is w.is_head
+
+opening :
+    (b : List ℕ) (h : Head) (rest : List ℕ) (i : ℕ) (w : BeginsWithHead b h rest) → Announces h i
+    → Opening (major_type_number h.major_type) i (initial_byte h ∷ w.argument)
+opening b h rest i w (inl none) = inr (subst (λ (o : Option ℕ). IsHeadOf (major_type_number h.major_type) o (initial_byte h ∷ w.argument)) none w.is_head)
+opening b h rest i w (inr (n, is, more)) = inl (n, is_headed b h rest n w is, more)
 
 pub opens :
-    (b : List ℕ) (h : Head) (rest part : List ℕ) (form : Form) (i n : ℕ) → BeginsWith b h rest → h.form ≡ form → Announces h i → Passes rest i part
-    → n ≡ length b - length part → Splits (Opens (type_of form) i) b n part
-opens b h rest part form i n w same announced p is =
-    let parts : b ≡ (w.head ++ p.encodings) ++ part =
-    w.parts ∙ ap (λ (s : List ℕ). w.head ++ s) p.parts ∙ sym (append_assoc w.head p.encodings part) in
-    let len : length b ≡ length (w.head ++ p.encodings) + length part = ap length parts ∙ length-append (w.head ++ p.encodings) part in
-    subst (λ (f : Form). Splits (Opens (type_of f) i) b n part) same (
-      w.head ++ p.encodings,
+    (b : List ℕ) (h : Head) (rest part : List ℕ) (major_type : MajorType) (i n : ℕ) → BeginsWithHead b h rest → h.major_type ≡ major_type → Announces h i
+    → Passes rest i part → n ≡ length b - length part → Splits (Opens (major_type_number major_type) i) b n part
+opens b h rest part major_type i n w same announced p is =
+    let head = initial_byte h ∷ w.argument in
+    let parts : b ≡ (head ++ p.encodings) ++ part =
+    w.parts ∙ ap (λ (s : List ℕ). head ++ s) p.parts ∙ sym (append_assoc head p.encodings part) in
+    let len : length b ≡ length (head ++ p.encodings) + length part = ap length parts ∙ length-append (head ++ p.encodings) part in
+    subst (λ (m : MajorType). Splits (Opens (major_type_number m) i) b n part) same (
+      head ++ p.encodings,
       parts,
       omega (arith, len, is),
       record {
-        head = w.head;
+        head = head;
         opening = opening b h rest i w announced;
         members = p.encodings;
         passes = record { items = p.items; encodings = p.encodings; are = p.are; number = p.number; parts = sym (append-nil p.encodings) };
         parts = refl;
       },
     )
+
+pub encloses :
+    (b : List ℕ) (h : Head) (rest : List ℕ) (n size : ℕ) → BeginsWithHead b h rest → h.major_type ≡ Tag → head_number h ≡ Some n
+    → size ≡ 1 + width_of h.info → Splits Encloses b size rest
+encloses b h rest n size w same is len = (
+  initial_byte h ∷ w.argument,
+  w.parts,
+  omega (arith, w.width, len),
+  (n, subst (λ (m : MajorType). IsHead (major_type_number m) n (initial_byte h ∷ w.argument)) same (is_headed b h rest n w is)),
+)
+
+pub holds :
+    (b : List ℕ) (h : Head) (tail s rest : List ℕ) (n size : ℕ) → BeginsWithHead b h tail → h.major_type ≡ Bytes → head_number h ≡ Some n
+    → size ≡ 1 + width_of h.info → tail ≡ s ++ rest → length s ≡ n → Holds b size s
+holds b h tail s rest n size w same is len parts count = (
+  initial_byte h ∷ w.argument,
+  rest,
+  w.parts ∙ ap (λ (t : List ℕ). (initial_byte h ∷ w.argument) ++ t) parts,
+  omega (arith, w.width, len),
+  subst (λ (k : ℕ). IsHead 2 k (initial_byte h ∷ w.argument)) (sym count)
+      (subst (λ (m : MajorType). IsHead (major_type_number m) n (initial_byte h ∷ w.argument)) same (is_headed b h tail n w is)),
+)

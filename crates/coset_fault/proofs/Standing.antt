@@ -1,4 +1,4 @@
--- What stands at the front of bytes.
+-- What is at the front of bytes.
 use Rattle.std.proofs.Common.{ℕ, List, Result, Ok, Err, Bool}
 use Rattle.std.specs.Prelude.{IfOk, IsTrue}
 use Rattle.coset.specs.Item.{Item}
@@ -13,6 +13,6 @@ pub together : {P Q : Item → Type 0} {R : Item → Item → Type 0} (one other
     → StandTogether R one other
 together one other join (b, r, v, parts, is, p) (b2, r2, w, parts2, is2, q) = (b, r, v, parts, is, (b2, r2, w, parts2, is2, join v w p q))
 
--- an item that stands there, and more that is known of it
+-- an item that is there, and more that is known of it
 pub standing : {P Q : Item → Type 0} (t : List ℕ) → ((v : Item) → P v → Q v) → Stands P t → Stands Q t
 standing t goes (b, r, v, parts, is, p) = (b, r, v, parts, is, goes v p)

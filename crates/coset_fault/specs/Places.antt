@@ -1,5 +1,5 @@
--- What errors tell of, at the place where it stands.
-use Rattle.std.specs.Prelude.{◌≡◌, ◌⊎◌, ◌<◌, ◌<ℤ◌, ◌++◌, ◌-◌, ℕ, ℤ, pos, List, [], ◌∷◌, length, codes, Option, Some, true, false, FitsSigned}
+-- What errors name, at the place where it is.
+use Rattle.std.specs.Prelude.{◌≡◌, ◌⊎◌, ◌<◌, ◌<ℤ◌, ◌≤◌, ◌*◌, ◌++◌, ◌-◌, ℕ, ℤ, pos, List, [], ◌∷◌, length, codes, Option, Some, true, false, FitsSigned}
 use Rattle.std.specs.Int.{w64}
 use Rattle.std.specs.List.{slice_get}
 use Rattle.coset.specs.Answers.{DescribesNothing}
@@ -10,20 +10,23 @@ use Rattle.coset.specs.EndOfFile.{EndOfFile}
 use Rattle.coset.specs.Error as decoding
 use Rattle.coset.specs.Faults.{Ends, SyntaxAt, NoChunk, IsNotSupported, Nests}
 use Rattle.coset.specs.Grammar.{IsItem}
+use Rattle.coset.specs.Head.{Head}
 use Rattle.coset.specs.Headers.{header}
+use Rattle.coset.specs.Heads.{major_type_number}
 use Rattle.coset.specs.Item.{Item}
 use Rattle.coset.specs.Label.{Label}
 use Rattle.coset.specs.Labels.{label}
 use Rattle.coset.specs.Names.{Name, number}
 use Rattle.coset.specs.Parts.{as_bytes, as_integer}
-use Rattle.coset_label.specs.Views.{label_seen}
+use Rattle.coset.specs.ReadHeads.{head_number}
+use Rattle.coset_label.specs.Views.{label_view}
 use Rattle.coset_fault.specs.Called.{IsCalled}
 use Rattle.coset_fault.specs.Registries.{IsUnassigned, IsUnassignedAndNotPrivate}
 use Rattle.coset_fault.specs.Steps.{Goes, Leads, layers, levels}
 use Rattle.coset_fault.specs.declared.step.Step.{Step}
 use Rattle.coset_fault.specs.declared.step.Step.TheVariants.{Element, Key, ByteChunk, TextChunk, Behind}
 
--- an item stands at the front of t, and P tells of it and its bytes
+-- an item is at the front of t, and P holds of it and its bytes
 abbrev pub StandsAs : (List ℕ → Item → Type 0) → List ℕ → Type 0
 StandsAs P t = (b : List ℕ) × (rest : List ℕ) × (v : Item) × (t ≡ b ++ rest) × IsItem b v × P b v
 
@@ -35,6 +38,13 @@ Stands P t = StandsAs (λ b v. P v) t
 -- the last of the steps
 abbrev pub last_step : List Step → Option Step
 last_step steps = slice_get steps (length steps - 1)
+
+-- a string, an array or a map with that head needs more than so many bytes behind it
+abbrev pub AnnouncesMore : Head → ℕ → Type 0
+AnnouncesMore h left =
+    (n : ℕ) × (head_number h ≡ Some n)
+    × (((2 ≤ major_type_number h.major_type) × (major_type_number h.major_type ≤ 4) × (left < n))
+    ⊎ ((major_type_number h.major_type ≡ 5) × (left < 2 * n)))
 
 -- t begins with no chunk of the string that the last step leads to a chunk of
 abbrev pub BeginsNoChunk : Option Step → List ℕ → Type 0
@@ -61,7 +71,7 @@ IsMalformed (decoding.TheVariants.Semantic o s) steps t = IsNotSupported t
 IsMalformed decoding.TheVariants.RecursionLimitExceeded steps t = IsTooDeep steps t
 IsMalformed decoding.TheVariants.OutOfMemory steps t = ⊥
 
--- ---- what stands twice
+-- ---- what occurs twice
 
 -- an element or a key that comes before this one in the same array or map
 abbrev pub IsEarlier : Step → Step → Type 0
@@ -84,7 +94,7 @@ pub record AreTwo (b : List ℕ) (steps : List Step) (one other : List ℕ) : Ty
   pub goes_first : Goes first whole first_at one
   pub goes_last : Goes last whole last_at other
 
--- items stand at the fronts of both, which R relates
+-- items are at the fronts of both, which R relates
 abbrev pub StandTogether : (Item → Item → Type 0) → List ℕ → List ℕ → Type 0
 StandTogether R one other = Stands (λ v. Stands (R v) other) one
 
@@ -94,7 +104,7 @@ Repeats R b steps = (one : List ℕ) × (other : List ℕ) × AreTwo b steps one
 
 -- the item is that label
 abbrev pub IsLabel : Label → Item → Type 0
-IsLabel l v = label.describes v (label_seen l)
+IsLabel l v = label.describes v (label_view l)
 
 abbrev pub label_is : ℤ → Item → Type 0
 label_is i v = label.describes v (number i)
@@ -117,7 +127,7 @@ IsOutOfRange v = (z : ℤ) × (as_integer v ≡ Some z) × ((FitsSigned w64 z �
 abbrev pub BeginsCalled : List ℕ → List ℕ → Type 0
 BeginsCalled got t = StandsAs (IsCalled got) t
 
--- an item that is called so stands at the front of t; or a label that stands twice, or IV beside Partial IV
+-- an item that is called so is at the front of t; or a label that occurs twice, or IV beside Partial IV
 abbrev pub IsUnexpected : List ℕ → List ℕ → List Step → List ℕ → Type 0
 IsUnexpected got b steps t =
     BeginsCalled got t
@@ -129,7 +139,7 @@ HoldsNoHeader t = (rest : List ℕ) × (t ≡ 0x5F ∷ rest) × Stands (λ v. (s
 
 -- ---- places
 
--- what the error tells of stands at the front of t, to which the steps lead from the front of b
+-- what the error names is at the front of t, to which the steps lead from the front of b
 abbrev pub StandsThere : CoseError → List ℕ → List Step → List ℕ → Type 0
 StandsThere (DecodeFailed e) b steps t = IsMalformed e steps t
 StandsThere ExtraneousData b steps t = last_step steps ≡ Some Behind
@@ -141,6 +151,6 @@ StandsThere UnregisteredIanaNonPrivateValue b steps t = Stands IsUnassignedAndNo
 StandsThere EncodeFailed b steps t = ⊥
 StandsThere OutOfMemory b steps t = ⊥
 
--- the steps lead n bytes on from the front of b, and what the error tells of stands there, or in a byte string in chunks
+-- the steps lead n bytes on from the front of b, and what the error names is there, or in a byte string in chunks
 abbrev pub IsPlace : CoseError → List ℕ → List Step → ℕ → Type 0
 IsPlace e b steps n = (t : List ℕ) × Leads steps b n t × (StandsThere e b steps t ⊎ HoldsNoHeader t)

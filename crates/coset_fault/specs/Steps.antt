@@ -1,13 +1,14 @@
 -- Where steps lead in bytes, by the grammar of CBOR (RFC 8949, section 3).
-use Rattle.std.specs.Prelude.{◌≡◌, ◌≢◌, ◌⊎◌, ◌<◌, ◌+◌, ◌*◌, ℕ, suc, List, [], ◌∷◌, ◌++◌, length, true, false}
+use Rattle.std.specs.Prelude.{◌≡◌, ◌≢◌, ◌⊎◌, ◌<◌, ◌+◌, ◌*◌, ℕ, suc, List, [], ◌∷◌, ◌++◌, length, Some, None}
 use Rattle.coset.specs.Item.{Item, Items, items_count}
 use Rattle.coset.specs.Grammar.{AreEncodings, IsHead, IsItem}
-use Rattle.coset_fault.specs.Heads.{type_of}
-use Rattle.coset_fault.specs.declared.head.Head.{Head}
+use Rattle.coset.specs.Head.{Head}
+use Rattle.coset.specs.Heads.{major_type_number}
+use Rattle.coset.specs.ReadHeads.{head_number}
 use Rattle.coset_fault.specs.declared.step.Step.{Step}
 use Rattle.coset_fault.specs.declared.step.Step.TheVariants.{Element, Key, Value, Enclosed, ByteChunk, TextChunk, Content, Behind}
 
--- so many items stand at the front of b, and s behind them
+-- so many items are at the front of b, and s behind them
 pub record Passes (b : List ℕ) (count : ℕ) (s : List ℕ) : Type 0 where
   pub items : Items
   pub encodings : List ℕ
@@ -20,7 +21,7 @@ pub record Passes (b : List ℕ) (count : ℕ) (s : List ℕ) : Type 0 where
 abbrev pub Opening : ℕ → ℕ → List ℕ → Type 0
 Opening m i h = ((n : ℕ) × IsHead m n h × (((m ≡ 4) × (i < n)) ⊎ ((m ≡ 5) × (i < 2 * n)))) ⊎ (h ≡ (32 * m + 31) ∷ [])
 
--- o opens an array (type 4), a map (5) or a string in chunks (2, 3), and then has i of its members, not all
+-- o opens an array (type 4), a map (5) or a string in chunks (2, 3), and then has i of its elements, not all
 pub record Opens (m i : ℕ) (o : List ℕ) : Type 0 where
   pub head : List ℕ
   pub opening : Opening m i head
@@ -28,11 +29,14 @@ pub record Opens (m i : ℕ) (o : List ℕ) : Type 0 where
   pub passes : Passes members i []
   pub parts : o ≡ head ++ members
 
--- the head announces that member
+-- the head announces that element
 abbrev pub Announces : Head → ℕ → Type 0
-Announces h i = (h.is_open ≡ true) ⊎ ((h.is_open ≡ false) × (((type_of h.form ≡ 4) × (i < h.number)) ⊎ ((type_of h.form ≡ 5) × (i < 2 * h.number))))
+Announces h i =
+    (head_number h ≡ None)
+    ⊎ ((n : ℕ) × (head_number h ≡ Some n)
+    × (((major_type_number h.major_type ≡ 4) × (i < n)) ⊎ ((major_type_number h.major_type ≡ 5) × (i < 2 * n))))
 
--- b is o and then s, of which P tells, and o are n bytes
+-- b is o and then s, of which P holds, and o are n bytes
 abbrev pub Splits : (List ℕ → Type 0) → List ℕ → ℕ → List ℕ → Type 0
 Splits P b n s = (o : List ℕ) × (b ≡ o ++ s) × (length o ≡ n) × P o
 

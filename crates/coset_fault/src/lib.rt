@@ -1,9 +1,6 @@
-//! Where a fault stands in bytes: places, the steps that lead to them, and whether what an error tells of stands there.
+//! Where a fault is in bytes: places, the steps that lead to them, and whether what an error names is there.
 #![tactic(auto)]
 
-mod argument;
-mod fault;
-mod head;
 mod label;
 mod malformed;
 mod place;
@@ -13,7 +10,5 @@ mod stands;
 mod step;
 mod unexpected;
 
-pub use fault::Fault;
-pub use head::{Form, Head, head_of};
 pub use place::fault_at;
 pub use step::{Step, follow};

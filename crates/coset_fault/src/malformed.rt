@@ -1,16 +1,14 @@
-//! Faults of CBOR, where they stand (RFC 8949, section 5.3).
+//! Faults of CBOR, where they are (RFC 8949, section 5.3).
 
 ghost use Rattle.std.specs.Prelude.{◌≡◌, IsTrue, []};
 ghost use Rattle.coset.specs.Faults.{Ends, IsNotSupported, Nests, NoChunk, SyntaxAt};
-ghost use Rattle.coset_fault.specs.Heads.{AnnouncesMore};
-ghost use Rattle.coset_fault.specs.Places.{BeginsNoChunk, IsByteString, IsMalformed, IsSyntaxFault, IsTooDeep, Stands, last_step};
+ghost use Rattle.coset_fault.specs.Places.{AnnouncesMore, BeginsNoChunk, IsByteString, IsMalformed, IsSyntaxFault, IsTooDeep, Stands, last_step};
 ghost use Rattle.coset_fault.specs.Steps.{layers, levels};
 
-use crate::fault::Fault;
-use crate::head::{Form, Head, head_of};
 use crate::step::Step;
 use coset::EndOfFile;
 use coset::cbor::de::{Error, Pull};
+use coset::cbor::head::{Head, MajorType, read_head};
 
 /// How deep arrays, maps and tags may nest in one item.
 const LEVELS: usize = 256;
@@ -22,21 +20,27 @@ const LAYERS: usize = 16;
 fn ends(bytes: &[u8]) -> bool
     ensures { IsTrue result → Ends bytes.now }
 {
-    match head_of(bytes) {
-        Ok((head, rest)) => !head.is_open && announces_more(&head, rest.len()),
-        Err(fault) => fault == Fault::Ends,
+    match read_head(bytes) {
+        Ok((head, rest)) => announces_more(head, rest.len()),
+        Err(error) => match &error {
+            Error::Io(_) => true,
+            _ => false,
+        },
     }
 }
 
 /// Whether the head announces more than so many bytes can be.
-fn announces_more(head: &Head, left: usize) -> bool
-    ensures { IsTrue result → AnnouncesMore head.now left }
+fn announces_more(head: Head, left: usize) -> bool
+    ensures { IsTrue result → AnnouncesMore head left }
 {
-    match head.form {
-        Form::Bytes => (left as u64) < head.number,
-        Form::Text => (left as u64) < head.number,
-        Form::Array => (left as u64) < head.number,
-        Form::Map => (left as u64) / 2 < head.number,
+    let Some(number) = head.number() else {
+        return false;
+    };
+    match head.major_type {
+        MajorType::Bytes => (left as u64) < number,
+        MajorType::Text => (left as u64) < number,
+        MajorType::Array => (left as u64) < number,
+        MajorType::Map => (left as u64) / 2 < number,
         _ => false,
     }
 }
@@ -89,7 +93,7 @@ fn is_syntax_fault_at_front(bytes: &[u8]) -> bool
     }
 }
 
-/// Whether a simple value stands at the front that isn't false, true or null.
+/// Whether a simple value is at the front that isn't false, true or null.
 fn is_not_supported(bytes: &[u8]) -> bool
     ensures { IsTrue result → IsNotSupported bytes.now }
 {
@@ -140,7 +144,7 @@ fn nests(bytes: &[u8]) -> bool
     }
 }
 
-/// Whether a byte string stands at the front.
+/// Whether a byte string is at the front.
 fn is_byte_string(bytes: &[u8]) -> bool
     ensures { IsTrue result → Stands IsByteString bytes.now }
 {
@@ -170,7 +174,7 @@ pub(crate) fn last_step(steps: &[Step]) -> Option<Step>
     }
 }
 
-/// Whether the fault of CBOR that the error tells of stands at the front of the bytes, to which the steps lead.
+/// Whether the fault of CBOR that the error names is at the front of the bytes, to which the steps lead.
 pub(crate) fn is_malformed(error: &Error<EndOfFile>, steps: &[Step], bytes: &[u8]) -> bool
     ensures { IsTrue result → IsMalformed error.now steps.now bytes.now }
 {

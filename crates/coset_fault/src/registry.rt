@@ -12,7 +12,7 @@ use coset::iana::{
     WithPrivateRange,
 };
 
-/// Whether an integer stands at the front that isn't one of 64 bits with a sign, or is negative.
+/// Whether an integer is at the front that isn't one of 64 bits with a sign, or is negative.
 pub(crate) fn is_out_of_range(bytes: &[u8]) -> bool
     ensures { IsTrue result → Stands IsOutOfRange bytes.now }
 {
@@ -53,7 +53,7 @@ fn has_no_name<T: EnumI64 + Drop>(number: i64) -> bool
     }
 }
 
-/// Whether an integer stands at the front that has no name in a registry without a private range: of formats of content, of
+/// Whether an integer is at the front that has no name in a registry without a private range: of formats of content, of
 /// types of keys, or of operations.
 pub(crate) fn is_unassigned(bytes: &[u8]) -> bool
     ensures { IsTrue result → Stands IsUnassigned bytes.now }
@@ -70,7 +70,7 @@ pub(crate) fn is_unassigned(bytes: &[u8]) -> bool
     has_no_name::<KeyOperation>(number)
 }
 
-/// Whether an integer stands at the front that has no name in a registry with a private range, and is outside of that: of
+/// Whether an integer is at the front that has no name in a registry with a private range, and is outside of that: of
 /// algorithms, of header parameters, or of claims.
 pub(crate) fn is_unassigned_and_not_private(bytes: &[u8]) -> bool
     ensures { IsTrue result → Stands IsUnassignedAndNotPrivate bytes.now }

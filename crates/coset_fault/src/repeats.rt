@@ -1,4 +1,4 @@
-//! What stands at a second place in an array or a map, and shouldn't.
+//! What is at a second place in an array or a map, and shouldn't.
 
 ghost use Rattle.std.specs.Prelude.{IfOk, IfSome, IsTrue};
 ghost use Rattle.coset_fault.specs.Places.{AreTwo, BothIvs, IsEarlier, Repeats, SameLabel};
@@ -18,7 +18,7 @@ fn earlier_step(last: Step, index: usize) -> Option<Step>
     }
 }
 
-/// Where the last of the steps leads, and before it where the key or the element with that index stands in the same array or
+/// Where the last of the steps leads, and before it where the key or the element with that index is in the same array or
 /// map.
 fn both_places<'a>(bytes: &'a [u8], steps: &[Step], index: usize) -> Option<(&'a [u8], &'a [u8])>
     ensures { IfSome result (λ p. AreTwo bytes.now steps.now p.0.now p.1.now) }
@@ -31,7 +31,7 @@ fn both_places<'a>(bytes: &'a [u8], steps: &[Step], index: usize) -> Option<(&'a
     Some((one, other))
 }
 
-/// Whether the label that the last of the steps leads to stands at an earlier one already, that of this index.
+/// Whether the label that the last of the steps leads to is at an earlier one already, that of this index.
 pub(crate) fn repeats_label(
     alloc: Global,
     bytes: &[u8],

@@ -1,4 +1,4 @@
-//! Whether what an error tells of stands at a place.
+//! Whether what an error names is at a place.
 
 ghost use Rattle.std.specs.Prelude.{◌≡◌, IfOk, IsTrue, Some};
 ghost use Rattle.coset_fault.specs.Places.{HoldsNoHeader, IsUnexpected, StandsThere, last_step};
@@ -12,7 +12,7 @@ use coset::cbor::de::Pull;
 use coset::{CoseError, Header};
 use std::alloc::{AllocError, Global};
 
-/// Whether what an item is called stands at the front of the bytes, to which the steps lead from the front of the whole.
+/// Whether what an item is called is at the front of the bytes, to which the steps lead from the front of the whole.
 fn is_unexpected(
     alloc: Global,
     got: &str,
@@ -30,8 +30,8 @@ fn is_unexpected(
     }
 }
 
-/// Whether what the error tells of stands at the front of the bytes, to which the steps lead from the front of the whole.
-/// Where it is that something stands twice, `earlier` is the index of the first of the two.
+/// Whether what the error names is at the front of the bytes, to which the steps lead from the front of the whole.
+/// Where it is that something occurs twice, `earlier` is the index of the first of the two.
 pub(crate) fn stands_there(
     alloc: Global,
     error: &CoseError,
@@ -57,7 +57,7 @@ pub(crate) fn stands_there(
     }
 }
 
-/// Whether a byte string in chunks stands at the front of the bytes that holds something, and no header (RFC 8152, section
+/// Whether a byte string in chunks is at the front of the bytes that holds something, and no header (RFC 8152, section
 /// 3).
 pub(crate) fn holds_no_header(alloc: Global, bytes: &[u8]) -> Result<bool, AllocError>
     ensures { IfOk result (λ b. IsTrue b → HoldsNoHeader bytes.now) }

@@ -1,4 +1,4 @@
-//! Signs a message, writes it, reads it again and verifies it. The cryptography is yours: `sign` and `verify` stand where
+//! Signs a message, writes it, reads it again and verifies it. The cryptography is yours: `sign` and `verify` are where
 //! it goes, and keep nobody out.
 #![tactic(auto)]
 

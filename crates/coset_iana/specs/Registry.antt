@@ -1,4 +1,4 @@
--- Values that stand for numbers.
+-- Values that have numbers.
 use Rattle.std.specs.Prelude.{◌≡◌, ℕ, ℤ, pos, neg_ℤ, int_lt, Bool, true, false, cond, ◌&&◌, List, [], ◌∷◌, Option, Some}
 use Rattle.std.specs.List.{find}
 use Rattle.std.specs.declared.cmp.Ordering.{Ordering}

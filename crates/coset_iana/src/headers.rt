@@ -32,7 +32,7 @@ pub enum HeaderParameter {
     CounterSignature = 7,
     /// A countersignature bare of headers: bstr.
     CounterSignature0 = 9,
-    /// Tells apart equal key identifiers of different senders: bstr (RFC 8613, section 5.1).
+    /// Distinguishes equal key identifiers of different senders: bstr (RFC 8613, section 5.1).
     KidContext = 10,
     /// One countersignature or several, version 2 (RFC 9338, section 3.1).
     CounterSignatureV2 = 11,

@@ -1,4 +1,4 @@
-//! The registries that COSE and CBOR web tokens stand on: enums whose values stand for the numbers that IANA assigns.
+//! The registries that COSE and CBOR web tokens are built on: enums whose values are the numbers that IANA assigns.
 //!
 //! Each enum's variants carry the registry's numbers, `to_i64` gives a value's number, and `from_i64`
 //! the value of a number, if it has one. The two are inverse to each other, which [`EnumI64`] has as a
@@ -32,7 +32,7 @@ pub use keys::{
 };
 pub use tags::CborTag;
 
-/// An enum whose values stand for numbers of `i64`, each for one of its own.
+/// An enum each of whose values has a number of `i64` of its own.
 ///
 /// Contracts see `number`, the number of a value, and `value_of`, the value of a number, if it has
 /// one. An implementer gives both and proves the two laws, which make them inverse: `from_i64(i)` is
@@ -66,7 +66,7 @@ pub trait Named {
         ensures { result.now ≡ name self.now };
 }
 
-/// An enum beside whose numbers stands a range that is left to private use.
+/// An enum beside whose numbers there is a range that is left to private use.
 ///
 /// Contracts see the range as the test `is_private`.
 pub trait WithPrivateRange {

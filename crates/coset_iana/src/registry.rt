@@ -5,7 +5,7 @@ ghost use Rattle.coset_iana.specs.Registry.{first_numbered, is_ascending, number
 
 use crate::EnumI64;
 
-/// A registry: an enum of which each value stands for a number of `i64`.
+/// A registry: an enum each of whose values has a number of `i64`.
 pub(crate) trait Registry: Copy + Eq + 'static {
     ghost number: { Self → ℤ };
 

@@ -16,7 +16,7 @@ pub enum CborTag {
     CoseMac0 = 17,
     /// A message with one signature.
     CoseSign1 = 18,
-    /// A countersignature that stands by itself (RFC 9338).
+    /// A countersignature that is by itself (RFC 9338).
     CoseCountersignature = 19,
     /// A CBOR web token (RFC 8392, section 6).
     Cwt = 61,

@@ -20,7 +20,7 @@ use Rattle.coset_label.specs.SortedLaws.{strictly, above, in-cases}
 use Rattle.coset_label.specs.declared.ordering.CborOrdering.{CborOrdering}
 use Rattle.coset_label.specs.declared.ordering.CborOrdering.TheVariants.{Lexicographic, LengthFirstLexicographic}
 use Rattle.coset_key.specs.Canonical.{IsCanonicalOf, LabelsAscend, ZeroBehindFields, is_field}
-use Rattle.coset_key.specs.Keys.{KeySeen, FieldTuple, key, fields, parts_of}
+use Rattle.coset_key.specs.Keys.{KeyView, FieldTuple, key, fields, parts_of}
 use Rattle.coset_key.proofs.CanonicalKeys.{canonical_differ, total_by}
 
 -- ---- the labels that are written
@@ -73,7 +73,7 @@ image_parts true rest None ps h = absurd (cc)
 image_parts false rest m ps h = absurd (cc)
 
 -- the fields that are written of a key, and then its params
-pub fields_and_params : (x : KeySeen) (ps : Pairs) (es : List (Name × Item)) → key.image x ≡ Some (dict ps) → Named label.describes ps es
+pub fields_and_params : (x : KeyView) (ps : Pairs) (es : List (Name × Item)) → key.image x ≡ Some (dict ps) → Named label.describes ps es
     → (cs : List (Name × Item)) × (fields.image (parts_of x).0 ≡ Some cs) × (es ≡ cs ++ x.params)
 unfolding key
 fields_and_params x ps es h p =
@@ -254,14 +254,14 @@ joined o (c ∷ cs) rs r s h =
     )
 
 -- what holds of the params of a key that was read holds of those in order
-others_apart : (o : CborOrdering) (v : Item) (k x : KeySeen) → key.describes v k → IsCanonicalOf o k x → AllByRecursion (λ e. is_field e.0 ≡ false) x.params
+others_apart : (o : CborOrdering) (v : Item) (k x : KeyView) → key.describes v k → IsCanonicalOf o k x → AllByRecursion (λ e. is_field e.0 ≡ false) x.params
 unfolding key
 others_apart o v k x p c =
     let e = p.0.2 in
     all-moved (λ e. is_field e.0 ≡ false) k.params x.params c.agree.params
     (subst (IsRest names fields.labels) (sym e.rest) (rest_apart names fields.labels e.entries))
 
-params_ascend : (o : CborOrdering) (v : Item) (k x : KeySeen) → key.describes v k → IsCanonicalOf o k x → IsStrictlySortedBy (name_cmp_by o) (keys_of x.params)
+params_ascend : (o : CborOrdering) (v : Item) (k x : KeyView) → key.describes v k → IsCanonicalOf o k x → IsStrictlySortedBy (name_cmp_by o) (keys_of x.params)
 params_ascend o v k x p c = strictly (total_by o) x.params (canonical_differ o v k x p c) c.ordered
 
 pub labels_ascend : (o : CborOrdering) → LabelsAscend o

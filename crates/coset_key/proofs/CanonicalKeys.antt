@@ -1,4 +1,4 @@
--- Keys whose params stand in the order of their labels.
+-- Keys whose params are in the order of their labels.
 use Rattle.std.proofs.Common.{◌≡◌, List, true, sym, ◌∙◌, ap, subst}
 use Rattle.std.specs.Cmp.{IsTotalOrder, both_ways}
 use Rattle.std.specs.List.{IsDistinct}
@@ -22,7 +22,7 @@ use Rattle.coset_label.specs.Labels.{names}
 use Rattle.coset_label.specs.LabelLaws.{names_laws}
 use Rattle.coset_key.specs.Canonical.{with_params, AgreeButForOrder, IsCanonicalOf, CanonicalReadsAgain, CanonicalApart}
 use Rattle.coset_key.specs.KeyLaws.{fields_laws}
-use Rattle.coset_key.specs.Keys.{KeySeen, key, fields, parts_of}
+use Rattle.coset_key.specs.Keys.{KeyView, key, fields, parts_of}
 
 -- ---- the orders
 
@@ -41,15 +41,15 @@ level o a b = both_ways (same_name a b) (eq_by_cmp (name_cmp_by o) a b) (λ h. (
 
 -- ---- a key with its params in another order
 
--- it is written as an item that stands for it
-arranged : (v : Item) (k : KeySeen) (ps : List (Name × Item)) → key.describes v k → IsPermutation k.params ps → Again KeySeen key v (with_params ps k)
+-- it is written as an item that represents it
+arranged : (v : Item) (k : KeyView) (ps : List (Name × Item)) → key.describes v k → IsPermutation k.params ps → Again KeyView key v (with_params ps k)
 unfolding key
 arranged v k ps p m =
     let a = labelled_arranged names names_laws true fields fields_laws v (parts_of k) ps p.0 m in
     record { image = a.image; is_image = a.is_image; described = (a.described, p.1); shallow = a.shallow }
 
 -- the labels of the params of a key that was read differ
-params_differ : (o : CborOrdering) (v : Item) (k : KeySeen) → key.describes v k → IsDistinct (eq_by_cmp (name_cmp_by o)) (keys_of k.params)
+params_differ : (o : CborOrdering) (v : Item) (k : KeyView) → key.describes v k → IsDistinct (eq_by_cmp (name_cmp_by o)) (keys_of k.params)
 unfolding key
 params_differ o v k p =
     let e = p.0.2 in
@@ -57,21 +57,21 @@ params_differ o v k p =
     subst (λ t. IsDistinct t (keys_of k.params)) (λ i a b. level o a b i) d
 
 -- and differ once they are in order
-pub canonical_differ : (o : CborOrdering) (v : Item) (k x : KeySeen) → key.describes v k → IsCanonicalOf o k x
+pub canonical_differ : (o : CborOrdering) (v : Item) (k x : KeyView) → key.describes v k → IsCanonicalOf o k x
     → IsDistinct (eq_by_cmp (name_cmp_by o)) (keys_of x.params)
 canonical_differ o v k x p c =
     IsDistinct-IsPermutation (eq_by_cmp (name_cmp_by o)) (eq_by_cmp_equiv (total_by o)).symm (keys_of k.params) (keys_of x.params)
     (IsPermutation-map (λ e. e.0) k.params x.params c.agree.params) (params_differ o v k p)
 
 -- keys in order are equal where they are of keys that agree but for the order, and only there
-canonical_one : (o : CborOrdering) (v : Item) (k l x y : KeySeen) → key.describes v k → IsCanonicalOf o k x → IsCanonicalOf o l y → AgreeButForOrder k l → x ≡ y
+canonical_one : (o : CborOrdering) (v : Item) (k l x y : KeyView) → key.describes v k → IsCanonicalOf o k x → IsCanonicalOf o l y → AgreeButForOrder k l → x ≡ y
 canonical_one o v k l x y p c d h =
     let moved = IsPermutation-trans x.params l.params y.params
     (IsPermutation-trans x.params k.params l.params (IsPermutation-sym k.params x.params c.agree.params) h.params) d.agree.params in
     let one : x.params ≡ y.params = has_one_order (total_by o) x.params y.params (canonical_differ o v k x p c) moved c.ordered d.ordered in
     sym c.agree.others ∙ ((λ i. with_params (one i) k) ∙ (ap (with_params y.params) h.others ∙ d.agree.others))
 
-canonical_of_one : (o : CborOrdering) (k l x y : KeySeen) → IsCanonicalOf o k x → IsCanonicalOf o l y → x ≡ y → AgreeButForOrder k l
+canonical_of_one : (o : CborOrdering) (k l x y : KeyView) → IsCanonicalOf o k x → IsCanonicalOf o l y → x ≡ y → AgreeButForOrder k l
 canonical_of_one o k l x y c d e =
     record {
       others = ap (with_params l.params) (c.agree.others ∙ (e ∙ sym d.agree.others));
@@ -79,9 +79,9 @@ canonical_of_one o k l x y c d e =
           (subst (λ z. IsPermutation z.params l.params) (sym e) (IsPermutation-sym l.params y.params d.agree.params));
     }
 
--- a key in order is written as an item that stands for it
-in_order : (o : CborOrdering) (v : Item) (k x : KeySeen) → key.describes v k → IsCanonicalOf o k x → Again KeySeen key v x
-in_order o v k x p c = subst (Again KeySeen key v) c.agree.others (arranged v k x.params p c.agree.params)
+-- a key in order is written as an item that represents it
+in_order : (o : CborOrdering) (v : Item) (k x : KeyView) → key.describes v k → IsCanonicalOf o k x → Again KeyView key v x
+in_order o v k x p c = subst (Again KeyView key v) c.agree.others (arranged v k x.params p c.agree.params)
 
 pub canonical_reads_again : (o : CborOrdering) → CanonicalReadsAgain o
 canonical_reads_again o v k x p shallow c = again_reads key v x (in_order o v k x p c) shallow

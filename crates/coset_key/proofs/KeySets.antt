@@ -1,4 +1,4 @@
--- Sets as they lie in memory, as contracts see them, and as the members of arrays are read into them.
+-- Sets as they lie in memory, as contracts see them, and as the elements of arrays are read into them.
 use Rattle.std.proofs.Common.{◌≡◌, ◌⊎◌, ◌||◌, List, [], ◌∷◌, ◌++◌, map, Bool, true, false, Some, Result, Ok, Err, Contains, length, refl, sym, ◌∙◌, ap, subst}
 use Rattle.std.proofs.Common.{inl, inr, arith, true≢false, Ordering, Less, Equal, Greater}
 use Rattle.std.specs.Cmp.{IsTotalOrder}
@@ -13,40 +13,40 @@ use Rattle.coset_value.specs.Item.{Item, Items, no_items, item}
 use Rattle.coset_value.specs.Parts.{as_array}
 use Rattle.coset_codec.specs.Errors.{IsUnexpected, UnlessMemory}
 use Rattle.coset_codec.specs.Inputs.{State, AreWithin, Nexts, ReadsAt}
-use Rattle.coset_codec.specs.declared.read.input.InputItems.{InputItems}
+use Rattle.coset_codec.specs.declared.read.decoder.ArrayElements.{ArrayElements}
 use Rattle.coset_key.specs.Reading.{ReadsSet}
 use Rattle.coset_codec.specs.declared.error.CoseError.{CoseError}
-use Rattle.coset_codec.specs.Sets.{IsSetOf, IsDistinctBy, HasMember, Repeats, set_of}
+use Rattle.coset_codec.specs.Sets.{IsSetOf, IsDistinctBy, HasElement, Repeats, set_of}
 use Rattle.coset_codec.specs.SetLaws.{set_has, set_push, distinct_push, set_of_none}
 use Rattle.coset_codec.specs.Shape.{Shape, Each, EachFaults}
 use Rattle.coset_codec.proofs.Encoding.{and_items}
 
 -- ---- as contracts see them
 
-module _ {K N : Type 0} (seen : K → N) where
-  pub no-keys : (ks : List K) → length ks ≡ 0 → map seen ks ≡ []
+module _ {K N : Type 0} (view : K → N) where
+  pub no-keys : (ks : List K) → length ks ≡ 0 → map view ks ≡ []
   no-keys [] e = refl
   no-keys (x ∷ xs) e = absurd (omega (arith, e))
 
-  pub some-keys : (ks : List K) (b : Bool) → (length ks ≡ 0 → b ≡ true) → b ≡ false → map seen ks ≡ [] → ⊥
+  pub some-keys : (ks : List K) (b : Bool) → (length ks ≡ 0 → b ≡ true) → b ≡ false → map view ks ≡ [] → ⊥
   some-keys [] b t f e = true≢false (sym (t refl) ∙ f)
   some-keys (x ∷ xs) b t f e = absurd (cc)
 
-module _ {K N : Type 0} (seen : K → N) (cmp : N → N → Ordering) where
-  pub insert-seen : (ks : List K) (k : K) → map seen (insert_key (on seen cmp) ks k) ≡ insert_key cmp (map seen ks) (seen k)
-  insert-seen [] k = refl
-  insert-seen (x ∷ xs) k = by (cmp (seen k) (seen x)) (insert-seen xs k)
+module _ {K N : Type 0} (view : K → N) (cmp : N → N → Ordering) where
+  pub insert-view : (ks : List K) (k : K) → map view (insert_key (on view cmp) ks k) ≡ insert_key cmp (map view ks) (view k)
+  insert-view [] k = refl
+  insert-view (x ∷ xs) k = by (cmp (view k) (view x)) (insert-view xs k)
     where
-      by : (r : Ordering) → map seen (insert_key (on seen cmp) xs k) ≡ insert_key cmp (map seen xs) (seen k)
-          → map seen (match_ordering r (k ∷ x ∷ xs) (x ∷ xs) (x ∷ insert_key (on seen cmp) xs k))
-          ≡ match_ordering r (seen k ∷ seen x ∷ map seen xs) (seen x ∷ map seen xs) (seen x ∷ insert_key cmp (map seen xs) (seen k))
+      by : (r : Ordering) → map view (insert_key (on view cmp) xs k) ≡ insert_key cmp (map view xs) (view k)
+          → map view (match_ordering r (k ∷ x ∷ xs) (x ∷ xs) (x ∷ insert_key (on view cmp) xs k))
+          ≡ match_ordering r (view k ∷ view x ∷ map view xs) (view x ∷ map view xs) (view x ∷ insert_key cmp (map view xs) (view k))
       by Less h = refl
       by Equal h = refl
-      by Greater h = ap (λ ys. seen x ∷ ys) h
+      by Greater h = ap (λ ys. view x ∷ ys) h
 
-  pub contains-seen : (ks : List K) (k : K) → list_any (is_at (on seen cmp k)) ks ≡ list_any (eq_by_cmp cmp (seen k)) (map seen ks)
-  contains-seen [] k = refl
-  contains-seen (x ∷ xs) k = ap (λ b. is_eq (cmp (seen k) (seen x)) || b) (contains-seen xs k)
+  pub contains-view : (ks : List K) (k : K) → list_any (is_at (on view cmp k)) ks ≡ list_any (eq_by_cmp cmp (view k)) (map view ks)
+  contains-view [] k = refl
+  contains-view (x ∷ xs) k = ap (λ b. is_eq (cmp (view k) (view x)) || b) (contains-view xs k)
 
 -- ---- as arrays are read
 
@@ -70,11 +70,11 @@ module _ {A : Type 0} (cmp : A → A → Ordering) (o : IsTotalOrder cmp) (exact
   fault-behind no_items ws e f = f
   fault-behind (item v vs) ws e f = inr (fault-behind vs ws e f)
 
-  member-behind : (vs ws : Items) (x : A) → HasMember s.describes x ws → HasMember s.describes x (and_items vs ws)
-  member-behind no_items ws x f = f
-  member-behind (item v vs) ws x f = inr (member-behind vs ws x f)
+  element-behind : (vs ws : Items) (x : A) → HasElement s.describes x ws → HasElement s.describes x (and_items vs ws)
+  element-behind no_items ws x f = f
+  element-behind (item v vs) ws x f = inr (element-behind vs ws x f)
 
-  -- an item that stands for one of the values before it
+  -- an item that represents one of the values before it
   repeats-behind : (vs : Items) (xs : List A) (v : Item) (ws : Items) (x : A) → Each s.describes vs xs → list_any (eq_by_cmp cmp x) xs ≡ true → s.describes v x
       → Repeats s.describes (and_items vs (item v ws))
   repeats-behind no_items [] v ws x p h d = absurd (true≢false (sym h))
@@ -84,8 +84,8 @@ module _ {A : Type 0} (cmp : A → A → Ordering) (o : IsTotalOrder cmp) (exact
     where
       by : (b : Bool) → is_eq (cmp x y) ≡ b → (b || list_any (eq_by_cmp cmp x) ys) ≡ true
           → (list_any (eq_by_cmp cmp x) ys ≡ true → s.describes v x → Repeats s.describes (and_items us (item v ws)))
-          → ((z : A) × s.describes u z × HasMember s.describes z (and_items us (item v ws))) ⊎ Repeats s.describes (and_items us (item v ws))
-      by true e q later = inl (x, subst (s.describes u) (sym (tells_apart exact x y e)) p.0, member-behind us (item v ws) x (inl d))
+          → ((z : A) × s.describes u z × HasElement s.describes z (and_items us (item v ws))) ⊎ Repeats s.describes (and_items us (item v ws))
+      by true e q later = inl (x, subst (s.describes u) (sym (tells_apart exact x y e)) p.0, element-behind us (item v ws) x (inl d))
       by false e q later = inr (later q d)
 
   -- of the items of an array some were read, which make this set, and left are still to come
@@ -119,22 +119,22 @@ module _ {A : Type 0} (cmp : A → A → Ordering) (o : IsTotalOrder cmp) (exact
   all_each : (all left : Items) (set : List A) (g : Gathered all set left) → left ≡ no_items → Each s.describes all g.read
   all_each all left set g n = subst (λ vs. Each s.describes vs g.read) (sym (g.parts ∙ (ap (and_items g.done) n ∙ and_items-none g.done))) g.each
 
-  -- ---- where they stand
+  -- ---- where they are
 
-  -- some were read, and the others stand there
-  pub record Midway (all : Items) (z : State) (m : InputItems) (t : State) (set : List A) : Type 0 where
+  -- some were read, and the others are there
+  pub record Midway (all : Items) (z : State) (m : ArrayElements) (t : State) (set : List A) : Type 0 where
     pub left : Items
     pub gathered : Gathered all set left
     pub within : AreWithin m left t z
 
   -- the next of them was passed, whatever was read of it
-  pub passed : (t u z : State) (m : InputItems) (left : Items) (Q : Item → Type 0) → Nexts left t z m true → ReadsAt t u Q → (others : Items)
+  pub passed : (t u z : State) (m : ArrayElements) (left : Items) (Q : Item → Type 0) → Nexts left t z m true → ReadsAt t u Q → (others : Items)
       × AreWithin m others u z
   passed t u z m left Q next read = (next.1, subst (λ (y : State). AreWithin m next.1 y z) (sym (read next.0 next.2 next.4).0) next.5)
 
   -- it is new
   pub one_more :
-      (all : Items) (r t u z : State) (m n : InputItems) (set : List A) (x : A) → (w : Midway all z m r set) → Nexts w.left t z n true
+      (all : Items) (r t u z : State) (m n : ArrayElements) (set : List A) (x : A) → (w : Midway all z m r set) → Nexts w.left t z n true
       → ReadsAt t u (λ v. s.describes v x) → list_any (eq_by_cmp cmp x) set ≡ false
       → Midway all z n u (insert_key cmp set x)
   one_more all r t u z m n set x w next read fresh =
@@ -145,12 +145,12 @@ module _ {A : Type 0} (cmp : A → A → Ordering) (o : IsTotalOrder cmp) (exact
         within = subst (λ (y : State). AreWithin n next.1 y z) (sym here.0) next.5;
       }
 
-  module _ {T : Type 0} (seen : T → List A) where
-    -- it stood before
+  module _ {T : Type 0} (view : T → List A) where
+    -- it was there before
     pub stands_twice :
-        (all : Items) (r t u z : State) (m n : InputItems) (set : List A) (x : A) (e : CoseError) → (w : Midway all z m r set) → Nexts w.left t z n true
+        (all : Items) (r t u z : State) (m n : ArrayElements) (set : List A) (x : A) (e : CoseError) → (w : Midway all z m r set) → Nexts w.left t z n true
         → ReadsAt t u (λ v. s.describes v x)
-        → list_any (eq_by_cmp cmp x) set ≡ true → IsUnexpected e → ((left : Items) × AreWithin n left u z) × ReadsSet cmp s seen all (Err e)
+        → list_any (eq_by_cmp cmp x) set ≡ true → IsUnexpected e → ((left : Items) × AreWithin n left u z) × ReadsSet cmp s view all (Err e)
     stands_twice all r t u z m n set x e w next read again is =
         let g = w.gathered in
         let stands : Repeats s.describes (and_items g.done (item next.0 next.1)) =
@@ -161,9 +161,9 @@ module _ {A : Type 0} (cmp : A → A → Ordering) (o : IsTotalOrder cmp) (exact
 
     -- it is at fault
     pub is_refused :
-        (all : Items) (r t u z : State) (m n : InputItems) (set : List A) (e : CoseError) (q : Result T CoseError) → (w : Midway all z m r set)
+        (all : Items) (r t u z : State) (m n : ArrayElements) (set : List A) (e : CoseError) (q : Result T CoseError) → (w : Midway all z m r set)
         → Nexts w.left t z n true → ReadsAt t u (λ v. UnlessMemory e (s.faults v)) → IsErrAnd q (λ f. f ≡ e)
-        → ((left : Items) × AreWithin n left u z) × ReadsSet cmp s seen all q
+        → ((left : Items) × AreWithin n left u z) × ReadsSet cmp s view all q
     is_refused all r t u z m n set e (Ok x) w next read is = absurd is
     is_refused all r t u z m n set e (Err f) w next read is = (
       passed t u z n w.left (λ v. UnlessMemory e (s.faults v)) next read,
@@ -175,14 +175,14 @@ module _ {A : Type 0} (cmp : A → A → Ordering) (o : IsTotalOrder cmp) (exact
 
     -- none is left
     pub all_gathered :
-        (all : Items) (r t z : State) (m n : InputItems) (x : T) → (w : Midway all z m r (seen x)) → Nexts w.left t z n false
-        → ((left : Items) × AreWithin n left t z) × ReadsSet cmp s seen all (Ok x)
+        (all : Items) (r t z : State) (m n : ArrayElements) (x : T) → (w : Midway all z m r (view x)) → Nexts w.left t z n false
+        → ((left : Items) × AreWithin n left t z) × ReadsSet cmp s view all (Ok x)
     all_gathered all r t z m n x w next = (
       (no_items, next.1),
-      (w.gathered.read, all_each all w.left (seen x) w.gathered next.0, w.gathered.distinct, w.gathered.is_set),
+      (w.gathered.read, all_each all w.left (view x) w.gathered next.0, w.gathered.distinct, w.gathered.is_set),
     )
 
-    -- ---- all members of an array
+    -- ---- all elements of an array
 
     pub set_refused : (v : Item) (all : Items) (e : CoseError) → as_array v ≡ Some all
         → UnlessMemory e (λ f. EachFaults s.faults all f ⊎ (IsUnexpected f × Repeats s.describes all)) → UnlessMemory e ((set_of cmp s).faults v)
@@ -192,18 +192,18 @@ module _ {A : Type 0} (cmp : A → A → Ordering) (o : IsTotalOrder cmp) (exact
         fault (inl f) = inl (inl (inr (all, a, inr (λ m. m, f))))
         fault (inr f) = inr (f.0, (all, a, f.1))
 
-    pub set_read : (v : Item) (all : Items) (x : T) → as_array v ≡ Some all → ReadsSet cmp s seen all (Ok x) → (seen x ≡ [] → ⊥)
-        → (set_of cmp s).describes v (seen x)
-    set_read v all x a r some = (r.0, (((all, a, r.1), λ none. some (no-set r.0 (seen x) none r.3)), r.2), r.3)
+    pub set_read : (v : Item) (all : Items) (x : T) → as_array v ≡ Some all → ReadsSet cmp s view all (Ok x) → (view x ≡ [] → ⊥)
+        → (set_of cmp s).describes v (view x)
+    set_read v all x a r some = (r.0, (((all, a, r.1), λ none. some (no-set r.0 (view x) none r.3)), r.2), r.3)
       where
         no-set : (xs ys : List A) → xs ≡ [] → IsSetOf cmp xs ys → ys ≡ []
         no-set xs [] e m = refl
-        no-set xs (y ∷ ys) e m = let c : Contains [] y = subst (λ zs. Contains zs y) e ((m.members y).0 (0, omega arith, refl)) in absurd (omega (arith, c.1))
+        no-set xs (y ∷ ys) e m = let c : Contains [] y = subst (λ zs. Contains zs y) e ((m.elements y).0 (0, omega arith, refl)) in absurd (omega (arith, c.1))
 
-    pub set_empty : (v : Item) (all : Items) (x : T) (e : CoseError) → as_array v ≡ Some all → ReadsSet cmp s seen all (Ok x) → seen x ≡ [] → IsUnexpected e
+    pub set_empty : (v : Item) (all : Items) (x : T) (e : CoseError) → as_array v ≡ Some all → ReadsSet cmp s view all (Ok x) → view x ≡ [] → IsUnexpected e
         → (set_of cmp s).faults v e
-    set_empty v all x e a r none u = inl (inr (u, (r.0, (all, a, r.1), λ some. some (no-list r.0 (seen x) none r.3))))
+    set_empty v all x e a r none u = inl (inr (u, (r.0, (all, a, r.1), λ some. some (no-list r.0 (view x) none r.3))))
       where
         no-list : (xs ys : List A) → ys ≡ [] → IsSetOf cmp xs ys → xs ≡ []
         no-list [] ys e m = refl
-        no-list (x ∷ xs) ys e m = let c : Contains [] x = subst (λ zs. Contains zs x) e ((m.members x).1 (0, omega arith, refl)) in absurd (omega (arith, c.1))
+        no-list (x ∷ xs) ys e m = let c : Contains [] x = subst (λ zs. Contains zs x) e ((m.elements x).1 (0, omega arith, refl)) in absurd (omega (arith, c.1))

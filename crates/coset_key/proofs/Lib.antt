@@ -6,4 +6,4 @@ pub mod Points
 pub mod Putting
 pub mod Sorting
 pub mod Writing
-pub mod Members
+pub mod Elements

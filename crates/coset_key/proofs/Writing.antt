@@ -8,11 +8,11 @@ use Rattle.coset_label.specs.Labels.{algorithm}
 use Rattle.coset_key.specs.Keys.{operation, key_ops}
 
 -- a set is there where it isn't empty
-pub set-there : {K N : Type 0} (seen : K → N) (ks : List K) (b : Bool) → (b ≡ true → length ks ≡ 0) → (length ks ≡ 0 → b ≡ true)
-    → is_nonempty (map seen ks) ≡ not b
-set-there seen [] b none all = sym (ap not (all refl))
-set-there seen (k ∷ ks) true none all = let e = none refl in absurd (omega (arith, e))
-set-there seen (k ∷ ks) false none all = refl
+pub set-there : {K N : Type 0} (view : K → N) (ks : List K) (b : Bool) → (b ≡ true → length ks ≡ 0) → (length ks ≡ 0 → b ≡ true)
+    → is_nonempty (map view ks) ≡ not b
+set-there view [] b none all = sym (ap not (all refl))
+set-there view (k ∷ ks) true none all = let e = none refl in absurd (omega (arith, e))
+set-there view (k ∷ ks) false none all = refl
 
 -- an algorithm has an item
 pub algorithm-has : (n : RegisteredName) → algorithm.image n ≡ None → ⊥

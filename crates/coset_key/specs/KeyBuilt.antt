@@ -16,22 +16,22 @@ use Rattle.coset_iana.specs.declared.keys.EllipticCurve.{EllipticCurve}
 use Rattle.coset_iana.specs.declared.keys.KeyType.{KeyType}
 use Rattle.coset_iana.specs.declared.keys.KeyType.TheVariants.{OKP, EC2, Symmetric, AKP}
 use Rattle.coset_label.specs.Names.{Name, number, RegisteredName, assigned, name_cmp}
-use Rattle.coset_key.specs.Keys.{KeySeen, empty_key}
+use Rattle.coset_key.specs.Keys.{KeyView, empty_key}
 use Rattle.coset_key.specs.MlDsa.{algorithm_of}
 use Rattle.coset_key.specs.declared.ml_dsa.MlDsaVariant.{MlDsaVariant}
 
 -- ---- keys of a type
 
 -- a key of that type alone
-abbrev pub key_of_type : KeyType → KeySeen
+abbrev pub key_of_type : KeyType → KeyView
 key_of_type t = record empty_key { kty = number (kinds.number t) }
 
 -- and with these params
-abbrev pub key_with : KeyType → List (Name × Item) → KeySeen
+abbrev pub key_with : KeyType → List (Name × Item) → KeyView
 key_with t params = record (key_of_type t) { params = params }
 
 -- an octet key pair
-abbrev pub okp_key : KeySeen
+abbrev pub okp_key : KeyView
 okp_key = key_of_type OKP
 
 -- the labels of a curve, of a point's coordinates, and of a private key
@@ -52,45 +52,45 @@ abbrev pub point_params : EllipticCurve → List ℕ → Item → List (Name × 
 point_params curve x y = (curve_label, integer (curves.number curve)) ∷ (x_label, bytes x) ∷ (y_label, y) ∷ []
 
 -- an elliptic curve key with two coordinates
-abbrev pub ec2_key : EllipticCurve → List ℕ → Item → KeySeen
+abbrev pub ec2_key : EllipticCurve → List ℕ → Item → KeyView
 ec2_key curve x y = key_with EC2 (point_params curve x y)
 
 -- and with the private key
-abbrev pub ec2_private_key : EllipticCurve → List ℕ → List ℕ → List ℕ → KeySeen
+abbrev pub ec2_private_key : EllipticCurve → List ℕ → List ℕ → List ℕ → KeyView
 ec2_private_key curve x y d = key_with EC2 (point_params curve x (bytes y) ++ (d_label, bytes d) ∷ [])
 
 -- a public key of ML-DSA
-abbrev pub ml_dsa_key : MlDsaVariant → List ℕ → KeySeen
+abbrev pub ml_dsa_key : MlDsaVariant → List ℕ → KeyView
 ml_dsa_key variant k = record (key_with AKP ((number (akp.number Pub), bytes k) ∷ [])) { alg = Some (assigned (algorithms.number (algorithm_of variant))) }
 
 -- a symmetric key
-abbrev pub symmetric_key : List ℕ → KeySeen
+abbrev pub symmetric_key : List ℕ → KeyView
 symmetric_key k = key_with Symmetric ((number (symmetric.number K), bytes k) ∷ [])
 
 -- ---- fields set
 
 -- the key with this type, and all else as it was
-abbrev pub with_kty : Name → KeySeen → KeySeen
+abbrev pub with_kty : Name → KeyView → KeyView
 with_kty t k = record k { kty = t }
 
 -- the key with this identifier, and all else as it was
-abbrev pub with_key_id : List ℕ → KeySeen → KeySeen
+abbrev pub with_key_id : List ℕ → KeyView → KeyView
 with_key_id b k = record k { key_id = b }
 
 -- the key with this algorithm, and all else as it was
-abbrev pub with_algorithm : RegisteredName → KeySeen → KeySeen
+abbrev pub with_algorithm : RegisteredName → KeyView → KeyView
 with_algorithm a k = record k { alg = Some a }
 
 -- the key with this Base IV, and all else as it was
-abbrev pub with_base_iv : List ℕ → KeySeen → KeySeen
+abbrev pub with_base_iv : List ℕ → KeyView → KeyView
 with_base_iv b k = record k { base_iv = b }
 
 -- one more operation at its place, unless it is there
-abbrev pub and_operation : Name → KeySeen → KeySeen
+abbrev pub and_operation : Name → KeyView → KeyView
 and_operation l k = record k { key_ops = insert_key name_cmp k.key_ops l }
 
 -- one more pair of another label, behind the others
-abbrev pub and_param : Name → Item → KeySeen → KeySeen
+abbrev pub and_param : Name → Item → KeyView → KeyView
 and_param l v k = record k { params = k.params ++ (l, v) ∷ [] }
 
 -- IANA assigns the label to no parameter that all keys have in common: it is none of 0 to 5

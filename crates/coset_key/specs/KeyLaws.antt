@@ -15,7 +15,7 @@ use Rattle.coset_label.specs.Labels.{label, algorithm, names}
 use Rattle.coset_label.specs.NameOrder.{name_cmp_total, name_cmp-apart}
 use Rattle.coset_label.specs.Names.{Name, number, name_cmp}
 use Rattle.coset_key.specs.KeyLabels as labels
-use Rattle.coset_key.specs.Keys.{KeySeen, key_type, operation, key_ops, FieldTuple, fields, key_of, parts_of, HasKeyType, key, key_set}
+use Rattle.coset_key.specs.Keys.{KeyView, key_type, operation, key_ops, FieldTuple, fields, key_of, parts_of, HasKeyType, key, key_set}
 
 -- ---- the fields' values
 
@@ -43,7 +43,7 @@ flat_number i d = record { key = integer i; is_image = refl; described = d; is_f
 filled_laws : LawfulFieldShape _ (unless_empty nonempty_bstr)
 filled_laws = unless_empty_laws nonempty_bstr (λ v p. p.1 refl) nonempty_bstr_laws
 
--- no item stands for an empty set
+-- no item represents an empty set
 never_empty : (v : Item) → key_ops.describes v [] → ⊥
 unfolding key_ops
 never_empty v p = set_nonempty p.0 [] p.1.0.1 p.2 refl
@@ -59,9 +59,9 @@ fields_laws =
 
 -- ---- keys
 
-pub key_laws : Lawful KeySeen key
+pub key_laws : Lawful KeyView key
 unfolding key
 key_laws = mapped_laws key_of parts_of (λ x. refl) _ (such_that_laws IsUnexpected HasKeyType _ (labelled_laws names names_laws true fields fields_laws))
 
-pub key_set_laws : Lawful (List KeySeen) key_set
+pub key_set_laws : Lawful (List KeyView) key_set
 key_set_laws = list_of_laws key key_laws

@@ -1,4 +1,4 @@
--- Keys and sets of keys, and which items stand for them (RFC 8152, section 7).
+-- Keys and sets of keys, and which items represent them (RFC 8152, section 7).
 use Rattle.std.specs.Prelude.{◌≢◌, ℕ, List, [], Option, Some, None, map, option_map, unwrap_or, is_some}
 use Rattle.coset_value.specs.Item.{Item}
 use Rattle.coset_iana.specs.KeyOperation as operations
@@ -14,14 +14,14 @@ use Rattle.coset_codec.specs.Sets.{set_of}
 use Rattle.coset_codec.specs.Shape.{Shape, mapped, such_that, nonempty_bstr, list_of}
 use Rattle.coset_label.specs.Labels.{registered, algorithm, names}
 use Rattle.coset_label.specs.Names.{Name, number, RegisteredName, name_cmp}
-use Rattle.coset_label.specs.Views.{registered_seen, algorithm_seen, entry_seen}
+use Rattle.coset_label.specs.Views.{registered_view, algorithm_view, entry_view}
 use Rattle.coset_label.specs.declared.registered.RegisteredLabel.{RegisteredLabel}
 use Rattle.coset_key.specs.KeyLabels as labels
 use Rattle.coset_key.specs.declared.key.CoseKey.{CoseKey}
 use Rattle.coset_key.specs.declared.key_set.CoseKeySet.{CoseKeySet}
 
 -- a key without its memory; `key_ops` are in the order of their encodings, each once
-pub record KeySeen : Type 0 where
+pub record KeyView : Type 0 where
   pub kty : Name
   pub key_id : List ℕ
   pub alg : Option RegisteredName
@@ -29,31 +29,31 @@ pub record KeySeen : Type 0 where
   pub base_iv : List ℕ
   pub params : List (Name × Item)
 
-abbrev pub kty_seen : RegisteredLabel declared_kinds.KeyType → Name
-kty_seen = registered_seen kinds.number
+abbrev pub kty_view : RegisteredLabel declared_kinds.KeyType → Name
+kty_view = registered_view kinds.number
 
-abbrev pub operation_seen : RegisteredLabel declared_operations.KeyOperation → Name
-operation_seen = registered_seen operations.number
+abbrev pub operation_view : RegisteredLabel declared_operations.KeyOperation → Name
+operation_view = registered_view operations.number
 
-abbrev pub key_seen : CoseKey → KeySeen
-key_seen k = record {
-  kty = kty_seen k.kty;
+abbrev pub key_view : CoseKey → KeyView
+key_view k = record {
+  kty = kty_view k.kty;
   key_id = k.key_id.items;
-  alg = option_map algorithm_seen k.alg;
-  key_ops = map operation_seen k.key_ops.keys;
+  alg = option_map algorithm_view k.alg;
+  key_ops = map operation_view k.key_ops.keys;
   base_iv = k.base_iv.items;
-  params = map entry_seen k.params.items;
+  params = map entry_view k.params.items;
 }
 
-abbrev pub key_set_seen : CoseKeySet → List KeySeen
-key_set_seen s = map key_seen s.0.items
+abbrev pub key_set_view : CoseKeySet → List KeyView
+key_set_view s = map key_view s.0.items
 
 -- the key type that no key has
 abbrev pub reserved : Name
 reserved = number (kinds.number Reserved)
 
 -- a key that says nothing
-abbrev pub empty_key : KeySeen
+abbrev pub empty_key : KeyView
 empty_key = record { kty = reserved; key_id = []; alg = None; key_ops = []; base_iv = []; params = [] }
 
 -- ---- the fields' values
@@ -90,10 +90,10 @@ fields =
 abbrev pub Parts : Type 0
 Parts = FieldTuple × List (Name × Item)
 
-abbrev pub key_of : Parts → KeySeen
+abbrev pub key_of : Parts → KeyView
 key_of p = record { kty = unwrap_or p.0.0 reserved; key_id = p.0.1.0; alg = p.0.1.1.0; key_ops = p.0.1.1.1.0; base_iv = p.0.1.1.1.1.0; params = p.1 }
 
-abbrev pub parts_of : KeySeen → Parts
+abbrev pub parts_of : KeyView → Parts
 parts_of k = ((Some k.kty, (k.key_id, (k.alg, (k.key_ops, (k.base_iv, tt))))), k.params)
 
 -- the key type is there, and isn't the reserved one
@@ -101,9 +101,9 @@ abbrev pub HasKeyType : Parts → Type 0
 HasKeyType p = (p.0.0 ≢ None) × (p.0.0 ≢ Some reserved)
 
 -- {1 => key_type, ? 2 => bstr .size (1..), ? 3 => algorithm, ? 4 => key_ops, ? 5 => bstr .size (1..), * label => any}
-unfoldable pub key : Shape KeySeen
+unfoldable pub key : Shape KeyView
 key = mapped key_of parts_of (such_that IsUnexpected HasKeyType (labelled names fields))
 
 -- [* key]
-abbrev pub key_set : Shape (List KeySeen)
+abbrev pub key_set : Shape (List KeyView)
 key_set = list_of key

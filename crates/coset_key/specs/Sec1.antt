@@ -10,7 +10,7 @@ use Rattle.coset_codec.specs.declared.error.CoseError.TheVariants as errors
 use Rattle.coset_codec.specs.declared.error.CallError.{CallError}
 use Rattle.coset_codec.specs.declared.error.CallError.TheVariants.{Coset, Caller}
 use Rattle.coset_label.specs.Names.{Name, number, same_name}
-use Rattle.coset_key.specs.Keys.{KeySeen, key_seen}
+use Rattle.coset_key.specs.Keys.{KeyView, key_view}
 use Rattle.coset_key.specs.KeyBuilt.{ec2_key, x_label, y_label}
 use Rattle.coset_key.specs.declared.key.CoseKey.{CoseKey}
 use Rattle.coset_key.specs.declared.sec1.ParseSec1OctetStringError.{ParseSec1OctetStringError}
@@ -59,11 +59,11 @@ coordinates_point (Some v) (Some y) = Err InvalidCoordinateType
 coordinates_point o q = Err MissingCoordinate
 
 -- the value of the first param with the label
-abbrev pub param : Name → KeySeen → Option Item
+abbrev pub param : Name → KeyView → Option Item
 param l k = lookup (same_name l) k.params
 
 -- the point of an elliptic curve key with two coordinates, or why there is none
-abbrev pub key_point : KeySeen → Result Point ToSec1OctetStringError
+abbrev pub key_point : KeyView → Result Point ToSec1OctetStringError
 key_point k = cond (same_name k.kty (number (kinds.number EC2))) (coordinates_point (param x_label k) (param y_label k)) (Err NotEcKey)
 
 -- the octet string of the point; or why there is none; or, only where there is one, that memory ran out
@@ -76,13 +76,13 @@ GivesOctets (Err e) (Err f) = f ≡ e
 -- ---- into a key
 
 -- the key of the point
-abbrev pub point_key : EllipticCurve → Point → KeySeen
+abbrev pub point_key : EllipticCurve → Point → KeyView
 point_key curve (compressed sign x) = ec2_key curve x (boolean sign)
 point_key curve (uncompressed x y) = ec2_key curve x (bytes y)
 
 -- the key of the point that the octet string spells; or that it spells none; or, only where it does, that memory ran out
 abbrev pub ParsesSec1 : EllipticCurve → List ℕ → Result CoseKey (CallError ParseSec1OctetStringError) → Type 0
-ParsesSec1 curve s (Ok k) = (p : Point) × Spells s p × (key_seen k ≡ point_key curve p)
+ParsesSec1 curve s (Ok k) = (p : Point) × Spells s p × (key_view k ≡ point_key curve p)
 ParsesSec1 curve s (Err (Coset e)) = (e ≡ errors.OutOfMemory) × (IsMalformed s → ⊥)
 ParsesSec1 curve s (Err (Caller e)) = IsMalformed s
 

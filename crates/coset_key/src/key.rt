@@ -4,7 +4,7 @@ ghost use Rattle.std.specs.Prelude.{◌≡◌, ◌≤◌, ◌<◌, not, length, 
 ghost use Rattle.std.specs.List.Sorted.{IsStableByKey};
 ghost use Rattle.std.specs.Map.{keys_of, lookup};
 ghost use Rattle.coset_value.specs.Item.{boolean, bytes};
-ghost use Rattle.coset_value.specs.View.{view};
+ghost use Rattle.coset_value.specs.View.{value_item};
 ghost use Rattle.coset_cbor.specs.Least.{Extends};
 ghost use Rattle.coset_iana.specs.Algorithm as algorithms;
 ghost use Rattle.coset_iana.specs.KeyOperation as operations;
@@ -18,17 +18,17 @@ ghost use Rattle.coset_codec.specs.Inputs.{ReadsAt, length_left, state};
 ghost use Rattle.coset_codec.specs.Maps.{Adds, Refuses, are_distinct, unless_empty};
 ghost use Rattle.coset_label.specs.Names.{assigned, number, same_name};
 ghost use Rattle.coset_label.specs.Orderings.{name_cmp_by};
-ghost use Rattle.coset_label.specs.Views.{label_seen};
+ghost use Rattle.coset_label.specs.Views.{label_view};
 ghost use Rattle.coset_label.specs.Labels.{algorithm, names};
 ghost use Rattle.coset_key.specs.Canonical.{Canonicalizes};
 ghost use Rattle.coset_key.specs.KeyBuilt.{and_operation, and_param, ec2_key, ec2_private_key, ml_dsa_key, okp_key, symmetric_key, with_algorithm, with_base_iv, with_key_id, with_kty, IsOtherLabel};
-ghost use Rattle.coset_key.specs.Keys.{empty_key, fields, key as key_shape, key_ops as key_ops_shape, key_seen, kty_seen, operation_seen};
-ghost use Rattle.coset_key.specs.Reading.{IsFinished, nothing, so_far_seen};
+ghost use Rattle.coset_key.specs.Keys.{empty_key, fields, key as key_shape, key_ops as key_ops_shape, key_view, kty_view, operation_view};
+ghost use Rattle.coset_key.specs.Reading.{GoesTo, IsFinished, nothing, so_far_view};
 
 use crate::key_ops::{KeyOps, add_operation, set_key_ops};
 use crate::ml_dsa::MlDsaVariant;
 use coset_cbor::value::Value;
-use coset_codec::read::{Gather, Input, InputPairs, read_map, set_field, set_nonempty};
+use coset_codec::read::{Decoder, MapEntries, MapVisitor, read_map, set_field, set_nonempty};
 use coset_codec::write::{
     write_field, write_nonempty, write_optional, write_pairs_head, write_rest,
 };
@@ -38,7 +38,7 @@ use coset_iana::{
 };
 use coset_label::{
     Algorithm, CborOrdering, CoseError, Encode, KeyOperation, KeyType, Label, RegisteredLabel,
-    RegisteredLabelWithPrivate, Result, has_repeats, iana, is_parameter,
+    RegisteredLabelWithPrivate, Result, has_repeats, iana,
 };
 use std::alloc::{AllocError, Global};
 use std::collections::BTreeSet;
@@ -80,7 +80,7 @@ pub struct CoseKey {
 
 /// The same as [`CoseKey::clone`], for generic code.
 impl Clone for CoseKey {
-    ghost is_clone = { λ key copy. key_seen copy ≡ key_seen key };
+    ghost is_clone = { λ key copy. key_view copy ≡ key_view key };
 
     fn clone(&self) -> Result<CoseKey, AllocError> {
         Ok(CoseKey {
@@ -97,7 +97,7 @@ impl Clone for CoseKey {
 impl CoseKey {
     /// A key of the reserved type that says nothing more. It takes no memory.
     pub fn new(alloc: Global) -> CoseKey
-        ensures { key_seen result ≡ empty_key }
+        ensures { key_view result ≡ empty_key }
     {
         CoseKey {
             kty: RegisteredLabel::Assigned(iana::KeyType::Reserved),
@@ -114,7 +114,7 @@ impl CoseKey {
     /// # Errors
     /// `OutOfMemory` alone.
     pub fn clone(&self) -> Result<CoseKey>
-        ensures copy { IfOk result (λ k. key_seen k ≡ key_seen self.now) }
+        ensures copy { IfOk result (λ k. key_view k ≡ key_view self.now) }
         ensures memory { IfErr result (λ e. e ≡ OutOfMemory) }
     {
         Ok(Clone::clone(self)?)
@@ -123,28 +123,63 @@ impl CoseKey {
     /// The value of the first of `params` with this label; `None` where none has it. A label that has a field (1 to 5)
     /// isn't among the params of a key that was read (RFC 8152, section 7.1).
     pub fn get(&self, label: &Label) -> Option<&Value>
-        ensures { option_map (λ v. view v.now) result ≡ lookup (same_name (label_seen label.now))
-            (key_seen self.now).params }
+        ensures { option_map (λ v. value_item v.now) result ≡ lookup (same_name
+            (label_view label.now))
+            (key_view self.now).params }
     {
         find_value(&self.params, label)
     }
 
     /// Puts `params` into the order of their labels' encodings: by their bytes (RFC 8949, section 4.2.1), or by their
-    /// lengths first (RFC 7049, section 3.9). Params with one label stay in the order in which they stand, and all else of
+    /// lengths first (RFC 7049, section 3.9). Params with one label stay in the order in which they are, and all else of
     /// the key stays. So all labels of a key that was read are written in that order, but that label 0, which only a param
     /// can have, is written behind 1 to 5. The work grows with n log n.
     ///
     /// # Errors
     /// `OutOfMemory` alone, and only of more than 20 params; the key is then as it was.
     pub fn canonicalize(&mut self, alloc: Global, ordering: CborOrdering) -> Result<()>
-        ensures canonical { Canonicalizes ordering (key_seen self.old) (key_seen self.new) result }
-        ensures stable { IsStableByKey (λ e. label_seen e.0) (name_cmp_by ordering)
+        ensures canonical { Canonicalizes ordering (key_view self.old) (key_view self.new) result }
+        ensures stable { IsStableByKey (λ e. label_view e.0) (name_cmp_by ordering)
             self.old.params.items self.new.params.items }
         ensures few { length self.old.params.items ≤ 20 → IsOk result }
     {
         let params = self.params.as_mut_slice();
         params.sort_by(alloc, |a, b| ordering.compare(&a.0, &b.0))?;
         Ok(())
+    }
+}
+
+/// A field of a key, by the labels of its pairs (RFC 8152, section 7.1).
+#[derive(Clone, Copy)]
+enum Field {
+    /// Label 1.
+    Kty,
+    /// Label 2.
+    KeyId,
+    /// Label 3.
+    Alg,
+    /// Label 4.
+    KeyOps,
+    /// Label 5.
+    BaseIv,
+    /// Any other label.
+    Params,
+}
+
+/// The field that a pair with this label goes to.
+fn field_of(label: &Label) -> Field
+    ensures { GoesTo (label_view label.now) result }
+{
+    let Label::Int(number) = label else {
+        return Field::Params;
+    };
+    match *number {
+        1 => Field::Kty,
+        2 => Field::KeyId,
+        3 => Field::Alg,
+        4 => Field::KeyOps,
+        5 => Field::BaseIv,
+        _ => Field::Params,
     }
 }
 
@@ -162,7 +197,7 @@ struct PartialKey {
 impl PartialKey {
     /// Nothing. It takes no memory.
     fn new(alloc: Global) -> PartialKey
-        ensures { so_far_seen result ≡ nothing }
+        ensures { so_far_view result ≡ nothing }
     {
         PartialKey {
             kty: None,
@@ -174,39 +209,33 @@ impl PartialKey {
         }
     }
 
-    /// Takes one more value, by its label, and goes behind it. Whether labels of the params repeat isn't asked.
+    /// Takes one more value, by its label, and goes behind it. Whether labels of the params repeat isn't checked.
     ///
     /// # Errors
     /// `OutOfMemory`; `DuplicateMapKey` where a field has a value already; or a fault of its value. What was read is then
     /// as before.
-    fn set_parameter(&mut self, alloc: Global, label: Label, input: &mut Input<'_>) -> Result<()>
+    fn set_parameter(&mut self, alloc: Global, label: Label, input: &mut Decoder<'_>) -> Result<()>
         ensures shrinks { length_left (state input.new) ≤ length_left (state input.old) }
         ensures takes { ReadsAt (state input.old) (state input.new) (λ v. OnOk result
-            (Adds names fields (label_seen label) v (so_far_seen self.old)
-            (so_far_seen self.new))) }
+            (Adds names fields (label_view label) v (so_far_view self.old)
+            (so_far_view self.new))) }
         ensures refused { ReadsAt (state input.old) (state input.new) (λ v. IfErr result
-            (λ e. UnlessMemory e (Refuses names fields (label_seen label) v
-            (so_far_seen self.old)))) }
-        ensures kept { OnErr result (so_far_seen self.new ≡ so_far_seen self.old) }
+            (λ e. UnlessMemory e (Refuses names fields (label_view label) v
+            (so_far_view self.old)))) }
+        ensures kept { OnErr result (so_far_view self.new ≡ so_far_view self.old) }
     {
-        if is_parameter(&label, KeyParameter::Kty) {
-            return set_field(alloc, &mut self.kty, input);
+        match field_of(&label) {
+            Field::Kty => set_field(alloc, &mut self.kty, input),
+            Field::KeyId => set_nonempty(alloc, &mut self.key_id, input),
+            Field::Alg => set_field(alloc, &mut self.alg, input),
+            Field::KeyOps => set_key_ops(alloc, &mut self.key_ops, input),
+            Field::BaseIv => set_nonempty(alloc, &mut self.base_iv, input),
+            Field::Params => {
+                let value = input.value(alloc)?;
+                self.params.push((label, value))?;
+                Ok(())
+            }
         }
-        if is_parameter(&label, KeyParameter::Kid) {
-            return set_nonempty(alloc, &mut self.key_id, input);
-        }
-        if is_parameter(&label, KeyParameter::Alg) {
-            return set_field(alloc, &mut self.alg, input);
-        }
-        if is_parameter(&label, KeyParameter::KeyOps) {
-            return set_key_ops(alloc, &mut self.key_ops, input);
-        }
-        if is_parameter(&label, KeyParameter::BaseIv) {
-            return set_nonempty(alloc, &mut self.base_iv, input);
-        }
-        let value = input.value(alloc)?;
-        self.params.push((label, value))?;
-        Ok(())
     }
 
     /// The key, where its type is there and isn't the reserved one.
@@ -214,7 +243,7 @@ impl PartialKey {
     /// # Errors
     /// `UnexpectedItem`.
     fn finish(self) -> Result<CoseKey>
-        ensures { IsFinished (so_far_seen self) result }
+        ensures { IsFinished (so_far_view self) result }
     {
         let PartialKey {
             kty,
@@ -238,7 +267,7 @@ impl PartialKey {
     }
 }
 
-impl Gather for PartialKey {
+impl MapVisitor for PartialKey {
     ghost use Rattle.coset_label.specs.Names.{Name};
     ghost use Rattle.coset_label.specs.LabelLaws.{names_laws};
     ghost use Rattle.coset_key.specs.Keys.{FieldTuple};
@@ -254,9 +283,9 @@ impl Gather for PartialKey {
 
     ghost fields = { fields };
 
-    ghost named = { label_seen };
+    ghost named = { label_view };
 
-    ghost seen = { so_far_seen };
+    ghost view = { so_far_view };
 
     ghost lawful_names = { names_laws };
 
@@ -264,19 +293,19 @@ impl Gather for PartialKey {
 
     fn next_label(
         alloc: Global,
-        pairs: &mut InputPairs,
-        input: &mut Input<'_>,
+        pairs: &mut MapEntries,
+        input: &mut Decoder<'_>,
     ) -> Result<Option<Label>> {
         pairs.next_key(alloc, input)
     }
 
-    fn add(&mut self, alloc: Global, label: Label, input: &mut Input<'_>) -> Result<()> {
+    fn add(&mut self, alloc: Global, label: Label, input: &mut Decoder<'_>) -> Result<()> {
         self.set_parameter(alloc, label, input)
     }
 
     fn repeats(&self, alloc: Global) -> Result<bool>
         ensures repeats { IfOk result (λ b. b ≡ not
-            (are_distinct names.same (keys_of (so_far_seen self.now).1))) }
+            (are_distinct names.same (keys_of (so_far_view self.now).1))) }
         ensures memory { IfErr result (λ e. e ≡ OutOfMemory) }
     {
         has_repeats(alloc, &self.params)
@@ -284,21 +313,21 @@ impl Gather for PartialKey {
 }
 
 impl Codec for CoseKey {
-    ghost use Rattle.coset_key.specs.Equality.{key_told};
-    ghost use Rattle.coset_key.specs.Keys.{KeySeen};
+    ghost use Rattle.coset_key.specs.Equality.{key_decides};
+    ghost use Rattle.coset_key.specs.Keys.{KeyView};
     ghost use Rattle.coset_key.specs.KeyLaws.{key_laws};
 
-    ghost Seen = { KeySeen };
+    ghost View = { KeyView };
 
-    ghost seen = { key_seen };
+    ghost view = { key_view };
 
     ghost shape = { key_shape };
 
     ghost laws = { key_laws };
 
-    ghost equal = { key_told };
+    ghost equal = { key_decides };
 
-    fn read(alloc: Global, input: &mut Input<'_>) -> Result<CoseKey> {
+    fn read(alloc: Global, input: &mut Decoder<'_>) -> Result<CoseKey> {
         let mut so_far = PartialKey::new(alloc);
         read_map(alloc, input, &mut so_far)?;
         so_far.finish()
@@ -340,7 +369,7 @@ fn write_key_ops(
     out: &mut Vec<u8>,
 ) -> Result<()>
     ensures ok { OnOk result (AppendsField (parameters.number labels.KeyOps)
-        ((unless_empty key_ops_shape).image (map operation_seen operations.now.keys)) out.old.items
+        ((unless_empty key_ops_shape).image (map operation_view operations.now.keys)) out.old.items
         out.new.items) }
     ensures memory { IfErr result (λ e. e ≡ OutOfMemory) }
     ensures kept { Extends out.old.items out.new.items }
@@ -377,14 +406,14 @@ impl Model for CoseKeyBuilder {
 impl CoseKeyBuilder {
     /// A key of the reserved type that says nothing more. It takes no memory.
     pub fn new(alloc: Global) -> CoseKeyBuilder
-        ensures { key_seen result ≡ empty_key }
+        ensures { key_view result ≡ empty_key }
     {
         CoseKeyBuilder(CoseKey::new(alloc))
     }
 
     /// An octet key pair (RFC 8152, section 13.2), without params. It takes no memory.
     pub fn new_okp_key(alloc: Global) -> CoseKeyBuilder
-        ensures { key_seen result ≡ okp_key }
+        ensures { key_view result ≡ okp_key }
     {
         CoseKeyBuilder::new(alloc).key_type(iana::KeyType::OKP)
     }
@@ -399,7 +428,7 @@ impl CoseKeyBuilder {
         x: Vec<u8>,
         y: Vec<u8>,
     ) -> Result<CoseKeyBuilder>
-        ensures ok { IfOk result (λ b. key_seen b ≡ ec2_key curve x.items (bytes y.items)) }
+        ensures ok { IfOk result (λ b. key_view b ≡ ec2_key curve x.items (bytes y.items)) }
         ensures memory { IfErr result (λ e. e ≡ OutOfMemory) }
     {
         new_ec2_key(alloc, curve, x, Value::Bytes(y))
@@ -416,7 +445,7 @@ impl CoseKeyBuilder {
         x: Vec<u8>,
         y_sign: bool,
     ) -> Result<CoseKeyBuilder>
-        ensures ok { IfOk result (λ b. key_seen b ≡ ec2_key curve x.items (boolean y_sign)) }
+        ensures ok { IfOk result (λ b. key_view b ≡ ec2_key curve x.items (boolean y_sign)) }
         ensures memory { IfErr result (λ e. e ≡ OutOfMemory) }
     {
         new_ec2_key(alloc, curve, x, Value::Bool(y_sign))
@@ -433,7 +462,7 @@ impl CoseKeyBuilder {
         y: Vec<u8>,
         d: Vec<u8>,
     ) -> Result<CoseKeyBuilder>
-        ensures ok { IfOk result (λ b. key_seen b ≡ ec2_private_key curve x.items y.items d.items) }
+        ensures ok { IfOk result (λ b. key_view b ≡ ec2_private_key curve x.items y.items d.items) }
         ensures memory { IfErr result (λ e. e ≡ OutOfMemory) }
     {
         let key = CoseKeyBuilder::new_ec2_pub_key(alloc, curve, x, y)?;
@@ -449,7 +478,7 @@ impl CoseKeyBuilder {
         variant: MlDsaVariant,
         k: Vec<u8>,
     ) -> Result<CoseKeyBuilder>
-        ensures ok { IfOk result (λ b. key_seen b ≡ ml_dsa_key variant k.items) }
+        ensures ok { IfOk result (λ b. key_view b ≡ ml_dsa_key variant k.items) }
         ensures memory { IfErr result (λ e. e ≡ OutOfMemory) }
     {
         let key = CoseKeyBuilder::new(alloc).key_type(iana::KeyType::AKP);
@@ -462,7 +491,7 @@ impl CoseKeyBuilder {
     /// # Errors
     /// `OutOfMemory` alone.
     pub fn new_symmetric_key(alloc: Global, k: Vec<u8>) -> Result<CoseKeyBuilder>
-        ensures ok { IfOk result (λ b. key_seen b ≡ symmetric_key k.items) }
+        ensures ok { IfOk result (λ b. key_view b ≡ symmetric_key k.items) }
         ensures memory { IfErr result (λ e. e ≡ OutOfMemory) }
     {
         let key = CoseKeyBuilder::new(alloc).key_type(iana::KeyType::Symmetric);
@@ -478,14 +507,14 @@ impl CoseKeyBuilder {
 
     /// Sets the type (label 1).
     pub fn key_type(self, key_type: iana::KeyType) -> CoseKeyBuilder
-        ensures { key_seen result ≡ with_kty (number (kinds.number key_type)) (key_seen self) }
+        ensures { key_view result ≡ with_kty (number (kinds.number key_type)) (key_view self) }
     {
         self.kty(RegisteredLabel::Assigned(key_type))
     }
 
     /// Sets the type (label 1) to a label, which may be a text.
     pub fn kty(mut self, kty: KeyType) -> CoseKeyBuilder
-        ensures { key_seen result ≡ with_kty (kty_seen kty) (key_seen self) }
+        ensures { key_view result ≡ with_kty (kty_view kty) (key_view self) }
     {
         self.0.kty = kty;
         self
@@ -493,7 +522,7 @@ impl CoseKeyBuilder {
 
     /// Sets the identifier (label 2).
     pub fn key_id(mut self, key_id: Vec<u8>) -> CoseKeyBuilder
-        ensures { key_seen result ≡ with_key_id key_id.items (key_seen self) }
+        ensures { key_view result ≡ with_key_id key_id.items (key_view self) }
     {
         self.0.key_id = key_id;
         self
@@ -504,7 +533,7 @@ impl CoseKeyBuilder {
     /// # Errors
     /// `OutOfMemory` alone.
     pub fn key_id_from(self, alloc: Global, key_id: &[u8]) -> Result<CoseKeyBuilder>
-        ensures ok { IfOk result (λ b. key_seen b ≡ with_key_id key_id.now (key_seen self)) }
+        ensures ok { IfOk result (λ b. key_view b ≡ with_key_id key_id.now (key_view self)) }
         ensures memory { IfErr result (λ e. e ≡ OutOfMemory) }
     {
         Ok(self.key_id(Vec::from_slice(alloc, key_id)?))
@@ -512,8 +541,8 @@ impl CoseKeyBuilder {
 
     /// Sets the algorithm (label 3).
     pub fn algorithm(mut self, algorithm: iana::Algorithm) -> CoseKeyBuilder
-        ensures { key_seen result
-            ≡ with_algorithm (assigned (algorithms.number algorithm)) (key_seen self) }
+        ensures { key_view result
+            ≡ with_algorithm (assigned (algorithms.number algorithm)) (key_view self) }
     {
         self.0.alg = Some(RegisteredLabelWithPrivate::Assigned(algorithm));
         self
@@ -524,8 +553,8 @@ impl CoseKeyBuilder {
     /// # Errors
     /// `OutOfMemory` alone.
     pub fn add_key_op(mut self, op: iana::KeyOperation) -> Result<CoseKeyBuilder>
-        ensures ok { IfOk result (λ b. key_seen b
-            ≡ and_operation (number (operations.number op)) (key_seen self)) }
+        ensures ok { IfOk result (λ b. key_view b
+            ≡ and_operation (number (operations.number op)) (key_view self)) }
         ensures memory { IfErr result (λ e. e ≡ OutOfMemory) }
     {
         add_operation(&mut self.0.key_ops, RegisteredLabel::Assigned(op))?;
@@ -534,7 +563,7 @@ impl CoseKeyBuilder {
 
     /// Sets the Base IV (label 5).
     pub fn base_iv(mut self, base_iv: Vec<u8>) -> CoseKeyBuilder
-        ensures { key_seen result ≡ with_base_iv base_iv.items (key_seen self) }
+        ensures { key_view result ≡ with_base_iv base_iv.items (key_view self) }
     {
         self.0.base_iv = base_iv;
         self
@@ -545,7 +574,7 @@ impl CoseKeyBuilder {
     /// # Errors
     /// `OutOfMemory` alone.
     pub fn base_iv_from(self, alloc: Global, base_iv: &[u8]) -> Result<CoseKeyBuilder>
-        ensures ok { IfOk result (λ b. key_seen b ≡ with_base_iv base_iv.now (key_seen self)) }
+        ensures ok { IfOk result (λ b. key_view b ≡ with_base_iv base_iv.now (key_view self)) }
         ensures memory { IfErr result (λ e. e ≡ OutOfMemory) }
     {
         Ok(self.base_iv(Vec::from_slice(alloc, base_iv)?))
@@ -558,8 +587,8 @@ impl CoseKeyBuilder {
     /// `OutOfMemory` alone.
     pub fn param(self, label: i64, value: Value) -> Result<CoseKeyBuilder>
         requires { IsOtherLabel label }
-        ensures ok { IfOk result (λ b. key_seen b
-            ≡ and_param (number label) (view value) (key_seen self)) }
+        ensures ok { IfOk result (λ b. key_view b
+            ≡ and_param (number label) (value_item value) (key_view self)) }
         ensures memory { IfErr result (λ e. e ≡ OutOfMemory) }
     {
         prove!(label < 0 || 5 < label);
@@ -568,8 +597,8 @@ impl CoseKeyBuilder {
 
     /// Adds a pair with a number as its label.
     fn and_param(mut self, label: i64, value: Value) -> Result<CoseKeyBuilder>
-        ensures ok { IfOk result (λ b. key_seen b
-            ≡ and_param (number label) (view value) (key_seen self)) }
+        ensures ok { IfOk result (λ b. key_view b
+            ≡ and_param (number label) (value_item value) (key_view self)) }
         ensures memory { IfErr result (λ e. e ≡ OutOfMemory) }
     {
         self.0.params.push((Label::Int(label), value))?;
@@ -579,7 +608,7 @@ impl CoseKeyBuilder {
 
 /// A key of an elliptic curve with two coordinates, of which the second is a byte string, or its sign.
 fn new_ec2_key(alloc: Global, curve: EllipticCurve, x: Vec<u8>, y: Value) -> Result<CoseKeyBuilder>
-    ensures ok { IfOk result (λ b. key_seen b ≡ ec2_key curve x.items (view y)) }
+    ensures ok { IfOk result (λ b. key_view b ≡ ec2_key curve x.items (value_item y)) }
     ensures memory { IfErr result (λ e. e ≡ OutOfMemory) }
 {
     CoseKeyBuilder::new(alloc)

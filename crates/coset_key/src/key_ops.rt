@@ -9,22 +9,22 @@ ghost use Rattle.coset_codec.specs.Errors.{UnlessMemory};
 ghost use Rattle.coset_codec.specs.Inputs.{AreWithin, GoesBehind, ReadsAt, State, length_left, state};
 ghost use Rattle.coset_codec.specs.Maps.{RefusesValue, TakesValue, unless_empty};
 ghost use Rattle.coset_label.specs.Names.{name_cmp};
-ghost use Rattle.coset_key.specs.Keys.{key_ops, operation, operation_seen};
-ghost use Rattle.coset_key.specs.Reading.{ReadsSet, operations_seen};
+ghost use Rattle.coset_key.specs.Keys.{key_ops, operation, operation_view};
+ghost use Rattle.coset_key.specs.Reading.{ReadsSet, operations_view};
 
 use coset_cbor::ser::write_array_head;
-use coset_codec::read::{Input, InputItems};
+use coset_codec::read::{ArrayElements, Decoder};
 use coset_label::{CoseError, Encode, FromPull, KeyOperation, Result};
 use std::alloc::Global;
 use std::collections::BTreeSet;
 
 /// Reads a key operation.
 #[tactic(auto, unfolding(crate::specs::Keys::operation))]
-fn read_operation(alloc: Global, input: &mut Input<'_>) -> Result<KeyOperation>
+fn read_operation(alloc: Global, input: &mut Decoder<'_>) -> Result<KeyOperation>
     ensures shrinks { length_left (state input.new) ≤ length_left (state input.old) }
     ensures strictly { OnOk result (GoesBehind (state input.old) (state input.new)) }
     ensures reads { ReadsAt (state input.old) (state input.new)
-        (λ v. Reads operation operation_seen v result) }
+        (λ v. Reads operation operation_view v result) }
 {
     KeyOperation::from_input(alloc, input)
 }
@@ -32,19 +32,19 @@ fn read_operation(alloc: Global, input: &mut Input<'_>) -> Result<KeyOperation>
 /// Reads the key operations that are left, from the first on.
 ///
 /// # Errors
-/// `OutOfMemory`; `UnexpectedItem` where an operation stands twice; or the fault of an operation.
+/// `OutOfMemory`; `UnexpectedItem` where an operation occurs twice; or the fault of an operation.
 fn read_operations(
     alloc: Global,
-    members: &mut InputItems,
-    input: &mut Input<'_>,
+    elements: &mut ArrayElements,
+    input: &mut Decoder<'_>,
 ) -> Result<BTreeSet<KeyOperation>>
     ensures shrinks { length_left (state input.new) ≤ length_left (state input.old) }
-    ensures reads { (vs : Items) (z : State) → AreWithin members.old vs (state input.old) z
-        → ((left : Items) × AreWithin members.new left (state input.new) z)
-        × ReadsSet name_cmp operation operations_seen vs result }
+    ensures reads { (vs : Items) (z : State) → AreWithin elements.old vs (state input.old) z
+        → ((left : Items) × AreWithin elements.new left (state input.new) z)
+        × ReadsSet name_cmp operation operations_view vs result }
 {
     let mut operations = BTreeSet::new(alloc);
-    while members.next(input) {
+    while elements.next(input) {
         if !operations.insert(read_operation(alloc, input)?)? {
             return Err(CoseError::UnexpectedItem("repeated array entry", "unique array label"));
         }
@@ -55,16 +55,16 @@ fn read_operations(
 /// Reads key operations, from the first on.
 ///
 /// # Errors
-/// `OutOfMemory`; or `UnexpectedItem` where the item is no array, an operation stands in it twice, or it is empty; or the
+/// `OutOfMemory`; or `UnexpectedItem` where the item is no array, an operation is in it twice, or it is empty; or the
 /// fault of an operation.
-fn read_key_ops(alloc: Global, input: &mut Input<'_>) -> Result<BTreeSet<KeyOperation>>
+fn read_key_ops(alloc: Global, input: &mut Decoder<'_>) -> Result<BTreeSet<KeyOperation>>
     ensures shrinks { length_left (state input.new) ≤ length_left (state input.old) }
     ensures reads { ReadsAt (state input.old) (state input.new)
-        (λ v. Reads key_ops (λ s. map operation_seen s.keys) v result) }
+        (λ v. Reads key_ops (λ s. map operation_view s.keys) v result) }
 {
-    let mut members = input.enter_array("array")?;
-    let operations = read_operations(alloc, &mut members, input);
-    members.finish(input);
+    let mut elements = input.enter_array("array")?;
+    let operations = read_operations(alloc, &mut elements, input);
+    elements.finish(input);
     let operations = operations?;
     if operations.is_empty() {
         return Err(CoseError::UnexpectedItem("empty array", "non-empty array"));
@@ -76,15 +76,15 @@ fn read_key_ops(alloc: Global, input: &mut Input<'_>) -> Result<BTreeSet<KeyOper
 pub(crate) fn set_key_ops(
     alloc: Global,
     field: &mut BTreeSet<KeyOperation>,
-    input: &mut Input<'_>,
+    input: &mut Decoder<'_>,
 ) -> Result<()>
     ensures shrinks { length_left (state input.new) ≤ length_left (state input.old) }
     ensures takes { ReadsAt (state input.old) (state input.new) (λ v. OnOk result
         (TakesValue (unless_empty key_ops) v
-        (map operation_seen field.old.keys) (map operation_seen field.new.keys))) }
+        (map operation_view field.old.keys) (map operation_view field.new.keys))) }
     ensures refused { ReadsAt (state input.old) (state input.new) (λ v. IfErr result
         (λ e. UnlessMemory e (RefusesValue (unless_empty key_ops) v
-        (map operation_seen field.old.keys)))) }
+        (map operation_view field.old.keys)))) }
     ensures kept { OnErr result (field.new ≡ field.old) }
 {
     if !field.is_empty() {
@@ -99,8 +99,8 @@ pub(crate) fn add_operation(
     operations: &mut BTreeSet<KeyOperation>,
     operation: KeyOperation,
 ) -> Result<()>
-    ensures ok { OnOk result (map operation_seen operations.new.keys
-        ≡ insert_key name_cmp (map operation_seen operations.old.keys) (operation_seen operation)) }
+    ensures ok { OnOk result (map operation_view operations.new.keys
+        ≡ insert_key name_cmp (map operation_view operations.old.keys) (operation_view operation)) }
     ensures memory { IfErr result (λ e. e ≡ OutOfMemory) }
 {
     operations.insert(operation)?;
@@ -114,7 +114,7 @@ pub(crate) struct KeyOps<'a>(pub(crate) &'a BTreeSet<KeyOperation>);
 impl Encode for KeyOps<'_> {
     ghost use Rattle.coset_codec.specs.Shape.{list_of};
 
-    ghost image = { λ s. (list_of operation).image (map operation_seen s.0.now.keys) };
+    ghost image = { λ s. (list_of operation).image (map operation_view s.0.now.keys) };
 
     fn encode(&self, alloc: Global, out: &mut Vec<u8>) -> Result<()> {
         write_array_head(self.0.len(), out)?;

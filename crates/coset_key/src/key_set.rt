@@ -4,11 +4,11 @@ ghost use Rattle.std.specs.Prelude.{◌≡◌, [], IfOk, IfErr};
 ghost use Rattle.coset_codec.specs.declared.error.CoseError.TheVariants.{OutOfMemory};
 ghost use Rattle.coset_codec.specs.Alone.{AreReadAlone, elements};
 ghost use Rattle.coset_codec.specs.Answers.{IsRefused};
-ghost use Rattle.coset_key.specs.Keys.{key, key_seen, key_set, key_set_seen};
+ghost use Rattle.coset_key.specs.Keys.{key, key_view, key_set, key_set_view};
 
 use crate::key::CoseKey;
 use coset_codec::Codec;
-use coset_codec::read::{Input, each_from_slice, read_list};
+use coset_codec::read::{Decoder, each_from_slice, read_list};
 use coset_codec::write::Array;
 use coset_label::{Encode, Result};
 use std::alloc::{AllocError, Global};
@@ -23,7 +23,7 @@ pub struct CoseKeySet(pub Vec<CoseKey>);
 
 /// The same as [`CoseKeySet::clone`], for generic code.
 impl Clone for CoseKeySet {
-    ghost is_clone = { λ keys copy. key_set_seen copy ≡ key_set_seen keys };
+    ghost is_clone = { λ keys copy. key_set_view copy ≡ key_set_view keys };
 
     fn clone(&self) -> Result<CoseKeySet, AllocError> {
         Ok(CoseKeySet(self.0.clone()?))
@@ -33,7 +33,7 @@ impl Clone for CoseKeySet {
 impl CoseKeySet {
     /// No keys. It takes no memory.
     pub fn new(alloc: Global) -> CoseKeySet
-        ensures { key_set_seen result ≡ [] }
+        ensures { key_set_view result ≡ [] }
     {
         CoseKeySet(Vec::new(alloc))
     }
@@ -44,7 +44,7 @@ impl CoseKeySet {
     /// # Errors
     /// Why the bytes aren't an array, or `OutOfMemory`.
     pub fn each_from_slice(alloc: Global, bytes: &[u8]) -> Result<Vec<Result<CoseKey>>>
-        ensures each { IfOk result (λ keys. AreReadAlone key key_seen bytes.now keys.items) }
+        ensures each { IfOk result (λ keys. AreReadAlone key key_view bytes.now keys.items) }
         ensures refused { IfErr result (λ e. IsRefused elements bytes.now e) }
     {
         each_from_slice(alloc, bytes)
@@ -55,7 +55,7 @@ impl CoseKeySet {
     /// # Errors
     /// `OutOfMemory` alone.
     pub fn clone(&self) -> Result<CoseKeySet>
-        ensures copy { IfOk result (λ s. key_set_seen s ≡ key_set_seen self.now) }
+        ensures copy { IfOk result (λ s. key_set_view s ≡ key_set_view self.now) }
         ensures memory { IfErr result (λ e. e ≡ OutOfMemory) }
     {
         Ok(Clone::clone(self)?)
@@ -63,24 +63,24 @@ impl CoseKeySet {
 }
 
 impl Codec for CoseKeySet {
-    ghost use Rattle.coset_codec.specs.Told.{lists_told};
-    ghost use Rattle.coset_key.specs.Equality.{key_told};
+    ghost use Rattle.coset_codec.specs.EqDecides.{lists_decides};
+    ghost use Rattle.coset_key.specs.Equality.{key_decides};
     ghost use Rattle.std.specs.Prelude.{List};
-    ghost use Rattle.coset_key.specs.Keys.{KeySeen};
+    ghost use Rattle.coset_key.specs.Keys.{KeyView};
     ghost use Rattle.coset_key.specs.KeyLaws.{key_set_laws};
 
-    ghost Seen = { List KeySeen };
+    ghost View = { List KeyView };
 
-    ghost seen = { key_set_seen };
+    ghost view = { key_set_view };
 
     ghost shape = { key_set };
 
     ghost laws = { key_set_laws };
 
-    ghost equal = { λ a b. lists_told key_seen _ key_told a.0.items b.0.items };
+    ghost equal = { λ a b. lists_decides key_view _ key_decides a.0.items b.0.items };
 
     /// Reads a set of keys, from the first on.
-    fn read(alloc: Global, input: &mut Input<'_>) -> Result<CoseKeySet> {
+    fn read(alloc: Global, input: &mut Decoder<'_>) -> Result<CoseKeySet> {
         Ok(CoseKeySet(read_list(alloc, input, "array")?))
     }
 

@@ -1,12 +1,12 @@
 //! Laws of keys, which callers may cite. Each is the contract of a function that does nothing. What holds of each type that
-//! is read and written stands in `coset_codec::laws`.
+//! is read and written is in `coset_codec::laws`.
 
 ghost use Rattle.std.specs.Prelude.{◌≡◌, ◌≤◌, ℕ, Contains, List, Ok};
 ghost use Rattle.coset_value.specs.Item.{Item, depth};
 ghost use Rattle.coset_iana.specs.declared.keys.EllipticCurve.{EllipticCurve};
 ghost use Rattle.coset_label.specs.declared.ordering.CborOrdering.{CborOrdering};
 ghost use Rattle.coset_key.specs.Canonical.{CanonicalApart, CanonicalReadsAgain, LabelsAscend, ZeroBehindFields};
-ghost use Rattle.coset_key.specs.Keys.{KeySeen, key, key_set};
+ghost use Rattle.coset_key.specs.Keys.{KeyView, key, key_set};
 ghost use Rattle.coset_key.specs.MlDsa.{algorithm_of};
 ghost use Rattle.coset_key.specs.Sec1.{IsMalformed, Point, Spells, key_point, octets, point_key};
 ghost use Rattle.coset_key.specs.declared.ml_dsa.MlDsaVariant.{MlDsaVariant};
@@ -32,7 +32,7 @@ pub fn ml_dsa_variants_come_back()
 /// Each key of a set that was read is described by an item within 255 levels. So what holds of a key that such an item
 /// describes, as the laws below say, holds of the keys of a set.
 pub fn keys_of_a_set()
-    ensures { (b : List ℕ) (s : List KeySeen) (k : KeySeen) → Describes key_set b s → Contains s k
+    ensures { (b : List ℕ) (s : List KeyView) (k : KeyView) → Describes key_set b s → Contains s k
         → (v : Item) × key.describes v k × (depth v ≤ 255) }
 {}
 

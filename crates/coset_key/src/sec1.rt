@@ -1,11 +1,11 @@
 //! Points of elliptic curves as octet strings (SEC 1, sections 2.3.3 and 2.3.4; RFC 8152, section 13.1.1).
 
 ghost use Rattle.std.specs.Prelude.{◌≡◌, ◌∷◌, ◌++◌, option_map, IfOk, IfErr};
-ghost use Rattle.coset_value.specs.View.{view};
+ghost use Rattle.coset_value.specs.View.{value_item};
 ghost use Rattle.coset_iana.specs.Ec2KeyParameter as ec2;
 ghost use Rattle.coset_codec.specs.declared.error.CoseError.TheVariants.{OutOfMemory};
 ghost use Rattle.coset_label.specs.Names.{number};
-ghost use Rattle.coset_key.specs.Keys.{key_seen};
+ghost use Rattle.coset_key.specs.Keys.{key_view};
 ghost use Rattle.coset_key.specs.Sec1.{GivesOctets, ParsesSec1, compressed, key_point, param, parse_sec1_error_text, point, point_key, to_sec1_error_text, uncompressed};
 ghost use Rattle.coset_key.specs.declared.sec1.ToSec1OctetStringError.TheVariants as errors;
 
@@ -104,7 +104,7 @@ fn join(alloc: Global, first: u8, x: &[u8], y: &[u8]) -> Result<Vec<u8>, ToSec1O
 
 /// The octet string of the point with this x, and y as the value says.
 fn octet_string(alloc: Global, x: &[u8], y: &Value) -> Result<Vec<u8>, ToSec1OctetStringError>
-    ensures { GivesOctets (point x.now (view y.now)) result }
+    ensures { GivesOctets (point x.now (value_item y.now)) result }
 {
     match y {
         Value::Bool(false) => join(alloc, COMPRESSED_EVEN, x, &[]),
@@ -118,8 +118,8 @@ fn octet_string(alloc: Global, x: &[u8], y: &Value) -> Result<Vec<u8>, ToSec1Oct
 impl CoseKey {
     /// The value of the first of the params with this label.
     fn param(&self, parameter: Ec2KeyParameter) -> Option<&Value>
-        ensures { option_map (λ v. view v.now) result
-            ≡ param (number (ec2.number parameter)) (key_seen self.now) }
+        ensures { option_map (λ v. value_item v.now) result
+            ≡ param (number (ec2.number parameter)) (key_view self.now) }
     {
         for (label, value) in &self.params {
             if is_parameter(label, parameter) {
@@ -137,7 +137,7 @@ impl CoseKey {
     /// The first of these: `NotEcKey`, `MissingCoordinate`, `InvalidCoordinateType`, `UnequalCoordinateLength`,
     /// `OutOfMemory`.
     pub fn to_sec1_octet_string(&self, alloc: Global) -> Result<Vec<u8>, ToSec1OctetStringError>
-        ensures { GivesOctets (key_point (key_seen self.now)) result }
+        ensures { GivesOctets (key_point (key_view self.now)) result }
     {
         if self.kty != RegisteredLabel::Assigned(iana::KeyType::EC2) {
             return Err(ToSec1OctetStringError::NotEcKey);
@@ -162,7 +162,7 @@ fn compressed_key(
     x: &[u8],
     y_sign: bool,
 ) -> Result<CoseKeyBuilder>
-    ensures ok { IfOk result (λ b. key_seen b ≡ point_key curve (compressed y_sign x.now)) }
+    ensures ok { IfOk result (λ b. key_view b ≡ point_key curve (compressed y_sign x.now)) }
     ensures memory { IfErr result (λ e. e ≡ OutOfMemory) }
 {
     let x = Vec::from_slice(alloc, x)?;
@@ -176,7 +176,7 @@ fn uncompressed_key(
     x: &[u8],
     y: &[u8],
 ) -> Result<CoseKeyBuilder>
-    ensures ok { IfOk result (λ b. key_seen b ≡ point_key curve (uncompressed x.now y.now)) }
+    ensures ok { IfOk result (λ b. key_view b ≡ point_key curve (uncompressed x.now y.now)) }
     ensures memory { IfErr result (λ e. e ≡ OutOfMemory) }
 {
     let x = Vec::from_slice(alloc, x)?;

@@ -2,3 +2,4 @@ pub mod Numbers
 pub mod Encodings
 pub mod Copies
 pub mod Memory
+pub mod Apart

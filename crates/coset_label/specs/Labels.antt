@@ -38,7 +38,7 @@ IsUnregistered e = e ≡ errors.UnregisteredIanaValue
 abbrev pub IsNotPrivate : CoseError → Type 0
 IsNotPrivate e = e ≡ errors.UnregisteredIanaNonPrivateValue
 
--- the number of one of a registry's values, or a text. `known i` tells whether i is such a number
+-- the number of one of a registry's values, or a text. `known i` says whether i is such a number
 abbrev pub registered : (ℤ → Bool) → Shape Name
 registered known = mapped name_of of_name (either is_integer (such_that IsUnregistered (λ i. known i ≡ true) int64) tstr)
 

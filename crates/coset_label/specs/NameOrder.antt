@@ -200,7 +200,7 @@ canonical_cmp_total = search comparing
 pub registered_cmp_total : IsTotalOrder registered_cmp
 registered_cmp_total = search comparing depth 9
 
--- a total order tells apart what it doesn't call level unless equal
+-- a total order distinguishes what it doesn't call level unless equal
 tells-apart : {A : Type 0} (R : A → A → Ordering) → IsTotalOrder R → ((a b : A) → R a b ≡ Equal → a ≡ b) → TellsApart R
 tells-apart R total only a b = (λ e. only a b ((Equal-is (R a b)).0 e), λ same. subst (λ x. is_eq (R a x) ≡ true) same (ap is_eq (tied_itself total a)))
 

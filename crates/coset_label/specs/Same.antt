@@ -6,7 +6,7 @@ use Rattle.coset_value.specs.Item.{Item}
 use Rattle.coset_value.specs.Same.{item_eq}
 use Rattle.coset_label.specs.Names.{Name, RegisteredName, registered_cmp, same_name}
 
--- a test that tells equal from unequal
+-- a test that distinguishes equal from unequal
 abbrev pub IsEquality : {A : Type 0} → (A → A → Bool) → Type 0
 IsEquality {A} test = (x y : A) → Decides (test x y) (x ≡ y)
 

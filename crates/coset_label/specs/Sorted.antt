@@ -1,4 +1,4 @@
--- Pairs in the order of their labels: of lists with the same pairs, where no label stands twice, only one is in order.
+-- Pairs in the order of their labels: of lists with the same pairs, where no label occurs twice, only one is in order.
 use Rattle.std.specs.Prelude.{◌≡◌, List}
 use Rattle.std.specs.List.{IsDistinct}
 use Rattle.std.specs.List.Sorted.{IsPermutation, IsSortedByKey}
@@ -7,7 +7,7 @@ use Rattle.std.specs.Ordering.{eq_by_cmp}
 use Rattle.std.specs.declared.cmp.Ordering.{Ordering}
 use Rattle.coset_value.specs.Item.{Item}
 
--- no label stands before one that is less
+-- no label is before one that is less
 abbrev pub AreInOrder : {N : Type 0} → (N → N → Ordering) → List (N × Item) → Type 0
 AreInOrder cmp es = IsSortedByKey (λ e. e.0) cmp es
 

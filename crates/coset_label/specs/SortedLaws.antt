@@ -82,7 +82,7 @@ module _ {N : Type 0} {cmp : N → N → Ordering} (o : IsTotalOrder cmp) where
         | inr m ↦ elim (in-cases x xs y d) [ inl h ↦ h | inr n ↦ absurd (not-both x.0 y.0 (above x xs y s n) (above y ys x t m)) ]
       ]
 
-  -- a member behind the first is behind that of the other list, which is the same
+  -- an element behind the first is behind that of the other list, which is the same
   behind : (x y : N × Item) (xs ys : List (N × Item)) (e : N × Item) → IsStrictlySortedBy cmp (keys_of (x ∷ xs)) → x ≡ y → Contains (y ∷ ys) e → Contains xs e
       → Contains ys e
   behind x y xs ys e s one d c =
@@ -93,7 +93,7 @@ module _ {N : Type 0} {cmp : N → N → Ordering} (o : IsTotalOrder cmp) where
         | inr m ↦ m
       ]
 
-  -- lists each of which is strictly in order, with the same members, are one
+  -- lists each of which is strictly in order, with the same elements, are one
   alike : (xs ys : List (N × Item)) → IsStrictlySortedBy cmp (keys_of xs) → IsStrictlySortedBy cmp (keys_of ys)
       → ((e : N × Item) → Contains xs e → Contains ys e) → ((e : N × Item) → Contains ys e → Contains xs e) → xs ≡ ys
   alike [] [] s t f g = refl

@@ -2,7 +2,7 @@
 use Rattle.std.specs.Prelude.{ℕ, ℤ, List, Option, Some, string_bytes}
 use Rattle.std.specs.Fmt.{debug_str, signed_decimal}
 use Rattle.coset_value.specs.Item.{Item}
-use Rattle.coset_value.specs.View.{view}
+use Rattle.coset_value.specs.View.{value_item}
 use Rattle.coset_value.specs.declared.value.Value.{Value}
 use Rattle.coset_iana.specs.Algorithm as algorithms
 use Rattle.coset_iana.specs.declared.algorithms.Algorithm.{Algorithm}
@@ -14,26 +14,26 @@ use Rattle.coset_label.specs.declared.registered.RegisteredLabel.TheVariants as 
 use Rattle.coset_label.specs.declared.registered.RegisteredLabelWithPrivate.{RegisteredLabelWithPrivate}
 use Rattle.coset_label.specs.declared.registered.RegisteredLabelWithPrivate.TheVariants as with_private
 
-abbrev pub label_seen : Label → Name
-label_seen (Int i) = number i
-label_seen (Text s) = text_label (string_bytes s)
+abbrev pub label_view : Label → Name
+label_view (Int i) = number i
+label_view (Text s) = text_label (string_bytes s)
 
 -- a value of a registry is seen as its number
-abbrev pub registered_seen : {T : Type 0} → (T → ℤ) → RegisteredLabel T → Name
-registered_seen number_of (registered.Assigned x) = number (number_of x)
-registered_seen number_of (registered.Text s) = text_label (string_bytes s)
+abbrev pub registered_view : {T : Type 0} → (T → ℤ) → RegisteredLabel T → Name
+registered_view number_of (registered.Assigned x) = number (number_of x)
+registered_view number_of (registered.Text s) = text_label (string_bytes s)
 
-abbrev pub registered_or_private_seen : {T : Type 0} → (T → ℤ) → RegisteredLabelWithPrivate T → RegisteredName
-registered_or_private_seen number_of (with_private.PrivateUse i) = private_use i
-registered_or_private_seen number_of (with_private.Assigned x) = assigned (number_of x)
-registered_or_private_seen number_of (with_private.Text s) = text_name (string_bytes s)
+abbrev pub registered_or_private_view : {T : Type 0} → (T → ℤ) → RegisteredLabelWithPrivate T → RegisteredName
+registered_or_private_view number_of (with_private.PrivateUse i) = private_use i
+registered_or_private_view number_of (with_private.Assigned x) = assigned (number_of x)
+registered_or_private_view number_of (with_private.Text s) = text_name (string_bytes s)
 
-abbrev pub algorithm_seen : RegisteredLabelWithPrivate Algorithm → RegisteredName
-algorithm_seen = registered_or_private_seen algorithms.number
+abbrev pub algorithm_view : RegisteredLabelWithPrivate Algorithm → RegisteredName
+algorithm_view = registered_or_private_view algorithms.number
 
 -- a label and its value
-abbrev pub entry_seen : Label × Value → Name × Item
-entry_seen e = (label_seen e.0, view e.1)
+abbrev pub entry_view : Label × Value → Name × Item
+entry_view e = (label_view e.0, value_item e.1)
 
 -- what `{}` writes of a label: a number in decimal, or a text as `{:?}` writes it, in double quotes. Of a text past ASCII no definition of std says that
 abbrev pub label_output : Label → Option (List ℕ)

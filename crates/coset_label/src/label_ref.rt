@@ -3,7 +3,7 @@
 
 ghost use Rattle.std.specs.Prelude.{◌≡◌};
 ghost use Rattle.coset_label.specs.Names.{number, name_cmp, canonical_cmp, major_type, argument, content, head_length, encoded_length};
-ghost use Rattle.coset_label.specs.LabelRefs.{lent_seen};
+ghost use Rattle.coset_label.specs.LabelRefs.{lent_view};
 
 use std::cmp::Ordering;
 
@@ -42,7 +42,7 @@ fn number_order(a: i64, b: i64) -> Ordering
 impl<'a> LabelRef<'a> {
     /// The major type of the label's head.
     fn major_type(&self) -> u8
-        ensures { result ≡ major_type (lent_seen self.now) }
+        ensures { result ≡ major_type (lent_view self.now) }
     {
         match self {
             LabelRef::Int(i) if *i >= 0 => 0,
@@ -53,7 +53,7 @@ impl<'a> LabelRef<'a> {
 
     /// The argument of the label's head.
     fn argument(&self) -> u64
-        ensures { result ≡ argument (lent_seen self.now) }
+        ensures { result ≡ argument (lent_view self.now) }
     {
         match self {
             LabelRef::Int(i) if *i >= 0 => *i as u64,
@@ -64,7 +64,7 @@ impl<'a> LabelRef<'a> {
 
     /// What follows the head.
     fn content(&self) -> &[u8]
-        ensures { result.now ≡ content (lent_seen self.now) }
+        ensures { result.now ≡ content (lent_view self.now) }
     {
         match self {
             LabelRef::Int(_) => &[],
@@ -74,7 +74,7 @@ impl<'a> LabelRef<'a> {
 
     /// How many bytes the label's encoding has.
     fn encoded_length(&self) -> u128
-        ensures { result ≡ encoded_length (lent_seen self.now) }
+        ensures { result ≡ encoded_length (lent_view self.now) }
     {
         head_length(self.argument()) as u128 + self.content().len() as u128
     }
@@ -82,7 +82,7 @@ impl<'a> LabelRef<'a> {
     /// The byte order of the labels' encodings.
     #[inline(always)]
     pub(crate) fn order(&self, other: &LabelRef<'_>) -> Ordering
-        ensures { result ≡ name_cmp (lent_seen self.now) (lent_seen other.now) }
+        ensures { result ≡ name_cmp (lent_view self.now) (lent_view other.now) }
     {
         if let (LabelRef::Int(a), LabelRef::Int(b)) = (self, other) {
             return number_order(*a, *b);
@@ -96,7 +96,7 @@ impl<'a> LabelRef<'a> {
 
     /// The order of the labels' encodings by their lengths first, and then by their bytes.
     pub(crate) fn canonical_order(&self, other: &LabelRef<'_>) -> Ordering
-        ensures { result ≡ canonical_cmp (lent_seen self.now) (lent_seen other.now) }
+        ensures { result ≡ canonical_cmp (lent_view self.now) (lent_view other.now) }
     {
         match self.encoded_length().cmp(&other.encoded_length()) {
             Ordering::Equal => self.order(other),

@@ -31,7 +31,7 @@ pub fn orders_tell_apart()
     ensures registered { TellsApart registered_cmp }
 {}
 
-/// Of lists with the same pairs, whose labels all differ, only one stands in the order of its labels.
+/// Of lists with the same pairs, whose labels all differ, only one is in the order of its labels.
 pub fn one_order()
     ensures bytes { HasOneOrder name_cmp }
     ensures lengths { HasOneOrder canonical_cmp }

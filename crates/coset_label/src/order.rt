@@ -6,10 +6,10 @@ ghost use Rattle.std.specs.Cmp.{eq_by_cmp_equiv, on_total, partial_equiv_from_eq
 ghost use Rattle.std.specs.Cmp.Lexicographic.{slice_cmp};
 ghost use Rattle.std.specs.Cmp.Rules.{comparing};
 ghost use Rattle.std.proofs.Common.{rules};
-ghost use Rattle.coset_label.specs.LabelRefs.{lent_seen};
+ghost use Rattle.coset_label.specs.LabelRefs.{lent_view};
 ghost use Rattle.coset_label.specs.NameOrder.{registered_cmp_total};
 ghost use Rattle.coset_label.specs.Names.{ComparesRegistered, ComparesEncodings, as_name, canonical_cmp, length_first_cmp, name_cmp, registered_cmp, private_rank};
-ghost use Rattle.coset_label.specs.Views.{label_seen, registered_seen, registered_or_private_seen};
+ghost use Rattle.coset_label.specs.Views.{label_view, registered_view, registered_or_private_view};
 
 use crate::label::Label;
 use crate::label_ref::LabelRef;
@@ -21,7 +21,7 @@ use std::cmp::Ordering;
 impl Label {
     /// The label, lent.
     fn label_ref(&self) -> LabelRef<'_>
-        ensures { lent_seen result ≡ label_seen self.now }
+        ensures { lent_view result ≡ label_view self.now }
     {
         match self {
             Label::Int(i) => LabelRef::Int(*i),
@@ -31,9 +31,9 @@ impl Label {
 
     /// The order of the labels' encodings by their lengths first, and then by their bytes (RFC 7049, section 3.9).
     pub fn cmp_canonical(&self, other: &Label) -> Ordering
-        ensures order { result ≡ canonical_cmp (label_seen self.now) (label_seen other.now) }
-        ensures encodings { ComparesEncodings length_first_cmp (label_seen self.now)
-            (label_seen other.now) result }
+        ensures order { result ≡ canonical_cmp (label_view self.now) (label_view other.now) }
+        ensures encodings { ComparesEncodings length_first_cmp (label_view self.now)
+            (label_view other.now) result }
     {
         laws::orders_are_of_encodings();
         self.label_ref().canonical_order(&other.label_ref())
@@ -41,7 +41,7 @@ impl Label {
 }
 
 impl Ord for Label {
-    ghost cmp = { on label_seen name_cmp };
+    ghost cmp = { on label_view name_cmp };
 
     ghost total = { Prim.search (comparing, rules) };
 
@@ -51,9 +51,9 @@ impl Ord for Label {
 
     /// The byte order of the labels' encodings (RFC 8949, section 4.2.1).
     fn cmp(&self, other: &Label) -> Ordering
-        ensures order { result ≡ name_cmp (label_seen self.now) (label_seen other.now) }
-        ensures encodings { ComparesEncodings (slice_cmp nat_cmp) (label_seen self.now)
-            (label_seen other.now) result }
+        ensures order { result ≡ name_cmp (label_view self.now) (label_view other.now) }
+        ensures encodings { ComparesEncodings (slice_cmp nat_cmp) (label_view self.now)
+            (label_view other.now) result }
     {
         laws::orders_are_of_encodings();
         self.label_ref().order(&other.label_ref())
@@ -61,7 +61,7 @@ impl Ord for Label {
 }
 
 impl PartialOrd for Label {
-    ghost partial_cmp = { as_partial_cmp (on label_seen name_cmp) };
+    ghost partial_cmp = { as_partial_cmp (on label_view name_cmp) };
 
     ghost laws = { partial_order_from_own_ties (Prim.search (comparing, rules) depth 9)
         (Prim.search (comparing, rules) depth 9) };
@@ -72,14 +72,14 @@ impl PartialOrd for Label {
 }
 
 impl PartialEq for Label {
-    ghost eq = { λ a b. is_eq (name_cmp (label_seen a) (label_seen b)) };
+    ghost eq = { λ a b. is_eq (name_cmp (label_view a) (label_view b)) };
 
     ghost laws = { Prim.search (comparing, rules) };
 
     /// Whether the two are one number, or one text.
     fn eq(&self, other: &Label) -> bool
-        ensures level { result ≡ is_eq (name_cmp (label_seen self.now) (label_seen other.now)) }
-        ensures equal { IsTrue result ↔ (label_seen self.now ≡ label_seen other.now) }
+        ensures level { result ≡ is_eq (name_cmp (label_view self.now) (label_view other.now)) }
+        ensures equal { IsTrue result ↔ (label_view self.now ≡ label_view other.now) }
     {
         laws::orders_tell_apart();
         self.cmp(other).is_eq()
@@ -93,7 +93,7 @@ impl Eq for Label {
 impl<T: EnumI64> RegisteredLabel<T> {
     /// The label, lent.
     fn label_ref(&self) -> LabelRef<'_>
-        ensures { lent_seen result ≡ registered_seen T.number self.now }
+        ensures { lent_view result ≡ registered_view T.number self.now }
     {
         match self {
             RegisteredLabel::Assigned(value) => LabelRef::Int(value.to_i64()),
@@ -103,7 +103,7 @@ impl<T: EnumI64> RegisteredLabel<T> {
 }
 
 impl<T: EnumI64> Ord for RegisteredLabel<T> {
-    ghost cmp = { on (registered_seen T.number) name_cmp };
+    ghost cmp = { on (registered_view T.number) name_cmp };
 
     ghost total = { Prim.search (comparing, rules) };
 
@@ -113,10 +113,10 @@ impl<T: EnumI64> Ord for RegisteredLabel<T> {
 
     /// The byte order of the labels' encodings (RFC 8949, section 4.2.1).
     fn cmp(&self, other: &RegisteredLabel<T>) -> Ordering
-        ensures order { result ≡ name_cmp (registered_seen T.number self.now)
-            (registered_seen T.number other.now) }
+        ensures order { result ≡ name_cmp (registered_view T.number self.now)
+            (registered_view T.number other.now) }
         ensures encodings { ComparesEncodings (slice_cmp nat_cmp)
-            (registered_seen T.number self.now) (registered_seen T.number other.now) result }
+            (registered_view T.number self.now) (registered_view T.number other.now) result }
     {
         laws::orders_are_of_encodings();
         self.label_ref().order(&other.label_ref())
@@ -124,7 +124,7 @@ impl<T: EnumI64> Ord for RegisteredLabel<T> {
 }
 
 impl<T: EnumI64> PartialOrd for RegisteredLabel<T> {
-    ghost partial_cmp = { as_partial_cmp (on (registered_seen T.number) name_cmp) };
+    ghost partial_cmp = { as_partial_cmp (on (registered_view T.number) name_cmp) };
 
     ghost laws = { partial_order_from_own_ties (Prim.search (comparing, rules) depth 9)
         (Prim.search (comparing, rules) depth 9) };
@@ -136,16 +136,16 @@ impl<T: EnumI64> PartialOrd for RegisteredLabel<T> {
 
 impl<T: EnumI64> PartialEq for RegisteredLabel<T> {
     ghost eq = { λ a b.
-        is_eq (name_cmp (registered_seen T.number a) (registered_seen T.number b)) };
+        is_eq (name_cmp (registered_view T.number a) (registered_view T.number b)) };
 
     ghost laws = { Prim.search (comparing, rules) };
 
     /// Whether the two are one number, or one text.
     fn eq(&self, other: &RegisteredLabel<T>) -> bool
         ensures level { result ≡ is_eq
-            (name_cmp (registered_seen T.number self.now) (registered_seen T.number other.now)) }
+            (name_cmp (registered_view T.number self.now) (registered_view T.number other.now)) }
         ensures equal { IsTrue result
-            ↔ (registered_seen T.number self.now ≡ registered_seen T.number other.now) }
+            ↔ (registered_view T.number self.now ≡ registered_view T.number other.now) }
     {
         laws::orders_tell_apart();
         self.cmp(other).is_eq()
@@ -159,7 +159,7 @@ impl<T: EnumI64> Eq for RegisteredLabel<T> {
 impl<T: EnumI64> RegisteredLabelWithPrivate<T> {
     /// The label as such, lent.
     fn label_ref(&self) -> LabelRef<'_>
-        ensures { lent_seen result ≡ as_name (registered_or_private_seen T.number self.now) }
+        ensures { lent_view result ≡ as_name (registered_or_private_view T.number self.now) }
     {
         match self {
             RegisteredLabelWithPrivate::PrivateUse(i) => LabelRef::Int(*i),
@@ -170,7 +170,7 @@ impl<T: EnumI64> RegisteredLabelWithPrivate<T> {
 
     /// Whether the label is a number for private use.
     fn private_rank(&self) -> u8
-        ensures { result ≡ private_rank (registered_or_private_seen T.number self.now) }
+        ensures { result ≡ private_rank (registered_or_private_view T.number self.now) }
     {
         match self {
             RegisteredLabelWithPrivate::PrivateUse(_) => 1,
@@ -180,7 +180,7 @@ impl<T: EnumI64> RegisteredLabelWithPrivate<T> {
 }
 
 impl<T: EnumI64> Ord for RegisteredLabelWithPrivate<T> {
-    ghost cmp = { on (registered_or_private_seen T.number) registered_cmp };
+    ghost cmp = { on (registered_or_private_view T.number) registered_cmp };
 
     ghost total = { Prim.search (comparing, rules) depth 9 };
 
@@ -188,13 +188,13 @@ impl<T: EnumI64> Ord for RegisteredLabelWithPrivate<T> {
 
     ghost matches_eq = { Prim.search (comparing, rules) depth 9 };
 
-    /// The byte order of the labels' encodings (RFC 8949, section 4.2.1); of one number a value of the registry stands
+    /// The byte order of the labels' encodings (RFC 8949, section 4.2.1); of one number a value of the registry is
     /// before private use.
     fn cmp(&self, other: &RegisteredLabelWithPrivate<T>) -> Ordering
-        ensures order { result ≡ registered_cmp (registered_or_private_seen T.number self.now)
-            (registered_or_private_seen T.number other.now) }
-        ensures encodings { ComparesRegistered (registered_or_private_seen T.number self.now)
-            (registered_or_private_seen T.number other.now) result }
+        ensures order { result ≡ registered_cmp (registered_or_private_view T.number self.now)
+            (registered_or_private_view T.number other.now) }
+        ensures encodings { ComparesRegistered (registered_or_private_view T.number self.now)
+            (registered_or_private_view T.number other.now) result }
     {
         laws::orders_are_of_encodings();
         self.label_ref()
@@ -204,7 +204,8 @@ impl<T: EnumI64> Ord for RegisteredLabelWithPrivate<T> {
 }
 
 impl<T: EnumI64> PartialOrd for RegisteredLabelWithPrivate<T> {
-    ghost partial_cmp = { as_partial_cmp (on (registered_or_private_seen T.number) registered_cmp) };
+    ghost partial_cmp = { as_partial_cmp (on
+        (registered_or_private_view T.number) registered_cmp) };
 
     ghost laws = { partial_order_from_own_ties (Prim.search (comparing, rules) depth 9)
         (Prim.search (comparing, rules) depth 9) };
@@ -215,19 +216,19 @@ impl<T: EnumI64> PartialOrd for RegisteredLabelWithPrivate<T> {
 }
 
 impl<T: EnumI64> PartialEq for RegisteredLabelWithPrivate<T> {
-    ghost eq = { λ a b. is_eq (registered_cmp (registered_or_private_seen T.number a)
-        (registered_or_private_seen T.number b)) };
+    ghost eq = { λ a b. is_eq (registered_cmp (registered_or_private_view T.number a)
+        (registered_or_private_view T.number b)) };
 
     ghost laws = { partial_equiv_from_equiv
-        (eq_by_cmp_equiv (on_total (registered_or_private_seen T.number) registered_cmp_total)) };
+        (eq_by_cmp_equiv (on_total (registered_or_private_view T.number) registered_cmp_total)) };
 
     /// Whether the two are one number, both of the registry or both for private use, or one text.
     fn eq(&self, other: &RegisteredLabelWithPrivate<T>) -> bool
         ensures level { result
-            ≡ is_eq (registered_cmp (registered_or_private_seen T.number self.now)
-            (registered_or_private_seen T.number other.now)) }
-        ensures equal { IsTrue result ↔ (registered_or_private_seen T.number self.now
-            ≡ registered_or_private_seen T.number other.now) }
+            ≡ is_eq (registered_cmp (registered_or_private_view T.number self.now)
+            (registered_or_private_view T.number other.now)) }
+        ensures equal { IsTrue result ↔ (registered_or_private_view T.number self.now
+            ≡ registered_or_private_view T.number other.now) }
     {
         laws::orders_tell_apart();
         self.cmp(other).is_eq()
@@ -235,5 +236,6 @@ impl<T: EnumI64> PartialEq for RegisteredLabelWithPrivate<T> {
 }
 
 impl<T: EnumI64> Eq for RegisteredLabelWithPrivate<T> {
-    ghost laws = { eq_by_cmp_equiv (on_total (registered_or_private_seen T.number) registered_cmp_total) };
+    ghost laws = { eq_by_cmp_equiv (on_total
+        (registered_or_private_view T.number) registered_cmp_total) };
 }

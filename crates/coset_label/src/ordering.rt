@@ -3,7 +3,7 @@
 ghost use Rattle.std.specs.Prelude.{◌≡◌};
 ghost use Rattle.coset_label.specs.Names.{ComparesEncodings};
 ghost use Rattle.coset_label.specs.Orderings.{name_cmp_by, encoding_cmp_by};
-ghost use Rattle.coset_label.specs.Views.{label_seen};
+ghost use Rattle.coset_label.specs.Views.{label_view};
 
 use crate::label::Label;
 use std::cmp::Ordering;
@@ -20,9 +20,9 @@ pub enum CborOrdering {
 impl CborOrdering {
     /// Compares two labels in this order. It takes no memory.
     pub fn compare(&self, a: &Label, b: &Label) -> Ordering
-        ensures order { result ≡ name_cmp_by self.now (label_seen a.now) (label_seen b.now) }
-        ensures encodings { ComparesEncodings (encoding_cmp_by self.now) (label_seen a.now)
-            (label_seen b.now) result }
+        ensures order { result ≡ name_cmp_by self.now (label_view a.now) (label_view b.now) }
+        ensures encodings { ComparesEncodings (encoding_cmp_by self.now) (label_view a.now)
+            (label_view b.now) result }
     {
         match self {
             CborOrdering::Lexicographic => a.cmp(b),

@@ -8,7 +8,7 @@ use std::alloc::Global;
 #[derive(Clone, Copy, Debug, Drop, PartialEq, Eq)]
 pub struct No;
 
-/// What a closure was handed, how often it was called, and what it makes. It takes no memory while it is told of that.
+/// What a closure was handed, how often it was called, and what it makes. It takes no memory meanwhile.
 #[derive(Drop)]
 pub struct Asked {
     count: u32,

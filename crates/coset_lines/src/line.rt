@@ -7,7 +7,7 @@ use std::io::{self, BufRead, Write};
 
 /// Calls that can be made by their names.
 pub trait Calls {
-    /// Makes the call that the first of the words names, and tells what it gave.
+    /// Makes the call that the first of the words names, and prints what it returned.
     ///
     /// # Errors
     /// What the call is given can't be made of the other words, or the name isn't known.
@@ -31,7 +31,7 @@ pub fn answer_lines<C: Calls, R: BufRead + Drop, W: Write>(
     writer.flush()
 }
 
-/// The line that answers this one: itself where it is empty or a comment, which begins with `#`; else what the call gave,
+/// The line that returns this one: itself where it is empty or a comment, which begins with `#`; else what the call gave,
 /// or why it couldn't be made, behind `unready: `.
 fn answer_line<C: Calls>(
     calls: &C,

@@ -72,7 +72,7 @@ pub fn refused(alloc: Global, error: CoseError) -> Result<String> {
     Ok(format!(in alloc; "{error}")?)
 }
 
-/// `ok` and the bytes that stand after a call that changes them; or the error's text and what is left of them.
+/// `ok` and the bytes that are after a call that changes them; or the error's text and what is left of them.
 ///
 /// # Errors
 /// `OutOfMemory` where there is none for the text.

@@ -1,4 +1,4 @@
-//! What stands on a line behind the name of a call.
+//! What follows the name of a call on a line.
 
 use coset::{CborSerializable, CoseError, Result};
 use std::alloc::Global;
@@ -19,7 +19,7 @@ impl<'a> Words<'a> {
         self.line.split(' ').nth(place).unwrap_or("")
     }
 
-    /// The bytes that the word there spells in hexadecimal. `-` stands for none.
+    /// The bytes that the word there spells in hexadecimal. `-` means none.
     ///
     /// # Errors
     /// The word spells none, or memory ran out.
@@ -40,7 +40,7 @@ impl<'a> Words<'a> {
         T::from_slice(alloc, &self.bytes(alloc, place)?)
     }
 
-    /// Whether the word there is `yes`. It says what a closure answers.
+    /// Whether the word there is `yes`. It says what a closure returns.
     ///
     /// # Errors
     /// It is neither that nor `no`.
@@ -85,7 +85,7 @@ impl<'a> Words<'a> {
     }
 }
 
-/// The bytes that a word spells in hexadecimal. `-` stands for none.
+/// The bytes that a word spells in hexadecimal. `-` means none.
 ///
 /// # Errors
 /// It spells none, or memory ran out.

@@ -9,7 +9,7 @@ pub enum Form {
     Annotated,
     /// Diagnostic notation alone.
     Plain,
-    /// Where the fault stands, and which it is.
+    /// Where the fault is, and which it is.
     Where,
 }
 

@@ -14,7 +14,7 @@ use std::process::ExitCode;
 use std::rt::{Env, Files};
 use std::{env, fs, io};
 
-/// What is told where a file can't be read.
+/// What is printed where a file can't be read.
 const USAGE: &str = "usage: coset_look [--edn | --where] [--now=SECONDS] [KIND] [FILE]..
 A file, or standard input where none is named, is hexadecimal, also with 0x, spaces and colons, or base64, or base64url.
 KIND is auto (what its tag says), cwt (a web token, with claims as its payload), value, sign1, sign, mac, mac0, encrypt,
@@ -22,7 +22,7 @@ encrypt0, countersignature, key, keyset, claims or kdf. With --edn diagnostic no
 offset of the fault, the path there, and the fault, or that the input is accepted.
 ";
 
-/// Takes a file apart, and answers the status.
+/// Takes a file apart, and returns the status.
 fn show_file<R: AllocGlobal + Files + Print>(rt: &R, asked: &Asked, name: &str) -> io::Result<u8> {
     let input = fs::read(rt, name)?;
     let (text, status) = look(rt.alloc(), asked, &input)?;
@@ -31,7 +31,7 @@ fn show_file<R: AllocGlobal + Files + Print>(rt: &R, asked: &Asked, name: &str) 
     Ok(status)
 }
 
-/// Takes standard input apart, and answers the status.
+/// Takes standard input apart, and returns the status.
 fn show_input(rt: &HostRuntime, asked: &Asked) -> io::Result<u8> {
     let mut input = Vec::new(rt.alloc());
     rt.stdin().read_to_end(&mut input)?;
@@ -40,7 +40,7 @@ fn show_input(rt: &HostRuntime, asked: &Asked) -> io::Result<u8> {
     Ok(status)
 }
 
-/// Takes all files apart that the arguments name, or standard input, and answers the greatest status.
+/// Takes all files apart that the arguments name, or standard input, and returns the greatest status.
 fn answer(rt: &HostRuntime) -> io::Result<u8> {
     let mut asked = Asked::new();
     let mut status = None;

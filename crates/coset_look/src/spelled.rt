@@ -4,12 +4,12 @@ ghost use Rattle.std.specs.Prelude.{◌<◌, IfSome};
 
 use std::alloc::{AllocError, Global};
 
-/// Whether the byte may stand between the digits: white space, a colon, a comma.
+/// Whether the byte may be between the digits: white space, a colon, a comma.
 fn is_between(byte: u8) -> bool {
     matches!(byte, b'\t' | b'\n' | b'\r' | b' ' | b':' | b',')
 }
 
-/// The digits, without what stands between them, and without `0x` at the front.
+/// The digits, without what is between them, and without `0x` at the front.
 fn digits(alloc: Global, input: &[u8]) -> Result<Vec<u8>, AllocError> {
     let mut digits = Vec::new(alloc);
     for byte in input {

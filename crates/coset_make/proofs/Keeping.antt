@@ -1,4 +1,4 @@
--- What stays of an item where members are added to it.
+-- What stays of an item where elements are added to it.
 use Rattle.std.proofs.Common.{◌≡◌, ◌∙◌, ◌⊎◌, ◌==◌, ℕ, zero, suc, List, [], ◌∷◌, Option, Some, None, Bool, true, false, cond}
 use Rattle.std.proofs.Common.{option_map, ap, sym, refl, inl, inr}
 use Rattle.std.specs.Prelude.{codes, option_and_then}
@@ -24,7 +24,7 @@ mapped f (Some x) y h = (x, refl, some-one h refl)
 
 -- ---- the last place
 
--- it was a list, and is one with the member behind the others; or it stays, and something stands behind it
+-- it was a list, and is one with the element behind the others; or it stays, and something follows it
 abbrev Last : Item → Item → Items → Type 0
 Last m a us = ((ws : Items) × (a ≡ array ws) × (us ≡ item (array (and_item ws m)) no_items)) ⊎ ((ws : Items) × (us ≡ item a ws))
 
@@ -48,7 +48,7 @@ last_is false m (tag t v) us h = absurd (none_is h)
 last_is true m (dict ps) us h = inr (_, some-one h refl)
 last_is false m (dict ps) us h = absurd (none_is h)
 
--- where g tells something of the last place, it tells the same of what takes that place
+-- where g says something of the last place, it says the same of what takes that place
 abbrev Keeps : {A : Type 0} → (Item → Option Items) → (Item → Option A) → Type 0
 Keeps {A} f g = (a : Item) (us : Items) (x : A) → f a ≡ Some us → g a ≡ Some x → option_and_then g (nth 0 us) ≡ Some x
 
@@ -66,7 +66,7 @@ more_behind g m i no_items x e = absurd (none_is e)
 more_behind g m zero (item v vs) x e = e
 more_behind g m (suc i) (item v vs) x e = more_behind g m i vs x e
 
--- what the protected header of the member of that index of a list holds
+-- what the protected header of the element of that index of a list holds
 abbrev header_of : ℕ → Item → Option (List ℕ)
 header_of i a = option_and_then (bytes_in 0) (option_and_then (nth i) (as_array a))
 
@@ -78,7 +78,7 @@ keeps_header b m i a us x h e =
       | inr l ↦ ap (λ ws. option_and_then (header_of i) (nth 0 ws)) l.1 ∙ e
     ]
 
--- what g tells of a place, it tells once the last place was replaced
+-- what g says of a place, it says once the last place was replaced
 kept :
     {A : Type 0} (f : Item → Option Items) (g : Item → Option A) → Keeps f g → (j : ℕ) (vs us : Items) (x : A) → in_last f vs ≡ Some us
     → option_and_then g (nth j vs) ≡ Some x

@@ -1,4 +1,4 @@
--- From what was found or made to what is answered.
+-- From what was found or made to what is returned.
 use Rattle.std.proofs.Common.{◌≡◌, ℕ, List, [], ◌∷◌, length, Option, Some, None, Result, Ok, Err, refl, sym, subst}
 use Rattle.std.specs.Prelude.{IfOk, IfErr, IsErrAnd}
 use Rattle.coset.specs.Item.{Item}
@@ -14,7 +14,7 @@ use Rattle.coset_query.specs.Kinds.{Checks}
 use Rattle.coset_make.specs.StructuresMade.{ChecksHeader}
 use Rattle.coset_make.specs.Makes.{FindsText, Makes, Writes, WritesMade}
 
--- a text that was found, written, is what is answered
+-- a text that was found, written, is what is returned
 pub written :
     {T : Type 0} (text_of : T → List ℕ) (P : List ℕ → Type 0) (IsNone : Type 0) (faults : CoseError → Type 0) (old new : List ℕ)
     (found : Result (Option T) CoseError) (r : Result ℕ refusals.Refusal) → FindsText text_of P IsNone faults found → WritesFound text_of found old new r
@@ -26,7 +26,7 @@ written text_of P N faults old new (Ok (Some x)) (Err (Cose e)) f w = absurd w
 written text_of P N faults old new (Ok None) r f w = subst (Writes P N faults old new) (sym w.0) (f, w.1)
 written text_of P N faults old new (Err e) r f w = subst (Writes P N faults old new) (sym w.0) (f, w.1)
 
--- what was made, written, is what is answered
+-- what was made, written, is what is returned
 pub made_written :
     {V : Type 0} (k : kinds.Kind) (items_of : Option V → Option Item) (o : Option Item) (old new : List ℕ) (made : Result (Option V) CoseError)
     (r : Result ℕ refusals.Refusal) → IfOk made (λ x. items_of x ≡ o) → IfErr made (λ e. e ≡ OutOfMemory) → WritesMade k items_of made old new r

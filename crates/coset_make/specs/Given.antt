@@ -50,26 +50,26 @@ KeyFaults (number n) e = ⊥
 KeyFaults (text_label t) e = IsTextFault t e
 
 -- a value of a map by what it holds, without its memory
-pub data EntrySeen : Type 0 where
-  an_integer : ℤ → EntrySeen
-  a_string : List ℕ → EntrySeen
-  a_text : List ℕ → EntrySeen
-  an_encoding : List ℕ → EntrySeen
+pub data EntryView : Type 0 where
+  an_integer : ℤ → EntryView
+  a_string : List ℕ → EntryView
+  a_text : List ℕ → EntryView
+  an_encoding : List ℕ → EntryView
 
-abbrev pub entry_seen : entries.Entry → EntrySeen
-entry_seen (Integer n) = an_integer n
-entry_seen (Bytes b) = a_string b.now
-entry_seen (Text t) = a_text t.now
-entry_seen (Encoded b) = an_encoding b.now
+abbrev pub entry_view : entries.Entry → EntryView
+entry_view (Integer n) = an_integer n
+entry_view (Bytes b) = a_string b.now
+entry_view (Text t) = a_text t.now
+entry_view (Encoded b) = an_encoding b.now
 
 -- the item is that value
-abbrev pub IsEntry : EntrySeen → Item → Type 0
+abbrev pub IsEntry : EntryView → Item → Type 0
 IsEntry (an_integer n) v = v ≡ integer n
 IsEntry (a_string b) v = v ≡ bytes b
 IsEntry (a_text t) v = IsText t v
 IsEntry (an_encoding b) v = IsItem b v
 
-abbrev pub EntryFaults : EntrySeen → CoseError → Type 0
+abbrev pub EntryFaults : EntryView → CoseError → Type 0
 EntryFaults (an_integer n) e = ⊥
 EntryFaults (a_string b) e = ⊥
 EntryFaults (a_text t) e = IsTextFault t e

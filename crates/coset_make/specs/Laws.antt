@@ -1,4 +1,4 @@
--- What is signed before a message is made is what is signed of it afterwards, also once members were added.
+-- What is signed before a message is made is what is signed of it afterwards, also once elements were added.
 use Rattle.std.specs.Prelude.{◌≡◌, ⊤, ℕ, List, [], Option, Some}
 use Rattle.coset.specs.Item.{Item, bytes, array, Items, no_items, item}
 use Rattle.coset_query.specs.declared.kind.Form as forms
@@ -40,7 +40,7 @@ MadeUnsigned =
     (f : forms.Form) (p : List ℕ) (u : Item) (c : Option (List ℕ)) (s : List ℕ) (w : Item) → message (Sign f) p u c s ≡ Some w
     → inside (Sign f) w ≡ signed_by p u c no_items
 
--- each that is added stands behind the others
+-- each that is added follows the others
 abbrev pub SignatureAdded : Type 0
 SignatureAdded =
     (f : forms.Form) (p : List ℕ) (u m : Item) (c : Option (List ℕ)) (ms : Items)
@@ -59,7 +59,7 @@ RecipientStructureOfMade =
     (h : kinds.Kind) (p : List ℕ) (u : Item) (c : Option (List ℕ)) (s aad : List ℕ) (w : Item) → message Recipient p u c s ≡ Some w
     → recipient_structure_in h aad (inside Recipient w) ≡ recipient_structure_made h p aad
 
--- the item w of a kind, whatever it is, has the structure that it had once it has one member more
+-- the item w of a kind, whatever it is, has the structure that it had once it has one element more
 abbrev pub StructureKept : Type 0
 StructureKept =
     (k : kinds.Kind) (i : ℕ) (m w x y : Item) (aad : List ℕ) (d : Option (List ℕ)) → within_tag (with_member k m) w ≡ Some x

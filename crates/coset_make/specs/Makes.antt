@@ -11,7 +11,7 @@ use Rattle.coset_query.specs.declared.refusal.Refusal.TheVariants.{Short, Absent
 use Rattle.coset_query.specs.Answers.{IsEncodingOf, Puts}
 use Rattle.coset_query.specs.Kinds.{IsOf, IsRefused}
 
--- What a call answers that writes a text of which P tells: it stands at the front of the memory, or that has no room for it;
+-- What a call answers that writes a text of which P holds: it is at the front of the memory, or that has no room for it;
 -- or there is none; or, out of memory aside, what is wrong with what was to be written. But for the first the memory is as it
 -- was
 abbrev pub Writes : (List ℕ → Type 0) → Type 0 → (CoseError → Type 0) → List ℕ → List ℕ → Result ℕ refusals.Refusal → Type 0
@@ -43,13 +43,13 @@ abbrev pub MakesOf :
     {A : Type 0} → kinds.Kind → (A → Type 0) → (CoseError → Type 0) → (A → Option Item) → List ℕ → List ℕ → Result ℕ refusals.Refusal → Type 0
 MakesOf {A} k AreInputs faults made old new r = ((x : A) × AreInputs x × Makes k (made x) old new r) ⊎ RefusesInputs faults old new r
 
--- What `write` answers: it makes the item that the bytes are
+-- What `write` returns: it makes the item that the bytes are
 abbrev pub WritesAgain : kinds.Kind → List ℕ → List ℕ → List ℕ → Result ℕ refusals.Refusal → Type 0
 WritesAgain k b old new r = MakesOf k (IsItem b) (IsWholeFault b) Some old new r
 
 -- ---- before it is written
 
--- a text was found of which P tells, or there is none, or, out of memory aside, what is wrong
+-- a text was found of which P holds, or there is none, or, out of memory aside, what is wrong
 abbrev pub FindsText : {T : Type 0} → (T → List ℕ) → (List ℕ → Type 0) → Type 0 → (CoseError → Type 0) → Result (Option T) CoseError → Type 0
 FindsText text_of P IsNone faults (Ok (Some x)) = P (text_of x)
 FindsText text_of P IsNone faults (Ok None) = IsNone

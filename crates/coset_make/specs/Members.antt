@@ -11,8 +11,8 @@ use Rattle.coset_make.specs.Given.{AnyFaults, IsAny}
 use Rattle.coset_make.specs.Makes.{MakesOf}
 use Rattle.coset_make.specs.Messages.{and_item}
 
--- a place that holds a list, with the member behind the others in it; and where a list may begin, behind a place that holds
--- none, one of the member alone
+-- a place that holds a list, with the element behind the others in it; and where a list may begin, behind a place that holds
+-- none, one of the element alone
 abbrev pub member_in : Bool → Item → Item → Option Items
 member_in begins m (array ws) = Some (item (array (and_item ws m)) no_items)
 member_in true m v = Some (item v (item (array (item m no_items)) no_items))
@@ -24,7 +24,7 @@ in_last f no_items = None
 in_last f (item v no_items) = f v
 in_last f (item v (item w ws)) = option_map (item v) (in_last f (item w ws))
 
--- the places of an item of that kind with one member more, where it has a list of them: a set is one; it is the last place of
+-- the places of an item of that kind with one element more, where it has a list of them: a set is one; it is the last place of
 -- the others (RFC 8152, sections 4.1, 5.1, 6.1 and 7)
 abbrev pub places_with : kinds.Kind → Item → Items → Option Items
 places_with KeySet m vs = Some (and_item vs m)
@@ -34,7 +34,7 @@ places_with (Mac f) m vs = in_last (member_in false m) vs
 places_with (Encrypt f) m vs = in_last (member_in false m) vs
 places_with k m vs = None
 
--- an item of that kind, without a tag, with one member more
+-- an item of that kind, without a tag, with one element more
 abbrev pub with_member : kinds.Kind → Item → Item → Option Item
 with_member k m (array vs) = option_map array (places_with k m vs)
 with_member k m v = None
@@ -44,7 +44,7 @@ abbrev pub within_tag : (Item → Option Item) → Item → Option Item
 within_tag f (tag n v) = option_map (tag n) (f v)
 within_tag f v = f v
 
--- what is given to `add`: an item, which no bytes are an empty array of, and the member
+-- what is given to `add`: an item, which no bytes are an empty array of, and the element
 abbrev pub AreGiven : List ℕ → List ℕ → Item × Item → Type 0
 AreGiven b c g = IsAny (array no_items) b g.0 × IsItem c g.1
 
@@ -52,6 +52,6 @@ AreGiven b c g = IsAny (array no_items) b g.0 × IsItem c g.1
 abbrev pub MemberFaults : List ℕ → List ℕ → CoseError → Type 0
 MemberFaults b c f = AnyFaults b f ⊎ IsWholeFault c f
 
--- What `add` answers: it makes an item of that kind, with one member more
+-- What `add` returns: it makes an item of that kind, with one element more
 abbrev pub AddsMember : kinds.Kind → List ℕ → List ℕ → List ℕ → List ℕ → Result ℕ refusals.Refusal → Type 0
 AddsMember k b c old new r = MakesOf k (AreGiven b c) (MemberFaults b c) (λ g. within_tag (with_member k g.1) g.0) old new r

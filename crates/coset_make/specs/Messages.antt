@@ -100,6 +100,6 @@ in_tag (Some n) v = tag n v
 abbrev pub message : kinds.Kind → List ℕ → Item → Option (List ℕ) → List ℕ → Option Item
 message k p u c s = if has_places k c s then Some (in_tag (tag_written k) (array (places k p u c s))) else None
 
--- What `make` answers: it makes that item, of an unprotected header which no bytes are an empty one of
+-- What `make` returns: it makes that item, of an unprotected header which no bytes are an empty one of
 abbrev pub MakesMessage : kinds.Kind → List ℕ → List ℕ → Option (List ℕ) → List ℕ → List ℕ → List ℕ → Result ℕ refusals.Refusal → Type 0
 MakesMessage k p b c s old new r = MakesOf k (IsAny (dict no_pairs) b) (AnyFaults b) (λ u. message k p u c s) old new r

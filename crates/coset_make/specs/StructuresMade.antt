@@ -74,13 +74,13 @@ FindsEncoding text_of o None = o ≡ None
 abbrev pub WritesItem : Option Item → List ℕ → List ℕ → Result ℕ refusals.Refusal → Type 0
 WritesItem o old new r = Writes (IsEncodingOf o) (o ≡ None) (λ e. ⊥) old new r
 
--- What `structure_of` answers, of the protected headers p of a message and q of a signer: the shortest encoding of the
+-- What `structure_of` returns, of the protected headers p of a message and q of a signer: the shortest encoding of the
 -- structure; or that there is none; or why one of the two isn't a header
 abbrev pub MakesStructure : kinds.Kind → List ℕ → List ℕ → List ℕ → List ℕ → List ℕ → List ℕ → Result ℕ refusals.Refusal → Type 0
 MakesStructure k p q aad c old new r =
     (IsHeader p × IsHeader q × WritesItem (structure_made k p q aad c) old new r) ⊎ RefusesInputs (λ e. HeaderFaults p e ⊎ HeaderFaults q e) old new r
 
--- What `recipient_structure_of` answers, of the protected header p of a recipient: the shortest encoding of the structure; or
+-- What `recipient_structure_of` returns, of the protected header p of a recipient: the shortest encoding of the structure; or
 -- that there is none; or why that isn't a header
 abbrev pub MakesRecipientStructure : kinds.Kind → List ℕ → List ℕ → List ℕ → List ℕ → Result ℕ refusals.Refusal → Type 0
 MakesRecipientStructure h p aad old new r =

@@ -3,10 +3,10 @@
 ghost use Rattle.std.specs.Prelude.{◌≡◌, IfErr, IfOk, MatchResult};
 ghost use Rattle.coset.specs.Answers.{ReadsWhole};
 ghost use Rattle.coset.specs.Errors.{UnlessMemory};
-ghost use Rattle.coset.specs.View.{view};
+ghost use Rattle.coset.specs.View.{value_item};
 ghost use Rattle.coset.specs.CoseError.TheVariants.{OutOfMemory};
-ghost use Rattle.coset_query.specs.Labels.{label_seen};
-ghost use Rattle.coset_make.specs.Given.{EntryFaults, IsEntry, IsKey, IsText, IsTextFault, KeyFaults, ReadsAny, byte_string, entry_seen};
+ghost use Rattle.coset_query.specs.Labels.{label_view};
+ghost use Rattle.coset_make.specs.Given.{EntryFaults, IsEntry, IsKey, IsText, IsTextFault, KeyFaults, ReadsAny, byte_string, entry_view};
 
 use coset::cbor::de;
 use coset::cbor::value::Value;
@@ -33,7 +33,7 @@ pub enum Entry<'a> {
 /// # Errors
 /// Why they aren't one item, or `OutOfMemory`.
 pub(crate) fn value_in(alloc: Global, bytes: &[u8]) -> Result<Value>
-    ensures { ReadsWhole view bytes.now result }
+    ensures { ReadsWhole value_item bytes.now result }
 {
     Ok(whole_item(bytes)?.to_value(alloc)?)
 }
@@ -43,7 +43,7 @@ pub(crate) fn value_in(alloc: Global, bytes: &[u8]) -> Result<Value>
 /// # Errors
 /// The same as [`value_in`].
 pub(crate) fn value_or(alloc: Global, bytes: &[u8], empty: Value) -> Result<Value>
-    ensures { ReadsAny (view empty) bytes.now view result }
+    ensures { ReadsAny (value_item empty) bytes.now value_item result }
 {
     if bytes.is_empty() {
         return Ok(empty);
@@ -56,7 +56,7 @@ pub(crate) fn value_or(alloc: Global, bytes: &[u8], empty: Value) -> Result<Valu
 /// # Errors
 /// `DecodeFailed`, with the offset at which they stop being UTF-8, or `OutOfMemory`.
 fn text_value(alloc: Global, text: &[u8]) -> Result<Value>
-    ensures { MatchResult result (λ v. IsText text.now (view v)) (λ e.
+    ensures { MatchResult result (λ v. IsText text.now (value_item v)) (λ e.
         UnlessMemory e (IsTextFault text.now)) }
 {
     match std::str::from_utf8(text) {
@@ -70,7 +70,7 @@ fn text_value(alloc: Global, text: &[u8]) -> Result<Value>
 /// # Errors
 /// `OutOfMemory` alone.
 pub(crate) fn bytes_value(alloc: Global, bytes: &[u8]) -> Result<Value>
-    ensures value { IfOk result (λ v. view v ≡ byte_string bytes.now) }
+    ensures value { IfOk result (λ v. value_item v ≡ byte_string bytes.now) }
     ensures memory { IfErr result (λ e. e ≡ OutOfMemory) }
 {
     Ok(Value::Bytes(Vec::from_slice(alloc, bytes)?))
@@ -81,8 +81,8 @@ pub(crate) fn bytes_value(alloc: Global, bytes: &[u8]) -> Result<Value>
 /// # Errors
 /// That a text isn't UTF-8, or `OutOfMemory`.
 pub(crate) fn key_value(alloc: Global, label: Label<'_>) -> Result<Value>
-    ensures { MatchResult result (λ v. IsKey (label_seen label.entry) (view v)) (λ e.
-        UnlessMemory e (KeyFaults (label_seen label.entry))) }
+    ensures { MatchResult result (λ v. IsKey (label_view label.entry) (value_item v)) (λ e.
+        UnlessMemory e (KeyFaults (label_view label.entry))) }
 {
     match label {
         Label::Number(number) => Ok(Value::from(number)),
@@ -95,8 +95,8 @@ pub(crate) fn key_value(alloc: Global, label: Label<'_>) -> Result<Value>
 /// # Errors
 /// That a text isn't UTF-8, why bytes aren't one item, or `OutOfMemory`.
 pub(crate) fn entry_value(alloc: Global, entry: Entry<'_>) -> Result<Value>
-    ensures { MatchResult result (λ v. IsEntry (entry_seen entry.entry) (view v)) (λ e.
-        UnlessMemory e (EntryFaults (entry_seen entry.entry))) }
+    ensures { MatchResult result (λ v. IsEntry (entry_view entry.entry) (value_item v)) (λ e.
+        UnlessMemory e (EntryFaults (entry_view entry.entry))) }
 {
     match entry {
         Entry::Integer(number) => Ok(Value::from(number)),

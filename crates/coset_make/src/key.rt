@@ -23,8 +23,8 @@ fn find_canonical(alloc: Global, ordering: CborOrdering, bytes: &[u8]) -> Result
 }
 
 /// Writes the key that the bytes are to the front of `out`, with its labels in the order of their encodings, as the shortest
-/// encoding (RFC 8949, section 4.2.1; RFC 7049, section 3.9), and answers the length of that: equal bytes for keys that
-/// agree but for the order of their pairs. Label 0, which is reserved, stands behind the labels 1 to 5.
+/// encoding (RFC 8949, section 4.2.1; RFC 7049, section 3.9), and returns the length of that: equal bytes for keys that
+/// agree but for the order of their pairs. Label 0, which is reserved, follows the labels 1 to 5.
 ///
 /// # Errors
 /// `Short` where `out` has no room for it; `Cose` where the bytes are no key, or where memory runs out. `out` is then as it

@@ -1,15 +1,15 @@
-//! What `coset_query` tells of what was made here. Each law is the contract of a function that does nothing.
+//! What `coset_query` says of what was made here. Each law is the contract of a function that does nothing.
 
 ghost use Rattle.coset_make.specs.Laws.{MadeUnsigned, RecipientStructureKept, RecipientStructureOfMade, SignatureAdded, StructureKept, StructureOfMade, StructureOfSigner};
 
 /// What is signed, authenticated or goes with the ciphertext of a message that [`make`](crate::make) made, as
-/// `coset_query::structure_of` tells it, is what [`structure_of`](crate::structure_of) told of the same parts before.
+/// `coset_query::structure_of` returns it, is what [`structure_of`](crate::structure_of) returned for the same parts before.
 pub fn structure_of_made()
     ensures { StructureOfMade }
 {}
 
-/// A message with signers is made without signatures, those that are added stand one behind the other, and
-/// the signer of each signs what [`structure_of`](crate::structure_of) told of the parts and of the signer's header.
+/// A message with signers is made without signatures, those that are added follow one another, and
+/// the signer of each signs what [`structure_of`](crate::structure_of) returned for the parts and for the signer's header.
 pub fn structures_of_signers()
     ensures made { MadeUnsigned }
     ensures added { SignatureAdded }
@@ -17,7 +17,7 @@ pub fn structures_of_signers()
 {}
 
 /// What goes with the ciphertext of a recipient that [`make`](crate::make) made, as `coset_query::recipient_structure_of`
-/// tells it, is what [`recipient_structure_of`](crate::recipient_structure_of) told of its protected header before.
+/// returns it, is what [`recipient_structure_of`](crate::recipient_structure_of) returned of its protected header before.
 pub fn recipient_structure_of_made()
     ensures { RecipientStructureOfMade }
 {}

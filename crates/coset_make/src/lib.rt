@@ -3,10 +3,10 @@
 //! ciphertext of a message that isn't made yet.
 //!
 //! Each call is a function of the bytes that it is given, as those of `coset_query` are. So who signs does it in two
-//! steps, without a callback and with nothing kept in between: [`structure_of`] tells what is signed, and once that is,
+//! steps, without a callback and with nothing kept in between: [`structure_of`] returns what is signed, and once that is,
 //! [`make`] makes the message of the same parts and of the signature. [`laws`] says that both mean the same.
 //!
-//! What is made is written, and read as an item of the kind that is named, before the call answers it: so what isn't one
+//! What is made is written, and read as an item of the kind that is named, before the call returns it: so what isn't one
 //! is refused for the fault that a reader would name.
 #![tactic(auto)]
 

@@ -2,7 +2,7 @@
 
 ghost use Rattle.std.specs.Prelude.{◌≡◌, IfOk, IfErr};
 ghost use Rattle.coset.specs.CoseError.TheVariants.{OutOfMemory};
-ghost use Rattle.coset.specs.View.{items_view, view};
+ghost use Rattle.coset.specs.View.{value_items, value_item};
 ghost use Rattle.coset_make.specs.Messages.{and_item};
 
 use coset::Result;
@@ -13,8 +13,8 @@ use coset::cbor::value::Value;
 /// # Errors
 /// `OutOfMemory` alone.
 pub(crate) fn and_value(mut values: Vec<Value>, value: Value) -> Result<Vec<Value>>
-    ensures values { IfOk result (λ vs. items_view vs.items
-        ≡ and_item (items_view values.items) (view value)) }
+    ensures values { IfOk result (λ vs. value_items vs.items
+        ≡ and_item (value_items values.items) (value_item value)) }
     ensures memory { IfErr result (λ e. e ≡ OutOfMemory) }
 {
     values.push(value)?;

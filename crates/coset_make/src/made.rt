@@ -1,7 +1,7 @@
 //! What was made, written as its shortest encoding, once it is known to be of its kind.
 
 ghost use Rattle.std.specs.Prelude.{◌≡◌, option_map};
-ghost use Rattle.coset.specs.View.{view};
+ghost use Rattle.coset.specs.View.{value_item};
 ghost use Rattle.coset_make.specs.Makes.{FindsText, IsMade, IsMisfit, WritesAgain, WritesMade};
 
 use crate::given::value_in;
@@ -15,7 +15,7 @@ use std::alloc::Global;
 /// # Errors
 /// Why it is none, or `OutOfMemory`.
 fn encoded(alloc: Global, kind: Kind, made: Option<Value>) -> Result<Option<Vec<u8>>>
-    ensures { let o = option_map view made in
+    ensures { let o = option_map value_item made in
         FindsText (λ b. b.items) (IsMade kind o) (o ≡ None) (IsMisfit kind o) result }
 {
     match made {
@@ -28,7 +28,7 @@ fn encoded(alloc: Global, kind: Kind, made: Option<Value>) -> Result<Option<Vec<
     }
 }
 
-/// Writes the item that was made to the front of `out`, as its shortest encoding, and answers the length of that.
+/// Writes the item that was made to the front of `out`, as its shortest encoding, and returns the length of that.
 ///
 /// # Errors
 /// `Short` where `out` has no room for it; `Absent` where none was made; or why it is no item of that kind. `out` is then
@@ -39,7 +39,7 @@ pub(crate) fn write_made(
     made: Result<Option<Value>>,
     out: &mut [u8],
 ) -> Result<usize, Refusal>
-    ensures { WritesMade kind (option_map view) made out.old out.new result }
+    ensures { WritesMade kind (option_map value_item) made out.old out.new result }
 {
     match made {
         Ok(made) => write_found(encoded(alloc, kind, made), out),
@@ -48,7 +48,7 @@ pub(crate) fn write_made(
 }
 
 /// Writes the item that the bytes are to the front of `out`, as its shortest encoding (RFC 8949, section 4.2.1, but that
-/// pairs stay in their order), and answers the length of that. The bytes of protected headers stay as they are.
+/// pairs stay in their order), and returns the length of that. The bytes of protected headers stay as they are.
 ///
 /// # Errors
 /// `Short` where `out` has no room for it; `Cose` where the bytes aren't one item, or that is none of the kind, or where

@@ -3,7 +3,7 @@
 ghost use Rattle.std.specs.Prelude.{◌≡◌, IfOk, IfErr, option_map};
 ghost use Rattle.coset.specs.CoseError.TheVariants.{OutOfMemory};
 ghost use Rattle.coset.specs.Item.{array, item, no_items};
-ghost use Rattle.coset.specs.View.{items_view, view};
+ghost use Rattle.coset.specs.View.{value_items, value_item};
 ghost use Rattle.coset_make.specs.Members.{AddsMember, in_last, member_in, places_with, with_member, within_tag};
 ghost use Rattle.coset_make.specs.Messages.{items_and};
 
@@ -15,14 +15,14 @@ use coset::cbor::value::Value;
 use coset_query::{Kind, Refusal};
 use std::alloc::Global;
 
-/// The places, behind them `last`, and behind that a list of the member alone.
+/// The places, behind them `last`, and behind that a list of the element alone.
 ///
 /// # Errors
 /// `OutOfMemory` alone.
 fn begin_list(alloc: Global, places: Vec<Value>, last: Value, member: Value) -> Result<Vec<Value>>
-    ensures places { IfOk result (λ vs. items_view vs.items
-        ≡ items_and (items_view places.items)
-        (item (view last) (item (array (item (view member) no_items)) no_items))) }
+    ensures places { IfOk result (λ vs. value_items vs.items
+        ≡ items_and (value_items places.items)
+        (item (value_item last) (item (array (item (value_item member) no_items)) no_items))) }
     ensures memory { IfErr result (λ e. e ≡ OutOfMemory) }
 {
     let list = and_value(Vec::new(alloc), member)?;
@@ -30,7 +30,7 @@ fn begin_list(alloc: Global, places: Vec<Value>, last: Value, member: Value) -> 
     and_value(places, Value::Array(list))
 }
 
-/// The places, and behind them one that had become `last`, with the member behind those of its list. Where `last` is no
+/// The places, and behind them one that had become `last`, with the element behind those of its list. Where `last` is no
 /// list, one begins behind it, if that is asked for.
 ///
 /// # Errors
@@ -42,9 +42,9 @@ fn member_in(
     member: Value,
     begins: bool,
 ) -> Result<Option<Vec<Value>>>
-    ensures places { IfOk result (λ o. option_map (λ vs. items_view vs.items) o
-        ≡ option_map (items_and (items_view places.items))
-        (member_in begins (view member) (view last))) }
+    ensures places { IfOk result (λ o. option_map (λ vs. value_items vs.items) o
+        ≡ option_map (items_and (value_items places.items))
+        (member_in begins (value_item member) (value_item last))) }
     ensures memory { IfErr result (λ e. e ≡ OutOfMemory) }
 {
     match last {
@@ -61,7 +61,7 @@ fn member_in(
     }
 }
 
-/// The places with the member in the last one, which holds a list.
+/// The places with the element in the last one, which holds a list.
 ///
 /// # Errors
 /// `OutOfMemory` alone.
@@ -71,8 +71,8 @@ fn in_last(
     member: Value,
     begins: bool,
 ) -> Result<Option<Vec<Value>>>
-    ensures places { IfOk result (λ o. option_map (λ vs. items_view vs.items) o
-        ≡ in_last (member_in begins (view member)) (items_view places.items)) }
+    ensures places { IfOk result (λ o. option_map (λ vs. value_items vs.items) o
+        ≡ in_last (member_in begins (value_item member)) (value_items places.items)) }
     ensures memory { IfErr result (λ e. e ≡ OutOfMemory) }
 {
     match places.pop() {
@@ -81,7 +81,7 @@ fn in_last(
     }
 }
 
-/// The places of an item of that kind, with one member more.
+/// The places of an item of that kind, with one element more.
 ///
 /// # Errors
 /// `OutOfMemory` alone.
@@ -91,8 +91,8 @@ fn places_with(
     places: Vec<Value>,
     member: Value,
 ) -> Result<Option<Vec<Value>>>
-    ensures places { IfOk result (λ o. option_map (λ vs. items_view vs.items) o
-        ≡ places_with kind (view member) (items_view places.items)) }
+    ensures places { IfOk result (λ o. option_map (λ vs. value_items vs.items) o
+        ≡ places_with kind (value_item member) (value_items places.items)) }
     ensures memory { IfErr result (λ e. e ≡ OutOfMemory) }
 {
     match kind {
@@ -103,13 +103,13 @@ fn places_with(
     }
 }
 
-/// An item of that kind, without a tag, with one member more.
+/// An item of that kind, without a tag, with one element more.
 ///
 /// # Errors
 /// `OutOfMemory` alone.
 fn with_member(alloc: Global, kind: Kind, value: Value, member: Value) -> Result<Option<Value>>
-    ensures value { IfOk result (λ o. option_map view o
-        ≡ with_member kind (view member) (view value)) }
+    ensures value { IfOk result (λ o. option_map value_item o
+        ≡ with_member kind (value_item member) (value_item value)) }
     ensures memory { IfErr result (λ e. e ≡ OutOfMemory) }
 {
     match value {
@@ -121,13 +121,13 @@ fn with_member(alloc: Global, kind: Kind, value: Value, member: Value) -> Result
     }
 }
 
-/// An item of that kind, under a tag or without one, with one member more.
+/// An item of that kind, under a tag or without one, with one element more.
 ///
 /// # Errors
 /// `OutOfMemory` alone.
 fn within_tag(alloc: Global, kind: Kind, value: Value, member: Value) -> Result<Option<Value>>
-    ensures value { IfOk result (λ o. option_map view o
-        ≡ within_tag (with_member kind (view member)) (view value)) }
+    ensures value { IfOk result (λ o. option_map value_item o
+        ≡ within_tag (with_member kind (value_item member)) (value_item value)) }
     ensures memory { IfErr result (λ e. e ≡ OutOfMemory) }
 {
     match value {
@@ -142,7 +142,7 @@ fn within_tag(alloc: Global, kind: Kind, value: Value, member: Value) -> Result<
 }
 
 /// Puts one signature, recipient or key behind those that the item has, writes its shortest encoding to the front of `out`,
-/// and answers the length of that. What was signed, authenticated or goes with a ciphertext stays. A set of keys may begin
+/// and returns the length of that. What was signed, authenticated or goes with a ciphertext stays. A set of keys may begin
 /// with no bytes; a recipient that has no list of others begins one.
 ///
 /// # Errors

@@ -3,7 +3,7 @@
 ghost use Rattle.std.specs.Prelude.{◌≡◌, IfOk, IfErr, option_map};
 ghost use Rattle.std.specs.Option.{option_copied};
 ghost use Rattle.coset.specs.CoseError.TheVariants.{OutOfMemory};
-ghost use Rattle.coset.specs.View.{items_view, view};
+ghost use Rattle.coset.specs.View.{value_items, value_item};
 ghost use Rattle.coset_make.specs.Messages.{MakesMessage, and_place, content_item, has_content, has_list, has_places, has_proof, in_tag, message, places, tag_written};
 
 use crate::given::{bytes_value, value_or};
@@ -56,7 +56,7 @@ fn has_places(kind: Kind, content: Option<&[u8]>, proof: &[u8]) -> bool
 /// # Errors
 /// `OutOfMemory` alone.
 fn content_value(alloc: Global, content: Option<&[u8]>) -> Result<Value>
-    ensures value { IfOk result (λ v. view v ≡ content_item (option_copied content.entry)) }
+    ensures value { IfOk result (λ v. value_item v ≡ content_item (option_copied content.entry)) }
     ensures memory { IfErr result (λ e. e ≡ OutOfMemory) }
 {
     match content {
@@ -70,8 +70,8 @@ fn content_value(alloc: Global, content: Option<&[u8]>) -> Result<Value>
 /// # Errors
 /// `OutOfMemory` alone.
 fn and_place(places: Vec<Value>, is_asked: bool, value: Value) -> Result<Vec<Value>>
-    ensures places { IfOk result (λ vs. items_view vs.items
-        ≡ and_place is_asked (view value) (items_view places.items)) }
+    ensures places { IfOk result (λ vs. value_items vs.items
+        ≡ and_place is_asked (value_item value) (value_items places.items)) }
     ensures memory { IfErr result (λ e. e ≡ OutOfMemory) }
 {
     if is_asked {
@@ -93,8 +93,8 @@ fn places(
     content: Option<&[u8]>,
     proof: &[u8],
 ) -> Result<Vec<Value>>
-    ensures places { IfOk result (λ vs. items_view vs.items ≡ places kind protected.now
-        (view unprotected) (option_copied content.entry) proof.now) }
+    ensures places { IfOk result (λ vs. value_items vs.items ≡ places kind protected.now
+        (value_item unprotected) (option_copied content.entry) proof.now) }
     ensures memory { IfErr result (λ e. e ≡ OutOfMemory) }
 {
     let places = Vec::new(alloc);
@@ -128,7 +128,7 @@ fn tag_written(kind: Kind) -> Option<u64>
 /// # Errors
 /// `OutOfMemory` alone.
 fn in_tag(alloc: Global, number: Option<u64>, value: Value) -> Result<Value>
-    ensures value { IfOk result (λ v. view v ≡ in_tag number (view value)) }
+    ensures value { IfOk result (λ v. value_item v ≡ in_tag number (value_item value)) }
     ensures memory { IfErr result (λ e. e ≡ OutOfMemory) }
 {
     match number {
@@ -149,8 +149,8 @@ fn message(
     content: Option<&[u8]>,
     proof: &[u8],
 ) -> Result<Option<Value>>
-    ensures value { IfOk result (λ o. option_map view o ≡ message kind protected.now
-        (view unprotected) (option_copied content.entry) proof.now) }
+    ensures value { IfOk result (λ o. option_map value_item o ≡ message kind protected.now
+        (value_item unprotected) (option_copied content.entry) proof.now) }
     ensures memory { IfErr result (λ e. e ≡ OutOfMemory) }
 {
     if !has_places(kind, content, proof) {
@@ -162,7 +162,7 @@ fn message(
 }
 
 /// Makes a message, a signature or a recipient of its parts, writes its shortest encoding to the front of `out`, and
-/// answers the length of that. It is under its tag where the kind says [`Form::Tagged`].
+/// returns the length of that. It is under its tag where the kind says [`Form::Tagged`].
 ///
 /// `protected` is what the byte string of the protected header holds, as it was signed: a map, or nothing for an empty
 /// header. `unprotected` is a map too, or nothing. `content` is the payload or the ciphertext, and `None` where that is

@@ -2,9 +2,9 @@
 
 ghost use Rattle.std.specs.Prelude.{◌≡◌, IfOk, IfErr, option_map};
 ghost use Rattle.coset.specs.CoseError.TheVariants.{OutOfMemory};
-ghost use Rattle.coset.specs.View.{view};
-ghost use Rattle.coset_query.specs.Labels.{label_seen};
-ghost use Rattle.coset_make.specs.Given.{entry_seen};
+ghost use Rattle.coset.specs.View.{value_item};
+ghost use Rattle.coset_query.specs.Labels.{label_view};
+ghost use Rattle.coset_make.specs.Given.{entry_view};
 ghost use Rattle.coset_make.specs.PairsMade.{PutsPair, with_pair};
 
 use crate::given::{Entry, entry_value, key_value, value_or};
@@ -19,8 +19,8 @@ use std::alloc::Global;
 /// # Errors
 /// `OutOfMemory` alone.
 fn with_pair(map: Value, key: Value, value: Value) -> Result<Option<Value>>
-    ensures value { IfOk result (λ o. option_map view o
-        ≡ with_pair (view key) (view value) (view map)) }
+    ensures value { IfOk result (λ o. option_map value_item o
+        ≡ with_pair (value_item key) (value_item value) (value_item map)) }
     ensures memory { IfErr result (λ e. e ≡ OutOfMemory) }
 {
     match map {
@@ -33,7 +33,7 @@ fn with_pair(map: Value, key: Value, value: Value) -> Result<Option<Value>>
 }
 
 /// Puts one pair behind those of a header, a key or a claims set, writes its shortest encoding to the front of `out`, and
-/// answers the length of that. No bytes are an empty map. A key begins with its type, label 1, which it can't be without.
+/// returns the length of that. No bytes are an empty map. A key begins with its type, label 1, which it can't be without.
 ///
 /// # Errors
 /// `Short` where `out` has no room for it; `Absent` where the bytes are no map; `Cose` where they aren't one item, or those
@@ -47,7 +47,7 @@ pub fn put(
     entry: Entry<'_>,
     out: &mut [u8],
 ) -> Result<usize, Refusal>
-    ensures { PutsPair kind map.now (label_seen label.entry) (entry_seen entry.entry)
+    ensures { PutsPair kind map.now (label_view label.entry) (entry_view entry.entry)
         out.old out.new result }
 {
     let map = match value_or(alloc, map, Value::Map(Vec::new(alloc))) {

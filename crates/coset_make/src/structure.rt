@@ -120,7 +120,7 @@ fn find_structure(
 }
 
 /// Writes what is signed of a message that isn't made yet, what is authenticated, or what goes with the ciphertext to the
-/// front of `out`, and answers its length: the shortest encoding of `Sig_structure`, `MAC_structure` or `Enc_structure`
+/// front of `out`, and returns its length: the shortest encoding of `Sig_structure`, `MAC_structure` or `Enc_structure`
 /// (RFC 8152, sections 4.4, 5.3 and 6.3).
 ///
 /// `protected` is what the byte string of the message's protected header will hold: a map, or nothing for an empty header.
@@ -193,7 +193,7 @@ fn find_recipient_structure(
     }
 }
 
-/// Writes what goes with the ciphertext of a recipient that isn't made yet to the front of `out`, and answers its length:
+/// Writes what goes with the ciphertext of a recipient that isn't made yet to the front of `out`, and returns its length:
 /// the shortest encoding of `Enc_structure` (RFC 8152, section 5.3).
 ///
 /// `protected` is what the byte string of the recipient's protected header will hold: a map, or nothing for an empty header.

@@ -1,7 +1,7 @@
 -- The structure that goes with a ciphertext (RFC 8152, section 5.3).
 use Rattle.std.specs.Prelude.{◌≡◌, ℕ, List, [], ◌∷◌, Option, None, option_map, codes}
 use Rattle.coset_value.specs.Item.{Item}
-use Rattle.coset_core.specs.Headers.{ProtectedSeen, protected_bytes}
+use Rattle.coset_core.specs.Headers.{ProtectedView, protected_bytes}
 use Rattle.coset_core.specs.Structure.{structure}
 use Rattle.coset_msg.specs.declared.enc_structure.EncryptionContext.{EncryptionContext}
 use Rattle.coset_msg.specs.declared.enc_structure.EncryptionContext.TheVariants.{CoseEncrypt, CoseEncrypt0, EncRecipient, MacRecipient, RecRecipient}
@@ -19,13 +19,13 @@ abbrev pub enc_structure : EncryptionContext → List ℕ → List ℕ → Item
 enc_structure context protected external_aad = structure (enc_text context) (protected ∷ external_aad ∷ [])
 
 -- that structure over the protected bytes of a header; none where it has no such bytes
-abbrev pub enc_item : EncryptionContext → ProtectedSeen → List ℕ → Option Item
+abbrev pub enc_item : EncryptionContext → ProtectedView → List ℕ → Option Item
 enc_item context p external_aad = option_map (λ b. enc_structure context b external_aad) (protected_bytes p)
 
 -- of the two headers the same goes with a ciphertext, in each context and whatever `external_aad` is
-abbrev pub EncryptsSame : ProtectedSeen → ProtectedSeen → Type 0
+abbrev pub EncryptsSame : ProtectedView → ProtectedView → Type 0
 EncryptsSame p q = (context : EncryptionContext) (external_aad : List ℕ) → enc_item context p external_aad ≡ enc_item context q external_aad
 
 -- something goes with the ciphertext
-abbrev pub Encrypts : ProtectedSeen → Type 0
+abbrev pub Encrypts : ProtectedView → Type 0
 Encrypts p = (context : EncryptionContext) (external_aad : List ℕ) → enc_item context p external_aad ≡ None → ⊥

@@ -1,7 +1,7 @@
 -- The structure that is authenticated (RFC 8152, section 6.3).
 use Rattle.std.specs.Prelude.{◌≡◌, ℕ, List, [], ◌∷◌, Option, None, option_map, codes}
 use Rattle.coset_value.specs.Item.{Item}
-use Rattle.coset_core.specs.Headers.{ProtectedSeen, protected_bytes}
+use Rattle.coset_core.specs.Headers.{ProtectedView, protected_bytes}
 use Rattle.coset_core.specs.Structure.{structure}
 use Rattle.coset_msg.specs.declared.mac_structure.MacContext.{MacContext}
 use Rattle.coset_msg.specs.declared.mac_structure.MacContext.TheVariants.{CoseMac, CoseMac0}
@@ -16,14 +16,14 @@ abbrev pub mac_structure : MacContext → List ℕ → List ℕ → List ℕ →
 mac_structure context protected external_aad payload = structure (mac_text context) (protected ∷ external_aad ∷ payload ∷ [])
 
 -- that structure over the protected bytes of a header; none where it has no such bytes
-abbrev pub mac_item : MacContext → ProtectedSeen → List ℕ → List ℕ → Option Item
+abbrev pub mac_item : MacContext → ProtectedView → List ℕ → List ℕ → Option Item
 mac_item context p external_aad payload = option_map (λ b. mac_structure context b external_aad payload) (protected_bytes p)
 
 -- of the two headers the same is authenticated, in each context, whatever `external_aad` and the payload are
-abbrev pub AuthenticatesSame : ProtectedSeen → ProtectedSeen → Type 0
+abbrev pub AuthenticatesSame : ProtectedView → ProtectedView → Type 0
 AuthenticatesSame p q = (context : MacContext) (external_aad payload : List ℕ)
     → mac_item context p external_aad payload ≡ mac_item context q external_aad payload
 
 -- something is authenticated
-abbrev pub Authenticates : ProtectedSeen → Type 0
+abbrev pub Authenticates : ProtectedView → Type 0
 Authenticates p = (context : MacContext) (external_aad payload : List ℕ) → mac_item context p external_aad payload ≡ None → ⊥

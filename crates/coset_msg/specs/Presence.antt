@@ -17,7 +17,7 @@ abbrev pub AsksWherePresent : {F M U E : Type 0} → Once F (Bor (List ℕ) × (
 AsksWherePresent {E = E} g f gm missing None bytes structure r = (e : E) × FnOnceReturns gm missing tt e × (r ≡ Err (Caller e))
 AsksWherePresent g f gm missing (Some c) bytes structure r = AsksAbout g f (bytes c) (structure c) r
 
--- f made what is stored of these bytes and those of the structure: `stores` tells how it is kept; or there is no
+-- f made what is stored of these bytes and those of the structure: `stores` says how it is kept; or there is no
 -- structure, or no memory
 abbrev pub CreatesOf : {F V B : Type 0} → Once F (Bor (List ℕ) × (Bor (List ℕ) × Unit {0})) V → F → List ℕ → Option Item → (V → B → Type 0) → Result B CoseError
     → Type 0

@@ -4,7 +4,7 @@ ghost use Rattle.std.specs.Prelude.{◌≡◌, IfOk, IfErr};
 ghost use Rattle.coset_cbor.specs.Shortest.{IsShortest};
 ghost use Rattle.coset_codec.specs.declared.error.CoseError.TheVariants.{OutOfMemory};
 ghost use Rattle.coset_codec.specs.Answers.{Writes};
-ghost use Rattle.coset_core.specs.Views.{protected_seen};
+ghost use Rattle.coset_core.specs.Views.{protected_view};
 ghost use Rattle.coset_msg.specs.EncStructure.{enc_item, enc_structure};
 
 use coset_codec::Result;
@@ -12,7 +12,7 @@ use coset_core::ProtectedHeader;
 use coset_core::structure::structure_bytes;
 use std::alloc::Global;
 
-/// What a ciphertext is part of (RFC 8152, section 5.3). It stands in the bytes that go with it, so that those of one
+/// What a ciphertext is part of (RFC 8152, section 5.3). It is in the bytes that go with it, so that those of one
 /// are never those of another.
 #[derive(Clone, Copy, Debug, PartialEq, Eq)]
 pub enum EncryptionContext {
@@ -72,7 +72,7 @@ pub fn enc_structure_of(
     protected: &ProtectedHeader,
     external_aad: &[u8],
 ) -> Result<Vec<u8>>
-    ensures { Writes (enc_item context (protected_seen protected.now) external_aad.now) (λ b.
+    ensures { Writes (enc_item context (protected_view protected.now) external_aad.now) (λ b.
         b.items) result }
 {
     let protected = protected.protected_bytes(alloc)?;
@@ -98,7 +98,7 @@ pub fn enc_structure_data(
     protected: ProtectedHeader,
     external_aad: &[u8],
 ) -> Result<Vec<u8>>
-    ensures { Writes (enc_item context (protected_seen protected) external_aad.now) (λ b. b.items)
+    ensures { Writes (enc_item context (protected_view protected) external_aad.now) (λ b. b.items)
         result }
 {
     enc_structure_of(alloc, context, &protected, external_aad)

@@ -4,18 +4,18 @@ ghost use Rattle.std.specs.Prelude.{◌≡◌, ◌≢◌, IfOk, IfErr, IfSome, S
 ghost use Rattle.coset_codec.specs.declared.error.CoseError.TheVariants.{OutOfMemory};
 ghost use Rattle.coset_codec.specs.Answers.{Writes};
 ghost use Rattle.coset_core.specs.Messages.{unread};
-ghost use Rattle.coset_core.specs.Views.{header_seen};
+ghost use Rattle.coset_core.specs.Views.{header_view};
 ghost use Rattle.coset_core.specs.Calls.{AsksAbout, Itself};
-ghost use Rattle.coset_msg.specs.Encrypt0.{empty_encrypt0, encrypt0, encrypt0_seen, encrypt0_structure, with_ciphertext};
+ghost use Rattle.coset_msg.specs.Encrypt0.{empty_encrypt0, encrypt0, encrypt0_view, encrypt0_structure, with_ciphertext};
 ghost use Rattle.coset_msg.specs.Presence.{AsksWherePresent, CreatesOf, TriesToCreateOf};
 
 use crate::enc_structure::{EncryptionContext, enc_structure_of};
-use coset_codec::read::{Input, drop_refused};
+use coset_codec::read::{Decoder, drop_refused};
 use coset_codec::util::copy_bstr;
 use coset_codec::write::{Encode, encode_three};
 use coset_codec::{CallError, Codec, Result, TaggedCodec};
-use coset_core::calls::ask;
-use coset_core::{Bstr, Content, Header, ProtectedHeader, read_headed};
+use coset_core::calls::verify_with;
+use coset_core::{BstrOrNil, Header, ProtectedHeader, ProtectedRef, read_headed};
 use std::alloc::{AllocError, Global};
 use std::marker::Model;
 
@@ -40,7 +40,7 @@ const PLACES: &str = "array with 3 items";
 impl CoseEncrypt0 {
     /// An empty message: empty headers, no ciphertext. It takes no memory.
     pub fn new(alloc: Global) -> CoseEncrypt0
-        ensures { encrypt0_seen result ≡ empty_encrypt0 }
+        ensures { encrypt0_view result ≡ empty_encrypt0 }
     {
         CoseEncrypt0 {
             protected: ProtectedHeader::new(alloc),
@@ -56,7 +56,7 @@ impl CoseEncrypt0 {
     /// `OutOfMemory`, or `DuplicateMapKey` where the protected header wasn't read and it, or one in it, repeats a label of
     /// its rest.
     pub fn aad(&self, alloc: Global, external_aad: &[u8]) -> Result<Vec<u8>>
-        ensures { Writes (encrypt0_structure (encrypt0_seen self.now) external_aad.now) (λ b.
+        ensures { Writes (encrypt0_structure (encrypt0_view self.now) external_aad.now) (λ b.
             b.items) result }
     {
         enc_structure_of(
@@ -70,7 +70,7 @@ impl CoseEncrypt0 {
     /// The ciphertext, which the message carries.
     fn carried(&self) -> &[u8]
         requires { self.now.ciphertext ≢ None }
-        ensures { (encrypt0_seen self.now).ciphertext ≡ Some result.now }
+        ensures { (encrypt0_view self.now).ciphertext ≡ Some result.now }
     {
         match &self.ciphertext {
             Some(ciphertext) => ciphertext,
@@ -97,18 +97,18 @@ impl CoseEncrypt0 {
         E: Drop,
         requires callable { F.IsAlwaysCallable cipher }
         requires carried { self.now.ciphertext ≢ None }
-        ensures { IfSome (encrypt0_seen self.now).ciphertext (λ c. AsksAbout F.FnOnce cipher c
-            (encrypt0_structure (encrypt0_seen self.now) external_aad.now) result) }
+        ensures { IfSome (encrypt0_view self.now).ciphertext (λ c. AsksAbout F.FnOnce cipher c
+            (encrypt0_structure (encrypt0_view self.now) external_aad.now) result) }
     {
         let structure = self.aad(alloc, external_aad);
-        ask(self.carried(), structure, cipher)
+        verify_with(self.carried(), structure, cipher)
     }
 
     /// The same as [`CoseEncrypt0::decrypt`], whether the message carries its ciphertext or not: where it carries none,
     /// `missing` is called for the error, and `cipher` isn't.
     ///
     /// # Errors
-    /// The same as [`CoseEncrypt0::decrypt`]; or `Caller` with what `missing` answers.
+    /// The same as [`CoseEncrypt0::decrypt`]; or `Caller` with what `missing` returns.
     pub fn decrypt_ciphertext<F, E, M>(
         &self,
         alloc: Global,
@@ -123,14 +123,14 @@ impl CoseEncrypt0 {
         requires callable { F.IsAlwaysCallable cipher }
         requires missing_callable { M.IsAlwaysCallable missing }
         ensures { AsksWherePresent F.FnOnce cipher M.FnOnce missing
-            (encrypt0_seen self.now).ciphertext (λ c. c)
-            (λ _. encrypt0_structure (encrypt0_seen self.now) external_aad.now) result }
+            (encrypt0_view self.now).ciphertext (λ c. c)
+            (λ _. encrypt0_structure (encrypt0_view self.now) external_aad.now) result }
     {
         let Some(ciphertext) = &self.ciphertext else {
             return Err(CallError::Caller(missing()));
         };
         let structure = self.aad(alloc, external_aad);
-        ask(ciphertext, structure, cipher)
+        verify_with(ciphertext, structure, cipher)
     }
 
     /// The same as [`CoseEncrypt0::decrypt`] where this ciphertext is detached (RFC 9052, section 5.1): it takes the place of one
@@ -150,10 +150,10 @@ impl CoseEncrypt0 {
         E: Drop,
         requires { F.IsAlwaysCallable cipher }
         ensures { AsksAbout F.FnOnce cipher ciphertext.now
-            (encrypt0_structure (encrypt0_seen self.now) external_aad.now) result }
+            (encrypt0_structure (encrypt0_view self.now) external_aad.now) result }
     {
         let structure = self.aad(alloc, external_aad);
-        ask(ciphertext, structure, cipher)
+        verify_with(ciphertext, structure, cipher)
     }
 
     /// A message that equals this one, with the same bytes kept.
@@ -161,7 +161,7 @@ impl CoseEncrypt0 {
     /// # Errors
     /// `OutOfMemory` alone.
     pub fn clone(&self) -> Result<CoseEncrypt0>
-        ensures copy { IfOk result (λ m. encrypt0_seen m ≡ encrypt0_seen self.now) }
+        ensures copy { IfOk result (λ m. encrypt0_view m ≡ encrypt0_view self.now) }
         ensures memory { IfErr result (λ e. e ≡ OutOfMemory) }
     {
         Ok(Clone::clone(self)?)
@@ -170,7 +170,7 @@ impl CoseEncrypt0 {
 
 /// The same as [`CoseEncrypt0::clone`], for generic code.
 impl Clone for CoseEncrypt0 {
-    ghost is_clone = { λ message copy. encrypt0_seen copy ≡ encrypt0_seen message };
+    ghost is_clone = { λ message copy. encrypt0_view copy ≡ encrypt0_view message };
 
     fn clone(&self) -> Result<CoseEncrypt0, AllocError> {
         Ok(CoseEncrypt0 {
@@ -182,24 +182,24 @@ impl Clone for CoseEncrypt0 {
 }
 
 impl Codec for CoseEncrypt0 {
-    ghost use Rattle.coset_msg.specs.Equality.{encrypt0_told};
-    ghost use Rattle.coset_codec.specs.Told.{bstr_told};
-    ghost use Rattle.coset_core.specs.Told.{header_told, protected_told};
-    ghost use Rattle.coset_msg.specs.Encrypt0.{Encrypt0Seen, encrypt0_laws};
+    ghost use Rattle.coset_msg.specs.Equality.{encrypt0_decides};
+    ghost use Rattle.coset_codec.specs.EqDecides.{bstr_decides};
+    ghost use Rattle.coset_core.specs.EqDecides.{header_decides, protected_decides};
+    ghost use Rattle.coset_msg.specs.Encrypt0.{Encrypt0View, encrypt0_laws};
 
-    ghost Seen = { Encrypt0Seen };
+    ghost View = { Encrypt0View };
 
-    ghost seen = { encrypt0_seen };
+    ghost view = { encrypt0_view };
 
     ghost shape = { encrypt0 };
 
     ghost laws = { encrypt0_laws };
 
-    ghost equal = { λ a b. encrypt0_told (protected_told a.protected b.protected)
-        (header_told a.unprotected b.unprotected)
-        (bstr_told a.ciphertext b.ciphertext) };
+    ghost equal = { λ a b. encrypt0_decides (protected_decides a.protected b.protected)
+        (header_decides a.unprotected b.unprotected)
+        (bstr_decides a.ciphertext b.ciphertext) };
 
-    fn read(alloc: Global, input: &mut Input<'_>) -> Result<CoseEncrypt0> {
+    fn read(alloc: Global, input: &mut Decoder<'_>) -> Result<CoseEncrypt0> {
         let mut message = CoseEncrypt0::new(alloc);
         match read_headed(
             &mut message.protected,
@@ -208,7 +208,7 @@ impl Codec for CoseEncrypt0 {
             input,
             PLACES,
         ) {
-            Ok((Content(ciphertext), ())) => {
+            Ok((BstrOrNil(ciphertext), ())) => {
                 message.ciphertext = ciphertext;
             }
             Err(error) => {
@@ -220,14 +220,14 @@ impl Codec for CoseEncrypt0 {
     }
 
     fn size_hint(&self) -> usize {
-        Bstr(&self.protected)
-            .room()
-            .saturating_add(self.unprotected.room())
-            .saturating_add(self.ciphertext.room())
+        ProtectedRef(&self.protected)
+            .encoded_size_hint()
+            .saturating_add(self.unprotected.encoded_size_hint())
+            .saturating_add(self.ciphertext.encoded_size_hint())
     }
 
     fn write(&self, alloc: Global, out: &mut Vec<u8>) -> Result<()> {
-        let protected = Bstr(&self.protected);
+        let protected = ProtectedRef(&self.protected);
         encode_three(alloc, &protected, &self.unprotected, &self.ciphertext, out)
     }
 }
@@ -259,7 +259,7 @@ impl Model for CoseEncrypt0Builder {
 impl CoseEncrypt0Builder {
     /// An empty message. It takes no memory.
     pub fn new(alloc: Global) -> CoseEncrypt0Builder
-        ensures { encrypt0_seen result ≡ empty_encrypt0 }
+        ensures { encrypt0_view result ≡ empty_encrypt0 }
     {
         CoseEncrypt0Builder(CoseEncrypt0::new(alloc))
     }
@@ -273,8 +273,8 @@ impl CoseEncrypt0Builder {
 
     /// Sets the protected header: one that was made, and not read, so that it has no bytes of its own yet.
     pub fn protected(mut self, header: Header) -> CoseEncrypt0Builder
-        ensures { encrypt0_seen result ≡ record
-            (encrypt0_seen self) { protected = unread (header_seen header) } }
+        ensures { encrypt0_view result ≡ record
+            (encrypt0_view self) { protected = unread (header_view header) } }
     {
         self.0.protected = ProtectedHeader {
             original_data: None,
@@ -285,8 +285,8 @@ impl CoseEncrypt0Builder {
 
     /// Sets the unprotected header.
     pub fn unprotected(mut self, header: Header) -> CoseEncrypt0Builder
-        ensures { encrypt0_seen result ≡ record
-            (encrypt0_seen self) { unprotected = header_seen header } }
+        ensures { encrypt0_view result ≡ record
+            (encrypt0_view self) { unprotected = header_view header } }
     {
         self.0.unprotected = header;
         self
@@ -294,7 +294,7 @@ impl CoseEncrypt0Builder {
 
     /// Sets the ciphertext.
     pub fn ciphertext(mut self, ciphertext: Vec<u8>) -> CoseEncrypt0Builder
-        ensures { encrypt0_seen result ≡ with_ciphertext ciphertext.items (encrypt0_seen self) }
+        ensures { encrypt0_view result ≡ with_ciphertext ciphertext.items (encrypt0_view self) }
     {
         self.0.ciphertext = Some(ciphertext);
         self
@@ -305,8 +305,8 @@ impl CoseEncrypt0Builder {
     /// # Errors
     /// `OutOfMemory` alone.
     pub fn ciphertext_from(self, alloc: Global, ciphertext: &[u8]) -> Result<CoseEncrypt0Builder>
-        ensures ok { IfOk result (λ b. encrypt0_seen b
-            ≡ with_ciphertext ciphertext.now (encrypt0_seen self)) }
+        ensures ok { IfOk result (λ b. encrypt0_view b
+            ≡ with_ciphertext ciphertext.now (encrypt0_view self)) }
         ensures memory { IfErr result (λ e. e ≡ OutOfMemory) }
     {
         Ok(self.ciphertext(Vec::from_slice(alloc, ciphertext)?))
@@ -329,8 +329,8 @@ impl CoseEncrypt0Builder {
         F: FnOnce(&[u8], &[u8]) -> Vec<u8> + Drop,
         requires { F.IsAlwaysCallable cipher }
         ensures { CreatesOf F.FnOnce cipher plaintext.now
-            (encrypt0_structure (encrypt0_seen self) external_aad.now) (λ c b. encrypt0_seen b
-            ≡ with_ciphertext c.items (encrypt0_seen self)) result }
+            (encrypt0_structure (encrypt0_view self) external_aad.now) (λ c b. encrypt0_view b
+            ≡ with_ciphertext c.items (encrypt0_view self)) result }
     {
         let structure = self.0.aad(alloc, external_aad)?;
         Ok(self.ciphertext(cipher(plaintext, &structure)))
@@ -352,11 +352,11 @@ impl CoseEncrypt0Builder {
         E: Drop,
         requires { F.IsAlwaysCallable cipher }
         ensures { TriesToCreateOf F.FnOnce cipher plaintext.now
-            (encrypt0_structure (encrypt0_seen self) external_aad.now) (λ c b. encrypt0_seen b
-            ≡ with_ciphertext c.items (encrypt0_seen self)) result }
+            (encrypt0_structure (encrypt0_view self) external_aad.now) (λ c b. encrypt0_view b
+            ≡ with_ciphertext c.items (encrypt0_view self)) result }
     {
         let structure = self.0.aad(alloc, external_aad);
-        let ciphertext = ask(plaintext, structure, cipher)?;
+        let ciphertext = verify_with(plaintext, structure, cipher)?;
         Ok(self.ciphertext(ciphertext))
     }
 
@@ -376,7 +376,7 @@ impl CoseEncrypt0Builder {
         F: FnOnce(&[u8], &[u8]) -> Vec<u8> + Drop,
         requires { F.IsAlwaysCallable cipher }
         ensures { CreatesOf F.FnOnce cipher plaintext.now
-            (encrypt0_structure (encrypt0_seen self.now) external_aad.now) Itself result }
+            (encrypt0_structure (encrypt0_view self.now) external_aad.now) Itself result }
     {
         let structure = self.0.aad(alloc, external_aad)?;
         Ok(cipher(plaintext, &structure))
@@ -398,9 +398,9 @@ impl CoseEncrypt0Builder {
         E: Drop,
         requires { F.IsAlwaysCallable cipher }
         ensures { AsksAbout F.FnOnce cipher plaintext.now
-            (encrypt0_structure (encrypt0_seen self.now) external_aad.now) result }
+            (encrypt0_structure (encrypt0_view self.now) external_aad.now) result }
     {
         let structure = self.0.aad(alloc, external_aad);
-        ask(plaintext, structure, cipher)
+        verify_with(plaintext, structure, cipher)
     }
 }

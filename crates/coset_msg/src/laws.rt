@@ -11,7 +11,7 @@ ghost use Rattle.coset_msg.specs.MacStructure.{Authenticates, AuthenticatesSame}
 
 use coset_core::laws::kept_as_written;
 
-/// Of a message that was read from what another is written as, plain or under its tag, the same bytes stand for the
+/// Of a message that was read from what another is written as, plain or under its tag, the same bytes represent the
 /// protected header, however the item was spelled.
 pub fn kept_in_messages()
     ensures mac0 { AsWritten mac0 (λ m n. protected_bytes n.protected

@@ -9,12 +9,12 @@ mod mac0;
 pub mod mac_structure;
 
 pub use coset_core::{
-    Algorithm, AsCborValue, Bstr, CallError, CborOrdering, CborSerializable, ClaimName, Codec,
+    Algorithm, AsCborValue, CallError, CborOrdering, CborSerializable, ClaimName, Codec,
     ContentType, CoseCountersignature, CoseCountersignatureBuilder, CoseError, CoseSignature,
     CoseSignatureBuilder, Encode, EndOfFile, FromPull, Header, HeaderBuilder, ItemSource,
-    KeyOperation, KeyType, Label, Lawful, ProtectedBstr, ProtectedHeader, RegisteredLabel,
-    RegisteredLabelWithPrivate, Result, TaggedCborSerializable, TaggedCodec, cbor, codec,
-    has_repeats, iana, util,
+    KeyOperation, KeyType, Label, Lawful, ProtectedBstr, ProtectedHeader, ProtectedRef,
+    RegisteredLabel, RegisteredLabelWithPrivate, Result, TaggedCborSerializable, TaggedCodec, cbor,
+    codec, has_repeats, iana, util,
 };
 pub use enc_structure::{EncryptionContext, enc_structure_data};
 pub use encrypt0::{CoseEncrypt0, CoseEncrypt0Builder};

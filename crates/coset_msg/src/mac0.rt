@@ -4,18 +4,18 @@ ghost use Rattle.std.specs.Prelude.{◌≡◌, ◌≢◌, IfOk, IfErr, IfSome, S
 ghost use Rattle.coset_codec.specs.declared.error.CoseError.TheVariants.{OutOfMemory};
 ghost use Rattle.coset_codec.specs.Answers.{Writes};
 ghost use Rattle.coset_core.specs.Messages.{unread};
-ghost use Rattle.coset_core.specs.Views.{header_seen};
+ghost use Rattle.coset_core.specs.Views.{header_view};
 ghost use Rattle.coset_core.specs.Calls.{AsksAbout, Creates, TriesToCreate};
-ghost use Rattle.coset_msg.specs.Mac0.{empty_mac0, mac0, mac0_seen, mac0_structure, with_tag};
+ghost use Rattle.coset_msg.specs.Mac0.{empty_mac0, mac0, mac0_view, mac0_structure, with_tag};
 ghost use Rattle.coset_msg.specs.Presence.{AsksWherePresent, WritesWherePresent};
 
 use crate::mac_structure::{MacContext, mac_structure_of};
-use coset_codec::read::{Input, drop_refused};
+use coset_codec::read::{Decoder, drop_refused};
 use coset_codec::util::copy_bstr;
 use coset_codec::write::{Encode, encode_four};
 use coset_codec::{CallError, Codec, Result, TaggedCodec};
-use coset_core::calls::{ask, make};
-use coset_core::{Bstr, Content, Header, ProtectedHeader, read_headed};
+use coset_core::calls::{create_with, verify_with};
+use coset_core::{BstrOrNil, Header, ProtectedHeader, ProtectedRef, read_headed};
 use std::alloc::{AllocError, Global};
 use std::marker::Model;
 
@@ -42,7 +42,7 @@ const PLACES: &str = "array with 4 items";
 impl CoseMac0 {
     /// An empty message: empty headers, no payload, an empty tag. It takes no memory.
     pub fn new(alloc: Global) -> CoseMac0
-        ensures { mac0_seen result ≡ empty_mac0 }
+        ensures { mac0_view result ≡ empty_mac0 }
     {
         CoseMac0 {
             protected: ProtectedHeader::new(alloc),
@@ -59,8 +59,8 @@ impl CoseMac0 {
     /// `OutOfMemory`, or `DuplicateMapKey` where the protected header wasn't read and it, or one in it, repeats a label of
     /// its rest.
     pub fn tbm(&self, alloc: Global, external_aad: &[u8]) -> Result<Option<Vec<u8>>>
-        ensures { WritesWherePresent (λ b. b.items) (mac0_seen self.now).payload
-            (mac0_structure (mac0_seen self.now) external_aad.now) result }
+        ensures { WritesWherePresent (λ b. b.items) (mac0_view self.now).payload
+            (mac0_structure (mac0_view self.now) external_aad.now) result }
     {
         match &self.payload {
             Some(payload) => Ok(Some(self.tbm_detached(alloc, payload, external_aad)?)),
@@ -79,7 +79,7 @@ impl CoseMac0 {
         payload: &[u8],
         external_aad: &[u8],
     ) -> Result<Vec<u8>>
-        ensures { Writes (mac0_structure (mac0_seen self.now) external_aad.now payload.now) (λ b.
+        ensures { Writes (mac0_structure (mac0_view self.now) external_aad.now payload.now) (λ b.
             b.items) result }
     {
         mac_structure_of(
@@ -94,7 +94,7 @@ impl CoseMac0 {
     /// The payload, which the message carries.
     fn carried(&self) -> &[u8]
         requires { self.now.payload ≢ None }
-        ensures { (mac0_seen self.now).payload ≡ Some result.now }
+        ensures { (mac0_view self.now).payload ≡ Some result.now }
     {
         match &self.payload {
             Some(payload) => payload,
@@ -121,19 +121,19 @@ impl CoseMac0 {
         E: Drop,
         requires callable { F.IsAlwaysCallable verifier }
         requires carried { self.now.payload ≢ None }
-        ensures { IfSome (mac0_seen self.now).payload (λ p. AsksAbout F.FnOnce verifier
-            (mac0_seen self.now).tag (mac0_structure (mac0_seen self.now) external_aad.now p)
+        ensures { IfSome (mac0_view self.now).payload (λ p. AsksAbout F.FnOnce verifier
+            (mac0_view self.now).tag (mac0_structure (mac0_view self.now) external_aad.now p)
             result) }
     {
         let structure = self.tbm_detached(alloc, self.carried(), external_aad);
-        ask(&self.tag, structure, verifier)
+        verify_with(&self.tag, structure, verifier)
     }
 
     /// The same as [`CoseMac0::verify_tag`], whether the message carries its payload or not: where it carries none,
     /// `missing` is called for the error, and `verifier` isn't.
     ///
     /// # Errors
-    /// The same as [`CoseMac0::verify_tag`]; or `Caller` with what `missing` answers.
+    /// The same as [`CoseMac0::verify_tag`]; or `Caller` with what `missing` returns.
     pub fn verify_payload_tag<F, E, M>(
         &self,
         alloc: Global,
@@ -148,14 +148,14 @@ impl CoseMac0 {
         requires callable { F.IsAlwaysCallable verifier }
         requires missing_callable { M.IsAlwaysCallable missing }
         ensures { AsksWherePresent F.FnOnce verifier M.FnOnce missing
-            (mac0_seen self.now).payload (λ p. (mac0_seen self.now).tag)
-            (mac0_structure (mac0_seen self.now) external_aad.now) result }
+            (mac0_view self.now).payload (λ p. (mac0_view self.now).tag)
+            (mac0_structure (mac0_view self.now) external_aad.now) result }
     {
         let Some(payload) = &self.payload else {
             return Err(CallError::Caller(missing()));
         };
         let structure = self.tbm_detached(alloc, payload, external_aad);
-        ask(&self.tag, structure, verifier)
+        verify_with(&self.tag, structure, verifier)
     }
 
     /// The same as [`CoseMac0::verify_tag`] where this payload is detached (RFC 9052, section 6): it takes the place of one
@@ -174,11 +174,11 @@ impl CoseMac0 {
         F: FnOnce(&[u8], &[u8]) -> Result<(), E> + Drop,
         E: Drop,
         requires { F.IsAlwaysCallable verifier }
-        ensures { AsksAbout F.FnOnce verifier (mac0_seen self.now).tag
-            (mac0_structure (mac0_seen self.now) external_aad.now payload.now) result }
+        ensures { AsksAbout F.FnOnce verifier (mac0_view self.now).tag
+            (mac0_structure (mac0_view self.now) external_aad.now payload.now) result }
     {
         let structure = self.tbm_detached(alloc, payload, external_aad);
-        ask(&self.tag, structure, verifier)
+        verify_with(&self.tag, structure, verifier)
     }
 
     /// A message that equals this one, with the same bytes kept.
@@ -186,7 +186,7 @@ impl CoseMac0 {
     /// # Errors
     /// `OutOfMemory` alone.
     pub fn clone(&self) -> Result<CoseMac0>
-        ensures copy { IfOk result (λ m. mac0_seen m ≡ mac0_seen self.now) }
+        ensures copy { IfOk result (λ m. mac0_view m ≡ mac0_view self.now) }
         ensures memory { IfErr result (λ e. e ≡ OutOfMemory) }
     {
         Ok(Clone::clone(self)?)
@@ -195,7 +195,7 @@ impl CoseMac0 {
 
 /// The same as [`CoseMac0::clone`], for generic code.
 impl Clone for CoseMac0 {
-    ghost is_clone = { λ message copy. mac0_seen copy ≡ mac0_seen message };
+    ghost is_clone = { λ message copy. mac0_view copy ≡ mac0_view message };
 
     fn clone(&self) -> Result<CoseMac0, AllocError> {
         Ok(CoseMac0 {
@@ -208,25 +208,25 @@ impl Clone for CoseMac0 {
 }
 
 impl Codec for CoseMac0 {
-    ghost use Rattle.coset_msg.specs.Equality.{mac0_told};
-    ghost use Rattle.coset_codec.specs.Told.{bytes_told, bstr_told};
-    ghost use Rattle.coset_core.specs.Told.{header_told, protected_told};
-    ghost use Rattle.coset_msg.specs.Mac0.{Mac0Seen, mac0_laws};
+    ghost use Rattle.coset_msg.specs.Equality.{mac0_decides};
+    ghost use Rattle.coset_codec.specs.EqDecides.{vec_decides, bstr_decides};
+    ghost use Rattle.coset_core.specs.EqDecides.{header_decides, protected_decides};
+    ghost use Rattle.coset_msg.specs.Mac0.{Mac0View, mac0_laws};
 
-    ghost Seen = { Mac0Seen };
+    ghost View = { Mac0View };
 
-    ghost seen = { mac0_seen };
+    ghost view = { mac0_view };
 
     ghost shape = { mac0 };
 
     ghost laws = { mac0_laws };
 
-    ghost equal = { λ a b. mac0_told (protected_told a.protected b.protected)
-        (header_told a.unprotected b.unprotected)
-        (bstr_told a.payload b.payload)
-        (bytes_told a.tag b.tag) };
+    ghost equal = { λ a b. mac0_decides (protected_decides a.protected b.protected)
+        (header_decides a.unprotected b.unprotected)
+        (bstr_decides a.payload b.payload)
+        (vec_decides a.tag b.tag) };
 
-    fn read(alloc: Global, input: &mut Input<'_>) -> Result<CoseMac0> {
+    fn read(alloc: Global, input: &mut Decoder<'_>) -> Result<CoseMac0> {
         let mut message = CoseMac0::new(alloc);
         match read_headed(
             &mut message.protected,
@@ -235,7 +235,7 @@ impl Codec for CoseMac0 {
             input,
             PLACES,
         ) {
-            Ok((Content(payload), (tag, ()))) => {
+            Ok((BstrOrNil(payload), (tag, ()))) => {
                 message.payload = payload;
                 message.tag = tag;
             }
@@ -248,15 +248,15 @@ impl Codec for CoseMac0 {
     }
 
     fn size_hint(&self) -> usize {
-        Bstr(&self.protected)
-            .room()
-            .saturating_add(self.unprotected.room())
-            .saturating_add(self.payload.room())
-            .saturating_add(self.tag.room())
+        ProtectedRef(&self.protected)
+            .encoded_size_hint()
+            .saturating_add(self.unprotected.encoded_size_hint())
+            .saturating_add(self.payload.encoded_size_hint())
+            .saturating_add(self.tag.encoded_size_hint())
     }
 
     fn write(&self, alloc: Global, out: &mut Vec<u8>) -> Result<()> {
-        let protected = Bstr(&self.protected);
+        let protected = ProtectedRef(&self.protected);
         encode_four(
             alloc,
             &protected,
@@ -295,7 +295,7 @@ impl Model for CoseMac0Builder {
 impl CoseMac0Builder {
     /// An empty message. It takes no memory.
     pub fn new(alloc: Global) -> CoseMac0Builder
-        ensures { mac0_seen result ≡ empty_mac0 }
+        ensures { mac0_view result ≡ empty_mac0 }
     {
         CoseMac0Builder(CoseMac0::new(alloc))
     }
@@ -309,8 +309,8 @@ impl CoseMac0Builder {
 
     /// Sets the protected header: one that was made, and not read, so that it has no bytes of its own yet.
     pub fn protected(mut self, header: Header) -> CoseMac0Builder
-        ensures { mac0_seen result ≡ record
-            (mac0_seen self) { protected = unread (header_seen header) } }
+        ensures { mac0_view result ≡ record
+            (mac0_view self) { protected = unread (header_view header) } }
     {
         self.0.protected = ProtectedHeader {
             original_data: None,
@@ -321,8 +321,8 @@ impl CoseMac0Builder {
 
     /// Sets the unprotected header.
     pub fn unprotected(mut self, header: Header) -> CoseMac0Builder
-        ensures { mac0_seen result ≡ record
-            (mac0_seen self) { unprotected = header_seen header } }
+        ensures { mac0_view result ≡ record
+            (mac0_view self) { unprotected = header_view header } }
     {
         self.0.unprotected = header;
         self
@@ -330,7 +330,7 @@ impl CoseMac0Builder {
 
     /// Sets the payload.
     pub fn payload(mut self, payload: Vec<u8>) -> CoseMac0Builder
-        ensures { mac0_seen result ≡ record (mac0_seen self) { payload = Some payload.items } }
+        ensures { mac0_view result ≡ record (mac0_view self) { payload = Some payload.items } }
     {
         self.0.payload = Some(payload);
         self
@@ -341,8 +341,8 @@ impl CoseMac0Builder {
     /// # Errors
     /// `OutOfMemory` alone.
     pub fn payload_from(self, alloc: Global, payload: &[u8]) -> Result<CoseMac0Builder>
-        ensures ok { IfOk result (λ b. mac0_seen b
-            ≡ record (mac0_seen self) { payload = Some payload.now }) }
+        ensures ok { IfOk result (λ b. mac0_view b
+            ≡ record (mac0_view self) { payload = Some payload.now }) }
         ensures memory { IfErr result (λ e. e ≡ OutOfMemory) }
     {
         Ok(self.payload(Vec::from_slice(alloc, payload)?))
@@ -350,7 +350,7 @@ impl CoseMac0Builder {
 
     /// Sets the tag.
     pub fn tag(mut self, tag: Vec<u8>) -> CoseMac0Builder
-        ensures { mac0_seen result ≡ with_tag tag.items (mac0_seen self) }
+        ensures { mac0_view result ≡ with_tag tag.items (mac0_view self) }
     {
         self.0.tag = tag;
         self
@@ -361,7 +361,7 @@ impl CoseMac0Builder {
     /// # Errors
     /// `OutOfMemory` alone.
     pub fn tag_from(self, alloc: Global, tag: &[u8]) -> Result<CoseMac0Builder>
-        ensures ok { IfOk result (λ b. mac0_seen b ≡ with_tag tag.now (mac0_seen self)) }
+        ensures ok { IfOk result (λ b. mac0_view b ≡ with_tag tag.now (mac0_view self)) }
         ensures memory { IfErr result (λ e. e ≡ OutOfMemory) }
     {
         Ok(self.tag(Vec::from_slice(alloc, tag)?))
@@ -383,9 +383,9 @@ impl CoseMac0Builder {
         F: FnOnce(&[u8]) -> Vec<u8> + Drop,
         requires callable { F.IsAlwaysCallable creator }
         requires carried { self.payload ≢ None }
-        ensures { IfSome (mac0_seen self).payload (λ p. Creates F.FnOnce creator
-            (mac0_structure (mac0_seen self) external_aad.now p) (λ t b. mac0_seen b
-            ≡ with_tag t.items (mac0_seen self)) result) }
+        ensures { IfSome (mac0_view self).payload (λ p. Creates F.FnOnce creator
+            (mac0_structure (mac0_view self) external_aad.now p) (λ t b. mac0_view b
+            ≡ with_tag t.items (mac0_view self)) result) }
     {
         let tbm = self.0.tbm_detached(alloc, self.0.carried(), external_aad)?;
         Ok(self.tag(creator(&tbm)))
@@ -407,8 +407,8 @@ impl CoseMac0Builder {
         F: FnOnce(&[u8]) -> Vec<u8> + Drop,
         requires { F.IsAlwaysCallable creator }
         ensures { Creates F.FnOnce creator
-            (mac0_structure (mac0_seen self) external_aad.now payload.now) (λ t b. mac0_seen b
-            ≡ with_tag t.items (mac0_seen self)) result }
+            (mac0_structure (mac0_view self) external_aad.now payload.now) (λ t b. mac0_view b
+            ≡ with_tag t.items (mac0_view self)) result }
     {
         let structure = self.0.tbm_detached(alloc, payload, external_aad)?;
         Ok(self.tag(creator(&structure)))
@@ -429,12 +429,12 @@ impl CoseMac0Builder {
         E: Drop,
         requires callable { F.IsAlwaysCallable creator }
         requires carried { self.payload ≢ None }
-        ensures { IfSome (mac0_seen self).payload (λ p. TriesToCreate F.FnOnce creator
-            (mac0_structure (mac0_seen self) external_aad.now p) (λ t b. mac0_seen b
-            ≡ with_tag t.items (mac0_seen self)) result) }
+        ensures { IfSome (mac0_view self).payload (λ p. TriesToCreate F.FnOnce creator
+            (mac0_structure (mac0_view self) external_aad.now p) (λ t b. mac0_view b
+            ≡ with_tag t.items (mac0_view self)) result) }
     {
         let structure = self.0.tbm_detached(alloc, self.0.carried(), external_aad);
-        let tag = make(structure, creator)?;
+        let tag = create_with(structure, creator)?;
         Ok(self.tag(tag))
     }
 
@@ -454,11 +454,11 @@ impl CoseMac0Builder {
         E: Drop,
         requires { F.IsAlwaysCallable creator }
         ensures { TriesToCreate F.FnOnce creator
-            (mac0_structure (mac0_seen self) external_aad.now payload.now) (λ t b. mac0_seen b
-            ≡ with_tag t.items (mac0_seen self)) result }
+            (mac0_structure (mac0_view self) external_aad.now payload.now) (λ t b. mac0_view b
+            ≡ with_tag t.items (mac0_view self)) result }
     {
         let structure = self.0.tbm_detached(alloc, payload, external_aad);
-        let tag = make(structure, creator)?;
+        let tag = create_with(structure, creator)?;
         Ok(self.tag(tag))
     }
 }

@@ -4,7 +4,7 @@ ghost use Rattle.std.specs.Prelude.{◌≡◌, IfOk, IfErr};
 ghost use Rattle.coset_cbor.specs.Shortest.{IsShortest};
 ghost use Rattle.coset_codec.specs.declared.error.CoseError.TheVariants.{OutOfMemory};
 ghost use Rattle.coset_codec.specs.Answers.{Writes};
-ghost use Rattle.coset_core.specs.Views.{protected_seen};
+ghost use Rattle.coset_core.specs.Views.{protected_view};
 ghost use Rattle.coset_msg.specs.MacStructure.{mac_item, mac_structure};
 
 use coset_codec::Result;
@@ -12,7 +12,7 @@ use coset_core::ProtectedHeader;
 use coset_core::structure::structure_bytes;
 use std::alloc::Global;
 
-/// What a MAC is part of (RFC 8152, section 6.3). It stands in the bytes that are authenticated, so that those of one
+/// What a MAC is part of (RFC 8152, section 6.3). It is in the bytes that are authenticated, so that those of one
 /// are never those of another.
 #[derive(Clone, Copy, Debug, PartialEq, Eq)]
 pub enum MacContext {
@@ -65,7 +65,7 @@ pub fn mac_structure_of(
     external_aad: &[u8],
     payload: &[u8],
 ) -> Result<Vec<u8>>
-    ensures { Writes (mac_item context (protected_seen protected.now) external_aad.now payload.now)
+    ensures { Writes (mac_item context (protected_view protected.now) external_aad.now payload.now)
         (λ b. b.items) result }
 {
     let protected = protected.protected_bytes(alloc)?;
@@ -92,7 +92,7 @@ pub fn mac_structure_data(
     external_aad: &[u8],
     payload: &[u8],
 ) -> Result<Vec<u8>>
-    ensures { Writes (mac_item context (protected_seen protected) external_aad.now payload.now)
+    ensures { Writes (mac_item context (protected_view protected) external_aad.now payload.now)
         (λ b. b.items) result }
 {
     mac_structure_of(alloc, context, &protected, external_aad, payload)

@@ -21,7 +21,7 @@ pub fn keys(alloc: Global, words: &Words<'_>) -> Result<String> {
     }
 }
 
-/// What is told of each key.
+/// What is said of each key.
 fn tell_keys(alloc: Global, keys: Vec<Result<CoseKey>>) -> Result<String> {
     let mut text = String::from_str(alloc, "ok")?;
     for key in keys {
@@ -47,7 +47,7 @@ pub fn claims(alloc: Global, words: &Words<'_>) -> Result<String> {
     }
 }
 
-/// What is told of these claims.
+/// What is said of these claims.
 fn tell_claims(alloc: Global, known: KnownClaims) -> Result<String> {
     let mut text = tell::value(alloc, Ok(known.claims))?;
     for (label, value) in known.others {

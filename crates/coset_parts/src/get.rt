@@ -8,7 +8,7 @@ use coset_lines::words::Words;
 use coset_lines::{mark, tell};
 use std::alloc::Global;
 
-/// Asks for a label: the label; what it is asked of; a map, whose pairs stand behind those of its rest, as they may in a
+/// Asks for a label: the label; what it is asked of; a map, whose pairs follow those of its rest, as they may in a
 /// value that was built.
 ///
 /// # Errors

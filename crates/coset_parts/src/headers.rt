@@ -30,7 +30,7 @@ pub fn is_empty_protected(alloc: Global, words: &Words<'_>) -> Result<String> {
     tell::truth(alloc, answer)
 }
 
-/// A protected header: the bytes that stand for it.
+/// A protected header: the bytes that represent it.
 ///
 /// # Errors
 /// The words are of none.

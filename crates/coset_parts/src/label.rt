@@ -101,7 +101,7 @@ pub fn from(alloc: Global, kind: &str, words: &Words<'_>) -> Result<String> {
     }
 }
 
-/// The label that stands where none is named.
+/// The label that is used where none is named.
 ///
 /// # Errors
 /// The kind of labels isn't known.

@@ -45,7 +45,7 @@ fn cmp_canonical(alloc: Global, words: &Words<'_>) -> Result<String> {
     signs(alloc, &orders)
 }
 
-/// How the first of these key types stands to each of them.
+/// How the first of these key types compares with each of them.
 ///
 /// # Errors
 /// What the call is given can't be made of the words.
@@ -78,7 +78,7 @@ fn labels(alloc: Global, words: &Words<'_>, place: usize) -> Result<Vec<Label>> 
     Ok(labels)
 }
 
-/// How the first stands to each: `<`, `=` or `>`; `!` where `==` says otherwise.
+/// How the first compares with each: `<`, `=` or `>`; `!` where `==` says otherwise.
 fn told<T: Ord>(alloc: Global, all: &[T]) -> Result<String> {
     let mut orders = Vec::with_capacity(alloc, all.len())?;
     mark::begin(alloc);
@@ -88,7 +88,7 @@ fn told<T: Ord>(alloc: Global, all: &[T]) -> Result<String> {
     signs(alloc, &orders)
 }
 
-/// How the first stands to each of them, and none where `==` says otherwise.
+/// How the first compares with each of them, and none where `==` says otherwise.
 fn all_ordered<T: Ord>(all: &[T], orders: &mut Vec<Option<Ordering>>) -> Result<()> {
     let Some(first) = all.first() else {
         return Ok(());
@@ -101,7 +101,7 @@ fn all_ordered<T: Ord>(all: &[T], orders: &mut Vec<Option<Ordering>>) -> Result<
     Ok(())
 }
 
-/// How the first stands to each of them in that order.
+/// How the first compares with each of them in that order.
 fn all_compared(
     ordering: &CborOrdering,
     all: &[Label],
@@ -116,7 +116,7 @@ fn all_compared(
     Ok(())
 }
 
-/// How the first stands to each of them by the lengths of their encodings first.
+/// How the first compares with each of them by the lengths of their encodings first.
 fn all_canonical(all: &[Label], orders: &mut Vec<Option<Ordering>>) -> Result<()> {
     let Some(first) = all.first() else {
         return Ok(());

@@ -21,7 +21,8 @@ impl EnumI64 for Own {
     ghost number = { elim [ Reserved ↦ pos 0 | Something ↦ pos 1 | Other ↦ minus 1 ] };
 
     ghost value_of = { first_numbered
-        (elim [ Reserved ↦ pos 0 | Something ↦ pos 1 | Other ↦ minus 1 ]) (Reserved ∷ Something ∷ Other ∷ []) };
+        (elim [ Reserved ↦ pos 0 | Something ↦ pos 1 | Other ↦ minus 1 ])
+        (Reserved ∷ Something ∷ Other ∷ []) };
 
     fn from_i64(i: i64) -> Option<Own> {
         match i {

@@ -77,12 +77,13 @@ fn of_type(alloc: Global, kind: &str, name: &str, words: &Words<'_>) -> Option<R
 fn of_cbor(alloc: Global, name: &str, words: &Words<'_>) -> Option<Result<String>> {
     match name {
         "read_value" => Some(reading::read(alloc, words)),
-        "decode_encoded" => Some(reading::decode(alloc, words)),
+        "decode_unbounded" => Some(reading::decode(alloc, words)),
         "check" => Some(reading::check_front(alloc, words)),
         "front_length" => Some(reading::front(alloc, words)),
         "to_cbor_array" => Some(writing::array(alloc, words)),
         "de_error" => Some(value::reader_error(alloc, words)),
         "ser_error" => Some(value::writer_error(alloc, words)),
+        "ser_error_becomes" => Some(value::writer_error_becomes(alloc, words)),
         name if name.starts_with("write_") => Some(writing::call(alloc, name, words)),
         _ => None,
     }

@@ -7,7 +7,7 @@ use coset_lines::words::Words;
 use coset_lines::{mark, tell};
 use std::alloc::Global;
 
-/// Makes the call of that name: the bytes at whose front the item stands.
+/// Makes the call of that name: the bytes at whose front the item is.
 ///
 /// # Errors
 /// What it is given can't be made of the words, or the name isn't known.

@@ -2,7 +2,7 @@
 
 ghost use Rattle.std.specs.Prelude.{◌≡◌, ◌+◌, ◌<◌, ℕ, [], ◌∷◌, ◌++◌, replicate, Ok};
 
-use coset::cbor::de::{EndOfFile, Error, Steps, check, decode_encoded, front_length, read_value};
+use coset::cbor::de::{EndOfFile, Error, Steps, check, decode_unbounded, front_length, read_value};
 use coset::{CborSerializable, CoseError, Result, laws};
 use coset_lines::words::Words;
 use coset_lines::{mark, tell};
@@ -35,7 +35,7 @@ pub fn read(alloc: Global, words: &Words<'_>) -> Result<String> {
 pub fn decode(alloc: Global, words: &Words<'_>) -> Result<String> {
     let bytes = words.bytes(alloc, 1)?;
     mark::begin(alloc);
-    let answer = decode_encoded(alloc, &bytes);
+    let answer = decode_unbounded(alloc, &bytes);
     mark::end(alloc);
     match answer {
         Ok(Some(value)) => tell::value(alloc, Ok(value)),
@@ -92,7 +92,7 @@ fn check_counted<L: Ledger>(
     check_nested(bytes, &mut steps)
 }
 
-/// A check. Of arrays of one member each, n of them inside one another around an empty one, it takes n + 1 steps.
+/// A check. Of arrays of one element each, n of them inside one another around an empty one, it takes n + 1 steps.
 fn check_nested<L: Ledger>(
     bytes: &[u8],
     steps: &mut Steps<L>,

@@ -23,11 +23,11 @@ enum Question {
     Display(i64),
     /// How many numbers have a name, from the first on, the second not counted.
     Count(i64, i64),
-    /// How the name of the first number stands to that of the second.
+    /// How the name of the first number compares with that of the second.
     Order(i64, i64),
 }
 
-/// Makes the call that `REGISTRY::CALL` names, or tells the constant that the name is.
+/// Makes the call that `REGISTRY::CALL` names, or prints the constant that the name is.
 ///
 /// # Errors
 /// What it is given can't be made of the words, or the name isn't known.
@@ -88,7 +88,7 @@ fn constant(alloc: Global, name: &str) -> Result<String> {
     }
 }
 
-/// What that registry answers.
+/// What that registry returns.
 fn answer(alloc: Global, registry: &str, question: Question) -> Result<String> {
     match registry {
         "HeaderParameter" => told::<HeaderParameter>(alloc, question),

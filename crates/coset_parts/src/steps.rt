@@ -27,7 +27,7 @@ pub fn all<S: Step + Drop>(alloc: Global, words: &Words<'_>, place: usize) -> Re
     Ok(steps)
 }
 
-/// What stands before the sign, and what behind it.
+/// What is before the sign, and what behind it.
 fn halves<'a>(word: &'a str, sign: &str) -> (&'a str, &'a str) {
     word.split_once(sign).unwrap_or((word, ""))
 }

@@ -195,17 +195,29 @@ fn offset(word: &str) -> Option<usize> {
     word.parse::<usize>().ok()
 }
 
+/// The writer's error of that name.
+fn writer_error_of(alloc: Global, words: &Words<'_>) -> Result<ser::Error<EndOfFile>> {
+    match words.word(1) {
+        "Io" => Ok(ser::Error::Io(EndOfFile)),
+        "Value" => Ok(ser::Error::Value(spelled::text(alloc, words.word(2))?)),
+        _ => Err(CoseError::UnexpectedItem("word", "error of the writer")),
+    }
+}
+
 /// The text of the writer's error of that name.
 ///
 /// # Errors
 /// The name isn't known.
 pub fn writer_error(alloc: Global, words: &Words<'_>) -> Result<String> {
-    let error: ser::Error<EndOfFile> = match words.word(1) {
-        "Io" => ser::Error::Io(EndOfFile),
-        "Value" => ser::Error::Value(spelled::text(alloc, words.word(2))?),
-        _ => return Err(CoseError::UnexpectedItem("word", "error of the writer")),
-    };
-    told_error(alloc, error)
+    told_error(alloc, writer_error_of(alloc, words)?)
+}
+
+/// The text of the library's error that the writer's error of that name becomes.
+///
+/// # Errors
+/// The name isn't known.
+pub fn writer_error_becomes(alloc: Global, words: &Words<'_>) -> Result<String> {
+    told_error(alloc, CoseError::from(writer_error_of(alloc, words)?))
 }
 
 fn told_error<E: Display + Drop>(alloc: Global, error: E) -> Result<String> {

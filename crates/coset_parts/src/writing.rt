@@ -1,5 +1,5 @@
 //! Calls that write CBOR. Each is given a vector whose bytes stay before what is written; `before=` repeats them, which
-//! is what stands where memory is out.
+//! is what is printed where memory is out.
 
 use crate::spelled;
 use coset::cbor::value::Integer;

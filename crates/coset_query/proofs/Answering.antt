@@ -1,4 +1,4 @@
--- From what is found of an item to what is answered.
+-- From what is found of an item to what is returned.
 use Rattle.std.proofs.Common.{◌≡◌, ℕ, List, Option, Some, None, Result, Ok, Err, sym, subst}
 use Rattle.std.specs.Prelude.{IfOk, IfErr}
 use Rattle.coset.specs.Item.{Item}
@@ -11,7 +11,7 @@ use Rattle.coset_query.specs.Answers.{Answers, Finds, WritesFound}
 use Rattle.coset_query.specs.Kinds.{IsItemOf}
 use Rattle.coset_query.proofs.EachKind.{memory_refuses}
 
--- what was found of the item, written, is what is answered
+-- what was found of the item, written, is what is returned
 pub answered :
     {T : Type 0} (bytes_of : T → List ℕ) (k : kinds.Kind) (b old new : List ℕ) (P : Item → List ℕ → Type 0) (v : Item) (found : Result (Option T) CoseError)
     (r : Result ℕ refusals.Refusal) → IsItemOf k b v → IfOk found (Finds bytes_of (P v)) → IfErr found (λ e. e ≡ OutOfMemory)

@@ -17,7 +17,7 @@ use Rattle.coset_query.specs.Places.{bytes_in}
 abbrev pub OneItem : Type 0
 OneItem = (v w : Item) (b c x y : List ℕ) → IsEncoding v b → IsEncoding w c → b ++ x ≡ c ++ y → (v ≡ w) × (b ≡ c)
 
--- ---- one value stands under a label
+-- ---- one value is under a label
 
 same_within : OneItem → (l : Name) (b : List ℕ) (w x : Item) → IsUnderIn l b w → IsUnderIn l b x → w ≡ x
 same_within law l b w x p q =
@@ -48,7 +48,7 @@ no_number law k m l v w u none n h = none n (let same : w ≡ h.0 = one_value la
 
 -- ---- in a protected header
 
-pub protected_as : {T : Type 0} (seen : T → Item) (l : Name) (o : Option (List ℕ)) (b : List ℕ) (r : Result (Option T) CoseError) → Some b ≡ o
-    → IfOk r (Finds seen (IsUnderIn l b))
-    → IfOk r (Finds seen (IsProtected l o))
-protected_as seen l o b r e h = subst (λ p. IfOk r (Finds seen (IsProtected l p))) e h
+pub protected_as : {T : Type 0} (view : T → Item) (l : Name) (o : Option (List ℕ)) (b : List ℕ) (r : Result (Option T) CoseError) → Some b ≡ o
+    → IfOk r (Finds view (IsUnderIn l b))
+    → IfOk r (Finds view (IsProtected l o))
+protected_as view l o b r e h = subst (λ p. IfOk r (Finds view (IsProtected l p))) e h

@@ -1,4 +1,4 @@
--- What is told of a message with one signature.
+-- What is said of a message with one signature.
 use Rattle.std.proofs.Common.{◌≡◌, ◌∙◌, ◌==◌, ℕ, List, Result, Ok, Err, Bool, true, false, ap, sym, subst, arith, true≢false}
 use Rattle.std.proofs.lemmas.Bool.{eqb-true}
 use Rattle.coset.specs.Item.{Item, integer, bytes, float, text, boolean, null, tag, array, dict}
@@ -46,7 +46,7 @@ algorithm_found k v w named.Absent u h = absurd h
 algorithm_found k v w (named.Number n) u h = (w, u, h)
 algorithm_found k v w named.Text u h = (w, u, h)
 
--- ---- from what is told to what is answered
+-- ---- from what is said to what is returned
 
 pub viewed :
     {N : Type 0} (k : kinds.Kind) (b old new : List ℕ) (P : Item → N → List ℕ → Type 0) (v : Item) (n : N) (t : List ℕ)

@@ -8,7 +8,7 @@ use Rattle.coset.specs.EndOfFile.{EndOfFile}
 use Rattle.coset.specs.Error.{Error}
 use Rattle.coset.specs.Error.TheVariants as errors
 
--- where the fault stands: at the offset that it carries, or where the bytes end
+-- where the fault is: at the offset that it carries, or where the bytes end
 abbrev pub offset_of : List ℕ → Error EndOfFile → Option ℕ
 offset_of b (errors.Io x) = Some (length b)
 offset_of b (errors.Syntax n) = Some n
@@ -16,11 +16,11 @@ offset_of b (errors.Semantic o t) = o
 offset_of b errors.RecursionLimitExceeded = None
 offset_of b errors.OutOfMemory = None
 
--- no front of the bytes is an item, for a fault that stands there
+-- no front of the bytes is an item, for a fault that is there
 abbrev pub IsFaultAt : List ℕ → Option ℕ → Type 0
 IsFaultAt b o = (e : Error EndOfFile) × HasNoItem b × FaultIn b e × (o ≡ offset_of b e)
 
--- a fault stands there, or so many bytes of them are an item, which others follow; or nothing is said, since they are an
+-- a fault is there, or so many bytes of them are an item, which others follow; or nothing is said, since they are an
 -- item or the fault has no place
 abbrev pub IsOffset : List ℕ → Option ℕ → Type 0
 IsOffset b (Some n) = IsFaultAt b (Some n) ⊎ ((v : Item) × (n < length b) × IsItem (take n b) v)

@@ -7,16 +7,16 @@ use Rattle.coset.specs.Answers.{Describes, DescribesNothing, IsOnlyItem, SliceFa
 use Rattle.coset.specs.Errors.{UnlessMemory}
 use Rattle.coset.specs.Shape.{Shape, tagged}
 use Rattle.coset.specs.PerhapsTagged.{perhaps_tagged, untagged}
-use Rattle.coset.specs.Headers.{HeaderSeen, SignatureSeen, header, signature}
-use Rattle.coset.specs.Sign1.{Sign1Seen, sign1}
-use Rattle.coset.specs.Sign.{SignSeen, sign}
-use Rattle.coset.specs.Mac0.{Mac0Seen, mac0}
-use Rattle.coset.specs.Mac.{MacSeen, mac}
-use Rattle.coset.specs.Encrypt0.{Encrypt0Seen, encrypt0}
-use Rattle.coset.specs.Encrypt.{EncryptSeen, encrypt}
-use Rattle.coset.specs.Recipient.{RecipientSeen, recipient}
-use Rattle.coset.specs.Keys.{KeySeen, key, key_set}
-use Rattle.coset.specs.Claims.{ClaimsSeen, claims}
+use Rattle.coset.specs.Headers.{HeaderView, SignatureView, header, signature}
+use Rattle.coset.specs.Sign1.{Sign1View, sign1}
+use Rattle.coset.specs.Sign.{SignView, sign}
+use Rattle.coset.specs.Mac0.{Mac0View, mac0}
+use Rattle.coset.specs.Mac.{MacView, mac}
+use Rattle.coset.specs.Encrypt0.{Encrypt0View, encrypt0}
+use Rattle.coset.specs.Encrypt.{EncryptView, encrypt}
+use Rattle.coset.specs.Recipient.{RecipientView, recipient}
+use Rattle.coset.specs.Keys.{KeyView, key, key_set}
+use Rattle.coset.specs.Claims.{ClaimsView, claims}
 use Rattle.coset_query.specs.declared.kind.Form as forms
 use Rattle.coset_query.specs.declared.kind.Form.TheVariants.{Plain, Tagged, Either}
 use Rattle.coset_query.specs.declared.kind.Kind as kinds
@@ -30,20 +30,20 @@ in_form Either n s = perhaps_tagged n s
 
 -- P holds of the shape of that kind's items
 abbrev pub HoldsOf : kinds.Kind → ((A : Type 0) → Shape A → Type 0) → Type 0
-HoldsOf (Sign1 f) P = P Sign1Seen (in_form f 18 sign1)
-HoldsOf (Sign f) P = P SignSeen (in_form f 98 sign)
-HoldsOf (Mac0 f) P = P Mac0Seen (in_form f 17 mac0)
-HoldsOf (Mac f) P = P MacSeen (in_form f 97 mac)
-HoldsOf (Encrypt0 f) P = P Encrypt0Seen (in_form f 16 encrypt0)
-HoldsOf (Encrypt f) P = P EncryptSeen (in_form f 96 encrypt)
-HoldsOf Signature P = P SignatureSeen signature
-HoldsOf Recipient P = P RecipientSeen recipient
-HoldsOf Header P = P HeaderSeen header
-HoldsOf Key P = P KeySeen key
-HoldsOf KeySet P = P (List KeySeen) key_set
-HoldsOf Claims P = P ClaimsSeen claims
+HoldsOf (Sign1 f) P = P Sign1View (in_form f 18 sign1)
+HoldsOf (Sign f) P = P SignView (in_form f 98 sign)
+HoldsOf (Mac0 f) P = P Mac0View (in_form f 17 mac0)
+HoldsOf (Mac f) P = P MacView (in_form f 97 mac)
+HoldsOf (Encrypt0 f) P = P Encrypt0View (in_form f 16 encrypt0)
+HoldsOf (Encrypt f) P = P EncryptView (in_form f 96 encrypt)
+HoldsOf Signature P = P SignatureView signature
+HoldsOf Recipient P = P RecipientView recipient
+HoldsOf Header P = P HeaderView header
+HoldsOf Key P = P KeyView key
+HoldsOf KeySet P = P (List KeyView) key_set
+HoldsOf Claims P = P ClaimsView claims
 
--- the bytes describe something; or, out of memory aside, a fault stands in them, and they describe nothing
+-- the bytes describe something; or, out of memory aside, a fault is in them, and they describe nothing
 abbrev pub ChecksAs : {A : Type 0} → Shape A → List ℕ → Result (Unit {0}) CoseError → Type 0
 ChecksAs {A} s b (Ok x) = (x : A) × Describes s b x
 ChecksAs s b (Err e) = UnlessMemory e (λ f. SliceFaults s b f × DescribesNothing s b)
@@ -56,7 +56,7 @@ Checks k b r = HoldsOf k (λ A s. ChecksAs s b r)
 abbrev pub IsOf : kinds.Kind → List ℕ → Type 0
 IsOf k b = HoldsOf k (λ A s. (x : A) × Describes s b x)
 
--- the bytes are refused as an item of that kind: for a fault that stands in them, and only where they are none; or memory
+-- the bytes are refused as an item of that kind: for a fault that is in them, and only where they are none; or memory
 -- ran out
 abbrev pub IsRefused : kinds.Kind → List ℕ → CoseError → Type 0
 IsRefused k b e = HoldsOf k (λ A s. UnlessMemory e (λ f. SliceFaults s b f × DescribesNothing s b))

@@ -22,9 +22,9 @@ is_same eq None x = false
 is_same eq (Some y) x = eq y x
 
 -- a label without its memory
-abbrev pub label_seen : labels.Label → Name
-label_seen (Number n) = number n
-label_seen (Text t) = text_label t.now
+abbrev pub label_view : labels.Label → Name
+label_view (Number n) = number n
+label_view (Text t) = text_label t.now
 
 -- the key is that label: label = int / tstr
 abbrev pub is_label : Name → Item → Bool
@@ -36,31 +36,31 @@ abbrev pub first_value : (Item → Bool) → Pairs → Option Item
 first_value test no_pairs = None
 first_value test (pair k v ps) = if test k then Some v else first_value test ps
 
--- the value that stands under the label in a map
+-- the value that is under the label in a map
 abbrev pub value_under : Name → Item → Option Item
 value_under l v = option_and_then (first_value (is_label l)) (as_map v)
 
--- the value that stands under it in the unprotected header, which is the second place
+-- the value that is under it in the unprotected header, which is the second place
 abbrev pub unprotected_value : Name → Item → Option Item
 unprotected_value l v = option_and_then (value_under l) (element 1 v)
 
--- w stands under it in the map that the bytes b are
+-- w is under it in the map that the bytes b are
 abbrev pub IsUnderIn : Name → List ℕ → Item → Type 0
 IsUnderIn l b w = (m : Item) × IsItem b m × (value_under l m ≡ Some w)
 
--- w stands under it in the map of a protected header, where that is such a byte string
+-- w is under it in the map of a protected header, where that is such a byte string
 abbrev pub IsProtected : Name → Option (List ℕ) → Item → Type 0
 IsProtected l None w = ⊥
 IsProtected l (Some b) w = IsUnderIn l b w
 
--- w stands under it in that map of the item v of that kind: in the protected header, which is the first place; in the
+-- w is under it in that map of the item v of that kind: in the protected header, which is the first place; in the
 -- unprotected one; or in the item itself
 abbrev pub IsUnder : kinds.Kind → maps.Map → Name → Item → Item → Type 0
 IsUnder k of.Protected l v w = (has_headers k ≡ true) × IsProtected l (bytes_in 0 v) w
 IsUnder k of.Unprotected l v w = (has_headers k ≡ true) × (unprotected_value l v ≡ Some w)
 IsUnder k of.Item l v w = value_under l v ≡ Some w
 
--- t is the shortest encoding of the value that stands under it
+-- t is the shortest encoding of the value that is under it
 abbrev pub IsValueOf : kinds.Kind → maps.Map → Name → Item → List ℕ → Type 0
 IsValueOf k m l v t = (w : Item) × IsUnder k m l v w × IsShortest t w
 
@@ -70,7 +70,7 @@ string_in (bytes s) = Some s
 string_in (text s) = Some s
 string_in v = None
 
--- t is what the string holds that stands under it
+-- t is what the string holds that is under it
 abbrev pub IsStringOf : kinds.Kind → maps.Map → Name → Item → List ℕ → Type 0
 IsStringOf k m l v t = (w : Item) × IsUnder k m l v w × (string_in w ≡ Some t)
 
@@ -78,6 +78,6 @@ IsStringOf k m l v t = (w : Item) × IsUnder k m l v w × (string_in w ≡ Some 
 abbrev pub IsNumber : Item → ℤ → Type 0
 IsNumber v n = (as_integer v ≡ Some n) × FitsSigned w64 n
 
--- n is the integer that stands under it
+-- n is the integer that is under it
 abbrev pub IsNumberOf : kinds.Kind → maps.Map → Name → Item → ℤ → Type 0
 IsNumberOf k m l v n = (w : Item) × IsUnder k m l v w × IsNumber w n

@@ -50,10 +50,10 @@ place_of Proof k = proof_place k
 abbrev pub IsPart : kinds.Kind → parts.Part → Item → List ℕ → Type 0
 IsPart k p v t = option_and_then (λ n. bytes_in n v) (place_of p k) ≡ Some t
 
--- t is the shortest encoding of the member of that index
+-- t is the shortest encoding of the element of that index
 abbrev pub IsMember : kinds.Kind → ℕ → Item → List ℕ → Type 0
 IsMember k i v t = IsEncodingOf (member_at k i v) t
 
--- there are so many members
+-- there are so many elements
 abbrev pub IsCount : kinds.Kind → Item → ℕ → Type 0
 IsCount k v n = (vs : Items) × (members k v ≡ Some vs) × (n ≡ items_count vs)

@@ -1,4 +1,4 @@
--- What stands at places in an item.
+-- What is at places in an item.
 use Rattle.std.specs.Prelude.{ℕ, zero, suc, List, Option, Some, None, option_and_then}
 use Rattle.coset.specs.Item.{Item, Items, no_items, item}
 use Rattle.coset.specs.Parts.{as_array, as_bytes}

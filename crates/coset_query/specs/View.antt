@@ -1,4 +1,4 @@
--- What one call tells of a message with one signature (RFC 8152, sections 3.1, 4.2 and 4.4).
+-- What one call says of a message with one signature (RFC 8152, sections 3.1, 4.2 and 4.4).
 use Rattle.std.specs.Prelude.{◌≡◌, ◌⊎◌, ℕ, ℤ, pos, List, [], ◌++◌, length, Option, Bool, true, false}
 use Rattle.coset.specs.Item.{Item, tag}
 use Rattle.coset.specs.Grammar.{IsItem}
@@ -34,14 +34,14 @@ IsAlgorithm w named.Absent = ⊥
 IsAlgorithm w (named.Number n) = IsNumber w n
 IsAlgorithm w named.Text = (n : ℤ) → IsNumber w n → ⊥
 
--- the algorithm that the protected header of the item v names: nothing stands under alg; or the integer of 64 bits n; or what is
+-- the algorithm that the protected header of the item v names: nothing is under alg; or the integer of 64 bits n; or what is
 -- none
 abbrev pub HasAlgorithm : kinds.Kind → Item → algorithms.Algorithm → Type 0
 HasAlgorithm k v named.Absent = (w : Item) → IsUnder k of.Protected alg_label v w → ⊥
 HasAlgorithm k v (named.Number n) = IsNumberOf k of.Protected alg_label v n
 HasAlgorithm k v named.Text = (w : Item) × IsUnder k of.Protected alg_label v w × IsAlgorithm w named.Text
 
--- something stands under crit in that header of the item v
+-- something is under crit in that header of the item v
 abbrev pub HasCritical : kinds.Kind → maps.Map → Item → Type 0
 HasCritical k m v = (w : Item) × IsUnder k m crit_label v w
 
@@ -54,7 +54,7 @@ IsCritical k v false = (HasCritical k of.Protected v → ⊥) × (HasCritical k 
 abbrev pub HasNoKeyId : kinds.Kind → maps.Map → Item → Type 0
 HasNoKeyId k m v = (t : List ℕ) → IsStringOf k m kid_label v t → ⊥
 
--- where the identifier of the key stands, and t is what it holds: in the protected header; or else in the unprotected one; or
+-- where the identifier of the key is, and t is what it holds: in the protected header; or else in the unprotected one; or
 -- else in neither, and t is empty
 abbrev pub IsKeyId : kinds.Kind → Item → places.KeyIdPlace → List ℕ → Type 0
 IsKeyId k v stands.Absent t = HasNoKeyId k of.Protected v × HasNoKeyId k of.Unprotected v × (t ≡ [])
@@ -74,7 +74,7 @@ abbrev pub TellsTag : ℕ → List ℕ → Bool → Type 0
 TellsTag n b true = IsTagged n b
 TellsTag n b false = IsTagged n b → ⊥
 
--- what is told of the item v of that kind by n, and by the text t, which is four, one behind the other: what is signed of it,
+-- what is said of the item v of that kind by n, and by the text t, which is four, one behind the other: what is signed of it,
 -- over external_aad and, where it is detached, the payload d; the signature; the payload that it carries; and the identifier of
 -- the key
 pub record IsTold (k : kinds.Kind) (aad : List ℕ) (d : Option (List ℕ)) (v : Item) (n : Sign1View) (t : List ℕ) : Type 0 where
@@ -95,7 +95,7 @@ pub record IsTold (k : kinds.Kind) (aad : List ℕ) (d : Option (List ℕ)) (v :
   pub key_id_len : n.key_id_len ≡ length key_id
   pub len : n.len ≡ length t
 
--- What `sign1_view` tells of the bytes b, which are the message v with one signature, in that form: all that, and whether they
+-- What `sign1_view` says of the bytes b, which are the message v with one signature, in that form: all that, and whether they
 -- are under the message's tag, 18 (section 2, table 1)
 abbrev pub IsSign1View : forms.Form → List ℕ → List ℕ → Option (List ℕ) → Item → Sign1View → List ℕ → Type 0
 IsSign1View f b aad d v n t = IsTold (Sign1 f) aad d v n t × TellsTag 18 b n.is_tagged

@@ -1,12 +1,12 @@
-//! The item of a kind that bytes are, lent, and what stands at places in it.
+//! The item of a kind that bytes are, lent, and what is at places in it.
 
 ghost use Rattle.std.specs.Prelude.{◌≡◌, option_map, IfOk, IfErr, MatchResult};
 ghost use Rattle.coset.specs.CoseError.TheVariants.{OutOfMemory};
-ghost use Rattle.coset.specs.Members.{items_left};
+ghost use Rattle.coset.specs.Elements.{items_left};
 ghost use Rattle.coset.specs.PerhapsTagged.{untagged};
 ghost use Rattle.coset.specs.Pulls.{pull_item};
 ghost use Rattle.coset.specs.Shortest.{IsShortest};
-ghost use Rattle.coset.specs.View.{view};
+ghost use Rattle.coset.specs.View.{value_item};
 ghost use Rattle.coset_query.specs.Kinds.{IsItemOf, IsRefused, IsWholeOf, is_under, without_tag};
 ghost use Rattle.coset_query.specs.Places.{array_in, bytes_in, element, member_at, members, nth};
 
@@ -72,7 +72,7 @@ pub(crate) fn item_of(alloc: Global, kind: Kind, bytes: &[u8]) -> Result<Pull<'_
     Ok(without_tag(kind.tag(), whole))
 }
 
-/// The member of that index.
+/// The element of that index.
 fn nth(members: Items<'_>, index: usize) -> Option<Pull<'_>>
     ensures { option_map pull_item result ≡ nth index (items_left members.entry) }
 {
@@ -125,7 +125,7 @@ pub(crate) fn members(kind: Kind, item: Pull<'_>) -> Option<Items<'_>>
     }
 }
 
-/// The members of the element of that index, where that is an array.
+/// The elements of the element of that index, where that is an array.
 fn array_in(item: Pull<'_>, index: usize) -> Option<Items<'_>>
     ensures { option_map items_left result ≡ array_in index (pull_item item.entry) }
 {
@@ -150,7 +150,7 @@ pub(crate) fn member_at(kind: Kind, item: Pull<'_>, index: usize) -> Option<Pull
 /// # Errors
 /// `OutOfMemory` alone.
 pub(crate) fn encoding(alloc: Global, value: &Value) -> Result<Vec<u8>>
-    ensures shortest { IfOk result (λ b. IsShortest b.items (view value.now)) }
+    ensures shortest { IfOk result (λ b. IsShortest b.items (value_item value.now)) }
     ensures memory { IfErr result (λ e. e ≡ OutOfMemory) }
 {
     let mut out = Vec::new(alloc);

@@ -2,11 +2,11 @@
 
 ghost use Rattle.std.specs.Prelude.{◌≡◌, IfOk, IfErr, option_map};
 ghost use Rattle.coset.specs.CoseError.TheVariants.{OutOfMemory};
-ghost use Rattle.coset.specs.Members.{pairs_left};
+ghost use Rattle.coset.specs.Elements.{pairs_left};
 ghost use Rattle.coset.specs.Pulls.{pull_item};
-ghost use Rattle.coset.specs.View.{view};
+ghost use Rattle.coset.specs.View.{value_item};
 ghost use Rattle.coset_query.specs.Answers.{Answers, AnswersNumber, Finds};
-ghost use Rattle.coset_query.specs.Labels.{IsNumber, IsNumberOf, IsProtected, IsStringOf, IsUnder, IsUnderIn, IsValueOf, first_value, is_label, label_seen, string_in, unprotected_value, value_under};
+ghost use Rattle.coset_query.specs.Labels.{IsNumber, IsNumberOf, IsProtected, IsStringOf, IsUnder, IsUnderIn, IsValueOf, first_value, is_label, label_view, string_in, unprotected_value, value_under};
 ghost use Rattle.coset_query.specs.Places.{bytes_in};
 
 use crate::item::{bytes_in, element, encoding, item_of};
@@ -45,7 +45,7 @@ pub enum Label<'a> {
 /// # Errors
 /// `OutOfMemory` alone.
 fn is_label(alloc: Global, label: Label<'_>, key: Pull<'_>) -> Result<bool>
-    ensures same { IfOk result (λ b. b ≡ is_label (label_seen label.entry) (pull_item key.entry)) }
+    ensures same { IfOk result (λ b. b ≡ is_label (label_view label.entry) (pull_item key.entry)) }
     ensures memory { IfErr result (λ e. e ≡ OutOfMemory) }
 {
     match label {
@@ -65,8 +65,8 @@ fn is_label(alloc: Global, label: Label<'_>, key: Pull<'_>) -> Result<bool>
 /// # Errors
 /// `OutOfMemory` alone.
 fn value_among(alloc: Global, label: Label<'_>, pairs: Pairs<'_>) -> Result<Option<Value>>
-    ensures value { IfOk result (λ o. option_map view o
-        ≡ first_value (is_label (label_seen label.entry)) (pairs_left pairs.entry)) }
+    ensures value { IfOk result (λ o. option_map value_item o
+        ≡ first_value (is_label (label_view label.entry)) (pairs_left pairs.entry)) }
     ensures memory { IfErr result (λ e. e ≡ OutOfMemory) }
 {
     for (key, value) in pairs {
@@ -77,13 +77,13 @@ fn value_among(alloc: Global, label: Label<'_>, pairs: Pairs<'_>) -> Result<Opti
     Ok(None)
 }
 
-/// The value that stands under the label in a map.
+/// The value that is under the label in a map.
 ///
 /// # Errors
 /// `OutOfMemory` alone.
 fn value_under(alloc: Global, label: Label<'_>, map: Pull<'_>) -> Result<Option<Value>>
-    ensures value { IfOk result (λ o. option_map view o
-        ≡ value_under (label_seen label.entry) (pull_item map.entry)) }
+    ensures value { IfOk result (λ o. option_map value_item o
+        ≡ value_under (label_view label.entry) (pull_item map.entry)) }
     ensures memory { IfErr result (λ e. e ≡ OutOfMemory) }
 {
     match map.pairs() {
@@ -92,12 +92,12 @@ fn value_under(alloc: Global, label: Label<'_>, map: Pull<'_>) -> Result<Option<
     }
 }
 
-/// The value that stands under the label in the map that the bytes are.
+/// The value that is under the label in the map that the bytes are.
 ///
 /// # Errors
 /// `OutOfMemory` alone.
 fn value_within(alloc: Global, label: Label<'_>, bytes: &[u8]) -> Result<Option<Value>>
-    ensures value { IfOk result (Finds view (IsUnderIn (label_seen label.entry) bytes.now)) }
+    ensures value { IfOk result (Finds value_item (IsUnderIn (label_view label.entry) bytes.now)) }
     ensures memory { IfErr result (λ e. e ≡ OutOfMemory) }
 {
     match whole_item(bytes) {
@@ -106,13 +106,13 @@ fn value_within(alloc: Global, label: Label<'_>, bytes: &[u8]) -> Result<Option<
     }
 }
 
-/// The value that stands under the label in the protected header of an item that begins with two.
+/// The value that is under the label in the protected header of an item that begins with two.
 ///
 /// # Errors
 /// `OutOfMemory` alone.
 fn protected_value(alloc: Global, label: Label<'_>, item: Pull<'_>) -> Result<Option<Value>>
-    ensures value { IfOk result (Finds view
-        (IsProtected (label_seen label.entry) (bytes_in 0 (pull_item item.entry)))) }
+    ensures value { IfOk result (Finds value_item
+        (IsProtected (label_view label.entry) (bytes_in 0 (pull_item item.entry)))) }
     ensures memory { IfErr result (λ e. e ≡ OutOfMemory) }
 {
     match bytes_in(alloc, item, 0)? {
@@ -121,13 +121,13 @@ fn protected_value(alloc: Global, label: Label<'_>, item: Pull<'_>) -> Result<Op
     }
 }
 
-/// The value that stands under the label in the unprotected header of an item that begins with two.
+/// The value that is under the label in the unprotected header of an item that begins with two.
 ///
 /// # Errors
 /// `OutOfMemory` alone.
 fn unprotected_value(alloc: Global, label: Label<'_>, item: Pull<'_>) -> Result<Option<Value>>
-    ensures value { IfOk result (λ o. option_map view o
-        ≡ unprotected_value (label_seen label.entry) (pull_item item.entry)) }
+    ensures value { IfOk result (λ o. option_map value_item o
+        ≡ unprotected_value (label_view label.entry) (pull_item item.entry)) }
     ensures memory { IfErr result (λ e. e ≡ OutOfMemory) }
 {
     match element(item, 1) {
@@ -136,7 +136,7 @@ fn unprotected_value(alloc: Global, label: Label<'_>, item: Pull<'_>) -> Result<
     }
 }
 
-/// The value that stands under the label in that map of an item of that kind.
+/// The value that is under the label in that map of an item of that kind.
 ///
 /// # Errors
 /// `OutOfMemory` alone.
@@ -147,8 +147,8 @@ pub(crate) fn find_value(
     map: Map,
     label: Label<'_>,
 ) -> Result<Option<Value>>
-    ensures value { IfOk result (Finds view
-        (IsUnder kind map (label_seen label.entry) (pull_item item.entry))) }
+    ensures value { IfOk result (Finds value_item
+        (IsUnder kind map (label_view label.entry) (pull_item item.entry))) }
     ensures memory { IfErr result (λ e. e ≡ OutOfMemory) }
 {
     match map {
@@ -182,7 +182,7 @@ fn find_encoding(
     label: Label<'_>,
 ) -> Result<Option<Vec<u8>>>
     ensures found { IfOk result (Finds (λ b. b.items)
-        (IsValueOf kind map (label_seen label.entry) (pull_item item.entry))) }
+        (IsValueOf kind map (label_view label.entry) (pull_item item.entry))) }
     ensures memory { IfErr result (λ e. e ≡ OutOfMemory) }
 {
     match find_value(alloc, kind, item, map, label)? {
@@ -191,8 +191,8 @@ fn find_encoding(
     }
 }
 
-/// Writes the value that stands under the label in that map of the item that the bytes are to the front of `out`, as its
-/// shortest encoding (RFC 8949, section 4.2.1), and answers the length of that.
+/// Writes the value that is under the label in that map of the item that the bytes are to the front of `out`, as its
+/// shortest encoding (RFC 8949, section 4.2.1), and returns the length of that.
 ///
 /// # Errors
 /// `Short` where `out` has no room for it; `Absent` where the item has no such map, or that no such label; `Cose` as
@@ -205,7 +205,7 @@ pub fn value_of(
     label: Label<'_>,
     out: &mut [u8],
 ) -> Result<usize, Refusal>
-    ensures { Answers kind bytes.now (IsValueOf kind map (label_seen label.entry))
+    ensures { Answers kind bytes.now (IsValueOf kind map (label_view label.entry))
         out.old out.new result }
 {
     match item_of(alloc, kind, bytes) {
@@ -216,7 +216,7 @@ pub fn value_of(
 
 /// What a byte string or a text string holds.
 fn string_in(value: Value) -> Option<Vec<u8>>
-    ensures { option_map (λ b. b.items) result ≡ string_in (view value) }
+    ensures { option_map (λ b. b.items) result ≡ string_in (value_item value) }
 {
     match value {
         Value::Bytes(bytes) => Some(bytes),
@@ -237,7 +237,7 @@ pub(crate) fn find_string(
     label: Label<'_>,
 ) -> Result<Option<Vec<u8>>>
     ensures found { IfOk result (Finds (λ b. b.items)
-        (IsStringOf kind map (label_seen label.entry) (pull_item item.entry))) }
+        (IsStringOf kind map (label_view label.entry) (pull_item item.entry))) }
     ensures memory { IfErr result (λ e. e ≡ OutOfMemory) }
 {
     one_item();
@@ -247,8 +247,8 @@ pub(crate) fn find_string(
     }
 }
 
-/// Writes what the byte string or the text string holds that stands under the label in that map of the item that the bytes
-/// are to the front of `out`, and answers its length.
+/// Writes what the byte string or the text string holds that is under the label in that map of the item that the bytes
+/// are to the front of `out`, and returns its length.
 ///
 /// # Errors
 /// The same as [`value_of`]; `Absent` also where the value is no string.
@@ -260,7 +260,7 @@ pub fn string_of(
     label: Label<'_>,
     out: &mut [u8],
 ) -> Result<usize, Refusal>
-    ensures { Answers kind bytes.now (IsStringOf kind map (label_seen label.entry))
+    ensures { Answers kind bytes.now (IsStringOf kind map (label_view label.entry))
         out.old out.new result }
 {
     match item_of(alloc, kind, bytes) {
@@ -271,7 +271,7 @@ pub fn string_of(
 
 /// The number of an integer, where it has 64 bits.
 pub(crate) fn number_in(value: &Value) -> Option<i64>
-    ensures { Finds (λ n. n) (IsNumber (view value.now)) result }
+    ensures { Finds (λ n. n) (IsNumber (value_item value.now)) result }
 {
     match value.as_integer() {
         Some(number) => i64::try_from(number).ok(),
@@ -279,7 +279,7 @@ pub(crate) fn number_in(value: &Value) -> Option<i64>
     }
 }
 
-/// The integer that stands under the label in that map of the item that the bytes are.
+/// The integer that is under the label in that map of the item that the bytes are.
 ///
 /// # Errors
 /// `Absent` where the item has no such map, that no such label, or the value is no integer of 64 bits; `Cose` as
@@ -291,7 +291,7 @@ pub fn integer_of(
     map: Map,
     label: Label<'_>,
 ) -> Result<i64, Refusal>
-    ensures { AnswersNumber kind bytes.now (IsNumberOf kind map (label_seen label.entry)) result }
+    ensures { AnswersNumber kind bytes.now (IsNumberOf kind map (label_view label.entry)) result }
 {
     one_item();
     let item = match item_of(alloc, kind, bytes) {

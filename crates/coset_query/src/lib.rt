@@ -2,7 +2,7 @@
 //! of its labels, and what is signed, authenticated or goes with a ciphertext of it; and of a message with one signature all
 //! that verifying it takes, in one call.
 //!
-//! Each call is a function of its input's bytes. It keeps nothing, and what it answers it writes into the caller's memory,
+//! Each call is a function of its input's bytes. It keeps nothing, and what it returns it writes into the caller's memory,
 //! which is left as it was where the answer has no room there, and where there is none. So these are the calls that a
 //! program in another language makes (`coset_c`), without anything that it would have to free.
 //!

@@ -3,7 +3,7 @@
 ghost use Rattle.std.specs.Prelude.{◌≡◌, IfOk, IfErr};
 ghost use Rattle.coset.specs.CoseError.TheVariants.{OutOfMemory};
 ghost use Rattle.coset.specs.Item.{items_count};
-ghost use Rattle.coset.specs.Members.{items_left};
+ghost use Rattle.coset.specs.Elements.{items_left};
 ghost use Rattle.coset.specs.Pulls.{pull_item};
 ghost use Rattle.coset_query.specs.Answers.{Answers, AnswersNumber, Finds};
 ghost use Rattle.coset_query.specs.Parts.{IsCount, IsMember, IsPart, has_headers, place_of};
@@ -97,7 +97,7 @@ fn find_member(alloc: Global, kind: Kind, item: Pull<'_>, index: usize) -> Resul
     }
 }
 
-/// Writes the part of the item that the bytes are to the front of `out`, and answers its length.
+/// Writes the part of the item that the bytes are to the front of `out`, and returns its length.
 ///
 /// # Errors
 /// `Short` where `out` has no room for it; `Absent` where the kind has no such part, or where it is detached; `Cose` as
@@ -118,7 +118,7 @@ pub fn part_of(
 }
 
 /// Writes the signature, recipient or key of that index, counted from 0, to the front of `out`, as its shortest encoding
-/// (RFC 8949, section 4.2.1), and answers the length of that: a [`Kind::Signature`], [`Kind::Recipient`] or [`Kind::Key`].
+/// (RFC 8949, section 4.2.1), and returns the length of that: a [`Kind::Signature`], [`Kind::Recipient`] or [`Kind::Key`].
 ///
 /// # Errors
 /// `Short` where `out` has no room for it; `Absent` where there are no more than `index`; `Cose` as
@@ -138,7 +138,7 @@ pub fn member_of(
     }
 }
 
-/// How many members there are.
+/// How many elements there are.
 ///
 /// # Errors
 /// `OutOfMemory`, where they are more than any memory holds.

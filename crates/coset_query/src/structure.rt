@@ -297,7 +297,7 @@ pub(crate) fn find_structure(
 }
 
 /// Writes what is signed of a message, what is authenticated, or what goes with the ciphertext to the front of `out`, and
-/// answers its length: the shortest encoding of `Sig_structure`, `MAC_structure` or `Enc_structure`, with the bytes of
+/// returns its length: the shortest encoding of `Sig_structure`, `MAC_structure` or `Enc_structure`, with the bytes of
 /// protected headers as they were received (RFC 8152, sections 4.4, 5.3 and 6.3).
 ///
 /// Of a [`Kind::Sign`] it is what the signer of that index signs, counted from 0; other kinds have no use for `index`. What
@@ -352,7 +352,7 @@ fn find_recipient_structure(
     }
 }
 
-/// Writes what goes with the ciphertext of a recipient to the front of `out`, and answers its length: the shortest encoding
+/// Writes what goes with the ciphertext of a recipient to the front of `out`, and returns its length: the shortest encoding
 /// of `Enc_structure` (RFC 8152, section 5.3), with the bytes of the protected header as they were received.
 ///
 /// The bytes are a [`Kind::Recipient`]. Its context is `Enc_Recipient` where `holder` is a [`Kind::Encrypt`] in whichever

@@ -4,7 +4,7 @@ ghost use Rattle.std.specs.Prelude.{◌≡◌, ◌++◌, IfOk, IfErr, IfSome};
 ghost use Rattle.std.specs.Option.{option_copied};
 ghost use Rattle.coset.specs.CoseError.TheVariants.{OutOfMemory};
 ghost use Rattle.coset.specs.Pulls.{pull_item};
-ghost use Rattle.coset.specs.View.{view};
+ghost use Rattle.coset.specs.View.{value_item};
 ghost use Rattle.coset_query.specs.Answers.{AnswersWith, FindsWith, PutsWith};
 ghost use Rattle.coset_query.specs.View.{HasAlgorithm, IsAlgorithm, IsCarried, IsCritical, IsKeyId, IsSign1View, IsTold};
 
@@ -31,7 +31,7 @@ pub enum Algorithm {
     Text,
 }
 
-/// Where the identifier of the key stands: `kid`, label 4 (RFC 8152, section 3.1).
+/// Where the identifier of the key is: `kid`, label 4 (RFC 8152, section 3.1).
 #[derive(Clone, Copy, Debug, PartialEq, Eq)]
 pub enum KeyIdPlace {
     /// In neither header.
@@ -42,12 +42,12 @@ pub enum KeyIdPlace {
     Unprotected,
 }
 
-/// What [`sign1_view`] tells of a message with one signature, beside four texts.
+/// What [`sign1_view`] says of a message with one signature, beside four texts.
 #[derive(Clone, Copy, Debug, PartialEq, Eq)]
 pub struct Sign1View {
     /// The algorithm that the protected header names.
     pub algorithm: Algorithm,
-    /// Where the identifier of the key stands.
+    /// Where the identifier of the key is.
     pub key_id_place: KeyIdPlace,
     /// Whether either header has `crit`, label 2: labels that must be understood (RFC 8152, section 3.1).
     pub has_critical: bool,
@@ -65,7 +65,7 @@ pub struct Sign1View {
     pub len: usize,
 }
 
-/// The identifier of a key, and where it stands.
+/// The identifier of a key, and where it is.
 #[derive(Drop)]
 struct KeyId {
     place: KeyIdPlace,
@@ -81,7 +81,7 @@ struct Told {
 
 /// The algorithm that is named by that value.
 fn algorithm_of(value: &Value) -> Algorithm
-    ensures { IsAlgorithm (view value.now) result }
+    ensures { IsAlgorithm (value_item value.now) result }
 {
     match number_in(value) {
         Some(number) => Algorithm::Number(number),
@@ -189,7 +189,7 @@ fn joined(
     Ok(text)
 }
 
-/// What is told of an item of that kind, with whether it is under its tag as it is given.
+/// What is said of an item of that kind, with whether it is under its tag as it is given.
 ///
 /// # Errors
 /// `OutOfMemory` alone.
@@ -231,7 +231,7 @@ fn find_told(
     Ok(Some(Told { view, text }))
 }
 
-/// Writes the texts to the front of `out`, and answers the view.
+/// Writes the texts to the front of `out`, and returns the view.
 ///
 /// # Errors
 /// `Short` where `out` has no room for them: it is then as it was.
@@ -244,8 +244,8 @@ fn put_told(told: Told, out: &mut [u8]) -> Result<Sign1View, Refusal>
     }
 }
 
-/// Tells all that verifying a message with one signature takes, a [`Kind::Sign1`] in that form: writes four texts to the
-/// front of `out`, one behind the other, and answers their lengths, with the algorithm, where the key's identifier stands,
+/// Writes all that verifying a message with one signature takes, a [`Kind::Sign1`] in that form: writes four texts to the
+/// front of `out`, one behind the other, and returns their lengths, with the algorithm, where the key's identifier is,
 /// whether there is `crit`, and whether the message is under its tag. The texts are what is signed (`Sig_structure`, RFC
 /// 8152, section 4.4, with the bytes of the protected header as they were received); the signature; the payload that the
 /// message carries, which is the one that is signed; and the identifier of the key.

@@ -6,7 +6,7 @@ ghost use Rattle.coset_query.specs.Answers.{Puts, WritesFound};
 use crate::refusal::Refusal;
 use coset::Result;
 
-/// Writes the bytes to the front of `out`, and answers how many they are.
+/// Writes the bytes to the front of `out`, and returns how many they are.
 ///
 /// # Errors
 /// `Short` where `out` has no room for them: it is then as it was.
@@ -21,7 +21,7 @@ pub(crate) fn put(bytes: &[u8], out: &mut [u8]) -> Result<usize, Refusal>
     Ok(bytes.len())
 }
 
-/// Writes what was found to the front of `out`, and answers its length. `coset_make` answers by it too.
+/// Writes what was found to the front of `out`, and returns its length. `coset_make` answers by it too.
 ///
 /// # Errors
 /// `Short`; `Absent` where nothing was found; or why nothing is known of it. `out` is then as it was.

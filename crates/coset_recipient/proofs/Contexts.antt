@@ -1,4 +1,4 @@
--- Structures tell their contexts and their parts: what a structure is of can be read back from it.
+-- Structures determine their contexts and their parts: what a structure is of can be read back from it.
 use Rattle.std.proofs.Common.{◌≡◌, ℕ, List, [], ◌∷◌, Some, None, Bool, true, false, cond, eqb, refl, sym, ap, ◌∙◌}
 use Rattle.std.specs.Prelude.{sum}
 use Rattle.coset_value.specs.Item.{Item, Items, no_items, item, array, bytes, text}
@@ -28,7 +28,7 @@ text_of (of_mac c) = mac_text c
 text_of (of_encryption c) = enc_text c
 text_of (of_countersignature b) = countersign_text b
 
--- told apart by the sums of their texts
+-- distinguished by the sums of their texts
 abbrev is_sum : List ℕ → Context → Context → Context
 is_sum t c d = cond (eqb (sum t) (sum (text_of c))) c d
 

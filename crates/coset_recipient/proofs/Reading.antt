@@ -4,18 +4,18 @@ use Rattle.std.specs.Prelude.{IsErrAnd}
 use Rattle.coset_value.specs.Item.{Item, array, Items, no_items, item}
 use Rattle.coset_codec.specs.declared.error.CoseError.{CoseError}
 use Rattle.coset_codec.specs.declared.error.ErrorStored.{ErrorStored}
-use Rattle.coset_codec.specs.declared.read.input.InputItems.{InputItems}
+use Rattle.coset_codec.specs.declared.read.decoder.ArrayElements.{ArrayElements}
 use Rattle.coset_codec.specs.Errors.{UnlessMemory, stored}
 use Rattle.coset_codec.specs.InPlace.{Fills}
 use Rattle.coset_codec.specs.Inputs.{State, AreWithin, EntersArray}
 use Rattle.coset_codec.specs.Shape.{FirstWrongLength, LastWrongLength, ElementsFaults, bstr, list_of, or_nil, optional_last}
 use Rattle.coset_codec.specs.Sources.{Never, wrong_length_after}
 use Rattle.coset_codec.proofs.InPlace.{not_filled}
-use Rattle.coset_core.specs.Headers.{HeaderSeen, ProtectedSeen, header, protected}
-use Rattle.coset_recipient.specs.Recipient.{RecipientSeen, recipients_of, each_of, empty_recipient, are_some, recipient, recipient_step}
+use Rattle.coset_core.specs.Headers.{HeaderView, ProtectedView, header, protected}
+use Rattle.coset_recipient.specs.Recipient.{RecipientView, recipients_of, each_of, empty_recipient, are_some, recipient, recipient_step}
 use Rattle.coset_recipient.specs.RecipientLaws.{each-again, recipient-made}
 use Rattle.coset_recipient.specs.RecipientReading.{BeginsThree, FillsFirst, FillsLast}
-use Rattle.coset_recipient.specs.RecipientView.{recipient_seen, recipient-unrolled}
+use Rattle.coset_recipient.specs.RecipientViews.{recipient_view, recipient-unrolled}
 use Rattle.coset_recipient.specs.declared.recipient.CoseRecipient.{CoseRecipient, out-CoseRecipient}
 
 -- a fault of one level
@@ -26,7 +26,8 @@ fault_made v e f = (recipient-made.faults v e f).1
 
 -- an item that is no array
 pub not_entered :
-    (want : List ℕ) (v : Item) (t z : State) (x : RecipientSeen) (given : Result InputItems CoseError) (kept : Result InputItems ErrorStored) (e : CoseError)
+    (want : List ℕ) (v : Item) (t z : State) (x : RecipientView) (given : Result ArrayElements CoseError) (kept : Result ArrayElements ErrorStored)
+    (e : CoseError)
     (y : ErrorStored) (r : Result (Unit {0}) ErrorStored) → IsErrAnd r (λ i. i ≡ y)
     → stored e kept ≡ given → kept ≡ Err y → EntersArray want v t z given → (t ≡ z) × Fills recipient v x (stored e r)
 not_entered want v t z x given kept e y r is same was entered =
@@ -42,7 +43,7 @@ too_few m (item a (item b no_items)) h = tt
 too_few m (item a (item b (item c vs))) h = absurd h
 
 pub few_refused :
-    (vs : Items) (p : ProtectedSeen) (u : HeaderSeen) (c : Option (List ℕ)) (t z : State) (m : InputItems) (x : RecipientSeen)
+    (vs : Items) (p : ProtectedView) (u : HeaderView) (c : Option (List ℕ)) (t z : State) (m : ArrayElements) (x : RecipientView)
     (r : Result (Unit {0}) ErrorStored)
     (e : CoseError) (y : ErrorStored) → IsErrAnd r (λ i. i ≡ y) → BeginsThree vs p u c t z m (Err e)
     → ((left : Items) × AreWithin m left t z) × Fills recipient (array vs) x (stored e r)
@@ -55,8 +56,8 @@ last_fault p u c others e (inl f) = inr (item p (item u (item c others)), refl, 
 last_fault p u c others e (inr f) = inr (item p (item u (item c others)), refl, inr (f.0, inr (inr (inr f.1))))
 
 pub last_refused :
-    (vs : Items) (p : ProtectedSeen) (u : HeaderSeen) (c : Option (List ℕ)) (s t z : State) (m n : InputItems) (first : Result (Unit {0}) CoseError)
-    (x : RecipientSeen) (rs : List RecipientSeen) (r : Result (Unit {0}) ErrorStored) (e : CoseError) (y : ErrorStored)
+    (vs : Items) (p : ProtectedView) (u : HeaderView) (c : Option (List ℕ)) (s t z : State) (m n : ArrayElements) (first : Result (Unit {0}) CoseError)
+    (x : RecipientView) (rs : List RecipientView) (r : Result (Unit {0}) ErrorStored) (e : CoseError) (y : ErrorStored)
     → IsErrAnd r (λ i. i ≡ y) → BeginsThree vs p u c s z m (Ok first)
     → ((others : Items) → AreWithin m others s z → ((left : Items) × AreWithin n left t z) × FillsLast others rs (Err e))
     → ((left : Items) × AreWithin n left t z) × Fills recipient (array vs) x (stored e r)
@@ -68,13 +69,13 @@ last_refused vs p u c s t z m n first x rs r e y is b last =
           (λ k. fault_made (array (item b.0 (item b.1 (item b.2 b.3)))) e (last_fault b.0 b.1 b.2 b.3 e (h.1 k)))),
     )
 
-last_fits : (vs : Items) (rs : List RecipientSeen) → FillsLast vs rs (Ok tt) → LastWrongLength vs → ⊥
+last_fits : (vs : Items) (rs : List RecipientView) → FillsLast vs rs (Ok tt) → LastWrongLength vs → ⊥
 last_fits no_items rs d m = m
 last_fits (item v no_items) rs d m = m tt
 last_fits (item v (item w vs)) rs d m = d
 
 elements_read :
-    (p u c : Item) (others : Items) (x : RecipientSeen) (rs : List RecipientSeen) (r : Result (Unit {0}) CoseError) → FillsLast others rs (Ok tt)
+    (p u c : Item) (others : Items) (x : RecipientView) (rs : List RecipientView) (r : Result (Unit {0}) CoseError) → FillsLast others rs (Ok tt)
     → x.recipients ≡ recipients_of rs
     → FillsFirst p u c x.protected x.unprotected x.ciphertext r → Fills recipient (array (item p (item u (item c others)))) x r
 elements_read p u c others x rs (Ok t) last inside first =
@@ -92,7 +93,7 @@ elements_read p u c others x rs (Err e) last inside first =
     placed (inr (inr f)) = inr (inr (inl f))
 
 pub elements_filled :
-    (vs : Items) (s t z : State) (m n : InputItems) (x : RecipientSeen) (rs : List RecipientSeen) (r : Result (Unit {0}) CoseError)
+    (vs : Items) (s t z : State) (m n : ArrayElements) (x : RecipientView) (rs : List RecipientView) (r : Result (Unit {0}) CoseError)
     → BeginsThree vs x.protected x.unprotected x.ciphertext s z m (Ok r)
     → ((others : Items) → AreWithin m others s z → ((left : Items) × AreWithin n left t z) × FillsLast others rs (Ok tt)) → x.recipients ≡ recipients_of rs
     → ((left : Items) × AreWithin n left t z) × Fills recipient (array vs) x r
@@ -102,5 +103,5 @@ elements_filled vs s t z m n x rs r b last inside =
 
 -- ---- a recipient that holds nothing
 
-pub none_inside : (r : CoseRecipient) → recipient_seen r ≡ empty_recipient → map recipient_seen (out-CoseRecipient r).recipients.items ≡ []
-none_inside r e = sym (each-again (map recipient_seen (out-CoseRecipient r).recipients.items)) ∙ ap (λ x. each_of x.recipients) (sym (recipient-unrolled r) ∙ e)
+pub none_inside : (r : CoseRecipient) → recipient_view r ≡ empty_recipient → map recipient_view (out-CoseRecipient r).recipients.items ≡ []
+none_inside r e = sym (each-again (map recipient_view (out-CoseRecipient r).recipients.items)) ∙ ap (λ x. each_of x.recipients) (sym (recipient-unrolled r) ∙ e)

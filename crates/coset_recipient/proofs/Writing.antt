@@ -8,17 +8,17 @@ use Rattle.coset_codec.specs.Encoding.{AppendsImage, AppendsElements, Encodes}
 use Rattle.coset_codec.specs.Shape.{both, bstr, images, last_image, or_nil}
 use Rattle.coset_codec.proofs.Encoding.{array-put, nothing-put, place-put}
 use Rattle.coset_core.specs.Headers.{header, protected}
-use Rattle.coset_recipient.specs.Recipient.{Recipients, no_recipients, recipient_and, RecipientSeen, are_none, recipients_of, inside_place, recipient_array}
+use Rattle.coset_recipient.specs.Recipient.{Recipients, no_recipients, recipient_and, RecipientView, are_none, recipients_of, inside_place, recipient_array}
 use Rattle.coset_recipient.specs.Recipient.{recipient_image, recipients_image}
 use Rattle.coset_recipient.specs.RecipientWriting.{Begins, last_elements}
 
-pub images_of : (rs : List RecipientSeen) → images recipient_image rs ≡ recipients_image (recipients_of rs)
+pub images_of : (rs : List RecipientView) → images recipient_image rs ≡ recipients_image (recipients_of rs)
 images_of [] = refl
 images_of (r ∷ rs) = ap (both item (recipient_image r)) (images_of rs)
 
 -- ---- three elements
 
-pub without_last : (r : RecipientSeen) (old mid : List ℕ) → r.recipients ≡ no_recipients → Begins r old mid (Ok tt) → AppendsImage (recipient_image r) old mid
+pub without_last : (r : RecipientView) (old mid : List ℕ) → r.recipients ≡ no_recipients → Begins r old mid (Ok tt) → AppendsImage (recipient_image r) old mid
 without_last r old mid e b =
     subst (λ rs. AppendsImage (recipient_array r.protected r.unprotected r.ciphertext (inside_place rs (recipients_image rs))) old mid) (sym e)
     (b (Some no_items) mid (subst (λ rs. AppendsElements (Some no_items) (last_elements rs) mid mid) (sym e) (nothing-put mid)))
@@ -33,7 +33,7 @@ one_place : (o : Option Item) (mid new : List ℕ) → AppendsImage o mid new �
 one_place o mid new p = subst (λ os. AppendsElements os 1 mid new) (alone o) (place-put p (nothing-put new))
 
 with_last :
-    (r : RecipientSeen) (old mid new : List ℕ) (rs : List RecipientSeen) → r.recipients ≡ recipients_of rs → rs ≢ [] → Begins r old mid (Ok tt)
+    (r : RecipientView) (old mid new : List ℕ) (rs : List RecipientView) → r.recipients ≡ recipients_of rs → rs ≢ [] → Begins r old mid (Ok tt)
     → AppendsImage (option_map array (images recipient_image rs)) mid new
     → AppendsImage (recipient_image r) old new
 with_last r old mid new [] e some b p = absurd (some refl)
@@ -64,12 +64,12 @@ hidden : (rs : Recipients) → (rs ≡ no_recipients → ⊥) → recipients_ima
 hidden no_recipients some e = absurd (some refl)
 hidden (recipient_and p u c inside more) some e = ap (λ o. last_image true (option_map array o)) e
 
-some_recipients : (rs : List RecipientSeen) → rs ≢ [] → recipients_of rs ≡ no_recipients → ⊥
+some_recipients : (rs : List RecipientView) → rs ≢ [] → recipients_of rs ≡ no_recipients → ⊥
 some_recipients [] some e = some refl
 some_recipients (r ∷ rs) some e = absurd (cc)
 
 pub last_written :
-    (r : RecipientSeen) (old mid new : List ℕ) (rs : List RecipientSeen) (a : Result (Unit {0}) CoseError) → r.recipients ≡ recipients_of rs → rs ≢ []
+    (r : RecipientView) (old mid new : List ℕ) (rs : List RecipientView) (a : Result (Unit {0}) CoseError) → r.recipients ≡ recipients_of rs → rs ≢ []
     → Begins r old mid (Ok tt)
     → Encodes (option_map array (images recipient_image rs)) mid new a → Encodes (recipient_image r) old new a
 last_written r old mid new rs (Ok t) e some b p = with_last r old mid new rs e some b p
@@ -92,7 +92,7 @@ three : (n m : ℕ) → n ≡ 3 + m → n ≡ suc (suc (suc m))
 three n m e = omega (arith, e)
 
 pub first_written :
-    (r : RecipientSeen) (n : ℕ) (old head one two new : List ℕ) (a : Result (Unit {0}) CoseError) → n ≡ 3 + last_elements r.recipients → n < 2 ^ 64
+    (r : RecipientView) (n : ℕ) (old head one two new : List ℕ) (a : Result (Unit {0}) CoseError) → n ≡ 3 + last_elements r.recipients → n < 2 ^ 64
     → head ≡ old ++ least_head 4 n → AppendsImage (protected.image r.protected) head one
     → AppendsImage (header.image r.unprotected) one two → Encodes ((or_nil bstr).image r.ciphertext) two new a → Begins r old new a
 first_written r n old head one two new (Ok t) count small first p u c =
@@ -109,7 +109,7 @@ pub none_of : (rs : Recipients) → are_none rs ≡ true → rs ≡ no_recipient
 none_of no_recipients e = refl
 none_of (recipient_and p u c inside more) e = absurd (true≢false (sym e))
 
-pub some_of : (rs : List RecipientSeen) → are_none (recipients_of rs) ≡ false → rs ≢ []
+pub some_of : (rs : List RecipientView) → are_none (recipients_of rs) ≡ false → rs ≢ []
 some_of [] e = absurd (true≢false e)
 some_of (r ∷ rs) e = λ h. cc
 

@@ -15,7 +15,7 @@ use Rattle.coset_msg.specs.Mac0.{mac0, mac0_elements, mac0_fields}
 use Rattle.coset_msg.specs.MacStructure.{Authenticates, AuthenticatesSame}
 use Rattle.coset_recipient.specs.Encrypt.{encrypt, encrypt_fields, encrypt_elements}
 use Rattle.coset_recipient.specs.Mac.{mac, mac_fields, mac_elements}
-use Rattle.coset_recipient.specs.Recipient.{Recipients, no_recipients, recipient_and, RecipientSeen, are_some, each_of, recipient, recipient_fields}
+use Rattle.coset_recipient.specs.Recipient.{Recipients, no_recipients, recipient_and, RecipientView, are_some, each_of, recipient, recipient_fields}
 use Rattle.coset_recipient.specs.Recipient.{recipient_image, recipient_elements, recipient_step}
 use Rattle.coset_recipient.specs.RecipientLaws.{recipient-of_step, recipient-opened, step}
 use Rattle.coset_recipient.specs.Structures.{EachEncrypts, EachEncryptsSame, EncryptsAll, EncryptsAllSame, Macs, MacsSame, RecipientEncrypts}
@@ -31,11 +31,11 @@ each_same no_recipients (recipient_and q w d within others) h = absurd h
 each_same (recipient_and p u c inside more) no_recipients h = absurd h
 each_same (recipient_and p u c inside more) (recipient_and q w d within others) h = (h.0.0, h.0.1, each_same more others h.1)
 
-none_same : (rs : List RecipientSeen) → are_some rs ≡ false → EachWith RecipientEncryptsSame rs []
+none_same : (rs : List RecipientView) → are_some rs ≡ false → EachWith RecipientEncryptsSame rs []
 none_same [] h = tt
 none_same (r ∷ rs) h = absurd (true≢false h)
 
-step_as_written : KeptAsWritten → (s : Shape RecipientSeen) → AsWritten s RecipientEncryptsSame → AsWritten (recipient_step s) RecipientEncryptsSame
+step_as_written : KeptAsWritten → (s : Shape RecipientView) → AsWritten s RecipientEncryptsSame → AsWritten (recipient_step s) RecipientEncryptsSame
 step_as_written kept s h v r t e d =
     let inside = optional_last_as_written [] are_some (list_of s) (EachWith RecipientEncryptsSame) (list_as_written s RecipientEncryptsSame h) none_same in
     let elements = then_as_written (or_nil bstr) (optional_last [] are_some (list_of s)) (λ p q. ⊤) (EachWith RecipientEncryptsSame) (λ w p q f g. tt) inside in
@@ -51,7 +51,7 @@ each_has : (rs : Recipients) → EachHas RecipientEncrypts (each_of rs) → Each
 each_has no_recipients h = tt
 each_has (recipient_and p u c inside more) h = (h.0.0, h.0.1, each_has more h.1)
 
-step_when_read : (s : Shape RecipientSeen) → WhenRead s RecipientEncrypts → WhenRead (recipient_step s) RecipientEncrypts
+step_when_read : (s : Shape RecipientView) → WhenRead s RecipientEncrypts → WhenRead (recipient_step s) RecipientEncrypts
 step_when_read s h v r d =
     let inside = optional_last_when_read [] are_some (list_of s) (EachHas RecipientEncrypts) (list_when_read s RecipientEncrypts h) tt in
     let elements = then_when_read (or_nil bstr) (optional_last [] are_some (list_of s)) (λ p. ⊤) (EachHas RecipientEncrypts) (λ w p f. tt) inside in

@@ -3,67 +3,67 @@ use Rattle.std.specs.Prelude.{ℕ, List, [], ◌∷◌, ◌++◌, Option, Some, 
 use Rattle.coset_value.specs.Item.{Item}
 use Rattle.coset_codec.specs.Shape.{Shape, Elements, mapped, ◌then◌, end, bstr, list_of, or_nil}
 use Rattle.coset_codec.specs.ShapeLaws.{Lawful, LawfulElements, bytes_no_nil, mapped_laws, then_laws, end_laws, bstr_laws, list_of_laws, or_nil_laws}
-use Rattle.coset_core.specs.Headers.{HeaderSeen, ProtectedSeen, empty_header}
+use Rattle.coset_core.specs.Headers.{HeaderView, ProtectedView, empty_header}
 use Rattle.coset_core.specs.Messages.{WithHeaders, with_headers, with_headers_laws, empty_protected}
-use Rattle.coset_core.specs.Views.{header_seen, protected_seen}
+use Rattle.coset_core.specs.Views.{header_view, protected_view}
 use Rattle.coset_msg.specs.EncStructure.{enc_item}
 use Rattle.coset_recipient.specs.declared.encrypt.CoseEncrypt as declared
 use Rattle.coset_msg.specs.declared.enc_structure.EncryptionContext.TheVariants.{CoseEncrypt}
-use Rattle.coset_recipient.specs.Recipient.{RecipientSeen, recipient}
+use Rattle.coset_recipient.specs.Recipient.{RecipientView, recipient}
 use Rattle.coset_recipient.specs.RecipientLaws.{recipient_laws}
-use Rattle.coset_recipient.specs.RecipientView.{recipient_seen}
+use Rattle.coset_recipient.specs.RecipientViews.{recipient_view}
 
 -- a message without its memory
-pub record EncryptSeen : Type 0 where
-  pub protected : ProtectedSeen
-  pub unprotected : HeaderSeen
+pub record EncryptView : Type 0 where
+  pub protected : ProtectedView
+  pub unprotected : HeaderView
   pub ciphertext : Option (List ℕ)
-  pub recipients : List RecipientSeen
+  pub recipients : List RecipientView
 
-abbrev pub encrypt_seen : declared.CoseEncrypt → EncryptSeen
-encrypt_seen m = record {
-  protected = protected_seen m.protected;
-  unprotected = header_seen m.unprotected;
+abbrev pub encrypt_view : declared.CoseEncrypt → EncryptView
+encrypt_view m = record {
+  protected = protected_view m.protected;
+  unprotected = header_view m.unprotected;
   ciphertext = option_map (λ b. b.items) m.ciphertext;
-  recipients = map recipient_seen m.recipients.items;
+  recipients = map recipient_view m.recipients.items;
 }
 
 -- one that holds nothing
-abbrev pub empty_encrypt : EncryptSeen
+abbrev pub empty_encrypt : EncryptView
 empty_encrypt = record { protected = empty_protected; unprotected = empty_header; ciphertext = None; recipients = [] }
 
-abbrev pub encrypt_of : WithHeaders (Option (List ℕ) × (List RecipientSeen × Unit {0})) → EncryptSeen
+abbrev pub encrypt_of : WithHeaders (Option (List ℕ) × (List RecipientView × Unit {0})) → EncryptView
 encrypt_of p = record { protected = p.0; unprotected = p.1.0; ciphertext = p.1.1.0; recipients = p.1.1.1.0 }
 
-abbrev pub encrypt_fields : EncryptSeen → WithHeaders (Option (List ℕ) × (List RecipientSeen × Unit {0}))
+abbrev pub encrypt_fields : EncryptView → WithHeaders (Option (List ℕ) × (List RecipientView × Unit {0}))
 encrypt_fields m = (m.protected, (m.unprotected, (m.ciphertext, (m.recipients, tt))))
 
 -- ciphertext : bstr / nil, recipients : [* COSE_recipient]
-abbrev pub encrypt_elements : Elements (Option (List ℕ) × (List RecipientSeen × Unit {0}))
+abbrev pub encrypt_elements : Elements (Option (List ℕ) × (List RecipientView × Unit {0}))
 encrypt_elements = or_nil bstr then list_of recipient then end
 
 pub encrypt_elements_laws : LawfulElements _ encrypt_elements
 encrypt_elements_laws = then_laws _ _ (or_nil_laws bstr bytes_no_nil bstr_laws) (then_laws _ _ (list_of_laws recipient recipient_laws) end_laws)
 
 -- [Headers, ciphertext : bstr / nil, recipients : [* COSE_recipient]]
-abbrev pub encrypt : Shape EncryptSeen
+abbrev pub encrypt : Shape EncryptView
 encrypt = mapped encrypt_of encrypt_fields (with_headers encrypt_elements)
 
-pub encrypt_laws : Lawful EncryptSeen encrypt
+pub encrypt_laws : Lawful EncryptView encrypt
 encrypt_laws = mapped_laws encrypt_of encrypt_fields (λ x. refl) _ (with_headers_laws encrypt_elements encrypt_elements_laws)
 
 -- ---- what goes with the ciphertext
 
 -- the structure of the message over `external_aad`, where its protected header has bytes
-abbrev pub encrypt_structure_of : EncryptSeen → List ℕ → Option Item
+abbrev pub encrypt_structure_of : EncryptView → List ℕ → Option Item
 encrypt_structure_of m external_aad = enc_item CoseEncrypt m.protected external_aad
 
 -- ---- with one field set, and with one recipient more
 
 -- the message with this ciphertext, and all else as it was
-abbrev pub with_ciphertext : List ℕ → EncryptSeen → EncryptSeen
+abbrev pub with_ciphertext : List ℕ → EncryptView → EncryptView
 with_ciphertext c m = record m { ciphertext = Some c }
 
 -- behind the others
-abbrev pub and_encrypt_recipient : RecipientSeen → EncryptSeen → EncryptSeen
+abbrev pub and_encrypt_recipient : RecipientView → EncryptView → EncryptView
 and_encrypt_recipient r m = record m { recipients = m.recipients ++ r ∷ [] }

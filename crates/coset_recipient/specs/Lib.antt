@@ -1,6 +1,6 @@
 pub mod Recipient
 pub mod RecipientLaws
-pub mod RecipientView
+pub mod RecipientViews
 pub mod RecipientSame
 pub mod RecipientReading
 pub mod RecipientWriting

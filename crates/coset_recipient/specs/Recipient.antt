@@ -3,7 +3,7 @@ use Rattle.std.specs.Prelude.{ℕ, List, [], ◌∷◌, Bool, true, false, Optio
 use Rattle.coset_value.specs.Item.{Item, array, Items, no_items, item}
 use Rattle.coset_codec.specs.Recursive.{recursive}
 use Rattle.coset_codec.specs.Shape.{Shape, Elements, mapped, both, ◌then◌, bstr, or_nil, optional_last, last_image, list_of}
-use Rattle.coset_core.specs.Headers.{HeaderSeen, ProtectedSeen, empty_header, header, protected}
+use Rattle.coset_core.specs.Headers.{HeaderView, ProtectedView, empty_header, header, protected}
 use Rattle.coset_core.specs.Messages.{WithHeaders, with_headers, empty_protected}
 use Rattle.coset_msg.specs.EncStructure.{enc_item}
 use Rattle.coset_msg.specs.declared.enc_structure.EncryptionContext.{EncryptionContext}
@@ -15,24 +15,24 @@ use Rattle.coset_msg.specs.declared.enc_structure.EncryptionContext.TheVariants.
 -- inside it
 pub data Recipients : Type 0 where
   no_recipients : Recipients
-  recipient_and : ProtectedSeen → HeaderSeen → Option (List ℕ) → Recipients → Recipients → Recipients
+  recipient_and : ProtectedView → HeaderView → Option (List ℕ) → Recipients → Recipients → Recipients
 
 -- a recipient without its memory
-pub record RecipientSeen : Type 0 where
-  pub protected : ProtectedSeen
-  pub unprotected : HeaderSeen
+pub record RecipientView : Type 0 where
+  pub protected : ProtectedView
+  pub unprotected : HeaderView
   pub ciphertext : Option (List ℕ)
   pub recipients : Recipients
 
-abbrev pub and_recipients : RecipientSeen → Recipients → Recipients
+abbrev pub and_recipients : RecipientView → Recipients → Recipients
 and_recipients r more = recipient_and r.protected r.unprotected r.ciphertext r.recipients more
 
-abbrev pub recipients_of : List RecipientSeen → Recipients
+abbrev pub recipients_of : List RecipientView → Recipients
 recipients_of [] = no_recipients
 recipients_of (r ∷ rs) = and_recipients r (recipients_of rs)
 
 -- the same as a list
-abbrev pub each_of : Recipients → List RecipientSeen
+abbrev pub each_of : Recipients → List RecipientView
 each_of no_recipients = []
 each_of (recipient_and p u c inside more) = record { protected = p; unprotected = u; ciphertext = c; recipients = inside } ∷ each_of more
 
@@ -41,30 +41,30 @@ are_none no_recipients = true
 are_none (recipient_and p u c inside more) = false
 
 -- one that holds nothing
-abbrev pub empty_recipient : RecipientSeen
+abbrev pub empty_recipient : RecipientView
 empty_recipient = record { protected = empty_protected; unprotected = empty_header; ciphertext = None; recipients = no_recipients }
 
--- ---- which items stand for them
+-- ---- which items represent them
 
 abbrev pub are_some : {A : Type 0} → List A → Bool
 are_some [] = false
 are_some (x ∷ xs) = true
 
-abbrev pub recipient_of : WithHeaders (Option (List ℕ) × List RecipientSeen) → RecipientSeen
+abbrev pub recipient_of : WithHeaders (Option (List ℕ) × List RecipientView) → RecipientView
 recipient_of p = record { protected = p.0; unprotected = p.1.0; ciphertext = p.1.1.0; recipients = recipients_of p.1.1.1 }
 
-abbrev pub recipient_fields : RecipientSeen → WithHeaders (Option (List ℕ) × List RecipientSeen)
+abbrev pub recipient_fields : RecipientView → WithHeaders (Option (List ℕ) × List RecipientView)
 recipient_fields r = (r.protected, (r.unprotected, (r.ciphertext, each_of r.recipients)))
 
 -- ciphertext : bstr / nil, ? recipients, of which s is the shape: they are left out where there are none
-abbrev pub recipient_elements : Shape (List RecipientSeen) → Elements (Option (List ℕ) × List RecipientSeen)
+abbrev pub recipient_elements : Shape (List RecipientView) → Elements (Option (List ℕ) × List RecipientView)
 recipient_elements s = or_nil bstr then optional_last [] are_some s
 
-abbrev pub recipient_with : Shape (List RecipientSeen) → Shape RecipientSeen
+abbrev pub recipient_with : Shape (List RecipientView) → Shape RecipientView
 recipient_with s = mapped recipient_of recipient_fields (with_headers (recipient_elements s))
 
 -- [Headers, ciphertext : bstr / nil, ? recipients : [* COSE_recipient]], where s is the shape of those inside it
-abbrev pub recipient_step : Shape RecipientSeen → Shape RecipientSeen
+abbrev pub recipient_step : Shape RecipientView → Shape RecipientView
 recipient_step s = recipient_with (list_of s)
 
 -- ---- the items that they are written as
@@ -74,7 +74,7 @@ abbrev pub inside_place : Recipients → Option Items → Option Items
 inside_place no_recipients o = Some no_items
 inside_place (recipient_and p u c inside more) o = last_image true (option_map array o)
 
-abbrev pub recipient_array : ProtectedSeen → HeaderSeen → Option (List ℕ) → Option Items → Option Item
+abbrev pub recipient_array : ProtectedView → HeaderView → Option (List ℕ) → Option Items → Option Item
 recipient_array p u c o = option_map array (both item (protected.image p) (both item (header.image u) (both item ((or_nil bstr).image c) o)))
 
 abbrev pub recipients_image : Recipients → Option Items
@@ -82,13 +82,13 @@ recipients_image no_recipients = Some no_items
 recipients_image (recipient_and p u c inside more) =
     both item (recipient_array p u c (inside_place inside (recipients_image inside))) (recipients_image more)
 
-abbrev pub recipient_image : RecipientSeen → Option Item
+abbrev pub recipient_image : RecipientView → Option Item
 recipient_image r = recipient_array r.protected r.unprotected r.ciphertext (inside_place r.recipients (recipients_image r.recipients))
 
 -- ---- the shape
 
 -- COSE_recipient, with however many others one inside another
-unfoldable pub recipient : Shape RecipientSeen
+unfoldable pub recipient : Shape RecipientView
 recipient = recursive recipient_step recipient_image
 
 -- ---- what goes with the ciphertext
@@ -102,20 +102,20 @@ IsOfRecipient MacRecipient = Unit {0}
 IsOfRecipient RecRecipient = Unit {0}
 
 -- the structure of the recipient over `external_aad`, where its protected header has bytes
-abbrev pub recipient_structure : EncryptionContext → RecipientSeen → List ℕ → Option Item
+abbrev pub recipient_structure : EncryptionContext → RecipientView → List ℕ → Option Item
 recipient_structure context r external_aad = enc_item context r.protected external_aad
 
 -- ---- with one field set, and with one recipient more
 
 -- the recipient with this ciphertext, and all else as it was
-abbrev pub with_ciphertext : List ℕ → RecipientSeen → RecipientSeen
+abbrev pub with_ciphertext : List ℕ → RecipientView → RecipientView
 with_ciphertext c r = record r { ciphertext = Some c }
 
 -- behind the others
-abbrev pub then_recipient : Recipients → RecipientSeen → Recipients
+abbrev pub then_recipient : Recipients → RecipientView → Recipients
 then_recipient no_recipients r = and_recipients r no_recipients
 then_recipient (recipient_and p u c inside more) r = recipient_and p u c inside (then_recipient more r)
 
 -- the recipient with one more inside it, behind the others
-abbrev pub and_recipient : RecipientSeen → RecipientSeen → RecipientSeen
+abbrev pub and_recipient : RecipientView → RecipientView → RecipientView
 and_recipient r all = record all { recipients = then_recipient all.recipients r }

@@ -7,7 +7,7 @@ use Rattle.coset_codec.specs.Shape.{Shape, both, bstr, or_nil, optional_last, la
 use Rattle.coset_codec.specs.ShapeLaws.{Lawful, LawfulElements, mapped_laws, then_laws, bstr_laws, bytes_no_nil, or_nil_laws, optional_last_laws, list_of_laws}
 use Rattle.coset_core.specs.Headers.{header, protected}
 use Rattle.coset_core.specs.Messages.{with_headers_laws}
-use Rattle.coset_recipient.specs.Recipient.{Recipients, no_recipients, recipient_and, RecipientSeen, recipients_of, each_of, are_some, recipient_of}
+use Rattle.coset_recipient.specs.Recipient.{Recipients, no_recipients, recipient_and, RecipientView, recipients_of, each_of, are_some, recipient_of}
 use Rattle.coset_recipient.specs.Recipient.{recipient_fields, recipient_elements, recipient_with, recipient_step}
 use Rattle.coset_recipient.specs.Recipient.{inside_place, recipients_image, recipient_image}
 use Rattle.coset_recipient.specs.Recipient.{recipient_array, recipient}
@@ -18,11 +18,11 @@ pub recipients-again : (rs : Recipients) → recipients_of (each_of rs) ≡ rs
 recipients-again no_recipients = refl
 recipients-again (recipient_and p u c inside more) = ap (recipient_and p u c inside) (recipients-again more)
 
-pub each-again : (rs : List RecipientSeen) → each_of (recipients_of rs) ≡ rs
+pub each-again : (rs : List RecipientView) → each_of (recipients_of rs) ≡ rs
 each-again [] = refl
 each-again (r ∷ rs) = ap (λ all. r ∷ all) (each-again rs)
 
-recipient-back : (r : RecipientSeen) → recipient_of (recipient_fields r) ≡ r
+recipient-back : (r : RecipientView) → recipient_of (recipient_fields r) ≡ r
 recipient-back r = ap (λ rs. record r { recipients = rs }) (recipients-again r.recipients)
 
 -- ---- the step
@@ -31,17 +31,17 @@ none_where_hidden : {A : Type 0} (xs : List A) → are_some xs ≡ false → xs 
 none_where_hidden [] h = refl
 none_where_hidden (x ∷ xs) h = absurd (true≢false h)
 
-pub recipient_elements_laws : (s : Shape (List RecipientSeen)) → Lawful (List RecipientSeen) s
-    → LawfulElements (Option (List ℕ) × List RecipientSeen) (recipient_elements s)
+pub recipient_elements_laws : (s : Shape (List RecipientView)) → Lawful (List RecipientView) s
+    → LawfulElements (Option (List ℕ) × List RecipientView) (recipient_elements s)
 recipient_elements_laws s l = then_laws (or_nil bstr) (optional_last [] are_some s) (or_nil_laws bstr bytes_no_nil bstr_laws)
     (optional_last_laws [] are_some refl none_where_hidden s l)
 
-step_laws : (s : Shape RecipientSeen) → Lawful RecipientSeen s → Lawful RecipientSeen (recipient_step s)
+step_laws : (s : Shape RecipientView) → Lawful RecipientView s → Lawful RecipientView (recipient_step s)
 step_laws s l = mapped_laws recipient_of recipient_fields recipient-back _
     (with_headers_laws (recipient_elements (list_of s)) (recipient_elements_laws (list_of s) (list_of_laws s l)))
 
-step_passes : {I : Type 0} (some : I) (s : Shape (List RecipientSeen)) (t : I → Shape (List RecipientSeen)) → Passes I (List RecipientSeen) s t
-    → Passes I RecipientSeen (recipient_with s) (λ i. recipient_with (t i))
+step_passes : {I : Type 0} (some : I) (s : Shape (List RecipientView)) (t : I → Shape (List RecipientView)) → Passes I (List RecipientView) s t
+    → Passes I RecipientView (recipient_with s) (λ i. recipient_with (t i))
 step_passes some s t p =
     mapped_passes recipient_of recipient_fields _ _
     (array_passes some _ _ (then_passes some protected _ _
@@ -49,7 +49,7 @@ step_passes some s t p =
 
 -- ---- what recipients are written as
 
-images_are : (s : Shape RecipientSeen) → ((r : RecipientSeen) → s.image r ≡ recipient_image r) → (rs : Recipients)
+images_are : (s : Shape RecipientView) → ((r : RecipientView) → s.image r ≡ recipient_image r) → (rs : Recipients)
     → images s.image (each_of rs) ≡ recipients_image rs
 images_are s same no_recipients = refl
 images_are s same (recipient_and p u c inside more) = λ i. both item (same (record { protected = p; unprotected = u; ciphertext = c; recipients = inside }) i)
@@ -59,7 +59,7 @@ place_is : (rs : Recipients) (o : Option Items) → last_image (are_some (each_o
 place_is no_recipients o = refl
 place_is (recipient_and p u c inside more) o = refl
 
-step_written : (s : Shape RecipientSeen) → ((r : RecipientSeen) → s.image r ≡ recipient_image r) → (r : RecipientSeen)
+step_written : (s : Shape RecipientView) → ((r : RecipientView) → s.image r ≡ recipient_image r) → (r : RecipientView)
     → (recipient_step s).image r ≡ recipient_image r
 step_written s same r =
     ap (recipient_array r.protected r.unprotected r.ciphertext)
@@ -68,7 +68,7 @@ step_written s same r =
 
 -- ---- the shape
 
-pub step : Step RecipientSeen recipient_step recipient_image
+pub step : Step RecipientView recipient_step recipient_image
 step =
     record {
       lawful = step_laws;
@@ -77,22 +77,22 @@ step =
       written = step_written;
     }
 
-pub recipient_laws : Lawful RecipientSeen recipient
+pub recipient_laws : Lawful RecipientView recipient
 unfolding recipient
 recipient_laws = recursive_laws recipient_step recipient_image step
 
 -- it is the shape of a recipient whose own have that shape
-pub recipient-made : Below RecipientSeen (recipient_step recipient) recipient
+pub recipient-made : Below RecipientView (recipient_step recipient) recipient
 unfolding recipient
 recipient-made = recursive_step recipient_step recipient_image step
 
-pub recipient-opened : Below RecipientSeen recipient (recipient_step recipient)
+pub recipient-opened : Below RecipientView recipient (recipient_step recipient)
 unfolding recipient
 recipient-opened = step_recursive recipient_step recipient_image step
 
-pub recipient-written : (r : RecipientSeen) → recipient.image r ≡ recipient_image r
+pub recipient-written : (r : RecipientView) → recipient.image r ≡ recipient_image r
 unfolding recipient
 recipient-written r = refl
 
-pub recipient-of_step : (r : RecipientSeen) → recipient.image r ≡ (recipient_step recipient).image r
+pub recipient-of_step : (r : RecipientView) → recipient.image r ≡ (recipient_step recipient).image r
 recipient-of_step r = recipient-written r ∙ sym (step_written recipient recipient-written r)

@@ -10,9 +10,9 @@ use Rattle.coset_label.specs.Same.{IsEquality}
 use Rattle.coset_core.specs.Same.{header_eq, protected_eq}
 use Rattle.coset_core.specs.SameLaws.{option_eq-decides, header_eq-decides, protected_eq-decides}
 use Rattle.std.specs.Ordering.{on}
-use Rattle.coset_codec.specs.Told.{Tells}
-use Rattle.coset_recipient.specs.RecipientView.{recipient_seen}
-use Rattle.coset_recipient.specs.Recipient.{Recipients, no_recipients, recipient_and, RecipientSeen}
+use Rattle.coset_codec.specs.EqDecides.{EqDecides}
+use Rattle.coset_recipient.specs.RecipientViews.{recipient_view}
+use Rattle.coset_recipient.specs.Recipient.{Recipients, no_recipients, recipient_and, RecipientView}
 
 -- as many, each with the same headers, the same ciphertext or none of either, and the same recipients as its counterpart
 abbrev pub recipients_eq : Recipients → Recipients → Bool
@@ -22,7 +22,7 @@ recipients_eq (recipient_and p u c inside more) (recipient_and q v d others rest
 recipients_eq rs ss = false
 
 -- whether two are the same, as a test that computes
-abbrev pub recipient_eq : RecipientSeen → RecipientSeen → Bool
+abbrev pub recipient_eq : RecipientView → RecipientView → Bool
 recipient_eq r s =
     protected_eq r.protected s.protected
     && (header_eq r.unprotected s.unprotected
@@ -70,5 +70,5 @@ pub recipient_eq_equiv : IsEquivalence recipient_eq
 recipient_eq_equiv = decided recipient_eq recipient_eq-decides
 
 -- `==` is equality of what contracts see
-pub recipient_told : Tells recipient_seen (on recipient_seen recipient_eq)
-recipient_told r s = recipient_eq-decides (recipient_seen r) (recipient_seen s)
+pub recipient_decides : EqDecides recipient_view (on recipient_view recipient_eq)
+recipient_decides r s = recipient_eq-decides (recipient_view r) (recipient_view s)

@@ -4,19 +4,19 @@ ghost use Rattle.std.specs.Prelude.{◌≡◌, ◌≢◌, IfOk, IfErr, IfSome, S
 ghost use Rattle.coset_codec.specs.declared.error.CoseError.TheVariants.{OutOfMemory};
 ghost use Rattle.coset_codec.specs.Answers.{Writes};
 ghost use Rattle.coset_core.specs.Messages.{unread};
-ghost use Rattle.coset_core.specs.Views.{header_seen};
+ghost use Rattle.coset_core.specs.Views.{header_view};
 ghost use Rattle.coset_core.specs.Calls.{AsksAbout, Itself};
 ghost use Rattle.coset_msg.specs.Presence.{AsksWherePresent, CreatesOf, TriesToCreateOf};
-ghost use Rattle.coset_recipient.specs.Encrypt.{and_encrypt_recipient, empty_encrypt, encrypt, encrypt_seen, encrypt_structure_of, with_ciphertext};
-ghost use Rattle.coset_recipient.specs.RecipientView.{recipient_seen};
+ghost use Rattle.coset_recipient.specs.Encrypt.{and_encrypt_recipient, empty_encrypt, encrypt, encrypt_view, encrypt_structure_of, with_ciphertext};
+ghost use Rattle.coset_recipient.specs.RecipientViews.{recipient_view};
 
 use crate::recipient::{CoseRecipient, Recipients, copy_recipient_list};
-use coset_codec::read::{Input, drop_refused};
+use coset_codec::read::{Decoder, drop_refused};
 use coset_codec::util::copy_bstr;
 use coset_codec::write::{Array, Encode, encode_four};
 use coset_codec::{CallError, Codec, Result, TaggedCodec};
-use coset_core::calls::ask;
-use coset_core::{Bstr, Content, Header, ProtectedHeader, read_headed};
+use coset_core::calls::verify_with;
+use coset_core::{BstrOrNil, Header, ProtectedHeader, ProtectedRef, read_headed};
 use coset_msg::EncryptionContext;
 use coset_msg::enc_structure::enc_structure_of;
 use std::alloc::{AllocError, Global};
@@ -47,7 +47,7 @@ const PLACES: &str = "array with 4 items";
 impl CoseEncrypt {
     /// An empty message: empty headers, no ciphertext, no recipients. It takes no memory.
     pub fn new(alloc: Global) -> CoseEncrypt
-        ensures { encrypt_seen result ≡ empty_encrypt }
+        ensures { encrypt_view result ≡ empty_encrypt }
     {
         CoseEncrypt {
             protected: ProtectedHeader::new(alloc),
@@ -64,7 +64,7 @@ impl CoseEncrypt {
     /// `OutOfMemory`, or `DuplicateMapKey` where the protected header wasn't read and it, or one in it, repeats a label of
     /// its rest.
     pub fn aad(&self, alloc: Global, external_aad: &[u8]) -> Result<Vec<u8>>
-        ensures { Writes (encrypt_structure_of (encrypt_seen self.now) external_aad.now) (λ b.
+        ensures { Writes (encrypt_structure_of (encrypt_view self.now) external_aad.now) (λ b.
             b.items) result }
     {
         enc_structure_of(
@@ -78,7 +78,7 @@ impl CoseEncrypt {
     /// The ciphertext, which the message carries.
     fn carried(&self) -> &[u8]
         requires { self.now.ciphertext ≢ None }
-        ensures { (encrypt_seen self.now).ciphertext ≡ Some result.now }
+        ensures { (encrypt_view self.now).ciphertext ≡ Some result.now }
     {
         match &self.ciphertext {
             Some(ciphertext) => ciphertext,
@@ -105,18 +105,18 @@ impl CoseEncrypt {
         E: Drop,
         requires callable { F.IsAlwaysCallable cipher }
         requires carried { self.now.ciphertext ≢ None }
-        ensures { IfSome (encrypt_seen self.now).ciphertext (λ c. AsksAbout F.FnOnce cipher c
-            (encrypt_structure_of (encrypt_seen self.now) external_aad.now) result) }
+        ensures { IfSome (encrypt_view self.now).ciphertext (λ c. AsksAbout F.FnOnce cipher c
+            (encrypt_structure_of (encrypt_view self.now) external_aad.now) result) }
     {
         let structure = self.aad(alloc, external_aad);
-        ask(self.carried(), structure, cipher)
+        verify_with(self.carried(), structure, cipher)
     }
 
     /// The same as [`CoseEncrypt::decrypt`], whether the message carries its ciphertext or not: where it carries none,
     /// `missing` is called for the error, and `cipher` isn't.
     ///
     /// # Errors
-    /// The same as [`CoseEncrypt::decrypt`]; or `Caller` with what `missing` answers.
+    /// The same as [`CoseEncrypt::decrypt`]; or `Caller` with what `missing` returns.
     pub fn decrypt_ciphertext<F, E, M>(
         &self,
         alloc: Global,
@@ -131,14 +131,14 @@ impl CoseEncrypt {
         requires callable { F.IsAlwaysCallable cipher }
         requires missing_callable { M.IsAlwaysCallable missing }
         ensures { AsksWherePresent F.FnOnce cipher M.FnOnce missing
-            (encrypt_seen self.now).ciphertext (λ c. c)
-            (λ _. encrypt_structure_of (encrypt_seen self.now) external_aad.now) result }
+            (encrypt_view self.now).ciphertext (λ c. c)
+            (λ _. encrypt_structure_of (encrypt_view self.now) external_aad.now) result }
     {
         let Some(ciphertext) = &self.ciphertext else {
             return Err(CallError::Caller(missing()));
         };
         let structure = self.aad(alloc, external_aad);
-        ask(ciphertext, structure, cipher)
+        verify_with(ciphertext, structure, cipher)
     }
 
     /// The same as [`CoseEncrypt::decrypt`] where this ciphertext is detached (RFC 9052, section 5.1): it takes the place of one
@@ -158,10 +158,10 @@ impl CoseEncrypt {
         E: Drop,
         requires { F.IsAlwaysCallable cipher }
         ensures { AsksAbout F.FnOnce cipher ciphertext.now
-            (encrypt_structure_of (encrypt_seen self.now) external_aad.now) result }
+            (encrypt_structure_of (encrypt_view self.now) external_aad.now) result }
     {
         let structure = self.aad(alloc, external_aad);
-        ask(ciphertext, structure, cipher)
+        verify_with(ciphertext, structure, cipher)
     }
 
     /// A message that equals this one, with the same bytes kept.
@@ -169,7 +169,7 @@ impl CoseEncrypt {
     /// # Errors
     /// `OutOfMemory` alone.
     pub fn clone(&self) -> Result<CoseEncrypt>
-        ensures copy { IfOk result (λ m. encrypt_seen m ≡ encrypt_seen self.now) }
+        ensures copy { IfOk result (λ m. encrypt_view m ≡ encrypt_view self.now) }
         ensures memory { IfErr result (λ e. e ≡ OutOfMemory) }
     {
         Ok(Clone::clone(self)?)
@@ -178,7 +178,7 @@ impl CoseEncrypt {
 
 /// The same as [`CoseEncrypt::clone`], for generic code.
 impl Clone for CoseEncrypt {
-    ghost is_clone = { λ message copy. encrypt_seen copy ≡ encrypt_seen message };
+    ghost is_clone = { λ message copy. encrypt_view copy ≡ encrypt_view message };
 
     fn clone(&self) -> Result<CoseEncrypt, AllocError> {
         Ok(CoseEncrypt {
@@ -191,27 +191,27 @@ impl Clone for CoseEncrypt {
 }
 
 impl Codec for CoseEncrypt {
-    ghost use Rattle.coset_recipient.specs.Equality.{encrypt_told};
-    ghost use Rattle.coset_recipient.specs.RecipientSame.{recipient_told};
-    ghost use Rattle.coset_recipient.specs.RecipientView.{recipient_seen};
-    ghost use Rattle.coset_codec.specs.Told.{bstr_told, lists_told};
-    ghost use Rattle.coset_core.specs.Told.{header_told, protected_told};
-    ghost use Rattle.coset_recipient.specs.Encrypt.{EncryptSeen, encrypt_laws};
+    ghost use Rattle.coset_recipient.specs.Equality.{encrypt_decides};
+    ghost use Rattle.coset_recipient.specs.RecipientSame.{recipient_decides};
+    ghost use Rattle.coset_recipient.specs.RecipientViews.{recipient_view};
+    ghost use Rattle.coset_codec.specs.EqDecides.{bstr_decides, lists_decides};
+    ghost use Rattle.coset_core.specs.EqDecides.{header_decides, protected_decides};
+    ghost use Rattle.coset_recipient.specs.Encrypt.{EncryptView, encrypt_laws};
 
-    ghost Seen = { EncryptSeen };
+    ghost View = { EncryptView };
 
-    ghost seen = { encrypt_seen };
+    ghost view = { encrypt_view };
 
     ghost shape = { encrypt };
 
     ghost laws = { encrypt_laws };
 
-    ghost equal = { λ a b. encrypt_told (protected_told a.protected b.protected)
-        (header_told a.unprotected b.unprotected)
-        (bstr_told a.ciphertext b.ciphertext)
-        (lists_told recipient_seen _ recipient_told a.recipients.items b.recipients.items) };
+    ghost equal = { λ a b. encrypt_decides (protected_decides a.protected b.protected)
+        (header_decides a.unprotected b.unprotected)
+        (bstr_decides a.ciphertext b.ciphertext)
+        (lists_decides recipient_view _ recipient_decides a.recipients.items b.recipients.items) };
 
-    fn read(alloc: Global, input: &mut Input<'_>) -> Result<CoseEncrypt> {
+    fn read(alloc: Global, input: &mut Decoder<'_>) -> Result<CoseEncrypt> {
         let mut message = CoseEncrypt::new(alloc);
         match read_headed(
             &mut message.protected,
@@ -220,7 +220,7 @@ impl Codec for CoseEncrypt {
             input,
             PLACES,
         ) {
-            Ok((Content(ciphertext), (Recipients(recipients), ()))) => {
+            Ok((BstrOrNil(ciphertext), (Recipients(recipients), ()))) => {
                 message.ciphertext = ciphertext;
                 message.recipients = recipients;
             }
@@ -233,17 +233,17 @@ impl Codec for CoseEncrypt {
     }
 
     fn size_hint(&self) -> usize {
-        Bstr(&self.protected)
-            .room()
-            .saturating_add(self.unprotected.room())
-            .saturating_add(self.ciphertext.room())
-            .saturating_add(Array(&self.recipients).room())
+        ProtectedRef(&self.protected)
+            .encoded_size_hint()
+            .saturating_add(self.unprotected.encoded_size_hint())
+            .saturating_add(self.ciphertext.encoded_size_hint())
+            .saturating_add(Array(&self.recipients).encoded_size_hint())
     }
 
     fn write(&self, alloc: Global, out: &mut Vec<u8>) -> Result<()> {
         encode_four(
             alloc,
-            &Bstr(&self.protected),
+            &ProtectedRef(&self.protected),
             &self.unprotected,
             &self.ciphertext,
             &Array(&self.recipients),
@@ -279,7 +279,7 @@ impl Model for CoseEncryptBuilder {
 impl CoseEncryptBuilder {
     /// An empty message. It takes no memory.
     pub fn new(alloc: Global) -> CoseEncryptBuilder
-        ensures { encrypt_seen result ≡ empty_encrypt }
+        ensures { encrypt_view result ≡ empty_encrypt }
     {
         CoseEncryptBuilder(CoseEncrypt::new(alloc))
     }
@@ -293,8 +293,8 @@ impl CoseEncryptBuilder {
 
     /// Sets the protected header: one that was made, and not read, so that it has no bytes of its own yet.
     pub fn protected(mut self, header: Header) -> CoseEncryptBuilder
-        ensures { encrypt_seen result ≡ record
-            (encrypt_seen self) { protected = unread (header_seen header) } }
+        ensures { encrypt_view result ≡ record
+            (encrypt_view self) { protected = unread (header_view header) } }
     {
         self.0.protected = ProtectedHeader {
             original_data: None,
@@ -305,8 +305,8 @@ impl CoseEncryptBuilder {
 
     /// Sets the unprotected header.
     pub fn unprotected(mut self, header: Header) -> CoseEncryptBuilder
-        ensures { encrypt_seen result ≡ record
-            (encrypt_seen self) { unprotected = header_seen header } }
+        ensures { encrypt_view result ≡ record
+            (encrypt_view self) { unprotected = header_view header } }
     {
         self.0.unprotected = header;
         self
@@ -314,7 +314,7 @@ impl CoseEncryptBuilder {
 
     /// Sets the ciphertext.
     pub fn ciphertext(mut self, ciphertext: Vec<u8>) -> CoseEncryptBuilder
-        ensures { encrypt_seen result ≡ with_ciphertext ciphertext.items (encrypt_seen self) }
+        ensures { encrypt_view result ≡ with_ciphertext ciphertext.items (encrypt_view self) }
     {
         self.0.ciphertext = Some(ciphertext);
         self
@@ -325,8 +325,8 @@ impl CoseEncryptBuilder {
     /// # Errors
     /// `OutOfMemory` alone.
     pub fn ciphertext_from(self, alloc: Global, ciphertext: &[u8]) -> Result<CoseEncryptBuilder>
-        ensures ok { IfOk result (λ b. encrypt_seen b
-            ≡ with_ciphertext ciphertext.now (encrypt_seen self)) }
+        ensures ok { IfOk result (λ b. encrypt_view b
+            ≡ with_ciphertext ciphertext.now (encrypt_view self)) }
         ensures memory { IfErr result (λ e. e ≡ OutOfMemory) }
     {
         Ok(self.ciphertext(Vec::from_slice(alloc, ciphertext)?))
@@ -337,8 +337,8 @@ impl CoseEncryptBuilder {
     /// # Errors
     /// `OutOfMemory` alone.
     pub fn add_recipient(mut self, recipient: CoseRecipient) -> Result<CoseEncryptBuilder>
-        ensures ok { IfOk result (λ b. encrypt_seen b
-            ≡ and_encrypt_recipient (recipient_seen recipient) (encrypt_seen self)) }
+        ensures ok { IfOk result (λ b. encrypt_view b
+            ≡ and_encrypt_recipient (recipient_view recipient) (encrypt_view self)) }
         ensures memory { IfErr result (λ e. e ≡ OutOfMemory) }
     {
         self.0.recipients.push(recipient)?;
@@ -362,8 +362,8 @@ impl CoseEncryptBuilder {
         F: FnOnce(&[u8], &[u8]) -> Vec<u8> + Drop,
         requires { F.IsAlwaysCallable cipher }
         ensures { CreatesOf F.FnOnce cipher plaintext.now
-            (encrypt_structure_of (encrypt_seen self) external_aad.now) (λ c b. encrypt_seen b
-            ≡ with_ciphertext c.items (encrypt_seen self)) result }
+            (encrypt_structure_of (encrypt_view self) external_aad.now) (λ c b. encrypt_view b
+            ≡ with_ciphertext c.items (encrypt_view self)) result }
     {
         let structure = self.0.aad(alloc, external_aad)?;
         Ok(self.ciphertext(cipher(plaintext, &structure)))
@@ -385,11 +385,11 @@ impl CoseEncryptBuilder {
         E: Drop,
         requires { F.IsAlwaysCallable cipher }
         ensures { TriesToCreateOf F.FnOnce cipher plaintext.now
-            (encrypt_structure_of (encrypt_seen self) external_aad.now) (λ c b. encrypt_seen b
-            ≡ with_ciphertext c.items (encrypt_seen self)) result }
+            (encrypt_structure_of (encrypt_view self) external_aad.now) (λ c b. encrypt_view b
+            ≡ with_ciphertext c.items (encrypt_view self)) result }
     {
         let structure = self.0.aad(alloc, external_aad);
-        let ciphertext = ask(plaintext, structure, cipher)?;
+        let ciphertext = verify_with(plaintext, structure, cipher)?;
         Ok(self.ciphertext(ciphertext))
     }
 
@@ -409,7 +409,7 @@ impl CoseEncryptBuilder {
         F: FnOnce(&[u8], &[u8]) -> Vec<u8> + Drop,
         requires { F.IsAlwaysCallable cipher }
         ensures { CreatesOf F.FnOnce cipher plaintext.now
-            (encrypt_structure_of (encrypt_seen self.now) external_aad.now) Itself result }
+            (encrypt_structure_of (encrypt_view self.now) external_aad.now) Itself result }
     {
         let structure = self.0.aad(alloc, external_aad)?;
         Ok(cipher(plaintext, &structure))
@@ -431,9 +431,9 @@ impl CoseEncryptBuilder {
         E: Drop,
         requires { F.IsAlwaysCallable cipher }
         ensures { AsksAbout F.FnOnce cipher plaintext.now
-            (encrypt_structure_of (encrypt_seen self.now) external_aad.now) result }
+            (encrypt_structure_of (encrypt_view self.now) external_aad.now) result }
     {
         let structure = self.0.aad(alloc, external_aad);
-        ask(plaintext, structure, cipher)
+        verify_with(plaintext, structure, cipher)
     }
 }

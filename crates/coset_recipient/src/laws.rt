@@ -13,7 +13,7 @@ ghost use Rattle.coset_msg.specs.Encrypt0.{encrypt0};
 ghost use Rattle.coset_msg.specs.Mac0.{mac0};
 ghost use Rattle.coset_recipient.specs.Encrypt.{encrypt};
 ghost use Rattle.coset_recipient.specs.Mac.{mac};
-ghost use Rattle.coset_recipient.specs.Recipient.{RecipientSeen, recipient, recipient_step};
+ghost use Rattle.coset_recipient.specs.Recipient.{RecipientView, recipient, recipient_step};
 ghost use Rattle.coset_sign.specs.Countersigned.{EachCountersignsSame};
 ghost use Rattle.coset_sign.specs.Sign.{sign};
 ghost use Rattle.coset_sign.specs.Sign1.{sign1};
@@ -26,16 +26,16 @@ use coset_core::laws::{kept_as_written, signatures_kept_as_written};
 /// A recipient is an array of its headers, its ciphertext and, where there are any, an array of recipients: the shape of
 /// recipients, which says how many may be inside one another, is the one that those inside it have too.
 pub fn recipients_hold_recipients()
-    ensures describes { (v : Item) (r : RecipientSeen) → recipient.describes v r
+    ensures describes { (v : Item) (r : RecipientView) → recipient.describes v r
         ↔ (recipient_step recipient).describes v r }
-    ensures image { (r : RecipientSeen) → recipient.image r
+    ensures image { (r : RecipientView) → recipient.image r
         ≡ (recipient_step recipient).image r }
     ensures faults { (v : Item) (e : CoseError) → recipient.faults v e
         ↔ (recipient_step recipient).faults v e }
 {}
 
 /// Of a recipient or a message that was read from what another is written as, plain or under its tag, the same bytes
-/// stand for the protected header, however the item was spelled.
+/// represent the protected header, however the item was spelled.
 pub fn kept_with_recipients()
     ensures recipient { AsWritten recipient (λ r s. protected_bytes s.protected
         ≡ protected_bytes r.protected) }

@@ -8,11 +8,11 @@ mod mac;
 mod recipient;
 
 pub use coset_msg::{
-    Algorithm, AsCborValue, Bstr, CallError, CborOrdering, CborSerializable, ClaimName, Codec,
+    Algorithm, AsCborValue, CallError, CborOrdering, CborSerializable, ClaimName, Codec,
     ContentType, CoseCountersignature, CoseCountersignatureBuilder, CoseEncrypt0,
     CoseEncrypt0Builder, CoseError, CoseMac0, CoseMac0Builder, CoseSignature, CoseSignatureBuilder,
     Encode, EncryptionContext, EndOfFile, FromPull, Header, HeaderBuilder, ItemSource,
-    KeyOperation, KeyType, Label, Lawful, MacContext, ProtectedBstr, ProtectedHeader,
+    KeyOperation, KeyType, Label, Lawful, MacContext, ProtectedBstr, ProtectedHeader, ProtectedRef,
     RegisteredLabel, RegisteredLabelWithPrivate, Result, TaggedCborSerializable, TaggedCodec, cbor,
     codec, enc_structure_data, has_repeats, iana, mac_structure_data, util,
 };

@@ -4,19 +4,19 @@ ghost use Rattle.std.specs.Prelude.{◌≡◌, ◌≢◌, IfOk, IfErr, IfSome, S
 ghost use Rattle.coset_codec.specs.declared.error.CoseError.TheVariants.{OutOfMemory};
 ghost use Rattle.coset_codec.specs.Answers.{Writes};
 ghost use Rattle.coset_core.specs.Messages.{unread};
-ghost use Rattle.coset_core.specs.Views.{header_seen};
+ghost use Rattle.coset_core.specs.Views.{header_view};
 ghost use Rattle.coset_core.specs.Calls.{AsksAbout, Creates, TriesToCreate};
 ghost use Rattle.coset_msg.specs.Presence.{AsksWherePresent, WritesWherePresent};
-ghost use Rattle.coset_recipient.specs.Mac.{and_mac_recipient, empty_mac, mac, mac_seen, mac_structure_of, with_tag};
-ghost use Rattle.coset_recipient.specs.RecipientView.{recipient_seen};
+ghost use Rattle.coset_recipient.specs.Mac.{and_mac_recipient, empty_mac, mac, mac_view, mac_structure_of, with_tag};
+ghost use Rattle.coset_recipient.specs.RecipientViews.{recipient_view};
 
 use crate::recipient::{CoseRecipient, Recipients, copy_recipient_list};
-use coset_codec::read::{Input, drop_refused};
+use coset_codec::read::{Decoder, drop_refused};
 use coset_codec::util::copy_bstr;
 use coset_codec::write::{Array, Encode, encode_five};
 use coset_codec::{CallError, Codec, Result, TaggedCodec};
-use coset_core::calls::{ask, make};
-use coset_core::{Bstr, Content, Header, ProtectedHeader, read_headed};
+use coset_core::calls::{create_with, verify_with};
+use coset_core::{BstrOrNil, Header, ProtectedHeader, ProtectedRef, read_headed};
 use coset_msg::MacContext;
 use coset_msg::mac_structure::mac_structure_of;
 use std::alloc::{AllocError, Global};
@@ -49,7 +49,7 @@ const PLACES: &str = "array with 5 items";
 impl CoseMac {
     /// An empty message: empty headers, no payload, an empty tag, no recipients. It takes no memory.
     pub fn new(alloc: Global) -> CoseMac
-        ensures { mac_seen result ≡ empty_mac }
+        ensures { mac_view result ≡ empty_mac }
     {
         CoseMac {
             protected: ProtectedHeader::new(alloc),
@@ -67,8 +67,8 @@ impl CoseMac {
     /// `OutOfMemory`, or `DuplicateMapKey` where the protected header wasn't read and it, or one in it, repeats a label of
     /// its rest.
     pub fn tbm(&self, alloc: Global, external_aad: &[u8]) -> Result<Option<Vec<u8>>>
-        ensures { WritesWherePresent (λ b. b.items) (mac_seen self.now).payload
-            (mac_structure_of (mac_seen self.now) external_aad.now) result }
+        ensures { WritesWherePresent (λ b. b.items) (mac_view self.now).payload
+            (mac_structure_of (mac_view self.now) external_aad.now) result }
     {
         match &self.payload {
             Some(payload) => Ok(Some(self.tbm_detached(alloc, payload, external_aad)?)),
@@ -87,7 +87,7 @@ impl CoseMac {
         payload: &[u8],
         external_aad: &[u8],
     ) -> Result<Vec<u8>>
-        ensures { Writes (mac_structure_of (mac_seen self.now) external_aad.now payload.now) (λ b.
+        ensures { Writes (mac_structure_of (mac_view self.now) external_aad.now payload.now) (λ b.
             b.items) result }
     {
         mac_structure_of(
@@ -102,7 +102,7 @@ impl CoseMac {
     /// The payload, which the message carries.
     fn carried(&self) -> &[u8]
         requires { self.now.payload ≢ None }
-        ensures { (mac_seen self.now).payload ≡ Some result.now }
+        ensures { (mac_view self.now).payload ≡ Some result.now }
     {
         match &self.payload {
             Some(payload) => payload,
@@ -129,19 +129,19 @@ impl CoseMac {
         E: Drop,
         requires callable { F.IsAlwaysCallable verifier }
         requires carried { self.now.payload ≢ None }
-        ensures { IfSome (mac_seen self.now).payload (λ p. AsksAbout F.FnOnce verifier
-            (mac_seen self.now).tag (mac_structure_of (mac_seen self.now) external_aad.now p)
+        ensures { IfSome (mac_view self.now).payload (λ p. AsksAbout F.FnOnce verifier
+            (mac_view self.now).tag (mac_structure_of (mac_view self.now) external_aad.now p)
             result) }
     {
         let structure = self.tbm_detached(alloc, self.carried(), external_aad);
-        ask(&self.tag, structure, verifier)
+        verify_with(&self.tag, structure, verifier)
     }
 
     /// The same as [`CoseMac::verify_tag`], whether the message carries its payload or not: where it carries none,
     /// `missing` is called for the error, and `verifier` isn't.
     ///
     /// # Errors
-    /// The same as [`CoseMac::verify_tag`]; or `Caller` with what `missing` answers.
+    /// The same as [`CoseMac::verify_tag`]; or `Caller` with what `missing` returns.
     pub fn verify_payload_tag<F, E, M>(
         &self,
         alloc: Global,
@@ -156,14 +156,14 @@ impl CoseMac {
         requires callable { F.IsAlwaysCallable verifier }
         requires missing_callable { M.IsAlwaysCallable missing }
         ensures { AsksWherePresent F.FnOnce verifier M.FnOnce missing
-            (mac_seen self.now).payload (λ p. (mac_seen self.now).tag)
-            (mac_structure_of (mac_seen self.now) external_aad.now) result }
+            (mac_view self.now).payload (λ p. (mac_view self.now).tag)
+            (mac_structure_of (mac_view self.now) external_aad.now) result }
     {
         let Some(payload) = &self.payload else {
             return Err(CallError::Caller(missing()));
         };
         let structure = self.tbm_detached(alloc, payload, external_aad);
-        ask(&self.tag, structure, verifier)
+        verify_with(&self.tag, structure, verifier)
     }
 
     /// The same as [`CoseMac::verify_tag`] where this payload is detached (RFC 9052, section 6): it takes the place of one
@@ -182,11 +182,11 @@ impl CoseMac {
         F: FnOnce(&[u8], &[u8]) -> Result<(), E> + Drop,
         E: Drop,
         requires { F.IsAlwaysCallable verifier }
-        ensures { AsksAbout F.FnOnce verifier (mac_seen self.now).tag
-            (mac_structure_of (mac_seen self.now) external_aad.now payload.now) result }
+        ensures { AsksAbout F.FnOnce verifier (mac_view self.now).tag
+            (mac_structure_of (mac_view self.now) external_aad.now payload.now) result }
     {
         let structure = self.tbm_detached(alloc, payload, external_aad);
-        ask(&self.tag, structure, verifier)
+        verify_with(&self.tag, structure, verifier)
     }
 
     /// A message that equals this one, with the same bytes kept.
@@ -194,7 +194,7 @@ impl CoseMac {
     /// # Errors
     /// `OutOfMemory` alone.
     pub fn clone(&self) -> Result<CoseMac>
-        ensures copy { IfOk result (λ m. mac_seen m ≡ mac_seen self.now) }
+        ensures copy { IfOk result (λ m. mac_view m ≡ mac_view self.now) }
         ensures memory { IfErr result (λ e. e ≡ OutOfMemory) }
     {
         Ok(Clone::clone(self)?)
@@ -203,7 +203,7 @@ impl CoseMac {
 
 /// The same as [`CoseMac::clone`], for generic code.
 impl Clone for CoseMac {
-    ghost is_clone = { λ message copy. mac_seen copy ≡ mac_seen message };
+    ghost is_clone = { λ message copy. mac_view copy ≡ mac_view message };
 
     fn clone(&self) -> Result<CoseMac, AllocError> {
         Ok(CoseMac {
@@ -217,28 +217,28 @@ impl Clone for CoseMac {
 }
 
 impl Codec for CoseMac {
-    ghost use Rattle.coset_recipient.specs.Equality.{mac_told};
-    ghost use Rattle.coset_recipient.specs.RecipientSame.{recipient_told};
-    ghost use Rattle.coset_recipient.specs.RecipientView.{recipient_seen};
-    ghost use Rattle.coset_codec.specs.Told.{bytes_told, bstr_told, lists_told};
-    ghost use Rattle.coset_core.specs.Told.{header_told, protected_told};
-    ghost use Rattle.coset_recipient.specs.Mac.{MacSeen, mac_laws};
+    ghost use Rattle.coset_recipient.specs.Equality.{mac_decides};
+    ghost use Rattle.coset_recipient.specs.RecipientSame.{recipient_decides};
+    ghost use Rattle.coset_recipient.specs.RecipientViews.{recipient_view};
+    ghost use Rattle.coset_codec.specs.EqDecides.{vec_decides, bstr_decides, lists_decides};
+    ghost use Rattle.coset_core.specs.EqDecides.{header_decides, protected_decides};
+    ghost use Rattle.coset_recipient.specs.Mac.{MacView, mac_laws};
 
-    ghost Seen = { MacSeen };
+    ghost View = { MacView };
 
-    ghost seen = { mac_seen };
+    ghost view = { mac_view };
 
     ghost shape = { mac };
 
     ghost laws = { mac_laws };
 
-    ghost equal = { λ a b. mac_told (protected_told a.protected b.protected)
-        (header_told a.unprotected b.unprotected)
-        (bstr_told a.payload b.payload)
-        (bytes_told a.tag b.tag)
-        (lists_told recipient_seen _ recipient_told a.recipients.items b.recipients.items) };
+    ghost equal = { λ a b. mac_decides (protected_decides a.protected b.protected)
+        (header_decides a.unprotected b.unprotected)
+        (bstr_decides a.payload b.payload)
+        (vec_decides a.tag b.tag)
+        (lists_decides recipient_view _ recipient_decides a.recipients.items b.recipients.items) };
 
-    fn read(alloc: Global, input: &mut Input<'_>) -> Result<CoseMac> {
+    fn read(alloc: Global, input: &mut Decoder<'_>) -> Result<CoseMac> {
         let mut message = CoseMac::new(alloc);
         match read_headed(
             &mut message.protected,
@@ -247,7 +247,7 @@ impl Codec for CoseMac {
             input,
             PLACES,
         ) {
-            Ok((Content(payload), (tag, (Recipients(recipients), ())))) => {
+            Ok((BstrOrNil(payload), (tag, (Recipients(recipients), ())))) => {
                 message.payload = payload;
                 message.tag = tag;
                 message.recipients = recipients;
@@ -261,18 +261,18 @@ impl Codec for CoseMac {
     }
 
     fn size_hint(&self) -> usize {
-        Bstr(&self.protected)
-            .room()
-            .saturating_add(self.unprotected.room())
-            .saturating_add(self.payload.room())
-            .saturating_add(self.tag.room())
-            .saturating_add(Array(&self.recipients).room())
+        ProtectedRef(&self.protected)
+            .encoded_size_hint()
+            .saturating_add(self.unprotected.encoded_size_hint())
+            .saturating_add(self.payload.encoded_size_hint())
+            .saturating_add(self.tag.encoded_size_hint())
+            .saturating_add(Array(&self.recipients).encoded_size_hint())
     }
 
     fn write(&self, alloc: Global, out: &mut Vec<u8>) -> Result<()> {
         encode_five(
             alloc,
-            &Bstr(&self.protected),
+            &ProtectedRef(&self.protected),
             &self.unprotected,
             &self.payload,
             &self.tag,
@@ -309,7 +309,7 @@ impl Model for CoseMacBuilder {
 impl CoseMacBuilder {
     /// An empty message. It takes no memory.
     pub fn new(alloc: Global) -> CoseMacBuilder
-        ensures { mac_seen result ≡ empty_mac }
+        ensures { mac_view result ≡ empty_mac }
     {
         CoseMacBuilder(CoseMac::new(alloc))
     }
@@ -323,8 +323,8 @@ impl CoseMacBuilder {
 
     /// Sets the protected header: one that was made, and not read, so that it has no bytes of its own yet.
     pub fn protected(mut self, header: Header) -> CoseMacBuilder
-        ensures { mac_seen result ≡ record
-            (mac_seen self) { protected = unread (header_seen header) } }
+        ensures { mac_view result ≡ record
+            (mac_view self) { protected = unread (header_view header) } }
     {
         self.0.protected = ProtectedHeader {
             original_data: None,
@@ -335,8 +335,8 @@ impl CoseMacBuilder {
 
     /// Sets the unprotected header.
     pub fn unprotected(mut self, header: Header) -> CoseMacBuilder
-        ensures { mac_seen result ≡ record
-            (mac_seen self) { unprotected = header_seen header } }
+        ensures { mac_view result ≡ record
+            (mac_view self) { unprotected = header_view header } }
     {
         self.0.unprotected = header;
         self
@@ -344,7 +344,7 @@ impl CoseMacBuilder {
 
     /// Sets the payload.
     pub fn payload(mut self, payload: Vec<u8>) -> CoseMacBuilder
-        ensures { mac_seen result ≡ record (mac_seen self) { payload = Some payload.items } }
+        ensures { mac_view result ≡ record (mac_view self) { payload = Some payload.items } }
     {
         self.0.payload = Some(payload);
         self
@@ -355,8 +355,8 @@ impl CoseMacBuilder {
     /// # Errors
     /// `OutOfMemory` alone.
     pub fn payload_from(self, alloc: Global, payload: &[u8]) -> Result<CoseMacBuilder>
-        ensures ok { IfOk result (λ b. mac_seen b
-            ≡ record (mac_seen self) { payload = Some payload.now }) }
+        ensures ok { IfOk result (λ b. mac_view b
+            ≡ record (mac_view self) { payload = Some payload.now }) }
         ensures memory { IfErr result (λ e. e ≡ OutOfMemory) }
     {
         Ok(self.payload(Vec::from_slice(alloc, payload)?))
@@ -364,7 +364,7 @@ impl CoseMacBuilder {
 
     /// Sets the tag.
     pub fn tag(mut self, tag: Vec<u8>) -> CoseMacBuilder
-        ensures { mac_seen result ≡ with_tag tag.items (mac_seen self) }
+        ensures { mac_view result ≡ with_tag tag.items (mac_view self) }
     {
         self.0.tag = tag;
         self
@@ -375,7 +375,7 @@ impl CoseMacBuilder {
     /// # Errors
     /// `OutOfMemory` alone.
     pub fn tag_from(self, alloc: Global, tag: &[u8]) -> Result<CoseMacBuilder>
-        ensures ok { IfOk result (λ b. mac_seen b ≡ with_tag tag.now (mac_seen self)) }
+        ensures ok { IfOk result (λ b. mac_view b ≡ with_tag tag.now (mac_view self)) }
         ensures memory { IfErr result (λ e. e ≡ OutOfMemory) }
     {
         Ok(self.tag(Vec::from_slice(alloc, tag)?))
@@ -386,8 +386,8 @@ impl CoseMacBuilder {
     /// # Errors
     /// `OutOfMemory` alone.
     pub fn add_recipient(mut self, recipient: CoseRecipient) -> Result<CoseMacBuilder>
-        ensures ok { IfOk result (λ b. mac_seen b
-            ≡ and_mac_recipient (recipient_seen recipient) (mac_seen self)) }
+        ensures ok { IfOk result (λ b. mac_view b
+            ≡ and_mac_recipient (recipient_view recipient) (mac_view self)) }
         ensures memory { IfErr result (λ e. e ≡ OutOfMemory) }
     {
         self.0.recipients.push(recipient)?;
@@ -410,9 +410,9 @@ impl CoseMacBuilder {
         F: FnOnce(&[u8]) -> Vec<u8> + Drop,
         requires callable { F.IsAlwaysCallable creator }
         requires carried { self.payload ≢ None }
-        ensures { IfSome (mac_seen self).payload (λ p. Creates F.FnOnce creator
-            (mac_structure_of (mac_seen self) external_aad.now p) (λ t b. mac_seen b
-            ≡ with_tag t.items (mac_seen self)) result) }
+        ensures { IfSome (mac_view self).payload (λ p. Creates F.FnOnce creator
+            (mac_structure_of (mac_view self) external_aad.now p) (λ t b. mac_view b
+            ≡ with_tag t.items (mac_view self)) result) }
     {
         let tbm = self.0.tbm_detached(alloc, self.0.carried(), external_aad)?;
         Ok(self.tag(creator(&tbm)))
@@ -434,8 +434,8 @@ impl CoseMacBuilder {
         F: FnOnce(&[u8]) -> Vec<u8> + Drop,
         requires { F.IsAlwaysCallable creator }
         ensures { Creates F.FnOnce creator
-            (mac_structure_of (mac_seen self) external_aad.now payload.now) (λ t b. mac_seen b
-            ≡ with_tag t.items (mac_seen self)) result }
+            (mac_structure_of (mac_view self) external_aad.now payload.now) (λ t b. mac_view b
+            ≡ with_tag t.items (mac_view self)) result }
     {
         let structure = self.0.tbm_detached(alloc, payload, external_aad)?;
         Ok(self.tag(creator(&structure)))
@@ -456,12 +456,12 @@ impl CoseMacBuilder {
         E: Drop,
         requires callable { F.IsAlwaysCallable creator }
         requires carried { self.payload ≢ None }
-        ensures { IfSome (mac_seen self).payload (λ p. TriesToCreate F.FnOnce creator
-            (mac_structure_of (mac_seen self) external_aad.now p) (λ t b. mac_seen b
-            ≡ with_tag t.items (mac_seen self)) result) }
+        ensures { IfSome (mac_view self).payload (λ p. TriesToCreate F.FnOnce creator
+            (mac_structure_of (mac_view self) external_aad.now p) (λ t b. mac_view b
+            ≡ with_tag t.items (mac_view self)) result) }
     {
         let structure = self.0.tbm_detached(alloc, self.0.carried(), external_aad);
-        let tag = make(structure, creator)?;
+        let tag = create_with(structure, creator)?;
         Ok(self.tag(tag))
     }
 
@@ -481,11 +481,11 @@ impl CoseMacBuilder {
         E: Drop,
         requires { F.IsAlwaysCallable creator }
         ensures { TriesToCreate F.FnOnce creator
-            (mac_structure_of (mac_seen self) external_aad.now payload.now) (λ t b. mac_seen b
-            ≡ with_tag t.items (mac_seen self)) result }
+            (mac_structure_of (mac_view self) external_aad.now payload.now) (λ t b. mac_view b
+            ≡ with_tag t.items (mac_view self)) result }
     {
         let structure = self.0.tbm_detached(alloc, payload, external_aad);
-        let tag = make(structure, creator)?;
+        let tag = create_with(structure, creator)?;
         Ok(self.tag(tag))
     }
 }

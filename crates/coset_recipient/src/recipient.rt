@@ -14,26 +14,26 @@ ghost use Rattle.coset_codec.specs.Inputs.{State, state, length_left, items_size
 ghost use Rattle.coset_codec.specs.Shape.{images, list_of};
 ghost use Rattle.coset_core.specs.Headers.{empty_header};
 ghost use Rattle.coset_core.specs.Messages.{unread};
-ghost use Rattle.coset_core.specs.Views.{header_seen, protected_seen};
+ghost use Rattle.coset_core.specs.Views.{header_view, protected_view};
 ghost use Rattle.coset_core.specs.Calls.{AsksAbout};
 ghost use Rattle.coset_msg.specs.Presence.{AsksWherePresent, CreatesOf, TriesToCreateOf};
 ghost use Rattle.coset_recipient.specs.Recipient.{IsOfRecipient, and_recipient, are_none, empty_recipient, recipient as recipient_shape, recipient_image, recipient_structure, recipients_of, with_ciphertext};
 ghost use Rattle.coset_recipient.specs.RecipientReading.{BeginsThree, FillsLast};
 ghost use Rattle.coset_recipient.specs.RecipientWriting.{Begins, last_elements};
 ghost use Rattle.coset_recipient.specs.RecipientSame.{recipient_eq, recipient_eq_equiv, recipients_eq};
-ghost use Rattle.coset_recipient.specs.RecipientView.{recipient_seen};
+ghost use Rattle.coset_recipient.specs.RecipientViews.{recipient_view};
 
 use coset_cbor::ser::write_array_head;
 use coset_codec::error::{ErrorStored, store_error};
 use coset_codec::read::{
-    Decode, InPlace, Input, InputItems, copy_bstr_to, drop_refused, make_room, next_place,
+    ArrayElements, Decode, Decoder, InPlace, copy_bstr_to, drop_refused, make_room, next_place,
     push_empty, wrong_length,
 };
 use coset_codec::write::Encode;
 use coset_codec::{CallError, Codec, CoseError, Result};
-use coset_core::calls::ask;
+use coset_core::calls::verify_with;
 use coset_core::{
-    Bstr, Header, ProtectedHeader, copy_header, copy_protected, fill_protected_header,
+    Header, ProtectedHeader, ProtectedRef, copy_header, copy_protected, fill_protected_header,
     fill_unprotected_header,
 };
 use coset_msg::EncryptionContext;
@@ -63,7 +63,7 @@ pub struct CoseRecipient {
 /// What the error of another number of elements asks for.
 const PLACES: &str = "array with 3 or 4 items";
 
-/// Reads the first three elements of a recipient's array into empty ones. What reading them answers stands inside the answer,
+/// Reads the first three elements of a recipient's array into empty ones. What reading them returns is inside the answer,
 /// since the fourth is judged before them: it is the fault of the last of the three that has one.
 ///
 /// # Errors
@@ -74,27 +74,27 @@ fn begin_elements(
     unprotected: &mut Header,
     ciphertext: &mut Option<Vec<u8>>,
     alloc: Global,
-    members: &mut InputItems,
-    input: &mut Input<'_>,
+    elements: &mut ArrayElements,
+    input: &mut Decoder<'_>,
 ) -> Result<Result<()>>
-    requires protected { (protected_seen protected.old).header ≡ empty_header }
-    requires unprotected { header_seen unprotected.old ≡ empty_header }
+    requires protected { (protected_view protected.old).header ≡ empty_header }
+    requires unprotected { header_view unprotected.old ≡ empty_header }
     ensures shrinks { length_left (state input.new) ≤ length_left (state input.old) }
-    ensures size { items_size members.new (state input.new) ≤ items_size members.old
+    ensures size { items_size elements.new (state input.new) ≤ items_size elements.old
         (state input.old) }
-    ensures begins { (vs : Items) (z : State) → AreWithin members.old vs (state input.old) z
-        → BeginsThree vs (protected_seen protected.new) (header_seen unprotected.new)
-        (option_map (λ b. b.items) ciphertext.new) (state input.new) z members.new result }
+    ensures begins { (vs : Items) (z : State) → AreWithin elements.old vs (state input.old) z
+        → BeginsThree vs (protected_view protected.new) (header_view unprotected.new)
+        (option_map (λ b. b.items) ciphertext.new) (state input.new) z elements.new result }
 {
-    if !members.next(input) {
+    if !elements.next(input) {
         return Err(wrong_length(PLACES));
     }
     let first = fill_protected_header(protected, alloc, input);
-    if !members.next(input) {
+    if !elements.next(input) {
         return Err(wrong_length(PLACES));
     }
     let second = fill_unprotected_header(unprotected, alloc, input);
-    if !members.next(input) {
+    if !elements.next(input) {
         return Err(wrong_length(PLACES));
     }
     match input.bytes_or_nil(alloc, "bstr / null") {
@@ -108,7 +108,7 @@ fn begin_elements(
 }
 
 impl InPlace for CoseRecipient {
-    ghost is_empty = { λ r. recipient_seen r ≡ empty_recipient };
+    ghost is_empty = { λ r. recipient_view r ≡ empty_recipient };
 
     fn empty(alloc: Global) -> CoseRecipient {
         CoseRecipient::new(alloc)
@@ -123,19 +123,19 @@ impl InPlace for CoseRecipient {
 pub(crate) fn fill_recipients(
     all: &mut Vec<CoseRecipient>,
     alloc: Global,
-    input: &mut Input<'_>,
+    input: &mut Decoder<'_>,
     error: &mut CoseError,
 ) -> Result<(), ErrorStored>
-    requires empty { map recipient_seen all.old.items ≡ [] }
+    requires empty { map recipient_view all.old.items ≡ [] }
     ensures shrinks { length_left (state input.new) ≤ length_left (state input.old) }
     ensures fills { (v : Item) (z : State) → ItemAt v (state input.old) z
         → (state input.new ≡ z)
-        × Fills (list_of recipient_shape) v (map recipient_seen all.new.items)
+        × Fills (list_of recipient_shape) v (map recipient_view all.new.items)
         (stored error.new result) }
 {
-    let mut members = store_error(input.enter_array("array"), error)?;
-    let filled = fill_listed(all, alloc, &mut members, input, error);
-    members.finish(input);
+    let mut elements = store_error(input.enter_array("array"), error)?;
+    let filled = fill_listed(all, alloc, &mut elements, input, error);
+    elements.finish(input);
     filled
 }
 
@@ -147,18 +147,18 @@ pub(crate) fn fill_recipients(
 fn fill_listed(
     all: &mut Vec<CoseRecipient>,
     alloc: Global,
-    members: &mut InputItems,
-    input: &mut Input<'_>,
+    elements: &mut ArrayElements,
+    input: &mut Decoder<'_>,
     error: &mut CoseError,
 ) -> Result<(), ErrorStored>
-    requires empty { map recipient_seen all.old.items ≡ [] }
+    requires empty { map recipient_view all.old.items ≡ [] }
     ensures shrinks { length_left (state input.new) ≤ length_left (state input.old) }
-    ensures fills { (vs : Items) (z : State) → AreWithin members.old vs (state input.old) z
-        → ((left : Items) × AreWithin members.new left (state input.new) z)
-        × FillsEach recipient_shape vs (map recipient_seen all.new.items)
+    ensures fills { (vs : Items) (z : State) → AreWithin elements.old vs (state input.old) z
+        → ((left : Items) × AreWithin elements.new left (state input.new) z)
+        × FillsEach recipient_shape vs (map recipient_view all.new.items)
         (stored error.new result) }
 {
-    while next_place(all, members, input, error)? {
+    while next_place(all, elements, input, error)? {
         let last = all.len() - 1;
         fill_recipient(&mut all[last], alloc, input, error)?;
     }
@@ -173,19 +173,19 @@ fn fill_listed(
 fn fill_recipient(
     recipient: &mut CoseRecipient,
     alloc: Global,
-    input: &mut Input<'_>,
+    input: &mut Decoder<'_>,
     error: &mut CoseError,
 ) -> Result<(), ErrorStored>
-    requires empty { recipient_seen recipient.old ≡ empty_recipient }
+    requires empty { recipient_view recipient.old ≡ empty_recipient }
     ensures shrinks { length_left (state input.new) ≤ length_left (state input.old) }
     ensures strictly { OnOk result (GoesBehind (state input.old) (state input.new)) }
     ensures fills { (v : Item) (z : State) → ItemAt v (state input.old) z
         → (state input.new ≡ z)
-        × Fills recipient_shape v (recipient_seen recipient.new) (stored error.new result) }
+        × Fills recipient_shape v (recipient_view recipient.new) (stored error.new result) }
 {
-    let mut members = store_error(input.enter_array("array"), error)?;
-    let filled = fill_elements(recipient, alloc, &mut members, input, error);
-    members.finish(input);
+    let mut elements = store_error(input.enter_array("array"), error)?;
+    let filled = fill_elements(recipient, alloc, &mut elements, input, error);
+    elements.finish(input);
     filled
 }
 
@@ -197,15 +197,15 @@ fn fill_recipient(
 fn fill_elements(
     recipient: &mut CoseRecipient,
     alloc: Global,
-    members: &mut InputItems,
-    input: &mut Input<'_>,
+    elements: &mut ArrayElements,
+    input: &mut Decoder<'_>,
     error: &mut CoseError,
 ) -> Result<(), ErrorStored>
-    requires empty { recipient_seen recipient.old ≡ empty_recipient }
+    requires empty { recipient_view recipient.old ≡ empty_recipient }
     ensures shrinks { length_left (state input.new) ≤ length_left (state input.old) }
-    ensures fills { (vs : Items) (z : State) → AreWithin members.old vs (state input.old) z
-        → ((left : Items) × AreWithin members.new left (state input.new) z)
-        × Fills recipient_shape (array vs) (recipient_seen recipient.new)
+    ensures fills { (vs : Items) (z : State) → AreWithin elements.old vs (state input.old) z
+        → ((left : Items) × AreWithin elements.new left (state input.new) z)
+        × Fills recipient_shape (array vs) (recipient_view recipient.new)
         (stored error.new result) }
 {
     let first = store_error(
@@ -214,12 +214,12 @@ fn fill_elements(
             &mut recipient.unprotected,
             &mut recipient.ciphertext,
             alloc,
-            members,
+            elements,
             input,
         ),
         error,
     )?;
-    fill_fourth(&mut recipient.recipients, alloc, members, input, error)?;
+    fill_fourth(&mut recipient.recipients, alloc, elements, input, error)?;
     store_error(first, error)
 }
 
@@ -231,43 +231,43 @@ fn fill_elements(
 fn fill_fourth(
     all: &mut Vec<CoseRecipient>,
     alloc: Global,
-    members: &mut InputItems,
-    input: &mut Input<'_>,
+    elements: &mut ArrayElements,
+    input: &mut Decoder<'_>,
     error: &mut CoseError,
 ) -> Result<(), ErrorStored>
-    requires empty { map recipient_seen all.old.items ≡ [] }
+    requires empty { map recipient_view all.old.items ≡ [] }
     ensures shrinks { length_left (state input.new) ≤ length_left (state input.old) }
-    ensures fills { (vs : Items) (z : State) → AreWithin members.old vs (state input.old) z
-        → ((left : Items) × AreWithin members.new left (state input.new) z)
-        × FillsLast vs (map recipient_seen all.new.items) (stored error.new result) }
+    ensures fills { (vs : Items) (z : State) → AreWithin elements.old vs (state input.old) z
+        → ((left : Items) × AreWithin elements.new left (state input.new) z)
+        × FillsLast vs (map recipient_view all.new.items) (stored error.new result) }
 {
-    if !members.next(input) {
+    if !elements.next(input) {
         return Ok(());
     }
     let filled = fill_recipients(all, alloc, input, error);
-    if members.next(input) {
-        input.pass();
+    if elements.next(input) {
+        input.skip();
         *error = wrong_length(PLACES);
         return Err(ErrorStored);
     }
     filled
 }
 
-/// Recipients as they stand in a message: the array of them.
+/// Recipients as they are in a message: the array of them.
 #[derive(Debug, Drop)]
 pub(crate) struct Recipients(pub(crate) Vec<CoseRecipient>);
 
 impl Decode for Recipients {
     ghost use Rattle.std.specs.Prelude.{List};
-    ghost use Rattle.coset_recipient.specs.Recipient.{RecipientSeen};
+    ghost use Rattle.coset_recipient.specs.Recipient.{RecipientView};
 
-    ghost Seen = { List RecipientSeen };
+    ghost View = { List RecipientView };
 
-    ghost seen = { λ all. map recipient_seen all.0.items };
+    ghost view = { λ all. map recipient_view all.0.items };
 
     ghost shape = { list_of recipient_shape };
 
-    fn decode(alloc: Global, input: &mut Input<'_>) -> Result<Recipients> {
+    fn decode(alloc: Global, input: &mut Decoder<'_>) -> Result<Recipients> {
         let mut all = Vec::new(alloc);
         let mut error = CoseError::OutOfMemory;
         match fill_recipients(&mut all, alloc, input, &mut error) {
@@ -279,14 +279,14 @@ impl Decode for Recipients {
 
 /// Whether there are no recipients.
 fn are_none(all: &[CoseRecipient]) -> bool
-    ensures { result ≡ are_none (recipients_of (map recipient_seen all.now)) }
+    ensures { result ≡ are_none (recipients_of (map recipient_view all.now)) }
 {
     all.is_empty()
 }
 
 /// How many elements the recipient's array has.
 fn count_elements(recipient: &CoseRecipient) -> usize
-    ensures { result ≡ 3 + last_elements (recipient_seen recipient.now).recipients }
+    ensures { result ≡ 3 + last_elements (recipient_view recipient.now).recipients }
 {
     if are_none(&recipient.recipients) {
         3
@@ -297,11 +297,11 @@ fn count_elements(recipient: &CoseRecipient) -> usize
 
 /// Appends the head of a recipient's array, and its first three elements.
 fn write_first(alloc: Global, recipient: &CoseRecipient, out: &mut Vec<u8>) -> Result<()>
-    ensures written { Begins (recipient_seen recipient.now) out.old.items out.new.items result }
+    ensures written { Begins (recipient_view recipient.now) out.old.items out.new.items result }
     ensures kept { Extends out.old.items out.new.items }
 {
     write_array_head(count_elements(recipient), out)?;
-    Bstr(&recipient.protected).encode(alloc, out)?;
+    ProtectedRef(&recipient.protected).encode(alloc, out)?;
     recipient.unprotected.encode(alloc, out)?;
     recipient.ciphertext.encode(alloc, out)
 }
@@ -309,7 +309,7 @@ fn write_first(alloc: Global, recipient: &CoseRecipient, out: &mut Vec<u8>) -> R
 /// Appends the array of the recipient.
 #[cycle(write)]
 fn write_recipient(alloc: Global, recipient: &CoseRecipient, out: &mut Vec<u8>) -> Result<()>
-    ensures written { Encodes (recipient_image (recipient_seen recipient.now)) out.old.items
+    ensures written { Encodes (recipient_image (recipient_view recipient.now)) out.old.items
         out.new.items result }
     ensures kept { Extends out.old.items out.new.items }
 {
@@ -325,7 +325,7 @@ fn write_recipient(alloc: Global, recipient: &CoseRecipient, out: &mut Vec<u8>) 
 #[cycle(write)]
 fn write_recipients(alloc: Global, all: &[CoseRecipient], out: &mut Vec<u8>) -> Result<()>
     ensures written { Encodes
-        (option_map array (images recipient_image (map recipient_seen all.now))) out.old.items
+        (option_map array (images recipient_image (map recipient_view all.now))) out.old.items
         out.new.items result }
     ensures kept { Extends out.old.items out.new.items }
 {
@@ -337,10 +337,10 @@ fn write_recipients(alloc: Global, all: &[CoseRecipient], out: &mut Vec<u8>) -> 
 #[cycle(write)]
 fn write_each(alloc: Global, all: &[CoseRecipient], out: &mut Vec<u8>) -> Result<()>
     ensures ok { OnOk result (AppendsElements
-        (images recipient_image (map recipient_seen all.now)) (length all.now) out.old.items
+        (images recipient_image (map recipient_view all.now)) (length all.now) out.old.items
         out.new.items) }
     ensures refused { IfErr result
-        (HasNoImage (images recipient_image (map recipient_seen all.now))) }
+        (HasNoImage (images recipient_image (map recipient_view all.now))) }
     ensures kept { Extends out.old.items out.new.items }
 {
     for recipient in all {
@@ -352,7 +352,7 @@ fn write_each(alloc: Global, all: &[CoseRecipient], out: &mut Vec<u8>) -> Result
 /// Copies recipients into a list, in place of those that it holds.
 #[cycle(copy)]
 fn copy_recipients(all: &[CoseRecipient], copies: &mut Vec<CoseRecipient>) -> Result<(), AllocError>
-    ensures { OnOk result (map recipient_seen copies.new.items ≡ map recipient_seen all.now) }
+    ensures { OnOk result (map recipient_view copies.new.items ≡ map recipient_view all.now) }
 {
     make_room(copies, all.len())?;
     for recipient in all {
@@ -366,7 +366,7 @@ fn copy_recipients(all: &[CoseRecipient], copies: &mut Vec<CoseRecipient>) -> Re
 /// Copies a recipient into another.
 #[cycle(copy)]
 fn copy_recipient(recipient: &CoseRecipient, copy: &mut CoseRecipient) -> Result<(), AllocError>
-    ensures { OnOk result (recipient_seen copy.new ≡ recipient_seen recipient.now) }
+    ensures { OnOk result (recipient_view copy.new ≡ recipient_view recipient.now) }
 {
     copy_protected(&recipient.protected, &mut copy.protected)?;
     copy_header(&recipient.unprotected, &mut copy.unprotected)?;
@@ -376,8 +376,8 @@ fn copy_recipient(recipient: &CoseRecipient, copy: &mut CoseRecipient) -> Result
 
 #[cycle(same)]
 fn same_recipients(all: &[CoseRecipient], others: &[CoseRecipient]) -> bool
-    ensures { result ≡ recipients_eq (recipients_of (map recipient_seen all.now))
-        (recipients_of (map recipient_seen others.now)) }
+    ensures { result ≡ recipients_eq (recipients_of (map recipient_view all.now))
+        (recipients_of (map recipient_view others.now)) }
 {
     if all.len() != others.len() {
         return false;
@@ -392,7 +392,7 @@ fn same_recipients(all: &[CoseRecipient], others: &[CoseRecipient]) -> bool
 
 #[cycle(same)]
 fn same_recipient(a: &CoseRecipient, b: &CoseRecipient) -> bool
-    ensures { result ≡ recipient_eq (recipient_seen a.now) (recipient_seen b.now) }
+    ensures { result ≡ recipient_eq (recipient_view a.now) (recipient_view b.now) }
 {
     a.protected == b.protected
         && a.unprotected == b.unprotected
@@ -404,7 +404,7 @@ fn same_recipient(a: &CoseRecipient, b: &CoseRecipient) -> bool
 pub(crate) fn copy_recipient_list(
     all: &Vec<CoseRecipient>,
 ) -> Result<Vec<CoseRecipient>, AllocError>
-    ensures { IfOk result (λ c. map recipient_seen c.items ≡ map recipient_seen all.now.items) }
+    ensures { IfOk result (λ c. map recipient_view c.items ≡ map recipient_view all.now.items) }
 {
     Ok(Clone::clone(all)?)
 }
@@ -424,7 +424,7 @@ fn is_of_recipient(context: EncryptionContext) -> bool
 impl CoseRecipient {
     /// An empty recipient: empty headers, no ciphertext, no recipients. It takes no memory.
     pub fn new(alloc: Global) -> CoseRecipient
-        ensures { recipient_seen result ≡ empty_recipient }
+        ensures { recipient_view result ≡ empty_recipient }
     {
         CoseRecipient {
             protected: ProtectedHeader::new(alloc),
@@ -447,7 +447,7 @@ impl CoseRecipient {
         context: EncryptionContext,
         external_aad: &[u8],
     ) -> Result<Vec<u8>>
-        ensures { Writes (recipient_structure context (recipient_seen self.now)
+        ensures { Writes (recipient_structure context (recipient_view self.now)
             external_aad.now) (λ b. b.items) result }
     {
         enc_structure_of(alloc, context, &self.protected, external_aad)
@@ -455,8 +455,8 @@ impl CoseRecipient {
 
     /// The ciphertext, which the recipient carries.
     fn carried(&self) -> &[u8]
-        requires { (recipient_seen self.now).ciphertext ≢ None }
-        ensures { (recipient_seen self.now).ciphertext ≡ Some result.now }
+        requires { (recipient_view self.now).ciphertext ≢ None }
+        ensures { (recipient_view self.now).ciphertext ≡ Some result.now }
     {
         match &self.ciphertext {
             Some(ciphertext) => ciphertext,
@@ -485,20 +485,20 @@ impl CoseRecipient {
         E: Drop,
         requires callable { F.IsAlwaysCallable cipher }
         requires context { IsOfRecipient context }
-        requires carried { (recipient_seen self.now).ciphertext ≢ None }
-        ensures { IfSome (recipient_seen self.now).ciphertext (λ c. AsksAbout F.FnOnce cipher c
-            (recipient_structure context (recipient_seen self.now) external_aad.now) result) }
+        requires carried { (recipient_view self.now).ciphertext ≢ None }
+        ensures { IfSome (recipient_view self.now).ciphertext (λ c. AsksAbout F.FnOnce cipher c
+            (recipient_structure context (recipient_view self.now) external_aad.now) result) }
     {
         prove!(is_of_recipient(context));
         let structure = self.aad(alloc, context, external_aad);
-        ask(self.carried(), structure, cipher)
+        verify_with(self.carried(), structure, cipher)
     }
 
     /// The same as [`CoseRecipient::decrypt`], whether the recipient has a ciphertext or not: where it has none,
     /// `missing` is called for the error, and `cipher` isn't.
     ///
     /// # Errors
-    /// The same as [`CoseRecipient::decrypt`]; or `Caller` with what `missing` answers.
+    /// The same as [`CoseRecipient::decrypt`]; or `Caller` with what `missing` returns.
     pub fn decrypt_ciphertext<F, E, M>(
         &self,
         alloc: Global,
@@ -513,17 +513,17 @@ impl CoseRecipient {
         M: FnOnce() -> E + Drop,
         requires callable { F.IsAlwaysCallable cipher }
         requires missing_callable { M.IsAlwaysCallable missing }
-        requires context { (recipient_seen self.now).ciphertext ≢ None → IsOfRecipient context }
+        requires context { (recipient_view self.now).ciphertext ≢ None → IsOfRecipient context }
         ensures { AsksWherePresent F.FnOnce cipher M.FnOnce missing
-            (recipient_seen self.now).ciphertext (λ c. c) (λ _. recipient_structure context
-            (recipient_seen self.now) external_aad.now) result }
+            (recipient_view self.now).ciphertext (λ c. c) (λ _. recipient_structure context
+            (recipient_view self.now) external_aad.now) result }
     {
         let Some(ciphertext) = &self.ciphertext else {
             return Err(CallError::Caller(missing()));
         };
         prove!(is_of_recipient(context));
         let structure = self.aad(alloc, context, external_aad);
-        ask(ciphertext, structure, cipher)
+        verify_with(ciphertext, structure, cipher)
     }
 
     /// A recipient that equals this one, with the same bytes kept.
@@ -531,7 +531,7 @@ impl CoseRecipient {
     /// # Errors
     /// `OutOfMemory` alone.
     pub fn clone(&self) -> Result<CoseRecipient>
-        ensures copy { IfOk result (λ r. recipient_seen r ≡ recipient_seen self.now) }
+        ensures copy { IfOk result (λ r. recipient_view r ≡ recipient_view self.now) }
         ensures memory { IfErr result (λ e. e ≡ OutOfMemory) }
     {
         Ok(Clone::clone(self)?)
@@ -540,7 +540,7 @@ impl CoseRecipient {
 
 /// The same as [`CoseRecipient::clone`], for generic code.
 impl Clone for CoseRecipient {
-    ghost is_clone = { λ recipient copy. recipient_seen copy ≡ recipient_seen recipient };
+    ghost is_clone = { λ recipient copy. recipient_view copy ≡ recipient_view recipient };
 
     fn clone(&self) -> Result<CoseRecipient, AllocError> {
         let mut copy = CoseRecipient::new(*self.recipients.allocator());
@@ -551,40 +551,40 @@ impl Clone for CoseRecipient {
 
 /// Equality of every field, the bytes that were kept of the protected headers included.
 impl PartialEq for CoseRecipient {
-    ghost eq = { on recipient_seen recipient_eq };
+    ghost eq = { on recipient_view recipient_eq };
 
-    ghost laws = { on_per recipient_seen (partial_equiv_from_equiv recipient_eq_equiv) };
+    ghost laws = { on_per recipient_view (partial_equiv_from_equiv recipient_eq_equiv) };
 
     fn eq(&self, other: &CoseRecipient) -> bool
         ensures answers { result
-            ≡ recipient_eq (recipient_seen self.now) (recipient_seen other.now) }
+            ≡ recipient_eq (recipient_view self.now) (recipient_view other.now) }
         ensures equal { IsTrue result
-            ↔ (recipient_seen self.now ≡ recipient_seen other.now) }
+            ↔ (recipient_view self.now ≡ recipient_view other.now) }
     {
         same_recipient(self, other)
     }
 }
 
 impl Eq for CoseRecipient {
-    ghost laws = { on_equiv recipient_seen recipient_eq_equiv };
+    ghost laws = { on_equiv recipient_view recipient_eq_equiv };
 }
 
 impl Codec for CoseRecipient {
-    ghost use Rattle.coset_recipient.specs.RecipientSame.{recipient_told};
-    ghost use Rattle.coset_recipient.specs.Recipient.{RecipientSeen};
+    ghost use Rattle.coset_recipient.specs.RecipientSame.{recipient_decides};
+    ghost use Rattle.coset_recipient.specs.Recipient.{RecipientView};
     ghost use Rattle.coset_recipient.specs.RecipientLaws.{recipient_laws};
 
-    ghost Seen = { RecipientSeen };
+    ghost View = { RecipientView };
 
-    ghost seen = { recipient_seen };
+    ghost view = { recipient_view };
 
     ghost shape = { recipient_shape };
 
     ghost laws = { recipient_laws };
 
-    ghost equal = { recipient_told };
+    ghost equal = { recipient_decides };
 
-    fn read(alloc: Global, input: &mut Input<'_>) -> Result<CoseRecipient> {
+    fn read(alloc: Global, input: &mut Decoder<'_>) -> Result<CoseRecipient> {
         let mut recipient = CoseRecipient::new(alloc);
         let mut error = CoseError::OutOfMemory;
         if let Err(ErrorStored) = fill_recipient(&mut recipient, alloc, input, &mut error) {
@@ -595,10 +595,10 @@ impl Codec for CoseRecipient {
     }
 
     fn size_hint(&self) -> usize {
-        Bstr(&self.protected)
-            .room()
-            .saturating_add(self.unprotected.room())
-            .saturating_add(self.ciphertext.room())
+        ProtectedRef(&self.protected)
+            .encoded_size_hint()
+            .saturating_add(self.unprotected.encoded_size_hint())
+            .saturating_add(self.ciphertext.encoded_size_hint())
     }
 
     fn write(&self, alloc: Global, out: &mut Vec<u8>) -> Result<()> {
@@ -628,7 +628,7 @@ impl Model for CoseRecipientBuilder {
 impl CoseRecipientBuilder {
     /// An empty recipient. It takes no memory.
     pub fn new(alloc: Global) -> CoseRecipientBuilder
-        ensures { recipient_seen result ≡ empty_recipient }
+        ensures { recipient_view result ≡ empty_recipient }
     {
         CoseRecipientBuilder(CoseRecipient::new(alloc))
     }
@@ -642,8 +642,8 @@ impl CoseRecipientBuilder {
 
     /// Sets the protected header: one that was made, and not read, so that it has no bytes of its own yet.
     pub fn protected(mut self, header: Header) -> CoseRecipientBuilder
-        ensures { recipient_seen result ≡ record
-            (recipient_seen self) { protected = unread (header_seen header) } }
+        ensures { recipient_view result ≡ record
+            (recipient_view self) { protected = unread (header_view header) } }
     {
         self.0.protected = ProtectedHeader {
             original_data: None,
@@ -654,8 +654,8 @@ impl CoseRecipientBuilder {
 
     /// Sets the unprotected header.
     pub fn unprotected(mut self, header: Header) -> CoseRecipientBuilder
-        ensures { recipient_seen result ≡ record
-            (recipient_seen self) { unprotected = header_seen header } }
+        ensures { recipient_view result ≡ record
+            (recipient_view self) { unprotected = header_view header } }
     {
         self.0.unprotected = header;
         self
@@ -663,8 +663,8 @@ impl CoseRecipientBuilder {
 
     /// Sets the ciphertext.
     pub fn ciphertext(mut self, ciphertext: Vec<u8>) -> CoseRecipientBuilder
-        ensures { recipient_seen result
-            ≡ with_ciphertext ciphertext.items (recipient_seen self) }
+        ensures { recipient_view result
+            ≡ with_ciphertext ciphertext.items (recipient_view self) }
     {
         self.0.ciphertext = Some(ciphertext);
         self
@@ -675,8 +675,8 @@ impl CoseRecipientBuilder {
     /// # Errors
     /// `OutOfMemory` alone.
     pub fn ciphertext_from(self, alloc: Global, ciphertext: &[u8]) -> Result<CoseRecipientBuilder>
-        ensures ok { IfOk result (λ b. recipient_seen b
-            ≡ with_ciphertext ciphertext.now (recipient_seen self)) }
+        ensures ok { IfOk result (λ b. recipient_view b
+            ≡ with_ciphertext ciphertext.now (recipient_view self)) }
         ensures memory { IfErr result (λ e. e ≡ OutOfMemory) }
     {
         Ok(self.ciphertext(Vec::from_slice(alloc, ciphertext)?))
@@ -687,8 +687,8 @@ impl CoseRecipientBuilder {
     /// # Errors
     /// `OutOfMemory` alone.
     pub fn add_recipient(mut self, recipient: CoseRecipient) -> Result<CoseRecipientBuilder>
-        ensures ok { IfOk result (λ b. recipient_seen b
-            ≡ and_recipient (recipient_seen recipient) (recipient_seen self)) }
+        ensures ok { IfOk result (λ b. recipient_view b
+            ≡ and_recipient (recipient_view recipient) (recipient_view self)) }
         ensures memory { IfErr result (λ e. e ≡ OutOfMemory) }
     {
         self.0.recipients.push(recipient)?;
@@ -715,8 +715,8 @@ impl CoseRecipientBuilder {
         requires callable { F.IsAlwaysCallable cipher }
         requires context { IsOfRecipient context }
         ensures { CreatesOf F.FnOnce cipher plaintext.now
-            (recipient_structure context (recipient_seen self) external_aad.now) (λ c b.
-            recipient_seen b ≡ with_ciphertext c.items (recipient_seen self)) result }
+            (recipient_structure context (recipient_view self) external_aad.now) (λ c b.
+            recipient_view b ≡ with_ciphertext c.items (recipient_view self)) result }
     {
         prove!(is_of_recipient(context));
         let structure = self.0.aad(alloc, context, external_aad)?;
@@ -741,12 +741,12 @@ impl CoseRecipientBuilder {
         requires callable { F.IsAlwaysCallable cipher }
         requires context { IsOfRecipient context }
         ensures { TriesToCreateOf F.FnOnce cipher plaintext.now
-            (recipient_structure context (recipient_seen self) external_aad.now) (λ c b.
-            recipient_seen b ≡ with_ciphertext c.items (recipient_seen self)) result }
+            (recipient_structure context (recipient_view self) external_aad.now) (λ c b.
+            recipient_view b ≡ with_ciphertext c.items (recipient_view self)) result }
     {
         prove!(is_of_recipient(context));
         let structure = self.0.aad(alloc, context, external_aad);
-        let ciphertext = ask(plaintext, structure, cipher)?;
+        let ciphertext = verify_with(plaintext, structure, cipher)?;
         Ok(self.ciphertext(ciphertext))
     }
 }

@@ -6,29 +6,29 @@ use Rattle.coset_sample.specs.declared.reading.Mark.{Mark}
 use Rattle.coset_sample.specs.declared.reading.Reading.{Reading}
 
 -- a mark is its number
-abbrev pub mark_seen : Mark → ℤ
-mark_seen m = m.0
+abbrev pub mark_view : Mark → ℤ
+mark_view m = m.0
 
 -- a reading without its memory
-pub record Seen : Type 0 where
+pub record View : Type 0 where
   pub number : ℤ
   pub payload : Option (List ℕ)
   pub marks : List ℤ
 
-abbrev pub seen : Reading → Seen
-seen r = record { number = r.number; payload = option_map (λ b. b.items) r.payload; marks = map mark_seen r.marks.items }
+abbrev pub view : Reading → View
+view r = record { number = r.number; payload = option_map (λ b. b.items) r.payload; marks = map mark_view r.marks.items }
 
-abbrev pub of_parts : ℤ × (Option (List ℕ) × (List ℤ × Unit {0})) → Seen
+abbrev pub of_parts : ℤ × (Option (List ℕ) × (List ℤ × Unit {0})) → View
 of_parts p = record { number = p.0; payload = p.1.0; marks = p.1.1.0 }
 
-abbrev pub parts : Seen → ℤ × (Option (List ℕ) × (List ℤ × Unit {0}))
+abbrev pub parts : View → ℤ × (Option (List ℕ) × (List ℤ × Unit {0}))
 parts x = (x.number, (x.payload, (x.marks, tt)))
 
 -- [int, bstr / nil, [* int]]
-abbrev pub reading : Shape Seen
+abbrev pub reading : Shape View
 reading = mapped of_parts parts (array_of (int64 then or_nil bstr then list_of int64 then end))
 
-pub reading_laws : Lawful Seen reading
+pub reading_laws : Lawful View reading
 reading_laws =
     mapped_laws of_parts parts (λ x. refl) _
     (array_of_laws _

@@ -4,7 +4,7 @@ use Rattle.std.specs.Ordering.{int_eq}
 use Rattle.std.specs.Cmp.{signed_Decides}
 use Rattle.std.proofs.Common.{rules}
 use Rattle.coset_value.specs.Item.{Item, integer}
-use Rattle.coset_value.specs.View.{view}
+use Rattle.coset_value.specs.View.{value_item}
 use Rattle.coset_value.specs.declared.value.Value.{Value}
 use Rattle.coset_codec.specs.Errors.{IsUnexpected}
 use Rattle.coset_codec.specs.Shape.{Shape, mapped, such_that, int64, bstr}
@@ -16,21 +16,21 @@ use Rattle.coset_sample.specs.declared.settings.Settings.{Settings}
 use Rattle.coset_sample.specs.declared.settings.PartialSettings.{PartialSettings}
 
 -- a label is its number
-abbrev pub name_seen : Name → ℤ
-name_seen n = n.0
+abbrev pub name_view : Name → ℤ
+name_view n = n.0
 
-abbrev pub entry_seen : Name × Value → ℤ × Item
-entry_seen e = (name_seen e.0, view e.1)
+abbrev pub entry_view : Name × Value → ℤ × Item
+entry_view e = (name_view e.0, value_item e.1)
 
 -- settings without their memory
-pub record Seen : Type 0 where
+pub record View : Type 0 where
   pub level : ℤ
   pub name : Option (List ℕ)
   pub limit : Option ℤ
   pub rest : List (ℤ × Item)
 
-abbrev pub seen : Settings → Seen
-seen s = record { level = s.level; name = option_map (λ b. b.items) s.name; limit = s.limit; rest = map entry_seen s.rest.items }
+abbrev pub view : Settings → View
+view s = record { level = s.level; name = option_map (λ b. b.items) s.name; limit = s.limit; rest = map entry_view s.rest.items }
 
 -- every integer of 64 bits is a label
 abbrev pub names : Names ℤ
@@ -43,20 +43,20 @@ fields = field names (pos 1) (optional int64) (field names (pos 2) (optional bst
 abbrev Parts : Type 0
 Parts = (Option ℤ × (Option (List ℕ) × (Option ℤ × Unit {0}))) × List (ℤ × Item)
 
-abbrev pub so_far_seen : PartialSettings → Parts
-so_far_seen s = ((s.level, (option_map (λ b. b.items) s.name, (s.limit, tt))), map entry_seen s.rest.items)
+abbrev pub so_far_view : PartialSettings → Parts
+so_far_view s = ((s.level, (option_map (λ b. b.items) s.name, (s.limit, tt))), map entry_view s.rest.items)
 
-abbrev pub of_parts : Parts → Seen
+abbrev pub of_parts : Parts → View
 of_parts p = record { level = unwrap_or p.0.0 (pos 0); name = p.0.1.0; limit = p.0.1.1.0; rest = p.1 }
 
-abbrev pub parts : Seen → Parts
+abbrev pub parts : View → Parts
 parts x = ((Some x.level, (x.name, (x.limit, tt))), x.rest)
 
 abbrev pub HasLevel : Parts → Type 0
 HasLevel p = p.0.0 ≢ None
 
 -- {1 => int, ? 2 => bstr, ? 4 => int, * int => any}
-abbrev pub settings : Shape Seen
+abbrev pub settings : Shape View
 settings = mapped of_parts parts (such_that IsUnexpected HasLevel (labelled names fields))
 
 -- the laws
@@ -79,5 +79,5 @@ fields_laws =
     (field_laws names names_laws (pos 2) flat_two _ (optional_laws bstr bstr_laws) _
     (field_laws names names_laws (pos 4) flat_four _ (optional_laws int64 int64_laws) _ (no_field_laws names names_laws) refl) refl) refl
 
-pub settings_laws : Lawful Seen settings
+pub settings_laws : Lawful View settings
 settings_laws = mapped_laws of_parts parts (λ x. refl) _ (such_that_laws _ _ _ (labelled_laws names names_laws true fields fields_laws))

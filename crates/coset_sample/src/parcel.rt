@@ -4,10 +4,10 @@
 //! parcel = [ number : int, receiver : bstr, note : bstr / nil, marks : [* int] ]
 //! ```
 
-ghost use Rattle.coset_sample.specs.Parcel.{seen, parcel};
+ghost use Rattle.coset_sample.specs.Parcel.{view, parcel};
 
 use crate::reading::Mark;
-use coset_codec::read::{Input, decode_array};
+use coset_codec::read::{Decoder, decode_array};
 use coset_codec::write::{Array, Encode, encode_four};
 use coset_codec::{Codec, Result};
 use std::alloc::Global;
@@ -22,26 +22,26 @@ pub struct Parcel {
 }
 
 impl Codec for Parcel {
-    ghost use Rattle.coset_codec.specs.Told.{bstr_told, bytes_told, last_told, lists_told, part_told, parts_told};
+    ghost use Rattle.coset_codec.specs.EqDecides.{bstr_decides, vec_decides, last_told, lists_decides, part_told, parts_told};
     ghost use Rattle.std.specs.Cmp.{signed_Decides};
     ghost use Rattle.std.specs.Prelude.{refl};
-    ghost use Rattle.coset_sample.specs.Parcel.{Seen as ParcelSeen, of_parts, parcel_laws, parts};
-    ghost use Rattle.coset_sample.specs.Reading.{mark_seen};
+    ghost use Rattle.coset_sample.specs.Parcel.{View as ParcelView, of_parts, parcel_laws, parts};
+    ghost use Rattle.coset_sample.specs.Reading.{mark_view};
 
-    ghost Seen = { ParcelSeen };
+    ghost View = { ParcelView };
 
-    ghost seen = { seen };
+    ghost view = { view };
 
     ghost shape = { parcel };
 
     ghost laws = { parcel_laws };
 
     ghost equal = { λ a b. parts_told of_parts parts (λ x. refl)
-        (part_told (signed_Decides a.number b.number) (part_told (bytes_told a.receiver b.receiver)
-        (part_told (bstr_told a.note b.note) (last_told (lists_told mark_seen _
+        (part_told (signed_Decides a.number b.number) (part_told (vec_decides a.receiver b.receiver)
+        (part_told (bstr_decides a.note b.note) (last_told (lists_decides mark_view _
         (λ x y. signed_Decides x.0 y.0) a.marks.items b.marks.items))))) };
 
-    fn read(alloc: Global, input: &mut Input<'_>) -> Result<Parcel> {
+    fn read(alloc: Global, input: &mut Decoder<'_>) -> Result<Parcel> {
         match decode_array(alloc, input, "array with 4 items") {
             Ok((number, (receiver, (note, (marks, ()))))) => Ok(Parcel {
                 number,

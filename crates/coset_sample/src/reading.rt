@@ -3,9 +3,9 @@
 ghost use Rattle.std.specs.Prelude.{ℤ};
 ghost use Rattle.coset_codec.specs.Shape.{int64};
 ghost use Rattle.coset_codec.specs.ShapeLaws.{int64_laws};
-ghost use Rattle.coset_sample.specs.Reading.{mark_seen, seen, reading};
+ghost use Rattle.coset_sample.specs.Reading.{mark_view, view, reading};
 
-use coset_codec::read::{Input, decode_array};
+use coset_codec::read::{Decoder, decode_array};
 use coset_codec::write::{Array, Encode, encode_three};
 use coset_codec::{Codec, Result, TaggedCodec};
 use std::alloc::Global;
@@ -17,9 +17,9 @@ pub struct Mark(pub i64);
 impl Codec for Mark {
     ghost use Rattle.std.proofs.Common.{rules};
 
-    ghost Seen = { ℤ };
+    ghost View = { ℤ };
 
-    ghost seen = { mark_seen };
+    ghost view = { mark_view };
 
     ghost shape = { int64 };
 
@@ -27,7 +27,7 @@ impl Codec for Mark {
 
     ghost equal = { Prim.search rules };
 
-    fn read(_alloc: Global, input: &mut Input<'_>) -> Result<Mark> {
+    fn read(_alloc: Global, input: &mut Decoder<'_>) -> Result<Mark> {
         Ok(Mark(input.int64("int")?))
     }
 
@@ -48,25 +48,25 @@ pub struct Reading {
 }
 
 impl Codec for Reading {
-    ghost use Rattle.coset_codec.specs.Told.{bstr_told, last_told, lists_told, part_told, parts_told};
+    ghost use Rattle.coset_codec.specs.EqDecides.{bstr_decides, last_told, lists_decides, part_told, parts_told};
     ghost use Rattle.std.specs.Cmp.{signed_Decides};
     ghost use Rattle.std.specs.Prelude.{refl};
-    ghost use Rattle.coset_sample.specs.Reading.{Seen as ReadingSeen, of_parts, parts, reading_laws};
+    ghost use Rattle.coset_sample.specs.Reading.{View as ReadingView, of_parts, parts, reading_laws};
 
-    ghost Seen = { ReadingSeen };
+    ghost View = { ReadingView };
 
-    ghost seen = { seen };
+    ghost view = { view };
 
     ghost shape = { reading };
 
     ghost laws = { reading_laws };
 
     ghost equal = { λ a b. parts_told of_parts parts (λ x. refl)
-        (part_told (signed_Decides a.number b.number) (part_told (bstr_told a.payload b.payload)
-        (last_told (lists_told mark_seen _ (λ x y. signed_Decides x.0 y.0)
+        (part_told (signed_Decides a.number b.number) (part_told (bstr_decides a.payload b.payload)
+        (last_told (lists_decides mark_view _ (λ x y. signed_Decides x.0 y.0)
         a.marks.items b.marks.items)))) };
 
-    fn read(alloc: Global, input: &mut Input<'_>) -> Result<Reading> {
+    fn read(alloc: Global, input: &mut Decoder<'_>) -> Result<Reading> {
         match decode_array(alloc, input, "array with 3 items") {
             Ok((number, (payload, (marks, ())))) => Ok(Reading {
                 number,

@@ -8,12 +8,12 @@
 ghost use Rattle.std.specs.Prelude.{◌≤◌, OnOk};
 ghost use Rattle.coset_codec.specs.Answers.{Reads};
 ghost use Rattle.coset_codec.specs.Inputs.{GoesBehind, ReadsAt, length_left, state};
-ghost use Rattle.coset_sample.specs.Report.{seen, report};
+ghost use Rattle.coset_sample.specs.Report.{view, report};
 
 use crate::reading::Reading;
 use coset_cbor::de::Pull;
 use coset_cbor::value::Value;
-use coset_codec::read::{Input, decode_array};
+use coset_codec::read::{Decoder, decode_array};
 use coset_codec::traits::FromPull;
 use coset_codec::write::{Array, Encode, encode_to_value, encode_two};
 use coset_codec::{
@@ -31,10 +31,10 @@ pub struct Report {
 }
 
 /// Reads the elements from the first to the last, and names the fault of the last that has one.
-fn read_report(alloc: Global, input: &mut Input<'_>) -> Result<Report>
+fn read_report(alloc: Global, input: &mut Decoder<'_>) -> Result<Report>
     ensures shrinks { length_left (state input.new) ≤ length_left (state input.old) }
     ensures strictly { OnOk result (GoesBehind (state input.old) (state input.new)) }
-    ensures reads { ReadsAt (state input.old) (state input.new) (λ v. Reads report seen v result) }
+    ensures reads { ReadsAt (state input.old) (state input.new) (λ v. Reads report view v result) }
 {
     match decode_array(alloc, input, "array with 2 items") {
         Ok((sender, (readings, ()))) => Ok(Report { sender, readings }),
@@ -43,11 +43,11 @@ fn read_report(alloc: Global, input: &mut Input<'_>) -> Result<Report>
 }
 
 impl AsCborValue for Report {
-    ghost use Rattle.coset_sample.specs.Report.{Seen as ReportSeen, report_laws};
+    ghost use Rattle.coset_sample.specs.Report.{View as ReportView, report_laws};
 
-    ghost Seen = { ReportSeen };
+    ghost View = { ReportView };
 
-    ghost seen = { seen };
+    ghost view = { view };
 
     ghost shape = { report };
 
@@ -56,7 +56,7 @@ impl AsCborValue for Report {
     ghost sound = { report_laws.sound };
 
     fn from_cbor_value(alloc: Global, value: Value) -> Result<Report> {
-        read_report(alloc, &mut Input::Tree(value))
+        read_report(alloc, &mut Decoder::Tree(value))
     }
 
     fn to_cbor_value(self, alloc: Global) -> Result<Value> {
@@ -71,7 +71,7 @@ impl Lawful for Report {
 }
 
 impl Encode for Report {
-    ghost image = { λ r. report.image (seen r) };
+    ghost image = { λ r. report.image (view r) };
 
     fn encode(&self, alloc: Global, out: &mut Vec<u8>) -> Result<()> {
         encode_two(alloc, &self.sender, &Array(&self.readings), out)
@@ -80,10 +80,10 @@ impl Encode for Report {
 
 impl FromPull for Report {
     fn from_pull(alloc: Global, pull: Pull<'_>) -> Result<Report> {
-        read_report(alloc, &mut Input::new(ItemSource::Lent(pull)))
+        read_report(alloc, &mut Decoder::new(ItemSource::Lent(pull)))
     }
 
-    fn from_input(alloc: Global, input: &mut Input<'_>) -> Result<Report> {
+    fn from_input(alloc: Global, input: &mut Decoder<'_>) -> Result<Report> {
         read_report(alloc, input)
     }
 }

@@ -10,10 +10,10 @@ ghost use Rattle.coset_codec.specs.declared.error.CoseError.TheVariants.{OutOfMe
 ghost use Rattle.coset_codec.specs.Maps.{are_distinct};
 ghost use Rattle.coset_codec.specs.Shape.{int64};
 ghost use Rattle.coset_codec.specs.ShapeLaws.{int64_laws};
-ghost use Rattle.coset_sample.specs.Settings.{name_seen, names, seen, settings, so_far_seen};
+ghost use Rattle.coset_sample.specs.Settings.{name_view, names, view, settings, so_far_view};
 
 use coset_cbor::value::Value;
-use coset_codec::read::{Gather, Input, InputPairs, read_map, set_field};
+use coset_codec::read::{Decoder, MapEntries, MapVisitor, read_map, set_field};
 use coset_codec::write::{Encode, write_field, write_optional, write_pairs_head, write_rest};
 use coset_codec::{Codec, CoseError, Result, TaggedCodec, has_repeats};
 use std::alloc::Global;
@@ -25,9 +25,9 @@ pub struct Name(pub i64);
 impl Codec for Name {
     ghost use Rattle.std.proofs.Common.{rules};
 
-    ghost Seen = { ℤ };
+    ghost View = { ℤ };
 
-    ghost seen = { name_seen };
+    ghost view = { name_view };
 
     ghost shape = { int64 };
 
@@ -35,7 +35,7 @@ impl Codec for Name {
 
     ghost equal = { Prim.search rules };
 
-    fn read(_alloc: Global, input: &mut Input<'_>) -> Result<Name> {
+    fn read(_alloc: Global, input: &mut Decoder<'_>) -> Result<Name> {
         Ok(Name(input.int64("int")?))
     }
 
@@ -66,7 +66,7 @@ struct PartialSettings {
     rest: Vec<(Name, Value)>,
 }
 
-impl Gather for PartialSettings {
+impl MapVisitor for PartialSettings {
     type Label = Name;
 
     ghost use Rattle.coset_sample.specs.Settings.{fields, names_laws, fields_laws};
@@ -80,9 +80,9 @@ impl Gather for PartialSettings {
 
     ghost fields = { fields };
 
-    ghost named = { name_seen };
+    ghost named = { name_view };
 
-    ghost seen = { so_far_seen };
+    ghost view = { so_far_view };
 
     ghost lawful_names = { names_laws };
 
@@ -90,13 +90,13 @@ impl Gather for PartialSettings {
 
     fn next_label(
         alloc: Global,
-        pairs: &mut InputPairs,
-        input: &mut Input<'_>,
+        pairs: &mut MapEntries,
+        input: &mut Decoder<'_>,
     ) -> Result<Option<Name>> {
         pairs.next_key(alloc, input)
     }
 
-    fn add(&mut self, alloc: Global, label: Name, input: &mut Input<'_>) -> Result<()> {
+    fn add(&mut self, alloc: Global, label: Name, input: &mut Decoder<'_>) -> Result<()> {
         if label.0 == 1 {
             return set_field(alloc, &mut self.level, input);
         }
@@ -113,7 +113,7 @@ impl Gather for PartialSettings {
 
     fn repeats(&self, alloc: Global) -> Result<bool>
         ensures repeats { IfOk result (λ b. b ≡ not
-            (are_distinct names.same (keys_of (so_far_seen self.now).1))) }
+            (are_distinct names.same (keys_of (so_far_view self.now).1))) }
         ensures memory { IfErr result (λ e. e ≡ OutOfMemory) }
     {
         has_repeats(alloc, &self.rest)
@@ -125,14 +125,14 @@ impl Codec for Settings {
     ghost use Rattle.std.specs.Cmp.{signed_Decides};
     ghost use Rattle.std.specs.Prelude.{refl};
     ghost use Rattle.coset_value.specs.SameLaws.{item_eq-decides};
-    ghost use Rattle.coset_value.specs.View.{view};
-    ghost use Rattle.coset_codec.specs.Told.{bstr_told, lists_told, part_told, parts_told};
-    ghost use Rattle.coset_sample.specs.Settings.{entry_seen};
-    ghost use Rattle.coset_sample.specs.Settings.{Seen as SettingsSeen, settings_laws};
+    ghost use Rattle.coset_value.specs.View.{value_item};
+    ghost use Rattle.coset_codec.specs.EqDecides.{bstr_decides, lists_decides, part_told, parts_told};
+    ghost use Rattle.coset_sample.specs.Settings.{entry_view};
+    ghost use Rattle.coset_sample.specs.Settings.{View as SettingsView, settings_laws};
 
-    ghost Seen = { SettingsSeen };
+    ghost View = { SettingsView };
 
-    ghost seen = { seen };
+    ghost view = { view };
 
     ghost shape = { settings };
 
@@ -141,12 +141,13 @@ impl Codec for Settings {
     ghost equal = { λ a b. parts_told
         (λ p. record { level = p.0; name = p.1.0; limit = p.1.1.0; rest = p.1.1.1 })
         (λ x. (x.level, (x.name, (x.limit, x.rest)))) (λ x. refl)
-        (part_told (signed_Decides a.level b.level) (part_told (bstr_told a.name b.name)
-        (part_told (Prim.search rules) (lists_told entry_seen _
-        (λ x y. part_told (signed_Decides x.0.0 y.0.0) (item_eq-decides (view x.1) (view y.1)))
+        (part_told (signed_Decides a.level b.level) (part_told (bstr_decides a.name b.name)
+        (part_told (Prim.search rules) (lists_decides entry_view _
+        (λ x y. part_told (signed_Decides x.0.0 y.0.0) (item_eq-decides (value_item x.1)
+        (value_item y.1)))
         a.rest.items b.rest.items)))) };
 
-    fn read(alloc: Global, input: &mut Input<'_>) -> Result<Settings> {
+    fn read(alloc: Global, input: &mut Decoder<'_>) -> Result<Settings> {
         let mut so_far = PartialSettings {
             level: None,
             name: None,

@@ -102,17 +102,17 @@ pub(crate) fn twice(value: Value) -> std::result::Result<u8, u8> {
 
 /// The array of these numbers, converted.
 fn converted(alloc: Global, numbers: &[u8]) -> std::result::Result<Vec<u8>, CallError<u8>> {
-    let mut members = Vec::new(alloc);
+    let mut elements = Vec::new(alloc);
     for n in numbers {
-        if members.push(Value::from(*n)).is_err() {
+        if elements.push(Value::from(*n)).is_err() {
             return Err(CallError::Coset(CoseError::OutOfMemory));
         }
     }
-    Value::Array(members).try_as_array_then_convert(alloc, twice)
+    Value::Array(elements).try_as_array_then_convert(alloc, twice)
 }
 
 #[test]
-fn converts_members(rt: HostRuntime) -> std::result::Result<(), Fail> {
+fn converts_elements(rt: HostRuntime) -> std::result::Result<(), Fail> {
     let alloc = rt.alloc();
     assert!(rt;
         matches!(converted(alloc, &[1, 2, 30]), Ok(all) if all.as_slice() == [2u8, 4, 60].as_slice())
@@ -130,7 +130,7 @@ fn converts_members(rt: HostRuntime) -> std::result::Result<(), Fail> {
 }
 
 #[test]
-fn writes_members(rt: HostRuntime) -> std::result::Result<(), Fail> {
+fn writes_elements(rt: HostRuntime) -> std::result::Result<(), Fail> {
     let alloc = rt.alloc();
     let mut marks = Vec::new(alloc);
     marks.push(Mark(5))?;

@@ -1,4 +1,4 @@
-//! The tests of `coset_sample`: types of a caller's own, what they read, write and refuse. They stand apart from it, since a
+//! The tests of `coset_sample`: types of a caller's own, what they read, write and refuse. They are apart from it, since a
 //! crate with tests is proved twice.
 #![tactic(auto)]
 

@@ -1,5 +1,5 @@
 //! Readings, reports, settings, repeated labels and arrays while requests for memory are refused: the address space is filled,
-//! and then calls are made with ever more of it left. Each answers that memory is out, or what it answers with ample
+//! and then calls are made with ever more of it left. Each answers that memory is out, or what it returns with ample
 //! memory, and each does both at some turn.
 
 use crate::kinds::twice;
@@ -23,7 +23,7 @@ const STEP: usize = 64;
 
 const TURNS: usize = 800;
 
-/// Blocks that together hold all the memory that is left, so that every request is refused while they stand.
+/// Blocks that together hold all the memory that is left, so that every request is refused while they are.
 fn fill(alloc: Global) -> std::result::Result<Vec<Vec<u8>>, AllocError> {
     let mut held: Vec<Vec<u8>> = Vec::with_capacity(alloc, 200_000)?;
     let mut size = 1usize << 40;
@@ -56,7 +56,7 @@ const READING: [u8; 8] = *b"\x83\x05\x42\x01\x02\x82\x01\x20";
 /// How many calls there are.
 const CALLS: usize = 7;
 
-/// Whether a call answers what it answers with ample memory.
+/// Whether a call returns what it returns with ample memory.
 fn is_answered(alloc: Global, labels: &[(Name, Value)], call: usize) -> Result<bool> {
     match call {
         0 => Ok(Settings::from_slice(alloc, &SETTINGS)?.rest.len() == 1),
@@ -83,11 +83,11 @@ fn is_answered(alloc: Global, labels: &[(Name, Value)], call: usize) -> Result<b
 
 /// Whether an array of thirty times 7 is converted.
 fn is_converted(alloc: Global) -> Result<bool> {
-    let mut members = Vec::new(alloc);
+    let mut elements = Vec::new(alloc);
     for _ in 0..30u8 {
-        members.push(Value::from(7u8))?;
+        elements.push(Value::from(7u8))?;
     }
-    match Value::Array(members).try_as_array_then_convert(alloc, twice) {
+    match Value::Array(elements).try_as_array_then_convert(alloc, twice) {
         Ok(all) => Ok(all.as_slice() == [14u8; 30].as_slice()),
         Err(CallError::Coset(error)) => Err(error),
         Err(CallError::Caller(_)) => Ok(false),

@@ -1,4 +1,4 @@
--- From a refusal to what is answered.
+-- From a refusal to what is returned.
 use Rattle.std.proofs.Common.{◌≡◌, ℕ, List, Some, None, IfSome, refl, sym, ap, ◌∙◌, subst, inl, inr, cond, eqb}
 use Rattle.std.specs.Prelude.{Option, sum}
 use Rattle.std.specs.Io.KnownBytes.{Appends}
@@ -9,7 +9,7 @@ use Rattle.coset_show.specs.Refusal.{no_memory}
 use Rattle.coset_show.specs.Kind.{kind_name}
 use Rattle.coset_show.specs.Answer.{RefusesInput, AnswersInput, refusal_line}
 
--- this kind where the name is its own, else another: names are told apart by their sums
+-- this kind where the name is its own, else another: names are distinguished by their sums
 abbrev this_or : List ℕ → Kind → Kind → Kind
 this_or name k other = cond (eqb (sum name) (sum (kind_name k))) k other
 

@@ -7,11 +7,11 @@ use Rattle.coset.specs.CoseError.TheVariants.{OutOfMemory}
 use Rattle.coset.specs.Errors.{UnlessMemory}
 use Rattle.coset.specs.Shape.{Shape, FirstDescribes}
 use Rattle.coset.specs.Answers.{Describes, SliceFaults, DescribesNothing}
-use Rattle.coset.specs.Headers.{ProtectedSeen, is_empty_header, header_image, layered_protected, protected, protected_bytes}
+use Rattle.coset.specs.Headers.{ProtectedView, is_empty_header, header_image, layered_protected, protected, protected_bytes}
 use Rattle.coset.specs.Serialized.{content_bytes}
 use Rattle.coset.specs.SignatureStructure.{signature_structure}
 use Rattle.coset.specs.SignatureContext.TheVariants.{CoseSign1}
-use Rattle.coset.specs.Sign1.{Sign1Seen, sign1, sign1_carried, sign1_fields}
+use Rattle.coset.specs.Sign1.{Sign1View, sign1, sign1_carried, sign1_fields}
 use Rattle.coset.specs.Signed.{or_empty}
 use Rattle.coset_show.specs.declared.refusal.Refusal.{Refusal}
 use Rattle.coset_show.specs.declared.refusal.Refusal.TheVariants.{Cose}
@@ -25,7 +25,7 @@ pub passed_on : {T A : Type 0} (shape : Shape A) (b : List ℕ) (e : CoseError) 
 passed_on shape b e (Ok x) P h f = absurd h
 passed_on shape b e (Err x) P h f = subst (RefusesType shape b) (sym h) f
 
--- an error that tells of a fault in bytes that describe nothing
+-- an error that names a fault in bytes that describe nothing
 pub refuses_read : {A : Type 0} (shape : Shape A) (b : List ℕ) (e : CoseError) → UnlessMemory e (SliceFaults shape b)
     → UnlessMemory e (λ _. DescribesNothing shape b) → RefusesType shape b (Cose e)
 refuses_read shape b e faults none = λ n. (faults n, none n)
@@ -46,12 +46,12 @@ first_of r rs no_items x p = absurd p
 first_of r rs (item v vs) x p = (v, p.0)
 
 -- a protected header that was read has kept its bytes
-read_keeps : (v : Item) (p : ProtectedSeen) → protected.describes v p → (b : List ℕ) × (protected_bytes p ≡ Some b)
+read_keeps : (v : Item) (p : ProtectedView) → protected.describes v p → (b : List ℕ) × (protected_bytes p ≡ Some b)
 unfolding layered_protected
 read_keeps v p d = (d.0, ap (λ o. content_bytes is_empty_header header_image o p.header) d.2)
 
 -- so there is something to sign of a message that was read
-pub read_is_signed : (v : Item) (m : Sign1Seen) → sign1.describes v m → (i : Item) × (sign1_carried m [] ≡ Some i)
+pub read_is_signed : (v : Item) (m : Sign1View) → sign1.describes v m → (i : Item) × (sign1_carried m [] ≡ Some i)
 read_is_signed v m d =
     let header = first_of protected.describes _ d.0 (sign1_fields m) d.2 in
     let bytes = read_keeps header.0 m.protected header.1 in

@@ -1,4 +1,4 @@
--- What the program answers.
+-- What the program returns.
 use Rattle.std.specs.Prelude.{◌≡◌, ◌⊎◌, ◌||◌, ◌==◌, not, ℕ, Bool, List, ◌++◌, filter, codes, Ok}
 use Rattle.hex.specs.Hex.{decode_of}
 use Rattle.coset.specs.CoseError.TheVariants.{OutOfMemory}
@@ -34,7 +34,7 @@ RefusesInput kind input refusal = RefusesHexadecimal input refusal ⊎ ((b : Lis
 abbrev pub ShowsInput : Kind → List ℕ → List ℕ → Type 0
 ShowsInput kind input lines = (b : List ℕ) × Spells input b × ShowsBytes kind b lines
 
--- the line that tells of a refusal
+-- the line for a refusal
 abbrev pub refusal_line : Refusal → List ℕ
 refusal_line refusal = line (codes "error: " ++ refusal_text refusal)
 

@@ -9,7 +9,7 @@ use Rattle.coset_show.specs.declared.kind.Kind.TheVariants.{Value, Sign1, Sign, 
 use Rattle.coset_show.specs.declared.refusal.Refusal.{Refusal}
 use Rattle.coset_show.specs.Show.{ShowsType, RefusesType, ShowsSign1, sign1_in, sign_in, mac_in, mac0_in, encrypt_in, encrypt0_in, countersignature_in}
 
--- the name of a kind, as the program is told it
+-- the name of a kind, as the program is given it
 abbrev pub kind_name : Kind → List ℕ
 kind_name Value = codes "value"
 kind_name Sign1 = codes "sign1"

@@ -8,13 +8,13 @@ use Rattle.coset.specs.CoseError.TheVariants.{OutOfMemory}
 use Rattle.coset.specs.Answers.{Describes, SliceFaults, DescribesNothing}
 use Rattle.coset.specs.Errors.{UnlessMemory}
 use Rattle.coset.specs.Shape.{Shape, tagged}
-use Rattle.coset.specs.Headers.{SignatureSeen, signature}
-use Rattle.coset.specs.Sign1.{Sign1Seen, sign1, sign1_carried}
-use Rattle.coset.specs.Sign.{SignSeen, sign}
-use Rattle.coset.specs.Mac.{MacSeen, mac}
-use Rattle.coset.specs.Mac0.{Mac0Seen, mac0}
-use Rattle.coset.specs.Encrypt.{EncryptSeen, encrypt}
-use Rattle.coset.specs.Encrypt0.{Encrypt0Seen, encrypt0}
+use Rattle.coset.specs.Headers.{SignatureView, signature}
+use Rattle.coset.specs.Sign1.{Sign1View, sign1, sign1_carried}
+use Rattle.coset.specs.Sign.{SignView, sign}
+use Rattle.coset.specs.Mac.{MacView, mac}
+use Rattle.coset.specs.Mac0.{Mac0View, mac0}
+use Rattle.coset.specs.Encrypt.{EncryptView, encrypt}
+use Rattle.coset.specs.Encrypt0.{Encrypt0View, encrypt0}
 use Rattle.coset_show.specs.declared.refusal.Refusal.{Refusal}
 use Rattle.coset_show.specs.declared.refusal.Refusal.TheVariants.{Unreadable, NotHexadecimal, Cose}
 
@@ -36,7 +36,7 @@ pub record ShowsType {A : Type 0} (shape : Shape A) (b lines : List ℕ) : Type 
   pub described : Describes shape b value
   pub is_line : IsLineOf (shape.image value) lines
 
--- the error tells of a fault that stands in b, and b describes no value; or memory ran out
+-- the error names a fault that is in b, and b describes no value; or memory ran out
 abbrev pub RefusesType : {A : Type 0} → Shape A → List ℕ → Refusal → Type 0
 RefusesType shape b (Cose error) = UnlessMemory error (λ e. SliceFaults shape b e × DescribesNothing shape b)
 RefusesType shape b Unreadable = ⊥
@@ -58,31 +58,31 @@ abbrev pub message_in : {A : Type 0} → List ℕ → ℕ → Shape A → Shape 
 message_in b number s = tagged_if (is_tagged b) number s
 
 -- the message that bytes describe, by its tag
-abbrev pub sign1_in : List ℕ → Shape Sign1Seen
+abbrev pub sign1_in : List ℕ → Shape Sign1View
 sign1_in b = message_in b 18 sign1
 
-abbrev pub sign_in : List ℕ → Shape SignSeen
+abbrev pub sign_in : List ℕ → Shape SignView
 sign_in b = message_in b 98 sign
 
-abbrev pub mac_in : List ℕ → Shape MacSeen
+abbrev pub mac_in : List ℕ → Shape MacView
 mac_in b = message_in b 97 mac
 
-abbrev pub mac0_in : List ℕ → Shape Mac0Seen
+abbrev pub mac0_in : List ℕ → Shape Mac0View
 mac0_in b = message_in b 17 mac0
 
-abbrev pub encrypt_in : List ℕ → Shape EncryptSeen
+abbrev pub encrypt_in : List ℕ → Shape EncryptView
 encrypt_in b = message_in b 96 encrypt
 
-abbrev pub encrypt0_in : List ℕ → Shape Encrypt0Seen
+abbrev pub encrypt0_in : List ℕ → Shape Encrypt0View
 encrypt0_in b = message_in b 16 encrypt0
 
-abbrev pub countersignature_in : List ℕ → Shape SignatureSeen
+abbrev pub countersignature_in : List ℕ → Shape SignatureView
 countersignature_in b = message_in b 19 signature
 
 -- b describes a message; the first line is that of its item, and the second, behind `tbs `, that of what is signed where
 -- `external_aad` is empty
 pub record ShowsSign1 (b lines : List ℕ) : Type 0 where
-  pub message : Sign1Seen
+  pub message : Sign1View
   pub described : Describes (sign1_in b) b message
   pub first : List ℕ
   pub second : List ℕ

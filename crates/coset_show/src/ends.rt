@@ -1,7 +1,7 @@
-//! What the program reads from and writes to, and whether it is known not to fail. The program's own ends may fail, but its
-//! code is the same for all ends: what is promised of those that can't keeps it from telling of a failure that there wasn't.
+//! What the program reads from and writes to, and whether it is known not to fail. The program's own ends may fail; bytes in
+//! memory don't, and the code is the same for both.
 
-ghost use Rattle.std.specs.Prelude.{◌≡◌, Bool, false, IsTrue, IsOk, IfErr, OnOk};
+ghost use Rattle.std.specs.Prelude.{◌≡◌, Bool, true, false, IsTrue, IsOk, IfErr, OnOk};
 ghost use Rattle.std.specs.Io.{ReadsAtMost};
 ghost use Rattle.std.specs.Io.KnownBytes.{Appends, ReadConsumes};
 ghost use Rattle.std.specs.IoError.{error_kind};
@@ -14,7 +14,7 @@ pub trait Reader: Read {
     /// Whether it is known that no read fails.
     ghost is_sure: { Bool };
 
-    /// Reads once into the buffer, and answers how many bytes: none at the end of the input.
+    /// Reads once into the buffer, and returns how many bytes: none at the end of the input.
     ///
     /// # Errors
     /// Those of the reader.
@@ -23,6 +23,15 @@ pub trait Reader: Read {
         ensures bytes { ReadConsumes (Self.remaining self.old) (Self.remaining self.new) result
             buffer.new }
         ensures sure { IsTrue is_sure → IsOk result };
+}
+
+/// Bytes in memory.
+impl Reader for &[u8] {
+    ghost is_sure = { true };
+
+    fn read_once(&mut self, buffer: &mut [u8]) -> io::Result<usize> {
+        self.read(buffer)
+    }
 }
 
 impl Reader for Stdin {
@@ -46,6 +55,16 @@ pub trait Writer: Write {
         ensures bytes { OnOk result
             (Appends (Self.contents self.old) (Self.contents self.new) bytes.now) }
         ensures sure { IsTrue is_sure → IfErr result (λ e. error_kind e ≡ ErrorKind.OutOfMemory) };
+}
+
+/// Bytes in memory.
+impl Writer for Vec<u8> {
+    ghost is_sure = { true };
+
+    fn put(&mut self, bytes: &[u8]) -> io::Result<()> {
+        self.write(bytes)?;
+        Ok(())
+    }
 }
 
 impl Writer for Stdout {

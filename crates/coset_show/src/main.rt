@@ -6,11 +6,17 @@ ghost use Rattle.std.specs.Vec.Iter.{into_iter_items};
 ghost use Rattle.coset_show.specs.Arguments.{AreNameAnd, AreNoNameAndOne};
 
 mod ends;
+#[cfg(test)]
+mod failing_tests;
 mod kind;
 mod refusal;
+#[cfg(test)]
+mod rows;
 mod run;
 mod show;
 mod stream;
+#[cfg(test)]
+mod tests;
 
 use std::env;
 use std::env::Args;

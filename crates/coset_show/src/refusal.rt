@@ -9,7 +9,7 @@ use hex::FromHexError;
 use std::alloc::AllocError;
 use std::fmt;
 
-/// Why an input isn't shown. Its text stands behind `error: ` in the line that tells of it.
+/// Why an input isn't shown. Its text follows `error: ` in the line that says so.
 #[derive(Debug, Drop)]
 pub enum Refusal {
     /// A read failed.

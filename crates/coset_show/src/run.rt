@@ -27,12 +27,12 @@ const REFUSED: u8 = 1;
 /// The status of a kind that isn't known.
 const MISUSED: u8 = 2;
 
-/// Shows what the reader's input spells in hexadecimal, as the kind says, and answers the exit status.
+/// Shows what the reader's input spells in hexadecimal, as the kind says, and returns the exit status.
 ///
 /// White space in the input (the bytes 09, 0a, 0d and 20) is dropped, and digits may be of either case. What is
 /// written is made before any of it goes out. The status is 0 where the input is shown; 1 where it is refused,
-/// which a line that begins `error: ` tells, and where a write fails; 2 for a kind that isn't known, of which the
-/// usage line tells: then the reader isn't asked.
+/// which a line that begins `error: ` says, and where a write fails; 2 for a kind that isn't known, of which the
+/// usage line says: then the reader isn't asked.
 pub fn run<R: Reader, W: Writer>(
     alloc: Global,
     kind: &str,
@@ -49,7 +49,7 @@ pub fn run<R: Reader, W: Writer>(
         → IfSome (R.remaining (inside reader.old)) (λ input. (lines : List ℕ)
         × Appends (W.contents (inside writer.old)) (W.contents (inside writer.new)) lines
         × AnswersInput k input lines result) }
-    // A read fails: the line that tells of it, or of memory that ran out, and 1.
+    // A read fails: the line that says so, or that memory ran out, and 1.
     ensures unreadable { (k : Kind) → kind.now ≡ kind_name k → Fails reader.old reader.new
         → IsSound writer.new → (lines : List ℕ)
         × Appends (W.contents (inside writer.old)) (W.contents (inside writer.new)) lines
@@ -138,14 +138,14 @@ fn is_space(byte: u8) -> bool
     matches!(byte, b'\t' | b'\n' | b'\r' | b' ')
 }
 
-/// The line that tells of the refusal.
+/// The line for the refusal.
 fn refusal_line(alloc: Global, refusal: &Refusal) -> Result<String, AllocError>
     ensures { IfOk result (λ text. string_bytes text ≡ refusal_line refusal.now) }
 {
     format!(in alloc; "error: {refusal}\n")
 }
 
-/// Writes the lines, and answers the status, or that of a failed write.
+/// Writes the lines, and returns the status, or that of a failed write.
 fn write_lines<W: Writer>(writer: &mut Stream<W>, lines: &str, status: u8) -> u8
     ensures written { IsSound writer.new
         → Appends (W.contents (inside writer.old)) (W.contents (inside writer.new)) lines.now

@@ -6,7 +6,7 @@ ghost use Rattle.std.specs.String.{string_bytes};
 ghost use Rattle.coset.specs.Item.{Item};
 ghost use Rattle.coset.specs.CoseError.TheVariants.{OutOfMemory};
 ghost use Rattle.coset.specs.Answers.{ReadsSlice, RefusesSlice};
-ghost use Rattle.coset.specs.Sign1.{sign1, sign1_carried, sign1_seen};
+ghost use Rattle.coset.specs.Sign1.{sign1, sign1_carried, sign1_view};
 ghost use Rattle.coset_show.specs.Show.{line, ShowsType, RefusesType, ShowsSign1, IsLineOf, WritesRead, tagged_if, message_in, sign1_in};
 ghost use Rattle.coset_show.specs.Show.{is_tagged as is_tagged_spec};
 
@@ -25,7 +25,7 @@ fn hexadecimal_line(alloc: Global, bytes: &[u8]) -> Result<String, AllocError>
 
 /// The line of a value that was read.
 fn line_of<T: Lawful + CborSerializable>(alloc: Global, value: T) -> Result<String, CoseError>
-    ensures { WritesRead T.shape (T.seen value) (λ s. string_bytes s) result }
+    ensures { WritesRead T.shape (T.view value) (λ s. string_bytes s) result }
 {
     let encoded = value.to_vec(alloc)?;
     Ok(hexadecimal_line(alloc, &encoded)?)
@@ -59,7 +59,7 @@ fn read_message<T: CborSerializable + TaggedCborSerializable>(
     tagged: bool,
     bytes: &[u8],
 ) -> Result<T, CoseError>
-    ensures read { ReadsSlice (tagged_if tagged T.TAG T.shape) T.seen bytes.now result }
+    ensures read { ReadsSlice (tagged_if tagged T.TAG T.shape) T.view bytes.now result }
     ensures refused { RefusesSlice (tagged_if tagged T.TAG T.shape) bytes.now result }
 {
     if tagged {
@@ -75,7 +75,7 @@ fn message_line<T: Lawful + CborSerializable + TaggedCborSerializable>(
     tagged: bool,
     message: T,
 ) -> Result<String, CoseError>
-    ensures { WritesRead (tagged_if tagged T.TAG T.shape) (T.seen message)
+    ensures { WritesRead (tagged_if tagged T.TAG T.shape) (T.view message)
         (λ s. string_bytes s) result }
 {
     if tagged {
@@ -105,8 +105,8 @@ pub fn message_lines<T: Lawful + CborSerializable + TaggedCborSerializable>(
 
 /// The line of what is signed where `external_aad` is empty, of a message that was read.
 fn signed_line(alloc: Global, message: &CoseSign1) -> Result<String, CoseError>
-    ensures { (v : Item) → sign1.describes v (sign1_seen message.now)
-        → MatchResult result (λ l. IsLineOf (sign1_carried (sign1_seen message.now) [])
+    ensures { (v : Item) → sign1.describes v (sign1_view message.now)
+        → MatchResult result (λ l. IsLineOf (sign1_carried (sign1_view message.now) [])
         (string_bytes l)) (λ e. e ≡ OutOfMemory) }
 {
     let signed = message.tbs_data(alloc, &[])?;

@@ -29,10 +29,18 @@ impl<T> Stream<T> {
             failed: false,
         }
     }
+
+    /// The reader or the writer itself.
+    #[cfg(test)]
+    pub fn into_inner(self) -> T
+        ensures { result ≡ inside self }
+    {
+        self.inner
+    }
 }
 
 impl<R: Reader> Stream<R> {
-    /// Reads once into the buffer, and answers how many bytes: none at the end of the input.
+    /// Reads once into the buffer, and returns how many bytes: none at the end of the input.
     ///
     /// # Errors
     /// Those of the reader.

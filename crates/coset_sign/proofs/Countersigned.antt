@@ -1,4 +1,4 @@
--- What countersignatures are over is told by the bytes of two protected headers, and these stay as they were written.
+-- What countersignatures are over is determined by the bytes of two protected headers, and these stay as they were written.
 use Rattle.std.proofs.Common.{◌≡◌, ℕ, List, [], ◌∷◌, Some, None, option_map, sym, ap}
 use Rattle.coset_value.specs.Item.{Item}
 use Rattle.coset_codec.specs.AsWritten.{AsWritten, WhenRead}
@@ -7,7 +7,7 @@ use Rattle.coset_codec.specs.Shape.{Elements, both}
 use Rattle.coset_codec.specs.ShapeLaws.{some-none}
 use Rattle.coset_label.specs.Names.{Name}
 use Rattle.coset_core.specs.HeaderMap.{each_of}
-use Rattle.coset_core.specs.Headers.{HeaderSeen, ProtectedSeen, SignatureSeen, counter_signatures_in, countersignatures_in, fields_in}
+use Rattle.coset_core.specs.Headers.{HeaderView, ProtectedView, SignatureView, counter_signatures_in, countersignatures_in, fields_in}
 use Rattle.coset_core.specs.Headers.{LAYERS, header, layered_signature, protected_bytes, signature}
 use Rattle.coset_core.specs.Kept.{EachReadAs, EachSignature, KeepsReceived, KeepsSignature, KeepsSignatures, SignaturesReadAs}
 use Rattle.coset_core.specs.FieldLabels as labels
@@ -22,51 +22,51 @@ use Rattle.coset_sign.specs.declared.signature.SignatureContext.TheVariants.{Cou
 
 -- ---- by the bytes of the headers
 
-pub countersigns_same : (p s q t : ProtectedSeen) → protected_bytes p ≡ protected_bytes q → protected_bytes s ≡ protected_bytes t → CountersignsSame p s q t
+pub countersigns_same : (p s q t : ProtectedView) → protected_bytes p ≡ protected_bytes q → protected_bytes s ≡ protected_bytes t → CountersignsSame p s q t
 countersigns_same p s q t e f =
     record {
       first_version = λ a l i. both (λ b c. signature_structure CounterSignature b (Some c) a l) (e i) (f i);
       second_version = λ a l others i. both (λ b c. countersign_structure b (Some c) a l others) (e i) (f i);
     }
 
-pub abbreviates_same : (p q : ProtectedSeen) → protected_bytes p ≡ protected_bytes q → AbbreviatesSame p q
+pub abbreviates_same : (p q : ProtectedView) → protected_bytes p ≡ protected_bytes q → AbbreviatesSame p q
 abbreviates_same p q e a l others = ap (option_map (λ b. countersign_structure b None a l others)) e
 
-pub countersigns : (p s : ProtectedSeen) → HasBytes p → HasBytes s → Countersigns p s
+pub countersigns : (p s : ProtectedView) → HasBytes p → HasBytes s → Countersigns p s
 countersigns p s h g =
     record {
       first_version = λ a l none. some-none (λ i. both (λ b c. signature_structure CounterSignature b (Some c) a l) (h.1 i) (g.1 i)) none;
       second_version = λ a l others none. some-none (λ i. both (λ b c. countersign_structure b (Some c) a l others) (h.1 i) (g.1 i)) none;
     }
 
-abbreviates : (p : ProtectedSeen) → HasBytes p → Abbreviates p
+abbreviates : (p : ProtectedView) → HasBytes p → Abbreviates p
 abbreviates p h a l others none = some-none (ap (option_map (λ b. countersign_structure b None a l others)) h.1) none
 
 -- ---- those in a header
 
-module _ {R Q : SignatureSeen → SignatureSeen → Type 0} (f : (s t : SignatureSeen) → R s t → Q s t) where
-  each_with : (ss ts : List SignatureSeen) → EachWith R ss ts → EachWith Q ss ts
+module _ {R Q : SignatureView → SignatureView → Type 0} (f : (s t : SignatureView) → R s t → Q s t) where
+  each_with : (ss ts : List SignatureView) → EachWith R ss ts → EachWith Q ss ts
   each_with [] [] h = tt
   each_with (s ∷ ss) (t ∷ ts) h = (f s t h.0, each_with ss ts h.1)
   each_with [] (t ∷ ts) h = absurd h
   each_with (s ∷ ss) [] h = absurd h
 
-  each_read_as : (l : Name) (rest : List (Name × Item)) (ss ts : List SignatureSeen) → EachReadAs R l rest ss ts → EachReadAs Q l rest ss ts
+  each_read_as : (l : Name) (rest : List (Name × Item)) (ss ts : List SignatureView) → EachReadAs R l rest ss ts → EachReadAs Q l rest ss ts
   each_read_as l rest [] ts k = k
   each_read_as l rest (s ∷ ss) ts k = each_with (s ∷ ss) ts k
 
-  all_read_as : (h g : HeaderSeen) → SignaturesReadAs R h g → SignaturesReadAs Q h g
+  all_read_as : (h g : HeaderView) → SignaturesReadAs R h g → SignaturesReadAs Q h g
   all_read_as h g k = (
     each_read_as labels.counter_signature (fields_in h).rest (each_of (counter_signatures_in h)) (each_of (counter_signatures_in g)) k.0,
     each_read_as labels.countersignature_v2 (fields_in h).rest (each_of (countersignatures_in h)) (each_of (countersignatures_in g)) k.1,
   )
 
-module _ {P Q : SignatureSeen → Type 0} (f : (s : SignatureSeen) → P s → Q s) where
-  each_has : (ss : List SignatureSeen) → EachHas P ss → EachHas Q ss
+module _ {P Q : SignatureView → Type 0} (f : (s : SignatureView) → P s → Q s) where
+  each_has : (ss : List SignatureView) → EachHas P ss → EachHas Q ss
   each_has [] h = tt
   each_has (s ∷ ss) h = (f s h.0, each_has ss h.1)
 
-  each_signature : (h : HeaderSeen) → EachSignature P h → EachSignature Q h
+  each_signature : (h : HeaderView) → EachSignature P h → EachSignature Q h
   each_signature h k = (each_has (each_of (counter_signatures_in h)) k.0, each_has (each_of (countersignatures_in h)) k.1)
 
 -- what the laws of signatures in headers say
@@ -74,28 +74,28 @@ abbrev pub SignaturesKeptAsWritten : Type 0
 SignaturesKeptAsWritten = AsWritten header (SignaturesReadAs KeepsSignature)
 
 -- so they are over the same, in headers
-in_headers : (p q : ProtectedSeen) (h g : HeaderSeen) → KeepsBytes p q → SignaturesReadAs KeepsSignature h g → EachCountersignsSame p h q g
+in_headers : (p q : ProtectedView) (h g : HeaderView) → KeepsBytes p q → SignaturesReadAs KeepsSignature h g → EachCountersignsSame p h q g
 in_headers p q h g e k = (abbreviates_same p q (sym e), all_read_as (λ s t f. countersigns_same p s.protected q t.protected (sym e) (sym f.0)) h g k)
 
 pub within_as_written :
-    SignaturesKeptAsWritten → (p q : ProtectedSeen) → KeepsBytes p q → AsWritten header (λ h g. EachCountersignsSame p h q g)
+    SignaturesKeptAsWritten → (p q : ProtectedView) → KeepsBytes p q → AsWritten header (λ h g. EachCountersignsSame p h q g)
 within_as_written kept p q e v h g f d = in_headers p q h g e (kept v h g f d)
 
 pub apart_as_written :
-    AsWritten signature KeepsSignature → (p q : ProtectedSeen) → KeepsBytes p q → AsWritten signature (λ s t. CountersignsSame p s.protected q t.protected)
+    AsWritten signature KeepsSignature → (p q : ProtectedView) → KeepsBytes p q → AsWritten signature (λ s t. CountersignsSame p s.protected q t.protected)
 apart_as_written kept p q e v s t f d = countersigns_same p s.protected q t.protected (sym e) (sym (kept v s t f d).0)
 
-in_header : (p : ProtectedSeen) (h : HeaderSeen) → HasBytes p → KeepsSignatures h → EachCountersigns p h
+in_header : (p : ProtectedView) (h : HeaderView) → HasBytes p → KeepsSignatures h → EachCountersigns p h
 in_header p h b k = (abbreviates p b, each_signature (λ s own. countersigns p s.protected b (own.0, own.2)) h k)
 
-pub within_when_read : WhenRead header KeepsSignatures → (p : ProtectedSeen) → HasBytes p → WhenRead header (EachCountersigns p)
+pub within_when_read : WhenRead header KeepsSignatures → (p : ProtectedView) → HasBytes p → WhenRead header (EachCountersigns p)
 within_when_read kept p b v h d = in_header p h b (kept v h d)
 
 -- what the laws say of a signature that was read
 abbrev pub KeptAsReceived : Type 0
-KeptAsReceived = (k : ℕ) (v : Item) (s : SignatureSeen) → (layered_signature k).describes v s → KeepsReceived v s
+KeptAsReceived = (k : ℕ) (v : Item) (s : SignatureView) → (layered_signature k).describes v s → KeepsReceived v s
 
-pub apart_when_read : KeptAsReceived → (p : ProtectedSeen) → HasBytes p → WhenRead signature (λ s. Countersigns p s.protected)
+pub apart_when_read : KeptAsReceived → (p : ProtectedView) → HasBytes p → WhenRead signature (λ s. Countersigns p s.protected)
 apart_when_read kept p b v s d = let own = (kept LAYERS v s d).0 in countersigns p s.protected b (own.0, own.2)
 
 -- ---- those in the unprotected header of a message

@@ -1,4 +1,4 @@
--- What is signed tells its parts.
+-- What is signed determines its parts.
 use Rattle.std.proofs.Common.{◌≡◌, ℕ, List, length, cond, eqb, Option, Some, None, refl, sym, ap, ◌∙◌, arith}
 use Rattle.coset_cbor.specs.Shortest.{IsShortest}
 use Rattle.coset_sign.specs.declared.signature.SignatureContext.{SignatureContext}

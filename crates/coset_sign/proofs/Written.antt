@@ -6,13 +6,13 @@ use Rattle.coset_codec.specs.AsWritten.{AsWritten, WhenRead}
 use Rattle.coset_codec.specs.Lists.{EachHas, EachWith}
 use Rattle.coset_codec.specs.Shape.{both, ◌then◌, end, bstr, or_nil, list_of}
 use Rattle.coset_codec.specs.ShapeLaws.{some-none}
-use Rattle.coset_core.specs.Headers.{ProtectedSeen, SignatureSeen, protected_bytes, elements_of}
+use Rattle.coset_core.specs.Headers.{ProtectedView, SignatureView, protected_bytes, elements_of}
 use Rattle.coset_core.proofs.Messages.{HasBytes, KeepsBytes, KeptAsWritten, has_bytes, header_as_written, header_when_read, message_as_written}
 use Rattle.coset_core.proofs.Messages.{message_when_read, elements_as_written}
 use Rattle.coset_sign.specs.SignatureStructure.{signature_structure}
 use Rattle.coset_sign.specs.Signed.{SignsSame}
 use Rattle.coset_sign.specs.Sign1.{SamePayloadAndSignature, sign1, sign1_fields, sign1_elements, sign1_structure}
-use Rattle.coset_sign.specs.Sign.{SignSeen, sign, sign_fields, sign_elements, signer, signer_structure, EachSigns, EachSignsSame}
+use Rattle.coset_sign.specs.Sign.{SignView, sign, sign_fields, sign_elements, signer, signer_structure, EachSigns, EachSignsSame}
 use Rattle.coset_sign.specs.declared.signature.SignatureContext.TheVariants.{CoseSign1, CoseSignature}
 
 -- ---- their protected headers
@@ -25,7 +25,7 @@ sign_kept kept v m n e d = header_as_written sign_elements KeepsBytes kept v (si
 
 -- ---- with one signature
 
-signs_same : (p q : ProtectedSeen) → KeepsBytes p q → SignsSame q p
+signs_same : (p q : ProtectedView) → KeepsBytes p q → SignsSame q p
 signs_same p q e context None a l = ap (option_map (λ b. signature_structure context b None a l)) e
 signs_same p q e context (Some s) a l = ap (λ o. both (λ b c. signature_structure context b (Some c) a l) o (protected_bytes s)) e
 
@@ -47,13 +47,13 @@ has_signed external_aad payload v m d none =
 -- ---- with any number of signatures
 
 -- of the signatures' own headers
-abbrev KeepsSame : SignatureSeen → SignatureSeen → Type 0
+abbrev KeepsSame : SignatureView → SignatureView → Type 0
 KeepsSame s t = KeepsBytes s.protected t.protected
 
 signer_as_written : KeptAsWritten → AsWritten signer KeepsSame
 signer_as_written kept v s t e d = header_as_written (bstr then end) KeepsBytes kept v (elements_of s) (elements_of t) e d
 
-each_signs_same : (m n : SignSeen) → KeepsBytes m.protected n.protected → (ss ts : List SignatureSeen) → EachWith KeepsSame ss ts
+each_signs_same : (m n : SignView) → KeepsBytes m.protected n.protected → (ss ts : List SignatureView) → EachWith KeepsSame ss ts
     → EachWith (λ s t. (a l : List ℕ) → signer_structure n s a l ≡ signer_structure m t a l) ts ss
 each_signs_same m n e [] [] h = tt
 each_signs_same m n e (s ∷ ss) (t ∷ ts) h = (
@@ -72,16 +72,16 @@ each_signs_as_written kept v m n e d =
     each_signs_same m n all.0 m.signatures n.signatures all.1.1.1.0
 
 -- of the signatures' own headers
-abbrev HasOwnBytes : SignatureSeen → Type 0
+abbrev HasOwnBytes : SignatureView → Type 0
 HasOwnBytes s = HasBytes s.protected
 
 signer_when_read : WhenRead signer HasOwnBytes
 signer_when_read v s d = header_when_read (bstr then end) HasBytes has_bytes v (elements_of s) d
 
-has_structure : (m : SignSeen) → HasBytes m.protected → (s : SignatureSeen) → HasOwnBytes s → (a l : List ℕ) → signer_structure m s a l ≡ None → ⊥
+has_structure : (m : SignView) → HasBytes m.protected → (s : SignatureView) → HasOwnBytes s → (a l : List ℕ) → signer_structure m s a l ≡ None → ⊥
 has_structure m h s g a l none = some-none (λ i. both (λ b c. signature_structure CoseSignature b (Some c) a l) (h.1 i) (g.1 i)) none
 
-each_has_structure : (m : SignSeen) → HasBytes m.protected → (ss : List SignatureSeen) → EachHas HasOwnBytes ss
+each_has_structure : (m : SignView) → HasBytes m.protected → (ss : List SignatureView) → EachHas HasOwnBytes ss
     → EachHas (λ s. (a l : List ℕ) → signer_structure m s a l ≡ None → ⊥) ss
 each_has_structure m h [] g = tt
 each_has_structure m h (s ∷ ss) g = (has_structure m h s g.0, each_has_structure m h ss g.1)

@@ -2,7 +2,7 @@
 use Rattle.std.specs.Prelude.{◌≡◌, ℕ, List, Option, Some, None, Bool, true, false, is_some, option_map, codes}
 use Rattle.coset_value.specs.Item.{Item, array, no_items, item}
 use Rattle.coset_codec.specs.Shape.{both}
-use Rattle.coset_core.specs.Headers.{HeaderSeen, ProtectedSeen, protected_bytes}
+use Rattle.coset_core.specs.Headers.{HeaderView, ProtectedView, protected_bytes}
 use Rattle.coset_core.specs.Kept.{EachSignature, SignaturesReadAs}
 use Rattle.coset_core.specs.Structure.{byte_strings, structure_and}
 use Rattle.coset_sign.specs.SignatureStructure.{signed_parts}
@@ -22,7 +22,7 @@ countersign_structure body signer external_aad payload others =
 
 -- that structure over the protected bytes of the body's header, and of the signer's where there is one; none where a
 -- header has no such bytes
-abbrev pub countersigned_item : ProtectedSeen → Option ProtectedSeen → List ℕ → List ℕ → List (List ℕ) → Option Item
+abbrev pub countersigned_item : ProtectedView → Option ProtectedView → List ℕ → List ℕ → List (List ℕ) → Option Item
 countersigned_item body None external_aad payload others = option_map (λ p. countersign_structure p None external_aad payload others) (protected_bytes body)
 countersigned_item body (Some signer) external_aad payload others =
     both (λ p q. countersign_structure p (Some q) external_aad payload others) (protected_bytes body) (protected_bytes signer)
@@ -31,33 +31,33 @@ countersigned_item body (Some signer) external_aad payload others =
 
 -- a countersignature of the body by the signer is over something, whatever goes with it: a counter signature (RFC 8152, section
 -- 4.5), and one of version 2
-pub record Countersigns (body signer : ProtectedSeen) : Type 0 where
+pub record Countersigns (body signer : ProtectedView) : Type 0 where
   pub first_version : (external_aad payload : List ℕ) → signed_item CounterSignature body (Some signer) external_aad payload ≡ None → ⊥
   pub second_version : (external_aad payload : List ℕ) (others : List (List ℕ)) → countersigned_item body (Some signer) external_aad payload others ≡ None → ⊥
 
 -- an abbreviated countersignature of the body is over something, whatever goes with it
-abbrev pub Abbreviates : ProtectedSeen → Type 0
+abbrev pub Abbreviates : ProtectedView → Type 0
 Abbreviates body = (external_aad payload : List ℕ) (others : List (List ℕ)) → countersigned_item body None external_aad payload others ≡ None → ⊥
 
 -- a countersignature of the body by the signer is over the same as one of the other body by the other signer, whatever goes with
 -- it: a counter signature (RFC 8152, section 4.5), and one of version 2
-pub record CountersignsSame (body signer other_body other_signer : ProtectedSeen) : Type 0 where
+pub record CountersignsSame (body signer other_body other_signer : ProtectedView) : Type 0 where
   pub first_version : (external_aad payload : List ℕ)
       → signed_item CounterSignature body (Some signer) external_aad payload ≡ signed_item CounterSignature other_body (Some other_signer) external_aad payload
   pub second_version : (external_aad payload : List ℕ) (others : List (List ℕ))
       → countersigned_item body (Some signer) external_aad payload others ≡ countersigned_item other_body (Some other_signer) external_aad payload others
 
 -- an abbreviated countersignature of the body is over the same as one of the other body, whatever goes with it
-abbrev pub AbbreviatesSame : ProtectedSeen → ProtectedSeen → Type 0
+abbrev pub AbbreviatesSame : ProtectedView → ProtectedView → Type 0
 AbbreviatesSame body other_body = (external_aad payload : List ℕ) (others : List (List ℕ))
     → countersigned_item body None external_aad payload others ≡ countersigned_item other_body None external_aad payload others
 
 -- each countersignature of the body in the header h is over something, and so is an abbreviated one
-abbrev pub EachCountersigns : ProtectedSeen → HeaderSeen → Type 0
+abbrev pub EachCountersigns : ProtectedView → HeaderView → Type 0
 EachCountersigns body h = Abbreviates body × EachSignature (λ s. Countersigns body s.protected) h
 
 -- each countersignature of the body that was written in the header h is over the same as its counterpart that was read, which
 -- is one of the other body in the header g; and so is an abbreviated one
-abbrev pub EachCountersignsSame : ProtectedSeen → HeaderSeen → ProtectedSeen → HeaderSeen → Type 0
+abbrev pub EachCountersignsSame : ProtectedView → HeaderView → ProtectedView → HeaderView → Type 0
 EachCountersignsSame body h other_body g =
     AbbreviatesSame body other_body × SignaturesReadAs (λ s t. CountersignsSame body s.protected other_body t.protected) h g

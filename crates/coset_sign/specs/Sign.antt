@@ -6,45 +6,45 @@ use Rattle.coset_codec.specs.Lists.{EachHas, EachWith}
 use Rattle.coset_codec.specs.Shape.{Shape, Elements, mapped, masked, list_of, ◌then◌, end, bstr, or_nil}
 use Rattle.coset_codec.specs.ShapeLaws.{Lawful, LawfulElements, bytes_no_nil, mapped_laws, masked_laws}
 use Rattle.coset_codec.specs.ShapeLaws.{list_of_laws, then_laws, end_laws, bstr_laws, or_nil_laws}
-use Rattle.coset_core.specs.Headers.{HeaderSeen, ProtectedSeen, SignatureSeen, empty_header, signature}
+use Rattle.coset_core.specs.Headers.{HeaderView, ProtectedView, SignatureView, empty_header, signature}
 use Rattle.coset_core.specs.HeaderLaws.{signature_laws}
 use Rattle.coset_core.specs.Messages.{WithHeaders, with_headers, with_headers_laws, empty_protected}
-use Rattle.coset_core.specs.Views.{header_seen, protected_seen, signature_seen}
+use Rattle.coset_core.specs.Views.{header_view, protected_view, signature_view}
 use Rattle.coset_sign.specs.Signed.{signed_item, or_empty}
 use Rattle.coset_sign.specs.declared.sign.CoseSign.{CoseSign}
 use Rattle.coset_sign.specs.declared.signature.SignatureContext.TheVariants.{CoseSignature}
 
 -- a message without its memory
-pub record SignSeen : Type 0 where
-  pub protected : ProtectedSeen
-  pub unprotected : HeaderSeen
+pub record SignView : Type 0 where
+  pub protected : ProtectedView
+  pub unprotected : HeaderView
   pub payload : Option (List ℕ)
-  pub signatures : List SignatureSeen
+  pub signatures : List SignatureView
 
-abbrev pub sign_seen : CoseSign → SignSeen
-sign_seen m = record {
-  protected = protected_seen m.protected;
-  unprotected = header_seen m.unprotected;
+abbrev pub sign_view : CoseSign → SignView
+sign_view m = record {
+  protected = protected_view m.protected;
+  unprotected = header_view m.unprotected;
   payload = option_map (λ b. b.items) m.payload;
-  signatures = map signature_seen m.signatures.items;
+  signatures = map signature_view m.signatures.items;
 }
 
 -- one that holds nothing
-abbrev pub empty_sign : SignSeen
+abbrev pub empty_sign : SignView
 empty_sign = record { protected = empty_protected; unprotected = empty_header; payload = None; signatures = [] }
 
-abbrev pub sign_of : WithHeaders (Option (List ℕ) × (List SignatureSeen × Unit {0})) → SignSeen
+abbrev pub sign_of : WithHeaders (Option (List ℕ) × (List SignatureView × Unit {0})) → SignView
 sign_of p = record { protected = p.0; unprotected = p.1.0; payload = p.1.1.0; signatures = p.1.1.1.0 }
 
-abbrev pub sign_fields : SignSeen → WithHeaders (Option (List ℕ) × (List SignatureSeen × Unit {0}))
+abbrev pub sign_fields : SignView → WithHeaders (Option (List ℕ) × (List SignatureView × Unit {0}))
 sign_fields m = (m.protected, (m.unprotected, (m.payload, (m.signatures, tt))))
 
--- COSE_Signature, of which is told that an item is none, and not why
-abbrev pub signer : Shape SignatureSeen
+-- COSE_Signature; the error says that an item is none, and not why
+abbrev pub signer : Shape SignatureView
 signer = masked IsUnexpected signature
 
 -- payload : bstr / nil, signatures : [* COSE_Signature]
-abbrev pub sign_elements : Elements (Option (List ℕ) × (List SignatureSeen × Unit {0}))
+abbrev pub sign_elements : Elements (Option (List ℕ) × (List SignatureView × Unit {0}))
 sign_elements = or_nil bstr then list_of signer then end
 
 pub sign_elements_laws : LawfulElements _ sign_elements
@@ -53,38 +53,38 @@ sign_elements_laws =
     (then_laws _ _ (list_of_laws signer (masked_laws IsUnexpected signature signature_laws)) end_laws)
 
 -- [Headers, payload : bstr / nil, signatures : [* COSE_Signature]]
-abbrev pub sign : Shape SignSeen
+abbrev pub sign : Shape SignView
 sign = mapped sign_of sign_fields (with_headers sign_elements)
 
-pub sign_laws : Lawful SignSeen sign
+pub sign_laws : Lawful SignView sign
 sign_laws = mapped_laws sign_of sign_fields (λ x. refl) _ (with_headers_laws sign_elements sign_elements_laws)
 
 -- ---- what is signed
 
 -- the structure of one signature of the message over `external_aad` and a payload, where both protected headers have
 -- bytes
-abbrev pub signer_structure : SignSeen → SignatureSeen → List ℕ → List ℕ → Option Item
+abbrev pub signer_structure : SignView → SignatureView → List ℕ → List ℕ → Option Item
 signer_structure m s external_aad payload = signed_item CoseSignature m.protected (Some s.protected) external_aad payload
 
 -- over the payload that the message carries, which counts as empty where it is missing
-abbrev pub signer_carried : SignSeen → SignatureSeen → List ℕ → Option Item
+abbrev pub signer_carried : SignView → SignatureView → List ℕ → Option Item
 signer_carried m s external_aad = signer_structure m s external_aad (or_empty m.payload)
 
 -- of each signature of the two messages the same is signed, whatever goes with it
-abbrev pub EachSignsSame : SignSeen → SignSeen → Type 0
+abbrev pub EachSignsSame : SignView → SignView → Type 0
 EachSignsSame m n = EachWith (λ s t. (external_aad payload : List ℕ)
     → signer_structure m s external_aad payload ≡ signer_structure n t external_aad payload) m.signatures n.signatures
 
 -- each signature of the message signs something, whatever goes with it
-abbrev pub EachSigns : SignSeen → Type 0
+abbrev pub EachSigns : SignView → Type 0
 EachSigns m = EachHas (λ s. (external_aad payload : List ℕ) → signer_structure m s external_aad payload ≡ None → ⊥) m.signatures
 
 -- ---- with one signature more
 
 -- behind the others
-abbrev pub and_signature : SignatureSeen → SignSeen → SignSeen
+abbrev pub and_signature : SignatureView → SignView → SignView
 and_signature s m = record m { signatures = m.signatures ++ s ∷ [] }
 
 -- the signature with these bytes
-abbrev pub signed_with : List ℕ → SignatureSeen → SignatureSeen
+abbrev pub signed_with : List ℕ → SignatureView → SignatureView
 signed_with b s = record s { signature = b }

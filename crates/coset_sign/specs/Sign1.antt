@@ -3,36 +3,36 @@ use Rattle.std.specs.Prelude.{◌≡◌, ℕ, List, [], Option, None, option_map
 use Rattle.coset_value.specs.Item.{Item}
 use Rattle.coset_codec.specs.Shape.{Shape, Elements, mapped, ◌then◌, end, bstr, or_nil}
 use Rattle.coset_codec.specs.ShapeLaws.{Lawful, LawfulElements, bytes_no_nil, mapped_laws, then_laws, end_laws, bstr_laws, or_nil_laws}
-use Rattle.coset_core.specs.Headers.{HeaderSeen, ProtectedSeen, empty_header}
+use Rattle.coset_core.specs.Headers.{HeaderView, ProtectedView, empty_header}
 use Rattle.coset_core.specs.Messages.{WithHeaders, with_headers, with_headers_laws, empty_protected}
-use Rattle.coset_core.specs.Views.{header_seen, protected_seen}
+use Rattle.coset_core.specs.Views.{header_view, protected_view}
 use Rattle.coset_sign.specs.Signed.{signed_item, or_empty}
 use Rattle.coset_sign.specs.declared.sign1.CoseSign1 as declared
 use Rattle.coset_sign.specs.declared.signature.SignatureContext.TheVariants.{CoseSign1}
 
 -- a message without its memory
-pub record Sign1Seen : Type 0 where
-  pub protected : ProtectedSeen
-  pub unprotected : HeaderSeen
+pub record Sign1View : Type 0 where
+  pub protected : ProtectedView
+  pub unprotected : HeaderView
   pub payload : Option (List ℕ)
   pub signature : List ℕ
 
-abbrev pub sign1_seen : declared.CoseSign1 → Sign1Seen
-sign1_seen m = record {
-  protected = protected_seen m.protected;
-  unprotected = header_seen m.unprotected;
+abbrev pub sign1_view : declared.CoseSign1 → Sign1View
+sign1_view m = record {
+  protected = protected_view m.protected;
+  unprotected = header_view m.unprotected;
   payload = option_map (λ b. b.items) m.payload;
   signature = m.signature.items;
 }
 
 -- one that holds nothing
-abbrev pub empty_sign1 : Sign1Seen
+abbrev pub empty_sign1 : Sign1View
 empty_sign1 = record { protected = empty_protected; unprotected = empty_header; payload = None; signature = [] }
 
-abbrev pub sign1_of : WithHeaders (Option (List ℕ) × (List ℕ × Unit {0})) → Sign1Seen
+abbrev pub sign1_of : WithHeaders (Option (List ℕ) × (List ℕ × Unit {0})) → Sign1View
 sign1_of p = record { protected = p.0; unprotected = p.1.0; payload = p.1.1.0; signature = p.1.1.1.0 }
 
-abbrev pub sign1_fields : Sign1Seen → WithHeaders (Option (List ℕ) × (List ℕ × Unit {0}))
+abbrev pub sign1_fields : Sign1View → WithHeaders (Option (List ℕ) × (List ℕ × Unit {0}))
 sign1_fields m = (m.protected, (m.unprotected, (m.payload, (m.signature, tt))))
 
 -- payload : bstr / nil, signature : bstr
@@ -43,28 +43,28 @@ pub sign1_elements_laws : LawfulElements _ sign1_elements
 sign1_elements_laws = then_laws _ _ (or_nil_laws bstr bytes_no_nil bstr_laws) (then_laws _ _ bstr_laws end_laws)
 
 -- [Headers, payload : bstr / nil, signature : bstr]
-abbrev pub sign1 : Shape Sign1Seen
+abbrev pub sign1 : Shape Sign1View
 sign1 = mapped sign1_of sign1_fields (with_headers sign1_elements)
 
-pub sign1_laws : Lawful Sign1Seen sign1
+pub sign1_laws : Lawful Sign1View sign1
 sign1_laws = mapped_laws sign1_of sign1_fields (λ x. refl) _ (with_headers_laws sign1_elements sign1_elements_laws)
 
 -- the second message carries the payload and the signature of the first
-abbrev pub SamePayloadAndSignature : Sign1Seen → Sign1Seen → Type 0
+abbrev pub SamePayloadAndSignature : Sign1View → Sign1View → Type 0
 SamePayloadAndSignature m n = (n.payload ≡ m.payload) × (n.signature ≡ m.signature)
 
 -- ---- what is signed
 
 -- the structure of the message over `external_aad` and a payload, where its protected header has bytes
-abbrev pub sign1_structure : Sign1Seen → List ℕ → List ℕ → Option Item
+abbrev pub sign1_structure : Sign1View → List ℕ → List ℕ → Option Item
 sign1_structure m external_aad payload = signed_item CoseSign1 m.protected None external_aad payload
 
 -- over the payload that the message carries, which counts as empty where it is missing
-abbrev pub sign1_carried : Sign1Seen → List ℕ → Option Item
+abbrev pub sign1_carried : Sign1View → List ℕ → Option Item
 sign1_carried m external_aad = sign1_structure m external_aad (or_empty m.payload)
 
 -- ---- with one field set
 
 -- the message with this signature, and all else as it was
-abbrev pub with_signature : List ℕ → Sign1Seen → Sign1Seen
+abbrev pub with_signature : List ℕ → Sign1View → Sign1View
 with_signature s m = record m { signature = s }

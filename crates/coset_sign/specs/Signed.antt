@@ -2,13 +2,13 @@
 use Rattle.std.specs.Prelude.{◌≡◌, ℕ, List, [], Option, Some, None, option_map}
 use Rattle.coset_value.specs.Item.{Item}
 use Rattle.coset_codec.specs.Shape.{both}
-use Rattle.coset_core.specs.Headers.{ProtectedSeen, protected_bytes}
+use Rattle.coset_core.specs.Headers.{ProtectedView, protected_bytes}
 use Rattle.coset_sign.specs.SignatureStructure.{signature_structure}
 use Rattle.coset_sign.specs.declared.signature.SignatureContext.{SignatureContext}
 
 -- the structure over the protected bytes of the body's header, and of the signer's where there is one; none where a
 -- header has no such bytes
-abbrev pub signed_item : SignatureContext → ProtectedSeen → Option ProtectedSeen → List ℕ → List ℕ → Option Item
+abbrev pub signed_item : SignatureContext → ProtectedView → Option ProtectedView → List ℕ → List ℕ → Option Item
 signed_item context body None external_aad payload = option_map (λ p. signature_structure context p None external_aad payload) (protected_bytes body)
 signed_item context body (Some signer) external_aad payload =
     both (λ p q. signature_structure context p (Some q) external_aad payload) (protected_bytes body) (protected_bytes signer)
@@ -19,6 +19,6 @@ or_empty None = []
 or_empty (Some s) = s
 
 -- of the two headers the same is signed, whatever goes with it
-abbrev pub SignsSame : ProtectedSeen → ProtectedSeen → Type 0
-SignsSame p q = (context : SignatureContext) (signer : Option ProtectedSeen) (external_aad payload : List ℕ)
+abbrev pub SignsSame : ProtectedView → ProtectedView → Type 0
+SignsSame p q = (context : SignatureContext) (signer : Option ProtectedView) (external_aad payload : List ℕ)
     → signed_item context p signer external_aad payload ≡ signed_item context q signer external_aad payload

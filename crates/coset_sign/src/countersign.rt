@@ -5,7 +5,7 @@ ghost use Rattle.std.specs.Option.{option_copied};
 ghost use Rattle.coset_cbor.specs.Shortest.{IsShortest};
 ghost use Rattle.coset_codec.specs.declared.error.CoseError.TheVariants.{OutOfMemory};
 ghost use Rattle.coset_codec.specs.Answers.{Writes};
-ghost use Rattle.coset_core.specs.Views.{countersignature_seen, protected_seen};
+ghost use Rattle.coset_core.specs.Views.{countersignature_view, protected_view};
 ghost use Rattle.coset_core.specs.Calls.{AsksAbout};
 ghost use Rattle.coset_sign.specs.Countersigned.{countersign_structure, countersign_text, countersigned_item};
 ghost use Rattle.coset_sign.specs.SignatureStructure.{signed_parts};
@@ -14,7 +14,7 @@ ghost use Rattle.coset_core.specs.Structure.{BeginsStructure};
 use coset_cbor::laws::least_encoding_is_shortest;
 use coset_codec::write::{Array, Encode};
 use coset_codec::{CallError, Result};
-use coset_core::calls::ask;
+use coset_core::calls::verify_with;
 use coset_core::structure::{begin_structure, byte_strings_room};
 use coset_core::{CoseCountersignature, ProtectedHeader};
 use std::alloc::Global;
@@ -86,8 +86,8 @@ fn countersigned_bytes(
     other_fields: &[Vec<u8>],
 ) -> Result<Vec<u8>>
     requires { other_fields.now ≢ [] }
-    ensures { Writes (countersigned_item (protected_seen body.now)
-        (option_map (λ s. protected_seen s.now) signer.entry) external_aad.now payload.now
+    ensures { Writes (countersigned_item (protected_view body.now)
+        (option_map (λ s. protected_view s.now) signer.entry) external_aad.now payload.now
         (map (λ field. field.items) other_fields.now)) (λ b. b.items) result }
 {
     prove!(!other_fields.is_empty());
@@ -134,7 +134,7 @@ pub fn countersign_v2_structure_data(
     other_fields: &[Vec<u8>],
 ) -> Result<Vec<u8>>
     requires { other_fields.now ≢ [] }
-    ensures { Writes (countersigned_item (protected_seen body) (Some (protected_seen sign))
+    ensures { Writes (countersigned_item (protected_view body) (Some (protected_view sign))
         external_aad.now payload.now (map (λ field. field.items) other_fields.now)) (λ b. b.items)
         result }
 {
@@ -171,7 +171,7 @@ pub fn countersign0_v2_structure_data(
     other_fields: &[Vec<u8>],
 ) -> Result<Vec<u8>>
     requires { other_fields.now ≢ [] }
-    ensures { Writes (countersigned_item (protected_seen body) None external_aad.now payload.now
+    ensures { Writes (countersigned_item (protected_view body) None external_aad.now payload.now
         (map (λ field. field.items) other_fields.now)) (λ b. b.items) result }
 {
     countersigned_bytes(alloc, &body, None, external_aad, payload, other_fields)
@@ -197,12 +197,12 @@ where
     E: Drop,
     requires callable { F.IsAlwaysCallable verifier }
     requires some { other_fields.now ≢ [] }
-    ensures { AsksAbout F.FnOnce verifier (countersignature_seen countersignature.now).signature
-        (countersigned_item (protected_seen body)
-        (Some (countersignature_seen countersignature.now).protected) external_aad.now payload.now
+    ensures { AsksAbout F.FnOnce verifier (countersignature_view countersignature.now).signature
+        (countersigned_item (protected_view body)
+        (Some (countersignature_view countersignature.now).protected) external_aad.now payload.now
         (map (λ field. field.items) other_fields.now)) result }
 {
     let sign = Some(&countersignature.protected);
     let structure = countersigned_bytes(alloc, &body, sign, external_aad, payload, other_fields);
-    ask(&countersignature.signature, structure, verifier)
+    verify_with(&countersignature.signature, structure, verifier)
 }

@@ -4,7 +4,7 @@ ghost use Rattle.std.specs.Prelude.{◌≡◌, ℕ, List, Option, Some, None};
 ghost use Rattle.coset_cbor.specs.Shortest.{IsShortest};
 ghost use Rattle.coset_codec.specs.AsWritten.{AsWritten, WhenRead};
 ghost use Rattle.coset_codec.specs.Shape.{tagged};
-ghost use Rattle.coset_core.specs.Headers.{ProtectedSeen, header, protected_bytes, signature};
+ghost use Rattle.coset_core.specs.Headers.{ProtectedView, header, protected_bytes, signature};
 ghost use Rattle.coset_core.specs.Structure.{structure};
 ghost use Rattle.coset_sign.specs.Countersigned.{AbbreviatesSame, Countersigns, CountersignsSame, EachCountersigns, EachCountersignsSame};
 ghost use Rattle.coset_sign.specs.SignatureStructure.{signature_structure};
@@ -76,7 +76,7 @@ pub fn each_signed_as_written()
     kept_as_written();
 }
 
-/// Of a message that was read from what another is written as, plain or under its tag, the same bytes stand for the
+/// Of a message that was read from what another is written as, plain or under its tag, the same bytes represent the
 /// protected header, however the item was spelled.
 pub fn kept_in_signed()
     ensures sign1 { AsWritten sign1 (λ m n. protected_bytes n.protected
@@ -94,11 +94,11 @@ pub fn kept_in_signed()
 /// Bodies and signers whose protected headers have the same bytes countersign the same, whatever goes with it: under
 /// label 7, under label 11, and abbreviated under label 12.
 pub fn countersigned_by_bytes()
-    ensures full { (body signer other_body other_signer : ProtectedSeen)
+    ensures full { (body signer other_body other_signer : ProtectedView)
         → protected_bytes body ≡ protected_bytes other_body
         → protected_bytes signer ≡ protected_bytes other_signer
         → CountersignsSame body signer other_body other_signer }
-    ensures abbreviated { (body other_body : ProtectedSeen)
+    ensures abbreviated { (body other_body : ProtectedView)
         → protected_bytes body ≡ protected_bytes other_body → AbbreviatesSame body other_body }
 {}
 
@@ -107,11 +107,11 @@ pub fn countersigned_by_bytes()
 /// tag; and so is an abbreviated one. So in a message with one signature or several, plain or under its tag. That bodies of
 /// other kinds have these bytes is what `kept_in_messages` and `kept_with_recipients` say.
 pub fn countersigned_as_written()
-    ensures within { (body read : ProtectedSeen) → protected_bytes read ≡ protected_bytes body
+    ensures within { (body read : ProtectedView) → protected_bytes read ≡ protected_bytes body
         → AsWritten header (λ h g. EachCountersignsSame body h read g) }
-    ensures apart { (body read : ProtectedSeen) → protected_bytes read ≡ protected_bytes body
+    ensures apart { (body read : ProtectedView) → protected_bytes read ≡ protected_bytes body
         → AsWritten signature (λ s t. CountersignsSame body s.protected read t.protected) }
-    ensures tagged_apart { (body read : ProtectedSeen)
+    ensures tagged_apart { (body read : ProtectedView)
         → protected_bytes read ≡ protected_bytes body → AsWritten (tagged 19 signature)
         (λ s t. CountersignsSame body s.protected read t.protected) }
     ensures sign1 { AsWritten sign1
@@ -131,11 +131,11 @@ pub fn countersigned_as_written()
 /// itself, plain or under its tag; and so is an abbreviated one. So in the unprotected header of a message that was read,
 /// plain or under its tag.
 pub fn countersigned_when_read()
-    ensures within { (body : ProtectedSeen) (b : List ℕ) → protected_bytes body ≡ Some b
+    ensures within { (body : ProtectedView) (b : List ℕ) → protected_bytes body ≡ Some b
         → WhenRead header (λ h. EachCountersigns body h) }
-    ensures apart { (body : ProtectedSeen) (b : List ℕ) → protected_bytes body ≡ Some b
+    ensures apart { (body : ProtectedView) (b : List ℕ) → protected_bytes body ≡ Some b
         → WhenRead signature (λ s. Countersigns body s.protected) }
-    ensures tagged_apart { (body : ProtectedSeen) (b : List ℕ) → protected_bytes body ≡ Some b
+    ensures tagged_apart { (body : ProtectedView) (b : List ℕ) → protected_bytes body ≡ Some b
         → WhenRead (tagged 19 signature) (λ s. Countersigns body s.protected) }
     ensures sign1 { WhenRead sign1 (λ m. EachCountersigns m.protected m.unprotected) }
     ensures tagged_sign1 { WhenRead (tagged 18 sign1)

@@ -8,12 +8,12 @@ mod sign1;
 mod signature;
 
 pub use coset_core::{
-    Algorithm, AsCborValue, Bstr, CallError, CborOrdering, CborSerializable, ClaimName, Codec,
+    Algorithm, AsCborValue, CallError, CborOrdering, CborSerializable, ClaimName, Codec,
     ContentType, CoseCountersignature, CoseCountersignatureBuilder, CoseError, CoseSignature,
     CoseSignatureBuilder, Encode, EndOfFile, FromPull, Header, HeaderBuilder, ItemSource,
-    KeyOperation, KeyType, Label, Lawful, ProtectedBstr, ProtectedHeader, RegisteredLabel,
-    RegisteredLabelWithPrivate, Result, TaggedCborSerializable, TaggedCodec, cbor, codec,
-    has_repeats, iana, util,
+    KeyOperation, KeyType, Label, Lawful, ProtectedBstr, ProtectedHeader, ProtectedRef,
+    RegisteredLabel, RegisteredLabelWithPrivate, Result, TaggedCborSerializable, TaggedCodec, cbor,
+    codec, has_repeats, iana, util,
 };
 pub use countersign::{
     countersign_v2_structure_data, countersign0_v2_structure_data, verify_countersignature,

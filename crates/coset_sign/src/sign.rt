@@ -4,19 +4,21 @@ ghost use Rattle.std.specs.Prelude.{◌≡◌, ◌<◌, map, length, slice_get, 
 ghost use Rattle.coset_value.specs.Item.{Item};
 ghost use Rattle.coset_codec.specs.declared.error.CoseError.TheVariants.{OutOfMemory};
 ghost use Rattle.coset_codec.specs.Answers.{Writes};
-ghost use Rattle.coset_core.specs.Headers.{SignatureSeen};
+ghost use Rattle.coset_core.specs.Headers.{SignatureView};
 ghost use Rattle.coset_core.specs.Messages.{unread};
-ghost use Rattle.coset_core.specs.Views.{header_seen, signature_seen};
+ghost use Rattle.coset_core.specs.Views.{header_view, signature_view};
 ghost use Rattle.coset_core.specs.Calls.{AsksAbout, Creates, TriesToCreate};
-ghost use Rattle.coset_sign.specs.Sign.{and_signature, empty_sign, sign, sign_seen, signed_with, signer_carried, signer_structure};
+ghost use Rattle.coset_sign.specs.Sign.{and_signature, empty_sign, sign, sign_view, signed_with, signer_carried, signer_structure};
 
 use crate::signature::{SignatureContext, sig_structure_of};
-use coset_codec::read::{Decode, Input, drop_refused};
+use coset_codec::read::{Decode, Decoder, drop_refused};
 use coset_codec::util::copy_bstr;
 use coset_codec::write::{Array, Encode, encode_four};
 use coset_codec::{CallError, Codec, CoseError, Result, TaggedCodec};
-use coset_core::calls::{ask, make};
-use coset_core::{Bstr, CoseSignature, Header, ProtectedHeader, read_headed, read_signatures};
+use coset_core::calls::{create_with, verify_with};
+use coset_core::{
+    CoseSignature, Header, ProtectedHeader, ProtectedRef, read_headed, read_signatures,
+};
 use std::alloc::{AllocError, Global};
 use std::marker::Model;
 
@@ -51,13 +53,13 @@ impl Decode for Signatures {
     ghost use Rattle.coset_sign.specs.Sign.{signer};
     ghost use Rattle.std.specs.Prelude.{List};
 
-    ghost Seen = { List SignatureSeen };
+    ghost View = { List SignatureView };
 
-    ghost seen = { λ all. map signature_seen all.0.items };
+    ghost view = { λ all. map signature_view all.0.items };
 
     ghost shape = { list_of signer };
 
-    fn decode(alloc: Global, input: &mut Input<'_>) -> Result<Signatures> {
+    fn decode(alloc: Global, input: &mut Decoder<'_>) -> Result<Signatures> {
         let blame = ("non-signature", "map for COSE_Signature");
         match read_signatures(alloc, input, blame) {
             Ok(all) => Ok(Signatures(all)),
@@ -69,7 +71,7 @@ impl Decode for Signatures {
 impl CoseSign {
     /// An empty message: empty headers, no payload, no signatures. It takes no memory.
     pub fn new(alloc: Global) -> CoseSign
-        ensures { sign_seen result ≡ empty_sign }
+        ensures { sign_view result ≡ empty_sign }
     {
         CoseSign {
             protected: ProtectedHeader::new(alloc),
@@ -87,7 +89,7 @@ impl CoseSign {
         payload: &[u8],
         signature: &CoseSignature,
     ) -> Result<Vec<u8>>
-        ensures { Writes (signer_structure (sign_seen self.now) (signature_seen signature.now)
+        ensures { Writes (signer_structure (sign_view self.now) (signature_view signature.now)
             external_aad.now payload.now) (λ b. b.items) result }
     {
         let context = SignatureContext::CoseSignature;
@@ -114,7 +116,7 @@ impl CoseSign {
         external_aad: &[u8],
         signature: &CoseSignature,
     ) -> Result<Vec<u8>>
-        ensures { Writes (signer_carried (sign_seen self.now) (signature_seen signature.now)
+        ensures { Writes (signer_carried (sign_view self.now) (signature_view signature.now)
             external_aad.now) (λ b. b.items) result }
     {
         match &self.payload {
@@ -135,7 +137,7 @@ impl CoseSign {
         signature: &CoseSignature,
     ) -> Result<Vec<u8>>
         requires { self.now.payload ≡ None }
-        ensures { Writes (signer_structure (sign_seen self.now) (signature_seen signature.now)
+        ensures { Writes (signer_structure (sign_view self.now) (signature_view signature.now)
             external_aad.now payload.now) (λ b. b.items) result }
     {
         prove!(self.payload.is_none());
@@ -145,8 +147,8 @@ impl CoseSign {
     /// The signature of that number, counted from 0.
     fn signature(&self, which: usize) -> &CoseSignature
         requires { which < length self.now.signatures.items }
-        ensures { slice_get (sign_seen self.now).signatures which
-            ≡ Some (signature_seen result.now) }
+        ensures { slice_get (sign_view self.now).signatures which
+            ≡ Some (signature_view result.now) }
     {
         &self.signatures[which]
     }
@@ -169,13 +171,13 @@ impl CoseSign {
         E: Drop,
         requires callable { F.IsAlwaysCallable verifier }
         requires there { which < length self.now.signatures.items }
-        ensures { (s : SignatureSeen) → slice_get (sign_seen self.now).signatures which ≡ Some s
+        ensures { (s : SignatureView) → slice_get (sign_view self.now).signatures which ≡ Some s
             → AsksAbout F.FnOnce verifier s.signature
-            (signer_carried (sign_seen self.now) s external_aad.now) result }
+            (signer_carried (sign_view self.now) s external_aad.now) result }
     {
         let signature = self.signature(which);
         let structure = self.tbs_data(alloc, external_aad, signature);
-        ask(&signature.signature, structure, verifier)
+        verify_with(&signature.signature, structure, verifier)
     }
 
     /// The same as [`CoseSign::verify_signature`] where the payload is detached, so that the message carries none.
@@ -196,13 +198,13 @@ impl CoseSign {
         requires callable { F.IsAlwaysCallable verifier }
         requires there { which < length self.now.signatures.items }
         requires detached { self.now.payload ≡ None }
-        ensures { (s : SignatureSeen) → slice_get (sign_seen self.now).signatures which ≡ Some s
+        ensures { (s : SignatureView) → slice_get (sign_view self.now).signatures which ≡ Some s
             → AsksAbout F.FnOnce verifier s.signature
-            (signer_structure (sign_seen self.now) s external_aad.now payload.now) result }
+            (signer_structure (sign_view self.now) s external_aad.now payload.now) result }
     {
         let signature = self.signature(which);
         let structure = self.tbs_detached_data(alloc, payload, external_aad, signature);
-        ask(&signature.signature, structure, verifier)
+        verify_with(&signature.signature, structure, verifier)
     }
 
     /// A message that equals this one, with the same bytes kept.
@@ -210,7 +212,7 @@ impl CoseSign {
     /// # Errors
     /// `OutOfMemory` alone.
     pub fn clone(&self) -> Result<CoseSign>
-        ensures copy { IfOk result (λ m. sign_seen m ≡ sign_seen self.now) }
+        ensures copy { IfOk result (λ m. sign_view m ≡ sign_view self.now) }
         ensures memory { IfErr result (λ e. e ≡ OutOfMemory) }
     {
         Ok(Clone::clone(self)?)
@@ -219,7 +221,7 @@ impl CoseSign {
 
 /// The same as [`CoseSign::clone`], for generic code.
 impl Clone for CoseSign {
-    ghost is_clone = { λ message copy. sign_seen copy ≡ sign_seen message };
+    ghost is_clone = { λ message copy. sign_view copy ≡ sign_view message };
 
     fn clone(&self) -> Result<CoseSign, AllocError> {
         Ok(CoseSign {
@@ -233,31 +235,31 @@ impl Clone for CoseSign {
 
 /// Copies of the signatures, with the same bytes kept.
 fn copy_signatures(all: &Vec<CoseSignature>) -> Result<Vec<CoseSignature>, AllocError>
-    ensures { IfOk result (λ c. map signature_seen c.items ≡ map signature_seen all.now.items) }
+    ensures { IfOk result (λ c. map signature_view c.items ≡ map signature_view all.now.items) }
 {
     Ok(Clone::clone(all)?)
 }
 
 impl Codec for CoseSign {
-    ghost use Rattle.coset_sign.specs.Same.{sign_told};
-    ghost use Rattle.coset_codec.specs.Told.{bstr_told, lists_told};
-    ghost use Rattle.coset_core.specs.Told.{header_told, protected_told, signature_told};
-    ghost use Rattle.coset_sign.specs.Sign.{SignSeen, sign_laws};
+    ghost use Rattle.coset_sign.specs.Same.{sign_decides};
+    ghost use Rattle.coset_codec.specs.EqDecides.{bstr_decides, lists_decides};
+    ghost use Rattle.coset_core.specs.EqDecides.{header_decides, protected_decides, signature_decides};
+    ghost use Rattle.coset_sign.specs.Sign.{SignView, sign_laws};
 
-    ghost Seen = { SignSeen };
+    ghost View = { SignView };
 
-    ghost seen = { sign_seen };
+    ghost view = { sign_view };
 
     ghost shape = { sign };
 
     ghost laws = { sign_laws };
 
-    ghost equal = { λ a b. sign_told (protected_told a.protected b.protected)
-        (header_told a.unprotected b.unprotected)
-        (bstr_told a.payload b.payload)
-        (lists_told signature_seen _ signature_told a.signatures.items b.signatures.items) };
+    ghost equal = { λ a b. sign_decides (protected_decides a.protected b.protected)
+        (header_decides a.unprotected b.unprotected)
+        (bstr_decides a.payload b.payload)
+        (lists_decides signature_view _ signature_decides a.signatures.items b.signatures.items) };
 
-    fn read(alloc: Global, input: &mut Input<'_>) -> Result<CoseSign> {
+    fn read(alloc: Global, input: &mut Decoder<'_>) -> Result<CoseSign> {
         let mut message = CoseSign::new(alloc);
         match read_headed(
             &mut message.protected,
@@ -279,17 +281,17 @@ impl Codec for CoseSign {
     }
 
     fn size_hint(&self) -> usize {
-        Bstr(&self.protected)
-            .room()
-            .saturating_add(self.unprotected.room())
-            .saturating_add(self.payload.room())
-            .saturating_add(Array(&self.signatures).room())
+        ProtectedRef(&self.protected)
+            .encoded_size_hint()
+            .saturating_add(self.unprotected.encoded_size_hint())
+            .saturating_add(self.payload.encoded_size_hint())
+            .saturating_add(Array(&self.signatures).encoded_size_hint())
     }
 
     fn write(&self, alloc: Global, out: &mut Vec<u8>) -> Result<()> {
         encode_four(
             alloc,
-            &Bstr(&self.protected),
+            &ProtectedRef(&self.protected),
             &self.unprotected,
             &self.payload,
             &Array(&self.signatures),
@@ -306,7 +308,7 @@ impl TaggedCodec for CoseSign {
 
 /// The signature with these bytes, under the same headers.
 fn signed_with(mut signature: CoseSignature, bytes: Vec<u8>) -> CoseSignature
-    ensures { signature_seen result ≡ signed_with bytes.items (signature_seen signature) }
+    ensures { signature_view result ≡ signed_with bytes.items (signature_view signature) }
 {
     signature.signature = bytes;
     signature
@@ -333,7 +335,7 @@ impl Model for CoseSignBuilder {
 impl CoseSignBuilder {
     /// An empty message. It takes no memory.
     pub fn new(alloc: Global) -> CoseSignBuilder
-        ensures { sign_seen result ≡ empty_sign }
+        ensures { sign_view result ≡ empty_sign }
     {
         CoseSignBuilder(CoseSign::new(alloc))
     }
@@ -347,8 +349,8 @@ impl CoseSignBuilder {
 
     /// Sets the protected header: one that was made, and not read, so that it has no bytes of its own yet.
     pub fn protected(mut self, header: Header) -> CoseSignBuilder
-        ensures { sign_seen result ≡ record
-            (sign_seen self) { protected = unread (header_seen header) } }
+        ensures { sign_view result ≡ record
+            (sign_view self) { protected = unread (header_view header) } }
     {
         self.0.protected = ProtectedHeader {
             original_data: None,
@@ -359,8 +361,8 @@ impl CoseSignBuilder {
 
     /// Sets the unprotected header.
     pub fn unprotected(mut self, header: Header) -> CoseSignBuilder
-        ensures { sign_seen result ≡ record
-            (sign_seen self) { unprotected = header_seen header } }
+        ensures { sign_view result ≡ record
+            (sign_view self) { unprotected = header_view header } }
     {
         self.0.unprotected = header;
         self
@@ -368,7 +370,7 @@ impl CoseSignBuilder {
 
     /// Sets the payload.
     pub fn payload(mut self, payload: Vec<u8>) -> CoseSignBuilder
-        ensures { sign_seen result ≡ record (sign_seen self) { payload = Some payload.items } }
+        ensures { sign_view result ≡ record (sign_view self) { payload = Some payload.items } }
     {
         self.0.payload = Some(payload);
         self
@@ -379,8 +381,8 @@ impl CoseSignBuilder {
     /// # Errors
     /// `OutOfMemory` alone.
     pub fn payload_from(self, alloc: Global, payload: &[u8]) -> Result<CoseSignBuilder>
-        ensures ok { IfOk result (λ b. sign_seen b
-            ≡ record (sign_seen self) { payload = Some payload.now }) }
+        ensures ok { IfOk result (λ b. sign_view b
+            ≡ record (sign_view self) { payload = Some payload.now }) }
         ensures memory { IfErr result (λ e. e ≡ OutOfMemory) }
     {
         Ok(self.payload(Vec::from_slice(alloc, payload)?))
@@ -391,8 +393,8 @@ impl CoseSignBuilder {
     /// # Errors
     /// `OutOfMemory` alone.
     pub fn add_signature(mut self, signature: CoseSignature) -> Result<CoseSignBuilder>
-        ensures ok { IfOk result (λ b. sign_seen b
-            ≡ and_signature (signature_seen signature) (sign_seen self)) }
+        ensures ok { IfOk result (λ b. sign_view b
+            ≡ and_signature (signature_view signature) (sign_view self)) }
         ensures memory { IfErr result (λ e. e ≡ OutOfMemory) }
     {
         self.0.signatures.push(signature)?;
@@ -413,8 +415,8 @@ impl CoseSignBuilder {
         F: FnOnce(&[u8]) -> Vec<u8> + Drop,
         requires { F.IsAlwaysCallable signer }
         ensures { (o : Option Item) → Writes o (λ b. b.items) structure
-            → Creates F.FnOnce signer o (λ s b. sign_seen b ≡ and_signature
-            (signed_with s.items (signature_seen signature)) (sign_seen self)) result }
+            → Creates F.FnOnce signer o (λ s b. sign_view b ≡ and_signature
+            (signed_with s.items (signature_view signature)) (sign_view self)) result }
     {
         let structure = structure?;
         self.0.signatures.reserve(1)?;
@@ -438,13 +440,13 @@ impl CoseSignBuilder {
         E: Drop,
         requires { F.IsAlwaysCallable signer }
         ensures { (o : Option Item) → Writes o (λ b. b.items) structure
-            → TriesToCreate F.FnOnce signer o (λ s b. sign_seen b ≡ and_signature
-            (signed_with s.items (signature_seen signature)) (sign_seen self)) result }
+            → TriesToCreate F.FnOnce signer o (λ s b. sign_view b ≡ and_signature
+            (signed_with s.items (signature_view signature)) (sign_view self)) result }
     {
         if self.0.signatures.reserve(1).is_err() {
             return Err(CallError::Coset(CoseError::OutOfMemory));
         }
-        let signed = signed_with(signature, make(structure, signer)?);
+        let signed = signed_with(signature, create_with(structure, signer)?);
         self.0.signatures.push_reserved(signed);
         Ok(self)
     }
@@ -465,9 +467,9 @@ impl CoseSignBuilder {
     where
         F: FnOnce(&[u8]) -> Vec<u8> + Drop,
         requires { F.IsAlwaysCallable signer }
-        ensures { Creates F.FnOnce signer (signer_carried (sign_seen self)
-            (signature_seen signature) external_aad.now) (λ s b. sign_seen b ≡ and_signature
-            (signed_with s.items (signature_seen signature)) (sign_seen self)) result }
+        ensures { Creates F.FnOnce signer (signer_carried (sign_view self)
+            (signature_view signature) external_aad.now) (λ s b. sign_view b ≡ and_signature
+            (signed_with s.items (signature_view signature)) (sign_view self)) result }
     {
         let structure = self.0.tbs_data(alloc, external_aad, &signature);
         self.add_signed(signature, structure, signer)
@@ -490,9 +492,9 @@ impl CoseSignBuilder {
         F: FnOnce(&[u8]) -> Vec<u8> + Drop,
         requires callable { F.IsAlwaysCallable signer }
         requires detached { self.payload ≡ None }
-        ensures { Creates F.FnOnce signer (signer_structure (sign_seen self)
-            (signature_seen signature) external_aad.now payload.now) (λ s b. sign_seen b
-            ≡ and_signature (signed_with s.items (signature_seen signature)) (sign_seen self))
+        ensures { Creates F.FnOnce signer (signer_structure (sign_view self)
+            (signature_view signature) external_aad.now payload.now) (λ s b. sign_view b
+            ≡ and_signature (signed_with s.items (signature_view signature)) (sign_view self))
             result }
     {
         let structure = self
@@ -516,9 +518,9 @@ impl CoseSignBuilder {
         F: FnOnce(&[u8]) -> Result<Vec<u8>, E> + Drop,
         E: Drop,
         requires { F.IsAlwaysCallable signer }
-        ensures { TriesToCreate F.FnOnce signer (signer_carried (sign_seen self)
-            (signature_seen signature) external_aad.now) (λ s b. sign_seen b ≡ and_signature
-            (signed_with s.items (signature_seen signature)) (sign_seen self)) result }
+        ensures { TriesToCreate F.FnOnce signer (signer_carried (sign_view self)
+            (signature_view signature) external_aad.now) (λ s b. sign_view b ≡ and_signature
+            (signed_with s.items (signature_view signature)) (sign_view self)) result }
     {
         let structure = self.0.tbs_data(alloc, external_aad, &signature);
         self.try_add_signed(signature, structure, signer)
@@ -541,9 +543,9 @@ impl CoseSignBuilder {
         E: Drop,
         requires callable { F.IsAlwaysCallable signer }
         requires detached { self.payload ≡ None }
-        ensures { TriesToCreate F.FnOnce signer (signer_structure (sign_seen self)
-            (signature_seen signature) external_aad.now payload.now) (λ s b. sign_seen b
-            ≡ and_signature (signed_with s.items (signature_seen signature)) (sign_seen self))
+        ensures { TriesToCreate F.FnOnce signer (signer_structure (sign_view self)
+            (signature_view signature) external_aad.now payload.now) (λ s b. sign_view b
+            ≡ and_signature (signed_with s.items (signature_view signature)) (sign_view self))
             result }
     {
         let structure = self

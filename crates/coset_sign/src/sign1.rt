@@ -4,17 +4,17 @@ ghost use Rattle.std.specs.Prelude.{◌≡◌, IfOk, IfErr, Some, None};
 ghost use Rattle.coset_codec.specs.declared.error.CoseError.TheVariants.{OutOfMemory};
 ghost use Rattle.coset_codec.specs.Answers.{Writes};
 ghost use Rattle.coset_core.specs.Messages.{unread};
-ghost use Rattle.coset_core.specs.Views.{header_seen};
+ghost use Rattle.coset_core.specs.Views.{header_view};
 ghost use Rattle.coset_core.specs.Calls.{AsksAbout, Creates, TriesToCreate};
-ghost use Rattle.coset_sign.specs.Sign1.{empty_sign1, sign1, sign1_seen, sign1_carried, sign1_structure, with_signature};
+ghost use Rattle.coset_sign.specs.Sign1.{empty_sign1, sign1, sign1_view, sign1_carried, sign1_structure, with_signature};
 
 use crate::signature::{SignatureContext, sig_structure_of};
-use coset_codec::read::{Input, drop_refused};
+use coset_codec::read::{Decoder, drop_refused};
 use coset_codec::util::copy_bstr;
 use coset_codec::write::{Encode, encode_four};
 use coset_codec::{CallError, Codec, Result, TaggedCodec};
-use coset_core::calls::{ask, make};
-use coset_core::{Bstr, Header, ProtectedHeader, read_headed};
+use coset_core::calls::{create_with, verify_with};
+use coset_core::{Header, ProtectedHeader, ProtectedRef, read_headed};
 use std::alloc::{AllocError, Global};
 use std::marker::Model;
 
@@ -41,7 +41,7 @@ const PLACES: &str = "array with 4 items";
 impl CoseSign1 {
     /// An empty message: empty headers, no payload, an empty signature. It takes no memory.
     pub fn new(alloc: Global) -> CoseSign1
-        ensures { sign1_seen result ≡ empty_sign1 }
+        ensures { sign1_view result ≡ empty_sign1 }
     {
         CoseSign1 {
             protected: ProtectedHeader::new(alloc),
@@ -53,7 +53,7 @@ impl CoseSign1 {
 
     /// The structure over this payload.
     fn structure(&self, alloc: Global, external_aad: &[u8], payload: &[u8]) -> Result<Vec<u8>>
-        ensures { Writes (sign1_structure (sign1_seen self.now) external_aad.now payload.now) (λ b.
+        ensures { Writes (sign1_structure (sign1_view self.now) external_aad.now payload.now) (λ b.
             b.items) result }
     {
         let context = SignatureContext::CoseSign1;
@@ -67,7 +67,7 @@ impl CoseSign1 {
     /// `OutOfMemory`, or `DuplicateMapKey` where the protected header wasn't read and it, or one in it,
     /// repeats a label of its rest.
     pub fn tbs_data(&self, alloc: Global, external_aad: &[u8]) -> Result<Vec<u8>>
-        ensures { Writes (sign1_carried (sign1_seen self.now) external_aad.now) (λ b. b.items)
+        ensures { Writes (sign1_carried (sign1_view self.now) external_aad.now) (λ b. b.items)
             result }
     {
         match &self.payload {
@@ -87,7 +87,7 @@ impl CoseSign1 {
         external_aad: &[u8],
     ) -> Result<Vec<u8>>
         requires { self.now.payload ≡ None }
-        ensures { Writes (sign1_structure (sign1_seen self.now) external_aad.now payload.now) (λ b.
+        ensures { Writes (sign1_structure (sign1_view self.now) external_aad.now payload.now) (λ b.
             b.items) result }
     {
         prove!(self.payload.is_none());
@@ -109,11 +109,11 @@ impl CoseSign1 {
         F: FnOnce(&[u8], &[u8]) -> Result<(), E> + Drop,
         E: Drop,
         requires { F.IsAlwaysCallable verifier }
-        ensures { AsksAbout F.FnOnce verifier (sign1_seen self.now).signature
-            (sign1_carried (sign1_seen self.now) external_aad.now) result }
+        ensures { AsksAbout F.FnOnce verifier (sign1_view self.now).signature
+            (sign1_carried (sign1_view self.now) external_aad.now) result }
     {
         let structure = self.tbs_data(alloc, external_aad);
-        ask(&self.signature, structure, verifier)
+        verify_with(&self.signature, structure, verifier)
     }
 
     /// The same as [`CoseSign1::verify_signature`] where the payload is detached, so that the message carries none.
@@ -132,11 +132,11 @@ impl CoseSign1 {
         E: Drop,
         requires callable { F.IsAlwaysCallable verifier }
         requires detached { self.now.payload ≡ None }
-        ensures { AsksAbout F.FnOnce verifier (sign1_seen self.now).signature
-            (sign1_structure (sign1_seen self.now) external_aad.now payload.now) result }
+        ensures { AsksAbout F.FnOnce verifier (sign1_view self.now).signature
+            (sign1_structure (sign1_view self.now) external_aad.now payload.now) result }
     {
         let structure = self.tbs_detached_data(alloc, payload, external_aad);
-        ask(&self.signature, structure, verifier)
+        verify_with(&self.signature, structure, verifier)
     }
 
     /// A message that equals this one, with the same bytes kept.
@@ -144,7 +144,7 @@ impl CoseSign1 {
     /// # Errors
     /// `OutOfMemory` alone.
     pub fn clone(&self) -> Result<CoseSign1>
-        ensures copy { IfOk result (λ m. sign1_seen m ≡ sign1_seen self.now) }
+        ensures copy { IfOk result (λ m. sign1_view m ≡ sign1_view self.now) }
         ensures memory { IfErr result (λ e. e ≡ OutOfMemory) }
     {
         Ok(Clone::clone(self)?)
@@ -153,7 +153,7 @@ impl CoseSign1 {
 
 /// The same as [`CoseSign1::clone`], for generic code.
 impl Clone for CoseSign1 {
-    ghost is_clone = { λ message copy. sign1_seen copy ≡ sign1_seen message };
+    ghost is_clone = { λ message copy. sign1_view copy ≡ sign1_view message };
 
     fn clone(&self) -> Result<CoseSign1, AllocError> {
         Ok(CoseSign1 {
@@ -166,25 +166,25 @@ impl Clone for CoseSign1 {
 }
 
 impl Codec for CoseSign1 {
-    ghost use Rattle.coset_sign.specs.Same.{sign1_told};
-    ghost use Rattle.coset_codec.specs.Told.{bytes_told, bstr_told};
-    ghost use Rattle.coset_core.specs.Told.{header_told, protected_told};
-    ghost use Rattle.coset_sign.specs.Sign1.{Sign1Seen, sign1_laws};
+    ghost use Rattle.coset_sign.specs.Same.{sign1_decides};
+    ghost use Rattle.coset_codec.specs.EqDecides.{vec_decides, bstr_decides};
+    ghost use Rattle.coset_core.specs.EqDecides.{header_decides, protected_decides};
+    ghost use Rattle.coset_sign.specs.Sign1.{Sign1View, sign1_laws};
 
-    ghost Seen = { Sign1Seen };
+    ghost View = { Sign1View };
 
-    ghost seen = { sign1_seen };
+    ghost view = { sign1_view };
 
     ghost shape = { sign1 };
 
     ghost laws = { sign1_laws };
 
-    ghost equal = { λ a b. sign1_told (protected_told a.protected b.protected)
-        (header_told a.unprotected b.unprotected)
-        (bstr_told a.payload b.payload)
-        (bytes_told a.signature b.signature) };
+    ghost equal = { λ a b. sign1_decides (protected_decides a.protected b.protected)
+        (header_decides a.unprotected b.unprotected)
+        (bstr_decides a.payload b.payload)
+        (vec_decides a.signature b.signature) };
 
-    fn read(alloc: Global, input: &mut Input<'_>) -> Result<CoseSign1> {
+    fn read(alloc: Global, input: &mut Decoder<'_>) -> Result<CoseSign1> {
         let mut message = CoseSign1::new(alloc);
         match read_headed(
             &mut message.protected,
@@ -206,15 +206,15 @@ impl Codec for CoseSign1 {
     }
 
     fn size_hint(&self) -> usize {
-        Bstr(&self.protected)
-            .room()
-            .saturating_add(self.unprotected.room())
-            .saturating_add(self.payload.room())
-            .saturating_add(self.signature.room())
+        ProtectedRef(&self.protected)
+            .encoded_size_hint()
+            .saturating_add(self.unprotected.encoded_size_hint())
+            .saturating_add(self.payload.encoded_size_hint())
+            .saturating_add(self.signature.encoded_size_hint())
     }
 
     fn write(&self, alloc: Global, out: &mut Vec<u8>) -> Result<()> {
-        let protected = Bstr(&self.protected);
+        let protected = ProtectedRef(&self.protected);
         encode_four(
             alloc,
             &protected,
@@ -253,7 +253,7 @@ impl Model for CoseSign1Builder {
 impl CoseSign1Builder {
     /// An empty message. It takes no memory.
     pub fn new(alloc: Global) -> CoseSign1Builder
-        ensures { sign1_seen result ≡ empty_sign1 }
+        ensures { sign1_view result ≡ empty_sign1 }
     {
         CoseSign1Builder(CoseSign1::new(alloc))
     }
@@ -267,8 +267,8 @@ impl CoseSign1Builder {
 
     /// Sets the protected header: one that was made, and not read, so that it has no bytes of its own yet.
     pub fn protected(mut self, header: Header) -> CoseSign1Builder
-        ensures { sign1_seen result ≡ record
-            (sign1_seen self) { protected = unread (header_seen header) } }
+        ensures { sign1_view result ≡ record
+            (sign1_view self) { protected = unread (header_view header) } }
     {
         self.0.protected = ProtectedHeader {
             original_data: None,
@@ -279,8 +279,8 @@ impl CoseSign1Builder {
 
     /// Sets the unprotected header.
     pub fn unprotected(mut self, header: Header) -> CoseSign1Builder
-        ensures { sign1_seen result ≡ record
-            (sign1_seen self) { unprotected = header_seen header } }
+        ensures { sign1_view result ≡ record
+            (sign1_view self) { unprotected = header_view header } }
     {
         self.0.unprotected = header;
         self
@@ -288,7 +288,7 @@ impl CoseSign1Builder {
 
     /// Sets the payload.
     pub fn payload(mut self, payload: Vec<u8>) -> CoseSign1Builder
-        ensures { sign1_seen result ≡ record (sign1_seen self) { payload = Some payload.items } }
+        ensures { sign1_view result ≡ record (sign1_view self) { payload = Some payload.items } }
     {
         self.0.payload = Some(payload);
         self
@@ -299,8 +299,8 @@ impl CoseSign1Builder {
     /// # Errors
     /// `OutOfMemory` alone.
     pub fn payload_from(self, alloc: Global, payload: &[u8]) -> Result<CoseSign1Builder>
-        ensures ok { IfOk result (λ b. sign1_seen b
-            ≡ record (sign1_seen self) { payload = Some payload.now }) }
+        ensures ok { IfOk result (λ b. sign1_view b
+            ≡ record (sign1_view self) { payload = Some payload.now }) }
         ensures memory { IfErr result (λ e. e ≡ OutOfMemory) }
     {
         Ok(self.payload(Vec::from_slice(alloc, payload)?))
@@ -308,7 +308,7 @@ impl CoseSign1Builder {
 
     /// Sets the signature.
     pub fn signature(mut self, signature: Vec<u8>) -> CoseSign1Builder
-        ensures { sign1_seen result ≡ with_signature signature.items (sign1_seen self) }
+        ensures { sign1_view result ≡ with_signature signature.items (sign1_view self) }
     {
         self.0.signature = signature;
         self
@@ -319,8 +319,8 @@ impl CoseSign1Builder {
     /// # Errors
     /// `OutOfMemory` alone.
     pub fn signature_from(self, alloc: Global, signature: &[u8]) -> Result<CoseSign1Builder>
-        ensures ok { IfOk result (λ b. sign1_seen b
-            ≡ with_signature signature.now (sign1_seen self)) }
+        ensures ok { IfOk result (λ b. sign1_view b
+            ≡ with_signature signature.now (sign1_view self)) }
         ensures memory { IfErr result (λ e. e ≡ OutOfMemory) }
     {
         Ok(self.signature(Vec::from_slice(alloc, signature)?))
@@ -340,8 +340,8 @@ impl CoseSign1Builder {
     where
         F: FnOnce(&[u8]) -> Vec<u8> + Drop,
         requires { F.IsAlwaysCallable signer }
-        ensures { Creates F.FnOnce signer (sign1_carried (sign1_seen self) external_aad.now)
-            (λ s b. sign1_seen b ≡ with_signature s.items (sign1_seen self)) result }
+        ensures { Creates F.FnOnce signer (sign1_carried (sign1_view self) external_aad.now)
+            (λ s b. sign1_view b ≡ with_signature s.items (sign1_view self)) result }
     {
         let tbs = self.0.tbs_data(alloc, external_aad)?;
         Ok(self.signature(signer(&tbs)))
@@ -364,8 +364,8 @@ impl CoseSign1Builder {
         requires callable { F.IsAlwaysCallable signer }
         requires detached { self.payload ≡ None }
         ensures { Creates F.FnOnce signer
-            (sign1_structure (sign1_seen self) external_aad.now payload.now) (λ s b. sign1_seen b
-            ≡ with_signature s.items (sign1_seen self)) result }
+            (sign1_structure (sign1_view self) external_aad.now payload.now) (λ s b. sign1_view b
+            ≡ with_signature s.items (sign1_view self)) result }
     {
         let tbs = self.0.tbs_detached_data(alloc, payload, external_aad)?;
         Ok(self.signature(signer(&tbs)))
@@ -385,10 +385,10 @@ impl CoseSign1Builder {
         F: FnOnce(&[u8]) -> Result<Vec<u8>, E> + Drop,
         E: Drop,
         requires { F.IsAlwaysCallable signer }
-        ensures { TriesToCreate F.FnOnce signer (sign1_carried (sign1_seen self) external_aad.now)
-            (λ s b. sign1_seen b ≡ with_signature s.items (sign1_seen self)) result }
+        ensures { TriesToCreate F.FnOnce signer (sign1_carried (sign1_view self) external_aad.now)
+            (λ s b. sign1_view b ≡ with_signature s.items (sign1_view self)) result }
     {
-        let signature = make(self.0.tbs_data(alloc, external_aad), signer)?;
+        let signature = create_with(self.0.tbs_data(alloc, external_aad), signer)?;
         Ok(self.signature(signature))
     }
 
@@ -409,11 +409,11 @@ impl CoseSign1Builder {
         requires callable { F.IsAlwaysCallable signer }
         requires detached { self.payload ≡ None }
         ensures { TriesToCreate F.FnOnce signer
-            (sign1_structure (sign1_seen self) external_aad.now payload.now) (λ s b. sign1_seen b
-            ≡ with_signature s.items (sign1_seen self)) result }
+            (sign1_structure (sign1_view self) external_aad.now payload.now) (λ s b. sign1_view b
+            ≡ with_signature s.items (sign1_view self)) result }
     {
         let structure = self.0.tbs_detached_data(alloc, payload, external_aad);
-        let signature = make(structure, signer)?;
+        let signature = create_with(structure, signer)?;
         Ok(self.signature(signature))
     }
 }

@@ -5,7 +5,7 @@ ghost use Rattle.std.specs.Option.{option_copied};
 ghost use Rattle.coset_cbor.specs.Shortest.{IsShortest};
 ghost use Rattle.coset_codec.specs.declared.error.CoseError.TheVariants.{OutOfMemory};
 ghost use Rattle.coset_codec.specs.Answers.{Writes};
-ghost use Rattle.coset_core.specs.Views.{protected_seen};
+ghost use Rattle.coset_core.specs.Views.{protected_view};
 ghost use Rattle.coset_sign.specs.SignatureStructure.{signature_structure};
 ghost use Rattle.coset_sign.specs.Signed.{signed_item};
 
@@ -14,7 +14,7 @@ use coset_core::ProtectedHeader;
 use coset_core::structure::structure_bytes;
 use std::alloc::Global;
 
-/// What a signature is part of (RFC 8152, section 4.4). It stands in the bytes that are signed, so that those of one
+/// What a signature is part of (RFC 8152, section 4.4). It is in the bytes that are signed, so that those of one
 /// are never those of another.
 #[derive(Clone, Copy, Debug, PartialEq, Eq)]
 pub enum SignatureContext {
@@ -83,8 +83,8 @@ pub(crate) fn sig_structure_of(
     external_aad: &[u8],
     payload: &[u8],
 ) -> Result<Vec<u8>>
-    ensures { Writes (signed_item context (protected_seen body.now)
-        (option_map (λ s. protected_seen s.now) signer.entry) external_aad.now payload.now) (λ b.
+    ensures { Writes (signed_item context (protected_view body.now)
+        (option_map (λ s. protected_view s.now) signer.entry) external_aad.now payload.now) (λ b.
         b.items) result }
 {
     let body = body.protected_bytes(alloc)?;
@@ -120,7 +120,7 @@ pub fn sig_structure_data(
     external_aad: &[u8],
     payload: &[u8],
 ) -> Result<Vec<u8>>
-    ensures { Writes (signed_item context (protected_seen body) (option_map protected_seen sign)
+    ensures { Writes (signed_item context (protected_view body) (option_map protected_view sign)
         external_aad.now payload.now) (λ b. b.items) result }
 {
     sig_structure_of(alloc, context, &body, sign.as_ref(), external_aad, payload)

@@ -9,7 +9,7 @@ use coset_lines::words::{Words, bytes};
 use coset_lines::{header, mark, tell};
 use std::alloc::Global;
 
-/// The other fields of what is countersigned: the words between commas, of which each spells one. `none` stands for no
+/// The other fields of what is countersigned: the words between commas, of which each spells one. `none` means no
 /// field, of which no structure is made.
 ///
 /// # Errors

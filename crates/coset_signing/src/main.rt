@@ -1,12 +1,12 @@
 //! `coset_signing`: makes the calls of messages with one signature and their builders, whose closures sign and verify, those
-//! of countersignatures of version 2, and those that make structures, by their names, line by line, and tells what each
-//! gave.
+//! of countersignatures of version 2, and those that make structures, by their names, line by line, and prints what each
+//! returned.
 //!
 //! A line is `TYPE::CALL WORD..`, the name of a call and what it is given, as hexadecimal, numbers and words; a call that
-//! is of no type is named alone. An empty line, and a comment, which begins with `#`, is answered by itself.
+//! is of no type is named alone. An empty line, and a comment, which begins with `#`, is returned by itself.
 //!
 //! What a call is given is made ready first. Then the call is made, between two marks (`coset_lines::mark`), so that a
-//! process that is refused a request for memory there is refused one of the call's own; and what it gave is told last.
+//! process that is refused a request for memory there is refused one of the call's own; and what it returned is printed last.
 #![tactic(auto)]
 
 mod countersign;

@@ -92,8 +92,8 @@ fn authenticated(alloc: Global, words: &Words<'_>) -> Result<String> {
     tell::bytes(alloc, answer)
 }
 
-/// The context; the protected header; the number of bytes of a payload of zeros. Of the structure it tells how many
-/// bytes stand in it, how many there is room for, and those before the payload.
+/// The context; the protected header; the number of bytes of a payload of zeros. Of the structure it prints how many
+/// bytes are in it, how many there is room for, and those before the payload.
 fn room(alloc: Global, words: &Words<'_>) -> Result<String> {
     let context = mac_context(words.word(1))?;
     let protected = header::read(alloc, words, 2, 4)?;

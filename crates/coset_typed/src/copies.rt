@@ -95,7 +95,7 @@ fn tell_copy<T: AsCborValue + PartialEq>(alloc: Global, value: &T, copy: T) -> R
 fn copy_nonce(alloc: Global, words: &Words<'_>) -> Result<String> {
     let mut party: PartyInfo = given(alloc, words, 1)?;
     let Some(nonce) = party.nonce.take() else {
-        return Err(CoseError::UnexpectedItem("nil", "nonce"));
+        return Err(CoseError::UnexpectedItem("nul", "nonce"));
     };
     mark::begin(alloc);
     let answer = nonce.clone();

@@ -12,7 +12,7 @@ use Rattle.coset_label.specs.Labels.{algorithm}
 use Rattle.coset_core.specs.Calls.{IsStructure}
 use Rattle.coset_core.specs.Fields.{partial_header}
 use Rattle.coset_core.specs.Headers.{layered_header, layered_protected}
-use Rattle.coset_sign.specs.Sign1.{Sign1Seen, sign1, sign1_structure, with_signature}
+use Rattle.coset_sign.specs.Sign1.{Sign1View, sign1, sign1_structure, with_signature}
 use Rattle.coset_uses.specs.Asked.{Asker, Maker}
 use Rattle.coset_uses.specs.Detached.{IsSignedApart, SignsApart, VerifiesApart, apart}
 use Rattle.coset_uses.proofs.Calls.{Made, NotMade, NotSaid}
@@ -22,7 +22,7 @@ use Rattle.coset_uses.proofs.Spellings.{only_memory}
 -- ---- making one
 
 pub signed_apart :
-    {F E : Type 0} (g : Maker F E) (f : F) (a : RegisteredName) (external_aad payload b : List ℕ) (unsigned built : Sign1Seen) → unsigned ≡ apart a
+    {F E : Type 0} (g : Maker F E) (f : F) (a : RegisteredName) (external_aad payload b : List ℕ) (unsigned built : Sign1View) → unsigned ≡ apart a
     → Made g f (sign1_structure unsigned external_aad payload) (λ s. built ≡ with_signature s.items unsigned) → IsWritten sign1 built b
     → IsSignedApart g f a external_aad payload b
 signed_apart g f a x p b unsigned built is m w =
@@ -31,7 +31,7 @@ signed_apart g f a x p b unsigned built is m w =
 
 -- nothing is made where the closure refuses, or memory runs out
 pub not_signed_apart :
-    {F E : Type 0} (g : Maker F E) (f : F) (n : ℤ) (external_aad payload : List ℕ) (unsigned : Sign1Seen) → unsigned ≡ apart (assigned n)
+    {F E : Type 0} (g : Maker F E) (f : F) (n : ℤ) (external_aad payload : List ℕ) (unsigned : Sign1View) → unsigned ≡ apart (assigned n)
     → (e : CallError E) → NotMade g f (sign1_structure unsigned external_aad payload) e → SignsApart g f (assigned n) external_aad payload (Err e)
 not_signed_apart g f n x p unsigned is (Coset e) tried =
     only_memory e (λ other. has_signed n p x (subst (λ m. sign1_structure m x p ≡ None) is (tried other).1))
@@ -56,7 +56,7 @@ carries_none (Some x) is no_bytes = absurd (true≢false (sym is ∙ no_bytes))
 pub not_verified_apart :
     {F E : Type 0} (g : Asker F (Unit {0}) E) (f : F)
     → ((external_aad payload : List ℕ) → WhenRead sign1 (λ m. sign1_structure m external_aad payload ≡ None → ⊥))
-    → (external_aad payload b : List ℕ) (m : Sign1Seen) → Describes sign1 b m → m.payload ≡ None → (e : CallError E)
+    → (external_aad payload b : List ℕ) (m : Sign1View) → Describes sign1 b m → m.payload ≡ None → (e : CallError E)
     → NotSaid g f m.signature (sign1_structure m external_aad payload) e → VerifiesApart g f external_aad payload b (Err e)
 not_verified_apart g f law x p b m d none (Coset e) asked = inl (λ other. absurd (law x p _ m d.2 (asked other).1))
 not_verified_apart g f law x p b m d none (Caller e) asked = (m, d, (none, asked))

@@ -1,4 +1,4 @@
--- What keys say that are asked through closures. A clause on a call of a closure is taken apart here: OK tells of the
+-- What keys say that are asked through closures. A clause on a call of a closure is taken apart here: OK says of the
 -- calls that succeed, ERR of those that are refused.
 use Rattle.std.proofs.Common.{◌≡◌, ◌↔◌, ◌∙◌, Bool, not, ℕ, List, None, Some, Option, Result, Ok, Err, Vec, Global, ap, false, inl, is_some, option_map, refl}
 use Rattle.std.proofs.Common.{sym, subst, true, true≢false}
@@ -12,12 +12,12 @@ use Rattle.coset_codec.specs.declared.error.CallError.{CallError}
 use Rattle.coset_codec.specs.declared.error.CallError.TheVariants.{Coset, Caller}
 use Rattle.coset_codec.specs.declared.error.CoseError.{CoseError}
 use Rattle.coset_codec.specs.declared.error.CoseError.TheVariants.{OutOfMemory}
-use Rattle.coset_core.specs.Headers.{HeaderSeen}
+use Rattle.coset_core.specs.Headers.{HeaderView}
 use Rattle.coset_msg.specs.EncStructure.{Encrypts}
 use Rattle.coset_msg.specs.declared.enc_structure.EncryptionContext.TheVariants.{CoseEncrypt0}
-use Rattle.coset_msg.specs.Encrypt0.{Encrypt0Seen, encrypt0, encrypt0_structure}
+use Rattle.coset_msg.specs.Encrypt0.{Encrypt0View, encrypt0, encrypt0_structure}
 use Rattle.coset_core.specs.Calls.{IsStructure}
-use Rattle.coset_sign.specs.Sign1.{Sign1Seen, sign1, sign1_carried, sign1_structure}
+use Rattle.coset_sign.specs.Sign1.{Sign1View, sign1, sign1_carried, sign1_structure}
 use Rattle.coset_uses.specs.Exchange.{CarriesSame, IsSent}
 use Rattle.coset_uses.specs.Oscore.{IsDecrypted}
 use Rattle.coset_uses.specs.Refusals.{IsNotDecrypted, IsNotOpened, IsNotSent, IsNotVerified, unsigned}
@@ -68,7 +68,7 @@ module _ (ERR : Bor (List ℕ) → Bor (List ℕ) → Refused → Type 0) (accep
   -- why a message that was read isn't verified
   pub not_verified :
       ((external_aad payload : List ℕ) → WhenRead sign1 (λ m. sign1_structure m external_aad payload ≡ None → ⊥))
-      → (external_aad b : List ℕ) (m : Sign1Seen) (e : CallError Refused) → Describes sign1 b m → Denied ERR m.signature (sign1_carried m external_aad) e
+      → (external_aad b : List ℕ) (m : Sign1View) (e : CallError Refused) → Describes sign1 b m → Denied ERR m.signature (sign1_carried m external_aad) e
       → Refuses → IsNotVerified accepts external_aad b e
   not_verified law a b m (Coset e) d asked says = λ other. absurd (law a _ d.0 m d.2 (asked other).1)
   not_verified law a b m (Caller r) d asked says =
@@ -77,7 +77,7 @@ module _ (ERR : Bor (List ℕ) → Bor (List ℕ) → Refused → Type 0) (accep
 
   -- and one that was sent is refused for memory alone
   pub memory_alone :
-      ShortestIsInRange → LeastIsShortest → {a payload b : List ℕ} (sent : IsSent accepts a payload b) (n : Sign1Seen) → CarriesSame n sent.message
+      ShortestIsInRange → LeastIsShortest → {a payload b : List ℕ} (sent : IsSent accepts a payload b) (n : Sign1View) → CarriesSame n sent.message
       → (e : CallError Refused) → Denied ERR n.signature (sign1_carried n a) e → Refuses → e ≡ Coset OutOfMemory
   memory_alone in_range least {a} sent n same (Coset e) asked says = ap Coset (only_memory e (λ other. has_structure sent n same (asked other).1))
   memory_alone in_range least {a} sent n same (Caller r) asked says =
@@ -105,7 +105,7 @@ module _ (signs : List ℕ → List ℕ → Type 0) (refuses : List ℕ → Refu
 
   -- why a message isn't signed
   pub not_signed :
-      {ERR : Bor (List ℕ) → Refused → Type 0} (external_aad : List ℕ) (h : HeaderSeen) (payload : List ℕ) (m : Sign1Seen) → m ≡ unsigned h payload
+      {ERR : Bor (List ℕ) → Refused → Type 0} (external_aad : List ℕ) (h : HeaderView) (payload : List ℕ) (m : Sign1View) → m ≡ unsigned h payload
       → (e : CallError Refused)
       → DeniedOne ERR (sign1_carried m external_aad) e → ((p : Bor (List ℕ)) (r : Refused) → ERR p r → Signs signs refuses p.now (Err r))
       → IsNotSent refuses external_aad h payload e
@@ -161,9 +161,9 @@ module _ (decrypts : List ℕ → List ℕ → List ℕ → Type 0) (refuses : L
   no_data ERR None structure e there asked = absurd (there refl)
   no_data ERR (Some c) structure e there asked = asked
 
-  -- what is answered of a message that was read and carries a ciphertext
+  -- what is returned of a message that was read and carries a ciphertext
   pub is_decrypted :
-      {OK : Bor (List ℕ) → Bor (List ℕ) → Type 0} (external_aad b : List ℕ) (m : Encrypt0Seen) (x : Vec ℕ Global) → Describes encrypt0 b m
+      {OK : Bor (List ℕ) → Bor (List ℕ) → Type 0} (external_aad b : List ℕ) (m : Encrypt0View) (x : Vec ℕ Global) → Describes encrypt0 b m
       → (m.ciphertext ≡ None → ⊥)
       → IfSome m.ciphertext (λ c. (t : List ℕ) × IsStructure (encrypt0_structure m external_aad) t × At OK c t)
       → ((p q : Bor (List ℕ)) → OK p q → Opens decrypts refuses p.now q.now (Ok x))
@@ -173,7 +173,7 @@ module _ (decrypts : List ℕ → List ℕ → List ℕ → Type 0) (refuses : L
       record { message = m; read = d; ciphertext = whole.0; carried = whole.1; decrypted = whole.2 }
 
   pub not_decrypted :
-      (ERR : Bor (List ℕ) → Bor (List ℕ) → Refused → Type 0) → EncryptsWhenRead → (external_aad b : List ℕ) (m : Encrypt0Seen) (e : CallError Refused)
+      (ERR : Bor (List ℕ) → Bor (List ℕ) → Refused → Type 0) → EncryptsWhenRead → (external_aad b : List ℕ) (m : Encrypt0View) (e : CallError Refused)
       → Describes encrypt0 b m → (m.ciphertext ≡ None → ⊥)
       → IfSome m.ciphertext (λ c. Denied ERR c (encrypt0_structure m external_aad) e)
       → ((p q : Bor (List ℕ)) (y : Refused) → ERR p q y → Opens decrypts refuses p.now q.now (Err y)) → IsNotDecrypted refuses external_aad b e
@@ -183,6 +183,6 @@ module _ (decrypts : List ℕ → List ℕ → List ℕ → Type 0) (refuses : L
 
 -- nor is one that carries none
 pub none_decrypted :
-    (refuses : List ℕ → List ℕ → Refused → Type 0) (external_aad b : List ℕ) (m : Encrypt0Seen) → Describes encrypt0 b m → m.ciphertext ≡ None
+    (refuses : List ℕ → List ℕ → Refused → Type 0) (external_aad b : List ℕ) (m : Encrypt0View) → Describes encrypt0 b m → m.ciphertext ≡ None
     → IsNotDecrypted refuses external_aad b (Caller Rejected)
 none_decrypted refuses a b m d none = (m, d, subst (λ o. IsNotOpened refuses o (encrypt0_structure m a) Rejected) (sym none) refl)

@@ -13,6 +13,6 @@ find-map f p [] = refl
 find-map f p (x ∷ xs) = ap (cond (p (f x)) (Some (f x))) (find-map f p xs) ∙ cond-map f (p (f x)) x (find (λ y. p (f y)) xs)
 
 -- what is seen of what is lent
-pub seen_lent : {A B : Type 0} (f : A → B) (r : Option (Bor A)) → option_map (λ x. f x.now) r ≡ option_map f (option_map (λ x. x.now) r)
-seen_lent f None = refl
-seen_lent f (Some x) = refl
+pub view_lent : {A B : Type 0} (f : A → B) (r : Option (Bor A)) → option_map (λ x. f x.now) r ≡ option_map f (option_map (λ x. x.now) r)
+view_lent f None = refl
+view_lent f (Some x) = refl

@@ -10,10 +10,10 @@ use Rattle.coset_codec.specs.declared.error.CallError.TheVariants.{Coset, Caller
 use Rattle.coset_label.specs.Names.{RegisteredName, assigned, private_use, text_name}
 use Rattle.coset_core.specs.Built.{with_algorithm}
 use Rattle.coset_core.specs.Fields.{partial_header}
-use Rattle.coset_core.specs.Headers.{HeaderSeen, empty_header, layered_header, layered_protected, protected_bytes}
+use Rattle.coset_core.specs.Headers.{HeaderView, empty_header, layered_header, layered_protected, protected_bytes}
 use Rattle.coset_core.specs.Messages.{unread}
-use Rattle.coset_claims.specs.Claims.{ClaimsSeen, FieldTuple, claim_name, claims, fields, names, parts_of}
-use Rattle.coset_claims.specs.Timestamp.{TimestampSeen, fractional_seconds, timestamp, whole_seconds}
+use Rattle.coset_claims.specs.Claims.{ClaimsView, FieldTuple, claim_name, claims, fields, names, parts_of}
+use Rattle.coset_claims.specs.Timestamp.{TimestampView, fractional_seconds, timestamp, whole_seconds}
 use Rattle.coset_codec.proofs.EncodingMaps.{optional-has}
 use Rattle.coset_sign.specs.SignatureStructure.{signature_structure}
 use Rattle.coset_sign.specs.Sign1.{sign1, sign1_carried, with_signature}
@@ -31,7 +31,7 @@ unwritten f None vs e = refl
 unwritten f (Some b) vs e = absurd (cc)
 
 -- nothing is signed of a message that isn't written
-pub unsigned_unwritten : (h : HeaderSeen) (payload s external_aad : List ℕ) → sign1.image (with_signature s (unsigned h payload)) ≡ None
+pub unsigned_unwritten : (h : HeaderView) (payload s external_aad : List ℕ) → sign1.image (with_signature s (unsigned h payload)) ≡ None
     → sign1_carried (unsigned h payload) external_aad ≡ None
 unfolding layered_protected layered_header partial_header
 unsigned_unwritten h payload s a e = unwritten (λ p. signature_structure CoseSign1 p None a payload) (protected_bytes (unread h)) _ e
@@ -53,7 +53,7 @@ text-has s e = absurd (cc)
 bytes-have : (s : List ℕ) → bstr.image s ≡ None → ⊥
 bytes-have s e = absurd (cc)
 
-moment-has : (t : TimestampSeen) → timestamp.image t ≡ None → ⊥
+moment-has : (t : TimestampView) → timestamp.image t ≡ None → ⊥
 unfolding timestamp
 moment-has (whole_seconds i) e = absurd (cc)
 moment-has (fractional_seconds x) e = absurd (cc)
@@ -81,7 +81,7 @@ entries-have : (rest : List (RegisteredName × Item)) (o : Option (List (Registe
 entries-have rest None h e = h refl
 entries-have rest (Some es) h e = mapped-has dict (named_image claim_name.image (es ++ rest)) (rest-has (es ++ rest)) e
 
-pub claims-have : (c : ClaimsSeen) → claims.image c ≡ None → ⊥
+pub claims-have : (c : ClaimsView) → claims.image c ≡ None → ⊥
 unfolding claims
 claims-have c e = entries-have c.rest (fields.image (parts_of c).0) (fields-have (parts_of c).0) e
 
@@ -89,7 +89,7 @@ claims-have c e = entries-have c.rest (fields.image (parts_of c).0) (fields-have
 
 -- why a message whose header names an algorithm isn't sent
 not_issued :
-    (refuses : List ℕ → Refused → Type 0) (external_aad payload : List ℕ) (n : ℤ) → IsAlgorithm n → (c : ClaimsSeen) → IsWritten claims c payload
+    (refuses : List ℕ → Refused → Type 0) (external_aad payload : List ℕ) (n : ℤ) → IsAlgorithm n → (c : ClaimsView) → IsWritten claims c payload
     → (e : CallError Refused)
     → IsNotSent refuses external_aad (with_algorithm (assigned n) empty_header) payload e → IsNotIssued refuses external_aad (assigned n) c e
 not_issued refuses a payload n is c w (Coset e) (inl none) = only_memory e (λ other. has_signed n payload a (none other).1)
@@ -97,8 +97,8 @@ not_issued refuses a payload n is c w (Coset e) (inr h) = only_memory e (λ othe
 not_issued refuses a payload n is c w (Caller r) h = (payload, h.0, w, h.1, h.2)
 
 pub none_issued :
-    {T : Type 0} (refuses : List ℕ → Refused → Type 0) (external_aad payload : List ℕ) (n : ℤ) → IsAlgorithm n → (c : ClaimsSeen) → IsWritten claims c payload
-    → (h : HeaderSeen) → h ≡ with_algorithm (assigned n) empty_header
+    {T : Type 0} (refuses : List ℕ → Refused → Type 0) (external_aad payload : List ℕ) (n : ℤ) → IsAlgorithm n → (c : ClaimsView) → IsWritten claims c payload
+    → (h : HeaderView) → h ≡ with_algorithm (assigned n) empty_header
     → (r : Result T (CallError Refused)) → IfErr r (λ e. IsNotSent refuses external_aad h payload e)
     → IfErr r (λ e. IsNotIssued refuses external_aad (assigned n) c e)
 none_issued refuses a payload n is c w h names (Ok x) k = tt

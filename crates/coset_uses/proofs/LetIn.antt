@@ -3,7 +3,7 @@ use Rattle.std.specs.Prelude.{IfOk}
 use Rattle.std.specs.Cmp.Lexicographic.{bytes_decides}
 use Rattle.std.proofs.Common.{◌≡◌, ◌||◌, ◌∷◌, ℕ, ℤ, List, [], Bool, Option, Some, None, Result, Ok, Err, ap, sym, true, false, true≢false}
 use Rattle.coset_label.specs.Names.{RegisteredName, TellsApart, registered_cmp}
-use Rattle.coset_claims.specs.Claims.{claims_seen, same_name}
+use Rattle.coset_claims.specs.Claims.{claims_view, same_name}
 use Rattle.coset_claims.specs.declared.claims_set.ClaimsSet.{ClaimsSet}
 use Rattle.cwt_gate.specs.Gate.{JudgesWith, Verifies}
 use Rattle.cwt_gate.specs.Policy.{is_meant, is_one_of, is_there_and}
@@ -29,7 +29,7 @@ pub known :
     {F E : Type 0} (g : Verifies F E) (f : F) (a : RegisteredName) (audience : List ℕ) (now : ℤ) (b : List ℕ) (r : Result ClaimsSet (PolicyError E))
     → TellsApart registered_cmp
     → JudgesWith g f (policy_of a audience) now b r
-    → IfOk r (λ x. IsLetIn g f a audience b (claims_seen x))
+    → IfOk r (λ x. IsLetIn g f a audience b (claims_view x))
 known g f a audience now b (Err e) law h = tt
 known g f a audience now b (Ok x) law h =
     record { message = h.0.0; read = h.0.1; named = only law a _ h.0.2.0.0; accepted = h.0.2.1; meant = meant audience _ h.3 }

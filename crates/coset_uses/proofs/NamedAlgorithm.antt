@@ -21,8 +21,8 @@ use Rattle.coset_label.specs.Names.{number, assigned}
 use Rattle.coset_label.specs.Labels.{algorithm}
 use Rattle.coset_core.specs.Built.{with_algorithm}
 use Rattle.coset_core.specs.Fields.{partial_header}
-use Rattle.coset_core.specs.Headers.{HeaderSeen, empty_header, header, layered_header, layered_protected, protected}
-use Rattle.coset_sign.specs.Sign1.{Sign1Seen, sign1, sign1_carried, with_signature}
+use Rattle.coset_core.specs.Headers.{HeaderView, empty_header, header, layered_header, layered_protected, protected}
+use Rattle.coset_sign.specs.Sign1.{Sign1View, sign1, sign1_carried, with_signature}
 use Rattle.coset_uses.specs.Refusals.{unsigned}
 
 -- the number of an algorithm
@@ -45,7 +45,7 @@ is_algorithm a = record { known = known a; fits = fits a; in_range = in_range a 
 
 -- ---- the header
 
-abbrev naming : ℤ → HeaderSeen
+abbrev naming : ℤ → HeaderView
 naming n = with_algorithm (assigned n) empty_header
 
 abbrev naming_item : ℤ → Item
@@ -97,7 +97,7 @@ empty_described = (
 
 -- ---- the message
 
--- the bytes that stand for its protected header
+-- the bytes that represent its protected header
 abbrev naming_bytes : ℤ → List ℕ
 naming_bytes n = least_encoding (naming_item n)
 
@@ -105,7 +105,7 @@ abbrev message_item : ℤ → List ℕ → List ℕ → Item
 message_item n payload s = array (item (bytes (naming_bytes n)) (item (dict no_pairs) (item (bytes payload) (item (bytes s) no_items))))
 
 -- the message that is read
-abbrev received : ℤ → List ℕ → List ℕ → Sign1Seen
+abbrev received : ℤ → List ℕ → List ℕ → Sign1View
 received n payload s = record {
   protected = record { original = Some (naming_bytes n); header = naming n };
   unprotected = empty_header;

@@ -2,7 +2,7 @@
 use Rattle.std.proofs.Common.{◌≡◌, ◌∙◌, map, ℕ, List, [], ◌∷◌, ◌++◌, append_assoc, append-nil, ap, length, refl, subst, sym, arith}
 use Rattle.std.proofs.lemmas.List.{map-append}
 use Rattle.coset_value.specs.Item.{Item}
-use Rattle.coset_value.specs.View.{view}
+use Rattle.coset_value.specs.View.{value_item}
 use Rattle.coset_value.specs.declared.value.Value.{Value}
 use Rattle.coset_cbor.specs.Grammar.{IsItem}
 use Rattle.coset_uses.specs.Sequence.{IsSequence}
@@ -19,5 +19,5 @@ pub all_read : (all left : List ℕ) (vs : List Item) → GoesOn all vs left →
 all_read all [] vs g none = subst (λ xs. IsSequence xs all) (append-nil vs) (g [] refl)
 all_read all (x ∷ left) vs g none = absurd (omega (arith, none))
 
-pub pushed : (old new : List Value) (x : Value) (v : Item) → new ≡ old ++ x ∷ [] → view x ≡ v → map view new ≡ map view old ++ v ∷ []
-pushed old new x v e q = ap (map view) e ∙ (map-append view old (x ∷ []) ∙ ap (λ w. map view old ++ w ∷ []) q)
+pub pushed : (old new : List Value) (x : Value) (v : Item) → new ≡ old ++ x ∷ [] → value_item x ≡ v → map value_item new ≡ map value_item old ++ v ∷ []
+pushed old new x v e q = ap (map value_item) e ∙ (map-append value_item old (x ∷ []) ∙ ap (λ w. map value_item old ++ w ∷ []) q)

@@ -1,13 +1,13 @@
 -- What a header holds, as the code sees it and as contracts do; and tests of lists that were mapped.
 use Rattle.std.proofs.Common.{◌≡◌, List, [], ◌∷◌, ◌||◌, ◌&&◌, Bool, map, refl, ap}
 use Rattle.std.specs.List.{list_any, list_all}
-use Rattle.coset_core.specs.FieldsView.{fields_seen}
+use Rattle.coset_core.specs.FieldViews.{fields_view}
 use Rattle.coset_core.specs.Headers.{fields_in}
 use Rattle.coset_core.specs.ViewLaws.{header-opened}
-use Rattle.coset_core.specs.Views.{header_seen}
+use Rattle.coset_core.specs.Views.{header_view}
 use Rattle.coset_core.specs.declared.header.Header.{Header}
 
-pub opened : (h : Header) → fields_in (header_seen h) ≡ fields_seen h
+pub opened : (h : Header) → fields_in (header_view h) ≡ fields_view h
 opened h = ap fields_in (header-opened h)
 
 pub any-map : {A B : Type 0} (f : B → Bool) (g : A → B) (xs : List A) → list_any f (map g xs) ≡ list_any (λ x. f (g x)) xs

@@ -9,12 +9,12 @@ use Rattle.coset_codec.specs.declared.error.CallError.{CallError}
 use Rattle.coset_codec.specs.declared.error.CallError.TheVariants.{Coset, Caller}
 use Rattle.coset_codec.specs.declared.error.CoseError.{CoseError}
 use Rattle.coset_codec.specs.declared.error.CoseError.TheVariants.{UnexpectedItem}
-use Rattle.coset_sign.specs.Sign1.{Sign1Seen}
+use Rattle.coset_sign.specs.Sign1.{Sign1View}
 use Rattle.coset_uses.specs.Exchange.{IsVerified}
 use Rattle.coset_uses.specs.Refusals.{AreNotVerified, HoldsNoClaims, IsNotVerified}
 use Rattle.coset_uses.specs.declared.cipher.Refused.{Refused}
 
--- what holds of an error holds of it where it is passed on
+-- what holds of an error holds of it where it is skipped on
 pub passed : {T E : Type 0} (P : E → Type 0) (e : E) (r : Result T E) → IsErrAnd r (λ x. x ≡ e) → P e → IfErr r P
 passed P e (Ok x) is h = absurd is
 passed P e (Err x) is h = subst P (sym is) h
@@ -38,7 +38,7 @@ none_verified accepts a b (Caller r) h = h
 
 -- nor are those of a message that is verified and carries no payload
 pub no_payload :
-    (accepts : List ℕ → List ℕ → Type 0) (external_aad b : List ℕ) (m : Sign1Seen) (got want : Bor (List ℕ)) → IsVerified accepts external_aad b m
+    (accepts : List ℕ → List ℕ → Type 0) (external_aad b : List ℕ) (m : Sign1View) (got want : Bor (List ℕ)) → IsVerified accepts external_aad b m
     → m.payload ≡ None
     → AreNotVerified accepts external_aad b (Coset (UnexpectedItem got want))
 no_payload accepts a b m got want verified none = inr (m, verified, subst (λ o. HoldsNoClaims o (UnexpectedItem got want)) (sym none) tt)

@@ -12,7 +12,7 @@ use Rattle.coset_label.specs.Labels.{algorithm}
 use Rattle.coset_core.specs.Fields.{partial_header}
 use Rattle.coset_core.specs.Headers.{layered_header, layered_protected}
 use Rattle.coset_msg.specs.declared.mac_structure.MacContext.TheVariants.{CoseMac}
-use Rattle.coset_recipient.specs.Mac.{MacSeen, mac, mac_structure_of, with_tag}
+use Rattle.coset_recipient.specs.Mac.{MacView, mac, mac_structure_of, with_tag}
 use Rattle.coset_recipient.specs.Recipient.{recipient}
 use Rattle.coset_recipient.specs.Structures.{Macs}
 use Rattle.coset_uses.specs.Asked.{Asker, Maker}
@@ -24,7 +24,7 @@ use Rattle.coset_uses.proofs.Spellings.{only_memory}
 
 -- what the closure made of its structure
 pub tagged :
-    {F E : Type 0} (g : Maker F E) (f : F) (a : RegisteredName) (key_id external_aad payload : List ℕ) (untagged built : MacSeen)
+    {F E : Type 0} (g : Maker F E) (f : F) (a : RegisteredName) (key_id external_aad payload : List ℕ) (untagged built : MacView)
     → untagged ≡ shared_with a key_id payload
     → IfSome untagged.payload (λ p. Made g f (mac_structure_of untagged external_aad p) (λ t. built ≡ with_tag t.items untagged))
     → Made g f (mac_structure_of (shared_with a key_id payload) external_aad payload) (λ t. built ≡ with_tag t.items (shared_with a key_id payload))
@@ -32,7 +32,7 @@ tagged g f a k x p untagged built is made =
     subst (λ u. IfSome u.payload (λ q. Made g f (mac_structure_of u x q) (λ t. built ≡ with_tag t.items u))) is made
 
 pub is_mac_for :
-    {F E : Type 0} (g : Maker F E) (f : F) (a : RegisteredName) (key_id external_aad payload b : List ℕ) (untagged built : MacSeen)
+    {F E : Type 0} (g : Maker F E) (f : F) (a : RegisteredName) (key_id external_aad payload b : List ℕ) (untagged built : MacView)
     → untagged ≡ shared_with a key_id payload
     → IfSome untagged.payload (λ p. Made g f (mac_structure_of untagged external_aad p) (λ t. built ≡ with_tag t.items untagged)) → IsWritten mac built b
     → IsMacFor g f a key_id external_aad payload b
@@ -52,7 +52,7 @@ mac-has n (c ∷ key_id) payload t e = absurd (cc)
 
 -- nothing is made where the closure refuses, or memory runs out
 pub no_mac_for :
-    {F E : Type 0} (g : Maker F E) (f : F) (n : ℤ) (key_id external_aad payload : List ℕ) (untagged : MacSeen)
+    {F E : Type 0} (g : Maker F E) (f : F) (n : ℤ) (key_id external_aad payload : List ℕ) (untagged : MacView)
     → untagged ≡ shared_with (assigned n) key_id payload → (e : CallError E)
     → IfSome untagged.payload (λ p. NotMade g f (mac_structure_of untagged external_aad p) e)
     → MacsFor g f (assigned n) key_id external_aad payload (Err e)
@@ -65,7 +65,7 @@ no_mac_for g f n k x p untagged is (Caller e) tried =
 -- ---- verifying one
 
 pub not_verified_for :
-    {F E : Type 0} (g : Asker F (Unit {0}) E) (f : F) → WhenRead mac Macs → (key_id external_aad b : List ℕ) (absent : E) (m : MacSeen) (p : List ℕ)
+    {F E : Type 0} (g : Asker F (Unit {0}) E) (f : F) → WhenRead mac Macs → (key_id external_aad b : List ℕ) (absent : E) (m : MacView) (p : List ℕ)
     → Describes mac b m → m.payload ≡ Some p → list_any (is_direct_to key_id) m.recipients ≡ true → (e : CallError E)
     → NotSaid g f m.tag (mac_structure_of m external_aad p) e → VerifiesFor g f key_id external_aad absent b (Err e)
 not_verified_for g f law k x b absent m p d carried direct (Coset e) asked =

@@ -13,8 +13,8 @@ use Rattle.coset_codec.specs.ShapeLaws.{some-one}
 use Rattle.coset_codec.specs.declared.error.CallError.{CallError}
 use Rattle.coset_codec.specs.declared.error.CallError.TheVariants.{Coset, Caller}
 use Rattle.coset_core.specs.Calls.{IsStructure}
-use Rattle.coset_core.specs.Headers.{SignatureSeen}
-use Rattle.coset_sign.specs.Sign.{EachSigns, SignSeen, and_signature, sign, signed_with, signer_carried, signer_structure}
+use Rattle.coset_core.specs.Headers.{SignatureView}
+use Rattle.coset_sign.specs.Sign.{EachSigns, SignView, and_signature, sign, signed_with, signer_carried, signer_structure}
 use Rattle.coset_sign.specs.Signed.{or_empty}
 use Rattle.coset_uses.specs.Asked.{Asker, Maker}
 use Rattle.coset_uses.specs.Signers.{IsSignedByTwo, SignsByTwo, VerifiesBy, is_by, signature_by, signed_by}
@@ -22,9 +22,9 @@ use Rattle.coset_uses.proofs.Calls.{Made, NotMade, NotSaid}
 
 -- ---- signing
 
-module _ {F H E : Type 0} (g : Maker F E) (f : F) (k : Maker H E) (h : H) (external_aad payload : List ℕ) (first second : SignatureSeen) where
+module _ {F H E : Type 0} (g : Maker F E) (f : F) (k : Maker H E) (h : H) (external_aad payload : List ℕ) (first second : SignatureView) where
   pub signed_by_two :
-      (b : List ℕ) (unsigned once twice : SignSeen) → unsigned ≡ signed_by payload []
+      (b : List ℕ) (unsigned once twice : SignView) → unsigned ≡ signed_by payload []
       → Made g f (signer_carried unsigned first external_aad) (λ s. once ≡ and_signature (signed_with s.items first) unsigned)
       → Made k h (signer_carried once second external_aad) (λ t. twice ≡ and_signature (signed_with t.items second) once) → IsWritten sign twice b
       → IsSignedByTwo g f k h external_aad payload first second b
@@ -42,7 +42,7 @@ module _ {F H E : Type 0} (g : Maker F E) (f : F) (k : Maker H E) (h : H) (exter
 
   -- the first refuses, or there is nothing for it to sign
   pub first_refused :
-      (unsigned : SignSeen) → unsigned ≡ signed_by payload [] → (e : CallError E) → NotMade g f (signer_carried unsigned first external_aad) e
+      (unsigned : SignView) → unsigned ≡ signed_by payload [] → (e : CallError E) → NotMade g f (signer_carried unsigned first external_aad) e
       → SignsByTwo g f k h external_aad payload first second (Err e)
   first_refused unsigned is (Coset e) tried = inl (subst (λ m. HasNoImage (signer_carried m first external_aad) e) is tried)
   first_refused unsigned is (Caller e) tried =
@@ -50,7 +50,7 @@ module _ {F H E : Type 0} (g : Maker F E) (f : F) (k : Maker H E) (h : H) (exter
 
   -- the second does
   pub second_refused :
-      (unsigned once : SignSeen) (s : List ℕ) → unsigned ≡ signed_by payload [] → once ≡ and_signature (signed_with s first) unsigned
+      (unsigned once : SignView) (s : List ℕ) → unsigned ≡ signed_by payload [] → once ≡ and_signature (signed_with s first) unsigned
       → (e : CallError E) → NotMade k h (signer_carried once second external_aad) e → SignsByTwo g f k h external_aad payload first second (Err e)
   second_refused unsigned once s is made (Coset e) tried =
       let one : once ≡ signed_by payload (signed_with s first ∷ []) = made ∙ ap (and_signature (signed_with s first)) is in
@@ -61,7 +61,7 @@ module _ {F H E : Type 0} (g : Maker F E) (f : F) (k : Maker H E) (h : H) (exter
 
 -- the message that both signed
 pub both_signed :
-    (payload s t : List ℕ) (first second : SignatureSeen) (unsigned once twice : SignSeen) → unsigned ≡ signed_by payload []
+    (payload s t : List ℕ) (first second : SignatureView) (unsigned once twice : SignView) → unsigned ≡ signed_by payload []
     → once ≡ and_signature (signed_with s first) unsigned → twice ≡ and_signature (signed_with t second) once
     → twice ≡ signed_by payload (signed_with s first ∷ signed_with t second ∷ [])
 both_signed payload s t first second unsigned once twice is one two =
@@ -124,7 +124,7 @@ within f xs i y e =
 
 module _ {F E : Type 0} (g : Asker F (Unit {0}) E) (f : F) where
   pub not_verified_by :
-      WhenRead sign EachSigns → (key_id external_aad b : List ℕ) (absent : E) (m : SignSeen) (s : SignatureSeen) → Describes sign b m
+      WhenRead sign EachSigns → (key_id external_aad b : List ℕ) (absent : E) (m : SignView) (s : SignatureView) → Describes sign b m
       → signature_by key_id m.signatures ≡ Some s → (e : CallError E) → NotSaid g f s.signature (signer_carried m s external_aad) e
       → VerifiesBy g f key_id external_aad absent b (Err e)
   not_verified_by law key_id x b absent m s d found (Coset e) asked =

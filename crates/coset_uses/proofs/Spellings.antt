@@ -18,7 +18,7 @@ use Rattle.coset_codec.specs.declared.error.CoseError.TheVariants.{UnexpectedIte
 use Rattle.coset_codec.proofs.Whole.{OneItem, one_of}
 use Rattle.coset_codec.specs.ShapeLaws.{some-none, some-one}
 use Rattle.coset_core.specs.Calls.{IsStructure}
-use Rattle.coset_sign.specs.Sign1.{Sign1Seen, sign1, sign1_carried, sign1_structure}
+use Rattle.coset_sign.specs.Sign1.{Sign1View, sign1, sign1_carried, sign1_structure}
 use Rattle.coset_sign.specs.Signed.{SignsSame, or_empty}
 use Rattle.coset_sign.specs.declared.signature.SignatureContext.TheVariants.{CoseSign1}
 use Rattle.coset_uses.specs.Exchange.{Arrives, CarriesSame, IsSent, IsSpelling, Respells}
@@ -45,10 +45,10 @@ passed_on e (Err x) is h = is ∙ ap Coset (only_memory e h)
 
 -- what is signed and carried stays the same
 abbrev pub SignedAsWritten : Type 0
-SignedAsWritten = (v : Item) (m n : Sign1Seen) → sign1.image m ≡ Some v → sign1.describes v n → SignsSame n.protected m.protected
+SignedAsWritten = (v : Item) (m n : Sign1View) → sign1.image m ≡ Some v → sign1.describes v n → SignsSame n.protected m.protected
 
 abbrev pub CarriedAsWritten : Type 0
-CarriedAsWritten = (v : Item) (m n : Sign1Seen) → sign1.image m ≡ Some v → sign1.describes v n → (n.payload ≡ m.payload) × (n.signature ≡ m.signature)
+CarriedAsWritten = (v : Item) (m n : Sign1View) → sign1.image m ≡ Some v → sign1.describes v n → (n.payload ≡ m.payload) × (n.signature ≡ m.signature)
 
 abbrev pub ShortestIsEncoding : Type 0
 ShortestIsEncoding = (v : Item) (b : List ℕ) → IsShortest b v → IsEncoding v b
@@ -66,7 +66,7 @@ pub arrives : {A : Type 0} (shape : Shape A) (R : A → A → Type 0) → OneIte
 arrives shape R one encoding law b t m n w s d = law w.0 m n w.1 (same_item shape one encoding b t m n w s d)
 
 pub carries_same :
-    OneItem → ShortestIsEncoding → SignedAsWritten → CarriedAsWritten → (b t : List ℕ) (m n : Sign1Seen) → IsWritten sign1 m b → IsSpelling b t
+    OneItem → ShortestIsEncoding → SignedAsWritten → CarriedAsWritten → (b t : List ℕ) (m n : Sign1View) → IsWritten sign1 m b → IsSpelling b t
     → Describes sign1 t n → CarriesSame n m
 carries_same one encoding signs carries b t m n w s d =
     let read = same_item sign1 one encoding b t m n w s d in
@@ -90,13 +90,13 @@ same_bytes in_range least o p b c e h k =
     least h.0 b (in_range h.0 b h.2) h.2 ∙ (ap least_encoding same ∙ sym (least k.0 c (in_range k.0 c k.2) k.2))
 
 -- of what was sent there is a structure
-pub has_structure : {accepts : List ℕ → List ℕ → Type 0} {a payload b : List ℕ} (s : IsSent accepts a payload b) (n : Sign1Seen) → CarriesSame n s.message
+pub has_structure : {accepts : List ℕ → List ℕ → Type 0} {a payload b : List ℕ} (s : IsSent accepts a payload b) (n : Sign1View) → CarriesSame n s.message
     → sign1_carried n a ≡ None → ⊥
 has_structure {a = a} s n same e = some-none s.signed.1.1 (sym (same.structure a) ∙ e)
 
 -- the signature that was sent is accepted of what arrives
 pub is_accepted :
-    ShortestIsInRange → LeastIsShortest → {accepts : List ℕ → List ℕ → Type 0} {a payload b : List ℕ} (s : IsSent accepts a payload b) (n : Sign1Seen)
+    ShortestIsInRange → LeastIsShortest → {accepts : List ℕ → List ℕ → Type 0} {a payload b : List ℕ} (s : IsSent accepts a payload b) (n : Sign1View)
     → CarriesSame n s.message
     → (t : List ℕ) → IsStructure (sign1_carried n a) t → accepts t n.signature
 is_accepted in_range least {accepts} {a} s n same t h =

@@ -13,10 +13,10 @@ use Rattle.coset_label.specs.Labels.{algorithm}
 use Rattle.coset_core.specs.Calls.{AsksAbout, IsStructure}
 use Rattle.coset_core.specs.Fields.{partial_header}
 use Rattle.coset_msg.specs.declared.enc_structure.EncryptionContext.TheVariants.{CoseEncrypt, EncRecipient}
-use Rattle.coset_recipient.specs.Encrypt.{EncryptSeen, encrypt, encrypt_structure_of, with_ciphertext}
+use Rattle.coset_recipient.specs.Encrypt.{EncryptView, encrypt, encrypt_structure_of, with_ciphertext}
 use Rattle.coset_recipient.specs.Recipient as inner
-use Rattle.coset_recipient.specs.Recipient.{RecipientSeen}
-use Rattle.coset_recipient.specs.RecipientView.{recipient_seen}
+use Rattle.coset_recipient.specs.Recipient.{RecipientView}
+use Rattle.coset_recipient.specs.RecipientViews.{recipient_view}
 use Rattle.coset_recipient.specs.Structures.{EncryptsAll, RecipientEncrypts}
 use Rattle.coset_recipient.specs.declared.recipient.CoseRecipient.{CoseRecipient}
 use Rattle.coset_uses.specs.Asked.{Asker, AskerOfThree}
@@ -37,17 +37,17 @@ has_wrapped : (a : RegisteredName) (key_id : List ℕ) → wrap_structure (wrapp
 has_wrapped a key_id e = absurd (cc)
 
 pub is_wrapped :
-    {F E : Type 0} (g : Asker F (Vec ℕ Global) E) (f : F) (a : RegisteredName) (key_id key : List ℕ) (empty built : RecipientSeen) (r : CoseRecipient)
-    → empty ≡ wrapping a key_id → recipient_seen r ≡ built
+    {F E : Type 0} (g : Asker F (Vec ℕ Global) E) (f : F) (a : RegisteredName) (key_id key : List ℕ) (empty built : RecipientView) (r : CoseRecipient)
+    → empty ≡ wrapping a key_id → recipient_view r ≡ built
     → MadeOf g f key (wrap_structure empty) (λ c. built ≡ inner.with_ciphertext c.items empty) → WrapsFor g f a key_id key (Ok r)
-is_wrapped g f a k key empty built r is seen m = (
+is_wrapped g f a k key empty built r is view m = (
   m.1.items,
-  seen ∙ (m.4 ∙ ap (inner.with_ciphertext m.1.items) is),
+  view ∙ (m.4 ∙ ap (inner.with_ciphertext m.1.items) is),
   (m.1, (m.0, subst (λ o. IsStructure (wrap_structure o) m.0) is m.2, m.3), refl),
 )
 
 pub not_wrapped :
-    {F E : Type 0} (g : Asker F (Vec ℕ Global) E) (f : F) (a : RegisteredName) (key_id key : List ℕ) (empty : RecipientSeen)
+    {F E : Type 0} (g : Asker F (Vec ℕ Global) E) (f : F) (a : RegisteredName) (key_id key : List ℕ) (empty : RecipientView)
     → empty ≡ wrapping a key_id → (e : CallError E) → NotSaid g f key (wrap_structure empty) e → WrapsFor g f a key_id key (Err e)
 not_wrapped g f a k key empty is (Coset e) asked =
     only_memory e (λ other. has_wrapped a k (subst (λ r. wrap_structure r ≡ None) is (asked other).1))
@@ -56,13 +56,13 @@ not_wrapped g f a k key empty is (Caller e) asked = (asked.0, subst (λ r. IsStr
 -- ---- encrypting
 
 -- something goes with the ciphertext
-has_sealed : (n : ℤ) (iv : List ℕ) (r : RecipientSeen) (external_aad : List ℕ) → encrypt_structure_of (message_to (assigned n) iv r) external_aad ≡ None → ⊥
+has_sealed : (n : ℤ) (iv : List ℕ) (r : RecipientView) (external_aad : List ℕ) → encrypt_structure_of (message_to (assigned n) iv r) external_aad ≡ None → ⊥
 unfolding partial_header algorithm
 has_sealed n iv r external_aad e = absurd (cc)
 
 pub is_sealed :
-    {F E : Type 0} (g : Asker F (Vec ℕ Global) E) (f : F) (a : RegisteredName) (iv : List ℕ) (r : RecipientSeen) (external_aad plaintext : List ℕ)
-    (b : Vec ℕ Global) (empty built : EncryptSeen) → empty ≡ message_to a iv r
+    {F E : Type 0} (g : Asker F (Vec ℕ Global) E) (f : F) (a : RegisteredName) (iv : List ℕ) (r : RecipientView) (external_aad plaintext : List ℕ)
+    (b : Vec ℕ Global) (empty built : EncryptView) → empty ≡ message_to a iv r
     → MadeOf g f plaintext (encrypt_structure_of empty external_aad) (λ c. built ≡ with_ciphertext c.items empty) → IsWritten encrypt built b.items
     → EncryptsFor g f a iv r external_aad plaintext (Ok b)
 is_sealed g f a iv r x p b empty built is m w = (
@@ -72,8 +72,8 @@ is_sealed g f a iv r x p b empty built is m w = (
 )
 
 pub not_sealed :
-    {F E : Type 0} (g : Asker F (Vec ℕ Global) E) (f : F) (n : ℤ) (iv : List ℕ) (r : RecipientSeen) (external_aad plaintext : List ℕ)
-    (empty : EncryptSeen) → empty ≡ message_to (assigned n) iv r → (e : CallError E) → NotSaid g f plaintext (encrypt_structure_of empty external_aad) e
+    {F E : Type 0} (g : Asker F (Vec ℕ Global) E) (f : F) (n : ℤ) (iv : List ℕ) (r : RecipientView) (external_aad plaintext : List ℕ)
+    (empty : EncryptView) → empty ≡ message_to (assigned n) iv r → (e : CallError E) → NotSaid g f plaintext (encrypt_structure_of empty external_aad) e
     → EncryptsFor g f (assigned n) iv r external_aad plaintext (Err e)
 not_sealed g f n iv r x p empty is (Coset e) asked =
     ([], λ other. absurd (has_sealed n iv r x (subst (λ m. encrypt_structure_of m x ≡ None) is (asked other).1)))
@@ -81,9 +81,9 @@ not_sealed g f n iv r x p empty is (Caller e) asked = (asked.0, subst (λ m. IsS
 
 -- ---- the content key
 
--- what is answered of the first recipient that names the key, which carries w
+-- what is returned of the first recipient that names the key, which carries w
 pub key_given :
-    {F E : Type 0} (g : Asker F (Vec ℕ Global) E) (f : F) (absent : E) (key_id : List ℕ) (m : EncryptSeen) (r : RecipientSeen) (w : List ℕ)
+    {F E : Type 0} (g : Asker F (Vec ℕ Global) E) (f : F) (absent : E) (key_id : List ℕ) (m : EncryptView) (r : RecipientView) (w : List ℕ)
     (answer : Result (Vec ℕ Global) (CallError E)) → recipient_by key_id m.recipients ≡ Some r → r.ciphertext ≡ Some w
     → AsksAbout g f w (wrap_structure r) answer → GivesKey g f key_id absent m answer
 key_given g f absent key_id m r w (Ok key) found carried h = (r, w, found, carried, h)
@@ -93,8 +93,8 @@ key_given g f absent key_id m r w (Err (Caller e)) found carried h = inr (r, w, 
 -- ---- decrypting
 
 -- of a message that was read something goes with the ciphertext of each recipient, and with its own
-module _ (law : WhenRead encrypt EncryptsAll) (b : List ℕ) (m : EncryptSeen) (read : Describes encrypt b m) where
-  has_key : (key_id : List ℕ) (r : RecipientSeen) → recipient_by key_id m.recipients ≡ Some r → wrap_structure r ≡ None → ⊥
+module _ (law : WhenRead encrypt EncryptsAll) (b : List ℕ) (m : EncryptView) (read : Describes encrypt b m) where
+  has_key : (key_id : List ℕ) (r : RecipientView) → recipient_by key_id m.recipients ≡ Some r → wrap_structure r ≡ None → ⊥
   has_key key_id r found none =
       let each = law read.0 m read.2 in
       (of_found (is_to key_id) RecipientEncrypts m.recipients r each.1 found).0 EncRecipient [] none

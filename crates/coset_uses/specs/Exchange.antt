@@ -5,9 +5,9 @@ use Rattle.coset_cbor.specs.Grammar.{IsItem}
 use Rattle.coset_codec.specs.Answers.{Describes}
 use Rattle.coset_codec.specs.ReadAgain.{IsWritten}
 use Rattle.coset_codec.specs.Shape.{Shape}
-use Rattle.coset_claims.specs.Claims.{ClaimsSeen, claims}
+use Rattle.coset_claims.specs.Claims.{ClaimsView, claims}
 use Rattle.coset_core.specs.Calls.{IsStructure}
-use Rattle.coset_sign.specs.Sign1.{Sign1Seen, sign1, sign1_carried}
+use Rattle.coset_sign.specs.Sign1.{Sign1View, sign1, sign1_carried}
 
 -- the bytes are encodings of one item (RFC 8949, section 3)
 abbrev pub IsSpelling : List ℕ → List ℕ → Type 0
@@ -28,30 +28,30 @@ IsReceived {A} s P = (b : List ℕ) (m : A) → Describes s b m → P m
 -- The bytes that a message with one signature is written as, and that read as a message: it carries this payload, and its
 -- signature is one of its structure over `external_aad` (RFC 8152, section 4.4). `signs t s`: s is a signature of the bytes t
 pub record IsSent (signs : List ℕ → List ℕ → Type 0) (external_aad payload b : List ℕ) : Type 0 where
-  pub message : Sign1Seen
+  pub message : Sign1View
   pub written : IsWritten sign1 message b
-  pub read : (n : Sign1Seen) × Describes sign1 b n
+  pub read : (n : Sign1View) × Describes sign1 b n
   pub carried : message.payload ≡ Some payload
   pub signed : (t : List ℕ) × IsStructure (sign1_carried message external_aad) t × signs t message.signature
 
 -- n carries what m does, and over whatever `external_aad` the same is signed
-pub record CarriesSame (n m : Sign1Seen) : Type 0 where
+pub record CarriesSame (n m : Sign1View) : Type 0 where
   pub payload : n.payload ≡ m.payload
   pub signature : n.signature ≡ m.signature
   pub structure : (external_aad : List ℕ) → sign1_carried n external_aad ≡ sign1_carried m external_aad
 
 -- the bytes are a message whose signature is of its structure over `external_aad`
-pub record IsVerified (accepts : List ℕ → List ℕ → Type 0) (external_aad b : List ℕ) (n : Sign1Seen) : Type 0 where
+pub record IsVerified (accepts : List ℕ → List ℕ → Type 0) (external_aad b : List ℕ) (n : Sign1View) : Type 0 where
   pub read : Describes sign1 b n
   pub signed : (t : List ℕ) × IsStructure (sign1_carried n external_aad) t × accepts t n.signature
 
 -- a token of these claims, which are its payload (RFC 8392, section 7.1)
-abbrev pub IsIssued : (List ℕ → List ℕ → Type 0) → List ℕ → ClaimsSeen → List ℕ → Type 0
+abbrev pub IsIssued : (List ℕ → List ℕ → Type 0) → List ℕ → ClaimsView → List ℕ → Type 0
 IsIssued signs external_aad c b = (payload : List ℕ) × IsWritten claims c payload × IsSent signs external_aad payload b
 
 -- the claims that the payload of a verified token is
-pub record AreVerified (accepts : List ℕ → List ℕ → Type 0) (external_aad b : List ℕ) (c : ClaimsSeen) : Type 0 where
-  pub message : Sign1Seen
+pub record AreVerified (accepts : List ℕ → List ℕ → Type 0) (external_aad b : List ℕ) (c : ClaimsView) : Type 0 where
+  pub message : Sign1View
   pub verified : IsVerified accepts external_aad b message
   pub payload : List ℕ
   pub carried : message.payload ≡ Some payload

@@ -5,13 +5,13 @@ use Rattle.std.specs.Cmp.Lexicographic.{pointwise}
 use Rattle.coset_codec.specs.Answers.{Describes}
 use Rattle.coset_label.specs.declared.ordering.CborOrdering.{CborOrdering}
 use Rattle.coset_key.specs.Canonical.{IsCanonicalOf}
-use Rattle.coset_key.specs.Keys.{KeySeen, key_set}
+use Rattle.coset_key.specs.Keys.{KeyView, key_set}
 
 -- the first of the keys that has this identifier
-abbrev pub first_with : List ℕ → List KeySeen → Option KeySeen
+abbrev pub first_with : List ℕ → List KeyView → Option KeyView
 first_with key_id = find (λ k. pointwise ◌==◌ k.key_id key_id)
 
 -- the bytes are a set of keys; of its keys the first with this identifier was found, and is c with its params in order
-abbrev pub IsKeyOf : CborOrdering → List ℕ → List ℕ → Option KeySeen → Type 0
-IsKeyOf o bytes key_id None = (s : List KeySeen) × Describes key_set bytes s × (first_with key_id s ≡ None)
-IsKeyOf o bytes key_id (Some c) = (s : List KeySeen) × (k : KeySeen) × Describes key_set bytes s × (first_with key_id s ≡ Some k) × IsCanonicalOf o k c
+abbrev pub IsKeyOf : CborOrdering → List ℕ → List ℕ → Option KeyView → Type 0
+IsKeyOf o bytes key_id None = (s : List KeyView) × Describes key_set bytes s × (first_with key_id s ≡ None)
+IsKeyOf o bytes key_id (Some c) = (s : List KeyView) × (k : KeyView) × Describes key_set bytes s × (first_with key_id s ≡ Some k) × IsCanonicalOf o k c

@@ -1,4 +1,4 @@
--- What stands inside what was read.
+-- What is inside what was read.
 use Rattle.coset_value.specs.Item.{Item}
 use Rattle.coset_codec.specs.Shape.{Shape}
 

@@ -3,7 +3,7 @@ use Rattle.std.specs.Prelude.{◌≡◌, ℕ, ℤ, pos, List, [], Some}
 use Rattle.coset_value.specs.Item.{Item, integer, bytes, array, no_items, item}
 use Rattle.coset_codec.specs.Answers.{Describes}
 use Rattle.coset_core.specs.Calls.{IsStructure}
-use Rattle.coset_msg.specs.Encrypt0.{Encrypt0Seen, encrypt0, encrypt0_structure}
+use Rattle.coset_msg.specs.Encrypt0.{Encrypt0View, encrypt0, encrypt0_structure}
 
 -- the `external_aad` of a request (RFC 8613, section 5.4): version 1, a list of the one algorithm, the identifier of who
 -- asks, its Partial IV, and no options
@@ -14,7 +14,7 @@ request_aad algorithm kid piv =
 
 -- the bytes are a message whose ciphertext decrypts to p, with its structure over `external_aad`
 pub record IsDecrypted (decrypts : List ℕ → List ℕ → List ℕ → Type 0) (external_aad b p : List ℕ) : Type 0 where
-  pub message : Encrypt0Seen
+  pub message : Encrypt0View
   pub read : Describes encrypt0 b message
   pub ciphertext : List ℕ
   pub carried : message.ciphertext ≡ Some ciphertext

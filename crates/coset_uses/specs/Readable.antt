@@ -2,7 +2,7 @@
 use Rattle.std.specs.Prelude.{◌≡◌, ℕ, List, [], ◌∷◌, Result, Ok, Err, map}
 use Rattle.coset_codec.specs.Alone.{AreReadAlone}
 use Rattle.coset_codec.specs.declared.error.CoseError.{CoseError}
-use Rattle.coset_key.specs.Keys.{KeySeen, key, key_seen}
+use Rattle.coset_key.specs.Keys.{KeyView, key, key_view}
 use Rattle.coset_key.specs.declared.key.CoseKey.{CoseKey}
 
 -- what was read, without the errors
@@ -12,5 +12,5 @@ successes (Ok x ∷ rs) = x ∷ successes rs
 successes (Err e ∷ rs) = successes rs
 
 -- the keys that are read of an array, in order, each by itself
-abbrev pub AreThoseRead : List ℕ → List KeySeen → Type 0
-AreThoseRead b ks = (rs : List (Result CoseKey CoseError)) × AreReadAlone key key_seen b rs × (ks ≡ map key_seen (successes rs))
+abbrev pub AreThoseRead : List ℕ → List KeyView → Type 0
+AreThoseRead b ks = (rs : List (Result CoseKey CoseError)) × AreReadAlone key key_view b rs × (ks ≡ map key_view (successes rs))

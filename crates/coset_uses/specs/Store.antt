@@ -4,12 +4,12 @@ use Rattle.coset_codec.specs.Answers.{Describes}
 use Rattle.coset_codec.specs.ReadAgain.{IsWritten}
 use Rattle.coset_label.specs.declared.ordering.CborOrdering.{CborOrdering}
 use Rattle.coset_key.specs.Canonical.{IsCanonicalOf}
-use Rattle.coset_key.specs.Keys.{KeySeen, key}
+use Rattle.coset_key.specs.Keys.{KeyView, key}
 
 -- what a key that was read is written as, once its params are in order
 pub record IsStored (o : CborOrdering) (bytes held : List ℕ) : Type 0 where
-  pub read : KeySeen
-  pub ordered : KeySeen
+  pub read : KeyView
+  pub ordered : KeyView
   pub is_read : Describes key bytes read
   pub is_ordered : IsCanonicalOf o read ordered
   pub is_written : IsWritten key ordered held

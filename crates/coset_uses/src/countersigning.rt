@@ -5,9 +5,9 @@ ghost use Rattle.std.specs.Prelude.{◌≡◌, map, option_map, IfOk, IfErr};
 ghost use Rattle.coset_iana.specs.Algorithm as algorithms;
 ghost use Rattle.coset_codec.specs.declared.error.CoseError.TheVariants.{OutOfMemory};
 ghost use Rattle.coset_label.specs.Names.{assigned};
-ghost use Rattle.coset_core.specs.Views.{countersignature_seen};
+ghost use Rattle.coset_core.specs.Views.{countersignature_view};
 ghost use Rattle.coset_sign.specs.Sign.{signed_with};
-ghost use Rattle.coset_sign.specs.Sign1.{sign1_seen};
+ghost use Rattle.coset_sign.specs.Sign1.{sign1_view};
 ghost use Rattle.coset_uses.specs.Countersigning.{Countersigns, MakesCountersignature, VerifiesCountersigned, and_countersignature};
 ghost use Rattle.coset_uses.specs.Signers.{is_by, signature_by, signer};
 
@@ -29,7 +29,7 @@ pub fn countersigner(
     algorithm: Algorithm,
     key_id: &[u8],
 ) -> Result<CoseCountersignature>
-    ensures named { IfOk result (λ c. countersignature_seen c
+    ensures named { IfOk result (λ c. countersignature_view c
         ≡ signer (assigned (algorithms.number algorithm)) key_id.now) }
     ensures memory { IfErr result (λ e. e ≡ OutOfMemory) }
 {
@@ -45,8 +45,8 @@ pub fn countersigner(
 
 /// The countersignature with these bytes, under the same headers.
 fn signed_with(mut countersignature: CoseCountersignature, bytes: Vec<u8>) -> CoseCountersignature
-    ensures { countersignature_seen result
-        ≡ signed_with bytes.items (countersignature_seen countersignature) }
+    ensures { countersignature_view result
+        ≡ signed_with bytes.items (countersignature_view countersignature) }
 {
     countersignature.signature = bytes;
     countersignature
@@ -68,11 +68,11 @@ where
     F: FnOnce(&[u8]) -> Result<Vec<u8>, E> + Drop,
     E: Drop,
     requires { F.IsAlwaysCallable sign }
-    ensures { MakesCountersignature F.FnOnce sign (sign1_seen message.now)
-        (countersignature_seen countersignature) external_aad.now result }
+    ensures { MakesCountersignature F.FnOnce sign (sign1_view message.now)
+        (countersignature_view countersignature) external_aad.now result }
 {
     let Some(payload) = &message.payload else {
-        return Err(CallError::Coset(CoseError::UnexpectedItem("nil", "bstr")));
+        return Err(CallError::Coset(CoseError::UnexpectedItem("nul", "bstr")));
     };
     let body = message.protected.clone()?;
     let own = countersignature.protected.clone()?;
@@ -96,8 +96,8 @@ where
 /// # Errors
 /// `OutOfMemory` alone.
 fn and_countersignature(mut message: CoseSign1, made: CoseCountersignature) -> Result<CoseSign1>
-    ensures ok { IfOk result (λ m. sign1_seen m
-        ≡ and_countersignature (countersignature_seen made) (sign1_seen message)) }
+    ensures ok { IfOk result (λ m. sign1_view m
+        ≡ and_countersignature (countersignature_view made) (sign1_view message)) }
     ensures memory { IfErr result (λ e. e ≡ OutOfMemory) }
 {
     message.unprotected.countersignatures_v2.push(made)?;
@@ -119,7 +119,7 @@ where
     F: FnOnce(&[u8]) -> Result<Vec<u8>, E> + Drop,
     E: Drop,
     requires { F.IsAlwaysCallable sign }
-    ensures { Countersigns F.FnOnce sign (countersignature_seen countersignature)
+    ensures { Countersigns F.FnOnce sign (countersignature_view countersignature)
         external_aad.now message.now result }
 {
     let message = CoseSign1::from_slice(alloc, message)?;
@@ -130,7 +130,7 @@ where
 
 /// Whether a header of the countersignature names this key.
 fn is_by(countersignature: &CoseCountersignature, key_id: &[u8]) -> bool
-    ensures { result ≡ is_by key_id.now (countersignature_seen countersignature.now) }
+    ensures { result ≡ is_by key_id.now (countersignature_view countersignature.now) }
 {
     one_names_key(
         &countersignature.protected,
@@ -144,8 +144,8 @@ fn find_countersignature<'a>(
     all: &'a [CoseCountersignature],
     key_id: &[u8],
 ) -> Option<&'a CoseCountersignature>
-    ensures { option_map (λ c. countersignature_seen c.now) result
-        ≡ signature_by key_id.now (map countersignature_seen all.now) }
+    ensures { option_map (λ c. countersignature_view c.now) result
+        ≡ signature_by key_id.now (map countersignature_view all.now) }
 {
     all.iter().find(|one| is_by(one, key_id))
 }
@@ -174,7 +174,7 @@ where
     countersigned_when_read();
     let message = CoseSign1::from_slice(alloc, message)?;
     let Some(payload) = &message.payload else {
-        return Err(CallError::Coset(CoseError::UnexpectedItem("nil", "bstr")));
+        return Err(CallError::Coset(CoseError::UnexpectedItem("nul", "bstr")));
     };
     let all = &message.unprotected.countersignatures_v2;
     let Some(countersignature) = find_countersignature(all, key_id) else {

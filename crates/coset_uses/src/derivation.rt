@@ -3,7 +3,7 @@
 ghost use Rattle.coset_iana.specs.Algorithm as algorithms;
 ghost use Rattle.coset_codec.specs.Answers.{Writes};
 ghost use Rattle.coset_label.specs.Names.{assigned};
-ghost use Rattle.coset_core.specs.Views.{protected_seen};
+ghost use Rattle.coset_core.specs.Views.{protected_view};
 ghost use Rattle.coset_claims.specs.Context.{context};
 ghost use Rattle.coset_uses.specs.Derivation.{derivation};
 
@@ -28,7 +28,7 @@ pub fn derivation_context(
     other: &[u8],
 ) -> Result<Vec<u8>>
     ensures { Writes (context.image (derivation (assigned (algorithms.number algorithm)) bits
-        sender.now receiver.now (protected_seen recipient.now) other.now)) (λ b. b.items) result }
+        sender.now receiver.now (protected_view recipient.now) other.now)) (λ b. b.items) result }
 {
     let sender = PartyInfoBuilder::new().identity_from(alloc, sender)?;
     let receiver = PartyInfoBuilder::new().identity_from(alloc, receiver)?;

@@ -20,7 +20,7 @@ use coset::{
     ProtectedHeader, SuppPubInfo, TaggedCborSerializable,
 };
 use coset_codec::laws::{
-    equal_as_seen, image_is_described, one_value, read_as_item, reads_again, refused_as_bytes,
+    equal_as_viewed, image_is_described, one_value, read_as_item, reads_again, refused_as_bytes,
     refused_describes_nothing, spellings_agree, stays_as_written, written_apart,
 };
 use std::fmt;
@@ -32,18 +32,18 @@ use std::fmt;
 /// each came, are written as equal bytes exactly where they are equal; and those bytes stay the same when they are read
 /// and written again.
 pub fn keeps_the_laws<T: Lawful + CborSerializable + FromPull + PartialEq + fmt::Debug>()
-    ensures one { (s : List ℕ) (x y : T.Seen) → Describes T.shape s x → Describes T.shape s y
+    ensures one { (s : List ℕ) (x y : T.View) → Describes T.shape s x → Describes T.shape s y
         → x ≡ y }
-    ensures spellings { (s t : List ℕ) (v : Item) (x : T.Seen) → IsItem s v → IsItem t v
+    ensures spellings { (s t : List ℕ) (v : Item) (x : T.View) → IsItem s v → IsItem t v
         → Describes T.shape s x → Describes T.shape t x }
-    ensures refused { (s : List ℕ) (r : Result T CoseError) → ReadsSlice T.shape T.seen s r
+    ensures refused { (s : List ℕ) (r : Result T CoseError) → ReadsSlice T.shape T.view s r
         → AllocatesForItems s r → NamesWholeFault s r }
     ensures as_items { (s : List ℕ) (v : Item) (r : Result T CoseError) → AreBytes s → IsItem s v
-        → ReadsSlice T.shape T.seen s r → Reads T.shape T.seen v r }
-    ensures refused_items { (v : Item) (r : Result T CoseError) → Reads T.shape T.seen v r
+        → ReadsSlice T.shape T.view s r → Reads T.shape T.view v r }
+    ensures refused_items { (v : Item) (r : Result T CoseError) → Reads T.shape T.view v r
         → RefusesItem T.shape v r }
-    ensures again { (s : List ℕ) (x : T.Seen) → Describes T.shape s x → ReadsAgain T.shape x }
-    ensures items { (v : Item) (x : T.Seen) → T.shape.describes v x → depth v ≤ 256
+    ensures again { (s : List ℕ) (x : T.View) → Describes T.shape s x → ReadsAgain T.shape x }
+    ensures items { (v : Item) (x : T.View) → T.shape.describes v x → depth v ≤ 256
         → ReadsAgain T.shape x }
     ensures apart { EncodesApart T.shape }
     ensures stays { StaysAsWritten T.shape }
@@ -58,21 +58,21 @@ pub fn keeps_the_laws<T: Lawful + CborSerializable + FromPull + PartialEq + fmt:
     stays_as_written::<T>();
 }
 
-/// What holds besides of each type that may stand under its tag: the same, with the tag; and what was read under the
+/// What holds besides of each type that may be under its tag: the same, with the tag; and what was read under the
 /// tag is read again where it is written without it.
 pub fn keeps_the_laws_when_tagged<T: Lawful + TaggedCborSerializable>()
-    ensures one { (n : ℕ) (s : List ℕ) (x y : T.Seen) → Describes (tagged n T.shape) s x
+    ensures one { (n : ℕ) (s : List ℕ) (x y : T.View) → Describes (tagged n T.shape) s x
         → Describes (tagged n T.shape) s y → x ≡ y }
-    ensures spellings { (n : ℕ) (s t : List ℕ) (v : Item) (x : T.Seen) → IsItem s v → IsItem t v
+    ensures spellings { (n : ℕ) (s t : List ℕ) (v : Item) (x : T.View) → IsItem s v → IsItem t v
         → Describes (tagged n T.shape) s x → Describes (tagged n T.shape) t x }
     ensures refused { (n : ℕ) (s : List ℕ) (r : Result T CoseError)
-        → ReadsSlice (tagged n T.shape) T.seen s r → AllocatesForItems s r → NamesWholeFault s r }
+        → ReadsSlice (tagged n T.shape) T.view s r → AllocatesForItems s r → NamesWholeFault s r }
     ensures as_items { (n : ℕ) (s : List ℕ) (v : Item) (r : Result T CoseError) → AreBytes s
-        → IsItem s v → ReadsSlice (tagged n T.shape) T.seen s r
-        → Reads (tagged n T.shape) T.seen v r }
-    ensures again { (n : ℕ) (s : List ℕ) (x : T.Seen) → Describes (tagged n T.shape) s x
+        → IsItem s v → ReadsSlice (tagged n T.shape) T.view s r
+        → Reads (tagged n T.shape) T.view v r }
+    ensures again { (n : ℕ) (s : List ℕ) (x : T.View) → Describes (tagged n T.shape) s x
         → ReadsAgain (tagged n T.shape) x }
-    ensures untagged { (n : ℕ) (s : List ℕ) (x : T.Seen) → Describes (tagged n T.shape) s x
+    ensures untagged { (n : ℕ) (s : List ℕ) (x : T.View) → Describes (tagged n T.shape) s x
         → ReadsAgain T.shape x }
     ensures apart { (n : ℕ) → EncodesApart (tagged n T.shape) }
     ensures stays { (n : ℕ) → StaysAsWritten (tagged n T.shape) }
@@ -88,16 +88,16 @@ pub fn keeps_the_laws_when_tagged<T: Lawful + TaggedCborSerializable>()
 
 /// What holds of a type that is read from items alone: what one describes is written as one that describes it.
 pub fn keeps_the_law_of_items<T: Lawful + PartialEq + fmt::Debug>()
-    ensures { (v : Item) (x : T.Seen) → T.shape.describes v x → Again T.Seen T.shape v x }
+    ensures { (v : Item) (x : T.View) → T.shape.describes v x → Again T.View T.shape v x }
 {
     image_is_described::<T>();
 }
 
 /// What holds besides of each type that is one trait: `==` is equality of all that contracts see.
 pub fn keeps_the_law_of_equality<T: Codec>()
-    ensures { (a b : T) → IsTrue (T.PartialEq.eq a b) ↔ (T.seen a ≡ T.seen b) }
+    ensures { (a b : T) → IsTrue (T.PartialEq.eq a b) ↔ (T.view a ≡ T.view b) }
 {
-    equal_as_seen::<T>();
+    equal_as_viewed::<T>();
 }
 
 /// The types.

@@ -8,8 +8,8 @@ ghost use Rattle.std.specs.Prelude.{◌≡◌, ℕ, List, Some, None, IfOk, IfEr
 ghost use Rattle.coset_codec.specs.declared.error.CoseError.TheVariants.{OutOfMemory};
 ghost use Rattle.coset_codec.specs.declared.error.CallError.TheVariants.{Coset};
 ghost use Rattle.coset_codec.specs.declared.error.CallError.{CallError};
-ghost use Rattle.coset_core.specs.Views.{header_seen};
-ghost use Rattle.coset_sign.specs.Sign1.{sign1_seen};
+ghost use Rattle.coset_core.specs.Views.{header_view};
+ghost use Rattle.coset_sign.specs.Sign1.{sign1_view};
 ghost use Rattle.coset_uses.specs.declared.exchange.Lost.TheVariants.{NotVerified};
 ghost use Rattle.coset_uses.specs.declared.cipher.Refused.{Refused};
 ghost use Rattle.coset_uses.specs.Exchange.{Respells};
@@ -57,9 +57,9 @@ pub fn exchange<S: SigningKey, V: VerifyingKey, C: Channel>(
     external_aad: &[u8],
 ) -> Result<CoseSign1, Lost>
     requires { (t s : List ℕ) → S.signs signing_key.now t s → V.accepts verifying_key.now t s }
-    ensures payload { IfOk result (λ n. (sign1_seen n).payload ≡ Some payload.items) }
+    ensures payload { IfOk result (λ n. (sign1_view n).payload ≡ Some payload.items) }
     ensures lost { IfErr result (λ e. IsLost (S.signs signing_key.now) (S.refuses signing_key.now)
-        (C.loses channel.old) external_aad.now (header_seen protected) payload.items e) }
+        (C.loses channel.old) external_aad.now (header_view protected) payload.items e) }
     ensures arrives { IfErr result (λ e. (c : CallError Refused) → e ≡ NotVerified c
         → c ≡ Coset OutOfMemory) }
 {

@@ -1,7 +1,7 @@
 //! A key of a set, found by its identifier (RFC 8152, section 7).
 
 ghost use Rattle.std.specs.Prelude.{◌≡◌, IfOk, IfErr, option_map};
-ghost use Rattle.coset_key.specs.Keys.{key_seen, key_set, key_set_seen};
+ghost use Rattle.coset_key.specs.Keys.{key_view, key_set, key_set_view};
 ghost use Rattle.coset_codec.specs.Answers.{IsRefused};
 ghost use Rattle.coset_uses.specs.FindKey.{IsKeyOf, first_with};
 
@@ -10,8 +10,8 @@ use std::alloc::Global;
 
 /// The first key of the set that has this identifier.
 pub fn find_key<'a>(keys: &'a CoseKeySet, key_id: &[u8]) -> Option<&'a CoseKey>
-    ensures { option_map (λ k. key_seen k.now) result
-        ≡ first_with key_id.now (key_set_seen keys.now) }
+    ensures { option_map (λ k. key_view k.now) result
+        ≡ first_with key_id.now (key_set_view keys.now) }
 {
     keys.0.iter().find(|key| key.key_id.as_slice() == key_id)
 }
@@ -27,7 +27,7 @@ pub fn key_of(
     ordering: CborOrdering,
 ) -> Result<Option<CoseKey>>
     ensures found { IfOk result (λ o. IsKeyOf ordering keys.now key_id.now
-        (option_map key_seen o)) }
+        (option_map key_view o)) }
     ensures refused { IfErr result (λ e. IsRefused key_set keys.now e) }
 {
     let keys = CoseKeySet::from_slice(alloc, keys)?;

@@ -6,7 +6,7 @@ ghost use Rattle.coset_codec.specs.AsWritten.{WhenRead};
 ghost use Rattle.coset_codec.specs.Lists.{EachHas};
 ghost use Rattle.coset_codec.specs.declared.error.CoseError.{CoseError};
 ghost use Rattle.coset_core.specs.HeaderMap.{header_map};
-ghost use Rattle.coset_core.specs.Headers.{HeaderSeen, LAYERS, header, signatures_within};
+ghost use Rattle.coset_core.specs.Headers.{HeaderView, LAYERS, header, signatures_within};
 ghost use Rattle.coset_recipient.specs.Recipient.{each_of, recipient};
 ghost use Rattle.coset_uses.specs.Inside.{IsDescribed};
 
@@ -23,9 +23,9 @@ pub fn recipients_inside()
 
 /// A header is the map of its fields, with the signatures within 16 layers in it.
 pub fn header_is_a_map()
-    ensures describes { (v : Item) (h : HeaderSeen) → header.describes v h
+    ensures describes { (v : Item) (h : HeaderView) → header.describes v h
         ↔ (header_map (signatures_within LAYERS)).describes v h }
-    ensures image { (h : HeaderSeen) → header.image h
+    ensures image { (h : HeaderView) → header.image h
         ≡ (header_map (signatures_within LAYERS)).image h }
     ensures faults { (v : Item) (e : CoseError) → header.faults v e
         ↔ (header_map (signatures_within LAYERS)).faults v e }

@@ -3,8 +3,8 @@
 ghost use Rattle.std.specs.Prelude.{IfOk, IfErr};
 ghost use Rattle.coset_iana.specs.Algorithm as algorithms;
 ghost use Rattle.coset_label.specs.Names.{assigned};
-ghost use Rattle.coset_core.specs.Views.{header_seen};
-ghost use Rattle.coset_claims.specs.Claims.{claims_seen};
+ghost use Rattle.coset_core.specs.Views.{header_view};
+ghost use Rattle.coset_claims.specs.Claims.{claims_view};
 ghost use Rattle.coset_uses.specs.Exchange.{IsIssued, IsSent};
 ghost use Rattle.coset_uses.specs.Refusals.{IsNotIssued, IsNotSent};
 
@@ -29,7 +29,7 @@ pub fn sign_token<K: SigningKey>(
     ensures sent { IfOk result (λ b. IsSent (K.signs key.now) external_aad.now payload.items
         b.items) }
     ensures refused { IfErr result (λ e. IsNotSent (K.refuses key.now) external_aad.now
-        (header_seen protected) payload.items e) }
+        (header_view protected) payload.items e) }
 {
     let unsigned = CoseSign1Builder::new(alloc)
         .protected(protected)
@@ -44,7 +44,7 @@ pub fn sign_token<K: SigningKey>(
     Ok(token)
 }
 
-/// A web token of these claims, which tells the algorithm in its protected header.
+/// A web token of these claims, which names the algorithm in its protected header.
 ///
 /// # Errors
 /// The same as [`sign_token`].
@@ -56,9 +56,9 @@ pub fn issue_token<K: SigningKey>(
     external_aad: &[u8],
 ) -> Result<Vec<u8>, CallError<Refused>>
     ensures issued { IfOk result (λ b. IsIssued (K.signs key.now) external_aad.now
-        (claims_seen claims) b.items) }
+        (claims_view claims) b.items) }
     ensures refused { IfErr result (λ e. IsNotIssued (K.refuses key.now) external_aad.now
-        (assigned (algorithms.number algorithm)) (claims_seen claims) e) }
+        (assigned (algorithms.number algorithm)) (claims_view claims) e) }
 {
     let payload = claims.to_vec(alloc)?;
     let protected = HeaderBuilder::new(alloc).algorithm(algorithm).build();

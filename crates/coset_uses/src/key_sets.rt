@@ -1,12 +1,12 @@
 //! Stores of sets of keys that compare what they hold by bytes.
 //!
-//! A store reads a set, puts the params of each key in order and writes the keys one by one. So two such stores tell by
+//! A store reads a set, puts the params of each key in order and writes the keys one by one. So two such stores know by
 //! bytes whether their sets agree key by key, however the sets were spelled.
 
 ghost use Rattle.std.specs.Prelude.{◌≡◌, ◌≤◌, ◌↔◌, ◌⊎◌, List, map, IfErr, IfOk, IsTrue, OnOk};
 ghost use Rattle.coset_value.specs.Item.{Item, depth};
 ghost use Rattle.coset_key.specs.Canonical.{AgreeButForOrder};
-ghost use Rattle.coset_key.specs.Keys.{KeySeen, key as key_shape, key_seen, key_set};
+ghost use Rattle.coset_key.specs.Keys.{KeyView, key as key_shape, key_view, key_set};
 ghost use Rattle.coset_codec.specs.Answers.{Describes, DescribesNothing, RefusesSlice, SliceFaults};
 ghost use Rattle.coset_codec.specs.Errors.{UnlessMemory};
 ghost use Rattle.coset_codec.specs.Lists.{EachWith};
@@ -33,8 +33,8 @@ fn again(ordering: &CborOrdering) -> CborOrdering
 /// # Errors
 /// Of a key that was read, `OutOfMemory` alone.
 fn held_of(alloc: Global, mut key: CoseKey, ordering: CborOrdering) -> Result<Vec<u8>>
-    ensures ok { IfOk result (λ held. IsHeldOf ordering (key_seen key) held.items) }
-    ensures memory { (v : Item) → key_shape.describes v (key_seen key) → depth v ≤ 256
+    ensures ok { IfOk result (λ held. IsHeldOf ordering (key_view key) held.items) }
+    ensures memory { (v : Item) → key_shape.describes v (key_view key) → depth v ≤ 256
         → IfErr result (λ e. e ≡ OutOfMemory) }
 {
     canonical_keys_read_again();
@@ -68,7 +68,7 @@ pub fn stored_keys(alloc: Global, bytes: &[u8], ordering: CborOrdering) -> Resul
 /// # Errors
 /// The same as [`stored_keys`], of the first that is refused.
 pub fn sets_hold_the_same(alloc: Global, one: &[u8], other: &[u8]) -> Result<bool>
-    ensures same { (ks ls : List KeySeen) → Describes key_set one.now ks
+    ensures same { (ks ls : List KeyView) → Describes key_set one.now ks
         → Describes key_set other.now ls
         → IfOk result (λ same. IsTrue same ↔ EachWith AgreeButForOrder ks ls) }
     ensures sets { OnOk result (IsKeySet one.now × IsKeySet other.now) }

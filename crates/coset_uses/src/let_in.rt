@@ -4,7 +4,7 @@ ghost use Rattle.std.specs.Prelude.{IfOk};
 ghost use Rattle.coset_iana.specs.Algorithm as algorithms;
 ghost use Rattle.coset_iana.specs.declared.algorithms.Algorithm.TheVariants.{ES256};
 ghost use Rattle.coset_label.specs.Names.{assigned};
-ghost use Rattle.coset_claims.specs.Claims.{claims_seen};
+ghost use Rattle.coset_claims.specs.Claims.{claims_view};
 ghost use Rattle.cwt_gate.specs.Gate.{JudgesWith};
 ghost use Rattle.coset_uses.specs.LetIn.{IsLetIn, policy_of};
 
@@ -35,7 +35,7 @@ where
     F: FnOnce(&[u8], &[u8]) -> Result<(), Refused> + Drop,
     requires { F.IsAlwaysCallable verify }
     ensures let_in { IfOk result (λ c. IsLetIn F.FnOnce verify (assigned (algorithms.number ES256))
-        audience.now token.now (claims_seen c)) }
+        audience.now token.now (claims_view c)) }
     ensures judged { JudgesWith F.FnOnce verify (policy_of (assigned (algorithms.number ES256))
         audience.now) now token.now result }
 {

@@ -1,4 +1,4 @@
-//! A request as OSCORE protects it (RFC 8613): a message `COSE_Encrypt0` whose `external_aad` tells what the two sides
+//! A request as OSCORE protects it (RFC 8613): a message `COSE_Encrypt0` whose `external_aad` says what the two sides
 //! agree on.
 
 ghost use Rattle.std.specs.Prelude.{IfOk, IfErr, Some};

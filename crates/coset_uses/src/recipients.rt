@@ -3,8 +3,8 @@
 ghost use Rattle.std.specs.Prelude.{◌≡◌, map, option_map};
 ghost use Rattle.coset_iana.specs.Algorithm as algorithms;
 ghost use Rattle.coset_label.specs.Names.{assigned};
-ghost use Rattle.coset_recipient.specs.Encrypt.{encrypt_seen};
-ghost use Rattle.coset_recipient.specs.RecipientView.{recipient_seen};
+ghost use Rattle.coset_recipient.specs.Encrypt.{encrypt_view};
+ghost use Rattle.coset_recipient.specs.RecipientViews.{recipient_view};
 ghost use Rattle.coset_uses.specs.Recipients.{DecryptsFor, EncryptsFor, GivesKey, WrapsFor, is_to, recipient_by};
 
 use crate::headers::one_names_key;
@@ -65,7 +65,7 @@ where
     E: Drop,
     requires { F.IsAlwaysCallable encrypt }
     ensures { EncryptsFor F.FnOnce encrypt (assigned (algorithms.number algorithm)) iv.now
-        (recipient_seen recipient) external_aad.now plaintext.now result }
+        (recipient_view recipient) external_aad.now plaintext.now result }
 {
     let protected = HeaderBuilder::new(alloc).algorithm(algorithm).build();
     let unprotected = HeaderBuilder::new(alloc).iv_from(alloc, iv)?.build();
@@ -79,15 +79,15 @@ where
 
 /// Whether a header of the recipient names this key.
 fn is_to(recipient: &CoseRecipient, key_id: &[u8]) -> bool
-    ensures { result ≡ is_to key_id.now (recipient_seen recipient.now) }
+    ensures { result ≡ is_to key_id.now (recipient_view recipient.now) }
 {
     one_names_key(&recipient.protected, &recipient.unprotected, key_id)
 }
 
 /// The first of the recipients whose headers name this key.
 fn find_recipient<'a>(recipients: &'a [CoseRecipient], key_id: &[u8]) -> Option<&'a CoseRecipient>
-    ensures { option_map (λ r. recipient_seen r.now) result
-        ≡ recipient_by key_id.now (map recipient_seen recipients.now) }
+    ensures { option_map (λ r. recipient_view r.now) result
+        ≡ recipient_by key_id.now (map recipient_view recipients.now) }
 {
     recipients.iter().find(|recipient| is_to(recipient, key_id))
 }
@@ -108,7 +108,7 @@ where
     F: FnOnce(&[u8], &[u8]) -> Result<Vec<u8>, E> + Drop,
     E: Drop,
     requires { F.IsAlwaysCallable unwrap }
-    ensures { GivesKey F.FnOnce unwrap key_id.now absent (encrypt_seen message.now) result }
+    ensures { GivesKey F.FnOnce unwrap key_id.now absent (encrypt_view message.now) result }
 {
     let Some(recipient) = find_recipient(&message.recipients, key_id) else {
         return Err(CallError::Caller(absent));
@@ -147,7 +147,7 @@ where
     structures_when_read();
     let message = CoseEncrypt::from_slice(alloc, message)?;
     let Some(ciphertext) = &message.ciphertext else {
-        return Err(CallError::Coset(CoseError::UnexpectedItem("nil", "bstr")));
+        return Err(CallError::Coset(CoseError::UnexpectedItem("nul", "bstr")));
     };
     let key = content_key(alloc, &message, key_id, absent, unwrap)?;
     let aad = message.aad(alloc, external_aad)?;

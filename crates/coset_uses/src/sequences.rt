@@ -1,10 +1,10 @@
-//! CBOR by itself: items that stand one after the other (RFC 8742), read and written.
+//! CBOR by itself: items that follow one another (RFC 8742), read and written.
 
 ghost use Rattle.std.specs.Prelude.{◌≡◌, ◌≤◌, ◌<◌, ◌+◌, ◌++◌, ℕ, List, IfOk, length, map, take};
 ghost use Rattle.coset_cbor.specs.Grammar.{IsItem};
 ghost use Rattle.coset_cbor.specs.Shortest.{IsShortest};
 ghost use Rattle.coset_value.specs.Item.{Item};
-ghost use Rattle.coset_value.specs.View.{view};
+ghost use Rattle.coset_value.specs.View.{value_item};
 ghost use Rattle.coset_uses.specs.Sequence.{IsSequence};
 
 use coset::Result;
@@ -15,12 +15,12 @@ use std::alloc::Global;
 use std::marker::Brand;
 use std::sync::ledger::{Blank, Ledger};
 
-/// The items that stand in the bytes, one after the other.
+/// The items that are in the bytes, one after the other.
 ///
 /// # Errors
 /// Why what is left, behind some items, doesn't begin with one; or `OutOfMemory`.
 pub fn values_in(alloc: Global, bytes: &[u8]) -> Result<Vec<Value>>
-    ensures { IfOk result (λ vs. IsSequence (map view vs.items) bytes.now) }
+    ensures { IfOk result (λ vs. IsSequence (map value_item vs.items) bytes.now) }
 {
     let mut values = Vec::new(alloc);
     let mut left = bytes;
@@ -38,7 +38,7 @@ pub fn values_in(alloc: Global, bytes: &[u8]) -> Result<Vec<Value>>
 /// `OutOfMemory` alone.
 pub fn and_value(mut sequence: Vec<u8>, value: &Value) -> Result<Vec<u8>>
     ensures { IfOk result (λ s. (b : List ℕ) × (s.items ≡ sequence.items ++ b)
-        × IsShortest b (view value.now)) }
+        × IsShortest b (value_item value.now)) }
 {
     write_value(value, &mut sequence)?;
     Ok(sequence)

@@ -6,7 +6,7 @@ ghost use Rattle.std.specs.List.{list_any};
 ghost use Rattle.coset_iana.specs.Algorithm as algorithms;
 ghost use Rattle.coset_codec.specs.declared.error.CoseError.TheVariants.{OutOfMemory};
 ghost use Rattle.coset_label.specs.Names.{assigned};
-ghost use Rattle.coset_recipient.specs.RecipientView.{recipient_seen};
+ghost use Rattle.coset_recipient.specs.RecipientViews.{recipient_view};
 ghost use Rattle.coset_uses.specs.SharedKey.{MacsFor, VerifiesFor, direct_to, is_direct_to};
 
 use crate::headers::{has_algorithm, names_key};
@@ -24,7 +24,7 @@ use std::alloc::Global;
 /// # Errors
 /// `OutOfMemory` alone.
 pub fn direct_recipient(alloc: Global, key_id: &[u8]) -> Result<CoseRecipient>
-    ensures named { IfOk result (λ r. recipient_seen r ≡ direct_to key_id.now) }
+    ensures named { IfOk result (λ r. recipient_view r ≡ direct_to key_id.now) }
     ensures memory { IfErr result (λ e. e ≡ OutOfMemory) }
 {
     let unprotected = HeaderBuilder::new(alloc)
@@ -68,7 +68,7 @@ where
 
 /// Whether the recipient shares this key.
 fn is_direct(recipient: &CoseRecipient, key_id: &[u8]) -> bool
-    ensures { result ≡ is_direct_to key_id.now (recipient_seen recipient.now) }
+    ensures { result ≡ is_direct_to key_id.now (recipient_view recipient.now) }
 {
     has_algorithm(&recipient.unprotected, Algorithm::Direct)
         && names_key(&recipient.unprotected, key_id)
@@ -76,7 +76,7 @@ fn is_direct(recipient: &CoseRecipient, key_id: &[u8]) -> bool
 
 /// Whether one of the recipients shares this key.
 fn are_direct(recipients: &[CoseRecipient], key_id: &[u8]) -> bool
-    ensures { result ≡ list_any (is_direct_to key_id.now) (map recipient_seen recipients.now) }
+    ensures { result ≡ list_any (is_direct_to key_id.now) (map recipient_view recipients.now) }
 {
     recipients
         .iter()

@@ -5,7 +5,7 @@ ghost use Rattle.std.specs.List.{position_from};
 ghost use Rattle.coset_iana.specs.Algorithm as algorithms;
 ghost use Rattle.coset_codec.specs.declared.error.CoseError.TheVariants.{OutOfMemory};
 ghost use Rattle.coset_label.specs.Names.{assigned};
-ghost use Rattle.coset_core.specs.Views.{signature_seen};
+ghost use Rattle.coset_core.specs.Views.{signature_view};
 ghost use Rattle.coset_uses.specs.Signers.{SignsByTwo, VerifiesBy, is_by, signer};
 
 use crate::headers::one_names_key;
@@ -22,7 +22,7 @@ use std::alloc::Global;
 /// # Errors
 /// `OutOfMemory` alone.
 pub fn signer(alloc: Global, algorithm: Algorithm, key_id: &[u8]) -> Result<CoseSignature>
-    ensures named { IfOk result (λ s. signature_seen s
+    ensures named { IfOk result (λ s. signature_view s
         ≡ signer (assigned (algorithms.number algorithm)) key_id.now) }
     ensures memory { IfErr result (λ e. e ≡ OutOfMemory) }
 {
@@ -57,7 +57,7 @@ where
     requires first { F.IsAlwaysCallable sign_first }
     requires second { G.IsAlwaysCallable sign_second }
     ensures { SignsByTwo F.FnOnce sign_first G.FnOnce sign_second external_aad.now payload.items
-        (signature_seen first) (signature_seen second) result }
+        (signature_view first) (signature_view second) result }
 {
     let unsigned = CoseSignBuilder::new(alloc).payload(payload);
     let once = unsigned.try_add_created_signature(alloc, first, external_aad, sign_first)?;
@@ -67,7 +67,7 @@ where
 
 /// Whether a header of the signature names this key.
 fn is_by(signature: &CoseSignature, key_id: &[u8]) -> bool
-    ensures { result ≡ is_by key_id.now (signature_seen signature.now) }
+    ensures { result ≡ is_by key_id.now (signature_view signature.now) }
 {
     one_names_key(&signature.protected, &signature.unprotected, key_id)
 }
@@ -75,7 +75,7 @@ fn is_by(signature: &CoseSignature, key_id: &[u8]) -> bool
 /// The number of the first of the signatures whose headers name this key, counted from 0.
 fn number_by(signatures: &[CoseSignature], key_id: &[u8]) -> Option<usize>
     ensures { result
-        ≡ position_from (is_by key_id.now) 0 (map signature_seen signatures.now) }
+        ≡ position_from (is_by key_id.now) 0 (map signature_view signatures.now) }
 {
     signatures
         .iter()

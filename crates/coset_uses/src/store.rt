@@ -1,11 +1,11 @@
 //! Stores of keys that compare what they hold by bytes.
 //!
-//! A key may be spelled in many ways, and its params may stand in any order. A store that reads a key, puts its params in
+//! A key may be spelled in many ways, and its params may be in any order. A store that reads a key, puts its params in
 //! order and writes it holds bytes that two such stores can compare, or hash, in place of the keys.
 
 ghost use Rattle.std.specs.Prelude.{◌≡◌, ◌⊎◌, ◌↔◌, IfOk, IfErr, IsTrue};
 ghost use Rattle.coset_key.specs.Canonical.{AgreeButForOrder};
-ghost use Rattle.coset_key.specs.Keys.{KeySeen, key};
+ghost use Rattle.coset_key.specs.Keys.{KeyView, key};
 ghost use Rattle.coset_codec.specs.Answers.{Describes, IsRefused};
 ghost use Rattle.coset_uses.specs.Store.{IsStored};
 
@@ -34,7 +34,7 @@ pub fn stored(alloc: Global, bytes: &[u8], ordering: CborOrdering) -> Result<Vec
 /// # Errors
 /// The same as [`stored`].
 pub fn hold_the_same(alloc: Global, one: &[u8], other: &[u8]) -> Result<bool>
-    ensures same { (k l : KeySeen) → Describes key one.now k → Describes key other.now l
+    ensures same { (k l : KeyView) → Describes key one.now k → Describes key other.now l
         → IfOk result (λ same. IsTrue same ↔ AgreeButForOrder k l) }
     ensures refused { IfErr result (λ e. IsRefused key one.now e ⊎ IsRefused key other.now e) }
 {

@@ -4,8 +4,8 @@ ghost use Rattle.std.specs.Prelude.{◌≡◌, ℕ, List, IfOk, IfErr};
 ghost use Rattle.coset_codec.specs.declared.error.CoseError.TheVariants.{OutOfMemory};
 ghost use Rattle.coset_codec.specs.declared.error.CallError.TheVariants.{Coset};
 ghost use Rattle.coset_codec.specs.ReadAgain.{IsWritten};
-ghost use Rattle.coset_claims.specs.Claims.{claims_seen};
-ghost use Rattle.coset_sign.specs.Sign1.{Sign1Seen, sign1, sign1_seen};
+ghost use Rattle.coset_claims.specs.Claims.{claims_view};
+ghost use Rattle.coset_sign.specs.Sign1.{Sign1View, sign1, sign1_view};
 ghost use Rattle.coset_uses.specs.Exchange.{CarriesSame, IsSent, IsSpelling, IsVerified, AreVerified};
 ghost use Rattle.coset_uses.specs.Refusals.{AreNotVerified, IsNotVerified};
 
@@ -31,9 +31,9 @@ pub fn verify_token<K: VerifyingKey>(
     external_aad: &[u8],
 ) -> Result<CoseSign1, CallError<Refused>>
     ensures verified { IfOk result (λ n. IsVerified (K.accepts key.now) external_aad.now token.now
-        (sign1_seen n)) }
-    ensures same { (b : List ℕ) (m : Sign1Seen) → IsWritten sign1 m b → IsSpelling b token.now
-        → IfOk result (λ n. CarriesSame (sign1_seen n) m) }
+        (sign1_view n)) }
+    ensures same { (b : List ℕ) (m : Sign1View) → IsWritten sign1 m b → IsSpelling b token.now
+        → IfOk result (λ n. CarriesSame (sign1_view n) m) }
     ensures genuine { (payload b : List ℕ)
         → IsSent (K.accepts key.now) external_aad.now payload b → IsSpelling b token.now
         → IfErr result (λ e. e ≡ Coset OutOfMemory) }
@@ -66,13 +66,13 @@ pub fn verified_claims<K: VerifyingKey>(
     external_aad: &[u8],
 ) -> Result<ClaimsSet, CallError<Refused>>
     ensures verified { IfOk result (λ claims. AreVerified (K.accepts key.now) external_aad.now
-        token.now (claims_seen claims)) }
+        token.now (claims_view claims)) }
     ensures refused { IfErr result (λ e. AreNotVerified (K.accepts key.now) external_aad.now
         token.now e) }
 {
     let message = verify_token(alloc, key, token, external_aad)?;
     let Some(payload) = &message.payload else {
-        return Err(CallError::Coset(CoseError::UnexpectedItem("nil", "bstr")));
+        return Err(CallError::Coset(CoseError::UnexpectedItem("nul", "bstr")));
     };
     Ok(ClaimsSet::from_slice(alloc, payload)?)
 }

@@ -1,4 +1,4 @@
-//! The tests of `coset_uses`: what comes out of each use. They stand apart from it, since a crate with tests is proved twice.
+//! The tests of `coset_uses`: what comes out of each use. They are apart from it, since a crate with tests is proved twice.
 #![tactic(auto)]
 
 #[cfg(test)]

@@ -1,4 +1,4 @@
-//! Errors that go by `?`: a function that answers one error needs no `map_err` at any kind of call.
+//! Errors that go by `?`: a function that returns one error needs no `map_err` at any kind of call.
 
 ghost use Rattle.std.specs.Prelude.{Some, codes};
 
@@ -30,7 +30,7 @@ impl fmt::Display for NoKey {
 
 impl Error for NoKey {}
 
-/// What any of a caller's functions answers.
+/// What any of a caller's functions returns.
 type Answer<T> = Result<T, CallError<NoKey>>;
 
 /// What the key makes, whatever it is given.

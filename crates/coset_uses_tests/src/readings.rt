@@ -4,7 +4,7 @@ use coset::{CoseError, RegisteredLabel, iana};
 use coset_uses::readable::{claims_kept, keys_that_read};
 use std::test::*;
 
-/// The claims of RFC 8392, appendix A.1, with a claim 500 of two members among them, a text `a`, and claim -300.
+/// The claims of RFC 8392, appendix A.1, with a claim 500 of two elements among them, a text `a`, and claim -300.
 const CLAIMS: &[u8] = b"\xaa\x01\x75coap://as.example.com\x19\x01\xf4\x82\x01\x02\x02\x65erikw\
 \x03\x78\x18coap://light.example.com\x04\x1a\x56\x12\xae\xb0\x61a\x01\x05\x1a\x56\x10\xd9\xf0\
 \x06\x1a\x56\x10\xd9\xf0\x39\x01\x2b\xf6\x07\x42\x0b\x71";

@@ -22,7 +22,7 @@ abbrev pub as_bool : Item → Option Bool
 as_bool (boolean b) = Some b
 as_bool v = None
 
--- the members of an array, in order
+-- the elements of an array, in order
 abbrev pub as_array : Item → Option Items
 as_array (array vs) = Some vs
 as_array v = None

@@ -1,4 +1,4 @@
--- Whether two items are the same, as a test that computes. It answers `true` exactly where the items are equal.
+-- Whether two items are the same, as a test that computes. It returns `true` exactly where the items are equal.
 use Rattle.std.specs.Prelude.{Bool, true, false, ◌&&◌, ◌==◌}
 use Rattle.std.specs.Bool.{beq}
 use Rattle.std.specs.Ordering.{int_eq}

@@ -1,4 +1,4 @@
--- `item_eq` answers `true` exactly where two items are equal.
+-- `item_eq` returns `true` exactly where two items are equal.
 use Rattle.std.specs.Prelude.{◌≡◌, true, ◌&&◌, ◌==◌, refl}
 use Rattle.std.proofs.Common.{sym, ap, subst, true≢false}
 use Rattle.std.proofs.lemmas.Bool.{and_parts, and_from}

@@ -1,4 +1,4 @@
--- The item that a `Value` stands for.
+-- The item that a `Value` represents.
 use Rattle.std.specs.Prelude.{List, [], ◌∷◌, map, string_bytes}
 use Rattle.coset_value.specs.Item.{Bits, half, single, double, Item, integer, bytes, float, text, boolean, null, tag, array, dict, Items, no_items, item, Pairs}
 use Rattle.coset_value.specs.Item.{no_pairs, pair}
@@ -23,29 +23,29 @@ pairs_of [] = no_pairs
 pairs_of (p ∷ ps) = pair p.0 p.1 (pairs_of ps)
 
 -- one level, with each value inside already seen as its item
-abbrev pub view_step : Value-F Item → Item
-view_step (Value-F.Integer n) = integer n
-view_step (Value-F.Bytes v) = bytes v.items
-view_step (Value-F.Float x) = float (bits_of x)
-view_step (Value-F.Text s) = text (string_bytes s)
-view_step (Value-F.Bool b) = boolean b
-view_step Value-F.Null = null
-view_step (Value-F.Tag t v) = tag t v.value
-view_step (Value-F.Array v) = array (items_of v.items)
-view_step (Value-F.Map v) = dict (pairs_of v.items)
+abbrev pub value_step : Value-F Item → Item
+value_step (Value-F.Integer n) = integer n
+value_step (Value-F.Bytes v) = bytes v.items
+value_step (Value-F.Float x) = float (bits_of x)
+value_step (Value-F.Text s) = text (string_bytes s)
+value_step (Value-F.Bool b) = boolean b
+value_step Value-F.Null = null
+value_step (Value-F.Tag t v) = tag t v.value
+value_step (Value-F.Array v) = array (items_of v.items)
+value_step (Value-F.Map v) = dict (pairs_of v.items)
 
 -- the item of a value
-abbrev pub view : Value → Item
-view = fold-Value Item view_step
+abbrev pub value_item : Value → Item
+value_item = fold-Value Item value_step
 
 -- the items of a list of values
-abbrev pub items_view : List Value → Items
-items_view vs = items_of (map view vs)
+abbrev pub value_items : List Value → Items
+value_items vs = items_of (map value_item vs)
 
 -- the items of a key and its value, and then of a list of such pairs
-abbrev pub pair_view : Value × Value → Item × Item
-pair_view p = (view p.0, view p.1)
+abbrev pub value_pair : Value × Value → Item × Item
+value_pair p = (value_item p.0, value_item p.1)
 
--- the pairs of items that pairs of values stand for
-abbrev pub pairs_view : List (Value × Value) → Pairs
-pairs_view ps = pairs_of (map pair_view ps)
+-- the pairs of items that pairs of values represent
+abbrev pub value_pairs : List (Value × Value) → Pairs
+value_pairs ps = pairs_of (map value_pair ps)

@@ -158,7 +158,7 @@ impl TryFrom<Integer> for u64 {
     }
 }
 
-/// The same number. The contract also tells that it lies in an `Integer`'s range.
+/// The same number. The contract also says that it lies in an `Integer`'s range.
 impl From<Integer> for i128 {
     ghost from_gives = { λ n result. (result ≡ n) × IsIntegerInRange result };
 

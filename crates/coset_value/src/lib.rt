@@ -1,6 +1,6 @@
 //! CBOR's values, apart from the bytes that spell them (RFC 8949, sections 2 and 3).
 //!
-//! Contracts see a [`Value`] as the item that it stands for, `view value` of `specs/View.antt`,
+//! Contracts see a [`Value`] as the item that it represents, `value_item value` of `specs/View.antt`,
 //! and an [`Integer`] as a number.
 #![tactic(auto)]
 

@@ -7,7 +7,7 @@ ghost use Rattle.coset_value.specs.Item.{integer, null};
 ghost use Rattle.coset_value.specs.Parts.{as_integer, as_bytes, as_text, as_bool, as_array, as_map, as_tag};
 ghost use Rattle.coset_value.specs.Same.{item_eq, items_eq, pairs_eq};
 ghost use Rattle.coset_value.specs.SameLaws.{item_eq_equiv};
-ghost use Rattle.coset_value.specs.View.{view, items_view, pairs_view};
+ghost use Rattle.coset_value.specs.View.{value_item, value_items, value_pairs};
 
 use crate::float::Float;
 use crate::integer::Integer;
@@ -44,7 +44,7 @@ pub enum Value {
 impl Value {
     /// The number of an integer, and `None` of any other value (RFC 8949, section 3.1).
     pub fn as_integer(&self) -> Option<Integer>
-        ensures { result ≡ as_integer (view self.now) }
+        ensures { result ≡ as_integer (value_item self.now) }
     {
         match self {
             Value::Integer(n) => Some(*n),
@@ -54,7 +54,7 @@ impl Value {
 
     /// The bytes of a byte string, and `None` of any other value (RFC 8949, section 3.1).
     pub fn as_bytes(&self) -> Option<&Vec<u8>>
-        ensures { option_map (λ bytes. bytes.now.items) result ≡ as_bytes (view self.now) }
+        ensures { option_map (λ bytes. bytes.now.items) result ≡ as_bytes (value_item self.now) }
     {
         match self {
             Value::Bytes(bytes) => Some(bytes),
@@ -64,7 +64,7 @@ impl Value {
 
     /// The text of a text string, and `None` of any other value (RFC 8949, section 3.1).
     pub fn as_text(&self) -> Option<&str>
-        ensures { option_map (λ text. text.now) result ≡ as_text (view self.now) }
+        ensures { option_map (λ text. text.now) result ≡ as_text (value_item self.now) }
     {
         match self {
             Value::Text(text) => Some(text.as_str()),
@@ -74,7 +74,7 @@ impl Value {
 
     /// Which of `false` and `true` this is, and `None` of any other value (RFC 8949, section 3.3).
     pub fn as_bool(&self) -> Option<bool>
-        ensures { result ≡ as_bool (view self.now) }
+        ensures { result ≡ as_bool (value_item self.now) }
     {
         match self {
             Value::Bool(b) => Some(*b),
@@ -82,10 +82,10 @@ impl Value {
         }
     }
 
-    /// The members of an array in order, and `None` of any other value (RFC 8949, section 3.1).
+    /// The elements of an array in order, and `None` of any other value (RFC 8949, section 3.1).
     pub fn as_array(&self) -> Option<&Vec<Value>>
-        ensures { option_map (λ items. items_view items.now.items) result
-            ≡ as_array (view self.now) }
+        ensures { option_map (λ items. value_items items.now.items) result
+            ≡ as_array (value_item self.now) }
     {
         match self {
             Value::Array(items) => Some(items),
@@ -95,8 +95,8 @@ impl Value {
 
     /// The pairs of a map in order, and `None` of any other value (RFC 8949, section 3.1).
     pub fn as_map(&self) -> Option<&Vec<(Value, Value)>>
-        ensures { option_map (λ pairs. pairs_view pairs.now.items) result
-            ≡ as_map (view self.now) }
+        ensures { option_map (λ pairs. value_pairs pairs.now.items) result
+            ≡ as_map (value_item self.now) }
     {
         match self {
             Value::Map(pairs) => Some(pairs),
@@ -107,7 +107,8 @@ impl Value {
     /// The number of a tag, with the value that it encloses, and `None` of any other value (RFC
     /// 8949, section 3.4).
     pub fn as_tag(&self) -> Option<(u64, &Value)>
-        ensures { option_map (λ tag. (tag.0, view tag.1.now)) result ≡ as_tag (view self.now) }
+        ensures { option_map (λ tag. (tag.0, value_item tag.1.now)) result ≡ as_tag
+            (value_item self.now) }
     {
         match self {
             Value::Tag(number, value) => Some((*number, value)),
@@ -117,7 +118,7 @@ impl Value {
 
     /// Whether this is `null` (RFC 8949, section 3.3).
     pub fn is_null(&self) -> bool
-        ensures { IsTrue result ↔ (view self.now ≡ null) }
+        ensures { IsTrue result ↔ (value_item self.now ≡ null) }
     {
         matches!(self, Value::Null)
     }
@@ -127,14 +128,14 @@ impl Value {
     /// # Errors
     /// That memory ran out.
     pub fn clone(&self) -> Result<Value, AllocError>
-        ensures { IfOk result (λ copy. view copy ≡ view self.now) }
+        ensures { IfOk result (λ copy. value_item copy ≡ value_item self.now) }
     {
         copy(self)
     }
 }
 
 impl From<u8> for Value {
-    ghost from_gives = { λ n v. view v ≡ integer (pos n) };
+    ghost from_gives = { λ n v. value_item v ≡ integer (pos n) };
 
     fn from(n: u8) -> Value {
         Value::Integer(Integer::from(n))
@@ -142,7 +143,7 @@ impl From<u8> for Value {
 }
 
 impl From<u16> for Value {
-    ghost from_gives = { λ n v. view v ≡ integer (pos n) };
+    ghost from_gives = { λ n v. value_item v ≡ integer (pos n) };
 
     fn from(n: u16) -> Value {
         Value::Integer(Integer::from(n))
@@ -150,7 +151,7 @@ impl From<u16> for Value {
 }
 
 impl From<u32> for Value {
-    ghost from_gives = { λ n v. view v ≡ integer (pos n) };
+    ghost from_gives = { λ n v. value_item v ≡ integer (pos n) };
 
     fn from(n: u32) -> Value {
         Value::Integer(Integer::from(n))
@@ -158,7 +159,7 @@ impl From<u32> for Value {
 }
 
 impl From<u64> for Value {
-    ghost from_gives = { λ n v. view v ≡ integer (pos n) };
+    ghost from_gives = { λ n v. value_item v ≡ integer (pos n) };
 
     fn from(n: u64) -> Value {
         Value::Integer(Integer::from(n))
@@ -166,7 +167,7 @@ impl From<u64> for Value {
 }
 
 impl From<i8> for Value {
-    ghost from_gives = { λ n v. view v ≡ integer n };
+    ghost from_gives = { λ n v. value_item v ≡ integer n };
 
     fn from(n: i8) -> Value {
         Value::Integer(Integer::from(n))
@@ -174,7 +175,7 @@ impl From<i8> for Value {
 }
 
 impl From<i16> for Value {
-    ghost from_gives = { λ n v. view v ≡ integer n };
+    ghost from_gives = { λ n v. value_item v ≡ integer n };
 
     fn from(n: i16) -> Value {
         Value::Integer(Integer::from(n))
@@ -182,7 +183,7 @@ impl From<i16> for Value {
 }
 
 impl From<i32> for Value {
-    ghost from_gives = { λ n v. view v ≡ integer n };
+    ghost from_gives = { λ n v. value_item v ≡ integer n };
 
     fn from(n: i32) -> Value {
         Value::Integer(Integer::from(n))
@@ -190,7 +191,7 @@ impl From<i32> for Value {
 }
 
 impl From<i64> for Value {
-    ghost from_gives = { λ n v. view v ≡ integer n };
+    ghost from_gives = { λ n v. value_item v ≡ integer n };
 
     fn from(n: i64) -> Value {
         Value::Integer(Integer::from(n))
@@ -198,7 +199,7 @@ impl From<i64> for Value {
 }
 
 impl Clone for Value {
-    ghost is_clone = { λ value copy. view copy ≡ view value };
+    ghost is_clone = { λ value copy. value_item copy ≡ value_item value };
 
     fn clone(&self) -> Result<Value, AllocError> {
         copy(self)
@@ -207,7 +208,7 @@ impl Clone for Value {
 
 #[cycle(copy)]
 fn copy(value: &Value) -> Result<Value, AllocError>
-    ensures { IfOk result (λ copy. view copy ≡ view value.now) }
+    ensures { IfOk result (λ copy. value_item copy ≡ value_item value.now) }
 {
     match value {
         Value::Integer(n) => Ok(Value::Integer(*n)),
@@ -227,7 +228,7 @@ fn copy(value: &Value) -> Result<Value, AllocError>
 
 #[cycle(copy)]
 fn copy_items(items: &Vec<Value>) -> Result<Vec<Value>, AllocError>
-    ensures { IfOk result (λ copies. items_view copies.items ≡ items_view items.now.items) }
+    ensures { IfOk result (λ copies. value_items copies.items ≡ value_items items.now.items) }
 {
     let mut copies = Vec::with_capacity(*items.allocator(), items.len())?;
     for item in items {
@@ -238,7 +239,7 @@ fn copy_items(items: &Vec<Value>) -> Result<Vec<Value>, AllocError>
 
 #[cycle(copy)]
 fn copy_pairs(pairs: &Vec<(Value, Value)>) -> Result<Vec<(Value, Value)>, AllocError>
-    ensures { IfOk result (λ copies. pairs_view copies.items ≡ pairs_view pairs.now.items) }
+    ensures { IfOk result (λ copies. value_pairs copies.items ≡ value_pairs pairs.now.items) }
 {
     let mut copies = Vec::with_capacity(*pairs.allocator(), pairs.len())?;
     for (key, value) in pairs {
@@ -252,25 +253,25 @@ fn copy_pairs(pairs: &Vec<(Value, Value)>) -> Result<Vec<(Value, Value)>, AllocE
 /// Equality of every field: two floats are equal where their widths and bits are, and two maps
 /// where they hold equal pairs in the same order.
 impl PartialEq for Value {
-    ghost eq = { on view item_eq };
+    ghost eq = { on value_item item_eq };
 
-    ghost laws = { on_per view (partial_equiv_from_equiv item_eq_equiv) };
+    ghost laws = { on_per value_item (partial_equiv_from_equiv item_eq_equiv) };
 
     fn eq(&self, other: &Value) -> bool
-        ensures answers { result ≡ item_eq (view self.now) (view other.now) }
-        ensures equal { IsTrue result ↔ (view self.now ≡ view other.now) }
+        ensures answers { result ≡ item_eq (value_item self.now) (value_item other.now) }
+        ensures equal { IsTrue result ↔ (value_item self.now ≡ value_item other.now) }
     {
         same(self, other)
     }
 }
 
 impl Eq for Value {
-    ghost laws = { on_equiv view item_eq_equiv };
+    ghost laws = { on_equiv value_item item_eq_equiv };
 }
 
 #[cycle(same)]
 fn same(a: &Value, b: &Value) -> bool
-    ensures { result ≡ item_eq (view a.now) (view b.now) }
+    ensures { result ≡ item_eq (value_item a.now) (value_item b.now) }
 {
     match (a, b) {
         (Value::Integer(m), Value::Integer(n)) => *m == *n,
@@ -288,7 +289,7 @@ fn same(a: &Value, b: &Value) -> bool
 
 #[cycle(same)]
 fn same_items(vs: &[Value], ws: &[Value]) -> bool
-    ensures { result ≡ items_eq (items_view vs.now) (items_view ws.now) }
+    ensures { result ≡ items_eq (value_items vs.now) (value_items ws.now) }
 {
     if vs.len() != ws.len() {
         return false;
@@ -303,7 +304,7 @@ fn same_items(vs: &[Value], ws: &[Value]) -> bool
 
 #[cycle(same)]
 fn same_pairs(ps: &[(Value, Value)], qs: &[(Value, Value)]) -> bool
-    ensures { result ≡ pairs_eq (pairs_view ps.now) (pairs_view qs.now) }
+    ensures { result ≡ pairs_eq (value_pairs ps.now) (value_pairs qs.now) }
 {
     if ps.len() != qs.len() {
         return false;

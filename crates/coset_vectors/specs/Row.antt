@@ -1,4 +1,4 @@
--- Lines that are answered by themselves.
+-- Lines that are returned by themselves.
 use Rattle.std.specs.Prelude.{◌==◌, ℕ, Bool, true, List, [], ◌∷◌}
 
 -- the line is empty, or begins with `#`

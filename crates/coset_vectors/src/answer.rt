@@ -1,4 +1,4 @@
-//! What the bytes of a row are answered, read both ways.
+//! What the bytes of a row are returned, read both ways.
 
 use crate::form::Form;
 use coset::cbor::de::read_value;

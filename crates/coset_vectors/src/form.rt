@@ -1,4 +1,4 @@
-//! How values stand in the bytes of rows.
+//! How values are in the bytes of rows.
 
 use coset::cbor::value::Value;
 use coset::cwt::Timestamp;
@@ -86,7 +86,7 @@ fn kind_name(value: &Value) -> &'static str {
     }
 }
 
-/// The byte string that stands for a protected header in messages (RFC 8152, section 3).
+/// The byte string that represents a protected header in messages (RFC 8152, section 3).
 pub struct InString;
 
 impl Form<ProtectedHeader> for InString {

@@ -1,4 +1,4 @@
-//! What stands in front of an end, and behind one: of bytes that hold a value, every proper front ends where more is due,
+//! What is in front of an end, and behind one: of bytes that hold a value, every proper front ends where more is due,
 //! and one byte more is extraneous.
 
 use crate::answer::read_through_item;

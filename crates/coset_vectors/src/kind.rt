@@ -65,7 +65,7 @@ pub enum Kind {
     Header,
     /// The map of a protected header.
     Protected,
-    /// A protected header in the byte string that stands for it in messages.
+    /// A protected header in the byte string that represents it in messages.
     ProtectedBstr,
     /// A signature (RFC 8152, section 4.1).
     Signature,
@@ -210,7 +210,7 @@ impl Kind {
         }
     }
 
-    /// Whether what is written of a value of this kind is a structure, or some, that `external_aad` stands in.
+    /// Whether what is written of a value of this kind is a structure, or some, that `external_aad` is in.
     pub fn is_structure(self) -> bool {
         matches!(
             self,
@@ -247,7 +247,7 @@ impl Kind {
         self.ask(alloc, Question::Fronts, bytes)
     }
 
-    /// What is answered to a question about bytes of this kind.
+    /// What is returned to a question about bytes of this kind.
     fn ask(
         self,
         alloc: Global,

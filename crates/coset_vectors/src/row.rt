@@ -13,8 +13,8 @@ use std::alloc::{AllocError, Global};
 /// The answer where a word is no hexadecimal.
 const NOT_HEXADECIMAL: &str = "error: input is not hexadecimal";
 
-/// The line that answers this one: itself where it is empty or a comment, which begins with `#`; else what its bytes
-/// are answered. What answers a row stands between two marks, and is `error: out of memory` where there is none for that.
+/// The line that returns this one: itself where it is empty or a comment, which begins with `#`; else what its bytes
+/// are returned. What answers a row is between two marks, and is `error: out of memory` where there is none for that.
 pub fn answer_line(alloc: Global, line: &str) -> Result<String, AllocError>
     ensures { is_comment_spec line.now ≡ true
         → IfOk result (λ answer. string_bytes answer ≡ line.now) }
@@ -59,7 +59,7 @@ fn answer_every(alloc: Global, row: &str) -> Result<String, AllocError> {
     }
 }
 
-/// The text for values that nest, of what stands around the others and of what is inside.
+/// The text for values that nest, of what is around the others and of what is inside.
 fn answer_nested(alloc: Global, words: &str) -> Result<String, AllocError> {
     let (outer, inner) = name_and_rest(words);
     match (spelled(alloc, outer)?, spelled(alloc, inner)?) {
@@ -89,7 +89,7 @@ fn parts(row: &str) -> (Option<Kind>, &str) {
     }
 }
 
-/// What stands before the first space and behind it. No space is as good as one at the end.
+/// What is before the first space and behind it. No space is as good as one at the end.
 fn name_and_rest(row: &str) -> (&str, &str) {
     match row.split_once(' ') {
         Some((name, rest)) => (name, rest),
@@ -121,7 +121,7 @@ fn spelled(alloc: Global, hexadecimal: &str) -> Result<Option<Vec<u8>>, AllocErr
 }
 
 /// The text for these bytes. Where they hold a value, that every proper front of them ends too early, and that a byte
-/// behind them is extraneous, is looked at as well, and told of where it isn't so.
+/// behind them is extraneous, is looked at as well, and said of where it isn't so.
 fn answer_bytes(
     alloc: Global,
     kind: Kind,
@@ -136,7 +136,7 @@ fn answer_bytes(
     if flaw.is_empty() { Ok(text) } else { Ok(flaw) }
 }
 
-/// Whether the text tells why bytes hold no value.
+/// Whether the text says why bytes hold no value.
 pub fn is_error(text: &String) -> bool {
     text.as_str().starts_with("error: ") || text.as_str() == "differs"
 }

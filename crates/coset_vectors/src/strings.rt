@@ -32,7 +32,7 @@ const WIDTHS: [usize; 5] = [0, 1, 2, 4, 8];
 const CHUNKS: [usize; 3] = [1, 7, 400];
 
 /// Each string of letters up to the longest is written shortest, whatever head it has and in whatever chunks it comes.
-/// Answers how many spellings these are, or the first that is answered otherwise.
+/// Answers how many spellings these are, or the first that is returned otherwise.
 pub fn strings(alloc: Global, major: Major) -> Result<String, AllocError> {
     let mut count = 0u32;
     for length in 0..=LONGEST {

@@ -1,4 +1,4 @@
-//! Structures of messages and recipients, in which an `external_aad` stands: what is signed, authenticated, or goes with a
+//! Structures of messages and recipients, in which an `external_aad` is: what is signed, authenticated, or goes with a
 //! ciphertext. Where there are some, they are written one behind the other.
 
 use crate::form::Form;
@@ -172,7 +172,7 @@ impl<'a> Countersigned<'a> {
     }
 }
 
-/// What is written of a value that is read as it stands.
+/// What is written of a value that is read as it is.
 pub trait Made<T> {
     /// The bytes that are written.
     ///

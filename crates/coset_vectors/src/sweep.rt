@@ -1,14 +1,14 @@
-//! Sweeps: lines that stand for many rows.
+//! Sweeps: lines that each make many rows.
 
 use crate::kind::Kind;
 use std::alloc::{AllocError, Global};
 
-/// What the inputs of a sweep were answered.
+/// What the inputs of a sweep were returned.
 #[derive(Drop)]
 struct Tally {
     /// How many of them were accepted.
     accepted: u32,
-    /// The first that was answered as none may be, if there is one.
+    /// The first that was returned as none may be, if there is one.
     wrong: Option<Vec<u8>>,
 }
 
@@ -20,7 +20,7 @@ impl Tally {
         }
     }
 
-    /// Takes one more answer. An accepted input must be written as bytes that are answered by themselves, and no other
+    /// Takes one more answer. An accepted input must be written as bytes that are returned by themselves, and no other
     /// may be refused for memory; `differs` where reading it straight and by way of a value don't agree.
     fn take(&mut self, alloc: Global, kind: Kind, input: &[u8]) -> Result<(), AllocError> {
         let text = kind.answer(alloc, input, &[])?;
@@ -44,7 +44,7 @@ impl Tally {
         Ok(())
     }
 
-    /// How many were accepted; or the first that was answered wrongly.
+    /// How many were accepted; or the first that was returned wrongly.
     fn told(&self, alloc: Global) -> Result<String, AllocError> {
         match &self.wrong {
             None => format!(in alloc; "{} accepted", self.accepted),

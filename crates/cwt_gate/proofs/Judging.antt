@@ -1,4 +1,4 @@
--- What the gate answers, from what its calls answer.
+-- What the gate returns, from what its calls answer.
 use mir.Syntax.{w64}
 use mir.Val.{SFits, of_z, to_z}
 use Rattle.std.specs.Prelude.{IsErrAnd}
@@ -12,9 +12,9 @@ use Rattle.coset.specs.ClaimsSet.{ClaimsSet}
 use Rattle.coset.specs.CoseError.{CoseError}
 use Rattle.coset.specs.Encoding.{HasNoImage}
 use Rattle.coset.specs.Item.{Item}
-use Rattle.coset.specs.Sign1.{Sign1Seen, sign1, sign1_carried, sign1_structure}
+use Rattle.coset.specs.Sign1.{Sign1View, sign1, sign1_carried, sign1_structure}
 use Rattle.cwt_gate.specs.Gate.{GivesClaims, IsAdmitted, Judges, JudgesWith, Says, Verifies, refusal_of}
-use Rattle.cwt_gate.specs.Policy.{PolicySeen}
+use Rattle.cwt_gate.specs.Policy.{PolicyView}
 use Rattle.cwt_gate.specs.Token.{token}
 use Rattle.cwt_gate.specs.declared.error.GateError.{GateError}
 use Rattle.cwt_gate.specs.declared.error.GateError.TheVariants as gate
@@ -22,39 +22,39 @@ use Rattle.cwt_gate.specs.declared.error.PolicyError.TheVariants.{Gate}
 
 -- of a message that was read there is something that is signed
 abbrev pub AlwaysSigned : Type 0
-AlwaysSigned = (external_aad payload : List ℕ) (v : Item) (m : Sign1Seen) → sign1.describes v m → sign1_structure m external_aad payload ≡ None → ⊥
+AlwaysSigned = (external_aad payload : List ℕ) (v : Item) (m : Sign1View) → sign1.describes v m → sign1_structure m external_aad payload ≡ None → ⊥
 
 -- so that there is none is never why a token is refused
-unsigned : AlwaysSigned → (b : List ℕ) (m : Sign1Seen) (e : CoseError) → Describes token b m → HasNoImage (sign1_carried m []) e → IsRefused token b e
+unsigned : AlwaysSigned → (b : List ℕ) (m : Sign1View) (e : CoseError) → Describes token b m → HasNoImage (sign1_carried m []) e → IsRefused token b e
 unsigned law b m e d none = λ other. absurd (law [] _ _ m d.2 (none other).1)
 
 -- what a test answers of a moment that was handed on
 pub moved : (test : ℤ → Bool) (now : ℤ) → SFits w64 now → {b : Bool} → test (to_z w64 (of_z w64 now)) ≡ b → test now ≡ b
 moved test now fits {b} h = subst (λ n. test n ≡ b) (to_z-of_z w64 now fits) h
 
--- what is answered of an error is answered of what it was turned into
+-- what is returned of an error is returned of what it was turned into
 pub passed_on : {A X : Type 0} (P : Result A X → Type 0) (r : Result A X) (e : X) → IsErrAnd r (λ x. x ≡ e) → P (Err e) → P r
 passed_on P (Ok x) e is h = absurd is
 passed_on P (Err x) e is h = subst (λ y. P (Err y)) (sym is) h
 
 module _ {F E : Type 0} (g : Verifies F E) (f : F) where
   -- asked about the message that carries the payload p, the closure answered
-  pub says_yes : (m : Sign1Seen) (p : List ℕ) → m.payload ≡ Some p → AsksAbout g f m.signature (sign1_carried m []) (Ok tt) → Says g f m p (Ok tt)
+  pub says_yes : (m : Sign1View) (p : List ℕ) → m.payload ≡ Some p → AsksAbout g f m.signature (sign1_carried m []) (Ok tt) → Says g f m p (Ok tt)
   says_yes m p carried asked = record { carried = carried; tbs = asked.0; is_tbs = asked.1; said = asked.2 }
 
   -- it refused, or there was no memory for what it is asked about
-  refused : (m : Sign1Seen) (p : List ℕ) (e : CallError E) → m.payload ≡ Some p → AsksAbout g f m.signature (sign1_carried m []) (Err e)
+  refused : (m : Sign1View) (p : List ℕ) (e : CallError E) → m.payload ≡ Some p → AsksAbout g f m.signature (sign1_carried m []) (Err e)
       → GivesClaims g f m (Err (refusal_of e))
   refused m p (Coset e) carried asked = asked
   refused m p (Caller e) carried asked = (p, record { carried = carried; tbs = asked.0; is_tbs = asked.1; said = asked.2 })
 
   pub not_verified :
-      (m : Sign1Seen) (p : List ℕ) (e : CallError E) (r : Result ClaimsSet (GateError E)) → IsErrAnd r (λ x. x ≡ refusal_of e) → m.payload ≡ Some p
+      (m : Sign1View) (p : List ℕ) (e : CallError E) (r : Result ClaimsSet (GateError E)) → IsErrAnd r (λ x. x ≡ refusal_of e) → m.payload ≡ Some p
       → AsksAbout g f m.signature (sign1_carried m []) (Err e) → GivesClaims g f m r
   not_verified m p e r is carried asked = passed_on (GivesClaims g f m) r (refusal_of e) is (refused m p e carried asked)
 
   -- why a message has no claims is why its token is refused
-  pub none_given : AlwaysSigned → (now : ℤ) (b : List ℕ) (m : Sign1Seen) (e : GateError E) → Describes token b m → GivesClaims g f m (Err e)
+  pub none_given : AlwaysSigned → (now : ℤ) (b : List ℕ) (m : Sign1View) (e : GateError E) → Describes token b m → GivesClaims g f m (Err e)
       → Judges g f now b (Err e)
   none_given law now b m (gate.Token e) d h = unsigned law b m e d h
   none_given law now b m gate.NoPayload d h = (m, d, h)
@@ -65,7 +65,7 @@ module _ {F E : Type 0} (g : Verifies F E) (f : F) where
   none_given law now b m gate.NotYetValid d h = absurd h
 
   -- and with a policy that admits it
-  pub none_given_with : AlwaysSigned → (p : PolicySeen) (now : ℤ) (b : List ℕ) (m : Sign1Seen) (e : GateError E) → Describes token b m → IsAdmitted p m
+  pub none_given_with : AlwaysSigned → (p : PolicyView) (now : ℤ) (b : List ℕ) (m : Sign1View) (e : GateError E) → Describes token b m → IsAdmitted p m
       → GivesClaims g f m (Err e) → JudgesWith g f p now b (Err (Gate e))
   none_given_with law p now b m (gate.Token e) d a h = unsigned law b m e d h
   none_given_with law p now b m gate.NoPayload d a h = (m, d, (a, h))

@@ -2,19 +2,19 @@
 use Rattle.std.proofs.Common.{◌≡◌, ◌==◌, List, [], ◌∷◌, ◌||◌, ◌&&◌, Bool, Option, Some, None, length, map, refl, arith, ap, option_map, is_some}
 use Rattle.std.specs.List.{list_any, list_all}
 use Rattle.std.proofs.lemmas.Bool.Decides.{nat_tests}
-use Rattle.coset.specs.FieldsView.{fields_seen}
-use Rattle.coset.specs.Headers.{ProtectedSeen, SignatureSeen, are_none, fields_in, signatures_of}
+use Rattle.coset.specs.FieldViews.{fields_view}
+use Rattle.coset.specs.Headers.{ProtectedView, SignatureView, are_none, fields_in, signatures_of}
 use Rattle.coset.specs.ProtectedHeader.{ProtectedHeader, out-ProtectedHeader}
 use Rattle.coset.specs.ViewLaws.{header-opened, protected-opened}
-use Rattle.coset.specs.Views.{header_seen, protected_seen}
+use Rattle.coset.specs.Views.{header_view, protected_view}
 use Rattle.coset.specs.Header.{Header}
 
-pub opened : (h : Header) → fields_in (header_seen h) ≡ fields_seen h
+pub opened : (h : Header) → fields_in (header_view h) ≡ fields_view h
 opened h = ap fields_in (header-opened h)
 
 -- the header of a protected header
-pub protected_opened : (p : ProtectedHeader) → (protected_seen p).header ≡ header_seen (out-ProtectedHeader p).header
-protected_opened p = ap (λ (q : ProtectedSeen). q.header) (protected-opened p)
+pub protected_opened : (p : ProtectedHeader) → (protected_view p).header ≡ header_view (out-ProtectedHeader p).header
+protected_opened p = ap (λ (q : ProtectedView). q.header) (protected-opened p)
 
 pub any-map : {A B : Type 0} (f : B → Bool) (g : A → B) (xs : List A) → list_any f (map g xs) ≡ list_any (λ x. f (g x)) xs
 any-map f g [] = refl
@@ -28,6 +28,6 @@ pub some-map : {A B : Type 0} (f : A → B) (o : Option A) → is_some (option_m
 some-map f None = refl
 some-map f (Some x) = refl
 
-pub none-of : {A : Type 0} (f : A → SignatureSeen) (xs : List A) → are_none (signatures_of (map f xs)) ≡ (length xs == 0)
+pub none-of : {A : Type 0} (f : A → SignatureView) (xs : List A) → are_none (signatures_of (map f xs)) ≡ (length xs == 0)
 none-of f [] = refl
 none-of f (x ∷ xs) = grind (arith, nat_tests)

@@ -1,4 +1,4 @@
--- What the gate answers.
+-- What the gate returns.
 use Rattle.std.specs.Prelude.{◌≡◌, ℕ, ℤ, List, [], true, false, Some, None, Result, Ok, Err}
 use Rattle.std.specs.Borrow.{Bor}
 use Rattle.std.specs.Fn.{Once, FnOnceReturnsAtPair}
@@ -6,14 +6,14 @@ use Rattle.coset.specs.Answers.{Describes, IsRefused}
 use Rattle.coset.specs.CallError.{CallError}
 use Rattle.coset.specs.CallError.TheVariants as calls
 use Rattle.coset.specs.Calls.{IsStructure}
-use Rattle.coset.specs.Claims.{ClaimsSeen, claims, claims_seen}
+use Rattle.coset.specs.Claims.{ClaimsView, claims, claims_view}
 use Rattle.coset.specs.ClaimsSet.{ClaimsSet}
 use Rattle.coset.specs.CoseError.{CoseError}
 use Rattle.coset.specs.Encoding.{HasNoImage}
 use Rattle.coset.specs.Shape.{Shape}
-use Rattle.coset.specs.Sign1.{Sign1Seen, sign1_carried}
+use Rattle.coset.specs.Sign1.{Sign1View, sign1_carried}
 use Rattle.cwt_gate.specs.Moment.{has_expired, has_fraction, is_early}
-use Rattle.cwt_gate.specs.Policy.{PolicySeen, allows, understands, is_for}
+use Rattle.cwt_gate.specs.Policy.{PolicyView, allows, understands, is_for}
 use Rattle.cwt_gate.specs.Token.{token}
 use Rattle.cwt_gate.specs.declared.error.GateError.{GateError}
 use Rattle.cwt_gate.specs.declared.error.GateError.TheVariants.{Token, NoPayload, Caller, Claims, FractionalTime, Expired, NotYetValid}
@@ -31,52 +31,52 @@ refusal_of (calls.Caller e) = Caller e
 
 -- the message m carries the payload p; and asked about its signature and what that is over, where `external_aad` is empty
 -- (RFC 8152, section 4.4), f gives this answer
-pub record Says {F E : Type 0} (g : Verifies F E) (f : F) (m : Sign1Seen) (p : List ℕ) (answer : Result (Unit {0}) E) : Type 0 where
+pub record Says {F E : Type 0} (g : Verifies F E) (f : F) (m : Sign1View) (p : List ℕ) (answer : Result (Unit {0}) E) : Type 0 where
   pub carried : m.payload ≡ Some p
   pub tbs : List ℕ
   pub is_tbs : IsStructure (sign1_carried m []) tbs
   pub said : FnOnceReturnsAtPair g f m.signature tbs answer
 
 -- f accepts the message, and its payload describes these claims
-abbrev pub Accepts : {F E : Type 0} → Verifies F E → F → Sign1Seen → ClaimsSeen → Type 0
+abbrev pub Accepts : {F E : Type 0} → Verifies F E → F → Sign1View → ClaimsView → Type 0
 Accepts g f m c = (p : List ℕ) × Says g f m p (Ok tt) × Describes claims p c
 
 -- f refuses the message
-abbrev pub Refuses : {F E : Type 0} → Verifies F E → F → Sign1Seen → E → Type 0
+abbrev pub Refuses : {F E : Type 0} → Verifies F E → F → Sign1View → E → Type 0
 Refuses g f m e = (p : List ℕ) × Says g f m p (Err e)
 
 -- f accepts the message, and its payload is refused
-abbrev pub CarriesNoClaims : {F E : Type 0} → Verifies F E → F → Sign1Seen → CoseError → Type 0
+abbrev pub CarriesNoClaims : {F E : Type 0} → Verifies F E → F → Sign1View → CoseError → Type 0
 CarriesNoClaims g f m e = (p : List ℕ) × Says g f m p (Ok tt) × IsRefused claims p e
 
--- what is answered of a message: its claims, where f accepts it; or why there are none
-abbrev pub GivesClaims : {F E : Type 0} → Verifies F E → F → Sign1Seen → Result ClaimsSet (GateError E) → Type 0
-GivesClaims g f m (Ok x) = Accepts g f m (claims_seen x)
+-- what is returned of a message: its claims, where f accepts it; or why there are none
+abbrev pub GivesClaims : {F E : Type 0} → Verifies F E → F → Sign1View → Result ClaimsSet (GateError E) → Type 0
+GivesClaims g f m (Ok x) = Accepts g f m (claims_view x)
 GivesClaims g f m (Err (Token e)) = HasNoImage (sign1_carried m []) e
 GivesClaims g f m (Err NoPayload) = m.payload ≡ None
 GivesClaims g f m (Err (Caller e)) = Refuses g f m e
 GivesClaims g f m (Err (Claims e)) = CarriesNoClaims g f m e
 GivesClaims g f m (Err e) = ⊥
 
--- the token b is a message of which P tells
-abbrev pub IsToken : List ℕ → (Sign1Seen → Type 0) → Type 0
-IsToken b P = (m : Sign1Seen) × Describes token b m × P m
+-- the token b is a message of which P holds
+abbrev pub IsToken : List ℕ → (Sign1View → Type 0) → Type 0
+IsToken b P = (m : Sign1View) × Describes token b m × P m
 
--- What is answered of the token b at a moment: the claims that f accepts and that are valid then; or the first reason
--- that stands against it
+-- What is returned of the token b at a moment: the claims that f accepts and that are valid then; or the first reason
+-- that is against it
 abbrev pub Judges : {F E : Type 0} → Verifies F E → F → ℤ → List ℕ → Result ClaimsSet (GateError E) → Type 0
 Judges g f now b (Ok x) =
-    let c = claims_seen x in
+    let c = claims_view x in
     IsToken b (λ m. Accepts g f m c) × (has_fraction c ≡ false) × (has_expired 0 now c.expiration_time ≡ false) × (is_early 0 now c.not_before ≡ false)
 Judges g f now b (Err (Token e)) = IsRefused token b e
 Judges g f now b (Err NoPayload) = IsToken b (λ m. m.payload ≡ None)
 Judges g f now b (Err (Caller e)) = IsToken b (λ m. Refuses g f m e)
 Judges g f now b (Err (Claims e)) = IsToken b (λ m. CarriesNoClaims g f m e)
-Judges g f now b (Err FractionalTime) = (c : ClaimsSeen) × IsToken b (λ m. Accepts g f m c) × (has_fraction c ≡ true)
+Judges g f now b (Err FractionalTime) = (c : ClaimsView) × IsToken b (λ m. Accepts g f m c) × (has_fraction c ≡ true)
 Judges g f now b (Err Expired) =
-    (c : ClaimsSeen) × IsToken b (λ m. Accepts g f m c) × (has_fraction c ≡ false) × (has_expired 0 now c.expiration_time ≡ true)
+    (c : ClaimsView) × IsToken b (λ m. Accepts g f m c) × (has_fraction c ≡ false) × (has_expired 0 now c.expiration_time ≡ true)
 Judges g f now b (Err NotYetValid) =
-    (c : ClaimsSeen)
+    (c : ClaimsView)
     × IsToken b (λ m. Accepts g f m c)
     × (has_fraction c ≡ false)
     × (has_expired 0 now c.expiration_time ≡ false)
@@ -85,18 +85,18 @@ Judges g f now b (Err NotYetValid) =
 -- ---- with a policy
 
 -- the protected header's algorithm is one of the policy's, and each label that must be understood is
-abbrev pub IsAdmitted : PolicySeen → Sign1Seen → Type 0
+abbrev pub IsAdmitted : PolicyView → Sign1View → Type 0
 IsAdmitted p m = (allows p m.protected.header ≡ true) × (understands p m ≡ true)
 
 -- the token b is a message that the policy admits and f accepts, of these claims
-abbrev pub IsAccepted : {F E : Type 0} → Verifies F E → F → PolicySeen → List ℕ → ClaimsSeen → Type 0
+abbrev pub IsAccepted : {F E : Type 0} → Verifies F E → F → PolicyView → List ℕ → ClaimsView → Type 0
 IsAccepted g f p b c = IsToken b (λ m. IsAdmitted p m × Accepts g f m c)
 
--- What is answered of the token b at a moment: the claims that f accepts, that are valid then and that the policy lets in;
--- or the first reason that stands against it
-abbrev pub JudgesWith : {F E : Type 0} → Verifies F E → F → PolicySeen → ℤ → List ℕ → Result ClaimsSet (PolicyError E) → Type 0
+-- What is returned of the token b at a moment: the claims that f accepts, that are valid then and that the policy lets in;
+-- or the first reason that is against it
+abbrev pub JudgesWith : {F E : Type 0} → Verifies F E → F → PolicyView → ℤ → List ℕ → Result ClaimsSet (PolicyError E) → Type 0
 JudgesWith g f p now b (Ok x) =
-    let c = claims_seen x in
+    let c = claims_view x in
     IsAccepted g f p b c × (has_expired p.leeway now c.expiration_time ≡ false) × (is_early p.leeway now c.not_before ≡ false) × (is_for p c ≡ true)
 JudgesWith g f p now b (Err (Gate (Token e))) = IsRefused token b e
 JudgesWith g f p now b (Err Algorithm) = IsToken b (λ m. allows p m.protected.header ≡ false)
@@ -105,11 +105,11 @@ JudgesWith g f p now b (Err (Gate NoPayload)) = IsToken b (λ m. IsAdmitted p m 
 JudgesWith g f p now b (Err (Gate (Caller e))) = IsToken b (λ m. IsAdmitted p m × Refuses g f m e)
 JudgesWith g f p now b (Err (Gate (Claims e))) = IsToken b (λ m. IsAdmitted p m × CarriesNoClaims g f m e)
 JudgesWith g f p now b (Err (Gate FractionalTime)) = ⊥
-JudgesWith g f p now b (Err (Gate Expired)) = (c : ClaimsSeen) × IsAccepted g f p b c × (has_expired p.leeway now c.expiration_time ≡ true)
+JudgesWith g f p now b (Err (Gate Expired)) = (c : ClaimsView) × IsAccepted g f p b c × (has_expired p.leeway now c.expiration_time ≡ true)
 JudgesWith g f p now b (Err (Gate NotYetValid)) =
-    (c : ClaimsSeen) × IsAccepted g f p b c × (has_expired p.leeway now c.expiration_time ≡ false) × (is_early p.leeway now c.not_before ≡ true)
+    (c : ClaimsView) × IsAccepted g f p b c × (has_expired p.leeway now c.expiration_time ≡ false) × (is_early p.leeway now c.not_before ≡ true)
 JudgesWith g f p now b (Err Audience) =
-    (c : ClaimsSeen)
+    (c : ClaimsView)
     × IsAccepted g f p b c
     × (has_expired p.leeway now c.expiration_time ≡ false)
     × (is_early p.leeway now c.not_before ≡ false)

@@ -3,28 +3,28 @@ use Rattle.std.specs.Prelude.{◌==◌, ◌&&◌, ◌||◌, not, ℕ, ℤ, pos, 
 use Rattle.std.specs.List.{list_any, list_all}
 use Rattle.std.specs.Ordering.{int_eq}
 use Rattle.std.specs.Cmp.Lexicographic.{pointwise}
-use Rattle.coset.specs.Claims.{ClaimsSeen}
+use Rattle.coset.specs.Claims.{ClaimsView}
 use Rattle.coset.specs.Claims as claims
-use Rattle.coset.specs.Headers.{HeaderSeen, header_of, fields_in, are_none}
-use Rattle.coset.specs.LabelViews.{algorithm_seen}
+use Rattle.coset.specs.Headers.{HeaderView, header_of, fields_in, are_none}
+use Rattle.coset.specs.LabelViews.{algorithm_view}
 use Rattle.coset.specs.Names.{Name, number, text_label, RegisteredName, as_name, same_name}
-use Rattle.coset.specs.Sign1.{Sign1Seen}
-use Rattle.coset.specs.Views.{critical_seen}
+use Rattle.coset.specs.Sign1.{Sign1View}
+use Rattle.coset.specs.Views.{critical_view}
 use Rattle.cwt_gate.specs.declared.policy.Policy.{Policy}
 
 -- a policy without its memory
-pub record PolicySeen : Type 0 where
+pub record PolicyView : Type 0 where
   pub algorithms : List RegisteredName
   pub audience : Option (List ℕ)
   pub leeway : ℕ
   pub critical : List RegisteredName
 
-abbrev pub policy_seen : Policy → PolicySeen
-policy_seen p = record {
-  algorithms = map algorithm_seen p.algorithms.now;
+abbrev pub policy_view : Policy → PolicyView
+policy_view p = record {
+  algorithms = map algorithm_view p.algorithms.now;
   audience = option_map (λ s. s.now) p.audience;
   leeway = p.leeway;
-  critical = map critical_seen p.critical.now;
+  critical = map critical_view p.critical.now;
 }
 
 -- there is something, and it passes the test
@@ -37,13 +37,13 @@ abbrev pub is_one_of : List RegisteredName → RegisteredName → Bool
 is_one_of labels l = list_any (λ m. claims.same_name m l) labels
 
 -- the header names an algorithm, which is one of the policy's
-abbrev pub allows : PolicySeen → HeaderSeen → Bool
+abbrev pub allows : PolicyView → HeaderView → Bool
 allows p h = is_there_and (is_one_of p.algorithms) (fields_in h).alg
 
 -- ---- labels that must be understood (RFC 8152, section 3.1, "crit")
 
 -- the parameters that are fields of a header, by their numbers, and whether they are there
-abbrev pub parameters : HeaderSeen → List (ℤ × Bool)
+abbrev pub parameters : HeaderView → List (ℤ × Bool)
 parameters (header_of f ss ts) =
     (pos 1, is_some f.alg)
     ∷ (pos 2, not (length f.crit == 0))
@@ -58,19 +58,19 @@ number_in (number i) = Some i
 number_in (text_label s) = None
 
 -- one of them has this label
-abbrev pub is_parameter : HeaderSeen → Name → Bool
+abbrev pub is_parameter : HeaderView → Name → Bool
 is_parameter h l = is_there_and (λ i. list_any (λ p. p.1 && int_eq p.0 i) (parameters h)) (number_in l)
 
 -- the header has this label
-abbrev pub has_label : HeaderSeen → Name → Bool
+abbrev pub has_label : HeaderView → Name → Bool
 has_label h l = is_parameter h l || list_any (λ e. same_name e.0 l) (fields_in h).rest
 
 -- the policy names the label, and the header has it
-abbrev pub is_understood : PolicySeen → HeaderSeen → RegisteredName → Bool
+abbrev pub is_understood : PolicyView → HeaderView → RegisteredName → Bool
 is_understood p h l = is_one_of p.critical l && has_label h (as_name l)
 
--- each label that must be understood is; and they stand in the protected header alone
-abbrev pub understands : PolicySeen → Sign1Seen → Bool
+-- each label that must be understood is; and they are in the protected header alone
+abbrev pub understands : PolicyView → Sign1View → Bool
 understands p m =
     let h = m.protected.header in
     list_all (is_understood p h) (fields_in h).crit && length (fields_in m.unprotected).crit == 0
@@ -81,5 +81,5 @@ is_meant None named = true
 is_meant (Some a) None = false
 is_meant (Some a) (Some b) = pointwise ◌==◌ a b
 
-abbrev pub is_for : PolicySeen → ClaimsSeen → Bool
+abbrev pub is_for : PolicyView → ClaimsView → Bool
 is_for p c = is_meant p.audience c.audience

@@ -3,7 +3,7 @@ use Rattle.std.specs.Prelude.{◌≡◌, ◌==◌, ◌&&◌, ℕ, Bool, false, i
 use Rattle.coset.specs.Item.{Item, tag}
 use Rattle.coset.specs.CoseError.{CoseError}
 use Rattle.coset.specs.Shape.{Shape}
-use Rattle.coset.specs.Sign1.{Sign1Seen, sign1, sign1_laws, sign1_seen}
+use Rattle.coset.specs.Sign1.{Sign1View, sign1, sign1_laws, sign1_view}
 use Rattle.cwt_gate.specs.declared.token.Token as declared
 
 -- the item is under the tag of this number
@@ -26,18 +26,18 @@ abbrev pub message_in : Item → Item
 message_in v = if is_under 18 v then untagged v else (if is_wrapped v then untagged (untagged v) else v)
 
 -- COSE_Sign1 / #6.18(COSE_Sign1) / #6.61(#6.18(COSE_Sign1)), written without a tag
-abbrev pub token : Shape Sign1Seen
+abbrev pub token : Shape Sign1View
 token = record {
   describes = λ v m. sign1.describes (message_in v) m;
   image = sign1.image;
   faults = λ v e. sign1.faults (message_in v) e;
 }
 
-abbrev pub token_seen : declared.Token → Sign1Seen
-token_seen t = sign1_seen t.0
+abbrev pub token_view : declared.Token → Sign1View
+token_view t = sign1_view t.0
 
-pub token_unique : (v : Item) (m n : Sign1Seen) → token.describes v m → token.describes v n → m ≡ n
+pub token_unique : (v : Item) (m n : Sign1View) → token.describes v m → token.describes v n → m ≡ n
 token_unique v = sign1_laws.unique (message_in v)
 
-pub token_sound : (v : Item) (m : Sign1Seen) (e : CoseError) → token.describes v m → token.faults v e → ⊥
+pub token_sound : (v : Item) (m : Sign1View) (e : CoseError) → token.describes v m → token.faults v e → ⊥
 token_sound v = sign1_laws.sound (message_in v)

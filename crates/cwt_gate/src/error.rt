@@ -39,7 +39,7 @@ impl<E: Drop> From<CallError<E>> for GateError<E> {
 }
 
 /// Why a token is not let in by [`judge_with`](crate::judge_with). Of several reasons it is the first of these: that of
-/// `Gate` which tells of the token, `Algorithm`, `Critical`, those of `Gate` from `NoPayload` on, and `Audience`.
+/// `Gate` for the token, `Algorithm`, `Critical`, those of `Gate` from `NoPayload` on, and `Audience`.
 #[derive(Debug, Drop)]
 pub enum PolicyError<E> {
     /// A reason that [`judge`](crate::judge) has too; never `FractionalTime`, since fractions are compared as they are.

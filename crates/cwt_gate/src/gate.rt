@@ -1,7 +1,7 @@
 //! The gate.
 
 ghost use Rattle.cwt_gate.specs.Gate.{Judges, JudgesWith};
-ghost use Rattle.cwt_gate.specs.Policy.{policy_seen};
+ghost use Rattle.cwt_gate.specs.Policy.{policy_view};
 
 use crate::error::{GateError, PolicyError};
 use crate::moment::{has_expired, has_fraction, is_early};
@@ -73,7 +73,7 @@ where
     F: FnOnce(&[u8], &[u8]) -> Result<(), E> + Drop,
     E: Drop,
     requires { F.IsAlwaysCallable verify }
-    ensures { JudgesWith F.FnOnce verify (policy_seen policy.now) now token.now result }
+    ensures { JudgesWith F.FnOnce verify (policy_view policy.now) now token.now result }
 {
     signed_when_read();
     let message = match read_token(alloc, token) {

@@ -1,5 +1,5 @@
 //! A gate for web tokens (RFC 8392): [`judge`] lets in the claims of a token whose signature the caller's closure accepts,
-//! at a moment at which they are valid; [`judge_with`] also asks that they meet a [`Policy`]. It stands on the public
+//! at a moment at which they are valid; [`judge_with`] also asks that they meet a [`Policy`]. It is built on the public
 //! contracts of `coset`, and says nothing of CBOR's bytes.
 #![tactic(auto)]
 

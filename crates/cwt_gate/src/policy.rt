@@ -1,12 +1,12 @@
 //! What a verifier asks of a token beside its signature and its times.
 
 ghost use Rattle.std.specs.Prelude.{◌≡◌};
-ghost use Rattle.coset.specs.Claims.{claims_seen};
-ghost use Rattle.coset.specs.LabelViews.{entry_seen};
+ghost use Rattle.coset.specs.Claims.{claims_view};
+ghost use Rattle.coset.specs.LabelViews.{entry_view};
 ghost use Rattle.coset.specs.Names.{as_name, same_name};
-ghost use Rattle.coset.specs.Sign1.{sign1_seen};
-ghost use Rattle.coset.specs.Views.{critical_seen, header_seen};
-ghost use Rattle.cwt_gate.specs.Policy.{allows, has_label, is_for, is_parameter, is_understood, number_in, parameters, policy_seen, understands};
+ghost use Rattle.coset.specs.Sign1.{sign1_view};
+ghost use Rattle.coset.specs.Views.{critical_view, header_view};
+ghost use Rattle.cwt_gate.specs.Policy.{allows, has_label, is_for, is_parameter, is_understood, number_in, parameters, policy_view, understands};
 
 use coset::cbor::value::Value;
 use coset::cwt::ClaimsSet;
@@ -35,7 +35,7 @@ pub struct Policy<'a> {
 impl Policy<'_> {
     /// Whether the header names an algorithm, and the policy has it.
     pub(crate) fn allows(&self, header: &Header) -> bool
-        ensures { result ≡ allows (policy_seen self.now) (header_seen header.now) }
+        ensures { result ≡ allows (policy_view self.now) (header_view header.now) }
     {
         match &header.alg {
             Some(algorithm) => self.algorithms.contains(algorithm),
@@ -45,15 +45,15 @@ impl Policy<'_> {
 
     /// Whether the policy names the label, and the header has it.
     fn is_understood(&self, header: &Header, label: &Critical) -> bool
-        ensures { result ≡ is_understood (policy_seen self.now) (header_seen header.now)
-            (critical_seen label.now) }
+        ensures { result ≡ is_understood (policy_view self.now) (header_view header.now)
+            (critical_view label.now) }
     {
         self.critical.contains(label) && has_label(header, label)
     }
 
-    /// Whether each label that must be understood is, and all of them stand in the protected header.
+    /// Whether each label that must be understood is, and all of them are in the protected header.
     pub(crate) fn understands(&self, message: &CoseSign1) -> bool
-        ensures { result ≡ understands (policy_seen self.now) (sign1_seen message.now) }
+        ensures { result ≡ understands (policy_view self.now) (sign1_view message.now) }
     {
         let header = &message.protected.header;
         let are_understood = header
@@ -65,7 +65,7 @@ impl Policy<'_> {
 
     /// Whether the claims are for the policy's audience.
     pub(crate) fn is_for(&self, claims: &ClaimsSet) -> bool
-        ensures { result ≡ is_for (policy_seen self.now) (claims_seen claims.now) }
+        ensures { result ≡ is_for (policy_view self.now) (claims_view claims.now) }
     {
         match (&self.audience, &claims.audience) {
             (None, _) => true,
@@ -77,14 +77,14 @@ impl Policy<'_> {
 
 /// Whether the header has the label.
 fn has_label(header: &Header, label: &Critical) -> bool
-    ensures { result ≡ has_label (header_seen header.now) (as_name (critical_seen label.now)) }
+    ensures { result ≡ has_label (header_view header.now) (as_name (critical_view label.now)) }
 {
     is_parameter(header, label) || header.rest.iter().any(|pair| is_labelled(pair, label))
 }
 
 /// The number that the label is, unless it is a text.
 fn number_of(label: &Critical) -> Option<i64>
-    ensures { result ≡ number_in (as_name (critical_seen label.now)) }
+    ensures { result ≡ number_in (as_name (critical_view label.now)) }
 {
     match label {
         RegisteredLabelWithPrivate::Assigned(parameter) => Some(parameter.to_i64()),
@@ -95,7 +95,7 @@ fn number_of(label: &Critical) -> Option<i64>
 
 /// The parameters that are fields of the header, by their numbers, and whether they are there.
 fn parameters(header: &Header) -> [(i64, bool); 9]
-    ensures { result ≡ parameters (header_seen header.now) }
+    ensures { result ≡ parameters (header_view header.now) }
 {
     [
         (1, header.alg.is_some()),
@@ -112,7 +112,7 @@ fn parameters(header: &Header) -> [(i64, bool); 9]
 
 /// Whether the label is that of a parameter which is a field of the header, and there.
 fn is_parameter(header: &Header, label: &Critical) -> bool
-    ensures { result ≡ is_parameter (header_seen header.now) (as_name (critical_seen label.now)) }
+    ensures { result ≡ is_parameter (header_view header.now) (as_name (critical_view label.now)) }
 {
     let Some(label) = number_of(label) else {
         return false;
@@ -124,8 +124,8 @@ fn is_parameter(header: &Header, label: &Critical) -> bool
 
 /// Whether the pair has this label.
 fn is_labelled(pair: &(Label, Value), label: &Critical) -> bool
-    ensures { result ≡ same_name (entry_seen pair.now).0
-        (as_name (critical_seen label.now)) }
+    ensures { result ≡ same_name (entry_view pair.now).0
+        (as_name (critical_view label.now)) }
 {
     orders_tell_apart();
     match (&pair.0, label) {

@@ -2,8 +2,8 @@
 
 ghost use Rattle.std.specs.Prelude.{◌≡◌};
 ghost use Rattle.coset.specs.Answers.{ReadsSlice, RefusesSlice};
-ghost use Rattle.coset.specs.Sign1.{sign1_seen};
-ghost use Rattle.coset.specs.View.{view};
+ghost use Rattle.coset.specs.Sign1.{sign1_view};
+ghost use Rattle.coset.specs.View.{value_item};
 ghost use Rattle.cwt_gate.specs.Token.{is_under, is_wrapped, message_in, token as token_shape, untagged};
 
 use coset::cbor::value::Value;
@@ -26,7 +26,7 @@ pub struct Token(pub CoseSign1);
 
 /// Whether the value is under the tag of this number.
 fn is_under(number: u64, value: &Value) -> bool
-    ensures { result ≡ is_under number (view value.now) }
+    ensures { result ≡ is_under number (value_item value.now) }
 {
     match value {
         Value::Tag(found, _) => *found == number,
@@ -36,7 +36,7 @@ fn is_under(number: u64, value: &Value) -> bool
 
 /// What a tag encloses; any other value is itself.
 fn untagged(value: Value) -> Value
-    ensures { view result ≡ untagged (view value) }
+    ensures { value_item result ≡ untagged (value_item value) }
 {
     match value {
         Value::Tag(_, inner) => Box::into_inner(inner),
@@ -46,7 +46,7 @@ fn untagged(value: Value) -> Value
 
 /// Whether the value is a message's under the tag of web tokens and then its own.
 fn is_wrapped(value: &Value) -> bool
-    ensures { result ≡ is_wrapped (view value.now) }
+    ensures { result ≡ is_wrapped (value_item value.now) }
 {
     match value {
         Value::Tag(found, inner) => *found == CWT && is_under(COSE_SIGN1, inner),
@@ -56,7 +56,7 @@ fn is_wrapped(value: &Value) -> bool
 
 /// What is to be read as the message.
 fn message_in(value: Value) -> Value
-    ensures { view result ≡ message_in (view value) }
+    ensures { value_item result ≡ message_in (value_item value) }
 {
     if is_under(COSE_SIGN1, &value) {
         return untagged(value);
@@ -68,12 +68,12 @@ fn message_in(value: Value) -> Value
 }
 
 impl AsCborValue for Token {
-    ghost use Rattle.coset.specs.Sign1.{Sign1Seen};
-    ghost use Rattle.cwt_gate.specs.Token.{token, token_seen, token_sound, token_unique};
+    ghost use Rattle.coset.specs.Sign1.{Sign1View};
+    ghost use Rattle.cwt_gate.specs.Token.{token, token_view, token_sound, token_unique};
 
-    ghost Seen = { Sign1Seen };
+    ghost View = { Sign1View };
 
-    ghost seen = { token_seen };
+    ghost view = { token_view };
 
     ghost shape = { token };
 
@@ -98,7 +98,7 @@ impl CborSerializable for Token {}
 /// # Errors
 /// `OutOfMemory`; or why the bytes are no token.
 pub fn read_token(alloc: Global, token: &[u8]) -> Result<CoseSign1>
-    ensures read { ReadsSlice token_shape sign1_seen token.now result }
+    ensures read { ReadsSlice token_shape sign1_view token.now result }
     ensures refused { RefusesSlice token_shape token.now result }
 {
     match Token::from_slice(alloc, token) {

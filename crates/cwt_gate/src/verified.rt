@@ -1,6 +1,6 @@
 //! The claims of a message whose signature the caller's closure accepts.
 
-ghost use Rattle.coset.specs.Sign1.{sign1_seen};
+ghost use Rattle.coset.specs.Sign1.{sign1_view};
 ghost use Rattle.cwt_gate.specs.Gate.{GivesClaims};
 
 use crate::error::GateError;
@@ -21,7 +21,7 @@ where
     F: FnOnce(&[u8], &[u8]) -> Result<(), E> + Drop,
     E: Drop,
     requires { F.IsAlwaysCallable verify }
-    ensures { GivesClaims F.FnOnce verify (sign1_seen message.now) result }
+    ensures { GivesClaims F.FnOnce verify (sign1_view message.now) result }
 {
     let Some(payload) = &message.payload else {
         return Err(GateError::NoPayload);

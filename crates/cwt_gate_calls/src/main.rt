@@ -1,13 +1,13 @@
-//! `cwt_gate_calls`: judges tokens, line by line, and tells what each let in, or why it isn't let in.
+//! `cwt_gate_calls`: judges tokens, line by line, and prints what each let in, or why it isn't let in.
 //!
 //! A line is `judge ANSWER NOW TOKEN`, or for a policy `judge_with ANSWER NOW LEEWAY AUDIENCE CRITICAL TOKEN`. ANSWER is
 //! whether the closure accepts the signature, `yes` or `no`; NOW the moment, and LEEWAY a span, in seconds. AUDIENCE is
 //! `aud=` and a text, or `-` for none. CRITICAL are the labels that the caller understands, each as its encoding in
 //! hexadecimal, with commas between, or `-` for none. TOKEN is hexadecimal, or `-` for no bytes. The one algorithm of a
-//! policy is ES256. An empty line, and a comment, which begins with `#`, is answered by itself.
+//! policy is ES256. An empty line, and a comment, which begins with `#`, is returned by itself.
 //!
 //! The call is made between two marks (`coset_lines::mark`), so that a process that is refused a request for memory there
-//! is refused one of the call's own. It is answered with the claims as they are written, or with the reason; and with how
+//! is refused one of the call's own. It is returned with the claims as they are written, or with the reason; and with how
 //! often the closure was asked, and what it was handed.
 #![tactic(auto)]
 

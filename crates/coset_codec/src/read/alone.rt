@@ -18,7 +18,7 @@ use std::alloc::Global;
 /// # Errors
 /// `OutOfMemory` alone: it says nothing of the item.
 pub fn read_alone<T: FromPull + Drop>(alloc: Global, item: Pull<'_>) -> Result<Result<T>>
-    ensures alone { IfOk result (IsReadAlone T.shape T.seen (pull_item item.entry)) }
+    ensures alone { IfOk result (IsReadAlone T.shape T.view (pull_item item.entry)) }
     ensures memory { IfErr result (λ e. e ≡ OutOfMemory) }
 {
     refused_describes_nothing::<T>();
@@ -34,15 +34,15 @@ pub fn read_alone<T: FromPull + Drop>(alloc: Global, item: Pull<'_>) -> Result<R
 /// # Errors
 /// Why the bytes aren't an array, or `OutOfMemory`.
 pub fn each_from_slice<T: FromPull + Drop>(alloc: Global, bytes: &[u8]) -> Result<Vec<Result<T>>>
-    ensures each { IfOk result (λ all. AreReadAlone T.shape T.seen bytes.now all.items) }
+    ensures each { IfOk result (λ all. AreReadAlone T.shape T.view bytes.now all.items) }
     ensures refused { IfErr result (λ e. IsRefused elements bytes.now e) }
 {
     let whole = whole_item(bytes)?;
-    let Some(members) = whole.items() else {
+    let Some(elements) = whole.items() else {
         return Err(pull_type_error(whole, "array"));
     };
     let mut all = Vec::new(alloc);
-    for element in members {
+    for element in elements {
         all.push(read_alone(alloc, element)?)?;
     }
     Ok(all)

@@ -1,4 +1,4 @@
-//! Arrays of fixed elements: each element is read in order, and the array is told by all of them.
+//! Arrays of fixed elements: each element is read in order, and the array is determined by all of them.
 
 ghost use Rattle.std.specs.Prelude.{◌≡◌, ◌≤◌, OnOk};
 ghost use Rattle.coset_value.specs.Item.{Items};
@@ -7,45 +7,45 @@ ghost use Rattle.coset_codec.specs.Inputs.{AreWithin, GoesBehind, ReadsAt, State
 ghost use Rattle.coset_codec.specs.Shape.{Elements, array_of, end, ◌then◌};
 
 use crate::error::Result;
-use crate::read::{Decode, Input, InputItems};
+use crate::read::{ArrayElements, Decode, Decoder};
 use std::alloc::Global;
 
 /// The elements of an array, read one by one: `()` where none is left, and `(A, P)` of an element and those behind it. So
 /// `(A, (B, ()))` are two elements.
 pub trait DecodeElements: Sized {
-    /// What contracts see of the values, and which members of an array stand for which values.
-    ghost Seen: { Type 0 };
+    /// What contracts see of the values, and which elements of an array represent which values.
+    ghost View: { Type 0 };
 
-    ghost seen: { Self → Seen };
+    ghost view: { Self → View };
 
-    ghost elements: { Elements Seen };
+    ghost elements: { Elements View };
 
-    /// Members that stand for values are neither too few nor too many.
-    ghost fits: { (vs : Items) (x : Seen)
+    /// Elements that represent values are neither too few nor too many.
+    ghost fits: { (vs : Items) (x : View)
         → elements.describes vs x → elements.wrong_length vs → ⊥ };
 
     /// Reads the elements from the first to the last, and passes the array.
     ///
     /// # Errors
-    /// `UnexpectedItem` with `want`: there are fewer members, or more. Or else the fault of the last place that has one.
+    /// `UnexpectedItem` with `want`: there are fewer elements, or more. Or else the fault of the last place that has one.
     fn decode_elements(
         alloc: Global,
-        members: &mut InputItems,
-        input: &mut Input<'_>,
+        array: &mut ArrayElements,
+        input: &mut Decoder<'_>,
         want: &'static str,
     ) -> Result<Self>
         ensures shrinks { length_left (state input.new) ≤ length_left (state input.old) }
-        ensures reads { (vs : Items) (z : State) → AreWithin members.old vs (state input.old) z
-            → (state input.new ≡ z) × ReadsElements elements seen vs result };
+        ensures reads { (vs : Items) (z : State) → AreWithin array.old vs (state input.old) z
+            → (state input.new ≡ z) × ReadsElements elements view vs result };
 }
 
 /// No place is left.
 impl DecodeElements for () {
     ghost use Rattle.coset_codec.specs.ShapeLaws.{end_laws};
 
-    ghost Seen = { Unit {0} };
+    ghost View = { Unit {0} };
 
-    ghost seen = { λ x. x };
+    ghost view = { λ x. x };
 
     ghost elements = { end };
 
@@ -54,11 +54,11 @@ impl DecodeElements for () {
     #[inline]
     fn decode_elements(
         _alloc: Global,
-        members: &mut InputItems,
-        input: &mut Input<'_>,
+        array: &mut ArrayElements,
+        input: &mut Decoder<'_>,
         want: &'static str,
     ) -> Result<()> {
-        members.end(input, want)
+        array.end(input, want)
     }
 }
 
@@ -66,9 +66,9 @@ impl DecodeElements for () {
 impl<A: Decode + Drop, P: DecodeElements + Drop> DecodeElements for (A, P) {
     ghost use Rattle.coset_codec.specs.ShapeLaws.{fits_behind};
 
-    ghost Seen = { A.Seen × P.Seen };
+    ghost View = { A.View × P.View };
 
-    ghost seen = { λ x. (A.seen x.0, P.seen x.1) };
+    ghost view = { λ x. (A.view x.0, P.view x.1) };
 
     ghost elements = { A.shape then P.elements };
 
@@ -77,18 +77,18 @@ impl<A: Decode + Drop, P: DecodeElements + Drop> DecodeElements for (A, P) {
     #[inline]
     fn decode_elements(
         alloc: Global,
-        members: &mut InputItems,
-        input: &mut Input<'_>,
+        array: &mut ArrayElements,
+        input: &mut Decoder<'_>,
         want: &'static str,
     ) -> Result<(A, P)> {
-        members.place(input, want)?;
+        array.next_required(input, want)?;
         let first = A::decode(alloc, input);
-        let others = P::decode_elements(alloc, members, input, want)?;
+        let others = P::decode_elements(alloc, array, input, want)?;
         Ok((first?, others))
     }
 }
 
-/// Reads an array of these elements, from the first to the last: `(A, (B, ()))` are two, told by
+/// Reads an array of these elements, from the first to the last: `(A, (B, ()))` are two, determined by
 /// `"array with 2 items"`.
 ///
 /// # Errors
@@ -97,14 +97,14 @@ impl<A: Decode + Drop, P: DecodeElements + Drop> DecodeElements for (A, P) {
 #[inline]
 pub fn decode_array<P: DecodeElements>(
     alloc: Global,
-    input: &mut Input<'_>,
+    input: &mut Decoder<'_>,
     want: &'static str,
 ) -> Result<P>
     ensures shrinks { length_left (state input.new) ≤ length_left (state input.old) }
     ensures strictly { OnOk result (GoesBehind (state input.old) (state input.new)) }
     ensures reads { ReadsAt (state input.old) (state input.new)
-        (λ v. Reads (array_of P.elements) P.seen v result) }
+        (λ v. Reads (array_of P.elements) P.view v result) }
 {
-    let mut members = input.enter_array("array")?;
-    P::decode_elements(alloc, &mut members, input, want)
+    let mut array = input.enter_array("array")?;
+    P::decode_elements(alloc, &mut array, input, want)
 }

@@ -1,4 +1,4 @@
-//! Fields of a map: labels that may stand in it once, each with a value of one type.
+//! Fields of a map: labels that may occur in it once, each with a value of one type.
 
 ghost use Rattle.std.specs.Prelude.{◌≡◌, ◌≤◌, IfErr, OnErr, OnOk, option_map};
 ghost use Rattle.coset_codec.specs.Answers.{Reads};
@@ -8,38 +8,38 @@ ghost use Rattle.coset_codec.specs.Maps.{RefusesValue, TakesValue, unless_empty,
 ghost use Rattle.coset_codec.specs.Shape.{Shape, nonempty_bstr};
 
 use crate::error::Result;
-use crate::read::{Input, read_list};
+use crate::read::{Decoder, read_list};
 use crate::traits::FromPull;
 use std::alloc::Global;
 
-/// A type that is read from the item that stands at an input: every [`FromPull`] type, bytes, texts and numbers. It is to
+/// A type that is read from the item at an input: every [`FromPull`] type, bytes, texts and numbers. It is to
 /// reading what [`Encode`](crate::Encode) is to writing.
 pub trait Decode: Sized {
-    /// What contracts see of a value, and which items stand for which values.
-    ghost Seen: { Type 0 };
+    /// What contracts see of a value, and which items represent which values.
+    ghost View: { Type 0 };
 
-    ghost seen: { Self → Seen };
+    ghost view: { Self → View };
 
-    ghost shape: { Shape Seen };
+    ghost shape: { Shape View };
 
-    /// Reads a value from the item that stands at the input, and leaves that just behind it, also where it is refused.
+    /// Reads a value from the item at the input, and leaves that just behind it, also where it is refused.
     ///
     /// # Errors
-    /// `OutOfMemory`, or a fault that stands in the item.
-    fn decode(alloc: Global, input: &mut Input<'_>) -> Result<Self>
+    /// `OutOfMemory`, or a fault that is in the item.
+    fn decode(alloc: Global, input: &mut Decoder<'_>) -> Result<Self>
         ensures shrinks { length_left (state input.new) ≤ length_left (state input.old) }
         ensures reads { ReadsAt (state input.old) (state input.new)
-            (λ v. Reads shape seen v result) };
+            (λ v. Reads shape view v result) };
 }
 
 impl<T: FromPull> Decode for T {
-    ghost Seen = { T.Seen };
+    ghost View = { T.View };
 
-    ghost seen = { T.seen };
+    ghost view = { T.view };
 
     ghost shape = { T.shape };
 
-    fn decode(alloc: Global, input: &mut Input<'_>) -> Result<T> {
+    fn decode(alloc: Global, input: &mut Decoder<'_>) -> Result<T> {
         T::from_input(alloc, input)
     }
 }
@@ -49,13 +49,13 @@ impl Decode for Vec<u8> {
     ghost use Rattle.std.specs.Prelude.{List, ℕ};
     ghost use Rattle.coset_codec.specs.Shape.{bstr};
 
-    ghost Seen = { List ℕ };
+    ghost View = { List ℕ };
 
-    ghost seen = { λ b. b.items };
+    ghost view = { λ b. b.items };
 
     ghost shape = { bstr };
 
-    fn decode(alloc: Global, input: &mut Input<'_>) -> Result<Vec<u8>> {
+    fn decode(alloc: Global, input: &mut Decoder<'_>) -> Result<Vec<u8>> {
         input.bytes(alloc, "bstr")
     }
 }
@@ -65,29 +65,29 @@ impl Decode for Option<Vec<u8>> {
     ghost use Rattle.std.specs.Prelude.{List, Option, option_map, ℕ};
     ghost use Rattle.coset_codec.specs.Shape.{bstr, or_nil};
 
-    ghost Seen = { Option (List ℕ) };
+    ghost View = { Option (List ℕ) };
 
-    ghost seen = { option_map (λ b. b.items) };
+    ghost view = { option_map (λ b. b.items) };
 
     ghost shape = { or_nil bstr };
 
-    fn decode(alloc: Global, input: &mut Input<'_>) -> Result<Option<Vec<u8>>> {
+    fn decode(alloc: Global, input: &mut Decoder<'_>) -> Result<Option<Vec<u8>>> {
         input.bytes_or_nil(alloc, "bstr or nil")
     }
 }
 
-/// A list is an array of its members.
+/// A list is an array of its elements.
 impl<T: FromPull + Drop> Decode for Vec<T> {
     ghost use Rattle.std.specs.Prelude.{List, map};
     ghost use Rattle.coset_codec.specs.Shape.{list_of};
 
-    ghost Seen = { List T.Seen };
+    ghost View = { List T.View };
 
-    ghost seen = { λ all. map T.seen all.items };
+    ghost view = { λ all. map T.view all.items };
 
     ghost shape = { list_of T.shape };
 
-    fn decode(alloc: Global, input: &mut Input<'_>) -> Result<Vec<T>> {
+    fn decode(alloc: Global, input: &mut Decoder<'_>) -> Result<Vec<T>> {
         read_list(alloc, input, "array")
     }
 }
@@ -97,13 +97,13 @@ impl Decode for String {
     ghost use Rattle.std.specs.Prelude.{List, ℕ, string_bytes};
     ghost use Rattle.coset_codec.specs.Shape.{tstr};
 
-    ghost Seen = { List ℕ };
+    ghost View = { List ℕ };
 
-    ghost seen = { string_bytes };
+    ghost view = { string_bytes };
 
     ghost shape = { tstr };
 
-    fn decode(alloc: Global, input: &mut Input<'_>) -> Result<String> {
+    fn decode(alloc: Global, input: &mut Decoder<'_>) -> Result<String> {
         input.text(alloc, "tstr")
     }
 }
@@ -113,13 +113,13 @@ impl Decode for i64 {
     ghost use Rattle.std.specs.Prelude.{ℤ};
     ghost use Rattle.coset_codec.specs.Shape.{int64};
 
-    ghost Seen = { ℤ };
+    ghost View = { ℤ };
 
-    ghost seen = { λ n. n };
+    ghost view = { λ n. n };
 
     ghost shape = { int64 };
 
-    fn decode(_alloc: Global, input: &mut Input<'_>) -> Result<i64> {
+    fn decode(_alloc: Global, input: &mut Decoder<'_>) -> Result<i64> {
         input.int64("int")
     }
 }
@@ -132,14 +132,14 @@ impl Decode for i64 {
 pub fn set_field<T: Decode + Drop>(
     alloc: Global,
     field: &mut Option<T>,
-    input: &mut Input<'_>,
+    input: &mut Decoder<'_>,
 ) -> Result<()>
     ensures shrinks { length_left (state input.new) ≤ length_left (state input.old) }
     ensures takes { ReadsAt (state input.old) (state input.new) (λ v. OnOk result
         (TakesValue (optional T.shape) v
-        (option_map T.seen field.old) (option_map T.seen field.new))) }
+        (option_map T.view field.old) (option_map T.view field.new))) }
     ensures refused { ReadsAt (state input.old) (state input.new) (λ v. IfErr result
-        (λ e. UnlessMemory e (RefusesValue (optional T.shape) v (option_map T.seen field.old)))) }
+        (λ e. UnlessMemory e (RefusesValue (optional T.shape) v (option_map T.view field.old)))) }
     ensures kept { OnErr result (field.new ≡ field.old) }
 {
     if field.is_some() {
@@ -153,7 +153,7 @@ pub fn set_field<T: Decode + Drop>(
 ///
 /// # Errors
 /// The same as [`set_field`]; an empty byte string is `UnexpectedItem`.
-pub fn set_nonempty(alloc: Global, field: &mut Vec<u8>, input: &mut Input<'_>) -> Result<()>
+pub fn set_nonempty(alloc: Global, field: &mut Vec<u8>, input: &mut Decoder<'_>) -> Result<()>
     ensures shrinks { length_left (state input.new) ≤ length_left (state input.old) }
     ensures takes { ReadsAt (state input.old) (state input.new) (λ v. OnOk result
         (TakesValue (unless_empty nonempty_bstr) v field.old.items field.new.items)) }
@@ -164,6 +164,6 @@ pub fn set_nonempty(alloc: Global, field: &mut Vec<u8>, input: &mut Input<'_>) -
     if !field.is_empty() {
         return Err(input.repeated());
     }
-    *field = input.filled_bytes(alloc)?;
+    *field = input.nonempty_bytes(alloc)?;
     Ok(())
 }

@@ -1,28 +1,28 @@
-//! What an item holds, read where it stands. Who reads it leaves the input just behind it, also where it is refused; but
-//! what answers `None` or `false` leaves it where it stood.
+//! What an item holds, read where it is. Who reads it leaves the input just behind it, also where it is refused; but
+//! what returns `None` or `false` leaves it where it was.
 
 ghost use Rattle.std.specs.Prelude.{◌≡◌, ◌≤◌, ◌⊎◌, false, None, IfErr, IfSome, IsTrue, OnOk, option_map, pos, string_bytes};
 ghost use Rattle.coset_value.specs.Item.{Item};
 ghost use Rattle.coset_value.specs.Parts.{as_integer};
-ghost use Rattle.coset_value.specs.View.{bits_of, view};
+ghost use Rattle.coset_value.specs.View.{bits_of, value_item};
 ghost use Rattle.coset_cbor.specs.Scalars.{as_float};
 ghost use Rattle.coset_codec.specs.declared.error.CoseError.TheVariants.{DuplicateMapKey, OutOfMemory, OutOfRangeIntegerValue};
 ghost use Rattle.coset_codec.specs.Answers.{Reads};
 ghost use Rattle.coset_codec.specs.Errors.{IsUnexpected, UnlessMemory};
 ghost use Rattle.coset_codec.specs.Inputs.{State, state, GoesBehind, IsLent, ReadsAt, ItemAt, TakesNull, TakesPart, length_left};
-ghost use Rattle.coset_codec.specs.Kinds.{Says, SaysFilled, kind};
+ghost use Rattle.coset_codec.specs.Kinds.{Says, SaysNonempty, kind};
 ghost use Rattle.coset_codec.specs.Shape.{bstr, nonempty_bstr, int64, or_nil, tstr, uint};
 ghost use Rattle.coset_codec.specs.Sources.{Copies};
 
 use crate::error::{CoseError, Result};
-use crate::read::Input;
+use crate::read::Decoder;
 use crate::read::source::{tree_bytes, tree_text};
 use crate::util::pull_type_error;
 use coset_cbor::value::{Float, Integer, Value};
 use std::alloc::Global;
 use std::mem;
 
-impl<'a> Input<'a> {
+impl<'a> Decoder<'a> {
     /// The number of an integer, or `None` of any other item. It takes no memory.
     pub fn integer(&mut self) -> Option<Integer>
         ensures shrinks { length_left (state self.new) ≤ length_left (state self.old) }
@@ -32,14 +32,14 @@ impl<'a> Input<'a> {
             → TakesPart as_integer (λ n. n) v (state self.old) (state self.new) z result }
     {
         match self {
-            Input::Tree(value) => match value.as_integer() {
+            Decoder::Tree(value) => match value.as_integer() {
                 Some(number) => {
                     *value = Value::Null;
                     Some(number)
                 }
                 None => None,
             },
-            Input::Lent(cursor) => cursor.integer(),
+            Decoder::Lent(cursor) => cursor.integer(),
         }
     }
 
@@ -52,7 +52,7 @@ impl<'a> Input<'a> {
             → TakesPart as_float bits_of v (state self.old) (state self.new) z result }
     {
         match self {
-            Input::Tree(value) => {
+            Decoder::Tree(value) => {
                 let Value::Float(float) = value else {
                     return None;
                 };
@@ -60,7 +60,7 @@ impl<'a> Input<'a> {
                 *value = Value::Null;
                 Some(float)
             }
-            Input::Lent(cursor) => cursor.float(),
+            Decoder::Lent(cursor) => cursor.float(),
         }
     }
 
@@ -73,16 +73,17 @@ impl<'a> Input<'a> {
             → TakesNull v (state self.old) (state self.new) z result }
     {
         match self {
-            Input::Tree(value) => value.is_null(),
-            Input::Lent(cursor) => cursor.null(),
+            Decoder::Tree(value) => value.is_null(),
+            Decoder::Lent(cursor) => cursor.null(),
         }
     }
 
-    /// The error that tells of an item of another kind than `want`, which is passed. It takes no memory.
+    /// The error for an item of another kind than `want`, which is passed. It takes no memory.
     pub fn type_error(&mut self, want: &'static str) -> CoseError
         ensures shrinks { length_left (state self.new) ≤ length_left (state self.old) }
         ensures tells { ReadsAt (state self.old) (state self.new) (λ v. IsUnexpected result
             × Says (kind v) want.now result) }
+        ensures memory { result ≡ OutOfMemory → ⊥ }
     {
         match self.take() {
             Ok(source) => source.type_error(want),
@@ -90,7 +91,7 @@ impl<'a> Input<'a> {
         }
     }
 
-    /// The error of a label that stands twice in a map; its second value, which stands there, is passed. It takes no
+    /// The error of a label that occurs twice in a map; its second value, which is there, is skipped. It takes no
     /// memory.
     #[cold]
     pub fn repeated(&mut self) -> CoseError
@@ -98,7 +99,7 @@ impl<'a> Input<'a> {
         ensures passes { ReadsAt (state self.old) (state self.new) (λ v. result ≡ DuplicateMapKey) }
         ensures tells { result ≡ DuplicateMapKey }
     {
-        self.pass();
+        self.skip();
         CoseError::DuplicateMapKey
     }
 
@@ -109,12 +110,13 @@ impl<'a> Input<'a> {
     pub fn value(&mut self, alloc: Global) -> Result<Value>
         ensures shrinks { length_left (state self.new) ≤ length_left (state self.old) }
         ensures strictly { OnOk result (GoesBehind (state self.old) (state self.new)) }
-        ensures reads { ReadsAt (state self.old) (state self.new) (λ v. Copies view v result) }
+        ensures reads { ReadsAt (state self.old) (state self.new)
+            (λ v. Copies value_item v result) }
         ensures memory { IfErr result (λ e. e ≡ OutOfMemory → IsLent (state self.old)) }
     {
         match self {
-            Input::Tree(value) => Ok(mem::replace(value, Value::Null)),
-            Input::Lent(cursor) => Ok(cursor.value(alloc)?),
+            Decoder::Tree(value) => Ok(mem::replace(value, Value::Null)),
+            Decoder::Lent(cursor) => Ok(cursor.value(alloc)?),
         }
     }
 
@@ -132,8 +134,8 @@ impl<'a> Input<'a> {
         ensures memory { IfErr result (λ e. e ≡ OutOfMemory → IsLent (state self.old)) }
     {
         match self {
-            Input::Tree(value) => tree_bytes(mem::replace(value, Value::Null), want),
-            Input::Lent(cursor) => match cursor.bytes(alloc)? {
+            Decoder::Tree(value) => tree_bytes(mem::replace(value, Value::Null), want),
+            Decoder::Lent(cursor) => match cursor.bytes(alloc)? {
                 Some(bytes) => Ok(bytes),
                 None => Err(pull_type_error(cursor.take()?, want)),
             },
@@ -154,8 +156,8 @@ impl<'a> Input<'a> {
         ensures memory { IfErr result (λ e. e ≡ OutOfMemory → IsLent (state self.old)) }
     {
         match self {
-            Input::Tree(value) => tree_text(mem::replace(value, Value::Null), want),
-            Input::Lent(cursor) => match cursor.text(alloc)? {
+            Decoder::Tree(value) => tree_text(mem::replace(value, Value::Null), want),
+            Decoder::Lent(cursor) => match cursor.text(alloc)? {
                 Some(text) => Ok(text),
                 None => Err(pull_type_error(cursor.take()?, want)),
             },
@@ -220,13 +222,13 @@ impl<'a> Input<'a> {
     ///
     /// # Errors
     /// `OutOfMemory`; `UnexpectedItem`, also of an empty one.
-    pub fn filled_bytes(&mut self, alloc: Global) -> Result<Vec<u8>>
+    pub fn nonempty_bytes(&mut self, alloc: Global) -> Result<Vec<u8>>
         ensures shrinks { length_left (state self.new) ≤ length_left (state self.old) }
         ensures strictly { OnOk result (GoesBehind (state self.old) (state self.new)) }
         ensures reads { ReadsAt (state self.old) (state self.new)
             (λ v. Reads nonempty_bstr (λ b. b.items) v result) }
         ensures says { ReadsAt (state self.old) (state self.new)
-            (λ v. IfErr result (λ e. UnlessMemory e (SaysFilled v))) }
+            (λ v. IfErr result (λ e. UnlessMemory e (SaysNonempty v))) }
     {
         let bytes = self.bytes(alloc, "bstr")?;
         if bytes.is_empty() {

@@ -1,5 +1,5 @@
 //! Lists of what holds lists of its own kind, as a recipient holds recipients. Input chooses how deep these lie, and what
-//! is answered by value takes its size in stack at each level: so a member is made empty at its place in the list, and
+//! is returned by value takes its size in stack at each level: so an element is made empty at its place in the list, and
 //! is filled there.
 
 ghost use Rattle.std.specs.Prelude.{◌≡◌, ◌≤◌, ◌<◌, [], option_map, IfOk, IsTrue, OnOk};
@@ -9,11 +9,11 @@ ghost use Rattle.coset_codec.specs.InPlace.{BeginsNext, GetsOne, GetsPlace};
 ghost use Rattle.coset_codec.specs.Inputs.{State, state, AreWithin, GoesBehind, input_size, items_size, items_turns, length_left};
 
 use crate::error::{CoseError, ErrorStored};
-use crate::read::{Input, InputItems};
+use crate::read::{ArrayElements, Decoder};
 use crate::util::copy_bstr;
 use std::alloc::{AllocError, Global};
 
-/// A type whose values are made empty, and are filled where they stand.
+/// A type whose values are made empty, and are filled where they are.
 pub trait InPlace: Sized + Drop {
     /// What holds of an empty value.
     ghost is_empty: { Self → Type 0 };
@@ -41,33 +41,33 @@ pub fn push_empty<T: InPlace>(all: &mut Vec<T>) -> Result<(), AllocError>
     Ok(())
 }
 
-/// Whether one more member stands at the input, for which an empty one is the last of the list then.
+/// Whether one more element is at the input, for which an empty one is the last of the list then.
 ///
 /// # Errors
-/// `OutOfMemory`; what stands at the input is then passed.
+/// `OutOfMemory`; what is at the input is then skipped.
 #[inline(never)]
 pub fn next_place<T: InPlace>(
     all: &mut Vec<T>,
-    members: &mut InputItems,
-    input: &mut Input<'_>,
+    elements: &mut ArrayElements,
+    input: &mut Decoder<'_>,
     error: &mut CoseError,
 ) -> Result<bool, ErrorStored>
     ensures shrinks { length_left (state input.new) ≤ length_left (state input.old) }
-    ensures size { items_size members.new (state input.new) ≤ items_size members.old
+    ensures size { items_size elements.new (state input.new) ≤ items_size elements.old
         (state input.old) }
-    ensures member { IfOk result (λ b. IsTrue b
-        → input_size (state input.new) ≤ items_size members.old (state input.old)) }
+    ensures element { IfOk result (λ b. IsTrue b
+        → input_size (state input.new) ≤ items_size elements.old (state input.old)) }
     ensures turns { IfOk result (λ b. IsTrue b → (t : State) → GoesBehind (state input.new) t
-        → items_turns members.new t < items_turns members.old (state input.old)) }
+        → items_turns elements.new t < items_turns elements.old (state input.old)) }
     ensures place { IfOk result (GetsPlace T.is_empty all.old.items all.new.items) }
-    ensures next { (vs : Items) (z : State) → AreWithin members.old vs (state input.old) z
-        → BeginsNext vs (state input.new) z members.new (stored error.new result) }
+    ensures next { (vs : Items) (z : State) → AreWithin elements.old vs (state input.old) z
+        → BeginsNext vs (state input.new) z elements.new (stored error.new result) }
 {
-    if !members.next(input) {
+    if !elements.next(input) {
         return Ok(false);
     }
     if push_empty(all).is_err() {
-        input.pass();
+        input.skip();
         *error = CoseError::OutOfMemory;
         return Err(ErrorStored);
     }

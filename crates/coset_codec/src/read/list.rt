@@ -1,4 +1,4 @@
-//! Lists, read member by member.
+//! Lists, read element by element.
 
 ghost use Rattle.std.specs.Prelude.{◌≡◌, ◌≤◌, Some, None, map, IfErr, OnOk};
 ghost use Rattle.coset_value.specs.Item.{Items, no_items};
@@ -11,52 +11,52 @@ ghost use Rattle.coset_codec.specs.Kinds.{Says, kind};
 ghost use Rattle.coset_codec.specs.Shape.{list_of, some_of};
 
 use crate::error::{CoseError, Result};
-use crate::read::{Input, InputItems};
+use crate::read::{ArrayElements, Decoder};
 use crate::traits::FromPull;
 use std::alloc::Global;
 
-/// Reads the members that are left, from the first on, as far as the first that has a fault.
+/// Reads the elements that are left, from the first on, as far as the first that has a fault.
 fn read_each<T: FromPull + Drop>(
     alloc: Global,
-    members: &mut InputItems,
-    input: &mut Input<'_>,
+    elements: &mut ArrayElements,
+    input: &mut Decoder<'_>,
 ) -> Result<Vec<T>>
     ensures shrinks { length_left (state input.new) ≤ length_left (state input.old) }
-    ensures reads { (vs : Items) (z : State) → AreWithin members.old vs (state input.old) z
-        → ((left : Items) × AreWithin members.new left (state input.new) z)
-        × ReadsEach T.shape T.seen vs result }
+    ensures reads { (vs : Items) (z : State) → AreWithin elements.old vs (state input.old) z
+        → ((left : Items) × AreWithin elements.new left (state input.new) z)
+        × ReadsEach T.shape T.view vs result }
 {
     let mut all = Vec::new(alloc);
-    while members.next(input) {
-        let member = match T::from_input(alloc, input) {
-            Ok(member) => member,
+    while elements.next(input) {
+        let element = match T::from_input(alloc, input) {
+            Ok(element) => element,
             Err(error) => return Err(error),
         };
-        all.push(member)?;
+        all.push(element)?;
     }
     Ok(all)
 }
 
-/// Reads an array whose members are of one type, from the first on.
+/// Reads an array whose elements are of one type, from the first on.
 ///
 /// # Errors
-/// `OutOfMemory`; `UnexpectedItem` with `want` where the item is no array; or the fault of the first member that has
+/// `OutOfMemory`; `UnexpectedItem` with `want` where the item is no array; or the fault of the first element that has
 /// one.
 pub fn read_list<T: FromPull + Drop>(
     alloc: Global,
-    input: &mut Input<'_>,
+    input: &mut Decoder<'_>,
     want: &'static str,
 ) -> Result<Vec<T>>
     ensures shrinks { length_left (state input.new) ≤ length_left (state input.old) }
     ensures strictly { OnOk result (GoesBehind (state input.old) (state input.new)) }
     ensures reads { ReadsAt (state input.old) (state input.new)
-        (λ v. Reads (list_of T.shape) (λ all. map T.seen all.items) v result) }
+        (λ v. Reads (list_of T.shape) (λ all. map T.view all.items) v result) }
     ensures says { ReadsAt (state input.old) (state input.new)
         (λ v. IfErr result (λ e. as_array v ≡ None → Says (kind v) want.now e)) }
 {
-    let mut members = input.enter_array(want)?;
-    let all = read_each(alloc, &mut members, input);
-    members.finish(input);
+    let mut elements = input.enter_array(want)?;
+    let all = read_each(alloc, &mut elements, input);
+    elements.finish(input);
     all
 }
 
@@ -66,13 +66,13 @@ pub fn read_list<T: FromPull + Drop>(
 /// The same as [`read_list`].
 pub fn read_nonempty_list<T: FromPull + Drop>(
     alloc: Global,
-    input: &mut Input<'_>,
+    input: &mut Decoder<'_>,
     want: &'static str,
     empty: (&'static str, &'static str),
 ) -> Result<Vec<T>>
     ensures shrinks { length_left (state input.new) ≤ length_left (state input.old) }
     ensures reads { ReadsAt (state input.old) (state input.new)
-        (λ v. Reads (some_of T.shape) (λ all. map T.seen all.items) v result) }
+        (λ v. Reads (some_of T.shape) (λ all. map T.view all.items) v result) }
     ensures says { ReadsAt (state input.old) (state input.new)
         (λ v. IfErr result (λ e. as_array v ≡ None → Says (kind v) want.now e)) }
     ensures empty { ReadsAt (state input.old) (state input.new)

@@ -13,12 +13,12 @@ ghost use Rattle.coset_codec.specs.Maps.{Names, Fields, Adds, Refuses, Walks, ar
 ghost use Rattle.coset_codec.specs.MapLaws.{LawfulNames, LawfulFields};
 
 use crate::error::{CoseError, Result};
-use crate::read::{Input, InputPairs};
+use crate::read::{Decoder, MapEntries};
 use std::alloc::Global;
 
-/// What the pairs of a map make that were read so far: the fields that some labels stand for, and all other pairs in
+/// What the pairs of a map make that were read so far: the fields that some labels have, and all other pairs in
 /// order.
-pub trait Gather: Sized {
+pub trait MapVisitor: Sized {
     /// A label.
     type Label: Drop;
 
@@ -35,16 +35,16 @@ pub trait Gather: Sized {
     ghost named: { Self.Label → Name };
 
     /// The fields, and the rest by label.
-    ghost seen: { Self → Got × List (Name × Item) };
+    ghost view: { Self → Got × List (Name × Item) };
 
-    /// The next label, whose value then stands at the input; or `None` where no pair is left.
+    /// The next label, whose value then is at the input; or `None` where no pair is left.
     ///
     /// # Errors
-    /// The same as [`InputPairs::next_key`].
+    /// The same as [`MapEntries::next_key`].
     fn next_label(
         alloc: Global,
-        pairs: &mut InputPairs,
-        input: &mut Input<'_>,
+        pairs: &mut MapEntries,
+        input: &mut Decoder<'_>,
     ) -> Result<Option<Self::Label>>
         ensures shrinks { length_left (state input.new) ≤ length_left (state input.old) }
         ensures turns { IfOk result (λ o. IsSome o → pairs_turns pairs.new (state input.new) <
@@ -52,26 +52,26 @@ pub trait Gather: Sized {
         ensures nexts { (ps : Pairs) (z : State) → PairsWithin pairs.old ps (state input.old) z
             → NextsKey names.shape named ps (state input.new) z pairs.new result };
 
-    /// Takes one more value, by its label, and goes behind it. Whether a label of the rest repeats isn't asked.
+    /// Takes one more value, by its label, and goes behind it. Whether a label of the rest repeats isn't checked.
     ///
     /// # Errors
     /// `OutOfMemory`; `DuplicateMapKey` where a field has a value already; or a fault of its value. What was gathered
     /// is then as before.
-    fn add(&mut self, alloc: Global, label: Self::Label, input: &mut Input<'_>) -> Result<()>
+    fn add(&mut self, alloc: Global, label: Self::Label, input: &mut Decoder<'_>) -> Result<()>
         ensures shrinks { length_left (state input.new) ≤ length_left (state input.old) }
         ensures takes { ReadsAt (state input.old) (state input.new) (λ v. OnOk result
-            (Adds names fields (named label) v (seen self.old) (seen self.new))) }
+            (Adds names fields (named label) v (view self.old) (view self.new))) }
         ensures refused { ReadsAt (state input.old) (state input.new) (λ v. IfErr result
-            (λ e. UnlessMemory e (Refuses names fields (named label) v (seen self.old)))) }
-        ensures kept { OnErr result (seen self.new ≡ seen self.old) };
+            (λ e. UnlessMemory e (Refuses names fields (named label) v (view self.old)))) }
+        ensures kept { OnErr result (view self.new ≡ view self.old) };
 
-    /// Whether a label of the rest stands twice.
+    /// Whether a label of the rest occurs twice.
     ///
     /// # Errors
     /// `OutOfMemory` alone.
     fn repeats(&self, alloc: Global) -> Result<bool>
         ensures repeats { IfOk result (λ b. b
-            ≡ not (are_distinct names.same (keys_of (seen self.now).1))) }
+            ≡ not (are_distinct names.same (keys_of (view self.now).1))) }
         ensures memory { IfErr result (λ e. e ≡ OutOfMemory) };
 
     ghost lawful_names: { LawfulNames Name names };
@@ -83,12 +83,12 @@ pub trait Gather: Sized {
 ///
 /// # Errors
 /// `OutOfMemory`; `DuplicateMapKey`; or the fault that was found.
-fn first_fault<G: Gather>(alloc: Global, so_far: &G, all: Result<()>) -> Result<()>
-    ensures read { OnOk result ((are_distinct G.names.same (keys_of (G.seen so_far.now).1) ≡ true)
+fn first_fault<G: MapVisitor>(alloc: Global, so_far: &G, all: Result<()>) -> Result<()>
+    ensures read { OnOk result ((are_distinct G.names.same (keys_of (G.view so_far.now).1) ≡ true)
         × (all ≡ Ok tt)) }
     ensures refused { IfErr result (λ e. UnlessMemory e (λ f. (all ≡ Err f)
         ⊎ ((f ≡ DuplicateMapKey)
-        × (are_distinct G.names.same (keys_of (G.seen so_far.now).1) ≡ false)))) }
+        × (are_distinct G.names.same (keys_of (G.view so_far.now).1) ≡ false)))) }
 {
     if so_far.repeats(alloc)? {
         return Err(CoseError::DuplicateMapKey);
@@ -96,21 +96,21 @@ fn first_fault<G: Gather>(alloc: Global, so_far: &G, all: Result<()>) -> Result<
     all
 }
 
-/// Reads the pairs that are left. Where one is at fault, it is passed, and those before it stay gathered.
+/// Reads the pairs that are left. Where one is at fault, it is skipped, and those before it stay gathered.
 ///
 /// # Errors
 /// `OutOfMemory`; or the fault of the first pair that has one: of its key, then of its value.
-fn read_pairs<G: Gather>(
+fn read_pairs<G: MapVisitor>(
     alloc: Global,
-    pairs: &mut InputPairs,
-    input: &mut Input<'_>,
+    pairs: &mut MapEntries,
+    input: &mut Decoder<'_>,
     so_far: &mut G,
 ) -> Result<()>
     ensures shrinks { length_left (state input.new) ≤ length_left (state input.old) }
     ensures reads { (all ps : Pairs) (z : State)
-        → Walks _ _ G.names G.fields all (G.seen so_far.old) ps
+        → Walks _ _ G.names G.fields all (G.view so_far.old) ps
         → PairsWithin pairs.old ps (state input.old) z
-        → ReadsPairs G.names G.fields all (G.seen so_far.new) (state input.new) z pairs.new result }
+        → ReadsPairs G.names G.fields all (G.view so_far.new) (state input.new) z pairs.new result }
 {
     while let Some(label) = G::next_label(alloc, pairs, input)? {
         so_far.add(alloc, label, input)?;
@@ -124,14 +124,14 @@ fn read_pairs<G: Gather>(
 /// # Errors
 /// `OutOfMemory`; `UnexpectedItem` where the item is no map; or the fault of the first pair that has one: of its
 /// key, then
-/// a label that stood before, then of its value.
-pub fn read_map<G: Gather>(alloc: Global, input: &mut Input<'_>, so_far: &mut G) -> Result<()>
-    requires fields { G.fields.describes [] (G.seen so_far.old).0 }
-    requires rest { (G.seen so_far.old).1 ≡ [] }
+/// a label that was there before, then of its value.
+pub fn read_map<G: MapVisitor>(alloc: Global, input: &mut Decoder<'_>, so_far: &mut G) -> Result<()>
+    requires fields { G.fields.describes [] (G.view so_far.old).0 }
+    requires rest { (G.view so_far.old).1 ≡ [] }
     ensures shrinks { length_left (state input.new) ≤ length_left (state input.old) }
     ensures strictly { OnOk result (GoesBehind (state input.old) (state input.new)) }
     ensures read { ReadsAt (state input.old) (state input.new) (λ v. OnOk result
-        ((labelled G.names G.fields).describes v (G.seen so_far.new))) }
+        ((labelled G.names G.fields).describes v (G.view so_far.new))) }
     ensures refused { ReadsAt (state input.old) (state input.new) (λ v. IfErr result
         (λ e. UnlessMemory e ((labelled G.names G.fields).faults v))) }
     ensures says { ReadsAt (state input.old) (state input.new) (λ v. IfErr result

@@ -2,7 +2,7 @@
 
 ghost use Rattle.std.specs.Prelude.{string_bytes};
 ghost use Rattle.coset_value.specs.Parts.{as_bytes, as_text};
-ghost use Rattle.coset_value.specs.View.{view};
+ghost use Rattle.coset_value.specs.View.{value_item};
 ghost use Rattle.coset_codec.specs.Errors.{IsUnexpected};
 ghost use Rattle.coset_codec.specs.Kinds.{TriesAs, Says, kind};
 ghost use Rattle.coset_codec.specs.Sources.{source_item};
@@ -24,7 +24,7 @@ pub enum ItemSource<'a> {
 
 /// The bytes of a value that is a byte string.
 pub(crate) fn tree_bytes(value: Value, want: &'static str) -> Result<Vec<u8>>
-    ensures { TriesAs as_bytes (λ b. b.items) want.now (view value) result }
+    ensures { TriesAs as_bytes (λ b. b.items) want.now (value_item value) result }
 {
     match value {
         Value::Bytes(bytes) => Ok(bytes),
@@ -34,7 +34,7 @@ pub(crate) fn tree_bytes(value: Value, want: &'static str) -> Result<Vec<u8>>
 
 /// The text of a value that is a text string.
 pub(crate) fn tree_text(value: Value, want: &'static str) -> Result<String>
-    ensures { TriesAs as_text string_bytes want.now (view value) result }
+    ensures { TriesAs as_text string_bytes want.now (value_item value) result }
 {
     match value {
         Value::Text(text) => Ok(text),
@@ -43,7 +43,7 @@ pub(crate) fn tree_text(value: Value, want: &'static str) -> Result<String>
 }
 
 impl ItemSource<'_> {
-    /// The error that tells of an item of another kind than `want`.
+    /// The error for an item of another kind than `want`.
     pub fn type_error(&self, want: &'static str) -> CoseError
         ensures { IsUnexpected result × Says (kind (source_item self.now)) want.now result }
     {

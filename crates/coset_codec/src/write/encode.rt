@@ -2,14 +2,14 @@
 
 ghost use Rattle.std.specs.Prelude.{length, Option, Some, option_map, OnOk, IfErr};
 ghost use Rattle.coset_value.specs.Item.{Item, array, item, bytes, tag};
-ghost use Rattle.coset_value.specs.View.{view};
+ghost use Rattle.coset_value.specs.View.{value_item};
 ghost use Rattle.coset_cbor.specs.Least.{Extends};
 ghost use Rattle.coset_codec.specs.Answers.{Images, Writes};
 ghost use Rattle.coset_codec.specs.Encoding.{AppendsElements, Encodes, HasNoImage, two_elements, three_elements, four_elements, five_elements};
 ghost use Rattle.coset_codec.specs.Shape.{images};
 
 use crate::error::Result;
-use coset_cbor::de::decode_encoded;
+use coset_cbor::de::decode_unbounded;
 use coset_cbor::laws;
 use coset_cbor::ser::{
     write_array_head, write_bytes, write_integer, write_tag_head, write_text, write_value,
@@ -28,7 +28,7 @@ pub trait Encode {
 
     /// About as many bytes as the encoding takes: so many are reserved before it is written. It is a hint, of which
     /// nothing is asked: 0 is right too, and what is written is the same.
-    fn room(&self) -> usize {
+    fn encoded_size_hint(&self) -> usize {
         0
     }
 
@@ -43,7 +43,7 @@ pub trait Encode {
 }
 
 impl Encode for Value {
-    ghost image = { λ v. Some (view v) };
+    ghost image = { λ v. Some (value_item v) };
 
     #[inline(always)]
     fn encode(&self, _alloc: Global, out: &mut Vec<u8>) -> Result<()> {
@@ -59,7 +59,7 @@ impl Encode for i64 {
 
     ghost image = { λ n. Some (integer n) };
 
-    fn room(&self) -> usize {
+    fn encoded_size_hint(&self) -> usize {
         LONGEST_HEAD
     }
 
@@ -76,7 +76,7 @@ impl Encode for u64 {
 
     ghost image = { λ n. Some (integer (pos n)) };
 
-    fn room(&self) -> usize {
+    fn encoded_size_hint(&self) -> usize {
         LONGEST_HEAD
     }
 
@@ -93,7 +93,7 @@ impl Encode for String {
 
     ghost image = { λ s. Some (text (string_bytes s)) };
 
-    fn room(&self) -> usize {
+    fn encoded_size_hint(&self) -> usize {
         self.len().saturating_add(LONGEST_HEAD)
     }
 
@@ -107,7 +107,7 @@ impl Encode for String {
 impl Encode for Vec<u8> {
     ghost image = { λ b. Some (bytes b.items) };
 
-    fn room(&self) -> usize {
+    fn encoded_size_hint(&self) -> usize {
         self.len().saturating_add(LONGEST_HEAD)
     }
 
@@ -123,9 +123,9 @@ impl Encode for Option<Vec<u8>> {
 
     ghost image = { λ o. (or_nil bstr).image (option_map (λ b. b.items) o) };
 
-    fn room(&self) -> usize {
+    fn encoded_size_hint(&self) -> usize {
         match self {
-            Some(content) => content.room(),
+            Some(content) => content.encoded_size_hint(),
             None => 1,
         }
     }
@@ -146,29 +146,29 @@ pub struct Array<'a, T>(pub &'a [T]);
 impl<T: Encode> Encode for Array<'_, T> {
     ghost image = { λ l. option_map array (images T.image l.0.now) };
 
-    fn room(&self) -> usize {
+    fn encoded_size_hint(&self) -> usize {
         let mut room = LONGEST_HEAD;
-        for member in self.0 {
-            room = room.saturating_add(member.room());
+        for element in self.0 {
+            room = room.saturating_add(element.encoded_size_hint());
         }
         room
     }
 
     fn encode(&self, alloc: Global, out: &mut Vec<u8>) -> Result<()> {
         write_array_head(self.0.len(), out)?;
-        encode_members(alloc, self.0, out)
+        encode_elements(alloc, self.0, out)
     }
 }
 
 /// Appends these, one after the other.
-fn encode_members<T: Encode>(alloc: Global, members: &[T], out: &mut Vec<u8>) -> Result<()>
-    ensures ok { OnOk result (AppendsElements (images T.image members.now) (length members.now)
+fn encode_elements<T: Encode>(alloc: Global, elements: &[T], out: &mut Vec<u8>) -> Result<()>
+    ensures ok { OnOk result (AppendsElements (images T.image elements.now) (length elements.now)
         out.old.items out.new.items) }
-    ensures refused { IfErr result (HasNoImage (images T.image members.now)) }
+    ensures refused { IfErr result (HasNoImage (images T.image elements.now)) }
     ensures kept { Extends out.old.items out.new.items }
 {
-    for member in members {
-        member.encode(alloc, out)?;
+    for element in elements {
+        element.encode(alloc, out)?;
     }
     Ok(())
 }
@@ -254,7 +254,8 @@ pub fn encode_five<A: Encode, B: Encode, C: Encode, D: Encode, E: Encode>(
     out: &mut Vec<u8>,
 ) -> Result<()>
     ensures written { Encodes
-        (five_elements (A.image a.now) (B.image b.now) (C.image c.now) (D.image d.now) (E.image e.now))
+        (five_elements (A.image a.now) (B.image b.now) (C.image c.now) (D.image d.now)
+        (E.image e.now))
         out.old.items out.new.items result }
     ensures kept { Extends out.old.items out.new.items }
 {
@@ -276,7 +277,7 @@ pub fn encode_to_vec<T: Encode>(alloc: Global, value: &T) -> Result<Vec<u8>>
     ensures { Writes (T.image value.now) (λ b. b.items) result }
 {
     laws::least_encoding_is_shortest();
-    let mut out = Vec::with_capacity(alloc, value.room())?;
+    let mut out = Vec::with_capacity(alloc, value.encoded_size_hint())?;
     value.encode(alloc, &mut out)?;
     Ok(out)
 }
@@ -290,7 +291,10 @@ pub fn encode_to_tagged_vec<T: Encode>(alloc: Global, number: u64, value: &T) ->
     ensures { Writes (option_map (tag number) (T.image value.now)) (λ b. b.items) result }
 {
     laws::least_encoding_is_shortest();
-    let mut out = Vec::with_capacity(alloc, value.room().saturating_add(LONGEST_HEAD))?;
+    let mut out = Vec::with_capacity(
+        alloc,
+        value.encoded_size_hint().saturating_add(LONGEST_HEAD),
+    )?;
     write_tag_head(number, &mut out)?;
     value.encode(alloc, &mut out)?;
     Ok(out)
@@ -301,12 +305,12 @@ pub fn encode_to_tagged_vec<T: Encode>(alloc: Global, number: u64, value: &T) ->
 /// # Errors
 /// The same as [`Encode::encode`].
 pub fn encode_to_value<T: Encode>(alloc: Global, value: &T) -> Result<Value>
-    ensures { Images (T.image value.now) view result }
+    ensures { Images (T.image value.now) value_item result }
 {
     laws::shortest_is_encoding();
     laws::one_item();
     let encoded = encode_to_vec(alloc, value)?;
-    match decode_encoded(alloc, &encoded)? {
+    match decode_unbounded(alloc, &encoded)? {
         Some(read) => Ok(read),
         None => unreachable!(),
     }

@@ -7,10 +7,10 @@ use Rattle.coset_codec.specs.ShapeLaws.{some-one}
 use Rattle.coset_codec.specs.Errors.{stored, UnlessMemory}
 use Rattle.coset_codec.specs.InPlace.{Fills}
 use Rattle.coset_core.specs.Fields.{HasOneIv}
-use Rattle.coset_core.specs.FieldsView.{fields_seen}
+use Rattle.coset_core.specs.FieldViews.{fields_view}
 use Rattle.coset_core.specs.HeaderAgain.{array-is}
-use Rattle.coset_core.specs.Headers.{SignatureSeen, layered_header, layered_protected, layered_signature}
-use Rattle.coset_core.specs.Views.{header_seen, protected_seen, signature_seen}
+use Rattle.coset_core.specs.Headers.{SignatureView, layered_header, layered_protected, layered_signature}
+use Rattle.coset_core.specs.Views.{header_view, protected_view, signature_view}
 use Rattle.coset_core.specs.ViewLaws.{protected-made, protected-opened, signature-made}
 use Rattle.coset_core.specs.declared.protected.ProtectedHeader.{out-ProtectedHeader}
 use Rattle.coset_core.specs.declared.signature.CoseSignature.{out-roll-CoseSignature}
@@ -33,7 +33,7 @@ protected::fill_protected-returns t c = λ b kept.
     let is : o ≡ Some b = sym (ap (λ p. p.original) (protected-opened c.args.protected.now)) ∙ kept in
     let held : o ≡ Some c.in-Some.content.items = ap (option_map (λ v. v.items)) c.in-Some.is in
     subst (λ y. Fills (layered_protected c.args.layers) (bytes b) y (stored c.fill_content.new.error c.fill_content.result)) (sym (protected-made _))
-    (protected_filled c.args.layers (c.args.layers - 1) b c.deref.result.now o (header_seen c.fill_content.new.header)
+    (protected_filled c.args.layers (c.args.layers - 1) b c.deref.result.now o (header_view c.fill_content.new.header)
     (stored c.fill_content.new.error c.fill_content.result) (omega (arith, c.if-layers-eq0.false)) is
     (c.deref.ensures.value ∙ some-one held is) c.fill_content.ensures)
 
@@ -42,13 +42,13 @@ header::reading::fill_counter_signatures-returns-clause-fills t c = elim c.if-on
   | header::reading::fill_counter_signatures-then-one w ↦ λ v z stands.
       let here = c.in_ok-one.ensures.enters v z stands in
       let read = w.fill_bare-filled.ensures.fills here.0 z here.2 in (
-        c.finish.ensures.passes read.0.0 z (rw (w.members-is, w.input-is) read.0.1),
+        c.finish.ensures.passes read.0.0 z (rw (w.elements-is, w.input-is) read.0.1),
         rw (w.all-is, w.filled-is, w.error-is) (one_filled (layered_signature c.args.layers) v here.0 _ _ here.1 (rw w.if-one.true at here.3) read.1),
       )
   | header::reading::fill_counter_signatures-else-one w ↦ λ v z stands.
       let here = c.in_ok-one.ensures.enters v z stands in
       let read = w.fill_listed-filled.ensures.fills here.0 z here.2 in (
-        c.finish.ensures.passes read.0.0 z (rw (w.members-is, w.input-is) read.0.1),
+        c.finish.ensures.passes read.0.0 z (rw (w.elements-is, w.input-is) read.0.1),
         rw (w.all-is, w.filled-is, w.error-is) (more_filled (layered_signature c.args.layers) v here.0 _ _ here.1 (rw w.if-one.false at here.3) read.1),
       )
 ]
@@ -63,16 +63,16 @@ signature::fill_listed-loop-all-preserved t c =
           let before = c.loop-all.invariant.shrinks in
           omega (arith, read, one, before);
       size =
-          let behind = items_smaller c.next_place.new.members (state c.next_place.new.input) (state c.fill_signature.new.input) read in
+          let behind = items_smaller c.next_place.new.elements (state c.next_place.new.input) (state c.fill_signature.new.input) read in
           let one = next.size in
           let before = c.loop-all.invariant.size in
           omega (arith, behind, one, before);
       fills = λ vs z within.
           let p = c.loop-all.invariant.fills vs z within in
           one_filled_more (layered_signature c.args.layers) vs (state c.loop-all.input) (state c.next_place.new.input)
-          (state c.fill_signature.new.input) z c.loop-all.members c.next_place.new.members (map signature_seen c.loop-all.all.items) _
-          (signature_seen c.fill_signature.new.signed) p (next.next p.others z p.within) c.in_ok-fill_signature.ensures.fills
-          (last_filled signature_seen c.loop-all.all.items c.next_place.new.all.items c.len-last.result next.place.0 c.fill_signature.new.signed
+          (state c.fill_signature.new.input) z c.loop-all.elements c.next_place.new.elements (map signature_view c.loop-all.all.items) _
+          (signature_view c.fill_signature.new.signed) p (next.next p.others z p.within) c.in_ok-fill_signature.ensures.fills
+          (last_filled signature_view c.loop-all.all.items c.next_place.new.all.items c.len-last.result next.place.0 c.fill_signature.new.signed
           (search rules) next.place.1);
     }
 
@@ -81,8 +81,8 @@ signature::fill_listed-returns-in_err-fill_signature-clause-fills t c = λ vs z 
     let next = rw c.if-branch.true at c.in_ok-next_place.ensures in
     let p = c.loop-all.invariant.fills vs z within in
     one_refused_more (layered_signature c.args.layers) vs (state c.loop-all.input) (state c.next_place.new.input)
-    (state c.fill_signature.new.input) z c.loop-all.members c.next_place.new.members (map signature_seen c.loop-all.all.items) _
-    (signature_seen c.fill_signature.new.signed) c.from_residual-in_err-fill_signature.result c.fill_signature.new.error c.in_err-fill_signature.field-0.0
+    (state c.fill_signature.new.input) z c.loop-all.elements c.next_place.new.elements (map signature_view c.loop-all.all.items) _
+    (signature_view c.fill_signature.new.signed) c.from_residual-in_err-fill_signature.result c.fill_signature.new.error c.in_err-fill_signature.field-0.0
     c.from_residual-in_err-fill_signature.ensures.1 p (next.next p.others z p.within) c.in_err-fill_signature.ensures.fills
 
 pub signature::fill_listed-returns-clause-fills : goal.signature::fill_listed-returns-clause-fills
@@ -91,8 +91,8 @@ signature::fill_listed-returns-clause-fills t c = λ vs z within.
     let p = c.loop-all.invariant.fills vs z within in
     let none = next.next p.others z p.within in (
       (_, none.1),
-      subst (λ xs. Each (layered_signature c.args.layers).describes vs (map signature_seen xs)) (sym next.place)
-          (all_read (layered_signature c.args.layers) vs p.others (map signature_seen c.loop-all.all.items) p.continues none.0),
+      subst (λ xs. Each (layered_signature c.args.layers).describes vs (map signature_view xs)) (sym next.place)
+          (all_read (layered_signature c.args.layers) vs p.others (map signature_view c.loop-all.all.items) p.continues none.0),
     )
 
 pub header::reading::fill_header-returns-in_err-begin_pairs-clause-fills : goal.header::reading::fill_header-returns-in_err-begin_pairs-clause-fills
@@ -113,7 +113,7 @@ header::reading::fill_pairs-fill_counter_signatures-requires t c =
     let next = rw c.in-Some.is at c.in_ok-version.ensures in
     let inner = next.value refl in
     let before = c.loop-version.invariant.size in
-    (omega (arith, inner, before, c.decreases), ap (map signature_seen) c.new-read.ensures.items)
+    (omega (arith, inner, before, c.decreases), ap (map signature_view) c.new-read.ensures.items)
 
 pub header::reading::fill_pairs-loop-version-preserved : goal.header::reading::fill_pairs-loop-version-preserved
 header::reading::fill_pairs-loop-version-preserved t c =
@@ -136,7 +136,7 @@ header::reading::fill_pairs-loop-version-preserved t c =
           let p = c.loop-version.invariant.fills all z within in
           so_far_more c.in-Some.version c.args.layers all c.loop-version.header c.fill_fields.new.header c.keep_signatures.new.header
           (state c.loop-version.input) (state c.fill_fields.new.input) (state c.fill_counter_signatures.new.input) z
-          c.loop-version.pairs c.fill_fields.new.pairs (map signature_seen c.fill_counter_signatures.new.all.items) p
+          c.loop-version.pairs c.fill_fields.new.pairs (map signature_view c.fill_counter_signatures.new.all.items) p
           (next.fills all p.left p.values z p.walks p.within).0 next.others (sym c.holds.ensures ∙ c.if-holds.false) read.fills keeps;
     }
 
@@ -151,7 +151,7 @@ header::reading::fill_pairs-loop-version-smaller t c =
 pub header::reading::fill_pairs-returns-in_err-version-clause-fills : goal.header::reading::fill_pairs-returns-in_err-version-clause-fills
 header::reading::fill_pairs-returns-in_err-version-clause-fills t c = λ all z within.
     let p = c.loop-version.invariant.fills all z within in
-    pairs_refused c.args.layers all p.values z (fields_seen c.fill_fields.new.header)
+    pairs_refused c.args.layers all p.values z (fields_view c.fill_fields.new.header)
     (state c.fill_fields.new.input) c.fill_fields.new.pairs _ c.from_residual.result c.fill_fields.new.error c.in_err-version.field-0.0
     c.from_residual.ensures.1
     (c.in_err-version.ensures.fills all p.left p.values z p.walks p.within)
@@ -169,9 +169,9 @@ pub header::reading::fill_pairs-returns-in-Err-clause-fills : goal.header::readi
 header::reading::fill_pairs-returns-in-Err-clause-fills t c = λ all z within.
     let next = rw c.in-Some.is at c.in_ok-version.ensures in
     let p = c.loop-version.invariant.fills all z within in
-    counter_signatures_refused c.in-Some.version c.args.layers all p.values (fields_seen c.fill_fields.new.header) (state c.fill_fields.new.input)
+    counter_signatures_refused c.in-Some.version c.args.layers all p.values (fields_view c.fill_fields.new.header) (state c.fill_fields.new.input)
     (state c.fill_counter_signatures.new.input) z c.fill_fields.new.pairs
-    (map signature_seen c.fill_counter_signatures.new.all.items) (header_seen c.fill_fields.new.header)
+    (map signature_view c.fill_counter_signatures.new.all.items) (header_view c.fill_fields.new.header)
     (Err c.in-Err.refused) c.fill_counter_signatures.new.error c.in-Err.refused refl
     (next.fills all p.left p.values z p.walks p.within).0 c.in-Err.ensures.fills
 
@@ -179,9 +179,9 @@ pub header::reading::fill_pairs-returns-in_err-keep_signatures-clause-fills : go
 header::reading::fill_pairs-returns-in_err-keep_signatures-clause-fills t c = λ all z within.
     let next = rw c.in-Some.is at c.in_ok-version.ensures in
     let p = c.loop-version.invariant.fills all z within in
-    not_kept c.in-Some.version c.args.layers all p.values (fields_seen c.fill_fields.new.header) (state c.fill_fields.new.input)
+    not_kept c.in-Some.version c.args.layers all p.values (fields_view c.fill_fields.new.header) (state c.fill_fields.new.input)
     (state c.fill_counter_signatures.new.input) z c.fill_fields.new.pairs
-    (map signature_seen c.fill_counter_signatures.new.all.items) _ c.from_residual-in_err-keep_signatures.result c.keep_signatures.new.error
+    (map signature_view c.fill_counter_signatures.new.all.items) _ c.from_residual-in_err-keep_signatures.result c.keep_signatures.new.error
     c.in_err-keep_signatures.field-0.0 c.from_residual-in_err-keep_signatures.ensures.1
     (next.fills all p.left p.values z p.walks p.within).0 c.in_default-fill_counter_signatures.ensures.fills c.in_err-keep_signatures.ensures.refused
 
@@ -199,33 +199,33 @@ signature::fill_signature-returns-clause-fills t c = λ v z stands.
     let read = c.fill_elements-filled.ensures.fills here.0 z here.2 in (
       c.finish.ensures.passes read.0.0 z read.0.1,
       subst
-          (λ w. Fills (layered_signature c.args.layers) w (signature_seen c.fill_elements-filled.new.signed)
+          (λ w. Fills (layered_signature c.args.layers) w (signature_view c.fill_elements-filled.new.signed)
           (stored c.fill_elements-filled.new.error c.fill_elements-filled.result)) (sym (array-is v here.0 here.1)) read.1,
     )
 
 pub signature::fill_elements-returns-in_err-is_string-clause-fills : goal.signature::fill_elements-returns-in_err-is_string-clause-fills
 signature::fill_elements-returns-in_err-is_string-clause-fills t c = λ vs z within.
-    elements_refused c.args.layers vs (state c.begin_elements.new.input) z c.begin_elements.new.members
+    elements_refused c.args.layers vs (state c.begin_elements.new.input) z c.begin_elements.new.elements
     (option_map (λ b. b.items) c.begin_elements.new.kept) c.begin_elements.new.why _ c.from_residual.result c.begin_elements.new.error
     c.in_err-is_string.field-0.0 c.from_residual.ensures.1 (c.in_err-is_string.ensures.begins vs z within)
 
 pub signature::fill_elements-returns-in_err-end_elements-clause-fills : goal.signature::fill_elements-returns-in_err-end_elements-clause-fills
 signature::fill_elements-returns-in_err-end_elements-clause-fills t c = λ vs z within.
-    let s = second_read vs (state c.begin_elements.new.input) (state c.fill_header-unprotected.new.input) z c.begin_elements.new.members _ _ _ _
+    let s = second_read vs (state c.begin_elements.new.input) (state c.fill_header-unprotected.new.input) z c.begin_elements.new.elements _ _ _ _
     (c.in_ok-is_string.ensures.begins vs z within) c.fill_header-unprotected.ensures.fills in
     last_refused c.args.layers vs (state c.fill_header-unprotected.new.input)
-    (state c.end_elements.new.input) z c.begin_elements.new.members c.end_elements.new.members _ _ _ _ c.end_elements.new.signature.items _
+    (state c.end_elements.new.input) z c.begin_elements.new.elements c.end_elements.new.elements _ _ _ _ c.end_elements.new.signature.items _
     c.from_residual-in_err-end_elements.result c.end_elements.new.error c.in_err-end_elements.field-0.0 c.from_residual-in_err-end_elements.ensures.1 s
     (c.in_err-end_elements.ensures.ends s.others z s.within)
 
 pub signature::fill_elements-returns-in_err-unprotected-clause-fills : goal.signature::fill_elements-returns-in_err-unprotected-clause-fills
 signature::fill_elements-returns-in_err-unprotected-clause-fills t c = λ vs z within.
     let e = c.fill_header-unprotected.new.error in
-    let s = second_read vs (state c.begin_elements.new.input) (state c.fill_header-unprotected.new.input) z c.begin_elements.new.members _ _ _
+    let s = second_read vs (state c.begin_elements.new.input) (state c.fill_header-unprotected.new.input) z c.begin_elements.new.elements _ _ _
     (λ v. UnlessMemory e ((layered_header c.args.layers).faults v))
     (c.in_ok-is_string.ensures.begins vs z within) c.in_err-unprotected.ensures.fills in
     unprotected_refused c.args.layers vs (state c.fill_header-unprotected.new.input)
-    (state c.end_elements.new.input) z c.begin_elements.new.members c.end_elements.new.members _ _ _ c.end_elements.new.signature.items _
+    (state c.end_elements.new.input) z c.begin_elements.new.elements c.end_elements.new.elements _ _ _ c.end_elements.new.signature.items _
     c.from_residual-in_err-unprotected.result e c.end_elements.new.error c.in_err-unprotected.field-0.0 c.from_residual-in_err-unprotected.ensures.1
     c.in_ok-end_elements.ensures.kept s (c.in_ok-end_elements.ensures.ends s.others z s.within)
 
@@ -233,34 +233,34 @@ pub signature::fill_elements-returns-then-not-is_string-clause-fills : goal.sign
 signature::fill_elements-returns-then-not-is_string-clause-fills t c = λ vs z within.
     let read = rw c.if-not-is_string.true at c.in_ok-is_string.ensures in
     let o = option_map (λ b. b.items) c.begin_elements.new.kept in
-    let P : Item → Type 0 = λ v. (layered_header c.args.layers).describes v (header_seen c.fill_header-unprotected.new.header) in
+    let P : Item → Type 0 = λ v. (layered_header c.args.layers).describes v (header_view c.fill_header-unprotected.new.header) in
     let s = second_read vs (state c.begin_elements.new.input)
-    (state c.fill_header-unprotected.new.input) z c.begin_elements.new.members o c.begin_elements.new.why false P
+    (state c.fill_header-unprotected.new.input) z c.begin_elements.new.elements o c.begin_elements.new.why false P
     (read.begins vs z within) c.in_ok-unprotected.ensures.fills in
     protected_refused c.args.layers vs (state c.fill_header-unprotected.new.input)
-    (state c.end_elements.new.input) z c.begin_elements.new.members c.end_elements.new.members o c.begin_elements.new.why P c.end_elements.new.signature.items
-    (signature_seen c.args.signed.now) s
+    (state c.end_elements.new.input) z c.begin_elements.new.elements c.end_elements.new.elements o c.begin_elements.new.why P c.end_elements.new.signature.items
+    (signature_view c.args.signed.now) s
     (c.in_ok-end_elements.ensures.ends s.others z s.within)
 
 pub signature::fill_elements-returns-clause-fills : goal.signature::fill_elements-returns-clause-fills
 signature::fill_elements-returns-clause-fills t c = λ vs z within.
     let read = rw c.if-not-is_string.false at c.in_ok-is_string.ensures in
     let o = option_map (λ b. b.items) c.begin_elements.new.kept in
-    let p = protected_seen c.fill_protected.new.protected in
+    let p = protected_view c.fill_protected.new.protected in
     let b = c.end_elements.new.signature.items in
     let r = stored c.fill_protected.new.error c.fill_protected.result in
-    let seen = signature-made _ ∙ (ap (λ g. record { protected = p; unprotected = header_seen g.unprotected; signature = g.signature.items })
-    (out-roll-CoseSignature _) ∙ ap (λ g. record { protected = p; unprotected = header_seen g.unprotected; signature = b }) (out-roll-CoseSignature _)) in
-    let x : SignatureSeen = record { protected = p; unprotected = header_seen c.fill_header-unprotected.new.header; signature = b } in
+    let view = signature-made _ ∙ (ap (λ g. record { protected = p; unprotected = header_view g.unprotected; signature = g.signature.items })
+    (out-roll-CoseSignature _) ∙ ap (λ g. record { protected = p; unprotected = header_view g.unprotected; signature = b }) (out-roll-CoseSignature _)) in
+    let x : SignatureView = record { protected = p; unprotected = header_view c.fill_header-unprotected.new.header; signature = b } in
     let s = second_read vs (state c.begin_elements.new.input)
-    (state c.fill_header-unprotected.new.input) z c.begin_elements.new.members o c.begin_elements.new.why true
+    (state c.fill_header-unprotected.new.input) z c.begin_elements.new.elements o c.begin_elements.new.why true
     (λ v. (layered_header c.args.layers).describes v x.unprotected)
     (read.begins vs z within) c.in_ok-unprotected.ensures.fills in
-    subst (λ y. ((left : Items) × AreWithin c.end_elements.new.members left (state c.end_elements.new.input) z)
-    × Fills (layered_signature c.args.layers) (array vs) y r) (sym seen)
+    subst (λ y. ((left : Items) × AreWithin c.end_elements.new.elements left (state c.end_elements.new.input) z)
+    × Fills (layered_signature c.args.layers) (array vs) y r) (sym view)
     (elements_filled c.args.layers vs (state c.fill_header-unprotected.new.input)
-    (state c.end_elements.new.input) z c.begin_elements.new.members c.end_elements.new.members o c.begin_elements.new.why x r s
+    (state c.end_elements.new.input) z c.begin_elements.new.elements c.end_elements.new.elements o c.begin_elements.new.why x r s
     (c.in_ok-end_elements.ensures.ends s.others z s.within)
-    (λ d is. c.fill_protected.ensures d (ap (λ g. (protected_seen g.protected).original) (out-roll-CoseSignature _)
-    ∙ (ap (λ g. (protected_seen g.protected).original) (out-roll-CoseSignature _)
-    ∙ (ap (λ g. (protected_seen g.protected).original) (out-roll-CoseSignature _) ∙ (ap (λ g. g.original) (protected-made _) ∙ is))))))
+    (λ d is. c.fill_protected.ensures d (ap (λ g. (protected_view g.protected).original) (out-roll-CoseSignature _)
+    ∙ (ap (λ g. (protected_view g.protected).original) (out-roll-CoseSignature _)
+    ∙ (ap (λ g. (protected_view g.protected).original) (out-roll-CoseSignature _) ∙ (ap (λ g. g.original) (protected-made _) ∙ is))))))

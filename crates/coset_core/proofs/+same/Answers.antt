@@ -1,8 +1,8 @@
 use Rattle.std.proofs.Common.{◌≡◌, Bool, ◌&&◌, map, sym, ◌∙◌, rules}
-use Rattle.coset_core.specs.FieldsView.{counter_signatures_held, countersignatures_held, fields_seen}
+use Rattle.coset_core.specs.FieldViews.{counter_signatures_held, countersignatures_held, fields_view}
 use Rattle.coset_core.specs.Headers.{signatures_of}
 use Rattle.coset_core.specs.Same.{fields_eq, signatures_eq}
-use Rattle.coset_core.specs.Views.{countersignature_seen, signature_seen}
+use Rattle.coset_core.specs.Views.{countersignature_view, signature_view}
 use Rattle.coset_core.specs.declared.header.Header.{Header}
 use Rattle.coset_core.proofs.Signatures.{and_assoc, goes_by, header_eq-opened, stays, unequal}
 use Rattle.coset_core.proofs.+same.Goals as goal
@@ -10,14 +10,14 @@ use Rattle.coset_core.proofs.+same.Goals.{header::same_header-then-same_fields, 
 
 -- the test of the fields, and those of the signatures of each version
 abbrev fields_test : Header → Header → Bool
-fields_test a b = fields_eq (fields_seen a) (fields_seen b)
+fields_test a b = fields_eq (fields_view a) (fields_view b)
 
 abbrev first_test : Header → Header → Bool
-first_test a b = signatures_eq (signatures_of (map signature_seen (counter_signatures_held a))) (signatures_of (map signature_seen (counter_signatures_held b)))
+first_test a b = signatures_eq (signatures_of (map signature_view (counter_signatures_held a))) (signatures_of (map signature_view (counter_signatures_held b)))
 
 abbrev second_test : Header → Header → Bool
-second_test a b = signatures_eq (signatures_of (map countersignature_seen (countersignatures_held a)))
-    (signatures_of (map countersignature_seen (countersignatures_held b)))
+second_test a b = signatures_eq (signatures_of (map countersignature_view (countersignatures_held a)))
+    (signatures_of (map countersignature_view (countersignatures_held b)))
 
 pub header::same_header-returns-then-same_signatures : goal.header::same_header-returns-then-same_signatures
 header::same_header-returns-then-same_signatures t c =
@@ -43,7 +43,7 @@ header::same_header-returns-else-same_signatures t c =
     ∙ (and_assoc (fields_test a b) (first_test a b) (second_test a b) ∙ sym (header_eq-opened a b))
 
 pub signature::same_signatures-returns-then-all-others : goal.signature::same_signatures-returns-then-all-others
-signature::same_signatures-returns-then-all-others t c = unequal signature_seen _ _ c.if-all-others.true
+signature::same_signatures-returns-then-all-others t c = unequal signature_view _ _ c.if-all-others.true
 
 pub countersignature::same_countersignatures-returns-then-all-others : goal.countersignature::same_countersignatures-returns-then-all-others
-countersignature::same_countersignatures-returns-then-all-others t c = unequal countersignature_seen _ _ c.if-all-others.true
+countersignature::same_countersignatures-returns-then-all-others t c = unequal countersignature_view _ _ c.if-all-others.true

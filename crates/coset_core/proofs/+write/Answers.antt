@@ -5,41 +5,41 @@ use Rattle.coset_iana.specs.declared.headers.HeaderParameter.TheVariants.{Counte
 use Rattle.coset_cbor.specs.Least.{least_head}
 use Rattle.coset_codec.specs.Encoding.{AppendsItem, AppendsImage, Encodes}
 use Rattle.coset_codec.specs.Shape.{bstr}
-use Rattle.coset_codec.proofs.EncodingMaps.{optional-seen}
+use Rattle.coset_codec.proofs.EncodingMaps.{optional-view}
 use Rattle.coset_core.specs.Headers.{header_image, signatures_image, signatures_of, fields_in, counter_signatures_in, countersignatures_in}
 use Rattle.coset_core.specs.ViewLaws.{countersignature_level, countersignature-opened, header_level, header-opened, signature_level, signature-opened}
 use Rattle.coset_core.specs.ViewLaws.{protected-opened}
-use Rattle.coset_core.specs.Views.{countersignature_seen, header_seen, protected_seen, signature_seen}
+use Rattle.coset_core.specs.Views.{countersignature_view, header_view, protected_view, signature_view}
 use Rattle.coset_core.specs.Written.{AppendsSignatures, signature_array, count_pairs}
 use Rattle.coset_core.specs.declared.countersignature.CoseCountersignature.{out-CoseCountersignature}
 use Rattle.coset_core.specs.declared.header.Header.{out-Header}
 use Rattle.coset_core.specs.declared.signature.CoseSignature.{out-CoseSignature}
 use Rattle.coset_core.proofs.Keeping.{protected_bytes-read, protected_bytes-fresh}
 use Rattle.coset_codec.proofs.EncodingMaps.{taken, around}
-use Rattle.coset_core.proofs.WritingHeaders.{field-seen, passes, unencoded, string-put, signature-put, counter_signatures-put, map-put, unwritten-rest}
+use Rattle.coset_core.proofs.WritingHeaders.{field-view, passes, unencoded, string-put, signature-put, counter_signatures-put, map-put, unwritten-rest}
 use Rattle.coset_core.proofs.WritingHeaders.{unwritten-counter_signatures, unwritten-countersignatures, signatures-push, signatures-none}
 use Rattle.coset_core.proofs.+write.Goals as goal
 
 pub header::writing::write_counter_signatures-returns-clause-ok : goal.header::writing::write_counter_signatures-returns-clause-ok
 header::writing::write_counter_signatures-returns-clause-ok t c =
     let ss = c.args.signatures.now in
-    counter_signatures-put CounterSignature (map signature_seen ss) _ _ _ _ _ (rw (length-map ss signature_seen) (search rules))
-    (sym (length-map ss signature_seen)) (omega arith)
+    counter_signatures-put CounterSignature (map signature_view ss) _ _ _ _ _ (rw (length-map ss signature_view) (search rules))
+    (sym (length-map ss signature_view)) (omega arith)
     c.in_ok-write_parameter.ensures.written c.in_ok-write_counter_signatures_head.ensures.one c.in_ok-write_counter_signatures_head.ensures.array
     c.in_ok-write_signatures.ensures.ok
 
 pub header::writing::write_countersignatures-returns-clause-ok : goal.header::writing::write_countersignatures-returns-clause-ok
 header::writing::write_countersignatures-returns-clause-ok t c =
     let ss = c.args.signatures.now in
-    counter_signatures-put CounterSignatureV2 (map countersignature_seen ss) _ _ _ _ _ (rw (length-map ss countersignature_seen) (search rules))
-    (sym (length-map ss countersignature_seen)) (omega arith)
+    counter_signatures-put CounterSignatureV2 (map countersignature_view ss) _ _ _ _ _ (rw (length-map ss countersignature_view) (search rules))
+    (sym (length-map ss countersignature_view)) (omega arith)
     c.in_ok-write_parameter.ensures.written c.in_ok-write_counter_signatures_head.ensures.one c.in_ok-write_counter_signatures_head.ensures.array
     c.in_ok-write_each_countersignature.ensures.ok
 
 pub header::writing::write_header-returns-in_err-ask_distinct-clause-written : goal.header::writing::write_header-returns-in_err-ask_distinct-clause-written
 header::writing::write_header-returns-in_err-ask_distinct-clause-written t c =
     let x = header_level (out-Header c.args.header.now) in
-    unencoded c.from_residual.result c.in_err-ask_distinct.field-0.0 _ (header_image (header_seen c.args.header.now)) _ _ c.from_residual.ensures.1
+    unencoded c.from_residual.result c.in_err-ask_distinct.field-0.0 _ (header_image (header_view c.args.header.now)) _ _ c.from_residual.ensures.1
     (λ e. ap header_image (header-opened c.args.header.now) ∙ unwritten-rest x e) (rw c.deref.ensures.value at c.in_err-ask_distinct.ensures.refused)
 
 pub header::writing::write_header-returns-in_err-write_counter_signatures-clause-written :
@@ -47,7 +47,7 @@ pub header::writing::write_header-returns-in_err-write_counter_signatures-clause
 header::writing::write_header-returns-in_err-write_counter_signatures-clause-written t c =
     let x = header_level (out-Header c.args.header.now) in
     unencoded c.from_residual-in_err-write_counter_signatures.result c.in_err-write_counter_signatures.field-0.0 _
-    (header_image (header_seen c.args.header.now)) _ _ c.from_residual-in_err-write_counter_signatures.ensures.1
+    (header_image (header_view c.args.header.now)) _ _ c.from_residual-in_err-write_counter_signatures.ensures.1
     (λ e. ap header_image (header-opened c.args.header.now) ∙ unwritten-counter_signatures x e)
     (rw c.deref-2.ensures.value at c.in_err-write_counter_signatures.ensures.refused)
 
@@ -56,7 +56,7 @@ pub header::writing::write_header-returns-in_err-write_countersignatures-clause-
 header::writing::write_header-returns-in_err-write_countersignatures-clause-written t c =
     let x = header_level (out-Header c.args.header.now) in
     unencoded c.from_residual-in_err-write_countersignatures.result c.in_err-write_countersignatures.field-0.0 _
-    (header_image (header_seen c.args.header.now)) _ _ c.from_residual-in_err-write_countersignatures.ensures.1
+    (header_image (header_view c.args.header.now)) _ _ c.from_residual-in_err-write_countersignatures.ensures.1
     (λ e. ap header_image (header-opened c.args.header.now) ∙ unwritten-countersignatures x e)
     (rw c.deref-3.ensures.value at c.in_err-write_countersignatures.ensures.refused)
 
@@ -65,8 +65,8 @@ header::writing::write_header-returns-clause-written t c =
     let x = out-Header c.args.header.now in
     let opened = header-opened c.args.header.now in
     let h = header_level x in
-    let abbreviated = field-seen _ _ ((search rules) ∙ c.to_i64-label.ensures)
-    (optional-seen (λ b. b.items) bstr.image x.countersignature0_v2) c.in_ok-write_optional.ensures.ok in
+    let abbreviated = field-view _ _ ((search rules) ∙ c.to_i64-label.ensures)
+    (optional-view (λ b. b.items) bstr.image x.countersignature0_v2) c.in_ok-write_optional.ensures.ok in
     subst (λ h. Encodes (header_image h) c.args.out.now.items c.write_rest.new.out.items c.write_rest.result) (sym opened)
     (map-put (fields_in h) (counter_signatures_in h) (countersignatures_in h) x.rest.items _ _ _ _ _ _ _ c.write_rest.result refl
     (rw c.deref.ensures.value at c.in_ok-ask_distinct.ensures.ok)
@@ -93,23 +93,23 @@ signature::write_signatures-returns-in_err-write_signature-clause-refused t c =
     let ss = c.args.signatures.now in
     let i = c.loop-signature.signature-index in
     let s = c.signature-item.result in
-    let all = around signature_seen ss i s (omega arith) c.signature-item.is in
-    passes c.from_residual.result c.in_err-write_signature.field-0.0 (signature_array (signature_seen s) ≡ None)
-    (signatures_image (signatures_of (map signature_seen ss)) ≡ None) c.from_residual.ensures.1
+    let all = around signature_view ss i s (omega arith) c.signature-item.is in
+    passes c.from_residual.result c.in_err-write_signature.field-0.0 (signature_array (signature_view s) ≡ None)
+    (signatures_image (signatures_of (map signature_view ss)) ≡ None) c.from_residual.ensures.1
     (λ e. ap (λ ss. signatures_image (signatures_of ss)) all
-    ∙ signatures-none (map signature_seen (take i ss)) (map signature_seen (drop (i + 1) ss)) (signature_seen s) e) c.in_err-write_signature.ensures.written
+    ∙ signatures-none (map signature_view (take i ss)) (map signature_view (drop (i + 1) ss)) (signature_view s) e) c.in_err-write_signature.ensures.written
 
 pub signature::write_signatures-loop-signature-preserved : goal.signature::write_signatures-loop-signature-preserved
 signature::write_signatures-loop-signature-preserved t c =
     let ss = c.args.signatures.now in
     let i = c.loop-signature.signature-index in
     let s = c.signature-item.result in
-    subst (AppendsSignatures c.args.out.now.items c.write_signature.new.out.items) (sym (taken signature_seen ss i s (omega arith) c.signature-item.is))
-    (signatures-push (map signature_seen (take i ss)) (signature_seen s) _ _ _ c.loop-signature.invariant c.in_ok-write_signature.ensures.written)
+    subst (AppendsSignatures c.args.out.now.items c.write_signature.new.out.items) (sym (taken signature_view ss i s (omega arith) c.signature-item.is))
+    (signatures-push (map signature_view (take i ss)) (signature_view s) _ _ _ c.loop-signature.invariant c.in_ok-write_signature.ensures.written)
 
 pub protected::write_protected-returns-in-Some-clause-written : goal.protected::write_protected-returns-in-Some-clause-written
 protected::write_protected-returns-in-Some-clause-written t c =
-    let p = protected_seen c.args.protected.now in
+    let p = protected_view c.args.protected.now in
     let b = c.in-Some.bytes.items in
     let read = ap (λ p. p.original) (protected-opened c.args.protected.now) ∙ ap (option_map (λ v. v.items)) c.in-Some.is in
     let put : AppendsItem c.args.out.now.items c.write_bytes.new.out.items (bytes c.deref.result.now) =
@@ -118,7 +118,7 @@ protected::write_protected-returns-in-Some-clause-written t c =
 
 pub protected::write_protected-returns-clause-written : goal.protected::write_protected-returns-clause-written
 protected::write_protected-returns-clause-written t c =
-    let p = protected_seen c.args.protected.now in
+    let p = protected_view c.args.protected.now in
     let opened = protected-opened c.args.protected.now in
     let unread = ap (λ p. p.original) opened ∙ ap (option_map (λ v. v.items)) c.in_default.is in
     let put : AppendsItem c.args.out.now.items c.write_bytes-2.new.out.items (bytes c.deref-2.result.now) =
@@ -142,12 +142,12 @@ countersignature::write_each_countersignature-returns-in_err-write_countersignat
     let ss = c.args.signatures.now in
     let i = c.loop-signature.signature-index in
     let s = c.signature-item.result in
-    let all = around countersignature_seen ss i s (omega arith) c.signature-item.is in
-    passes c.from_residual.result c.in_err-write_countersignature.field-0.0 (signature_array (countersignature_seen s) ≡ None)
-    (signatures_image (signatures_of (map countersignature_seen ss)) ≡ None) c.from_residual.ensures.1
+    let all = around countersignature_view ss i s (omega arith) c.signature-item.is in
+    passes c.from_residual.result c.in_err-write_countersignature.field-0.0 (signature_array (countersignature_view s) ≡ None)
+    (signatures_image (signatures_of (map countersignature_view ss)) ≡ None) c.from_residual.ensures.1
     (λ e. ap (λ ss. signatures_image (signatures_of ss)) all
-    ∙ signatures-none (map countersignature_seen (take i ss)) (map countersignature_seen (drop (i + 1) ss))
-    (countersignature_seen s) e) c.in_err-write_countersignature.ensures.written
+    ∙ signatures-none (map countersignature_view (take i ss)) (map countersignature_view (drop (i + 1) ss))
+    (countersignature_view s) e) c.in_err-write_countersignature.ensures.written
 
 pub countersignature::write_each_countersignature-loop-signature-preserved : goal.countersignature::write_each_countersignature-loop-signature-preserved
 countersignature::write_each_countersignature-loop-signature-preserved t c =
@@ -155,6 +155,6 @@ countersignature::write_each_countersignature-loop-signature-preserved t c =
     let i = c.loop-signature.signature-index in
     let s = c.signature-item.result in
     subst (AppendsSignatures c.args.out.now.items c.write_countersignature.new.out.items)
-    (sym (taken countersignature_seen ss i s (omega arith) c.signature-item.is))
-    (signatures-push (map countersignature_seen (take i ss)) (countersignature_seen s) _ _ _ c.loop-signature.invariant
+    (sym (taken countersignature_view ss i s (omega arith) c.signature-item.is))
+    (signatures-push (map countersignature_view (take i ss)) (countersignature_view s) _ _ _ c.loop-signature.invariant
     c.in_ok-write_countersignature.ensures.written)

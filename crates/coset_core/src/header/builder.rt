@@ -1,15 +1,15 @@
 //! The builder of headers (RFC 8152, section 3).
 
 ghost use Rattle.std.specs.Prelude.{◌≡◌, IfOk, IfErr, ◌<◌, Some, string_bytes};
-ghost use Rattle.coset_value.specs.View.{view};
+ghost use Rattle.coset_value.specs.View.{value_item};
 ghost use Rattle.coset_iana.specs.Algorithm as algorithms;
 ghost use Rattle.coset_iana.specs.CoapContentFormat as content_formats;
 ghost use Rattle.coset_iana.specs.HeaderParameter as parameters;
 ghost use Rattle.coset_codec.specs.declared.error.CoseError.TheVariants as errors;
-ghost use Rattle.coset_label.specs.Views.{algorithm_seen};
+ghost use Rattle.coset_label.specs.Views.{algorithm_view};
 ghost use Rattle.coset_label.specs.Labels.{algorithm};
 ghost use Rattle.coset_label.specs.Names.{number, text_label, assigned};
-ghost use Rattle.coset_core.specs.Views.{countersignature_seen, critical_seen, header_seen, signature_seen};
+ghost use Rattle.coset_core.specs.Views.{countersignature_view, critical_view, header_view, signature_view};
 ghost use Rattle.coset_core.specs.Headers.{empty_header};
 ghost use Rattle.coset_core.specs.Built.{with_algorithm, and_critical, with_content_type, with_key_id, with_iv, with_partial_iv, with_countersignature0_v2, and_counter_signature, and_countersignature_v2, and_pair, IsOtherLabel};
 
@@ -44,7 +44,7 @@ impl Model for HeaderBuilder {
 impl HeaderBuilder {
     /// An empty header. It takes no memory.
     pub fn new(alloc: Global) -> HeaderBuilder
-        ensures { header_seen result ≡ empty_header }
+        ensures { header_view result ≡ empty_header }
     {
         HeaderBuilder(Header::new(alloc))
     }
@@ -58,15 +58,15 @@ impl HeaderBuilder {
 
     /// Sets the algorithm (label 1).
     pub fn algorithm(self, algorithm: iana::Algorithm) -> HeaderBuilder
-        ensures { header_seen result
-            ≡ with_algorithm (assigned (algorithms.number algorithm)) (header_seen self) }
+        ensures { header_view result
+            ≡ with_algorithm (assigned (algorithms.number algorithm)) (header_view self) }
     {
         self.algorithm_label(RegisteredLabelWithPrivate::Assigned(algorithm))
     }
 
     /// Sets the algorithm (label 1) to a label, which may be for private use, or a text.
     pub fn algorithm_label(mut self, label: Algorithm) -> HeaderBuilder
-        ensures { header_seen result ≡ with_algorithm (algorithm_seen label) (header_seen self) }
+        ensures { header_view result ≡ with_algorithm (algorithm_view label) (header_view self) }
     {
         self.0.alg = Some(label);
         self
@@ -77,8 +77,8 @@ impl HeaderBuilder {
     /// # Errors
     /// `OutOfMemory` alone.
     pub fn add_critical(self, parameter: HeaderParameter) -> Result<HeaderBuilder>
-        ensures ok { IfOk result (λ b. header_seen b
-            ≡ and_critical (assigned (parameters.number parameter)) (header_seen self)) }
+        ensures ok { IfOk result (λ b. header_view b
+            ≡ and_critical (assigned (parameters.number parameter)) (header_view self)) }
         ensures memory { IfErr result (λ e. e ≡ errors.OutOfMemory) }
     {
         self.add_critical_label(RegisteredLabelWithPrivate::Assigned(parameter))
@@ -92,8 +92,8 @@ impl HeaderBuilder {
         mut self,
         label: RegisteredLabelWithPrivate<HeaderParameter>,
     ) -> Result<HeaderBuilder>
-        ensures ok { IfOk result (λ b. header_seen b
-            ≡ and_critical (critical_seen label) (header_seen self)) }
+        ensures ok { IfOk result (λ b. header_view b
+            ≡ and_critical (critical_view label) (header_view self)) }
         ensures memory { IfErr result (λ e. e ≡ errors.OutOfMemory) }
     {
         self.0.crit.push(label)?;
@@ -102,8 +102,8 @@ impl HeaderBuilder {
 
     /// Sets the content type (label 3) to a format of CoAP.
     pub fn content_format(mut self, format: CoapContentFormat) -> HeaderBuilder
-        ensures { header_seen result
-            ≡ with_content_type (number (content_formats.number format)) (header_seen self) }
+        ensures { header_view result
+            ≡ with_content_type (number (content_formats.number format)) (header_view self) }
     {
         self.0.content_type = Some(RegisteredLabel::Assigned(format));
         self
@@ -111,8 +111,8 @@ impl HeaderBuilder {
 
     /// Sets the content type (label 3) to a text. That it names a media type is asked where a header is read.
     pub fn content_type(mut self, content_type: String) -> HeaderBuilder
-        ensures { header_seen result ≡ with_content_type (text_label (string_bytes content_type))
-            (header_seen self) }
+        ensures { header_view result ≡ with_content_type (text_label (string_bytes content_type))
+            (header_view self) }
     {
         self.0.content_type = Some(RegisteredLabel::Text(content_type));
         self
@@ -123,8 +123,8 @@ impl HeaderBuilder {
     /// # Errors
     /// `OutOfMemory` alone.
     pub fn content_type_from(self, alloc: Global, content_type: &str) -> Result<HeaderBuilder>
-        ensures ok { IfOk result (λ b. header_seen b
-            ≡ with_content_type (text_label content_type.now) (header_seen self)) }
+        ensures ok { IfOk result (λ b. header_view b
+            ≡ with_content_type (text_label content_type.now) (header_view self)) }
         ensures memory { IfErr result (λ e. e ≡ errors.OutOfMemory) }
     {
         Ok(self.content_type(String::from_str(alloc, content_type)?))
@@ -132,7 +132,7 @@ impl HeaderBuilder {
 
     /// Sets the key's identifier (label 4).
     pub fn key_id(mut self, key_id: Vec<u8>) -> HeaderBuilder
-        ensures { header_seen result ≡ with_key_id key_id.items (header_seen self) }
+        ensures { header_view result ≡ with_key_id key_id.items (header_view self) }
     {
         self.0.key_id = key_id;
         self
@@ -143,7 +143,7 @@ impl HeaderBuilder {
     /// # Errors
     /// `OutOfMemory` alone.
     pub fn key_id_from(self, alloc: Global, key_id: &[u8]) -> Result<HeaderBuilder>
-        ensures ok { IfOk result (λ b. header_seen b ≡ with_key_id key_id.now (header_seen self)) }
+        ensures ok { IfOk result (λ b. header_view b ≡ with_key_id key_id.now (header_view self)) }
         ensures memory { IfErr result (λ e. e ≡ errors.OutOfMemory) }
     {
         Ok(self.key_id(Vec::from_slice(alloc, key_id)?))
@@ -151,7 +151,7 @@ impl HeaderBuilder {
 
     /// Sets the IV (label 5), and empties the Partial IV.
     pub fn iv(mut self, iv: Vec<u8>) -> HeaderBuilder
-        ensures { header_seen result ≡ with_iv iv.items (header_seen self) }
+        ensures { header_view result ≡ with_iv iv.items (header_view self) }
     {
         self.0.iv = iv;
         self.0.partial_iv.clear();
@@ -163,7 +163,7 @@ impl HeaderBuilder {
     /// # Errors
     /// `OutOfMemory` alone.
     pub fn iv_from(self, alloc: Global, iv: &[u8]) -> Result<HeaderBuilder>
-        ensures ok { IfOk result (λ b. header_seen b ≡ with_iv iv.now (header_seen self)) }
+        ensures ok { IfOk result (λ b. header_view b ≡ with_iv iv.now (header_view self)) }
         ensures memory { IfErr result (λ e. e ≡ errors.OutOfMemory) }
     {
         Ok(self.iv(Vec::from_slice(alloc, iv)?))
@@ -171,7 +171,7 @@ impl HeaderBuilder {
 
     /// Sets the Partial IV (label 6), and empties the IV.
     pub fn partial_iv(mut self, partial_iv: Vec<u8>) -> HeaderBuilder
-        ensures { header_seen result ≡ with_partial_iv partial_iv.items (header_seen self) }
+        ensures { header_view result ≡ with_partial_iv partial_iv.items (header_view self) }
     {
         self.0.partial_iv = partial_iv;
         self.0.iv.clear();
@@ -183,8 +183,8 @@ impl HeaderBuilder {
     /// # Errors
     /// `OutOfMemory` alone.
     pub fn partial_iv_from(self, alloc: Global, partial_iv: &[u8]) -> Result<HeaderBuilder>
-        ensures ok { IfOk result (λ b. header_seen b
-            ≡ with_partial_iv partial_iv.now (header_seen self)) }
+        ensures ok { IfOk result (λ b. header_view b
+            ≡ with_partial_iv partial_iv.now (header_view self)) }
         ensures memory { IfErr result (λ e. e ≡ errors.OutOfMemory) }
     {
         Ok(self.partial_iv(Vec::from_slice(alloc, partial_iv)?))
@@ -195,8 +195,8 @@ impl HeaderBuilder {
     /// # Errors
     /// `OutOfMemory` alone.
     pub fn add_counter_signature(mut self, signature: CoseSignature) -> Result<HeaderBuilder>
-        ensures ok { IfOk result (λ b. header_seen b
-            ≡ and_counter_signature (signature_seen signature) (header_seen self)) }
+        ensures ok { IfOk result (λ b. header_view b
+            ≡ and_counter_signature (signature_view signature) (header_view self)) }
         ensures memory { IfErr result (λ e. e ≡ errors.OutOfMemory) }
     {
         self.0.counter_signatures.push(signature)?;
@@ -211,8 +211,8 @@ impl HeaderBuilder {
         mut self,
         signature: CoseCountersignature,
     ) -> Result<HeaderBuilder>
-        ensures ok { IfOk result (λ b. header_seen b
-            ≡ and_countersignature_v2 (countersignature_seen signature) (header_seen self)) }
+        ensures ok { IfOk result (λ b. header_view b
+            ≡ and_countersignature_v2 (countersignature_view signature) (header_view self)) }
         ensures memory { IfErr result (λ e. e ≡ errors.OutOfMemory) }
     {
         self.0.countersignatures_v2.push(signature)?;
@@ -221,8 +221,8 @@ impl HeaderBuilder {
 
     /// Sets the abbreviated countersignature of version 2 (label 12).
     pub fn countersignature0_v2(mut self, signature: Vec<u8>) -> HeaderBuilder
-        ensures { header_seen result
-            ≡ with_countersignature0_v2 signature.items (header_seen self) }
+        ensures { header_view result
+            ≡ with_countersignature0_v2 signature.items (header_view self) }
     {
         self.0.countersignature0_v2 = Some(signature);
         self
@@ -233,8 +233,8 @@ impl HeaderBuilder {
     /// # Errors
     /// `OutOfMemory` alone.
     pub fn countersignature0_v2_from(self, alloc: Global, signature: &[u8]) -> Result<HeaderBuilder>
-        ensures ok { IfOk result (λ b. header_seen b
-            ≡ with_countersignature0_v2 signature.now (header_seen self)) }
+        ensures ok { IfOk result (λ b. header_view b
+            ≡ with_countersignature0_v2 signature.now (header_view self)) }
         ensures memory { IfErr result (λ e. e ≡ errors.OutOfMemory) }
     {
         Ok(self.countersignature0_v2(Vec::from_slice(alloc, signature)?))
@@ -247,8 +247,8 @@ impl HeaderBuilder {
     /// `OutOfMemory` alone.
     pub fn value(mut self, label: i64, value: Value) -> Result<HeaderBuilder>
         requires { IsOtherLabel label }
-        ensures ok { IfOk result (λ b. header_seen b
-            ≡ and_pair (number label) (view value) (header_seen self)) }
+        ensures ok { IfOk result (λ b. header_view b
+            ≡ and_pair (number label) (value_item value) (header_view self)) }
         ensures memory { IfErr result (λ e. e ≡ errors.OutOfMemory) }
     {
         prove!(label < 1 || (7 < label && !(label == 11 || label == 12)));
@@ -261,8 +261,8 @@ impl HeaderBuilder {
     /// # Errors
     /// `OutOfMemory` alone.
     pub fn text_value(mut self, label: String, value: Value) -> Result<HeaderBuilder>
-        ensures ok { IfOk result (λ b. header_seen b
-            ≡ and_pair (text_label (string_bytes label)) (view value) (header_seen self)) }
+        ensures ok { IfOk result (λ b. header_view b
+            ≡ and_pair (text_label (string_bytes label)) (value_item value) (header_view self)) }
         ensures memory { IfErr result (λ e. e ≡ errors.OutOfMemory) }
     {
         self.0.rest.push((Label::Text(label), value))?;

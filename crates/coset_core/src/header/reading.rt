@@ -1,8 +1,8 @@
 //! Reading headers.
 //!
-//! A header is filled where it stands, and an error is kept in one place for all that reads it, since what is answered by
+//! A header is filled where it is, and an error is kept in one place for all that reads it, since what is returned by
 //! value takes its size in stack at each function that it passes, and input chooses how deep headers lie within one another.
-//! Each reader leaves the input just behind its item, whatever it answers, so that each byte is passed once at any depth. Of
+//! Each reader leaves the input just behind its item, whatever it returns, so that each byte is passed once at any depth. Of
 //! `layers` each byte string of a protected header takes one.
 
 ghost use Rattle.std.specs.Prelude.{MatchOption, ◌≡◌, ◌≢◌, [], map, OnOk, IfOk, IfErr, ◌⊎◌, ◌≤◌, ◌<◌, Option, true, false, IsSome, IsErrAnd, OnErr, Err, Some};
@@ -14,15 +14,15 @@ ghost use Rattle.coset_codec.specs.Errors.{IsUnexpected, UnlessMemory, stored, m
 ghost use Rattle.coset_codec.specs.Inputs.{State, state, GoesBehind, ReadsAt, length_left, input_size, pairs_size, pairs_turns, PairsWithin, items_size, ItemAt, EntersMap};
 ghost use Rattle.coset_codec.specs.Maps.{Adds, Refuses, RefusesValue, TakesValue, is_nonempty, optional, unless_empty};
 ghost use Rattle.coset_codec.specs.Shape.{any, nonempty_bstr, any_number, one_or_many};
-ghost use Rattle.coset_codec.specs.declared.read.input.InputPairs.{InputPairs};
+ghost use Rattle.coset_codec.specs.declared.read.decoder.MapEntries.{MapEntries};
 ghost use Rattle.coset_label.specs.Labels.{names};
 ghost use Rattle.coset_label.specs.Names.{same_name};
 ghost use Rattle.coset_label.specs.Names.{number};
-ghost use Rattle.coset_label.specs.Views.{label_seen};
-ghost use Rattle.coset_core.specs.FieldsView.{fields_seen, signatures_held};
-ghost use Rattle.coset_core.specs.Views.{header_seen, signature_seen};
-ghost use Rattle.coset_core.specs.Fields.{FieldsSeen, Versions, fields, parts_of, HasOneIv, excludes};
-ghost use Rattle.coset_core.specs.Filling.{FillsFields, FillsSome, Keeps, NamesNoVersion, WalksTo, held_of, label_of};
+ghost use Rattle.coset_label.specs.Views.{label_view};
+ghost use Rattle.coset_core.specs.FieldViews.{fields_view, signatures_held};
+ghost use Rattle.coset_core.specs.Views.{header_view, signature_view};
+ghost use Rattle.coset_core.specs.Fields.{FieldsView, Versions, fields, parts_of, HasOneIv, excludes};
+ghost use Rattle.coset_core.specs.Filling.{FillsFields, FillsSome, GoesTo, Keeps, NamesNoVersion, WalksTo, held_of, label_of};
 ghost use Rattle.coset_core.specs.Headers.{empty_header, layered_header, layered_signature};
 ghost use Rattle.coset_core.specs.OneOrMore.{EntersOnes};
 
@@ -34,14 +34,18 @@ use crate::header::writing::ask_distinct;
 use crate::one_or_more::enter_one_or_more;
 use crate::signature::{CoseSignature, drop_nested, fill_bare, fill_listed};
 use coset_codec::error::{ErrorStored, store_error};
-use coset_codec::read::{Input, InputItems, InputPairs, set_field, set_nonempty};
+use coset_codec::read::{ArrayElements, Decoder, MapEntries, set_field, set_nonempty};
 use coset_codec::{CoseError, Result};
-use coset_iana::HeaderParameter;
-use coset_label::{Label, is_parameter};
+use coset_label::Label;
 use std::alloc::Global;
 
 /// Sets IV or Partial IV, where neither it nor the other is there yet.
-fn set_iv(alloc: Global, field: &mut Vec<u8>, other: &Vec<u8>, input: &mut Input<'_>) -> Result<()>
+fn set_iv(
+    alloc: Global,
+    field: &mut Vec<u8>,
+    other: &Vec<u8>,
+    input: &mut Decoder<'_>,
+) -> Result<()>
     requires one { (field.old.items ≡ []) ⊎ (other.now.items ≡ []) }
     ensures shrinks { length_left (state input.new) ≤ length_left (state input.old) }
     ensures takes { ReadsAt (state input.old) (state input.new) (λ v. OnOk result
@@ -55,65 +59,11 @@ fn set_iv(alloc: Global, field: &mut Vec<u8>, other: &Vec<u8>, input: &mut Input
     if other.is_empty() {
         return set_nonempty(alloc, field, input);
     }
-    input.filled_bytes(alloc)?;
+    input.nonempty_bytes(alloc)?;
     Err(CoseError::UnexpectedItem(
         "IV and partial-IV specified",
         "only one of IV and partial IV",
     ))
-}
-
-/// Takes one more value of a header, by its label, which is neither 7 nor 11, and goes behind it. Whether labels of the
-/// rest repeat isn't asked.
-///
-/// # Errors
-/// `OutOfMemory`; `DuplicateMapKey` where a field has a value already; a fault of its value; or `UnexpectedItem` where
-/// it is the second of IV and Partial IV. The header is then as before.
-fn set_parameter(
-    header: &mut Header,
-    alloc: Global,
-    label: Label,
-    input: &mut Input<'_>,
-) -> Result<()>
-    requires other { NamesNoVersion (label_seen label) }
-    requires one_iv { HasOneIv (fields_seen header.old) }
-    ensures shrinks { length_left (state input.new) ≤ length_left (state input.old) }
-    ensures takes { (o : Versions (Option Item)) → ReadsAt (state input.old) (state input.new)
-        (λ v. OnOk result
-        (Adds names (fields (optional any) (optional any)) (label_seen label) v
-        (parts_of (fields_seen header.old, o)) (parts_of (fields_seen header.new, o)))) }
-    ensures refused { (o : Versions (Option Item)) → ReadsAt (state input.old) (state input.new)
-        (λ v. IfErr result (λ e. UnlessMemory e (λ f. Refuses names
-        (fields (optional any) (optional any)) (label_seen label) v
-        (parts_of (fields_seen header.old, o)) f
-        ⊎ excludes (label_seen label) (parts_of (fields_seen header.old, o)) f))) }
-    ensures kept { OnErr result (fields_seen header.new ≡ fields_seen header.old) }
-    ensures one_iv { HasOneIv (fields_seen header.new) }
-    ensures others { signatures_held header.new ≡ signatures_held header.old }
-{
-    if is_parameter(&label, HeaderParameter::Alg) {
-        return set_field(alloc, &mut header.alg, input);
-    }
-    if is_parameter(&label, HeaderParameter::Crit) {
-        return set_critical(alloc, &mut header.crit, input);
-    }
-    if is_parameter(&label, HeaderParameter::ContentType) {
-        return set_content_type(alloc, &mut header.content_type, input);
-    }
-    if is_parameter(&label, HeaderParameter::Kid) {
-        return set_nonempty(alloc, &mut header.key_id, input);
-    }
-    if is_parameter(&label, HeaderParameter::Iv) {
-        return set_iv(alloc, &mut header.iv, &header.partial_iv, input);
-    }
-    if is_parameter(&label, HeaderParameter::PartialIv) {
-        return set_iv(alloc, &mut header.partial_iv, &header.iv, input);
-    }
-    if is_parameter(&label, HeaderParameter::CounterSignature0V2) {
-        return set_field(alloc, &mut header.countersignature0_v2, input);
-    }
-    let value = input.value(alloc)?;
-    header.rest.push((label, value))?;
-    Ok(())
 }
 
 /// A version of counter signatures: the values of its label hold them.
@@ -125,21 +75,107 @@ pub(crate) enum Version {
     V2,
 }
 
-/// The version whose counter signatures have this label, or `None` where it is another label.
-fn version_of(label: &Label) -> Option<Version>
-    ensures { MatchOption result (NamesNoVersion (label_seen label.now))
-        (λ version. same_name (label_of version) (label_seen label.now) ≡ true) }
-{
-    if is_parameter(label, HeaderParameter::CounterSignature) {
-        return Some(Version::V1);
-    }
-    if is_parameter(label, HeaderParameter::CounterSignatureV2) {
-        return Some(Version::V2);
-    }
-    None
+/// A field of a header, by the labels of its pairs (RFC 8152, section 3.1; RFC 9338, section 3).
+#[derive(Clone, Copy)]
+pub(crate) enum Field {
+    /// Label 1.
+    Alg,
+    /// Label 2.
+    Crit,
+    /// Label 3.
+    ContentType,
+    /// Label 4.
+    KeyId,
+    /// Label 5.
+    Iv,
+    /// Label 6.
+    PartialIv,
+    /// Label 7 or 11.
+    Signatures(Version),
+    /// Label 12.
+    Countersignature0V2,
+    /// Any other label.
+    Rest,
 }
 
-/// Reads pairs into a header up to one that holds counter signatures, whose value then stands at the input; or all that
+/// The field that a pair with this label goes to.
+fn field_of(label: &Label) -> Field
+    ensures { GoesTo (label_view label.now) result }
+{
+    let Label::Int(number) = label else {
+        return Field::Rest;
+    };
+    match *number {
+        1 => Field::Alg,
+        2 => Field::Crit,
+        3 => Field::ContentType,
+        4 => Field::KeyId,
+        5 => Field::Iv,
+        6 => Field::PartialIv,
+        7 => Field::Signatures(Version::V1),
+        11 => Field::Signatures(Version::V2),
+        12 => Field::Countersignature0V2,
+        _ => Field::Rest,
+    }
+}
+
+/// The version whose counter signatures have this label, or `None` where it is another label.
+fn version_of(label: &Label) -> Option<Version>
+    ensures { MatchOption result (NamesNoVersion (label_view label.now))
+        (λ version. same_name (label_of version) (label_view label.now) ≡ true) }
+{
+    match field_of(label) {
+        Field::Signatures(version) => Some(version),
+        _ => None,
+    }
+}
+
+/// Takes one more value of a header, by its label, which is neither 7 nor 11, and goes behind it. Whether labels of the
+/// rest repeat isn't checked.
+///
+/// # Errors
+/// `OutOfMemory`; `DuplicateMapKey` where a field has a value already; a fault of its value; or `UnexpectedItem` where
+/// it is the second of IV and Partial IV. The header is then as before.
+fn set_parameter(
+    header: &mut Header,
+    alloc: Global,
+    label: Label,
+    input: &mut Decoder<'_>,
+) -> Result<()>
+    requires other { NamesNoVersion (label_view label) }
+    requires one_iv { HasOneIv (fields_view header.old) }
+    ensures shrinks { length_left (state input.new) ≤ length_left (state input.old) }
+    ensures takes { (o : Versions (Option Item)) → ReadsAt (state input.old) (state input.new)
+        (λ v. OnOk result
+        (Adds names (fields (optional any) (optional any)) (label_view label) v
+        (parts_of (fields_view header.old, o)) (parts_of (fields_view header.new, o)))) }
+    ensures refused { (o : Versions (Option Item)) → ReadsAt (state input.old) (state input.new)
+        (λ v. IfErr result (λ e. UnlessMemory e (λ f. Refuses names
+        (fields (optional any) (optional any)) (label_view label) v
+        (parts_of (fields_view header.old, o)) f
+        ⊎ excludes (label_view label) (parts_of (fields_view header.old, o)) f))) }
+    ensures kept { OnErr result (fields_view header.new ≡ fields_view header.old) }
+    ensures one_iv { HasOneIv (fields_view header.new) }
+    ensures others { signatures_held header.new ≡ signatures_held header.old }
+{
+    match field_of(&label) {
+        Field::Alg => set_field(alloc, &mut header.alg, input),
+        Field::Crit => set_critical(alloc, &mut header.crit, input),
+        Field::ContentType => set_content_type(alloc, &mut header.content_type, input),
+        Field::KeyId => set_nonempty(alloc, &mut header.key_id, input),
+        Field::Iv => set_iv(alloc, &mut header.iv, &header.partial_iv, input),
+        Field::PartialIv => set_iv(alloc, &mut header.partial_iv, &header.iv, input),
+        Field::Countersignature0V2 => { set_field(alloc, &mut header.countersignature0_v2, input) }
+        Field::Signatures(_) => unreachable!(),
+        Field::Rest => {
+            let value = input.value(alloc)?;
+            header.rest.push((label, value))?;
+            Ok(())
+        }
+    }
+}
+
+/// Reads pairs into a header up to one that holds counter signatures, whose value then is at the input; or all that
 /// are left. It says of which version they are.
 ///
 /// # Errors
@@ -147,11 +183,11 @@ fn version_of(label: &Label) -> Option<Version>
 fn fill_until_signatures(
     header: &mut Header,
     alloc: Global,
-    pairs: &mut InputPairs,
-    input: &mut Input<'_>,
+    pairs: &mut MapEntries,
+    input: &mut Decoder<'_>,
 ) -> Result<Option<Version>>
-    requires one_iv { HasOneIv (fields_seen header.old) }
-    ensures one_iv { HasOneIv (fields_seen header.new) }
+    requires one_iv { HasOneIv (fields_view header.old) }
+    ensures one_iv { HasOneIv (fields_view header.new) }
     ensures others { signatures_held header.new ≡ signatures_held header.old }
     ensures shrinks { length_left (state input.new) ≤ length_left (state input.old) }
     ensures size { pairs_size pairs.new (state input.new) ≤ pairs_size pairs.old (state input.old) }
@@ -160,8 +196,8 @@ fn fill_until_signatures(
     ensures turns { IfOk result (λ o. IsSome o → pairs_turns pairs.new (state input.new) <
         pairs_turns pairs.old (state input.old)) }
     ensures fills { (all ps : Pairs) (o : Versions (Option Item)) (z : State)
-        → WalksTo all (fields_seen header.old) o ps → PairsWithin pairs.old ps (state input.old) z
-        → FillsSome all o z (fields_seen header.new) (state input.new) pairs.new result }
+        → WalksTo all (fields_view header.old) o ps → PairsWithin pairs.old ps (state input.old) z
+        → FillsSome all o z (fields_view header.new) (state input.new) pairs.new result }
 {
     while let Some(label) = pairs.next_key::<Label>(alloc, input)? {
         if let Some(version) = version_of(&label) {
@@ -173,16 +209,16 @@ fn fill_until_signatures(
 }
 
 /// The error of labels of the rest that repeat, or that there was no memory to ask for them. A value of counter signatures
-/// that stands at the input is passed.
+/// that is at the input is skipped.
 #[cold]
 fn refuse(
     filled: Result<Option<Version>>,
-    input: &mut Input<'_>,
+    input: &mut Decoder<'_>,
     error: CoseError,
 ) -> Result<Option<Version>>
     ensures shrinks { length_left (state input.new) ≤ length_left (state input.old) }
-    ensures passes { (all : Pairs) (o : Versions (Option Item)) (f : FieldsSeen) (z : State)
-        (m : InputPairs) → FillsSome all o z f (state input.old) m filled
+    ensures passes { (all : Pairs) (o : Versions (Option Item)) (f : FieldsView) (z : State)
+        (m : MapEntries) → FillsSome all o z f (state input.old) m filled
         → (left : Pairs) × PairsWithin m left (state input.new) z }
     ensures refused { IsErrAnd result (λ e. e ≡ error) }
 {
@@ -190,13 +226,13 @@ fn refuse(
         return Err(error);
     };
     if at_value.is_some() {
-        input.pass();
+        input.skip();
     }
     Err(error)
 }
 
-/// As many pairs as [`fill_until_signatures`] reads. That no label of the rest repeats is asked before a fault is answered, before
-/// counter signatures are read, and in the end.
+/// Reads pairs as [`fill_until_signatures`] does. Whether labels of the rest repeat is checked before a fault is returned,
+/// before counter signatures are read, and at the end.
 ///
 /// # Errors
 /// `OutOfMemory`, or the first fault of the pairs.
@@ -204,12 +240,12 @@ fn refuse(
 fn fill_fields(
     header: &mut Header,
     alloc: Global,
-    pairs: &mut InputPairs,
-    input: &mut Input<'_>,
+    pairs: &mut MapEntries,
+    input: &mut Decoder<'_>,
     error: &mut CoseError,
 ) -> Result<Option<Version>, ErrorStored>
-    requires one_iv { HasOneIv (fields_seen header.old) }
-    ensures one_iv { HasOneIv (fields_seen header.new) }
+    requires one_iv { HasOneIv (fields_view header.old) }
+    ensures one_iv { HasOneIv (fields_view header.new) }
     ensures others { signatures_held header.new ≡ signatures_held header.old }
     ensures shrinks { length_left (state input.new) ≤ length_left (state input.old) }
     ensures size { pairs_size pairs.new (state input.new) ≤ pairs_size pairs.old (state input.old) }
@@ -218,8 +254,8 @@ fn fill_fields(
     ensures turns { IfOk result (λ o. IsSome o → pairs_turns pairs.new (state input.new) <
         pairs_turns pairs.old (state input.old)) }
     ensures fills { (all ps : Pairs) (o : Versions (Option Item)) (z : State)
-        → WalksTo all (fields_seen header.old) o ps → PairsWithin pairs.old ps (state input.old) z
-        → FillsFields all o z (fields_seen header.new) (state input.new) pairs.new
+        → WalksTo all (fields_view header.old) o ps → PairsWithin pairs.old ps (state input.old) z
+        → FillsFields all o z (fields_view header.new) (state input.new) pairs.new
         (stored error.new result) }
 {
     let filled = fill_until_signatures(header, alloc, pairs, input);
@@ -230,14 +266,14 @@ fn fill_fields(
     store_error(distinct, error)
 }
 
-/// The pairs of a map.
+/// Goes to the first pair of a map.
 ///
 /// # Errors
-/// `UnexpectedItem`: the item is no map; it is passed.
+/// `UnexpectedItem`: the item is no map; it is skipped.
 #[inline(never)]
 fn begin_pairs(
-    pairs: &mut InputPairs,
-    input: &mut Input<'_>,
+    pairs: &mut MapEntries,
+    input: &mut Decoder<'_>,
     error: &mut CoseError,
 ) -> Result<(), ErrorStored>
     ensures shrinks { length_left (state input.new) ≤ length_left (state input.old) }
@@ -259,18 +295,18 @@ fn begin_pairs(
 pub(crate) fn fill_header(
     header: &mut Header,
     alloc: Global,
-    input: &mut Input<'_>,
+    input: &mut Decoder<'_>,
     layers: usize,
     error: &mut CoseError,
 ) -> Result<(), ErrorStored>
-    requires empty { header_seen header.old ≡ empty_header }
+    requires empty { header_view header.old ≡ empty_header }
     ensures shrinks { length_left (state input.new) ≤ length_left (state input.old) }
     ensures strictly { OnOk result (GoesBehind (state input.old) (state input.new)) }
     ensures fills { (v : Item) (z : State) → ItemAt v (state input.old) z → (state input.new ≡ z)
-        × Fills (layered_header layers) v (header_seen header.new)
+        × Fills (layered_header layers) v (header_view header.new)
         (stored error.new result) }
 {
-    let mut pairs = InputPairs::none();
+    let mut pairs = MapEntries::none();
     begin_pairs(&mut pairs, input, error)?;
     let filled = fill_pairs(header, alloc, &mut pairs, input, layers, error);
     pairs.finish(input);
@@ -285,16 +321,16 @@ pub(crate) fn fill_header(
 fn fill_pairs(
     header: &mut Header,
     alloc: Global,
-    pairs: &mut InputPairs,
-    input: &mut Input<'_>,
+    pairs: &mut MapEntries,
+    input: &mut Decoder<'_>,
     layers: usize,
     error: &mut CoseError,
 ) -> Result<(), ErrorStored>
-    requires empty { header_seen header.old ≡ empty_header }
+    requires empty { header_view header.old ≡ empty_header }
     ensures shrinks { length_left (state input.new) ≤ length_left (state input.old) }
     ensures fills { (all : Pairs) (z : State) → PairsWithin pairs.old all (state input.old) z
         → ((left : Pairs) × PairsWithin pairs.new left (state input.new) z)
-        × Fills (layered_header layers) (dict all) (header_seen header.new)
+        × Fills (layered_header layers) (dict all) (header_view header.new)
         (stored error.new result) }
 {
     while let Some(version) = fill_fields(header, alloc, pairs, input, error)? {
@@ -335,7 +371,7 @@ fn keep_signatures(
     error: &mut CoseError,
 ) -> Result<(), ErrorStored>
     ensures keeps { OnOk result
-        (Keeps version (map signature_seen read.items) header.old header.new) }
+        (Keeps version (map signature_view read.items) header.old header.new) }
     ensures refused { OnErr result (error.new ≡ errors.OutOfMemory) }
     ensures kept { OnOk result (error.new ≡ error.old) }
 {
@@ -349,38 +385,38 @@ fn keep_signatures(
     Ok(())
 }
 
-/// The error of a map with one of the labels 7 and 11 twice; the second value is passed.
+/// The error of a map with one of the labels 7 and 11 twice; the second value is skipped.
 #[cold]
 #[inline(never)]
-fn refuse_second(input: &mut Input<'_>, error: &mut CoseError) -> Result<(), ErrorStored>
+fn refuse_second(input: &mut Decoder<'_>, error: &mut CoseError) -> Result<(), ErrorStored>
     ensures shrinks { length_left (state input.new) ≤ length_left (state input.old) }
     ensures passes { (v : Item) (z : State) → ItemAt v (state input.old) z → (state input.new ≡ z)
         × (stored error.new result ≡ Err DuplicateMapKey) }
 {
-    input.pass();
+    input.skip();
     *error = CoseError::DuplicateMapKey;
     Err(ErrorStored)
 }
 
-/// The members of an array of one signature or of several, and whether it is the former.
+/// The elements of an array of one signature or of several, and whether it is the former.
 ///
 /// # Errors
-/// `UnexpectedItem`: the item is neither; it is passed.
+/// `UnexpectedItem`: the item is neither; it is skipped.
 #[inline(never)]
 fn begin_one_or_more(
-    members: &mut InputItems,
-    input: &mut Input<'_>,
+    elements: &mut ArrayElements,
+    input: &mut Decoder<'_>,
     error: &mut CoseError,
 ) -> Result<bool, ErrorStored>
     ensures shrinks { length_left (state input.new) ≤ length_left (state input.old) }
     ensures deeper { OnOk result
-        (items_size members.new (state input.new) < input_size (state input.old)) }
+        (items_size elements.new (state input.new) < input_size (state input.old)) }
     ensures enters { (v : Item) (z : State) → ItemAt v (state input.old) z
         → EntersOnes v (state input.new) z
-        (made_in_place (λ one. (one, members.new)) error.new result) }
+        (made_in_place (λ one. (one, elements.new)) error.new result) }
 {
     let (one, found) = store_error(enter_one_or_more(input), error)?;
-    *members = found;
+    *elements = found;
     Ok(one)
 }
 
@@ -392,24 +428,24 @@ fn begin_one_or_more(
 fn fill_counter_signatures(
     all: &mut Vec<CoseSignature>,
     alloc: Global,
-    input: &mut Input<'_>,
+    input: &mut Decoder<'_>,
     layers: usize,
     error: &mut CoseError,
 ) -> Result<(), ErrorStored>
-    requires empty { map signature_seen all.old.items ≡ [] }
+    requires empty { map signature_view all.old.items ≡ [] }
     ensures shrinks { length_left (state input.new) ≤ length_left (state input.old) }
     ensures fills { (v : Item) (z : State) → ItemAt v (state input.old) z
         → (state input.new ≡ z) × Fills (one_or_many (any_number (layered_signature layers))) v
-        (map signature_seen all.new.items)
+        (map signature_view all.new.items)
         (stored error.new result) }
 {
-    let mut members = InputItems::none();
-    let one = begin_one_or_more(&mut members, input, error)?;
+    let mut elements = ArrayElements::none();
+    let one = begin_one_or_more(&mut elements, input, error)?;
     let filled = if one {
-        fill_bare(all, alloc, &mut members, input, layers, error)
+        fill_bare(all, alloc, &mut elements, input, layers, error)
     } else {
-        fill_listed(all, alloc, &mut members, input, layers, error)
+        fill_listed(all, alloc, &mut elements, input, layers, error)
     };
-    members.finish(input);
+    elements.finish(input);
     filled
 }

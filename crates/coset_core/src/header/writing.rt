@@ -9,10 +9,10 @@ ghost use Rattle.coset_codec.specs.Errors.{UnlessMemory};
 ghost use Rattle.coset_codec.specs.Maps.{are_distinct, unless_empty};
 ghost use Rattle.coset_codec.specs.Shape.{some_of};
 ghost use Rattle.coset_codec.specs.Encoding.{HasNoImage, AppendsField, AppendsItem, Encodes};
-ghost use Rattle.coset_label.specs.Views.{entry_seen};
+ghost use Rattle.coset_label.specs.Views.{entry_view};
 ghost use Rattle.coset_label.specs.Names.{same_name};
-ghost use Rattle.coset_core.specs.FieldsView.{fields_seen};
-ghost use Rattle.coset_core.specs.Views.{countersignature_seen, critical_seen, header_seen, signature_seen};
+ghost use Rattle.coset_core.specs.FieldViews.{fields_view};
+ghost use Rattle.coset_core.specs.Views.{countersignature_view, critical_view, header_view, signature_view};
 ghost use Rattle.coset_core.specs.Fields.{critical};
 ghost use Rattle.coset_core.specs.Headers.{signatures_of, signatures_image, header_image};
 ghost use Rattle.coset_core.specs.Written.{AppendsCounterSignatures, AppendsFirst, count_pairs};
@@ -46,8 +46,8 @@ fn write_parameter(parameter: HeaderParameter, out: &mut Vec<u8>) -> Result<(), 
 #[inline(always)]
 fn write_head(header: &Header, out: &mut Vec<u8>) -> Result<(), OutOfMemory>
     ensures ok { OnOk result (out.new.items
-        ≡ out.old.items ++ least_head 5 (count_pairs (header_seen header.now))) }
-    ensures fits { OnOk result (count_pairs (header_seen header.now) < 2 ^ 64) }
+        ≡ out.old.items ++ least_head 5 (count_pairs (header_view header.now))) }
+    ensures fits { OnOk result (count_pairs (header_view header.now) < 2 ^ 64) }
     ensures kept { Extends out.old.items out.new.items }
 {
     let there = [
@@ -71,7 +71,7 @@ fn write_critical(
     out: &mut Vec<u8>,
 ) -> Result<()>
     ensures ok { OnOk result (AppendsField (parameters.number Crit)
-        ((unless_empty (some_of critical)).image (map critical_seen crit.now)) out.old.items
+        ((unless_empty (some_of critical)).image (map critical_view crit.now)) out.old.items
         out.new.items) }
     ensures memory { IfErr result (λ e. e ≡ out_of_memory) }
     ensures kept { Extends out.old.items out.new.items }
@@ -85,7 +85,7 @@ fn write_critical(
 /// Appends the pairs of the first six labels.
 fn write_fields(alloc: Global, header: &Header, out: &mut Vec<u8>) -> Result<()>
     ensures ok { OnOk result
-        (AppendsFirst out.old.items out.new.items (fields_seen header.now)) }
+        (AppendsFirst out.old.items out.new.items (fields_view header.now)) }
     ensures memory { IfErr result (λ e. e ≡ out_of_memory) }
     ensures kept { Extends out.old.items out.new.items }
 {
@@ -108,11 +108,11 @@ fn write_fields(alloc: Global, header: &Header, out: &mut Vec<u8>) -> Result<()>
     Ok(())
 }
 
-/// Asks that no label of the rest stand twice.
+/// Checks that no label of the rest occurs twice.
 pub(crate) fn ask_distinct(alloc: Global, rest: &[(Label, Value)]) -> Result<()>
-    ensures ok { OnOk result (are_distinct same_name (keys_of (map entry_seen rest.now)) ≡ true) }
+    ensures ok { OnOk result (are_distinct same_name (keys_of (map entry_view rest.now)) ≡ true) }
     ensures refused { IfErr result (λ e. UnlessMemory e (λ f. (f ≡ DuplicateMapKey)
-        × (are_distinct same_name (keys_of (map entry_seen rest.now)) ≡ false))) }
+        × (are_distinct same_name (keys_of (map entry_view rest.now)) ≡ false))) }
 {
     if has_repeats(alloc, rest)? {
         return Err(CoseError::DuplicateMapKey);
@@ -135,12 +135,12 @@ fn write_counter_signatures_head(count: usize, out: &mut Vec<u8>) -> Result<(), 
 /// Appends the shortest encoding of the header's map.
 ///
 /// # Errors
-/// `OutOfMemory`, or `DuplicateMapKey` where a label stands twice in the rest of the header, or in that of one inside
+/// `OutOfMemory`, or `DuplicateMapKey` where a label occurs twice in the rest of the header, or in that of one inside
 /// it. A protected header inside that was read doesn't count, nor what it holds: its bytes are written as they are.
 /// `out` then begins with all that it had; what was appended before the error may follow.
 #[cycle(write)]
 pub(crate) fn write_header(alloc: Global, header: &Header, out: &mut Vec<u8>) -> Result<()>
-    ensures written { Encodes (header_image (header_seen header.now)) out.old.items out.new.items
+    ensures written { Encodes (header_image (header_view header.now)) out.old.items out.new.items
         result }
     ensures kept { Extends out.old.items out.new.items }
 {
@@ -162,9 +162,9 @@ fn write_counter_signatures(
     out: &mut Vec<u8>,
 ) -> Result<()>
     ensures ok { OnOk result (AppendsCounterSignatures CounterSignature out.old.items
-        out.new.items (signatures_of (map signature_seen signatures.now))) }
+        out.new.items (signatures_of (map signature_view signatures.now))) }
     ensures refused { IfErr result
-        (HasNoImage (signatures_image (signatures_of (map signature_seen signatures.now)))) }
+        (HasNoImage (signatures_image (signatures_of (map signature_view signatures.now)))) }
     ensures kept { Extends out.old.items out.new.items }
 {
     if signatures.is_empty() {
@@ -185,9 +185,9 @@ fn write_countersignatures(
     out: &mut Vec<u8>,
 ) -> Result<()>
     ensures ok { OnOk result (AppendsCounterSignatures CounterSignatureV2 out.old.items
-        out.new.items (signatures_of (map countersignature_seen signatures.now))) }
+        out.new.items (signatures_of (map countersignature_view signatures.now))) }
     ensures refused { IfErr result
-        (HasNoImage (signatures_image (signatures_of (map countersignature_seen signatures.now)))) }
+        (HasNoImage (signatures_image (signatures_of (map countersignature_view signatures.now)))) }
     ensures kept { Extends out.old.items out.new.items }
 {
     if signatures.is_empty() {

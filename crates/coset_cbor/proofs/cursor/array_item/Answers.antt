@@ -11,7 +11,7 @@ pub returns-in-Array-clause-enters : goal.returns-in-Array-clause-enters
 returns-in-Array-clause-enters c = λ v a is.
     let r = array_read v c.args.bytes.now a (head_from c.in-Ok.head, c.in-Ok.rest.now) c.number-left.result
     (λ i. omega (arith, c.type_inv.bytes i)) is c.in-Ok.ensures.head c.in-Array.is c.number-left.ensures in
-    (r.members, r.is_array, r.within)
+    (r.elements, r.is_array, r.within)
 
 pub returns-in_default-clause-enters : goal.returns-in_default-clause-enters
 returns-in_default-clause-enters c = λ v a is. no_array v c.args.bytes.now a

@@ -13,7 +13,7 @@ returns-in-Map-clause-enters c = λ v a is.
     let r = map_read v c.args.bytes.now a (head_from c.in-Ok.head, c.in-Ok.rest.now) c.doubled-left.result
     (λ i. omega (arith, c.type_inv.bytes i)) c.well_formed.0.0 is c.in-Ok.ensures.head c.in-Map.is
     (subst (λ o. Doubles o c.doubled-left.result) c.number.ensures c.doubled-left.ensures) in
-    (r.members, r.is_map, r.within)
+    (r.elements, r.is_map, r.within)
 
 pub returns-in_default-clause-enters : goal.returns-in_default-clause-enters
 returns-in_default-clause-enters c = λ v a is. no_map v c.args.bytes.now a

@@ -1,5 +1,5 @@
 use Rattle.std.proofs.Common.{arith}
-use Rattle.coset_value.specs.View.{view}
+use Rattle.coset_value.specs.View.{value_item}
 use Rattle.coset_cbor.specs.Reading.{head_from}
 use Rattle.coset_cbor.proofs.Cursors.{stands_head, head_shorter}
 use Rattle.coset_cbor.proofs.ReadThere.{scalar_read, no_scalar}
@@ -14,7 +14,7 @@ returns-in-Some-clause-strictly c = head_shorter c.args.bytes.now (head_from c.i
 
 pub returns-in-Some-clause-reads : goal.returns-in-Some-clause-reads
 returns-in-Some-clause-reads c = λ v a is. scalar_read v c.args.bytes.now a (head_from c.in-Ok.head, c.in-Ok.rest.now)
-    (view c.in-Some.value) is c.in-Ok.ensures.head c.in-Some.ensures
+    (value_item c.in-Some.value) is c.in-Ok.ensures.head c.in-Some.ensures
 
 pub returns-in-None-clause-reads : goal.returns-in-None-clause-reads
 returns-in-None-clause-reads c = λ v a is. no_scalar v c.args.bytes.now a (head_from c.in-Ok.head, c.in-Ok.rest.now) is c.in-Ok.ensures.head c.in-None.ensures

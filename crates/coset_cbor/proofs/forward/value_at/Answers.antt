@@ -1,14 +1,15 @@
 use Rattle.std.proofs.Common.{refl, arith}
-use Rattle.coset_value.specs.View.{view}
+use Rattle.coset_value.specs.View.{value_item}
 use Rattle.coset_cbor.proofs.ReadThere.{item_shorter, item_there, no_fault_there}
 use Rattle.coset_cbor.proofs.Whole.{no_front, fault_is_there}
 use Rattle.coset_cbor.proofs.forward.value_at.Goals as goal
 
 pub returns-in-Ok-clause-reads : goal.returns-in-Ok-clause-reads
-returns-in-Ok-clause-reads c = λ v a is. let r = item_there v c.args.bytes.now a (view c.in-Ok.value) c.in-Ok.rest.now is c.in-Ok.ensures in (r.1, r.0)
+returns-in-Ok-clause-reads c = λ v a is. let r = item_there v c.args.bytes.now a (value_item c.in-Ok.value) c.in-Ok.rest.now is c.in-Ok.ensures in (r.1, r.0)
 
 pub returns-in-Ok-clause-strictly : goal.returns-in-Ok-clause-strictly
-returns-in-Ok-clause-strictly c = item_shorter c.args.bytes.now (view c.in-Ok.value) c.in-Ok.rest.now (λ i. omega (arith, c.type_inv.bytes i)) c.in-Ok.ensures
+returns-in-Ok-clause-strictly c = item_shorter c.args.bytes.now (value_item c.in-Ok.value) c.in-Ok.rest.now (λ i. omega
+    (arith, c.type_inv.bytes i)) c.in-Ok.ensures
 
 pub returns-in-Err-Fault : goal.returns-in-Err-Fault
 returns-in-Err-Fault c =

@@ -2,8 +2,8 @@ use Rattle.std.proofs.Common.{◌≡◌, ◌<◌, ◌^◌, length, arith, rules,
 use Rattle.coset_value.specs.Item.{array, dict, items_count, pairs_count}
 use Rattle.coset_value.specs.declared.value.Value.{Value}
 use Rattle.coset_cbor.specs.Least.{least_encoding, least_encodings, least_pair_encodings}
-use Rattle.coset_value.specs.View.{view, items_view, pairs_view}
-use Rattle.coset_cbor.proofs.Kept.{headed_put, items_count-items_view, pairs_count-pairs_view, view-Array, view-Map, in_range_of}
+use Rattle.coset_value.specs.View.{value_item, value_items, value_pairs}
+use Rattle.coset_cbor.proofs.Kept.{headed_put, items_count-value_items, pairs_count-value_pairs, value_item-Array, value_item-Map, in_range_of}
 use Rattle.coset_cbor.proofs.Kept.{moved, item_pushed, pair_pushed, items_in_range, pairs_in_range}
 use Rattle.coset_cbor.proofs.write.+put_owned.Goals as goal
 
@@ -11,35 +11,35 @@ pub put_owned-returns-in_ok-put_head-in-Array-clause-ok : goal.put_owned-returns
 put_owned-returns-in_ok-put_head-in-Array-clause-ok t c =
     let v = c.in-Array.array in
     let len : c.len.result ≡ length v.items = search rules in
-    headed_put c.put_owned_items.result 4 c.len.result (items_count (items_view v.items))
-    (least_encodings (items_view v.items)) c.args.out.now.items c.put_head.new.out.items c.put_owned_items.new.out.items
-    (least_encoding (view c.args.value))
-    (ap (λ x. least_encoding (view x)) c.in-Array.is ∙ ap least_encoding (view-Array v))
-    (len ∙ sym (items_count-items_view v.items)) c.in_ok-put_head-in-Array.ensures.ok c.put_owned_items.ensures.ok
+    headed_put c.put_owned_items.result 4 c.len.result (items_count (value_items v.items))
+    (least_encodings (value_items v.items)) c.args.out.now.items c.put_head.new.out.items c.put_owned_items.new.out.items
+    (least_encoding (value_item c.args.value))
+    (ap (λ x. least_encoding (value_item x)) c.in-Array.is ∙ ap least_encoding (value_item-Array v))
+    (len ∙ sym (items_count-value_items v.items)) c.in_ok-put_head-in-Array.ensures.ok c.put_owned_items.ensures.ok
 
 pub put_owned-returns-in_ok-put_head-in-Map-clause-ok : goal.put_owned-returns-in_ok-put_head-in-Map-clause-ok
 put_owned-returns-in_ok-put_head-in-Map-clause-ok t c =
     let v = c.in-Map.map in
     let len : c.len-in-Map.result ≡ length v.items = search rules in
-    headed_put c.put_owned_pairs.result 5 c.len-in-Map.result (pairs_count (pairs_view v.items))
-    (least_pair_encodings (pairs_view v.items)) c.args.out.now.items c.put_head-in-Map.new.out.items c.put_owned_pairs.new.out.items
-    (least_encoding (view c.args.value))
-    (ap (λ x. least_encoding (view x)) c.in-Map.is ∙ ap least_encoding (view-Map v))
-    (len ∙ sym (pairs_count-pairs_view v.items)) c.in_ok-put_head-in-Map.ensures.ok c.put_owned_pairs.ensures.ok
+    headed_put c.put_owned_pairs.result 5 c.len-in-Map.result (pairs_count (value_pairs v.items))
+    (least_pair_encodings (value_pairs v.items)) c.args.out.now.items c.put_head-in-Map.new.out.items c.put_owned_pairs.new.out.items
+    (least_encoding (value_item c.args.value))
+    (ap (λ x. least_encoding (value_item x)) c.in-Map.is ∙ ap least_encoding (value_item-Map v))
+    (len ∙ sym (pairs_count-value_pairs v.items)) c.in_ok-put_head-in-Map.ensures.ok c.put_owned_pairs.ensures.ok
 
 pub put_owned-returns-in_ok-put_head-in-Array-clause-in_range : goal.put_owned-returns-in_ok-put_head-in-Array-clause-in_range
 put_owned-returns-in_ok-put_head-in-Array-clause-in_range t c =
     let v = c.in-Array.array in
     let len : length v.items < 2 ^ 64 = omega (arith, v.ok.0, v.ok.1, v.small) in
-    in_range_of c.put_owned_items.result (view c.args.value) (array (items_view v.items)) (ap view c.in-Array.is ∙ view-Array v)
-    (λ h. (omega (arith, items_count-items_view v.items), h)) c.put_owned_items.ensures.in_range
+    in_range_of c.put_owned_items.result (value_item c.args.value) (array (value_items v.items)) (ap value_item c.in-Array.is ∙ value_item-Array v)
+    (λ h. (omega (arith, items_count-value_items v.items), h)) c.put_owned_items.ensures.in_range
 
 pub put_owned-returns-in_ok-put_head-in-Map-clause-in_range : goal.put_owned-returns-in_ok-put_head-in-Map-clause-in_range
 put_owned-returns-in_ok-put_head-in-Map-clause-in_range t c =
     let v = c.in-Map.map in
     let len : length v.items < 2 ^ 64 = omega (arith, v.ok.0, v.ok.1, v.small) in
-    in_range_of c.put_owned_pairs.result (view c.args.value) (dict (pairs_view v.items)) (ap view c.in-Map.is ∙ view-Map v)
-    (λ h. (omega (arith, pairs_count-pairs_view v.items), h)) c.put_owned_pairs.ensures.in_range
+    in_range_of c.put_owned_pairs.result (value_item c.args.value) (dict (value_pairs v.items)) (ap value_item c.in-Map.is ∙ value_item-Map v)
+    (λ h. (omega (arith, pairs_count-value_pairs v.items), h)) c.put_owned_pairs.ensures.in_range
 
 pub put_owned_items-loop-item-preserved : goal.put_owned_items-loop-item-preserved
 put_owned_items-loop-item-preserved t c =

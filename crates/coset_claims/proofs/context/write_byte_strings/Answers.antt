@@ -3,7 +3,7 @@ use Rattle.std.proofs.Math.Seq.{take-length}
 use Rattle.coset_value.specs.Item.{bytes}
 use Rattle.coset_codec.specs.Encoding.{AppendsElements}
 use Rattle.coset_codec.specs.Shape.{bstr, images}
-use Rattle.coset_codec.proofs.Encoding.{nothing-put, member-put, images-mapped, one_taken}
+use Rattle.coset_codec.proofs.Encoding.{nothing-put, element-put, images-mapped, one_taken}
 use Rattle.coset_claims.proofs.context.write_byte_strings.Goals as goal
 
 pub loop-bytes-init : goal.loop-bytes-init
@@ -18,7 +18,7 @@ loop-bytes-preserved c =
     let parts = rw c.deref.ensures.value at c.in_ok-write_bytes.ensures.ok in
     subst (λ xs. AppendsElements (images (λ b. bstr.image b.items) xs) (i + 1) c.args.out.now.items c.write_bytes.new.out.items)
     (sym (one_taken all i x (omega arith) c.bytes-item.is))
-    (member-put (λ b. bstr.image b.items) (take i all) x c.loop-bytes.invariant (bytes x.items, refl, record { in_range = in_range; parts = parts }))
+    (element-put (λ b. bstr.image b.items) (take i all) x c.loop-bytes.invariant (bytes x.items, refl, record { in_range = in_range; parts = parts }))
 
 pub returns-clause-ok : goal.returns-clause-ok
 returns-clause-ok c =

@@ -1,10 +1,10 @@
 use Rattle.std.proofs.Common.{map, subst}
-use Rattle.coset_value.specs.View.{pairs_view}
-use Rattle.coset_cbor.specs.Members.{pairs_left}
+use Rattle.coset_value.specs.View.{value_pairs}
+use Rattle.coset_cbor.specs.Elements.{pairs_left}
 use Rattle.coset_cbor.specs.Pulls.{pull_item}
 use Rattle.coset_codec.specs.Maps.{SomePair}
-use Rattle.coset_label.specs.Views.{label_seen, entry_seen}
-use Rattle.coset_claims.specs.Known.{IsNamed, IsNoLabel, Splits, parts_seen}
+use Rattle.coset_label.specs.Views.{label_view, entry_view}
+use Rattle.coset_claims.specs.Known.{IsNamed, IsNoLabel, Splits, parts_view}
 use Rattle.coset_claims.proofs.ClaimSplitting.{all_split, masked, blames_on, entries_pushed, named_on, not_split, other_on, pairs_pushed}
 use Rattle.coset_claims.proofs.known.split.Goals as goal
 
@@ -14,8 +14,8 @@ loop-key-preserved-in_ok-push c =
     let v = pull_item c.in-Some.value in
     let step = c.in-Some.ensures.steps.0 in
     let named = subst (λ b. IsNamed b k) c.if-branch.true c.in_ok-is_name.ensures.named in (
-      named_on _ _ _ (pairs_view c.loop-key.named.items) (pairs_view c.push.new.self.items)
-          (map entry_seen c.loop-key.others.items) k v c.loop-key.invariant.0 step named
+      named_on _ _ _ (value_pairs c.loop-key.named.items) (value_pairs c.push.new.self.items)
+          (map entry_view c.loop-key.others.items) k v c.loop-key.invariant.0 step named
           (pairs_pushed c.loop-key.named.items c.push.new.self.items _ _ k v c.in_ok-push.ensures.items c.in_ok-to_value.ensures c.in_ok-to_value-2.ensures),
       blames_on _ _ _ k v c.loop-key.invariant.1 step,
     )
@@ -27,8 +27,8 @@ loop-key-preserved c =
     let l = c.in_ok-from_pull.field-0 in
     let step = c.in-Some.ensures.steps.0 in
     let other = subst (λ b. IsNamed b k) c.if-branch.false c.in_ok-is_name.ensures.named in (
-      other_on _ _ _ (pairs_view c.loop-key.named.items) (map entry_seen c.loop-key.others.items) (map entry_seen c.push-else-branch.new.self.items) k v
-          (label_seen l) c.loop-key.invariant.0 step other c.in_ok-from_pull.ensures
+      other_on _ _ _ (value_pairs c.loop-key.named.items) (map entry_view c.loop-key.others.items) (map entry_view c.push-else-branch.new.self.items) k v
+          (label_view l) c.loop-key.invariant.0 step other c.in_ok-from_pull.ensures
           (entries_pushed c.loop-key.others.items c.push-else-branch.new.self.items l _ v c.in_ok-push-2.ensures.items c.in_ok-to_value-3.ensures),
       blames_on _ _ _ k v c.loop-key.invariant.1 step,
     )
@@ -38,13 +38,13 @@ returns-in_err-from_pull c =
     let k = pull_item c.in-Some.key in
     let v = pull_item c.in-Some.value in
     let other = subst (λ b. IsNamed b k) c.if-branch.false c.in_ok-is_name.ensures.named in
-    not_split (pairs_left c.args.pairs) parts_seen _ _ c.from_residual-in_err-from_pull.ensures.1
+    not_split (pairs_left c.args.pairs) parts_view _ _ c.from_residual-in_err-from_pull.ensures.1
     (λ n. subst (λ it. SomePair (IsNoLabel c.in_err-from_pull.field-0.0) (pairs_left it)) c.into_iter-key-iterator.ensures.into_iter_gives
     (masked _ _ _ k v _ c.loop-key.invariant.1 c.in-Some.ensures.steps.0 other (c.in_err-from_pull.ensures n)))
 
 pub returns : goal.returns
 returns c =
-    let ns = pairs_view c.loop-key.named.items in
-    let us = map entry_seen c.loop-key.others.items in
+    let ns = value_pairs c.loop-key.named.items in
+    let us = map entry_view c.loop-key.others.items in
     subst (λ it. Splits (pairs_left it) ns us) c.into_iter-key-iterator.ensures.into_iter_gives
     (all_split _ _ ns us c.loop-key.invariant.0 c.in-None.ensures.steps.0)

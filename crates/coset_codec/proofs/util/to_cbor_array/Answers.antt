@@ -1,7 +1,7 @@
 use Rattle.std.proofs.Common.{◌++◌, ◌∷◌, [], ◌∙◌, Some, option_map, ap, refl, sym}
 use Rattle.coset_value.specs.Item.{array}
-use Rattle.coset_value.specs.View.{items_view}
-use Rattle.coset_codec.proofs.Lists.{with-more, images-all, on_err, yields-more, view-Array}
+use Rattle.coset_value.specs.View.{value_items}
+use Rattle.coset_codec.proofs.Lists.{with-more, images-all, on_err, yields-more, value_item-Array}
 use Rattle.coset_codec.proofs.util.to_cbor_array.Goals as goal
 
 pub returns-in_err-to_cbor_value-clause-refused : goal.returns-in_err-to_cbor_value-clause-refused
@@ -20,7 +20,7 @@ returns-in_err-to_cbor_value-clause-refused g c =
         before = c.loop-x.yielded;
         last = c.in-Some.x;
         parts = refl;
-        written = items_view c.loop-x.elements.items;
+        written = value_items c.loop-x.elements.items;
         images_before = images-all _ c.loop-x.yielded c.loop-x.elements.items c.loop-x.invariant;
         no_image = h.1;
       },
@@ -36,5 +36,5 @@ returns-clause-images g c =
       c.loop-x.yielded,
       c.into_iter-x-iterator.ensures.into_iter_gives,
       (c.next.new.self, (c.loop-x.x-iterator, c.loop-x.yielded_by, c.in-None.ensures.steps)),
-      ap (option_map array) made ∙ ap Some (sym (view-Array c.loop-x.elements)),
+      ap (option_map array) made ∙ ap Some (sym (value_item-Array c.loop-x.elements)),
     )

@@ -7,11 +7,11 @@ use Rattle.coset_core.proofs.headers.read_headed.Goals as goal
 
 pub returns-in_err-second-clause-reads : goal.returns-in_err-second-clause-reads
 returns-in_err-second-clause-reads g c = λ v z stands.
-    let array = c.in_ok-members.ensures.enters v z stands in
-    let one = placed (state c.place.new.input) (state c.fill_protected_header-first.new.input) z c.place.new.self
-    (c.in_ok-place.ensures.place array.0 z array.2) c.fill_protected_header-first.ensures.fills in
-    let two = placed (state c.place-2.new.input) (state c.fill_unprotected_header-second.new.input) z c.place-2.new.self
-    (c.in_ok-place-2.ensures.place one.others z one.within) c.in_err-second.ensures.fills in
+    let array = c.in_ok-elements.ensures.enters v z stands in
+    let one = placed (state c.next_required.new.input) (state c.fill_protected_header-first.new.input) z c.next_required.new.self
+    (c.in_ok-next_required.ensures.place array.0 z array.2) c.fill_protected_header-first.ensures.fills in
+    let two = placed (state c.next_required-2.new.input) (state c.fill_unprotected_header-second.new.input) z c.next_required-2.new.self
+    (c.in_ok-next_required-2.ensures.place one.others z one.within) c.in_err-second.ensures.fills in
     let more = c.in_ok-others.ensures.reads two.others z two.within in (
       more.0,
       passed_on (with_headers g.P.DecodeElements.elements) _ v c.from_residual-in_err-second.result c.in_err-second.field-0.0
@@ -25,11 +25,11 @@ returns-in_err-second-clause-reads g c = λ v z stands.
 
 pub returns-in_err-first-clause-reads : goal.returns-in_err-first-clause-reads
 returns-in_err-first-clause-reads g c = λ v z stands.
-    let array = c.in_ok-members.ensures.enters v z stands in
-    let one = placed (state c.place.new.input) (state c.fill_protected_header-first.new.input) z c.place.new.self
-    (c.in_ok-place.ensures.place array.0 z array.2) c.in_err-first.ensures.fills in
-    let two = placed (state c.place-2.new.input) (state c.fill_unprotected_header-second.new.input) z c.place-2.new.self
-    (c.in_ok-place-2.ensures.place one.others z one.within) c.in_ok-second.ensures.fills in
+    let array = c.in_ok-elements.ensures.enters v z stands in
+    let one = placed (state c.next_required.new.input) (state c.fill_protected_header-first.new.input) z c.next_required.new.self
+    (c.in_ok-next_required.ensures.place array.0 z array.2) c.in_err-first.ensures.fills in
+    let two = placed (state c.next_required-2.new.input) (state c.fill_unprotected_header-second.new.input) z c.next_required-2.new.self
+    (c.in_ok-next_required-2.ensures.place one.others z one.within) c.in_ok-second.ensures.fills in
     let more = c.in_ok-others.ensures.reads two.others z two.within in (
       more.0,
       passed_on (with_headers g.P.DecodeElements.elements) _ v c.from_residual-in_err-first.result c.in_err-first.field-0.0

@@ -1,8 +1,8 @@
-use Rattle.coset_core.proofs.HeaderMap.{header_told, header_told_so, header_written, header_faulty, header_faulty_so}
+use Rattle.coset_core.proofs.HeaderMap.{header_decides, header_told_so, header_written, header_faulty, header_faulty_so}
 use Rattle.coset_core.proofs.laws.headers_hold_signatures.Goals as goal
 
 pub returns-clause-describes : goal.returns-clause-describes
-returns-clause-describes c = λ n v h. (header_told n v h, header_told_so n v h)
+returns-clause-describes c = λ n v h. (header_decides n v h, header_told_so n v h)
 
 pub returns-clause-image : goal.returns-clause-image
 returns-clause-image c = header_written

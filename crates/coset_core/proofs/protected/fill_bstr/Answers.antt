@@ -4,7 +4,7 @@ use Rattle.coset_codec.specs.InPlace.{Fills}
 use Rattle.coset_core.specs.HeaderAgain.{bytes-is}
 use Rattle.coset_core.specs.Headers.{protected}
 use Rattle.coset_core.specs.ViewLaws.{protected-made}
-use Rattle.coset_core.specs.Views.{protected_seen}
+use Rattle.coset_core.specs.Views.{protected_view}
 use Rattle.coset_core.proofs.Reading.{no_string}
 use Rattle.coset_codec.proofs.InPlace.{not_filled}
 use Rattle.coset_core.proofs.protected.fill_bstr.Goals as goal
@@ -22,7 +22,7 @@ returns-clause-fills c = λ v z stands.
     let here = c.in_ok-bytes.ensures.reads v z stands in
     let b = c.in_ok-bytes.bytes.items in (
       here.0,
-      subst (λ w. Fills protected w (protected_seen c.fill_protected.new.protected) (stored c.fill_protected.new.error c.fill_protected.result))
+      subst (λ w. Fills protected w (protected_view c.fill_protected.new.protected) (stored c.fill_protected.new.error c.fill_protected.result))
           (sym (bytes-is v b here.1))
           (c.fill_protected.ensures b (ap (λ p. p.original) (protected-made _))),
     )

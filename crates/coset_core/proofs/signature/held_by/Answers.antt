@@ -1,7 +1,7 @@
 use Rattle.std.proofs.Common.{◌≡◌, ap, sym, ◌∙◌, arith}
 use Rattle.coset_core.specs.Held.{header_count, held_in}
 use Rattle.coset_core.specs.ViewLaws.{protected-opened}
-use Rattle.coset_core.specs.Views.{header_seen, protected_seen}
+use Rattle.coset_core.specs.Views.{header_view, protected_view}
 use Rattle.coset_core.specs.declared.protected.ProtectedHeader.{out-ProtectedHeader}
 use Rattle.coset_core.proofs.Signatures.{opened}
 use Rattle.coset_core.proofs.signature.held_by.Goals as goal
@@ -10,9 +10,9 @@ pub returns : goal.returns
 returns c =
     let p = c.args.protected in
     let u = c.args.unprotected in
-    let first : held_in c.into_signatures.result.0.items c.into_signatures.result.1.items ≡ header_count (protected_seen p).header =
+    let first : held_in c.into_signatures.result.0.items c.into_signatures.result.1.items ≡ header_count (protected_view p).header =
     ap (λ x. held_in x.0 x.1) c.into_signatures.ensures
     ∙ (sym (opened (out-ProtectedHeader p).header) ∙ sym (ap (λ q. header_count q.header) (protected-opened p))) in
-    let second : held_in c.into_signatures-2.result.0.items c.into_signatures-2.result.1.items ≡ header_count (header_seen u) =
+    let second : held_in c.into_signatures-2.result.0.items c.into_signatures-2.result.1.items ≡ header_count (header_view u) =
     ap (λ x. held_in x.0 x.1) c.into_signatures-2.ensures ∙ sym (opened u) in
     omega (arith, first, second)

@@ -6,7 +6,7 @@ use Rattle.coset_core.proofs.signature.read_signatures.Goals as goal
 
 pub returns-clause-reads : goal.returns-clause-reads
 returns-clause-reads c = λ v z stands.
-    let here = c.in_ok-members.ensures.enters v z stands in
+    let here = c.in_ok-elements.ensures.enters v z stands in
     let read = c.in-Err.ensures.fills here.0 z here.2 in (
       c.finish.ensures.passes read.0.0 z read.0.1,
       λ other.

@@ -1,11 +1,11 @@
 use Rattle.std.proofs.Common.{[]}
-use Rattle.coset.specs.Sign1.{sign1_structure, sign1_seen}
+use Rattle.coset.specs.Sign1.{sign1_structure, sign1_view}
 use Rattle.coset_explain.proofs.Covered.{is_there, over_present}
 use Rattle.coset_explain.proofs.structures.of_sign1.Goals as goal
 
 pub returns-in-Some : goal.returns-in-Some
 returns-in-Some c =
-    let m = sign1_seen c.in_ok-message.message in
+    let m = sign1_view c.in_ok-message.message in
     let w = c.in_ok-signed.ensures in (
       m,
       c.in_ok-message.ensures.read,

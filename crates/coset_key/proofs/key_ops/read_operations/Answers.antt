@@ -4,9 +4,9 @@ use Rattle.coset_codec.specs.Inputs.{state}
 use Rattle.coset_label.specs.NameOrder.{name_cmp_total}
 use Rattle.coset_label.specs.Names.{name_cmp}
 use Rattle.coset_key.specs.KeyLaws.{names_exact}
-use Rattle.coset_key.specs.Keys.{operation, operation_seen}
-use Rattle.coset_key.specs.Reading.{operations_seen}
-use Rattle.coset_key.proofs.KeySets.{Midway, none_gathered, one_more, stands_twice, is_refused, all_gathered, insert-seen, contains-seen}
+use Rattle.coset_key.specs.Keys.{operation, operation_view}
+use Rattle.coset_key.specs.Reading.{operations_view}
+use Rattle.coset_key.proofs.KeySets.{Midway, none_gathered, one_more, stands_twice, is_refused, all_gathered, insert-view, contains-view}
 use Rattle.coset_key.proofs.key_ops.read_operations.Goals as goal
 
 pub loop-alloc-init : goal.loop-alloc-init
@@ -23,18 +23,18 @@ loop-alloc-init c = record {
 pub returns-in_err-read_operation-clause-reads : goal.returns-in_err-read_operation-clause-reads
 returns-in_err-read_operation-clause-reads c = λ vs z within.
     let w = c.loop-alloc.invariant.gathers vs z within in
-    is_refused name_cmp name_cmp_total names_exact operation operations_seen vs (state c.loop-alloc.input) (state c.next.new.input)
-    (state c.read_operation.new.input) z c.loop-alloc.members c.next.new.self (map operation_seen c.loop-alloc.operations.keys)
+    is_refused name_cmp name_cmp_total names_exact operation operations_view vs (state c.loop-alloc.input) (state c.next.new.input)
+    (state c.read_operation.new.input) z c.loop-alloc.elements c.next.new.self (map operation_view c.loop-alloc.operations.keys)
     c.in_err-read_operation.field-0.0 c.from_residual.result w
     (c.loop-alloc-test.ensures.nexts w.left z w.within) c.in_err-read_operation.ensures.reads c.from_residual.ensures.1
 
 pub returns-then-not-branch-clause-reads : goal.returns-then-not-branch-clause-reads
 returns-then-not-branch-clause-reads c = λ vs z within.
     let w = c.loop-alloc.invariant.gathers vs z within in
-    stands_twice name_cmp name_cmp_total names_exact operation operations_seen vs (state c.loop-alloc.input) (state c.next.new.input)
-    (state c.read_operation.new.input) z c.loop-alloc.members c.next.new.self (map operation_seen c.loop-alloc.operations.keys)
-    (operation_seen c.in_ok-read_operation.field-0) _ w (c.loop-alloc-test.ensures.nexts w.left z w.within) c.in_ok-read_operation.ensures.reads
-    (sym (contains-seen operation_seen name_cmp c.loop-alloc.operations.keys c.in_ok-read_operation.field-0)
+    stands_twice name_cmp name_cmp_total names_exact operation operations_view vs (state c.loop-alloc.input) (state c.next.new.input)
+    (state c.read_operation.new.input) z c.loop-alloc.elements c.next.new.self (map operation_view c.loop-alloc.operations.keys)
+    (operation_view c.in_ok-read_operation.field-0) _ w (c.loop-alloc-test.ensures.nexts w.left z w.within) c.in_ok-read_operation.ensures.reads
+    (sym (contains-view operation_view name_cmp c.loop-alloc.operations.keys c.in_ok-read_operation.field-0)
     ∙ not_false _ _ c.in_ok-insert.ensures.added c.if-not-branch.true) tt
 
 pub loop-alloc-preserved : goal.loop-alloc-preserved
@@ -47,17 +47,17 @@ loop-alloc-preserved c = record {
   gathers = λ vs z within.
       let w = c.loop-alloc.invariant.gathers vs z within in
       subst (Midway name_cmp name_cmp_total names_exact operation vs z c.next.new.self (state c.read_operation.new.input))
-      (sym (ap (map operation_seen) c.in_ok-insert.ensures.keys
-      ∙ insert-seen operation_seen name_cmp c.loop-alloc.operations.keys c.in_ok-read_operation.field-0))
+      (sym (ap (map operation_view) c.in_ok-insert.ensures.keys
+      ∙ insert-view operation_view name_cmp c.loop-alloc.operations.keys c.in_ok-read_operation.field-0))
       (one_more name_cmp name_cmp_total names_exact operation vs (state c.loop-alloc.input) (state c.next.new.input)
-      (state c.read_operation.new.input) z c.loop-alloc.members c.next.new.self (map operation_seen c.loop-alloc.operations.keys)
-      (operation_seen c.in_ok-read_operation.field-0) w (c.loop-alloc-test.ensures.nexts w.left z w.within) c.in_ok-read_operation.ensures.reads
-      (sym (contains-seen operation_seen name_cmp c.loop-alloc.operations.keys c.in_ok-read_operation.field-0)
+      (state c.read_operation.new.input) z c.loop-alloc.elements c.next.new.self (map operation_view c.loop-alloc.operations.keys)
+      (operation_view c.in_ok-read_operation.field-0) w (c.loop-alloc-test.ensures.nexts w.left z w.within) c.in_ok-read_operation.ensures.reads
+      (sym (contains-view operation_view name_cmp c.loop-alloc.operations.keys c.in_ok-read_operation.field-0)
       ∙ not_true _ _ c.in_ok-insert.ensures.added c.if-not-branch.false));
 }
 
 pub returns-clause-reads : goal.returns-clause-reads
 returns-clause-reads c = λ vs z within.
     let w = c.loop-alloc.invariant.gathers vs z within in
-    all_gathered name_cmp name_cmp_total names_exact operation operations_seen vs (state c.loop-alloc.input)
-    (state c.next.new.input) z c.loop-alloc.members c.next.new.self c.loop-alloc.operations w (c.loop-alloc-test.ensures.nexts w.left z w.within)
+    all_gathered name_cmp name_cmp_total names_exact operation operations_view vs (state c.loop-alloc.input)
+    (state c.next.new.input) z c.loop-alloc.elements c.next.new.self c.loop-alloc.operations w (c.loop-alloc-test.ensures.nexts w.left z w.within)

@@ -1,5 +1,5 @@
 use Rattle.std.proofs.Common.{◌≡◌}
-use Rattle.coset.specs.Members.{items_left}
+use Rattle.coset.specs.Elements.{items_left}
 use Rattle.coset_query.specs.Places.{nth}
 use Rattle.coset_query.proofs.item.nth.Given as goal
 

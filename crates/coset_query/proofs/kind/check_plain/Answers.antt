@@ -7,4 +7,4 @@ returns-in_err-_value g c =
     c.in_err-_value.ensures.read c.in_err-_value.ensures.refused
 
 pub returns : goal.returns
-returns g c = (g.T.AsCborValue.seen c.in_ok-_value._value, c.in_ok-_value.ensures.read)
+returns g c = (g.T.AsCborValue.view c.in_ok-_value._value, c.in_ok-_value.ensures.read)

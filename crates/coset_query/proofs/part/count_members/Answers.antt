@@ -1,6 +1,6 @@
 use Rattle.std.proofs.Common.{◌≡◌, ◌+◌, suc, ap, arith}
 use Rattle.coset.specs.Item.{items_count}
-use Rattle.coset.specs.Members.{items_left}
+use Rattle.coset.specs.Elements.{items_left}
 use Rattle.coset_query.proofs.part.count_members.Goals as goal
 
 pub loop-member-preserved : goal.loop-member-preserved

@@ -1,6 +1,6 @@
 use Rattle.std.proofs.Common.{◌≡◌, ◌+◌}
 use Rattle.coset.specs.Item.{items_count}
-use Rattle.coset.specs.Members.{items_left}
+use Rattle.coset.specs.Elements.{items_left}
 use Rattle.coset_query.proofs.part.count_members.Given as goal
 
 abbrev pub invariant-loop-member : goal.invariant-loop-member

@@ -1,5 +1,5 @@
 use Rattle.coset.specs.Pulls.{pull_item}
-use Rattle.coset.specs.View.{view}
+use Rattle.coset.specs.View.{value_item}
 use Rattle.std.proofs.Common.{subst}
 use Rattle.coset_query.specs.declared.label.Map.TheVariants as of
 use Rattle.coset_query.specs.Answers.{Finds}
@@ -12,5 +12,5 @@ pub returns-in-Some-clause-algorithm : goal.returns-in-Some-clause-algorithm
 returns-in-Some-clause-algorithm c =
     let k = c.args.kind in
     let v = pull_item c.args.item in
-    algorithm_found k v (view c.in-Some.value) c.algorithm_of.result
-    (subst (Finds view (IsUnder k of.Protected alg_label v)) c.in-Some.is c.in_ok-value.ensures.value) c.algorithm_of.ensures
+    algorithm_found k v (value_item c.in-Some.value) c.algorithm_of.result
+    (subst (Finds value_item (IsUnder k of.Protected alg_label v)) c.in-Some.is c.in_ok-value.ensures.value) c.algorithm_of.ensures

@@ -7,10 +7,10 @@ use Rattle.coset_codec.specs.Shape.{Each}
 use Rattle.coset_codec.proofs.InPlace.{last_filled, one_filled_more, one_refused_more}
 use Rattle.coset_codec.proofs.Inputs.{items_smaller}
 use Rattle.coset_codec.proofs.Lists.{all_read}
-use Rattle.coset_core.specs.Views.{header_seen, protected_seen}
-use Rattle.coset_recipient.specs.Recipient.{RecipientSeen, recipient, recipients_of}
+use Rattle.coset_core.specs.Views.{header_view, protected_view}
+use Rattle.coset_recipient.specs.Recipient.{RecipientView, recipient, recipients_of}
 use Rattle.coset_recipient.specs.RecipientReading.{BeginsThree}
-use Rattle.coset_recipient.specs.RecipientView.{recipient_seen, recipient-rolled}
+use Rattle.coset_recipient.specs.RecipientViews.{recipient_view, recipient-rolled}
 use Rattle.coset_recipient.specs.declared.recipient.CoseRecipient.{out-roll-CoseRecipient}
 use Rattle.coset_recipient.proofs.Reading.{few_refused, last_refused, none_inside, not_entered, elements_filled}
 use Rattle.coset_recipient.proofs.recipient.+read.Goals as goal
@@ -25,16 +25,16 @@ fill_listed-loop-all-preserved t c =
           let before = c.loop-all.invariant.shrinks in
           omega (arith, read, one, before);
       size =
-          let behind = items_smaller c.next_place.new.members (state c.next_place.new.input) (state c.fill_recipient.new.input) read in
+          let behind = items_smaller c.next_place.new.elements (state c.next_place.new.input) (state c.fill_recipient.new.input) read in
           let one = next.size in
           let before = c.loop-all.invariant.size in
           omega (arith, behind, one, before);
       fills = λ vs z within.
           let p = c.loop-all.invariant.fills vs z within in
           one_filled_more recipient vs (state c.loop-all.input) (state c.next_place.new.input)
-          (state c.fill_recipient.new.input) z c.loop-all.members c.next_place.new.members (map recipient_seen c.loop-all.all.items) _
-          (recipient_seen c.fill_recipient.new.recipient) p (next.next p.others z p.within) c.in_ok-fill_recipient.ensures.fills
-          (last_filled recipient_seen c.loop-all.all.items c.next_place.new.all.items c.len-last.result next.place.0 c.fill_recipient.new.recipient
+          (state c.fill_recipient.new.input) z c.loop-all.elements c.next_place.new.elements (map recipient_view c.loop-all.all.items) _
+          (recipient_view c.fill_recipient.new.recipient) p (next.next p.others z p.within) c.in_ok-fill_recipient.ensures.fills
+          (last_filled recipient_view c.loop-all.all.items c.next_place.new.all.items c.len-last.result next.place.0 c.fill_recipient.new.recipient
           (search rules) next.place.1);
     }
 
@@ -43,8 +43,8 @@ fill_listed-returns-in_err-fill_recipient-clause-fills t c = λ vs z within.
     let next = rw c.if-branch.true at c.in_ok-next_place.ensures in
     let p = c.loop-all.invariant.fills vs z within in
     one_refused_more recipient vs (state c.loop-all.input) (state c.next_place.new.input)
-    (state c.fill_recipient.new.input) z c.loop-all.members c.next_place.new.members (map recipient_seen c.loop-all.all.items) _
-    (recipient_seen c.fill_recipient.new.recipient) c.from_residual-in_err-fill_recipient.result c.fill_recipient.new.error c.in_err-fill_recipient.field-0.0
+    (state c.fill_recipient.new.input) z c.loop-all.elements c.next_place.new.elements (map recipient_view c.loop-all.all.items) _
+    (recipient_view c.fill_recipient.new.recipient) c.from_residual-in_err-fill_recipient.result c.fill_recipient.new.error c.in_err-fill_recipient.field-0.0
     c.from_residual-in_err-fill_recipient.ensures.1 p (next.next p.others z p.within)
     c.in_err-fill_recipient.ensures.fills
 
@@ -54,18 +54,18 @@ fill_listed-returns-clause-fills t c = λ vs z within.
     let p = c.loop-all.invariant.fills vs z within in
     let none = next.next p.others z p.within in (
       (_, none.1),
-      subst (λ xs. Each recipient.describes vs (map recipient_seen xs)) (sym next.place)
-          (all_read recipient vs p.others (map recipient_seen c.loop-all.all.items) p.continues none.0),
+      subst (λ xs. Each recipient.describes vs (map recipient_view xs)) (sym next.place)
+          (all_read recipient vs p.others (map recipient_view c.loop-all.all.items) p.continues none.0),
     )
 
 pub fill_elements-returns-in_err-first-clause-fills : goal.fill_elements-returns-in_err-first-clause-fills
 fill_elements-returns-in_err-first-clause-fills t c = λ vs z within.
-    let p = protected_seen c.begin_elements.new.protected in
-    let u = header_seen c.begin_elements.new.unprotected in
+    let p = protected_view c.begin_elements.new.protected in
+    let u = header_view c.begin_elements.new.unprotected in
     let o = option_map (λ b. b.items) c.begin_elements.new.ciphertext in
-    let begins = subst (BeginsThree vs p u o (state c.begin_elements.new.input) z c.begin_elements.new.members)
+    let begins = subst (BeginsThree vs p u o (state c.begin_elements.new.input) z c.begin_elements.new.elements)
     (sym c.store_error.ensures.answers ∙ ap (stored c.store_error.new.error) c.in_err-first.was) (c.begin_elements.ensures.begins vs z within) in
-    few_refused vs p u o (state c.begin_elements.new.input) z c.begin_elements.new.members _ c.from_residual.result c.store_error.new.error
+    few_refused vs p u o (state c.begin_elements.new.input) z c.begin_elements.new.elements _ c.from_residual.result c.store_error.new.error
     c.in_err-first.field-0.0
     c.from_residual.ensures.1 begins
 
@@ -73,51 +73,51 @@ pub fill_elements-fill_fourth-requires : goal.fill_elements-fill_fourth-requires
 fill_elements-fill_fourth-requires t c =
     let size = c.begin_elements.ensures.size in (
       omega (arith, size, c.decreases),
-      ap (λ g. map recipient_seen g.recipients.items) (out-roll-CoseRecipient _)
+      ap (λ g. map recipient_view g.recipients.items) (out-roll-CoseRecipient _)
           ∙ none_inside c.args.recipient.now c.requires.empty,
     )
 
 pub fill_elements-returns-in_err-fill_fourth-clause-fills : goal.fill_elements-returns-in_err-fill_fourth-clause-fills
 fill_elements-returns-in_err-fill_fourth-clause-fills t c = λ vs z within.
-    let p = protected_seen c.begin_elements.new.protected in
-    let u = header_seen c.begin_elements.new.unprotected in
+    let p = protected_view c.begin_elements.new.protected in
+    let u = header_view c.begin_elements.new.unprotected in
     let o = option_map (λ b. b.items) c.begin_elements.new.ciphertext in
-    let begins = subst (BeginsThree vs p u o (state c.begin_elements.new.input) z c.begin_elements.new.members)
+    let begins = subst (BeginsThree vs p u o (state c.begin_elements.new.input) z c.begin_elements.new.elements)
     (sym c.store_error.ensures.answers ∙ ap (stored c.store_error.new.error) c.in_ok-first.was) (c.begin_elements.ensures.begins vs z within) in
     last_refused vs p u o (state c.begin_elements.new.input)
-    (state c.fill_fourth.new.input) z c.begin_elements.new.members c.fill_fourth.new.members c.in_ok-first.first _
-    (map recipient_seen c.fill_fourth.new.all.items) c.from_residual-in_err-fill_fourth.result
+    (state c.fill_fourth.new.input) z c.begin_elements.new.elements c.fill_fourth.new.elements c.in_ok-first.first _
+    (map recipient_view c.fill_fourth.new.all.items) c.from_residual-in_err-fill_fourth.result
     c.fill_fourth.new.error c.in_err-fill_fourth.field-0.0 c.from_residual-in_err-fill_fourth.ensures.1 begins
     (λ others inside. c.in_err-fill_fourth.ensures.fills others z inside)
 
 pub fill_elements-returns-clause-fills : goal.fill_elements-returns-clause-fills
 fill_elements-returns-clause-fills t c = λ vs z within.
-    let p = protected_seen c.begin_elements.new.protected in
-    let u = header_seen c.begin_elements.new.unprotected in
+    let p = protected_view c.begin_elements.new.protected in
+    let u = header_view c.begin_elements.new.unprotected in
     let o = option_map (λ b. b.items) c.begin_elements.new.ciphertext in
-    let rs = map recipient_seen c.fill_fourth.new.all.items in
+    let rs = map recipient_view c.fill_fourth.new.all.items in
     let first = c.in_ok-first.first in
-    let x : RecipientSeen = record { protected = p; unprotected = u; ciphertext = o; recipients = recipients_of rs } in
-    let begins = subst (BeginsThree vs p u o (state c.begin_elements.new.input) z c.begin_elements.new.members)
+    let x : RecipientView = record { protected = p; unprotected = u; ciphertext = o; recipients = recipients_of rs } in
+    let begins = subst (BeginsThree vs p u o (state c.begin_elements.new.input) z c.begin_elements.new.elements)
     (sym c.store_error.ensures.answers ∙ ap (stored c.store_error.new.error) c.in_ok-first.was) (c.begin_elements.ensures.begins vs z within) in
-    let seen = recipient-rolled _ ∙ ap (λ g. record {
-      protected = protected_seen g.protected;
-      unprotected = header_seen g.unprotected;
+    let view = recipient-rolled _ ∙ ap (λ g. record {
+      protected = protected_view g.protected;
+      unprotected = header_view g.unprotected;
       ciphertext =
           option_map (λ b. b.items) g.ciphertext;
       recipients = recipients_of rs;
     }) (out-roll-CoseRecipient _) in
     let read = elements_filled vs (state c.begin_elements.new.input)
-    (state c.fill_fourth.new.input) z c.begin_elements.new.members c.fill_fourth.new.members x rs first begins
+    (state c.fill_fourth.new.input) z c.begin_elements.new.elements c.fill_fourth.new.elements x rs first begins
     (λ others inside. c.in_ok-fill_fourth.ensures.fills others z inside) refl in (
       read.0,
-      subst (λ y. Fills recipient (array vs) y (stored c.store_error-2.new.error c.store_error-2.result)) (sym seen)
+      subst (λ y. Fills recipient (array vs) y (stored c.store_error-2.new.error c.store_error-2.result)) (sym view)
           (subst (Fills recipient (array vs) x) (sym c.store_error-2.ensures.answers) read.1),
     )
 
-pub fill_recipient-returns-in_err-members-clause-fills : goal.fill_recipient-returns-in_err-members-clause-fills
-fill_recipient-returns-in_err-members-clause-fills t c = λ v z stands.
+pub fill_recipient-returns-in_err-elements-clause-fills : goal.fill_recipient-returns-in_err-elements-clause-fills
+fill_recipient-returns-in_err-elements-clause-fills t c = λ v z stands.
     not_entered (codes "array") v (state c.enter_array.new.self) z
-    (recipient_seen c.args.recipient.now) c.enter_array.result c.store_error.result c.store_error.new.error c.in_err-members.field-0.0 c.from_residual.result
+    (recipient_view c.args.recipient.now) c.enter_array.result c.store_error.result c.store_error.new.error c.in_err-elements.field-0.0 c.from_residual.result
     c.from_residual.ensures.1
-    c.store_error.ensures.answers c.in_err-members.was (c.enter_array.ensures.enters v z stands)
+    c.store_error.ensures.answers c.in_err-elements.was (c.enter_array.ensures.enters v z stands)

@@ -2,33 +2,33 @@ use Rattle.std.proofs.Common.{map, ◌+◌, ◌*◌, ◌≤◌}
 use Rattle.coset_value.specs.Item.{Items}
 use Rattle.coset_codec.specs.Inputs.{State, state, length_left, input_size, items_size, items_turns, AreWithin}
 use Rattle.coset_codec.proofs.InPlace.{Filled}
-use Rattle.coset_recipient.specs.Recipient.{RecipientSeen, recipient}
-use Rattle.coset_recipient.specs.RecipientView.{recipient_seen}
+use Rattle.coset_recipient.specs.Recipient.{RecipientView, recipient}
+use Rattle.coset_recipient.specs.RecipientViews.{recipient_view}
 use Rattle.coset_recipient.proofs.recipient.+read.Given as goal
 
 abbrev pub decreases-fill_recipient : goal.decreases-fill_recipient
 decreases-fill_recipient l = 8 * input_size (state l.input.now) + 2
 
 abbrev pub decreases-fill_elements : goal.decreases-fill_elements
-decreases-fill_elements l = 8 * items_size l.members.now (state l.input.now) + 7
+decreases-fill_elements l = 8 * items_size l.elements.now (state l.input.now) + 7
 
 abbrev pub decreases-fill_fourth : goal.decreases-fill_fourth
-decreases-fill_fourth l = 8 * items_size l.members.now (state l.input.now) + 6
+decreases-fill_fourth l = 8 * items_size l.elements.now (state l.input.now) + 6
 
 abbrev pub decreases-fill_recipients : goal.decreases-fill_recipients
 decreases-fill_recipients l = 8 * input_size (state l.input.now) + 5
 
 abbrev pub decreases-fill_listed : goal.decreases-fill_listed
-decreases-fill_listed l = 8 * items_size l.members.now (state l.input.now) + 7
+decreases-fill_listed l = 8 * items_size l.elements.now (state l.input.now) + 7
 
--- the recipients so far are those of the items so far, and the others stand there
+-- the recipients so far are those of the items so far, and the others are there
 abbrev pub invariant-fill_listed-loop-all : goal.invariant-fill_listed-loop-all
 invariant-fill_listed-loop-all l = record {
   shrinks : length_left (state l.input) ≤ length_left (state l.fn.input);
-  size : items_size l.members (state l.input) ≤ items_size l.fn.members (state l.fn.input);
-  fills : (vs : Items) (z : State) → AreWithin l.fn.members vs (state l.fn.input) z
-      → Filled RecipientSeen recipient vs z l.members (state l.input) (map recipient_seen l.all.items);
+  size : items_size l.elements (state l.input) ≤ items_size l.fn.elements (state l.fn.input);
+  fills : (vs : Items) (z : State) → AreWithin l.fn.elements vs (state l.fn.input) z
+      → Filled RecipientView recipient vs z l.elements (state l.input) (map recipient_view l.all.items);
 }
 
 abbrev pub decreases-fill_listed-loop-all : goal.decreases-fill_listed-loop-all
-decreases-fill_listed-loop-all l = items_turns l.members (state l.input)
+decreases-fill_listed-loop-all l = items_turns l.elements (state l.input)

@@ -3,12 +3,12 @@ use Rattle.std.specs.Iterator.Adapters.{zip_first, zip_second}
 use Rattle.std.specs.Slice.Iter.{iter_rest}
 use Rattle.coset_recipient.specs.Recipient.{recipients_of}
 use Rattle.coset_recipient.specs.RecipientSame.{recipients_eq}
-use Rattle.coset_recipient.specs.RecipientView.{recipient_seen}
+use Rattle.coset_recipient.specs.RecipientViews.{recipient_view}
 use Rattle.coset_recipient.specs.declared.recipient.CoseRecipient.{CoseRecipient}
 use Rattle.coset_recipient.proofs.recipient.+same.Given as goal
 
 abbrev same : List CoseRecipient → List CoseRecipient → Bool
-same rs ss = recipients_eq (recipients_of (map recipient_seen rs)) (recipients_of (map recipient_seen ss))
+same rs ss = recipients_eq (recipients_of (map recipient_view rs)) (recipients_of (map recipient_view ss))
 
 -- what is left of the lists is as long, and is the same where the lists are
 abbrev pub invariant-same_recipients-loop-a : goal.invariant-same_recipients-loop-a

@@ -1,5 +1,5 @@
 use Rattle.std.proofs.Common.{◌≡◌, ◌+◌, ◌∙◌, subst, sym}
-use Rattle.coset_recipient.specs.RecipientView.{recipient-unrolled}
+use Rattle.coset_recipient.specs.RecipientViews.{recipient-unrolled}
 use Rattle.coset_recipient.specs.RecipientWriting.{last_elements}
 use Rattle.coset_recipient.proofs.Writing.{four_elements, three_elements}
 use Rattle.coset_recipient.proofs.recipient.count_elements.Goals as goal

@@ -1,5 +1,5 @@
 use Rattle.std.proofs.Common.{arith, ap, subst, sym, ◌∙◌, ◌+◌}
-use Rattle.coset_recipient.specs.RecipientView.{opened, recipient-unrolled}
+use Rattle.coset_recipient.specs.RecipientViews.{opened, recipient-unrolled}
 use Rattle.coset_recipient.specs.RecipientWriting.{Begins, last_elements}
 use Rattle.coset_recipient.specs.declared.recipient.CoseRecipient.{out-CoseRecipient}
 use Rattle.coset_recipient.proofs.Writing.{first_written}

@@ -25,7 +25,7 @@ returns g c =
     let b = c.args.bytes.now in
     let read = c.in_ok-message.ensures.read in
     record {
-      value = g.T.AsCborValue.seen c.in_ok-message.message;
+      value = g.T.AsCborValue.view c.in_ok-message.message;
       described = rw (sym c.is_tagged-tagged.ensures) read;
       is_line = rw (sym c.is_tagged-tagged.ensures) (c.in_ok-message_line.ensures b read);
     }

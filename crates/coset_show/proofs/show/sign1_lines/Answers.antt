@@ -1,6 +1,6 @@
 use Rattle.std.proofs.Common.{sym, rules}
 use Rattle.std.specs.String.{string_bytes}
-use Rattle.coset.specs.Sign1.{sign1, sign1_seen}
+use Rattle.coset.specs.Sign1.{sign1, sign1_view}
 use Rattle.coset_show.specs.Show.{sign1_in, tagged_if}
 use Rattle.coset_show.proofs.Showing.{passed_on, refuses_read, refuses_memory, plainly}
 use Rattle.coset_show.proofs.show.sign1_lines.Goals as goal
@@ -17,7 +17,7 @@ pub returns-in_err-signed : goal.returns-in_err-signed
 returns-in_err-signed c =
     let b = c.args.bytes.now in
     let e = c.in_err-signed.field-0.0 in
-    let plain = plainly c.is_tagged-tagged.result 18 sign1 b (sign1_seen c.in_ok-message.message) c.in_ok-message.ensures.read in
+    let plain = plainly c.is_tagged-tagged.result 18 sign1 b (sign1_view c.in_ok-message.message) c.in_ok-message.ensures.read in
     passed_on (sign1_in b) b e c.from_residual-in_err-signed.result _ c.from_residual-in_err-signed.ensures.1
     (refuses_memory (sign1_in b) b e (c.in_err-signed.ensures plain.0 plain.1))
 
@@ -31,7 +31,7 @@ returns-in_err-lines c =
 pub returns : goal.returns
 returns c =
     let b = c.args.bytes.now in
-    let m = sign1_seen c.in_ok-message.message in
+    let m = sign1_view c.in_ok-message.message in
     let read = c.in_ok-message.ensures.read in
     let plain = plainly c.is_tagged-tagged.result 18 sign1 b m read in
     record {

@@ -16,4 +16,4 @@ returns-in_err-line_of g c =
 pub returns : goal.returns
 returns g c =
     let read = c.in_ok-value.ensures.read in
-    record { value = g.T.AsCborValue.seen c.in_ok-value.value; described = read; is_line = c.in_ok-line_of.ensures c.args.bytes.now read }
+    record { value = g.T.AsCborValue.view c.in_ok-value.value; described = read; is_line = c.in_ok-line_of.ensures c.args.bytes.now read }

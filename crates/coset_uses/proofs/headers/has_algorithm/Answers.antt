@@ -1,8 +1,8 @@
 use Rattle.std.proofs.Common.{◌∙◌, ap, sym, option_map}
 use Rattle.coset_iana.specs.Algorithm as algorithms
 use Rattle.coset_label.specs.Names.{assigned}
-use Rattle.coset_label.specs.Views.{algorithm_seen}
-use Rattle.coset_core.specs.Fields.{FieldsSeen}
+use Rattle.coset_label.specs.Views.{algorithm_view}
+use Rattle.coset_core.specs.Fields.{FieldsView}
 use Rattle.coset_claims.specs.Claims.{same_name}
 use Rattle.cwt_gate.specs.Policy.{is_there_and}
 use Rattle.coset_uses.proofs.Opened.{opened}
@@ -12,11 +12,11 @@ pub returns-in-Some : goal.returns-in-Some
 returns-in-Some c =
     let a = assigned (algorithms.number c.args.algorithm) in
     c.eq.ensures.level
-    ∙ sym (ap (λ (f : FieldsSeen). is_there_and (λ b. same_name b a) f.alg) (opened c.args.header.now)
-    ∙ ap (λ o. is_there_and (λ b. same_name b a) (option_map algorithm_seen o)) c.in-Some.is)
+    ∙ sym (ap (λ (f : FieldsView). is_there_and (λ b. same_name b a) f.alg) (opened c.args.header.now)
+    ∙ ap (λ o. is_there_and (λ b. same_name b a) (option_map algorithm_view o)) c.in-Some.is)
 
 pub returns-in-None : goal.returns-in-None
 returns-in-None c =
     let a = assigned (algorithms.number c.args.algorithm) in
-    sym (ap (λ (f : FieldsSeen). is_there_and (λ b. same_name b a) f.alg) (opened c.args.header.now)
-    ∙ ap (λ o. is_there_and (λ b. same_name b a) (option_map algorithm_seen o)) c.in-None.is)
+    sym (ap (λ (f : FieldsView). is_there_and (λ b. same_name b a) f.alg) (opened c.args.header.now)
+    ∙ ap (λ o. is_there_and (λ b. same_name b a) (option_map algorithm_view o)) c.in-None.is)

@@ -2,9 +2,9 @@ use Rattle.std.proofs.Common.{◌≡◌, ◌∙◌, Some, None, ap, inl, inr, of
 use Rattle.coset_codec.specs.Answers.{Describes, IsRefused}
 use Rattle.coset_codec.specs.ReadAgain.{IsWritten}
 use Rattle.coset_core.specs.Messages.{unread}
-use Rattle.coset_core.specs.Views.{header_seen}
+use Rattle.coset_core.specs.Views.{header_view}
 use Rattle.coset_core.specs.Calls.{IsStructure}
-use Rattle.coset_sign.specs.Sign1.{Sign1Seen, sign1, sign1_carried, sign1_seen, with_signature}
+use Rattle.coset_sign.specs.Sign1.{Sign1View, sign1, sign1_carried, sign1_view, with_signature}
 use Rattle.coset_uses.specs.Refusals.{IsNotSent, unsigned}
 use Rattle.coset_uses.proofs.Asked.{made, not_signed}
 use Rattle.coset_uses.proofs.Issued.{unsigned_unwritten}
@@ -13,25 +13,25 @@ use Rattle.coset_uses.proofs.issue.sign_token.Goals as goal
 
 pub returns-in_err-signed-clause-refused : goal.returns-in_err-signed-clause-refused
 returns-in_err-signed-clause-refused g c =
-    let h = header_seen c.args.protected in
+    let h = header_view c.args.protected in
     let payload = c.args.payload.items in
-    let is : sign1_seen c.payload-unsigned.result ≡ unsigned h payload =
-    c.payload-unsigned.ensures ∙ ap (λ (m : Sign1Seen). record m { payload = Some payload })
-    (c.protected.ensures ∙ ap (λ (m : Sign1Seen). record m { protected = unread h }) c.new.ensures) in
+    let is : sign1_view c.payload-unsigned.result ≡ unsigned h payload =
+    c.payload-unsigned.ensures ∙ ap (λ (m : Sign1View). record m { payload = Some payload })
+    (c.protected.ensures ∙ ap (λ (m : Sign1View). record m { protected = unread h }) c.new.ensures) in
     passed (IsNotSent (g.K.SigningKey.refuses c.args.key.now) c.args.external_aad.now h payload) _ _ c.from_residual.ensures.1
     (not_signed (g.K.SigningKey.signs c.args.key.now) (g.K.SigningKey.refuses c.args.key.now) c.args.external_aad.now h payload
-    (sign1_seen c.payload-unsigned.result) is _ c.in_err-signed.ensures
+    (sign1_view c.payload-unsigned.result) is _ c.in_err-signed.ensures
     (λ p r h. record { signed = search (rules, of_calls); refused = search (rules, of_calls) }))
 
 pub returns-in_err-token-clause-refused : goal.returns-in_err-token-clause-refused
 returns-in_err-token-clause-refused g c =
-    let h = header_seen c.args.protected in
+    let h = header_view c.args.protected in
     let payload = c.args.payload.items in
-    let is : sign1_seen c.payload-unsigned.result ≡ unsigned h payload =
-    c.payload-unsigned.ensures ∙ ap (λ (m : Sign1Seen). record m { payload = Some payload })
-    (c.protected.ensures ∙ ap (λ (m : Sign1Seen). record m { protected = unread h }) c.new.ensures) in
+    let is : sign1_view c.payload-unsigned.result ≡ unsigned h payload =
+    c.payload-unsigned.ensures ∙ ap (λ (m : Sign1View). record m { payload = Some payload })
+    (c.protected.ensures ∙ ap (λ (m : Sign1View). record m { protected = unread h }) c.new.ensures) in
     let s = c.in_ok-signed.ensures.1.items in
-    let built : sign1_seen c.build.result ≡ with_signature s (unsigned h payload) = ap sign1_seen c.build.ensures
+    let built : sign1_view c.build.result ≡ with_signature s (unsigned h payload) = ap sign1_view c.build.ensures
     ∙ (c.in_ok-signed.ensures.4 ∙ ap (with_signature s) is) in
     passed (IsNotSent (g.K.SigningKey.refuses c.args.key.now) c.args.external_aad.now h payload) _ _ c.from_residual-in_err-token.ensures.1
     (inl (λ other. (
@@ -42,13 +42,13 @@ returns-in_err-token-clause-refused g c =
 
 pub returns-in_err-from_slice-clause-refused : goal.returns-in_err-from_slice-clause-refused
 returns-in_err-from_slice-clause-refused g c =
-    let h = header_seen c.args.protected in
+    let h = header_view c.args.protected in
     let payload = c.args.payload.items in
-    let is : sign1_seen c.payload-unsigned.result ≡ unsigned h payload =
-    c.payload-unsigned.ensures ∙ ap (λ (m : Sign1Seen). record m { payload = Some payload })
-    (c.protected.ensures ∙ ap (λ (m : Sign1Seen). record m { protected = unread h }) c.new.ensures) in
+    let is : sign1_view c.payload-unsigned.result ≡ unsigned h payload =
+    c.payload-unsigned.ensures ∙ ap (λ (m : Sign1View). record m { payload = Some payload })
+    (c.protected.ensures ∙ ap (λ (m : Sign1View). record m { protected = unread h }) c.new.ensures) in
     let s = c.in_ok-signed.ensures.1.items in
-    let built : sign1_seen c.build.result ≡ with_signature s (unsigned h payload) = ap sign1_seen c.build.ensures
+    let built : sign1_view c.build.result ≡ with_signature s (unsigned h payload) = ap sign1_view c.build.ensures
     ∙ (c.in_ok-signed.ensures.4 ∙ ap (with_signature s) is) in
     let e = c.in_err-from_slice.field-0.0 in
     let refused : IsRefused sign1 c.deref.result.now e = λ other. (c.in_err-from_slice.ensures.read other, c.in_err-from_slice.ensures.refused other) in
@@ -62,22 +62,22 @@ returns-in_err-from_slice-clause-refused g c =
 
 pub returns-clause-sent : goal.returns-clause-sent
 returns-clause-sent g c =
-    let h = header_seen c.args.protected in
+    let h = header_view c.args.protected in
     let payload = c.args.payload.items in
-    let is : sign1_seen c.payload-unsigned.result ≡ unsigned h payload =
-    c.payload-unsigned.ensures ∙ ap (λ (m : Sign1Seen). record m { payload = Some payload })
-    (c.protected.ensures ∙ ap (λ (m : Sign1Seen). record m { protected = unread h }) c.new.ensures) in
+    let is : sign1_view c.payload-unsigned.result ≡ unsigned h payload =
+    c.payload-unsigned.ensures ∙ ap (λ (m : Sign1View). record m { payload = Some payload })
+    (c.protected.ensures ∙ ap (λ (m : Sign1View). record m { protected = unread h }) c.new.ensures) in
     let signature = made (g.K.SigningKey.signs c.args.key.now) (g.K.SigningKey.refuses c.args.key.now) _ _ c.in_ok-signed.ensures
     (λ p r h. record { signed = search (rules, of_calls); refused = search (rules, of_calls) }) in
     let s = signature.0.items in
-    let built : sign1_seen c.build.result ≡ with_signature s (unsigned h payload) = ap sign1_seen c.build.ensures ∙ (signature.1 ∙ ap (with_signature s) is) in
+    let built : sign1_view c.build.result ≡ with_signature s (unsigned h payload) = ap sign1_view c.build.ensures ∙ (signature.1 ∙ ap (with_signature s) is) in
     record {
       message = with_signature s (unsigned h payload);
       written = subst (λ m. IsWritten sign1 m c.in_ok-token.token.items) built c.in_ok-token.ensures;
       read = (
-        sign1_seen c.in_ok-from_slice.field-0,
+        sign1_view c.in_ok-from_slice.field-0,
         subst
-            (λ b. Describes sign1 b (sign1_seen c.in_ok-from_slice.field-0)) c.deref.ensures.value c.in_ok-from_slice.ensures.read,
+            (λ b. Describes sign1 b (sign1_view c.in_ok-from_slice.field-0)) c.deref.ensures.value c.in_ok-from_slice.ensures.read,
       );
       carried = refl;
       signed = (signature.2.0, subst (λ m. IsStructure (sign1_carried m c.args.external_aad.now) signature.2.0) is signature.2.1, signature.2.2);

@@ -5,7 +5,7 @@ use Rattle.coset_codec.specs.Lists.{EachWith}
 use Rattle.coset_codec.specs.declared.error.CoseError.{CoseError}
 use Rattle.coset_codec.proofs.Lists.{on_err}
 use Rattle.coset_label.specs.declared.ordering.CborOrdering.TheVariants.{Lexicographic}
-use Rattle.coset_key.specs.Keys.{KeySeen, key_set}
+use Rattle.coset_key.specs.Keys.{KeyView, key_set}
 use Rattle.coset_uses.specs.KeySets.{IsHeldOf}
 use Rattle.coset_uses.proofs.KeySets.{are_same, each_apart}
 use Rattle.coset_uses.proofs.key_sets.sets_hold_the_same.Goals as goal
@@ -29,8 +29,8 @@ returns-clause-same c = λ ks ls read_one read_other.
     let of_other : other.read ≡ ls = c.one_value.ensures.plain c.args.other.now other.read ls other.is_read read_other in
     let held_of_one = subst (λ x. EachWith (IsHeldOf Lexicographic) x (map (λ b. b.items) c.in_ok-one.one.items)) of_one one.each in
     let held_of_other = subst (λ x. EachWith (IsHeldOf Lexicographic) x (map (λ b. b.items) c.in_ok-other.other.items)) of_other other.each in
-    let keys_of_one = λ (k : KeySeen). c.keys_of_a_set.ensures c.args.one.now ks k read_one in
-    let keys_of_other = λ (k : KeySeen). c.keys_of_a_set.ensures c.args.other.now ls k read_other in
+    let keys_of_one = λ (k : KeyView). c.keys_of_a_set.ensures c.args.one.now ks k read_one in
+    let keys_of_other = λ (k : KeyView). c.keys_of_a_set.ensures c.args.other.now ls k read_other in
     let law = c.canonical_keys_apart.ensures Lexicographic in
     let apart = each_apart Lexicographic law ks ls _ _ keys_of_one keys_of_other held_of_one held_of_other in
     let same = are_same c.in_ok-one.one.items c.in_ok-other.other.items c.eq.result c.eq.ensures in

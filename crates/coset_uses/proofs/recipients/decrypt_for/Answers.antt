@@ -1,5 +1,5 @@
 use Rattle.std.proofs.Common.{ap, inl, inr, option_map}
-use Rattle.coset_recipient.specs.Encrypt.{encrypt_seen}
+use Rattle.coset_recipient.specs.Encrypt.{encrypt_view}
 use Rattle.coset_uses.specs.Recipients.{DecryptsFor}
 use Rattle.coset_uses.proofs.Refusing.{passed_as}
 use Rattle.coset_uses.proofs.Unwrapping.{has_content, no_key}
@@ -13,11 +13,11 @@ returns-in_err-message g c =
 
 pub returns-in_default : goal.returns-in_default
 returns-in_default g c =
-    inr (encrypt_seen c.in_ok-message.message, c.in_ok-message.ensures.read, ap (option_map (λ b. b.items)) c.in_default.is, tt)
+    inr (encrypt_view c.in_ok-message.message, c.in_ok-message.ensures.read, ap (option_map (λ b. b.items)) c.in_default.is, tt)
 
 pub returns-in_err-key : goal.returns-in_err-key
 returns-in_err-key g c =
-    let m = encrypt_seen c.in_ok-message.message in
+    let m = encrypt_view c.in_ok-message.message in
     passed_as
     (DecryptsFor g.F.FnOnce c.args.unwrap g.G.FnOnce c.args.decrypt c.args.key_id.now c.args.external_aad.now c.args.absent c.args.message.now) _ _
     c.from_residual-in_err-key.ensures.1
@@ -26,7 +26,7 @@ returns-in_err-key g c =
 
 pub returns-in_err-aad : goal.returns-in_err-aad
 returns-in_err-aad g c =
-    let m = encrypt_seen c.in_ok-message.message in
+    let m = encrypt_view c.in_ok-message.message in
     passed_as
     (DecryptsFor g.F.FnOnce c.args.unwrap g.G.FnOnce c.args.decrypt c.args.key_id.now c.args.external_aad.now c.args.absent c.args.message.now) _ _
     c.from_residual-in_err-aad.ensures.1
@@ -35,7 +35,7 @@ returns-in_err-aad g c =
 
 pub returns-in-Ok : goal.returns-in-Ok
 returns-in-Ok g c = (
-  encrypt_seen c.in_ok-message.message,
+  encrypt_view c.in_ok-message.message,
   c.in_ok-message.ensures.read,
   (
     c.in_ok-key.key,
@@ -60,7 +60,7 @@ returns-in-Ok g c = (
 
 pub returns : goal.returns
 returns g c = (
-  encrypt_seen c.in_ok-message.message,
+  encrypt_view c.in_ok-message.message,
   c.in_ok-message.ensures.read,
   inr (inr (
     c.in_ok-key.key,

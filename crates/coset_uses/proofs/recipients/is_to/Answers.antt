@@ -1,5 +1,5 @@
 use Rattle.std.proofs.Common.{◌∙◌, ap, sym}
-use Rattle.coset_recipient.specs.RecipientView.{recipient-unrolled}
+use Rattle.coset_recipient.specs.RecipientViews.{recipient-unrolled}
 use Rattle.coset_uses.specs.Recipients.{is_to}
 use Rattle.coset_uses.proofs.recipients.is_to.Goals as goal
 

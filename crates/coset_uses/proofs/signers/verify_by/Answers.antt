@@ -1,8 +1,8 @@
 use Rattle.std.proofs.Common.{◌≡◌, ◌∙◌, ℕ, List, Option, inl, refl, sym, map, subst}
 use Rattle.std.specs.List.{position_from}
 use Rattle.coset_core.specs.declared.signature.CoseSignature.{CoseSignature}
-use Rattle.coset_core.specs.Views.{signature_seen}
-use Rattle.coset_sign.specs.Sign.{sign_seen}
+use Rattle.coset_core.specs.Views.{signature_view}
+use Rattle.coset_sign.specs.Sign.{sign_view}
 use Rattle.coset_uses.specs.Signers.{VerifiesBy, is_by}
 use Rattle.coset_uses.proofs.Refusing.{passed_as}
 use Rattle.coset_uses.proofs.Signing.{at_number, no_number, not_verified_by, within}
@@ -10,9 +10,9 @@ use Rattle.coset_uses.proofs.signers.verify_by.Goals as goal
 
 -- what is known of the number, as of the message's signatures
 numbered :
-    (key_id : List ℕ) (o : Option ℕ) (all given : List CoseSignature) → given ≡ all → o ≡ position_from (is_by key_id) 0 (map signature_seen given)
-    → position_from (is_by key_id) 0 (map signature_seen all) ≡ o
-numbered key_id o all given same e = sym (subst (λ xs. o ≡ position_from (is_by key_id) 0 (map signature_seen xs)) same e)
+    (key_id : List ℕ) (o : Option ℕ) (all given : List CoseSignature) → given ≡ all → o ≡ position_from (is_by key_id) 0 (map signature_view given)
+    → position_from (is_by key_id) 0 (map signature_view all) ≡ o
+numbered key_id o all given same e = sym (subst (λ xs. o ≡ position_from (is_by key_id) 0 (map signature_view xs)) same e)
 
 pub returns-in_err-message : goal.returns-in_err-message
 returns-in_err-message g c =
@@ -21,7 +21,7 @@ returns-in_err-message g c =
 
 pub returns-in_default : goal.returns-in_default
 returns-in_default g c =
-    let m = sign_seen c.in_ok-message.message in (
+    let m = sign_view c.in_ok-message.message in (
       m,
       c.in_ok-message.ensures.read,
       inl (
@@ -33,14 +33,14 @@ returns-in_default g c =
 
 pub verify_signature-requires-clause-there : goal.verify_signature-requires-clause-there
 verify_signature-requires-clause-there g c =
-    let m = sign_seen c.in_ok-message.message in
+    let m = sign_view c.in_ok-message.message in
     let found = at_number (is_by c.args.key_id.now) m.signatures c.in-Some.number
     (numbered c.args.key_id.now _ _ _ c.deref.ensures.value c.number_by.ensures ∙ c.in-Some.is) in
-    within signature_seen c.in_ok-message.message.signatures.items c.in-Some.number found.0 found.1
+    within signature_view c.in_ok-message.message.signatures.items c.in-Some.number found.0 found.1
 
 pub returns-in_err-verify_signature : goal.returns-in_err-verify_signature
 returns-in_err-verify_signature g c =
-    let m = sign_seen c.in_ok-message.message in
+    let m = sign_view c.in_ok-message.message in
     let found = at_number (is_by c.args.key_id.now) m.signatures c.in-Some.number
     (numbered c.args.key_id.now _ _ _ c.deref.ensures.value c.number_by.ensures ∙ c.in-Some.is) in
     passed_as (VerifiesBy g.F.FnOnce c.args.verify c.args.key_id.now c.args.external_aad.now c.args.absent c.args.message.now) _ _
@@ -50,7 +50,7 @@ returns-in_err-verify_signature g c =
 
 pub returns : goal.returns
 returns g c =
-    let m = sign_seen c.in_ok-message.message in
+    let m = sign_view c.in_ok-message.message in
     let found = at_number (is_by c.args.key_id.now) m.signatures c.in-Some.number
     (numbered c.args.key_id.now _ _ _ c.deref.ensures.value c.number_by.ensures ∙ c.in-Some.is) in
     (c.in_ok-message.ensures.read, (found.0, found.2, c.in_ok-verify_signature.ensures found.0 found.1))

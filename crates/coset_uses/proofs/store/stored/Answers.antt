@@ -1,4 +1,4 @@
-use Rattle.coset_key.specs.Keys.{key, key_seen}
+use Rattle.coset_key.specs.Keys.{key, key_view}
 use Rattle.coset_codec.specs.ShapeLaws.{some-none}
 use Rattle.coset_codec.specs.Answers.{IsRefused}
 use Rattle.coset_uses.proofs.Refusing.{passed, written}
@@ -15,6 +15,6 @@ returns-in_err-canonicalize-clause-refused c = passed (IsRefused key c.args.byte
 pub returns-clause-refused : goal.returns-clause-refused
 returns-clause-refused c =
     let read = c.in_ok-key.ensures.read in
-    let again = c.canonical_keys_read_again.ensures c.args.ordering read.0 (key_seen c.in_ok-key.key)
-    (key_seen c.canonicalize.new.self) read.2 read.1.1 c.in_ok-canonicalize.ensures.canonical in
+    let again = c.canonical_keys_read_again.ensures c.args.ordering read.0 (key_view c.in_ok-key.key)
+    (key_view c.canonicalize.new.self) read.2 read.1.1 c.in_ok-canonicalize.ensures.canonical in
     written _ _ _ _ (λ e. some-none again.1 e) c.to_vec.ensures

@@ -11,4 +11,4 @@ invariant_of-result c = record { checked = (array_content c.args.self.now.bytes.
 pub returns : goal.returns
 returns c =
     let is = array_content c.args.self.now.bytes.now c.in_ok-rest.rest.now c.args.self.now.checked c.in_ok-rest.ensures in
-    record { items = is.seen; bytes = is.held }
+    record { items = is.view; bytes = is.held }

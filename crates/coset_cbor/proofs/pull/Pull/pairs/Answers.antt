@@ -11,4 +11,4 @@ invariant_of-result c = record { checked = (map_content c.args.self.now.bytes.no
 pub returns : goal.returns
 returns c =
     let is = map_content c.args.self.now.bytes.now c.in_ok-rest.rest.now c.args.self.now.checked c.in_ok-rest.ensures in
-    record { pairs = is.seen; bytes = is.held }
+    record { pairs = is.view; bytes = is.held }

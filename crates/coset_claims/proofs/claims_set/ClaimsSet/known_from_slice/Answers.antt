@@ -1,14 +1,14 @@
 use Rattle.std.proofs.Common.{map, refl, subst, sym}
-use Rattle.coset_value.specs.View.{pairs_view, view}
-use Rattle.coset_cbor.specs.Members.{pairs_left}
+use Rattle.coset_value.specs.View.{value_pairs, value_item}
+use Rattle.coset_cbor.specs.Elements.{pairs_left}
 use Rattle.coset_cbor.specs.Pulls.{pull_item}
-use Rattle.coset_codec.specs.RestLaws.{repeats-seen}
-use Rattle.coset_label.specs.Views.{label_seen, entry_seen}
+use Rattle.coset_codec.specs.RestLaws.{repeats-view}
+use Rattle.coset_label.specs.Views.{label_view, entry_view}
 use Rattle.coset_label.specs.Names.{same_name}
-use Rattle.coset_claims.specs.Claims.{claims, claims_seen}
+use Rattle.coset_claims.specs.Claims.{claims, claims_view}
 use Rattle.coset_codec.specs.Answers.{IsRefused}
 use Rattle.coset_claims.specs.Known.{known}
-use Rattle.coset_claims.proofs.ClaimSplitting.{all_known, no_claims, no_labels, repeated, told, told_not, view-Map}
+use Rattle.coset_claims.proofs.ClaimSplitting.{all_known, no_claims, no_labels, repeated, told, told_not, value_item-Map}
 use Rattle.coset_codec.proofs.Lists.{on_err}
 use Rattle.coset_claims.proofs.claims_set.ClaimsSet.known_from_slice.Goals as goal
 
@@ -26,10 +26,10 @@ returns-in_err-has_repeats-clause-refused c =
 pub returns-then-branch-clause-refused : goal.returns-then-branch-clause-refused
 returns-then-branch-clause-refused c =
     let parts = c.in_ok-parts.parts in
-    let repeats = repeats-seen label_seen view _ same_name (λ x y. refl) c.in_ok-has_repeats.field-0 parts.others.items
+    let repeats = repeats-view label_view value_item _ same_name (λ x y. refl) c.in_ok-has_repeats.field-0 parts.others.items
     (rw c.deref.ensures.value at c.in_ok-has_repeats.ensures.answer) in
     repeated c.args.bytes.now (pull_item c.in_ok-set.set) c.in_ok-set.ensures.whole (pairs_left c.in-Some.pairs) (sym c.in-Some.ensures.pairs)
-    (pairs_view parts.named.items) (map entry_seen parts.others.items) c.in_ok-parts.ensures
+    (value_pairs parts.named.items) (map entry_view parts.others.items) c.in_ok-parts.ensures
     (told_not c.in_ok-has_repeats.field-0 _ repeats c.if-branch.true)
 
 pub returns-in_err-claims-clause-refused : goal.returns-in_err-claims-clause-refused
@@ -38,15 +38,15 @@ returns-in_err-claims-clause-refused c =
     let e = c.in_err-claims.field-0.0 in
     on_err _ e (IsRefused known c.args.bytes.now) c.from_residual-in_err-claims.ensures.1
     (no_claims c.args.bytes.now (pull_item c.in_ok-set.set) c.in_ok-set.ensures.whole (pairs_left c.in-Some.pairs) (sym c.in-Some.ensures.pairs)
-    (pairs_view parts.named.items) (map entry_seen parts.others.items) c.in_ok-parts.ensures e
-    (λ n. subst (λ w. claims.faults w e) (view-Map parts.named) (c.in_err-claims.ensures n)))
+    (value_pairs parts.named.items) (map entry_view parts.others.items) c.in_ok-parts.ensures e
+    (λ n. subst (λ w. claims.faults w e) (value_item-Map parts.named) (c.in_err-claims.ensures.read n)))
 
 pub returns-clause-read : goal.returns-clause-read
 returns-clause-read c =
     let parts = c.in_ok-parts.parts in
-    let x = claims_seen c.in_ok-claims.claims in
-    let repeats = repeats-seen label_seen view _ same_name (λ x y. refl) c.in_ok-has_repeats.field-0 parts.others.items
+    let x = claims_view c.in_ok-claims.claims in
+    let repeats = repeats-view label_view value_item _ same_name (λ x y. refl) c.in_ok-has_repeats.field-0 parts.others.items
     (rw c.deref.ensures.value at c.in_ok-has_repeats.ensures.answer) in
     all_known c.args.bytes.now (pull_item c.in_ok-set.set) c.in_ok-set.ensures.whole (pairs_left c.in-Some.pairs) (sym c.in-Some.ensures.pairs)
-    (pairs_view parts.named.items) (map entry_seen parts.others.items) x c.in_ok-parts.ensures
-    (told c.in_ok-has_repeats.field-0 _ repeats c.if-branch.false) (subst (λ w. claims.describes w x) (view-Map parts.named) c.in_ok-claims.ensures)
+    (value_pairs parts.named.items) (map entry_view parts.others.items) x c.in_ok-parts.ensures
+    (told c.in_ok-has_repeats.field-0 _ repeats c.if-branch.false) (subst (λ w. claims.describes w x) (value_item-Map parts.named) c.in_ok-claims.ensures.read)

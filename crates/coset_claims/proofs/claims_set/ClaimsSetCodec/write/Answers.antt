@@ -1,14 +1,14 @@
 use Rattle.std.proofs.Common.{◌≡◌, ℕ, List, ◌++◌, Some, true, rules, sym, ◌∙◌, ap, refl, append_assoc}
 use Rattle.std.specs.Prelude.{ℤ, string_bytes}
 use Rattle.coset_value.specs.Item.{integer}
-use Rattle.coset_value.specs.View.{view}
+use Rattle.coset_value.specs.View.{value_item}
 use Rattle.coset_cbor.specs.Least.{Extends}
 use Rattle.coset_codec.specs.Shape.{bstr, tstr}
 use Rattle.coset_codec.proofs.Encoding.{passes}
 use Rattle.coset_codec.proofs.EncodingMaps.{optional-put, no-field, optional-has, map-written}
 use Rattle.coset_label.specs.Names.{assigned}
-use Rattle.coset_claims.specs.Claims.{claim_name, claims, name_seen, names}
-use Rattle.coset_claims.specs.Timestamp.{timestamp, timestamp_seen}
+use Rattle.coset_claims.specs.Claims.{claim_name, claims, name_view, names}
+use Rattle.coset_claims.specs.Timestamp.{timestamp, timestamp_view}
 use Rattle.coset_claims.proofs.ClaimWriting.{timestamp-has}
 use Rattle.coset_claims.proofs.claims_set.ClaimsSetCodec.write.Goals as goal
 
@@ -37,7 +37,7 @@ returns-clause-written c =
     let s = c.args.self.now in
     let label : (i j : ℤ) → i ≡ j → names.shape.image (assigned j) ≡ Some (integer i) = λ i j e. ap (λ k. Some (integer k)) (sym e) in
     let f = names.shape.image in
-    map-written names name_seen view s.rest.items true _ _ _ c.write_rest.result refl
+    map-written names name_view value_item s.rest.items true _ _ _ c.write_rest.result refl
     (rw (
       c.deref.ensures.value,
       c.is_some.ensures,
@@ -61,9 +61,9 @@ returns-clause-written c =
     (optional-put f string_bytes tstr.image s.issuer (label _ _ ((search rules) ∙ c.to_i64.ensures)) c.in_ok-write_optional.ensures.ok
     (optional-put f string_bytes tstr.image s.subject (label _ _ ((search rules) ∙ c.to_i64-2.ensures)) c.in_ok-write_optional-2.ensures.ok
     (optional-put f string_bytes tstr.image s.audience (label _ _ ((search rules) ∙ c.to_i64-3.ensures)) c.in_ok-write_optional-3.ensures.ok
-    (optional-put f timestamp_seen timestamp.image s.expiration_time (label _ _ ((search rules) ∙ c.to_i64-4.ensures)) c.in_ok-write_optional-4.ensures.ok
-    (optional-put f timestamp_seen timestamp.image s.not_before (label _ _ ((search rules) ∙ c.to_i64-5.ensures)) c.in_ok-write_optional-5.ensures.ok
-    (optional-put f timestamp_seen timestamp.image s.issued_at (label _ _ ((search rules) ∙ c.to_i64-6.ensures)) c.in_ok-write_optional-6.ensures.ok
+    (optional-put f timestamp_view timestamp.image s.expiration_time (label _ _ ((search rules) ∙ c.to_i64-4.ensures)) c.in_ok-write_optional-4.ensures.ok
+    (optional-put f timestamp_view timestamp.image s.not_before (label _ _ ((search rules) ∙ c.to_i64-5.ensures)) c.in_ok-write_optional-5.ensures.ok
+    (optional-put f timestamp_view timestamp.image s.issued_at (label _ _ ((search rules) ∙ c.to_i64-6.ensures)) c.in_ok-write_optional-6.ensures.ok
     (optional-put f (λ b. b.items) bstr.image s.cwt_id (label _ _ ((search rules) ∙ c.to_i64-7.ensures)) c.in_ok-write_optional-7.ensures.ok
     (no-field f c.write_optional-7.new.out.items))))))))
     (rw c.deref-2.ensures.value at c.write_rest.ensures.ok) (rw c.deref-2.ensures.value at c.write_rest.ensures.refused)

@@ -8,9 +8,9 @@ use Rattle.coset_codec.proofs.read.map.read_pairs.Given as goal
 abbrev pub invariant-loop-label : goal.invariant-loop-label
 invariant-loop-label g l = record {
   shrinks : length_left (state l.input) ≤ length_left (state l.fn.input);
-  reads : (all ps : Pairs) (z : State) → Walks _ _ g.G.Gather.names g.G.Gather.fields all (g.G.Gather.seen l.fn.so_far) ps
+  reads : (all ps : Pairs) (z : State) → Walks _ _ g.G.MapVisitor.names g.G.MapVisitor.fields all (g.G.MapVisitor.view l.fn.so_far) ps
       → PairsWithin l.fn.pairs ps (state l.fn.input) z
-      → Midway _ _ g.G.Gather.names g.G.Gather.fields all (g.G.Gather.seen l.so_far) (state l.input) z l.pairs;
+      → Midway _ _ g.G.MapVisitor.names g.G.MapVisitor.fields all (g.G.MapVisitor.view l.so_far) (state l.input) z l.pairs;
 }
 
 abbrev pub decreases-loop-label : goal.decreases-loop-label

@@ -1,11 +1,11 @@
 use Rattle.coset_cbor.specs.Grammar.{IsEncoding}
-use Rattle.coset_value.specs.View.{view}
+use Rattle.coset_value.specs.View.{value_item}
 use Rattle.coset_codec.proofs.Encoding.{read-back}
 use Rattle.coset_codec.proofs.write.encode.encode_to_value.Goals as goal
 
 pub returns : goal.returns
 returns g c =
-    let x = view c.in-Some.read in
+    let x = value_item c.in-Some.read in
     let found = rw c.in-Some.is at c.in_ok-read.ensures in
     let read : IsEncoding x c.in_ok-encoded.encoded.items = rw c.deref.ensures.value at found in
     read-back c.shortest_is_encoding.ensures c.one_item.ensures x c.in_ok-encoded.ensures read

@@ -1,5 +1,5 @@
 use Rattle.std.proofs.Common.{refl, arith}
-use Rattle.coset_value.specs.View.{view}
+use Rattle.coset_value.specs.View.{value_item}
 use Rattle.coset_value.specs.Item.{no_pairs}
 use Rattle.coset_codec.proofs.Lists.{on_err}
 use Rattle.coset_codec.proofs.EncodingMaps.{item-is, label-added, nothing-added, row-added, row-none}
@@ -13,11 +13,11 @@ returns-in_err-encode-clause-refused g c =
     on_err c.from_residual.result c.in_err-encode.field-0.0 _ c.from_residual.ensures.1
     (λ n. let p = c.in_err-encode.ensures.written n in (
       p.0,
-      row-none g.L.Encode.image view c.args.rest.now c.loop-label.label-index c.loop-label-item.result
+      row-none g.L.Encode.image value_item c.args.rest.now c.loop-label.label-index c.loop-label-item.result
           (omega arith) c.loop-label-item.is p.1,
     ))
 
 pub loop-label-preserved : goal.loop-label-preserved
 loop-label-preserved g c =
-    row-added g.L.Encode.image (λ e. (e.0, view e.1)) c.args.rest.now c.loop-label.label-index c.loop-label-item.result
+    row-added g.L.Encode.image (λ e. (e.0, value_item e.1)) c.args.rest.now c.loop-label.label-index c.loop-label-item.result
     (omega arith) c.loop-label-item.is c.loop-label.invariant (label-added c.in_ok-encode.ensures.written (item-is c.in_ok-encode-2.ensures.written))

@@ -1,8 +1,8 @@
 use Rattle.std.proofs.Common.{ap, sym, ◌∙◌}
 use Rattle.std.specs.Map.{lookup}
-use Rattle.coset_value.specs.View.{view}
-use Rattle.coset_codec.proofs.Finding.{found_seen}
-use Rattle.coset_label.specs.Views.{label_seen}
+use Rattle.coset_value.specs.View.{value_item}
+use Rattle.coset_codec.proofs.Finding.{found_view}
+use Rattle.coset_label.specs.Views.{label_view}
 use Rattle.coset_label.specs.Names.{same_name}
 use Rattle.coset_core.specs.Headers.{fields_in}
 use Rattle.coset_core.specs.ViewLaws.{header-opened}
@@ -12,6 +12,6 @@ use Rattle.coset_core.proofs.header.Header.get.Goals as goal
 pub returns : goal.returns
 returns c =
     let h = c.args.self.now in
-    let label = label_seen c.args.label.now in
-    found_seen label_seen view (same_name label) (out-Header h).rest.items c.find_value.result (rw c.deref.ensures.value at c.find_value.ensures)
+    let label = label_view c.args.label.now in
+    found_view label_view value_item (same_name label) (out-Header h).rest.items c.find_value.result (rw c.deref.ensures.value at c.find_value.ensures)
     ∙ sym (ap (λ x. lookup (same_name label) (fields_in x).rest) (header-opened h))

@@ -1,6 +1,6 @@
 use Rattle.std.proofs.Common.{sym, subst}
 use Rattle.coset_codec.specs.Inputs.{state}
-use Rattle.coset_core.specs.FieldsView.{fields_seen}
+use Rattle.coset_core.specs.FieldViews.{fields_view}
 use Rattle.coset_core.specs.Filling.{FillsFields}
 use Rattle.coset_core.proofs.Filling.{distinct, repeats}
 use Rattle.coset_core.proofs.header.reading.fill_fields.Goals as goal
@@ -8,7 +8,7 @@ use Rattle.coset_core.proofs.header.reading.fill_fields.Goals.{in-Ok, in-Err}
 
 pub returns-clause-fills : goal.returns-clause-fills
 returns-clause-fills c = λ all ps o z walks within.
-    let f = fields_seen c.fill_until_signatures-filled.new.header in
+    let f = fields_view c.fill_until_signatures-filled.new.header in
     let m = c.fill_until_signatures-filled.new.pairs in
     let some = c.fill_until_signatures-filled.ensures.fills all ps o z walks within in
     subst (FillsFields all o z f (state c.match-ask_distinct.input) m) (sym c.store_error.ensures.answers)

@@ -1,23 +1,23 @@
 use Rattle.std.proofs.Common.{refl, ◌∙◌, arith}
 use Rattle.coset_codec.specs.Inputs.{state}
 use Rattle.coset_codec.proofs.Inputs.{pairs_fewer, pairs_smaller}
-use Rattle.coset_core.specs.FieldsView.{fields_seen}
+use Rattle.coset_core.specs.FieldViews.{fields_view}
 use Rattle.coset_core.proofs.Filling.{at_held, at_end, at_key, on_value, at_value, stops}
 use Rattle.coset_core.proofs.header.reading.fill_until_signatures.Goals as goal
 
 pub returns-in_err-label-clause-fills : goal.returns-in_err-label-clause-fills
 returns-in_err-label-clause-fills c = λ all ps o z walks within.
     let w = c.loop-label.invariant.fills all ps o z walks within in
-    stops all o (fields_seen c.loop-label.header) (state c.next_key.new.input) z c.next_key.new.self c.from_residual.result c.in_err-label.field-0.0
+    stops all o (fields_view c.loop-label.header) (state c.next_key.new.input) z c.next_key.new.self c.from_residual.result c.in_err-label.field-0.0
     c.from_residual.ensures.1
-    (at_key all o (fields_seen c.loop-label.header) (state c.loop-label.input)
+    (at_key all o (fields_view c.loop-label.header) (state c.loop-label.input)
     (state c.next_key.new.input) z c.loop-label.pairs c.next_key.new.self c.in_err-label.field-0.0 w (c.in_err-label.ensures.nexts w.left z w.within))
 
 pub returns-in-Some-version_of-clause-fills : goal.returns-in-Some-version_of-clause-fills
 returns-in-Some-version_of-clause-fills c = λ all ps o z walks within.
     let w = c.loop-label.invariant.fills all ps o z walks within in
     let next = rw c.in-Some.is at c.in_ok-label.ensures.nexts in
-    at_held c.in-Some-version_of.version all o (fields_seen c.loop-label.header) (state c.loop-label.input)
+    at_held c.in-Some-version_of.version all o (fields_view c.loop-label.header) (state c.loop-label.input)
     (state c.next_key.new.input) z c.loop-label.pairs c.next_key.new.self c.in-Some.label w (next w.left z w.within)
     (rw c.in-Some-version_of.is at c.version_of.ensures)
 
@@ -44,7 +44,7 @@ loop-label-preserved c = record {
   fills = λ all ps o z walks within.
       let w = c.loop-label.invariant.fills all ps o z walks within in
       let next = rw c.in-Some.is at c.in_ok-label.ensures.nexts in
-      on_value all o (fields_seen c.loop-label.header) (fields_seen c.set_parameter.new.header) (state c.loop-label.input) (state c.next_key.new.input)
+      on_value all o (fields_view c.loop-label.header) (fields_view c.set_parameter.new.header) (state c.loop-label.input) (state c.next_key.new.input)
       (state c.set_parameter.new.input) z c.loop-label.pairs c.next_key.new.self
       c.in-Some.label w (next w.left z w.within) (c.in_ok-set_parameter.ensures.takes o);
 }
@@ -53,10 +53,10 @@ pub returns-in_err-set_parameter-clause-fills : goal.returns-in_err-set_paramete
 returns-in_err-set_parameter-clause-fills c = λ all ps o z walks within.
     let w = c.loop-label.invariant.fills all ps o z walks within in
     let next = rw c.in-Some.is at c.in_ok-label.ensures.nexts in
-    stops all o (fields_seen c.set_parameter.new.header) (state c.set_parameter.new.input) z c.next_key.new.self c.from_residual-in_err-set_parameter.result
+    stops all o (fields_view c.set_parameter.new.header) (state c.set_parameter.new.input) z c.next_key.new.self c.from_residual-in_err-set_parameter.result
     c.in_err-set_parameter.field-0.0
     c.from_residual-in_err-set_parameter.ensures.1
-    (at_value all o (fields_seen c.loop-label.header) (fields_seen c.set_parameter.new.header) (state c.loop-label.input) (state c.next_key.new.input)
+    (at_value all o (fields_view c.loop-label.header) (fields_view c.set_parameter.new.header) (state c.loop-label.input) (state c.next_key.new.input)
     (state c.set_parameter.new.input) z c.loop-label.pairs c.next_key.new.self
     c.in-Some.label c.in_err-set_parameter.field-0.0 w (next w.left z w.within) c.in_err-set_parameter.ensures.kept (c.in_err-set_parameter.ensures.refused o))
 
@@ -64,5 +64,5 @@ pub returns-clause-fills : goal.returns-clause-fills
 returns-clause-fills c = λ all ps o z walks within.
     let w = c.loop-label.invariant.fills all ps o z walks within in
     let next = rw c.in_default.is at c.in_ok-label.ensures.nexts in
-    at_end all o (fields_seen c.loop-label.header) (state c.loop-label.input) (state c.next_key.new.input) z c.loop-label.pairs c.next_key.new.self w
+    at_end all o (fields_view c.loop-label.header) (state c.loop-label.input) (state c.next_key.new.input) z c.loop-label.pairs c.next_key.new.self w
     (next w.left z w.within)

@@ -1,7 +1,7 @@
 use Rattle.std.proofs.Common.{refl}
-use Rattle.coset_value.specs.View.{view}
-use Rattle.coset_codec.specs.RestLaws.{repeated-seen, distinct-seen}
-use Rattle.coset_label.specs.Views.{label_seen}
+use Rattle.coset_value.specs.View.{value_item}
+use Rattle.coset_codec.specs.RestLaws.{repeated-view, distinct-view}
+use Rattle.coset_label.specs.Views.{label_view}
 use Rattle.coset_label.specs.Names.{same_name}
 use Rattle.coset_core.proofs.header.writing.ask_distinct.Goals as goal
 
@@ -9,10 +9,10 @@ pub returns-then-branch-clause-refused : goal.returns-then-branch-clause-refused
 returns-then-branch-clause-refused c =
     λ _. (
       refl,
-      repeated-seen label_seen view _ same_name
+      repeated-view label_view value_item _ same_name
           (λ x y. refl) c.in_ok-has_repeats.field-0 c.args.rest.now c.in_ok-has_repeats.ensures.answer c.if-branch.true,
     )
 
 pub returns-clause-ok : goal.returns-clause-ok
-returns-clause-ok c = distinct-seen label_seen view _ same_name
+returns-clause-ok c = distinct-view label_view value_item _ same_name
     (λ x y. refl) c.in_ok-has_repeats.field-0 c.args.rest.now c.in_ok-has_repeats.ensures.answer c.if-branch.false

@@ -1,26 +1,26 @@
 use Rattle.std.proofs.Common.{refl, ◌∙◌, rules}
-use Rattle.coset_codec.proofs.EncodingMaps.{optional-has, optional-seen}
+use Rattle.coset_codec.proofs.EncodingMaps.{optional-has, optional-view}
 use Rattle.coset_label.specs.Labels.{algorithm}
-use Rattle.coset_label.specs.Views.{algorithm_seen}
+use Rattle.coset_label.specs.Views.{algorithm_view}
 use Rattle.coset_label.proofs.Memory.{passed_memory}
 use Rattle.coset_core.specs.Fields.{content_type}
-use Rattle.coset_core.specs.Views.{content_type_seen}
+use Rattle.coset_core.specs.Views.{content_type_view}
 use Rattle.coset_core.specs.declared.header.Header.{out-Header}
-use Rattle.coset_core.proofs.WritingHeaders.{algorithm-has, content_type-has, field-seen}
+use Rattle.coset_core.proofs.WritingHeaders.{algorithm-has, content_type-has, field-view}
 use Rattle.coset_core.proofs.header.writing.write_fields.Goals as goal
 
 pub returns-in_err-write_optional-clause-memory : goal.returns-in_err-write_optional-clause-memory
 unfolding algorithm
 returns-in_err-write_optional-clause-memory c =
     passed_memory c.from_residual.result _ _ c.from_residual.ensures.1
-    (optional-has (λ l. algorithm.image (algorithm_seen l)) (λ l. algorithm-has (algorithm_seen l))
+    (optional-has (λ l. algorithm.image (algorithm_view l)) (λ l. algorithm-has (algorithm_view l))
     (out-Header c.args.header.now).alg) c.in_err-write_optional.ensures.refused
 
 pub returns-in_err-write_optional-2-clause-memory : goal.returns-in_err-write_optional-2-clause-memory
 unfolding content_type
 returns-in_err-write_optional-2-clause-memory c =
     passed_memory c.from_residual-in_err-write_optional-2.result _ _ c.from_residual-in_err-write_optional-2.ensures.1
-    (optional-has (λ l. content_type.image (content_type_seen l)) (λ l. content_type-has (content_type_seen l))
+    (optional-has (λ l. content_type.image (content_type_view l)) (λ l. content_type-has (content_type_view l))
     (out-Header c.args.header.now).content_type) c.in_err-write_optional-2.ensures.refused
 
 pub returns-clause-ok : goal.returns-clause-ok
@@ -33,11 +33,11 @@ returns-clause-ok c =
       behind_content_type = c.write_optional-2.new.out.items;
       behind_kid = c.write_nonempty.new.out.items;
       behind_iv = c.write_nonempty-2.new.out.items;
-      alg = field-seen _ _ ((search rules) ∙ c.to_i64.ensures) (optional-seen algorithm_seen algorithm.image x.alg) c.in_ok-write_optional.ensures.ok;
+      alg = field-view _ _ ((search rules) ∙ c.to_i64.ensures) (optional-view algorithm_view algorithm.image x.alg) c.in_ok-write_optional.ensures.ok;
       crit = rw c.deref.ensures.value at c.in_ok-write_critical.ensures.ok;
-      content_type = field-seen _ _ ((search rules) ∙ c.to_i64-2.ensures)
-          (optional-seen content_type_seen content_type.image x.content_type) c.in_ok-write_optional-2.ensures.ok;
-      key_id = field-seen _ _ ((search rules) ∙ c.to_i64-3.ensures) refl c.in_ok-write_nonempty.ensures.ok;
-      iv = field-seen _ _ ((search rules) ∙ c.to_i64-4.ensures) refl c.in_ok-write_nonempty-2.ensures.ok;
-      partial_iv = field-seen _ _ ((search rules) ∙ c.to_i64-5.ensures) refl c.in_ok-write_nonempty-3.ensures.ok;
+      content_type = field-view _ _ ((search rules) ∙ c.to_i64-2.ensures)
+          (optional-view content_type_view content_type.image x.content_type) c.in_ok-write_optional-2.ensures.ok;
+      key_id = field-view _ _ ((search rules) ∙ c.to_i64-3.ensures) refl c.in_ok-write_nonempty.ensures.ok;
+      iv = field-view _ _ ((search rules) ∙ c.to_i64-4.ensures) refl c.in_ok-write_nonempty-2.ensures.ok;
+      partial_iv = field-view _ _ ((search rules) ∙ c.to_i64-5.ensures) refl c.in_ok-write_nonempty-3.ensures.ok;
     }

@@ -1,24 +1,24 @@
 use Rattle.std.proofs.Common.{◌≡◌, ℤ, Some, true, map, refl, sym, ◌∙◌, ap, rules}
 use Rattle.coset_value.specs.Item.{integer}
-use Rattle.coset_value.specs.View.{view}
-use Rattle.coset_codec.specs.RestLaws.{as_seen, repeated-seen, distinct-seen, no-entries}
+use Rattle.coset_value.specs.View.{value_item}
+use Rattle.coset_codec.specs.RestLaws.{as_view, repeated-view, distinct-view, no-entries}
 use Rattle.coset_codec.specs.Shape.{nonempty_bstr}
 use Rattle.coset_codec.proofs.Encoding.{passes}
 use Rattle.coset_codec.proofs.EncodingMaps.{no-field, field-put, optional-put, listed-put, optional-has, filled-there, map-written}
 use Rattle.coset_label.specs.Names.{number, same_name}
-use Rattle.coset_label.specs.Views.{label_seen, algorithm_seen}
+use Rattle.coset_label.specs.Views.{label_view, algorithm_view}
 use Rattle.coset_label.specs.Labels.{algorithm, names}
-use Rattle.coset_key.specs.Keys.{key, key_type, key_ops, kty_seen, operation_seen}
+use Rattle.coset_key.specs.Keys.{key, key_type, key_ops, kty_view, operation_view}
 use Rattle.coset_key.proofs.Writing.{algorithm-has, set-there}
 use Rattle.coset_key.proofs.key.CoseKeyCodec.write.Goals as goal
 
 pub returns-then-branch-clause-written : goal.returns-then-branch-clause-written
 unfolding key
 returns-then-branch-clause-written c =
-    let params = map (as_seen label_seen view) c.args.self.now.params.items in
+    let params = map (as_view label_view value_item) c.args.self.now.params.items in
     λ _. (
       refl,
-      no-entries names params _ (repeated-seen label_seen view _ same_name (λ x y. refl) c.in_ok-has_repeats.field-0 c.args.self.now.params.items
+      no-entries names params _ (repeated-view label_view value_item _ same_name (λ x y. refl) c.in_ok-has_repeats.field-0 c.args.self.now.params.items
           (rw c.deref.ensures.value at c.in_ok-has_repeats.ensures.answer) c.if-branch.true),
     )
 
@@ -26,25 +26,25 @@ pub returns-in_err-write_optional-clause-written : goal.returns-in_err-write_opt
 unfolding algorithm
 returns-in_err-write_optional-clause-written c =
     passes c.from_residual-in_err-write_optional.result _ _ c.from_residual-in_err-write_optional.ensures.1 c.in_err-write_optional.ensures.refused
-    (λ e. absurd (optional-has (λ l. algorithm.image (algorithm_seen l)) (λ l. algorithm-has (algorithm_seen l)) c.args.self.now.alg e))
+    (λ e. absurd (optional-has (λ l. algorithm.image (algorithm_view l)) (λ l. algorithm-has (algorithm_view l)) c.args.self.now.alg e))
 
 pub returns-clause-written : goal.returns-clause-written
 unfolding key key_type algorithm
 returns-clause-written c =
     let k = c.args.self.now in
-    let distinct = distinct-seen label_seen view _ same_name (λ x y. refl) c.in_ok-has_repeats.field-0 k.params.items
+    let distinct = distinct-view label_view value_item _ same_name (λ x y. refl) c.in_ok-has_repeats.field-0 k.params.items
     (rw c.deref.ensures.value at c.in_ok-has_repeats.ensures.answer) c.if-branch.false in
     let f = names.shape.image in
     let named : (i j : ℤ) → i ≡ j → f (number j) ≡ Some (integer i) = λ i j e. ap (λ k. Some (integer k)) (sym e) in
-    map-written names label_seen view k.params.items _ _ _ _ c.write_rest.result distinct
+    map-written names label_view value_item k.params.items _ _ _ _ c.write_rest.result distinct
     (rw (c.deref-2.ensures.value, c.is_some.ensures) at c.in_ok-write_pairs_head.ensures.fits)
     (rw (c.deref-2.ensures.value, c.is_some.ensures) at c.in_ok-write_pairs_head.ensures.ok)
-    (field-put f true (key_type.image (kty_seen k.kty)) (named _ _ ((search rules) ∙ c.to_i64.ensures)) c.in_ok-write_field.ensures.ok
+    (field-put f true (key_type.image (kty_view k.kty)) (named _ _ ((search rules) ∙ c.to_i64.ensures)) c.in_ok-write_field.ensures.ok
     (listed-put f nonempty_bstr.image k.key_id.items _ (filled-there k.key_id.items c.is_empty.result (search rules))
     (named _ _ ((search rules) ∙ c.to_i64-2.ensures)) c.in_ok-write_nonempty.ensures.ok
-    (optional-put f algorithm_seen algorithm.image k.alg (named _ _ ((search rules) ∙ c.to_i64-3.ensures)) c.in_ok-write_optional.ensures.ok
-    (listed-put f key_ops.image (map operation_seen k.key_ops.keys) _
-    (set-there operation_seen k.key_ops.keys c.is_empty-2.result c.is_empty-2.ensures.0 c.is_empty-2.ensures.1) refl c.in_ok-write_key_ops.ensures.ok
+    (optional-put f algorithm_view algorithm.image k.alg (named _ _ ((search rules) ∙ c.to_i64-3.ensures)) c.in_ok-write_optional.ensures.ok
+    (listed-put f key_ops.image (map operation_view k.key_ops.keys) _
+    (set-there operation_view k.key_ops.keys c.is_empty-2.result c.is_empty-2.ensures.0 c.is_empty-2.ensures.1) refl c.in_ok-write_key_ops.ensures.ok
     (listed-put f nonempty_bstr.image k.base_iv.items _ (filled-there k.base_iv.items c.is_empty-3.result (search rules))
     (named _ _ ((search rules) ∙ c.to_i64-4.ensures)) c.in_ok-write_nonempty-2.ensures.ok
     (no-field f c.write_nonempty-2.new.out.items))))))

@@ -1,13 +1,13 @@
 use Rattle.std.proofs.Common.{◌≡◌, Ok}
 use Rattle.coset_core.specs.Calls.{Creates}
-use Rattle.coset_msg.specs.Mac0.{mac0_seen, mac0_structure, with_tag}
+use Rattle.coset_msg.specs.Mac0.{mac0_view, mac0_structure, with_tag}
 use Rattle.coset_msg.proofs.Present.{if_there}
 use Rattle.coset_msg.proofs.mac0.CoseMac0Builder.create_tag.Goals as goal
 
 pub returns : goal.returns
 returns g c =
-    let m = mac0_seen c.args.self in
-    if_there (λ p. Creates g.F.FnOnce c.args.creator (mac0_structure m c.args.external_aad.now p) (λ t b. mac0_seen b ≡ with_tag t.items m) (Ok c.tag.result))
+    let m = mac0_view c.args.self in
+    if_there (λ p. Creates g.F.FnOnce c.args.creator (mac0_structure m c.args.external_aad.now p) (λ t b. mac0_view b ≡ with_tag t.items m) (Ok c.tag.result))
     (rw c.self.view_is at c.carried.ensures) (
       c.in_ok-tbm.tbm.items,
       c.creator.result,

@@ -1,13 +1,13 @@
 use Rattle.std.proofs.Common.{◌≡◌, Ok}
 use Rattle.coset_core.specs.Calls.{Creates}
-use Rattle.coset_recipient.specs.Mac.{mac_seen, mac_structure_of, with_tag}
+use Rattle.coset_recipient.specs.Mac.{mac_view, mac_structure_of, with_tag}
 use Rattle.coset_msg.proofs.Present.{if_there}
 use Rattle.coset_recipient.proofs.mac.CoseMacBuilder.create_tag.Goals as goal
 
 pub returns : goal.returns
 returns g c =
-    let m = mac_seen c.args.self in
-    if_there (λ p. Creates g.F.FnOnce c.args.creator (mac_structure_of m c.args.external_aad.now p) (λ t b. mac_seen b ≡ with_tag t.items m) (Ok c.tag.result))
+    let m = mac_view c.args.self in
+    if_there (λ p. Creates g.F.FnOnce c.args.creator (mac_structure_of m c.args.external_aad.now p) (λ t b. mac_view b ≡ with_tag t.items m) (Ok c.tag.result))
     (rw c.self.view_is at c.carried.ensures) (
       c.in_ok-tbm.tbm.items,
       c.creator.result,

@@ -4,15 +4,15 @@ use Rattle.coset_codec.specs.Encoding.{Encodes, five_elements}
 use Rattle.coset_codec.specs.Shape.{bstr, or_nil, images}
 use Rattle.coset_codec.proofs.Encoding.{images-mapped}
 use Rattle.coset_core.specs.Headers.{header, protected}
-use Rattle.coset_recipient.specs.Mac.{mac_seen}
+use Rattle.coset_recipient.specs.Mac.{mac_view}
 use Rattle.coset_recipient.specs.Recipient.{recipient}
-use Rattle.coset_recipient.specs.RecipientView.{recipient_seen}
+use Rattle.coset_recipient.specs.RecipientViews.{recipient_view}
 use Rattle.coset_recipient.proofs.mac.CoseMacCodec.write.Goals as goal
 
 pub returns-clause-written : goal.returns-clause-written
 returns-clause-written c =
-    let m = mac_seen c.args.self.now in
+    let m = mac_view c.args.self.now in
     subst (λ o. Encodes (five_elements (protected.image m.protected) (header.image m.unprotected) ((or_nil bstr).image m.payload) (Some (bytes m.tag))
     (option_map array o)) c.args.out.now.items c.encode_five.new.out.items c.encode_five.result)
-    (images-mapped recipient.image recipient_seen c.deref.result.now
-    ∙ ap (λ xs. images recipient.image (map recipient_seen xs)) c.deref.ensures.value) c.encode_five.ensures.written
+    (images-mapped recipient.image recipient_view c.deref.result.now
+    ∙ ap (λ xs. images recipient.image (map recipient_view xs)) c.deref.ensures.value) c.encode_five.ensures.written

@@ -1,17 +1,17 @@
 use Rattle.std.proofs.Common.{subst, sym, ap}
 use Rattle.coset_codec.specs.ShapeLaws.{some-one}
 use Rattle.coset_core.specs.ViewLaws.{signature-opened}
-use Rattle.coset_core.specs.Views.{signature_seen}
+use Rattle.coset_core.specs.Views.{signature_view}
 use Rattle.coset_core.specs.Calls.{AsksAbout}
-use Rattle.coset_sign.specs.Sign.{sign_seen, signer_structure}
+use Rattle.coset_sign.specs.Sign.{sign_view, signer_structure}
 use Rattle.coset_sign.proofs.sign.CoseSign.verify_detached_signature.Goals as goal
 
 pub returns : goal.returns
 returns g c = λ s there.
-    let m = sign_seen c.args.self.now in
+    let m = sign_view c.args.self.now in
     let signature = c.signature-signature.result.now in
-    let structure = signer_structure m (signature_seen signature) c.args.external_aad.now c.args.payload.now in
-    let asked = rw c.deref.ensures.value at (c.ask.ensures structure c.tbs_detached_data-structure.ensures) in
-    subst (λ x. AsksAbout g.F.FnOnce c.args.verifier x.signature (signer_structure m x c.args.external_aad.now c.args.payload.now) c.ask.result)
+    let structure = signer_structure m (signature_view signature) c.args.external_aad.now c.args.payload.now in
+    let asked = rw c.deref.ensures.value at (c.verify_with.ensures structure c.tbs_detached_data-structure.ensures) in
+    subst (λ x. AsksAbout g.F.FnOnce c.args.verifier x.signature (signer_structure m x c.args.external_aad.now c.args.payload.now) c.verify_with.result)
     (some-one c.signature-signature.ensures there)
-    (subst (λ b. AsksAbout g.F.FnOnce c.args.verifier b structure c.ask.result) (sym (ap (λ x. x.signature) (signature-opened signature))) asked)
+    (subst (λ b. AsksAbout g.F.FnOnce c.args.verifier b structure c.verify_with.result) (sym (ap (λ x. x.signature) (signature-opened signature))) asked)

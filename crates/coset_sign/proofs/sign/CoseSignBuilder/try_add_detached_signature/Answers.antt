@@ -1,7 +1,7 @@
-use Rattle.coset_core.specs.Views.{signature_seen}
-use Rattle.coset_sign.specs.Sign.{sign_seen, signer_structure}
+use Rattle.coset_core.specs.Views.{signature_view}
+use Rattle.coset_sign.specs.Sign.{sign_view, signer_structure}
 use Rattle.coset_sign.proofs.sign.CoseSignBuilder.try_add_detached_signature.Goals as goal
 
 pub returns : goal.returns
-returns g c = c.try_add_signed.ensures (signer_structure (sign_seen c.args.self) (signature_seen c.args.signature) c.args.external_aad.now c.args.payload.now)
+returns g c = c.try_add_signed.ensures (signer_structure (sign_view c.args.self) (signature_view c.args.signature) c.args.external_aad.now c.args.payload.now)
     (rw c.self.view_is at c.tbs_detached_data-structure.ensures)

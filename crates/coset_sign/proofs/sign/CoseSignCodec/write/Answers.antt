@@ -4,14 +4,14 @@ use Rattle.coset_codec.specs.Encoding.{Encodes, four_elements}
 use Rattle.coset_codec.specs.Shape.{bstr, or_nil, images}
 use Rattle.coset_codec.proofs.Encoding.{images-mapped}
 use Rattle.coset_core.specs.Headers.{header, protected, signature}
-use Rattle.coset_core.specs.Views.{signature_seen}
-use Rattle.coset_sign.specs.Sign.{sign_seen}
+use Rattle.coset_core.specs.Views.{signature_view}
+use Rattle.coset_sign.specs.Sign.{sign_view}
 use Rattle.coset_sign.proofs.sign.CoseSignCodec.write.Goals as goal
 
 pub returns-clause-written : goal.returns-clause-written
 returns-clause-written c =
-    let m = sign_seen c.args.self.now in
+    let m = sign_view c.args.self.now in
     subst (λ o. Encodes (four_elements (protected.image m.protected) (header.image m.unprotected) ((or_nil bstr).image m.payload)
     (option_map array o)) c.args.out.now.items c.encode_four.new.out.items c.encode_four.result)
-    (images-mapped signature.image signature_seen c.deref.result.now
-    ∙ ap (λ xs. images signature.image (map signature_seen xs)) c.deref.ensures.value) c.encode_four.ensures.written
+    (images-mapped signature.image signature_view c.deref.result.now
+    ∙ ap (λ xs. images signature.image (map signature_view xs)) c.deref.ensures.value) c.encode_four.ensures.written

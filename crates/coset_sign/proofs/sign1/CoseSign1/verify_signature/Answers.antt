@@ -1,5 +1,6 @@
-use Rattle.coset_sign.specs.Sign1.{sign1_seen, sign1_carried}
+use Rattle.coset_sign.specs.Sign1.{sign1_view, sign1_carried}
 use Rattle.coset_sign.proofs.sign1.CoseSign1.verify_signature.Goals as goal
 
 pub returns : goal.returns
-returns g c = rw c.deref.ensures.value at (c.ask.ensures (sign1_carried (sign1_seen c.args.self.now) c.args.external_aad.now) c.tbs_data-structure.ensures)
+returns g c = rw c.deref.ensures.value at (c.verify_with.ensures (sign1_carried
+    (sign1_view c.args.self.now) c.args.external_aad.now) c.tbs_data-structure.ensures)

@@ -1,23 +1,23 @@
 use Rattle.std.proofs.Common.{◌∙◌, ap, sym, option_map}
 use Rattle.std.specs.Ordering.{is_eq}
 use Rattle.coset.specs.Names.{registered_cmp}
-use Rattle.coset.specs.Fields.{FieldsSeen}
-use Rattle.coset.specs.LabelViews.{algorithm_seen}
-use Rattle.cwt_gate.specs.Policy.{is_one_of, is_there_and, policy_seen}
+use Rattle.coset.specs.Fields.{FieldsView}
+use Rattle.coset.specs.LabelViews.{algorithm_view}
+use Rattle.cwt_gate.specs.Policy.{is_one_of, is_there_and, policy_view}
 use Rattle.cwt_gate.proofs.Opened.{any-map, opened}
 use Rattle.cwt_gate.proofs.policy.Policy.allows.Goals as goal
 
 pub returns-in-Some : goal.returns-in-Some
 returns-in-Some c =
-    let p = policy_seen c.args.self.now in
-    let name = algorithm_seen c.in-Some.algorithm in
+    let p = policy_view c.args.self.now in
+    let name = algorithm_view c.in-Some.algorithm in
     c.contains.ensures.value
-    ∙ (sym (any-map (λ m. is_eq (registered_cmp m name)) algorithm_seen c.args.self.now.algorithms.now)
-    ∙ sym (ap (λ (f : FieldsSeen). is_there_and (is_one_of p.algorithms) f.alg) (opened c.args.header.now)
-    ∙ ap (λ o. is_there_and (is_one_of p.algorithms) (option_map algorithm_seen o)) c.in-Some.is))
+    ∙ (sym (any-map (λ m. is_eq (registered_cmp m name)) algorithm_view c.args.self.now.algorithms.now)
+    ∙ sym (ap (λ (f : FieldsView). is_there_and (is_one_of p.algorithms) f.alg) (opened c.args.header.now)
+    ∙ ap (λ o. is_there_and (is_one_of p.algorithms) (option_map algorithm_view o)) c.in-Some.is))
 
 pub returns-in-None : goal.returns-in-None
 returns-in-None c =
-    let p = policy_seen c.args.self.now in
-    sym (ap (λ (f : FieldsSeen). is_there_and (is_one_of p.algorithms) f.alg) (opened c.args.header.now)
-    ∙ ap (λ o. is_there_and (is_one_of p.algorithms) (option_map algorithm_seen o)) c.in-None.is)
+    let p = policy_view c.args.self.now in
+    sym (ap (λ (f : FieldsView). is_there_and (is_one_of p.algorithms) f.alg) (opened c.args.header.now)
+    ∙ ap (λ o. is_there_and (is_one_of p.algorithms) (option_map algorithm_view o)) c.in-None.is)

@@ -3,20 +3,20 @@ use Rattle.std.specs.List.{list_all}
 use Rattle.std.proofs.lemmas.Iterator.{YieldsList-from_slice}
 use Rattle.std.proofs.lemmas.Iterator.Search.{all_from_yields_List}
 use Rattle.std.proofs.lemmas.List.{length-map}
-use Rattle.coset.specs.Fields.{FieldsSeen}
-use Rattle.coset.specs.Headers.{HeaderSeen, fields_in}
-use Rattle.coset.specs.Views.{critical_seen, header_seen, protected_seen}
+use Rattle.coset.specs.Fields.{FieldsView}
+use Rattle.coset.specs.Headers.{HeaderView, fields_in}
+use Rattle.coset.specs.Views.{critical_view, header_view, protected_view}
 use Rattle.coset.specs.Header.{out-Header}
 use Rattle.coset.specs.ProtectedHeader.{out-ProtectedHeader}
-use Rattle.cwt_gate.specs.Policy.{PolicySeen, is_understood, policy_seen}
+use Rattle.cwt_gate.specs.Policy.{PolicyView, is_understood, policy_view}
 use Rattle.cwt_gate.proofs.Opened.{all-map, opened, protected_opened}
 use Rattle.cwt_gate.proofs.policy.Policy.understands.Goals as goal
 
 -- each label that must be understood by these fields is, in the header h; and in the header of these fields
-abbrev JudgedIn : PolicySeen → HeaderSeen → FieldsSeen → Bool
+abbrev JudgedIn : PolicyView → HeaderView → FieldsView → Bool
 JudgedIn p h f = list_all (is_understood p h) f.crit
 
-abbrev Judged : PolicySeen → HeaderSeen → Bool
+abbrev Judged : PolicyView → HeaderView → Bool
 Judged p h = JudgedIn p h (fields_in h)
 
 pub returns-then-are_understood : goal.returns-then-are_understood
@@ -24,28 +24,28 @@ returns-then-are_understood c =
     let m = c.args.message.now in
     let h = (out-ProtectedHeader m.protected).header in
     let u = m.unprotected in
-    let p = policy_seen c.args.self.now in
+    let p = policy_view c.args.self.now in
     let crit = (out-Header h).crit.items in
-    let found = all_from_yields_List (λ l. is_understood p (header_seen h) (critical_seen l)) _ _ _ c.all-are_understood.ensures.ran
+    let found = all_from_yields_List (λ l. is_understood p (header_view h) (critical_view l)) _ _ _ c.all-are_understood.ensures.ran
     (YieldsList-from_slice crit cc) (λ x b q k. search (rules, tests)) in
-    let judged : Judged p (protected_seen m.protected).header ≡ true =
+    let judged : Judged p (protected_view m.protected).header ≡ true =
     ap (Judged p) (protected_opened m.protected)
-    ∙ (ap (JudgedIn p (header_seen h)) (opened h) ∙ (all-map (is_understood p (header_seen h)) critical_seen crit ∙ (sym found ∙ c.if-are_understood.true))) in
+    ∙ (ap (JudgedIn p (header_view h)) (opened h) ∙ (all-map (is_understood p (header_view h)) critical_view crit ∙ (sym found ∙ c.if-are_understood.true))) in
     let empty : c.is_empty.result ≡ (length (out-Header u).crit.items == 0) = search rules in
-    let none : (length (fields_in (header_seen u)).crit == 0) ≡ (length (out-Header u).crit.items == 0) =
-    ap (λ (f : FieldsSeen). length f.crit == 0) (opened u) ∙ simp length-map in
-    empty ∙ (sym none ∙ sym (ap (λ (t : Bool). t && length (fields_in (header_seen u)).crit == 0) judged))
+    let none : (length (fields_in (header_view u)).crit == 0) ≡ (length (out-Header u).crit.items == 0) =
+    ap (λ (f : FieldsView). length f.crit == 0) (opened u) ∙ simp length-map in
+    empty ∙ (sym none ∙ sym (ap (λ (t : Bool). t && length (fields_in (header_view u)).crit == 0) judged))
 
 pub returns-else-are_understood : goal.returns-else-are_understood
 returns-else-are_understood c =
     let m = c.args.message.now in
     let h = (out-ProtectedHeader m.protected).header in
     let u = m.unprotected in
-    let p = policy_seen c.args.self.now in
+    let p = policy_view c.args.self.now in
     let crit = (out-Header h).crit.items in
-    let found = all_from_yields_List (λ l. is_understood p (header_seen h) (critical_seen l)) _ _ _ c.all-are_understood.ensures.ran
+    let found = all_from_yields_List (λ l. is_understood p (header_view h) (critical_view l)) _ _ _ c.all-are_understood.ensures.ran
     (YieldsList-from_slice crit cc) (λ x b q k. search (rules, tests)) in
-    let judged : Judged p (protected_seen m.protected).header ≡ false =
+    let judged : Judged p (protected_view m.protected).header ≡ false =
     ap (Judged p) (protected_opened m.protected)
-    ∙ (ap (JudgedIn p (header_seen h)) (opened h) ∙ (all-map (is_understood p (header_seen h)) critical_seen crit ∙ (sym found ∙ c.if-are_understood.false))) in
-    c.if-are_understood.false ∙ sym (ap (λ (t : Bool). t && length (fields_in (header_seen u)).crit == 0) judged)
+    ∙ (ap (JudgedIn p (header_view h)) (opened h) ∙ (all-map (is_understood p (header_view h)) critical_view crit ∙ (sym found ∙ c.if-are_understood.false))) in
+    c.if-are_understood.false ∙ sym (ap (λ (t : Bool). t && length (fields_in (header_view u)).crit == 0) judged)

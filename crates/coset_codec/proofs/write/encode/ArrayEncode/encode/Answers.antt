@@ -6,5 +6,5 @@ use Rattle.coset_codec.proofs.write.encode.ArrayEncode.encode.Goals as goal
 pub returns-clause-written : goal.returns-clause-written
 returns-clause-written g c =
     let all = c.args.self.now.0.now in
-    array-encoded (images g.T.Encode.image all) (length all) _ _ _ c.encode_members.result
-    (omega arith) c.in_ok-write_array_head.ensures.ok c.encode_members.ensures.ok c.encode_members.ensures.refused
+    array-encoded (images g.T.Encode.image all) (length all) _ _ _ c.encode_elements.result
+    (omega arith) c.in_ok-write_array_head.ensures.ok c.encode_elements.ensures.ok c.encode_elements.ensures.refused

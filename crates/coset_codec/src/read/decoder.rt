@@ -1,0 +1,378 @@
+//! Reading forward: an item is read where it is, and who reads it goes just behind it, whatever is returned. So the
+//! bytes of what holds itself, as headers do, are passed once at whatever depth.
+
+ghost use Rattle.std.specs.Prelude.{◌≡◌, ◌≤◌, ◌<◌, List, ℕ, length, IfErr, IfOk, IsOkAnd, IsSome, IsTrue, OnErr, OnOk};
+ghost use Rattle.coset_value.specs.Item.{Item, null, Items, no_items, Pairs, no_pairs};
+ghost use Rattle.coset_value.specs.View.{value_item};
+ghost use Rattle.coset_cbor.specs.Grammar.{IsItem};
+ghost use Rattle.coset_codec.specs.declared.error.CoseError.TheVariants.{OutOfMemory};
+ghost use Rattle.coset_codec.specs.declared.read.decoder.ArrayElements.TheVariants as items;
+ghost use Rattle.coset_codec.specs.declared.read.decoder.MapEntries.TheVariants.{Lent};
+ghost use Rattle.coset_codec.specs.Answers.{Reads};
+ghost use Rattle.coset_codec.specs.Inputs.{State, tree, lent, state, ItemAt, GoesBehind, IsLent, length_left, input_size, items_size, pairs_size, items_turns, pairs_turns, AreWithin, PairsWithin};
+ghost use Rattle.coset_codec.specs.Inputs.{EntersArray, EntersMap, NextPlace, Nexts, NextsKey};
+ghost use Rattle.coset_codec.specs.Sources.{IsWrongLength, TakesEnd, source_item};
+
+use crate::error::{CoseError, Result};
+use crate::read::source::ItemSource;
+use crate::traits::FromPull;
+use crate::util::{cbor_type_error, pull_type_error};
+use coset_cbor::cursor::{Cursor, Remaining};
+use coset_cbor::value::Value;
+use std::alloc::Global;
+use std::{mem, vec};
+
+/// An item that is read where it is.
+#[derive(Drop)]
+pub enum Decoder<'a> {
+    /// A value, and null once it was read.
+    Tree(Value),
+    /// The place of a checked item in bytes.
+    Lent(Cursor<'a>),
+}
+
+/// The elements of an array that are still to come.
+#[derive(Drop)]
+pub enum ArrayElements {
+    /// Those of a value.
+    Tree(vec::IntoIter<Value>),
+    /// Those of an array in bytes.
+    Lent(Remaining),
+}
+
+/// The pairs of a map that are still to come.
+#[derive(Drop)]
+pub enum MapEntries {
+    /// Those of a value.
+    Tree(vec::IntoIter<(Value, Value)>),
+    /// Those of a map in bytes.
+    Lent(Remaining),
+}
+
+/// The elements of a value that is an array.
+fn tree_elements(value: Value, want: &'static str) -> Result<ArrayElements>
+    ensures deeper { IfOk result (λ m. (s : State)
+        → items_size m s < input_size (tree (value_item value))) }
+    ensures enters { EntersArray want.now (value_item value) (tree null) (tree null) result }
+{
+    match value {
+        Value::Array(elements) => Ok(ArrayElements::Tree(elements.into_iter())),
+        other => cbor_type_error(&other, want),
+    }
+}
+
+/// The pairs of a value that is a map.
+fn tree_pairs(value: Value) -> Result<MapEntries>
+    ensures deeper { IfOk result (λ m. (s : State)
+        → pairs_size m s < input_size (tree (value_item value))) }
+    ensures enters { EntersMap (value_item value) (tree null) (tree null) result }
+{
+    match value {
+        Value::Map(pairs) => Ok(MapEntries::Tree(pairs.into_iter())),
+        other => cbor_type_error(&other, "map"),
+    }
+}
+
+/// The error of an array with too few elements, or too many.
+#[cold]
+pub fn wrong_length(want: &'static str) -> CoseError
+    ensures { IsWrongLength want.now result }
+{
+    CoseError::UnexpectedItem("array", want)
+}
+
+impl<'a> Decoder<'a> {
+    /// The item that is read.
+    pub fn new(source: ItemSource<'a>) -> Decoder<'a>
+        ensures { (z : State) × ItemAt (source_item source.entry) (state result) z }
+    {
+        match source {
+            ItemSource::Tree(value) => Decoder::Tree(value),
+            ItemSource::Lent(pull) => Decoder::Lent(Cursor::new(pull.slice())),
+        }
+    }
+
+    /// The item that the bytes are.
+    pub fn of_bytes(bytes: &'a [u8]) -> Decoder<'a>
+        ensures stands { (v : Item) → IsItem bytes.now v → (z : State) × ItemAt v (state result) z }
+        ensures size { input_size (state result) ≡ length bytes.now }
+    {
+        Decoder::Lent(Cursor::new(bytes))
+    }
+
+    /// The item. It takes no memory.
+    ///
+    /// # Errors
+    /// None where an item is there.
+    pub fn take(&mut self) -> Result<ItemSource<'a>>
+        ensures shrinks { length_left (state self.new) ≤ length_left (state self.old) }
+        ensures strictly { OnOk result (GoesBehind (state self.old) (state self.new)) }
+        ensures passes { (v : Item) (z : State) → ItemAt v (state self.old) z → (state self.new ≡ z)
+            × IsOkAnd result (λ s. source_item s ≡ v) }
+        ensures memory { IfErr result (λ e. e ≡ OutOfMemory → ⊥) }
+    {
+        match self {
+            Decoder::Tree(value) => Ok(ItemSource::Tree(mem::replace(value, Value::Null))),
+            Decoder::Lent(cursor) => Ok(ItemSource::Lent(cursor.take()?)),
+        }
+    }
+
+    /// Skips the item. It takes no memory.
+    pub fn skip(&mut self)
+        ensures shrinks { length_left (state self.new) ≤ length_left (state self.old) }
+        ensures passes { (v : Item) (z : State) → ItemAt v (state self.old) z → state self.new ≡ z }
+    {
+        match self {
+            Decoder::Tree(value) => {
+                *value = Value::Null;
+            }
+            Decoder::Lent(cursor) => cursor.skip(),
+        }
+    }
+
+    /// Goes to the first element of an array. It takes no memory.
+    ///
+    /// # Errors
+    /// `UnexpectedItem`: the item is no array; it is skipped.
+    pub fn enter_array(&mut self, want: &'static str) -> Result<ArrayElements>
+        ensures shrinks { length_left (state self.new) ≤ length_left (state self.old) }
+        ensures strictly { OnOk result (GoesBehind (state self.old) (state self.new)) }
+        ensures deeper { IfOk result (λ m. items_size m (state self.new)
+            < input_size (state self.old)) }
+        ensures enters { (v : Item) (z : State) → ItemAt v (state self.old) z
+            → EntersArray want.now v (state self.new) z result }
+    {
+        match self {
+            Decoder::Tree(value) => tree_elements(mem::replace(value, Value::Null), want),
+            Decoder::Lent(cursor) => match cursor.array() {
+                Some(elements) => Ok(ArrayElements::Lent(elements)),
+                None => Err(pull_type_error(cursor.take()?, want)),
+            },
+        }
+    }
+
+    /// Goes to the first key of a map. It takes no memory.
+    ///
+    /// # Errors
+    /// `UnexpectedItem`: the item is no map; it is skipped.
+    pub fn enter_map(&mut self) -> Result<MapEntries>
+        ensures shrinks { length_left (state self.new) ≤ length_left (state self.old) }
+        ensures strictly { OnOk result (GoesBehind (state self.old) (state self.new)) }
+        ensures deeper { IfOk result (λ m. pairs_size m (state self.new)
+            < input_size (state self.old)) }
+        ensures enters { (v : Item) (z : State) → ItemAt v (state self.old) z
+            → EntersMap v (state self.new) z result }
+    {
+        match self {
+            Decoder::Tree(value) => tree_pairs(mem::replace(value, Value::Null)),
+            Decoder::Lent(cursor) => match cursor.map() {
+                Some(elements) => Ok(MapEntries::Lent(elements)),
+                None => Err(pull_type_error(cursor.take()?, "map")),
+            },
+        }
+    }
+}
+
+/// Whether one more of these items is at the input.
+fn next_lent(elements: &mut Remaining, input: &Decoder<'_>) -> bool
+    ensures there { IsTrue result → IsLent (state input.now) }
+    ensures nexts { (vs : Items) (z : State)
+        → AreWithin (items.Lent elements.old) vs (state input.now) z
+        → Nexts vs (state input.now) z (items.Lent elements.new) result }
+{
+    match input {
+        Decoder::Lent(cursor) => elements.next(cursor),
+        Decoder::Tree(_) => false,
+    }
+}
+
+impl ArrayElements {
+    /// Whether one more element is at the input, which is to be read next. It takes no memory.
+    pub fn next(&mut self, input: &mut Decoder<'_>) -> bool
+        ensures shrinks { length_left (state input.new) ≤ length_left (state input.old) }
+        ensures size { items_size self.new (state input.new) ≤ items_size self.old
+            (state input.old) }
+        ensures element { IsTrue result → input_size (state input.new) ≤ items_size self.old
+            (state input.old) }
+        ensures turns { IsTrue result → (t : State) → GoesBehind (state input.new) t
+            → items_turns self.new t < items_turns self.old (state input.old) }
+        ensures nexts { (vs : Items) (z : State) → AreWithin self.old vs (state input.old) z
+            → Nexts vs (state input.new) z self.new result }
+    {
+        match self {
+            ArrayElements::Tree(elements) => match elements.next() {
+                Some(value) => {
+                    *input = Decoder::Tree(value);
+                    true
+                }
+                None => false,
+            },
+            ArrayElements::Lent(elements) => next_lent(elements, input),
+        }
+    }
+
+    /// Goes to the next element, which has to be there. It takes no memory.
+    ///
+    /// # Errors
+    /// `UnexpectedItem` with `want`: no element is left, and the array is skipped.
+    pub fn next_required(&mut self, input: &mut Decoder<'_>, want: &'static str) -> Result<()>
+        ensures shrinks { length_left (state input.new) ≤ length_left (state input.old) }
+        ensures size { OnOk result (input_size (state input.new)
+            ≤ items_size self.old (state input.old)) }
+        ensures left { OnOk result (items_size self.new (state input.new)
+            ≤ items_size self.old (state input.old)) }
+        ensures place { (vs : Items) (z : State) → AreWithin self.old vs (state input.old) z
+            → NextPlace want.now vs (state input.new) z self.new result }
+    {
+        if self.next(input) {
+            return Ok(());
+        }
+        self.finish(input);
+        Err(wrong_length(want))
+    }
+
+    /// Skips the array, whose elements have to be read. It takes no memory.
+    ///
+    /// # Errors
+    /// `UnexpectedItem` with `want`: an element is left.
+    pub fn end(&mut self, input: &mut Decoder<'_>, want: &'static str) -> Result<()>
+        ensures shrinks { length_left (state input.new) ≤ length_left (state input.old) }
+        ensures end { (vs : Items) (z : State) → AreWithin self.old vs (state input.old) z
+            → (state input.new ≡ z) × TakesEnd want.now vs result }
+    {
+        let more = self.next(input);
+        if more {
+            input.skip();
+        }
+        self.finish(input);
+        if more {
+            return Err(wrong_length(want));
+        }
+        Ok(())
+    }
+
+    /// No elements.
+    pub fn none() -> ArrayElements
+        ensures { (s : List ℕ) → AreWithin result no_items (lent s) (lent s) }
+    {
+        ArrayElements::Lent(Remaining::none())
+    }
+
+    /// Skips the elements that are left. It takes no memory.
+    pub fn finish(&mut self, input: &mut Decoder<'_>)
+        ensures shrinks { length_left (state input.new) ≤ length_left (state input.old) }
+        ensures passes { (vs : Items) (z : State) → AreWithin self.old vs (state input.old) z
+            → state input.new ≡ z }
+    {
+        match self {
+            ArrayElements::Tree(_) => {}
+            ArrayElements::Lent(elements) => match input {
+                Decoder::Lent(cursor) => elements.finish(cursor),
+                Decoder::Tree(_) => {}
+            },
+        }
+    }
+}
+
+/// The next key of a map in bytes, whose value is then at the place.
+fn lent_key<K: FromPull + Drop>(
+    alloc: Global,
+    elements: &mut Remaining,
+    input: &mut Decoder<'_>,
+) -> Result<Option<K>>
+    ensures shrinks { length_left (state input.new) ≤ length_left (state input.old) }
+    ensures value { IfOk result (λ o. IsSome o
+        → input_size (state input.new) ≤ length_left (state input.old)) }
+    ensures turns { IfOk result (λ o. IsSome o
+        → length_left (state input.new) < length_left (state input.old)) }
+    ensures nexts { (ps : Pairs) (z : State)
+        → PairsWithin (Lent elements.old) ps (state input.old) z
+        → NextsKey K.shape K.view ps (state input.new) z (Lent elements.new) result }
+{
+    if !next_lent(elements, input) {
+        return Ok(None);
+    }
+    let key = K::from_input(alloc, input);
+    // A key has a value.
+    if !next_lent(elements, input) {
+        return Ok(None);
+    }
+    match key {
+        Ok(key) => Ok(Some(key)),
+        Err(error) => {
+            input.skip();
+            Err(error)
+        }
+    }
+}
+
+/// The key of a pair of a value, whose value is then at the place.
+fn tree_key<K: FromPull>(
+    alloc: Global,
+    key: Value,
+    value: Value,
+    input: &mut Decoder<'_>,
+) -> Result<K>
+    ensures shrinks { length_left (state input.new) ≤ length_left (state input.old) }
+    ensures key { Reads K.shape K.view (value_item key) result }
+    ensures ok { OnOk result (state input.new ≡ tree (value_item value)) }
+    ensures refused { OnErr result (state input.new ≡ tree null) }
+{
+    *input = Decoder::Tree(Value::Null);
+    let key = K::from_cbor_value(alloc, key)?;
+    *input = Decoder::Tree(value);
+    Ok(key)
+}
+
+impl MapEntries {
+    /// The next key, whose value then is at the input, which is to be read next; or `None` where no pair is left.
+    ///
+    /// # Errors
+    /// `OutOfMemory`, or a fault of the key; its value is then skipped.
+    pub fn next_key<K: FromPull + Drop>(
+        &mut self,
+        alloc: Global,
+        input: &mut Decoder<'_>,
+    ) -> Result<Option<K>>
+        ensures shrinks { length_left (state input.new) ≤ length_left (state input.old) }
+        ensures size { pairs_size self.new (state input.new) ≤ pairs_size self.old
+            (state input.old) }
+        ensures value { IfOk result (λ o. IsSome o
+            → input_size (state input.new) ≤ pairs_size self.old
+            (state input.old)) }
+        ensures turns { IfOk result (λ o. IsSome o → pairs_turns self.new (state input.new) <
+            pairs_turns self.old (state input.old)) }
+        ensures nexts { (ps : Pairs) (z : State) → PairsWithin self.old ps (state input.old) z
+            → NextsKey K.shape K.view ps (state input.new) z self.new result }
+    {
+        match self {
+            MapEntries::Tree(pairs) => match pairs.next() {
+                Some((key, value)) => Ok(Some(tree_key(alloc, key, value, input)?)),
+                None => Ok(None),
+            },
+            MapEntries::Lent(elements) => lent_key(alloc, elements, input),
+        }
+    }
+
+    /// No pairs.
+    pub fn none() -> MapEntries
+        ensures { (s : List ℕ) → PairsWithin result no_pairs (lent s) (lent s) }
+    {
+        MapEntries::Lent(Remaining::none())
+    }
+
+    /// Passes the pairs that are left. It takes no memory.
+    pub fn finish(&mut self, input: &mut Decoder<'_>)
+        ensures shrinks { length_left (state input.new) ≤ length_left (state input.old) }
+        ensures passes { (ps : Pairs) (z : State) → PairsWithin self.old ps (state input.old) z
+            → state input.new ≡ z }
+    {
+        match self {
+            MapEntries::Tree(_) => {}
+            MapEntries::Lent(elements) => match input {
+                Decoder::Lent(cursor) => elements.finish(cursor),
+                Decoder::Tree(_) => {}
+            },
+        }
+    }
+}
