@@ -1,9 +1,9 @@
 -- What contracts see of an item that is given as a value or as lent bytes; and what is said of the number of an array's
 -- elements.
-use Rattle.std.specs.Prelude.{◌≡◌, List, codes, ℕ, zero, suc, Result, Ok, Err}
-use Rattle.coset_value.specs.Item.{Item, Items, no_items}
+use Rattle.std.specs.Prelude.{◌≡◌, List, codes, ℕ, length, zero, suc, Result, Ok, Err}
+use Rattle.coset_value.specs.Item.{Item, Items, no_items, depth}
 use Rattle.coset_value.specs.View.{value_item}
-use Rattle.coset_cbor.specs.Pulls.{pull_item}
+use Rattle.coset_cbor.specs.Pulls.{pull_bytes, pull_item}
 use Rattle.coset_codec.specs.declared.error.CoseError.{CoseError}
 use Rattle.coset_codec.specs.declared.error.CoseError.TheVariants.{OutOfMemory}
 use Rattle.coset_codec.specs.declared.read.source.ItemSource.{ItemSource}
@@ -16,6 +16,11 @@ use Rattle.coset_codec.specs.Shape.{FirstWrongLength, IsEnd}
 abbrev pub source_item : ItemSource → Item
 source_item (Tree v) = value_item v
 source_item (Lent p) = pull_item p
+
+-- how deep a value is, or how many bytes spell the lent item
+abbrev pub source_size : ItemSource → ℕ
+source_size (Tree v) = depth (value_item v)
+source_size (Lent p) = length (pull_bytes p)
 
 -- a value of the item, or `OutOfMemory`
 abbrev pub Copies : {T : Type 0} → (T → Item) → Item → Result T CoseError → Type 0

@@ -1,9 +1,9 @@
 //! How a type is read from CBOR and written to it.
 
-ghost use Rattle.std.specs.Prelude.{◌≡◌, ◌≤◌, ℕ, ⊤, IfErr, OnOk};
+ghost use Rattle.std.specs.Prelude.{◌≡◌, ◌≤◌, ℕ, ⊤, IfErr, IfOk, OnOk};
 ghost use Rattle.coset_value.specs.Item.{Item};
 ghost use Rattle.coset_value.specs.View.{value_item};
-ghost use Rattle.coset_cbor.specs.Pulls.{pull_item};
+ghost use Rattle.coset_cbor.specs.Pulls.{pull_bytes, pull_item};
 ghost use Rattle.coset_codec.specs.declared.error.CoseError.{CoseError};
 ghost use Rattle.coset_codec.specs.declared.error.CoseError.TheVariants.{OutOfMemory};
 ghost use Rattle.coset_codec.specs.Answers.{Reads, Images, Writes, ReadsSlice, ReadsWhole, Untags, AllocatesForItems, RefusesSlice};
@@ -67,6 +67,7 @@ pub trait AsCborValue: Sized {
 /// Why they aren't one item within 256 levels (`DecodeFailed`), or that others follow it (`ExtraneousData`).
 pub fn whole_item(s: &[u8]) -> Result<Pull<'_>>
     ensures whole { ReadsWhole pull_item s.now result }
+    ensures bytes { IfOk result (λ p. pull_bytes p ≡ s.now) }
     ensures memory { IfErr result (λ e. e ≡ OutOfMemory → ⊥) }
 {
     laws::one_item();

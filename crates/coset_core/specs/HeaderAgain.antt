@@ -119,7 +119,12 @@ known_again k (signature_and o p u s more) again d (Some v) x w h =
     }
 
 known_laws : (k : ℕ) (ss : Signatures) → AreAgain k ss → LawfulFieldShape (Unit {0}) (known k ss)
-known_laws k ss again = record { unique = λ o x y p q. refl; again = known_again k ss again; sound = λ v x e p f. f; told = λ v x p q. known_decides k ss v p q }
+known_laws k ss again = record {
+  unique = λ o x y p q. refl;
+  again = known_again k ss again;
+  sound = λ v x e p f. f;
+  told = λ v x p q. known_decides k ss v p q;
+}
 
 -- ---- headers
 

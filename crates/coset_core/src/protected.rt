@@ -311,8 +311,8 @@ fn fill_content(
     if content.is_empty() {
         return Ok(());
     }
-    store_error(whole_item(content), error)?;
-    let mut input = Decoder::of_bytes(content);
+    let item = store_error(whole_item(content), error)?;
+    let mut input = Decoder::new(ItemSource::Lent(item));
     fill_header(header, alloc, &mut input, layers, error)
 }
 

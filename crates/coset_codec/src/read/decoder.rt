@@ -1,17 +1,16 @@
 //! Reading forward: an item is read where it is, and who reads it goes just behind it, whatever is returned. So the
 //! bytes of what holds itself, as headers do, are passed once at whatever depth.
 
-ghost use Rattle.std.specs.Prelude.{◌≡◌, ◌≤◌, ◌<◌, List, ℕ, length, IfErr, IfOk, IsOkAnd, IsSome, IsTrue, OnErr, OnOk};
+ghost use Rattle.std.specs.Prelude.{◌≡◌, ◌≤◌, ◌<◌, List, ℕ, IfErr, IfOk, IsOkAnd, IsSome, IsTrue, OnErr, OnOk};
 ghost use Rattle.coset_value.specs.Item.{Item, null, Items, no_items, Pairs, no_pairs};
 ghost use Rattle.coset_value.specs.View.{value_item};
-ghost use Rattle.coset_cbor.specs.Grammar.{IsItem};
 ghost use Rattle.coset_codec.specs.declared.error.CoseError.TheVariants.{OutOfMemory};
 ghost use Rattle.coset_codec.specs.declared.read.decoder.ArrayElements.TheVariants as items;
 ghost use Rattle.coset_codec.specs.declared.read.decoder.MapEntries.TheVariants.{Lent};
 ghost use Rattle.coset_codec.specs.Answers.{Reads};
 ghost use Rattle.coset_codec.specs.Inputs.{State, tree, lent, state, ItemAt, GoesBehind, IsLent, length_left, input_size, items_size, pairs_size, items_turns, pairs_turns, AreWithin, PairsWithin};
 ghost use Rattle.coset_codec.specs.Inputs.{EntersArray, EntersMap, NextPlace, Nexts, NextsKey};
-ghost use Rattle.coset_codec.specs.Sources.{IsWrongLength, TakesEnd, source_item};
+ghost use Rattle.coset_codec.specs.Sources.{IsWrongLength, TakesEnd, source_item, source_size};
 
 use crate::error::{CoseError, Result};
 use crate::read::source::ItemSource;
@@ -84,20 +83,13 @@ pub fn wrong_length(want: &'static str) -> CoseError
 impl<'a> Decoder<'a> {
     /// The item that is read.
     pub fn new(source: ItemSource<'a>) -> Decoder<'a>
-        ensures { (z : State) × ItemAt (source_item source.entry) (state result) z }
+        ensures item { (z : State) × ItemAt (source_item source.entry) (state result) z }
+        ensures size { input_size (state result) ≡ source_size source.entry }
     {
         match source {
             ItemSource::Tree(value) => Decoder::Tree(value),
             ItemSource::Lent(pull) => Decoder::Lent(Cursor::new(pull.slice())),
         }
-    }
-
-    /// The item that the bytes are.
-    pub fn of_bytes(bytes: &'a [u8]) -> Decoder<'a>
-        ensures stands { (v : Item) → IsItem bytes.now v → (z : State) × ItemAt v (state result) z }
-        ensures size { input_size (state result) ≡ length bytes.now }
-    {
-        Decoder::Lent(Cursor::new(bytes))
     }
 
     /// The item. It takes no memory.
