@@ -1,22 +1,28 @@
 -- The bytes that are kept of a protected header are those of the byte string that was read.
-use Rattle.std.proofs.Common.{◌≡◌, ℕ, zero, suc, List, [], ◌∷◌, ◌==◌, length, true, Option, Some, None, option_map, refl, sym, ap, ◌∙◌, subst}
-use Rattle.std.specs.Prelude.{⊤}
+use Rattle.std.proofs.Common.{◌≡◌, ℕ, zero, suc, List, [], ◌∷◌, ◌==◌, length, Bool, true, false, Option, Some, None, option_map, refl, sym, ap, ◌∙◌, subst}
+use Rattle.std.specs.Prelude.{⊤, ⊥}
 use Rattle.std.specs.Option.{is_none}
 use Rattle.std.proofs.lemmas.Bool.{and_parts, eqb-true}
-use Rattle.coset_value.specs.Item.{Item, Items, no_items, item, array, bytes}
+use Rattle.coset_value.specs.Item.{Item, Items, no_items, item, array, bytes, null}
 use Rattle.coset_value.specs.Parts.{as_bytes}
+use Rattle.coset_cbor.specs.Grammar.{IsEncoding}
+use Rattle.coset_cbor.specs.Least.{least_encoding}
+use Rattle.coset_cbor.specs.Shortest.{IsShortest}
+use Rattle.coset_cbor.proofs.Again.{encodings_differ}
+use Rattle.coset_cbor.proofs.Shortest.{definite_is_encoding}
 use Rattle.coset_codec.specs.AsWritten.{AsWritten, WhenRead}
 use Rattle.coset_codec.specs.Lists.{EachHas, EachWith}
-use Rattle.coset_codec.specs.Serialized.{ContentDescribes, content_bytes}
+use Rattle.coset_codec.specs.Serialized.{ContentDescribes, content_bytes, fresh_bytes}
 use Rattle.coset_codec.specs.Shape.{Each, images, ◌then◌, bstr, end, one_or_more, one_or_array}
 use Rattle.coset_codec.specs.ShapeLaws.{some-one}
 use Rattle.coset_codec.proofs.AsWritten.{array_as_written, bstr_as_written, list_as_written, list_when_read, then_as_written}
 use Rattle.coset_core.specs.HeaderAgain.{Begins, one_or_array_begins}
-use Rattle.coset_core.specs.HeaderWrites.{protected_image_is}
+use Rattle.coset_core.specs.HeaderWrites.{header_image_is, protected_image_is}
 use Rattle.coset_core.specs.Headers.{HeaderView, header_of, Signatures, no_signatures, signature_and, ProtectedView, SignatureView, are_none, elements_of}
 use Rattle.coset_core.specs.Headers.{empty_header, is_empty_header, header_image, layered_header, layered_protected, layered_signature, protected_bytes}
 use Rattle.coset_core.specs.Headers.{signatures_within}
 use Rattle.coset_core.specs.Kept.{KeepsAbbreviated, KeepsOwn, first_bytes, KeepsReceived, KeepsSignature, KeepsSignatures, SignaturesReadAs}
+use Rattle.coset_core.specs.Written.{AreShortest}
 use Rattle.coset_core.proofs.HeaderMap.{header_decides, header_written}
 use Rattle.coset_core.proofs.Labelled.{abbreviated_as_written, both_parts, mapped_part, map_when_read, signatures_as_written}
 
@@ -171,3 +177,45 @@ is_the_empty_one (header_of f ss ts) e =
       rest = rest_is i;
     })
     (first_is i) (second_is i)
+
+-- ---- those in the byte string of a protected header that was built
+
+-- what stays of the signatures of h in g
+abbrev pub Stays : HeaderView → HeaderView → Type 0
+Stays h g = SignaturesReadAs KeepsSignature h g × KeepsAbbreviated h g
+
+-- no encoding is empty
+no_empty_encoding : (v : Item) → IsEncoding v [] → ⊥
+no_empty_encoding v h =
+    let same : [] ≡ 246 ∷ [] = (encodings_differ v null [] (246 ∷ []) (246 ∷ []) [] h refl refl).1 in
+    absurd (cc)
+
+content_as_written :
+    (k : ℕ) (v : Item) (b : List ℕ) (h g : HeaderView) → header_image h ≡ Some v → IsEncoding v b → ContentDescribes empty_header (layered_header k) b g
+    → Stays h g
+content_as_written k v [] h g e is d = absurd (no_empty_encoding v is)
+content_as_written k v (c ∷ b) h g e is d =
+    let same : d.0 ≡ v = (encodings_differ d.0 v (c ∷ b) (c ∷ b) [] [] d.1.0 is refl).0 in
+    header_as_written k v h g (header_image_is k h ∙ e) (subst (λ w. (layered_header k).describes w g) same d.2)
+
+fresh_as_written :
+    (k : ℕ) (t : Bool) (b : List ℕ) (h g : HeaderView) → is_empty_header h ≡ t → fresh_bytes t (header_image h) ≡ Some b
+    → (t ≡ false → (v : Item) → header_image h ≡ Some v → IsShortest b v) → ContentDescribes empty_header (layered_header k) b g → Stays h g
+fresh_as_written k true b h g is e short d =
+    let none : [] ≡ b = some-one refl e in
+    let read : g ≡ empty_header = subst (λ c. ContentDescribes empty_header (layered_header k) c g) (sym none) d in
+    subst (λ x. Stays x g) (sym (is_the_empty_one h is)) (subst (λ y. Stays empty_header y) (sym read) ((λ _. refl, λ _. refl), λ s e. e))
+fresh_as_written k false b h g is e short d =
+    let made = mapped_part least_encoding (header_image h) b e in
+    content_as_written k made.0 b h g made.1 (definite_is_encoding made.0 b (short refl made.0 made.1).definite) d
+
+pub built_as_written :
+    (k : ℕ) (b : List ℕ) (p q : ProtectedView) → p.original ≡ None → protected_bytes p ≡ Some b → AreShortest None p.header b
+    → (layered_protected k).describes (bytes b) q → Stays p.header q.header
+unfolding layered_protected
+built_as_written zero b p q built is short d = absurd d
+built_as_written (suc k) b p q built is short d =
+    let fresh = ap (λ o. content_bytes is_empty_header header_image o p.header) (sym built) ∙ is in
+    let same : d.0 ≡ b = sym (some-one refl d.1) in
+    fresh_as_written k (is_empty_header p.header) b p.header q.header refl fresh short
+    (subst (λ c. ContentDescribes empty_header (layered_header k) c q.header) same d.3)

@@ -1,7 +1,7 @@
 //! Laws of headers, which callers may cite. Each is the contract of a function that does nothing. What holds of each type
 //! that is read and written is in `coset_codec::laws`.
 
-ghost use Rattle.std.specs.Prelude.{◌≡◌, ◌↔◌, ℕ, List, Some, true};
+ghost use Rattle.std.specs.Prelude.{◌≡◌, ◌↔◌, ℕ, List, None, Some, true};
 ghost use Rattle.coset_value.specs.Item.{Item, bytes};
 ghost use Rattle.coset_codec.specs.AsWritten.{AsWritten, WhenRead};
 ghost use Rattle.coset_codec.specs.Shape.{tagged};
@@ -9,6 +9,7 @@ ghost use Rattle.coset_codec.specs.declared.error.CoseError.{CoseError};
 ghost use Rattle.coset_core.specs.HeaderMap.{header_map};
 ghost use Rattle.coset_core.specs.Headers.{HeaderView, ProtectedView, SignatureView, empty_header, is_empty_header, layered_header, layered_protected, layered_signature, protected, protected_bytes, signatures_within};
 ghost use Rattle.coset_core.specs.Kept.{KeepsAbbreviated, KeepsOwn, KeepsReceived, KeepsSignature, KeepsSignatures, SignaturesReadAs};
+ghost use Rattle.coset_core.specs.Written.{AreShortest};
 
 /// A header is the map of its fields, whose labels 7 and 11 hold signatures, one or several: with every number of layers
 /// left its shape is that map with the shape of signatures in it, with as many layers left. An item represents the same
@@ -58,10 +59,15 @@ pub fn signatures_kept_as_received()
 /// A signature or countersignature that was read from what another is written as, plain or under a tag, is the same
 /// signature under the same protected bytes, however the item was spelled; and so are the signatures in a header, under
 /// label 7 and under label 11, in order and as many. The bytes under label 12 stay too. So with every number of layers left.
+/// The same holds of those in a protected header that was built, read from the bytes that `protected_bytes` returns of it.
 pub fn signatures_kept_as_written()
     ensures signature { (k : ℕ) → AsWritten (layered_signature k) KeepsSignature }
     ensures tagged_signature { (n k : ℕ) → AsWritten (tagged n (layered_signature k))
         KeepsSignature }
     ensures header { (k : ℕ) → AsWritten (layered_header k) (SignaturesReadAs KeepsSignature) }
     ensures abbreviated { (k : ℕ) → AsWritten (layered_header k) KeepsAbbreviated }
+    ensures built { (k : ℕ) (b : List ℕ) (p q : ProtectedView) → p.original ≡ None
+        → protected_bytes p ≡ Some b → AreShortest None p.header b
+        → (layered_protected k).describes (bytes b) q
+        → SignaturesReadAs KeepsSignature p.header q.header × KeepsAbbreviated p.header q.header }
 {}

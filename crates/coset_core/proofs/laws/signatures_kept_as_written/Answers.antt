@@ -1,7 +1,7 @@
 use Rattle.coset_codec.proofs.AsWritten.{tagged_as_written}
 use Rattle.coset_core.specs.Headers.{layered_signature}
 use Rattle.coset_core.specs.Kept.{KeepsSignature}
-use Rattle.coset_core.proofs.Kept.{header_as_written, signature_as_written}
+use Rattle.coset_core.proofs.Kept.{built_as_written, header_as_written, signature_as_written}
 use Rattle.coset_core.proofs.laws.signatures_kept_as_written.Goals as goal
 
 pub returns-clause-signature : goal.returns-clause-signature
@@ -15,3 +15,6 @@ returns-clause-header c = λ k v h g e d. (header_as_written k v h g e d).0
 
 pub returns-clause-abbreviated : goal.returns-clause-abbreviated
 returns-clause-abbreviated c = λ k v h g e d. (header_as_written k v h g e d).1
+
+pub returns-clause-built : goal.returns-clause-built
+returns-clause-built c = built_as_written
