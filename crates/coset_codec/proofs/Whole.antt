@@ -1,9 +1,10 @@
 -- Bytes that are one item, or none.
 use Rattle.std.specs.Prelude.{IsErrAnd}
-use Rattle.std.proofs.Common.{◌≡◌, ◌⊎◌, ℕ, List, [], ◌∷◌, ◌++◌, ◌+◌, suc, Result, Ok, Err, length, take, refl, sym, ap, subst, ◌∙◌, inr, append-nil, arith}
+use Rattle.std.proofs.Common.{◌≡◌, ◌⊎◌, ℕ, List, [], ◌∷◌, ◌++◌, ◌+◌, suc, Option, Some, Result, Ok, Err, length, take, refl, sym, ap, subst, ◌∙◌, inr, append-nil, arith}
 use Rattle.std.proofs.Common.{length-append}
 use Rattle.std.proofs.Math.Seq.{take-append_seam}
 use Rattle.coset_value.specs.Item.{Item}
+use Rattle.coset_value.specs.Parts.{as_tag}
 use Rattle.coset_cbor.specs.Grammar.{IsEncoding, IsItem}
 use Rattle.coset_cbor.specs.ReadErrors.{IsMemory, FaultIn}
 use Rattle.coset_cbor.specs.declared.de.EndOfFile.{EndOfFile}
@@ -12,7 +13,8 @@ use Rattle.coset_cbor.specs.declared.de.Error.TheVariants as errors
 use Rattle.coset_codec.specs.declared.error.CoseError.{CoseError}
 use Rattle.coset_codec.specs.declared.error.CoseError.TheVariants.{ExtraneousData}
 use Rattle.coset_codec.specs.Errors.{decode_failure}
-use Rattle.coset_codec.specs.Answers.{IsByteFault, IsExtraneous, IsNoItem, IsOnlyItem, ReadsWhole}
+use Rattle.coset_codec.specs.Answers.{IsByteFault, IsExtraneous, IsNoItem, IsOnlyItem, Reads, ReadsSlice, ReadsWhole}
+use Rattle.coset_codec.specs.Shape.{Shape, tagged}
 
 -- an answer that is an error of which this holds
 pub on_err : {T : Type 0} (it : T → Item) (s : List ℕ) (r : Result T CoseError) (W : CoseError → Type 0) → IsErrAnd r W
@@ -58,3 +60,10 @@ only_item one s b [] v t e is =
 -- bytes are one item at most
 pub one_of : OneItem → (s : List ℕ) (v w : Item) → IsItem s v → IsItem s w → v ≡ w
 one_of one s v w p q = (one v w s s [] [] p.0 q.0 refl).0
+
+-- bytes that are a tag of that number are read as what it encloses is
+pub tagged_read :
+    {T A : Type 0} (shape : Shape A) (view : T → A) (n : ℕ) (s : List ℕ) (v w : Item) (r : Result T CoseError) → IsItem s v → as_tag v ≡ Some (n, w)
+    → Reads shape view w r → ReadsSlice (tagged n shape) view s r
+tagged_read shape view n s v w (Ok x) is tag d = (v, is, (w, tag, d))
+tagged_read shape view n s v w (Err e) is tag d = λ m. inr (inr (v, is, inr (n, w, tag, inr (refl, d m))))
