@@ -22,6 +22,9 @@ pub fn show(alloc: Global, kind: &str, call: &str, words: &Words<'_>) -> Result<
         "KeyType" => shown::<KeyType>(alloc, call, words),
         "Algorithm" => shown::<Algorithm>(alloc, call, words),
         "Own" => shown::<RegisteredLabelWithPrivate<Own>>(alloc, call, words),
+        "RegisteredLabel<HeaderParameter>" => {
+            shown::<RegisteredLabel<iana::HeaderParameter>>(alloc, call, words)
+        }
         _ => Err(CoseError::UnexpectedItem("name", "kind of labels")),
     }
 }

@@ -62,9 +62,10 @@ fn of_type(alloc: Global, kind: &str, name: &str, words: &Words<'_>) -> Option<R
         ("Header" | "CoseKey" | "ClaimsSet", "get") => Some(get::call(alloc, kind, words)),
         ("CoseKey", "canonicalize" | "to_sec1_octet_string") => Some(key::call(alloc, name, words)),
         ("Timestamp", "debug") => Some(claims::debug_timestamp(alloc, words)),
-        ("Label" | "KeyType" | "Algorithm" | "Own", "debug" | "display") => {
-            Some(label::show(alloc, kind, name, words))
-        }
+        (
+            "Label" | "KeyType" | "Algorithm" | "Own" | "RegisteredLabel<HeaderParameter>",
+            "debug" | "display",
+        ) => Some(label::show(alloc, kind, name, words)),
         ("Algorithm" | "Own", "of_private_use") => Some(label::of_private_use(alloc, kind, words)),
         ("Own", "to_vec") => Some(label::own_to_vec(alloc, words)),
         ("KeyType" | "Algorithm", "from") => Some(label::from(alloc, kind, words)),
