@@ -8,6 +8,9 @@
 // refused, from 1 on; none is where the second is less, or the line is missing. REFUSE_COUNT is a file that is written:
 // for each call a line with the number of its requests, those that were refused included.
 //
+// A program that is built without a proof (`rt try`) brings an allocator of its own, which the loader takes in front of the
+// one here. Each of its functions begins with a jump, and that is turned to ours.
+//
 // It needs no header, since the compiler of the kit brings none: what it calls of the C library (glibc) is declared here.
 typedef __SIZE_TYPE__ size_t;
 typedef long ssize_t;
@@ -20,19 +23,28 @@ char *getenv(const char *name);
 int strcmp(const char *a, const char *b);
 long syscall(long number, ...);
 int *__errno_location(void);
+void *dlsym(void *handle, const char *name);
+void *mmap(void *place, size_t size, int protection, int flags, int file, long offset);
+int mprotect(void *place, size_t size, int protection);
 
 #define NULL ((void *)0)
 
 enum { BEGIN = 1000003, END = 1000033 };
 
 // Numbers of Linux on x86-64.
-enum { SYS_READ = 0, ENOMEM = 12 };
+enum { SYS_READ = 0, ENOMEM = 12, PAGE = 4096, WRITE = 3, RUN = 5, ALL = 7, PRIVATE = 2, ANONYMOUS = 32 };
 
 // The allocator of the C library, by the names that nothing is loaded in front of.
 void *__libc_malloc(size_t size);
 void *__libc_calloc(size_t count, size_t size);
 void *__libc_realloc(void *old, size_t size);
 void *__libc_memalign(size_t alignment, size_t size);
+
+// What gives memory: the C library's, or in a program with an allocator of its own, that.
+static void *(*give)(size_t size) = __libc_malloc;
+static void *(*give_zeros)(size_t count, size_t size) = __libc_calloc;
+static void *(*give_again)(void *old, size_t size) = __libc_realloc;
+static void *(*give_aligned)(size_t alignment, size_t size) = __libc_memalign;
 
 static int is_counting;
 static unsigned long requests, first, last;
@@ -73,35 +85,35 @@ static int is_refused(void) {
     return 1;
 }
 
-void *malloc(size_t size) {
+static void *our_malloc(size_t size) {
     if (size == END) end();
     if (size == BEGIN) {
         begin();
-        return __libc_malloc(size);
+        return give(size);
     }
-    return is_refused() ? NULL : __libc_malloc(size);
+    return is_refused() ? NULL : give(size);
 }
 
-void *calloc(size_t count, size_t size) {
-    return is_refused() ? NULL : __libc_calloc(count, size);
+static void *our_calloc(size_t count, size_t size) {
+    return is_refused() ? NULL : give_zeros(count, size);
 }
 
-void *realloc(void *old, size_t size) {
-    return is_refused() ? NULL : __libc_realloc(old, size);
+static void *our_realloc(void *old, size_t size) {
+    return is_refused() ? NULL : give_again(old, size);
 }
 
-void *aligned_alloc(size_t alignment, size_t size) {
-    return is_refused() ? NULL : __libc_memalign(alignment, size);
+static void *our_aligned_alloc(size_t alignment, size_t size) {
+    return is_refused() ? NULL : give_aligned(alignment, size);
 }
 
-int posix_memalign(void **place, size_t alignment, size_t size) {
-    void *made = is_refused() ? NULL : __libc_memalign(alignment, size);
+static int our_posix_memalign(void **place, size_t alignment, size_t size) {
+    void *made = is_refused() ? NULL : give_aligned(alignment, size);
     if (made == NULL) return ENOMEM;
     *place = made;
     return 0;
 }
 
-ssize_t read(int file, void *buffer, size_t size) {
+static ssize_t our_read(int file, void *buffer, size_t size) {
     static int was_read;
     const char *mark = was_read || file != 0 ? NULL : getenv("REFUSE_MARK");
     if (mark != NULL && strcmp(mark, "read") == 0) {
@@ -109,4 +121,52 @@ ssize_t read(int file, void *buffer, size_t size) {
         begin();
     }
     return syscall(SYS_READ, file, buffer, size);
+}
+
+#define STANDS_FOR(function) __attribute__((alias("our_" #function)))
+
+void *malloc(size_t size) STANDS_FOR(malloc);
+void *calloc(size_t count, size_t size) STANDS_FOR(calloc);
+void *realloc(void *old, size_t size) STANDS_FOR(realloc);
+void *aligned_alloc(size_t alignment, size_t size) STANDS_FOR(aligned_alloc);
+int posix_memalign(void **place, size_t alignment, size_t size) STANDS_FOR(posix_memalign);
+ssize_t read(int file, void *buffer, size_t size) STANDS_FOR(read);
+
+// A jump of five bytes: 0xe9, and how far it is from its end.
+static unsigned char *target(unsigned char *jump) {
+    int distance;
+    __builtin_memcpy(&distance, jump + 1, sizeof distance);
+    return jump + 5 + distance;
+}
+
+// Turns the program's own function of that name to this one, by a jump at `step`, which is near it. Gives what it led to.
+static void *turned(const char *name, void *ours, unsigned char *step) {
+    unsigned char *jump = dlsym(NULL, name);
+    unsigned char *led_to = target(jump);
+    step[0] = 0x49, step[1] = 0xbb;
+    __builtin_memcpy(step + 2, &ours, sizeof ours);
+    step[10] = 0x41, step[11] = 0xff, step[12] = 0xe3;
+    int distance = (int)(step - (jump + 5));
+    void *page = (void *)((size_t)jump & ~(size_t)(PAGE - 1));
+    mprotect(page, 2 * PAGE, ALL);
+    __builtin_memcpy(jump + 1, &distance, sizeof distance);
+    mprotect(page, 2 * PAGE, RUN);
+    return led_to;
+}
+
+// Turns the functions of a program with an allocator of its own to ours.
+__attribute__((constructor)) static void at_start(void) {
+    unsigned char *own = dlsym(NULL, "malloc");
+    if (own == (void *)our_malloc || own[0] != 0xe9) return;
+    unsigned char *near = (unsigned char *)((size_t)own & ~(size_t)(PAGE - 1)) - (1 << 28);
+    unsigned char *steps = mmap(near, PAGE, WRITE, PRIVATE | ANONYMOUS, -1, 0);
+    if (steps != near) return;
+    give_aligned = (void *(*)(size_t, size_t))target(dlsym(NULL, "memalign"));
+    give = (void *(*)(size_t))turned("malloc", our_malloc, steps);
+    give_zeros = (void *(*)(size_t, size_t))turned("calloc", our_calloc, steps + 16);
+    give_again = (void *(*)(void *, size_t))turned("realloc", our_realloc, steps + 32);
+    turned("aligned_alloc", our_aligned_alloc, steps + 48);
+    turned("posix_memalign", our_posix_memalign, steps + 64);
+    turned("read", our_read, steps + 80);
+    mprotect(steps, PAGE, RUN);
 }
