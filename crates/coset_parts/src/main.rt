@@ -17,6 +17,7 @@ mod headers;
 mod key;
 mod key_builder;
 mod label;
+mod lists;
 mod order;
 mod own;
 mod parts;

@@ -1,8 +1,8 @@
 //! Calls of builders, labels, keys, registries and CBOR: all but those of messages, and those that every type has.
 
 use crate::{
-    claims, context, each, get, header_builder, headers, key, key_builder, label, order, pull,
-    reading, registry, value, writing,
+    claims, context, each, get, header_builder, headers, key, key_builder, label, lists, order,
+    pull, reading, registry, value, writing,
 };
 use coset::Result;
 use coset_lines::words::Words;
@@ -61,6 +61,7 @@ fn of_type(alloc: Global, kind: &str, name: &str, words: &Words<'_>) -> Option<R
         ("ProtectedHeader", "protected_bytes") => Some(headers::protected_bytes(alloc, words)),
         ("Header" | "CoseKey" | "ClaimsSet", "get") => Some(get::call(alloc, kind, words)),
         ("CoseKey", "canonicalize" | "to_sec1_octet_string") => Some(key::call(alloc, name, words)),
+        ("Value", "try_as_array_then_convert") => Some(lists::convert(alloc, words)),
         ("Timestamp", "debug") => Some(claims::debug_timestamp(alloc, words)),
         (
             "Label" | "KeyType" | "Algorithm" | "Own" | "RegisteredLabel<HeaderParameter>",
@@ -81,6 +82,7 @@ fn of_cbor(alloc: Global, name: &str, words: &Words<'_>) -> Option<Result<String
         "decode_unbounded" => Some(reading::decode(alloc, words)),
         "check" => Some(reading::check_front(alloc, words)),
         "front_length" => Some(reading::front(alloc, words)),
+        "has_repeats" => Some(lists::repeats(alloc, words)),
         "to_cbor_array" => Some(writing::array(alloc, words)),
         "de_error" => Some(value::reader_error(alloc, words)),
         "ser_error" => Some(value::writer_error(alloc, words)),

@@ -90,7 +90,7 @@ fn empty_bytes(rt: HostRuntime) -> std::result::Result<(), Fail> {
 }
 
 /// Twice the number, where that is a byte.
-pub(crate) fn twice(value: Value) -> std::result::Result<u8, u8> {
+fn twice(value: Value) -> std::result::Result<u8, u8> {
     match value.as_integer() {
         Some(n) => match u64::try_from(n) {
             Ok(n) if n < 100 => Ok(2 * n as u8),

@@ -5,8 +5,6 @@
 #[cfg(test)]
 mod kinds;
 #[cfg(test)]
-mod refused;
-#[cfg(test)]
 mod repeats;
 #[cfg(test)]
 mod rows;

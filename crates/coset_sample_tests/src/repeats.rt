@@ -12,7 +12,7 @@ fn label(n: i64) -> Name {
 }
 
 /// Forty labels, of which the last is that of `last`.
-pub(crate) fn forty(alloc: Global, last: i64) -> Result<Vec<(Name, Value)>, AllocError> {
+fn forty(alloc: Global, last: i64) -> Result<Vec<(Name, Value)>, AllocError> {
     let mut pairs = Vec::new(alloc);
     for n in 0..39i64 {
         pairs.push((label(n), Value::Null))?;

@@ -21,53 +21,85 @@ use std::alloc::Global;
 /// The word holds none, or values of the type aren't copied.
 pub fn call(alloc: Global, kind: Kind, words: &Words<'_>) -> Result<String> {
     match kind {
-        Kind::Value => copy(alloc, words, |v: &Value| v.clone().ok()),
-        Kind::Label => copy(alloc, words, |v: &Label| v.clone().ok()),
-        Kind::Algorithm => copy(alloc, words, |v: &Algorithm| v.clone().ok()),
-        Kind::ContentType => copy(alloc, words, |v: &ContentType| v.clone().ok()),
-        Kind::KeyType => copy(alloc, words, |v: &KeyType| v.clone().ok()),
-        Kind::KeyOperation => copy(alloc, words, |v: &KeyOperation| v.clone().ok()),
-        Kind::ClaimName => copy(alloc, words, |v: &ClaimName| v.clone().ok()),
+        Kind::Value => copy(alloc, words, |v: &Value| copied_value(v)),
+        Kind::Label => copy(alloc, words, |v: &Label| copied(v.clone())),
+        Kind::Algorithm => copy(alloc, words, |v: &Algorithm| copied(v.clone())),
+        Kind::ContentType => copy(alloc, words, |v: &ContentType| copied(v.clone())),
+        Kind::KeyType => copy(alloc, words, |v: &KeyType| copied(v.clone())),
+        Kind::KeyOperation => copy(alloc, words, |v: &KeyOperation| copied(v.clone())),
+        Kind::ClaimName => copy(alloc, words, |v: &ClaimName| copied(v.clone())),
         Kind::HeaderParameter => copy(
             alloc,
             words,
-            |v: &RegisteredLabelWithPrivate<HeaderParameter>| v.clone().ok(),
+            |v: &RegisteredLabelWithPrivate<HeaderParameter>| copied(v.clone()),
         ),
         Kind::EllipticCurve => {
             copy(
                 alloc,
                 words,
-                |v: &RegisteredLabel<EllipticCurve>| v.clone().ok(),
+                |v: &RegisteredLabel<EllipticCurve>| copied(v.clone()),
             )
         }
-        Kind::Header => copy(alloc, words, |v: &Header| v.clone().ok()),
-        Kind::ProtectedHeader => copy(alloc, words, |v: &ProtectedHeader| v.clone().ok()),
-        Kind::Signature => copy(alloc, words, |v: &CoseSignature| v.clone().ok()),
-        Kind::Countersignature => copy(alloc, words, |v: &CoseCountersignature| v.clone().ok()),
-        Kind::Recipient => copy(alloc, words, |v: &CoseRecipient| v.clone().ok()),
-        Kind::Sign1 => copy(alloc, words, |v: &CoseSign1| v.clone().ok()),
-        Kind::Sign => copy(alloc, words, |v: &CoseSign| v.clone().ok()),
-        Kind::Mac => copy(alloc, words, |v: &CoseMac| v.clone().ok()),
-        Kind::Mac0 => copy(alloc, words, |v: &CoseMac0| v.clone().ok()),
-        Kind::Encrypt => copy(alloc, words, |v: &CoseEncrypt| v.clone().ok()),
-        Kind::Encrypt0 => copy(alloc, words, |v: &CoseEncrypt0| v.clone().ok()),
-        Kind::Key => copy(alloc, words, |v: &CoseKey| v.clone().ok()),
-        Kind::KeySet => copy(alloc, words, |v: &CoseKeySet| v.clone().ok()),
-        Kind::ClaimsSet => copy(alloc, words, |v: &ClaimsSet| v.clone().ok()),
-        Kind::Timestamp => copy(alloc, words, |v: &Timestamp| v.clone().ok()),
-        Kind::PartyInfo => copy(alloc, words, |v: &PartyInfo| v.clone().ok()),
-        Kind::SuppPubInfo => copy(alloc, words, |v: &SuppPubInfo| v.clone().ok()),
-        Kind::KdfContext => copy(alloc, words, |v: &CoseKdfContext| v.clone().ok()),
+        Kind::Header => copy(alloc, words, |v: &Header| copied(v.clone())),
+        Kind::ProtectedHeader => copy(alloc, words, |v: &ProtectedHeader| copied(v.clone())),
+        Kind::Signature => copy(alloc, words, |v: &CoseSignature| copied(v.clone())),
+        Kind::Countersignature => copy(alloc, words, |v: &CoseCountersignature| copied(v.clone())),
+        Kind::Recipient => copy(alloc, words, |v: &CoseRecipient| copied(v.clone())),
+        Kind::Sign1 => copy(alloc, words, |v: &CoseSign1| copied(v.clone())),
+        Kind::Sign => copy(alloc, words, |v: &CoseSign| copied(v.clone())),
+        Kind::Mac => copy(alloc, words, |v: &CoseMac| copied(v.clone())),
+        Kind::Mac0 => copy(alloc, words, |v: &CoseMac0| copied(v.clone())),
+        Kind::Encrypt => copy(alloc, words, |v: &CoseEncrypt| copied(v.clone())),
+        Kind::Encrypt0 => copy(alloc, words, |v: &CoseEncrypt0| copied(v.clone())),
+        Kind::Key => copy(alloc, words, |v: &CoseKey| copied(v.clone())),
+        Kind::KeySet => copy(alloc, words, |v: &CoseKeySet| copied(v.clone())),
+        Kind::ClaimsSet => copy(alloc, words, |v: &ClaimsSet| copied(v.clone())),
+        Kind::Timestamp => copy(alloc, words, |v: &Timestamp| copied(v.clone())),
+        Kind::PartyInfo => copy(alloc, words, |v: &PartyInfo| copied(v.clone())),
+        Kind::SuppPubInfo => copy(alloc, words, |v: &SuppPubInfo| copied(v.clone())),
+        Kind::KdfContext => copy(alloc, words, |v: &CoseKdfContext| copied(v.clone())),
         Kind::Nonce => copy_nonce(alloc, words),
         Kind::ProtectedBstr => Err(unknown()),
     }
 }
 
-/// Copies the value that the word holds, by `clone`, which refuses for memory alone.
+/// Why there is no copy.
+#[derive(Clone, Copy, Debug, Drop, PartialEq, Eq)]
+enum NoCopy {
+    /// Memory ran out.
+    Memory,
+    /// `clone` returned another error.
+    Other,
+}
+
+/// The copy, or which kind of error `clone` returned.
+///
+/// # Errors
+/// It returned one.
+fn copied<T>(answer: Result<T>) -> std::result::Result<T, NoCopy> {
+    match answer {
+        Ok(copy) => Ok(copy),
+        Err(CoseError::OutOfMemory) => Err(NoCopy::Memory),
+        Err(_) => Err(NoCopy::Other),
+    }
+}
+
+/// The copy of a value of CBOR, whose `clone` has no other error.
+///
+/// # Errors
+/// Memory ran out.
+fn copied_value(value: &Value) -> std::result::Result<Value, NoCopy> {
+    match value.clone() {
+        Ok(copy) => Ok(copy),
+        Err(_) => Err(NoCopy::Memory),
+    }
+}
+
+/// Copies the value that the word holds, by `clone`, which returns no error but `OutOfMemory`.
 fn copy<T, F>(alloc: Global, words: &Words<'_>, clone: F) -> Result<String>
 where
     T: AsCborValue + PartialEq + Drop,
-    F: FnOnce(&T) -> Option<T> + Drop,
+    F: FnOnce(&T) -> std::result::Result<T, NoCopy> + Drop,
     requires { F.IsAlwaysCallable clone }
 {
     let value: T = given(alloc, words, 1)?;
@@ -75,8 +107,9 @@ where
     let answer = clone(&value);
     mark::end(alloc);
     match answer {
-        Some(copy) => tell_copy(alloc, &value, copy),
-        None => tell::refused(alloc, CoseError::OutOfMemory),
+        Ok(copy) => tell_copy(alloc, &value, copy),
+        Err(NoCopy::Memory) => tell::refused(alloc, CoseError::OutOfMemory),
+        Err(NoCopy::Other) => Ok(String::from_str(alloc, "another error")?),
     }
 }
 

@@ -10,6 +10,7 @@
 
 mod copies;
 mod kind;
+mod own;
 mod protected;
 mod typed;
 
@@ -27,7 +28,8 @@ impl Calls for TypedCalls {
         match words.word(0).split_once("::") {
             Some((kind, name)) if typed::knows(kind, name) => typed::make(alloc, kind, name, words),
             Some(("ProtectedHeader", name)) => protected::call(alloc, name, words),
-            _ => Err(unknown()),
+            Some((kind, name)) => own::call(alloc, kind, name, words),
+            None => Err(unknown()),
         }
     }
 }

@@ -2,7 +2,8 @@
 
 use crate::typed::{given, lent, told, unknown};
 use coset::cbor::value::Value;
-use coset::{ProtectedBstr, ProtectedHeader, Result};
+use coset::{CoseError, ProtectedBstr, ProtectedHeader, Result};
+use coset_codec::ItemSource;
 use coset_lines::words::Words;
 use coset_lines::{mark, tell};
 use std::alloc::Global;
@@ -15,6 +16,7 @@ pub fn call(alloc: Global, name: &str, words: &Words<'_>) -> Result<String> {
     match name {
         "from_cbor_bstr" => from_cbor_bstr(alloc, words),
         "from_pull_bstr" => from_pull_bstr(alloc, words),
+        "from_source_bstr" => from_source_bstr(alloc, words),
         "cbor_bstr" => cbor_bstr(alloc, words),
         _ => Err(unknown()),
     }
@@ -35,6 +37,24 @@ fn from_pull_bstr(alloc: Global, words: &Words<'_>) -> Result<String> {
     let pull = lent(&bytes)?;
     mark::begin(alloc);
     let answer = ProtectedHeader::from_pull_bstr(alloc, pull);
+    mark::end(alloc);
+    told(alloc, in_string(answer))
+}
+
+/// How the byte string is given, `tree` or `lent`, and the byte string.
+fn from_source_bstr(alloc: Global, words: &Words<'_>) -> Result<String> {
+    let bytes = words.bytes(alloc, 2)?;
+    match words.word(1) {
+        "tree" => from_source(alloc, ItemSource::Tree(words.value::<Value>(alloc, 2)?)),
+        "lent" => from_source(alloc, ItemSource::Lent(lent(&bytes)?)),
+        _ => Err(CoseError::UnexpectedItem("word", "tree or lent")),
+    }
+}
+
+/// The header in the byte string that is given so.
+fn from_source(alloc: Global, source: ItemSource<'_>) -> Result<String> {
+    mark::begin(alloc);
+    let answer = ProtectedHeader::from_source_bstr(alloc, source);
     mark::end(alloc);
     told(alloc, in_string(answer))
 }
