@@ -1,6 +1,8 @@
 //! Strings of each length, in each spelling.
 
 use crate::kind::Kind;
+use coset::cbor::de::read_value;
+use coset::cbor::ser::write_value;
 use std::alloc::{AllocError, Global};
 
 /// The longest string of the sweep.
@@ -31,7 +33,8 @@ const WIDTHS: [usize; 5] = [0, 1, 2, 4, 8];
 /// How long the chunks are of a string of indefinite length.
 const CHUNKS: [usize; 3] = [1, 7, 400];
 
-/// Each string of letters up to the longest is written shortest, whatever head it has and in whatever chunks it comes.
+/// Each string of letters up to the longest is written shortest, whatever head it has and in whatever chunks it comes, also
+/// where the value is lent to the writer.
 /// Answers how many spellings these are, or the first that is returned otherwise.
 pub fn strings(alloc: Global, major: Major) -> Result<String, AllocError> {
     let mut count = 0u32;
@@ -40,13 +43,25 @@ pub fn strings(alloc: Global, major: Major) -> Result<String, AllocError> {
         let spellings = spellings(alloc, major, length)?;
         for spelling in &spellings {
             let text = Kind::Value.answer(alloc, spelling, &[])?;
-            if text != expected {
+            if text != expected || written_lent(alloc, spelling)? != expected {
                 return format!(in alloc; "wrong: length {length}: {text}");
             }
             count = count.saturating_add(1);
         }
     }
     format!(in alloc; "{count} accepted")
+}
+
+/// What is written of the item, in hexadecimal, where its value is lent to the writer; or nothing.
+fn written_lent(alloc: Global, spelling: &[u8]) -> Result<String, AllocError> {
+    let Ok((value, _)) = read_value(alloc, spelling) else {
+        return Ok(String::new(alloc));
+    };
+    let mut written = Vec::new(alloc);
+    match write_value(&value, &mut written) {
+        Ok(()) => hex::encode(alloc, written.as_slice()),
+        Err(_) => Ok(String::new(alloc)),
+    }
 }
 
 /// The shortest encoding, in hexadecimal.
