@@ -1,6 +1,6 @@
 -- The bytes that are kept of a protected header are those of the byte string that was read.
-use Rattle.std.proofs.Common.{◌≡◌, ℕ, zero, suc, List, [], ◌∷◌, ◌==◌, length, Bool, true, false, Option, Some, None, option_map, refl, sym, ap, ◌∙◌, subst}
-use Rattle.std.specs.Prelude.{⊤, ⊥}
+use Rattle.std.proofs.Common.{◌≡◌, ℕ, zero, suc, List, [], ◌∷◌, ◌==◌, length, Bool, true, false, Option, Some, None, option_map, refl, sym, ap, ◌∙◌, subst, arith}
+use Rattle.std.specs.Prelude.{⊤}
 use Rattle.std.specs.Option.{is_none}
 use Rattle.std.proofs.lemmas.Bool.{and_parts, eqb-true}
 use Rattle.coset_value.specs.Item.{Item, Items, no_items, item, array, bytes, null}
@@ -187,8 +187,9 @@ Stays h g = SignaturesReadAs KeepsSignature h g × KeepsAbbreviated h g
 -- no encoding is empty
 no_empty_encoding : (v : Item) → IsEncoding v [] → ⊥
 no_empty_encoding v h =
-    let same : [] ≡ 246 ∷ [] = (encodings_differ v null [] (246 ∷ []) (246 ∷ []) [] h refl refl).1 in
-    absurd (cc)
+    let same = (encodings_differ v null [] (246 ∷ []) (246 ∷ []) [] h refl refl).1 in
+    let none : 0 ≡ 1 = ap (λ (b : List ℕ). length b) same in
+    absurd (omega (arith, none))
 
 content_as_written :
     (k : ℕ) (v : Item) (b : List ℕ) (h g : HeaderView) → header_image h ≡ Some v → IsEncoding v b → ContentDescribes empty_header (layered_header k) b g
