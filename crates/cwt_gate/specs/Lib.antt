@@ -2,3 +2,4 @@ pub mod Token
 pub mod Moment
 pub mod Policy
 pub mod Gate
+pub mod Texts

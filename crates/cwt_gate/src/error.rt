@@ -2,9 +2,12 @@
 
 ghost use Rattle.std.specs.Prelude.{◌≡◌};
 ghost use Rattle.cwt_gate.specs.Gate.{refusal_of};
+ghost use Rattle.cwt_gate.specs.Texts.{gate_error_text, policy_error_text};
 ghost use Rattle.cwt_gate.specs.declared.error.PolicyError.TheVariants.{Gate};
 
 use coset::{CallError, CoseError};
+use std::error::Error;
+use std::fmt;
 
 /// Why a token is not let in. Of several reasons it is the first in this order.
 #[derive(Debug, Drop)]
@@ -25,6 +28,25 @@ pub enum GateError<E> {
     /// The token isn't valid yet: this is a moment before the one that it names (RFC 8392, section 3.1.5).
     NotYetValid,
 }
+
+/// The reason in words. Of the closure's own error it is that error's text.
+impl<E: fmt::Display> fmt::Display for GateError<E> {
+    ghost output = { gate_error_text E.output };
+
+    fn fmt<W: fmt::Write>(&self, f: &mut fmt::Formatter<W>) -> fmt::Result {
+        match self {
+            GateError::Token(error) => write!(f, "not a token: {error}"),
+            GateError::NoPayload => write!(f, "no payload"),
+            GateError::Caller(error) => write!(f, "{error}"),
+            GateError::Claims(error) => write!(f, "not a claims set: {error}"),
+            GateError::FractionalTime => write!(f, "a time is no whole number of seconds"),
+            GateError::Expired => write!(f, "expired"),
+            GateError::NotYetValid => write!(f, "not yet valid"),
+        }
+    }
+}
+
+impl<E: Error> Error for GateError<E> {}
 
 /// A signature that can't be verified: by the closure, or for what comes before it is asked.
 impl<E: Drop> From<CallError<E>> for GateError<E> {
@@ -52,6 +74,22 @@ pub enum PolicyError<E> {
     /// The token is for another audience, or for none, where the policy has one (RFC 8392, section 3.1.3).
     Audience,
 }
+
+/// The reason in words, as that of [`GateError`].
+impl<E: fmt::Display> fmt::Display for PolicyError<E> {
+    ghost output = { policy_error_text E.output };
+
+    fn fmt<W: fmt::Write>(&self, f: &mut fmt::Formatter<W>) -> fmt::Result {
+        match self {
+            PolicyError::Gate(error) => write!(f, "{error}"),
+            PolicyError::Algorithm => write!(f, "algorithm not allowed"),
+            PolicyError::Critical => write!(f, "critical label not understood"),
+            PolicyError::Audience => write!(f, "another audience"),
+        }
+    }
+}
+
+impl<E: Error> Error for PolicyError<E> {}
 
 /// A reason of the gate.
 impl<E: Drop> From<GateError<E>> for PolicyError<E> {
