@@ -140,7 +140,7 @@ authenticates AnyLayer form = true
 
 -- ---- claims
 
--- the policy asks for nobody, or the claims name the same
+-- no name is wanted, or the claims have the same
 abbrev pub is_meant : Option (List ℕ) → Option (List ℕ) → Bool
 is_meant None named = true
 is_meant (Some a) None = false

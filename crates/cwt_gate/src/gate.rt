@@ -70,7 +70,7 @@ where
 ///
 /// # Errors
 /// The first that applies, in the order of [`PolicyError`]. Out of memory is `Token` until all layers are opened, and `Claims`
-/// from then on. A moment that is an infinity or no number refuses, where it is asked about.
+/// from then on. A moment that is an infinity or no number refuses the token, where the policy looks at it.
 pub fn judge_with<K: Keys>(
     alloc: Global,
     policy: &Policy<'_>,

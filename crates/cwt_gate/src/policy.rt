@@ -64,16 +64,16 @@ pub struct Policy<'a> {
     pub max_age: Option<u64>,
     /// How many seconds the clocks of issuer and verifier may differ: a token is valid so much longer, and so much earlier.
     pub leeway: u64,
-    /// The issuer that the claims must name (`iss`), where one is asked.
+    /// The issuer that the claims must name (`iss`), where there is one.
     pub issuer: Option<&'a str>,
-    /// The audience that the claims must name (`aud`), where one is asked.
+    /// The audience that the claims must name (`aud`), where there is one.
     pub audience: Option<&'a str>,
 }
 
 impl<'a> Policy<'a> {
     /// The policy that lets nothing in, since it has no algorithm: no critical label is understood, a layer without a tag has a
     /// signature, a signature or a MAC authenticates, claims whose numbers aren't assigned are refused, a token must expire and
-    /// not be issued later than now, and clocks don't differ. There is no greatest age, and no issuer or audience is asked.
+    /// not be issued later than now, and clocks don't differ. There is no greatest age, no issuer and no audience.
     pub fn strict() -> Policy<'a>
         ensures { policy_view result ≡ strict }
     {
@@ -150,15 +150,15 @@ impl Policy<'_> {
     }
 }
 
-/// Whether nobody is asked for, or the claims name the same.
-pub(crate) fn is_meant(asked: &Option<&str>, named: &Option<String>) -> bool
-    ensures { result ≡ is_meant (option_map (λ s. s.now) asked.now)
+/// Whether no name is wanted, or the claims have the same.
+pub(crate) fn is_meant(wanted: &Option<&str>, named: &Option<String>) -> bool
+    ensures { result ≡ is_meant (option_map (λ s. s.now) wanted.now)
         (option_map string_bytes named.now) }
 {
-    match (asked, named) {
+    match (wanted, named) {
         (None, _) => true,
         (Some(_), None) => false,
-        (Some(asked), Some(named)) => named.as_str() == *asked,
+        (Some(wanted), Some(named)) => named.as_str() == *wanted,
     }
 }
 
