@@ -1,35 +1,50 @@
 -- What is known of a token that is let in.
-use Rattle.std.specs.Prelude.{IfOk}
+use Rattle.std.specs.Prelude.{IfOk, not}
 use Rattle.std.specs.Cmp.Lexicographic.{bytes_decides}
-use Rattle.std.proofs.Common.{◌≡◌, ◌||◌, ◌∷◌, ℕ, ℤ, List, [], Bool, Option, Some, None, Result, Ok, Err, ap, sym, true, false, true≢false}
-use Rattle.coset_label.specs.Names.{RegisteredName, TellsApart, registered_cmp}
-use Rattle.coset_claims.specs.Claims.{claims_view, same_name}
-use Rattle.coset_claims.specs.declared.claims_set.ClaimsSet.{ClaimsSet}
-use Rattle.cwt_gate.specs.Gate.{JudgesWith, Verifies}
-use Rattle.cwt_gate.specs.Policy.{is_meant, is_one_of, is_there_and}
+use Rattle.std.proofs.Common.{◌≡◌, ◌∷◌, ℕ, ℤ, List, [], Bool, Option, Some, None, Result, Ok, Err, ap, refl, sym, true, false, true≢false}
+use Rattle.coset_claims.specs.Claims.{ClaimsView, claims_view}
+use Rattle.coset_claims.specs.declared.known.KnownClaims.{KnownClaims}
+use Rattle.cwt_gate.specs.Door.{JudgesWith}
+use Rattle.cwt_gate.specs.Keys.{KeysView}
+use Rattle.cwt_gate.specs.Moment.{has_expired, is_early, is_too_old}
+use Rattle.cwt_gate.specs.Policy.{first_true, is_meant, reasons}
 use Rattle.cwt_gate.specs.declared.error.PolicyError.{PolicyError}
 use Rattle.coset_uses.specs.LetIn.{IsLetIn, policy_of}
 
-first_of_two : (b : Bool) → b || false ≡ true → b ≡ true
-first_of_two true e = e
-first_of_two false e = e
+-- none is true
+abbrev AreFalse : {A : Type 0} → List (Bool × A) → Type 0
+AreFalse [] = Unit {0}
+AreFalse ((b, x) ∷ xs) = (b ≡ false) × AreFalse xs
 
--- one of a list of one is that one
-pub only : TellsApart registered_cmp → (a : RegisteredName) (o : Option RegisteredName) → is_there_and (is_one_of (a ∷ [])) o ≡ true → o ≡ Some a
-only law a None e = absurd (true≢false (sym e))
-only law a (Some l) e = ap Some (sym ((law a l).0 (first_of_two (same_name a l) e)))
+are-false : {A : Type 0} (xs : List (Bool × A)) → first_true xs ≡ None → AreFalse xs
+are-false [] e = tt
+are-false ((true, x) ∷ xs) e = absurd cc
+are-false ((false, x) ∷ xs) e = (refl, are-false xs e)
+
+not-false : (b : Bool) → not b ≡ false → b ≡ true
+not-false true e = refl
+not-false false e = absurd (true≢false e)
 
 -- who asks for an audience is named by the claims
-pub meant : (a : List ℕ) (named : Option (List ℕ)) → is_meant (Some a) named ≡ true → named ≡ Some a
+meant : (a : List ℕ) (named : Option (List ℕ)) → is_meant (Some a) named ≡ true → named ≡ Some a
 meant a None e = absurd (true≢false (sym e))
 meant a (Some b) e = ap Some (sym ((bytes_decides a b).0 e))
 
--- what the gate lets in, by a policy of one algorithm and this audience
+-- what the gate lets in, by this policy
 pub known :
-    {F E : Type 0} (g : Verifies F E) (f : F) (a : RegisteredName) (audience : List ℕ) (now : ℤ) (b : List ℕ) (r : Result ClaimsSet (PolicyError E))
-    → TellsApart registered_cmp
-    → JudgesWith g f (policy_of a audience) now b r
-    → IfOk r (λ x. IsLetIn g f a audience b (claims_view x))
-known g f a audience now b (Err e) law h = tt
-known g f a audience now b (Ok x) law h =
-    record { message = h.0.0; read = h.0.1; named = only law a _ h.0.2.0.0; accepted = h.0.2.1; meant = meant audience _ h.3 }
+    {E : Type 0} (k : KeysView E) (audience : List ℕ) (now : ℤ) (b : List ℕ) (r : Result KnownClaims (PolicyError E)) → JudgesWith k (policy_of audience) now b r
+    → IfOk r (λ x. IsLetIn k audience b (claims_view x.claims))
+known k audience now b (Err e) h = tt
+known {E} k audience now b (Ok x) h =
+    let c = claims_view x.claims in
+    let p = policy_of audience in
+    let none : AreFalse (reasons {E = E} p now c) = are-false (reasons {E = E} p now c) h.4.2.1 in
+    record {
+      layers = h.0;
+      content = h.1;
+      inside = h.2;
+      authentic = h.4.1;
+      described = (h.4.2.0.0, h.4.2.0.1, h.4.2.0.2.0);
+      meant = meant audience c.audience (not-false _ none.1.1.1.1.1.1.0);
+      expires = none.0;
+    }

@@ -1,23 +1,32 @@
 -- A web token that is let in.
-use Rattle.std.specs.Prelude.{◌≡◌, ℕ, List, [], ◌∷◌, Some}
+use Rattle.std.specs.Prelude.{◌≡◌, ℕ, List, [], ◌∷◌, Some, true, false, is_none}
 use Rattle.coset_codec.specs.Answers.{Describes}
-use Rattle.coset_label.specs.Names.{RegisteredName}
-use Rattle.coset_core.specs.Headers.{fields_in}
-use Rattle.coset_claims.specs.Claims.{ClaimsView}
-use Rattle.coset_sign.specs.Sign1.{Sign1View}
-use Rattle.cwt_gate.specs.Gate.{Accepts, Verifies}
-use Rattle.cwt_gate.specs.Policy.{PolicyView}
-use Rattle.cwt_gate.specs.Token.{token}
+use Rattle.coset_iana.specs.Algorithm as algorithms
+use Rattle.coset_iana.specs.declared.algorithms.Algorithm.TheVariants.{ES256, HMAC_256_64, HMAC_256_256, AES_CCM_16_64_128}
+use Rattle.coset_label.specs.Names.{assigned}
+use Rattle.coset_claims.specs.Claims.{ClaimsView, claims}
+use Rattle.cwt_gate.specs.Door.{IsIn, is_authentic}
+use Rattle.cwt_gate.specs.Keys.{KeysView}
+use Rattle.cwt_gate.specs.Layers.{LayerView}
+use Rattle.cwt_gate.specs.Policy.{PolicyView, strict}
 
--- the bytes are a token whose protected header names this algorithm; the closure f accepts its signature, of what that is
--- over, and its payload describes these claims, which are for this audience
-pub record IsLetIn {F E : Type 0} (g : Verifies F E) (f : F) (algorithm : RegisteredName) (audience b : List ℕ) (c : ClaimsView) : Type 0 where
-  pub message : Sign1View
-  pub read : Describes token b message
-  pub named : (fields_in message.protected.header).alg ≡ Some algorithm
-  pub accepted : Accepts g f message c
+-- the strict policy, with these algorithms, this audience, and a leeway of one minute
+abbrev pub policy_of : List ℕ → PolicyView
+policy_of audience = record strict {
+  signatures = assigned (algorithms.number ES256) ∷ [];
+  macs = assigned (algorithms.number HMAC_256_64) ∷ assigned (algorithms.number HMAC_256_256) ∷ [];
+  ciphers = assigned (algorithms.number AES_CCM_16_64_128) ∷ [];
+  leeway = 60;
+  audience = Some audience;
+}
+
+-- the claims c are what is in these layers of the token b, each of which the keys accept, and one has a signature or a MAC;
+-- they are for this audience, and expire
+pub record IsLetIn {E : Type 0} (k : KeysView E) (audience b : List ℕ) (c : ClaimsView) : Type 0 where
+  pub layers : List LayerView
+  pub content : List ℕ
+  pub inside : IsIn k (policy_of audience) b layers content
+  pub authentic : is_authentic (policy_of audience) layers ≡ true
+  pub described : Describes claims content c
   pub meant : c.audience ≡ Some audience
-
--- a policy of this one algorithm and this audience, with a leeway of one minute, that understands no critical label
-abbrev pub policy_of : RegisteredName → List ℕ → PolicyView
-policy_of algorithm audience = record { algorithms = algorithm ∷ []; audience = Some audience; leeway = 60; critical = [] }
+  pub expires : is_none c.expiration_time ≡ false

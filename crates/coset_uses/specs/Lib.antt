@@ -16,3 +16,4 @@ pub mod Sequence
 pub mod SharedKey
 pub mod Signers
 pub mod Store
+pub mod TokenKeys

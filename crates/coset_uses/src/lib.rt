@@ -24,4 +24,5 @@ pub mod signers;
 pub mod stand_in;
 pub mod store;
 pub mod structures;
+pub mod token_keys;
 pub mod verify;

@@ -11,6 +11,7 @@ use coset::{
     CallError, CborSerializable, CoseEncrypt0Builder, CoseError, CoseMac0Builder, CoseSign1,
     CoseSign1Builder, HeaderBuilder,
 };
+use cwt_gate::{GateError, PolicyError};
 use std::alloc::Global;
 use std::error::Error;
 use std::fmt;
@@ -150,10 +151,50 @@ fn what_the_errors_say(rt: HostRuntime) -> Result<(), Fail> {
     Ok(())
 }
 
+/// Why a caller's own program stops.
+#[derive(Drop)]
+struct Stopped(PolicyError<NoKey>);
+
+impl From<PolicyError<NoKey>> for Stopped {
+    fn from(error: PolicyError<NoKey>) -> Stopped {
+        Stopped(error)
+    }
+}
+
+/// A reason of the gate goes by `?` into an error of the caller's own.
+fn passed_on(error: PolicyError<NoKey>) -> Result<(), Stopped> {
+    Err::<(), PolicyError<NoKey>>(error)?;
+    Ok(())
+}
+
+#[test]
+fn what_the_gate_says(rt: HostRuntime) -> Result<(), Fail> {
+    let alloc = rt.alloc();
+    let refused: GateError<NoKey> = GateError::Token(CoseError::ExtraneousData);
+    assert_eq!(rt;
+        text(alloc, &refused)?.as_str(),
+        "not a token: extraneous data in CBOR input"
+    );
+    let refused: GateError<NoKey> = GateError::Claims(CoseError::DuplicateMapKey);
+    assert_eq!(rt;
+        text(alloc, &refused)?.as_str(),
+        "not a claims set: duplicate map key"
+    );
+    let Stopped(refused) = passed_on(PolicyError::Gate(GateError::Caller(NoKey)))
+        .err()
+        .ok_or("went on")?;
+    assert_eq!(rt; text(alloc, &refused)?.as_str(), "no such key");
+    let refused: PolicyError<NoKey> = PolicyError::Audience;
+    assert_eq!(rt; text(alloc, &refused)?.as_str(), "another audience");
+    Ok(())
+}
+
 #[test]
 fn every_error_is_one(_rt: HostRuntime) -> Result<(), Fail> {
     is_error::<CoseError>();
     is_error::<CallError<NoKey>>();
+    is_error::<GateError<NoKey>>();
+    is_error::<PolicyError<NoKey>>();
     is_error::<OutOfMemory>();
     is_error::<EndOfFile>();
     is_error::<de::Error<EndOfFile>>();

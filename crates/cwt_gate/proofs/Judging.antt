@@ -13,12 +13,10 @@ use Rattle.coset.specs.CoseError.{CoseError}
 use Rattle.coset.specs.Encoding.{HasNoImage}
 use Rattle.coset.specs.Item.{Item}
 use Rattle.coset.specs.Sign1.{Sign1View, sign1, sign1_carried, sign1_structure}
-use Rattle.cwt_gate.specs.Gate.{GivesClaims, IsAdmitted, Judges, JudgesWith, Says, Verifies, refusal_of}
-use Rattle.cwt_gate.specs.Policy.{PolicyView}
+use Rattle.cwt_gate.specs.Gate.{GivesClaims, Judges, Says, Verifies, refusal_of}
 use Rattle.cwt_gate.specs.Token.{token}
 use Rattle.cwt_gate.specs.declared.error.GateError.{GateError}
 use Rattle.cwt_gate.specs.declared.error.GateError.TheVariants as gate
-use Rattle.cwt_gate.specs.declared.error.PolicyError.TheVariants.{Gate}
 
 -- of a message that was read there is something that is signed
 abbrev pub AlwaysSigned : Type 0
@@ -63,14 +61,3 @@ module _ {F E : Type 0} (g : Verifies F E) (f : F) where
   none_given law now b m gate.FractionalTime d h = absurd h
   none_given law now b m gate.Expired d h = absurd h
   none_given law now b m gate.NotYetValid d h = absurd h
-
-  -- and with a policy that admits it
-  pub none_given_with : AlwaysSigned → (p : PolicyView) (now : ℤ) (b : List ℕ) (m : Sign1View) (e : GateError E) → Describes token b m → IsAdmitted p m
-      → GivesClaims g f m (Err e) → JudgesWith g f p now b (Err (Gate e))
-  none_given_with law p now b m (gate.Token e) d a h = unsigned law b m e d h
-  none_given_with law p now b m gate.NoPayload d a h = (m, d, (a, h))
-  none_given_with law p now b m (gate.Caller e) d a h = (m, d, (a, h))
-  none_given_with law p now b m (gate.Claims e) d a h = (m, d, (a, h))
-  none_given_with law p now b m gate.FractionalTime d a h = absurd h
-  none_given_with law p now b m gate.Expired d a h = absurd h
-  none_given_with law p now b m gate.NotYetValid d a h = absurd h

@@ -1,2 +1,4 @@
 mod Opened
 mod Judging
+mod Layering
+mod LettingIn

@@ -1,5 +1,5 @@
 -- What a header holds, as the code sees it and as contracts do.
-use Rattle.std.proofs.Common.{◌≡◌, ◌==◌, List, [], ◌∷◌, ◌||◌, ◌&&◌, Bool, Option, Some, None, length, map, refl, arith, ap, option_map, is_some}
+use Rattle.std.proofs.Common.{◌≡◌, ◌∙◌, ◌==◌, ℕ, List, [], ◌∷◌, ◌||◌, ◌&&◌, Bool, true, false, true≢false, sym, Option, Some, None, length, map, refl, arith, ap, option_map, is_some}
 use Rattle.std.specs.List.{list_any, list_all}
 use Rattle.std.proofs.lemmas.Bool.Decides.{nat_tests}
 use Rattle.coset.specs.FieldViews.{fields_view}
@@ -8,6 +8,7 @@ use Rattle.coset.specs.ProtectedHeader.{ProtectedHeader, out-ProtectedHeader}
 use Rattle.coset.specs.ViewLaws.{header-opened, protected-opened}
 use Rattle.coset.specs.Views.{header_view, protected_view}
 use Rattle.coset.specs.Header.{Header}
+use Rattle.cwt_gate.specs.Keys.{first_nonempty}
 
 pub opened : (h : Header) → fields_in (header_view h) ≡ fields_view h
 opened h = ap fields_in (header-opened h)
@@ -31,3 +32,15 @@ some-map f (Some x) = refl
 pub none-of : {A : Type 0} (f : A → SignatureView) (xs : List A) → are_none (signatures_of (map f xs)) ≡ (length xs == 0)
 none-of f [] = refl
 none-of f (x ∷ xs) = grind (arith, nat_tests)
+
+is-nonempty : {A : Type 0} (x : A) (xs : List A) → (length (x ∷ xs) == 0) ≡ false
+is-nonempty x xs = grind (arith, nat_tests)
+
+-- the first of two lists, unless it is empty
+pub first-empty : (xs ys : List ℕ) → (length xs == 0) ≡ true → first_nonempty xs ys ≡ ys
+first-empty [] ys e = refl
+first-empty (x ∷ xs) ys e = absurd (true≢false (sym e ∙ is-nonempty x xs))
+
+pub first-nonempty : (xs ys : List ℕ) → (length xs == 0) ≡ false → first_nonempty xs ys ≡ xs
+first-nonempty [] ys e = absurd (true≢false e)
+first-nonempty (x ∷ xs) ys e = refl

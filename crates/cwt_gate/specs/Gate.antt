@@ -13,12 +13,9 @@ use Rattle.coset.specs.Encoding.{HasNoImage}
 use Rattle.coset.specs.Shape.{Shape}
 use Rattle.coset.specs.Sign1.{Sign1View, sign1_carried}
 use Rattle.cwt_gate.specs.Moment.{has_expired, has_fraction, is_early}
-use Rattle.cwt_gate.specs.Policy.{PolicyView, allows, understands, is_for}
 use Rattle.cwt_gate.specs.Token.{token}
 use Rattle.cwt_gate.specs.declared.error.GateError.{GateError}
 use Rattle.cwt_gate.specs.declared.error.GateError.TheVariants.{Token, NoPayload, Caller, Claims, FractionalTime, Expired, NotYetValid}
-use Rattle.cwt_gate.specs.declared.error.PolicyError.{PolicyError}
-use Rattle.cwt_gate.specs.declared.error.PolicyError.TheVariants.{Gate, Algorithm, Critical, Audience}
 
 -- what closures are that judge a signature and what it is over
 abbrev pub Verifies : Type 0 → Type 0 → Type 1
@@ -81,36 +78,3 @@ Judges g f now b (Err NotYetValid) =
     × (has_fraction c ≡ false)
     × (has_expired 0 now c.expiration_time ≡ false)
     × (is_early 0 now c.not_before ≡ true)
-
--- ---- with a policy
-
--- the protected header's algorithm is one of the policy's, and each label that must be understood is
-abbrev pub IsAdmitted : PolicyView → Sign1View → Type 0
-IsAdmitted p m = (allows p m.protected.header ≡ true) × (understands p m ≡ true)
-
--- the token b is a message that the policy admits and f accepts, of these claims
-abbrev pub IsAccepted : {F E : Type 0} → Verifies F E → F → PolicyView → List ℕ → ClaimsView → Type 0
-IsAccepted g f p b c = IsToken b (λ m. IsAdmitted p m × Accepts g f m c)
-
--- What is returned of the token b at a moment: the claims that f accepts, that are valid then and that the policy lets in;
--- or the first reason that is against it
-abbrev pub JudgesWith : {F E : Type 0} → Verifies F E → F → PolicyView → ℤ → List ℕ → Result ClaimsSet (PolicyError E) → Type 0
-JudgesWith g f p now b (Ok x) =
-    let c = claims_view x in
-    IsAccepted g f p b c × (has_expired p.leeway now c.expiration_time ≡ false) × (is_early p.leeway now c.not_before ≡ false) × (is_for p c ≡ true)
-JudgesWith g f p now b (Err (Gate (Token e))) = IsRefused token b e
-JudgesWith g f p now b (Err Algorithm) = IsToken b (λ m. allows p m.protected.header ≡ false)
-JudgesWith g f p now b (Err Critical) = IsToken b (λ m. (allows p m.protected.header ≡ true) × (understands p m ≡ false))
-JudgesWith g f p now b (Err (Gate NoPayload)) = IsToken b (λ m. IsAdmitted p m × (m.payload ≡ None))
-JudgesWith g f p now b (Err (Gate (Caller e))) = IsToken b (λ m. IsAdmitted p m × Refuses g f m e)
-JudgesWith g f p now b (Err (Gate (Claims e))) = IsToken b (λ m. IsAdmitted p m × CarriesNoClaims g f m e)
-JudgesWith g f p now b (Err (Gate FractionalTime)) = ⊥
-JudgesWith g f p now b (Err (Gate Expired)) = (c : ClaimsView) × IsAccepted g f p b c × (has_expired p.leeway now c.expiration_time ≡ true)
-JudgesWith g f p now b (Err (Gate NotYetValid)) =
-    (c : ClaimsView) × IsAccepted g f p b c × (has_expired p.leeway now c.expiration_time ≡ false) × (is_early p.leeway now c.not_before ≡ true)
-JudgesWith g f p now b (Err Audience) =
-    (c : ClaimsView)
-    × IsAccepted g f p b c
-    × (has_expired p.leeway now c.expiration_time ≡ false)
-    × (is_early p.leeway now c.not_before ≡ false)
-    × (is_for p c ≡ false)

@@ -1,4 +1,8 @@
 pub mod Token
 pub mod Moment
-pub mod Policy
 pub mod Gate
+pub mod Layers
+pub mod Keys
+pub mod Policy
+pub mod Door
+pub mod Texts

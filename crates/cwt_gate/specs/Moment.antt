@@ -33,3 +33,10 @@ has_expired leeway now (Some exp) = has_come true (now -ℤ pos leeway) exp
 abbrev pub is_early : ℕ → ℤ → Option TimestampView → Bool
 is_early leeway now None = false
 is_early leeway now (Some nbf) = not (has_come false (now +ℤ pos leeway) nbf)
+
+-- a greatest age is asked for, and iat isn't there, or now is at least iat, that age and the leeway together: iat and the age
+-- count as an expiration
+abbrev pub is_too_old : Option ℕ → ℕ → ℤ → Option TimestampView → Bool
+is_too_old None leeway now issued = false
+is_too_old (Some age) leeway now None = true
+is_too_old (Some age) leeway now (Some issued) = has_come true (now -ℤ pos leeway -ℤ pos age) issued

@@ -1,30 +1,78 @@
 -- What a verifier asks of a token beside its signature and its times.
-use Rattle.std.specs.Prelude.{◌==◌, ◌&&◌, ◌||◌, not, ℕ, ℤ, pos, List, [], ◌∷◌, length, map, option_map, Option, Some, None, Bool, true, false, is_some}
+use Rattle.std.specs.Prelude.{◌≡◌, ◌==◌, ◌&&◌, ◌||◌, not, ℕ, ℤ, pos, List, [], ◌∷◌, length, map, option_map, Option, Some, None, Bool, true, false, is_some, is_none}
+use Rattle.std.specs.Prelude.{Result, Ok, Err}
 use Rattle.std.specs.List.{list_any, list_all}
 use Rattle.std.specs.Ordering.{int_eq}
 use Rattle.std.specs.Cmp.Lexicographic.{pointwise}
 use Rattle.coset.specs.Claims.{ClaimsView}
 use Rattle.coset.specs.Claims as claims
 use Rattle.coset.specs.Headers.{HeaderView, header_of, fields_in, are_none}
+use Rattle.coset.specs.Known.{Others, known}
 use Rattle.coset.specs.LabelViews.{algorithm_view}
 use Rattle.coset.specs.Names.{Name, number, text_label, RegisteredName, as_name, same_name}
-use Rattle.coset.specs.Sign1.{Sign1View}
+use Rattle.coset.specs.Shape.{Shape}
 use Rattle.coset.specs.Views.{critical_view}
+use Rattle.cwt_gate.specs.Moment.{has_expired, is_early, is_too_old}
+use Rattle.cwt_gate.specs.declared.error.GateError.TheVariants.{Expired, NotYetValid}
+use Rattle.cwt_gate.specs.declared.error.PolicyError.{PolicyError}
+use Rattle.cwt_gate.specs.declared.error.PolicyError.TheVariants.{Gate, NoExpiration, IssuedLater, TooOld, Issuer, Audience}
+use Rattle.cwt_gate.specs.declared.form.Form.{Form}
+use Rattle.cwt_gate.specs.declared.form.Form.TheVariants.{Sign1, Mac0, Encrypt0}
+use Rattle.cwt_gate.specs.declared.policy.Authentication.{Authentication}
+use Rattle.cwt_gate.specs.declared.policy.Authentication.TheVariants.{Signature, SignatureOrMac, AnyLayer}
 use Rattle.cwt_gate.specs.declared.policy.Policy.{Policy}
+use Rattle.cwt_gate.specs.declared.policy.Unassigned.{Unassigned}
+use Rattle.cwt_gate.specs.declared.policy.Unassigned.TheVariants.{Refused, LeftOut}
 
 -- a policy without its memory
 pub record PolicyView : Type 0 where
-  pub algorithms : List RegisteredName
-  pub audience : Option (List ℕ)
-  pub leeway : ℕ
+  pub signatures : List RegisteredName
+  pub macs : List RegisteredName
+  pub ciphers : List RegisteredName
   pub critical : List RegisteredName
+  pub plain : Form
+  pub authenticated_by : Authentication
+  pub unassigned : Unassigned
+  pub expires : Bool
+  pub issued : Bool
+  pub max_age : Option ℕ
+  pub leeway : ℕ
+  pub issuer : Option (List ℕ)
+  pub audience : Option (List ℕ)
 
 abbrev pub policy_view : Policy → PolicyView
 policy_view p = record {
-  algorithms = map algorithm_view p.algorithms.now;
-  audience = option_map (λ s. s.now) p.audience;
-  leeway = p.leeway;
+  signatures = map algorithm_view p.signatures.now;
+  macs = map algorithm_view p.macs.now;
+  ciphers = map algorithm_view p.ciphers.now;
   critical = map critical_view p.critical.now;
+  plain = p.plain;
+  authenticated_by = p.authenticated_by;
+  unassigned = p.unassigned;
+  expires = p.expires;
+  issued = p.issued;
+  max_age = p.max_age;
+  leeway = p.leeway;
+  issuer = option_map (λ s. s.now) p.issuer;
+  audience = option_map (λ s. s.now) p.audience;
+}
+
+-- the policy that allows nothing, and asks that tokens expire
+abbrev pub strict : PolicyView
+strict = record {
+  signatures = [];
+  macs = [];
+  ciphers = [];
+  critical = [];
+  plain = Sign1;
+  authenticated_by = SignatureOrMac;
+  unassigned = Refused;
+  expires = true;
+  issued = true;
+  max_age = None;
+  leeway = 0;
+  issuer = None;
+  audience = None;
 }
 
 -- there is something, and it passes the test
@@ -36,9 +84,15 @@ is_there_and test (Some x) = test x
 abbrev pub is_one_of : List RegisteredName → RegisteredName → Bool
 is_one_of labels l = list_any (λ m. claims.same_name m l) labels
 
--- the header names an algorithm, which is one of the policy's
-abbrev pub allows : PolicyView → HeaderView → Bool
-allows p h = is_there_and (is_one_of p.algorithms) (fields_in h).alg
+-- the algorithms that the policy has for layers of this form
+abbrev pub algorithms_for : PolicyView → Form → List RegisteredName
+algorithms_for p Sign1 = p.signatures
+algorithms_for p Mac0 = p.macs
+algorithms_for p Encrypt0 = p.ciphers
+
+-- the header of a layer of this form names an algorithm, which is one of the policy's
+abbrev pub allows : PolicyView → Form → HeaderView → Bool
+allows p form h = is_there_and (is_one_of (algorithms_for p form)) (fields_in h).alg
 
 -- ---- labels that must be understood (RFC 8152, section 3.1, "crit")
 
@@ -69,17 +123,54 @@ has_label h l = is_parameter h l || list_any (λ e. same_name e.0 l) (fields_in 
 abbrev pub is_understood : PolicyView → HeaderView → RegisteredName → Bool
 is_understood p h l = is_one_of p.critical l && has_label h (as_name l)
 
--- each label that must be understood is; and they are in the protected header alone
-abbrev pub understands : PolicyView → Sign1View → Bool
-understands p m =
-    let h = m.protected.header in
-    list_all (is_understood p h) (fields_in h).crit && length (fields_in m.unprotected).crit == 0
+-- each label that must be understood is; and they are in the protected header, h, alone
+abbrev pub understands : PolicyView → HeaderView → HeaderView → Bool
+understands p h unprotected = list_all (is_understood p h) (fields_in h).crit && length (fields_in unprotected).crit == 0
 
--- the policy has no audience, or the claims name the same
+-- ---- which layers authenticate who sent the token
+
+abbrev pub authenticates : Authentication → Form → Bool
+authenticates Signature Sign1 = true
+authenticates Signature Mac0 = false
+authenticates Signature Encrypt0 = false
+authenticates SignatureOrMac Sign1 = true
+authenticates SignatureOrMac Mac0 = true
+authenticates SignatureOrMac Encrypt0 = false
+authenticates AnyLayer form = true
+
+-- ---- claims
+
+-- no name is wanted, or the claims have the same
 abbrev pub is_meant : Option (List ℕ) → Option (List ℕ) → Bool
 is_meant None named = true
 is_meant (Some a) None = false
 is_meant (Some a) (Some b) = pointwise ◌==◌ a b
 
-abbrev pub is_for : PolicyView → ClaimsView → Bool
-is_for p c = is_meant p.audience c.audience
+-- claims whose numbers IANA hasn't assigned: none may be there, or they are left out, and handed back by label
+-- (RFC 8392, section 3)
+abbrev pub claims_by : Unassigned → Shape (ClaimsView × Others)
+claims_by Refused = record { describes = λ v x. claims.claims.describes v x.0 × (x.1 ≡ []); image = λ x. None; faults = claims.claims.faults }
+claims_by LeftOut = known
+
+-- the reasons against claims at a moment, in order, and whether each is true
+abbrev pub reasons : {E : Type 0} → PolicyView → ℤ → ClaimsView → List (Bool × PolicyError E)
+reasons p now c =
+    (p.expires && is_none c.expiration_time, NoExpiration)
+    ∷ (has_expired p.leeway now c.expiration_time, Gate Expired)
+    ∷ (is_early p.leeway now c.not_before, Gate NotYetValid)
+    ∷ (p.issued && is_early p.leeway now c.issued_at, IssuedLater)
+    ∷ (is_too_old p.max_age p.leeway now c.issued_at, TooOld)
+    ∷ (not (is_meant p.issuer c.issuer), Issuer)
+    ∷ (not (is_meant p.audience c.audience), Audience)
+    ∷ []
+
+-- the first that is true, where one is
+abbrev pub first_true : {A : Type 0} → List (Bool × A) → Option A
+first_true [] = None
+first_true ((true, x) ∷ xs) = Some x
+first_true ((false, x) ∷ xs) = first_true xs
+
+-- there is none; or the error is the first
+abbrev pub IsFirst : {E : Type 0} → List (Bool × E) → Result (Unit {0}) E → Type 0
+IsFirst xs (Ok x) = first_true xs ≡ None
+IsFirst xs (Err e) = first_true xs ≡ Some e

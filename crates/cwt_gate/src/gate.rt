@@ -1,14 +1,18 @@
 //! The gate.
 
-ghost use Rattle.cwt_gate.specs.Gate.{Judges, JudgesWith};
+ghost use Rattle.cwt_gate.specs.Door.{JudgesWith};
+ghost use Rattle.cwt_gate.specs.Gate.{Judges};
 ghost use Rattle.cwt_gate.specs.Policy.{policy_view};
 
+use crate::claims::{let_in, read_claims};
 use crate::error::{GateError, PolicyError};
+use crate::keys::Keys;
+use crate::layers::open_all;
 use crate::moment::{has_expired, has_fraction, is_early};
 use crate::policy::Policy;
 use crate::token::read_token;
 use crate::verified::verified_claims;
-use coset::cwt::ClaimsSet;
+use coset::cwt::{ClaimsSet, KnownClaims};
 use coset::laws::signed_when_read;
 use std::alloc::Global;
 
@@ -53,48 +57,37 @@ where
     Ok(claims)
 }
 
-/// The same as [`judge`], of a token that also meets a policy: its protected header names one of the policy's algorithms,
-/// and no label that must be understood but the policy's, all of them in that header; times count with the policy's leeway,
-/// and fractions of a second as they are; and the token is for the policy's audience.
+/// The claims of a token that is valid at `now`, in seconds since 1970 began in UTC, once `keys` accepted each of its layers,
+/// where token and claims are as the policy asks (RFC 8392, section 7.2).
 ///
-/// `verify` is called only where algorithm and labels are as the policy asks.
+/// A layer is a message with a signature (`COSE_Sign1`), with a MAC (`COSE_Mac0`), or encrypted (`COSE_Encrypt0`), plain or
+/// under its tag, and the outermost also under the tag of web tokens on that (RFC 8392, section 6). What is in a layer, the
+/// payload that it carries or the plaintext that the keys make, is another layer where it begins as an array or a tag does, at
+/// most four in all, and the claims otherwise. `keys` is handed each layer once, from the outermost in, only where its
+/// algorithm and its critical labels are as the policy asks. Only what they accepted is looked into.
+///
+/// Claims that the policy leaves out are `others` of what is returned.
 ///
 /// # Errors
-/// The first that applies, in the order of [`PolicyError`]. Out of memory is `Token` until `verify` was called, and
-/// `Claims` from then on. A moment that is an infinity or no number refuses: as `Expired`, or as `NotYetValid`.
-pub fn judge_with<F, E>(
+/// The first that applies, in the order of [`PolicyError`]. Out of memory is `Token` until all layers are opened, and `Claims`
+/// from then on. A moment that is an infinity or no number refuses the token, where the policy looks at it.
+pub fn judge_with<K: Keys>(
     alloc: Global,
     policy: &Policy<'_>,
+    keys: &K,
     token: &[u8],
     now: i64,
-    verify: F,
-) -> Result<ClaimsSet, PolicyError<E>>
-where
-    F: FnOnce(&[u8], &[u8]) -> Result<(), E> + Drop,
-    E: Drop,
-    requires { F.IsAlwaysCallable verify }
-    ensures { JudgesWith F.FnOnce verify (policy_view policy.now) now token.now result }
+) -> Result<KnownClaims, PolicyError<K::Error>>
+    ensures { JudgesWith (K.view keys.now) (policy_view policy.now) now token.now result }
 {
-    signed_when_read();
-    let message = match read_token(alloc, token) {
-        Ok(message) => message,
-        Err(error) => return Err(PolicyError::Gate(GateError::Token(error))),
+    let opened = open_all(alloc, policy, keys, token)?;
+    if !opened.authentic {
+        return Err(PolicyError::Unauthenticated);
+    }
+    let known = match read_claims(alloc, policy.unassigned, &opened.content) {
+        Ok(known) => known,
+        Err(error) => return Err(PolicyError::Gate(GateError::Claims(error))),
     };
-    if !policy.allows(&message.protected.header) {
-        return Err(PolicyError::Algorithm);
-    }
-    if !policy.understands(&message) {
-        return Err(PolicyError::Critical);
-    }
-    let claims = verified_claims(alloc, &message, verify)?;
-    if has_expired(policy.leeway, now, &claims.expiration_time) {
-        return Err(PolicyError::Gate(GateError::Expired));
-    }
-    if is_early(policy.leeway, now, &claims.not_before) {
-        return Err(PolicyError::Gate(GateError::NotYetValid));
-    }
-    if !policy.is_for(&claims) {
-        return Err(PolicyError::Audience);
-    }
-    Ok(claims)
+    let_in(policy, now, &known.claims)?;
+    Ok(known)
 }

@@ -3,7 +3,7 @@
 ghost use Rattle.std.specs.Prelude.{◌≡◌, option_map};
 ghost use Rattle.coset.specs.Timestamp.{timestamp_view};
 ghost use Rattle.coset.specs.Claims.{claims_view};
-ghost use Rattle.cwt_gate.specs.Moment.{has_come, has_expired, has_fraction, is_early, is_fractional};
+ghost use Rattle.cwt_gate.specs.Moment.{has_come, has_expired, has_fraction, is_early, is_fractional, is_too_old};
 
 use coset::cwt::{ClaimsSet, Timestamp};
 
@@ -48,5 +48,27 @@ pub(crate) fn is_early(leeway: u64, now: i64, not_before: &Option<Timestamp>) ->
     match not_before {
         Some(moment) => !has_come(false, i128::from(now) + i128::from(leeway), moment),
         None => false,
+    }
+}
+
+/// Whether claims that were issued then have reached the greatest age, where there is one: `now` is at least that moment, the
+/// age and the leeway together. Claims that don't say when they were issued have.
+pub(crate) fn is_too_old(
+    max_age: Option<u64>,
+    leeway: u64,
+    now: i64,
+    issued_at: &Option<Timestamp>,
+) -> bool
+    ensures { result ≡ is_too_old max_age leeway now (option_map timestamp_view issued_at.now) }
+{
+    let Some(age) = max_age else {
+        return false;
+    };
+    match issued_at {
+        Some(moment) => {
+            let latest = i128::from(now) - i128::from(leeway) - i128::from(age);
+            has_come(true, latest, moment)
+        }
+        None => true,
     }
 }

@@ -6,19 +6,30 @@
 //! hexadecimal, with commas between, or `-` for none. TOKEN is hexadecimal, or `-` for no bytes. The one algorithm of a
 //! policy is ES256. An empty line, and a comment, which begins with `#`, is returned by itself.
 //!
+//! `judge_token ANSWERS NOW POLICY TOKEN` judges by the strict policy, with what POLICY changes of it, words with commas
+//! between. `sign`, `mac` and `enc` allow an algorithm each: ES256, HMAC 256/64, AES-CCM-16-64-128. `plain=` and one of these
+//! is the form of layers without a tag; `by=sign` and `by=any` say what authenticates; `others` leaves claims out that aren't
+//! assigned; `forever` lets tokens in that don't expire, and `later` those issued later than now; `age=`, `leeway=`, `iss=` and
+//! `aud=` are the fields of these names. ANSWERS are what the keys return, layer by layer, with commas between: `yes`, `no`, or
+//! a plaintext in hexadecimal. Claims that were left out follow the others, as an array of labels and values.
+//!
 //! The call is made between two marks (`coset_lines::mark`), so that a process that is refused a request for memory there
 //! is refused one of the call's own. It is returned with the claims as they are written, or with the reason; and with how
 //! often the closure was asked, and what it was handed.
 #![tactic(auto)]
 
-use coset::cwt::ClaimsSet;
+mod keys;
+
+use crate::keys::Scripted;
+use coset::cbor::value::Value;
+use coset::cwt::{ClaimsSet, KnownClaims};
 use coset::iana::{Algorithm, HeaderParameter};
-use coset::{CborSerializable, CoseError, RegisteredLabelWithPrivate, Result};
-use coset_lines::asked::Asked;
+use coset::{AsCborValue, CborSerializable, CoseError, RegisteredLabelWithPrivate, Result};
+use coset_lines::asked::{Asked, No};
 use coset_lines::line::{Calls, answer_lines, unknown};
 use coset_lines::words::{Words, bytes};
 use coset_lines::{mark, tell};
-use cwt_gate::{Policy, judge, judge_with};
+use cwt_gate::{Authentication, Form, Policy, PolicyError, Unassigned, judge, judge_with};
 use std::alloc::Global;
 use std::fmt::Debug;
 use std::io::{self, BufReader, BufWriter};
@@ -31,6 +42,7 @@ impl Calls for GateCalls {
         match words.word(0) {
             "judge" => at_a_moment(alloc, words),
             "judge_with" => by_a_policy(alloc, words),
+            "judge_token" => by_a_strict_policy(alloc, words),
             _ => Err(unknown()),
         }
     }
@@ -90,27 +102,170 @@ fn span(word: &str) -> Result<u64> {
     }
 }
 
+/// The claims that were let in, as they are written, and those that were left out; or why the token isn't let in.
+///
+/// # Errors
+/// `OutOfMemory` where there is none for the text.
+fn told_with(
+    alloc: Global,
+    answer: std::result::Result<KnownClaims, PolicyError<No>>,
+) -> Result<String> {
+    match answer {
+        Ok(known) => {
+            let claims = tell::value(alloc, Ok(known.claims))?;
+            if known.others.is_empty() {
+                return Ok(claims);
+            }
+            let mut others = Vec::new(alloc);
+            for (label, value) in known.others {
+                others.push(label.to_cbor_value(alloc)?)?;
+                others.push(value)?;
+            }
+            let others = tell::hexadecimal(alloc, &Value::Array(others).to_vec(alloc)?)?;
+            Ok(format!(in alloc; "{claims} others {others}")?)
+        }
+        Err(error) => Ok(format!(in alloc; "{error:?}")?),
+    }
+}
+
 /// Judges a token with a policy.
 fn by_a_policy(alloc: Global, words: &Words<'_>) -> Result<String> {
-    let says_yes = words.says_yes(1)?;
     let now = words.number(2)?;
     let critical = labels(alloc, words.word(5))?;
     let algorithms = [RegisteredLabelWithPrivate::Assigned(Algorithm::ES256)];
     let policy = Policy {
-        algorithms: &algorithms,
-        audience: words.word(4).strip_prefix("aud="),
-        leeway: span(words.word(3))?,
+        signatures: &algorithms,
         critical: &critical,
+        expires: false,
+        issued: false,
+        leeway: span(words.word(3))?,
+        audience: words.word(4).strip_prefix("aud="),
+        ..Policy::strict()
     };
     let token = words.bytes(alloc, 6)?;
-    let mut asked = Asked::new(alloc)?;
-    let count = &mut asked;
+    let keys = Scripted::new(alloc, words.word(1))?;
     mark::begin(alloc);
-    let answer = judge_with(alloc, &policy, &token, now, move |signature, tbs| {
-        count.judge(signature, tbs, says_yes)
-    });
+    let answer = judge_with(alloc, &policy, &keys, &token, now);
     mark::end(alloc);
-    asked.behind(alloc, told(alloc, answer)?)
+    keys.asked(alloc)?.behind(alloc, told_with(alloc, answer)?)
+}
+
+/// The algorithms that a policy of a line may allow.
+#[derive(Drop)]
+struct Algorithms {
+    signatures: [RegisteredLabelWithPrivate<Algorithm>; 1],
+    macs: [RegisteredLabelWithPrivate<Algorithm>; 1],
+    ciphers: [RegisteredLabelWithPrivate<Algorithm>; 1],
+}
+
+impl Algorithms {
+    fn new() -> Algorithms {
+        Algorithms {
+            signatures: [RegisteredLabelWithPrivate::Assigned(Algorithm::ES256)],
+            macs: [RegisteredLabelWithPrivate::Assigned(Algorithm::HMAC_256_64)],
+            ciphers: [RegisteredLabelWithPrivate::Assigned(Algorithm::AES_CCM_16_64_128)],
+        }
+    }
+}
+
+/// The policy with what a word changes.
+///
+/// # Errors
+/// The word says nothing.
+fn changed<'a>(
+    policy: Policy<'a>,
+    word: &'a str,
+    algorithms: &'a Algorithms,
+) -> Result<Policy<'a>> {
+    Ok(match word {
+        "sign" => Policy {
+            signatures: &algorithms.signatures,
+            ..policy
+        },
+        "mac" => Policy {
+            macs: &algorithms.macs,
+            ..policy
+        },
+        "enc" => Policy {
+            ciphers: &algorithms.ciphers,
+            ..policy
+        },
+        "plain=sign" => Policy {
+            plain: Form::Sign1,
+            ..policy
+        },
+        "plain=mac" => Policy {
+            plain: Form::Mac0,
+            ..policy
+        },
+        "plain=enc" => Policy {
+            plain: Form::Encrypt0,
+            ..policy
+        },
+        "by=sign" => Policy {
+            authenticated_by: Authentication::Signature,
+            ..policy
+        },
+        "by=any" => Policy {
+            authenticated_by: Authentication::AnyLayer,
+            ..policy
+        },
+        "others" => Policy {
+            unassigned: Unassigned::LeftOut,
+            ..policy
+        },
+        "forever" => Policy {
+            expires: false,
+            ..policy
+        },
+        "later" => Policy {
+            issued: false,
+            ..policy
+        },
+        _ => named(policy, word)?,
+    })
+}
+
+/// The policy with what a word changes that has a name and a value.
+///
+/// # Errors
+/// The word says nothing.
+fn named<'a>(policy: Policy<'a>, word: &'a str) -> Result<Policy<'a>> {
+    match word.split_once('=') {
+        Some(("age", age)) => Ok(Policy {
+            max_age: Some(span(age)?),
+            ..policy
+        }),
+        Some(("leeway", leeway)) => Ok(Policy {
+            leeway: span(leeway)?,
+            ..policy
+        }),
+        Some(("iss", issuer)) => Ok(Policy {
+            issuer: Some(issuer),
+            ..policy
+        }),
+        Some(("aud", audience)) => Ok(Policy {
+            audience: Some(audience),
+            ..policy
+        }),
+        _ => Err(CoseError::UnexpectedItem("word", "field of a policy")),
+    }
+}
+
+/// Judges a token with the strict policy and what a line changes of it.
+fn by_a_strict_policy(alloc: Global, words: &Words<'_>) -> Result<String> {
+    let now = words.number(2)?;
+    let algorithms = Algorithms::new();
+    let mut policy = Policy::strict();
+    for word in words.word(3).split(',') {
+        policy = changed(policy, word, &algorithms)?;
+    }
+    let token = words.bytes(alloc, 4)?;
+    let keys = Scripted::new(alloc, words.word(1))?;
+    mark::begin(alloc);
+    let answer = judge_with(alloc, &policy, &keys, &token, now);
+    mark::end(alloc);
+    keys.asked(alloc)?.behind(alloc, told_with(alloc, answer)?)
 }
 
 fn main(rt: HostRuntime) -> io::Result<()> {

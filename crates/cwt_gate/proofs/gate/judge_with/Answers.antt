@@ -1,92 +1,43 @@
-use Rattle.std.proofs.Common.{◌≡◌, ◌∙◌, ap, sym, true}
+use mir.Syntax.{w64}
+use mir.Val.{of_z, to_z}
+use Rattle.std.proofs.Common.{◌≡◌, ◌∙◌, Bool, ℤ, true, Some, refl, inl, inr, subst, sym}
+use Rattle.std.proofs.lemmas.Int.{to_z-of_z}
+use Rattle.coset.specs.Answers.{Describes, IsRefused}
 use Rattle.coset.specs.Claims.{claims_view}
-use Rattle.coset.specs.Sign1.{sign1_view}
-use Rattle.cwt_gate.specs.Gate.{JudgesWith}
-use Rattle.cwt_gate.specs.Moment.{has_expired, is_early}
-use Rattle.cwt_gate.specs.Policy.{allows, policy_view}
-use Rattle.cwt_gate.proofs.Judging.{moved, none_given_with, passed_on}
-use Rattle.cwt_gate.proofs.Opened.{protected_opened}
+use Rattle.coset.specs.Known.{known_view}
+use Rattle.cwt_gate.specs.Door.{JudgesWith, RefusesClaims}
+use Rattle.cwt_gate.specs.Policy.{claims_by, first_true, policy_view, reasons}
+use Rattle.cwt_gate.specs.declared.error.GateError.TheVariants.{Claims}
+use Rattle.cwt_gate.specs.declared.error.PolicyError.TheVariants.{Gate}
+use Rattle.cwt_gate.proofs.Judging.{moved, passed_on}
+use Rattle.cwt_gate.proofs.Layering.{arrived}
 use Rattle.cwt_gate.proofs.gate.judge_with.Goals as goal
 
+pub returns-in_err-opened : goal.returns-in_err-opened
+returns-in_err-opened g c =
+    passed_on (JudgesWith (g.K.Keys.view c.args.keys.now) (policy_view c.args.policy.now) c.args.now c.args.token.now) c.from_residual.result
+    c.in_err-opened.field-0.0 c.from_residual.ensures.1 (inl c.in_err-opened.ensures)
+
 pub returns-in-Err : goal.returns-in-Err
-returns-in-Err g c = λ n. (c.in-Err.ensures.read n, c.in-Err.ensures.refused n)
-
-pub returns-then-not-allows : goal.returns-then-not-allows
-returns-then-not-allows g c =
-    let p = policy_view c.args.policy.now in (
-      sign1_view c.in-Ok.message,
-      c.in-Ok.ensures.read,
-      ap (allows p) (protected_opened c.in-Ok.message.protected)
-          ∙ (sym c.allows.ensures ∙ c.if-not-allows.true),
-    )
-
-pub returns-then-not-understands : goal.returns-then-not-understands
-returns-then-not-understands g c =
+returns-in-Err g c =
+    let k = g.K.Keys.view c.args.keys.now in
     let p = policy_view c.args.policy.now in
-    let m = sign1_view c.in-Ok.message in
-    let allowed : allows p m.protected.header ≡ true = ap (allows p) (protected_opened c.in-Ok.message.protected)
-    ∙ (sym c.allows.ensures ∙ c.if-not-allows.false) in
-    (m, c.in-Ok.ensures.read, (allowed, sym c.understands.ensures ∙ c.if-not-understands.true))
+    let e = c.in-Err.error in
+    let why : IsRefused (claims_by p.unassigned) c.in_ok-opened.opened.content.items e =
+    subst (λ q. IsRefused (claims_by p.unassigned) q e) c.deref.ensures.value (λ n. (c.in-Err.ensures.read n, c.in-Err.ensures.refused n)) in
+    inr (inr (arrived k p c.args.token.now c.in_ok-opened.opened (λ q. RefusesClaims p c.args.now q (Gate (Claims e))) c.in_ok-opened.ensures
+    c.if-not-opened.false (inl (e, refl, why))))
 
-pub returns-in_err-claims : goal.returns-in_err-claims
-returns-in_err-claims g c =
+pub returns-in_err-let_in : goal.returns-in_err-let_in
+returns-in_err-let_in g c =
+    let k = g.K.Keys.view c.args.keys.now in
     let p = policy_view c.args.policy.now in
-    let m = sign1_view c.in-Ok.message in
-    let e = c.in_err-claims.field-0.0 in
-    let allowed : allows p m.protected.header ≡ true = ap (allows p) (protected_opened c.in-Ok.message.protected)
-    ∙ (sym c.allows.ensures ∙ c.if-not-allows.false) in
-    passed_on (JudgesWith g.F.FnOnce c.args.verify p c.args.now c.args.token.now) c.from_residual.result _ c.from_residual.ensures.1
-    (none_given_with g.F.FnOnce c.args.verify c.signed_when_read.ensures.plain p c.args.now c.args.token.now m e c.in-Ok.ensures.read
-    (allowed, sym c.understands.ensures ∙ c.if-not-understands.false) c.in_err-claims.ensures)
-
-pub returns-then-has_expired : goal.returns-then-has_expired
-returns-then-has_expired g c =
-    let p = policy_view c.args.policy.now in
-    let m = sign1_view c.in-Ok.message in
-    let allowed : allows p m.protected.header ≡ true = ap (allows p) (protected_opened c.in-Ok.message.protected)
-    ∙ (sym c.allows.ensures ∙ c.if-not-allows.false) in (
-      claims_view c.in_ok-claims.claims,
-      (m, c.in-Ok.ensures.read, ((allowed, sym c.understands.ensures ∙ c.if-not-understands.false), c.in_ok-claims.ensures)),
-      moved (λ n. has_expired p.leeway n (claims_view c.in_ok-claims.claims).expiration_time) c.args.now c.ranges.now
-          (sym c.has_expired.ensures ∙ c.if-has_expired.true),
-    )
-
-pub returns-then-is_early : goal.returns-then-is_early
-returns-then-is_early g c =
-    let p = policy_view c.args.policy.now in
-    let m = sign1_view c.in-Ok.message in
-    let allowed : allows p m.protected.header ≡ true = ap (allows p) (protected_opened c.in-Ok.message.protected)
-    ∙ (sym c.allows.ensures ∙ c.if-not-allows.false) in (
-      claims_view c.in_ok-claims.claims,
-      (m, c.in-Ok.ensures.read, ((allowed, sym c.understands.ensures ∙ c.if-not-understands.false), c.in_ok-claims.ensures)),
-      moved (λ n. has_expired p.leeway n (claims_view c.in_ok-claims.claims).expiration_time) c.args.now c.ranges.now
-          (sym c.has_expired.ensures ∙ c.if-has_expired.false),
-      moved (λ n. is_early p.leeway n (claims_view c.in_ok-claims.claims).not_before) c.args.now c.ranges.now (sym c.is_early.ensures ∙ c.if-is_early.true),
-    )
-
-pub returns-then-not-is_for : goal.returns-then-not-is_for
-returns-then-not-is_for g c =
-    let p = policy_view c.args.policy.now in
-    let m = sign1_view c.in-Ok.message in
-    let allowed : allows p m.protected.header ≡ true = ap (allows p) (protected_opened c.in-Ok.message.protected)
-    ∙ (sym c.allows.ensures ∙ c.if-not-allows.false) in (
-      claims_view c.in_ok-claims.claims,
-      (m, c.in-Ok.ensures.read, ((allowed, sym c.understands.ensures ∙ c.if-not-understands.false), c.in_ok-claims.ensures)),
-      moved (λ n. has_expired p.leeway n (claims_view c.in_ok-claims.claims).expiration_time) c.args.now c.ranges.now
-          (sym c.has_expired.ensures ∙ c.if-has_expired.false),
-      moved (λ n. is_early p.leeway n (claims_view c.in_ok-claims.claims).not_before) c.args.now c.ranges.now (sym c.is_early.ensures ∙ c.if-is_early.false),
-      sym c.is_for.ensures ∙ c.if-not-is_for.true,
-    )
-
-pub returns : goal.returns
-returns g c =
-    let p = policy_view c.args.policy.now in
-    let m = sign1_view c.in-Ok.message in
-    let allowed : allows p m.protected.header ≡ true = ap (allows p) (protected_opened c.in-Ok.message.protected)
-    ∙ (sym c.allows.ensures ∙ c.if-not-allows.false) in (
-      (m, c.in-Ok.ensures.read, ((allowed, sym c.understands.ensures ∙ c.if-not-understands.false), c.in_ok-claims.ensures)),
-      moved (λ n. has_expired p.leeway n (claims_view c.in_ok-claims.claims).expiration_time) c.args.now c.ranges.now
-          (sym c.has_expired.ensures ∙ c.if-has_expired.false),
-      moved (λ n. is_early p.leeway n (claims_view c.in_ok-claims.claims).not_before) c.args.now c.ranges.now (sym c.is_early.ensures ∙ c.if-is_early.false),
-      sym c.is_for.ensures ∙ c.if-not-is_for.false,
-    )
+    let e = c.in_err-let_in.field-0.0 in
+    let x = known_view c.in-Ok.known in
+    let read : Describes (claims_by p.unassigned) c.in_ok-opened.opened.content.items x =
+    subst (λ q. Describes (claims_by p.unassigned) q x) c.deref.ensures.value c.in-Ok.ensures.read in
+    let first : first_true (reasons p c.args.now x.0) ≡ Some e =
+    subst (λ (n : ℤ). first_true (reasons p n x.0) ≡ Some e) (to_z-of_z w64 c.args.now c.ranges.now) c.in_err-let_in.ensures in
+    passed_on (JudgesWith k p c.args.now c.args.token.now) c.from_residual-in_err-let_in.result e c.from_residual-in_err-let_in.ensures.1
+    (inr (inr (arrived k p c.args.token.now c.in_ok-opened.opened (λ q. RefusesClaims p c.args.now q e) c.in_ok-opened.ensures
+    c.if-not-opened.false (inr (x, read, first)))))

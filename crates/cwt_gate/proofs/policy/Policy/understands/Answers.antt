@@ -5,11 +5,10 @@ use Rattle.std.proofs.lemmas.Iterator.Search.{all_from_yields_List}
 use Rattle.std.proofs.lemmas.List.{length-map}
 use Rattle.coset.specs.Fields.{FieldsView}
 use Rattle.coset.specs.Headers.{HeaderView, fields_in}
-use Rattle.coset.specs.Views.{critical_view, header_view, protected_view}
+use Rattle.coset.specs.Views.{critical_view, header_view}
 use Rattle.coset.specs.Header.{out-Header}
-use Rattle.coset.specs.ProtectedHeader.{out-ProtectedHeader}
 use Rattle.cwt_gate.specs.Policy.{PolicyView, is_understood, policy_view}
-use Rattle.cwt_gate.proofs.Opened.{all-map, opened, protected_opened}
+use Rattle.cwt_gate.proofs.Opened.{all-map, opened}
 use Rattle.cwt_gate.proofs.policy.Policy.understands.Goals as goal
 
 -- each label that must be understood by these fields is, in the header h; and in the header of these fields
@@ -21,16 +20,14 @@ Judged p h = JudgedIn p h (fields_in h)
 
 pub returns-then-are_understood : goal.returns-then-are_understood
 returns-then-are_understood c =
-    let m = c.args.message.now in
-    let h = (out-ProtectedHeader m.protected).header in
-    let u = m.unprotected in
+    let h = c.args.header.now in
+    let u = c.args.unprotected.now in
     let p = policy_view c.args.self.now in
     let crit = (out-Header h).crit.items in
     let found = all_from_yields_List (λ l. is_understood p (header_view h) (critical_view l)) _ _ _ c.all-are_understood.ensures.ran
     (YieldsList-from_slice crit cc) (λ x b q k. search (rules, tests)) in
-    let judged : Judged p (protected_view m.protected).header ≡ true =
-    ap (Judged p) (protected_opened m.protected)
-    ∙ (ap (JudgedIn p (header_view h)) (opened h) ∙ (all-map (is_understood p (header_view h)) critical_view crit ∙ (sym found ∙ c.if-are_understood.true))) in
+    let judged : Judged p (header_view h) ≡ true =
+    ap (JudgedIn p (header_view h)) (opened h) ∙ (all-map (is_understood p (header_view h)) critical_view crit ∙ (sym found ∙ c.if-are_understood.true)) in
     let empty : c.is_empty.result ≡ (length (out-Header u).crit.items == 0) = search rules in
     let none : (length (fields_in (header_view u)).crit == 0) ≡ (length (out-Header u).crit.items == 0) =
     ap (λ (f : FieldsView). length f.crit == 0) (opened u) ∙ simp length-map in
@@ -38,14 +35,12 @@ returns-then-are_understood c =
 
 pub returns-else-are_understood : goal.returns-else-are_understood
 returns-else-are_understood c =
-    let m = c.args.message.now in
-    let h = (out-ProtectedHeader m.protected).header in
-    let u = m.unprotected in
+    let h = c.args.header.now in
+    let u = c.args.unprotected.now in
     let p = policy_view c.args.self.now in
     let crit = (out-Header h).crit.items in
     let found = all_from_yields_List (λ l. is_understood p (header_view h) (critical_view l)) _ _ _ c.all-are_understood.ensures.ran
     (YieldsList-from_slice crit cc) (λ x b q k. search (rules, tests)) in
-    let judged : Judged p (protected_view m.protected).header ≡ false =
-    ap (Judged p) (protected_opened m.protected)
-    ∙ (ap (JudgedIn p (header_view h)) (opened h) ∙ (all-map (is_understood p (header_view h)) critical_view crit ∙ (sym found ∙ c.if-are_understood.false))) in
+    let judged : Judged p (header_view h) ≡ false =
+    ap (JudgedIn p (header_view h)) (opened h) ∙ (all-map (is_understood p (header_view h)) critical_view crit ∙ (sym found ∙ c.if-are_understood.false)) in
     c.if-are_understood.false ∙ sym (ap (λ (t : Bool). t && length (fields_in (header_view u)).crit == 0) judged)

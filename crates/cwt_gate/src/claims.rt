@@ -1,0 +1,70 @@
+//! The claims in the innermost layer of a token, and what the policy asks of them (RFC 8392, section 3).
+
+ghost use Rattle.std.specs.Prelude.{◌≡◌};
+ghost use Rattle.coset.specs.Answers.{ReadsSlice, RefusesSlice};
+ghost use Rattle.coset.specs.Claims.{claims_view};
+ghost use Rattle.coset.specs.Known.{known_view};
+ghost use Rattle.cwt_gate.specs.Policy.{IsFirst, claims_by, policy_view, reasons};
+
+use crate::error::{GateError, PolicyError};
+use crate::moment::{has_expired, is_early, is_too_old};
+use crate::policy::{Policy, Unassigned, is_meant};
+use coset::cwt::{ClaimsSet, KnownClaims};
+use coset::{CborSerializable, Result};
+use std::alloc::Global;
+
+/// Reads claims. What becomes of those whose numbers IANA hasn't assigned is as the policy says.
+///
+/// # Errors
+/// `OutOfMemory`; or why the bytes are no claims.
+pub(crate) fn read_claims(
+    alloc: Global,
+    unassigned: Unassigned,
+    bytes: &[u8],
+) -> Result<KnownClaims>
+    ensures read { ReadsSlice (claims_by unassigned) known_view bytes.now result }
+    ensures refused { RefusesSlice (claims_by unassigned) bytes.now result }
+{
+    match unassigned {
+        Unassigned::Refused => Ok(KnownClaims {
+            claims: ClaimsSet::from_slice(alloc, bytes)?,
+            others: Vec::new(alloc),
+        }),
+        Unassigned::LeftOut => ClaimsSet::known_from_slice(alloc, bytes),
+    }
+}
+
+/// Lets claims in that are valid at `now`, and that are as the policy asks.
+///
+/// # Errors
+/// The first reason against them.
+pub(crate) fn let_in<E: Drop>(
+    policy: &Policy<'_>,
+    now: i64,
+    claims: &ClaimsSet,
+) -> Result<(), PolicyError<E>>
+    ensures { IsFirst (reasons (policy_view policy.now) now (claims_view claims.now)) result }
+{
+    if policy.expires && claims.expiration_time.is_none() {
+        return Err(PolicyError::NoExpiration);
+    }
+    if has_expired(policy.leeway, now, &claims.expiration_time) {
+        return Err(PolicyError::Gate(GateError::Expired));
+    }
+    if is_early(policy.leeway, now, &claims.not_before) {
+        return Err(PolicyError::Gate(GateError::NotYetValid));
+    }
+    if policy.issued && is_early(policy.leeway, now, &claims.issued_at) {
+        return Err(PolicyError::IssuedLater);
+    }
+    if is_too_old(policy.max_age, policy.leeway, now, &claims.issued_at) {
+        return Err(PolicyError::TooOld);
+    }
+    if !is_meant(&policy.issuer, &claims.issuer) {
+        return Err(PolicyError::Issuer);
+    }
+    if !is_meant(&policy.audience, &claims.audience) {
+        return Err(PolicyError::Audience);
+    }
+    Ok(())
+}

@@ -1,0 +1,236 @@
+//! One layer of a token: read from its bytes, and opened by the caller's keys.
+
+ghost use Rattle.std.specs.Prelude.{◌≡◌};
+ghost use Rattle.coset.specs.Answers.{ReadsSlice, RefusesSlice};
+ghost use Rattle.coset.specs.Encrypt0.{encrypt0_view};
+ghost use Rattle.coset.specs.Mac0.{mac0_view};
+ghost use Rattle.coset.specs.Parts.{as_tag};
+ghost use Rattle.coset.specs.Pulls.{pull_item};
+ghost use Rattle.coset.specs.Sign1.{sign1_view};
+ghost use Rattle.coset.specs.Views.{header_view};
+ghost use Rattle.cwt_gate.specs.Keys.{Opens};
+ghost use Rattle.cwt_gate.specs.Layers.{LayerView, encrypted, form_of, in_cwt_tag, layer, layer_item, layer_view, maced, message_in, names_form, protected_of, signed, unprotected_of};
+
+use crate::error::GateError;
+use crate::form::{Form, named_form};
+use crate::keys::{Keys, Sealed};
+use coset::cbor::de::Pull;
+use coset::{CoseEncrypt0, CoseMac0, CoseSign1, FromPull, Header, Result};
+use coset_codec::traits::whole_item;
+use std::alloc::Global;
+
+/// The tag of web tokens (RFC 8392, section 6).
+const CWT: u64 = 61;
+
+/// A layer: a message of one of the forms.
+///
+/// ```cddl
+/// message = COSE_Sign1 / COSE_Mac0 / COSE_Encrypt0
+/// tagged = #6.18(COSE_Sign1) / #6.17(COSE_Mac0) / #6.16(COSE_Encrypt0)
+/// layer = message / tagged        ; the outermost also #6.61(tagged)
+/// ```
+#[derive(Debug, Drop)]
+pub(crate) enum Layer {
+    Sign1(CoseSign1),
+    Mac0(CoseMac0),
+    Encrypt0(CoseEncrypt0),
+}
+
+/// Whether the item is under the tag of a form.
+fn names_form(item: Pull<'_>) -> bool
+    ensures { result ≡ names_form (as_tag (pull_item item.entry)) }
+{
+    match item.tag() {
+        Some((number, _)) => named_form(number).is_some(),
+        None => false,
+    }
+}
+
+/// What the tag of web tokens encloses, where that is under the tag of a form; any other item is itself.
+fn in_cwt_tag(item: Pull<'_>) -> Pull<'_>
+    ensures { pull_item result
+        ≡ in_cwt_tag (pull_item item.entry) (as_tag (pull_item item.entry)) }
+{
+    match item.tag() {
+        Some((number, inner)) => {
+            if number == CWT {
+                if names_form(inner) {
+                    return inner;
+                }
+            }
+            item
+        }
+        None => item,
+    }
+}
+
+/// The item of a layer: the outermost may be under the tag of web tokens.
+fn layer_item(outermost: bool, item: Pull<'_>) -> Pull<'_>
+    ensures { pull_item result ≡ layer_item outermost (pull_item item.entry) }
+{
+    if outermost { in_cwt_tag(item) } else { item }
+}
+
+/// The form that the item's tag names, and the item of the message; an item without such a tag is of the form `plain`.
+fn message_in(plain: Form, item: Pull<'_>) -> (Form, Pull<'_>)
+    ensures { (result.0, pull_item result.1) ≡ message_in plain (pull_item item.entry) }
+{
+    match item.tag() {
+        Some((number, inner)) => match named_form(number) {
+            Some(form) => (form, inner),
+            None => (plain, item),
+        },
+        None => (plain, item),
+    }
+}
+
+impl Layer {
+    /// Reads the layer that the bytes are.
+    ///
+    /// # Errors
+    /// `OutOfMemory`; or why the bytes are no layer.
+    pub(crate) fn read(alloc: Global, plain: Form, outermost: bool, bytes: &[u8]) -> Result<Layer>
+        ensures read { ReadsSlice (layer plain outermost) layer_view bytes.now result }
+        ensures refused { RefusesSlice (layer plain outermost) bytes.now result }
+    {
+        let item = layer_item(outermost, whole_item(bytes)?);
+        let (form, message) = message_in(plain, item);
+        match form {
+            Form::Sign1 => Ok(Layer::Sign1(CoseSign1::from_pull(alloc, message)?)),
+            Form::Mac0 => Ok(Layer::Mac0(CoseMac0::from_pull(alloc, message)?)),
+            Form::Encrypt0 => Ok(Layer::Encrypt0(CoseEncrypt0::from_pull(alloc, message)?)),
+        }
+    }
+
+    /// Its form.
+    pub(crate) fn form(&self) -> Form
+        ensures { result ≡ form_of (layer_view self.now) }
+    {
+        match self {
+            Layer::Sign1(_) => Form::Sign1,
+            Layer::Mac0(_) => Form::Mac0,
+            Layer::Encrypt0(_) => Form::Encrypt0,
+        }
+    }
+
+    /// The header that is covered.
+    pub(crate) fn protected(&self) -> &Header
+        ensures { header_view result.now ≡ (protected_of (layer_view self.now)).header }
+    {
+        match self {
+            Layer::Sign1(message) => &message.protected.header,
+            Layer::Mac0(message) => &message.protected.header,
+            Layer::Encrypt0(message) => &message.protected.header,
+        }
+    }
+
+    /// The header that isn't covered.
+    pub(crate) fn unprotected(&self) -> &Header
+        ensures { header_view result.now ≡ unprotected_of (layer_view self.now) }
+    {
+        match self {
+            Layer::Sign1(message) => &message.unprotected,
+            Layer::Mac0(message) => &message.unprotected,
+            Layer::Encrypt0(message) => &message.unprotected,
+        }
+    }
+
+    /// What is in the layer, once the keys accept it: its payload, or the plaintext that they make of its ciphertext.
+    ///
+    /// # Errors
+    /// `NoPayload`; `Token`, out of memory before the keys are called; or `Caller`.
+    pub(crate) fn open<K: Keys>(
+        self,
+        alloc: Global,
+        keys: &K,
+    ) -> Result<Vec<u8>, GateError<K::Error>>
+        ensures { Opens (K.view keys.now) (layer_view self) result }
+    {
+        match self {
+            Layer::Sign1(message) => open_signed(alloc, keys, message),
+            Layer::Mac0(message) => open_maced(alloc, keys, message),
+            Layer::Encrypt0(message) => open_encrypted(alloc, keys, &message),
+        }
+    }
+}
+
+/// The payload of a message, once the keys accept its signature.
+fn open_signed<K: Keys>(
+    alloc: Global,
+    keys: &K,
+    mut message: CoseSign1,
+) -> Result<Vec<u8>, GateError<K::Error>>
+    ensures { Opens (K.view keys.now) (signed (sign1_view message)) result }
+{
+    let Some(payload) = message.payload.take() else {
+        return Err(GateError::NoPayload);
+    };
+    let structure = match message.tbs_detached_data(alloc, &payload, &[]) {
+        Ok(structure) => structure,
+        Err(error) => return Err(GateError::Token(error)),
+    };
+    let sealed = Sealed {
+        protected: &message.protected,
+        unprotected: &message.unprotected,
+        proof: &message.signature,
+        structure: &structure,
+    };
+    match keys.verify(&sealed) {
+        Ok(()) => Ok(payload),
+        Err(error) => Err(GateError::Caller(error)),
+    }
+}
+
+/// The payload of a message, once the keys accept its MAC.
+fn open_maced<K: Keys>(
+    alloc: Global,
+    keys: &K,
+    mut message: CoseMac0,
+) -> Result<Vec<u8>, GateError<K::Error>>
+    ensures { Opens (K.view keys.now) (maced (mac0_view message)) result }
+{
+    let Some(payload) = message.payload.take() else {
+        return Err(GateError::NoPayload);
+    };
+    let structure = match message.tbm_detached(alloc, &payload, &[]) {
+        Ok(structure) => structure,
+        Err(error) => return Err(GateError::Token(error)),
+    };
+    let sealed = Sealed {
+        protected: &message.protected,
+        unprotected: &message.unprotected,
+        proof: &message.tag,
+        structure: &structure,
+    };
+    match keys.verify_tag(&sealed) {
+        Ok(()) => Ok(payload),
+        Err(error) => Err(GateError::Caller(error)),
+    }
+}
+
+/// The plaintext that the keys make of a message's ciphertext.
+fn open_encrypted<K: Keys>(
+    alloc: Global,
+    keys: &K,
+    message: &CoseEncrypt0,
+) -> Result<Vec<u8>, GateError<K::Error>>
+    ensures { Opens (K.view keys.now) (encrypted (encrypt0_view message.now)) result }
+{
+    let Some(ciphertext) = &message.ciphertext else {
+        return Err(GateError::NoPayload);
+    };
+    let structure = match message.aad(alloc, &[]) {
+        Ok(structure) => structure,
+        Err(error) => return Err(GateError::Token(error)),
+    };
+    let sealed = Sealed {
+        protected: &message.protected,
+        unprotected: &message.unprotected,
+        proof: ciphertext,
+        structure: &structure,
+    };
+    match keys.decrypt(alloc, &sealed) {
+        Ok(plaintext) => Ok(plaintext),
+        Err(error) => Err(GateError::Caller(error)),
+    }
+}
