@@ -14,6 +14,7 @@ mod operation;
 mod run;
 mod structure;
 mod structured;
+mod tokens;
 
 use command::Command;
 use std::process::ExitCode;

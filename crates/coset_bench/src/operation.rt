@@ -7,6 +7,7 @@ use crate::calls::{time_canonicalize, time_check, time_compare, time_copy, time_
 use crate::fault::Fault;
 use crate::kind::Kind;
 use crate::structure::Structure;
+use crate::tokens::{time_by_hand, time_judge, time_judge_with};
 use coset_recipient::{CoseRecipient, CoseSign1};
 use std::rt::Clock;
 use std::time::Duration;
@@ -36,6 +37,12 @@ pub enum Operation {
     RecipientCompare,
     /// Putting the params of a key in order.
     KeyCanonicalize,
+    /// Judging a token.
+    Judge,
+    /// Judging one by a policy.
+    JudgeWith,
+    /// Reading its message, its structure and its claims by hand.
+    JudgeByHand,
 }
 
 impl Operation {
@@ -62,6 +69,9 @@ impl Operation {
             "recipient_copy" => Some(Operation::RecipientCopy),
             "recipient_compare" => Some(Operation::RecipientCompare),
             "key_canonicalize" => Some(Operation::KeyCanonicalize),
+            "judge" => Some(Operation::Judge),
+            "judge_with" => Some(Operation::JudgeWith),
+            "judge_by_hand" => Some(Operation::JudgeByHand),
             _ => None,
         }
     }
@@ -88,6 +98,9 @@ impl Operation {
             Operation::RecipientCopy => time_copy::<CoseRecipient, R>(rt, bytes, calls),
             Operation::RecipientCompare => time_compare::<CoseRecipient, R>(rt, bytes, calls),
             Operation::KeyCanonicalize => time_canonicalize(rt, bytes, calls),
+            Operation::Judge => time_judge(rt, bytes, calls),
+            Operation::JudgeWith => time_judge_with(rt, bytes, calls),
+            Operation::JudgeByHand => time_by_hand(rt, bytes, calls),
         }
     }
 }
