@@ -6,7 +6,6 @@ pub mod ClaimLabels
 pub mod Claims
 pub mod ClaimsLaws
 pub mod ClaimsEquality
-pub mod Reading
 pub mod Known
 pub mod Party
 pub mod SuppPub

@@ -11,7 +11,6 @@ ghost use Rattle.coset_codec.specs.Inputs.{ReadsAt, length_left, state};
 ghost use Rattle.coset_codec.specs.Maps.{Adds, Refuses, are_distinct};
 ghost use Rattle.coset_label.specs.Names.{assigned, text_name, private_use};
 ghost use Rattle.coset_claims.specs.Timestamp.{timestamp_view};
-ghost use Rattle.coset_claims.specs.Reading.{GoesTo};
 ghost use Rattle.coset_claims.specs.Claims.{IsOtherClaim, and_claim, claim_name, claims, claims_view, fields, name_view, names, no_claims, parts_of, same_name};
 
 use crate::timestamp::Timestamp;
@@ -90,43 +89,13 @@ fn size_hint_of<T: Encode>(value: &Option<T>) -> usize {
     }
 }
 
-/// A field of a claims set, by the numbers of its claims (RFC 8392, section 4).
-#[derive(Clone, Copy)]
-enum Field {
-    /// Claim 1.
-    Issuer,
-    /// Claim 2.
-    Subject,
-    /// Claim 3.
-    Audience,
-    /// Claim 4.
-    ExpirationTime,
-    /// Claim 5.
-    NotBefore,
-    /// Claim 6.
-    IssuedAt,
-    /// Claim 7.
-    CwtId,
-    /// Any other claim.
-    Rest,
-}
-
-/// The field that a claim with this name goes to.
-fn field_of(name: &ClaimName) -> Field
-    ensures { GoesTo (name_view name.now) result }
+/// Whether the name is that of this claim.
+fn is_claim(name: &ClaimName, claim: CwtClaimName) -> bool
+    ensures { result ≡ same_name (assigned (claim_names.number claim)) (name_view name.now) }
 {
-    let RegisteredLabelWithPrivate::Assigned(claim) = name else {
-        return Field::Rest;
-    };
-    match claim.to_i64() {
-        1 => Field::Issuer,
-        2 => Field::Subject,
-        3 => Field::Audience,
-        4 => Field::ExpirationTime,
-        5 => Field::NotBefore,
-        6 => Field::IssuedAt,
-        7 => Field::CwtId,
-        _ => Field::Rest,
+    match name {
+        RegisteredLabelWithPrivate::Assigned(found) => found.to_i64() == claim.to_i64(),
+        _ => false,
     }
 }
 
@@ -150,20 +119,30 @@ fn set_claim(
         (parts_of (claims_view claims.old))))) }
     ensures kept { OnErr result (claims_view claims.new ≡ claims_view claims.old) }
 {
-    match field_of(&name) {
-        Field::Issuer => set_field(alloc, &mut claims.issuer, input),
-        Field::Subject => set_field(alloc, &mut claims.subject, input),
-        Field::Audience => set_field(alloc, &mut claims.audience, input),
-        Field::ExpirationTime => set_field(alloc, &mut claims.expiration_time, input),
-        Field::NotBefore => set_field(alloc, &mut claims.not_before, input),
-        Field::IssuedAt => set_field(alloc, &mut claims.issued_at, input),
-        Field::CwtId => set_field(alloc, &mut claims.cwt_id, input),
-        Field::Rest => {
-            let value = input.value(alloc)?;
-            claims.rest.push((name, value))?;
-            Ok(())
-        }
+    if is_claim(&name, CwtClaimName::Iss) {
+        return set_field(alloc, &mut claims.issuer, input);
     }
+    if is_claim(&name, CwtClaimName::Sub) {
+        return set_field(alloc, &mut claims.subject, input);
+    }
+    if is_claim(&name, CwtClaimName::Aud) {
+        return set_field(alloc, &mut claims.audience, input);
+    }
+    if is_claim(&name, CwtClaimName::Exp) {
+        return set_field(alloc, &mut claims.expiration_time, input);
+    }
+    if is_claim(&name, CwtClaimName::Nbf) {
+        return set_field(alloc, &mut claims.not_before, input);
+    }
+    if is_claim(&name, CwtClaimName::Iat) {
+        return set_field(alloc, &mut claims.issued_at, input);
+    }
+    if is_claim(&name, CwtClaimName::Cti) {
+        return set_field(alloc, &mut claims.cwt_id, input);
+    }
+    let value = input.value(alloc)?;
+    claims.rest.push((name, value))?;
+    Ok(())
 }
 
 /// A claims set is read claim by claim.
