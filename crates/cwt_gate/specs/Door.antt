@@ -83,8 +83,8 @@ abbrev pub Arrives : {E : Type 0} → KeysView E → PolicyView → List ℕ →
 Arrives k p b R = Reaches k p b false (λ ls q. (length ls ≤ MOST) × (is_authentic p ls ≡ true) × R q)
 
 -- no layer of the token authenticates
-abbrev pub IsForgeable : {E : Type 0} → KeysView E → PolicyView → List ℕ → Type 0
-IsForgeable k p b = Reaches k p b false (λ ls q. (length ls ≤ MOST) × (is_authentic p ls ≡ false))
+abbrev pub IsUnauthenticated : {E : Type 0} → KeysView E → PolicyView → List ℕ → Type 0
+IsUnauthenticated k p b = Reaches k p b false (λ ls q. (length ls ≤ MOST) × (is_authentic p ls ≡ false))
 
 -- the bytes q are these claims, and beside them those that are left out; and at that moment there is no reason against them
 abbrev pub AreLetIn : {E : Type 0} → KeysView E → PolicyView → ℤ → List ℕ → ClaimsView × Others → Type 0
@@ -101,7 +101,7 @@ RefusesClaims p now q e =
 abbrev pub JudgesWith : {E : Type 0} → KeysView E → PolicyView → ℤ → List ℕ → Result KnownClaims (PolicyError E) → Type 0
 JudgesWith k p now b (Ok x) = Arrives k p b (λ q. AreLetIn k p now q (known_view x))
 JudgesWith k p now b (Err e) =
-    RefusesLayers k p b e ⊎ ((e ≡ Unauthenticated) × IsForgeable k p b) ⊎ Arrives k p b (λ q. RefusesClaims p now q e)
+    RefusesLayers k p b e ⊎ ((e ≡ Unauthenticated) × IsUnauthenticated k p b) ⊎ Arrives k p b (λ q. RefusesClaims p now q e)
 
 -- ---- the steps
 
