@@ -19,17 +19,19 @@ MOST = 4
 
 -- ---- one layer
 
--- the policy has the algorithm that the layer's protected header names; and each label that must be understood
+-- the policy has the algorithm that the layer's protected header names
 abbrev pub is_allowed : PolicyView → LayerView → Bool
 is_allowed p l = allows p (form_of l) (protected_of l).header
 
+-- each label that must be understood is one of the policy's
 abbrev pub is_clear : PolicyView → LayerView → Bool
 is_clear p l = understands p (protected_of l).header (unprotected_of l)
 
+-- the policy admits the layer
 abbrev pub IsAdmitted : PolicyView → LayerView → Type 0
 IsAdmitted p l = (is_allowed p l ≡ true) × (is_clear p l ≡ true)
 
--- what is returned of one layer, the outermost or another: its form and what is in it; or the first reason against it
+-- the bytes q are a layer, the outermost or another, and R holds of it
 abbrev pub IsLayer : PolicyView → Bool → List ℕ → (LayerView → Type 0) → Type 0
 IsLayer p outermost q R = (l : LayerView) × Describes (layer p.plain outermost) q l × R l
 
