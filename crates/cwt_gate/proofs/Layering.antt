@@ -1,6 +1,6 @@
 -- Opening layer in layer: one layer, and what is known after so many.
 use Rattle.std.proofs.Common.{◌≡◌, ◌≤◌, ◌<◌, ◌+◌, ◌⊎◌, ◌∙◌, ◌||◌, ℕ, suc, List, [], ◌∷◌, length, Bool, true, false, Option, Some, None, Result, Ok, Err, refl, sym, ap, subst, inl, inr, arith}
-use Rattle.coset.specs.Answers.{Describes, DescribesNothing, IsOnlyItem, IsRefused}
+use Rattle.coset.specs.Answers.{Describes, DescribesNothing, IsOnlyItem, IsRefused, SliceFaults}
 use Rattle.coset.specs.AsWritten.{WhenRead}
 use Rattle.coset.specs.CoseError.{CoseError}
 use Rattle.coset.specs.EncStructure.{Encrypts}
@@ -13,7 +13,7 @@ use Rattle.coset.specs.MacContext.TheVariants as mac
 use Rattle.coset.specs.EncryptionContext.TheVariants as enc
 use Rattle.coset.specs.MacStructure.{Authenticates}
 use Rattle.coset.specs.Sign1.{Sign1View, sign1, sign1_laws, sign1_structure}
-use Rattle.cwt_gate.specs.Door.{Arrives, IsAdmitted, IsIn, MOST, OpensAll, OpensOne, RefusesLayer, RefusesLayers, is_authentic}
+use Rattle.cwt_gate.specs.Door.{Arrives, IsAdmitted, IsIn, MOST, OpensAll, OpensOne, RefusesLayer, RefusesLayers, is_allowed, is_authentic, is_clear}
 use Rattle.cwt_gate.specs.Keys.{KeysView, Opens}
 use Rattle.cwt_gate.specs.Layers.{DescribesAs, FaultsAs, LayerView, begins_layer, encrypted, form_of, layer, layer_item, maced, message_in, protected_of, signed, structure_of, unprotected_of}
 use Rattle.cwt_gate.specs.Policy.{PolicyView, allows, understands}
@@ -65,6 +65,27 @@ no_layer plain outermost s v u m f g e only layered is form h =
     λ n l d. as_sound (message_in plain (layer_item outermost v)) l e
     (subst (λ w. DescribesAs (message_in plain (layer_item outermost w)) l) (only.1 d.0 d.1) d.2)
     (subst (λ y. FaultsAs y e) (is ∙ ap (message_in plain) layered) (subst (λ x. FaultsAs (x, m) e) (sym form) (h n)))
+
+-- such a fault is one of the bytes as a layer
+pub layer_fault :
+    (plain : Form) (outermost : Bool) (s : List ℕ) (v u m : Item) (f g : Form) (e : CoseError) → IsOnlyItem s v → u ≡ layer_item outermost v
+    → (f, m) ≡ message_in plain u → f ≡ g → UnlessMemory e (FaultsAs (g, m))
+    → UnlessMemory e (SliceFaults (layer plain outermost) s)
+layer_fault plain outermost s v u m f g e only layered is form h =
+    λ n. inr (inr (
+      v,
+      only.0,
+      subst (λ y. FaultsAs y e) (is ∙ ap (message_in plain) layered) (subst (λ x. FaultsAs (x, m) e) (sym form) (h n)),
+    ))
+
+-- what the tests of a layer's headers say
+pub allowed_is : (p : PolicyView) (l : LayerView) (form : Form) (h : HeaderView) (b : Bool) → form ≡ form_of l → h ≡ (protected_of l).header
+    → allows p form h ≡ b → is_allowed p l ≡ b
+allowed_is p l form h b f e a = subst (λ x. allows p x (protected_of l).header ≡ b) f (subst (λ x. allows p form x ≡ b) e a)
+
+pub clear_is : (p : PolicyView) (l : LayerView) (g u : HeaderView) (b : Bool) → g ≡ (protected_of l).header → u ≡ unprotected_of l → understands p g u ≡ b
+    → is_clear p l ≡ b
+clear_is p l g u b d i a = subst (λ x. understands p (protected_of l).header x ≡ b) i (subst (λ x. understands p x u ≡ b) d a)
 
 -- the tests of a layer's headers say that the policy admits it
 pub admitted :

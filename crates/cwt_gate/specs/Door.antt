@@ -19,17 +19,19 @@ MOST = 4
 
 -- ---- one layer
 
--- the policy has the algorithm that the layer's protected header names; and each label that must be understood
+-- the policy has the algorithm that the layer's protected header names
 abbrev pub is_allowed : PolicyView → LayerView → Bool
 is_allowed p l = allows p (form_of l) (protected_of l).header
 
+-- each label that must be understood is one of the policy's
 abbrev pub is_clear : PolicyView → LayerView → Bool
 is_clear p l = understands p (protected_of l).header (unprotected_of l)
 
+-- the policy admits the layer
 abbrev pub IsAdmitted : PolicyView → LayerView → Type 0
 IsAdmitted p l = (is_allowed p l ≡ true) × (is_clear p l ≡ true)
 
--- what is returned of one layer, the outermost or another: its form and what is in it; or the first reason against it
+-- the bytes q are a layer, the outermost or another, and R holds of it
 abbrev pub IsLayer : PolicyView → Bool → List ℕ → (LayerView → Type 0) → Type 0
 IsLayer p outermost q R = (l : LayerView) × Describes (layer p.plain outermost) q l × R l
 
@@ -83,8 +85,8 @@ abbrev pub Arrives : {E : Type 0} → KeysView E → PolicyView → List ℕ →
 Arrives k p b R = Reaches k p b false (λ ls q. (length ls ≤ MOST) × (is_authentic p ls ≡ true) × R q)
 
 -- no layer of the token authenticates
-abbrev pub IsForgeable : {E : Type 0} → KeysView E → PolicyView → List ℕ → Type 0
-IsForgeable k p b = Reaches k p b false (λ ls q. (length ls ≤ MOST) × (is_authentic p ls ≡ false))
+abbrev pub IsUnauthenticated : {E : Type 0} → KeysView E → PolicyView → List ℕ → Type 0
+IsUnauthenticated k p b = Reaches k p b false (λ ls q. (length ls ≤ MOST) × (is_authentic p ls ≡ false))
 
 -- the bytes q are these claims, and beside them those that are left out; and at that moment there is no reason against them
 abbrev pub AreLetIn : {E : Type 0} → KeysView E → PolicyView → ℤ → List ℕ → ClaimsView × Others → Type 0
@@ -101,7 +103,7 @@ RefusesClaims p now q e =
 abbrev pub JudgesWith : {E : Type 0} → KeysView E → PolicyView → ℤ → List ℕ → Result KnownClaims (PolicyError E) → Type 0
 JudgesWith k p now b (Ok x) = Arrives k p b (λ q. AreLetIn k p now q (known_view x))
 JudgesWith k p now b (Err e) =
-    RefusesLayers k p b e ⊎ ((e ≡ Unauthenticated) × IsForgeable k p b) ⊎ Arrives k p b (λ q. RefusesClaims p now q e)
+    RefusesLayers k p b e ⊎ ((e ≡ Unauthenticated) × IsUnauthenticated k p b) ⊎ Arrives k p b (λ q. RefusesClaims p now q e)
 
 -- ---- the steps
 

@@ -60,12 +60,13 @@ impl<E: Drop> From<CallError<E>> for GateError<E> {
     }
 }
 
-/// Why a token is not let in by [`judge_with`](crate::judge_with). Of several reasons it is the first: of each layer, from
-/// the outermost in, `Token` of `Gate`, `Algorithm`, `Critical`, `NoPayload` and `Caller` of `Gate`; `TooDeep`; `Unauthenticated`;
-/// and of the claims `Claims` of `Gate`, `NoExpiration`, `Expired` and `NotYetValid` of `Gate`, and the others in this order.
+/// Why a token is not let in by [`judge_with`](crate::judge_with). Of several reasons it is the first of these: of each layer,
+/// from the outermost in, `Token`, `Algorithm`, `Critical`, `NoPayload`, `Caller`; then `TooDeep`, `Unauthenticated`, `Claims`,
+/// `NoExpiration`, `Expired`, `NotYetValid`, `IssuedLater`, `TooOld`, `Issuer` and `Audience`.
 #[derive(Debug, Drop)]
 pub enum PolicyError<E> {
-    /// A reason that [`judge`](crate::judge) has too; never `FractionalTime`, since fractions are compared as they are.
+    /// A reason that [`judge`](crate::judge) has too: `Token`, `NoPayload` and `Caller` of a layer, the others of the claims; never
+    /// `FractionalTime`, since fractions are compared as they are.
     Gate(GateError<E>),
     /// The protected header of a layer names no algorithm, or one that the policy doesn't have for its form.
     Algorithm,
