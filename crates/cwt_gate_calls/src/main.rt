@@ -150,116 +150,136 @@ fn by_a_policy(alloc: Global, words: &Words<'_>) -> Result<String> {
     keys.asked(alloc)?.behind(alloc, told_with(alloc, answer)?)
 }
 
-/// The algorithms that a policy of a line may allow.
-#[derive(Drop)]
-struct Algorithms {
-    signatures: [RegisteredLabelWithPrivate<Algorithm>; 1],
-    macs: [RegisteredLabelWithPrivate<Algorithm>; 1],
-    ciphers: [RegisteredLabelWithPrivate<Algorithm>; 1],
-}
-
-impl Algorithms {
-    fn new() -> Algorithms {
-        Algorithms {
-            signatures: [RegisteredLabelWithPrivate::Assigned(Algorithm::ES256)],
-            macs: [RegisteredLabelWithPrivate::Assigned(Algorithm::HMAC_256_64)],
-            ciphers: [RegisteredLabelWithPrivate::Assigned(Algorithm::AES_CCM_16_64_128)],
-        }
+/// The algorithm of a layer that a line allows; none where it allows none.
+fn allowed<'a>(
+    algorithm: &'a [RegisteredLabelWithPrivate<Algorithm>; 1],
+    is_allowed: bool,
+) -> &'a [RegisteredLabelWithPrivate<Algorithm>] {
+    if is_allowed {
+        &algorithm[..1]
+    } else {
+        &algorithm[..0]
     }
 }
 
-/// The policy with what a word changes.
-///
-/// # Errors
-/// The word says nothing.
-fn changed<'a>(
-    policy: Policy<'a>,
-    word: &'a str,
-    algorithms: &'a Algorithms,
-) -> Result<Policy<'a>> {
-    Ok(match word {
-        "sign" => Policy {
-            signatures: &algorithms.signatures,
-            ..policy
-        },
-        "mac" => Policy {
-            macs: &algorithms.macs,
-            ..policy
-        },
-        "enc" => Policy {
-            ciphers: &algorithms.ciphers,
-            ..policy
-        },
-        "plain=sign" => Policy {
-            plain: Form::Sign1,
-            ..policy
-        },
-        "plain=mac" => Policy {
-            plain: Form::Mac0,
-            ..policy
-        },
-        "plain=enc" => Policy {
-            plain: Form::Encrypt0,
-            ..policy
-        },
-        "by=sign" => Policy {
-            authenticated_by: Authentication::Signature,
-            ..policy
-        },
-        "by=any" => Policy {
-            authenticated_by: Authentication::AnyLayer,
-            ..policy
-        },
-        "others" => Policy {
-            unassigned: Unassigned::LeftOut,
-            ..policy
-        },
-        "forever" => Policy {
-            expires: false,
-            ..policy
-        },
-        "later" => Policy {
-            issued: false,
-            ..policy
-        },
-        _ => named(policy, word)?,
-    })
+/// The text, where there is one.
+fn text_of(text: &Option<String>) -> Option<&str> {
+    match text {
+        Some(text) => Some(text.as_str()),
+        None => None,
+    }
 }
 
-/// The policy with what a word changes that has a name and a value.
-///
-/// # Errors
-/// The word says nothing.
-fn named<'a>(policy: Policy<'a>, word: &'a str) -> Result<Policy<'a>> {
-    match word.split_once('=') {
-        Some(("age", age)) => Ok(Policy {
-            max_age: Some(span(age)?),
-            ..policy
-        }),
-        Some(("leeway", leeway)) => Ok(Policy {
-            leeway: span(leeway)?,
-            ..policy
-        }),
-        Some(("iss", issuer)) => Ok(Policy {
-            issuer: Some(issuer),
-            ..policy
-        }),
-        Some(("aud", audience)) => Ok(Policy {
-            audience: Some(audience),
-            ..policy
-        }),
-        _ => Err(CoseError::UnexpectedItem("word", "field of a policy")),
+/// What a line changes of the strict policy.
+#[derive(Drop)]
+struct Changes {
+    sign: bool,
+    mac: bool,
+    enc: bool,
+    plain: Form,
+    authenticated_by: Authentication,
+    unassigned: Unassigned,
+    expires: bool,
+    issued: bool,
+    max_age: Option<u64>,
+    leeway: u64,
+    issuer: Option<String>,
+    audience: Option<String>,
+}
+
+impl Changes {
+    /// None.
+    fn none() -> Changes {
+        Changes {
+            sign: false,
+            mac: false,
+            enc: false,
+            plain: Form::Sign1,
+            authenticated_by: Authentication::SignatureOrMac,
+            unassigned: Unassigned::Refused,
+            expires: true,
+            issued: true,
+            max_age: None,
+            leeway: 0,
+            issuer: None,
+            audience: None,
+        }
+    }
+
+    /// Makes the change that a word names.
+    ///
+    /// # Errors
+    /// The word says nothing, or memory ran out.
+    fn make(&mut self, alloc: Global, word: &str) -> Result<()> {
+        match word {
+            "sign" => self.sign = true,
+            "mac" => self.mac = true,
+            "enc" => self.enc = true,
+            "plain=sign" => self.plain = Form::Sign1,
+            "plain=mac" => self.plain = Form::Mac0,
+            "plain=enc" => self.plain = Form::Encrypt0,
+            "by=sign" => self.authenticated_by = Authentication::Signature,
+            "by=any" => self.authenticated_by = Authentication::AnyLayer,
+            "others" => self.unassigned = Unassigned::LeftOut,
+            "forever" => self.expires = false,
+            "later" => self.issued = false,
+            _ => return self.set(alloc, word),
+        }
+        Ok(())
+    }
+
+    /// Makes the change that a word has as a name and a value.
+    ///
+    /// # Errors
+    /// The same as `make`.
+    fn set(&mut self, alloc: Global, word: &str) -> Result<()> {
+        match word.split_once('=') {
+            Some(("age", age)) => self.max_age = Some(span(age)?),
+            Some(("leeway", leeway)) => self.leeway = span(leeway)?,
+            Some(("iss", issuer)) => self.issuer = Some(String::from_str(alloc, issuer)?),
+            Some(("aud", audience)) => self.audience = Some(String::from_str(alloc, audience)?),
+            _ => return Err(CoseError::UnexpectedItem("word", "field of a policy")),
+        }
+        Ok(())
+    }
+
+    /// The changes that these words name.
+    ///
+    /// # Errors
+    /// The same as `make`.
+    fn of(alloc: Global, words: &str) -> Result<Changes> {
+        let mut changes = Changes::none();
+        for word in words.split(',') {
+            changes.make(alloc, word)?;
+        }
+        Ok(changes)
     }
 }
 
 /// Judges a token with the strict policy and what a line changes of it.
 fn by_a_strict_policy(alloc: Global, words: &Words<'_>) -> Result<String> {
     let now = words.number(2)?;
-    let algorithms = Algorithms::new();
-    let mut policy = Policy::strict();
-    for word in words.word(3).split(',') {
-        policy = changed(policy, word, &algorithms)?;
-    }
+    let changes = Changes::of(alloc, words.word(3))?;
+    let signatures = [RegisteredLabelWithPrivate::Assigned(Algorithm::ES256)];
+    let macs = [RegisteredLabelWithPrivate::Assigned(Algorithm::HMAC_256_64)];
+    let ciphers = [RegisteredLabelWithPrivate::Assigned(Algorithm::AES_CCM_16_64_128)];
+    let issuer = text_of(&changes.issuer);
+    let audience = text_of(&changes.audience);
+    let policy = Policy {
+        signatures: allowed(&signatures, changes.sign),
+        macs: allowed(&macs, changes.mac),
+        ciphers: allowed(&ciphers, changes.enc),
+        plain: changes.plain,
+        authenticated_by: changes.authenticated_by,
+        unassigned: changes.unassigned,
+        expires: changes.expires,
+        issued: changes.issued,
+        max_age: changes.max_age,
+        leeway: changes.leeway,
+        issuer,
+        audience,
+        ..Policy::strict()
+    };
     let token = words.bytes(alloc, 4)?;
     let keys = Scripted::new(alloc, words.word(1))?;
     mark::begin(alloc);
