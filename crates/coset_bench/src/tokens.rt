@@ -5,7 +5,7 @@ use crate::fault::Fault;
 use coset::cwt::ClaimsSet;
 use coset::iana::Algorithm;
 use coset::{CborSerializable, CoseSign1, RegisteredLabelWithPrivate};
-use cwt_gate::{Keys, Policy, Sealed, judge, judge_with};
+use cwt_gate::{Form, Keys, Policy, Sealed, judge, judge_with};
 use std::alloc::Global;
 use std::rt::Clock;
 use std::time::Duration;
@@ -27,7 +27,7 @@ impl Keys for Accepting {
 
     ghost view = { λ keys. accept_anything };
 
-    fn no_key(&self) -> Never {
+    fn no_key(&self, _form: Form, _sealed: &Sealed<'_>) -> Never {
         Never
     }
 
