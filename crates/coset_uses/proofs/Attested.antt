@@ -1,14 +1,19 @@
 -- Attestation tokens: what the gate returns of them is passed on, and submodules are found.
 use Rattle.std.specs.Prelude.{IsErrAnd}
 use Rattle.std.specs.List.{find}
-use Rattle.std.proofs.Common.{◌≡◌, ◌∙◌, ℕ, ℤ, List, [], ◌∷◌, Some, Result, Ok, Err, ap, cond, option_map, refl, subst, sym}
+use Rattle.std.proofs.Common.{◌≡◌, ◌∙◌, ℕ, ℤ, List, [], ◌∷◌, Option, Some, Result, Ok, Err, ap, cond, option_map, refl, subst, sym}
+use Rattle.coset_claims.specs.Claims.{ClaimsView}
+use Rattle.coset_claims.specs.declared.claims_set.ClaimsSet.{ClaimsSet}
 use Rattle.coset_claims.specs.declared.known.KnownClaims.{KnownClaims}
+use Rattle.coset_codec.specs.declared.error.CoseError.{CoseError}
+use Rattle.coset_codec.specs.declared.error.CoseError.TheVariants.{OutOfMemory}
+use Rattle.coset_value.specs.Item.{Item}
 use Rattle.coset_value.specs.View.{value_item, value_pairs}
 use Rattle.coset_value.specs.declared.value.Value.{Value}
 use Rattle.cwt_gate.specs.Door.{JudgesWith}
 use Rattle.cwt_gate.specs.Keys.{KeysView}
 use Rattle.cwt_gate.specs.declared.error.PolicyError.{PolicyError}
-use Rattle.coset_uses.specs.Attestation.{JudgesAttestation, attestation_policy, held_under, is_text}
+use Rattle.coset_uses.specs.Attestation.{JudgesAttestation, ReadsSubmodule, attestation_policy, held_under, is_text, submodule_of}
 use Rattle.coset_uses.specs.declared.attestation.NotAttested.{NotAttested}
 use Rattle.coset_uses.specs.declared.attestation.NotAttested.TheVariants.{Refused}
 use Rattle.coset_uses.proofs.Found.{cond-map}
@@ -20,6 +25,13 @@ pub refused :
     → JudgesAttestation k nonce now b r
 refused k nonce now b (Ok x) e is h = absurd is
 refused k nonce now b (Err x) e is h = subst (λ y. JudgesAttestation k nonce now b (Err y)) (sym is) h
+
+-- where there is no memory for a copy of the submodule
+pub no_memory :
+    (name : List ℕ) (c : ClaimsView) (v : Item) (r : Result (Option ClaimsSet) CoseError) → IsErrAnd r (λ x. x ≡ OutOfMemory)
+    → submodule_of name c ≡ Some v → ReadsSubmodule name c r
+no_memory name c v (Ok x) is found = absurd is
+no_memory name c v (Err e) is found = (v, found, λ n. absurd (n is))
 
 -- what is under a text is found as the code looks for it
 pub held-find :
