@@ -1,4 +1,5 @@
 pub use Rattle.coset_value.specs.Item
+pub use Rattle.coset_value.specs.Number
 pub use Rattle.coset_value.specs.View
 pub use Rattle.coset_value.specs.Parts
 pub use Rattle.coset_value.specs.Range
@@ -89,7 +90,6 @@ pub use Rattle.coset_msg.specs.declared.encrypt0.CoseEncrypt0
 pub use Rattle.coset_recipient.specs.declared.mac.CoseMac
 pub use Rattle.coset_recipient.specs.declared.encrypt.CoseEncrypt
 pub use Rattle.coset_recipient.specs.declared.recipient.CoseRecipient
-pub use Rattle.coset_claims.specs.Number
 pub use Rattle.coset_claims.specs.Timestamp
 pub use Rattle.coset_claims.specs.Seconds
 pub use Rattle.coset_claims.specs.Claims

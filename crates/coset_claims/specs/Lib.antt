@@ -1,4 +1,3 @@
-pub mod Number
 pub mod NumberView
 pub mod Timestamp
 pub mod Seconds

@@ -1,6 +1,6 @@
 -- The code's numbers and formats, as those of `Number`.
 use Rattle.std.specs.Prelude.{◌*◌, ◌^◌, ◌<◌}
-use Rattle.coset_claims.specs.Number as numbers
+use Rattle.coset_value.specs.Number as numbers
 use Rattle.coset_claims.specs.declared.number.Format.{Format}
 use Rattle.coset_claims.specs.declared.number.Number.{Number}
 

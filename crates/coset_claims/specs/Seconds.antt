@@ -1,9 +1,13 @@
--- How timestamps compare with whole seconds: exactly, whatever a float's width.
-use Rattle.std.specs.Prelude.{ℤ, Bool, Option, Some, option_map}
+-- How timestamps compare with whole seconds: exactly, without rounding, whatever a float's width.
+use Rattle.std.specs.Prelude.{◌^◌, ◌*ℤ◌, ℤ, pos, neg_ℤ, Bool, Option, Some, option_map, if◌then◌else◌}
 use Rattle.std.specs.declared.cmp.Ordering.{Ordering}
 use Rattle.std.specs.Ordering.{int_cmp, is_gt, is_some_and}
-use Rattle.coset_claims.specs.Number.{number, number_cmp}
+use Rattle.coset_value.specs.Number.{Number, number}
 use Rattle.coset_claims.specs.Timestamp.{TimestampView, whole_seconds, fractional_seconds}
+
+-- how the number compares with k
+abbrev pub number_cmp : Number → ℤ → Ordering
+number_cmp x k = int_cmp (if x.is_negative then neg_ℤ (pos x.units) else pos x.units) (k *ℤ pos (2 ^ x.scale))
 
 -- how a moment compares with k seconds; an infinity, or what is no number, is no moment
 abbrev pub seconds_cmp : TimestampView → ℤ → Option Ordering

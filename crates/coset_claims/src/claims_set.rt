@@ -478,6 +478,23 @@ impl ClaimsSetBuilder {
         Ok(self)
     }
 
+    /// As [`text_claim`](ClaimsSetBuilder::text_claim), of a copy of this name.
+    ///
+    /// # Errors
+    /// `OutOfMemory` alone.
+    pub fn text_claim_from(
+        self,
+        alloc: Global,
+        name: &str,
+        value: Value,
+    ) -> Result<ClaimsSetBuilder>
+        ensures ok { IfOk result (λ b. claims_view b
+            ≡ and_claim (text_name name.now) (value_item value) (claims_view self)) }
+        ensures memory { IfErr result (λ e. e ≡ OutOfMemory) }
+    {
+        self.text_claim(String::from_str(alloc, name)?, value)
+    }
+
     /// Adds a claim whose name is a number for private use, less than -65536. A claims set with a name twice is
     /// written, but isn't read again (`DuplicateMapKey`).
     ///

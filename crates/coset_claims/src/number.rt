@@ -3,7 +3,8 @@
 ghost use Rattle.std.specs.Prelude.{◌≡◌, ◌<◌, ◌*◌, ◌^◌, option_map};
 ghost use Rattle.std.specs.Ordering.{nat_cmp};
 ghost use Rattle.coset_value.specs.View.{bits_of};
-ghost use Rattle.coset_claims.specs.Number.{number, number_cmp, number_in, units_of};
+ghost use Rattle.coset_value.specs.Number.{number, number_in, units_of};
+ghost use Rattle.coset_claims.specs.Seconds.{number_cmp};
 ghost use Rattle.coset_claims.specs.NumberView.{number_view, format_view, IsFormat};
 
 use coset_cbor::value::Float;

@@ -1,5 +1,5 @@
 -- Reading forward: what is where something is read, in a tree or in lent bytes.
-use Rattle.std.specs.Prelude.{◌≡◌, ◌<◌, ⊤, ℕ, List, length, codes, Bool, true, false, Option, Some, None, Result, Ok, Err}
+use Rattle.std.specs.Prelude.{◌≡◌, ◌<◌, ◌≤◌, OnOk, ⊤, ℕ, List, length, codes, Bool, true, false, Option, Some, None, Result, Ok, Err}
 use Rattle.std.specs.Vec.Iter.{into_iter_items}
 use Rattle.coset_value.specs.Item.{Item, null, Items, no_items, item, items_count, items_depth, Pairs, no_pairs, pair, pairs_count, pairs_depth, depth}
 use Rattle.coset_value.specs.Parts.{as_array, as_map}
@@ -128,3 +128,10 @@ pairs_turns (pairs.Lent p) s = length_left s
 abbrev pub GoesBehind : State → State → Type 0
 GoesBehind (tree w) t = ⊤
 GoesBehind (lent s) t = length_left t < length s
+
+-- Reading goes forward: from s to t, which is not further from the end, and is nearer to it where the result is Ok. Where an
+-- item is at s, t is just behind it, and P holds of the item
+pub record ReadsForward {A E : Type 0} (s t : State) (result : Result A E) (P : Item → Type 0) : Type 0 where
+  pub shrinks : length_left t ≤ length_left s
+  pub strictly : OnOk result (GoesBehind s t)
+  pub reads : ReadsAt s t P

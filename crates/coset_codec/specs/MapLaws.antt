@@ -116,12 +116,12 @@ pub record AgainFieldShape (A : Type 0) (h : FieldShape A) (d : ℕ) (x : A) : T
   pub described : h.describes value x
   pub shallow : Within d value
 
--- `told`: what a value makes is distinguished from what none makes
+-- `apart`: no value is read both from an item and from none
 pub record LawfulFieldShape (A : Type 0) (h : FieldShape A) : Type 0 where
   pub unique : (o : Option Item) (x y : A) → h.describes o x → h.describes o y → x ≡ y
   pub again : (d : ℕ) (o : Option Item) (x : A) → Within d o → h.describes o x → AgainFieldShape A h d x
   pub sound : (v : Item) (x : A) (e : CoseError) → h.describes (Some v) x → h.faults v e → ⊥
-  pub told : (v : Item) (x : A) → h.describes (Some v) x → h.describes None x → ⊥
+  pub apart : (v : Item) (x : A) → h.describes (Some v) x → h.describes None x → ⊥
 
 module _ {A : Type 0} (absent : A) (shows : A → Bool) (hidden : shows absent ≡ false) (shown : (x : A) → shows x ≡ false → x ≡ absent) (s : Shape A)
     (never : (v : Item) → s.describes v absent → ⊥) (l : Lawful A s) where
@@ -130,8 +130,8 @@ module _ {A : Type 0} (absent : A) (shows : A → Bool) (hidden : shows absent �
   field_shape_unique (Some v) x y p q = l.unique v x y p q
   field_shape_unique None x y p q = p ∙ sym q
 
-  field_shape_told : (v : Item) (x : A) → s.describes v x → x ≡ absent → ⊥
-  field_shape_told v x p q = never v (subst (s.describes v) q p)
+  field_shape_apart : (v : Item) (x : A) → s.describes v x → x ≡ absent → ⊥
+  field_shape_apart v x p q = never v (subst (s.describes v) q p)
 
   field_shape_again : (d : ℕ) (o : Option Item) (x : A) → Within d o → (field_shape absent shows s).describes o x
       → AgainFieldShape A (field_shape absent shows s) d x
@@ -141,11 +141,11 @@ module _ {A : Type 0} (absent : A) (shows : A → Bool) (hidden : shows absent �
       go true h =
           let a : Again A s v x = l.again v x p in
           record { value = Some a.image; is_image = rw (h, a.is_image) refl; described = a.described; shallow = omega (arith, a.shallow, w) }
-      go false h = absurd (field_shape_told v x p (shown x h))
+      go false h = absurd (field_shape_apart v x p (shown x h))
   field_shape_again d None x w p = record { value = None; is_image = rw (p, hidden) refl; described = p; shallow = tt }
 
   pub field_shape_laws : LawfulFieldShape A (field_shape absent shows s)
-  field_shape_laws = record { unique = field_shape_unique; again = field_shape_again; sound = l.sound; told = field_shape_told }
+  field_shape_laws = record { unique = field_shape_unique; again = field_shape_again; sound = l.sound; apart = field_shape_apart }
 
 -- what is left out
 none_hidden : {A : Type 0} (x : Option A) → is_some x ≡ false → x ≡ None
@@ -505,7 +505,7 @@ module _ {N : Type 0} (n : Names N) (laws : LawfulNames N n) where
 
     -- where none is described, none is there
     none_there : (o : Option Item) (x : A) → h.describes o x → h.describes None x → o ≡ None
-    none_there (Some v) x p q = absurd (hl.told v x p q)
+    none_there (Some v) x p q = absurd (hl.apart v x p q)
     none_there None x p q = refl
 
     field_fresh : (es : List (N × Item)) (x y : A × B) (m : N) (v : Item) → (field n l h fs).describes es x → (field n l h fs).takes m v x y

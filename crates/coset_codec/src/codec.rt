@@ -1,11 +1,11 @@
 //! The short way to a type of one's own: one trait, from which all others follow.
 
-ghost use Rattle.std.specs.Prelude.{◌≡◌, ◌↔◌, ◌≤◌, ℕ, ⊤, IfErr, IsTrue, OnOk};
+ghost use Rattle.std.specs.Prelude.{◌≡◌, ◌↔◌, ℕ, ⊤, IfErr, IsTrue};
 ghost use Rattle.coset_cbor.specs.Least.{Extends};
 ghost use Rattle.coset_codec.specs.declared.error.CoseError.TheVariants.{OutOfMemory};
 ghost use Rattle.coset_codec.specs.Answers.{Reads};
 ghost use Rattle.coset_codec.specs.Encoding.{Encodes};
-ghost use Rattle.coset_codec.specs.Inputs.{State, tree, GoesBehind, ReadsAt, length_left, state};
+ghost use Rattle.coset_codec.specs.Inputs.{State, tree, state, ReadsForward};
 ghost use Rattle.coset_codec.specs.Shape.{Shape};
 ghost use Rattle.coset_codec.specs.ShapeLaws.{Lawful as LawfulShape};
 
@@ -44,9 +44,7 @@ pub trait Codec: Sized + Drop + PartialEq {
     /// # Errors
     /// `OutOfMemory`, only where `allocates` says so; or a fault that is in the item, which then describes no value.
     fn read(alloc: Global, input: &mut Decoder<'_>) -> Result<Self>
-        ensures shrinks { length_left (state input.new) ≤ length_left (state input.old) }
-        ensures strictly { OnOk result (GoesBehind (state input.old) (state input.new)) }
-        ensures reads { ReadsAt (state input.old) (state input.new)
+        ensures forward { ReadsForward (state input.old) (state input.new) result
             (λ v. Reads shape view v result) }
         ensures memory { IfErr result (λ e. e ≡ OutOfMemory → allocates (state input.old)) };
 

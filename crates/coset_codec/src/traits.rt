@@ -1,13 +1,13 @@
 //! How a type is read from CBOR and written to it.
 
-ghost use Rattle.std.specs.Prelude.{◌≡◌, ◌≤◌, ℕ, ⊤, IfErr, IfOk, OnOk};
+ghost use Rattle.std.specs.Prelude.{◌≡◌, ℕ, ⊤, IfErr, IfOk};
 ghost use Rattle.coset_value.specs.Item.{Item};
 ghost use Rattle.coset_value.specs.View.{value_item};
 ghost use Rattle.coset_cbor.specs.Pulls.{pull_bytes, pull_item};
 ghost use Rattle.coset_codec.specs.declared.error.CoseError.{CoseError};
 ghost use Rattle.coset_codec.specs.declared.error.CoseError.TheVariants.{OutOfMemory};
 ghost use Rattle.coset_codec.specs.Answers.{Reads, Images, Writes, ReadsSlice, ReadsWhole, Untags, AllocatesForItems, RefusesSlice};
-ghost use Rattle.coset_codec.specs.Inputs.{GoesBehind, ReadsAt, length_left, state};
+ghost use Rattle.coset_codec.specs.Inputs.{state, ReadsForward};
 ghost use Rattle.coset_codec.specs.PerhapsTagged.{perhaps_tagged, untagged};
 ghost use Rattle.coset_codec.specs.Shape.{Shape, any, tagged};
 ghost use Rattle.coset_codec.specs.ShapeLaws.{Lawful as LawfulShape};
@@ -246,9 +246,7 @@ pub trait FromPull: AsCborValue {
     /// # Errors
     /// The same as [`AsCborValue::from_cbor_value`].
     fn from_input(alloc: Global, input: &mut Decoder<'_>) -> Result<Self>
-        ensures shrinks { length_left (state input.new) ≤ length_left (state input.old) }
-        ensures strictly { OnOk result (GoesBehind (state input.old) (state input.new)) }
-        ensures reads { ReadsAt (state input.old) (state input.new)
+        ensures forward { ReadsForward (state input.old) (state input.new) result
             (λ v. Reads Self.shape Self.view v result) }
     {
         match input.take()? {

@@ -123,7 +123,7 @@ known_laws k ss again = record {
   unique = λ o x y p q. refl;
   again = known_again k ss again;
   sound = λ v x e p f. f;
-  told = λ v x p q. known_decides k ss v p q;
+  apart = λ v x p q. known_decides k ss v p q;
 }
 
 -- ---- headers

@@ -4,12 +4,12 @@
 //! Headers = ( protected : empty_or_serialized_map, unprotected : header_map )
 //! ```
 
-ghost use Rattle.std.specs.Prelude.{◌≡◌, ◌≤◌, OnOk};
+ghost use Rattle.std.specs.Prelude.{◌≡◌, ◌≤◌};
 ghost use Rattle.coset_core.specs.Headers.{empty_header, header as header_shape, protected as protected_shape};
 ghost use Rattle.coset_core.specs.Views.{header_view, protected_view};
 ghost use Rattle.coset_codec.specs.InPlace.{Fills};
 ghost use Rattle.coset_codec.specs.Answers.{Reads};
-ghost use Rattle.coset_codec.specs.Inputs.{GoesBehind, ReadsAt, length_left, state};
+ghost use Rattle.coset_codec.specs.Inputs.{ReadsAt, length_left, state, ReadsForward};
 ghost use Rattle.coset_core.specs.Messages.{with_headers};
 
 use crate::header::reading::fill_header;
@@ -95,9 +95,7 @@ pub fn read_headed<P: DecodeElements + Drop>(
 ) -> Result<P>
     requires protected { (protected_view protected.old).header ≡ empty_header }
     requires unprotected { header_view unprotected.old ≡ empty_header }
-    ensures shrinks { length_left (state input.new) ≤ length_left (state input.old) }
-    ensures strictly { OnOk result (GoesBehind (state input.old) (state input.new)) }
-    ensures reads { ReadsAt (state input.old) (state input.new)
+    ensures forward { ReadsForward (state input.old) (state input.new) result
         (λ v. Reads (with_headers P.elements)
         (λ x. (protected_view protected.new, (header_view unprotected.new, P.view x))) v result) }
 {

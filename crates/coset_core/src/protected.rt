@@ -7,7 +7,7 @@ ghost use Rattle.coset_codec.specs.InPlace.{Fills};
 ghost use Rattle.coset_core.specs.Views.{header_view, protected_view};
 ghost use Rattle.coset_codec.specs.Answers.{Reads, Images, RefusesItem};
 ghost use Rattle.coset_codec.specs.Errors.{stored};
-ghost use Rattle.coset_codec.specs.Inputs.{state, GoesBehind, ReadsAt, length_left};
+ghost use Rattle.coset_codec.specs.Inputs.{state, GoesBehind, ReadsAt, length_left, ReadsForward};
 ghost use Rattle.coset_codec.specs.Sources.{source_item};
 ghost use Rattle.coset_value.specs.Item.{bytes};
 ghost use Rattle.coset_codec.specs.Shape.{bstr};
@@ -255,9 +255,7 @@ pub(crate) fn string_bytes(
     input: &mut Decoder<'_>,
     error: &mut CoseError,
 ) -> Result<Vec<u8>, ErrorStored>
-    ensures shrinks { length_left (state input.new) ≤ length_left (state input.old) }
-    ensures strictly { OnOk result (GoesBehind (state input.old) (state input.new)) }
-    ensures reads { ReadsAt (state input.old) (state input.new)
+    ensures forward { ReadsForward (state input.old) (state input.new) result
         (λ v. Reads bstr (λ b. b.items) v (stored error.new result)) }
     ensures kept { OnOk result (error.new ≡ error.old) }
 {
@@ -336,9 +334,7 @@ pub(crate) fn fill_bstr(
 
 /// Reads a protected header.
 pub(crate) fn read_protected(alloc: Global, input: &mut Decoder<'_>) -> Result<ProtectedHeader>
-    ensures shrinks { length_left (state input.new) ≤ length_left (state input.old) }
-    ensures strictly { OnOk result (GoesBehind (state input.old) (state input.new)) }
-    ensures reads { ReadsAt (state input.old) (state input.new)
+    ensures forward { ReadsForward (state input.old) (state input.new) result
         (λ v. Reads protected_shape protected_view v result) }
 {
     let mut protected = ProtectedHeader::new(alloc);

@@ -6,7 +6,7 @@ ghost use Rattle.coset_value.specs.Item.{Items};
 ghost use Rattle.coset_codec.specs.declared.error.CoseError.TheVariants.{OutOfMemory};
 ghost use Rattle.coset_codec.specs.Answers.{Reads};
 ghost use Rattle.coset_codec.specs.Errors.{UnlessMemory};
-ghost use Rattle.coset_codec.specs.Inputs.{AreWithin, GoesBehind, ReadsAt, State, length_left, state};
+ghost use Rattle.coset_codec.specs.Inputs.{AreWithin, ReadsAt, State, length_left, state, ReadsForward};
 ghost use Rattle.coset_codec.specs.Maps.{RefusesValue, TakesValue, unless_empty};
 ghost use Rattle.coset_label.specs.Names.{name_cmp};
 ghost use Rattle.coset_key.specs.Keys.{key_ops, operation, operation_view};
@@ -21,9 +21,7 @@ use std::collections::BTreeSet;
 /// Reads a key operation.
 #[tactic(auto, unfolding(crate::specs::Keys::operation))]
 fn read_operation(alloc: Global, input: &mut Decoder<'_>) -> Result<KeyOperation>
-    ensures shrinks { length_left (state input.new) ≤ length_left (state input.old) }
-    ensures strictly { OnOk result (GoesBehind (state input.old) (state input.new)) }
-    ensures reads { ReadsAt (state input.old) (state input.new)
+    ensures forward { ReadsForward (state input.old) (state input.new) result
         (λ v. Reads operation operation_view v result) }
 {
     KeyOperation::from_input(alloc, input)

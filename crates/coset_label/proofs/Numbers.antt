@@ -9,17 +9,19 @@ use Rattle.coset_label.specs.Labels.{is_integer, is_known}
 module _ {T : Type 0} (number : T → ℤ) (value_of : ℤ → Option T) (is : (i : ℤ) (x : T) → value_of i ≡ Some x → number x ≡ i)
     (back : (x : T) → value_of (number x) ≡ Some x) where
   -- the item is the number of the value that was found
-  pub is-number : (v : Item) (n z : ℤ) (x : T) → Some n ≡ as_integer v → z ≡ n → Some x ≡ value_of z → as_integer v ≡ Some (number x)
+  is-number : (v : Item) (n z : ℤ) (x : T) → Some n ≡ as_integer v → z ≡ n → Some x ≡ value_of z → as_integer v ≡ Some (number x)
   is-number v n z x a e f = sym a ∙ ap Some (sym (is z x (sym f) ∙ e))
 
-  pub is-fit : (n z : ℤ) (x : T) → z ≡ n → Some x ≡ value_of z → FitsSigned w64 n → FitsSigned w64 (number x)
+  is-fit : (n z : ℤ) (x : T) → z ≡ n → Some x ≡ value_of z → FitsSigned w64 n → FitsSigned w64 (number x)
   is-fit n z x e f h = subst (FitsSigned w64) (sym (is z x (sym f) ∙ e)) h
 
   pub is-there : (x : T) → is_some (value_of (number x)) ≡ true
   is-there x = ap is_some (back x)
 
-  pub is-told : (v : Item) (n : ℤ) → Some n ≡ as_integer v → is_integer v ≡ true
-  is-told v n a = ap is_some (sym a)
+  -- an item whose number n is that of a value is an integer, has the value's number, and that fits
+  pub is-assigned : (v : Item) (n z : ℤ) (x : T) → Some n ≡ as_integer v → z ≡ n → Some x ≡ value_of z → FitsSigned w64 n
+      → (is_integer v ≡ true) × ((as_integer v ≡ Some (number x)) × FitsSigned w64 (number x))
+  is-assigned v n z x a e f h = (ap is_some (sym a), (is-number v n z x a e f, is-fit n z x e f h))
 
   pub is-held : (v : Item) (x : T) → as_integer v ≡ Some (number x) → is_known (λ i. is_some (value_of i)) v ≡ true
   is-held v x e = rw e (is-there x)

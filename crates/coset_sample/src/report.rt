@@ -5,9 +5,8 @@
 //! report = [ sender : bstr, readings : [* reading] ]
 //! ```
 
-ghost use Rattle.std.specs.Prelude.{◌≤◌, OnOk};
 ghost use Rattle.coset_codec.specs.Answers.{Reads};
-ghost use Rattle.coset_codec.specs.Inputs.{GoesBehind, ReadsAt, length_left, state};
+ghost use Rattle.coset_codec.specs.Inputs.{state, ReadsForward};
 ghost use Rattle.coset_sample.specs.Report.{view, report};
 
 use crate::reading::Reading;
@@ -32,9 +31,7 @@ pub struct Report {
 
 /// Reads the elements from the first to the last, and names the fault of the last that has one.
 fn read_report(alloc: Global, input: &mut Decoder<'_>) -> Result<Report>
-    ensures shrinks { length_left (state input.new) ≤ length_left (state input.old) }
-    ensures strictly { OnOk result (GoesBehind (state input.old) (state input.new)) }
-    ensures reads { ReadsAt (state input.old) (state input.new) (λ v. Reads report view v result) }
+    ensures forward { ReadsForward (state input.old) (state input.new) result (λ v. Reads report view v result) }
 {
     match decode_array(alloc, input, "array with 2 items") {
         Ok((sender, (readings, ()))) => Ok(Report { sender, readings }),

@@ -1,1 +1,2 @@
+pub mod Doubles
 pub mod Lengths

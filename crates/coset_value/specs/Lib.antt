@@ -1,4 +1,5 @@
 pub mod Item
+pub mod Number
 pub mod Parts
 pub mod Range
 pub mod Same

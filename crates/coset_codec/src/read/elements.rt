@@ -1,9 +1,9 @@
 //! Arrays of fixed elements: each element is read in order, and the array is determined by all of them.
 
-ghost use Rattle.std.specs.Prelude.{◌≡◌, ◌≤◌, OnOk};
+ghost use Rattle.std.specs.Prelude.{◌≡◌, ◌≤◌};
 ghost use Rattle.coset_value.specs.Item.{Items};
 ghost use Rattle.coset_codec.specs.Answers.{Reads, ReadsElements};
-ghost use Rattle.coset_codec.specs.Inputs.{AreWithin, GoesBehind, ReadsAt, State, length_left, state};
+ghost use Rattle.coset_codec.specs.Inputs.{AreWithin, State, length_left, state, ReadsForward};
 ghost use Rattle.coset_codec.specs.Shape.{Elements, array_of, end, ◌then◌};
 
 use crate::error::Result;
@@ -100,9 +100,7 @@ pub fn decode_array<P: DecodeElements>(
     input: &mut Decoder<'_>,
     want: &'static str,
 ) -> Result<P>
-    ensures shrinks { length_left (state input.new) ≤ length_left (state input.old) }
-    ensures strictly { OnOk result (GoesBehind (state input.old) (state input.new)) }
-    ensures reads { ReadsAt (state input.old) (state input.new)
+    ensures forward { ReadsForward (state input.old) (state input.new) result
         (λ v. Reads (array_of P.elements) P.view v result) }
 {
     let mut array = input.enter_array("array")?;

@@ -1,7 +1,7 @@
 //! What an item holds, read where it is. Who reads it leaves the input just behind it, also where it is refused; but
 //! what returns `None` or `false` leaves it where it was.
 
-ghost use Rattle.std.specs.Prelude.{◌≡◌, ◌≤◌, ◌⊎◌, false, None, IfErr, IfSome, IsTrue, OnOk, option_map, pos, string_bytes};
+ghost use Rattle.std.specs.Prelude.{◌≡◌, ◌≤◌, ◌⊎◌, false, None, IfErr, IfSome, IsTrue, option_map, pos, string_bytes};
 ghost use Rattle.coset_value.specs.Item.{Item};
 ghost use Rattle.coset_value.specs.Parts.{as_integer};
 ghost use Rattle.coset_value.specs.View.{bits_of, value_item};
@@ -9,7 +9,7 @@ ghost use Rattle.coset_cbor.specs.Scalars.{as_float};
 ghost use Rattle.coset_codec.specs.declared.error.CoseError.TheVariants.{DuplicateMapKey, OutOfMemory, OutOfRangeIntegerValue};
 ghost use Rattle.coset_codec.specs.Answers.{Reads};
 ghost use Rattle.coset_codec.specs.Errors.{IsUnexpected, UnlessMemory};
-ghost use Rattle.coset_codec.specs.Inputs.{State, state, GoesBehind, IsLent, ReadsAt, ItemAt, TakesNull, TakesPart, length_left};
+ghost use Rattle.coset_codec.specs.Inputs.{State, state, GoesBehind, IsLent, ReadsAt, ItemAt, TakesNull, TakesPart, length_left, ReadsForward};
 ghost use Rattle.coset_codec.specs.Kinds.{Says, SaysNonempty, kind};
 ghost use Rattle.coset_codec.specs.Shape.{bstr, nonempty_bstr, int64, or_nil, tstr, uint};
 ghost use Rattle.coset_codec.specs.Sources.{Copies};
@@ -108,9 +108,7 @@ impl<'a> Decoder<'a> {
     /// # Errors
     /// `OutOfMemory` alone.
     pub fn value(&mut self, alloc: Global) -> Result<Value>
-        ensures shrinks { length_left (state self.new) ≤ length_left (state self.old) }
-        ensures strictly { OnOk result (GoesBehind (state self.old) (state self.new)) }
-        ensures reads { ReadsAt (state self.old) (state self.new)
+        ensures forward { ReadsForward (state self.old) (state self.new) result
             (λ v. Copies value_item v result) }
         ensures memory { IfErr result (λ e. e ≡ OutOfMemory → IsLent (state self.old)) }
     {
@@ -125,9 +123,7 @@ impl<'a> Decoder<'a> {
     /// # Errors
     /// `OutOfMemory`, of lent bytes alone; `UnexpectedItem` with `want`.
     pub fn bytes(&mut self, alloc: Global, want: &'static str) -> Result<Vec<u8>>
-        ensures shrinks { length_left (state self.new) ≤ length_left (state self.old) }
-        ensures strictly { OnOk result (GoesBehind (state self.old) (state self.new)) }
-        ensures reads { ReadsAt (state self.old) (state self.new)
+        ensures forward { ReadsForward (state self.old) (state self.new) result
             (λ v. Reads bstr (λ b. b.items) v result) }
         ensures says { ReadsAt (state self.old) (state self.new)
             (λ v. IfErr result (λ e. UnlessMemory e (Says (kind v) want.now))) }
@@ -147,9 +143,7 @@ impl<'a> Decoder<'a> {
     /// # Errors
     /// `OutOfMemory`, of lent bytes alone; `UnexpectedItem` with `want`.
     pub fn text(&mut self, alloc: Global, want: &'static str) -> Result<String>
-        ensures shrinks { length_left (state self.new) ≤ length_left (state self.old) }
-        ensures strictly { OnOk result (GoesBehind (state self.old) (state self.new)) }
-        ensures reads { ReadsAt (state self.old) (state self.new)
+        ensures forward { ReadsForward (state self.old) (state self.new) result
             (λ v. Reads tstr string_bytes v result) }
         ensures says { ReadsAt (state self.old) (state self.new)
             (λ v. IfErr result (λ e. UnlessMemory e (Says (kind v) want.now))) }
@@ -169,9 +163,7 @@ impl<'a> Decoder<'a> {
     /// # Errors
     /// `OutOfRangeIntegerValue` of another integer; `UnexpectedItem` with `want`.
     pub fn int64(&mut self, want: &'static str) -> Result<i64>
-        ensures shrinks { length_left (state self.new) ≤ length_left (state self.old) }
-        ensures strictly { OnOk result (GoesBehind (state self.old) (state self.new)) }
-        ensures reads { ReadsAt (state self.old) (state self.new)
+        ensures forward { ReadsForward (state self.old) (state self.new) result
             (λ v. Reads int64 (λ n. n) v result) }
         ensures says { ReadsAt (state self.old) (state self.new) (λ v. IfErr result
             (λ e. (e ≡ OutOfRangeIntegerValue) ⊎ Says (kind v) want.now e)) }
@@ -187,9 +179,7 @@ impl<'a> Decoder<'a> {
     /// # Errors
     /// `OutOfRangeIntegerValue` of a negative one; `UnexpectedItem` with `want`.
     pub fn uint(&mut self, want: &'static str) -> Result<u64>
-        ensures shrinks { length_left (state self.new) ≤ length_left (state self.old) }
-        ensures strictly { OnOk result (GoesBehind (state self.old) (state self.new)) }
-        ensures reads { ReadsAt (state self.old) (state self.new)
+        ensures forward { ReadsForward (state self.old) (state self.new) result
             (λ v. Reads uint (λ n. pos n) v result) }
         ensures says { ReadsAt (state self.old) (state self.new) (λ v. IfErr result
             (λ e. (e ≡ OutOfRangeIntegerValue) ⊎ Says (kind v) want.now e)) }
@@ -205,9 +195,7 @@ impl<'a> Decoder<'a> {
     /// # Errors
     /// `OutOfMemory`; `UnexpectedItem` with `want`.
     pub fn bytes_or_nil(&mut self, alloc: Global, want: &'static str) -> Result<Option<Vec<u8>>>
-        ensures shrinks { length_left (state self.new) ≤ length_left (state self.old) }
-        ensures strictly { OnOk result (GoesBehind (state self.old) (state self.new)) }
-        ensures reads { ReadsAt (state self.old) (state self.new)
+        ensures forward { ReadsForward (state self.old) (state self.new) result
             (λ v. Reads (or_nil bstr) (λ o. option_map (λ b. b.items) o) v result) }
         ensures says { ReadsAt (state self.old) (state self.new)
             (λ v. IfErr result (λ e. UnlessMemory e (Says (kind v) want.now))) }
@@ -223,9 +211,7 @@ impl<'a> Decoder<'a> {
     /// # Errors
     /// `OutOfMemory`; `UnexpectedItem`, also of an empty one.
     pub fn nonempty_bytes(&mut self, alloc: Global) -> Result<Vec<u8>>
-        ensures shrinks { length_left (state self.new) ≤ length_left (state self.old) }
-        ensures strictly { OnOk result (GoesBehind (state self.old) (state self.new)) }
-        ensures reads { ReadsAt (state self.old) (state self.new)
+        ensures forward { ReadsForward (state self.old) (state self.new) result
             (λ v. Reads nonempty_bstr (λ b. b.items) v result) }
         ensures says { ReadsAt (state self.old) (state self.new)
             (λ v. IfErr result (λ e. UnlessMemory e (SaysNonempty v))) }

@@ -1,12 +1,12 @@
 //! Lists, read element by element.
 
-ghost use Rattle.std.specs.Prelude.{◌≡◌, ◌≤◌, Some, None, map, IfErr, OnOk};
+ghost use Rattle.std.specs.Prelude.{◌≡◌, ◌≤◌, Some, None, map, IfErr};
 ghost use Rattle.coset_value.specs.Item.{Items, no_items};
 ghost use Rattle.coset_value.specs.Parts.{as_array};
 ghost use Rattle.coset_codec.specs.Answers.{Reads};
 ghost use Rattle.coset_codec.specs.Lists.{ReadsEach};
 ghost use Rattle.coset_codec.specs.Errors.{UnlessMemory};
-ghost use Rattle.coset_codec.specs.Inputs.{State, state, AreWithin, GoesBehind, ReadsAt, length_left};
+ghost use Rattle.coset_codec.specs.Inputs.{State, state, AreWithin, ReadsAt, length_left, ReadsForward};
 ghost use Rattle.coset_codec.specs.Kinds.{Says, kind};
 ghost use Rattle.coset_codec.specs.Shape.{list_of, some_of};
 
@@ -47,9 +47,7 @@ pub fn read_list<T: FromPull + Drop>(
     input: &mut Decoder<'_>,
     want: &'static str,
 ) -> Result<Vec<T>>
-    ensures shrinks { length_left (state input.new) ≤ length_left (state input.old) }
-    ensures strictly { OnOk result (GoesBehind (state input.old) (state input.new)) }
-    ensures reads { ReadsAt (state input.old) (state input.new)
+    ensures forward { ReadsForward (state input.old) (state input.new) result
         (λ v. Reads (list_of T.shape) (λ all. map T.view all.items) v result) }
     ensures says { ReadsAt (state input.old) (state input.new)
         (λ v. IfErr result (λ e. as_array v ≡ None → Says (kind v) want.now e)) }

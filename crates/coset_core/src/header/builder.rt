@@ -268,4 +268,16 @@ impl HeaderBuilder {
         self.0.rest.push((Label::Text(label), value))?;
         Ok(self)
     }
+
+    /// As [`text_value`](HeaderBuilder::text_value), of a copy of this label.
+    ///
+    /// # Errors
+    /// `OutOfMemory` alone.
+    pub fn text_value_from(self, alloc: Global, label: &str, value: Value) -> Result<HeaderBuilder>
+        ensures ok { IfOk result (λ b. header_view b
+            ≡ and_pair (text_label label.now) (value_item value) (header_view self)) }
+        ensures memory { IfErr result (λ e. e ≡ errors.OutOfMemory) }
+    {
+        self.text_value(String::from_str(alloc, label)?, value)
+    }
 }

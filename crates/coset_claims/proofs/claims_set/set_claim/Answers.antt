@@ -6,7 +6,7 @@ use Rattle.coset_claims.proofs.claims_set.set_claim.Goals as goal
 
 pub returns-clause-takes : goal.returns-clause-takes
 returns-clause-takes c = λ v z stands.
-    let here = c.in_ok-value.ensures.reads v z stands in
+    let here = c.in_ok-value.ensures.forward.reads v z stands in
     let rest = c.args.claims.now.rest.items in
     let pushed : map entry_view c.push.new.self.items ≡ map entry_view (rest ++ (c.args.name, c.in_ok-value.value) ∷ []) =
     ap (map entry_view) c.in_ok-push.ensures.items in (

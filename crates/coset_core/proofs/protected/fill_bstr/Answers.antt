@@ -11,7 +11,7 @@ use Rattle.coset_core.proofs.protected.fill_bstr.Goals as goal
 
 pub returns-in_err-bytes-clause-fills : goal.returns-in_err-bytes-clause-fills
 returns-in_err-bytes-clause-fills c = λ v z stands.
-    let here = c.in_err-bytes.ensures.reads v z stands in (
+    let here = c.in_err-bytes.ensures.forward.reads v z stands in (
       here.0,
       not_filled protected _ v c.from_residual.result c.string_bytes.new.error c.in_err-bytes.field-0.0 c.from_residual.ensures.1
           (λ n. no_string 16 v c.string_bytes.new.error (here.1 n)),
@@ -19,7 +19,7 @@ returns-in_err-bytes-clause-fills c = λ v z stands.
 
 pub returns-clause-fills : goal.returns-clause-fills
 returns-clause-fills c = λ v z stands.
-    let here = c.in_ok-bytes.ensures.reads v z stands in
+    let here = c.in_ok-bytes.ensures.forward.reads v z stands in
     let b = c.in_ok-bytes.bytes.items in (
       here.0,
       subst (λ w. Fills protected w (protected_view c.fill_protected.new.protected) (stored c.fill_protected.new.error c.fill_protected.result))

@@ -26,21 +26,21 @@ returns-in_err-read_operation-clause-reads c = λ vs z within.
     is_refused name_cmp name_cmp_total names_exact operation operations_view vs (state c.loop-alloc.input) (state c.next.new.input)
     (state c.read_operation.new.input) z c.loop-alloc.elements c.next.new.self (map operation_view c.loop-alloc.operations.keys)
     c.in_err-read_operation.field-0.0 c.from_residual.result w
-    (c.loop-alloc-test.ensures.nexts w.left z w.within) c.in_err-read_operation.ensures.reads c.from_residual.ensures.1
+    (c.loop-alloc-test.ensures.nexts w.left z w.within) c.in_err-read_operation.ensures.forward.reads c.from_residual.ensures.1
 
 pub returns-then-not-branch-clause-reads : goal.returns-then-not-branch-clause-reads
 returns-then-not-branch-clause-reads c = λ vs z within.
     let w = c.loop-alloc.invariant.gathers vs z within in
     stands_twice name_cmp name_cmp_total names_exact operation operations_view vs (state c.loop-alloc.input) (state c.next.new.input)
     (state c.read_operation.new.input) z c.loop-alloc.elements c.next.new.self (map operation_view c.loop-alloc.operations.keys)
-    (operation_view c.in_ok-read_operation.field-0) _ w (c.loop-alloc-test.ensures.nexts w.left z w.within) c.in_ok-read_operation.ensures.reads
+    (operation_view c.in_ok-read_operation.field-0) _ w (c.loop-alloc-test.ensures.nexts w.left z w.within) c.in_ok-read_operation.ensures.forward.reads
     (sym (contains-view operation_view name_cmp c.loop-alloc.operations.keys c.in_ok-read_operation.field-0)
     ∙ not_false _ _ c.in_ok-insert.ensures.added c.if-not-branch.true) tt
 
 pub loop-alloc-preserved : goal.loop-alloc-preserved
 loop-alloc-preserved c = record {
   shrinks =
-      let read = c.in_ok-read_operation.ensures.shrinks in
+      let read = c.in_ok-read_operation.ensures.forward.shrinks in
       let next = c.next.ensures.shrinks in
       let before = c.loop-alloc.invariant.shrinks in
       omega (arith, read, next, before);
@@ -51,7 +51,7 @@ loop-alloc-preserved c = record {
       ∙ insert-view operation_view name_cmp c.loop-alloc.operations.keys c.in_ok-read_operation.field-0))
       (one_more name_cmp name_cmp_total names_exact operation vs (state c.loop-alloc.input) (state c.next.new.input)
       (state c.read_operation.new.input) z c.loop-alloc.elements c.next.new.self (map operation_view c.loop-alloc.operations.keys)
-      (operation_view c.in_ok-read_operation.field-0) w (c.loop-alloc-test.ensures.nexts w.left z w.within) c.in_ok-read_operation.ensures.reads
+      (operation_view c.in_ok-read_operation.field-0) w (c.loop-alloc-test.ensures.nexts w.left z w.within) c.in_ok-read_operation.ensures.forward.reads
       (sym (contains-view operation_view name_cmp c.loop-alloc.operations.keys c.in_ok-read_operation.field-0)
       ∙ not_true _ _ c.in_ok-insert.ensures.added c.if-not-branch.false));
 }

@@ -16,14 +16,14 @@ returns-in_err-element c =
 
 pub invariant_of-self : goal.invariant_of-self
 invariant_of-self c =
-    let found = first_item c.args.self.now.rest.now c.in_ok-element.element.bytes.now c.in_ok-element.rest.now _ c.args.self.now.checked c.in_ok-element.ensures.0
-    c.in_ok-element.ensures.1 in
+    let found = first_item c.args.self.now.rest.now c.in_ok-element.element.bytes.now c.in_ok-element.rest.now _ c.args.self.now.checked
+    c.in_ok-element.ensures.0 c.in_ok-element.ensures.1 in
     record { checked = found.others }
 
 pub returns : goal.returns
 returns c =
-    let found = first_item c.args.self.now.rest.now c.in_ok-element.element.bytes.now c.in_ok-element.rest.now _ c.args.self.now.checked c.in_ok-element.ensures.0
-    c.in_ok-element.ensures.1 in
+    let found = first_item c.args.self.now.rest.now c.in_ok-element.element.bytes.now c.in_ok-element.rest.now _ c.args.self.now.checked
+    c.in_ok-element.ensures.0 c.in_ok-element.ensures.1 in
     let fewer = ap items_count found.view in
     record {
       steps = (found.view, c.in_ok-element.ensures.0);

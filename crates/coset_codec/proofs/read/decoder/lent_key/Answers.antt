@@ -12,14 +12,14 @@ pub returns-then-not-next_lent-2-clause-nexts : goal.returns-then-not-next_lent-
 returns-then-not-next_lent-2-clause-nexts g c = λ ps z w.
     absurd (key_without g.K.AsCborValue.shape g.K.AsCborValue.view ps (state c.args.input.now)
     (state c.from_input-key.new.input) z c.next_lent.new.elements c.next_lent-2.new.elements c.from_input-key.result
-    (c.if-not-next_lent.ensures.nexts (keys_and_values ps) z w) c.from_input-key.ensures.reads c.if-not-next_lent-2.ensures.nexts)
+    (c.if-not-next_lent.ensures.nexts (keys_and_values ps) z w) c.from_input-key.ensures.forward.reads c.if-not-next_lent-2.ensures.nexts)
 
 pub returns-in-Ok-clause-nexts : goal.returns-in-Ok-clause-nexts
 returns-in-Ok-clause-nexts g c = λ ps z w.
     key_read g.K.AsCborValue.shape g.K.AsCborValue.view ps (state c.from_input-key.new.input) z c.next_lent-2.new.elements c.in-Ok.key
     (key_behind g.K.AsCborValue.shape g.K.AsCborValue.view ps (state c.args.input.now)
     (state c.from_input-key.new.input) z c.next_lent.new.elements c.next_lent-2.new.elements _
-    (c.if-not-next_lent.ensures.nexts (keys_and_values ps) z w) c.in-Ok.ensures.reads
+    (c.if-not-next_lent.ensures.nexts (keys_and_values ps) z w) c.in-Ok.ensures.forward.reads
     c.if-not-next_lent-2.ensures.nexts)
 
 pub returns-in-Err-clause-nexts : goal.returns-in-Err-clause-nexts
@@ -28,5 +28,5 @@ returns-in-Err-clause-nexts g c = λ ps z w.
     (state c.skip.new.self) z c.next_lent-2.new.elements c.in-Err.error
     (key_behind g.K.AsCborValue.shape g.K.AsCborValue.view ps (state c.args.input.now)
     (state c.from_input-key.new.input) z c.next_lent.new.elements c.next_lent-2.new.elements _
-    (c.if-not-next_lent.ensures.nexts (keys_and_values ps) z w) c.in-Err.ensures.reads
+    (c.if-not-next_lent.ensures.nexts (keys_and_values ps) z w) c.in-Err.ensures.forward.reads
     c.if-not-next_lent-2.ensures.nexts) c.skip.ensures.passes

@@ -116,7 +116,7 @@ returns-in-PartialIv-clause-one_iv c = subst (λ h. HasOneIv (fields_level h)) (
 
 pub returns-in_ok-push-in-Rest-clause-takes : goal.returns-in_ok-push-in-Rest-clause-takes
 returns-in_ok-push-in-Rest-clause-takes c = λ o v z stands.
-    let here = c.in_ok-value-in-Rest.ensures.reads v z stands in
+    let here = c.in_ok-value-in-Rest.ensures.forward.reads v z stands in
     let rest = (out-Header c.args.header.now).rest.items in
     let pushed : map entry_view c.push.new.self.items ≡ map entry_view (rest ++ (c.args.label, c.in_ok-value-in-Rest.value) ∷ []) =
     ap (map entry_view) c.in_ok-push-in-Rest.ensures.items in (

@@ -62,7 +62,7 @@ returns-in-KeyOps-clause-refused c = λ v z stands.
 
 pub returns-in_ok-push-in-Params-clause-takes : goal.returns-in_ok-push-in-Params-clause-takes
 returns-in_ok-push-in-Params-clause-takes c = λ v z stands.
-    let here = c.in_ok-value-in-Params.ensures.reads v z stands in
+    let here = c.in_ok-value-in-Params.ensures.forward.reads v z stands in
     let params = c.args.self.now.params.items in
     let pushed : map entry_view c.push.new.self.items ≡ map entry_view (params ++ (c.args.label, c.in_ok-value-in-Params.value) ∷ []) =
     ap (map entry_view) c.in_ok-push-in-Params.ensures.items in (
