@@ -2,11 +2,10 @@
 use Rattle.std.specs.Prelude.{IfOk, not}
 use Rattle.std.specs.Cmp.Lexicographic.{bytes_decides}
 use Rattle.std.proofs.Common.{◌≡◌, ◌∷◌, ℕ, ℤ, List, [], Bool, Option, Some, None, Result, Ok, Err, ap, refl, sym, true, false, true≢false}
-use Rattle.coset_claims.specs.Claims.{ClaimsView, claims_view}
+use Rattle.coset_claims.specs.Claims.{claims_view}
 use Rattle.coset_claims.specs.declared.known.KnownClaims.{KnownClaims}
 use Rattle.cwt_gate.specs.Door.{JudgesWith}
 use Rattle.cwt_gate.specs.Keys.{KeysView}
-use Rattle.cwt_gate.specs.Moment.{has_expired, is_early, is_too_old}
 use Rattle.cwt_gate.specs.Policy.{first_true, is_meant, reasons}
 use Rattle.cwt_gate.specs.declared.error.PolicyError.{PolicyError}
 use Rattle.coset_uses.specs.LetIn.{IsLetIn, policy_of}

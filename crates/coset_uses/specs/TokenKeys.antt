@@ -1,5 +1,5 @@
 -- The keys by which web tokens are let in: a set of keys, each found by its identifier.
-use Rattle.std.specs.Prelude.{◌≡◌, ℕ, List, Option, Some}
+use Rattle.std.specs.Prelude.{◌≡◌, ℕ, List, Some}
 use Rattle.coset_key.specs.Keys.{KeyView, key_set_view}
 use Rattle.coset_key.specs.declared.key_set.CoseKeySet.{CoseKeySet}
 use Rattle.cwt_gate.specs.Keys.{KeysView, SealView, key_id_of}
