@@ -1,13 +1,14 @@
 //! Tokens whose judging is timed, beside the calls by hand that it takes the place of.
 
+use crate::calls::time_calls;
 use crate::fault::Fault;
 use coset::cwt::ClaimsSet;
 use coset::iana::Algorithm;
 use coset::{CborSerializable, CoseSign1, RegisteredLabelWithPrivate};
-use cwt_gate::{GateError, Keys, Policy, Sealed, judge, judge_with};
+use cwt_gate::{Form, Keys, Policy, Sealed, judge, judge_with};
 use std::alloc::Global;
 use std::rt::Clock;
-use std::time::{Duration, Instant};
+use std::time::Duration;
 
 /// The moment from which on the tokens of RFC 8392, appendix A, are valid.
 const NOW: i64 = 1_443_944_944;
@@ -26,7 +27,7 @@ impl Keys for Accepting {
 
     ghost view = { λ keys. accept_anything };
 
-    fn no_key(&self) -> Never {
+    fn no_key(&self, _form: Form, _sealed: &Sealed<'_>) -> Never {
         Never
     }
 
@@ -42,19 +43,17 @@ pub fn time_judge<R: AllocGlobal + Clock>(
     calls: usize,
 ) -> Result<Duration, Fault> {
     let alloc = rt.alloc();
-    let start = Instant::now(rt)?;
-    for _ in 0..calls {
-        let judged: Result<ClaimsSet, GateError<Never>> = judge(
+    time_calls(rt, calls, move || {
+        match judge(
             alloc,
             bytes,
             NOW,
-            |_signature, _structure| Ok(()),
-        );
-        if judged.is_err() {
-            return Err(Fault::Unexpected);
+            |_signature, _structure| Ok::<(), Never>(()),
+        ) {
+            Ok(_) => Ok(()),
+            Err(_) => Err(Fault::Unexpected),
         }
-    }
-    Ok(start.elapsed(rt)?)
+    })
 }
 
 /// Judges a token by a policy that has ES256 alone, and by keys that accept its signature.
@@ -69,13 +68,14 @@ pub fn time_judge_with<R: AllocGlobal + Clock>(
         signatures: &signatures,
         ..Policy::strict()
     };
-    let start = Instant::now(rt)?;
-    for _ in 0..calls {
-        if judge_with(alloc, &policy, &Accepting, bytes, NOW).is_err() {
-            return Err(Fault::Unexpected);
-        }
-    }
-    Ok(start.elapsed(rt)?)
+    time_calls(
+        rt,
+        calls,
+        move || match judge_with(alloc, &policy, &Accepting, bytes, NOW) {
+            Ok(_) => Ok(()),
+            Err(_) => Err(Fault::Unexpected),
+        },
+    )
 }
 
 /// Reads a token's message, the structure that its signature is over, and its claims.
@@ -95,9 +95,8 @@ pub fn time_by_hand<R: AllocGlobal + Clock>(
     calls: usize,
 ) -> Result<Duration, Fault> {
     let alloc = rt.alloc();
-    let start = Instant::now(rt)?;
-    for _ in 0..calls {
+    time_calls(rt, calls, move || {
         drop(read_by_hand(alloc, bytes)?);
-    }
-    Ok(start.elapsed(rt)?)
+        Ok(())
+    })
 }

@@ -4,7 +4,7 @@ use Rattle.std.specs.Prelude.{map, option_map, cond}
 use Rattle.std.specs.List.{find}
 use Rattle.std.specs.Borrow.{Bor}
 
-cond-map : {A B : Type 0} (f : A → B) (b : Bool) (x : A) (o : Option A) → cond b (Some (f x)) (option_map f o) ≡ option_map f (cond b (Some x) o)
+pub cond-map : {A B : Type 0} (f : A → B) (b : Bool) (x : A) (o : Option A) → cond b (Some (f x)) (option_map f o) ≡ option_map f (cond b (Some x) o)
 cond-map f true x o = refl
 cond-map f false x o = refl
 

@@ -1,5 +1,6 @@
 pub mod Apart
 pub mod Asked
+pub mod Attested
 pub mod Calls
 pub mod Countersigned
 pub mod Found

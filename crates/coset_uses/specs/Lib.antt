@@ -1,4 +1,5 @@
 pub mod Asked
+pub mod Attestation
 pub mod Countersigning
 pub mod Derivation
 pub mod Detached

@@ -16,5 +16,5 @@ keys_of keys verifies verifies_tag decrypts = record {
   verifies = λ s. OfNamedKey (key_set_view keys) s (λ k. verifies k s.structure s.proof);
   verifies_tag = λ s. OfNamedKey (key_set_view keys) s (λ k. verifies_tag k s.structure s.proof);
   decrypts = λ s p. OfNamedKey (key_set_view keys) s (λ k. decrypts k s.structure s.proof p);
-  refuses = λ s e. Unit {0};
+  refuses = λ form s e. Unit {0};
 }

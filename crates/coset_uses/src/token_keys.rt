@@ -6,7 +6,7 @@ ghost use Rattle.coset_key.specs.Keys.{KeyView, key_view};
 use crate::cipher::Refused;
 use crate::find_key::find_key;
 use coset::{CoseKey, CoseKeySet};
-use cwt_gate::{Keys, Sealed};
+use cwt_gate::{Form, Keys, Sealed};
 use std::alloc::Global;
 
 /// What a caller's ciphers do with a key. Rattle has none.
@@ -67,7 +67,7 @@ impl<C: TokenCipher> Keys for TokenKeys<'_, C> {
     ghost view = { λ k. keys_of k.keys.now (C.verifies k.cipher) (C.verifies_tag k.cipher)
         (C.decrypts k.cipher) };
 
-    fn no_key(&self) -> Refused {
+    fn no_key(&self, _form: Form, _sealed: &Sealed<'_>) -> Refused {
         Refused::Rejected
     }
 

@@ -4,6 +4,8 @@
 #[cfg(test)]
 mod answers;
 #[cfg(test)]
+mod attestations;
+#[cfg(test)]
 mod countersignatures;
 #[cfg(test)]
 mod derivations;

@@ -1,6 +1,7 @@
 -- Opening layer in layer: one layer, and what is known after so many.
-use Rattle.std.proofs.Common.{◌≡◌, ◌≤◌, ◌<◌, ◌+◌, ◌⊎◌, ◌∙◌, ◌||◌, ℕ, suc, List, [], ◌∷◌, length, Bool, true, false, Option, Some, None, Result, Ok, Err, refl, sym, ap, subst, inl, inr, arith}
-use Rattle.coset.specs.Answers.{Describes, DescribesNothing, IsOnlyItem, IsRefused, SliceFaults}
+use Rattle.std.specs.Prelude.{IsErrAnd}
+use Rattle.std.proofs.Common.{◌≡◌, ◌≤◌, ◌<◌, ◌+◌, ◌∙◌, ◌||◌, ℕ, suc, List, [], ◌∷◌, length, Bool, true, false, None, Result, Ok, Err, refl, sym, ap, subst, inl, inr, arith}
+use Rattle.coset.specs.Answers.{Describes, IsOnlyItem, ReadsSlice, RefusesSlice}
 use Rattle.coset.specs.AsWritten.{WhenRead}
 use Rattle.coset.specs.CoseError.{CoseError}
 use Rattle.coset.specs.EncStructure.{Encrypts}
@@ -12,10 +13,10 @@ use Rattle.coset.specs.Mac0.{mac0, mac0_laws}
 use Rattle.coset.specs.MacContext.TheVariants as mac
 use Rattle.coset.specs.EncryptionContext.TheVariants as enc
 use Rattle.coset.specs.MacStructure.{Authenticates}
-use Rattle.coset.specs.Sign1.{Sign1View, sign1, sign1_laws, sign1_structure}
-use Rattle.cwt_gate.specs.Door.{Arrives, IsAdmitted, IsIn, MOST, OpensAll, OpensOne, RefusesLayer, RefusesLayers, is_allowed, is_authentic, is_clear}
+use Rattle.coset.specs.Sign1.{sign1, sign1_laws, sign1_structure}
+use Rattle.cwt_gate.specs.Door.{Arrives, IsAdmitted, IsIn, OpensAll, OpensOne, RefusesLayer, RefusesLayers, is_allowed, is_authentic, is_clear}
 use Rattle.cwt_gate.specs.Keys.{KeysView, Opens}
-use Rattle.cwt_gate.specs.Layers.{DescribesAs, FaultsAs, LayerView, begins_layer, encrypted, form_of, layer, layer_item, maced, message_in, protected_of, signed, structure_of, unprotected_of}
+use Rattle.cwt_gate.specs.Layers.{DescribesAs, FaultsAs, LayerView, begins_layer, encrypted, form_of, layer, layer_item, layer_view, maced, message_in, protected_of, signed, structure_of, unprotected_of}
 use Rattle.cwt_gate.specs.Policy.{PolicyView, allows, understands}
 use Rattle.cwt_gate.specs.declared.error.GateError.{GateError}
 use Rattle.cwt_gate.specs.declared.error.GateError.TheVariants as gate
@@ -23,7 +24,9 @@ use Rattle.cwt_gate.specs.declared.error.PolicyError.{PolicyError}
 use Rattle.cwt_gate.specs.declared.error.PolicyError.TheVariants.{Gate, TooDeep}
 use Rattle.cwt_gate.specs.declared.form.Form.{Form}
 use Rattle.cwt_gate.specs.declared.form.Form.TheVariants.{Sign1, Mac0, Encrypt0}
+use Rattle.cwt_gate.specs.declared.layer.Layer.{Layer}
 use Rattle.cwt_gate.specs.declared.layers.Opened.{Opened}
+use Rattle.cwt_gate.proofs.Judging.{passed_on}
 
 -- ---- one layer
 
@@ -56,27 +59,19 @@ as_sound (Encrypt0, v) (encrypted m) e d f = encrypt0_laws.sound v m e d f
 as_sound (Encrypt0, v) (signed m) e d f = absurd d
 as_sound (Encrypt0, v) (maced m) e d f = absurd d
 
--- bytes that are one item, v, in whose message, m, is a fault of its form, are no layer
-pub no_layer :
-    (plain : Form) (outermost : Bool) (s : List ℕ) (v u m : Item) (f g : Form) (e : CoseError) → IsOnlyItem s v → u ≡ layer_item outermost v
-    → (f, m) ≡ message_in plain u → f ≡ g → UnlessMemory e (FaultsAs (g, m))
-    → UnlessMemory e (λ x. DescribesNothing (layer plain outermost) s)
-no_layer plain outermost s v u m f g e only layered is form h =
-    λ n l d. as_sound (message_in plain (layer_item outermost v)) l e
-    (subst (λ w. DescribesAs (message_in plain (layer_item outermost w)) l) (only.1 d.0 d.1) d.2)
-    (subst (λ y. FaultsAs y e) (is ∙ ap (message_in plain) layered) (subst (λ x. FaultsAs (x, m) e) (sym form) (h n)))
-
--- such a fault is one of the bytes as a layer
-pub layer_fault :
-    (plain : Form) (outermost : Bool) (s : List ℕ) (v u m : Item) (f g : Form) (e : CoseError) → IsOnlyItem s v → u ≡ layer_item outermost v
-    → (f, m) ≡ message_in plain u → f ≡ g → UnlessMemory e (FaultsAs (g, m))
-    → UnlessMemory e (SliceFaults (layer plain outermost) s)
-layer_fault plain outermost s v u m f g e only layered is form h =
-    λ n. inr (inr (
-      v,
-      only.0,
-      subst (λ y. FaultsAs y e) (is ∙ ap (message_in plain) layered) (subst (λ x. FaultsAs (x, m) e) (sym form) (h n)),
-    ))
+-- what is returned of bytes that are one item, v, in whose message, m, is a fault of its form
+pub unread :
+    (plain : Form) (outermost : Bool) (r : Result Layer CoseError) {s : List ℕ} {v u m : Item} {f g : Form} {e : CoseError} → IsOnlyItem s v
+    → u ≡ layer_item outermost v → (f, m) ≡ message_in plain u → f ≡ g → UnlessMemory e (FaultsAs (g, m)) → IsErrAnd r (λ x. x ≡ e)
+    → ReadsSlice (layer plain outermost) layer_view s r × RefusesSlice (layer plain outermost) s r
+unread plain outermost r {s = s} {v = v} {m = m} {e = e} only layered is form h gives =
+    let fault : UnlessMemory e (FaultsAs (message_in plain (layer_item outermost v))) =
+    λ n. subst (λ y. FaultsAs y e) (is ∙ ap (message_in plain) layered) (subst (λ x. FaultsAs (x, m) e) (sym form) (h n)) in (
+      passed_on (ReadsSlice (layer plain outermost) layer_view s) r e gives (λ n. inr (inr (v, only.0, fault n))),
+      passed_on (RefusesSlice (layer plain outermost) s) r e gives
+          (λ n l d. as_sound (message_in plain (layer_item outermost v)) l e
+          (subst (λ w. DescribesAs (message_in plain (layer_item outermost w)) l) (only.1 d.0 d.1) d.2) (fault n)),
+    )
 
 -- what the tests of a layer's headers say
 pub allowed_is : (p : PolicyView) (l : LayerView) (form : Form) (h : HeaderView) (b : Bool) → form ≡ form_of l → h ≡ (protected_of l).header

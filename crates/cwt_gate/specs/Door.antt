@@ -1,5 +1,5 @@
 -- What is returned of a token of whichever form, nested or not (RFC 8392, section 7.2).
-use Rattle.std.specs.Prelude.{◌≡◌, ◌≤◌, ◌<◌, ◌||◌, ◌⊎◌, ℕ, ℤ, List, [], ◌∷◌, length, Bool, true, false, Option, Some, None, Result, Ok, Err}
+use Rattle.std.specs.Prelude.{◌≡◌, ◌≤◌, ◌<◌, ◌||◌, ◌⊎◌, ℕ, ℤ, List, [], ◌∷◌, length, Bool, true, false, Some, None, Result, Ok, Err}
 use Rattle.coset.specs.Answers.{Describes, IsRefused}
 use Rattle.coset.specs.Claims.{ClaimsView}
 use Rattle.coset.specs.CoseError.{CoseError}

@@ -10,7 +10,6 @@ use Rattle.coset.specs.Claims.{ClaimsView, claims, claims_view}
 use Rattle.coset.specs.ClaimsSet.{ClaimsSet}
 use Rattle.coset.specs.CoseError.{CoseError}
 use Rattle.coset.specs.Encoding.{HasNoImage}
-use Rattle.coset.specs.Shape.{Shape}
 use Rattle.coset.specs.Sign1.{Sign1View, sign1_carried}
 use Rattle.cwt_gate.specs.Moment.{has_expired, has_fraction, is_early}
 use Rattle.cwt_gate.specs.Token.{token}

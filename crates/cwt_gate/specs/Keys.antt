@@ -1,13 +1,14 @@
 -- What keys are handed of a layer, and what they say of it.
-use Rattle.std.specs.Prelude.{◌≡◌, ℕ, List, [], ◌∷◌, Result, Ok, Err, Option, Some, None, Vec}
+use Rattle.std.specs.Prelude.{◌≡◌, ℕ, List, [], ◌∷◌, Result, Ok, Err, Some, None, Vec}
 use Rattle.std.specs.Global.{Global}
 use Rattle.coset.specs.Calls.{IsStructure}
 use Rattle.coset.specs.Encoding.{HasNoImage}
 use Rattle.coset.specs.Headers.{HeaderView, ProtectedView, fields_in}
 use Rattle.coset.specs.Views.{header_view, protected_view}
-use Rattle.cwt_gate.specs.Layers.{LayerView, signed, maced, encrypted, carried, structure_of}
+use Rattle.cwt_gate.specs.Layers.{LayerView, signed, maced, encrypted, carried, form_of, structure_of}
 use Rattle.cwt_gate.specs.declared.error.GateError.{GateError}
 use Rattle.cwt_gate.specs.declared.error.GateError.TheVariants.{Token, NoPayload, Caller}
+use Rattle.cwt_gate.specs.declared.form.Form.{Form}
 use Rattle.cwt_gate.specs.declared.keys.Sealed.{Sealed}
 
 -- what keys are handed: both headers, of which the protected one has the bytes that it was received as; the signature, the
@@ -35,20 +36,21 @@ first_nonempty (b ∷ bs) others = b ∷ bs
 abbrev pub key_id_of : SealView → List ℕ
 key_id_of s = first_nonempty (fields_in s.protected.header).key_id (fields_in s.unprotected).key_id
 
--- What keys answer: which signatures and which MACs they accept, which plaintexts they make, and which errors they return
+-- What keys answer: which signatures and which MACs they accept, which plaintexts they make, and which errors they return for
+-- a layer of which form
 pub record KeysView (E : Type 0) : Type 1 where
   pub verifies : SealView → Type 0
   pub verifies_tag : SealView → Type 0
   pub decrypts : SealView → List ℕ → Type 0
-  pub refuses : SealView → E → Type 0
+  pub refuses : Form → SealView → E → Type 0
 
 -- keys that accept nothing, and may return any error
 abbrev pub accept_nothing : {E : Type 0} → KeysView E
-accept_nothing = record { verifies = λ s. ⊥; verifies_tag = λ s. ⊥; decrypts = λ s p. ⊥; refuses = λ s e. Unit {0} }
+accept_nothing = record { verifies = λ s. ⊥; verifies_tag = λ s. ⊥; decrypts = λ s p. ⊥; refuses = λ form s e. Unit {0} }
 
 -- keys of which nothing is known
 abbrev pub accept_anything : {E : Type 0} → KeysView E
-accept_anything = record { verifies = λ s. Unit {0}; verifies_tag = λ s. Unit {0}; decrypts = λ s p. Unit {0}; refuses = λ s e. Unit {0} }
+accept_anything = record { verifies = λ s. Unit {0}; verifies_tag = λ s. Unit {0}; decrypts = λ s p. Unit {0}; refuses = λ form s e. Unit {0} }
 
 -- what is handed of the layer l, where it carries c and its structure has the bytes t
 abbrev pub seal_of : LayerView → List ℕ → List ℕ → SealView
@@ -70,9 +72,9 @@ Accept k (encrypted m) p c s = k.decrypts s p
 abbrev pub Holds : {E : Type 0} → KeysView E → LayerView → List ℕ → Type 0
 Holds k l p = Hands l (λ c s. Accept k l p c s)
 
--- the keys refuse the layer l with this error
+-- this is an error that the keys return for the layer l, of its form
 abbrev pub Refuses : {E : Type 0} → KeysView E → LayerView → E → Type 0
-Refuses k l e = Hands l (λ c s. k.refuses s e)
+Refuses k l e = Hands l (λ c s. k.refuses (form_of l) s e)
 
 -- what is returned of a layer: what is in it, where the keys accept it; or why it isn't opened
 abbrev pub Opens : {E : Type 0} → KeysView E → LayerView → Result (Vec ℕ Global) (GateError E) → Type 0

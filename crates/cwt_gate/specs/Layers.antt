@@ -1,5 +1,5 @@
 -- Layers of a token: messages with a signature, with a MAC, or encrypted (RFC 8392, sections 6 and 7).
-use Rattle.std.specs.Prelude.{◌≡◌, ◌==◌, ◌&&◌, ℕ, List, [], ◌∷◌, ◌/◌, ◌||◌, Option, Some, None, Bool, true, false, is_some, if◌then◌else◌}
+use Rattle.std.specs.Prelude.{◌==◌, ℕ, List, [], ◌∷◌, ◌/◌, ◌||◌, Option, Some, None, Bool, true, false, is_some, if◌then◌else◌}
 use Rattle.coset.specs.CoseError.{CoseError}
 use Rattle.coset.specs.Encrypt0.{Encrypt0View, encrypt0, encrypt0_view, encrypt0_structure}
 use Rattle.coset.specs.Headers.{HeaderView, ProtectedView}

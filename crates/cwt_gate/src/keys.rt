@@ -1,8 +1,10 @@
 //! The keys of who judges a token. Rattle has no ciphers: a caller has its own behind this trait.
 
 ghost use Rattle.std.specs.Prelude.{◌≡◌, IfOk, IfErr};
-ghost use Rattle.cwt_gate.specs.Keys.{KeysView, SealView, key_id_of, seal_view};
+ghost use Rattle.cwt_gate.specs.Keys.{KeysView, key_id_of, seal_view};
+ghost use Rattle.cwt_gate.specs.declared.form.Form.TheVariants.{Sign1, Mac0, Encrypt0};
 
+use crate::form::Form;
 use coset::{Header, ProtectedHeader};
 use std::alloc::Global;
 
@@ -45,41 +47,44 @@ pub trait Keys {
     /// What contracts see of the keys: what they accept, and which errors they return.
     ghost view: { Self → KeysView Self.Error };
 
-    /// The error for a layer that there is no key for.
-    fn no_key(&self) -> Self::Error
-        ensures { (s : SealView) → (view self.now).refuses s result };
+    /// The error for a layer of this form that there is no key for.
+    fn no_key(&self, form: Form, sealed: &Sealed<'_>) -> Self::Error
+        ensures { (view self.now).refuses form (seal_view sealed.now) result };
 
     /// Accepts the signature of a message with one (`COSE_Sign1`).
     ///
     /// # Errors
-    /// One for which `refuses` of `view` holds.
+    /// One for which `refuses` of `view` holds, of this form and of what is handed.
     fn verify(&self, sealed: &Sealed<'_>) -> Result<(), Self::Error>
         ensures verified { IfOk result (λ _. (view self.now).verifies (seal_view sealed.now)) }
-        ensures refused { IfErr result (λ e. (view self.now).refuses (seal_view sealed.now) e) }
+        ensures refused { IfErr result (λ e.
+            (view self.now).refuses Sign1 (seal_view sealed.now) e) }
     {
-        Err(self.no_key())
+        Err(self.no_key(Form::Sign1, sealed))
     }
 
     /// Accepts the tag of a message with a MAC (`COSE_Mac0`).
     ///
     /// # Errors
-    /// One for which `refuses` of `view` holds.
+    /// One for which `refuses` of `view` holds, of this form and of what is handed.
     fn verify_tag(&self, sealed: &Sealed<'_>) -> Result<(), Self::Error>
         ensures verified { IfOk result (λ _. (view self.now).verifies_tag (seal_view sealed.now)) }
-        ensures refused { IfErr result (λ e. (view self.now).refuses (seal_view sealed.now) e) }
+        ensures refused { IfErr result (λ e.
+            (view self.now).refuses Mac0 (seal_view sealed.now) e) }
     {
-        Err(self.no_key())
+        Err(self.no_key(Form::Mac0, sealed))
     }
 
     /// The plaintext of an encrypted message (`COSE_Encrypt0`).
     ///
     /// # Errors
-    /// One for which `refuses` of `view` holds.
+    /// One for which `refuses` of `view` holds, of this form and of what is handed.
     fn decrypt(&self, _alloc: Global, sealed: &Sealed<'_>) -> Result<Vec<u8>, Self::Error>
         ensures decrypted { IfOk result (λ p.
             (view self.now).decrypts (seal_view sealed.now) p.items) }
-        ensures refused { IfErr result (λ e. (view self.now).refuses (seal_view sealed.now) e) }
+        ensures refused { IfErr result (λ e.
+            (view self.now).refuses Encrypt0 (seal_view sealed.now) e) }
     {
-        Err(self.no_key())
+        Err(self.no_key(Form::Encrypt0, sealed))
     }
 }

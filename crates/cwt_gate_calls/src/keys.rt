@@ -3,7 +3,7 @@
 use coset::Result;
 use coset_lines::asked::{Asked, No};
 use coset_lines::words::bytes;
-use cwt_gate::{Keys, Sealed};
+use cwt_gate::{Form, Keys, Sealed};
 use std::alloc::Global;
 use std::cell::Cell;
 
@@ -77,7 +77,7 @@ impl Keys for Scripted {
 
     ghost view = { λ keys. accept_anything };
 
-    fn no_key(&self) -> No {
+    fn no_key(&self, _form: Form, _sealed: &Sealed<'_>) -> No {
         No
     }
 

@@ -1,15 +1,13 @@
 use mir.Syntax.{w64}
-use mir.Val.{of_z, to_z}
-use Rattle.std.proofs.Common.{◌≡◌, ◌∙◌, Bool, ℤ, true, Some, refl, inl, inr, subst, sym}
+use Rattle.std.proofs.Common.{◌≡◌, ℤ, Some, refl, inl, inr, subst}
 use Rattle.std.proofs.lemmas.Int.{to_z-of_z}
 use Rattle.coset.specs.Answers.{Describes, IsRefused}
-use Rattle.coset.specs.Claims.{claims_view}
 use Rattle.coset.specs.Known.{known_view}
 use Rattle.cwt_gate.specs.Door.{JudgesWith, RefusesClaims}
 use Rattle.cwt_gate.specs.Policy.{claims_by, first_true, policy_view, reasons}
 use Rattle.cwt_gate.specs.declared.error.GateError.TheVariants.{Claims}
 use Rattle.cwt_gate.specs.declared.error.PolicyError.TheVariants.{Gate}
-use Rattle.cwt_gate.proofs.Judging.{moved, passed_on}
+use Rattle.cwt_gate.proofs.Judging.{passed_on}
 use Rattle.cwt_gate.proofs.Layering.{arrived}
 use Rattle.cwt_gate.proofs.gate.judge_with.Goals as goal
 

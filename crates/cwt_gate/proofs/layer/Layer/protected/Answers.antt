@@ -1,5 +1,4 @@
 use Rattle.std.proofs.Common.{◌∙◌, ap, sym}
-use Rattle.coset.specs.Headers.{ProtectedView}
 use Rattle.cwt_gate.specs.Layers.{layer_view, protected_of}
 use Rattle.cwt_gate.specs.declared.layer.Layer.{Layer}
 use Rattle.cwt_gate.proofs.Opened.{protected_opened}
