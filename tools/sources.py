@@ -33,8 +33,8 @@ def closing(text, start):
 # ---- code without its contracts
 
 GHOST_USE = re.compile(r"^ *ghost use [^;]*;\n", re.M)
-GHOST = re.compile(r"^(?: *///[^\n]*\n)* *ghost \w+(?::| =) \{", re.M)
-CLAUSE = re.compile(r"\n *(?:requires|ensures)\b[^{\n]*\{")
+GHOST = re.compile(r"^(?: *///[^\n]*\n)* *ghost \w+(?:: \{[^\n]*\} = | = |: )\{", re.M)
+CLAUSE = re.compile(r"(?:\n *//[^\n]*)*\n *(?:requires|ensures)\b[^{\n]*\{")
 LAWS = re.compile(r"^use \w+::laws::(?:\{([^}]*)\}|(\w+));\n", re.M)
 
 # Who has keys must say what they accept; this says nothing of them.
@@ -61,7 +61,7 @@ def plain(source):
     text = LAWS.sub("", GHOST_USE.sub("", source))
     for law in laws:
         text = re.sub(rf"^ *{law}(?:::<\w+>)?\(\);\n", "", text, flags=re.M)
-    text = without(without(text, GHOST, r";\n"), CLAUSE)
+    text = without(without(text, GHOST, r"[;,]?\n"), CLAUSE)
     # A signature without `where` opens its body in the same line.
     text = re.sub(r"((?:^|\n) *(?:pub )?fn (?:(?!\n *(?:where\n|\{\n))[^{;])*[^{;\s])\n *\{\n", r"\1 {\n", text)
     text = re.sub(r"\{\n\n+", "{\n", re.sub(r"\n\n\n+", "\n\n", text))
@@ -121,3 +121,85 @@ def shown(source, imports, heads):
         imports, heads = own, items
     wanted = [it for it in own if any(same_part(it, that) for that in imports)]
     return "\n\n".join(filter(None, [import_lines(wanted), *(text for it, text in items.items() if it in heads)])) + "\n"
+
+
+# ---- definitions of specs/, and laws
+
+NAME = re.compile(r"[\w\-']+")
+DECLARED = re.compile(r"^ *(?:(?:abbrev|unfoldable|pub|mutual|record|data) )*(?P<name>[◌\w\-'=<>≤≡∷+*/|&×⊎→↦!?~^.]+)(?= *[:({] ?)", re.M)
+IMPORT = re.compile(r"^(?:pub )?use Rattle\.(\w+)\.specs\.([\w.]+?)\.\{([^}]*)\}", re.M)
+
+
+class Definition:
+    """A paragraph of a file that declares some words: their place (crate and file), the comment and the code."""
+
+    def __init__(self, path, line, lines, known):
+        self.path, self.line, self.text, self.known = path, line, "\n".join(lines), known
+        crate, file = re.match(r"crates/(\w+)/\w+/(.+)\.\w+$", path).groups()
+        self.place = (crate, file.replace("/", "."))
+        comments = [it for it in lines if it.lstrip().startswith(("--", "///"))]
+        self.comment = " ".join(it.strip().lstrip("-/").strip() for it in comments)
+        self.code = "\n".join(it for it in lines if it not in comments)
+        self.names = []
+
+
+def imported(text, own):
+    """The words of this repository that a file of specs/ or src/ imports by name, each with its place."""
+    known = {}
+    for crate, file, names in IMPORT.findall(text.replace("ghost use", "use")):
+        for it in names.split(","):
+            name, _, other = it.strip().partition(" as ")
+            known[other or name] = (crate, file)
+    return {**known, **own}
+
+
+def paragraphs(path, text):
+    """The parts of a file of specs/ that a comment or a declaration begins, between blank lines, each with its first line."""
+    start, lines = 1, []
+    for number, line in enumerate([*text.split("\n"), ""], 1):
+        if line.strip():
+            lines.append(line)
+            continue
+        if lines and not lines[0].startswith("use "):
+            yield start, lines
+        start, lines = number + 1, []
+
+
+def of_specs(path):
+    """The definitions of a file of specs/, with the words that each declares."""
+    text, found = read(path), []
+    for line, lines in paragraphs(path, text):
+        it = Definition(path, line, lines, {})
+        it.names = [name.strip("◌") for name in DECLARED.findall(it.code) if name.strip("◌:=") and NAME.search(name)]
+        if it.names:
+            found.append(it)
+    own = {name: it.place for it in found for name in it.names}
+    for it in found:
+        it.known = imported(text, own)
+    return found
+
+
+LAW = re.compile(r"((?:^///[^\n]*\n)+)(?:^#\[[^\n]*\n)*^pub fn (\w+).*?^\}$", re.M | re.S)
+
+
+def of_laws(path):
+    """The laws of a file laws.rt."""
+    text = read(path)
+    for law in LAW.finditer(text):
+        code = law[0][: law[0].rindex("\n{\n")] if "\n{\n" in law[0] else law[0]
+        it = Definition(path, text.count("\n", 0, law.start()) + 1, code.split("\n"), imported(text, {}))
+        it.names = [law[2]]
+        yield it
+
+
+def definitions():
+    """All definitions and laws of the repository, by each word that they declare."""
+    index = {}
+    for crate in sorted(os.listdir(f"{HERE}/crates")):
+        found = [it for path in files("crates", crate, "specs") if path.endswith(".antt") for it in of_specs(path)]
+        if os.path.exists(f"{HERE}/crates/{crate}/src/laws.rt"):
+            found += of_laws(f"crates/{crate}/src/laws.rt")
+        for it in found:
+            for name in dict.fromkeys(it.names):
+                index.setdefault(name, []).append(it)
+    return index
