@@ -26,6 +26,7 @@ enum BuilderCall {
     CwtIdFrom(Vec<u8>),
     Claim(CwtClaimName, Value),
     TextClaim(String, Value),
+    TextClaimFrom(String, Value),
     PrivateClaim(i64, Value),
 }
 
@@ -47,6 +48,10 @@ impl Step for BuilderCall {
             "text_claim" => {
                 BuilderCall::TextClaim(spelled::text(alloc, first)?, spelled::item(alloc, second)?)
             }
+            "text_claim_from" => BuilderCall::TextClaimFrom(
+                spelled::text(alloc, first)?,
+                spelled::item(alloc, second)?,
+            ),
             "private_claim" => {
                 BuilderCall::PrivateClaim(words::number(first)?, spelled::item(alloc, second)?)
             }
@@ -76,6 +81,7 @@ fn made(alloc: Global, builder: ClaimsSetBuilder, call: BuilderCall) -> Result<C
         BuilderCall::CwtIdFrom(bytes) => builder.cwt_id_from(alloc, &bytes),
         BuilderCall::Claim(name, value) => with_claim(builder, name, value),
         BuilderCall::TextClaim(name, value) => builder.text_claim(name, value),
+        BuilderCall::TextClaimFrom(name, value) => builder.text_claim_from(alloc, &name, value),
         BuilderCall::PrivateClaim(id, value) => with_private_claim(builder, id, value),
     }
 }

@@ -34,6 +34,7 @@ enum BuilderCall {
     Countersignature0V2From(Vec<u8>),
     Value(i64, Value),
     TextValue(String, Value),
+    TextValueFrom(String, Value),
 }
 
 impl Step for BuilderCall {
@@ -66,6 +67,10 @@ impl Step for BuilderCall {
             "text_value" => {
                 BuilderCall::TextValue(spelled::text(alloc, first)?, spelled::item(alloc, second)?)
             }
+            "text_value_from" => BuilderCall::TextValueFrom(
+                spelled::text(alloc, first)?,
+                spelled::item(alloc, second)?,
+            ),
             _ => return Err(CoseError::UnexpectedItem("name", "call of HeaderBuilder")),
         })
     }
@@ -95,6 +100,7 @@ fn made(alloc: Global, builder: HeaderBuilder, call: BuilderCall) -> Result<Head
         ),
         BuilderCall::Value(label, value) => with_value(builder, label, value),
         BuilderCall::TextValue(label, value) => builder.text_value(label, value),
+        BuilderCall::TextValueFrom(label, value) => builder.text_value_from(alloc, &label, value),
     }
 }
 

@@ -19,6 +19,7 @@ pub fn call(alloc: Global, words: &Words<'_>) -> Option<Result<String>> {
         ("Integer", name) => Some(value::call_integer(alloc, name, words)),
         ("MlDsaVariant", name) => Some(key::call_variant(alloc, name, words)),
         ("CoseKeyBuilder", name) => Some(key_builder::call(alloc, name, words)),
+        ("Float", "to_f64") => Some(value::to_double(alloc, words)),
         ("Value", "from" | "is_null") => Some(value::call(alloc, name, words)),
         ("Value", name) if name.starts_with("as_") => Some(value::call(alloc, name, words)),
         (kind, "build") => of_builder(alloc, kind, words),

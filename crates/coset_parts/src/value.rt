@@ -3,12 +3,13 @@
 use crate::spelled;
 use coset::cbor::de::{self, EndOfFile};
 use coset::cbor::ser;
-use coset::cbor::value::{Integer, Value};
+use coset::cbor::value::{Float, Integer, Value};
 use coset::{CborSerializable, CoseError, Result};
 use coset_lines::words::Words;
 use coset_lines::{mark, tell};
 use std::alloc::Global;
 use std::fmt::Display;
+use std::num::f64_to_bits_with_nan;
 
 /// Makes the call of that name of `Value`.
 ///
@@ -28,6 +29,21 @@ pub fn call(alloc: Global, name: &str, words: &Words<'_>) -> Result<String> {
         }
         _ => as_one(alloc, name, &spelled::item(alloc, words.word(1))?),
     }
+}
+
+/// The double that a float is.
+///
+/// # Errors
+/// `UnexpectedItem`: the item isn't a float.
+pub fn to_double(alloc: Global, words: &Words<'_>) -> Result<String> {
+    let Value::Float(float) = spelled::item(alloc, words.word(1))? else {
+        return Err(CoseError::UnexpectedItem("item", "float"));
+    };
+    mark::begin(alloc);
+    let double = float.to_f64();
+    mark::end(alloc);
+    let bits = f64_to_bits_with_nan(double);
+    tell::value(alloc, Ok(Value::Float(Float::Double(bits))))
 }
 
 /// The value that a number of that type becomes.
