@@ -1,4 +1,4 @@
-use Rattle.std.proofs.Common.{◌≡◌, ◌||◌, ◌∙◌, Bool, true, false, Ok, ap, sym, subst, arith}
+use Rattle.std.proofs.Common.{◌≡◌, ◌||◌, ◌∙◌, Bool, false, Ok, ap, sym, subst, arith}
 use Rattle.cwt_gate.specs.Layers.{begins_layer}
 use Rattle.cwt_gate.specs.Policy.{policy_view}
 use Rattle.cwt_gate.specs.Door.{OpensAll, OpensOne, RefusesLayer}
