@@ -1,8 +1,8 @@
 //! What is written for an input.
 
 use crate::asked::{Asked, Form};
-use crate::spelled;
 use coset_explain::{annotated, annotated_structures, explain, fault, notation};
+use coset_spelled::{Spelling, line_and_column, text_of};
 use std::alloc::{AllocError, Global};
 
 /// The status of an input that is of the kind.
@@ -13,6 +13,75 @@ const REFUSED: u8 = 1;
 
 /// The status of a call that names no file that can be read, or for which there wasn't memory enough.
 pub const UNANSWERED: u8 = 2;
+
+/// What is written for an input.
+#[derive(Drop)]
+pub struct Look {
+    /// A line for standard error: what the input was read as, or where it is misspelled.
+    pub said: String,
+    /// What the bytes are.
+    pub text: String,
+    /// The status.
+    pub status: u8,
+}
+
+/// What a spelling is called.
+fn name(spelling: Spelling) -> &'static str {
+    match spelling {
+        Spelling::Binary => "binary",
+        Spelling::Hexadecimal => "hexadecimal",
+        Spelling::Base64 => "base64",
+    }
+}
+
+/// The character at that offset, where a terminal shows it; `None` at the end, too.
+fn shown_at(input: &[u8], offset: usize) -> Option<char> {
+    let (_, rest) = input.split_at(offset.min(input.len()));
+    let c = str::from_utf8(rest).ok()?.chars().next()?;
+    if c.is_whitespace() || c.is_control() {
+        None
+    } else {
+        Some(c)
+    }
+}
+
+/// What a digit of a spelling is called.
+fn digit(spelling: Spelling) -> &'static str {
+    match spelling {
+        Spelling::Hexadecimal => "hexadecimal digit",
+        _ => "digit of base64",
+    }
+}
+
+/// What could be done about a character that is no digit.
+fn hint(spelling: Spelling, c: char) -> &'static str {
+    match (spelling, c) {
+        (Spelling::Hexadecimal, _) => "; base64 that looks like hexadecimal is read as b64'..'",
+        (_, '.') => "; a JSON web token, whose parts have dots between them, holds no CBOR",
+        _ => "",
+    }
+}
+
+/// That the input is misspelled at this offset.
+fn misspelled(
+    alloc: Global,
+    spelling: Spelling,
+    input: &[u8],
+    offset: usize,
+) -> Result<String, AllocError> {
+    let (line, column) = line_and_column(input, offset);
+    let mut text = format!(in alloc; "error: line {line}, column {column}: ")?;
+    let digit = digit(spelling);
+    match shown_at(input, offset) {
+        Some(c) => {
+            let hint = hint(spelling, c);
+            write!(text, "'{c}' is no {digit}{hint}")?;
+        }
+        None => write!(text, "a {digit} is missing")?,
+    }
+    text.push('\n')?;
+    Ok(text)
+}
 
 /// The offset of the fault, the path there and the error, in one line; `accepted` where there is none.
 fn fault_line(alloc: Global, asked: &Asked, bytes: &[u8]) -> Result<(String, u8), AllocError> {
@@ -30,24 +99,17 @@ fn fault_line(alloc: Global, asked: &Asked, bytes: &[u8]) -> Result<(String, u8)
     Ok((text, REFUSED))
 }
 
-/// What is written for the input, and the status.
-///
-/// # Errors
-/// `AllocError` alone.
-pub fn look(alloc: Global, asked: &Asked, input: &[u8]) -> Result<(String, u8), AllocError> {
-    let Some(bytes) = spelled::bytes(alloc, input)? else {
-        let text = String::from_str(alloc, "error: input is neither hexadecimal nor base64\n")?;
-        return Ok((text, REFUSED));
-    };
+/// What is written for the bytes, and the status.
+fn look_at(alloc: Global, asked: &Asked, bytes: &[u8]) -> Result<(String, u8), AllocError> {
     if asked.form == Form::Where {
-        return fault_line(alloc, asked, &bytes);
+        return fault_line(alloc, asked, bytes);
     }
-    let explained = explain(alloc, asked.kind, &bytes, asked.now)?;
+    let explained = explain(alloc, asked.kind, bytes, asked.now)?;
     let text = if asked.form == Form::Plain {
         notation(alloc, &explained.lines)?
     } else {
         let mut text = annotated(alloc, &explained.lines)?;
-        text.push_str(annotated_structures(alloc, asked.kind, &bytes)?.as_str())?;
+        text.push_str(annotated_structures(alloc, asked.kind, bytes)?.as_str())?;
         text
     };
     let status = if explained.error.is_some() {
@@ -56,4 +118,28 @@ pub fn look(alloc: Global, asked: &Asked, input: &[u8]) -> Result<(String, u8), 
         TAKEN
     };
     Ok((text, status))
+}
+
+/// What is written for the input.
+///
+/// # Errors
+/// `AllocError` alone.
+pub fn look(alloc: Global, asked: &Asked, input: &[u8]) -> Result<Look, AllocError> {
+    let spelled = text_of(input);
+    match spelled.bytes(alloc)? {
+        Ok(bytes) => {
+            let (name, count) = (name(spelled.spelling), bytes.len());
+            let said = format!(in alloc; "read as {name}, {count} bytes\n")?;
+            let (text, status) = look_at(alloc, asked, &bytes)?;
+            Ok(Look { said, text, status })
+        }
+        Err(place) => {
+            let offset = spelled.offset.saturating_add(place.0);
+            Ok(Look {
+                said: misspelled(alloc, spelled.spelling, input, offset)?,
+                text: String::new(alloc),
+                status: REFUSED,
+            })
+        }
+    }
 }
