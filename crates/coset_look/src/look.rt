@@ -1,7 +1,7 @@
 //! What is written for an input.
 
 use crate::asked::{Asked, Form};
-use coset_explain::{annotated, annotated_structures, explain, fault, notation};
+use coset_explain::{Kind, annotated, annotated_structures, explain, fault, fitting, notation};
 use coset_spelled::{Spelling, line_and_column, text_of};
 use std::alloc::{AllocError, Global};
 
@@ -120,6 +120,61 @@ fn look_at(alloc: Global, asked: &Asked, bytes: &[u8]) -> Result<(String, u8), A
     Ok((text, status))
 }
 
+/// Whether the bytes begin with a tag.
+fn begins_with_tag(bytes: &[u8]) -> bool {
+    match bytes.first() {
+        Some(first) => *first / 32 == 6,
+        None => false,
+    }
+}
+
+/// Adds that the bytes are shown as something of the first of these kinds, and which others they can be.
+fn push_fitting(said: &mut String, kinds: &[Kind]) -> Result<(), AllocError> {
+    let Some((first, others)) = kinds.split_first() else {
+        return said.push_str("; it has no tag, and is shown as CBOR: no other KIND reads it");
+    };
+    let name = first.name();
+    write!(said, "; it has no tag, and is shown as {name}")?;
+    let mut separator = ", which could also be ";
+    for kind in others {
+        said.push_str(separator)?;
+        said.push_str(kind.name())?;
+        separator = " or ";
+    }
+    Ok(())
+}
+
+/// How the bytes are looked at: where neither a kind nor a tag says what they are, as what they can be, which is said.
+fn kind_of(
+    alloc: Global,
+    asked: &Asked,
+    bytes: &[u8],
+    said: &mut String,
+) -> Result<Kind, AllocError> {
+    if asked.kind != Kind::Auto
+        || begins_with_tag(bytes)
+        || Kind::Value.refusal(alloc, bytes).is_some()
+    {
+        return Ok(asked.kind);
+    }
+    let kinds = fitting(alloc, bytes)?;
+    push_fitting(said, &kinds)?;
+    Ok(kinds.first().copied().unwrap_or(Kind::Auto))
+}
+
+/// What is written for bytes that were read as it is said.
+fn look_at_bytes(
+    alloc: Global,
+    asked: &Asked,
+    bytes: &[u8],
+    mut said: String,
+) -> Result<Look, AllocError> {
+    let kind = kind_of(alloc, asked, bytes, &mut said)?;
+    said.push('\n')?;
+    let (text, status) = look_at(alloc, &Asked { kind, ..*asked }, bytes)?;
+    Ok(Look { said, text, status })
+}
+
 /// What is written for the input.
 ///
 /// # Errors
@@ -129,9 +184,8 @@ pub fn look(alloc: Global, asked: &Asked, input: &[u8]) -> Result<Look, AllocErr
     match spelled.bytes(alloc)? {
         Ok(bytes) => {
             let (name, count) = (name(spelled.spelling), bytes.len());
-            let said = format!(in alloc; "read as {name}, {count} bytes\n")?;
-            let (text, status) = look_at(alloc, asked, &bytes)?;
-            Ok(Look { said, text, status })
+            let said = format!(in alloc; "read as {name}, {count} bytes")?;
+            look_at_bytes(alloc, asked, &bytes, said)
         }
         Err(place) => {
             let offset = spelled.offset.saturating_add(place.0);
