@@ -16,12 +16,13 @@ mod note;
 mod opening;
 mod paths;
 mod print;
+mod refusal;
 mod role;
 mod structures;
 mod text;
 mod walk;
 
-pub use apart::{Explained, Place, Refusal, explain, fault};
+pub use apart::{Explained, Place, Refusal, explain, explain_whole, fault};
 pub use column::Line;
 pub use coset_fault::Step;
 pub use faults::Fault;

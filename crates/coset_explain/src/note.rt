@@ -116,6 +116,15 @@ fn add_bits(notes: &mut Notes<'_>, head: &Head) -> Result<(), AllocError> {
     write!(notes.text, "bits 0x{number:x}")
 }
 
+/// Adds that it is a certificate, and how long, where that is announced.
+fn add_certificate(notes: &mut Notes<'_>, head: &Head) -> Result<(), AllocError> {
+    notes.add("certificate")?;
+    match head.number() {
+        Some(length) => write!(notes.text, ", {length} bytes"),
+        None => Ok(()),
+    }
+}
+
 /// Adds what there is to say of the item with this head, which is for that.
 ///
 /// # Errors
@@ -143,8 +152,14 @@ pub(crate) fn push(
     if head.major_type == MajorType::Array || head.major_type == MajorType::Map {
         notes.add(title(part.role))?;
     }
+    if part.role == Role::Submodule && head.major_type == MajorType::Map {
+        notes.add(title(Role::Claims))?;
+    }
     if part.role == Role::Protected && head.major_type == MajorType::Bytes && head.is_indefinite() {
         notes.add("in chunks, and not opened")?;
+    }
+    if part.role == Role::Certificates && head.major_type == MajorType::Bytes {
+        add_certificate(&mut notes, head)?;
     }
     add_bits(&mut notes, head)?;
     if !head.is_float() && !is_shortest(head) {

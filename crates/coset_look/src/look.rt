@@ -1,7 +1,9 @@
 //! What is written for an input.
 
 use crate::asked::{Asked, Form};
-use coset_explain::{Kind, annotated, annotated_structures, explain, fault, fitting, notation};
+use coset_explain::{
+    Kind, annotated, annotated_structures, explain, explain_whole, fault, fitting, notation,
+};
 use coset_spelled::{Spelling, line_and_column, text_of};
 use std::alloc::{AllocError, Global};
 
@@ -104,20 +106,16 @@ fn look_at(alloc: Global, asked: &Asked, bytes: &[u8]) -> Result<(String, u8), A
     if asked.form == Form::Where {
         return fault_line(alloc, asked, bytes);
     }
-    let explained = explain(alloc, asked.kind, bytes, asked.now)?;
-    let text = if asked.form == Form::Plain {
-        notation(alloc, &explained.lines)?
+    let (text, error) = if asked.form == Form::Plain {
+        let explained = explain(alloc, asked.kind, bytes, asked.now)?;
+        (notation(alloc, &explained.lines)?, explained.error)
     } else {
+        let explained = explain_whole(alloc, asked.kind, bytes, asked.now)?;
         let mut text = annotated(alloc, &explained.lines)?;
         text.push_str(annotated_structures(alloc, asked.kind, bytes)?.as_str())?;
-        text
+        (text, explained.error)
     };
-    let status = if explained.error.is_some() {
-        REFUSED
-    } else {
-        TAKEN
-    };
-    Ok((text, status))
+    Ok((text, if error.is_some() { REFUSED } else { TAKEN }))
 }
 
 /// Whether the bytes begin with a tag.
