@@ -1,6 +1,6 @@
 //! Base64 and base64url (RFC 4648, sections 4 and 5).
 
-ghost use Rattle.std.specs.Prelude.{◌≡◌, ◌*◌, ◌+◌, ◌/◌, ◌%◌, ◌++◌, IfErr, IfOk, List, MatchOption, ℕ};
+ghost use Rattle.std.specs.Prelude.{[], ◌∷◌, ◌≡◌, ◌*◌, ◌+◌, ◌/◌, ◌%◌, ◌++◌, IfErr, IfOk, IfSome, List, MatchOption, ℕ};
 ghost use Rattle.coset_spelled.specs.Base64.{AreDigits, IsBase64, IsPadding, bytes_of, digit_number, first_byte, second_byte, third_byte, is_break};
 ghost use Rattle.coset_spelled.specs.Spelled.{IsWithin};
 
@@ -28,13 +28,26 @@ fn digit_number(digit: u8) -> Option<u8>
     }
 }
 
+/// What is before a sign `=` at the end.
+fn before_sign(text: &[u8]) -> Option<&[u8]>
+    ensures { IfSome result (λ t. text.now ≡ t.now ++ (61 ∷ [])) }
+{
+    match text.split_last() {
+        Some((last, rest)) if *last == b'=' => Some(rest),
+        _ => None,
+    }
+}
+
 /// The digits without the padding behind them.
 fn without_padding(text: &[u8]) -> &[u8]
     ensures { (padding : List ℕ) × (text.now ≡ result.now ++ padding) × IsPadding padding }
 {
-    match text {
-        [digits @ .., b'=', b'='] | [digits @ .., b'='] => digits,
-        _ => text,
+    let Some(rest) = before_sign(text) else {
+        return text;
+    };
+    match before_sign(rest) {
+        Some(digits) => digits,
+        None => rest,
     }
 }
 
@@ -45,7 +58,7 @@ fn numbers(alloc: Global, digits: &[u8]) -> Result<Result<Vec<u8>, Misspelled>, 
 {
     let mut numbers = Vec::new(alloc);
     let mut left = digits;
-    while let [digit, rest @ ..] = left {
+    while let Some((digit, rest)) = left.split_first() {
         if !is_break(*digit) {
             match digit_number(*digit) {
                 Some(number) => numbers.push(number)?,

@@ -45,7 +45,7 @@ fn without_front(text: &[u8]) -> &[u8]
     ensures { (front : List ℕ) × (text.now ≡ front ++ result.now) }
 {
     let mut left = text;
-    while let [first, rest @ ..] = left {
+    while let Some((first, rest)) = left.split_first() {
         if !is_space(*first) {
             return left;
         }
@@ -59,7 +59,7 @@ fn without_end(text: &[u8]) -> &[u8]
     ensures { (back : List ℕ) × (text.now ≡ result.now ++ back) }
 {
     let mut left = text;
-    while let [rest @ .., last] = left {
+    while let Some((last, rest)) = left.split_last() {
         if !is_space(*last) {
             return left;
         }
@@ -80,15 +80,22 @@ fn behind_word<'a>(text: &'a [u8], word: &[u8]) -> Option<&'a [u8]>
     }
 }
 
+/// What follows `Authorization:` and white space, where the text begins with that.
+fn without_name(text: &[u8]) -> &[u8]
+    ensures { (front : List ℕ) × (text.now ≡ front ++ result.now) }
+{
+    match behind_word(text, b"authorization:") {
+        Some(rest) => without_front(rest),
+        None => text,
+    }
+}
+
 /// The token of a line `Authorization: Bearer` or `Bearer` (RFC 6750, section 2.1).
 fn bearer(text: &[u8]) -> Option<&[u8]>
     ensures { IfSome result (λ t. (front : List ℕ) × (text.now ≡ front ++ t.now)) }
 {
-    let text = match behind_word(text, b"authorization:") {
-        Some(rest) => without_front(rest),
-        None => text,
-    };
-    let rest = behind_word(text, b"bearer")?;
+    let named = without_name(text);
+    let rest = behind_word(named, b"bearer")?;
     let token = without_front(rest);
     if token.len() < rest.len() {
         Some(token)
@@ -101,7 +108,9 @@ fn bearer(text: &[u8]) -> Option<&[u8]>
 fn quoted<'a>(text: &'a [u8], front: &[u8]) -> Option<&'a [u8]>
     ensures { IfSome result (λ t. IsPart text.now (length front.now) t.now) }
 {
-    text.strip_prefix(front)?.strip_suffix(b"'".as_slice())
+    let inner = text.strip_prefix(front)?;
+    let found = inner.strip_suffix(b"'".as_slice())?;
+    Some(found)
 }
 
 /// Whether a text without quotes is meant as hexadecimal: it begins with `0x` or `\x`, or there is something between digits of a

@@ -71,16 +71,16 @@ fn byte_at_front(text: &[u8]) -> Next<'_>
 fn front(text: &[u8]) -> Next<'_>
     ensures { IsFront text.now result }
 {
-    match text {
-        [] => Next::End,
-        [first, rest @ ..] if is_between(*first) => Next::Between(rest),
-        _ => {
-            let digits = without_prefix(text);
-            match byte_at_front(digits) {
-                Next::Misspelled(offset) => { Next::Misspelled(text.len() - digits.len() + offset) }
-                front => front,
-            }
-        }
+    let Some((first, rest)) = text.split_first() else {
+        return Next::End;
+    };
+    if is_between(*first) {
+        return Next::Between(rest);
+    }
+    let digits = without_prefix(text);
+    match byte_at_front(digits) {
+        Next::Misspelled(offset) => Next::Misspelled(text.len() - digits.len() + offset),
+        front => front,
     }
 }
 
