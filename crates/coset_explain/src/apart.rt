@@ -65,6 +65,7 @@ fn lines_of<'a>(
         return so_far.finish();
     }
     refusal::push(&mut so_far.note, error, fault, path)?;
+    so_far.is_refused = true;
     so_far.end_with_rest()
 }
 

@@ -1,5 +1,6 @@
 //! What is open at a place: arrays, maps, tags, strings in chunks, and byte strings whose content is shown.
 
+use crate::cover::{Cover, of_next};
 use crate::faults::Fault;
 use crate::head::{argument, integer};
 use crate::role::{Part, Role, label_of, place, value_of};
@@ -55,6 +56,8 @@ pub(crate) struct Frame {
     pub(crate) layers: u32,
     /// How many byte strings inside one another may still be opened for what they hold.
     pub(crate) openings: u32,
+    /// What a signature, a MAC or a ciphertext has to do with it.
+    pub(crate) cover: Cover,
 }
 
 impl Frame {
@@ -75,6 +78,7 @@ impl Frame {
             levels: LEVELS,
             layers: LAYERS,
             openings,
+            cover: Cover::Plain,
         }
     }
 
@@ -102,6 +106,7 @@ impl Frame {
             levels: self.levels.saturating_sub(1),
             layers: self.layers,
             openings: self.openings,
+            cover: of_next(self),
         }
     }
 
@@ -128,6 +133,7 @@ impl Frame {
             levels: LEVELS,
             layers: self.layers,
             openings: self.openings,
+            cover: of_next(self),
         }
     }
 

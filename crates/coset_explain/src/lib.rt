@@ -4,6 +4,7 @@
 
 mod apart;
 mod column;
+mod cover;
 mod date;
 mod faults;
 mod fitting;
@@ -25,8 +26,9 @@ mod walk;
 pub use apart::{Explained, Place, Refusal, explain, explain_whole, fault};
 pub use column::Line;
 pub use coset_fault::Step;
+pub use cover::Cover;
 pub use faults::Fault;
 pub use fitting::fitting;
 pub use kind::Kind;
-pub use print::{annotated, notation};
-pub use structures::{annotated_structures, structure};
+pub use print::{annotated, colored, notation};
+pub use structures::{annotated_structures, structure, structure_notes};

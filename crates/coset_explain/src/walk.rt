@@ -5,6 +5,7 @@ ghost use Rattle.std.specs.Prelude.{◌≡◌, ◌≤◌, ◌+◌, ◌*◌, IfOk
 ghost use Rattle.coset_explain.specs.Column.{whole, shown};
 
 use crate::column::Column;
+use crate::cover::of_next;
 use crate::faults::Fault;
 use crate::frame::{Container, Frame, content};
 use crate::head::head_fault;
@@ -168,6 +169,7 @@ impl<'a, 'e> Walk<'a, 'e> {
         }
         let depth = self.open.len().saturating_sub(1);
         let mark = self.mark_behind();
+        self.column.cover = frame.cover;
         self.column.text.push_str(frame.end())?;
         self.column.text.push_str(width_mark(frame.width))?;
         self.column.text.push_str(mark)?;
@@ -270,6 +272,7 @@ impl<'a, 'e> Walk<'a, 'e> {
             note.push_str(self.column.note.as_str())?;
         }
         self.column.note = note;
+        self.column.is_refused = true;
         Ok(())
     }
 
@@ -332,6 +335,7 @@ impl<'a, 'e> Walk<'a, 'e> {
     {
         let part = frame.next_part();
         let now = self.now;
+        self.column.cover = of_next(&frame);
         note::push(&mut self.column.note, &frame, &part, head, now)?;
         let is_sought = self.hunt.is_in(alloc, &part, content(head, rest))?;
         let opened = opening(alloc, &frame, part, head, bytes, is_sought)?;

@@ -1,8 +1,11 @@
 //! What is written for an input.
 
 use crate::asked::{Asked, Form};
+use crate::page::section;
+use coset::CoseError;
 use coset_explain::{
-    Kind, annotated, annotated_structures, explain, explain_whole, fault, fitting, notation,
+    Kind, annotated, annotated_structures, colored, explain, explain_whole, fault, fitting,
+    notation, structure_notes,
 };
 use coset_spelled::{Spelling, line_and_column, text_of};
 use std::alloc::{AllocError, Global};
@@ -28,7 +31,7 @@ pub struct Look {
 }
 
 /// What a spelling is called.
-fn name(spelling: Spelling) -> &'static str {
+fn spelling_name(spelling: Spelling) -> &'static str {
     match spelling {
         Spelling::Binary => "binary",
         Spelling::Hexadecimal => "hexadecimal",
@@ -81,41 +84,7 @@ fn misspelled(
         }
         None => write!(text, "a {digit} is missing")?,
     }
-    text.push('\n')?;
     Ok(text)
-}
-
-/// The offset of the fault, the path there and the error, in one line; `accepted` where there is none.
-fn fault_line(alloc: Global, asked: &Asked, bytes: &[u8]) -> Result<(String, u8), AllocError> {
-    let Some(refusal) = fault(alloc, asked.kind, bytes)? else {
-        return Ok((String::from_str(alloc, "accepted\n")?, TAKEN));
-    };
-    let error = &refusal.error;
-    let text = match &refusal.place {
-        Some(place) => {
-            let (offset, path) = (place.offset, place.path.as_str());
-            format!(in alloc; "{offset} {path} {error}\n")?
-        }
-        None => format!(in alloc; "? ? {error}\n")?,
-    };
-    Ok((text, REFUSED))
-}
-
-/// What is written for the bytes, and the status.
-fn look_at(alloc: Global, asked: &Asked, bytes: &[u8]) -> Result<(String, u8), AllocError> {
-    if asked.form == Form::Where {
-        return fault_line(alloc, asked, bytes);
-    }
-    let (text, error) = if asked.form == Form::Plain {
-        let explained = explain(alloc, asked.kind, bytes, asked.now)?;
-        (notation(alloc, &explained.lines)?, explained.error)
-    } else {
-        let explained = explain_whole(alloc, asked.kind, bytes, asked.now)?;
-        let mut text = annotated(alloc, &explained.lines)?;
-        text.push_str(annotated_structures(alloc, asked.kind, bytes)?.as_str())?;
-        (text, explained.error)
-    };
-    Ok((text, if error.is_some() { REFUSED } else { TAKEN }))
 }
 
 /// Whether the bytes begin with a tag.
@@ -142,54 +111,134 @@ fn push_fitting(said: &mut String, kinds: &[Kind]) -> Result<(), AllocError> {
     Ok(())
 }
 
-/// How the bytes are looked at: where neither a kind nor a tag says what they are, as what they can be, which is said.
+/// What the bytes are looked at as: where neither a kind nor a tag says what they are, the first that they can be, which is
+/// said.
 fn kind_of(
     alloc: Global,
     asked: &Asked,
     bytes: &[u8],
     said: &mut String,
 ) -> Result<Kind, AllocError> {
-    if asked.kind != Kind::Auto
-        || begins_with_tag(bytes)
-        || Kind::Value.refusal(alloc, bytes).is_some()
-    {
+    if asked.kind != Kind::Auto || begins_with_tag(bytes) {
         return Ok(asked.kind);
     }
-    let kinds = fitting(alloc, bytes)?;
-    push_fitting(said, &kinds)?;
-    Ok(kinds.first().copied().unwrap_or(Kind::Auto))
+    match Kind::Value.refusal(alloc, bytes) {
+        None => {
+            let kinds = fitting(alloc, bytes)?;
+            push_fitting(said, &kinds)?;
+            Ok(kinds.first().copied().unwrap_or(Kind::Auto))
+        }
+        Some(CoseError::OutOfMemory) => Err(AllocError),
+        Some(_) => Ok(Kind::Auto),
+    }
 }
 
-/// What is written for bytes that were read as it is said.
-fn look_at_bytes(
+/// The offset of the fault, the path there and the error, in one line; `accepted` where there is none.
+fn fault_line(alloc: Global, kind: Kind, bytes: &[u8]) -> Result<(String, u8), AllocError> {
+    let Some(refusal) = fault(alloc, kind, bytes)? else {
+        return Ok((String::from_str(alloc, "accepted\n")?, TAKEN));
+    };
+    let error = &refusal.error;
+    let text = match &refusal.place {
+        Some(place) => {
+            let (offset, path) = (place.offset, place.path.as_str());
+            format!(in alloc; "{offset} {path} {error}\n")?
+        }
+        None => format!(in alloc; "? ? {error}\n")?,
+    };
+    Ok((text, REFUSED))
+}
+
+/// The lines of bytes as a text or a part of a page, and the status.
+fn lines_of(
+    alloc: Global,
+    asked: &Asked,
+    kind: Kind,
+    bytes: &[u8],
+    said: &str,
+    name: &str,
+) -> Result<(String, u8), AllocError> {
+    let explained = explain_whole(alloc, kind, bytes, asked.now)?;
+    let lines = &explained.lines;
+    let text = if asked.form == Form::Page {
+        let notes = structure_notes(alloc, kind, bytes, &asked.external_aad)?;
+        section(alloc, name, said, lines, &notes)?
+    } else {
+        let mut text = if asked.is_colored {
+            colored(alloc, lines)?
+        } else {
+            annotated(alloc, lines)?
+        };
+        let comments = annotated_structures(alloc, kind, bytes, &asked.external_aad)?;
+        text.push_str(comments.as_str())?;
+        text
+    };
+    let status = if explained.error.is_some() {
+        REFUSED
+    } else {
+        TAKEN
+    };
+    Ok((text, status))
+}
+
+/// Diagnostic notation alone, and the status.
+fn notation_of(
+    alloc: Global,
+    asked: &Asked,
+    kind: Kind,
+    bytes: &[u8],
+) -> Result<(String, u8), AllocError> {
+    let explained = explain(alloc, kind, bytes, asked.now)?;
+    let status = if explained.error.is_some() {
+        REFUSED
+    } else {
+        TAKEN
+    };
+    Ok((notation(alloc, &explained.lines)?, status))
+}
+
+/// What is written for bytes of an input of that name that were read as it is said.
+fn look_at(
     alloc: Global,
     asked: &Asked,
     bytes: &[u8],
     mut said: String,
+    name: &str,
 ) -> Result<Look, AllocError> {
     let kind = kind_of(alloc, asked, bytes, &mut said)?;
-    said.push('\n')?;
-    let (text, status) = look_at(alloc, &Asked { kind, ..*asked }, bytes)?;
+    let (text, status) = match asked.form {
+        Form::Annotated | Form::Page => {
+            lines_of(alloc, asked, kind, bytes, said.as_str(), name)?
+        }
+        Form::Plain => notation_of(alloc, asked, kind, bytes)?,
+        Form::Where => fault_line(alloc, kind, bytes)?,
+    };
     Ok(Look { said, text, status })
 }
 
-/// What is written for the input.
+/// What is written for an input of that name.
 ///
 /// # Errors
 /// `AllocError` alone.
-pub fn look(alloc: Global, asked: &Asked, input: &[u8]) -> Result<Look, AllocError> {
+pub fn look(alloc: Global, asked: &Asked, input: &[u8], name: &str) -> Result<Look, AllocError> {
     let spelled = text_of(input);
     match spelled.bytes(alloc)? {
         Ok(bytes) => {
-            let (name, count) = (name(spelled.spelling), bytes.len());
-            let said = format!(in alloc; "read as {name}, {count} bytes")?;
-            look_at_bytes(alloc, asked, &bytes, said)
+            let (spelling, count) = (spelling_name(spelled.spelling), bytes.len());
+            let said = format!(in alloc; "read as {spelling}, {count} bytes")?;
+            look_at(alloc, asked, &bytes, said, name)
         }
         Err(place) => {
             let offset = spelled.offset.saturating_add(place.0);
+            let said = misspelled(alloc, spelled.spelling, input, offset)?;
+            let text = if asked.form == Form::Page {
+                section(alloc, name, said.as_str(), &[], &[])?
+            } else {
+                String::new(alloc)
+            };
             Ok(Look {
-                said: misspelled(alloc, spelled.spelling, input, offset)?,
-                text: String::new(alloc),
+                said,
+                text,
                 status: REFUSED,
             })
         }
