@@ -19,7 +19,7 @@ li { display: inline-block; margin-right: 1.5em; padding-left: .5em; }
 .row { display: grid; grid-template-columns: 33ch 9em 1fr; column-gap: .5em; padding: 1px 0 1px .5em; border-left: 6px solid transparent; }
 .row code:first-child { color: #555; width: 32ch; }
 .row > span { font-size: 12px; color: #444; }
-.row > div, .row > span + span { font-size: 13px; }
+.row > span + span { font-size: 13px; }
 summary { cursor: pointer; list-style: none; }
 summary::-webkit-details-marker { display: none; }
 summary > span + span::before { content: "\25BE\00A0"; color: #777; }
@@ -29,6 +29,14 @@ em { color: #444; }
 .open { border-left: 6px dashed #b35900; background: #fff4e5; }
 .seal { border-left: 6px double #0550ae; background: #eaf2fd; }
 .refused { border-left: 6px solid #b00020; background: #fdeaed; font-weight: bold; }
+@media (max-width: 60em) {
+.row { grid-template-columns: 17ch 8em 1fr; }
+.row code:first-child { width: 16ch; }
+}
+@media (max-width: 36em) {
+.row { grid-template-columns: 1fr auto; }
+.row > span + span { grid-column: 1 / 3; }
+}
 </style>
 </head>
 <body>
