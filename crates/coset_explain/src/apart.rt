@@ -240,8 +240,9 @@ pub fn explain_whole<'a>(
     let keys = key_errors(alloc, kind, bytes)?;
     let walk = walk_through(alloc, kind, bytes, error.as_ref(), &keys, now)?;
     let left = walk.column.left();
+    let offset = bytes.len().saturating_sub(left);
     let last = match walk.fault {
-        Some(fault) => Some((bytes.len().saturating_sub(left), fault)),
+        Some(fault) => Some((offset, fault)),
         None => None,
     };
     let path = path(alloc, bytes, &walk.open, left)?;

@@ -21,7 +21,7 @@ pub const UNANSWERED: u8 = 2;
 
 /// What is written for an input.
 #[derive(Drop)]
-pub struct Look {
+pub struct Shown {
     /// A line for standard error: what the input was read as, or where it is misspelled.
     pub said: String,
     /// What the bytes are.
@@ -204,7 +204,7 @@ fn look_at(
     bytes: &[u8],
     mut said: String,
     name: &str,
-) -> Result<Look, AllocError> {
+) -> Result<Shown, AllocError> {
     let kind = kind_of(alloc, asked, bytes, &mut said)?;
     let (text, status) = match asked.form {
         Form::Annotated | Form::Page => {
@@ -213,14 +213,14 @@ fn look_at(
         Form::Plain => notation_of(alloc, asked, kind, bytes)?,
         Form::Where => fault_line(alloc, kind, bytes)?,
     };
-    Ok(Look { said, text, status })
+    Ok(Shown { said, text, status })
 }
 
 /// What is written for an input of that name.
 ///
 /// # Errors
 /// `AllocError` alone.
-pub fn look(alloc: Global, asked: &Asked, input: &[u8], name: &str) -> Result<Look, AllocError> {
+pub fn look(alloc: Global, asked: &Asked, input: &[u8], name: &str) -> Result<Shown, AllocError> {
     let spelled = text_of(input);
     match spelled.bytes(alloc)? {
         Ok(bytes) => {
@@ -236,7 +236,7 @@ pub fn look(alloc: Global, asked: &Asked, input: &[u8], name: &str) -> Result<Lo
             } else {
                 String::new(alloc)
             };
-            Ok(Look {
+            Ok(Shown {
                 said,
                 text,
                 status: REFUSED,

@@ -9,7 +9,7 @@ mod look;
 mod page;
 
 use asked::{Asked, Form};
-use look::{Look, UNANSWERED, look};
+use look::{Shown, UNANSWERED, look};
 use std::io::{ErrorKind, IsTerminal, Read};
 use std::process::ExitCode;
 use std::{env, fs, io};
@@ -36,7 +36,7 @@ fn is_terminal(rt: &HostRuntime) -> bool {
 
 /// Takes an input of that name apart, and returns the status.
 fn show(rt: &HostRuntime, asked: &Asked, input: &[u8], name: &str) -> io::Result<u8> {
-    let Look { said, text, status } = look(rt.alloc(), asked, input, name)?;
+    let Shown { said, text, status } = look(rt.alloc(), asked, input, name)?;
     if name.is_empty() {
         eprintln!(rt; "{said}")?;
     } else {
