@@ -53,17 +53,18 @@ over_written {A} {V} shape structure payload bytes_of b x r is writes = go (payl
 
 -- what is the structure of the kind by name is that of the kind
 of_kind :
-    (kind named : Kind) (i : ℕ) (bytes rest t : List ℕ) → Names kind bytes named rest → IsStructureOfNamed named i rest t → IsStructure kind i bytes t
-of_kind kind named i bytes rest t names over = record {
+    (kind named : Kind) (aad : List ℕ) (i : ℕ) (bytes rest t : List ℕ) → Names kind bytes named rest → IsStructureOfNamed named aad i rest t
+    → IsStructure kind aad i bytes t
+of_kind kind named aad i bytes rest t names over = record {
   by_tag = λ _. record { kind = named; front = names.behind.0; rest = rest; parts = names.behind.1; over = over };
   named =
       λ no.
       let is = names.same no in
-      subst (λ (k : Kind). IsStructureOfNamed k i bytes t) is.0 (subst (λ (b : List ℕ). IsStructureOfNamed named i b t) is.1 over);
+      subst (λ (k : Kind). IsStructureOfNamed k aad i bytes t) is.0 (subst (λ (b : List ℕ). IsStructureOfNamed named aad i b t) is.1 over);
 }
 
 pub found_of_kind :
-    {V : Type 0} (bytes_of : V → List ℕ) (kind named : Kind) (i : ℕ) (bytes rest : List ℕ) (o : Option V) → Names kind bytes named rest
-    → IfSome o (λ b. IsStructureOfNamed named i rest (bytes_of b)) → IfSome o (λ b. IsStructure kind i bytes (bytes_of b))
-found_of_kind bytes_of kind named i bytes rest None names over = tt
-found_of_kind bytes_of kind named i bytes rest (Some b) names over = of_kind kind named i bytes rest (bytes_of b) names over
+    {V : Type 0} (bytes_of : V → List ℕ) (kind named : Kind) (aad : List ℕ) (i : ℕ) (bytes rest : List ℕ) (o : Option V) → Names kind bytes named rest
+    → IfSome o (λ b. IsStructureOfNamed named aad i rest (bytes_of b)) → IfSome o (λ b. IsStructure kind aad i bytes (bytes_of b))
+found_of_kind bytes_of kind named aad i bytes rest None names over = tt
+found_of_kind bytes_of kind named aad i bytes rest (Some b) names over = of_kind kind named aad i bytes rest (bytes_of b) names over

@@ -1,5 +1,5 @@
 -- What a signature or a MAC of a message is over, and what goes with a ciphertext (RFC 8152, sections 4.4, 5.3 and 6.3).
-use Rattle.std.specs.Prelude.{◌≡◌, ℕ, List, [], ◌++◌, Option, Some, true, false, option_and_then}
+use Rattle.std.specs.Prelude.{◌≡◌, ℕ, List, ◌++◌, Option, Some, true, false, option_and_then}
 use Rattle.std.specs.List.{slice_get}
 use Rattle.coset.specs.Answers.{Describes}
 use Rattle.coset.specs.Encrypt.{encrypt, encrypt_structure_of}
@@ -25,26 +25,26 @@ abbrev pub IsOver : {A : Type 0} → Shape A → (A → Option Item) → List �
 IsOver {A} shape structure bytes t = (x : A) × Describes shape bytes x × (v : Item) × (structure x ≡ Some v) × IsShortest t v
 
 -- t is what the message is signed, authenticated or encrypted with, of a kind that is named; of several signatures that of the index.
--- `external_aad` is empty
-abbrev pub IsStructureOfNamed : Kind → ℕ → List ℕ → List ℕ → Type 0
-IsStructureOfNamed kinds.Sign1 i bytes t = IsOver (perhaps_tagged 18 sign1) (λ m. over_payload (sign1_structure m []) m.payload) bytes t
-IsStructureOfNamed kinds.Sign i bytes t =
-    IsOver (perhaps_tagged 98 sign) (λ m. option_and_then (λ s. over_payload (signer_structure m s []) m.payload) (slice_get m.signatures i)) bytes t
-IsStructureOfNamed kinds.Mac i bytes t = IsOver (perhaps_tagged 97 mac) (λ m. over_payload (mac_structure_of m []) m.payload) bytes t
-IsStructureOfNamed kinds.Mac0 i bytes t = IsOver (perhaps_tagged 17 mac0) (λ m. over_payload (mac0_structure m []) m.payload) bytes t
-IsStructureOfNamed kinds.Encrypt i bytes t = IsOver (perhaps_tagged 96 encrypt) (λ m. encrypt_structure_of m []) bytes t
-IsStructureOfNamed kinds.Encrypt0 i bytes t = IsOver (perhaps_tagged 16 encrypt0) (λ m. encrypt0_structure m []) bytes t
-IsStructureOfNamed k i bytes t = ⊥
+-- aad is `external_aad`
+abbrev pub IsStructureOfNamed : Kind → List ℕ → ℕ → List ℕ → List ℕ → Type 0
+IsStructureOfNamed kinds.Sign1 aad i bytes t = IsOver (perhaps_tagged 18 sign1) (λ m. over_payload (sign1_structure m aad) m.payload) bytes t
+IsStructureOfNamed kinds.Sign aad i bytes t =
+    IsOver (perhaps_tagged 98 sign) (λ m. option_and_then (λ s. over_payload (signer_structure m s aad) m.payload) (slice_get m.signatures i)) bytes t
+IsStructureOfNamed kinds.Mac aad i bytes t = IsOver (perhaps_tagged 97 mac) (λ m. over_payload (mac_structure_of m aad) m.payload) bytes t
+IsStructureOfNamed kinds.Mac0 aad i bytes t = IsOver (perhaps_tagged 17 mac0) (λ m. over_payload (mac0_structure m aad) m.payload) bytes t
+IsStructureOfNamed kinds.Encrypt aad i bytes t = IsOver (perhaps_tagged 96 encrypt) (λ m. encrypt_structure_of m aad) bytes t
+IsStructureOfNamed kinds.Encrypt0 aad i bytes t = IsOver (perhaps_tagged 16 encrypt0) (λ m. encrypt0_structure m aad) bytes t
+IsStructureOfNamed k aad i bytes t = ⊥
 
 -- of some kind, over all of the bytes or what follows some of them
-pub record IsStructureOfSome (i : ℕ) (bytes t : List ℕ) : Type 0 where
+pub record IsStructureOfSome (aad : List ℕ) (i : ℕ) (bytes t : List ℕ) : Type 0 where
   pub kind : Kind
   pub front : List ℕ
   pub rest : List ℕ
   pub parts : bytes ≡ front ++ rest
-  pub over : IsStructureOfNamed kind i rest t
+  pub over : IsStructureOfNamed kind aad i rest t
 
 -- of any kind; of one whose tag says what it is, it isn't said here which that is
-pub record IsStructure (kind : Kind) (i : ℕ) (bytes t : List ℕ) : Type 0 where
-  pub by_tag : is_by_tag kind ≡ true → IsStructureOfSome i bytes t
-  pub named : is_by_tag kind ≡ false → IsStructureOfNamed kind i bytes t
+pub record IsStructure (kind : Kind) (aad : List ℕ) (i : ℕ) (bytes t : List ℕ) : Type 0 where
+  pub by_tag : is_by_tag kind ≡ true → IsStructureOfSome aad i bytes t
+  pub named : is_by_tag kind ≡ false → IsStructureOfNamed kind aad i bytes t

@@ -10,8 +10,10 @@ use crate::faults::Fault;
 use crate::hunt::Hunt;
 use crate::kind::Kind;
 use crate::paths::{path, steps};
+use crate::refusal;
 use crate::walk::Walk;
 use coset::CoseError;
+use coset::cbor::de::Pull;
 use coset_fault::{Step, fault_at};
 use std::alloc::{AllocError, Global};
 
@@ -48,39 +50,6 @@ pub struct Place {
     pub path: String,
 }
 
-/// What is said of a fault.
-fn fault_text(fault: Fault) -> &'static str {
-    match fault {
-        Fault::Ends => "the bytes end, or more is announced than is left",
-        Fault::Malformed => "not well-formed",
-        Fault::Simple => "a simple value other than false, true and null",
-        Fault::Levels => "more than 256 levels of arrays, maps and tags",
-        Fault::Layers => "more than 16 protected headers inside one another",
-        Fault::Extraneous => "bytes behind the item",
-        Fault::Shape => "not as its place asks",
-    }
-}
-
-/// Adds to the note of the next line that the input was refused, and where.
-fn push_refusal(
-    note: &mut String,
-    error: Option<&CoseError>,
-    fault: Option<(usize, Fault)>,
-    path: &str,
-) -> Result<(), AllocError> {
-    match (fault, error) {
-        (Some((offset, Fault::Shape)), Some(error)) => {
-            write!(note, "refused at offset {offset}, {path}: {error}")
-        }
-        (Some((offset, fault)), _) => {
-            let text = fault_text(fault);
-            write!(note, "refused at offset {offset}, {path}: {text}")
-        }
-        (None, Some(error)) => write!(note, "refused: {error}"),
-        (None, None) => Ok(()),
-    }
-}
-
 /// The lines, where the walk ended, and behind them that the input was refused, if it was.
 fn lines_of<'a>(
     mut so_far: Column<'a>,
@@ -95,12 +64,25 @@ fn lines_of<'a>(
     if fault.is_none() && error.is_none() {
         return so_far.finish();
     }
-    push_refusal(&mut so_far.note, error, fault, path)?;
+    refusal::push(&mut so_far.note, error, fault, path)?;
+    so_far.is_refused = true;
     so_far.end_with_rest()
 }
 
-/// The walk over bytes that should be of that kind, to its end: a fault, or that of the input.
-fn walked<'a, 'e>(
+/// The walk to its end: a fault, or that of the input.
+fn walked<'a, 'e>(alloc: Global, mut walk: Walk<'a, 'e>) -> Result<Walk<'a, 'e>, AllocError>
+    ensures whole { IfOk result (λ w. whole w.column ≡ whole walk.entry.column) }
+    ensures lines { IfOk result (λ w. shown w.column
+        ≤ shown walk.entry.column + (2 * length walk.entry.bytes.now + 2)) }
+{
+    let count = walk.bytes.len();
+    walk.run(alloc, count)?;
+    walk.end_line(alloc)?;
+    Ok(walk)
+}
+
+/// The walk over bytes that should be of that kind, to its end.
+fn walk_to_fault<'a, 'e>(
     alloc: Global,
     kind: Kind,
     bytes: &'a [u8],
@@ -111,10 +93,54 @@ fn walked<'a, 'e>(
     ensures lines { IfOk result (λ w. shown w.column ≤ 2 * length bytes.now + 2) }
 {
     let hunt = Hunt::of(alloc, error);
-    let mut walk = Walk::new(alloc, bytes, kind.role(), hunt, now)?;
-    walk.run(alloc, bytes.len())?;
-    walk.end_line(alloc)?;
-    Ok(walk)
+    walked(alloc, Walk::new(alloc, bytes, kind.role(), hunt, now)?)
+}
+
+/// The same, with what byte strings hold opened, and on behind faults where that can be.
+fn walk_through<'a, 'e>(
+    alloc: Global,
+    kind: Kind,
+    bytes: &'a [u8],
+    error: Option<&'e CoseError>,
+    keys: &'e [Option<CoseError>],
+    now: Option<i64>,
+) -> Result<Walk<'a, 'e>, AllocError>
+    ensures whole { IfOk result (λ w. whole w.column ≡ bytes.now) }
+    ensures lines { IfOk result (λ w. shown w.column ≤ 2 * length bytes.now + 2) }
+{
+    let hunt = Hunt::of(alloc, error);
+    walked(
+        alloc,
+        Walk::through(alloc, bytes, kind.role(), hunt, keys, now)?,
+    )
+}
+
+/// Why each of the keys of a set is none, where it isn't; nothing of what is no set, or not one item.
+fn key_errors(
+    alloc: Global,
+    kind: Kind,
+    bytes: &[u8],
+) -> Result<Vec<Option<CoseError>>, AllocError> {
+    let mut errors = Vec::new(alloc);
+    if kind != Kind::Keyset {
+        return Ok(errors);
+    }
+    let Ok((pull, rest)) = Pull::new(bytes) else {
+        return Ok(errors);
+    };
+    if !rest.is_empty() {
+        return Ok(errors);
+    }
+    if let Some(keys) = pull.items() {
+        for key in keys {
+            let error = Kind::Key.refusal(alloc, key.slice());
+            if matches!(error, Some(CoseError::OutOfMemory)) {
+                return Err(AllocError);
+            }
+            errors.push(error)?;
+        }
+    }
+    Ok(errors)
 }
 
 /// The place at which the walk ended, where what the error names is there.
@@ -172,7 +198,7 @@ pub fn explain<'a>(
     if matches!(error, Some(CoseError::OutOfMemory)) {
         return Err(AllocError);
     }
-    let walk = walked(alloc, kind, bytes, error.as_ref(), now)?;
+    let walk = walk_to_fault(alloc, kind, bytes, error.as_ref(), now)?;
     let left = walk.column.left();
     let fault = match walk.fault {
         Some(fault) => Some((bytes.len().saturating_sub(left), fault)),
@@ -180,6 +206,54 @@ pub fn explain<'a>(
     };
     let path = path(alloc, bytes, &walk.open, left)?;
     let lines = lines_of(walk.column, error.as_ref(), fault, path.as_str())?;
+    Ok(Explained {
+        lines,
+        error,
+        fault,
+    })
+}
+
+/// Takes all of the bytes apart as something of that kind, as [`explain`] does, and further: byte strings are opened that hold
+/// a message or claims; a key of a set that is at fault is shown up to its fault, and the keys behind it are too; and a
+/// simple value other than false, true and null is shown, and what is behind it. Each fault has its place in its note, and
+/// `fault` is the first.
+///
+/// # Errors
+/// `AllocError` alone.
+pub fn explain_whole<'a>(
+    alloc: Global,
+    kind: Kind,
+    bytes: &'a [u8],
+    now: Option<i64>,
+) -> Result<Explained<'a>, AllocError>
+    // The bytes of the lines are the input.
+    ensures column { IfOk result (λ e. column e.lines.items ≡ bytes.now) }
+    // There are no more than two lines for each byte, and three.
+    ensures lines { IfOk result (λ e. length e.lines.items ≤ 2 * length bytes.now + 3) }
+    // The error is what the library's reading says.
+    ensures error { IfOk result (λ e. JudgesAs kind bytes.now e.error) }
+{
+    let error = kind.refusal(alloc, bytes);
+    if matches!(error, Some(CoseError::OutOfMemory)) {
+        return Err(AllocError);
+    }
+    let keys = key_errors(alloc, kind, bytes)?;
+    let walk = walk_through(alloc, kind, bytes, error.as_ref(), &keys, now)?;
+    let left = walk.column.left();
+    let offset = bytes.len().saturating_sub(left);
+    let last = match walk.fault {
+        Some(fault) => Some((offset, fault)),
+        None => None,
+    };
+    let path = path(alloc, bytes, &walk.open, left)?;
+    let fault = walk.first.or(last);
+    // Faults that were passed have been noted.
+    let unsaid = if walk.first.is_some() {
+        None
+    } else {
+        error.as_ref()
+    };
+    let lines = lines_of(walk.column, unsaid, last, path.as_str())?;
     Ok(Explained {
         lines,
         error,
@@ -212,7 +286,7 @@ pub fn fault(alloc: Global, kind: Kind, bytes: &[u8]) -> Result<Option<Refusal>,
     if matches!(error, CoseError::OutOfMemory) {
         return Err(AllocError);
     }
-    let walk = walked(alloc, kind, bytes, Some(&error), None)?;
+    let walk = walk_to_fault(alloc, kind, bytes, Some(&error), None)?;
     let place = place_of(alloc, bytes, &error, &walk)?;
     Ok(Some(Refusal { error, place }))
 }

@@ -3,6 +3,7 @@
 ghost use Rattle.std.specs.Prelude.{◌≡◌, ◌≤◌, ◌+◌, IfOk, OnOk, length};
 ghost use Rattle.coset_explain.specs.Column.{EndsAt, column, place, shown, whole};
 
+use crate::cover::Cover;
 use std::alloc::{AllocError, Global};
 use std::mem;
 
@@ -18,6 +19,8 @@ pub struct Line<'a> {
     pub text: String,
     /// What there is to say of them; it may be empty.
     pub note: String,
+    /// What a signature, a MAC or a ciphertext has to do with them, or that they were refused.
+    pub cover: Cover,
 }
 
 /// The lines so far, what is known of the next one, and the bytes that no line has shown.
@@ -31,6 +34,10 @@ pub(crate) struct Column<'a> {
     pub(crate) text: String,
     /// The note of the next line.
     pub(crate) note: String,
+    /// The cover of the next line.
+    pub(crate) cover: Cover,
+    /// Whether what the next line shows was refused.
+    pub(crate) is_refused: bool,
 }
 
 impl<'a> Column<'a> {
@@ -45,6 +52,17 @@ impl<'a> Column<'a> {
             held: 0,
             text: String::new(alloc),
             note: String::new(alloc),
+            cover: Cover::Plain,
+            is_refused: false,
+        }
+    }
+
+    /// The cover of the next line, or that it was refused.
+    fn shown_cover(&self) -> Cover {
+        if self.is_refused {
+            Cover::Refused
+        } else {
+            self.cover
         }
     }
 
@@ -80,14 +98,17 @@ impl<'a> Column<'a> {
         let (bytes, rest) = all.split_at(self.held.min(all.len()));
         let text = mem::replace(&mut self.text, String::new(alloc));
         let note = mem::replace(&mut self.note, String::new(alloc));
+        let cover = self.shown_cover();
         self.lines.push(Line {
             bytes,
             depth,
             text,
             note,
+            cover,
         })?;
         self.rest = rest;
         self.held = 0;
+        self.is_refused = false;
         Ok(())
     }
 
@@ -107,18 +128,22 @@ impl<'a> Column<'a> {
         ensures lines { IfOk result (λ lines. length lines.items ≤ shown self.entry + 1) }
         ensures ends { IfOk result (λ lines. EndsAt (place self.entry) lines.items) }
     {
+        let cover = self.shown_cover();
         let Column {
             mut lines,
             rest,
             held: _,
             text,
             note,
+            cover: _,
+            is_refused: _,
         } = self;
         lines.push(Line {
             bytes: rest,
             depth: 0,
             text,
             note,
+            cover,
         })?;
         Ok(lines)
     }

@@ -1,5 +1,6 @@
 //! What is open at a place: arrays, maps, tags, strings in chunks, and byte strings whose content is shown.
 
+use crate::cover::{Cover, of_next};
 use crate::faults::Fault;
 use crate::head::{argument, integer};
 use crate::role::{Part, Role, label_of, place, value_of};
@@ -53,11 +54,15 @@ pub(crate) struct Frame {
     pub(crate) levels: u32,
     /// How many protected headers may still be inside one another.
     pub(crate) layers: u32,
+    /// How many byte strings inside one another may still be opened for what they hold.
+    pub(crate) openings: u32,
+    /// What a signature, a MAC or a ciphertext has to do with it.
+    pub(crate) cover: Cover,
 }
 
 impl Frame {
-    /// The whole input.
-    pub(crate) fn input(role: Role) -> Frame {
+    /// The whole input, in which so many byte strings inside one another are opened for what they hold.
+    pub(crate) fn input(role: Role, openings: u32) -> Frame {
         Frame {
             container: Container::Input,
             role,
@@ -72,6 +77,8 @@ impl Frame {
             behind: 0,
             levels: LEVELS,
             layers: LAYERS,
+            openings,
+            cover: Cover::Plain,
         }
     }
 
@@ -98,6 +105,8 @@ impl Frame {
             behind: self.behind,
             levels: self.levels.saturating_sub(1),
             layers: self.layers,
+            openings: self.openings,
+            cover: of_next(self),
         }
     }
 
@@ -108,7 +117,7 @@ impl Frame {
     }
 
     /// The content of a byte string in this one, which so many bytes follow.
-    pub(crate) fn embedded(&self, part: Part, behind: usize, layers: u32, width: u8) -> Frame {
+    fn embedded(&self, part: Part, behind: usize, width: u8) -> Frame {
         Frame {
             container: Container::Embedded,
             role: part.role,
@@ -122,8 +131,34 @@ impl Frame {
             width,
             behind: self.behind.saturating_add(behind),
             levels: LEVELS,
-            layers,
+            layers: self.layers,
+            openings: self.openings,
+            cover: of_next(self),
         }
+    }
+
+    /// The content of a byte string in this one that is a protected header.
+    pub(crate) fn protected(&self, is_read: bool, behind: usize, width: u8) -> Frame {
+        let part = Part {
+            role: Role::Header(true),
+            name: "",
+            is_read,
+        };
+        let mut frame = self.embedded(part, behind, width);
+        frame.layers = frame.layers.saturating_sub(1);
+        frame
+    }
+
+    /// The content of a byte string in this one that is a message or claims.
+    pub(crate) fn held(&self, role: Role, behind: usize, width: u8) -> Frame {
+        let mut frame = self.embedded(Part::named(role, ""), behind, width);
+        frame.openings = frame.openings.saturating_sub(1);
+        frame
+    }
+
+    /// Whether the next item is a key of a set of keys.
+    pub(crate) fn is_key_set(&self) -> bool {
+        self.role == Role::KeySet && self.container == Container::Array
     }
 
     /// Whether the next item is a key of a map.

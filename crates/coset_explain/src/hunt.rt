@@ -44,7 +44,7 @@ enum Sought {
 pub(crate) struct Hunt<'e> {
     sought: Sought,
     /// The error that names it.
-    error: Option<&'e CoseError>,
+    pub(crate) error: Option<&'e CoseError>,
     /// Labels by the map that they came in, each with its index there.
     labels: BTreeMap<String, usize>,
     /// Where a label was found that came already, the index at which it came first.

@@ -108,6 +108,28 @@ impl Kind {
         }
     }
 
+    /// The name of the kind.
+    pub fn name(self) -> &'static str
+        ensures { result.now ≡ kind_name self }
+    {
+        match self {
+            Kind::Auto => "auto",
+            Kind::Cwt => "cwt",
+            Kind::Value => "value",
+            Kind::Sign1 => "sign1",
+            Kind::Sign => "sign",
+            Kind::Mac => "mac",
+            Kind::Mac0 => "mac0",
+            Kind::Encrypt => "encrypt",
+            Kind::Encrypt0 => "encrypt0",
+            Kind::Countersignature => "countersignature",
+            Kind::Key => "key",
+            Kind::Keyset => "keyset",
+            Kind::Claims => "claims",
+            Kind::Kdf => "kdf",
+        }
+    }
+
     /// The kind that the tag at the front says (RFC 8152, table 1).
     fn by_tag(bytes: &[u8]) -> Kind {
         let Ok((head, _)) = read_head(bytes) else {

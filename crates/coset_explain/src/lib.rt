@@ -4,9 +4,11 @@
 
 mod apart;
 mod column;
+mod cover;
 mod date;
 mod faults;
 mod frame;
+mod guess;
 mod head;
 mod hunt;
 mod kind;
@@ -15,15 +17,18 @@ mod note;
 mod opening;
 mod paths;
 mod print;
+mod refusal;
 mod role;
 mod structures;
 mod text;
 mod walk;
 
-pub use apart::{Explained, Place, Refusal, explain, fault};
+pub use apart::{Explained, Place, Refusal, explain, explain_whole, fault};
 pub use column::Line;
 pub use coset_fault::Step;
+pub use cover::Cover;
 pub use faults::Fault;
+pub use guess::fitting;
 pub use kind::Kind;
-pub use print::{annotated, notation};
-pub use structures::{annotated_structures, structure};
+pub use print::{annotated, colored, notation};
+pub use structures::{annotated_structures, structure, structure_notes};

@@ -1,9 +1,10 @@
 //! What there is to say of an item, by its head.
 
+use crate::cover::of_element;
 use crate::date::{has_date, push_date};
-use crate::frame::{Container, Frame};
+use crate::frame::Frame;
 use crate::head::{argument, integer, is_shortest};
-use crate::role::{Message, Part, Role, is_private, is_registered, name_of, title};
+use crate::role::{Part, Role, is_private, is_registered, name_of, title};
 use crate::text::is_nan;
 use coset::cbor::head::{Head, MajorType};
 use std::alloc::AllocError;
@@ -80,21 +81,11 @@ fn unprotected(frame: &Frame, role: Role) -> &'static str {
     }
 }
 
-/// Whether a signature or a MAC is over an element of a message, or it goes with the ciphertext, by its place: protected
-/// header, unprotected header, payload (RFC 8152, sections 4.4, 5.3 and 6.3); it may be empty.
+/// Whether a signature or a MAC is over an element of a message, or it goes with the ciphertext; it may be empty.
 fn coverage(frame: &Frame) -> &'static str {
-    if frame.container != Container::Array {
-        return "";
-    }
-    match (frame.role, frame.index) {
-        (Role::Message(Message::Sign1 | Message::Sign, _), 0 | 2) | (Role::Signature, 0) => {
-            "signed"
-        }
-        (Role::Message(Message::Sign1 | Message::Sign, _) | Role::Signature, 1) => "not signed",
-        (Role::Message(Message::Mac0 | Message::Mac, _), 0 | 2) => "authenticated",
-        (Role::Message(Message::Encrypt0 | Message::Encrypt, _), 0) => "authenticated",
-        (Role::Message(_, _) | Role::Recipient, 1) => "not authenticated",
-        _ => "",
+    match of_element(frame) {
+        Some(cover) => cover.text(),
+        None => "",
     }
 }
 
@@ -114,6 +105,15 @@ fn add_bits(notes: &mut Notes<'_>, head: &Head) -> Result<(), AllocError> {
     notes.begin()?;
     let number = argument(head);
     write!(notes.text, "bits 0x{number:x}")
+}
+
+/// Adds that it is a certificate, and how long, where that is announced.
+fn add_certificate(notes: &mut Notes<'_>, head: &Head) -> Result<(), AllocError> {
+    notes.add("certificate")?;
+    match head.number() {
+        Some(length) => write!(notes.text, ", {length} bytes"),
+        None => Ok(()),
+    }
 }
 
 /// Adds what there is to say of the item with this head, which is for that.
@@ -143,8 +143,14 @@ pub(crate) fn push(
     if head.major_type == MajorType::Array || head.major_type == MajorType::Map {
         notes.add(title(part.role))?;
     }
+    if part.role == Role::Submodule && head.major_type == MajorType::Map {
+        notes.add(title(Role::Claims))?;
+    }
     if part.role == Role::Protected && head.major_type == MajorType::Bytes && head.is_indefinite() {
         notes.add("in chunks, and not opened")?;
+    }
+    if part.role == Role::Certificates && head.major_type == MajorType::Bytes {
+        add_certificate(&mut notes, head)?;
     }
     add_bits(&mut notes, head)?;
     if !head.is_float() && !is_shortest(head) {

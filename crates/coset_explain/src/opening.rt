@@ -1,13 +1,15 @@
 //! What items with parts open, and what opens them in diagnostic notation.
 
 use crate::frame::{Container, Frame, begins_break, content};
-use crate::head::{argument, behind};
+use crate::head::{argument, behind, tag};
+use crate::kind::Kind;
 use crate::role::{Part, Role, under_tag};
 use crate::text::{told_width, width_mark};
+use coset::CoseError;
 use coset::cbor::de::Pull;
-use coset::cbor::head::{Head, MajorType};
+use coset::cbor::head::{Head, MajorType, read_head};
 use coset::cbor::value::Integer;
-use std::alloc::AllocError;
+use std::alloc::{AllocError, Global};
 
 /// How many items a map of this many pairs holds.
 fn items(pairs: Option<u64>) -> Option<u64> {
@@ -18,19 +20,20 @@ fn items(pairs: Option<u64>) -> Option<u64> {
 }
 
 /// What an item with this part and this head is for, where these bytes follow: countersignatures that begin with a byte string
-/// are one.
+/// are one, and a submodule that is a map is claims.
 pub(crate) fn opened_part(part: Part, head: &Head, rest: &[u8]) -> Part {
-    let has_first = head.major_type == MajorType::Array && head.number() != Some(0);
-    if part.role != Role::Countersignatures || !has_first {
-        return part;
-    }
-    match rest.first() {
-        Some(first) if *first / 32 == 2 => Part {
-            role: Role::Signature,
-            name: part.name,
-            is_read: part.is_read,
-        },
-        _ => part,
+    let is_one = head.major_type == MajorType::Array
+        && head.number() != Some(0)
+        && matches!(rest.first(), Some(first) if *first / 32 == 2);
+    let role = match part.role {
+        Role::Countersignatures if is_one => Role::Signature,
+        Role::Submodule if head.major_type == MajorType::Map => Role::Claims,
+        role => role,
+    };
+    Part {
+        role,
+        name: part.name,
+        is_read: part.is_read,
     }
 }
 
@@ -55,26 +58,31 @@ fn opened_map(opened: Frame, bytes: &[u8]) -> Frame {
 }
 
 /// What the item with this head, which is at the front of these bytes, opens; `None` where it has no parts to show. The
-/// content of a protected byte string is opened where it is one item, or what is sought is in it.
+/// content of a protected byte string is opened where it is one item, or what is sought is in it; that of another where it
+/// is a message or claims.
+///
+/// # Errors
+/// `AllocError` alone.
 pub(crate) fn opening(
+    alloc: Global,
     frame: &Frame,
     part: Part,
     head: &Head,
     bytes: &[u8],
     is_sought: bool,
-) -> Option<Frame> {
+) -> Result<Option<Frame>, AllocError> {
     let rest = behind(head, bytes);
+    if head.major_type == MajorType::Bytes && !head.is_indefinite() {
+        return embedding(alloc, frame, part, head, rest, is_sought);
+    }
     let announced = head.number();
-    match head.major_type {
+    Ok(match head.major_type {
         MajorType::Array if announced != Some(0) => {
-            Some(frame.nested(
-                Container::Array,
-                opened_part(part, head, rest),
-                announced,
-                rest.len(),
-            ))
+            let part = opened_part(part, head, rest);
+            Some(frame.nested(Container::Array, part, announced, rest.len()))
         }
         MajorType::Map if announced != Some(0) => {
+            let part = opened_part(part, head, rest);
             let opened = frame.nested(Container::Map, part, items(announced), rest.len());
             Some(opened_map(opened, bytes))
         }
@@ -90,40 +98,86 @@ pub(crate) fn opening(
             let part = Part::named(Role::Plain, "");
             Some(frame.nested(Container::Chunks(head.major_type), part, None, 0))
         }
-        MajorType::Bytes => embedding(frame, part, head, rest, is_sought),
         _ => None,
-    }
+    })
 }
 
-/// What the content of a byte string is, where it is shown: a protected header, or the claims of a token.
+/// What the content of a byte string is, where it is shown: a protected header, a message, or claims.
 fn embedding(
+    alloc: Global,
     frame: &Frame,
     part: Part,
     head: &Head,
     rest: &[u8],
     is_sought: bool,
-) -> Option<Frame> {
+) -> Result<Option<Frame>, AllocError> {
     let content = content(head, rest);
-    let behind = rest.len().saturating_sub(content.len());
-    match part.role {
-        Role::Protected if 0 < frame.layers && (is_sought || is_item(content)) => {
-            let part = Part {
-                role: Role::Header(true),
-                name: "",
-                is_read: part.is_read,
-            };
-            Some(frame.embedded(
-                part,
-                behind,
-                frame.layers.saturating_sub(1),
-                told_width(head),
-            ))
-        }
-        Role::Payload(true) if is_item(content) => {
-            let part = Part::named(Role::Claims, "");
-            Some(frame.embedded(part, behind, frame.layers, told_width(head)))
-        }
-        _ => None,
+    let (behind, width) = (rest.len().saturating_sub(content.len()), told_width(head));
+    if part.role == Role::Protected {
+        let is_shown = 0 < frame.layers && (is_sought || is_item(content));
+        return Ok(if is_shown {
+            Some(frame.protected(part.is_read, behind, width))
+        } else {
+            None
+        });
+    }
+    if frame.openings == 0 {
+        return Ok(None);
+    }
+    Ok(match held(alloc, part.role, content)? {
+        Some(role) => Some(frame.held(role, behind, width)),
+        None => None,
+    })
+}
+
+/// What the content of a byte string with this role is, where that is a message, a token, or claims.
+fn held(alloc: Global, role: Role, content: &[u8]) -> Result<Option<Role>, AllocError> {
+    if role == Role::Plain {
+        return Ok(None);
+    }
+    let is_token = matches!(role, Role::Payload(true) | Role::Submodule);
+    if begins_with_message(content) {
+        return Ok(match is_of(alloc, Kind::Auto, content)? {
+            true if is_token => Some(Role::Token),
+            true => Some(Role::Any),
+            false => None,
+        });
+    }
+    let is_claims = match role {
+        Role::Payload(true) => is_item(content),
+        Role::Payload(false) | Role::Submodule => holds_claims(alloc, content)?,
+        _ => false,
+    };
+    Ok(if is_claims { Some(Role::Claims) } else { None })
+}
+
+/// Whether the tag of a message or a token is at the front (RFC 8152, table 1; RFC 8392, section 6).
+fn begins_with_message(bytes: &[u8]) -> bool {
+    match read_head(bytes) {
+        Ok((head, _)) => matches!(tag(&head), Some(16 | 17 | 18 | 61 | 96 | 97 | 98)),
+        Err(_) => false,
+    }
+}
+
+/// Whether the library reads the bytes as something of that kind.
+fn is_of(alloc: Global, kind: Kind, bytes: &[u8]) -> Result<bool, AllocError> {
+    match kind.refusal(alloc, bytes) {
+        None => Ok(true),
+        Some(CoseError::OutOfMemory) => Err(AllocError),
+        Some(_) => Ok(false),
+    }
+}
+
+/// Whether the bytes are claims, at least one, of which some may be without a registered name.
+fn holds_claims(alloc: Global, bytes: &[u8]) -> Result<bool, AllocError> {
+    match bytes.first() {
+        Some(first) if *first / 32 == 5 && *first != 0xa0 => {}
+        _ => return Ok(false),
+    }
+    match Kind::Claims.refusal(alloc, bytes) {
+        None | Some(CoseError::UnregisteredIanaNonPrivateValue) => Ok(true),
+        Some(CoseError::OutOfMemory) => Err(AllocError),
+        Some(_) => Ok(false),
     }
 }
 

@@ -1,6 +1,7 @@
 //! Lines as a text.
 
 use crate::column::Line;
+use crate::cover::Cover;
 use std::alloc::{AllocError, Global};
 
 /// How many bytes are in a row.
@@ -48,17 +49,42 @@ fn push_bytes(alloc: Global, text: &mut String, bytes: &[u8]) -> Result<(), Allo
     write!(text, "{digits:32}")
 }
 
-/// Adds the line: its bytes in rows, and beside the first one its text and its note.
-fn push_line(alloc: Global, text: &mut String, line: &Line<'_>) -> Result<(), AllocError> {
+/// What has a terminal show text in the colour of the cover: green what is signed or authenticated, yellow the headers that
+/// aren't, cyan signatures, MACs and ciphertexts, red what was refused; it may be empty.
+fn color(cover: Cover) -> &'static str {
+    match cover {
+        Cover::Plain => "",
+        Cover::Signed | Cover::Authenticated => "\u{1b}[32m",
+        Cover::NotSigned | Cover::NotAuthenticated => "\u{1b}[33m",
+        Cover::Seal => "\u{1b}[36m",
+        Cover::Refused => "\u{1b}[1;31m",
+    }
+}
+
+/// What ends a colour.
+const END: &str = "\u{1b}[0m";
+
+/// Adds the line between these: its bytes in rows, and beside the first one its text and its note.
+fn push_line(
+    alloc: Global,
+    text: &mut String,
+    line: &Line<'_>,
+    begin: &str,
+    end: &str,
+) -> Result<(), AllocError> {
     let (first, others) = line.bytes.split_at(line.bytes.len().min(BYTES));
+    text.push_str(begin)?;
     push_bytes(alloc, text, first)?;
     text.push_str("  ")?;
     push_indentation(text, line.depth)?;
     text.push_str(line.text.as_str())?;
     push_note(text, line.note.as_str())?;
+    text.push_str(end)?;
     text.push('\n')?;
     for row in others.chunks(BYTES) {
+        text.push_str(begin)?;
         text.push_str(hex::encode(alloc, row)?.as_str())?;
+        text.push_str(end)?;
         text.push('\n')?;
     }
     Ok(())
@@ -71,7 +97,21 @@ fn push_line(alloc: Global, text: &mut String, line: &Line<'_>) -> Result<(), Al
 pub fn annotated(alloc: Global, lines: &[Line<'_>]) -> Result<String, AllocError> {
     let mut text = String::new(alloc);
     for line in lines {
-        push_line(alloc, &mut text, line)?;
+        push_line(alloc, &mut text, line, "", "")?;
+    }
+    Ok(text)
+}
+
+/// The same for a terminal, in colours of what signatures, MACs and ciphertexts have to do with each line.
+///
+/// # Errors
+/// `AllocError` alone.
+pub fn colored(alloc: Global, lines: &[Line<'_>]) -> Result<String, AllocError> {
+    let mut text = String::new(alloc);
+    for line in lines {
+        let begin = color(line.cover);
+        let end = if begin.is_empty() { "" } else { END };
+        push_line(alloc, &mut text, line, begin, end)?;
     }
     Ok(text)
 }

@@ -76,6 +76,11 @@ pub(crate) enum Role {
     KeyLabel(Option<i64>),
     ClaimName,
     ConfirmationLabel,
+    /// The submodules of an attestation token (RFC 9711, section 4.2.18), and one of them: claims, or a token.
+    Submodules,
+    Submodule,
+    /// A certificate, or an array of several (RFC 9360, section 2).
+    Certificates,
 }
 
 /// What a place of an array or a map is for.
@@ -175,6 +180,7 @@ pub(crate) fn place(role: Role, index: u64) -> Part {
         (Role::Labels, _) => Part::read(Role::CriticalLabel, ""),
         (Role::Operations, _) => Part::read(Role::Operation, ""),
         (Role::KeySet, _) => Part::read(Role::Key, ""),
+        (Role::Certificates, _) => Part::named(Role::Certificates, ""),
         (Role::Plain, _) => Part::named(Role::Plain, ""),
         _ => Part::named(Role::Any, ""),
     }
@@ -203,6 +209,7 @@ fn header_value(label: i64) -> Part {
         12 => Part::read(Role::Bytes, ""),
         13 => Part::named(Role::Token, ""),
         14 | 15 => Part::named(Role::Claims, ""),
+        32 | 33 => Part::named(Role::Certificates, ""),
         -1 | -2 => Part::named(Role::Key, ""),
         _ => Part::named(Role::Any, ""),
     }
@@ -232,12 +239,16 @@ fn claim_value(name: i64) -> Part {
         6 => Part::read(Role::Time, ""),
         7 => Part::read(Role::Bytes, ""),
         8 => Part::named(Role::Confirmation, ""),
+        266 => Part::named(Role::Submodules, ""),
         _ => Part::named(Role::Any, ""),
     }
 }
 
 /// The value of a label of a map with this role; without a label, of one that is no number.
 pub(crate) fn value_of(role: Role, label: Option<i64>, key_type: Option<i64>) -> Part {
+    if role == Role::Submodules {
+        return Part::named(Role::Submodule, "");
+    }
     let Some(label) = label else {
         return label_of(role, None).without_names();
     };

@@ -5,20 +5,32 @@ ghost use Rattle.std.specs.Prelude.{◌≡◌, ◌≤◌, ◌+◌, ◌*◌, IfOk
 ghost use Rattle.coset_explain.specs.Column.{whole, shown};
 
 use crate::column::Column;
+use crate::cover::of_next;
 use crate::faults::Fault;
 use crate::frame::{Container, Frame, content};
 use crate::head::head_fault;
 use crate::hunt::Hunt;
-use crate::note;
 use crate::opening::{opened_part, opening, push_opening};
+use crate::paths::path;
 use crate::role::Role;
 use crate::text::{push_leaf, width_mark};
+use crate::{note, refusal};
+use coset::CoseError;
+use coset::cbor::de::Pull;
 use coset::cbor::head::{Head, read_head};
 use std::alloc::{AllocError, Global};
+
+/// How many are open of which a key of a set is the next item: the input and the set.
+const KEYS: usize = 2;
+
+/// How many byte strings inside one another are opened for the messages and claims that they hold.
+const OPENINGS: u32 = 16;
 
 /// A place in the walk.
 #[derive(Drop)]
 pub(crate) struct Walk<'a, 'e> {
+    /// All of the input.
+    pub(crate) bytes: &'a [u8],
     pub(crate) column: Column<'a>,
     /// What is open, from the input on; where the walk ended for a fault, the last is where that is.
     pub(crate) open: Vec<Frame>,
@@ -28,6 +40,16 @@ pub(crate) struct Walk<'a, 'e> {
     now: Option<i64>,
     /// What is at fault at the place, where the walk ended for that.
     pub(crate) fault: Option<Fault>,
+    /// Whether it goes on behind faults where that can be.
+    goes_on: bool,
+    /// Where the first fault is that it went on behind, and which it is.
+    pub(crate) first: Option<(usize, Fault)>,
+    /// Why each key of a set is none, where it isn't.
+    keys: &'e [Option<CoseError>],
+    /// How many bytes of the input are behind the key that was begun last.
+    behind_key: usize,
+    /// Whether what is left of that key comes next.
+    skips_key: bool,
 }
 
 /// The bytes from the place on that what is open may still take.
@@ -48,15 +70,52 @@ impl<'a, 'e> Walk<'a, 'e> {
     ) -> Result<Walk<'a, 'e>, AllocError>
         ensures whole { IfOk result (λ w. whole w.column ≡ bytes.now) }
         ensures lines { IfOk result (λ w. shown w.column ≡ 0) }
+        ensures bytes { IfOk result (λ w. w.bytes.now ≡ bytes.now) }
     {
         let mut open = Vec::new(alloc);
-        open.push(Frame::input(role))?;
+        open.push(Frame::input(role, 0))?;
         Ok(Walk {
+            bytes,
             column: Column::new(alloc, bytes),
             open,
             hunt,
             now,
             fault: None,
+            goes_on: false,
+            first: None,
+            keys: &[],
+            behind_key: 0,
+            skips_key: false,
+        })
+    }
+
+    /// The same, in a walk that opens what byte strings hold, and goes on behind faults; the keys of a set have these.
+    pub(crate) fn through(
+        alloc: Global,
+        bytes: &'a [u8],
+        role: Role,
+        hunt: Hunt<'e>,
+        keys: &'e [Option<CoseError>],
+        now: Option<i64>,
+    ) -> Result<Walk<'a, 'e>, AllocError>
+        ensures whole { IfOk result (λ w. whole w.column ≡ bytes.now) }
+        ensures lines { IfOk result (λ w. shown w.column ≡ 0) }
+        ensures bytes { IfOk result (λ w. w.bytes.now ≡ bytes.now) }
+    {
+        let mut open = Vec::new(alloc);
+        open.push(Frame::input(role, OPENINGS))?;
+        Ok(Walk {
+            bytes,
+            column: Column::new(alloc, bytes),
+            open,
+            hunt,
+            now,
+            fault: None,
+            goes_on: true,
+            first: None,
+            keys,
+            behind_key: 0,
+            skips_key: false,
         })
     }
 
@@ -68,6 +127,9 @@ impl<'a, 'e> Walk<'a, 'e> {
         ensures whole { OnOk result (whole self.new.column ≡ whole self.old.column) }
         ensures lines { OnOk result (shown self.new.column ≤ shown self.old.column + 1) }
     {
+        if self.skips_key {
+            return self.skip_key(alloc);
+        }
         let Some(frame) = self.open.pop() else {
             return Ok(false);
         };
@@ -107,6 +169,7 @@ impl<'a, 'e> Walk<'a, 'e> {
         }
         let depth = self.open.len().saturating_sub(1);
         let mark = self.mark_behind();
+        self.column.cover = frame.cover;
         self.column.text.push_str(frame.end())?;
         self.column.text.push_str(width_mark(frame.width))?;
         self.column.text.push_str(mark)?;
@@ -143,7 +206,20 @@ impl<'a, 'e> Walk<'a, 'e> {
         }
     }
 
-    /// Shows an item with this head at the front of these bytes, of which `rest` are behind the head.
+    /// Looks for the fault of the key of a set that is at the front of the bytes, as an element of this.
+    fn begin_key(&mut self, alloc: Global, frame: &Frame, bytes: &[u8])
+        ensures column { self.new.column ≡ self.old.column }
+    {
+        let Some(error) = self.keys.get(frame.place()) else {
+            return;
+        };
+        self.hunt = Hunt::of(alloc, error.as_ref());
+        if let Ok((_, rest)) = Pull::new(bytes) {
+            self.behind_key = frame.behind.saturating_add(rest.len());
+        }
+    }
+
+    /// Shows an item with this head at the front of these bytes, of which `rest` are behind the head, or its fault.
     fn item(
         &mut self,
         alloc: Global,
@@ -155,14 +231,114 @@ impl<'a, 'e> Walk<'a, 'e> {
         ensures whole { OnOk result (whole self.new.column ≡ whole self.old.column) }
         ensures lines { OnOk result (shown self.new.column ≤ shown self.old.column + 1) }
     {
-        if let Some(fault) = self.fault_of(alloc, &frame, head, bytes, rest)? {
-            return self.stop(frame, fault);
+        if frame.is_key_set() {
+            self.begin_key(alloc, &frame, bytes);
         }
+        match self.fault_of(alloc, &frame, head, bytes, rest)? {
+            None => self.show(alloc, frame, head, bytes, rest),
+            Some(Fault::Simple) if self.goes_on => {
+                self.note_fault(alloc, &frame, Fault::Simple)?;
+                self.show(alloc, frame, head, bytes, rest)
+            }
+            Some(Fault::Shape) if self.goes_on && self.is_in_key(&frame) => {
+                self.end_key(alloc, frame, head, bytes.len())
+            }
+            Some(fault) => self.stop(frame, fault),
+        }
+    }
+
+    /// Adds to the front of the note that there is a fault in the next item of this.
+    fn note_fault(&mut self, alloc: Global, frame: &Frame, fault: Fault) -> Result<(), AllocError>
+        ensures whole { OnOk result (whole self.new.column ≡ whole self.old.column) }
+        ensures lines { OnOk result (shown self.new.column ≡ shown self.old.column) }
+    {
+        let left = self.column.ahead().len();
+        let offset = self.bytes.len().saturating_sub(left);
+        self.open.push(*frame)?;
+        let path = path(alloc, self.bytes, &self.open, left)?;
+        self.open.pop();
+        if self.first.is_none() {
+            self.first = Some((offset, fault));
+        }
+        let mut note = String::new(alloc);
+        refusal::push(
+            &mut note,
+            self.hunt.error,
+            Some((offset, fault)),
+            path.as_str(),
+        )?;
+        if !self.column.note.is_empty() {
+            note.push_str("; ")?;
+            note.push_str(self.column.note.as_str())?;
+        }
+        self.column.note = note;
+        self.column.is_refused = true;
+        Ok(())
+    }
+
+    /// Whether the next item of this is a key of a set, or in one.
+    fn is_in_key(&self, frame: &Frame) -> bool {
+        frame.is_key_set() || self.open.iter().any(|outer| outer.is_key_set())
+    }
+
+    /// Ends what is shown of a key of a set, with a fault in the next item of this, whose head this is, and from which on there
+    /// are so many bytes.
+    fn end_key(
+        &mut self,
+        alloc: Global,
+        frame: Frame,
+        head: &Head,
+        left: usize,
+    ) -> Result<bool, AllocError>
+        ensures whole { OnOk result (whole self.new.column ≡ whole self.old.column) }
+        ensures lines { OnOk result (shown self.new.column ≤ shown self.old.column + 1) }
+    {
+        if self.column.has_begun() {
+            let depth = self.open.len();
+            self.column.end_line(alloc, depth)?;
+        }
+        self.note_fault(alloc, &frame, Fault::Shape)?;
+        if frame.is_key_set() {
+            let mut passed = frame;
+            passed.pass(head, left);
+            self.open.push(passed)?;
+        } else {
+            self.open.truncate(KEYS);
+        }
+        self.skips_key = true;
+        Ok(true)
+    }
+
+    /// Shows what is left of a key of a set.
+    fn skip_key(&mut self, alloc: Global) -> Result<bool, AllocError>
+        ensures whole { OnOk result (whole self.new.column ≡ whole self.old.column) }
+        ensures lines { OnOk result (shown self.new.column ≤ shown self.old.column + 1) }
+    {
+        self.skips_key = false;
+        let left = self.column.ahead().len();
+        self.column.hold(left.saturating_sub(self.behind_key));
+        self.column.end_line(alloc, KEYS.saturating_sub(1))?;
+        Ok(true)
+    }
+
+    /// Shows an item with this head at the front of these bytes, of which `rest` are behind the head.
+    fn show(
+        &mut self,
+        alloc: Global,
+        frame: Frame,
+        head: &Head,
+        bytes: &[u8],
+        rest: &[u8],
+    ) -> Result<bool, AllocError>
+        ensures whole { OnOk result (whole self.new.column ≡ whole self.old.column) }
+        ensures lines { OnOk result (shown self.new.column ≤ shown self.old.column + 1) }
+    {
         let part = frame.next_part();
         let now = self.now;
+        self.column.cover = of_next(&frame);
         note::push(&mut self.column.note, &frame, &part, head, now)?;
         let is_sought = self.hunt.is_in(alloc, &part, content(head, rest))?;
-        let opened = opening(&frame, part, head, bytes, is_sought);
+        let opened = opening(alloc, &frame, part, head, bytes, is_sought)?;
         let mut passed = frame;
         passed.pass(head, bytes.len());
         match opened {

@@ -1,4 +1,4 @@
-use Rattle.std.proofs.Common.{◌≡◌, ◌∙◌, List, [], Some, length, ap, refl, subst}
+use Rattle.std.proofs.Common.{◌≡◌, ◌∙◌, List, Some, length, ap, refl, subst}
 use Rattle.std.specs.List.{slice_get}
 use Rattle.std.specs.Prelude.{option_and_then, option_map}
 use Rattle.std.proofs.lemmas.Option.{slice_get-map, slice_get_read}
@@ -22,7 +22,7 @@ returns-in-Some-payload c =
       m,
       c.in_ok-message.ensures.read,
       w.0,
-      ap (option_and_then (λ s. over_payload (signer_structure m s []) m.payload)) view
-          ∙ over_present (signer_structure m signer []) m.payload w.0 (is_there (λ b. b.items) c.in_ok-message.message.payload _ c.in-Some-payload.is) w.1,
+      ap (option_and_then (λ s. over_payload (signer_structure m s c.args.external_aad.now) m.payload)) view
+          ∙ over_present (signer_structure m signer c.args.external_aad.now) m.payload w.0 (is_there (λ b. b.items) c.in_ok-message.message.payload _ c.in-Some-payload.is) w.1,
       w.2,
     )

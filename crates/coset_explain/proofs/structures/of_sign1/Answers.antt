@@ -1,4 +1,3 @@
-use Rattle.std.proofs.Common.{[]}
 use Rattle.coset.specs.Sign1.{sign1_structure, sign1_view}
 use Rattle.coset_explain.proofs.Covered.{is_there, over_present}
 use Rattle.coset_explain.proofs.structures.of_sign1.Goals as goal
@@ -10,6 +9,6 @@ returns-in-Some c =
       m,
       c.in_ok-message.ensures.read,
       w.0,
-      over_present (sign1_structure m []) m.payload w.0 (is_there (λ b. b.items) c.in_ok-message.message.payload _ c.in-Some.is) w.1,
+      over_present (sign1_structure m c.args.external_aad.now) m.payload w.0 (is_there (λ b. b.items) c.in_ok-message.message.payload _ c.in-Some.is) w.1,
       w.2,
     )
