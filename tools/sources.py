@@ -120,7 +120,9 @@ def shown(source, imports, heads):
     if not heads:
         imports, heads = own, items
     wanted = [it for it in own if any(same_part(it, that) for that in imports)]
-    return "\n\n".join(filter(None, [import_lines(wanted), *(text for it, text in items.items() if it in heads)])) + "\n"
+    kept = [text for it, text in items.items() if it in heads]
+    attributes = [it for it in kept if it.startswith("#!")]
+    return "\n\n".join(filter(None, [*attributes, import_lines(wanted), *(it for it in kept if it not in attributes)])) + "\n"
 
 
 # ---- definitions of specs/, and laws
