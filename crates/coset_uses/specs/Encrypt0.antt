@@ -17,11 +17,11 @@ abbrev pub unsealed : RegisteredName → List ℕ → Encrypt0View
 unsealed a iv = record empty_encrypt0 { protected = unread (with_algorithm a empty_header); unprotected = with_iv iv empty_header }
 
 -- what is returned of encrypting one: its bytes, with what f made of the plaintext; the error of f; or that memory ran out
-abbrev pub Encrypts :
+abbrev pub EncryptsAlone :
     {F E : Type 0} → Asker F (Vec ℕ Global) E → F → RegisteredName → List ℕ → List ℕ → List ℕ → Result (Vec ℕ Global) (CallError E) → Type 0
-Encrypts g f a iv external_aad plaintext (Ok b) =
+EncryptsAlone g f a iv external_aad plaintext (Ok b) =
     (c : List ℕ)
     × IsWritten encrypt0 (with_ciphertext c (unsealed a iv)) b.items
     × MakesOf g f plaintext (encrypt0_structure (unsealed a iv) external_aad) c
-Encrypts g f a iv external_aad plaintext (Err (Caller e)) = Says g f plaintext (encrypt0_structure (unsealed a iv) external_aad) (Err e)
-Encrypts g f a iv external_aad plaintext (Err (Coset e)) = e ≡ OutOfMemory
+EncryptsAlone g f a iv external_aad plaintext (Err (Caller e)) = Says g f plaintext (encrypt0_structure (unsealed a iv) external_aad) (Err e)
+EncryptsAlone g f a iv external_aad plaintext (Err (Coset e)) = e ≡ OutOfMemory

@@ -2,7 +2,7 @@
 
 ghost use Rattle.coset_iana.specs.Algorithm as algorithms;
 ghost use Rattle.coset_label.specs.Names.{assigned};
-ghost use Rattle.coset_uses.specs.Encrypt0.{Encrypts};
+ghost use Rattle.coset_uses.specs.Encrypt0.{EncryptsAlone};
 
 use coset::iana::Algorithm;
 use coset::{CallError, CborSerializable, CoseEncrypt0Builder, HeaderBuilder};
@@ -24,7 +24,7 @@ where
     F: FnOnce(&[u8], &[u8]) -> Result<Vec<u8>, E> + Drop,
     E: Drop,
     requires { F.IsAlwaysCallable cipher }
-    ensures { Encrypts F.FnOnce cipher (assigned (algorithms.number algorithm)) iv.now
+    ensures { EncryptsAlone F.FnOnce cipher (assigned (algorithms.number algorithm)) iv.now
         external_aad.now plaintext.now result }
 {
     let protected = HeaderBuilder::new(alloc).algorithm(algorithm).build();

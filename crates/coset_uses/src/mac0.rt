@@ -2,7 +2,7 @@
 
 ghost use Rattle.coset_iana.specs.Algorithm as algorithms;
 ghost use Rattle.coset_label.specs.Names.{assigned};
-ghost use Rattle.coset_uses.specs.Mac0.{Authenticates, VerifiesMac};
+ghost use Rattle.coset_uses.specs.Mac0.{MacsAlone, VerifiesAlone};
 
 use coset::iana::Algorithm;
 use coset::{CallError, CborSerializable, CoseMac0, CoseMac0Builder, HeaderBuilder};
@@ -24,7 +24,7 @@ where
     F: FnOnce(&[u8]) -> Result<Vec<u8>, E> + Drop,
     E: Drop,
     requires { F.IsAlwaysCallable mac }
-    ensures { Authenticates F.FnOnce mac (assigned (algorithms.number algorithm))
+    ensures { MacsAlone F.FnOnce mac (assigned (algorithms.number algorithm))
         external_aad.now payload.items result }
 {
     let protected = HeaderBuilder::new(alloc).algorithm(algorithm).build();
@@ -51,7 +51,7 @@ where
     F: FnOnce(&[u8], &[u8]) -> Result<(), E> + Drop,
     E: Drop,
     requires { F.IsAlwaysCallable verify }
-    ensures { VerifiesMac F.FnOnce verify external_aad.now absent message.now result }
+    ensures { VerifiesAlone F.FnOnce verify external_aad.now absent message.now result }
 {
     structure_when_read();
     let message = CoseMac0::from_slice(alloc, message)?;
