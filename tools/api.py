@@ -10,7 +10,7 @@ import sources  # noqa: E402
 
 HEADING = """# API
 
-Each public type and function of `coset` and of `cwt_gate`, by the paths by which they are called, with the first sentence of its comment: `tools/pages --write` makes this page of the sources, where the contracts are too. Where a closure is an argument, its own type is in the place of a type parameter. What a call asks for first (`requires`) is in a table of docs/CALLING.md. Registries are under `coset::iana`, with their numbers and names.
+Each public type and function of `coset` and of `cwt_gate`, by the paths by which they are called, with the first sentence of its comment: `tools/pages --write` makes this page of the sources, where the contracts are too. Where a closure is an argument, its own type is in the place of a type parameter. What a call asks for first (`requires`) is in a table of docs/CALLING.md. Registries are under `coset::iana`, with their numbers and names; each has `EnumI64`, `Named` and `Display`.
 
 A type that has `Codec` is read and written by the calls of `CborSerializable`, `AsCborValue` and `FromPull`, and one that has `TaggedCodec` by those of `TaggedCborSerializable` too.
 """
