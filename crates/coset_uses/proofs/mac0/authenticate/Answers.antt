@@ -6,7 +6,7 @@ use Rattle.coset_core.specs.Built.{with_algorithm}
 use Rattle.coset_core.specs.Headers.{empty_header}
 use Rattle.coset_core.specs.Messages.{unread}
 use Rattle.coset_core.specs.Views.{header_view}
-use Rattle.coset_msg.specs.Mac0.{Mac0View, mac0, mac0_view}
+use Rattle.coset_msg.specs.Mac0.{mac0, mac0_view}
 use Rattle.coset_uses.specs.Mac0.{MacsAlone, untagged}
 use Rattle.coset_uses.proofs.Alone.{is_mac_alone, mac0-has, no_mac_alone, tagged}
 use Rattle.coset_uses.proofs.Refusing.{passed_as}

@@ -14,9 +14,15 @@ returns-in_err-message g c =
     (λ k. (c.in_err-message.ensures.read k, c.in_err-message.ensures.refused k))
 
 pub returns-then-is_none : goal.returns-then-is_none
-returns-then-is_none g c =
-    (mac0_view c.in_ok-message.message, c.in_ok-message.ensures.read, inl (missing c.in_ok-message.message.payload c.is_none.result c.is_none.ensures
-    c.if-is_none.true, refl))
+returns-then-is_none g c = (
+  mac0_view c.in_ok-message.message,
+  c.in_ok-message.ensures.read,
+  inl (
+    missing c.in_ok-message.message.payload c.is_none.result c.is_none.ensures
+        c.if-is_none.true,
+    refl,
+  ),
+)
 
 pub returns-in_err-verify_tag : goal.returns-in_err-verify_tag
 returns-in_err-verify_tag g c =
