@@ -10,7 +10,7 @@ import sources  # noqa: E402
 
 HEADING = """# API
 
-Each public type and function of `coset` and of `cwt_gate`, by the paths by which they are called, with the first sentence of its comment: `tools/pages --write` makes this page of the sources, where the contracts are too. Where a closure is an argument, its own type is in the place of a type parameter. What a call asks for first (`requires`) is in a table of docs/CALLING.md. Registries are under `coset::iana`, with their numbers and names.
+Each public type and function of `coset` and of `cwt_gate`, by the paths by which they are called, with the first sentence of its comment: `tools/pages --write` makes this page of the sources, where the contracts are too. Where a closure is an argument, its own type is in the place of a type parameter. What a call asks for first (`requires`) is in a table of docs/CALLING.md. Registries are under `coset::iana`, with their numbers and names; each has `EnumI64`, `Named` and `Display`.
 
 A type that has `Codec` is read and written by the calls of `CborSerializable`, `AsCborValue` and `FromPull`, and one that has `TaggedCodec` by those of `TaggedCborSerializable` too.
 """
@@ -98,39 +98,16 @@ def names_of(crate, module):
 # ---- signatures
 
 
-def to_close(text, start, pairs="<>"):
-    """Where the bracket that is opened before `start` is closed: behind it. An arrow closes none."""
-    depth, end = 1, start
-    while depth and end < len(text):
-        if text[end] == pairs[0]:
-            depth += 1
-        elif text[end] == pairs[1] and text[end - 1] != "-":
-            depth -= 1
-        end += 1
-    return end
-
-
-def split(text):
-    """What is between the commas of a list, outside all brackets."""
-    found, depth, start = [], 0, 0
-    for at, char in enumerate(text):
-        depth += (char in "<([{") - (char in ")]}" or char == ">" and text[at - 1] != "-")
-        if char == "," and not depth:
-            found.append(text[start:at].strip())
-            start = at + 1
-    return [it for it in (*found, text[start:].strip()) if it]
-
-
 def signature(code, start):
     """The signature of the function whose name begins there, in one line, with the types of closures in place."""
     end = re.compile(r"\s*(?:\{\}?\n|;\n|\n *\{\}?\n)").search(code, start)
     text = re.sub(r"\s+", " ", code[start : end.start()]).replace("( ", "(").replace(", )", ")")
     text, _, where = text.replace("(mut self", "(self").partition(" where ")
-    bounds = dict(it.partition(": ")[::2] for it in split(where))
+    bounds = dict(it.partition(": ")[::2] for it in sources.split(where))
     name, generics = re.match(r"\w+", text)[0], []
     if text[len(name)] == "<":
-        close = to_close(text, len(name) + 1)
-        generics, text = split(text[len(name) + 1 : close - 1]), name + text[close:]
+        close = sources.to_close(text, len(name) + 1)
+        generics, text = sources.split(text[len(name) + 1 : close - 1]), name + text[close:]
     kept = []
     for it in generics:
         parameter, _, bound = it.partition(": ")
@@ -166,7 +143,7 @@ def body(code, start):
 
 def without_generics(text):
     """The text of a header of an impl, behind its own parameters."""
-    return text[to_close(text, 1) :].strip() if text.startswith("<") else text.strip()
+    return text[sources.to_close(text, 1) :].strip() if text.startswith("<") else text.strip()
 
 
 @functools.lru_cache(maxsize=None)
@@ -203,7 +180,7 @@ def members(kind, code, start):
     """What a struct's or an enum's declaration has that is public, in one line."""
     rest = code[start:]
     if kind == "struct" and (place := re.match(r"[^\n{;]*\((.*)\);\n", rest)):
-        return [line(f"{n}: {it.removeprefix('pub ')}", "") for n, it in enumerate(split(place[1])) if it.startswith("pub ")]
+        return [line(f"{n}: {it.removeprefix('pub ')}", "") for n, it in enumerate(sources.split(place[1])) if it.startswith("pub ")]
     if not (opened := re.match(r"[^{;]*\{\n", rest)):
         return []
     inner = body(code, start + opened.end())
@@ -216,7 +193,7 @@ def members(kind, code, start):
 
 def traits_of(name, path, attributes):
     """The traits that a type has, which callers use, in alphabetical order; and the types that are made of it."""
-    derived = [it for found in re.findall(r"derive\(([^)]*)\)", attributes) for it in split(found)]
+    derived = [it for found in re.findall(r"derive\(([^)]*)\)", attributes) for it in sources.split(found)]
     own = {re.sub(r"\b(?:\w+::)+", "", it) for it in (*derived, *(trait for trait, _ in impls_of(name, path) if trait))}
     made = {f"{trait} for {it}" for it, trait, _, _ in impls() if it != name and re.fullmatch(rf"(?:Try)?From<{name}>", trait)}
     return [*sorted(own - PASSED_OVER), *sorted(made)]

@@ -30,6 +30,32 @@ def closing(text, start):
     return end
 
 
+# ---- brackets
+
+
+def to_close(text, start, pairs="<>"):
+    """Where the bracket that is opened before `start` is closed: behind it. An arrow closes none."""
+    depth, end = 1, start
+    while depth and end < len(text):
+        if text[end] == pairs[0]:
+            depth += 1
+        elif text[end] == pairs[1] and text[end - 1] != "-":
+            depth -= 1
+        end += 1
+    return end
+
+
+def split(text):
+    """What is between the commas of a list, outside all brackets."""
+    found, depth, start = [], 0, 0
+    for at, char in enumerate(text):
+        depth += (char in "<([{") - (char in ")]}" or char == ">" and text[at - 1] != "-")
+        if char == "," and not depth:
+            found.append(text[start:at].strip())
+            start = at + 1
+    return [it for it in (*found, text[start:].strip()) if it]
+
+
 # ---- code without its contracts
 
 GHOST_USE = re.compile(r"^ *ghost use [^;]*;\n", re.M)
@@ -55,6 +81,15 @@ def without(text, pattern, tail=r""):
     return "".join(kept) + text[at:]
 
 
+def broken(head):
+    """A function's head in one line, with an argument a line where it is longer than 100 columns."""
+    opened = re.match(r" *(?:pub )?fn \w+(?:<[^(]*>)?\(", head)
+    if len(head) <= 100 or not opened:
+        return head
+    close, margin = to_close(head, opened.end(), "()"), " " * (len(head) - len(head.lstrip()))
+    return "\n".join([opened[0], *(f"{margin}    {it}," for it in split(head[opened.end() : close - 1])), f"{margin}){head[close:]}"])
+
+
 def plain(source):
     """The source without `ghost` items, `requires`, `ensures` and calls of laws: what a caller's own crate may have."""
     laws = [it for found in LAWS.finditer(source) for it in re.findall(r"\w+", found[1] or found[2])]
@@ -64,6 +99,7 @@ def plain(source):
     text = without(without(text, GHOST, r"[;,]?\n"), CLAUSE)
     # A signature without `where` opens its body in the same line.
     text = re.sub(r"((?:^|\n) *(?:pub )?fn (?:(?!\n *(?:where\n|\{\n))[^{;])*[^{;\s])\n *\{\n", r"\1 {\n", text)
+    text = re.sub(r"^ *(?:pub )?fn [^\n]{90,} \{$", lambda found: broken(found[0]), text, flags=re.M)
     text = re.sub(r"\{\n\n+", "{\n", re.sub(r"\n\n\n+", "\n\n", text))
     return KEYS.sub(SAYS_NOTHING, text).lstrip("\n")
 
@@ -120,7 +156,9 @@ def shown(source, imports, heads):
     if not heads:
         imports, heads = own, items
     wanted = [it for it in own if any(same_part(it, that) for that in imports)]
-    return "\n\n".join(filter(None, [import_lines(wanted), *(text for it, text in items.items() if it in heads)])) + "\n"
+    kept = [text for it, text in items.items() if it in heads]
+    attributes = [it for it in kept if it.startswith("#!")]
+    return "\n\n".join(filter(None, [*attributes, import_lines(wanted), *(it for it in kept if it not in attributes)])) + "\n"
 
 
 # ---- definitions of specs/, and laws

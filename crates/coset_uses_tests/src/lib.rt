@@ -16,6 +16,8 @@ mod key_set_stores;
 #[cfg(test)]
 mod lookups;
 #[cfg(test)]
+mod made;
+#[cfg(test)]
 mod parts;
 #[cfg(test)]
 mod question_marks;
