@@ -118,22 +118,38 @@ fn end_folds(page: &mut String, folds: &mut Vec<usize>, depth: usize) -> Result<
     Ok(())
 }
 
-/// Adds the lines. What is in a line, which are those behind it that are deeper, folds with the one that ends it.
+/// Adds a line, which folds where the next one is deeper, up to the one that ends it.
+fn push_line(
+    alloc: Global,
+    page: &mut String,
+    folds: &mut Vec<usize>,
+    line: &Line<'_>,
+    next_depth: usize,
+) -> Result<(), AllocError> {
+    end_folds(page, folds, line.depth.saturating_add(1))?;
+    if line.depth < next_depth && folds.len() < FOLDS {
+        folds.push(line.depth)?;
+        page.push_str("<details open>")?;
+        return push_row(alloc, page, line, "summary");
+    }
+    push_row(alloc, page, line, "div")?;
+    end_folds(page, folds, line.depth)
+}
+
+/// How deep the line at that index is; 0 behind the last.
+fn depth_at(lines: &[Line<'_>], index: usize) -> usize {
+    match lines.get(index) {
+        Some(line) => line.depth,
+        None => 0,
+    }
+}
+
+/// Adds the lines.
 fn push_lines(alloc: Global, page: &mut String, lines: &[Line<'_>]) -> Result<(), AllocError> {
     let mut folds: Vec<usize> = Vec::new(alloc);
-    let mut left = lines;
-    while let Some((line, rest)) = left.split_first() {
-        end_folds(page, &mut folds, line.depth.saturating_add(1))?;
-        let is_deeper = matches!(rest.first(), Some(next) if line.depth < next.depth);
-        if is_deeper && folds.len() < FOLDS {
-            folds.push(line.depth)?;
-            page.push_str("<details open>")?;
-            push_row(alloc, page, line, "summary")?;
-        } else {
-            push_row(alloc, page, line, "div")?;
-            end_folds(page, &mut folds, line.depth)?;
-        }
-        left = rest;
+    for (index, line) in lines.iter().enumerate() {
+        let next_depth = depth_at(lines, index.saturating_add(1));
+        push_line(alloc, page, &mut folds, line, next_depth)?;
     }
     end_folds(page, &mut folds, 0)
 }
