@@ -18,21 +18,6 @@ use std::rt::Clock;
 use std::sync::ledger::{Blank, Ledger};
 use std::time::{Duration, Instant};
 
-/// Makes the calls, each of which must succeed, and returns how long they took.
-pub fn time_calls<R: Clock, F: FnMut() -> Result<(), Fault> + Drop>(
-    rt: &R,
-    calls: usize,
-    mut call: F,
-) -> Result<Duration, Fault>
-    requires { F.IsAlwaysCallable call }
-{
-    let start = Instant::now(rt)?;
-    for _ in 0..calls {
-        call()?;
-    }
-    Ok(start.elapsed(rt)?)
-}
-
 /// Reads the value, and drops it.
 pub fn time_read<T: CborSerializable + Drop, R: AllocGlobal + Clock>(
     rt: &R,
@@ -40,13 +25,14 @@ pub fn time_read<T: CborSerializable + Drop, R: AllocGlobal + Clock>(
     calls: usize,
 ) -> Result<Duration, Fault> {
     let alloc = rt.alloc();
-    time_calls(rt, calls, move || match T::from_slice(alloc, bytes) {
-        Ok(value) => {
-            drop(value);
-            Ok(())
+    let start = Instant::now(rt)?;
+    for _ in 0..calls {
+        match T::from_slice(alloc, bytes) {
+            Ok(value) => drop(value),
+            Err(error) => return Err(Fault::from(error)),
         }
-        Err(error) => Err(Fault::from(error)),
-    })
+    }
+    Ok(start.elapsed(rt)?)
 }
 
 /// Refuses the bytes.
@@ -56,10 +42,13 @@ pub fn time_refusal<T: CborSerializable + Drop, R: AllocGlobal + Clock>(
     calls: usize,
 ) -> Result<Duration, Fault> {
     let alloc = rt.alloc();
-    time_calls(rt, calls, move || match T::from_slice(alloc, bytes) {
-        Ok(_) => Err(Fault::Unexpected),
-        Err(_) => Ok(()),
-    })
+    let start = Instant::now(rt)?;
+    for _ in 0..calls {
+        if T::from_slice(alloc, bytes).is_ok() {
+            return Err(Fault::Unexpected);
+        }
+    }
+    Ok(start.elapsed(rt)?)
 }
 
 /// That many copies of the value, the first one last: so they are taken from the end in the order in which they were made,
@@ -83,15 +72,16 @@ pub fn time_write<T: CborSerializable + Clone + Drop, R: AllocGlobal + Clock>(
     let value = T::from_slice(alloc, bytes)?;
     let mut copies = copies(alloc, &value, calls)?;
     let length = value.to_vec(alloc)?.len();
-    time_calls(rt, calls, move || {
+    let start = Instant::now(rt)?;
+    for _ in 0..calls {
         let Some(copy) = copies.pop() else {
             return Err(Fault::Unexpected);
         };
         if copy.to_vec(alloc)?.len() != length {
             return Err(Fault::Unexpected);
         }
-        Ok(())
-    })
+    }
+    Ok(start.elapsed(rt)?)
 }
 
 /// Copies a value that was read, and drops the copy.
@@ -101,10 +91,11 @@ pub fn time_copy<T: CborSerializable + Clone + Drop, R: AllocGlobal + Clock>(
     calls: usize,
 ) -> Result<Duration, Fault> {
     let value = T::from_slice(rt.alloc(), bytes)?;
-    time_calls(rt, calls, || {
+    let start = Instant::now(rt)?;
+    for _ in 0..calls {
         drop(value.clone()?);
-        Ok(())
-    })
+    }
+    Ok(start.elapsed(rt)?)
 }
 
 /// Compares a value that was read with its copy.
@@ -115,12 +106,13 @@ pub fn time_compare<T: CborSerializable + Clone + PartialEq + Drop, R: AllocGlob
 ) -> Result<Duration, Fault> {
     let value = T::from_slice(rt.alloc(), bytes)?;
     let copy = value.clone()?;
-    time_calls(rt, calls, || {
+    let start = Instant::now(rt)?;
+    for _ in 0..calls {
         if value != copy {
             return Err(Fault::Unexpected);
         }
-        Ok(())
-    })
+    }
+    Ok(start.elapsed(rt)?)
 }
 
 /// Puts the params of a key that was read in order, and drops the key. The copies that are put in order are made before
@@ -133,12 +125,14 @@ pub fn time_canonicalize<R: AllocGlobal + Clock>(
     let alloc = rt.alloc();
     let key = CoseKey::from_slice(alloc, bytes)?;
     let mut copies = copies(alloc, &key, calls)?;
-    time_calls(rt, calls, move || {
-        let Some(mut copy) = copies.pop() else {
-            return Err(Fault::Unexpected);
-        };
-        Ok(copy.canonicalize(alloc, CborOrdering::Lexicographic)?)
-    })
+    let start = Instant::now(rt)?;
+    for _ in 0..calls {
+        match copies.pop() {
+            Some(mut copy) => copy.canonicalize(alloc, CborOrdering::Lexicographic)?,
+            None => return Err(Fault::Unexpected),
+        }
+    }
+    Ok(start.elapsed(rt)?)
 }
 
 /// Makes the structure of a message that was read.
@@ -150,13 +144,13 @@ pub fn time_structure<T: CborSerializable + Structured + Drop, R: AllocGlobal + 
     let alloc = rt.alloc();
     let message = T::from_slice(alloc, bytes)?;
     let length = message.structure_length(alloc)?;
-    let message = &message;
-    time_calls(rt, calls, move || {
+    let start = Instant::now(rt)?;
+    for _ in 0..calls {
         if message.structure_length(alloc)? != length {
             return Err(Fault::Unexpected);
         }
-        Ok(())
-    })
+    }
+    Ok(start.elapsed(rt)?)
 }
 
 /// Checks the item at the front, each time the bytes that the check before found, and returns how many they are.
