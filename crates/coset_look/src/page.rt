@@ -108,10 +108,13 @@ fn push_row(
 
 /// Ends what folds at this depth and deeper, the deepest first.
 fn end_folds(page: &mut String, folds: &mut Vec<usize>, depth: usize) -> Result<(), AllocError> {
-    while let Some(last) = folds.pop() {
+    for _ in 0..folds.len() {
+        let Some(last) = folds.pop() else {
+            break;
+        };
         if last < depth {
             folds.push(last)?;
-            return Ok(());
+            break;
         }
         page.push_str("</details>\n")?;
     }
