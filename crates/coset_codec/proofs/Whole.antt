@@ -1,6 +1,7 @@
 -- Bytes that are one item, or none.
 use Rattle.std.specs.Prelude.{IsErrAnd}
-use Rattle.std.proofs.Common.{◌≡◌, ◌⊎◌, ℕ, List, [], ◌∷◌, ◌++◌, ◌+◌, suc, Some, Result, Ok, Err, length, take, refl, sym, ap, subst, ◌∙◌, inr, append-nil, arith}
+use Rattle.std.proofs.Common.{◌≡◌, ◌⊎◌, ℕ, List, [], ◌∷◌, ◌++◌, ◌+◌, suc, Some, Result, Ok, Err, length, take, refl, sym, ap, subst, ◌∙◌}
+use Rattle.std.proofs.Common.{inr, append-nil, arith}
 use Rattle.std.proofs.Common.{length-append}
 use Rattle.std.proofs.Math.Seq.{take-append_seam}
 use Rattle.coset_value.specs.Item.{Item}

@@ -79,8 +79,8 @@ pub fn enc_structure_of(
     enc_structure_bytes(alloc, context, &protected, external_aad)
 }
 
-/// The bytes that go with a ciphertext as its additional authenticated data (RFC 8152, section 5.3): the shortest
-/// encoding of
+/// The bytes that go with a ciphertext as its additional authenticated data (RFC 8152, section 5.3), in
+/// their shortest encoding.
 ///
 /// ```cddl
 /// Enc_structure = [

@@ -72,7 +72,7 @@ pub fn mac_structure_of(
     mac_structure_bytes(alloc, context, &protected, external_aad, payload)
 }
 
-/// The bytes that are authenticated (RFC 8152, section 6.3): the shortest encoding of
+/// The bytes that are authenticated (RFC 8152, section 6.3), in their shortest encoding.
 ///
 /// ```cddl
 /// MAC_structure = [

@@ -31,7 +31,8 @@ pub struct Report {
 
 /// Reads the elements from the first to the last, and names the fault of the last that has one.
 fn read_report(alloc: Global, input: &mut Decoder<'_>) -> Result<Report>
-    ensures forward { ReadsForward (state input.old) (state input.new) result (λ v. Reads report view v result) }
+    ensures forward { ReadsForward (state input.old) (state input.new) result
+        (λ v. Reads report view v result) }
 {
     match decode_array(alloc, input, "array with 2 items") {
         Ok((sender, (readings, ()))) => Ok(Report { sender, readings }),

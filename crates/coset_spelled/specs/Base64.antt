@@ -1,5 +1,6 @@
 -- Bytes in base64 and base64url (RFC 4648, sections 4 and 5).
-use Rattle.std.specs.Prelude.{◌≡◌, ◌==◌, ◌&&◌, ◌||◌, ◌+◌, ◌-◌, ◌*◌, ◌/◌, ◌%◌, nat_le, if◌then◌else◌, ℕ, List, [], ◌∷◌, ◌++◌, Bool, true, Option, Some, None, option_map}
+use Rattle.std.specs.Prelude.{◌≡◌, ◌==◌, ◌&&◌, ◌||◌, ◌+◌, ◌-◌, ◌*◌, ◌/◌, ◌%◌, nat_le, if◌then◌else◌, ℕ, List, [], ◌∷◌, ◌++◌, Bool, true}
+use Rattle.std.specs.Prelude.{Option, Some, None, option_map}
 
 -- what may be between digits: white space
 abbrev pub is_break : ℕ → Bool

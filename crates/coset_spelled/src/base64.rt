@@ -93,7 +93,8 @@ fn third_byte(third: u8, fourth: u8) -> u8
 
 /// The bytes of groups of four digits with these numbers, of which the last may have two or three; `None` where it has one.
 fn bytes_of(alloc: Global, numbers: &[u8]) -> Result<Option<Vec<u8>>, AllocError>
-    ensures { IfOk result (λ o. MatchOption o (bytes_of numbers.now ≡ None) (λ bytes. bytes_of numbers.now ≡ Some bytes.items)) }
+    ensures { IfOk result (λ o. MatchOption o (bytes_of numbers.now ≡ None)
+        (λ bytes. bytes_of numbers.now ≡ Some bytes.items)) }
 {
     let mut bytes = Vec::new(alloc);
     let mut left = numbers;

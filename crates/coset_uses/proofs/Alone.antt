@@ -53,7 +53,8 @@ is_mac_alone g f a x p b empty built is made w =
 -- nothing is made where the closure refuses, or memory runs out
 pub no_mac_alone :
     {F E : Type 0} (g : Maker F E) (f : F) (n : ℤ) (external_aad payload : List ℕ) (empty : Mac0View) → empty ≡ untagged (assigned n) payload
-    → (e : CallError E) → IfSome empty.payload (λ p. NotMade g f (mac0_structure empty external_aad p) e) → MacsAlone g f (assigned n) external_aad payload (Err e)
+    → (e : CallError E) → IfSome empty.payload (λ p. NotMade g f (mac0_structure empty external_aad p) e)
+        → MacsAlone g f (assigned n) external_aad payload (Err e)
 no_mac_alone g f n x p empty is (Coset e) tried =
     let t = subst (λ u. IfSome u.payload (λ q. NotMade g f (mac0_structure u x q) (Coset e))) is tried in only_memory e (λ other. has_tagged n x p (t other).1)
 no_mac_alone g f n x p empty is (Caller e) tried = subst (λ u. IfSome u.payload (λ q. NotMade g f (mac0_structure u x q) (Caller e))) is tried

@@ -31,7 +31,8 @@ meant a (Some b) e = ap Some (sym ((bytes_decides a b).0 e))
 
 -- what the gate lets in, by this policy
 pub known :
-    {E : Type 0} (k : KeysView E) (audience : List ℕ) (now : ℤ) (b : List ℕ) (r : Result KnownClaims (PolicyError E)) → JudgesWith k (policy_of audience) now b r
+    {E : Type 0} (k : KeysView E) (audience : List ℕ) (now : ℤ) (b : List ℕ) (r : Result KnownClaims (PolicyError E))
+        → JudgesWith k (policy_of audience) now b r
     → IfOk r (λ x. IsLetIn k audience b (claims_view x.claims))
 known k audience now b (Err e) h = tt
 known {E} k audience now b (Ok x) h =

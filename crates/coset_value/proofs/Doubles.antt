@@ -1,5 +1,6 @@
 -- Floats as doubles: what std reads from bits is exactly the number that they are.
-use Rattle.std.proofs.Common.{◌≡◌, ◌<◌, ◌≤◌, ◌+◌, ◌-◌, ◌*◌, ◌/◌, ◌%◌, ◌^◌, ℕ, zero, suc, Bool, true, false, T, not, cond, refl, sym, subst, ap, ◌∙◌, arith, pos, Some, None, if◌then◌else◌, ◌==◌}
+use Rattle.std.proofs.Common.{◌≡◌, ◌<◌, ◌≤◌, ◌+◌, ◌-◌, ◌*◌, ◌/◌, ◌%◌, ◌^◌, ℕ, zero, suc, Bool, true, false, T, not, cond, refl, sym, subst}
+use Rattle.std.proofs.Common.{ap, ◌∙◌, arith, pos, Some, None, if◌then◌else◌, ◌==◌}
 use lib.Dec.{leb, eqb, eqb→eq, leb→le, le→leb}
 use lib.Ieee.{Float, nan, inf, fin, neg, Format, binary32, binary64, prec, low, hid, ones, top, odd, of_fields, of_bits, of_int, div, round, up, down}
 use lib.Ieee.Exact.{HasValue, odd_sign, round_exact}

@@ -1,6 +1,7 @@
 -- Opening layer in layer: one layer, and what is known after so many.
 use Rattle.std.specs.Prelude.{IsErrAnd}
-use Rattle.std.proofs.Common.{◌≡◌, ◌≤◌, ◌<◌, ◌+◌, ◌∙◌, ◌||◌, ℕ, suc, List, [], ◌∷◌, length, Bool, true, false, None, Result, Ok, Err, refl, sym, ap, subst, inl, inr, arith}
+use Rattle.std.proofs.Common.{◌≡◌, ◌≤◌, ◌<◌, ◌+◌, ◌∙◌, ◌||◌, ℕ, suc, List, [], ◌∷◌, length, Bool, true, false, None, Result, Ok, Err, refl}
+use Rattle.std.proofs.Common.{sym, ap, subst, inl, inr, arith}
 use Rattle.coset.specs.Answers.{Describes, IsOnlyItem, ReadsSlice, RefusesSlice}
 use Rattle.coset.specs.AsWritten.{WhenRead}
 use Rattle.coset.specs.CoseError.{CoseError}
@@ -16,7 +17,8 @@ use Rattle.coset.specs.MacStructure.{Authenticates}
 use Rattle.coset.specs.Sign1.{sign1, sign1_laws, sign1_structure}
 use Rattle.cwt_gate.specs.Door.{Arrives, IsAdmitted, IsIn, OpensAll, OpensOne, RefusesLayer, RefusesLayers, is_allowed, is_authentic, is_clear}
 use Rattle.cwt_gate.specs.Keys.{KeysView, Opens}
-use Rattle.cwt_gate.specs.Layers.{DescribesAs, FaultsAs, LayerView, begins_layer, encrypted, form_of, layer, layer_item, layer_view, maced, message_in, protected_of, signed, structure_of, unprotected_of}
+use Rattle.cwt_gate.specs.Layers.{DescribesAs, FaultsAs, LayerView, begins_layer, encrypted, form_of, layer, layer_item, layer_view, maced}
+use Rattle.cwt_gate.specs.Layers.{message_in, protected_of, signed, structure_of, unprotected_of}
 use Rattle.cwt_gate.specs.Policy.{PolicyView, allows, understands}
 use Rattle.cwt_gate.specs.declared.error.GateError.{GateError}
 use Rattle.cwt_gate.specs.declared.error.GateError.TheVariants as gate

@@ -1,5 +1,6 @@
 -- What a header holds, as the code sees it and as contracts do.
-use Rattle.std.proofs.Common.{◌≡◌, ◌∙◌, ◌==◌, ℕ, List, [], ◌∷◌, ◌||◌, ◌&&◌, Bool, true, false, true≢false, sym, Option, Some, None, length, map, refl, arith, ap, option_map, is_some}
+use Rattle.std.proofs.Common.{◌≡◌, ◌∙◌, ◌==◌, ℕ, List, [], ◌∷◌, ◌||◌, ◌&&◌, Bool, true, false, true≢false, sym, Option, Some, None, length}
+use Rattle.std.proofs.Common.{map, refl, arith, ap, option_map, is_some}
 use Rattle.std.specs.List.{list_any, list_all}
 use Rattle.std.proofs.lemmas.Bool.Decides.{nat_tests}
 use Rattle.coset.specs.FieldViews.{fields_view}

@@ -1,5 +1,6 @@
 -- What a verifier asks of a token beside its signature and its times.
-use Rattle.std.specs.Prelude.{◌≡◌, ◌==◌, ◌&&◌, ◌||◌, not, ℕ, ℤ, pos, List, [], ◌∷◌, length, map, option_map, Option, Some, None, Bool, true, false, is_some, is_none}
+use Rattle.std.specs.Prelude.{◌≡◌, ◌==◌, ◌&&◌, ◌||◌, not, ℕ, ℤ, pos, List, [], ◌∷◌, length, map, option_map, Option, Some, None, Bool, true}
+use Rattle.std.specs.Prelude.{false, is_some, is_none}
 use Rattle.std.specs.Prelude.{Result, Ok, Err}
 use Rattle.std.specs.List.{list_any, list_all}
 use Rattle.std.specs.Ordering.{int_eq}

@@ -5,7 +5,8 @@ use Rattle.coset.specs.Errors.{error_text}
 use Rattle.cwt_gate.specs.declared.error.GateError.{GateError}
 use Rattle.cwt_gate.specs.declared.error.GateError.TheVariants.{Token, NoPayload, Caller, Claims, FractionalTime, Expired, NotYetValid}
 use Rattle.cwt_gate.specs.declared.error.PolicyError.{PolicyError}
-use Rattle.cwt_gate.specs.declared.error.PolicyError.TheVariants.{Gate, Algorithm, Critical, TooDeep, Unauthenticated, NoExpiration, IssuedLater, TooOld, Issuer, Audience}
+use Rattle.cwt_gate.specs.declared.error.PolicyError.TheVariants.{Gate, Algorithm, Critical, TooDeep, Unauthenticated, NoExpiration}
+use Rattle.cwt_gate.specs.declared.error.PolicyError.TheVariants.{IssuedLater, TooOld, Issuer, Audience}
 
 -- the text of a reason; of the caller's own error it is that error's text, as `text` has it
 abbrev pub gate_error_text : {E : Type 0} → (E → Option (List ℕ)) → GateError E → Option (List ℕ)

@@ -5,5 +5,6 @@ use Rattle.coset_explain.proofs.structures.of_encrypt0.Goals as goal
 
 pub returns : goal.returns
 returns c =
-    over_any (perhaps_tagged 16 encrypt0) (λ m. encrypt0_structure m c.args.external_aad.now) (λ b. b.items) c.args.bytes.now (encrypt0_view c.in_ok-message.message)
+    over_any (perhaps_tagged 16 encrypt0) (λ m. encrypt0_structure m c.args.external_aad.now) (λ b. b.items) c.args.bytes.now
+          (encrypt0_view c.in_ok-message.message)
     c.aad.result c.in_ok-message.ensures.read c.aad.ensures

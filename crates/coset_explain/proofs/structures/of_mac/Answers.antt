@@ -5,6 +5,7 @@ use Rattle.coset_explain.proofs.structures.of_mac.Goals as goal
 
 pub returns : goal.returns
 returns c =
-    over_written (perhaps_tagged 97 mac) (λ m. mac_structure_of m c.args.external_aad.now) (λ m. m.payload) (λ b. b.items) c.args.bytes.now (mac_view c.in_ok-message.message)
+    over_written (perhaps_tagged 97 mac) (λ m. mac_structure_of m c.args.external_aad.now) (λ m. m.payload) (λ b. b.items) c.args.bytes.now
+          (mac_view c.in_ok-message.message)
     c.tbm.result
     c.in_ok-message.ensures.read c.tbm.ensures

@@ -5,6 +5,7 @@ use Rattle.coset_explain.proofs.structures.of_mac0.Goals as goal
 
 pub returns : goal.returns
 returns c =
-    over_written (perhaps_tagged 17 mac0) (λ m. mac0_structure m c.args.external_aad.now) (λ m. m.payload) (λ b. b.items) c.args.bytes.now (mac0_view c.in_ok-message.message)
+    over_written (perhaps_tagged 17 mac0) (λ m. mac0_structure m c.args.external_aad.now) (λ m. m.payload) (λ b. b.items) c.args.bytes.now
+          (mac0_view c.in_ok-message.message)
     c.tbm.result
     c.in_ok-message.ensures.read c.tbm.ensures

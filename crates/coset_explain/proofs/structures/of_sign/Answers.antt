@@ -23,6 +23,7 @@ returns-in-Some-payload c =
       c.in_ok-message.ensures.read,
       w.0,
       ap (option_and_then (λ s. over_payload (signer_structure m s c.args.external_aad.now) m.payload)) view
-          ∙ over_present (signer_structure m signer c.args.external_aad.now) m.payload w.0 (is_there (λ b. b.items) c.in_ok-message.message.payload _ c.in-Some-payload.is) w.1,
+          ∙ over_present (signer_structure m signer c.args.external_aad.now) m.payload w.0
+                (is_there (λ b. b.items) c.in_ok-message.message.payload _ c.in-Some-payload.is) w.1,
       w.2,
     )
