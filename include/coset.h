@@ -1,6 +1,6 @@
 /* coset for C. Each call is a function of the bytes that it is given: nothing is kept between calls, nothing has to be freed,
  * and calls in several threads do not touch one another. What each call answers is proved of its code; the contracts stand
- * beside the functions of the same names in crates/coset_c/src/lib.rt, and docs/C.md tells them in words.
+ * beside the functions of the same names in crates/ffi_c/src/lib.rt, and docs/C.md tells them in words.
  *
  * in, in_len     the bytes of an item of the kind. Any pointer to bytes may be NULL where the length beside it is 0.
  * out, cap, len  where an answer goes, and how long it is. COSET_SHORT: it is longer than cap, and *len says how long.

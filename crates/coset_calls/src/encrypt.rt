@@ -2,11 +2,11 @@
 
 use crate::given;
 use coset::{CoseEncrypt, CoseEncryptBuilder, CoseError, CoseRecipient, Result};
-use coset_lines::asked::{Asked, No, and_missing};
-use coset_lines::builder::{and_each, built};
-use coset_lines::words::Words;
-use coset_lines::{header, mark, tell};
 use std::alloc::Global;
+use test_lines::asked::{Asked, No, and_missing};
+use test_lines::builder::{and_each, built};
+use test_lines::words::Words;
+use test_lines::{header, mark, tell};
 
 /// Makes the call of that name.
 ///

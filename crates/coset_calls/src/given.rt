@@ -1,9 +1,9 @@
 //! What calls gave that answer bytes.
 
 use coset::{CallError, Result};
-use coset_lines::asked::{Asked, No};
-use coset_lines::tell;
 use std::alloc::Global;
+use test_lines::asked::{Asked, No};
+use test_lines::tell;
 
 /// `ok` and the bytes, `none` where there are none, or the error's text.
 ///

@@ -6,9 +6,9 @@ use coset::cbor::value::Value;
 use coset::cwt::{ClaimsSet, ClaimsSetBuilder, Timestamp};
 use coset::iana::{CwtClaimName, EnumI64, WithPrivateRange};
 use coset::{AsCborValue, CoseError, Result};
-use coset_lines::words::{self, Words};
-use coset_lines::{mark, tell};
 use std::alloc::Global;
+use test_lines::words::{self, Words};
+use test_lines::{mark, tell};
 
 /// A call of the builder, with what it is given.
 #[derive(Drop)]

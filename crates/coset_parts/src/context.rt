@@ -8,9 +8,9 @@ use coset::{
     CoseError, CoseKdfContext, CoseKdfContextBuilder, Header, Nonce, PartyInfo, PartyInfoBuilder,
     Result, SuppPubInfo, SuppPubInfoBuilder,
 };
-use coset_lines::words::{self, Words};
-use coset_lines::{mark, tell};
 use std::alloc::Global;
+use test_lines::words::{self, Words};
+use test_lines::{mark, tell};
 
 /// A call of `CoseKdfContextBuilder`, with what it is given.
 #[derive(Drop)]

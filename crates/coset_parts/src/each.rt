@@ -2,9 +2,9 @@
 
 use coset::cwt::{ClaimsSet, KnownClaims};
 use coset::{CborSerializable, CoseKey, CoseKeySet, Result};
-use coset_lines::words::Words;
-use coset_lines::{mark, tell};
 use std::alloc::Global;
+use test_lines::words::Words;
+use test_lines::{mark, tell};
 
 /// The bytes of a set of keys: of each key what it is written as, or the error's text.
 ///

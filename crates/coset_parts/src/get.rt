@@ -4,9 +4,9 @@ use crate::spelled;
 use coset::cbor::value::Value;
 use coset::cwt::{ClaimName, ClaimsSet};
 use coset::{AsCborValue, CoseError, CoseKey, Header, Label, Result};
-use coset_lines::words::Words;
-use coset_lines::{mark, tell};
 use std::alloc::Global;
+use test_lines::words::Words;
+use test_lines::{mark, tell};
 
 /// Asks for a label: the label; what it is asked of; a map, whose pairs follow those of its rest, as they may in a
 /// value that was built.

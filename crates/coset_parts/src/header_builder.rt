@@ -8,9 +8,9 @@ use coset::{
     Algorithm, CoseCountersignature, CoseError, CoseSignature, Header, HeaderBuilder,
     RegisteredLabelWithPrivate, Result,
 };
-use coset_lines::words::{self, Words};
-use coset_lines::{mark, tell};
 use std::alloc::Global;
+use test_lines::words::{self, Words};
+use test_lines::{mark, tell};
 
 /// A call of the builder, with what it is given.
 #[derive(Drop)]

@@ -2,9 +2,9 @@
 
 use crate::spelled;
 use coset::{Header, ProtectedHeader, Result};
-use coset_lines::words::Words;
-use coset_lines::{mark, tell};
 use std::alloc::Global;
+use test_lines::words::Words;
+use test_lines::{mark, tell};
 
 /// A header: whether it says nothing.
 ///

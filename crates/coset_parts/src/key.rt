@@ -6,9 +6,9 @@ use coset::{
     CborOrdering, CborSerializable, CoseError, CoseKey, MlDsaVariant, Result,
     ToSec1OctetStringError,
 };
-use coset_lines::words::Words;
-use coset_lines::{mark, tell};
 use std::alloc::Global;
+use test_lines::words::Words;
+use test_lines::{mark, tell};
 
 /// Makes the call of that name of `CoseKey`.
 ///

@@ -6,9 +6,9 @@ use crate::steps::{self, Step};
 use coset::cbor::value::Value;
 use coset::iana::{self, EllipticCurve, KeyOperation};
 use coset::{CallError, CoseError, CoseKey, CoseKeyBuilder, KeyType, Result};
-use coset_lines::words::{self, Words};
-use coset_lines::{mark, tell};
 use std::alloc::Global;
+use test_lines::words::{self, Words};
+use test_lines::{mark, tell};
 
 /// A call of the builder, with what it is given.
 #[derive(Drop)]

@@ -7,10 +7,10 @@ use coset::{
     Algorithm, CborSerializable, CoseError, KeyType, Label, RegisteredLabel,
     RegisteredLabelWithPrivate, Result,
 };
-use coset_lines::words::{self, Words};
-use coset_lines::{mark, tell};
 use std::alloc::Global;
 use std::fmt::{Debug, Display};
+use test_lines::words::{self, Words};
+use test_lines::{mark, tell};
 
 /// A label's bytes: which label is read of them, as its `Debug` writes it or, by the call `display`, its `Display`.
 ///

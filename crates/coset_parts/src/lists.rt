@@ -5,10 +5,10 @@ use coset::cbor::value::Value;
 use coset::{AsCborValue, CallError, Label, Result};
 use coset_codec::has_repeats;
 use coset_codec::util::ValueTryAs;
-use coset_lines::asked::No;
-use coset_lines::words::Words;
-use coset_lines::{mark, tell};
 use std::alloc::Global;
+use test_lines::asked::No;
+use test_lines::words::Words;
+use test_lines::{mark, tell};
 
 /// An array of labels: whether two of them are equal.
 ///

@@ -4,7 +4,7 @@
 //! A line is `TYPE::CALL WORD..`, the name of a call and what it is given, as hexadecimal, numbers and words; a call that
 //! is of no type is named alone. An empty line, and a comment, which begins with `#`, is returned by itself.
 //!
-//! What a call is given is made ready first. Then the call is made, between two marks (`coset_lines::mark`), so that a
+//! What a call is given is made ready first. Then the call is made, between two marks (`test_lines::mark`), so that a
 //! process that is refused a request for memory there is refused one of the call's own; and what it returned is printed last.
 #![tactic(auto)]
 
@@ -30,10 +30,10 @@ mod value;
 mod writing;
 
 use coset::Result;
-use coset_lines::line::{Calls, answer_lines, unknown};
-use coset_lines::words::Words;
 use std::alloc::Global;
 use std::io::{self, BufReader, BufWriter};
+use test_lines::line::{Calls, answer_lines, unknown};
+use test_lines::words::Words;
 
 /// The calls that the program makes.
 struct PartCalls;

@@ -2,10 +2,10 @@
 
 use crate::{key, spelled};
 use coset::{Algorithm, CborOrdering, CoseError, KeyType, Label, Result};
-use coset_lines::mark;
-use coset_lines::words::Words;
 use std::alloc::Global;
 use std::cmp::Ordering;
+use test_lines::mark;
+use test_lines::words::Words;
 
 /// Makes the call of that name of `Label`: the first label, and those that it is compared with.
 ///

@@ -5,8 +5,8 @@ use crate::{
     pull, reading, registry, value, writing,
 };
 use coset::Result;
-use coset_lines::words::Words;
 use std::alloc::Global;
+use test_lines::words::Words;
 
 /// Makes the call that the first word names, where it is one of these.
 pub fn call(alloc: Global, words: &Words<'_>) -> Option<Result<String>> {

@@ -3,9 +3,9 @@
 use coset::cbor::de::{ByteChunks, Items, Pairs, Pull, TextChunks};
 use coset::cbor::value::Value;
 use coset::{CoseError, Result};
-use coset_lines::words::Words;
-use coset_lines::{mark, tell};
 use std::alloc::Global;
+use test_lines::words::Words;
+use test_lines::{mark, tell};
 
 /// Makes the call of that name: the bytes at whose front the item is.
 ///

@@ -4,11 +4,11 @@ ghost use Rattle.std.specs.Prelude.{◌≡◌, ◌+◌, ◌<◌, ℕ, [], ◌∷
 
 use coset::cbor::de::{EndOfFile, Error, Steps, check, decode_unbounded, front_length, read_value};
 use coset::{CborSerializable, CoseError, Result, laws};
-use coset_lines::words::Words;
-use coset_lines::{mark, tell};
 use std::alloc::Global;
 use std::marker::Brand;
 use std::sync::ledger::{Blank, Ledger};
+use test_lines::words::Words;
+use test_lines::{mark, tell};
 
 /// The bytes: what is written of the value that is read, and its length.
 ///

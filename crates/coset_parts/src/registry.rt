@@ -6,11 +6,11 @@ use crate::own::Own;
 use crate::spelled;
 use coset::iana::*;
 use coset::{CoseError, Result};
-use coset_lines::words::{self, Words};
-use coset_lines::{mark, tell};
 use std::alloc::Global;
 use std::cmp::Ordering;
 use std::fmt::{Debug, Display};
+use test_lines::words::{self, Words};
+use test_lines::{mark, tell};
 
 /// What is asked of a registry.
 #[derive(Clone, Copy)]

@@ -3,8 +3,8 @@
 use coset::cbor::value::Value;
 use coset::iana::{EnumI64, WithPrivateRange};
 use coset::{CborSerializable, CoseError, RegisteredLabelWithPrivate, Result};
-use coset_lines::words::{bytes, number};
 use std::alloc::Global;
+use test_lines::words::{bytes, number};
 
 /// The text of these bytes.
 ///

@@ -1,8 +1,8 @@
 //! Calls of builders, one after the other.
 
 use coset::Result;
-use coset_lines::words::Words;
 use std::alloc::Global;
+use test_lines::words::Words;
 
 /// A call of a builder, with what it is given.
 pub trait Step: Sized {

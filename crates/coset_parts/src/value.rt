@@ -5,11 +5,11 @@ use coset::cbor::de::{self, EndOfFile};
 use coset::cbor::ser;
 use coset::cbor::value::{Float, Integer, Value};
 use coset::{CborSerializable, CoseError, Result};
-use coset_lines::words::Words;
-use coset_lines::{mark, tell};
 use std::alloc::Global;
 use std::fmt::Display;
 use std::num::f64_to_bits_with_nan;
+use test_lines::words::Words;
+use test_lines::{mark, tell};
 
 /// Makes the call of that name of `Value`.
 ///

@@ -6,9 +6,9 @@ use coset::cbor::value::Integer;
 use coset::cbor::{OutOfMemory, ser};
 use coset::{CoseError, Label, Result};
 use coset_codec::util::to_cbor_array;
-use coset_lines::words::Words;
-use coset_lines::{mark, tell};
 use std::alloc::Global;
+use test_lines::words::Words;
+use test_lines::{mark, tell};
 
 /// Makes the call of that name: the vector; what is written.
 ///

@@ -1,11 +1,11 @@
 //! Calls of `CoseSign` and its builder.
 
 use coset::{CoseError, CoseSign, CoseSignBuilder, CoseSignature, Result};
-use coset_lines::asked::Asked;
-use coset_lines::builder::{and_each, built};
-use coset_lines::words::Words;
-use coset_lines::{header, mark, tell};
 use std::alloc::Global;
+use test_lines::asked::Asked;
+use test_lines::builder::{and_each, built};
+use test_lines::words::Words;
+use test_lines::{header, mark, tell};
 
 /// Makes the call of that name.
 ///

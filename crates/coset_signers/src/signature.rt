@@ -4,9 +4,9 @@ use coset::{
     CoseCountersignature, CoseCountersignatureBuilder, CoseError, CoseSignature,
     CoseSignatureBuilder, Result,
 };
-use coset_lines::words::Words;
-use coset_lines::{header, mark, tell};
 use std::alloc::Global;
+use test_lines::words::Words;
+use test_lines::{header, mark, tell};
 
 /// Makes the call of `CoseSignature` or its builder of that name.
 ///

@@ -4,10 +4,10 @@ use coset::{
     CoseCountersignature, CoseError, Result, countersign_v2_structure_data,
     countersign0_v2_structure_data, verify_countersignature,
 };
-use coset_lines::asked::Asked;
-use coset_lines::words::{Words, bytes};
-use coset_lines::{header, mark, tell};
 use std::alloc::Global;
+use test_lines::asked::Asked;
+use test_lines::words::{Words, bytes};
+use test_lines::{header, mark, tell};
 
 /// The other fields of what is countersigned: the words between commas, of which each spells one. `none` means no
 /// field, of which no structure is made.

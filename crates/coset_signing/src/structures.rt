@@ -6,9 +6,9 @@ use coset::{
     CoseError, EncryptionContext, MacContext, ProtectedHeader, Result, SignatureContext,
     enc_structure_data, mac_structure_data, sig_structure_data,
 };
-use coset_lines::words::Words;
-use coset_lines::{header, mark, tell};
 use std::alloc::Global;
+use test_lines::words::Words;
+use test_lines::{header, mark, tell};
 
 /// Makes the call of that name.
 ///

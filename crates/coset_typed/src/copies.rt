@@ -11,9 +11,9 @@ use coset::{
     CoseSign1, CoseSignature, Header, KeyOperation, KeyType, Label, PartyInfo, ProtectedHeader,
     RegisteredLabel, RegisteredLabelWithPrivate, Result, SuppPubInfo,
 };
-use coset_lines::words::Words;
-use coset_lines::{mark, tell};
 use std::alloc::Global;
+use test_lines::words::Words;
+use test_lines::{mark, tell};
 
 /// Copies the value of the type that the first word holds.
 ///

@@ -10,8 +10,8 @@ use coset::{
     Header, KeyOperation, KeyType, Label, PartyInfo, ProtectedBstr, ProtectedHeader,
     RegisteredLabel, RegisteredLabelWithPrivate, Result, SuppPubInfo,
 };
-use coset_lines::words::Words;
 use std::alloc::Global;
+use test_lines::words::Words;
 
 /// A type that is read and written. Labels of a registry that have no name of their own go by that of the registry.
 #[derive(Clone, Copy, Debug, PartialEq, Eq)]

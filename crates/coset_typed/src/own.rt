@@ -1,12 +1,12 @@
-//! Calls of types of a caller's own, those of `coset_sample`. A `Report` takes the default bodies of the traits.
+//! Calls of types of a caller's own, those of `example_types`. A `Report` takes the default bodies of the traits.
 
 use crate::typed::{Operation, message, unknown};
 use coset::Result;
-use coset_lines::words::Words;
-use coset_sample::reading::Reading;
-use coset_sample::report::Report;
-use coset_sample::settings::Settings;
+use example_types::reading::Reading;
+use example_types::report::Report;
+use example_types::settings::Settings;
 use std::alloc::Global;
+use test_lines::words::Words;
 
 /// Makes the call of that name, of the type of that name.
 ///

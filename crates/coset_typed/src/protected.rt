@@ -4,9 +4,9 @@ use crate::typed::{given, lent, told, unknown};
 use coset::cbor::value::Value;
 use coset::{CoseError, ProtectedBstr, ProtectedHeader, Result};
 use coset_codec::ItemSource;
-use coset_lines::words::Words;
-use coset_lines::{mark, tell};
 use std::alloc::Global;
+use test_lines::words::Words;
+use test_lines::{mark, tell};
 
 /// Makes the call of that name.
 ///

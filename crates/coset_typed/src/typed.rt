@@ -5,9 +5,9 @@ use crate::kind::Kind;
 use coset::cbor::de::Pull;
 use coset::cbor::value::Value;
 use coset::{AsCborValue, CborSerializable, CoseError, FromPull, Result, TaggedCborSerializable};
-use coset_lines::words::Words;
-use coset_lines::{mark, tell};
 use std::alloc::Global;
+use test_lines::words::Words;
+use test_lines::{mark, tell};
 
 /// A call that types have in common.
 #[derive(Clone, Copy, Debug, PartialEq, Eq)]

@@ -6,9 +6,9 @@ ghost use Rattle.coset_vectors.specs.Row.{is_comment as is_comment_spec};
 use crate::kind::Kind;
 use crate::strings::{Major, strings};
 use crate::sweep::{every, nested};
-use coset_lines::mark;
 use hex::FromHexError;
 use std::alloc::{AllocError, Global};
+use test_lines::mark;
 
 /// The answer where a word is no hexadecimal.
 const NOT_HEXADECIMAL: &str = "error: input is not hexadecimal";

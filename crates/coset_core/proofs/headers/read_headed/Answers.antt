@@ -44,8 +44,11 @@ returns-in_err-first g c = record {
           more.0,
           passed_on (with_headers g.P.DecodeElements.elements) _ v c.from_residual-in_err-first.result c.in_err-first.field-0.0
               c.from_residual-in_err-first.ensures.1
-              (λ n. inr (_, array.1 ∙ ap Some (one.parts ∙ ap (item one.first) two.parts),
-                inr (g.P.DecodeElements.fits two.others _ more.1, inl (one.read n)))),
+              (λ n. inr (
+                _,
+                array.1 ∙ ap Some (one.parts ∙ ap (item one.first) two.parts),
+                inr (g.P.DecodeElements.fits two.others _ more.1, inl (one.read n)),
+              )),
         );
   };
 }

@@ -75,7 +75,7 @@ returns-in_err-party_v_info-clause-forward c = record {
       let more = c.in_ok-supp_priv_info.ensures.reads four.others z four.within in (
         c.finish.ensures.passes more.0.0 z more.0.1,
         passed_on context context_view v c.from_residual-in_err-party_v_info.result c.in_err-party_v_info.field-0.0
-              c.from_residual-in_err-party_v_info.ensures.1
+            c.from_residual-in_err-party_v_info.ensures.1
             (λ n. inr (
               _,
               array.1 ∙ ap Some (one.parts ∙ ap (item one.first) (two.parts ∙ ap (item two.first) (three.parts ∙ ap (item three.first) four.parts))),
@@ -101,7 +101,7 @@ returns-in_err-party_u_info-clause-forward c = record {
       let more = c.in_ok-supp_priv_info.ensures.reads four.others z four.within in (
         c.finish.ensures.passes more.0.0 z more.0.1,
         passed_on context context_view v c.from_residual-in_err-party_u_info.result c.in_err-party_u_info.field-0.0
-              c.from_residual-in_err-party_u_info.ensures.1
+            c.from_residual-in_err-party_u_info.ensures.1
             (λ n. inr (
               _,
               array.1 ∙ ap Some (one.parts ∙ ap (item one.first) (two.parts ∙ ap (item two.first) (three.parts ∙ ap (item three.first) four.parts))),

@@ -14,7 +14,7 @@ returns-in-Some-from_i64-clause-forward g c = record {
       let back = g.met.T.EnumI64.value_of_number in
       let x = c.in-Some-from_i64.value in
       let assigned = is-assigned number value_of is back v c.in-Some.number _ x (sym taken.0)
-            ((search rules) ∙ c.in_ok-number.ensures.1) c.in-Some-from_i64.ensures
+      ((search rules) ∙ c.in_ok-number.ensures.1) c.in-Some-from_i64.ensures
       c.in_ok-number.ensures.0 in
       (taken.1, (assigned.0, (is-held number value_of is back v x assigned.1.0, assigned.1)));
 }

@@ -1,8 +1,0 @@
-use Rattle.std.specs.Prelude.{None}
-use Rattle.std.specs.List.{All}
-use Rattle.coset_explain.specs.Refusal.{JudgesAs}
-use Rattle.coset_explain.proofs.guess.fitting.Given as goal
-
--- each kind so far is one of the bytes
-abbrev pub invariant-loop-kind : goal.invariant-loop-kind
-invariant-loop-kind l = All (λ k. JudgesAs k l.bytes None) l.kinds.items

@@ -1,6 +1,0 @@
-use Rattle.std.proofs.Common.{◌≡◌, ◌+◌, ◌≤◌, drop}
-use Rattle.coset_fault.specs.Steps.{layers}
-use Rattle.coset_fault.proofs.malformed.layers.Given as goal
-
-abbrev pub invariant-loop-step : goal.invariant-loop-step
-invariant-loop-step l = record { counted : layers l.steps ≡ l.layers + layers (drop l.step-index l.steps); few : l.layers ≤ l.step-index }

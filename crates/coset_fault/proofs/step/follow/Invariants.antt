@@ -1,6 +1,0 @@
-use Rattle.std.proofs.Common.{take}
-use Rattle.coset_fault.specs.Steps.{Leads}
-use Rattle.coset_fault.proofs.step.follow.Given as goal
-
-abbrev pub invariant-loop-step : goal.invariant-loop-step
-invariant-loop-step l = Leads (take l.step-index l.steps) l.bytes l.offset l.rest

@@ -1,9 +1,0 @@
-use Rattle.coset_query.specs.Answers.{Finds, IsEncodingOf}
-use Rattle.coset_query.specs.Structures.{structure_of_one}
-use Rattle.std.proofs.Common.{IfOk, subst}
-use Rattle.coset_query.proofs.structure.encryption_structure.Goals as goal
-
-pub returns-clause-found : goal.returns-clause-found
-returns-clause-found c =
-    subst (λ p. IfOk c.structure_of_one.result (Finds (λ b. b.items) (IsEncodingOf (structure_of_one c.args.context.now c.args.external_aad.now p))))
-    c.in_ok-protected.ensures.bytes c.structure_of_one.ensures.found

@@ -1,5 +1,0 @@
-use Rattle.coset_spelled.proofs.Parts.{whole}
-use Rattle.coset_spelled.proofs.framed.part.Goals as goal
-
-pub returns : goal.returns
-returns c = whole c.args.text.now

@@ -1,0 +1,19 @@
+use mir.Syntax.{w64}
+use mir.Val.{of_z, to_z}
+use Rattle.std.proofs.lemmas.Int.{to_z-of_z}
+use Rattle.std.proofs.Common.{ap, subst}
+use Rattle.cwt_gate.specs.Door.{JudgesWith}
+use Rattle.cwt_gate.specs.Policy.{PolicyView}
+use Rattle.example_uses.specs.Attestation.{attestation_policy}
+use Rattle.example_uses.proofs.attestation.judge_attestation.Goals as goal
+
+-- what this policy changes of another
+abbrev changed : PolicyView → PolicyView → PolicyView
+changed p q = record q { signatures = p.signatures; macs = p.macs; unassigned = p.unassigned; expires = p.expires; leeway = p.leeway }
+
+pub returns : goal.returns
+returns g c =
+    let k = g.K.Keys.view c.args.keys.now in
+    let p = attestation_policy in
+    subst (λ n. JudgesWith k p n c.args.token.now c.judge_with.result) (to_z-of_z w64 c.args.now c.ranges.now)
+    (subst (λ q. JudgesWith k q (to_z w64 (of_z w64 c.args.now)) c.args.token.now c.judge_with.result) (ap (changed p) c.strict.ensures) c.judge_with.ensures)

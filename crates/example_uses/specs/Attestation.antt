@@ -1,0 +1,90 @@
+-- Attestation tokens (EAT, RFC 9711), and those of PSA (RFC 9783).
+use Rattle.std.specs.Prelude.{◌≡◌, ◌==◌, ℕ, ℤ, List, [], ◌∷◌, Bool, false, Option, Some, None, Result, Ok, Err, if◌then◌else◌}
+use Rattle.std.specs.Cmp.Lexicographic.{pointwise}
+use Rattle.std.specs.Map.{lookup}
+use Rattle.std.specs.Option.{option_and_then}
+use Rattle.coset_value.specs.Item.{Item, text, Pairs, no_pairs, pair}
+use Rattle.coset_value.specs.Parts.{as_bytes, as_integer, as_map, as_text}
+use Rattle.coset_iana.specs.Algorithm as algorithms
+use Rattle.coset_iana.specs.CwtClaimName as claim_names
+use Rattle.coset_iana.specs.declared.algorithms.Algorithm.TheVariants.{ES256, HMAC_256_256}
+use Rattle.coset_iana.specs.declared.claims.CwtClaimName.{CwtClaimName}
+use Rattle.coset_iana.specs.declared.claims.CwtClaimName.TheVariants.{Nonce, SubmodulesSection}
+use Rattle.coset_codec.specs.Errors.{UnlessMemory}
+use Rattle.coset_codec.specs.declared.error.CoseError.{CoseError}
+use Rattle.coset_label.specs.Names.{assigned}
+use Rattle.coset_claims.specs.Claims.{ClaimsView, claims, claims_view, same_name}
+use Rattle.coset_claims.specs.declared.claims_set.ClaimsSet.{ClaimsSet}
+use Rattle.coset_claims.specs.declared.known.KnownClaims.{KnownClaims}
+use Rattle.cwt_gate.specs.Door.{JudgesWith}
+use Rattle.cwt_gate.specs.Keys.{KeysView}
+use Rattle.cwt_gate.specs.Policy.{PolicyView, strict}
+use Rattle.cwt_gate.specs.declared.policy.Unassigned.TheVariants.{LeftOut}
+use Rattle.example_uses.specs.declared.attestation.NotAttested.{NotAttested}
+use Rattle.example_uses.specs.declared.attestation.NotAttested.TheVariants.{Refused, NotFresh}
+
+-- ---- claims by their registered names
+
+-- the value of the claim of this name
+abbrev pub claim_of : CwtClaimName → ClaimsView → Option Item
+claim_of name c = lookup (same_name (assigned (claim_names.number name))) c.rest
+
+-- the claim's bytes, where it is a byte string
+abbrev pub bytes_of : CwtClaimName → ClaimsView → Option (List ℕ)
+bytes_of name c = option_and_then as_bytes (claim_of name c)
+
+-- its number, where it is an integer
+abbrev pub integer_of : CwtClaimName → ClaimsView → Option ℤ
+integer_of name c = option_and_then as_integer (claim_of name c)
+
+-- its UTF-8 bytes, where it is a text
+abbrev pub text_of : CwtClaimName → ClaimsView → Option (List ℕ)
+text_of name c = option_and_then as_text (claim_of name c)
+
+-- the one nonce is this
+abbrev pub IsFresh : List ℕ → ClaimsView → Type 0
+IsFresh nonce c = bytes_of Nonce c ≡ Some nonce
+
+-- ---- submodules (RFC 9711, section 4.2.18)
+
+-- the item is this text
+abbrev pub is_text : List ℕ → Item → Bool
+is_text name (text s) = pointwise ◌==◌ s name
+is_text name v = false
+
+-- what is under this text, in the first pair that has it
+abbrev pub held_under : List ℕ → Pairs → Option Item
+held_under name no_pairs = None
+held_under name (pair k v ps) = if is_text name k then Some v else held_under name ps
+
+-- the submodule of this name
+abbrev pub submodule_of : List ℕ → ClaimsView → Option Item
+submodule_of name c = option_and_then (held_under name) (option_and_then as_map (claim_of SubmodulesSection c))
+
+-- what is returned of the submodule of this name: its claims, or that there is none; or, out of memory aside, why it is no
+-- claims set
+abbrev pub ReadsSubmodule : List ℕ → ClaimsView → Result (Option ClaimsSet) CoseError → Type 0
+ReadsSubmodule name c (Ok None) = submodule_of name c ≡ None
+ReadsSubmodule name c (Ok (Some x)) = (v : Item) × (submodule_of name c ≡ Some v) × claims.describes v (claims_view x)
+ReadsSubmodule name c (Err e) = (v : Item) × (submodule_of name c ≡ Some v) × UnlessMemory e (claims.faults v)
+
+-- ---- the token
+
+-- the strict policy, with these algorithms, and a leeway of one minute; tokens needn't expire, and claims that no registry has
+-- are left out
+abbrev pub attestation_policy : PolicyView
+attestation_policy = record strict {
+  signatures = assigned (algorithms.number ES256) ∷ [];
+  macs = assigned (algorithms.number HMAC_256_256) ∷ [];
+  unassigned = LeftOut;
+  expires = false;
+  leeway = 60;
+}
+
+-- What is returned of the token b at a moment: claims that the gate lets in, with this nonce; or the gate's reason against it,
+-- or that it lets in claims with another nonce, or none
+abbrev pub JudgesAttestation : {E : Type 0} → KeysView E → List ℕ → ℤ → List ℕ → Result KnownClaims (NotAttested E) → Type 0
+JudgesAttestation k nonce now b (Ok x) = JudgesWith k attestation_policy now b (Ok x) × IsFresh nonce (claims_view x.claims)
+JudgesAttestation k nonce now b (Err (Refused e)) = JudgesWith k attestation_policy now b (Err e)
+JudgesAttestation k nonce now b (Err NotFresh) =
+    (x : KnownClaims) × JudgesWith k attestation_policy now b (Ok x) × (IsFresh nonce (claims_view x.claims) → ⊥)

@@ -1,0 +1,78 @@
+//! A token on its way from who signs it to who verifies it.
+//!
+//! The two share a pair of keys and nothing else. On its way the token may be spelled anew: with longer heads, or with
+//! strings, arrays and maps whose length isn't announced (RFC 8949, section 3). Whatever spelling arrives, what is
+//! verified is what was signed, so that a genuine token is never refused.
+
+ghost use Rattle.std.specs.Prelude.{◌≡◌, ℕ, List, Some, None, IfOk, IfErr, IfSome};
+ghost use Rattle.coset_codec.specs.declared.error.CoseError.TheVariants.{OutOfMemory};
+ghost use Rattle.coset_codec.specs.declared.error.CallError.TheVariants.{Coset};
+ghost use Rattle.coset_codec.specs.declared.error.CallError.{CallError};
+ghost use Rattle.coset_core.specs.Views.{header_view};
+ghost use Rattle.coset_sign.specs.Sign1.{sign1_view};
+ghost use Rattle.example_uses.specs.declared.exchange.Lost.TheVariants.{NotVerified};
+ghost use Rattle.example_uses.specs.declared.cipher.Refused.{Refused};
+ghost use Rattle.example_uses.specs.Exchange.{Respells};
+ghost use Rattle.example_uses.specs.Refusals.{IsLost};
+
+use crate::cipher::{Refused, SigningKey, VerifyingKey};
+use crate::issue::sign_token;
+use crate::verify::verify_token;
+use coset::{CallError, CoseSign1, Header};
+use std::alloc::Global;
+
+/// What carries a token from the one side to the other.
+pub trait Channel {
+    /// Which tokens the channel may lose.
+    ghost loses: { Self → List ℕ → Type 0 };
+
+    /// The token as it arrives: the same item, in any spelling; or nothing, where `loses` holds.
+    fn carry(&mut self, alloc: Global, token: &[u8]) -> Option<Vec<u8>>
+        ensures carried { IfSome result (λ b. Respells token.now b.items) }
+        ensures lost { result ≡ None → loses self.old token.now };
+}
+
+/// Why a token didn't come to be verified.
+#[derive(Debug, Drop)]
+pub enum Lost {
+    /// It wasn't signed or written.
+    NotSent(CallError<Refused>),
+    /// It didn't arrive.
+    NotArrived,
+    /// It arrived, and was refused.
+    NotVerified(CallError<Refused>),
+}
+
+/// The message that the one side signs and the other verifies, whatever spelling of it arrives.
+///
+/// # Errors
+/// Why it was lost. A token that arrives is refused only when out of memory.
+pub fn exchange<S: SigningKey, V: VerifyingKey, C: Channel>(
+    alloc: Global,
+    signing_key: &S,
+    verifying_key: &V,
+    channel: &mut C,
+    protected: Header,
+    payload: Vec<u8>,
+    external_aad: &[u8],
+) -> Result<CoseSign1, Lost>
+    requires { (t s : List ℕ) → S.signs signing_key.now t s → V.accepts verifying_key.now t s }
+    ensures payload { IfOk result (λ n. (sign1_view n).payload ≡ Some payload.items) }
+    ensures lost { IfErr result (λ e. IsLost (S.signs signing_key.now) (S.refuses signing_key.now)
+        (C.loses channel.old) external_aad.now (header_view protected) payload.items e) }
+    ensures arrives { IfErr result (λ e. (c : CallError Refused) → e ≡ NotVerified c
+        → c ≡ Coset OutOfMemory) }
+{
+    let sent = sign_token(alloc, signing_key, protected, payload, external_aad);
+    let token = match sent {
+        Ok(token) => token,
+        Err(error) => return Err(Lost::NotSent(error)),
+    };
+    let Some(arrived) = channel.carry(alloc, &token) else {
+        return Err(Lost::NotArrived);
+    };
+    match verify_token(alloc, verifying_key, &arrived, external_aad) {
+        Ok(message) => Ok(message),
+        Err(error) => Err(Lost::NotVerified(error)),
+    }
+}

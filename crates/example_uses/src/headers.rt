@@ -1,0 +1,97 @@
+//! What a header says beside its algorithm: which labels must be understood, and certificates.
+
+ghost use Rattle.std.specs.Prelude.{◌≡◌, map, option_map};
+ghost use Rattle.std.specs.List.{list_all};
+ghost use Rattle.std.specs.Map.{lookup};
+ghost use Rattle.std.specs.Option.{option_and_then};
+ghost use Rattle.coset_value.specs.Parts.{as_bytes};
+ghost use Rattle.coset_value.specs.View.{value_item};
+ghost use Rattle.coset_iana.specs.Algorithm as algorithms;
+ghost use Rattle.coset_iana.specs.HeaderParameter as parameters;
+ghost use Rattle.coset_iana.specs.declared.headers.HeaderParameter.TheVariants.{X5Chain};
+ghost use Rattle.coset_label.specs.Names.{assigned, number, same_name};
+ghost use Rattle.coset_core.specs.Headers.{fields_in};
+ghost use Rattle.coset_core.specs.Views.{critical_view, header_view, protected_view};
+ghost use Rattle.cwt_gate.specs.Policy.{is_one_of};
+ghost use Rattle.example_uses.specs.HeaderParts.{has_algorithm, leaf, names_key, one_names_key};
+
+use coset::cbor::value::Value;
+use coset::iana::{Algorithm, EnumI64, HeaderParameter};
+use coset::{Header, Label, ProtectedHeader, RegisteredLabelWithPrivate};
+
+/// A label that must be understood.
+type Critical = RegisteredLabelWithPrivate<HeaderParameter>;
+
+/// Whether the label is one of these.
+fn is_known(known: &[Critical], label: &Critical) -> bool
+    ensures { result ≡ is_one_of (map critical_view known.now) (critical_view label.now) }
+{
+    known.contains(label)
+}
+
+/// Whether each label that the header calls critical is one of these (RFC 8152, section 3.1). A message with another has to
+/// be refused.
+pub fn is_understood(header: &Header, known: &[Critical]) -> bool
+    ensures { result ≡ list_all (is_one_of (map critical_view known.now))
+        (fields_in (header_view header.now)).crit }
+{
+    header.crit.iter().all(|label| is_known(known, label))
+}
+
+/// The value of this parameter, of those that aren't fields of the header.
+pub fn find_parameter(header: &Header, parameter: HeaderParameter) -> Option<&Value>
+    ensures { option_map (λ v. value_item v.now) result
+        ≡ lookup (same_name (number (parameters.number parameter)))
+        (fields_in (header_view header.now)).rest }
+{
+    header.get(&Label::Int(parameter.to_i64()))
+}
+
+/// The bytes of a byte string.
+fn bytes_of(value: &Value) -> Option<&[u8]>
+    ensures { option_map (λ b. b.now) result ≡ as_bytes (value_item value.now) }
+{
+    match value {
+        Value::Bytes(bytes) => Some(bytes.as_slice()),
+        _ => None,
+    }
+}
+
+/// The certificate of the signer: that of `x5chain` (RFC 9360, section 2), or the first of the chain there.
+pub fn signer_certificate(header: &Header) -> Option<&[u8]>
+    ensures { option_map (λ c. c.now) result
+        ≡ option_and_then leaf (lookup (same_name (number (parameters.number X5Chain)))
+        (fields_in (header_view header.now)).rest) }
+{
+    let value = find_parameter(header, HeaderParameter::X5Chain)?;
+    match value.as_array() {
+        Some(chain) => bytes_of(chain.first()?),
+        None => bytes_of(value),
+    }
+}
+
+/// Whether the header names this algorithm.
+pub fn has_algorithm(header: &Header, algorithm: Algorithm) -> bool
+    ensures { result ≡ has_algorithm (assigned (algorithms.number algorithm))
+        (header_view header.now) }
+{
+    match &header.alg {
+        Some(named) => *named == RegisteredLabelWithPrivate::Assigned(algorithm),
+        None => false,
+    }
+}
+
+/// Whether the header names this key. A header without an identifier names the empty one.
+pub fn names_key(header: &Header, key_id: &[u8]) -> bool
+    ensures { result ≡ names_key key_id.now (header_view header.now) }
+{
+    header.key_id.as_slice() == key_id
+}
+
+/// Whether one of the two headers names this key: its identifier may be in either (RFC 8152, section 3.1).
+pub fn one_names_key(protected: &ProtectedHeader, unprotected: &Header, key_id: &[u8]) -> bool
+    ensures { result ≡ one_names_key key_id.now (protected_view protected.now)
+        (header_view unprotected.now) }
+{
+    names_key(&protected.header, key_id) || names_key(unprotected, key_id)
+}

@@ -1,0 +1,34 @@
+//! What is inside: recipients in a recipient, and signatures in a header.
+
+ghost use Rattle.std.specs.Prelude.{◌≡◌, ◌↔◌};
+ghost use Rattle.coset_value.specs.Item.{Item};
+ghost use Rattle.coset_codec.specs.AsWritten.{WhenRead};
+ghost use Rattle.coset_codec.specs.Lists.{EachHas};
+ghost use Rattle.coset_codec.specs.declared.error.CoseError.{CoseError};
+ghost use Rattle.coset_core.specs.HeaderMap.{header_map};
+ghost use Rattle.coset_core.specs.Headers.{HeaderView, LAYERS, header, signatures_within};
+ghost use Rattle.coset_recipient.specs.Recipient.{each_of, recipient};
+ghost use Rattle.example_uses.specs.Inside.{IsDescribed};
+
+use coset_core::laws::headers_hold_signatures;
+use coset_recipient::laws::recipients_hold_recipients;
+
+/// Each recipient inside one that was read is one that an item describes: so what holds of recipients that were read holds
+/// of it too.
+pub fn recipients_inside()
+    ensures { WhenRead recipient (λ r. EachHas (IsDescribed recipient) (each_of r.recipients)) }
+{
+    recipients_hold_recipients();
+}
+
+/// A header is the map of its fields, with the signatures within 16 layers in it.
+pub fn header_is_a_map()
+    ensures describes { (v : Item) (h : HeaderView) → header.describes v h
+        ↔ (header_map (signatures_within LAYERS)).describes v h }
+    ensures image { (h : HeaderView) → header.image h
+        ≡ (header_map (signatures_within LAYERS)).image h }
+    ensures faults { (v : Item) (e : CoseError) → header.faults v e
+        ↔ (header_map (signatures_within LAYERS)).faults v e }
+{
+    headers_hold_signatures();
+}

@@ -1,0 +1,43 @@
+//! What isn't understood is skipped: claims with numbers that IANA hasn't assigned (RFC 8392, section 3), and the keys
+//! of a set that aren't read, as those of an unknown type (RFC 9052, section 7).
+
+ghost use Rattle.std.specs.Prelude.{IfOk, IfErr};
+ghost use Rattle.coset_codec.specs.Alone.{elements};
+ghost use Rattle.coset_codec.specs.Answers.{Describes, IsRefused};
+ghost use Rattle.coset_claims.specs.Claims.{claims_view};
+ghost use Rattle.coset_claims.specs.Known.{Others, known};
+ghost use Rattle.coset_key.specs.Keys.{key_set_view};
+ghost use Rattle.example_uses.specs.Readable.{AreThoseRead};
+
+use coset::cwt::ClaimsSet;
+use coset::{CoseKeySet, Result};
+use std::alloc::Global;
+
+/// The claims that are understood of those in the bytes. The others are skipped.
+///
+/// # Errors
+/// The same as [`ClaimsSet::known_from_slice`].
+pub fn claims_kept(alloc: Global, bytes: &[u8]) -> Result<ClaimsSet>
+    ensures read { IfOk result (λ c. (others : Others)
+        × Describes known bytes.now (claims_view c, others)) }
+    ensures refused { IfErr result (λ e. IsRefused known bytes.now e) }
+{
+    Ok(ClaimsSet::known_from_slice(alloc, bytes)?.claims)
+}
+
+/// The keys that are read of those in the array that the bytes are, in order. The others are skipped.
+///
+/// # Errors
+/// Why the bytes aren't an array; or `OutOfMemory`.
+pub fn keys_that_read(alloc: Global, bytes: &[u8]) -> Result<CoseKeySet>
+    ensures read { IfOk result (λ s. AreThoseRead bytes.now (key_set_view s)) }
+    ensures refused { IfErr result (λ e. IsRefused elements bytes.now e) }
+{
+    let mut keys = Vec::new(alloc);
+    for read in CoseKeySet::each_from_slice(alloc, bytes)? {
+        if let Ok(key) = read {
+            keys.push(key)?;
+        }
+    }
+    Ok(CoseKeySet(keys))
+}

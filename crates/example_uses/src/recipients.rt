@@ -1,0 +1,158 @@
+//! An encrypted message whose content key is wrapped for a recipient (RFC 8152, sections 5.1 and 12.2.1).
+
+ghost use Rattle.std.specs.Prelude.{◌≡◌, map, option_map};
+ghost use Rattle.coset_iana.specs.Algorithm as algorithms;
+ghost use Rattle.coset_label.specs.Names.{assigned};
+ghost use Rattle.coset_recipient.specs.Encrypt.{encrypt_view};
+ghost use Rattle.coset_recipient.specs.RecipientViews.{recipient_view};
+ghost use Rattle.example_uses.specs.Recipients.{DecryptsFor, EncryptsFor, GivesKey, WrapsFor, is_to, recipient_by};
+
+use crate::headers::one_names_key;
+use coset::iana::Algorithm;
+use coset::{
+    CallError, CborSerializable, CoseEncrypt, CoseEncryptBuilder, CoseError, CoseRecipient,
+    CoseRecipientBuilder, EncryptionContext, HeaderBuilder,
+};
+use coset_recipient::laws::structures_when_read;
+use std::alloc::Global;
+
+/// A recipient that carries the content key, wrapped by an algorithm as AES Key Wrap: it authenticates nothing besides,
+/// so that the unprotected header names it, and the protected one is empty.
+///
+/// # Errors
+/// `OutOfMemory`; or `Caller` with the error of `wrap`.
+pub fn wrap_for<F, E>(
+    alloc: Global,
+    algorithm: Algorithm,
+    key_id: &[u8],
+    content_key: &[u8],
+    wrap: F,
+) -> Result<CoseRecipient, CallError<E>>
+where
+    F: FnOnce(&[u8], &[u8]) -> Result<Vec<u8>, E> + Drop,
+    E: Drop,
+    requires { F.IsAlwaysCallable wrap }
+    ensures { WrapsFor F.FnOnce wrap (assigned (algorithms.number algorithm)) key_id.now
+        content_key.now result }
+{
+    let unprotected = HeaderBuilder::new(alloc)
+        .algorithm(algorithm)
+        .key_id_from(alloc, key_id)?
+        .build();
+    let unwrapped = CoseRecipientBuilder::new(alloc).unprotected(unprotected);
+    let context = EncryptionContext::EncRecipient;
+    let wrapped = unwrapped.try_create_ciphertext(alloc, context, content_key, &[], wrap)?;
+    Ok(wrapped.build())
+}
+
+/// A message to this recipient, encrypted and written. The protected header names the algorithm, the unprotected one the
+/// initialization vector.
+///
+/// # Errors
+/// `OutOfMemory`; `DuplicateMapKey`, where a header of the recipient repeats a label; or `Caller` with the error of
+/// `encrypt`.
+pub fn encrypt_for<F, E>(
+    alloc: Global,
+    algorithm: Algorithm,
+    iv: &[u8],
+    recipient: CoseRecipient,
+    plaintext: &[u8],
+    external_aad: &[u8],
+    encrypt: F,
+) -> Result<Vec<u8>, CallError<E>>
+where
+    F: FnOnce(&[u8], &[u8]) -> Result<Vec<u8>, E> + Drop,
+    E: Drop,
+    requires { F.IsAlwaysCallable encrypt }
+    ensures { EncryptsFor F.FnOnce encrypt (assigned (algorithms.number algorithm)) iv.now
+        (recipient_view recipient) external_aad.now plaintext.now result }
+{
+    let protected = HeaderBuilder::new(alloc).algorithm(algorithm).build();
+    let unprotected = HeaderBuilder::new(alloc).iv_from(alloc, iv)?.build();
+    let unsealed = CoseEncryptBuilder::new(alloc)
+        .protected(protected)
+        .unprotected(unprotected)
+        .add_recipient(recipient)?;
+    let sealed = unsealed.try_create_ciphertext(alloc, plaintext, external_aad, encrypt)?;
+    Ok(sealed.build().to_vec(alloc)?)
+}
+
+/// Whether a header of the recipient names this key.
+fn is_to(recipient: &CoseRecipient, key_id: &[u8]) -> bool
+    ensures { result ≡ is_to key_id.now (recipient_view recipient.now) }
+{
+    one_names_key(&recipient.protected, &recipient.unprotected, key_id)
+}
+
+/// The first of the recipients whose headers name this key.
+fn find_recipient<'a>(recipients: &'a [CoseRecipient], key_id: &[u8]) -> Option<&'a CoseRecipient>
+    ensures { option_map (λ r. recipient_view r.now) result
+        ≡ recipient_by key_id.now (map recipient_view recipients.now) }
+{
+    recipients.iter().find(|recipient| is_to(recipient, key_id))
+}
+
+/// The content key that `unwrap` makes of the ciphertext of the first recipient whose headers name this key.
+///
+/// # Errors
+/// `OutOfMemory`; `DuplicateMapKey`, where the recipient wasn't read and its protected header repeats a label; or `Caller`,
+/// with `absent` where no recipient names the key, or it carries no ciphertext, and else with the error of `unwrap`.
+pub fn content_key<F, E>(
+    alloc: Global,
+    message: &CoseEncrypt,
+    key_id: &[u8],
+    absent: E,
+    unwrap: F,
+) -> Result<Vec<u8>, CallError<E>>
+where
+    F: FnOnce(&[u8], &[u8]) -> Result<Vec<u8>, E> + Drop,
+    E: Drop,
+    requires { F.IsAlwaysCallable unwrap }
+    ensures { GivesKey F.FnOnce unwrap key_id.now absent (encrypt_view message.now) result }
+{
+    let Some(recipient) = find_recipient(&message.recipients, key_id) else {
+        return Err(CallError::Caller(absent));
+    };
+    if recipient.ciphertext.is_none() {
+        return Err(CallError::Caller(absent));
+    }
+    recipient.decrypt(alloc, EncryptionContext::EncRecipient, &[], unwrap)
+}
+
+/// The plaintext of the message that the bytes are: `unwrap` makes the content key of the ciphertext of the first recipient
+/// whose headers name this key, and `decrypt` the plaintext of that key, the ciphertext of the message and what goes with it.
+///
+/// # Errors
+/// Why the bytes aren't an encrypted message with recipients, or that it carries no ciphertext (`UnexpectedItem`);
+/// `OutOfMemory`; or `Caller`, with `absent` where no recipient names the key, or it carries no ciphertext, and else with
+/// the error of the closure that refused.
+pub fn decrypt_for<F, G, E>(
+    alloc: Global,
+    message: &[u8],
+    key_id: &[u8],
+    external_aad: &[u8],
+    absent: E,
+    unwrap: F,
+    decrypt: G,
+) -> Result<Vec<u8>, CallError<E>>
+where
+    F: FnOnce(&[u8], &[u8]) -> Result<Vec<u8>, E> + Drop,
+    G: FnOnce(&[u8], &[u8], &[u8]) -> Result<Vec<u8>, E> + Drop,
+    E: Drop,
+    requires unwrap { F.IsAlwaysCallable unwrap }
+    requires decrypt { G.IsAlwaysCallable decrypt }
+    ensures { DecryptsFor F.FnOnce unwrap G.FnOnce decrypt key_id.now external_aad.now absent
+        message.now result }
+{
+    structures_when_read();
+    let message = CoseEncrypt::from_slice(alloc, message)?;
+    let Some(ciphertext) = &message.ciphertext else {
+        return Err(CallError::Coset(CoseError::UnexpectedItem("nul", "bstr")));
+    };
+    let key = content_key(alloc, &message, key_id, absent, unwrap)?;
+    let aad = message.aad(alloc, external_aad)?;
+    match decrypt(&key, ciphertext, &aad) {
+        Ok(plaintext) => Ok(plaintext),
+        Err(error) => Err(CallError::Caller(error)),
+    }
+}

@@ -1,0 +1,81 @@
+//! A stand-in for the cipher, since Rattle has no signature algorithms. It shows how a key meets its contract, and guards
+//! nothing: never use it for anything but tests and examples.
+
+ghost use Rattle.std.specs.Prelude.{◌≡◌, ◌++◌};
+ghost use Rattle.example_uses.specs.Refusals.{IsNotBehind};
+ghost use Rattle.example_uses.specs.declared.cipher.Refused.TheVariants.{OutOfMemory};
+
+use crate::cipher::{DecryptionKey, Refused, SigningKey, VerifyingKey};
+use crate::token_keys::TokenCipher;
+use coset::CoseKey;
+use std::alloc::Global;
+
+/// A key whose signature of bytes is these bytes themselves, and whose ciphertext is the plaintext behind the additional
+/// authenticated data: who has no key makes them as well.
+#[derive(Clone, Copy, Debug)]
+pub struct StandInKey;
+
+impl SigningKey for StandInKey {
+    ghost signs = { λ self tbs signature. signature ≡ tbs };
+
+    ghost refuses = { λ self tbs refused. refused ≡ OutOfMemory };
+
+    fn sign(&self, alloc: Global, tbs: &[u8]) -> Result<Vec<u8>, Refused> {
+        Vec::from_slice(alloc, tbs).map_err(|_| Refused::OutOfMemory)
+    }
+}
+
+impl VerifyingKey for StandInKey {
+    ghost accepts = { λ self tbs signature. signature ≡ tbs };
+
+    fn verify(&self, signature: &[u8], tbs: &[u8]) -> Result<(), Refused> {
+        if signature == tbs {
+            Ok(())
+        } else {
+            Err(Refused::Rejected)
+        }
+    }
+}
+
+impl DecryptionKey for StandInKey {
+    ghost decrypts = { λ self ciphertext aad plaintext. ciphertext ≡ aad ++ plaintext };
+
+    ghost refuses = { λ self ciphertext aad refused. IsNotBehind aad ciphertext refused };
+
+    fn decrypt(&self, alloc: Global, ciphertext: &[u8], aad: &[u8]) -> Result<Vec<u8>, Refused> {
+        let Some(plaintext) = ciphertext.strip_prefix(aad) else {
+            return Err(Refused::Rejected);
+        };
+        match Vec::from_slice(alloc, plaintext) {
+            Ok(copy) => Ok(copy),
+            Err(_) => Err(Refused::OutOfMemory),
+        }
+    }
+}
+
+/// The same with whichever key.
+impl TokenCipher for StandInKey {
+    ghost verifies = { λ self key tbs signature. signature ≡ tbs };
+
+    ghost verifies_tag = { λ self key tbm mac. mac ≡ tbm };
+
+    ghost decrypts = { λ self key aad ciphertext plaintext. ciphertext ≡ aad ++ plaintext };
+
+    fn verify(&self, _key: &CoseKey, signature: &[u8], tbs: &[u8]) -> Result<(), Refused> {
+        VerifyingKey::verify(self, signature, tbs)
+    }
+
+    fn verify_tag(&self, _key: &CoseKey, tag: &[u8], tbm: &[u8]) -> Result<(), Refused> {
+        VerifyingKey::verify(self, tag, tbm)
+    }
+
+    fn decrypt(
+        &self,
+        alloc: Global,
+        _key: &CoseKey,
+        ciphertext: &[u8],
+        aad: &[u8],
+    ) -> Result<Vec<u8>, Refused> {
+        DecryptionKey::decrypt(self, alloc, ciphertext, aad)
+    }
+}

@@ -1,0 +1,46 @@
+//! Stores of keys that compare what they hold by bytes.
+//!
+//! A key may be spelled in many ways, and its params may be in any order. A store that reads a key, puts its params in
+//! order and writes it holds bytes that two such stores can compare, or hash, in place of the keys.
+
+ghost use Rattle.std.specs.Prelude.{◌≡◌, ◌⊎◌, ◌↔◌, IfOk, IfErr, IsTrue};
+ghost use Rattle.coset_key.specs.Canonical.{AgreeButForOrder};
+ghost use Rattle.coset_key.specs.Keys.{KeyView, key};
+ghost use Rattle.coset_codec.specs.Answers.{Describes, IsRefused};
+ghost use Rattle.example_uses.specs.Store.{IsStored};
+
+use coset::{CborOrdering, CborSerializable, CoseKey, Result};
+use coset_codec::laws::one_value;
+use coset_key::laws::{canonical_keys_apart, canonical_keys_read_again};
+use std::alloc::Global;
+
+/// The bytes that a store holds of a key: its shortest encoding, with its params in order.
+///
+/// # Errors
+/// Why the bytes aren't a key; or `OutOfMemory`.
+pub fn stored(alloc: Global, bytes: &[u8], ordering: CborOrdering) -> Result<Vec<u8>>
+    ensures held { IfOk result (λ held. IsStored ordering bytes.now held.items) }
+    ensures refused { IfErr result (λ e. IsRefused key bytes.now e) }
+{
+    canonical_keys_read_again();
+    let mut key = CoseKey::from_slice(alloc, bytes)?;
+    key.canonicalize(alloc, ordering)?;
+    key.to_vec(alloc)
+}
+
+/// Whether two stores that order params by the bytes of their labels hold the same, once they were handed these bytes:
+/// exactly where the keys agree but for the order of their params.
+///
+/// # Errors
+/// The same as [`stored`].
+pub fn hold_the_same(alloc: Global, one: &[u8], other: &[u8]) -> Result<bool>
+    ensures same { (k l : KeyView) → Describes key one.now k → Describes key other.now l
+        → IfOk result (λ same. IsTrue same ↔ AgreeButForOrder k l) }
+    ensures refused { IfErr result (λ e. IsRefused key one.now e ⊎ IsRefused key other.now e) }
+{
+    canonical_keys_apart();
+    one_value::<CoseKey>();
+    let one = stored(alloc, one, CborOrdering::Lexicographic)?;
+    let other = stored(alloc, other, CborOrdering::Lexicographic)?;
+    Ok(one == other)
+}

@@ -1,0 +1,23 @@
+use mir.Syntax.{w32}
+use mir.Val.{of_z, to_z}
+use Rattle.std.proofs.Common.{◌≡◌, rules, subst}
+use Rattle.ffi_query.specs.Answers.{Answers}
+use Rattle.ffi_query.specs.Structures.{IsStructure}
+use Rattle.ffi_c.specs.Numbers.{bytes_if}
+use Rattle.ffi_c.specs.Replies.{Replies, reply_status}
+use Rattle.ffi_c.proofs.Replying.{replied}
+use Rattle.ffi_c.proofs.coset_structure.Goals as goal
+
+pub returns-in-Some : goal.returns-in-Some
+returns-in-Some c =
+    let k = c.in-Some.kind in
+    let b = c.args.input.now in
+    let i = c.args.index in
+    let aad = c.args.external_aad.now in
+    let answers = subst (λ d. Answers k b (IsStructure k i aad d) c.args.out.now c.structure_of.new.out c.structure_of.result) c.bytes_if-detached.ensures
+    c.structure_of.ensures in
+    let status : to_z w32 (of_z w32 c.reply.result) ≡ reply_status c.structure_of.result = search rules in
+    replied
+    (λ j. Replies (Answers j b (IsStructure j i aad (bytes_if c.args.has_detached c.args.detached.now)) c.args.out.now c.structure_of.new.out)
+    (to_z w32 (of_z w32 c.reply.result)) c.reply.new.place)
+    _ _ k c.in-Some.ensures (c.structure_of.result, answers, status, c.reply.ensures.number)

@@ -1,0 +1,24 @@
+use mir.Syntax.{w32, w64}
+use mir.Val.{of_z, to_z}
+use Rattle.std.proofs.Common.{◌≡◌, rules, subst}
+use Rattle.std.proofs.lemmas.Int.{to_z-of_z}
+use Rattle.coset.specs.Names.{number}
+use Rattle.ffi_make.specs.Given.{an_integer}
+use Rattle.ffi_make.specs.PairsMade.{PutsPair}
+use Rattle.ffi_c.specs.Replies.{Replies, reply_status}
+use Rattle.ffi_c.proofs.Replying.{replied}
+use Rattle.ffi_c.proofs.making.coset_put_int.Goals as goal
+
+pub returns-in-Some : goal.returns-in-Some
+returns-in-Some c =
+    let k = c.in-Some.kind in
+    let label = to_z-of_z w64 c.args.label c.ranges.label in
+    let value = to_z-of_z w64 c.args.value c.ranges.value in
+    let answers = subst (λ n. PutsPair k c.args.input.now (number n) (an_integer c.args.value) c.args.out.now c.put.new.out c.put.result) label
+    (subst (λ x. PutsPair k c.args.input.now (number (to_z w64 (of_z w64 c.args.label))) (an_integer x) c.args.out.now c.put.new.out c.put.result) value
+    c.put.ensures) in
+    let status : to_z w32 (of_z w32 c.reply.result) ≡ reply_status c.put.result = search rules in
+    replied
+    (λ j. Replies (PutsPair j c.args.input.now (number c.args.label) (an_integer c.args.value) c.args.out.now c.put.new.out)
+    (to_z w32 (of_z w32 c.reply.result)) c.reply.new.place)
+    _ _ k c.in-Some.ensures (c.put.result, answers, status, c.reply.ensures.number)

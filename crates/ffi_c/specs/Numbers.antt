@@ -1,0 +1,87 @@
+-- Numbers as kinds, parts and maps.
+use Rattle.std.specs.Prelude.{◌==◌, ◌%◌, ◌-◌, ℕ, List, Option, Some, None, if◌then◌else◌}
+use Rattle.coset.specs.Shape.{both}
+use Rattle.coset_label.specs.declared.ordering.CborOrdering.{CborOrdering}
+use Rattle.coset_label.specs.declared.ordering.CborOrdering.TheVariants.{Lexicographic, LengthFirstLexicographic}
+use Rattle.ffi_query.specs.declared.kind.Form as forms
+use Rattle.ffi_query.specs.declared.kind.Form.TheVariants.{Plain, Tagged, Either}
+use Rattle.ffi_query.specs.declared.kind.Kind as kinds
+use Rattle.ffi_query.specs.declared.kind.Kind.TheVariants.{Sign1, Sign, Mac0, Mac, Encrypt0, Encrypt, Signature, Recipient, Header, Key, KeySet, Claims}
+use Rattle.ffi_query.specs.declared.label.Map as maps
+use Rattle.ffi_query.specs.declared.label.Map.TheVariants as of
+use Rattle.ffi_query.specs.declared.part.Part as parts
+use Rattle.ffi_query.specs.declared.part.Part.TheVariants.{Protected, Payload, Ciphertext, Proof}
+
+-- the form of a message, by what is added to its number
+abbrev pub form_of : ℕ → Option forms.Form
+form_of n = if n == 0 then Some Plain else (if n == 0x100 then Some Tagged else (if n == 0x200 then Some Either else None))
+
+-- the message of that number and form
+abbrev pub message_of : ℕ → forms.Form → Option kinds.Kind
+message_of n f =
+    if n == 1 then Some (Sign1 f) else
+    (if n == 2 then Some (Sign f) else
+    (if n == 3 then Some (Mac0 f) else
+    (if n == 4 then Some (Mac f) else
+    (if n == 5 then Some (Encrypt0 f) else
+    (if n == 6 then Some (Encrypt f) else None)))))
+
+-- the kind of that number that is no message
+abbrev pub other_of : ℕ → Option kinds.Kind
+other_of n =
+    if n == 7 then Some Signature else
+    (if n == 8 then Some Recipient else
+    (if n == 9 then Some Header else
+    (if n == 10 then Some Key else
+    (if n == 11 then Some KeySet else
+    (if n == 12 then Some Claims else None)))))
+
+-- the message of that number, where there is a form
+abbrev pub message_in : ℕ → Option forms.Form → Option kinds.Kind
+message_in n None = None
+message_in n (Some f) = message_of n f
+
+-- the first of the two, where there is one, else the second
+abbrev pub or_else : {A : Type 0} → Option A → Option A → Option A
+or_else (Some x) o = Some x
+or_else None o = o
+
+-- the kind of that number: one that is no message; else the message of the lowest 8 bits, in the form of the others
+abbrev pub kind_of : ℕ → Option kinds.Kind
+kind_of n = or_else (other_of n) (message_in (n % 0x100) (form_of (n - n % 0x100)))
+
+-- the form in which a message with one signature is asked for, where the kind is one
+abbrev pub form_of_sign1 : Option kinds.Kind → Option forms.Form
+form_of_sign1 (Some (Sign1 f)) = Some f
+form_of_sign1 o = None
+
+-- the same by the kind's number
+abbrev pub sign1_form : ℕ → Option forms.Form
+sign1_form n = form_of_sign1 (kind_of n)
+
+-- the part of that number
+abbrev pub part_of : ℕ → Option parts.Part
+part_of n =
+    if n == 1 then Some Protected else
+    (if n == 2 then Some Payload else
+    (if n == 3 then Some Ciphertext else
+    (if n == 4 then Some Proof else None)))
+
+-- the map of that number
+abbrev pub map_of : ℕ → Option maps.Map
+map_of n = if n == 1 then Some of.Protected else (if n == 2 then Some of.Unprotected else (if n == 3 then Some of.Item else None))
+
+-- both, where each number means one
+abbrev pub part_query : ℕ → ℕ → Option (kinds.Kind × parts.Part)
+part_query k p = both (λ x y. (x, y)) (kind_of k) (part_of p)
+
+abbrev pub map_query : ℕ → ℕ → Option (kinds.Kind × maps.Map)
+map_query k m = both (λ x y. (x, y)) (kind_of k) (map_of m)
+
+-- the bytes, where the number isn't 0
+abbrev pub bytes_if : ℕ → List ℕ → Option (List ℕ)
+bytes_if n b = if n == 0 then None else Some b
+
+-- the order of labels of that number
+abbrev pub order_of : ℕ → Option CborOrdering
+order_of n = if n == 1 then Some Lexicographic else (if n == 2 then Some LengthFirstLexicographic else None)

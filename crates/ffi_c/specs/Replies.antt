@@ -1,0 +1,67 @@
+-- Answers as C is given them: a status, and a number in a place of the caller's.
+use Rattle.std.specs.Prelude.{◌≡◌, ◌-◌, ◌^◌, ℕ, ℤ, pos, List, Option, Result, Ok, Err, unwrap_or}
+use Rattle.coset.specs.CoseError.{CoseError}
+use Rattle.ffi_query.specs.declared.kind.Kind as kinds
+use Rattle.ffi_query.specs.declared.refusal.Refusal as refusals
+use Rattle.ffi_query.specs.declared.refusal.Refusal.TheVariants as refused
+use Rattle.ffi_query.specs.declared.refusal.Status as statuses
+use Rattle.ffi_query.specs.declared.refusal.Status.TheVariants.{Short, Memory, Ends, Malformed, Deep, Extraneous, Unexpected, Duplicate, OutOfRange}
+use Rattle.ffi_query.specs.declared.refusal.Status.TheVariants.{Unregistered, NotPrivate, Absent}
+use Rattle.ffi_query.specs.Faults.{IsOffset}
+use Rattle.ffi_query.specs.Kinds.{Checks}
+use Rattle.ffi_query.specs.Status.{refusal_status}
+
+-- the number of a status; 0 is that all is well, and 13 a misuse
+abbrev pub status_number : statuses.Status → ℕ
+status_number Short = 1
+status_number Memory = 2
+status_number Ends = 3
+status_number Malformed = 4
+status_number Deep = 5
+status_number Extraneous = 6
+status_number Unexpected = 7
+status_number Duplicate = 8
+status_number OutOfRange = 9
+status_number Unregistered = 10
+status_number NotPrivate = 11
+status_number Absent = 12
+
+-- the status of an answer
+abbrev pub reply_status : {N : Type 0} → Result N refusals.Refusal → ℤ
+reply_status (Ok n) = pos 0
+reply_status (Err r) = pos (status_number (refusal_status r))
+
+-- the number that goes with a status: the length or the count; where the memory is short the length that is needed; else 0
+abbrev pub length_of : Result ℕ refusals.Refusal → ℕ
+length_of (Ok n) = n
+length_of (Err (refused.Short n)) = n
+length_of (Err r) = 0
+
+abbrev pub integer_of : Result ℤ refusals.Refusal → ℤ
+integer_of (Ok n) = n
+integer_of (Err r) = pos 0
+
+-- the status and the number are those of an answer of which P holds
+abbrev pub Replies : (Result ℕ refusals.Refusal → Type 0) → ℤ → ℕ → Type 0
+Replies P status n = (r : Result ℕ refusals.Refusal) × P r × (status ≡ reply_status r) × (n ≡ length_of r)
+
+abbrev pub RepliesInteger : (Result ℤ refusals.Refusal → Type 0) → ℤ → ℤ → Type 0
+RepliesInteger P status n = (r : Result ℤ refusals.Refusal) × P r × (status ≡ reply_status r) × (n ≡ integer_of r)
+
+-- a number has no meaning: the status says so, and the place, which holds n, is given this
+abbrev pub IsMisuse : {N : Type 0} → ℤ → N → N → Type 0
+IsMisuse status n given = (status ≡ pos 13) × (n ≡ given)
+
+-- the status of a check
+abbrev pub check_status : Result (Unit {0}) CoseError → ℤ
+check_status (Ok x) = pos 0
+check_status (Err e) = pos (status_number (refusal_status (refused.Cose e)))
+
+-- where the bytes stop being one item; or the greatest number, where they are of the kind or nothing is said
+abbrev pub IsToldOffset : List ℕ → Result (Unit {0}) CoseError → ℕ → Type 0
+IsToldOffset b (Ok x) n = n ≡ 2 ^ 64 - 1
+IsToldOffset b (Err e) n = (o : Option ℕ) × IsOffset b o × (n ≡ unwrap_or o (2 ^ 64 - 1))
+
+-- the status and the offset are those of a check of the bytes
+abbrev pub RepliesCheck : kinds.Kind → List ℕ → ℤ → ℕ → Type 0
+RepliesCheck k b status n = (r : Result (Unit {0}) CoseError) × Checks k b r × (status ≡ check_status r) × IsToldOffset b r n

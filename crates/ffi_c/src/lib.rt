@@ -1,0 +1,239 @@
+//! `ffi_query` and `ffi_make` for C: the functions that `include/coset.h` declares. What crosses are numbers, slices (in
+//! C a pointer and a length) and places for a number or for a struct of numbers; nothing is kept between calls. `docs/C.md`
+//! says how they are called. Those that read are here, but for the one in `sign1`, and those that make in `making`.
+#![tactic(auto)]
+
+ghost use Rattle.std.specs.Prelude.{◌≡◌, MatchOption, pos};
+ghost use Rattle.ffi_query.specs.declared.kind.Kind.TheVariants.{Recipient};
+ghost use Rattle.ffi_query.specs.Answers.{Answers, AnswersNumber};
+ghost use Rattle.ffi_query.specs.Labels.{IsNumberOf, IsStringOf, IsValueOf};
+ghost use Rattle.ffi_query.specs.Parts.{IsCount, IsMember, IsPart};
+ghost use Rattle.ffi_query.specs.Structures.{IsRecipientStructure, IsStructure};
+ghost use Rattle.coset.specs.Names.{number, text_label};
+ghost use Rattle.ffi_c.specs.Numbers.{bytes_if, kind_of, map_query, part_query};
+ghost use Rattle.ffi_c.specs.Replies.{IsMisuse, Replies, RepliesCheck, RepliesInteger};
+
+mod making;
+mod numbers;
+mod replies;
+mod sign1;
+
+use ffi_query::{
+    Label, check, count_of, integer_of, member_of, part_of, recipient_structure_of, string_of,
+    structure_of, value_of,
+};
+use numbers::{bytes_if, kind_of, map_query, part_query};
+use replies::{misused, reply, reply_check, reply_integer};
+use std::alloc::Global;
+
+/// Whether the input is an item of the kind; `offset` is where it stops being one item of CBOR, or `SIZE_MAX` where nothing
+/// is said of that.
+#[unsafe(no_mangle)]
+pub extern "C" fn coset_check(alloc: Global, kind: u32, input: &[u8], offset: &mut usize) -> i32
+    ensures { MatchOption (kind_of kind) (IsMisuse result offset.new usize.MAX)
+        (λ k. RepliesCheck k input.now result offset.new) }
+{
+    match kind_of(kind) {
+        Some(kind) => reply_check(check(alloc, kind, input), input, offset),
+        None => misused(usize::MAX, offset),
+    }
+}
+
+/// How many signatures, recipients or keys the input has.
+#[unsafe(no_mangle)]
+pub extern "C" fn coset_count(alloc: Global, kind: u32, input: &[u8], count: &mut usize) -> i32
+    ensures { MatchOption (kind_of kind) (IsMisuse result count.new 0)
+        (λ k. Replies (AnswersNumber k input.now (IsCount k)) result count.new) }
+{
+    match kind_of(kind) {
+        Some(kind) => reply(count_of(alloc, kind, input), count),
+        None => misused(0, count),
+    }
+}
+
+/// Writes a part of the input.
+#[unsafe(no_mangle)]
+pub extern "C" fn coset_part(
+    alloc: Global,
+    kind: u32,
+    input: &[u8],
+    part: u32,
+    out: &mut [u8],
+    len: &mut usize,
+) -> i32
+    ensures { MatchOption (part_query kind part)
+        (IsMisuse result len.new 0 × (out.new ≡ out.old))
+        (λ q. Replies (Answers q.0 input.now (IsPart q.0 q.1) out.old out.new) result len.new) }
+{
+    match part_query(kind, part) {
+        Some((kind, part)) => reply(part_of(alloc, kind, input, part, out), len),
+        None => misused(0, len),
+    }
+}
+
+/// Writes the signature, recipient or key of that index, as its shortest encoding.
+#[unsafe(no_mangle)]
+pub extern "C" fn coset_member(
+    alloc: Global,
+    kind: u32,
+    input: &[u8],
+    index: usize,
+    out: &mut [u8],
+    len: &mut usize,
+) -> i32
+    ensures { MatchOption (kind_of kind) (IsMisuse result len.new 0 × (out.new ≡ out.old))
+        (λ k. Replies (Answers k input.now (IsMember k index) out.old out.new) result len.new) }
+{
+    match kind_of(kind) {
+        Some(kind) => reply(member_of(alloc, kind, input, index, out), len),
+        None => misused(0, len),
+    }
+}
+
+/// Writes the value of an integer label, as its shortest encoding.
+#[unsafe(no_mangle)]
+pub extern "C" fn coset_label(
+    alloc: Global,
+    kind: u32,
+    input: &[u8],
+    map: u32,
+    label: i64,
+    out: &mut [u8],
+    len: &mut usize,
+) -> i32
+    ensures { MatchOption (map_query kind map) (IsMisuse result len.new 0 × (out.new ≡ out.old))
+        (λ q. Replies (Answers q.0 input.now (IsValueOf q.0 q.1 (number label)) out.old out.new)
+        result len.new) }
+{
+    match map_query(kind, map) {
+        Some((kind, map)) => {
+            let label = Label::Number(label);
+            reply(value_of(alloc, kind, input, map, label, out), len)
+        }
+        None => misused(0, len),
+    }
+}
+
+/// Writes what the byte string or the text string holds that is the value of an integer label.
+#[unsafe(no_mangle)]
+pub extern "C" fn coset_label_bytes(
+    alloc: Global,
+    kind: u32,
+    input: &[u8],
+    map: u32,
+    label: i64,
+    out: &mut [u8],
+    len: &mut usize,
+) -> i32
+    ensures { MatchOption (map_query kind map) (IsMisuse result len.new 0 × (out.new ≡ out.old))
+        (λ q. Replies (Answers q.0 input.now (IsStringOf q.0 q.1 (number label)) out.old out.new)
+        result len.new) }
+{
+    match map_query(kind, map) {
+        Some((kind, map)) => {
+            let label = Label::Number(label);
+            reply(string_of(alloc, kind, input, map, label, out), len)
+        }
+        None => misused(0, len),
+    }
+}
+
+/// The integer that is the value of an integer label.
+#[unsafe(no_mangle)]
+pub extern "C" fn coset_label_int(
+    alloc: Global,
+    kind: u32,
+    input: &[u8],
+    map: u32,
+    label: i64,
+    value: &mut i64,
+) -> i32
+    ensures { MatchOption (map_query kind map) (IsMisuse result value.new (pos 0))
+        (λ q. RepliesInteger
+        (AnswersNumber q.0 input.now (IsNumberOf q.0 q.1 (number label))) result value.new) }
+{
+    match map_query(kind, map) {
+        Some((kind, map)) => {
+            let label = Label::Number(label);
+            reply_integer(integer_of(alloc, kind, input, map, label), value)
+        }
+        None => misused(0, value),
+    }
+}
+
+/// Writes the value of a text label, given as its UTF-8 bytes, as its shortest encoding.
+#[unsafe(no_mangle)]
+pub extern "C" fn coset_text_label(
+    alloc: Global,
+    kind: u32,
+    input: &[u8],
+    map: u32,
+    label: &[u8],
+    out: &mut [u8],
+    len: &mut usize,
+) -> i32
+    ensures { MatchOption (map_query kind map) (IsMisuse result len.new 0 × (out.new ≡ out.old))
+        (λ q. Replies (Answers q.0 input.now (IsValueOf q.0 q.1 (text_label label.now))
+        out.old out.new) result len.new) }
+{
+    match map_query(kind, map) {
+        Some((kind, map)) => {
+            let label = Label::Text(label);
+            reply(value_of(alloc, kind, input, map, label, out), len)
+        }
+        None => misused(0, len),
+    }
+}
+
+/// Writes what is signed of the input, what is authenticated, or what goes with the ciphertext. `detached` is looked at where
+/// `has_detached` isn't 0.
+#[unsafe(no_mangle)]
+pub extern "C" fn coset_structure(
+    alloc: Global,
+    kind: u32,
+    input: &[u8],
+    index: usize,
+    external_aad: &[u8],
+    has_detached: u32,
+    detached: &[u8],
+    out: &mut [u8],
+    len: &mut usize,
+) -> i32
+    ensures { MatchOption (kind_of kind) (IsMisuse result len.new 0 × (out.new ≡ out.old))
+        (λ k. Replies (Answers k input.now (IsStructure k index external_aad.now
+        (bytes_if has_detached detached.now)) out.old out.new) result len.new) }
+{
+    match kind_of(kind) {
+        Some(kind) => {
+            let detached = bytes_if(has_detached, detached);
+            reply(
+                structure_of(alloc, kind, input, index, external_aad, detached, out),
+                len,
+            )
+        }
+        None => misused(0, len),
+    }
+}
+
+/// Writes what goes with the ciphertext of the recipient that the input is, by the kind that holds it.
+#[unsafe(no_mangle)]
+pub extern "C" fn coset_recipient_structure(
+    alloc: Global,
+    holder: u32,
+    input: &[u8],
+    external_aad: &[u8],
+    out: &mut [u8],
+    len: &mut usize,
+) -> i32
+    ensures { MatchOption (kind_of holder) (IsMisuse result len.new 0 × (out.new ≡ out.old))
+        (λ k. Replies (Answers Recipient input.now (IsRecipientStructure k external_aad.now)
+        out.old out.new) result len.new) }
+{
+    match kind_of(holder) {
+        Some(holder) => reply(
+            recipient_structure_of(alloc, holder, input, external_aad, out),
+            len,
+        ),
+        None => misused(0, len),
+    }
+}

@@ -1,0 +1,183 @@
+//! Numbers as kinds, parts and maps.
+
+ghost use Rattle.std.specs.Prelude.{◌≡◌};
+ghost use Rattle.std.specs.Option.{option_copied};
+ghost use Rattle.ffi_c.specs.Numbers.{bytes_if, form_of, kind_of, map_of, map_query, message_of, order_of, other_of, part_of, part_query, sign1_form};
+
+use coset::CborOrdering;
+use ffi_query::{Form, Kind, Map, Part};
+
+const COSET_SIGN1: u32 = 1;
+
+const COSET_SIGN: u32 = 2;
+
+const COSET_MAC0: u32 = 3;
+
+const COSET_MAC: u32 = 4;
+
+const COSET_ENCRYPT0: u32 = 5;
+
+const COSET_ENCRYPT: u32 = 6;
+
+const COSET_SIGNATURE: u32 = 7;
+
+const COSET_RECIPIENT: u32 = 8;
+
+const COSET_HEADER: u32 = 9;
+
+const COSET_KEY: u32 = 10;
+
+const COSET_KEY_SET: u32 = 11;
+
+const COSET_CLAIMS: u32 = 12;
+
+/// Added to a message's number: under its tag.
+const COSET_TAGGED: u32 = 0x100;
+/// Added to a message's number: under its tag or plain.
+const COSET_EITHER: u32 = 0x200;
+
+const COSET_PROTECTED: u32 = 1;
+
+const COSET_PAYLOAD: u32 = 2;
+
+const COSET_CIPHERTEXT: u32 = 3;
+
+const COSET_PROOF: u32 = 4;
+
+pub(crate) const COSET_IN_PROTECTED: u32 = 1;
+
+pub(crate) const COSET_IN_UNPROTECTED: u32 = 2;
+
+const COSET_IN_ITEM: u32 = 3;
+
+const COSET_LEXICOGRAPHIC: u32 = 1;
+
+const COSET_LENGTH_FIRST: u32 = 2;
+
+/// The form of a message, by what is added to its number.
+fn form_of(added: u32) -> Option<Form>
+    ensures { result ≡ form_of added }
+{
+    match added {
+        0 => Some(Form::Plain),
+        COSET_TAGGED => Some(Form::Tagged),
+        COSET_EITHER => Some(Form::Either),
+        _ => None,
+    }
+}
+
+/// The message of that number and form.
+fn message_of(number: u32, form: Form) -> Option<Kind>
+    ensures { result ≡ message_of number form }
+{
+    match number {
+        COSET_SIGN1 => Some(Kind::Sign1(form)),
+        COSET_SIGN => Some(Kind::Sign(form)),
+        COSET_MAC0 => Some(Kind::Mac0(form)),
+        COSET_MAC => Some(Kind::Mac(form)),
+        COSET_ENCRYPT0 => Some(Kind::Encrypt0(form)),
+        COSET_ENCRYPT => Some(Kind::Encrypt(form)),
+        _ => None,
+    }
+}
+
+/// The kind of that number that is no message.
+fn other_of(number: u32) -> Option<Kind>
+    ensures { result ≡ other_of number }
+{
+    match number {
+        COSET_SIGNATURE => Some(Kind::Signature),
+        COSET_RECIPIENT => Some(Kind::Recipient),
+        COSET_HEADER => Some(Kind::Header),
+        COSET_KEY => Some(Kind::Key),
+        COSET_KEY_SET => Some(Kind::KeySet),
+        COSET_CLAIMS => Some(Kind::Claims),
+        _ => None,
+    }
+}
+
+/// The kind of that number.
+pub(crate) fn kind_of(number: u32) -> Option<Kind>
+    ensures { result ≡ kind_of number }
+{
+    if let Some(kind) = other_of(number) {
+        return Some(kind);
+    }
+    match form_of(number - number % 0x100) {
+        Some(form) => message_of(number % 0x100, form),
+        None => None,
+    }
+}
+
+/// The form in which a message with one signature is asked for, where the number means one.
+pub(crate) fn sign1_form(number: u32) -> Option<Form>
+    ensures { result ≡ sign1_form number }
+{
+    match kind_of(number) {
+        Some(Kind::Sign1(form)) => Some(form),
+        _ => None,
+    }
+}
+
+/// The part of that number.
+fn part_of(number: u32) -> Option<Part>
+    ensures { result ≡ part_of number }
+{
+    match number {
+        COSET_PROTECTED => Some(Part::Protected),
+        COSET_PAYLOAD => Some(Part::Payload),
+        COSET_CIPHERTEXT => Some(Part::Ciphertext),
+        COSET_PROOF => Some(Part::Proof),
+        _ => None,
+    }
+}
+
+/// The map of that number.
+fn map_of(number: u32) -> Option<Map>
+    ensures { result ≡ map_of number }
+{
+    match number {
+        COSET_IN_PROTECTED => Some(Map::Protected),
+        COSET_IN_UNPROTECTED => Some(Map::Unprotected),
+        COSET_IN_ITEM => Some(Map::Item),
+        _ => None,
+    }
+}
+
+/// The kind and the part of these numbers.
+pub(crate) fn part_query(kind: u32, part: u32) -> Option<(Kind, Part)>
+    ensures { result ≡ part_query kind part }
+{
+    match (kind_of(kind), part_of(part)) {
+        (Some(kind), Some(part)) => Some((kind, part)),
+        _ => None,
+    }
+}
+
+/// The kind and the map of these numbers.
+pub(crate) fn map_query(kind: u32, map: u32) -> Option<(Kind, Map)>
+    ensures { result ≡ map_query kind map }
+{
+    match (kind_of(kind), map_of(map)) {
+        (Some(kind), Some(map)) => Some((kind, map)),
+        _ => None,
+    }
+}
+
+/// The bytes, where the number isn't 0.
+pub(crate) fn bytes_if(has_bytes: u32, bytes: &[u8]) -> Option<&[u8]>
+    ensures { option_copied result ≡ bytes_if has_bytes bytes.now }
+{
+    if has_bytes == 0 { None } else { Some(bytes) }
+}
+
+/// The order of labels of that number.
+pub(crate) fn order_of(number: u32) -> Option<CborOrdering>
+    ensures { result ≡ order_of number }
+{
+    match number {
+        COSET_LEXICOGRAPHIC => Some(CborOrdering::Lexicographic),
+        COSET_LENGTH_FIRST => Some(CborOrdering::LengthFirstLexicographic),
+        _ => None,
+    }
+}

@@ -1,0 +1,117 @@
+//! Answers as C is given them: a status, and a number in a place of the caller's.
+
+ghost use Rattle.std.specs.Prelude.{◌≡◌, pos};
+ghost use Rattle.ffi_query.specs.Faults.{IsOffset};
+ghost use Rattle.ffi_c.specs.Replies.{IsMisuse, IsToldOffset, check_status, integer_of, length_of, reply_status, status_number};
+
+use coset::CoseError;
+use ffi_query::{Refusal, Status, fault_offset};
+
+/// All is well.
+const COSET_OK: i32 = 0;
+/// The answer is longer than the memory for it.
+const COSET_SHORT: i32 = 1;
+/// A request for memory was refused.
+const COSET_MEMORY: i32 = 2;
+/// The bytes end before the item does.
+const COSET_ENDS: i32 = 3;
+/// The bytes aren't well-formed.
+const COSET_MALFORMED: i32 = 4;
+/// Arrays, maps and tags nest too deep.
+const COSET_DEEP: i32 = 5;
+/// Bytes follow the item.
+const COSET_EXTRANEOUS: i32 = 6;
+/// An item isn't as its place asks.
+const COSET_UNEXPECTED: i32 = 7;
+/// Two keys of a map are one label.
+const COSET_DUPLICATE: i32 = 8;
+/// An integer lies outside the range of its place.
+const COSET_OUT_OF_RANGE: i32 = 9;
+/// An integer without a name, in a registry without a private range.
+const COSET_UNREGISTERED: i32 = 10;
+/// An integer without a name and outside the private range of its registry.
+const COSET_NOT_PRIVATE: i32 = 11;
+/// What is asked for isn't there.
+const COSET_ABSENT: i32 = 12;
+/// A number of no kind, no part or no map.
+const COSET_MISUSE: i32 = 13;
+
+/// The number of a status.
+fn status_number(status: Status) -> i32
+    ensures { result ≡ pos (status_number status) }
+{
+    match status {
+        Status::Short => COSET_SHORT,
+        Status::Memory => COSET_MEMORY,
+        Status::Ends => COSET_ENDS,
+        Status::Malformed => COSET_MALFORMED,
+        Status::Deep => COSET_DEEP,
+        Status::Extraneous => COSET_EXTRANEOUS,
+        Status::Unexpected => COSET_UNEXPECTED,
+        Status::Duplicate => COSET_DUPLICATE,
+        Status::OutOfRange => COSET_OUT_OF_RANGE,
+        Status::Unregistered => COSET_UNREGISTERED,
+        Status::NotPrivate => COSET_NOT_PRIVATE,
+        Status::Absent => COSET_ABSENT,
+    }
+}
+
+/// The status of an answer that is a length or a count; that is in the place afterwards, and so is the length that is
+/// needed where the answer is too long, and else 0.
+pub(crate) fn reply(answer: Result<usize, Refusal>, place: &mut usize) -> i32
+    ensures status { result ≡ reply_status answer }
+    ensures number { place.new ≡ length_of answer }
+{
+    *place = match &answer {
+        Ok(length) => *length,
+        Err(Refusal::Short(length)) => *length,
+        Err(_) => 0,
+    };
+    match answer {
+        Ok(_) => COSET_OK,
+        Err(refusal) => status_number(refusal.status()),
+    }
+}
+
+/// The status of an answer that is an integer, which is in the place afterwards, and else 0.
+pub(crate) fn reply_integer(answer: Result<i64, Refusal>, place: &mut i64) -> i32
+    ensures status { result ≡ reply_status answer }
+    ensures number { place.new ≡ integer_of answer }
+{
+    match answer {
+        Ok(integer) => {
+            *place = integer;
+            COSET_OK
+        }
+        Err(refusal) => {
+            *place = 0;
+            status_number(refusal.status())
+        }
+    }
+}
+
+/// The status of a check of these bytes; where they stop being one item is in the place afterwards, or the greatest
+/// number where nothing is said of that.
+pub(crate) fn reply_check(answer: Result<(), CoseError>, bytes: &[u8], place: &mut usize) -> i32
+    ensures status { result ≡ check_status answer }
+    ensures offset { IsToldOffset bytes.now answer place.new }
+{
+    match answer {
+        Ok(()) => {
+            *place = usize::MAX;
+            COSET_OK
+        }
+        Err(error) => {
+            *place = fault_offset(bytes).unwrap_or(usize::MAX);
+            status_number(Refusal::Cose(error).status())
+        }
+    }
+}
+
+/// The status of a number without a meaning. What is given is in the place afterwards.
+pub(crate) fn misused<N: Copy>(given: N, place: &mut N) -> i32
+    ensures { IsMisuse result place.new given }
+{
+    *place = given;
+    COSET_MISUSE
+}

@@ -1,0 +1,76 @@
+-- What calls are given: bytes that should be one item, labels, and values by what they hold.
+use Rattle.std.specs.Prelude.{◌≡◌, ℕ, ℤ, List, [], ◌∷◌, Result, Ok, Err}
+use Rattle.std.specs.Str.{IsUtf8}
+use Rattle.std.specs.Str.Lossy.{utf8_valid_len}
+use Rattle.coset.specs.Item.{Item, integer, bytes, text}
+use Rattle.coset.specs.Grammar.{IsItem}
+use Rattle.coset.specs.Answers.{IsWholeFault}
+use Rattle.coset.specs.CoseError.{CoseError}
+use Rattle.coset.specs.CoseError.TheVariants.{DecodeFailed}
+use Rattle.coset.specs.Error.TheVariants.{Syntax}
+use Rattle.coset.specs.Errors.{UnlessMemory}
+use Rattle.coset.specs.Names.{Name, number, text_label}
+use Rattle.ffi_make.specs.declared.given.Entry as entries
+use Rattle.ffi_make.specs.declared.given.Entry.TheVariants.{Integer, Bytes, Text, Encoded}
+
+-- the bytes are the item v; or there are none, and v is the item w
+abbrev pub IsAny : Item → List ℕ → Item → Type 0
+IsAny w [] v = v ≡ w
+IsAny w (x ∷ xs) v = IsItem (x ∷ xs) v
+
+-- there are bytes, and they aren't one item
+abbrev pub AnyFaults : List ℕ → CoseError → Type 0
+AnyFaults [] e = ⊥
+AnyFaults (x ∷ xs) e = IsWholeFault (x ∷ xs) e
+
+-- Reading bytes as one item, or as w where there are none
+abbrev pub ReadsAny : {T : Type 0} → Item → List ℕ → (T → Item) → Result T CoseError → Type 0
+ReadsAny w b item_of (Ok x) = IsAny w b (item_of x)
+ReadsAny w b item_of (Err e) = UnlessMemory e (AnyFaults b)
+
+-- the byte string that holds these
+abbrev pub byte_string : List ℕ → Item
+byte_string b = bytes b
+
+-- the item is the text string of these bytes, which are UTF-8
+abbrev pub IsText : List ℕ → Item → Type 0
+IsText t v = (v ≡ text t) × IsUtf8 t
+
+-- the bytes aren't UTF-8, and the error says where they stop being it
+abbrev pub IsTextFault : List ℕ → CoseError → Type 0
+IsTextFault t e = (IsUtf8 t → ⊥) × (e ≡ DecodeFailed (Syntax (utf8_valid_len t)))
+
+-- the item is that label: label = int / tstr (RFC 8152, section 1.4)
+abbrev pub IsKey : Name → Item → Type 0
+IsKey (number n) v = v ≡ integer n
+IsKey (text_label t) v = IsText t v
+
+abbrev pub KeyFaults : Name → CoseError → Type 0
+KeyFaults (number n) e = ⊥
+KeyFaults (text_label t) e = IsTextFault t e
+
+-- a value of a map by what it holds, without its memory
+pub data EntryView : Type 0 where
+  an_integer : ℤ → EntryView
+  a_string : List ℕ → EntryView
+  a_text : List ℕ → EntryView
+  an_encoding : List ℕ → EntryView
+
+abbrev pub entry_view : entries.Entry → EntryView
+entry_view (Integer n) = an_integer n
+entry_view (Bytes b) = a_string b.now
+entry_view (Text t) = a_text t.now
+entry_view (Encoded b) = an_encoding b.now
+
+-- the item is that value
+abbrev pub IsEntry : EntryView → Item → Type 0
+IsEntry (an_integer n) v = v ≡ integer n
+IsEntry (a_string b) v = v ≡ bytes b
+IsEntry (a_text t) v = IsText t v
+IsEntry (an_encoding b) v = IsItem b v
+
+abbrev pub EntryFaults : EntryView → CoseError → Type 0
+EntryFaults (an_integer n) e = ⊥
+EntryFaults (a_string b) e = ⊥
+EntryFaults (a_text t) e = IsTextFault t e
+EntryFaults (an_encoding b) e = IsWholeFault b e

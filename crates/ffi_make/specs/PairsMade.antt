@@ -1,0 +1,31 @@
+-- Maps with one pair more.
+use Rattle.std.specs.Prelude.{◌⊎◌, ℕ, List, Option, Some, None, Result}
+use Rattle.coset.specs.Item.{Item, dict, Pairs, no_pairs, pair}
+use Rattle.coset.specs.CoseError.{CoseError}
+use Rattle.coset.specs.Names.{Name}
+use Rattle.ffi_query.specs.declared.kind.Kind as kinds
+use Rattle.ffi_query.specs.declared.refusal.Refusal as refusals
+use Rattle.ffi_make.specs.Given.{AnyFaults, EntryFaults, EntryView, IsAny, IsEntry, IsKey, KeyFaults}
+use Rattle.ffi_make.specs.Makes.{MakesOf}
+
+-- the one list of pairs behind the other
+abbrev pub pairs_and : Pairs → Pairs → Pairs
+pairs_and no_pairs qs = qs
+pairs_and (pair k v ps) qs = pair k v (pairs_and ps qs)
+
+-- a map, with this pair behind all others
+abbrev pub with_pair : Item → Item → Item → Option Item
+with_pair k v (dict ps) = Some (dict (pairs_and ps (pair k v no_pairs)))
+with_pair k v m = None
+
+-- what is given to `put`: a map, which no bytes are an empty one of, and the key and the value of a pair
+abbrev pub AreGiven : List ℕ → Name → EntryView → Item × (Item × Item) → Type 0
+AreGiven b l e g = IsAny (dict no_pairs) b g.0 × (IsKey l g.1.0 × IsEntry e g.1.1)
+
+-- one of them is at fault
+abbrev pub PairFaults : List ℕ → Name → EntryView → CoseError → Type 0
+PairFaults b l e f = AnyFaults b f ⊎ (KeyFaults l f ⊎ EntryFaults e f)
+
+-- What `put` returns: it makes an item of that kind, a map with this pair more
+abbrev pub PutsPair : kinds.Kind → List ℕ → Name → EntryView → List ℕ → List ℕ → Result ℕ refusals.Refusal → Type 0
+PutsPair k b l e old new r = MakesOf k (AreGiven b l e) (PairFaults b l e) (λ g. with_pair g.1.0 g.1.1 g.0) old new r

@@ -1,0 +1,22 @@
+//! Lists of values.
+
+ghost use Rattle.std.specs.Prelude.{◌≡◌, IfOk, IfErr};
+ghost use Rattle.coset.specs.CoseError.TheVariants.{OutOfMemory};
+ghost use Rattle.coset.specs.View.{value_items, value_item};
+ghost use Rattle.ffi_make.specs.Messages.{and_item};
+
+use coset::Result;
+use coset::cbor::value::Value;
+
+/// The values, and one more behind them.
+///
+/// # Errors
+/// `OutOfMemory` alone.
+pub(crate) fn and_value(mut values: Vec<Value>, value: Value) -> Result<Vec<Value>>
+    ensures values { IfOk result (λ vs. value_items vs.items
+        ≡ and_item (value_items values.items) (value_item value)) }
+    ensures memory { IfErr result (λ e. e ≡ OutOfMemory) }
+{
+    values.push(value)?;
+    Ok(values)
+}

@@ -1,0 +1,57 @@
+-- What is said of a message with one signature.
+use Rattle.std.proofs.Common.{◌≡◌, ◌∙◌, ◌==◌, ℕ, List, Result, Ok, Err, Bool, true, false, ap, sym, subst, arith, true≢false}
+use Rattle.std.proofs.lemmas.Bool.{eqb-true}
+use Rattle.coset.specs.Item.{Item, integer, bytes, float, text, boolean, null, tag, array, dict}
+use Rattle.coset.specs.Grammar.{IsItem}
+use Rattle.coset.specs.Answers.{IsOnlyItem}
+use Rattle.ffi_query.specs.declared.kind.Kind as kinds
+use Rattle.ffi_query.specs.declared.label.Map.TheVariants as of
+use Rattle.ffi_query.specs.declared.view.Algorithm as algorithms
+use Rattle.ffi_query.specs.declared.view.Algorithm.TheVariants as named
+use Rattle.ffi_query.specs.declared.refusal.Refusal as refusals
+use Rattle.ffi_query.specs.declared.refusal.Refusal.TheVariants.{Short, Absent, Cose}
+use Rattle.ffi_query.specs.Answers.{AnswersWith, PutsWith}
+use Rattle.ffi_query.specs.Kinds.{IsItemOf, is_under}
+use Rattle.ffi_query.specs.Labels.{IsUnder}
+use Rattle.ffi_query.specs.View.{HasAlgorithm, IsAlgorithm, TellsTag, alg_label}
+
+-- ---- the tag
+
+same_number : (n : ℕ) → (n == n) ≡ true
+same_number n = grind arith
+
+under_some : (n : ℕ) (w : Item) → is_under n w ≡ true → (u : Item) × (w ≡ tag n u)
+under_some n (tag t v) e = (v, ap (λ m. tag m v) (eqb-true t n e))
+under_some n (integer z) e = absurd (true≢false (sym e))
+under_some n (bytes s) e = absurd (true≢false (sym e))
+under_some n (float x) e = absurd (true≢false (sym e))
+under_some n (text s) e = absurd (true≢false (sym e))
+under_some n (boolean b) e = absurd (true≢false (sym e))
+under_some n null e = absurd (true≢false (sym e))
+under_some n (array vs) e = absurd (true≢false (sym e))
+under_some n (dict ps) e = absurd (true≢false (sym e))
+
+pub tells_tag : (n : ℕ) (b : List ℕ) (w : Item) (x : Bool) → IsOnlyItem b w → x ≡ is_under n w → TellsTag n b x
+tells_tag n b w true is e = let u = under_some n w (sym e) in (u.0, subst (IsItem b) u.1 is.0)
+tells_tag n b w false is e =
+    λ h. let same : is_under n (tag n h.0) ≡ is_under n w = ap (is_under n) (is.1 (tag n h.0) h.1) in
+    true≢false (sym (same_number n) ∙ (same ∙ sym e))
+
+-- ---- the algorithm
+
+pub algorithm_found :
+    (k : kinds.Kind) (v w : Item) (a : algorithms.Algorithm) → IsUnder k of.Protected alg_label v w → IsAlgorithm w a
+    → HasAlgorithm k v a
+algorithm_found k v w named.Absent u h = absurd h
+algorithm_found k v w (named.Number n) u h = (w, u, h)
+algorithm_found k v w named.Text u h = (w, u, h)
+
+-- ---- from what is said to what is returned
+
+pub viewed :
+    {N : Type 0} (k : kinds.Kind) (b old new : List ℕ) (P : Item → N → List ℕ → Type 0) (v : Item) (n : N) (t : List ℕ)
+    (r : Result N refusals.Refusal) → IsItemOf k b v → P v n t → PutsWith n t old new r → AnswersWith k b P old new r
+viewed k b old new P v n t (Ok m) i p w = (v, i, (t, subst (λ x. P v x t) (sym w.0) p, w.1))
+viewed k b old new P v n t (Err (Short m)) i p w = (v, i, (n, (t, p, w)))
+viewed k b old new P v n t (Err Absent) i p w = absurd w
+viewed k b old new P v n t (Err (Cose e)) i p w = absurd w

@@ -1,0 +1,74 @@
+-- What calls answer that write into the caller's memory.
+use Rattle.std.specs.Prelude.{◌≡◌, ◌<◌, ◌≤◌, ℕ, List, ◌++◌, length, drop, Option, Some, None, Result, Ok, Err}
+use Rattle.coset.specs.Item.{Item}
+use Rattle.coset.specs.CoseError.{CoseError}
+use Rattle.coset.specs.Shortest.{IsShortest}
+use Rattle.ffi_query.specs.declared.kind.Kind as kinds
+use Rattle.ffi_query.specs.declared.refusal.Refusal as refusals
+use Rattle.ffi_query.specs.declared.refusal.Refusal.TheVariants.{Short, Absent, Cose}
+use Rattle.ffi_query.specs.Kinds.{IsItemOf, IsRefused}
+
+-- the memory begins with the text, and goes on as it was
+abbrev pub BeginsWith : List ℕ → List ℕ → List ℕ → Type 0
+BeginsWith t old new = (length t ≤ length old) × (new ≡ t ++ drop (length t) old)
+
+-- Writing the text into the memory: it begins with the text, whose length is returned; or it has no room for that, is as it
+-- was, and the length that is needed is returned
+abbrev pub Puts : List ℕ → List ℕ → List ℕ → Result ℕ refusals.Refusal → Type 0
+Puts t old new (Ok n) = BeginsWith t old new × (n ≡ length t)
+Puts t old new (Err (Short n)) = (length old < length t) × (new ≡ old) × (n ≡ length t)
+Puts t old new (Err Absent) = ⊥
+Puts t old new (Err (Cose e)) = ⊥
+
+-- What a call answers that writes the text of which P holds, of the item that the bytes are: it is at the front of the
+-- memory, or that has no room for it; or there is none; or the bytes are no such item. But for the first the memory is as it
+-- was
+abbrev pub Answers : kinds.Kind → List ℕ → (Item → List ℕ → Type 0) → List ℕ → List ℕ → Result ℕ refusals.Refusal → Type 0
+Answers k b P old new (Ok n) = (v : Item) × IsItemOf k b v × ((t : List ℕ) × P v t × Puts t old new (Ok n))
+Answers k b P old new (Err (Short n)) = (v : Item) × IsItemOf k b v × ((t : List ℕ) × P v t × Puts t old new (Err (Short n)))
+Answers k b P old new (Err Absent) = (v : Item) × IsItemOf k b v × ((t : List ℕ) → P v t → ⊥) × (new ≡ old)
+Answers k b P old new (Err (Cose e)) = IsRefused k b e × (new ≡ old)
+
+-- What a call answers that writes a text and says something beside it, of both of which P holds, of the item that the bytes
+-- are: the text is at the front of the memory, or that has no room for it, and the length that is needed is returned; or
+-- there are no such two; or the bytes are no such item. But for the first the memory is as it was
+abbrev pub AnswersWith :
+    {N : Type 0} → kinds.Kind → List ℕ → (Item → N → List ℕ → Type 0) → List ℕ → List ℕ → Result N refusals.Refusal → Type 0
+AnswersWith k b P old new (Ok n) = (v : Item) × IsItemOf k b v × ((t : List ℕ) × P v n t × BeginsWith t old new)
+AnswersWith {N} k b P old new (Err (Short m)) =
+    (v : Item) × IsItemOf k b v × ((n : N) × ((t : List ℕ) × P v n t × Puts t old new (Err (Short m))))
+AnswersWith {N} k b P old new (Err Absent) = (v : Item) × IsItemOf k b v × ((n : N) (t : List ℕ) → P v n t → ⊥) × (new ≡ old)
+AnswersWith k b P old new (Err (Cose e)) = IsRefused k b e × (new ≡ old)
+
+-- What a call returns that gives a number of which P says what it is, of the item that the bytes are: the number; or that
+-- there is none; or why the bytes are no such item
+abbrev pub AnswersNumber : {N : Type 0} → kinds.Kind → List ℕ → (Item → N → Type 0) → Result N refusals.Refusal → Type 0
+AnswersNumber k b P (Ok n) = (v : Item) × IsItemOf k b v × P v n
+AnswersNumber k b P (Err (Short n)) = ⊥
+AnswersNumber {N} k b P (Err Absent) = (v : Item) × IsItemOf k b v × ((n : N) → P v n → ⊥)
+AnswersNumber k b P (Err (Cose e)) = IsRefused k b e
+
+-- Writing the text into the memory, and telling n where it has room
+abbrev pub PutsWith : {N : Type 0} → N → List ℕ → List ℕ → List ℕ → Result N refusals.Refusal → Type 0
+PutsWith n t old new (Ok m) = (m ≡ n) × BeginsWith t old new
+PutsWith n t old new (Err r) = Puts t old new (Err r)
+
+-- Writing what was found
+abbrev pub WritesFound : {T : Type 0} → (T → List ℕ) → Result (Option T) CoseError → List ℕ → List ℕ → Result ℕ refusals.Refusal → Type 0
+WritesFound bytes_of (Ok (Some x)) old new r = Puts (bytes_of x) old new r
+WritesFound bytes_of (Ok None) old new r = (r ≡ Err Absent) × (new ≡ old)
+WritesFound bytes_of (Err e) old new r = (r ≡ Err (Cose e)) × (new ≡ old)
+
+-- what was found is a text of which P holds, or there is none
+abbrev pub Finds : {T A : Type 0} → (T → A) → (A → Type 0) → Option T → Type 0
+Finds view P (Some x) = P (view x)
+Finds {A = A} view P None = (a : A) → P a → ⊥
+
+-- something was found, with a text, of both of which P holds, or there are no such two
+abbrev pub FindsWith : {T N : Type 0} → (T → N) → (T → List ℕ) → (N → List ℕ → Type 0) → Option T → Type 0
+FindsWith view text_of P (Some x) = P (view x) (text_of x)
+FindsWith {N = N} view text_of P None = (n : N) (t : List ℕ) → P n t → ⊥
+
+-- the shortest encoding of that item, where there is one
+abbrev pub IsEncodingOf : Option Item → List ℕ → Type 0
+IsEncodingOf o t = (w : Item) × (o ≡ Some w) × IsShortest t w

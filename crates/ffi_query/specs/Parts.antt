@@ -1,0 +1,59 @@
+-- The parts of an item (RFC 8152, sections 3 to 7).
+use Rattle.std.specs.Prelude.{◌≡◌, ℕ, List, Option, Some, None, Bool, true, false, option_and_then, if◌then◌else◌}
+use Rattle.coset.specs.Item.{Item, Items, items_count}
+use Rattle.ffi_query.specs.declared.kind.Kind as kinds
+use Rattle.ffi_query.specs.declared.kind.Kind.TheVariants.{Sign1, Sign, Mac0, Mac, Encrypt0, Encrypt, Signature, Recipient, Header, Key, KeySet, Claims}
+use Rattle.ffi_query.specs.declared.part.Part as parts
+use Rattle.ffi_query.specs.declared.part.Part.TheVariants.{Protected, Payload, Ciphertext, Proof}
+use Rattle.ffi_query.specs.Places.{bytes_in, member_at, members}
+use Rattle.ffi_query.specs.Answers.{IsEncodingOf}
+
+-- its items are arrays that begin with two headers
+abbrev pub has_headers : kinds.Kind → Bool
+has_headers Header = false
+has_headers Key = false
+has_headers KeySet = false
+has_headers Claims = false
+has_headers k = true
+
+-- payload : bstr / nil
+abbrev pub payload_place : kinds.Kind → Option ℕ
+payload_place (Sign1 f) = Some 2
+payload_place (Sign f) = Some 2
+payload_place (Mac0 f) = Some 2
+payload_place (Mac f) = Some 2
+payload_place k = None
+
+-- ciphertext : bstr / nil
+abbrev pub ciphertext_place : kinds.Kind → Option ℕ
+ciphertext_place (Encrypt0 f) = Some 2
+ciphertext_place (Encrypt f) = Some 2
+ciphertext_place Recipient = Some 2
+ciphertext_place k = None
+
+-- signature : bstr, or tag : bstr
+abbrev pub proof_place : kinds.Kind → Option ℕ
+proof_place (Sign1 f) = Some 3
+proof_place (Mac0 f) = Some 3
+proof_place (Mac f) = Some 3
+proof_place Signature = Some 2
+proof_place k = None
+
+-- which element of the array the part is
+abbrev pub place_of : parts.Part → kinds.Kind → Option ℕ
+place_of Protected k = if has_headers k then Some 0 else None
+place_of Payload k = payload_place k
+place_of Ciphertext k = ciphertext_place k
+place_of Proof k = proof_place k
+
+-- the part of the item v of that kind holds the text t
+abbrev pub IsPart : kinds.Kind → parts.Part → Item → List ℕ → Type 0
+IsPart k p v t = option_and_then (λ n. bytes_in n v) (place_of p k) ≡ Some t
+
+-- t is the shortest encoding of the element of that index
+abbrev pub IsMember : kinds.Kind → ℕ → Item → List ℕ → Type 0
+IsMember k i v t = IsEncodingOf (member_at k i v) t
+
+-- there are so many elements
+abbrev pub IsCount : kinds.Kind → Item → ℕ → Type 0
+IsCount k v n = (vs : Items) × (members k v ≡ Some vs) × (n ≡ items_count vs)

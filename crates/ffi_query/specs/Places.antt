@@ -1,0 +1,38 @@
+-- What is at places in an item.
+use Rattle.std.specs.Prelude.{ℕ, zero, suc, List, Option, Some, None, option_and_then}
+use Rattle.coset.specs.Item.{Item, Items, no_items, item}
+use Rattle.coset.specs.Parts.{as_array, as_bytes}
+use Rattle.ffi_query.specs.declared.kind.Kind as kinds
+use Rattle.ffi_query.specs.declared.kind.Kind.TheVariants.{Sign, Mac, Encrypt, Recipient, KeySet}
+
+-- the one of that index
+abbrev pub nth : ℕ → Items → Option Item
+nth n no_items = None
+nth zero (item v vs) = Some v
+nth (suc n) (item v vs) = nth n vs
+
+-- the element of that index of an array
+abbrev pub element : ℕ → Item → Option Item
+element n v = option_and_then (nth n) (as_array v)
+
+-- what it holds, where it is a byte string
+abbrev pub bytes_in : ℕ → Item → Option (List ℕ)
+bytes_in n v = option_and_then as_bytes (element n v)
+
+-- what is in it, where it is an array
+abbrev pub array_in : ℕ → Item → Option Items
+array_in n v = option_and_then as_array (element n v)
+
+-- the signatures of a message, the recipients of a message or of a recipient, or the keys of a set (RFC 8152, sections 4.1,
+-- 5.1, 6.1 and 7)
+abbrev pub members : kinds.Kind → Item → Option Items
+members (Sign f) v = array_in 3 v
+members (Encrypt f) v = array_in 3 v
+members Recipient v = array_in 3 v
+members (Mac f) v = array_in 4 v
+members KeySet v = as_array v
+members k v = None
+
+-- the one of that index
+abbrev pub member_at : kinds.Kind → ℕ → Item → Option Item
+member_at k i v = option_and_then (nth i) (members k v)

@@ -1,0 +1,77 @@
+-- What is signed, authenticated, or goes with a ciphertext, of a message as it was received (RFC 8152, sections 4.4, 5.3 and
+-- 6.3).
+use Rattle.std.specs.Prelude.{ℕ, List, [], ◌∷◌, Option, Some, None, codes, option_and_then}
+use Rattle.coset.specs.Item.{Item, null}
+use Rattle.coset.specs.Parts.{as_bytes}
+use Rattle.coset.specs.Structure.{structure}
+use Rattle.ffi_query.specs.declared.kind.Kind as kinds
+use Rattle.ffi_query.specs.declared.kind.Kind.TheVariants.{Sign1, Sign, Mac0, Mac, Encrypt0, Encrypt, Recipient}
+use Rattle.ffi_query.specs.Answers.{IsEncodingOf}
+use Rattle.ffi_query.specs.Places.{bytes_in, element, member_at}
+
+-- what is given where the payload is nil, so that it is detached
+abbrev pub detached_in : Item → List ℕ → Option (List ℕ)
+detached_in null d = Some d
+detached_in v d = None
+
+-- what is signed or authenticated where this is the payload's place: what it holds, or what is given where it is nil
+abbrev pub content_at : Item → Option (List ℕ) → Option (List ℕ)
+content_at v None = as_bytes v
+content_at v (Some d) = detached_in v d
+
+abbrev pub content_in : Option Item → Option (List ℕ) → Option (List ℕ)
+content_in o d = option_and_then (λ v. content_at v d) o
+
+-- Enc_structure = [context : tstr, protected : bstr, external_aad : bstr], where the header's bytes are there
+abbrev pub structure_of_one : List ℕ → List ℕ → Option (List ℕ) → Option Item
+structure_of_one context aad None = None
+structure_of_one context aad (Some p) = Some (structure context (p ∷ aad ∷ []))
+
+abbrev pub encryption_structure : List ℕ → List ℕ → Item → Option Item
+encryption_structure context aad v = structure_of_one context aad (bytes_in 0 v)
+
+-- MAC_structure = [context : tstr, protected : bstr, external_aad : bstr, payload : bstr], and Sig_structure without a signer's
+-- header: of these bytes of the header and this payload, where both are there
+abbrev pub structure_of_two : List ℕ → List ℕ → Option (List ℕ) → Option (List ℕ) → Option Item
+structure_of_two context aad (Some p) (Some c) = Some (structure context (p ∷ aad ∷ c ∷ []))
+structure_of_two context aad p c = None
+
+abbrev pub content_structure : List ℕ → List ℕ → Option (List ℕ) → Item → Option Item
+content_structure context aad d v = structure_of_two context aad (bytes_in 0 v) (content_in (element 2 v) d)
+
+-- what the protected header of the signer of that index holds
+abbrev pub signer_in : kinds.Kind → ℕ → Item → Option (List ℕ)
+signer_in k i v = option_and_then (bytes_in 0) (member_at k i v)
+
+-- Sig_structure = [context : "Signature", body_protected : bstr, sign_protected : bstr, external_aad : bstr, payload : bstr]
+abbrev pub structure_of_three : List ℕ → Option (List ℕ) → Option (List ℕ) → Option (List ℕ) → Option Item
+structure_of_three aad (Some p) (Some q) (Some c) = Some (structure (codes "Signature") (p ∷ q ∷ aad ∷ c ∷ []))
+structure_of_three aad p q c = None
+
+abbrev pub signer_structure : kinds.Kind → ℕ → List ℕ → Option (List ℕ) → Item → Option Item
+signer_structure k i aad d v = structure_of_three aad (bytes_in 0 v) (signer_in k i v) (content_in (element 2 v) d)
+
+-- the structure of the item v of that kind, by the context's text
+abbrev pub structure_in : kinds.Kind → ℕ → List ℕ → Option (List ℕ) → Item → Option Item
+structure_in (Sign1 f) i aad d v = content_structure (codes "Signature1") aad d v
+structure_in (Sign f) i aad d v = signer_structure (Sign f) i aad d v
+structure_in (Mac0 f) i aad d v = content_structure (codes "MAC0") aad d v
+structure_in (Mac f) i aad d v = content_structure (codes "MAC") aad d v
+structure_in (Encrypt0 f) i aad d v = encryption_structure (codes "Encrypt0") aad v
+structure_in (Encrypt f) i aad d v = encryption_structure (codes "Encrypt") aad v
+structure_in k i aad d v = None
+
+-- t is its shortest encoding
+abbrev pub IsStructure : kinds.Kind → ℕ → List ℕ → Option (List ℕ) → Item → List ℕ → Type 0
+IsStructure k i aad d v t = IsEncodingOf (structure_in k i aad d v) t
+
+-- the structure of the recipient v, by what holds it: context : "Enc_Recipient" / "Mac_Recipient" / "Rec_Recipient"
+abbrev pub recipient_structure_in : kinds.Kind → List ℕ → Item → Option Item
+recipient_structure_in (Encrypt f) aad v = encryption_structure (codes "Enc_Recipient") aad v
+recipient_structure_in (Mac f) aad v = encryption_structure (codes "Mac_Recipient") aad v
+recipient_structure_in Recipient aad v = encryption_structure (codes "Rec_Recipient") aad v
+recipient_structure_in k aad v = None
+
+-- t is the shortest encoding of the structure of a recipient
+abbrev pub IsRecipientStructure : kinds.Kind → List ℕ → Item → List ℕ → Type 0
+IsRecipientStructure h aad v t = IsEncodingOf (recipient_structure_in h aad v) t

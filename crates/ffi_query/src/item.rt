@@ -1,0 +1,159 @@
+//! The item of a kind that bytes are, lent, and what is at places in it.
+
+ghost use Rattle.std.specs.Prelude.{◌≡◌, option_map, IfOk, IfErr, MatchResult};
+ghost use Rattle.coset.specs.CoseError.TheVariants.{OutOfMemory};
+ghost use Rattle.coset.specs.Elements.{items_left};
+ghost use Rattle.coset.specs.PerhapsTagged.{untagged};
+ghost use Rattle.coset.specs.Pulls.{pull_item};
+ghost use Rattle.coset.specs.Shortest.{IsShortest};
+ghost use Rattle.coset.specs.View.{value_item};
+ghost use Rattle.ffi_query.specs.Kinds.{IsItemOf, IsRefused, IsWholeOf, is_under, without_tag};
+ghost use Rattle.ffi_query.specs.Places.{array_in, bytes_in, element, member_at, members, nth};
+
+use crate::kind::{Kind, check};
+use coset::Result;
+use coset::cbor::de::{Items, Pull};
+use coset::cbor::ser::write_value;
+use coset::cbor::value::Value;
+use coset_codec::traits::whole_item;
+use std::alloc::Global;
+
+/// What a tag of that number encloses, and any other item as it is.
+fn untagged(number: u64, item: Pull<'_>) -> Pull<'_>
+    ensures { pull_item result ≡ untagged number (pull_item item.entry) }
+{
+    match item.tag() {
+        Some((found, inner)) if found == number => inner,
+        _ => item,
+    }
+}
+
+/// The item without the tag of that number, where there is a number.
+pub(crate) fn without_tag(number: Option<u64>, item: Pull<'_>) -> Pull<'_>
+    ensures { pull_item result ≡ without_tag number (pull_item item.entry) }
+{
+    match number {
+        Some(number) => untagged(number, item),
+        None => item,
+    }
+}
+
+/// Whether the item is a tag of that number.
+pub(crate) fn is_under(number: u64, item: Pull<'_>) -> bool
+    ensures { result ≡ is_under number (pull_item item.entry) }
+{
+    match item.tag() {
+        Some((found, _)) => found == number,
+        None => false,
+    }
+}
+
+/// The item of that kind that the bytes are, with the tag that a message may be under.
+///
+/// # Errors
+/// The same as [`check`].
+pub(crate) fn whole_of(alloc: Global, kind: Kind, bytes: &[u8]) -> Result<Pull<'_>>
+    ensures { MatchResult result (λ item. IsWholeOf kind bytes.now (pull_item item)) (λ e.
+        IsRefused kind bytes.now e) }
+{
+    check(alloc, kind, bytes)?;
+    Ok(whole_item(bytes)?)
+}
+
+/// The item of that kind that the bytes are, without the tag that a message may be under.
+///
+/// # Errors
+/// The same as [`check`].
+pub(crate) fn item_of(alloc: Global, kind: Kind, bytes: &[u8]) -> Result<Pull<'_>>
+    ensures { MatchResult result (λ item. IsItemOf kind bytes.now (pull_item item)) (λ e.
+        IsRefused kind bytes.now e) }
+{
+    let whole = whole_of(alloc, kind, bytes)?;
+    Ok(without_tag(kind.tag(), whole))
+}
+
+/// The element of that index.
+fn nth(members: Items<'_>, index: usize) -> Option<Pull<'_>>
+    ensures { option_map pull_item result ≡ nth index (items_left members.entry) }
+{
+    let mut left = index;
+    for member in members {
+        if left == 0 {
+            return Some(member);
+        }
+        left -= 1;
+    }
+    None
+}
+
+/// The element of that index of an array.
+pub(crate) fn element(item: Pull<'_>, index: usize) -> Option<Pull<'_>>
+    ensures { option_map pull_item result ≡ element index (pull_item item.entry) }
+{
+    match item.items() {
+        Some(members) => nth(members, index),
+        None => None,
+    }
+}
+
+/// What the element of that index of an array holds, where it is a byte string.
+///
+/// # Errors
+/// `OutOfMemory` alone.
+pub(crate) fn bytes_in(alloc: Global, item: Pull<'_>, index: usize) -> Result<Option<Vec<u8>>>
+    ensures bytes { IfOk result (λ o. option_map (λ b. b.items) o
+        ≡ bytes_in index (pull_item item.entry)) }
+    ensures memory { IfErr result (λ e. e ≡ OutOfMemory) }
+{
+    match element(item, index) {
+        Some(found) => Ok(found.to_bytes(alloc)?),
+        None => Ok(None),
+    }
+}
+
+/// The signatures, recipients or keys of an item of that kind.
+pub(crate) fn members(kind: Kind, item: Pull<'_>) -> Option<Items<'_>>
+    ensures { option_map items_left result ≡ members kind (pull_item item.entry) }
+{
+    match kind {
+        Kind::Sign(_) => array_in(item, 3),
+        Kind::Encrypt(_) => array_in(item, 3),
+        Kind::Recipient => array_in(item, 3),
+        Kind::Mac(_) => array_in(item, 4),
+        Kind::KeySet => item.items(),
+        _ => None,
+    }
+}
+
+/// The elements of the element of that index, where that is an array.
+fn array_in(item: Pull<'_>, index: usize) -> Option<Items<'_>>
+    ensures { option_map items_left result ≡ array_in index (pull_item item.entry) }
+{
+    match element(item, index) {
+        Some(found) => found.items(),
+        None => None,
+    }
+}
+
+/// The signature, recipient or key of that index in an item of that kind.
+pub(crate) fn member_at(kind: Kind, item: Pull<'_>, index: usize) -> Option<Pull<'_>>
+    ensures { option_map pull_item result ≡ member_at kind index (pull_item item.entry) }
+{
+    match members(kind, item) {
+        Some(members) => nth(members, index),
+        None => None,
+    }
+}
+
+/// The shortest encoding of a value (RFC 8949, section 4.2.1).
+///
+/// # Errors
+/// `OutOfMemory` alone.
+pub(crate) fn encoding(alloc: Global, value: &Value) -> Result<Vec<u8>>
+    ensures shortest { IfOk result (λ b. IsShortest b.items (value_item value.now)) }
+    ensures memory { IfErr result (λ e. e ≡ OutOfMemory) }
+{
+    let mut out = Vec::new(alloc);
+    write_value(value, &mut out)?;
+    Ok(out)
+}

@@ -1,0 +1,309 @@
+//! The values of labels, in headers, keys and claims.
+
+ghost use Rattle.std.specs.Prelude.{◌≡◌, IfOk, IfErr, option_map};
+ghost use Rattle.coset.specs.CoseError.TheVariants.{OutOfMemory};
+ghost use Rattle.coset.specs.Elements.{pairs_left};
+ghost use Rattle.coset.specs.Pulls.{pull_item};
+ghost use Rattle.coset.specs.View.{value_item};
+ghost use Rattle.ffi_query.specs.Answers.{Answers, AnswersNumber, Finds};
+ghost use Rattle.ffi_query.specs.Labels.{IsNumber, IsNumberOf, IsProtected, IsStringOf, IsUnder, IsUnderIn, IsValueOf, first_value, is_label, label_view, string_in, unprotected_value, value_under};
+ghost use Rattle.ffi_query.specs.Places.{bytes_in};
+
+use crate::item::{bytes_in, element, encoding, item_of};
+use crate::kind::Kind;
+use crate::refusal::Refusal;
+use crate::written::write_found;
+use coset::Result;
+use coset::cbor::de::{Pairs, Pull};
+use coset::cbor::value::Value;
+use coset::laws::one_item;
+use coset_codec::traits::whole_item;
+use std::alloc::Global;
+
+/// Which map of an item.
+#[derive(Clone, Copy, Debug, PartialEq, Eq)]
+pub enum Map {
+    /// The protected header's, of a message, a signature or a recipient (RFC 8152, section 3).
+    Protected,
+    /// The unprotected header's.
+    Unprotected,
+    /// The item itself: a header, a key or a claims set.
+    Item,
+}
+
+/// A label of a map (RFC 8152, section 1.4): `label = int / tstr`.
+#[derive(Clone, Copy, Debug)]
+pub enum Label<'a> {
+    /// An integer.
+    Number(i64),
+    /// A text, as its UTF-8 bytes.
+    Text(&'a [u8]),
+}
+
+/// Whether the key is the label.
+///
+/// # Errors
+/// `OutOfMemory` alone.
+fn is_label(alloc: Global, label: Label<'_>, key: Pull<'_>) -> Result<bool>
+    ensures same { IfOk result (λ b. b ≡ is_label (label_view label.entry) (pull_item key.entry)) }
+    ensures memory { IfErr result (λ e. e ≡ OutOfMemory) }
+{
+    match label {
+        Label::Number(number) => match key.integer() {
+            Some(found) => Ok(i128::from(found) == i128::from(number)),
+            None => Ok(false),
+        },
+        Label::Text(text) => match key.to_text(alloc)? {
+            Some(found) => Ok(found.as_bytes() == text),
+            None => Ok(false),
+        },
+    }
+}
+
+/// The value of the first pair whose key is the label.
+///
+/// # Errors
+/// `OutOfMemory` alone.
+fn value_among(alloc: Global, label: Label<'_>, pairs: Pairs<'_>) -> Result<Option<Value>>
+    ensures value { IfOk result (λ o. option_map value_item o
+        ≡ first_value (is_label (label_view label.entry)) (pairs_left pairs.entry)) }
+    ensures memory { IfErr result (λ e. e ≡ OutOfMemory) }
+{
+    for (key, value) in pairs {
+        if is_label(alloc, label, key)? {
+            return Ok(Some(value.to_value(alloc)?));
+        }
+    }
+    Ok(None)
+}
+
+/// The value that is under the label in a map.
+///
+/// # Errors
+/// `OutOfMemory` alone.
+fn value_under(alloc: Global, label: Label<'_>, map: Pull<'_>) -> Result<Option<Value>>
+    ensures value { IfOk result (λ o. option_map value_item o
+        ≡ value_under (label_view label.entry) (pull_item map.entry)) }
+    ensures memory { IfErr result (λ e. e ≡ OutOfMemory) }
+{
+    match map.pairs() {
+        Some(pairs) => value_among(alloc, label, pairs),
+        None => Ok(None),
+    }
+}
+
+/// The value that is under the label in the map that the bytes are.
+///
+/// # Errors
+/// `OutOfMemory` alone.
+fn value_within(alloc: Global, label: Label<'_>, bytes: &[u8]) -> Result<Option<Value>>
+    ensures value { IfOk result (Finds value_item (IsUnderIn (label_view label.entry) bytes.now)) }
+    ensures memory { IfErr result (λ e. e ≡ OutOfMemory) }
+{
+    match whole_item(bytes) {
+        Ok(map) => value_under(alloc, label, map),
+        Err(_) => Ok(None),
+    }
+}
+
+/// The value that is under the label in the protected header of an item that begins with two.
+///
+/// # Errors
+/// `OutOfMemory` alone.
+fn protected_value(alloc: Global, label: Label<'_>, item: Pull<'_>) -> Result<Option<Value>>
+    ensures value { IfOk result (Finds value_item
+        (IsProtected (label_view label.entry) (bytes_in 0 (pull_item item.entry)))) }
+    ensures memory { IfErr result (λ e. e ≡ OutOfMemory) }
+{
+    match bytes_in(alloc, item, 0)? {
+        Some(bytes) => value_within(alloc, label, &bytes),
+        None => Ok(None),
+    }
+}
+
+/// The value that is under the label in the unprotected header of an item that begins with two.
+///
+/// # Errors
+/// `OutOfMemory` alone.
+fn unprotected_value(alloc: Global, label: Label<'_>, item: Pull<'_>) -> Result<Option<Value>>
+    ensures value { IfOk result (λ o. option_map value_item o
+        ≡ unprotected_value (label_view label.entry) (pull_item item.entry)) }
+    ensures memory { IfErr result (λ e. e ≡ OutOfMemory) }
+{
+    match element(item, 1) {
+        Some(map) => value_under(alloc, label, map),
+        None => Ok(None),
+    }
+}
+
+/// The value that is under the label in that map of an item of that kind.
+///
+/// # Errors
+/// `OutOfMemory` alone.
+pub(crate) fn find_value(
+    alloc: Global,
+    kind: Kind,
+    item: Pull<'_>,
+    map: Map,
+    label: Label<'_>,
+) -> Result<Option<Value>>
+    ensures value { IfOk result (Finds value_item
+        (IsUnder kind map (label_view label.entry) (pull_item item.entry))) }
+    ensures memory { IfErr result (λ e. e ≡ OutOfMemory) }
+{
+    match map {
+        Map::Protected => {
+            if kind.has_headers() {
+                protected_value(alloc, label, item)
+            } else {
+                Ok(None)
+            }
+        }
+        Map::Unprotected => {
+            if kind.has_headers() {
+                unprotected_value(alloc, label, item)
+            } else {
+                Ok(None)
+            }
+        }
+        Map::Item => value_under(alloc, label, item),
+    }
+}
+
+/// The shortest encoding of that value.
+///
+/// # Errors
+/// `OutOfMemory` alone.
+fn find_encoding(
+    alloc: Global,
+    kind: Kind,
+    item: Pull<'_>,
+    map: Map,
+    label: Label<'_>,
+) -> Result<Option<Vec<u8>>>
+    ensures found { IfOk result (Finds (λ b. b.items)
+        (IsValueOf kind map (label_view label.entry) (pull_item item.entry))) }
+    ensures memory { IfErr result (λ e. e ≡ OutOfMemory) }
+{
+    match find_value(alloc, kind, item, map, label)? {
+        Some(value) => Ok(Some(encoding(alloc, &value)?)),
+        None => Ok(None),
+    }
+}
+
+/// Writes the value that is under the label in that map of the item that the bytes are to the front of `out`, as its
+/// shortest encoding (RFC 8949, section 4.2.1), and returns the length of that.
+///
+/// # Errors
+/// `Short` where `out` has no room for it; `Absent` where the item has no such map, or that no such label; `Cose` as
+/// [`check`](crate::check) says. `out` is then as it was.
+pub fn value_of(
+    alloc: Global,
+    kind: Kind,
+    bytes: &[u8],
+    map: Map,
+    label: Label<'_>,
+    out: &mut [u8],
+) -> Result<usize, Refusal>
+    ensures { Answers kind bytes.now (IsValueOf kind map (label_view label.entry))
+        out.old out.new result }
+{
+    match item_of(alloc, kind, bytes) {
+        Ok(item) => write_found(find_encoding(alloc, kind, item, map, label), out),
+        Err(error) => Err(Refusal::Cose(error)),
+    }
+}
+
+/// What a byte string or a text string holds.
+fn string_in(value: Value) -> Option<Vec<u8>>
+    ensures { option_map (λ b. b.items) result ≡ string_in (value_item value) }
+{
+    match value {
+        Value::Bytes(bytes) => Some(bytes),
+        Value::Text(text) => Some(text.into_bytes()),
+        _ => None,
+    }
+}
+
+/// What that value holds, where it is a string.
+///
+/// # Errors
+/// `OutOfMemory` alone.
+pub(crate) fn find_string(
+    alloc: Global,
+    kind: Kind,
+    item: Pull<'_>,
+    map: Map,
+    label: Label<'_>,
+) -> Result<Option<Vec<u8>>>
+    ensures found { IfOk result (Finds (λ b. b.items)
+        (IsStringOf kind map (label_view label.entry) (pull_item item.entry))) }
+    ensures memory { IfErr result (λ e. e ≡ OutOfMemory) }
+{
+    one_item();
+    match find_value(alloc, kind, item, map, label)? {
+        Some(value) => Ok(string_in(value)),
+        None => Ok(None),
+    }
+}
+
+/// Writes what the byte string or the text string holds that is under the label in that map of the item that the bytes
+/// are to the front of `out`, and returns its length.
+///
+/// # Errors
+/// The same as [`value_of`]; `Absent` also where the value is no string.
+pub fn string_of(
+    alloc: Global,
+    kind: Kind,
+    bytes: &[u8],
+    map: Map,
+    label: Label<'_>,
+    out: &mut [u8],
+) -> Result<usize, Refusal>
+    ensures { Answers kind bytes.now (IsStringOf kind map (label_view label.entry))
+        out.old out.new result }
+{
+    match item_of(alloc, kind, bytes) {
+        Ok(item) => write_found(find_string(alloc, kind, item, map, label), out),
+        Err(error) => Err(Refusal::Cose(error)),
+    }
+}
+
+/// The number of an integer, where it has 64 bits.
+pub(crate) fn number_in(value: &Value) -> Option<i64>
+    ensures { Finds (λ n. n) (IsNumber (value_item value.now)) result }
+{
+    match value.as_integer() {
+        Some(number) => i64::try_from(number).ok(),
+        None => None,
+    }
+}
+
+/// The integer that is under the label in that map of the item that the bytes are.
+///
+/// # Errors
+/// `Absent` where the item has no such map, that no such label, or the value is no integer of 64 bits; `Cose` as
+/// [`check`](crate::check) says.
+pub fn integer_of(
+    alloc: Global,
+    kind: Kind,
+    bytes: &[u8],
+    map: Map,
+    label: Label<'_>,
+) -> Result<i64, Refusal>
+    ensures { AnswersNumber kind bytes.now (IsNumberOf kind map (label_view label.entry)) result }
+{
+    one_item();
+    let item = match item_of(alloc, kind, bytes) {
+        Ok(item) => item,
+        Err(error) => return Err(Refusal::Cose(error)),
+    };
+    match find_value(alloc, kind, item, map, label) {
+        Ok(Some(value)) => match number_in(&value) {
+            Some(number) => Ok(number),
+            None => Err(Refusal::Absent),
+        },
+        Ok(None) => Err(Refusal::Absent),
+        Err(error) => Err(Refusal::Cose(error)),
+    }
+}

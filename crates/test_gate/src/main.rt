@@ -1,0 +1,296 @@
+//! `test_gate`: judges tokens, line by line, and prints what each let in, or why it isn't let in.
+//!
+//! A line is `judge ANSWER NOW TOKEN`, or for a policy `judge_with ANSWER NOW LEEWAY AUDIENCE CRITICAL TOKEN`. ANSWER is
+//! whether the closure accepts the signature, `yes` or `no`; NOW the moment, and LEEWAY a span, in seconds. AUDIENCE is
+//! `aud=` and a text, or `-` for none. CRITICAL are the labels that the caller understands, each as its encoding in
+//! hexadecimal, with commas between, or `-` for none. TOKEN is hexadecimal, or `-` for no bytes. The one algorithm of a
+//! policy is ES256. An empty line, and a comment, which begins with `#`, is returned by itself.
+//!
+//! `judge_token ANSWERS NOW POLICY TOKEN` judges by the strict policy, with what POLICY changes of it, words with commas
+//! between. `sign`, `mac` and `enc` allow an algorithm each: ES256, HMAC 256/64, AES-CCM-16-64-128. `plain=` and one of these
+//! is the form of layers without a tag; `by=sign` and `by=any` say what authenticates; `others` leaves claims out that aren't
+//! assigned; `forever` lets tokens in that don't expire, and `later` those issued later than now; `age=`, `leeway=`, `iss=` and
+//! `aud=` are the fields of these names. ANSWERS are what the keys return, layer by layer, with commas between: `yes`, `no`, or
+//! a plaintext in hexadecimal. Claims that were left out follow the others, as an array of labels and values.
+//!
+//! The call is made between two marks (`test_lines::mark`), so that a process that is refused a request for memory there
+//! is refused one of the call's own. It is returned with the claims as they are written, or with the reason; and with how
+//! often the closure was asked, and what it was handed.
+#![tactic(auto)]
+
+mod keys;
+
+use crate::keys::Scripted;
+use coset::cbor::value::Value;
+use coset::cwt::{ClaimsSet, KnownClaims};
+use coset::iana::{Algorithm, HeaderParameter};
+use coset::{AsCborValue, CborSerializable, CoseError, RegisteredLabelWithPrivate, Result};
+use cwt_gate::{Authentication, Form, Policy, PolicyError, Unassigned, judge, judge_with};
+use std::alloc::Global;
+use std::fmt::Debug;
+use std::io::{self, BufReader, BufWriter};
+use test_lines::asked::{Asked, No};
+use test_lines::line::{Calls, answer_lines, unknown};
+use test_lines::words::{Words, bytes};
+use test_lines::{mark, tell};
+
+/// The calls that the program makes.
+struct GateCalls;
+
+impl Calls for GateCalls {
+    fn call(&self, alloc: Global, words: &Words<'_>) -> Result<String> {
+        match words.word(0) {
+            "judge" => at_a_moment(alloc, words),
+            "judge_with" => by_a_policy(alloc, words),
+            "judge_token" => by_a_strict_policy(alloc, words),
+            _ => Err(unknown()),
+        }
+    }
+}
+
+/// The claims that were let in, as they are written, or why the token isn't let in.
+///
+/// # Errors
+/// `OutOfMemory` where there is none for the text.
+fn told<E: Debug + Drop>(
+    alloc: Global,
+    answer: std::result::Result<ClaimsSet, E>,
+) -> Result<String> {
+    match answer {
+        Ok(claims) => tell::value(alloc, Ok(claims)),
+        Err(error) => Ok(format!(in alloc; "{error:?}")?),
+    }
+}
+
+/// Judges a token without a policy.
+fn at_a_moment(alloc: Global, words: &Words<'_>) -> Result<String> {
+    let says_yes = words.says_yes(1)?;
+    let now = words.number(2)?;
+    let token = words.bytes(alloc, 3)?;
+    let mut asked = Asked::new(alloc)?;
+    let count = &mut asked;
+    mark::begin(alloc);
+    let answer = judge(alloc, &token, now, move |signature, tbs| {
+        count.judge(signature, tbs, says_yes)
+    });
+    mark::end(alloc);
+    asked.behind(alloc, told(alloc, answer)?)
+}
+
+/// The labels that the word spells.
+///
+/// # Errors
+/// It spells none, or memory ran out.
+fn labels(alloc: Global, word: &str) -> Result<Vec<RegisteredLabelWithPrivate<HeaderParameter>>> {
+    let mut labels = Vec::new(alloc);
+    if word != "-" {
+        for label in word.split(',') {
+            labels.push(RegisteredLabelWithPrivate::from_slice(alloc, &bytes(alloc, label)?)?)?;
+        }
+    }
+    Ok(labels)
+}
+
+/// The span that the word spells.
+///
+/// # Errors
+/// It spells none.
+fn span(word: &str) -> Result<u64> {
+    match word.parse::<u64>() {
+        Ok(seconds) => Ok(seconds),
+        Err(_) => Err(CoseError::UnexpectedItem("word", "seconds")),
+    }
+}
+
+/// The claims that were let in, as they are written, and those that were left out; or why the token isn't let in.
+///
+/// # Errors
+/// `OutOfMemory` where there is none for the text.
+fn told_with(
+    alloc: Global,
+    answer: std::result::Result<KnownClaims, PolicyError<No>>,
+) -> Result<String> {
+    match answer {
+        Ok(known) => {
+            let claims = tell::value(alloc, Ok(known.claims))?;
+            if known.others.is_empty() {
+                return Ok(claims);
+            }
+            let mut others = Vec::new(alloc);
+            for (label, value) in known.others {
+                others.push(label.to_cbor_value(alloc)?)?;
+                others.push(value)?;
+            }
+            let others = tell::hexadecimal(alloc, &Value::Array(others).to_vec(alloc)?)?;
+            Ok(format!(in alloc; "{claims} others {others}")?)
+        }
+        Err(error) => Ok(format!(in alloc; "{error:?}")?),
+    }
+}
+
+/// Judges a token with a policy.
+fn by_a_policy(alloc: Global, words: &Words<'_>) -> Result<String> {
+    let now = words.number(2)?;
+    let critical = labels(alloc, words.word(5))?;
+    let algorithms = [RegisteredLabelWithPrivate::Assigned(Algorithm::ES256)];
+    let policy = Policy {
+        signatures: &algorithms,
+        critical: &critical,
+        expires: false,
+        issued: false,
+        leeway: span(words.word(3))?,
+        audience: words.word(4).strip_prefix("aud="),
+        ..Policy::strict()
+    };
+    let token = words.bytes(alloc, 6)?;
+    let keys = Scripted::new(alloc, words.word(1))?;
+    mark::begin(alloc);
+    let answer = judge_with(alloc, &policy, &keys, &token, now);
+    mark::end(alloc);
+    keys.asked(alloc)?.behind(alloc, told_with(alloc, answer)?)
+}
+
+/// The algorithm of a layer that a line allows; none where it allows none.
+fn allowed<'a>(
+    algorithm: &'a [RegisteredLabelWithPrivate<Algorithm>; 1],
+    is_allowed: bool,
+) -> &'a [RegisteredLabelWithPrivate<Algorithm>] {
+    if is_allowed {
+        &algorithm[..1]
+    } else {
+        &algorithm[..0]
+    }
+}
+
+/// The text, where there is one.
+fn text_of(text: &Option<String>) -> Option<&str> {
+    match text {
+        Some(text) => Some(text.as_str()),
+        None => None,
+    }
+}
+
+/// What a line changes of the strict policy.
+#[derive(Drop)]
+struct Changes {
+    sign: bool,
+    mac: bool,
+    enc: bool,
+    plain: Form,
+    authenticated_by: Authentication,
+    unassigned: Unassigned,
+    expires: bool,
+    issued: bool,
+    max_age: Option<u64>,
+    leeway: u64,
+    issuer: Option<String>,
+    audience: Option<String>,
+}
+
+impl Changes {
+    /// None.
+    fn none() -> Changes {
+        Changes {
+            sign: false,
+            mac: false,
+            enc: false,
+            plain: Form::Sign1,
+            authenticated_by: Authentication::SignatureOrMac,
+            unassigned: Unassigned::Refused,
+            expires: true,
+            issued: true,
+            max_age: None,
+            leeway: 0,
+            issuer: None,
+            audience: None,
+        }
+    }
+
+    /// Makes the change that a word names.
+    ///
+    /// # Errors
+    /// The word says nothing, or memory ran out.
+    fn make(&mut self, alloc: Global, word: &str) -> Result<()> {
+        match word {
+            "sign" => self.sign = true,
+            "mac" => self.mac = true,
+            "enc" => self.enc = true,
+            "plain=sign" => self.plain = Form::Sign1,
+            "plain=mac" => self.plain = Form::Mac0,
+            "plain=enc" => self.plain = Form::Encrypt0,
+            "by=sign" => self.authenticated_by = Authentication::Signature,
+            "by=any" => self.authenticated_by = Authentication::AnyLayer,
+            "others" => self.unassigned = Unassigned::LeftOut,
+            "forever" => self.expires = false,
+            "later" => self.issued = false,
+            _ => return self.set(alloc, word),
+        }
+        Ok(())
+    }
+
+    /// Makes the change that a word has as a name and a value.
+    ///
+    /// # Errors
+    /// The same as `make`.
+    fn set(&mut self, alloc: Global, word: &str) -> Result<()> {
+        match word.split_once('=') {
+            Some(("age", age)) => self.max_age = Some(span(age)?),
+            Some(("leeway", leeway)) => self.leeway = span(leeway)?,
+            Some(("iss", issuer)) => self.issuer = Some(String::from_str(alloc, issuer)?),
+            Some(("aud", audience)) => self.audience = Some(String::from_str(alloc, audience)?),
+            _ => return Err(CoseError::UnexpectedItem("word", "field of a policy")),
+        }
+        Ok(())
+    }
+
+    /// The changes that these words name.
+    ///
+    /// # Errors
+    /// The same as `make`.
+    fn of(alloc: Global, words: &str) -> Result<Changes> {
+        let mut changes = Changes::none();
+        for word in words.split(',') {
+            changes.make(alloc, word)?;
+        }
+        Ok(changes)
+    }
+}
+
+/// Judges a token with the strict policy and what a line changes of it.
+fn by_a_strict_policy(alloc: Global, words: &Words<'_>) -> Result<String> {
+    let now = words.number(2)?;
+    let changes = Changes::of(alloc, words.word(3))?;
+    let signatures = [RegisteredLabelWithPrivate::Assigned(Algorithm::ES256)];
+    let macs = [RegisteredLabelWithPrivate::Assigned(Algorithm::HMAC_256_64)];
+    let ciphers = [RegisteredLabelWithPrivate::Assigned(Algorithm::AES_CCM_16_64_128)];
+    let issuer = text_of(&changes.issuer);
+    let audience = text_of(&changes.audience);
+    let policy = Policy {
+        signatures: allowed(&signatures, changes.sign),
+        macs: allowed(&macs, changes.mac),
+        ciphers: allowed(&ciphers, changes.enc),
+        plain: changes.plain,
+        authenticated_by: changes.authenticated_by,
+        unassigned: changes.unassigned,
+        expires: changes.expires,
+        issued: changes.issued,
+        max_age: changes.max_age,
+        leeway: changes.leeway,
+        issuer,
+        audience,
+        ..Policy::strict()
+    };
+    let token = words.bytes(alloc, 4)?;
+    let keys = Scripted::new(alloc, words.word(1))?;
+    mark::begin(alloc);
+    let answer = judge_with(alloc, &policy, &keys, &token, now);
+    mark::end(alloc);
+    keys.asked(alloc)?.behind(alloc, told_with(alloc, answer)?)
+}
+
+fn main(rt: HostRuntime) -> io::Result<()> {
+    let alloc = rt.alloc();
+    let reader = BufReader::new(alloc, rt.reader())?;
+    let mut writer = BufWriter::new(alloc, io::writer(&rt))?;
+    answer_lines(&GateCalls, alloc, reader, &mut writer)
+}

@@ -1,0 +1,35 @@
+//! Repeated labels among many.
+
+use coset_cbor::value::Value;
+use coset_codec::has_repeats;
+use example_types::settings::Name;
+use std::alloc::{AllocError, Global};
+use std::test::*;
+
+/// A label for each number, descending.
+fn label(n: i64) -> Name {
+    Name(1000i64.wrapping_sub(n.wrapping_mul(7)))
+}
+
+/// Forty labels, of which the last is that of `last`.
+fn forty(alloc: Global, last: i64) -> Result<Vec<(Name, Value)>, AllocError> {
+    let mut pairs = Vec::new(alloc);
+    for n in 0..39i64 {
+        pairs.push((label(n), Value::Null))?;
+    }
+    pairs.push((label(last), Value::Null))?;
+    Ok(pairs)
+}
+
+#[test]
+fn many_labels(rt: HostRuntime) -> Result<(), Fail> {
+    let alloc = rt.alloc();
+    let none = forty(alloc, 39)?;
+    for n in 0..=none.len() {
+        assert!(rt; matches!(has_repeats(alloc, &none[..n]), Ok(false)));
+    }
+    for n in 0..39i64 {
+        assert!(rt; matches!(has_repeats(alloc, &forty(alloc, n)?), Ok(true)));
+    }
+    Ok(())
+}

@@ -1,0 +1,235 @@
+//! Attestation tokens that are let in, and what their claims say. The tokens, and what their signatures and MACs are over,
+//! were made by plain Python after RFC 8949, RFC 8152, RFC 9711 and RFC 9783.
+
+use coset::CoseError;
+use coset::cbor::value::{Integer, Value};
+use coset::cwt::{ClaimsSet, KnownClaims};
+use coset::iana::CwtClaimName;
+use cwt_gate::{Form, GateError, Keys, PolicyError, Sealed};
+use example_uses::attestation::{
+    NotAttested, bytes_of, claim, integer_of, is_fresh, let_in_attestation, submodule,
+    submodule_claims, text_of,
+};
+use std::alloc::Global;
+use std::test::*;
+
+/// That a layer isn't accepted.
+#[derive(Clone, Copy, Debug, Drop)]
+struct No;
+
+/// Keys that accept the signature, or the MAC, `s` of the structure that begins with these bytes and ends with the claims.
+#[derive(Clone, Copy, Debug)]
+struct OneStructure<'a> {
+    before: &'a [u8],
+    claims: &'a [u8],
+}
+
+impl OneStructure<'_> {
+    fn accept(&self, sealed: &Sealed<'_>) -> Result<(), No> {
+        match sealed.structure.strip_prefix(self.before) {
+            Some(behind) if behind == self.claims && sealed.proof == b"s".as_slice() => Ok(()),
+            _ => Err(No),
+        }
+    }
+}
+
+impl Keys for OneStructure<'_> {
+    ghost use Rattle.cwt_gate.specs.Keys.{accept_anything};
+
+    type Error = No;
+
+    ghost view = { λ keys. accept_anything };
+
+    fn no_key(&self, _form: Form, _sealed: &Sealed<'_>) -> No {
+        No
+    }
+
+    fn verify(&self, sealed: &Sealed<'_>) -> Result<(), No> {
+        self.accept(sealed)
+    }
+
+    fn verify_tag(&self, sealed: &Sealed<'_>) -> Result<(), No> {
+        self.accept(sealed)
+    }
+}
+
+/// A token, whose claims are between these bytes and the proof `s`, judged by keys that accept one structure.
+fn let_in(
+    alloc: Global,
+    token: &[u8],
+    structure: &[u8],
+    claims: &[u8],
+    nonce: &[u8],
+) -> Result<Result<KnownClaims, NotAttested<No>>, Fail> {
+    let mut bytes = Vec::from_slice(alloc, token)?;
+    bytes.extend_from_slice(claims)?;
+    bytes.extend_from_slice(b"\x41s")?;
+    let keys = OneStructure {
+        before: structure,
+        claims,
+    };
+    Ok(let_in_attestation(alloc, &keys, nonce, &bytes, 0))
+}
+
+const NONCE: &[u8] = b"nnnnnnnnnnnnnnnnnnnnnnnnnnnnnnnn";
+
+/// The claims of a PSA token.
+const PSA: &[u8] =
+    b"\xa7\x19\x01\x00X!\x01uuuuuuuuuuuuuuuuuuuuuuuuuuuuuuuu\x19\x09\x5cX iiiiiiiiiiiiiiiiiiii\
+iiiiiiiiiiii\x0aX nnnnnnnnnnnnnnnnnnnnnnnnnnnnnnnn\x19\x09Z\x1a\x7f\xff\xff\xff\x19\x09[\
+\x190\x00\x19\x01\x09x!tag:psacertified.org,2023:psa#tfm\x19\x09_\x81\xa3\x01dPRoT\x02X \
+mmmmmmmmmmmmmmmmmmmmmmmmmmmmmmmm\x05X ssssssssssssssssssssssssssssssss";
+
+/// What is before them in a token with a signature by ES256, and in what that is over.
+const SIGNED: (&[u8], &[u8]) = (
+    b"\xd2\x84C\xa1\x01&\xa0X\xf4",
+    b"\x84jSignature1C\xa1\x01&@X\xf4",
+);
+
+/// The same of one with a MAC, by HMAC 256/256.
+const MACED: (&[u8], &[u8]) = (
+    b"\xd1\x84C\xa1\x01\x05\xa0X\xf4",
+    b"\x84dMAC0C\xa1\x01\x05@X\xf4",
+);
+
+/// The same of one with a signature by ES384.
+const BY_ANOTHER_ALGORITHM: (&[u8], &[u8]) = (
+    b"\xd2\x84D\xa1\x018\x22\xa0X\xf4",
+    b"\x84jSignature1D\xa1\x018\x22@X\xf4",
+);
+
+#[test]
+fn psa_tokens(rt: HostRuntime) -> Result<(), Fail> {
+    let alloc = rt.alloc();
+    for (token, structure) in [SIGNED, MACED] {
+        let known = let_in(alloc, token, structure, PSA, NONCE)?
+            .ok()
+            .ok_or("refused")?;
+        let claims = &known.claims;
+        assert!(rt; known.others.is_empty());
+        assert!(rt; is_fresh(claims, NONCE));
+        assert!(rt; bytes_of(claims, CwtClaimName::Nonce) == Some(NONCE));
+        let device = bytes_of(claims, CwtClaimName::UEID);
+        assert!(rt; device == Some(b"\x01uuuuuuuuuuuuuuuuuuuuuuuuuuuuuuuu".as_slice()));
+        let client = integer_of(claims, CwtClaimName::PsaClientId);
+        assert!(rt; client == Some(Integer::from(2_147_483_647i32)));
+        let lifecycle = integer_of(claims, CwtClaimName::PsaSecurityLifecycle);
+        assert!(rt; lifecycle == Some(Integer::from(0x3000i32)));
+        let profile = text_of(claims, CwtClaimName::EatProfile);
+        assert!(rt; profile == Some("tag:psacertified.org,2023:psa#tfm"));
+        assert!(rt; claim(claims, CwtClaimName::BootSeed).is_none());
+        assert!(rt; integer_of(claims, CwtClaimName::Nonce).is_none());
+        assert!(rt; text_of(claims, CwtClaimName::Nonce).is_none());
+        assert!(rt; bytes_of(claims, CwtClaimName::PsaClientId).is_none());
+        assert!(rt; submodule(claims, "app").is_none());
+    }
+    Ok(())
+}
+
+/// Claims with two nonces, which PSA tokens don't have.
+const TWO_NONCES: &[u8] = b"\xa1\x0a\x82HnnnnnnnnHoooooooo";
+
+const TWO_NONCES_SIGNED: (&[u8], &[u8]) = (
+    b"\xd2\x84C\xa1\x01&\xa0U",
+    b"\x84jSignature1C\xa1\x01&@U",
+);
+
+#[test]
+fn tokens_that_are_refused(rt: HostRuntime) -> Result<(), Fail> {
+    let alloc = rt.alloc();
+    let (token, structure) = SIGNED;
+    let other_nonce = let_in(alloc, token, structure, PSA, b"nnnnnnnn")?;
+    assert!(rt; matches!(other_nonce, Err(NotAttested::NotFresh)));
+    let (of_two, structure_of_two) = TWO_NONCES_SIGNED;
+    let two = let_in(alloc, of_two, structure_of_two, TWO_NONCES, b"nnnnnnnn")?;
+    assert!(rt; matches!(two, Err(NotAttested::NotFresh)));
+    let other_structure = let_in(alloc, token, MACED.1, PSA, NONCE)?;
+    assert!(rt;
+        matches!(
+            other_structure,
+            Err(NotAttested::Refused(PolicyError::Gate(GateError::Caller(No))))
+        )
+    );
+    let (by_another, structure) = BY_ANOTHER_ALGORITHM;
+    let other_algorithm = let_in(alloc, by_another, structure, PSA, NONCE)?;
+    assert!(rt;
+        matches!(
+            other_algorithm,
+            Err(NotAttested::Refused(PolicyError::Algorithm))
+        )
+    );
+    Ok(())
+}
+
+/// Claims with three submodules: claims, a token of its own, and a digest; and with a claim that no registry has.
+const MODULES: &[u8] =
+    b"\xa3\x0aHnnnnnnnn\x19\x01\x0a\xa3capp\xa2\x19\x01\x0egupdater\x19\x09Z bseU\xd2\x84C\xa1\
+\x01&\xa0K\xa1\x0aHnnnnnnnnAsclog\x82/Ddddd\x19\xfd\xe8\x07";
+
+const MODULES_SIGNED: (&[u8], &[u8]) = (
+    b"\xd2\x84C\xa1\x01&\xa0XK",
+    b"\x84jSignature1C\xa1\x01&@XK",
+);
+
+/// The token that is one of the submodules, and its claims.
+const INNER: &[u8] = b"\xd2\x84C\xa1\x01&\xa0K\xa1\x0aHnnnnnnnnAs";
+
+const INNER_CLAIMS: &[u8] = b"\xa1\x0aHnnnnnnnn";
+
+/// What its signature is over, up to its claims.
+const INNER_STRUCTURE: &[u8] = b"\x84jSignature1C\xa1\x01&@K";
+
+/// The claims with submodules.
+fn with_submodules(alloc: Global) -> Result<ClaimsSet, Fail> {
+    let (token, structure) = MODULES_SIGNED;
+    let known = let_in(alloc, token, structure, MODULES, b"nnnnnnnn")?
+        .ok()
+        .ok_or("refused")?;
+    Ok(known.claims)
+}
+
+#[test]
+fn claims_that_no_registry_has(rt: HostRuntime) -> Result<(), Fail> {
+    let alloc = rt.alloc();
+    let (token, structure) = MODULES_SIGNED;
+    let known = let_in(alloc, token, structure, MODULES, b"nnnnnnnn")?
+        .ok()
+        .ok_or("refused")?;
+    assert!(rt; known.others.len() == 1);
+    Ok(())
+}
+
+#[test]
+fn submodules(rt: HostRuntime) -> Result<(), Fail> {
+    let alloc = rt.alloc();
+    let claims = with_submodules(alloc)?;
+    let app = submodule_claims(alloc, &claims, "app")
+        .ok()
+        .ok_or("refused")?
+        .ok_or("none")?;
+    assert!(rt; text_of(&app, CwtClaimName::SoftwareName) == Some("updater"));
+    assert!(rt; integer_of(&app, CwtClaimName::PsaClientId) == Some(Integer::from(-1i32)));
+    let none = submodule_claims(alloc, &claims, "none");
+    assert!(rt; matches!(none, Ok(None)));
+    let digest = submodule_claims(alloc, &claims, "log");
+    assert!(rt; matches!(digest, Err(CoseError::UnexpectedItem("array", "map"))));
+    Ok(())
+}
+
+#[test]
+fn a_submodule_that_is_a_token(rt: HostRuntime) -> Result<(), Fail> {
+    let alloc = rt.alloc();
+    let claims = with_submodules(alloc)?;
+    let inner = submodule(&claims, "se")
+        .and_then(Value::as_bytes)
+        .ok_or("no token")?;
+    assert!(rt; inner.as_slice() == INNER);
+    let keys = OneStructure {
+        before: INNER_STRUCTURE,
+        claims: INNER_CLAIMS,
+    };
+    let known = let_in_attestation(alloc, &keys, b"nnnnnnnn", inner, 0);
+    let known = known.ok().ok_or("refused")?;
+    assert!(rt; is_fresh(&known.claims, b"nnnnnnnn"));
+    Ok(())
+}

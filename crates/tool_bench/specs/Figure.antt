@@ -1,0 +1,11 @@
+-- The text of a figure.
+use Rattle.std.specs.Prelude.{ℕ, List, ◌++◌, ◌/◌, ◌%◌, codes}
+use Rattle.std.specs.Fmt.{decimal}
+use Rattle.tool_bench.specs.declared.figure.Figure.{Figure}
+use Rattle.tool_bench.specs.declared.figure.Figure.TheVariants.{Unknown, Untimed, Tenths}
+
+-- nanoseconds, with one decimal; a dash for an operation that isn't known
+abbrev pub figure_text : Figure → List ℕ
+figure_text Unknown = codes "-"
+figure_text Untimed = codes "0.0"
+figure_text (Tenths n) = decimal (n / 10) ++ codes "." ++ decimal (n % 10)

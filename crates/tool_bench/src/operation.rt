@@ -1,0 +1,106 @@
+//! What can be timed.
+
+ghost use Rattle.std.specs.Prelude.{◌≡◌, MatchOption};
+ghost use Rattle.tool_bench.specs.Operation.{operation_name};
+
+use crate::calls::{time_canonicalize, time_check, time_compare, time_copy, time_refusal};
+use crate::fault::Fault;
+use crate::kind::Kind;
+use crate::structure::Structure;
+use crate::tokens::{time_by_hand, time_judge, time_judge_with};
+use coset_recipient::{CoseRecipient, CoseSign1};
+use std::rt::Clock;
+use std::time::Duration;
+
+/// An operation of the library.
+#[derive(Clone, Copy, Debug, PartialEq, Eq)]
+pub enum Operation {
+    /// An item's check, without a value.
+    Check,
+    /// Reading a value.
+    Read(Kind),
+    /// Writing one.
+    Write(Kind),
+    /// Making a message's structure.
+    Make(Structure),
+    /// Refusing a message with one signature.
+    Sign1Refused,
+    /// Copying one.
+    Sign1Copy,
+    /// Comparing one with its copy.
+    Sign1Compare,
+    /// Refusing a recipient.
+    RecipientRefused,
+    /// Copying one.
+    RecipientCopy,
+    /// Comparing one with its copy.
+    RecipientCompare,
+    /// Putting the params of a key in order.
+    KeyCanonicalize,
+    /// Judging a token.
+    Judge,
+    /// Judging one by a policy.
+    JudgeWith,
+    /// Reading its message, its structure and its claims by hand.
+    JudgeByHand,
+}
+
+impl Operation {
+    /// The operation of that name.
+    pub fn of(name: &str) -> Option<Operation>
+        ensures { MatchOption result ((o : Operation) → name.now ≡ operation_name o → ⊥)
+            (λ o. name.now ≡ operation_name o) }
+    {
+        if let Some(kind) = Kind::read_by(name) {
+            return Some(Operation::Read(kind));
+        }
+        if let Some(kind) = Kind::written_by(name) {
+            return Some(Operation::Write(kind));
+        }
+        if let Some(structure) = Structure::made_by(name) {
+            return Some(Operation::Make(structure));
+        }
+        match name {
+            "check" => Some(Operation::Check),
+            "sign1_refused" => Some(Operation::Sign1Refused),
+            "sign1_copy" => Some(Operation::Sign1Copy),
+            "sign1_compare" => Some(Operation::Sign1Compare),
+            "recipient_refused" => Some(Operation::RecipientRefused),
+            "recipient_copy" => Some(Operation::RecipientCopy),
+            "recipient_compare" => Some(Operation::RecipientCompare),
+            "key_canonicalize" => Some(Operation::KeyCanonicalize),
+            "judge" => Some(Operation::Judge),
+            "judge_with" => Some(Operation::JudgeWith),
+            "judge_by_hand" => Some(Operation::JudgeByHand),
+            _ => None,
+        }
+    }
+
+    /// Makes the calls over the bytes, and returns how long they took.
+    ///
+    /// # Errors
+    /// Why a call failed.
+    pub fn time<R: AllocGlobal + Clock>(
+        self,
+        rt: &R,
+        bytes: &[u8],
+        calls: usize,
+    ) -> Result<Duration, Fault> {
+        match self {
+            Operation::Check => time_check(rt, bytes, calls),
+            Operation::Read(kind) => kind.time_read(rt, bytes, calls),
+            Operation::Write(kind) => kind.time_write(rt, bytes, calls),
+            Operation::Make(structure) => structure.time(rt, bytes, calls),
+            Operation::Sign1Refused => time_refusal::<CoseSign1, R>(rt, bytes, calls),
+            Operation::Sign1Copy => time_copy::<CoseSign1, R>(rt, bytes, calls),
+            Operation::Sign1Compare => time_compare::<CoseSign1, R>(rt, bytes, calls),
+            Operation::RecipientRefused => time_refusal::<CoseRecipient, R>(rt, bytes, calls),
+            Operation::RecipientCopy => time_copy::<CoseRecipient, R>(rt, bytes, calls),
+            Operation::RecipientCompare => time_compare::<CoseRecipient, R>(rt, bytes, calls),
+            Operation::KeyCanonicalize => time_canonicalize(rt, bytes, calls),
+            Operation::Judge => time_judge(rt, bytes, calls),
+            Operation::JudgeWith => time_judge_with(rt, bytes, calls),
+            Operation::JudgeByHand => time_by_hand(rt, bytes, calls),
+        }
+    }
+}

@@ -1,0 +1,220 @@
+//! What bytes should be.
+
+ghost use Rattle.std.specs.Prelude.{◌≡◌, ◌++◌, List, MatchOption, ℕ};
+ghost use Rattle.coset.specs.PerhapsTagged.{perhaps_tagged};
+ghost use Rattle.tool_explain.specs.Kind.{kind_name, is_by_tag, Names};
+ghost use Rattle.tool_explain.specs.Refusal.{Judges, JudgesNamed, JudgesAs};
+
+use crate::head::tag;
+use crate::role::{Message, Role};
+use coset::cbor::head::read_head;
+use coset::cbor::value::Value;
+use coset::cwt::ClaimsSet;
+use coset::{
+    CborSerializable, CoseCountersignature, CoseEncrypt, CoseEncrypt0, CoseError, CoseKdfContext,
+    CoseKey, CoseKeySet, CoseMac, CoseMac0, CoseSign, CoseSign1, TaggedCborSerializable,
+};
+use std::alloc::Global;
+
+/// What bytes should be.
+#[derive(Clone, Copy, Debug, PartialEq, Eq)]
+pub enum Kind {
+    /// What their tag says: a message, a countersignature, or under tag 61 a web token (RFC 8392, section 6); or else an
+    /// item of CBOR.
+    Auto,
+    /// A web token: what its tag says, under tag 61 or not, with claims as its payload (RFC 8392, section 7).
+    Cwt,
+    /// An item of CBOR (RFC 8949, section 3).
+    Value,
+    /// A message with one signature (RFC 8152, section 4.2).
+    Sign1,
+    /// A message with any number of signatures (RFC 8152, section 4.1).
+    Sign,
+    /// A message with a MAC and recipients (RFC 8152, section 6.1).
+    Mac,
+    /// A message with a MAC, for receivers that know the key (RFC 8152, section 6.2).
+    Mac0,
+    /// An encrypted message with recipients (RFC 8152, section 5.1).
+    Encrypt,
+    /// An encrypted message, for receivers that know the key (RFC 8152, section 5.2).
+    Encrypt0,
+    /// A countersignature of version 2.
+    Countersignature,
+    /// A key (RFC 8152, section 7).
+    Key,
+    /// A set of keys (RFC 8152, section 7).
+    Keyset,
+    /// The claims of a web token (RFC 8392, section 3).
+    Claims,
+    /// The context of a key derivation (RFC 8152, section 11.2).
+    Kdf,
+}
+
+/// The item that a tag of this number at the front encloses; other bytes as they are.
+fn without_tag(number: u64, bytes: &[u8]) -> &[u8]
+    ensures { (front : List ℕ) × (bytes.now ≡ front ++ result.now) }
+{
+    match read_head(bytes) {
+        Ok((head, rest)) if tag(&head) == Some(number) => rest,
+        _ => bytes,
+    }
+}
+
+/// Why the bytes don't describe a value of the type.
+fn type_refusal<T: CborSerializable + Drop>(alloc: Global, bytes: &[u8]) -> Option<CoseError>
+    ensures { Judges T.shape bytes.now result }
+{
+    match T::from_slice(alloc, bytes) {
+        Ok(_) => None,
+        Err(error) => Some(error),
+    }
+}
+
+/// Why the bytes don't describe a message of the type, plain or under its tag.
+fn message_refusal<T: TaggedCborSerializable + Drop>(
+    alloc: Global,
+    bytes: &[u8],
+) -> Option<CoseError>
+    ensures { Judges (perhaps_tagged T.TAG T.shape) bytes.now result }
+{
+    match T::from_any_slice(alloc, bytes) {
+        Ok(_) => None,
+        Err(error) => Some(error),
+    }
+}
+
+impl Kind {
+    /// The kind of that name.
+    pub fn of(name: &str) -> Option<Kind>
+        ensures { MatchOption result ((k : Kind) → name.now ≡ kind_name k → ⊥)
+            (λ k. name.now ≡ kind_name k) }
+    {
+        match name {
+            "auto" => Some(Kind::Auto),
+            "cwt" => Some(Kind::Cwt),
+            "value" => Some(Kind::Value),
+            "sign1" => Some(Kind::Sign1),
+            "sign" => Some(Kind::Sign),
+            "mac" => Some(Kind::Mac),
+            "mac0" => Some(Kind::Mac0),
+            "encrypt" => Some(Kind::Encrypt),
+            "encrypt0" => Some(Kind::Encrypt0),
+            "countersignature" => Some(Kind::Countersignature),
+            "key" => Some(Kind::Key),
+            "keyset" => Some(Kind::Keyset),
+            "claims" => Some(Kind::Claims),
+            "kdf" => Some(Kind::Kdf),
+            _ => None,
+        }
+    }
+
+    /// The name of the kind.
+    pub fn name(self) -> &'static str
+        ensures { result.now ≡ kind_name self }
+    {
+        match self {
+            Kind::Auto => "auto",
+            Kind::Cwt => "cwt",
+            Kind::Value => "value",
+            Kind::Sign1 => "sign1",
+            Kind::Sign => "sign",
+            Kind::Mac => "mac",
+            Kind::Mac0 => "mac0",
+            Kind::Encrypt => "encrypt",
+            Kind::Encrypt0 => "encrypt0",
+            Kind::Countersignature => "countersignature",
+            Kind::Key => "key",
+            Kind::Keyset => "keyset",
+            Kind::Claims => "claims",
+            Kind::Kdf => "kdf",
+        }
+    }
+
+    /// The kind that the tag at the front says (RFC 8152, table 1).
+    fn by_tag(bytes: &[u8]) -> Kind {
+        let Ok((head, _)) = read_head(bytes) else {
+            return Kind::Value;
+        };
+        match tag(&head) {
+            Some(16) => Kind::Encrypt0,
+            Some(17) => Kind::Mac0,
+            Some(18) => Kind::Sign1,
+            Some(19) => Kind::Countersignature,
+            Some(96) => Kind::Encrypt,
+            Some(97) => Kind::Mac,
+            Some(98) => Kind::Sign,
+            _ => Kind::Value,
+        }
+    }
+
+    /// What the whole input is for.
+    pub(crate) fn role(self) -> Role {
+        match self {
+            Kind::Auto => Role::Any,
+            Kind::Cwt => Role::Token,
+            Kind::Value => Role::Plain,
+            Kind::Sign1 => Role::Message(Message::Sign1, false),
+            Kind::Sign => Role::Message(Message::Sign, false),
+            Kind::Mac => Role::Message(Message::Mac, false),
+            Kind::Mac0 => Role::Message(Message::Mac0, false),
+            Kind::Encrypt => Role::Message(Message::Encrypt, false),
+            Kind::Encrypt0 => Role::Message(Message::Encrypt0, false),
+            Kind::Countersignature => Role::Signature,
+            Kind::Key => Role::Key,
+            Kind::Keyset => Role::KeySet,
+            Kind::Claims => Role::Claims,
+            Kind::Kdf => Role::Context,
+        }
+    }
+
+    /// The kind by name, and the bytes that should be of it: of a kind whose tag says what it is, the kind that the tag
+    /// says, and what follows tag 61.
+    pub(crate) fn named(self, bytes: &[u8]) -> (Kind, &[u8])
+        ensures { Names self bytes.now result.0 result.1.now }
+    {
+        if self.is_by_tag() {
+            let inner = without_tag(61, bytes);
+            (Kind::by_tag(inner), inner)
+        } else {
+            (self, bytes)
+        }
+    }
+
+    /// Why the bytes aren't of the kind, as the library's reading says, or that memory ran out; `None` where they are.
+    pub fn refusal(self, alloc: Global, bytes: &[u8]) -> Option<CoseError>
+        ensures { JudgesAs self bytes.now result }
+    {
+        let (kind, named) = self.named(bytes);
+        kind.refusal_of_named(alloc, named)
+    }
+
+    /// Whether the tag says what it is.
+    fn is_by_tag(self) -> bool
+        ensures { result ≡ is_by_tag self }
+    {
+        match self {
+            Kind::Auto | Kind::Cwt => true,
+            _ => false,
+        }
+    }
+
+    /// The same, of a kind that is named.
+    fn refusal_of_named(self, alloc: Global, bytes: &[u8]) -> Option<CoseError>
+        ensures { JudgesNamed self bytes.now result }
+    {
+        match self {
+            Kind::Auto | Kind::Cwt | Kind::Value => type_refusal::<Value>(alloc, bytes),
+            Kind::Sign1 => message_refusal::<CoseSign1>(alloc, bytes),
+            Kind::Sign => message_refusal::<CoseSign>(alloc, bytes),
+            Kind::Mac => message_refusal::<CoseMac>(alloc, bytes),
+            Kind::Mac0 => message_refusal::<CoseMac0>(alloc, bytes),
+            Kind::Encrypt => message_refusal::<CoseEncrypt>(alloc, bytes),
+            Kind::Encrypt0 => message_refusal::<CoseEncrypt0>(alloc, bytes),
+            Kind::Countersignature => message_refusal::<CoseCountersignature>(alloc, bytes),
+            Kind::Key => type_refusal::<CoseKey>(alloc, bytes),
+            Kind::Keyset => type_refusal::<CoseKeySet>(alloc, bytes),
+            Kind::Claims => type_refusal::<ClaimsSet>(alloc, bytes),
+            Kind::Kdf => type_refusal::<CoseKdfContext>(alloc, bytes),
+        }
+    }
+}

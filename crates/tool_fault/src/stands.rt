@@ -1,0 +1,79 @@
+//! Whether what an error names is at a place.
+
+ghost use Rattle.std.specs.Prelude.{◌≡◌, IfOk, IsTrue, Some};
+ghost use Rattle.tool_fault.specs.Places.{HoldsNoHeader, IsUnexpected, StandsThere, last_step};
+
+use crate::malformed::{is_malformed, last_step};
+use crate::registry::{is_out_of_range, is_unassigned, is_unassigned_and_not_private};
+use crate::repeats::{has_both_ivs, repeats_label};
+use crate::step::Step;
+use crate::unexpected::{describe_none, is_called};
+use coset::cbor::de::Pull;
+use coset::{CoseError, Header};
+use std::alloc::{AllocError, Global};
+
+/// Whether what an item is called is at the front of the bytes, to which the steps lead from the front of the whole.
+fn is_unexpected(
+    alloc: Global,
+    got: &str,
+    whole: &[u8],
+    steps: &[Step],
+    earlier: Option<usize>,
+    bytes: &[u8],
+) -> Result<bool, AllocError>
+    ensures { IfOk result (λ b. IsTrue b → IsUnexpected got.now whole.now steps.now bytes.now) }
+{
+    match got {
+        "repeated array entry" => repeats_label(alloc, whole, steps, earlier),
+        "IV and partial-IV specified" => has_both_ivs(alloc, whole, steps, earlier),
+        _ => is_called(alloc, got, bytes),
+    }
+}
+
+/// Whether what the error names is at the front of the bytes, to which the steps lead from the front of the whole.
+/// Where it is that something occurs twice, `earlier` is the index of the first of the two.
+pub(crate) fn stands_there(
+    alloc: Global,
+    error: &CoseError,
+    whole: &[u8],
+    steps: &[Step],
+    earlier: Option<usize>,
+    bytes: &[u8],
+) -> Result<bool, AllocError>
+    ensures { IfOk result (λ b. IsTrue b
+        → StandsThere error.now whole.now steps.now bytes.now) }
+{
+    match error {
+        CoseError::DecodeFailed(error) => Ok(is_malformed(error, steps, bytes)),
+        CoseError::ExtraneousData => Ok(last_step(steps) == Some(Step::Behind)),
+        CoseError::DuplicateMapKey => repeats_label(alloc, whole, steps, earlier),
+        CoseError::OutOfRangeIntegerValue => Ok(is_out_of_range(bytes)),
+        CoseError::UnexpectedItem(got, _) => {
+            is_unexpected(alloc, *got, whole, steps, earlier, bytes)
+        }
+        CoseError::UnregisteredIanaValue => Ok(is_unassigned(bytes)),
+        CoseError::UnregisteredIanaNonPrivateValue => Ok(is_unassigned_and_not_private(bytes)),
+        CoseError::EncodeFailed | CoseError::OutOfMemory => Ok(false),
+    }
+}
+
+/// Whether a byte string in chunks is at the front of the bytes that holds something, and no header (RFC 8152, section
+/// 3).
+pub(crate) fn holds_no_header(alloc: Global, bytes: &[u8]) -> Result<bool, AllocError>
+    ensures { IfOk result (λ b. IsTrue b → HoldsNoHeader bytes.now) }
+{
+    let Some((first, _)) = bytes.split_first() else {
+        return Ok(false);
+    };
+    if *first != 0x5f {
+        return Ok(false);
+    }
+    let Ok((item, _)) = Pull::new(bytes) else {
+        return Ok(false);
+    };
+    match item.to_bytes(alloc) {
+        Ok(Some(content)) => describe_none::<Header>(alloc, &content),
+        Ok(None) => Ok(false),
+        Err(_) => Err(AllocError),
+    }
+}

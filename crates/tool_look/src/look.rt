@@ -1,0 +1,246 @@
+//! What is written for an input.
+
+use crate::asked::{Asked, Form};
+use crate::page::section;
+use coset::CoseError;
+use std::alloc::{AllocError, Global};
+use tool_explain::{
+    Kind, annotated, annotated_structures, colored, explain, explain_whole, fault, fitting,
+    notation, structure_notes,
+};
+use tool_spelled::{Spelling, line_and_column, text_of};
+
+/// The status of an input that is of the kind.
+const TAKEN: u8 = 0;
+
+/// The status of an input that was refused.
+const REFUSED: u8 = 1;
+
+/// The status of a call that names no file that can be read, or for which there wasn't memory enough.
+pub const UNANSWERED: u8 = 2;
+
+/// What is written for an input.
+#[derive(Drop)]
+pub struct Shown {
+    /// A line for standard error: what the input was read as, or where it is misspelled.
+    pub said: String,
+    /// What the bytes are.
+    pub text: String,
+    /// The status.
+    pub status: u8,
+}
+
+/// What a spelling is called.
+fn spelling_name(spelling: Spelling) -> &'static str {
+    match spelling {
+        Spelling::Binary => "binary",
+        Spelling::Hexadecimal => "hexadecimal",
+        Spelling::Base64 => "base64",
+    }
+}
+
+/// The character at that offset, where a terminal shows it; `None` at the end, too.
+fn shown_at(input: &[u8], offset: usize) -> Option<char> {
+    let (_, rest) = input.split_at(offset.min(input.len()));
+    let c = str::from_utf8(rest).ok()?.chars().next()?;
+    if c.is_whitespace() || c.is_control() {
+        None
+    } else {
+        Some(c)
+    }
+}
+
+/// What a digit of a spelling is called.
+fn digit(spelling: Spelling) -> &'static str {
+    match spelling {
+        Spelling::Hexadecimal => "hexadecimal digit",
+        _ => "digit of base64",
+    }
+}
+
+/// What could be done about a character that is no digit.
+fn hint(spelling: Spelling, c: char) -> &'static str {
+    match (spelling, c) {
+        (Spelling::Hexadecimal, _) => "; base64 that looks like hexadecimal is read as b64'..'",
+        (_, '.') => "; a JSON web token, whose parts have dots between them, holds no CBOR",
+        _ => "",
+    }
+}
+
+/// That the input is misspelled at this offset.
+fn misspelled(
+    alloc: Global,
+    spelling: Spelling,
+    input: &[u8],
+    offset: usize,
+) -> Result<String, AllocError> {
+    let (line, column) = line_and_column(input, offset);
+    let mut text = format!(in alloc; "error: line {line}, column {column}: ")?;
+    let digit = digit(spelling);
+    match shown_at(input, offset) {
+        Some(c) => {
+            let hint = hint(spelling, c);
+            write!(text, "'{c}' is no {digit}{hint}")?;
+        }
+        None => write!(text, "a {digit} is missing")?,
+    }
+    Ok(text)
+}
+
+/// Whether the bytes begin with a tag.
+fn begins_with_tag(bytes: &[u8]) -> bool {
+    match bytes.first() {
+        Some(first) => *first / 32 == 6,
+        None => false,
+    }
+}
+
+/// Adds that the bytes are shown as something of the first of these kinds, and which others they can be.
+fn push_fitting(said: &mut String, kinds: &[Kind]) -> Result<(), AllocError> {
+    let Some((first, others)) = kinds.split_first() else {
+        return said.push_str("; it has no tag, and is shown as CBOR: no other KIND reads it");
+    };
+    let name = first.name();
+    write!(said, "; it has no tag, and is shown as {name}")?;
+    let mut separator = ", which could also be ";
+    for kind in others {
+        said.push_str(separator)?;
+        said.push_str(kind.name())?;
+        separator = " or ";
+    }
+    Ok(())
+}
+
+/// What the bytes are looked at as: where neither a kind nor a tag says what they are, the first that they can be, which is
+/// said.
+fn kind_of(
+    alloc: Global,
+    asked: &Asked,
+    bytes: &[u8],
+    said: &mut String,
+) -> Result<Kind, AllocError> {
+    if asked.kind != Kind::Auto || begins_with_tag(bytes) {
+        return Ok(asked.kind);
+    }
+    match Kind::Value.refusal(alloc, bytes) {
+        None => {
+            let kinds = fitting(alloc, bytes)?;
+            push_fitting(said, &kinds)?;
+            Ok(kinds.first().copied().unwrap_or(Kind::Auto))
+        }
+        Some(CoseError::OutOfMemory) => Err(AllocError),
+        Some(_) => Ok(Kind::Auto),
+    }
+}
+
+/// The offset of the fault, the path there and the error, in one line; `accepted` where there is none.
+fn fault_line(alloc: Global, kind: Kind, bytes: &[u8]) -> Result<(String, u8), AllocError> {
+    let Some(refusal) = fault(alloc, kind, bytes)? else {
+        return Ok((String::from_str(alloc, "accepted\n")?, TAKEN));
+    };
+    let error = &refusal.error;
+    let text = match &refusal.place {
+        Some(place) => {
+            let (offset, path) = (place.offset, place.path.as_str());
+            format!(in alloc; "{offset} {path} {error}\n")?
+        }
+        None => format!(in alloc; "? ? {error}\n")?,
+    };
+    Ok((text, REFUSED))
+}
+
+/// The lines of bytes as a text or a part of a page, and the status.
+fn lines_of(
+    alloc: Global,
+    asked: &Asked,
+    kind: Kind,
+    bytes: &[u8],
+    said: &str,
+    name: &str,
+) -> Result<(String, u8), AllocError> {
+    let explained = explain_whole(alloc, kind, bytes, asked.now)?;
+    let lines = &explained.lines;
+    let text = if asked.form == Form::Page {
+        let notes = structure_notes(alloc, kind, bytes, &asked.external_aad)?;
+        section(alloc, name, said, lines, &notes)?
+    } else {
+        let mut text = if asked.is_colored {
+            colored(alloc, lines)?
+        } else {
+            annotated(alloc, lines)?
+        };
+        let comments = annotated_structures(alloc, kind, bytes, &asked.external_aad)?;
+        text.push_str(comments.as_str())?;
+        text
+    };
+    let status = if explained.error.is_some() {
+        REFUSED
+    } else {
+        TAKEN
+    };
+    Ok((text, status))
+}
+
+/// Diagnostic notation alone, and the status.
+fn notation_of(
+    alloc: Global,
+    asked: &Asked,
+    kind: Kind,
+    bytes: &[u8],
+) -> Result<(String, u8), AllocError> {
+    let explained = explain(alloc, kind, bytes, asked.now)?;
+    let status = if explained.error.is_some() {
+        REFUSED
+    } else {
+        TAKEN
+    };
+    Ok((notation(alloc, &explained.lines)?, status))
+}
+
+/// What is written for bytes of an input of that name that were read as it is said.
+fn look_at(
+    alloc: Global,
+    asked: &Asked,
+    bytes: &[u8],
+    mut said: String,
+    name: &str,
+) -> Result<Shown, AllocError> {
+    let kind = kind_of(alloc, asked, bytes, &mut said)?;
+    let (text, status) = match asked.form {
+        Form::Annotated | Form::Page => {
+            lines_of(alloc, asked, kind, bytes, said.as_str(), name)?
+        }
+        Form::Plain => notation_of(alloc, asked, kind, bytes)?,
+        Form::Where => fault_line(alloc, kind, bytes)?,
+    };
+    Ok(Shown { said, text, status })
+}
+
+/// What is written for an input of that name.
+///
+/// # Errors
+/// `AllocError` alone.
+pub fn look(alloc: Global, asked: &Asked, input: &[u8], name: &str) -> Result<Shown, AllocError> {
+    let spelled = text_of(input);
+    match spelled.bytes(alloc)? {
+        Ok(bytes) => {
+            let (spelling, count) = (spelling_name(spelled.spelling), bytes.len());
+            let said = format!(in alloc; "read as {spelling}, {count} bytes")?;
+            look_at(alloc, asked, &bytes, said, name)
+        }
+        Err(place) => {
+            let offset = spelled.offset.saturating_add(place.0);
+            let said = misspelled(alloc, spelled.spelling, input, offset)?;
+            let text = if asked.form == Form::Page {
+                section(alloc, name, said.as_str(), &[], &[])?
+            } else {
+                String::new(alloc)
+            };
+            Ok(Shown {
+                said,
+                text,
+                status: REFUSED,
+            })
+        }
+    }
+}

@@ -1,0 +1,116 @@
+//! `tool_look [OPTION..] [KIND] [FILE]..`: takes apart what files hold, or standard input where there are none: bytes as they
+//! are, or spelled in hexadecimal or base64. How a file is looked at is said in front of it. What each was read as is on
+//! standard error. The status is 0 where all are of their kinds, 1 where one was refused, 2 where one couldn't be read, or
+//! memory ran out.
+#![tactic(auto)]
+
+mod asked;
+mod look;
+mod page;
+
+use asked::{Asked, Form};
+use look::{Shown, UNANSWERED, look};
+use std::io::{ErrorKind, IsTerminal, Read};
+use std::process::ExitCode;
+use std::{env, fs, io};
+
+/// What is printed where an argument isn't understood.
+const USAGE: &str = "usage: tool_look [OPTION..] [KIND] [FILE]..
+A file, or standard input where none is named, holds bytes as they are; or hexadecimal, also with 0x, spaces, commas and colons,
+or as h'..'; or base64 or base64url, also as b64'..' or behind Bearer.
+KIND is auto (what its tag says, or else what it can be), cwt (a web token, with claims as its payload), value, sign1, sign, mac,
+mac0, encrypt, encrypt0, countersignature, key, keyset, claims or kdf.
+With --edn diagnostic notation alone is written; with --where only the offset of the fault, the path there, and the fault, or
+that the input is accepted; with --html a page. --now=SECONDS since 1970 began is when a token is looked at, and
+--external-aad=HEX is what goes with messages. --color=auto, always or never: auto is in a terminal, without NO_COLOR.
+";
+
+/// Whether standard output is a terminal that may have colours.
+fn is_terminal(rt: &HostRuntime) -> bool {
+    let is_without = match env::var(rt, "NO_COLOR") {
+        Ok(value) => !value.is_empty(),
+        Err(_) => false,
+    };
+    !is_without && rt.stdout().is_terminal()
+}
+
+/// Takes an input of that name apart, and returns the status.
+fn show(rt: &HostRuntime, asked: &Asked, input: &[u8], name: &str) -> io::Result<u8> {
+    let Shown { said, text, status } = look(rt.alloc(), asked, input, name)?;
+    if name.is_empty() {
+        eprintln!(rt; "{said}")?;
+    } else {
+        eprintln!(rt; "{name}: {said}")?;
+    }
+    if !name.is_empty() && asked.form != Form::Page {
+        println!(rt; "# {name}")?;
+    }
+    print!(rt; "{text}")?;
+    Ok(status)
+}
+
+/// Takes a file apart, and returns the status.
+fn show_file(rt: &HostRuntime, asked: &Asked, name: &str) -> io::Result<u8> {
+    match fs::read(rt, name) {
+        Ok(input) => show(rt, asked, &input, name),
+        Err(error) if error.kind() == ErrorKind::OutOfMemory => Err(error),
+        Err(error) => {
+            eprintln!(rt; "error: {name}: {error}; nor is it a KIND")?;
+            Ok(UNANSWERED)
+        }
+    }
+}
+
+/// Takes standard input apart, and returns the status.
+fn show_input(rt: &HostRuntime, asked: &Asked) -> io::Result<u8> {
+    let mut input = Vec::new(rt.alloc());
+    rt.stdin().read_to_end(&mut input)?;
+    show(rt, asked, &input, "")
+}
+
+/// Takes all files apart that the arguments name, or standard input, and returns the greatest status.
+fn answer(rt: &HostRuntime, mut asked: Asked) -> io::Result<u8> {
+    let mut status = None;
+    for argument in env::args(rt)?.skip(1) {
+        let argument = argument.as_str();
+        if asked.takes(rt.alloc(), argument)? {
+            continue;
+        }
+        if argument.starts_with("--") {
+            eprint!(rt; "error: {argument} isn't understood\n{USAGE}")?;
+            return Ok(UNANSWERED);
+        }
+        let shown = show_file(rt, &asked, argument)?;
+        status = Some(shown.max(status.unwrap_or(0)));
+    }
+    match status {
+        Some(status) => Ok(status),
+        None => show_input(rt, &asked),
+    }
+}
+
+/// The same, within a page where that is asked for.
+fn answer_all(rt: &HostRuntime) -> io::Result<u8> {
+    let mut asked = Asked::new(rt.alloc(), is_terminal(rt));
+    if !env::args(rt)?
+        .skip(1)
+        .any(|argument| argument.as_str() == "--html")
+    {
+        return answer(rt, asked);
+    }
+    asked.form = Form::Page;
+    print!(rt; "{}", page::FRONT)?;
+    let status = answer(rt, asked)?;
+    print!(rt; "{}", page::END)?;
+    Ok(status)
+}
+
+fn main(rt: HostRuntime) -> ExitCode {
+    match answer_all(&rt) {
+        Ok(status) => ExitCode::from(status),
+        Err(error) => {
+            let _ = eprintln!(rt; "error: {error}");
+            ExitCode::from(UNANSWERED)
+        }
+    }
+}

@@ -1,0 +1,184 @@
+//! Lines as a page of HTML, without scripts and outside links.
+
+use std::alloc::{AllocError, Global};
+use tool_explain::{Cover, Line};
+
+/// What is in front of all inputs.
+pub const FRONT: &str = r##"<!DOCTYPE html>
+<html lang="en">
+<head>
+<meta charset="utf-8">
+<meta name="viewport" content="width=device-width, initial-scale=1">
+<title>CBOR and COSE, taken apart</title>
+<style>
+body { font: 15px/1.4 sans-serif; margin: 1.5em; color: #1b1b1b; background: #fff; }
+h1, h2 { font-size: 1.2em; overflow-wrap: anywhere; }
+code { font: 13px/1.4 monospace; overflow-wrap: anywhere; white-space: pre-wrap; }
+ul { list-style: none; padding: 0; }
+li { display: inline-block; margin-right: 1.5em; padding-left: .5em; }
+.row { display: grid; grid-template-columns: 33ch 9em 1fr; column-gap: .5em; padding: 1px 0 1px .5em; border-left: 6px solid transparent; }
+.row code:first-child { color: #555; width: 32ch; }
+.row > span { font-size: 12px; color: #444; }
+.row > span + span { font-size: 13px; }
+summary { cursor: pointer; list-style: none; }
+summary::-webkit-details-marker { display: none; }
+summary > span + span::before { content: "\25BE\00A0"; color: #777; }
+details:not([open]) > summary > span + span::before { content: "\25B8\00A0"; }
+em { color: #444; }
+.signed { border-left: 6px solid #1a7f37; background: #e9f7ec; }
+.open { border-left: 6px dashed #b35900; background: #fff4e5; }
+.seal { border-left: 6px double #0550ae; background: #eaf2fd; }
+.refused { border-left: 6px solid #b00020; background: #fdeaed; font-weight: bold; }
+@media (max-width: 60em) {
+.row { grid-template-columns: 17ch 8em 1fr; }
+.row code:first-child { width: 16ch; }
+}
+@media (max-width: 36em) {
+.row { grid-template-columns: 1fr auto; }
+.row > span + span { grid-column: 1 / 3; }
+}
+</style>
+</head>
+<body>
+<h1>CBOR and COSE, taken apart</h1>
+<p>Bytes are on the left, and what they are is on the right. A line with a triangle folds what is in it.</p>
+<ul>
+<li class="signed">solid: signed or authenticated</li>
+<li class="open">dashed: a header that is neither</li>
+<li class="seal">double: a signature, a MAC or a ciphertext</li>
+<li class="refused">bold: refused</li>
+</ul>
+"##;
+
+/// What is behind all inputs.
+pub const END: &str = "</body>\n</html>\n";
+
+/// How deep lines are seen to be by their indentation.
+const STEPS: usize = 32;
+
+/// How deep lines fold in one another; deeper ones don't fold.
+const FOLDS: usize = 100;
+
+/// Adds the text, so that it is one.
+fn push_escaped(page: &mut String, text: &str) -> Result<(), AllocError> {
+    for c in text.chars() {
+        match c {
+            '&' => page.push_str("&amp;")?,
+            '<' => page.push_str("&lt;")?,
+            '>' => page.push_str("&gt;")?,
+            '"' => page.push_str("&quot;")?,
+            '\'' => page.push_str("&#39;")?,
+            c if c.is_control() => page.push('\u{fffd}')?,
+            c => page.push(c)?,
+        }
+    }
+    Ok(())
+}
+
+/// The class of a line.
+fn class(cover: Cover) -> &'static str {
+    match cover {
+        Cover::Plain => "",
+        Cover::Signed | Cover::Authenticated => " signed",
+        Cover::NotSigned | Cover::NotAuthenticated => " open",
+        Cover::Seal => " seal",
+        Cover::Refused => " refused",
+    }
+}
+
+/// Adds a line in an element of that name: its bytes, what a signature or a MAC has to do with them, what they are.
+fn push_row(
+    alloc: Global,
+    page: &mut String,
+    line: &Line<'_>,
+    name: &str,
+) -> Result<(), AllocError> {
+    let (class, depth) = (class(line.cover), line.depth.min(STEPS));
+    let (digits, words) = (hex::encode(alloc, line.bytes)?, line.cover.text());
+    write!(
+        page,
+        "<{name} class=\"row{class}\"><code>{digits}</code><span>{words}</span>"
+    )?;
+    write!(page, "<span style=\"padding-left:{depth}em\"><code>")?;
+    push_escaped(page, line.text.as_str())?;
+    page.push_str("</code> <em>")?;
+    push_escaped(page, line.note.as_str())?;
+    write!(page, "</em></span></{name}>\n")
+}
+
+/// Ends what folds at this depth and deeper, the deepest first.
+fn end_folds(page: &mut String, folds: &mut Vec<usize>, depth: usize) -> Result<(), AllocError> {
+    for _ in 0..folds.len() {
+        let Some(last) = folds.pop() else {
+            break;
+        };
+        if last < depth {
+            folds.push(last)?;
+            break;
+        }
+        page.push_str("</details>\n")?;
+    }
+    Ok(())
+}
+
+/// Adds a line, which folds where the next one is deeper, up to the one that ends it.
+fn push_line(
+    alloc: Global,
+    page: &mut String,
+    folds: &mut Vec<usize>,
+    line: &Line<'_>,
+    next_depth: usize,
+) -> Result<(), AllocError> {
+    end_folds(page, folds, line.depth.saturating_add(1))?;
+    if line.depth < next_depth && folds.len() < FOLDS {
+        folds.push(line.depth)?;
+        page.push_str("<details open>")?;
+        return push_row(alloc, page, line, "summary");
+    }
+    push_row(alloc, page, line, "div")?;
+    end_folds(page, folds, line.depth)
+}
+
+/// How deep the line at that index is; 0 behind the last.
+fn depth_at(lines: &[Line<'_>], index: usize) -> usize {
+    match lines.get(index) {
+        Some(line) => line.depth,
+        None => 0,
+    }
+}
+
+/// Adds the lines.
+fn push_lines(alloc: Global, page: &mut String, lines: &[Line<'_>]) -> Result<(), AllocError> {
+    let mut folds: Vec<usize> = Vec::new(alloc);
+    for (index, line) in lines.iter().enumerate() {
+        let next_depth = depth_at(lines, index.saturating_add(1));
+        push_line(alloc, page, &mut folds, line, next_depth)?;
+    }
+    end_folds(page, &mut folds, 0)
+}
+
+/// An input in a page: its name, what it was read as, its lines, and notes for under them.
+///
+/// # Errors
+/// `AllocError` alone.
+pub fn section(
+    alloc: Global,
+    name: &str,
+    said: &str,
+    lines: &[Line<'_>],
+    notes: &[String],
+) -> Result<String, AllocError> {
+    let mut page = String::from_str(alloc, "<section>\n<h2>")?;
+    push_escaped(&mut page, name)?;
+    page.push_str("</h2>\n<p>")?;
+    push_escaped(&mut page, said)?;
+    page.push_str("</p>\n")?;
+    push_lines(alloc, &mut page, lines)?;
+    for note in notes {
+        page.push_str("<p><code>")?;
+        push_escaped(&mut page, note.as_str())?;
+        page.push_str("</code></p>\n")?;
+    }
+    page.push_str("</section>\n")?;
+    Ok(page)
+}

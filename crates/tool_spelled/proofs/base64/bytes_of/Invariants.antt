@@ -1,0 +1,11 @@
+use Rattle.std.proofs.Common.{◌≡◌, ◌++◌, ℕ, List, Option, length}
+use Rattle.std.specs.Prelude.{option_map}
+use Rattle.tool_spelled.specs.Base64.{bytes_of}
+use Rattle.tool_spelled.proofs.base64.bytes_of.Given as goal
+
+abbrev pub decreases-loop-left : goal.decreases-loop-left
+decreases-loop-left l = length l.left
+
+-- the bytes are those so far, and then those of what is left
+abbrev pub invariant-loop-left : goal.invariant-loop-left
+invariant-loop-left l = bytes_of l.numbers ≡ option_map (λ b. l.bytes.items ++ b) (bytes_of l.left)
