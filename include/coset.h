@@ -1,12 +1,17 @@
 /* coset for C. Each call is a function of the bytes that it is given: nothing is kept between calls, nothing has to be freed,
  * and calls in several threads do not touch one another. What each call answers is proved of its code; the contracts stand
- * beside the functions of the same names in crates/ffi_c/src/lib.rt, and docs/C.md tells them in words.
+ * beside the functions of the same names in crates/ffi_c/src, and docs/C.md tells them in words. coset_verify.h verifies
+ * and decrypts in one call.
  *
  * in, in_len     the bytes of an item of the kind. Any pointer to bytes may be NULL where the length beside it is 0.
  * out, cap, len  where an answer goes, and how long it is. COSET_SHORT: it is longer than cap, and *len says how long.
  *                Where the status isn't COSET_OK, out is as it was; where it is neither that nor COSET_SHORT, *len is 0.
- * No two of the places that a call is given may overlap. len, count, offset, value and view are never NULL.
- * A call may take 1 MB of stack, and is not for signal handlers. */
+ * What is const may overlap; out, len, count, offset, value and view overlap nothing that the call is given, and but for out
+ * they are never NULL. A call may take 1 MB of stack, and asks for memory: it is not for signal handlers, nor for a child that
+ * a process with threads forked. The library asks the C library for malloc, free, memcpy, memmove and memset.
+ *
+ * Any call may return COSET_OK, COSET_MEMORY, COSET_MISUSE, or one from COSET_ENDS to COSET_NOT_PRIVATE; what else it may
+ * return stands behind `Also:`. */
 #ifndef COSET_H
 #define COSET_H
 
@@ -16,6 +21,18 @@
 #ifdef __cplusplus
 extern "C" {
 #endif
+
+/* What is declared here; coset_version says what is linked. */
+#define COSET_VERSION "0.4.2-rattle.2"
+
+/* A call whose status may not be ignored, and which arguments, counted from 1, are never NULL. */
+#if defined(__GNUC__) || defined(__clang__)
+#define COSET_CALL(...) __attribute__((warn_unused_result, nonnull(__VA_ARGS__)))
+#else
+#define COSET_CALL(...)
+#endif
+
+typedef int32_t coset_status;
 
 /* Statuses. Those from COSET_ENDS to COSET_NOT_PRIVATE are faults of the bytes, or of a byte string in them that holds a
  * header: the bytes are then no item of the kind. Of a call that makes they are faults of what is given, or of what would be
@@ -34,7 +51,10 @@ enum {
   COSET_UNREGISTERED = 10, /* an integer without a name, in a registry without a private range */
   COSET_NOT_PRIVATE = 11,  /* an integer without a name, and outside the private range of its registry */
   COSET_ABSENT = 12,       /* what is asked for isn't in the bytes, or what is given has no place in items of the kind */
-  COSET_MISUSE = 13        /* a number that stands for no kind, no part, no map or no order, or for a kind of another call */
+  COSET_MISUSE = 13,       /* a number that stands for no kind, no part, no map or no order, or for a kind of another call; or a
+                              payload that is given as detached, and the message carries one, or the flag says that none is */
+  COSET_TYPE = 14,         /* what is asked for is there, and is no string, or no integer of 64 bits */
+  COSET_EMPTY = 15         /* the list is empty: who verifies each of its signatures has verified none */
 };
 
 /* Kinds. */
@@ -77,6 +97,12 @@ enum {
   COSET_TEXT = 2  /* by a text */
 };
 
+/* What there is of crit, label 2: labels that must be understood; COSET_NONE where there are none. */
+enum {
+  COSET_UNDERSTOOD = 1,    /* each is an integer among those that the caller understands, and protected */
+  COSET_NOT_UNDERSTOOD = 2 /* one isn't */
+};
+
 /* Orders of labels, by their encodings. */
 enum {
   COSET_LEXICOGRAPHIC = 1, /* by their bytes (RFC 8949, section 4.2.1) */
@@ -87,41 +113,55 @@ enum {
 
 /* Whether the bytes are an item of the kind. *offset is where they stop being one item of CBOR: of the head at fault, of the
  * bytes that follow the item, or their end; SIZE_MAX where nothing is said of that. */
-int32_t coset_check(uint32_t kind, const uint8_t *in, size_t in_len, size_t *offset);
+COSET_CALL(4)
+coset_status coset_check(uint32_t kind, const uint8_t *in, size_t in_len, size_t *offset);
 
-/* How many signatures a COSET_SIGN has, recipients a COSET_MAC, COSET_ENCRYPT or COSET_RECIPIENT, or keys a COSET_KEY_SET. */
-int32_t coset_count(uint32_t kind, const uint8_t *in, size_t in_len, size_t *count);
+/* How many signatures a COSET_SIGN has, recipients a COSET_MAC, COSET_ENCRYPT or COSET_RECIPIENT, or keys a COSET_KEY_SET: one
+ * at least. Also: COSET_ABSENT, COSET_EMPTY. */
+COSET_CALL(4)
+coset_status coset_count(uint32_t kind, const uint8_t *in, size_t in_len, size_t *count);
 
-/* A part. */
-int32_t coset_part(uint32_t kind, const uint8_t *in, size_t in_len, uint32_t part, uint8_t *out, size_t cap, size_t *len);
+/* A part. Also: COSET_SHORT, COSET_ABSENT. */
+COSET_CALL(7)
+coset_status coset_part(uint32_t kind, const uint8_t *in, size_t in_len, uint32_t part, uint8_t *out, size_t cap, size_t *len);
 
 /* The signature, recipient or key of that index, counted from 0, in its shortest encoding: a COSET_SIGNATURE,
- * COSET_RECIPIENT or COSET_KEY. */
-int32_t coset_member(uint32_t kind, const uint8_t *in, size_t in_len, size_t index, uint8_t *out, size_t cap, size_t *len);
+ * COSET_RECIPIENT or COSET_KEY. Also: COSET_SHORT, COSET_ABSENT. */
+COSET_CALL(7)
+coset_status coset_member(uint32_t kind, const uint8_t *in, size_t in_len, size_t index, uint8_t *out, size_t cap,
+                          size_t *len);
 
-/* The value of an integer label: in its shortest encoding; what a byte string or a text string holds; an integer. Where the
- * value is no string, or no integer of 64 bits, it is COSET_ABSENT to the last two. */
-int32_t coset_label(uint32_t kind, const uint8_t *in, size_t in_len, uint32_t map, int64_t label, uint8_t *out, size_t cap,
-                    size_t *len);
-int32_t coset_label_bytes(uint32_t kind, const uint8_t *in, size_t in_len, uint32_t map, int64_t label, uint8_t *out,
-                          size_t cap, size_t *len);
-int32_t coset_label_int(uint32_t kind, const uint8_t *in, size_t in_len, uint32_t map, int64_t label, int64_t *value);
+/* The value of an integer label: in its shortest encoding; what a byte string or a text string holds; an integer. Also:
+ * COSET_ABSENT where there is no such label; COSET_TYPE, of the last two, where the value is no string, or no integer of 64 bits;
+ * COSET_SHORT, of the first two. */
+COSET_CALL(8)
+coset_status coset_label(uint32_t kind, const uint8_t *in, size_t in_len, uint32_t map, int64_t label, uint8_t *out,
+                         size_t cap, size_t *len);
+COSET_CALL(8)
+coset_status coset_label_bytes(uint32_t kind, const uint8_t *in, size_t in_len, uint32_t map, int64_t label, uint8_t *out,
+                               size_t cap, size_t *len);
+COSET_CALL(6)
+coset_status coset_label_int(uint32_t kind, const uint8_t *in, size_t in_len, uint32_t map, int64_t label, int64_t *value);
 
-/* The value of a text label, whose UTF-8 bytes these are, in its shortest encoding. */
-int32_t coset_text_label(uint32_t kind, const uint8_t *in, size_t in_len, uint32_t map, const uint8_t *label,
-                         size_t label_len, uint8_t *out, size_t cap, size_t *len);
+/* The value of a text label, whose UTF-8 bytes these are, in its shortest encoding. Also: COSET_SHORT, COSET_ABSENT. */
+COSET_CALL(9)
+coset_status coset_text_label(uint32_t kind, const uint8_t *in, size_t in_len, uint32_t map, const uint8_t *label,
+                              size_t label_len, uint8_t *out, size_t cap, size_t *len);
 
 /* What is signed (of a COSET_SIGN by the signer of that index), authenticated, or goes with the ciphertext: Sig_structure,
- * MAC_structure or Enc_structure. Where has_detached is 0, the payload is the one that the message carries; else it is
- * detached, and the message carries none. COSET_ABSENT where it isn't so. Enc_structure has no payload. */
-int32_t coset_structure(uint32_t kind, const uint8_t *in, size_t in_len, size_t index, const uint8_t *external_aad,
-                        size_t external_aad_len, uint32_t has_detached, const uint8_t *detached, size_t detached_len,
-                        uint8_t *out, size_t cap, size_t *len);
+ * MAC_structure or Enc_structure. Where has_detached is 0, the payload is the one that the message carries, and detached_len
+ * is 0; else it is detached, and the message carries none. COSET_MISUSE where two are given, by the message and as detached.
+ * Enc_structure has no payload. Also: COSET_SHORT; COSET_ABSENT where there is no payload, or no such signer. */
+COSET_CALL(12)
+coset_status coset_structure(uint32_t kind, const uint8_t *in, size_t in_len, size_t index, const uint8_t *external_aad,
+                             size_t external_aad_len, uint32_t has_detached, const uint8_t *detached, size_t detached_len,
+                             uint8_t *out, size_t cap, size_t *len);
 
 /* What goes with the ciphertext of the COSET_RECIPIENT, an Enc_structure (RFC 8152, section 5.3), by the kind that holds it:
- * COSET_ENCRYPT, COSET_MAC or COSET_RECIPIENT. COSET_ABSENT where items of that kind hold no recipients. */
-int32_t coset_recipient_structure(uint32_t holder, const uint8_t *in, size_t in_len, const uint8_t *external_aad,
-                                  size_t external_aad_len, uint8_t *out, size_t cap, size_t *len);
+ * COSET_ENCRYPT, COSET_MAC or COSET_RECIPIENT. Also: COSET_SHORT; COSET_ABSENT where items of that kind hold no recipients. */
+COSET_CALL(8)
+coset_status coset_recipient_structure(uint32_t holder, const uint8_t *in, size_t in_len, const uint8_t *external_aad,
+                                       size_t external_aad_len, uint8_t *out, size_t cap, size_t *len);
 
 /* What coset_sign1 tells in numbers, of a message with one signature: nothing but zeros where the status isn't COSET_OK. */
 typedef struct coset_sign1_view {
@@ -140,56 +180,101 @@ typedef struct coset_sign1_view {
 /* All that verifying a COSET_SIGN1 (with COSET_TAGGED or COSET_EITHER, or neither) takes: out then begins with four texts,
  * one behind the other, which are what is signed, as coset_structure tells it; the signature; the payload that the message
  * carries; and the key's identifier. *len is the length of the four together. Verify the signature over what is signed, by a
- * key that you trust and an algorithm that you allow for it, before you use the payload; and refuse a message that has crit. */
-int32_t coset_sign1(uint32_t kind, const uint8_t *in, size_t in_len, const uint8_t *external_aad, size_t external_aad_len,
-                    uint32_t has_detached, const uint8_t *detached, size_t detached_len, uint8_t *out, size_t cap,
-                    size_t *len, coset_sign1_view *view);
+ * key that you trust and an algorithm that you allow for it, before you use the payload; and refuse a message that has crit.
+ * Also: COSET_SHORT; COSET_ABSENT where there is no payload. */
+COSET_CALL(11, 12)
+coset_status coset_sign1(uint32_t kind, const uint8_t *in, size_t in_len, const uint8_t *external_aad, size_t external_aad_len,
+                         uint32_t has_detached, const uint8_t *detached, size_t detached_len, uint8_t *out, size_t cap,
+                         size_t *len, coset_sign1_view *view);
+
+/* What coset_message tells in numbers, of any message: nothing but zeros where the status isn't COSET_OK. The headers are those
+ * of the message, and of a COSET_SIGN those of the signer. */
+typedef struct coset_message_view {
+  int64_t algorithm;       /* as in coset_sign1_view, and so are the next two */
+  uint32_t algorithm_form;
+  uint32_t key_id_map;
+  uint32_t critical;       /* COSET_NONE, COSET_UNDERSTOOD or COSET_NOT_UNDERSTOOD; of a COSET_SIGN by the headers of both */
+  uint32_t is_tagged;      /* 1 where the message is under its tag, else 0 */
+  size_t structure_len;    /* the lengths of the four texts */
+  size_t proof_len;        /* 0 of an encrypted message */
+  size_t content_len;      /* 0 where the content is detached */
+  size_t key_id_len;       /* 0 where there is no kid */
+} coset_message_view;
+
+/* The same of any message: what is signed (of a COSET_SIGN by the signer of that index), authenticated, or goes with the
+ * ciphertext; the signature or the tag; the payload or the ciphertext that the message carries; and the key's identifier. known
+ * are the critical labels that you understand. Also: COSET_SHORT; COSET_ABSENT where there is no payload, or no such signer. */
+COSET_CALL(14, 15)
+coset_status coset_message(uint32_t kind, const uint8_t *in, size_t in_len, size_t index, const uint8_t *external_aad,
+                           size_t external_aad_len, uint32_t has_detached, const uint8_t *detached, size_t detached_len,
+                           const int64_t *known, size_t known_len, uint8_t *out, size_t cap, size_t *len,
+                           coset_message_view *view);
 
 /* ---- Making: the structure first, then your signature, tag or ciphertext, then the message. Each answer is the shortest
- * encoding of an item of the kind. */
+ * encoding of an item of the kind. Also, of each: COSET_SHORT; and where nothing else is said, COSET_ABSENT where what is given
+ * has no place in items of the kind. */
 
 /* The header, key or claims set `in`, which may be empty, with one pair more, behind the others: an integer label with a value
  * by its encoding, with a byte string, with a text (by its UTF-8 bytes), with an integer; and a text label with a value by its
  * encoding. COSET_DUPLICATE where the label is there already. A key begins with its type, label 1. */
-int32_t coset_put(uint32_t kind, const uint8_t *in, size_t in_len, int64_t label, const uint8_t *value, size_t value_len,
-                  uint8_t *out, size_t cap, size_t *len);
-int32_t coset_put_bytes(uint32_t kind, const uint8_t *in, size_t in_len, int64_t label, const uint8_t *value,
-                        size_t value_len, uint8_t *out, size_t cap, size_t *len);
-int32_t coset_put_text(uint32_t kind, const uint8_t *in, size_t in_len, int64_t label, const uint8_t *value,
-                       size_t value_len, uint8_t *out, size_t cap, size_t *len);
-int32_t coset_put_int(uint32_t kind, const uint8_t *in, size_t in_len, int64_t label, int64_t value, uint8_t *out, size_t cap,
-                      size_t *len);
-int32_t coset_put_text_label(uint32_t kind, const uint8_t *in, size_t in_len, const uint8_t *label, size_t label_len,
-                             const uint8_t *value, size_t value_len, uint8_t *out, size_t cap, size_t *len);
+COSET_CALL(9)
+coset_status coset_put(uint32_t kind, const uint8_t *in, size_t in_len, int64_t label, const uint8_t *value, size_t value_len,
+                       uint8_t *out, size_t cap, size_t *len);
+COSET_CALL(9)
+coset_status coset_put_bytes(uint32_t kind, const uint8_t *in, size_t in_len, int64_t label, const uint8_t *value,
+                             size_t value_len, uint8_t *out, size_t cap, size_t *len);
+COSET_CALL(9)
+coset_status coset_put_text(uint32_t kind, const uint8_t *in, size_t in_len, int64_t label, const uint8_t *value,
+                            size_t value_len, uint8_t *out, size_t cap, size_t *len);
+COSET_CALL(8)
+coset_status coset_put_int(uint32_t kind, const uint8_t *in, size_t in_len, int64_t label, int64_t value, uint8_t *out,
+                           size_t cap, size_t *len);
+COSET_CALL(10)
+coset_status coset_put_text_label(uint32_t kind, const uint8_t *in, size_t in_len, const uint8_t *label, size_t label_len,
+                                  const uint8_t *value, size_t value_len, uint8_t *out, size_t cap, size_t *len);
 
 /* As coset_structure, of a message that isn't made yet. prot is its protected header, a map or nothing; signer is that of the
  * signer, of a COSET_SIGN alone; content is the payload, carried or detached. Enc_structure has none. */
-int32_t coset_structure_of(uint32_t kind, const uint8_t *prot, size_t prot_len, const uint8_t *signer, size_t signer_len,
-                           const uint8_t *external_aad, size_t external_aad_len, const uint8_t *content, size_t content_len,
-                           uint8_t *out, size_t cap, size_t *len);
+COSET_CALL(12)
+coset_status coset_structure_of(uint32_t kind, const uint8_t *prot, size_t prot_len, const uint8_t *signer, size_t signer_len,
+                                const uint8_t *external_aad, size_t external_aad_len, const uint8_t *content,
+                                size_t content_len, uint8_t *out, size_t cap, size_t *len);
 
 /* As coset_recipient_structure, of the protected header of a recipient that isn't made yet, a map or nothing. */
-int32_t coset_recipient_structure_of(uint32_t holder, const uint8_t *prot, size_t prot_len, const uint8_t *external_aad,
-                                     size_t external_aad_len, uint8_t *out, size_t cap, size_t *len);
+COSET_CALL(8)
+coset_status coset_recipient_structure_of(uint32_t holder, const uint8_t *prot, size_t prot_len, const uint8_t *external_aad,
+                                          size_t external_aad_len, uint8_t *out, size_t cap, size_t *len);
 
 /* A message (under its tag, with COSET_TAGGED), a COSET_SIGNATURE or a COSET_RECIPIENT, of its protected header, its
  * unprotected one, each a map or nothing, its payload or ciphertext, and its signature or tag. Where has_content is 0, the
- * content is detached. A message with signers or recipients is made without them, for coset_add. */
-int32_t coset_make(uint32_t kind, const uint8_t *prot, size_t prot_len, const uint8_t *unprot, size_t unprot_len,
-                   uint32_t has_content, const uint8_t *content, size_t content_len, const uint8_t *proof, size_t proof_len,
-                   uint8_t *out, size_t cap, size_t *len);
+ * content is detached, and content_len is 0, else it is COSET_MISUSE. A message with signers or recipients is made without them, for coset_add. */
+COSET_CALL(13)
+coset_status coset_make(uint32_t kind, const uint8_t *prot, size_t prot_len, const uint8_t *unprot, size_t unprot_len,
+                        uint32_t has_content, const uint8_t *content, size_t content_len, const uint8_t *proof,
+                        size_t proof_len, uint8_t *out, size_t cap, size_t *len);
 
 /* The item with one signature, recipient or key more, behind the others. A COSET_KEY_SET may begin with nothing. All
  * else of the item stays. */
-int32_t coset_add(uint32_t kind, const uint8_t *in, size_t in_len, const uint8_t *member, size_t member_len, uint8_t *out,
-                  size_t cap, size_t *len);
+COSET_CALL(8)
+coset_status coset_add(uint32_t kind, const uint8_t *in, size_t in_len, const uint8_t *member, size_t member_len, uint8_t *out,
+                       size_t cap, size_t *len);
 
-/* The item in its shortest encoding. Pairs keep their order, and protected headers their bytes. */
-int32_t coset_write(uint32_t kind, const uint8_t *in, size_t in_len, uint8_t *out, size_t cap, size_t *len);
+/* The item in its shortest encoding. Pairs keep their order, and protected headers their bytes. Never COSET_ABSENT. */
+COSET_CALL(6)
+coset_status coset_write(uint32_t kind, const uint8_t *in, size_t in_len, uint8_t *out, size_t cap, size_t *len);
 
 /* The COSET_KEY in its shortest encoding, with its labels in that order: the same bytes for keys that agree but for the order
- * of their pairs. */
-int32_t coset_canonical_key(uint32_t order, const uint8_t *in, size_t in_len, uint8_t *out, size_t cap, size_t *len);
+ * of their pairs. Never COSET_ABSENT. */
+COSET_CALL(6)
+coset_status coset_canonical_key(uint32_t order, const uint8_t *in, size_t in_len, uint8_t *out, size_t cap, size_t *len);
+
+/* ---- About the library. */
+
+/* The version that is linked: COSET_VERSION, and behind it ` (unproved)` where the library was built without a proof. */
+const char *coset_version(void);
+
+/* What the status is, in a few words: never NULL. */
+const char *coset_status_text(coset_status status);
 
 #ifdef __cplusplus
 }

@@ -3,20 +3,23 @@
  *   check KIND IN | count KIND IN | part KIND IN CAP PART | member KIND IN CAP INDEX | label KIND IN CAP MAP LABEL
  *   label_bytes KIND IN CAP MAP LABEL | label_int KIND IN MAP LABEL | text_label KIND IN CAP MAP LABEL
  *   structure KIND IN CAP INDEX AAD HAS DETACHED | recipient_structure HOLDER IN CAP AAD
- *   sign1 KIND IN CAP AAD HAS DETACHED | verified KIND IN CAP ALG KID SIGNED SIGNATURE
+ *   sign1 KIND IN CAP AAD HAS DETACHED | message KIND IN CAP INDEX AAD HAS DETACHED KNOWN
+ *   verified KIND IN CAP ALG KID SIGNED SIGNATURE | safe KIND IN CAP INDEX AAD HAS DETACHED ALGS KNOWN INPUT PROOF KID
  *   put, put_bytes, put_text, put_int or put_text_label KIND IN CAP LABEL VALUE
  *   structure_of KIND PROTECTED CAP SIGNER AAD CONTENT | recipient_structure_of HOLDER PROTECTED CAP AAD
  *   make KIND PROTECTED CAP UNPROTECTED HAS CONTENT PROOF
  *   add KIND IN CAP MEMBER | write KIND IN CAP | canonical_key ORDER IN CAP
- *   issued 0 KID CAP ISS SUB AUD CTI EXP NBF IAT SIGNED SIGNATURE
+ *   text STATUS | issued 0 KID CAP ISS SUB AUD CTI EXP NBF IAT SIGNED SIGNATURE
  *
  * Bytes, and labels and values that aren't integers, are hexadecimal, `-` for none, which is passed as NULL. To `verified` of
  * verify.c a signature is good where all four are as the line says, and to `issued` of issue.c it is SIGNATURE, where SIGNED
- * is what it is asked for. Beside the status and the number the whole buffer is told, of CAP bytes and 8 more, each of which
- * was ee before; behind it, of `sign1`, the numbers of its view, which were 77. What `verified` points to is told in place of
- * what its buffer holds. Each input is in memory of its own, and with REFUSE=N in the environment, the N-th request for memory
+ * is what it is asked for. `safe` is the call of coset_verify.h for the kind; yes is said where the input, the proof and the
+ * key's identifier are as the line says, and a ciphertext is then read as the IV and its bytes, each xor 5a. ALGS and KNOWN are
+ * integers with commas between them. Beside the status and the number the whole buffer is told, of CAP bytes and 8 more, each of which
+ * was ee before; behind it, of `sign1`, the numbers of its view, which were 77, and so of `message`. What `verified` and
+ * `safe` point to is told in place of what their buffers hold. Each input is in memory of its own, and with REFUSE=N in the environment, the N-th request for memory
  * of each call is refused. */
-#include "coset.h"
+#include "coset_verify.h"
 #include <inttypes.h>
 #include <stdio.h>
 #include <stdlib.h>
@@ -64,21 +67,30 @@ static struct bytes spelled(const char *word) {
   return b;
 }
 
-static void tell(int32_t status, const char *number, const uint8_t *out, size_t len, const coset_sign1_view *view) {
+static void tell(int32_t status, const char *number, const uint8_t *out, size_t len, const coset_message_view *view) {
   printf("%" PRId32 " %s ", status, number);
   for (size_t i = 0; i < len; i++) printf("%02x", out[i]);
   if (view)
     printf(" %" PRId64 " %" PRIu32 " %" PRIu32 " %" PRIu32 " %" PRIu32 " %zu %zu %zu %zu", view->algorithm, view->algorithm_form,
-           view->key_id_map, view->has_critical, view->is_tagged, view->structure_len, view->signature_len, view->payload_len,
+           view->key_id_map, view->critical, view->is_tagged, view->structure_len, view->proof_len, view->content_len,
            view->key_id_len);
   puts("");
 }
 
+/* The integers of a word, with commas between them; `-` is none. */
+static size_t integers(const char *word, int64_t *at, size_t most) {
+  size_t count = 0;
+  if (!strcmp(word, "-")) return 0;
+  for (char *end = (char *)(uintptr_t)word; count < most; word = end + 1) {
+    at[count++] = strtoll(word, &end, 10);
+    if (!*end) break;
+  }
+  return count;
+}
+
 /* In verify.c. */
-typedef int (*verifier)(void *keys, int64_t alg, const uint8_t *kid, size_t kid_len, const uint8_t *tbs, size_t tbs_len,
-                        const uint8_t *sig, size_t sig_len);
-int32_t verified(const uint8_t *in, size_t n, verifier verify, void *keys, uint8_t *out, size_t cap, const uint8_t **payload,
-                 size_t *len);
+coset_status verified(const uint8_t *in, size_t n, coset_verifier verify, void *keys, uint8_t *out, size_t cap,
+                      const uint8_t **payload, size_t *len);
 
 static int same(const char *word, const uint8_t *at, size_t len) {
   struct bytes b = spelled(word);
@@ -88,10 +100,10 @@ static int same(const char *word, const uint8_t *at, size_t len) {
 }
 
 /* Whether the four are those of the words. */
-static int is_as_said(void *words, int64_t alg, const uint8_t *kid, size_t kid_len, const uint8_t *tbs, size_t tbs_len,
-                      const uint8_t *sig, size_t sig_len) {
+static int is_as_said(void *words, const coset_question *q) {
   char **word = words;
-  return atoll(word[0]) == alg && same(word[1], kid, kid_len) && same(word[2], tbs, tbs_len) && same(word[3], sig, sig_len);
+  return atoll(word[0]) == q->algorithm && same(word[1], q->key_id, q->key_id_len) && same(word[2], q->input, q->input_len) &&
+         same(word[3], q->proof, q->proof_len);
 }
 
 /* The status of `verified`, by those words. The payload that it points to then stands at the front of `out`, and nothing else. */
@@ -100,7 +112,58 @@ static int32_t verified_as_said(char **words, struct bytes in, uint8_t *out, siz
   int32_t status = verified(in.at, in.len, is_as_said, words, out, cap, &payload, len);
   if ((status == 0) != (payload != NULL)) return -2;
   if (payload) memmove(out, payload, *len);
-  if (payload || status == -1) memset(out + *len, 0xee, cap - *len);
+  if (payload) memset(out + *len, 0xee, cap - *len);
+  for (size_t i = 0; status >= COSET_NOT_ALLOWED && i < cap; i++) status = out[i] && out[i] != 0xee ? -5 : status;
+  if (status >= COSET_NOT_ALLOWED) memset(out, 0xee, cap);
+  return status;
+}
+
+/* Whether the question is that of the words; a plaintext is then the IV, and the bytes of the ciphertext, each xor 5a. */
+static int is_asked(void *words, const coset_question *question) {
+  char **word = words;
+  return same(word[0], question->input, question->input_len) && same(word[1], question->proof, question->proof_len) &&
+         same(word[2], question->key_id, question->key_id_len);
+}
+
+static int is_decrypted(void *words, const coset_question *question, const uint8_t *iv, size_t iv_len, uint8_t *plain, size_t cap,
+                        size_t *len) {
+  size_t i;
+  *len = iv_len + question->proof_len;
+  if (*len > cap || !is_asked(words, question)) return 0;
+  if (iv_len) memcpy(plain, iv, iv_len);
+  for (i = 0; i < question->proof_len; i++) plain[iv_len + i] = question->proof[i] ^ 0x5a;
+  return 1;
+}
+
+/* The status of the call of coset_verify.h for the kind, by those words; what it points to then stands at the front of `out`,
+ * and where it is refused, nothing but zeros is there. */
+static int32_t safe(char **word, uint32_t number, struct bytes in, uint8_t *out, size_t cap, size_t *len) {
+  const uint32_t form = number >> 16 ? number >> 16 : number & 0xff00;
+  struct bytes aad = spelled(word[5]), detached = spelled(word[7]);
+  int64_t algorithms[64], known[64];
+  const coset_policy policy = {algorithms, integers(word[8], algorithms, 64), known,       integers(word[9], known, 64), aad.at,
+                               aad.len,    (uint32_t)strtoul(word[6], NULL, 0), detached.at, detached.len};
+  const size_t index = strtoul(word[4], NULL, 0);
+  const uint8_t *payload = out;
+  uint8_t *plain = malloc(cap + 1);
+  int32_t status = -2;
+  memset(plain, 0xee, cap + 1);
+  switch (number & 0xff) {
+  case COSET_SIGN1: status = coset_sign1_verify(form, in.at, in.len, &policy, is_asked, word + 10, out, cap, &payload, len); break;
+  case COSET_MAC0: status = coset_mac0_verify(form, in.at, in.len, &policy, is_asked, word + 10, out, cap, &payload, len); break;
+  case COSET_SIGN:
+    status = coset_sign_verify(form, in.at, in.len, index, &policy, is_asked, word + 10, out, cap, &payload, len);
+    break;
+  default:
+    status = coset_encrypt0_decrypt(form, in.at, in.len, &policy, is_decrypted, word + 10, out, cap, plain, cap, len);
+    payload = status ? NULL : plain;
+    for (size_t i = 0; status == COSET_REFUSED && i < cap; i++) status = plain[i] ? -3 : status;
+  }
+  if ((status == 0) != (payload != NULL)) status = -4;
+  for (size_t i = 0; (number & 0xff) != COSET_ENCRYPT0 && status >= COSET_NOT_ALLOWED && i < cap; i++)
+    status = out[i] && out[i] != 0xee ? -5 : status;
+  if (payload && *len) memmove(out, payload, *len);
+  free(plain), free(aad.at), free(detached.at);
   return status;
 }
 
@@ -171,12 +234,17 @@ int main(void) {
       word[i] = next ? next : "-";
     }
     const char *call = word[0];
+    if (!strcmp(call, "text")) {
+      printf("%s: %s\n", coset_version(), coset_status_text((coset_status)strtol(word[1], NULL, 0)));
+      continue;
+    }
     uint32_t kind = (uint32_t)strtoul(word[1], NULL, 0), w4 = (uint32_t)strtoul(word[4], NULL, 0);
     struct bytes in = spelled(word[2]), aad = {NULL, 0}, extra = {NULL, 0};
     size_t cap = strtoul(word[3], NULL, 0), len = 77, room = cap + 8;
-    int64_t value = 77, label = strtoll(word[5], NULL, 0);
+    int64_t value = 77, label = strtoll(word[5], NULL, 0), known[64];
     uint8_t *out = malloc(room);
     coset_sign1_view view = {77, 77, 77, 77, 77, 77, 77, 77, 77};
+    coset_message_view message = {77, 77, 77, 77, 77, 77, 77, 77, 77};
     memset(out, 0xee, room);
     left = refused ? atol(refused) : -1;
     int32_t status = made(word, kind, in, out, cap, &len);
@@ -209,12 +277,21 @@ int main(void) {
       aad = spelled(word[4]), extra = spelled(word[6]);
       status = coset_sign1(kind, in.at, in.len, aad.at, aad.len, (uint32_t)strtoul(word[5], NULL, 0), extra.at, extra.len, out,
                            cap, &len, &view);
+      message = (coset_message_view){view.algorithm, view.algorithm_form, view.key_id_map, view.has_critical, view.is_tagged,
+                                     view.structure_len, view.signature_len, view.payload_len, view.key_id_len};
     }
+    if (!strcmp(call, "message")) {
+      aad = spelled(word[5]), extra = spelled(word[7]);
+      status = coset_message(kind, in.at, in.len, strtoul(word[4], NULL, 0), aad.at, aad.len, (uint32_t)strtoul(word[6], NULL, 0),
+                             extra.at, extra.len, known, integers(word[8], known, 64), out, cap, &len, &message);
+    }
+    int is_safe = !strcmp(call, "safe"), views = !strcmp(call, "sign1") || !strcmp(call, "message");
+    if (is_safe) status = safe(word, kind, in, out, cap, &len);
     left = -1;
     int integer = !strcmp(call, "label_int"), writes = strcmp(call, "check") && strcmp(call, "count") && !integer;
     if (integer) snprintf(number, sizeof number, "%" PRId64, value);
     else snprintf(number, sizeof number, "%zu", len);
-    tell(status, number, out, writes ? room : 0, strcmp(call, "sign1") ? NULL : &view);
+    tell(status, number, out, is_safe ? (status ? 0 : len) : writes ? room : 0, views ? &message : NULL);
     free(in.at), free(aad.at), free(extra.at), free(out);
     if (live) return fprintf(stderr, "%ld blocks are left\n", live), 1;
   }

@@ -1,7 +1,13 @@
-/* The heap of the library: what it asks for memory, over malloc, realloc and free. Link this, or define these three functions
- * over a heap of your own. `align` is at most 16. */
+/* The heap of the library: what it asks for memory, over malloc and free. Link this, or define these three functions over a heap
+ * of your own. `align` is at most 16.
+ *
+ * Each block is wiped before it is freed, so that no key that the library was given or found is left behind in the heap. So
+ * a block says how long it is, in the 16 bytes before it, and one that grows is copied to a new one. */
 #include <stdint.h>
 #include <stdlib.h>
+#include <string.h>
+
+enum { BEFORE = 16 };
 
 /* ok is 0 where the request is refused; at is then no address of memory, and not null. */
 struct tried {
@@ -9,16 +15,35 @@ struct tried {
   void *at;
 };
 
-static struct tried tried(void *at) { return at ? (struct tried){1, at} : (struct tried){0, (void *)16}; }
+static void wipe(void *at, size_t size) {
+  memset(at, 0, size);
+#if defined(__GNUC__) || defined(__clang__)
+  __asm__ __volatile__("" : : "r"(at) : "memory"); /* the block is looked at, so the compiler leaves the zeros there */
+#endif
+}
 
 struct tried rattle_alloc(uint64_t size, uint64_t align) {
   (void)align;
-  return tried(malloc(size ? size : 1));
+  struct tried refused = {0, (void *)16};
+  if (size > SIZE_MAX - BEFORE) return refused;
+  uint8_t *block = malloc((size_t)size + BEFORE);
+  if (!block) return refused;
+  memcpy(block, &size, sizeof size);
+  return (struct tried){1, block + BEFORE};
+}
+
+void rattle_dealloc(void *at) {
+  uint8_t *block = (uint8_t *)at - BEFORE;
+  uint64_t size;
+  memcpy(&size, block, sizeof size);
+  wipe(at, (size_t)size);
+  free(block);
 }
 
 struct tried rattle_realloc(void *at, uint64_t kept, uint64_t size, uint64_t align) {
-  (void)kept, (void)align;
-  return tried(realloc(at, size ? size : 1));
+  struct tried grown = rattle_alloc(size, align);
+  if (!grown.ok) return grown;
+  memcpy(grown.at, at, (size_t)(kept < size ? kept : size));
+  rattle_dealloc(at);
+  return grown;
 }
-
-void rattle_dealloc(void *at) { free(at); }

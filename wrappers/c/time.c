@@ -1,7 +1,7 @@
 /* Times verifying and issuing a token, without any cryptography (tools/c --time): the token is the argument, in hexadecimal. It
  * tells the least time of a call among the rounds, in nanoseconds. */
 #define _POSIX_C_SOURCE 199309L
-#include "coset.h"
+#include "coset_verify.h"
 #include <stdio.h>
 #include <stdlib.h>
 #include <string.h>
@@ -10,10 +10,8 @@
 enum { ROUNDS = 40, CALLS = 5000 };
 
 /* In verify.c and issue.c. */
-typedef int (*verifier)(void *keys, int64_t alg, const uint8_t *kid, size_t kid_len, const uint8_t *tbs, size_t tbs_len,
-                        const uint8_t *sig, size_t sig_len);
-int32_t verified(const uint8_t *in, size_t n, verifier verify, void *keys, uint8_t *out, size_t cap, const uint8_t **payload,
-                 size_t *len);
+coset_status verified(const uint8_t *in, size_t n, coset_verifier verify, void *keys, uint8_t *out, size_t cap,
+                      const uint8_t **payload, size_t *len);
 struct string {
   const uint8_t *at;
   size_t len;
@@ -28,9 +26,8 @@ int32_t issued(const struct token *t, signer sign, void *key, uint8_t *out, size
 static uint8_t in[4096], out[8192], made[4096], held[4096], sig[128];
 static size_t in_len, sig_len;
 
-static int yes(void *keys, int64_t alg, const uint8_t *kid, size_t kid_len, const uint8_t *tbs, size_t tbs_len,
-               const uint8_t *s, size_t s_len) {
-  return (void)keys, (void)kid, (void)tbs, (void)s, alg == -7 && kid_len && tbs_len && s_len;
+static int yes(void *keys, const coset_question *q) {
+  return (void)keys, q->algorithm == -7 && q->key_id_len && q->input_len && q->proof_len;
 }
 
 static int sign(void *key, const uint8_t *tbs, size_t tbs_len, uint8_t *s, size_t cap, size_t *s_len) {
@@ -61,10 +58,10 @@ int main(int argc, char **argv) {
   }
   if (coset_label_bytes(COSET_SIGN1 + COSET_EITHER, in, in_len, COSET_IN_UNPROTECTED, 4, held + at, sizeof held - at, &len)) return 1;
   t.kid = (struct string){held + at, len};
-  coset_label_int(COSET_CLAIMS, claims, claims_len, COSET_IN_ITEM, 4, &t.exp);
-  coset_label_int(COSET_CLAIMS, claims, claims_len, COSET_IN_ITEM, 5, &t.nbf);
-  coset_label_int(COSET_CLAIMS, claims, claims_len, COSET_IN_ITEM, 6, &t.iat);
-  coset_part(COSET_SIGN1 + COSET_EITHER, in, in_len, COSET_PROOF, sig, sizeof sig, &sig_len);
+  if (coset_label_int(COSET_CLAIMS, claims, claims_len, COSET_IN_ITEM, 4, &t.exp)) return 1;
+  if (coset_label_int(COSET_CLAIMS, claims, claims_len, COSET_IN_ITEM, 5, &t.nbf)) return 1;
+  if (coset_label_int(COSET_CLAIMS, claims, claims_len, COSET_IN_ITEM, 6, &t.iat)) return 1;
+  if (coset_part(COSET_SIGN1 + COSET_EITHER, in, in_len, COSET_PROOF, sig, sizeof sig, &sig_len)) return 1;
   for (int round = 0; round < ROUNDS; round++) {
     double began = now();
     for (int i = 0; i < CALLS; i++)

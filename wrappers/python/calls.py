@@ -8,6 +8,8 @@ from verify import verified
 
 _NAMES = {3: "Ends", 4: "Malformed", 5: "Deep", 6: "Extraneous", 7: "Unexpected", 8: "Duplicate", 9: "OutOfRange",
           10: "Unregistered", 11: "NotPrivate"}
+_RAISED = {coset.Absent: "Absent", coset.Empty: "Empty", coset.WrongType: "Type", coset.Misuse: "Misuse", coset.Refused: "Refused",
+           coset.NotAllowed: "NotAllowed", coset.Critical: "Critical", MemoryError: "Memory"}
 
 
 def data(word):
@@ -54,8 +56,37 @@ def told(kind, given, aad, has, content):
     return " ".join([b"".join(texts).hex(), *map(str, numbers)])
 
 
-def answer(name, kind, given, *words):
+def integers(word):
+    """The integers of a word, with commas between them."""
+    return [] if word == "-" else list(map(int, word.split(",")))
+
+
+def message(kind, given, index, aad, has, content, known):
+    """What `message` tells, as `told` does."""
+    m = coset.message(kind, given, int(index), integers(known), data(aad), None if has == "0" else data(content))
+    texts = [m.input, m.proof, m.content, m.key_id]
+    numbers = [m.algorithm or 0, m.algorithm_form, m.key_id_map or 0, m.critical, int(m.is_tagged), *map(len, texts)]
+    return " ".join([b"".join(texts).hex(), *map(str, numbers)])
+
+
+def safe(kind, given, index, aad, has, content, algorithms, known, *words):
+    """What `verify` or `decrypt` answers, as calls.c says."""
+    is_asked = lambda q: [q.input, q.proof, q.key_id or b""] == list(map(data, words))
+    plain = lambda q, iv: (iv or b"") + bytes(byte ^ 0x5A for byte in q.proof) if is_asked(q) else None
+    more = {"critical": integers(known), "external_aad": data(aad), "detached": None if has == "0" else data(content)}
+    if kind & 0xFF == coset.ENCRYPT0:
+        return coset.decrypt(kind, given, integers(algorithms), plain, **more).hex()
+    return coset.verify(kind, given, integers(algorithms), is_asked, int(index), **more).hex()
+
+
+def answer(name, kind, given="-", *words):
     kind, given = int(kind), data(given)
+    if name == "text":
+        return f"{coset.version()}: {coset.status_text(kind)}"
+    if name == "message":
+        return message(kind, given, *words[1:])
+    if name == "safe":
+        return safe(kind, given, *words[1:])
     if name == "issued":
         return token(given, *words[1:])
     if name == "check":
@@ -82,17 +113,15 @@ def answer(name, kind, given, *words):
     if name == "sign1":
         return told(kind, given, *words[1:])
     if name == "verified":
-        payload = verified(given, lambda a, k, t, s: [str(a), k.hex(), t.hex(), s.hex()] == list(words[1:]))
-        return "no" if payload is None else payload.hex()
+        is_asked = lambda q: [str(q.algorithm), (q.key_id or b"").hex(), q.input.hex(), q.proof.hex()] == list(words[1:])
+        return verified(given, is_asked).hex()
     return made(name, kind, given, *words).hex()
 
 
 for line in sys.stdin:
     try:
         print("ok", answer(*line.split()))
-    except coset.Absent:
-        print("Absent")
-    except MemoryError:
-        print("Memory")
+    except tuple(_RAISED) as raised:
+        print(_RAISED[type(raised)])
     except coset.Fault as fault:
         print(_NAMES[fault.status])

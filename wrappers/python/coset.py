@@ -1,20 +1,34 @@
 """coset from Python: the calls of include/coset.h over libcoset.so, which stands beside this file or where COSET_LIBRARY says.
 
 A call is given bytes and answers bytes, a number or None, and raises Fault where the bytes, or what would be made of them, are
-no item of the kind, Absent where what is asked for isn't in them or what is given has no place, and MemoryError. What is promised of each call stands in the header and in docs/C.md.
+no item of the kind, Absent where what is asked for isn't in them or what is given has no place, WrongType where it is there and
+of another kind, Empty, Misuse, and MemoryError. `verify` and `decrypt` hand out what a message says once the caller's function
+said yes, and raise NotAllowed, Critical or Refused. What is promised of each call stands in the header and in docs/C.md.
 """
 import ctypes
+import enum
 import os
 from collections import namedtuple
 
-SIGN1, SIGN, MAC0, MAC, ENCRYPT0, ENCRYPT, SIGNATURE, RECIPIENT, HEADER, KEY, KEY_SET, CLAIMS = range(1, 13)
+
+class Kind(enum.IntEnum):
+    """What bytes should be an item of. A message, one of the first six, is plain, or under its tag (TAGGED is added to the kind),
+    or either is taken (EITHER is added): SIGN1 + EITHER is Kind.SIGN1_EITHER."""
+
+    SIGN1, SIGN, MAC0, MAC, ENCRYPT0, ENCRYPT, SIGNATURE, RECIPIENT, HEADER, KEY, KEY_SET, CLAIMS = range(1, 13)
+    SIGN1_TAGGED, SIGN_TAGGED, MAC0_TAGGED, MAC_TAGGED, ENCRYPT0_TAGGED, ENCRYPT_TAGGED = range(0x101, 0x107)
+    SIGN1_EITHER, SIGN_EITHER, MAC0_EITHER, MAC_EITHER, ENCRYPT0_EITHER, ENCRYPT_EITHER = range(0x201, 0x207)
+
+
+SIGN1, SIGN, MAC0, MAC, ENCRYPT0, ENCRYPT, SIGNATURE, RECIPIENT, HEADER, KEY, KEY_SET, CLAIMS = map(Kind, range(1, 13))
 TAGGED, EITHER = 0x100, 0x200  # added to a message's kind, one of the first six
 PROTECTED, PAYLOAD, CIPHERTEXT, PROOF = range(1, 5)
 IN_PROTECTED, IN_UNPROTECTED, IN_ITEM = range(1, 4)
 LEXICOGRAPHIC, LENGTH_FIRST = range(1, 3)  # orders of labels
 NONE, INT, TEXT = range(0, 3)  # forms in which a message names its algorithm
+UNDERSTOOD, NOT_UNDERSTOOD = range(1, 3)  # what there is of labels that must be understood; NONE where there are none
 
-_OK, _SHORT, _MEMORY, _ABSENT, _MISUSE = 0, 1, 2, 12, 13
+_OK, _SHORT, _MEMORY, _ABSENT, _MISUSE, _TYPE, _EMPTY = 0, 1, 2, 12, 13, 14, 15
 _FAULTS = {
     3: "the bytes end before the item does",
     4: "the bytes aren't well-formed",
@@ -37,12 +51,57 @@ class Fault(ValueError):
     stop being one item of CBOR, or None."""
 
     def __init__(self, status, offset=None):
-        super().__init__(_FAULTS[status])
+        super().__init__(status, offset)
         self.status, self.offset = status, offset
+
+    def __str__(self):
+        return _FAULTS[self.status]
 
 
 class Absent(LookupError):
     """What is asked for isn't in the bytes, or what is given has no place in items of the kind."""
+
+
+class Empty(LookupError):
+    """The list is empty: who verifies each of its signatures has verified none."""
+
+
+class WrongType(TypeError):
+    """What is asked for is there, and is no string, or no integer of 64 bits."""
+
+
+class Misuse(TypeError):
+    """A number that stands for no kind, no part, no map or no order, or for a kind of another call; or a payload that is given
+    as detached, and the message carries one."""
+
+
+class Refused(Exception):
+    """The caller's function said no: to the signature, the tag or the ciphertext."""
+
+
+class NotAllowed(Refused):
+    """The message names no algorithm by a number in its protected header, or none that is allowed."""
+
+
+class Critical(Refused):
+    """The message names a label that must be understood, and isn't, or isn't protected."""
+
+
+class Question(namedtuple("Question", "algorithm key_id key_id_map input proof")):
+    """What the caller's function is asked of: the algorithm, one of those that are allowed; the key's identifier, None where the
+    message names no key, and where it stands, as in Sign1; what is signed or authenticated, or what goes with the ciphertext; and
+    the signature or the tag, or to `decrypt` the ciphertext."""
+
+    __slots__ = ()
+
+
+class Message(namedtuple("Message", "algorithm algorithm_form key_id_map critical is_tagged input proof content key_id")):
+    """All that verifying or decrypting a message takes, as Sign1 of any message: `critical` is NONE, UNDERSTOOD or
+    NOT_UNDERSTOOD; `input` is what is signed or authenticated, or what goes with the ciphertext; `proof` is the signature or the
+    tag, empty of an encrypted message; `content` is the payload or the ciphertext that the message carries, empty where it is
+    detached. Of a message with signers the headers and the signature are those of one."""
+
+    __slots__ = ()
 
 
 class Sign1(namedtuple("Sign1", "algorithm algorithm_form key_id_map has_critical is_tagged signed signature payload key_id")):
@@ -73,6 +132,22 @@ class _View(ctypes.Structure):
     ]
 
 
+class _Message(ctypes.Structure):
+    """coset_message_view of the header."""
+
+    _fields_ = [
+        ("algorithm", ctypes.c_int64),
+        ("algorithm_form", ctypes.c_uint32),
+        ("key_id_map", ctypes.c_uint32),
+        ("critical", ctypes.c_uint32),
+        ("is_tagged", ctypes.c_uint32),
+        ("structure_len", ctypes.c_size_t),
+        ("proof_len", ctypes.c_size_t),
+        ("content_len", ctypes.c_size_t),
+        ("key_id_len", ctypes.c_size_t),
+    ]
+
+
 def _declare():
     number, size, integer, at = ctypes.c_uint32, ctypes.c_size_t, ctypes.c_int64, ctypes.c_char_p
     given, to = [number, at, size], [ctypes.c_void_p, size, ctypes.POINTER(size)]
@@ -88,6 +163,7 @@ def _declare():
         "structure": [size, at, size, number, at, size] + to,
         "recipient_structure": [at, size] + to,
         "sign1": [at, size, number, at, size] + to + [ctypes.POINTER(_View)],
+        "message": [size, at, size, number, at, size, ctypes.POINTER(integer), size] + to + [ctypes.POINTER(_Message)],
         "put": [integer, at, size] + to,
         "put_bytes": [integer, at, size] + to,
         "put_text": [integer, at, size] + to,
@@ -103,6 +179,8 @@ def _declare():
     for name, arguments in calls.items():
         call = getattr(_library, "coset_" + name)
         call.argtypes, call.restype = given + arguments, ctypes.c_int32
+    _library.coset_version.argtypes, _library.coset_version.restype = [], at
+    _library.coset_status_text.argtypes, _library.coset_status_text.restype = [ctypes.c_int32], at
 
 
 _declare()
@@ -114,8 +192,12 @@ def _raise(status, offset=None):
         raise MemoryError
     if status == _ABSENT:
         raise Absent("what is asked for isn't there, or what is given has no place")
+    if status == _TYPE:
+        raise WrongType("what is asked for is there, and is no string, or no integer of 64 bits")
+    if status == _EMPTY:
+        raise Empty("the list is empty")
     if status == _MISUSE:
-        raise TypeError("a number that stands for no kind, no part, no map or no order, or for a kind of another call")
+        raise Misuse("a number without a meaning for this call, or a payload that the message carries and that is given too")
     if status != _OK:
         raise Fault(status, offset)
 
@@ -124,6 +206,21 @@ def _bytes(data):
     """The bytes and their number, of any object that lends them."""
     data = bytes(memoryview(data))
     return data, len(data)
+
+
+def _kind(number):
+    """The number of a kind."""
+    try:
+        return Kind(number)
+    except ValueError:
+        raise Misuse("a number that stands for no kind") from None
+
+
+def _number(number):
+    """The number of a part, a map or an order."""
+    if not 0 <= number < 1 << 32:
+        raise Misuse("a number that stands for no part, no map or no order")
+    return number
 
 
 def _int64(number):
@@ -139,46 +236,47 @@ def _size(number):
 
 
 def _written(call, *arguments, behind=()):
-    """What the call writes, with arguments behind those for that too: it is made again where the memory was short."""
-    room, length = 256, ctypes.c_size_t()
+    """What the call writes, with arguments behind those for that too. The memory for it is as long as an answer may be: all that
+    is given, once and once more, with heads. Should it be short all the same, the call is made again."""
+    room, length = 256 + 2 * sum(len(it) for it in arguments if isinstance(it, bytes)), ctypes.c_size_t()
     while True:
         out = ctypes.create_string_buffer(room)
         status = call(*arguments, out, room, ctypes.byref(length), *behind)
         if status != _SHORT:
             _raise(status)
-            return out.raw[: length.value]
+            return ctypes.string_at(out, length.value)
         room = length.value
 
 
 def check(kind, data):
     """Raises Fault, with the offset, unless the bytes are an item of the kind."""
     offset = ctypes.c_size_t()
-    status = _library.coset_check(kind, *_bytes(data), ctypes.byref(offset))
+    status = _library.coset_check(_kind(kind), *_bytes(data), ctypes.byref(offset))
     _raise(status, None if offset.value == _NO_OFFSET else offset.value)
 
 
 def count(kind, data):
     """How many signatures, recipients or keys there are."""
     number = ctypes.c_size_t()
-    _raise(_library.coset_count(kind, *_bytes(data), ctypes.byref(number)))
+    _raise(_library.coset_count(_kind(kind), *_bytes(data), ctypes.byref(number)))
     return number.value
 
 
 def part(kind, data, which):
     """A part: PROTECTED, PAYLOAD, CIPHERTEXT or PROOF."""
-    return _written(_library.coset_part, kind, *_bytes(data), which)
+    return _written(_library.coset_part, _kind(kind), *_bytes(data), _number(which))
 
 
 def member(kind, data, index):
     """The signature, recipient or key of that index, in its shortest encoding."""
-    return _written(_library.coset_member, kind, *_bytes(data), _size(index))
+    return _written(_library.coset_member, _kind(kind), *_bytes(data), _size(index))
 
 
 def label(kind, data, which, name):
     """The value of a label, an int or a str, in its shortest encoding: in IN_PROTECTED, IN_UNPROTECTED or IN_ITEM."""
     if isinstance(name, str):
-        return _written(_library.coset_text_label, kind, *_bytes(data), which, *_bytes(name.encode()))
-    return _written(_library.coset_label, kind, *_bytes(data), which, _int64(name))
+        return _written(_library.coset_text_label, _kind(kind), *_bytes(data), _number(which), *_bytes(name.encode()))
+    return _written(_library.coset_label, _kind(kind), *_bytes(data), _number(which), _int64(name))
 
 
 def has(kind, data, which, name):
@@ -192,13 +290,13 @@ def has(kind, data, which, name):
 
 def label_bytes(kind, data, which, name):
     """What the byte string or the text string holds that is the value of an integer label."""
-    return _written(_library.coset_label_bytes, kind, *_bytes(data), which, _int64(name))
+    return _written(_library.coset_label_bytes, _kind(kind), *_bytes(data), _number(which), _int64(name))
 
 
 def label_int(kind, data, which, name):
     """The integer that is the value of an integer label."""
     value = ctypes.c_int64()
-    _raise(_library.coset_label_int(kind, *_bytes(data), which, _int64(name), ctypes.byref(value)))
+    _raise(_library.coset_label_int(_kind(kind), *_bytes(data), _number(which), _int64(name), ctypes.byref(value)))
     return value.value
 
 
@@ -207,33 +305,114 @@ def structure(kind, data, index=0, external_aad=b"", detached=None):
     message carries, or over `detached`, where that isn't None and it carries none."""
     content = _bytes(b"" if detached is None else detached)
     return _written(
-        _library.coset_structure, kind, *_bytes(data), _size(index), *_bytes(external_aad), detached is not None, *content
+        _library.coset_structure, _kind(kind), *_bytes(data), _size(index), *_bytes(external_aad), detached is not None, *content
     )
 
 
 def recipient_structure(holder, data, external_aad=b""):
     """What goes with the ciphertext of a recipient, by the kind that holds it: ENCRYPT, MAC or RECIPIENT."""
-    return _written(_library.coset_recipient_structure, holder, *_bytes(data), *_bytes(external_aad))
+    return _written(_library.coset_recipient_structure, _kind(holder), *_bytes(data), *_bytes(external_aad))
+
+
+def _split(text, *lengths):
+    """The texts of those lengths, one behind the other."""
+    texts, start = [], 0
+    for length in lengths:
+        texts.append(text[start : start + length])
+        start += length
+    return texts
 
 
 def sign1(kind, data, external_aad=b"", detached=None):
     """All that verifying a message with one signature takes (Sign1), of a kind SIGN1, with TAGGED or EITHER or neither: over the
     payload that the message carries, or over `detached`, where that isn't None and it carries none."""
     content, view = _bytes(b"" if detached is None else detached), _View()
-    given = kind, *_bytes(data), *_bytes(external_aad), detached is not None, *content
+    given = _kind(kind), *_bytes(data), *_bytes(external_aad), detached is not None, *content
     text = _written(_library.coset_sign1, *given, behind=(ctypes.byref(view),))
-    texts, start = [], 0
-    for length in (view.structure_len, view.signature_len, view.payload_len, view.key_id_len):
-        texts.append(text[start : start + length])
-        start += length
+    texts = _split(text, view.structure_len, view.signature_len, view.payload_len, view.key_id_len)
     algorithm = view.algorithm if view.algorithm_form == INT else None
     return Sign1(algorithm, view.algorithm_form, view.key_id_map or None, bool(view.has_critical), bool(view.is_tagged), *texts)
 
 
+def message(kind, data, index=0, critical=(), external_aad=b"", detached=None):
+    """All that verifying or decrypting a message takes (Message), and of the signer of that index where it is one with signers:
+    over the payload that the message carries, or over `detached`, where that isn't None and it carries none. The caller
+    understands the critical labels."""
+    content, view = _bytes(b"" if detached is None else detached), _Message()
+    known = (ctypes.c_int64 * len(critical))(*map(_int64, critical))
+    given = _kind(kind), *_bytes(data), _size(index), *_bytes(external_aad), detached is not None, *content, known, len(known)
+    text = _written(_library.coset_message, *given, behind=(ctypes.byref(view),))
+    texts = _split(text, view.structure_len, view.proof_len, view.content_len, view.key_id_len)
+    algorithm = view.algorithm if view.algorithm_form == INT else None
+    return Message(algorithm, view.algorithm_form, view.key_id_map or None, view.critical, bool(view.is_tagged), *texts)
+
+
+def _asked(found, algorithms, proof):
+    """What is asked of a message, where that is allowed; with this proof."""
+    if found.critical == NOT_UNDERSTOOD:
+        raise Critical("a label that must be understood isn't")
+    if found.algorithm is None or found.algorithm not in algorithms:
+        raise NotAllowed("the algorithm isn't one that is allowed")
+    return Question(found.algorithm, found.key_id if found.key_id_map else None, found.key_id_map, found.input, proof)
+
+
+def verify(kind, data, algorithms, verify, index=0, critical=(), external_aad=b"", detached=None):
+    """The payload of a message that is signed or has a MAC (SIGN1, SIGN, MAC0 or MAC, with TAGGED or EITHER or neither), once
+    `verify` said yes: that the proof of the Question is one of its input, by a key that the caller trusts for that algorithm.
+    `algorithms` are those that are allowed, and `critical` the critical labels that the caller understands, and acts on. Of a
+    message with signers the signer of that index is asked of; which signers are enough is the caller's to say."""
+    if _kind(kind) & 0xFF not in (SIGN1, SIGN, MAC0, MAC):
+        raise Misuse("a kind without a signature or a tag")
+    found = message(kind, data, index, critical, external_aad, detached)
+    if verify(_asked(found, algorithms, found.proof)) is not True:
+        raise Refused("the signature or the tag is refused")
+    return found.content if detached is None else bytes(detached)
+
+
+def _found(call, *arguments):
+    """What the call answers, or None where it isn't there."""
+    try:
+        return call(*arguments)
+    except Absent:
+        return None
+
+
+def decrypt(kind, data, algorithms, decrypt, critical=(), external_aad=b"", detached=None):
+    """The plaintext of an ENCRYPT0 (with TAGGED or EITHER or neither), which `decrypt` has of the Question, where the proof is the
+    ciphertext, and of the IV, label 5 of the headers, or None; None where the ciphertext is none by a key that the caller
+    trusts. The rest is as to `verify`."""
+    if _kind(kind) & 0xFF != ENCRYPT0:
+        raise Misuse("a kind of another call")
+    found = message(kind, data, 0, critical, external_aad)
+    ivs = [_found(label_bytes, kind, data, which, 5) for which in (IN_PROTECTED, IN_UNPROTECTED)]
+    carried = _found(part, kind, data, CIPHERTEXT)
+    if carried is not None and detached is not None:
+        raise Misuse("a ciphertext that the message carries and that is given too")
+    if carried is None and detached is None:
+        raise Absent("the ciphertext is detached")
+    question = _asked(found, algorithms, bytes(detached) if carried is None else carried)
+    plain = decrypt(question, ivs[1] if ivs[0] is None else ivs[0])
+    if plain is None:
+        raise Refused("the ciphertext is refused")
+    return plain
+
+
+def version():
+    """The version of the library, and behind it ` (unproved)` where it was built without a proof."""
+    return _library.coset_version().decode()
+
+
+def status_text(status):
+    """What a status of the header is, in a few words."""
+    return _library.coset_status_text(status).decode()
+
+
 def put(kind, data, name, value):
     """The header, key or claims set, which may be empty, with one pair more, behind the others: an integer label, and an int,
-    a str, or bytes."""
-    given = kind, *_bytes(data), _int64(name)
+    a str, or bytes. True and False are no integers of CBOR: `put_encoded` takes them, as b"\xf5" and b"\xf4"."""
+    if isinstance(value, bool):
+        raise TypeError("True and False are no integers of CBOR: put_encoded takes their encodings")
+    given = _kind(kind), *_bytes(data), _int64(name)
     if isinstance(value, int):
         return _written(_library.coset_put_int, *given, _int64(value))
     if isinstance(value, str):
@@ -244,21 +423,21 @@ def put(kind, data, name, value):
 def put_encoded(kind, data, name, value):
     """Such a map with one pair more: a label, an int or a str, and a value by its encoding, one item of CBOR."""
     if isinstance(name, str):
-        return _written(_library.coset_put_text_label, kind, *_bytes(data), *_bytes(name.encode()), *_bytes(value))
-    return _written(_library.coset_put, kind, *_bytes(data), _int64(name), *_bytes(value))
+        return _written(_library.coset_put_text_label, _kind(kind), *_bytes(data), *_bytes(name.encode()), *_bytes(value))
+    return _written(_library.coset_put, _kind(kind), *_bytes(data), _int64(name), *_bytes(value))
 
 
 def structure_of(kind, protected, content=b"", signer=b"", external_aad=b""):
     """As `structure`, of a message that isn't made yet: of its protected header, of the payload (a structure that goes with a
     ciphertext has none), and of the signer's protected header, for SIGN alone."""
     return _written(
-        _library.coset_structure_of, kind, *_bytes(protected), *_bytes(signer), *_bytes(external_aad), *_bytes(content)
+        _library.coset_structure_of, _kind(kind), *_bytes(protected), *_bytes(signer), *_bytes(external_aad), *_bytes(content)
     )
 
 
 def recipient_structure_of(holder, protected, external_aad=b""):
     """As `recipient_structure`, of the protected header of a recipient that isn't made yet."""
-    return _written(_library.coset_recipient_structure_of, holder, *_bytes(protected), *_bytes(external_aad))
+    return _written(_library.coset_recipient_structure_of, _kind(holder), *_bytes(protected), *_bytes(external_aad))
 
 
 def make(kind, protected, unprotected, content=None, proof=b""):
@@ -266,20 +445,20 @@ def make(kind, protected, unprotected, content=None, proof=b""):
     tag. A message with signers or recipients is made without them."""
     held = _bytes(b"" if content is None else content)
     return _written(
-        _library.coset_make, kind, *_bytes(protected), *_bytes(unprotected), content is not None, *held, *_bytes(proof)
+        _library.coset_make, _kind(kind), *_bytes(protected), *_bytes(unprotected), content is not None, *held, *_bytes(proof)
     )
 
 
 def add(kind, data, item):
     """The item with one signature, recipient or key more, behind the others. A set of keys may begin with nothing."""
-    return _written(_library.coset_add, kind, *_bytes(data), *_bytes(item))
+    return _written(_library.coset_add, _kind(kind), *_bytes(data), *_bytes(item))
 
 
 def write(kind, data):
     """The item in its shortest encoding."""
-    return _written(_library.coset_write, kind, *_bytes(data))
+    return _written(_library.coset_write, _kind(kind), *_bytes(data))
 
 
 def canonical_key(order, data):
     """The key in its shortest encoding, with its labels in that order: LEXICOGRAPHIC or LENGTH_FIRST."""
-    return _written(_library.coset_canonical_key, order, *_bytes(data))
+    return _written(_library.coset_canonical_key, _number(order), *_bytes(data))

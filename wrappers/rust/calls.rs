@@ -5,7 +5,7 @@ mod coset;
 mod issue;
 mod verify;
 
-use coset::{Algorithm, Entry, Error, Form, Kind, Map, Order, Part};
+use coset::{Algorithm, Critical, Entry, Error, Form, Kind, Map, Order, Part, Policy, Question};
 use std::io::BufRead;
 
 fn form(word: &str) -> Form {
@@ -110,7 +110,60 @@ fn told(w: &[&str]) -> Result<String, Error> {
     Ok(format!("{texts} {number} {named} {map} {} {} {lengths}", u32::from(m.has_critical), u32::from(m.is_tagged)))
 }
 
+/// The integers of a word, with commas between them.
+fn integers(word: &str) -> Vec<i64> {
+    word.split(',').filter_map(|number| number.parse().ok()).collect()
+}
+
+/// What `message` tells, as `told` does.
+fn message(w: &[&str]) -> Result<String, Error> {
+    let (aad, content, known) = (bytes(w[5]), bytes(w[7]), integers(w[8]));
+    let detached = (w[6] != "0").then_some(content.as_slice());
+    let policy = Policy { algorithms: &[], critical: &known, external_aad: &aad, detached };
+    let m = coset::message(kind(w[1]), &bytes(w[2]), w[4].parse().unwrap(), &policy)?;
+    let (number, named) = match m.algorithm {
+        Algorithm::Absent => (0, 0),
+        Algorithm::Int(number) => (number, 1),
+        Algorithm::Text => (0, 2),
+    };
+    let map = m.key_id_map.map_or(0, |map| map as u32);
+    let critical = match m.critical {
+        Critical::Absent => 0,
+        Critical::Understood => 1,
+        Critical::NotUnderstood => 2,
+    };
+    let lengths = [m.input.len(), m.proof.len(), m.content.len(), m.key_id.len()].map(|n| n.to_string()).join(" ");
+    let texts = hex(&[m.input, m.proof, m.content, m.key_id].concat());
+    Ok(format!("{texts} {number} {named} {map} {critical} {} {lengths}", u32::from(m.is_tagged)))
+}
+
+/// What `verify` or `decrypt` answers, as calls.c says.
+fn safe(w: &[&str]) -> Result<String, Error> {
+    let (aad, content, algorithms, known) = (bytes(w[5]), bytes(w[7]), integers(w[8]), integers(w[9]));
+    let detached = (w[6] != "0").then_some(content.as_slice());
+    let policy = Policy { algorithms: &algorithms, critical: &known, external_aad: &aad, detached };
+    let (k, input) = (kind(w[1]), bytes(w[2]));
+    let is_asked = |q: &Question<'_>| {
+        let asked = [hex(q.input), hex(q.proof), hex(q.key_id.unwrap_or_default())];
+        q.key_id.is_some() == q.key_id_map.is_some() && asked == [10, 11, 12].map(|i| hex(&bytes(w[i])))
+    };
+    let answer = match k {
+        Kind::Encrypt0(form) => coset::decrypt(form, &input, &policy, |q, iv| {
+            let plain = q.proof.iter().map(|byte| byte ^ 0x5a);
+            is_asked(q).then(|| iv.unwrap_or_default().iter().copied().chain(plain).collect())
+        }),
+        _ => coset::verify(k, &input, w[4].parse().unwrap(), &policy, is_asked),
+    };
+    Ok(hex(&answer?))
+}
+
 fn answer(w: &[&str]) -> Result<String, Error> {
+    match w[0] {
+        "message" => return message(w),
+        "safe" => return safe(w),
+        "text" => return Ok(format!("{}: {}", coset::version(), coset::status_text(w[1].parse().unwrap()))),
+        _ => {}
+    }
     if w[0] == "issued" {
         return issued(w);
     }
@@ -132,12 +185,9 @@ fn answer(w: &[&str]) -> Result<String, Error> {
             hex(&coset::structure(k, &input, w[4].parse().unwrap(), &aad, (w[6] != "0").then_some(content.as_slice()))?)
         }
         "recipient_structure" => hex(&coset::recipient_structure(k, &input, &bytes(w[4]))?),
-        "verified" => {
-            let payload = verify::verified(&input, |algorithm, key_id, signed, signature| {
-                [algorithm.to_string(), hex(key_id), hex(signed), hex(signature)] == [w[4], w[5], w[6], w[7]]
-            })?;
-            payload.map_or("no".to_string(), |payload| hex(&payload))
-        }
+        "verified" => hex(&verify::verified(&input, |q| {
+            [q.algorithm.to_string(), hex(q.key_id.unwrap_or_default()), hex(q.input), hex(q.proof)] == [w[4], w[5], w[6], w[7]]
+        })?),
         _ => hex(&made(w)?),
     })
 }

@@ -93,6 +93,60 @@ pub struct Sign1 {
     pub key_id: Vec<u8>,
 }
 
+/// What there is of labels that must be understood (`crit`).
+#[derive(Clone, Copy, Debug, PartialEq, Eq)]
+pub enum Critical {
+    Absent,
+    /// Each is an integer among those that the caller understands, and protected.
+    Understood,
+    /// One isn't.
+    NotUnderstood,
+}
+
+/// All that verifying or decrypting a message takes, as [`Sign1`] of any message. Of a message with signers the headers and the
+/// signature are those of one.
+#[derive(Clone, Debug, PartialEq, Eq)]
+pub struct Message {
+    pub algorithm: Algorithm,
+    pub key_id_map: Option<Map>,
+    pub critical: Critical,
+    pub is_tagged: bool,
+    /// What is signed or authenticated, or what goes with the ciphertext.
+    pub input: Vec<u8>,
+    /// The signature or the tag; empty of an encrypted message.
+    pub proof: Vec<u8>,
+    /// The payload or the ciphertext that the message carries; empty where it is detached.
+    pub content: Vec<u8>,
+    pub key_id: Vec<u8>,
+}
+
+/// What the caller allows. The default allows nothing.
+#[derive(Clone, Copy, Debug, Default)]
+pub struct Policy<'a> {
+    /// The algorithms that are allowed.
+    pub algorithms: &'a [i64],
+    /// The critical labels that the caller understands, and acts on.
+    pub critical: &'a [i64],
+    pub external_aad: &'a [u8],
+    /// The payload or the ciphertext, where the message carries none.
+    pub detached: Option<&'a [u8]>,
+}
+
+/// What the caller's function is asked of.
+#[derive(Clone, Copy, Debug)]
+pub struct Question<'a> {
+    /// One of those that are allowed.
+    pub algorithm: i64,
+    /// `None` where the message names no key.
+    pub key_id: Option<&'a [u8]>,
+    /// Where the identifier is: in the protected header; else in the other, which isn't signed.
+    pub key_id_map: Option<Map>,
+    /// What is signed or authenticated, or what goes with the ciphertext.
+    pub input: &'a [u8],
+    /// The signature or the tag; to [`decrypt`] the ciphertext.
+    pub proof: &'a [u8],
+}
+
 /// Why a call has no answer.
 #[derive(Clone, Copy, Debug, PartialEq, Eq)]
 pub enum Error {
@@ -118,6 +172,18 @@ pub enum Error {
     NotPrivate,
     /// What is asked for isn't in the bytes, or what is given has no place in items of the kind.
     Absent,
+    /// A payload is given as detached, and the message carries one; or the kind is one of another call.
+    Misuse,
+    /// What is asked for is there, and is no string, or no integer of 64 bits.
+    Type,
+    /// The list is empty: who verifies each of its signatures has verified none.
+    Empty,
+    /// The message names no algorithm by a number in its protected header, or none that is allowed.
+    NotAllowed,
+    /// It names a label that must be understood, and isn't, or isn't protected.
+    Critical,
+    /// The caller's function said no.
+    Refused,
 }
 
 impl fmt::Display for Error {
@@ -134,6 +200,12 @@ impl fmt::Display for Error {
             Error::Unregistered => "an integer isn't registered",
             Error::NotPrivate => "an integer isn't registered, nor for private use",
             Error::Absent => "what is asked for isn't there, or what is given has no place",
+            Error::Misuse => "a kind of another call, or a payload that is given twice",
+            Error::Type => "what is asked for is there, and of another kind",
+            Error::Empty => "the list is empty",
+            Error::NotAllowed => "the algorithm isn't one that is allowed",
+            Error::Critical => "a label that must be understood isn't",
+            Error::Refused => "the signature, the tag or the ciphertext is refused",
         })
     }
 }
@@ -163,7 +235,25 @@ mod c {
         pub key_id_len: usize,
     }
 
+    /// `coset_message_view` of the header.
+    #[repr(C)]
+    #[derive(Default)]
+    pub struct Message {
+        pub algorithm: i64,
+        pub algorithm_form: u32,
+        pub key_id_map: u32,
+        pub critical: u32,
+        pub is_tagged: u32,
+        pub structure_len: usize,
+        pub proof_len: usize,
+        pub content_len: usize,
+        pub key_id_len: usize,
+    }
+
     unsafe extern "C" {
+        pub fn coset_version() -> *const std::ffi::c_char;
+        pub fn coset_status_text(status: i32) -> *const std::ffi::c_char;
+        pub fn coset_message(kind: u32, input: *const u8, input_len: usize, index: usize, external_aad: *const u8, external_aad_len: usize, has_detached: u32, detached: *const u8, detached_len: usize, known: *const i64, known_len: usize, out: *mut u8, cap: usize, len: *mut usize, view: *mut Message) -> i32;
         pub fn coset_check(kind: u32, input: *const u8, input_len: usize, offset: *mut usize) -> i32;
         pub fn coset_count(kind: u32, input: *const u8, input_len: usize, count: *mut usize) -> i32;
         pub fn coset_part(kind: u32, input: *const u8, input_len: usize, part: u32, out: *mut u8, cap: usize, len: *mut usize) -> i32;
@@ -230,6 +320,9 @@ fn answer<T>(status: i32, value: T) -> Result<T, Error> {
         10 => Error::Unregistered,
         11 => Error::NotPrivate,
         12 => Error::Absent,
+        13 => Error::Misuse,
+        14 => Error::Type,
+        15 => Error::Empty,
         status => unreachable!("status {status}"),
     })
 }
@@ -322,6 +415,18 @@ pub fn recipient_structure(holder: Kind, bytes: &[u8], external_aad: &[u8]) -> R
     })
 }
 
+fn algorithm(form: u32, number: i64) -> Algorithm {
+    match form {
+        0 => Algorithm::Absent,
+        1 => Algorithm::Int(number),
+        _ => Algorithm::Text,
+    }
+}
+
+fn key_id_map(number: u32) -> Option<Map> {
+    [None, Some(Map::InProtected), Some(Map::InUnprotected)][number as usize]
+}
+
 /// All that verifying a message with one signature takes: over the payload that the message carries, or over `detached` where
 /// it carries none.
 pub fn sign1(form: Form, bytes: &[u8], external_aad: &[u8], detached: Option<&[u8]>) -> Result<Sign1, Error> {
@@ -338,12 +443,8 @@ pub fn sign1(form: Form, bytes: &[u8], external_aad: &[u8], detached: Option<&[u
     let mut payload = signature.split_off(view.signature_len);
     let key_id = payload.split_off(view.payload_len);
     Ok(Sign1 {
-        algorithm: match view.algorithm_form {
-            0 => Algorithm::Absent,
-            1 => Algorithm::Int(view.algorithm),
-            _ => Algorithm::Text,
-        },
-        key_id_map: [None, Some(Map::InProtected), Some(Map::InUnprotected)][view.key_id_map as usize],
+        algorithm: algorithm(view.algorithm_form, view.algorithm),
+        key_id_map: key_id_map(view.key_id_map),
         has_critical: view.has_critical != 0,
         is_tagged: view.is_tagged != 0,
         signed,
@@ -351,6 +452,117 @@ pub fn sign1(form: Form, bytes: &[u8], external_aad: &[u8], detached: Option<&[u
         payload,
         key_id,
     })
+}
+
+/// All that verifying or decrypting a message takes, and of the signer of that index where it is one with signers. Of the policy
+/// the algorithms aren't looked at.
+pub fn message(kind: Kind, bytes: &[u8], index: usize, policy: &Policy<'_>) -> Result<Message, Error> {
+    let (kind, content) = (kind.number(), policy.detached.unwrap_or_default());
+    let (aad, known) = (policy.external_aad, policy.critical);
+    let mut view = c::Message::default();
+    let told: *mut c::Message = &mut view;
+    let mut input = written(|out, cap, len| unsafe {
+        c::coset_message(
+            kind, bytes.as_ptr(), bytes.len(), index, aad.as_ptr(), aad.len(), policy.detached.is_some().into(),
+            content.as_ptr(), content.len(), known.as_ptr(), known.len(), out, cap, len, told,
+        )
+    })?;
+    let mut proof = input.split_off(view.structure_len);
+    let mut content = proof.split_off(view.proof_len);
+    let key_id = content.split_off(view.content_len);
+    Ok(Message {
+        algorithm: algorithm(view.algorithm_form, view.algorithm),
+        key_id_map: key_id_map(view.key_id_map),
+        critical: [Critical::Absent, Critical::Understood, Critical::NotUnderstood][view.critical as usize],
+        is_tagged: view.is_tagged != 0,
+        input,
+        proof,
+        content,
+        key_id,
+    })
+}
+
+impl Message {
+    /// What is asked of it, where the policy allows that; with this proof.
+    fn asked<'a>(&'a self, policy: &Policy<'_>, proof: &'a [u8]) -> Result<Question<'a>, Error> {
+        if self.critical == Critical::NotUnderstood {
+            return Err(Error::Critical);
+        }
+        let Algorithm::Int(algorithm) = self.algorithm else {
+            return Err(Error::NotAllowed);
+        };
+        if !policy.algorithms.contains(&algorithm) {
+            return Err(Error::NotAllowed);
+        }
+        let key_id = self.key_id_map.map(|_| self.key_id.as_slice());
+        Ok(Question { algorithm, key_id, key_id_map: self.key_id_map, input: &self.input, proof })
+    }
+}
+
+/// The payload of a message that is signed or has a MAC, once `verify` said yes: that the proof is one of the input, by a key
+/// that the caller trusts for that algorithm. Of a message with signers the signer of that index is asked of; which signers are
+/// enough is the caller's to say.
+pub fn verify(
+    kind: Kind,
+    bytes: &[u8],
+    index: usize,
+    policy: &Policy<'_>,
+    verify: impl FnOnce(&Question<'_>) -> bool,
+) -> Result<Vec<u8>, Error> {
+    if !matches!(kind, Kind::Sign1(_) | Kind::Sign(_) | Kind::Mac0(_) | Kind::Mac(_)) {
+        return Err(Error::Misuse);
+    }
+    let found = message(kind, bytes, index, policy)?;
+    if !verify(&found.asked(policy, &found.proof)?) {
+        return Err(Error::Refused);
+    }
+    Ok(policy.detached.map_or(found.content, <[u8]>::to_vec))
+}
+
+/// The plaintext of a `Kind::Encrypt0` in that form, which `decrypt` has of the question, where the proof is the ciphertext, and
+/// of the IV, label 5 of the headers; `None` where the ciphertext is none by a key that the caller trusts.
+pub fn decrypt(
+    form: Form,
+    bytes: &[u8],
+    policy: &Policy<'_>,
+    decrypt: impl FnOnce(&Question<'_>, Option<&[u8]>) -> Option<Vec<u8>>,
+) -> Result<Vec<u8>, Error> {
+    let kind = Kind::Encrypt0(form);
+    let found = message(kind, bytes, 0, policy)?;
+    let iv = match label_bytes(kind, bytes, Map::InProtected, 5) {
+        Err(Error::Absent) => label_bytes(kind, bytes, Map::InUnprotected, 5),
+        iv => iv,
+    };
+    let iv = match iv {
+        Err(Error::Absent) => None,
+        iv => Some(iv?),
+    };
+    let carried = match part(kind, bytes, Part::Ciphertext) {
+        Err(Error::Absent) => None,
+        carried => Some(carried?),
+    };
+    let ciphertext = match (&carried, policy.detached) {
+        (Some(_), Some(_)) => return Err(Error::Misuse),
+        (Some(carried), None) => carried,
+        (None, Some(detached)) => detached,
+        (None, None) => return Err(Error::Absent),
+    };
+    decrypt(&found.asked(policy, ciphertext)?, iv.as_deref()).ok_or(Error::Refused)
+}
+
+/// The version of the library that is linked, and behind it ` (unproved)` where it was built without a proof.
+pub fn version() -> &'static str {
+    text(unsafe { c::coset_version() })
+}
+
+/// What a status of the header is, in a few words.
+pub fn status_text(status: i32) -> &'static str {
+    text(unsafe { c::coset_status_text(status) })
+}
+
+/// The text that the library points to, which is there as long as the program is.
+fn text(at: *const std::ffi::c_char) -> &'static str {
+    unsafe { std::ffi::CStr::from_ptr(at) }.to_str().unwrap_or_default()
 }
 
 /// The header, key or claims set, which may be empty, with one pair more, behind the others.

@@ -1,5 +1,5 @@
 -- Numbers as kinds, parts and maps.
-use Rattle.std.specs.Prelude.{◌==◌, ◌%◌, ◌-◌, ℕ, List, Option, Some, None, if◌then◌else◌}
+use Rattle.std.specs.Prelude.{◌==◌, ◌%◌, ◌-◌, ℕ, List, [], ◌∷◌, Option, Some, None, Bool, true, false, if◌then◌else◌}
 use Rattle.coset.specs.Shape.{both}
 use Rattle.coset_label.specs.declared.ordering.CborOrdering.{CborOrdering}
 use Rattle.coset_label.specs.declared.ordering.CborOrdering.TheVariants.{Lexicographic, LengthFirstLexicographic}
@@ -50,14 +50,29 @@ or_else None o = o
 abbrev pub kind_of : ℕ → Option kinds.Kind
 kind_of n = or_else (other_of n) (message_in (n % 0x100) (form_of (n - n % 0x100)))
 
--- the form in which a message with one signature is asked for, where the kind is one
-abbrev pub form_of_sign1 : Option kinds.Kind → Option forms.Form
-form_of_sign1 (Some (Sign1 f)) = Some f
-form_of_sign1 o = None
+-- the kind, where it is a message with one signature
+abbrev pub only_sign1 : Option kinds.Kind → Option kinds.Kind
+only_sign1 (Some (Sign1 f)) = Some (Sign1 f)
+only_sign1 o = None
 
 -- the same by the kind's number
-abbrev pub sign1_form : ℕ → Option forms.Form
-sign1_form n = form_of_sign1 (kind_of n)
+abbrev pub sign1_of : ℕ → Option kinds.Kind
+sign1_of n = only_sign1 (kind_of n)
+
+-- bytes are given, and the number that says so is 0
+abbrev pub is_some : List ℕ → Bool
+is_some [] = false
+is_some (x ∷ xs) = true
+
+abbrev pub is_unflagged : ℕ → List ℕ → Bool
+is_unflagged n b = if n == 0 then is_some b else false
+
+-- the kind of that number, unless a content is given and the number that says so is 0
+abbrev pub content_query : ℕ → ℕ → List ℕ → Option kinds.Kind
+content_query k n b = if is_unflagged n b then None else kind_of k
+
+abbrev pub sign1_query : ℕ → ℕ → List ℕ → Option kinds.Kind
+sign1_query k n b = if is_unflagged n b then None else sign1_of k
 
 -- the part of that number
 abbrev pub part_of : ℕ → Option parts.Part

@@ -6,12 +6,12 @@ use Rattle.ffi_query.specs.declared.refusal.Refusal as refusals
 use Rattle.ffi_query.specs.declared.refusal.Refusal.TheVariants as refused
 use Rattle.ffi_query.specs.declared.refusal.Status as statuses
 use Rattle.ffi_query.specs.declared.refusal.Status.TheVariants.{Short, Memory, Ends, Malformed, Deep, Extraneous, Unexpected, Duplicate, OutOfRange}
-use Rattle.ffi_query.specs.declared.refusal.Status.TheVariants.{Unregistered, NotPrivate, Absent}
+use Rattle.ffi_query.specs.declared.refusal.Status.TheVariants.{Unregistered, NotPrivate, Absent, WrongType, Empty, Misuse}
 use Rattle.ffi_query.specs.Faults.{IsOffset}
 use Rattle.ffi_query.specs.Kinds.{Checks}
 use Rattle.ffi_query.specs.Status.{refusal_status}
 
--- the number of a status; 0 is that all is well, and 13 a misuse
+-- the number of a status; 0 is that all is well
 abbrev pub status_number : statuses.Status → ℕ
 status_number Short = 1
 status_number Memory = 2
@@ -25,6 +25,9 @@ status_number OutOfRange = 9
 status_number Unregistered = 10
 status_number NotPrivate = 11
 status_number Absent = 12
+status_number Misuse = 13
+status_number WrongType = 14
+status_number Empty = 15
 
 -- the status of an answer
 abbrev pub reply_status : {N : Type 0} → Result N refusals.Refusal → ℤ

@@ -1,19 +1,20 @@
 //! `ffi_query` and `ffi_make` for C: the functions that `include/coset.h` declares. What crosses are numbers, slices (in
 //! C a pointer and a length) and places for a number or for a struct of numbers; nothing is kept between calls. `docs/C.md`
-//! says how they are called. Those that read are here, but for the one in `sign1`, and those that make in `making`.
+//! says how they are called. Those that read are here, but for two in `sign1` and `message`, and those that make in `making`.
 #![tactic(auto)]
 
 ghost use Rattle.std.specs.Prelude.{◌≡◌, MatchOption, pos};
 ghost use Rattle.ffi_query.specs.declared.kind.Kind.TheVariants.{Recipient};
-ghost use Rattle.ffi_query.specs.Answers.{Answers, AnswersNumber};
-ghost use Rattle.ffi_query.specs.Labels.{IsNumberOf, IsStringOf, IsValueOf};
-ghost use Rattle.ffi_query.specs.Parts.{IsCount, IsMember, IsPart};
-ghost use Rattle.ffi_query.specs.Structures.{IsRecipientStructure, IsStructure};
+ghost use Rattle.ffi_query.specs.Answers.{Answers, AnswersNumber, AnswersOr};
+ghost use Rattle.ffi_query.specs.Labels.{HasNoNumber, HasNoString, IsNumberOf, IsStringOf, IsValueOf};
+ghost use Rattle.ffi_query.specs.Parts.{HasNoCount, IsMember, IsPart, IsPositiveCount};
+ghost use Rattle.ffi_query.specs.Structures.{HasNoStructure, IsRecipientStructure, IsStructure};
 ghost use Rattle.coset.specs.Names.{number, text_label};
-ghost use Rattle.ffi_c.specs.Numbers.{bytes_if, kind_of, map_query, part_query};
+ghost use Rattle.ffi_c.specs.Numbers.{bytes_if, content_query, kind_of, map_query, part_query};
 ghost use Rattle.ffi_c.specs.Replies.{IsMisuse, Replies, RepliesCheck, RepliesInteger};
 
 mod making;
+mod message;
 mod numbers;
 mod replies;
 mod sign1;
@@ -22,7 +23,7 @@ use ffi_query::{
     Label, check, count_of, integer_of, member_of, part_of, recipient_structure_of, string_of,
     structure_of, value_of,
 };
-use numbers::{bytes_if, kind_of, map_query, part_query};
+use numbers::{bytes_if, content_query, kind_of, map_query, part_query};
 use replies::{misused, reply, reply_check, reply_integer};
 use std::alloc::Global;
 
@@ -39,11 +40,12 @@ pub extern "C" fn coset_check(alloc: Global, kind: u32, input: &[u8], offset: &m
     }
 }
 
-/// How many signatures, recipients or keys the input has.
+/// How many signatures, recipients or keys the input has, where it has one at least.
 #[unsafe(no_mangle)]
 pub extern "C" fn coset_count(alloc: Global, kind: u32, input: &[u8], count: &mut usize) -> i32
     ensures { MatchOption (kind_of kind) (IsMisuse result count.new 0)
-        (λ k. Replies (AnswersNumber k input.now (IsCount k)) result count.new) }
+        (λ k. Replies (AnswersNumber k input.now (IsPositiveCount k) (HasNoCount k))
+        result count.new) }
 {
     match kind_of(kind) {
         Some(kind) => reply(count_of(alloc, kind, input), count),
@@ -126,8 +128,8 @@ pub extern "C" fn coset_label_bytes(
     len: &mut usize,
 ) -> i32
     ensures { MatchOption (map_query kind map) (IsMisuse result len.new 0 × (out.new ≡ out.old))
-        (λ q. Replies (Answers q.0 input.now (IsStringOf q.0 q.1 (number label)) out.old out.new)
-        result len.new) }
+        (λ q. Replies (AnswersOr q.0 input.now (IsStringOf q.0 q.1 (number label))
+        (HasNoString q.0 q.1 (number label)) out.old out.new) result len.new) }
 {
     match map_query(kind, map) {
         Some((kind, map)) => {
@@ -149,8 +151,8 @@ pub extern "C" fn coset_label_int(
     value: &mut i64,
 ) -> i32
     ensures { MatchOption (map_query kind map) (IsMisuse result value.new (pos 0))
-        (λ q. RepliesInteger
-        (AnswersNumber q.0 input.now (IsNumberOf q.0 q.1 (number label))) result value.new) }
+        (λ q. RepliesInteger (AnswersNumber q.0 input.now (IsNumberOf q.0 q.1 (number label))
+        (HasNoNumber q.0 q.1 (number label))) result value.new) }
 {
     match map_query(kind, map) {
         Some((kind, map)) => {
@@ -185,8 +187,8 @@ pub extern "C" fn coset_text_label(
     }
 }
 
-/// Writes what is signed of the input, what is authenticated, or what goes with the ciphertext. `detached` is looked at where
-/// `has_detached` isn't 0.
+/// Writes what is signed of the input, what is authenticated, or what goes with the ciphertext. `detached` is the payload
+/// where `has_detached` isn't 0, and else it is empty.
 #[unsafe(no_mangle)]
 pub extern "C" fn coset_structure(
     alloc: Global,
@@ -199,11 +201,13 @@ pub extern "C" fn coset_structure(
     out: &mut [u8],
     len: &mut usize,
 ) -> i32
-    ensures { MatchOption (kind_of kind) (IsMisuse result len.new 0 × (out.new ≡ out.old))
-        (λ k. Replies (Answers k input.now (IsStructure k index external_aad.now
-        (bytes_if has_detached detached.now)) out.old out.new) result len.new) }
+    ensures { let d = bytes_if has_detached detached.now in
+        MatchOption (content_query kind has_detached detached.now)
+        (IsMisuse result len.new 0 × (out.new ≡ out.old))
+        (λ k. Replies (AnswersOr k input.now (IsStructure k index external_aad.now d)
+        (HasNoStructure k index external_aad.now d) out.old out.new) result len.new) }
 {
-    match kind_of(kind) {
+    match content_query(kind, has_detached, detached) {
         Some(kind) => {
             let detached = bytes_if(has_detached, detached);
             reply(

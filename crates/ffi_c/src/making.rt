@@ -9,10 +9,10 @@ ghost use Rattle.ffi_make.specs.Members.{AddsMember};
 ghost use Rattle.ffi_make.specs.Messages.{MakesMessage};
 ghost use Rattle.ffi_make.specs.PairsMade.{PutsPair};
 ghost use Rattle.ffi_make.specs.StructuresMade.{MakesRecipientStructure, MakesStructure};
-ghost use Rattle.ffi_c.specs.Numbers.{bytes_if, kind_of, order_of};
+ghost use Rattle.ffi_c.specs.Numbers.{bytes_if, content_query, kind_of, order_of};
 ghost use Rattle.ffi_c.specs.Replies.{IsMisuse, Replies};
 
-use crate::numbers::{bytes_if, kind_of, order_of};
+use crate::numbers::{bytes_if, content_query, kind_of, order_of};
 use crate::replies::{misused, reply};
 use ffi_make::{Entry, add, canonical_key, make, put, recipient_structure_of, structure_of, write};
 use ffi_query::Label;
@@ -204,11 +204,12 @@ pub extern "C" fn coset_make(
     out: &mut [u8],
     len: &mut usize,
 ) -> i32
-    ensures { MatchOption (kind_of kind) (IsMisuse result len.new 0 × (out.new ≡ out.old))
+    ensures { MatchOption (content_query kind has_content content.now)
+        (IsMisuse result len.new 0 × (out.new ≡ out.old))
         (λ k. Replies (MakesMessage k protected.now unprotected.now
         (bytes_if has_content content.now) proof.now out.old out.new) result len.new) }
 {
-    match kind_of(kind) {
+    match content_query(kind, has_content, content) {
         Some(kind) => {
             let content = bytes_if(has_content, content);
             reply(

@@ -2,7 +2,7 @@
 
 ghost use Rattle.std.specs.Prelude.{◌≡◌};
 ghost use Rattle.std.specs.Option.{option_copied};
-ghost use Rattle.ffi_c.specs.Numbers.{bytes_if, form_of, kind_of, map_of, map_query, message_of, order_of, other_of, part_of, part_query, sign1_form};
+ghost use Rattle.ffi_c.specs.Numbers.{bytes_if, content_query, form_of, is_unflagged, kind_of, map_of, map_query, message_of, order_of, other_of, part_of, part_query, sign1_of, sign1_query};
 
 use coset::CborOrdering;
 use ffi_query::{Form, Kind, Map, Part};
@@ -109,13 +109,46 @@ pub(crate) fn kind_of(number: u32) -> Option<Kind>
     }
 }
 
-/// The form in which a message with one signature is asked for, where the number means one.
-pub(crate) fn sign1_form(number: u32) -> Option<Form>
-    ensures { result ≡ sign1_form number }
+/// The kind of that number, where it is a message with one signature.
+fn sign1_of(number: u32) -> Option<Kind>
+    ensures { result ≡ sign1_of number }
 {
     match kind_of(number) {
-        Some(Kind::Sign1(form)) => Some(form),
+        Some(Kind::Sign1(form)) => Some(Kind::Sign1(form)),
         _ => None,
+    }
+}
+
+/// Whether bytes are given without the number that says so.
+fn is_unflagged(has_bytes: u32, bytes: &[u8]) -> bool
+    ensures { result ≡ is_unflagged has_bytes bytes.now }
+{
+    if has_bytes == 0 {
+        !bytes.is_empty()
+    } else {
+        false
+    }
+}
+
+/// The kind of that number, unless a content is given without the number that says so.
+pub(crate) fn content_query(kind: u32, has_content: u32, content: &[u8]) -> Option<Kind>
+    ensures { result ≡ content_query kind has_content content.now }
+{
+    if is_unflagged(has_content, content) {
+        None
+    } else {
+        kind_of(kind)
+    }
+}
+
+/// The same of a message with one signature.
+pub(crate) fn sign1_query(kind: u32, has_content: u32, content: &[u8]) -> Option<Kind>
+    ensures { result ≡ sign1_query kind has_content content.now }
+{
+    if is_unflagged(has_content, content) {
+        None
+    } else {
+        sign1_of(kind)
     }
 }
 

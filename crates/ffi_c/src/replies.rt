@@ -33,8 +33,12 @@ const COSET_UNREGISTERED: i32 = 10;
 const COSET_NOT_PRIVATE: i32 = 11;
 /// What is asked for isn't there.
 const COSET_ABSENT: i32 = 12;
-/// A number of no kind, no part or no map.
+/// A number of no kind, no part or no map; or a payload that is given and has no place.
 const COSET_MISUSE: i32 = 13;
+/// What is asked for is there, and of another kind.
+const COSET_TYPE: i32 = 14;
+/// The list that is counted is empty.
+const COSET_EMPTY: i32 = 15;
 
 /// The number of a status.
 fn status_number(status: Status) -> i32
@@ -53,6 +57,9 @@ fn status_number(status: Status) -> i32
         Status::Unregistered => COSET_UNREGISTERED,
         Status::NotPrivate => COSET_NOT_PRIVATE,
         Status::Absent => COSET_ABSENT,
+        Status::WrongType => COSET_TYPE,
+        Status::Empty => COSET_EMPTY,
+        Status::Misuse => COSET_MISUSE,
     }
 }
 

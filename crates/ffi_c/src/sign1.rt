@@ -1,21 +1,20 @@
 //! All that verifying a message with one signature takes, in one call. Beside a status, a length and a text it says
 //! numbers, in a struct of the caller's.
 
-ghost use Rattle.std.specs.Prelude.{◌≡◌, MatchOption, if◌then◌else◌};
-ghost use Rattle.ffi_query.specs.declared.kind.Kind.TheVariants.{Sign1};
+ghost use Rattle.std.specs.Prelude.{◌≡◌, [], MatchOption, if◌then◌else◌};
 ghost use Rattle.ffi_query.specs.Answers.{AnswersWith};
-ghost use Rattle.ffi_query.specs.View.{IsSign1View};
-ghost use Rattle.ffi_c.specs.Numbers.{bytes_if, sign1_form};
+ghost use Rattle.ffi_query.specs.View.{HasNoView, IsMessageView};
+ghost use Rattle.ffi_c.specs.Numbers.{bytes_if, sign1_query};
 ghost use Rattle.ffi_c.specs.Replies.{IsMisuse, reply_status, length_of};
 ghost use Rattle.ffi_c.specs.Views.{RepliesView, algorithm_numbers, length_told, no_view, number_of_map, view_of, view_told};
 
-use crate::numbers::{COSET_IN_PROTECTED, COSET_IN_UNPROTECTED, bytes_if, sign1_form};
+use crate::numbers::{COSET_IN_PROTECTED, COSET_IN_UNPROTECTED, bytes_if, sign1_query};
 use crate::replies::{misused, reply};
-use ffi_query::{Algorithm, KeyIdPlace, Refusal, Sign1View, sign1_view};
+use ffi_query::{Algorithm, KeyIdPlace, MessageView, Refusal, message_view};
 use std::alloc::Global;
 
 /// Nothing names an algorithm, or no header holds an identifier of the key.
-const COSET_NONE: u32 = 0;
+pub(crate) const COSET_NONE: u32 = 0;
 /// The algorithm is named by an integer.
 const COSET_INT: u32 = 1;
 /// It is named by a text.
@@ -46,7 +45,7 @@ pub struct View {
 }
 
 /// The number of an algorithm, and the form in which it is named.
-fn algorithm_numbers(algorithm: Algorithm) -> (i64, u32)
+pub(crate) fn algorithm_numbers(algorithm: Algorithm) -> (i64, u32)
     ensures { result ≡ algorithm_numbers algorithm }
 {
     match algorithm {
@@ -57,7 +56,7 @@ fn algorithm_numbers(algorithm: Algorithm) -> (i64, u32)
 }
 
 /// The number of the map in which the identifier of the key is.
-fn number_of_map(place: KeyIdPlace) -> u32
+pub(crate) fn number_of_map(place: KeyIdPlace) -> u32
     ensures { result ≡ number_of_map place }
 {
     match place {
@@ -68,14 +67,14 @@ fn number_of_map(place: KeyIdPlace) -> u32
 }
 
 /// 1 for yes, and 0 for no.
-fn number_of_bool(is: bool) -> u32
+pub(crate) fn number_of_bool(is: bool) -> u32
     ensures { result ≡ (if is then 1 else 0) }
 {
     if is { 1 } else { 0 }
 }
 
 /// A view in numbers.
-fn view_told(told: Sign1View) -> View
+fn view_told(told: MessageView) -> View
     ensures { result ≡ view_told told }
 {
     let (algorithm, algorithm_form) = algorithm_numbers(told.algorithm);
@@ -86,8 +85,8 @@ fn view_told(told: Sign1View) -> View
         has_critical: number_of_bool(told.has_critical),
         is_tagged: number_of_bool(told.is_tagged),
         structure_len: told.structure_len,
-        signature_len: told.signature_len,
-        payload_len: told.payload_len,
+        signature_len: told.proof_len,
+        payload_len: told.content_len,
         key_id_len: told.key_id_len,
     }
 }
@@ -110,7 +109,7 @@ fn no_view() -> View
 }
 
 /// What is there after an answer: the view, and else nothing but zeros.
-fn view_of(answer: &Result<Sign1View, Refusal>) -> View
+fn view_of(answer: &Result<MessageView, Refusal>) -> View
     ensures { result ≡ view_of answer.now }
 {
     match answer {
@@ -120,7 +119,7 @@ fn view_of(answer: &Result<Sign1View, Refusal>) -> View
 }
 
 /// How long the texts are that go with a view.
-fn length_told(answer: Result<Sign1View, Refusal>) -> Result<usize, Refusal>
+pub(crate) fn length_told(answer: Result<MessageView, Refusal>) -> Result<usize, Refusal>
     ensures { result ≡ length_told answer }
 {
     match answer {
@@ -131,7 +130,7 @@ fn length_told(answer: Result<Sign1View, Refusal>) -> Result<usize, Refusal>
 
 /// The status of an answer that is a view, which is in the struct afterwards, and else nothing but zeros; how long the
 /// texts are, as [`reply`] says, is in the other place.
-fn reply_view(answer: Result<Sign1View, Refusal>, len: &mut usize, view: &mut View) -> i32
+fn reply_view(answer: Result<MessageView, Refusal>, len: &mut usize, view: &mut View) -> i32
     ensures status { result ≡ reply_status answer }
     ensures number { len.new ≡ length_of (length_told answer) }
     ensures told { view.new ≡ view_of answer }
@@ -141,7 +140,7 @@ fn reply_view(answer: Result<Sign1View, Refusal>, len: &mut usize, view: &mut Vi
 }
 
 /// Writes what is signed of the input, the signature, the payload that it carries and the identifier of the key, one behind
-/// the other, and says the rest in `view`. `detached` is looked at where `has_detached` isn't 0.
+/// the other, and says the rest in `view`. `detached` is the payload where `has_detached` isn't 0, and else it is empty.
 #[unsafe(no_mangle)]
 pub extern "C" fn coset_sign1(
     alloc: Global,
@@ -154,16 +153,17 @@ pub extern "C" fn coset_sign1(
     len: &mut usize,
     view: &mut View,
 ) -> i32
-    ensures { MatchOption (sign1_form kind)
+    ensures { let d = bytes_if has_detached detached.now in
+        MatchOption (sign1_query kind has_detached detached.now)
         (IsMisuse result len.new 0 × (view.new ≡ no_view) × (out.new ≡ out.old))
-        (λ f. RepliesView (AnswersWith (Sign1 f) input.now (IsSign1View f input.now
-        external_aad.now (bytes_if has_detached detached.now)) out.old out.new)
-        result len.new view.new) }
+        (λ k. RepliesView (AnswersWith k input.now
+        (IsMessageView k 0 external_aad.now d [] input.now) (HasNoView k 0 external_aad.now d)
+        out.old out.new) result len.new view.new) }
 {
-    match sign1_form(kind) {
-        Some(form) => {
+    match sign1_query(kind, has_detached, detached) {
+        Some(kind) => {
             let detached = bytes_if(has_detached, detached);
-            let told = sign1_view(alloc, form, input, external_aad, detached, out);
+            let told = message_view(alloc, kind, input, 0, external_aad, detached, &[], out);
             reply_view(told, len, view)
         }
         None => {

@@ -10,8 +10,8 @@ use Rattle.ffi_query.specs.declared.kind.Kind as kinds
 use Rattle.ffi_query.specs.declared.label.Map as maps
 use Rattle.ffi_query.specs.declared.label.Map.TheVariants as of
 use Rattle.ffi_query.specs.Answers.{Finds}
-use Rattle.ffi_query.specs.Labels.{IsNumber, IsNumberOf, IsProtected, IsStringOf, IsUnder, IsUnderIn, string_in, value_under}
-use Rattle.ffi_query.specs.Places.{bytes_in}
+use Rattle.ffi_query.specs.Labels.{IsNumber, IsNumberOf, IsProtected, IsStringOf, IsUnder, IsUnderIn, value_under}
+use Rattle.ffi_query.specs.Places.{bytes_in, string_in}
 
 -- the law of `one_item`
 abbrev pub OneItem : Type 0

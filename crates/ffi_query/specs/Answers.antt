@@ -5,8 +5,9 @@ use Rattle.coset.specs.CoseError.{CoseError}
 use Rattle.coset.specs.Shortest.{IsShortest}
 use Rattle.ffi_query.specs.declared.kind.Kind as kinds
 use Rattle.ffi_query.specs.declared.refusal.Refusal as refusals
-use Rattle.ffi_query.specs.declared.refusal.Refusal.TheVariants.{Short, Absent, Cose}
+use Rattle.ffi_query.specs.declared.refusal.Refusal.TheVariants.{Short, Absent, WrongType, Cose}
 use Rattle.ffi_query.specs.Kinds.{IsItemOf, IsRefused}
+use Rattle.ffi_query.specs.Places.{string_in}
 
 -- the memory begins with the text, and goes on as it was
 abbrev pub BeginsWith : List ℕ → List ℕ → List ℕ → Type 0
@@ -17,36 +18,48 @@ BeginsWith t old new = (length t ≤ length old) × (new ≡ t ++ drop (length t
 abbrev pub Puts : List ℕ → List ℕ → List ℕ → Result ℕ refusals.Refusal → Type 0
 Puts t old new (Ok n) = BeginsWith t old new × (n ≡ length t)
 Puts t old new (Err (Short n)) = (length old < length t) × (new ≡ old) × (n ≡ length t)
-Puts t old new (Err Absent) = ⊥
-Puts t old new (Err (Cose e)) = ⊥
+Puts t old new (Err r) = ⊥
 
 -- What a call answers that writes the text of which P holds, of the item that the bytes are: it is at the front of the
--- memory, or that has no room for it; or there is none; or the bytes are no such item. But for the first the memory is as it
--- was
+-- memory, or that has no room for it; or there is none, for a reason of which Q holds; or the bytes are no such item. But for
+-- the first the memory is as it was
+abbrev pub AnswersOr :
+    kinds.Kind → List ℕ → (Item → List ℕ → Type 0) → (Item → refusals.Refusal → Type 0) → List ℕ → List ℕ → Result ℕ refusals.Refusal → Type 0
+AnswersOr k b P Q old new (Ok n) = (v : Item) × IsItemOf k b v × ((t : List ℕ) × P v t × Puts t old new (Ok n))
+AnswersOr k b P Q old new (Err (Short n)) = (v : Item) × IsItemOf k b v × ((t : List ℕ) × P v t × Puts t old new (Err (Short n)))
+AnswersOr k b P Q old new (Err (Cose e)) = IsRefused k b e × (new ≡ old)
+AnswersOr k b P Q old new (Err r) = (v : Item) × IsItemOf k b v × Q v r × (new ≡ old)
+
+-- the reason is that there is no text of which P holds
+abbrev pub HasNoText : (Item → List ℕ → Type 0) → Item → refusals.Refusal → Type 0
+HasNoText P v Absent = (t : List ℕ) → P v t → ⊥
+HasNoText P v r = ⊥
+
+-- the same of a call that has no other reason
 abbrev pub Answers : kinds.Kind → List ℕ → (Item → List ℕ → Type 0) → List ℕ → List ℕ → Result ℕ refusals.Refusal → Type 0
-Answers k b P old new (Ok n) = (v : Item) × IsItemOf k b v × ((t : List ℕ) × P v t × Puts t old new (Ok n))
-Answers k b P old new (Err (Short n)) = (v : Item) × IsItemOf k b v × ((t : List ℕ) × P v t × Puts t old new (Err (Short n)))
-Answers k b P old new (Err Absent) = (v : Item) × IsItemOf k b v × ((t : List ℕ) → P v t → ⊥) × (new ≡ old)
-Answers k b P old new (Err (Cose e)) = IsRefused k b e × (new ≡ old)
+Answers k b P old new r = AnswersOr k b P (HasNoText P) old new r
 
 -- What a call answers that writes a text and says something beside it, of both of which P holds, of the item that the bytes
 -- are: the text is at the front of the memory, or that has no room for it, and the length that is needed is returned; or
--- there are no such two; or the bytes are no such item. But for the first the memory is as it was
+-- there are no such two, for a reason of which Q holds; or the bytes are no such item. But for the first the memory is as it
+-- was
 abbrev pub AnswersWith :
-    {N : Type 0} → kinds.Kind → List ℕ → (Item → N → List ℕ → Type 0) → List ℕ → List ℕ → Result N refusals.Refusal → Type 0
-AnswersWith k b P old new (Ok n) = (v : Item) × IsItemOf k b v × ((t : List ℕ) × P v n t × BeginsWith t old new)
-AnswersWith {N} k b P old new (Err (Short m)) =
+    {N : Type 0} → kinds.Kind → List ℕ → (Item → N → List ℕ → Type 0) → (Item → refusals.Refusal → Type 0) → List ℕ → List ℕ
+    → Result N refusals.Refusal → Type 0
+AnswersWith k b P Q old new (Ok n) = (v : Item) × IsItemOf k b v × ((t : List ℕ) × P v n t × BeginsWith t old new)
+AnswersWith {N} k b P Q old new (Err (Short m)) =
     (v : Item) × IsItemOf k b v × ((n : N) × ((t : List ℕ) × P v n t × Puts t old new (Err (Short m))))
-AnswersWith {N} k b P old new (Err Absent) = (v : Item) × IsItemOf k b v × ((n : N) (t : List ℕ) → P v n t → ⊥) × (new ≡ old)
-AnswersWith k b P old new (Err (Cose e)) = IsRefused k b e × (new ≡ old)
+AnswersWith k b P Q old new (Err (Cose e)) = IsRefused k b e × (new ≡ old)
+AnswersWith k b P Q old new (Err r) = (v : Item) × IsItemOf k b v × Q v r × (new ≡ old)
 
 -- What a call returns that gives a number of which P says what it is, of the item that the bytes are: the number; or that
--- there is none; or why the bytes are no such item
-abbrev pub AnswersNumber : {N : Type 0} → kinds.Kind → List ℕ → (Item → N → Type 0) → Result N refusals.Refusal → Type 0
-AnswersNumber k b P (Ok n) = (v : Item) × IsItemOf k b v × P v n
-AnswersNumber k b P (Err (Short n)) = ⊥
-AnswersNumber {N} k b P (Err Absent) = (v : Item) × IsItemOf k b v × ((n : N) → P v n → ⊥)
-AnswersNumber k b P (Err (Cose e)) = IsRefused k b e
+-- there is none, for a reason of which Q holds; or why the bytes are no such item
+abbrev pub AnswersNumber :
+    {N : Type 0} → kinds.Kind → List ℕ → (Item → N → Type 0) → (Item → refusals.Refusal → Type 0) → Result N refusals.Refusal → Type 0
+AnswersNumber k b P Q (Ok n) = (v : Item) × IsItemOf k b v × P v n
+AnswersNumber k b P Q (Err (Short n)) = ⊥
+AnswersNumber k b P Q (Err (Cose e)) = IsRefused k b e
+AnswersNumber k b P Q (Err r) = (v : Item) × IsItemOf k b v × Q v r
 
 -- Writing the text into the memory, and telling n where it has room
 abbrev pub PutsWith : {N : Type 0} → N → List ℕ → List ℕ → List ℕ → Result N refusals.Refusal → Type 0
@@ -58,6 +71,16 @@ abbrev pub WritesFound : {T : Type 0} → (T → List ℕ) → Result (Option T)
 WritesFound bytes_of (Ok (Some x)) old new r = Puts (bytes_of x) old new r
 WritesFound bytes_of (Ok None) old new r = (r ≡ Err Absent) × (new ≡ old)
 WritesFound bytes_of (Err e) old new r = (r ≡ Err (Cose e)) × (new ≡ old)
+
+-- Writing what the string holds that was found
+abbrev pub PutsString : Option (List ℕ) → List ℕ → List ℕ → Result ℕ refusals.Refusal → Type 0
+PutsString (Some t) old new r = Puts t old new r
+PutsString None old new r = (r ≡ Err WrongType) × (new ≡ old)
+
+abbrev pub WritesString : {T : Type 0} → (T → Item) → Result (Option T) CoseError → List ℕ → List ℕ → Result ℕ refusals.Refusal → Type 0
+WritesString view (Ok (Some x)) old new r = PutsString (string_in (view x)) old new r
+WritesString view (Ok None) old new r = (r ≡ Err Absent) × (new ≡ old)
+WritesString view (Err e) old new r = (r ≡ Err (Cose e)) × (new ≡ old)
 
 -- what was found is a text of which P holds, or there is none
 abbrev pub Finds : {T A : Type 0} → (T → A) → (A → Type 0) → Option T → Type 0

@@ -3,7 +3,7 @@ use Rattle.std.specs.Prelude.{◌≡◌, ◌==◌, ℕ, ℤ, List, Option, Some,
 use Rattle.std.specs.Int.{w64}
 use Rattle.std.specs.Ordering.{int_eq}
 use Rattle.std.specs.Cmp.Lexicographic.{pointwise}
-use Rattle.coset.specs.Item.{Item, bytes, text, Pairs, no_pairs, pair}
+use Rattle.coset.specs.Item.{Item, Pairs, no_pairs, pair}
 use Rattle.coset.specs.Parts.{as_integer, as_map, as_text}
 use Rattle.coset.specs.Grammar.{IsItem}
 use Rattle.coset.specs.Shortest.{IsShortest}
@@ -13,8 +13,10 @@ use Rattle.ffi_query.specs.declared.label.Label as labels
 use Rattle.ffi_query.specs.declared.label.Label.TheVariants.{Number, Text}
 use Rattle.ffi_query.specs.declared.label.Map as maps
 use Rattle.ffi_query.specs.declared.label.Map.TheVariants as of
+use Rattle.ffi_query.specs.declared.refusal.Refusal as refusals
+use Rattle.ffi_query.specs.declared.refusal.Refusal.TheVariants.{Absent, WrongType}
 use Rattle.ffi_query.specs.Parts.{has_headers}
-use Rattle.ffi_query.specs.Places.{bytes_in, element}
+use Rattle.ffi_query.specs.Places.{bytes_in, element, string_in}
 
 -- there is something, and it is that
 abbrev pub is_same : {A : Type 0} → (A → A → Bool) → Option A → A → Bool
@@ -64,15 +66,15 @@ IsUnder k of.Item l v w = value_under l v ≡ Some w
 abbrev pub IsValueOf : kinds.Kind → maps.Map → Name → Item → List ℕ → Type 0
 IsValueOf k m l v t = (w : Item) × IsUnder k m l v w × IsShortest t w
 
--- what a byte string or a text string holds
-abbrev pub string_in : Item → Option (List ℕ)
-string_in (bytes s) = Some s
-string_in (text s) = Some s
-string_in v = None
-
 -- t is what the string holds that is under it
 abbrev pub IsStringOf : kinds.Kind → maps.Map → Name → Item → List ℕ → Type 0
 IsStringOf k m l v t = (w : Item) × IsUnder k m l v w × (string_in w ≡ Some t)
+
+-- why there is no such string in the item v of that kind: nothing is under the label; or what is there is no string
+abbrev pub HasNoString : kinds.Kind → maps.Map → Name → Item → refusals.Refusal → Type 0
+HasNoString k m l v Absent = (w : Item) → IsUnder k m l v w → ⊥
+HasNoString k m l v WrongType = (w : Item) × IsUnder k m l v w × (string_in w ≡ None)
+HasNoString k m l v r = ⊥
 
 -- the item is the integer n, which has 64 bits
 abbrev pub IsNumber : Item → ℤ → Type 0
@@ -81,3 +83,9 @@ IsNumber v n = (as_integer v ≡ Some n) × FitsSigned w64 n
 -- n is the integer that is under it
 abbrev pub IsNumberOf : kinds.Kind → maps.Map → Name → Item → ℤ → Type 0
 IsNumberOf k m l v n = (w : Item) × IsUnder k m l v w × IsNumber w n
+
+-- why there is no such integer: nothing is under the label; or what is there is no integer of 64 bits
+abbrev pub HasNoNumber : kinds.Kind → maps.Map → Name → Item → refusals.Refusal → Type 0
+HasNoNumber k m l v Absent = (w : Item) → IsUnder k m l v w → ⊥
+HasNoNumber k m l v WrongType = (w : Item) × IsUnder k m l v w × ((n : ℤ) → IsNumber w n → ⊥)
+HasNoNumber k m l v r = ⊥

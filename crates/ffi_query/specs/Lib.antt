@@ -1,9 +1,10 @@
 pub mod Status
 pub mod Faults
 pub mod Kinds
-pub mod Answers
 pub mod Places
+pub mod Answers
 pub mod Parts
 pub mod Labels
 pub mod Structures
+pub mod Critical
 pub mod View

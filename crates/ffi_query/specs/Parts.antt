@@ -1,9 +1,11 @@
 -- The parts of an item (RFC 8152, sections 3 to 7).
-use Rattle.std.specs.Prelude.{◌≡◌, ℕ, List, Option, Some, None, Bool, true, false, option_and_then, if◌then◌else◌}
+use Rattle.std.specs.Prelude.{◌≡◌, ◌<◌, ℕ, List, Option, Some, None, Bool, true, false, option_and_then, if◌then◌else◌}
 use Rattle.coset.specs.Item.{Item, Items, items_count}
 use Rattle.ffi_query.specs.declared.kind.Kind as kinds
 use Rattle.ffi_query.specs.declared.kind.Kind.TheVariants.{Sign1, Sign, Mac0, Mac, Encrypt0, Encrypt, Signature, Recipient, Header, Key, KeySet, Claims}
 use Rattle.ffi_query.specs.declared.part.Part as parts
+use Rattle.ffi_query.specs.declared.refusal.Refusal as refusals
+use Rattle.ffi_query.specs.declared.refusal.Refusal.TheVariants.{Absent, Empty}
 use Rattle.ffi_query.specs.declared.part.Part.TheVariants.{Protected, Payload, Ciphertext, Proof}
 use Rattle.ffi_query.specs.Places.{bytes_in, member_at, members}
 use Rattle.ffi_query.specs.Answers.{IsEncodingOf}
@@ -57,3 +59,14 @@ IsMember k i v t = IsEncodingOf (member_at k i v) t
 -- there are so many elements
 abbrev pub IsCount : kinds.Kind → Item → ℕ → Type 0
 IsCount k v n = (vs : Items) × (members k v ≡ Some vs) × (n ≡ items_count vs)
+
+-- there are so many, and one at least
+abbrev pub IsPositiveCount : kinds.Kind → Item → ℕ → Type 0
+IsPositiveCount k v n = IsCount k v n × (0 < n)
+
+-- why they aren't counted: the item v of that kind has no list; or that is empty (it should have one element at least: RFC
+-- 8152, sections 4.1, 5.1, 6.1 and 7)
+abbrev pub HasNoCount : kinds.Kind → Item → refusals.Refusal → Type 0
+HasNoCount k v Absent = members k v ≡ None
+HasNoCount k v Empty = IsCount k v 0
+HasNoCount k v r = ⊥

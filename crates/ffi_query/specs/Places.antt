@@ -1,6 +1,6 @@
 -- What is at places in an item.
 use Rattle.std.specs.Prelude.{ℕ, zero, suc, List, Option, Some, None, option_and_then}
-use Rattle.coset.specs.Item.{Item, Items, no_items, item}
+use Rattle.coset.specs.Item.{Item, bytes, text, Items, no_items, item}
 use Rattle.coset.specs.Parts.{as_array, as_bytes}
 use Rattle.ffi_query.specs.declared.kind.Kind as kinds
 use Rattle.ffi_query.specs.declared.kind.Kind.TheVariants.{Sign, Mac, Encrypt, Recipient, KeySet}
@@ -18,6 +18,12 @@ element n v = option_and_then (nth n) (as_array v)
 -- what it holds, where it is a byte string
 abbrev pub bytes_in : ℕ → Item → Option (List ℕ)
 bytes_in n v = option_and_then as_bytes (element n v)
+
+-- what a byte string or a text string holds
+abbrev pub string_in : Item → Option (List ℕ)
+string_in (bytes s) = Some s
+string_in (text s) = Some s
+string_in v = None
 
 -- what is in it, where it is an array
 abbrev pub array_in : ℕ → Item → Option Items

@@ -8,7 +8,7 @@ use Rattle.ffi_query.specs.declared.refusal.Refusal as refusals
 use Rattle.ffi_query.specs.declared.refusal.Refusal.TheVariants as refused
 use Rattle.ffi_query.specs.declared.refusal.Status.{Status}
 use Rattle.ffi_query.specs.declared.refusal.Status.TheVariants.{Short, Memory, Ends, Malformed, Deep, Extraneous, Unexpected, Duplicate, OutOfRange}
-use Rattle.ffi_query.specs.declared.refusal.Status.TheVariants.{Unregistered, NotPrivate, Absent}
+use Rattle.ffi_query.specs.declared.refusal.Status.TheVariants.{Unregistered, NotPrivate, Absent, WrongType, Empty, Misuse}
 
 -- a fault of bytes
 abbrev pub decoding_status : Error EndOfFile → Status
@@ -34,4 +34,7 @@ cose_status cose.OutOfMemory = Memory
 abbrev pub refusal_status : refusals.Refusal → Status
 refusal_status (refused.Short n) = Short
 refusal_status refused.Absent = Absent
+refusal_status refused.WrongType = WrongType
+refusal_status refused.Empty = Empty
+refusal_status refused.Misuse = Misuse
 refusal_status (refused.Cose e) = cose_status e

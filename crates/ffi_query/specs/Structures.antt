@@ -1,12 +1,15 @@
 -- What is signed, authenticated, or goes with a ciphertext, of a message as it was received (RFC 8152, sections 4.4, 5.3 and
 -- 6.3).
-use Rattle.std.specs.Prelude.{ℕ, List, [], ◌∷◌, Option, Some, None, codes, option_and_then}
+use Rattle.std.specs.Prelude.{◌≡◌, ℕ, List, [], ◌∷◌, Option, Some, None, Bool, true, false, codes, option_and_then}
 use Rattle.coset.specs.Item.{Item, null}
 use Rattle.coset.specs.Parts.{as_bytes}
 use Rattle.coset.specs.Structure.{structure}
 use Rattle.ffi_query.specs.declared.kind.Kind as kinds
 use Rattle.ffi_query.specs.declared.kind.Kind.TheVariants.{Sign1, Sign, Mac0, Mac, Encrypt0, Encrypt, Recipient}
+use Rattle.ffi_query.specs.declared.refusal.Refusal as refusals
+use Rattle.ffi_query.specs.declared.refusal.Refusal.TheVariants.{Absent, Misuse}
 use Rattle.ffi_query.specs.Answers.{IsEncodingOf}
+use Rattle.ffi_query.specs.Parts.{payload_place}
 use Rattle.ffi_query.specs.Places.{bytes_in, element, member_at}
 
 -- what is given where the payload is nil, so that it is detached
@@ -64,6 +67,27 @@ structure_in k i aad d v = None
 -- t is its shortest encoding
 abbrev pub IsStructure : kinds.Kind → ℕ → List ℕ → Option (List ℕ) → Item → List ℕ → Type 0
 IsStructure k i aad d v t = IsEncodingOf (structure_in k i aad d v) t
+
+-- the place holds something else than nil
+abbrev pub is_filled : Option Item → Bool
+is_filled None = false
+is_filled (Some null) = false
+is_filled (Some v) = true
+
+-- the item v of that kind carries a payload
+abbrev pub is_carried : kinds.Kind → Item → Bool
+is_carried k v = is_filled (option_and_then (λ n. element n v) (payload_place k))
+
+-- a payload is given of an item v that carries one
+abbrev pub is_given_twice : kinds.Kind → Option (List ℕ) → Item → Bool
+is_given_twice k None v = false
+is_given_twice k (Some d) v = is_carried k v
+
+-- why there is no structure of the item v: a payload is given, and it carries another; or there is none
+abbrev pub HasNoStructure : kinds.Kind → ℕ → List ℕ → Option (List ℕ) → Item → refusals.Refusal → Type 0
+HasNoStructure k i aad d v Misuse = is_given_twice k d v ≡ true
+HasNoStructure k i aad d v Absent = (is_given_twice k d v ≡ false) × ((t : List ℕ) → IsStructure k i aad d v t → ⊥)
+HasNoStructure k i aad d v r = ⊥
 
 -- the structure of the recipient v, by what holds it: context : "Enc_Recipient" / "Mac_Recipient" / "Rec_Recipient"
 abbrev pub recipient_structure_in : kinds.Kind → List ℕ → Item → Option Item

@@ -1,29 +1,31 @@
--- What one call says of a message with one signature (RFC 8152, sections 3.1, 4.2 and 4.4).
-use Rattle.std.specs.Prelude.{◌≡◌, ◌⊎◌, ℕ, ℤ, pos, List, [], ◌++◌, length, Option, Bool, true, false}
+-- What one call says of a message (RFC 8152, sections 3.1 and 4 to 6).
+use Rattle.std.specs.Prelude.{◌≡◌, ◌⊎◌, ℕ, ℤ, pos, List, [], ◌++◌, length, Option, Some, None, Bool, true, false}
 use Rattle.coset.specs.Item.{Item, tag}
 use Rattle.coset.specs.Grammar.{IsItem}
 use Rattle.coset.specs.Names.{Name, number}
-use Rattle.ffi_query.specs.declared.kind.Form as forms
 use Rattle.ffi_query.specs.declared.kind.Kind as kinds
-use Rattle.ffi_query.specs.declared.kind.Kind.TheVariants.{Sign1}
+use Rattle.ffi_query.specs.declared.kind.Kind.TheVariants.{Sign, Encrypt0, Encrypt, Signature}
 use Rattle.ffi_query.specs.declared.label.Map as maps
 use Rattle.ffi_query.specs.declared.label.Map.TheVariants as of
-use Rattle.ffi_query.specs.declared.part.Part.TheVariants.{Payload, Proof}
+use Rattle.ffi_query.specs.declared.part.Part as parts
+use Rattle.ffi_query.specs.declared.part.Part.TheVariants.{Payload, Ciphertext, Proof}
+use Rattle.ffi_query.specs.declared.refusal.Refusal as refusals
+use Rattle.ffi_query.specs.declared.refusal.Refusal.TheVariants.{Absent, Misuse}
 use Rattle.ffi_query.specs.declared.view.Algorithm as algorithms
 use Rattle.ffi_query.specs.declared.view.Algorithm.TheVariants as named
 use Rattle.ffi_query.specs.declared.view.KeyIdPlace as places
 use Rattle.ffi_query.specs.declared.view.KeyIdPlace.TheVariants as stands
-use Rattle.ffi_query.specs.declared.view.Sign1View.{Sign1View}
+use Rattle.ffi_query.specs.declared.view.MessageView.{MessageView}
+use Rattle.ffi_query.specs.Critical.{IsCriticalOf}
+use Rattle.ffi_query.specs.Kinds.{is_under, tag_of}
 use Rattle.ffi_query.specs.Labels.{IsNumber, IsNumberOf, IsStringOf, IsUnder}
-use Rattle.ffi_query.specs.Parts.{IsPart}
-use Rattle.ffi_query.specs.Structures.{IsStructure}
+use Rattle.ffi_query.specs.Parts.{IsPart, place_of}
+use Rattle.ffi_query.specs.Places.{bytes_in, member_at}
+use Rattle.ffi_query.specs.Structures.{IsStructure, is_given_twice}
 
--- the labels alg, crit and kid (section 3.1, table 2)
+-- the labels alg and kid (section 3.1, table 2)
 abbrev pub alg_label : Name
 alg_label = number (pos 1)
-
-abbrev pub crit_label : Name
-crit_label = number (pos 2)
 
 abbrev pub kid_label : Name
 kid_label = number (pos 4)
@@ -41,15 +43,6 @@ HasAlgorithm k v named.Absent = (w : Item) → IsUnder k of.Protected alg_label 
 HasAlgorithm k v (named.Number n) = IsNumberOf k of.Protected alg_label v n
 HasAlgorithm k v named.Text = (w : Item) × IsUnder k of.Protected alg_label v w × IsAlgorithm w named.Text
 
--- something is under crit in that header of the item v
-abbrev pub HasCritical : kinds.Kind → maps.Map → Item → Type 0
-HasCritical k m v = (w : Item) × IsUnder k m crit_label v w
-
--- whether it does in either header
-abbrev pub IsCritical : kinds.Kind → Item → Bool → Type 0
-IsCritical k v true = HasCritical k of.Protected v ⊎ HasCritical k of.Unprotected v
-IsCritical k v false = (HasCritical k of.Protected v → ⊥) × (HasCritical k of.Unprotected v → ⊥)
-
 -- that header of the item v has no string under kid
 abbrev pub HasNoKeyId : kinds.Kind → maps.Map → Item → Type 0
 HasNoKeyId k m v = (t : List ℕ) → IsStringOf k m kid_label v t → ⊥
@@ -61,9 +54,40 @@ IsKeyId k v stands.Absent t = HasNoKeyId k of.Protected v × HasNoKeyId k of.Unp
 IsKeyId k v stands.Protected t = IsStringOf k of.Protected kid_label v t
 IsKeyId k v stands.Unprotected t = HasNoKeyId k of.Protected v × IsStringOf k of.Unprotected kid_label v t
 
--- t is the payload that the item v carries; or it carries none, and t is empty
-abbrev pub IsCarried : kinds.Kind → Item → List ℕ → Type 0
-IsCarried k v t = IsPart k Payload v t ⊎ (((s : List ℕ) → IsPart k Payload v s → ⊥) × (t ≡ []))
+-- what names the algorithm and the key: the signer of that index, where a message has signers; else the message v itself
+abbrev pub bearer : kinds.Kind → ℕ → Item → Option Item
+bearer (Sign f) i v = member_at (Sign f) i v
+bearer k i v = Some v
+
+abbrev pub kind_of_bearer : kinds.Kind → kinds.Kind
+kind_of_bearer (Sign f) = Signature
+kind_of_bearer k = k
+
+-- the signature or the tag, and nothing where items of the kind have none
+abbrev pub proof_at : Option ℕ → Item → Option (List ℕ)
+proof_at None v = Some []
+proof_at (Some n) v = bytes_in n v
+
+abbrev pub proof_in : kinds.Kind → Item → Option (List ℕ)
+proof_in k v = proof_at (place_of Proof k) v
+
+-- the part that is the content
+abbrev pub content_part : kinds.Kind → parts.Part
+content_part (Encrypt0 f) = Ciphertext
+content_part (Encrypt f) = Ciphertext
+content_part k = Payload
+
+-- t is the content that the item v carries; or it carries none, and t is empty
+abbrev pub IsContent : kinds.Kind → Item → List ℕ → Type 0
+IsContent k v t = IsPart k (content_part k) v t ⊎ (((s : List ℕ) → IsPart k (content_part k) v s → ⊥) × (t ≡ []))
+
+-- the item is under the tag of that kind
+abbrev pub is_under_some : Option ℕ → Item → Bool
+is_under_some None w = false
+is_under_some (Some n) w = is_under n w
+
+abbrev pub is_under_tag : kinds.Kind → Item → Bool
+is_under_tag k w = is_under_some (tag_of k) w
 
 -- the bytes are an item under a tag of that number
 abbrev pub IsTagged : ℕ → List ℕ → Type 0
@@ -74,28 +98,43 @@ abbrev pub TellsTag : ℕ → List ℕ → Bool → Type 0
 TellsTag n b true = IsTagged n b
 TellsTag n b false = IsTagged n b → ⊥
 
--- what is said of the item v of that kind by n, and by the text t, which is four, one behind the other: what is signed of it,
--- over external_aad and, where it is detached, the payload d; the signature; the payload that it carries; and the identifier of
--- the key
-pub record IsTold (k : kinds.Kind) (aad : List ℕ) (d : Option (List ℕ)) (v : Item) (n : Sign1View) (t : List ℕ) : Type 0 where
+-- whether they are under the tag that a message may be under
+abbrev pub TellsTagOf : Option ℕ → List ℕ → Bool → Type 0
+TellsTagOf None b x = x ≡ false
+TellsTagOf (Some n) b x = TellsTag n b x
+
+-- what is said of the item v of that kind by n, and by the text t, which is four, one behind the other: what is signed of it (by
+-- the signer of that index), authenticated, or goes with its ciphertext, over external_aad and, where it is detached, the
+-- payload d; the signature or the tag; the content that it carries; and the identifier of the key. The caller understands the
+-- labels ns
+pub record IsTold (k : kinds.Kind) (i : ℕ) (aad : List ℕ) (d : Option (List ℕ)) (ns : List ℤ) (v : Item) (n : MessageView) (t : List ℕ) : Type 0 where
+  pub signer : Item
   pub signed : List ℕ
-  pub signature : List ℕ
-  pub payload : List ℕ
+  pub proof : List ℕ
+  pub content : List ℕ
   pub key_id : List ℕ
-  pub is_signed : IsStructure k 0 aad d v signed
-  pub is_signature : IsPart k Proof v signature
-  pub is_payload : IsCarried k v payload
-  pub is_key_id : IsKeyId k v n.key_id_place key_id
-  pub is_text : t ≡ signed ++ (signature ++ (payload ++ key_id))
-  pub is_algorithm : HasAlgorithm k v n.algorithm
-  pub is_critical : IsCritical k v n.has_critical
+  pub is_signed : IsStructure k i aad d v signed
+  pub is_signer : bearer k i v ≡ Some signer
+  pub is_proof : proof_in (kind_of_bearer k) signer ≡ Some proof
+  pub is_content : IsContent k v content
+  pub is_key_id : IsKeyId (kind_of_bearer k) signer n.key_id_place key_id
+  pub is_text : t ≡ signed ++ (proof ++ (content ++ key_id))
+  pub is_algorithm : HasAlgorithm (kind_of_bearer k) signer n.algorithm
+  pub is_critical : IsCriticalOf k ns v signer n.has_critical n.is_understood
   pub structure_len : n.structure_len ≡ length signed
-  pub signature_len : n.signature_len ≡ length signature
-  pub payload_len : n.payload_len ≡ length payload
+  pub proof_len : n.proof_len ≡ length proof
+  pub content_len : n.content_len ≡ length content
   pub key_id_len : n.key_id_len ≡ length key_id
   pub len : n.len ≡ length t
 
--- What `sign1_view` says of the bytes b, which are the message v with one signature, in that form: all that, and whether they
--- are under the message's tag, 18 (section 2, table 1)
-abbrev pub IsSign1View : forms.Form → List ℕ → List ℕ → Option (List ℕ) → Item → Sign1View → List ℕ → Type 0
-IsSign1View f b aad d v n t = IsTold (Sign1 f) aad d v n t × TellsTag 18 b n.is_tagged
+-- What `message_view` says of the bytes b, which are the message v of that kind: all that, and whether they are under the
+-- message's tag (section 2, table 1)
+abbrev pub IsMessageView :
+    kinds.Kind → ℕ → List ℕ → Option (List ℕ) → List ℤ → List ℕ → Item → MessageView → List ℕ → Type 0
+IsMessageView k i aad d ns b v n t = IsTold k i aad d ns v n t × TellsTagOf (tag_of k) b n.is_tagged
+
+-- why there is none: a payload is given, and the message carries another; or it has no structure, or no such signer or proof
+abbrev pub HasNoView : kinds.Kind → ℕ → List ℕ → Option (List ℕ) → Item → refusals.Refusal → Type 0
+HasNoView k i aad d v Misuse = is_given_twice k d v ≡ true
+HasNoView k i aad d v Absent = (is_given_twice k d v ≡ false) × ((ns : List ℤ) (n : MessageView) (t : List ℕ) → IsTold k i aad d ns v n t → ⊥)
+HasNoView k i aad d v r = ⊥

@@ -5,14 +5,14 @@ ghost use Rattle.coset.specs.CoseError.TheVariants.{OutOfMemory};
 ghost use Rattle.coset.specs.Elements.{pairs_left};
 ghost use Rattle.coset.specs.Pulls.{pull_item};
 ghost use Rattle.coset.specs.View.{value_item};
-ghost use Rattle.ffi_query.specs.Answers.{Answers, AnswersNumber, Finds};
-ghost use Rattle.ffi_query.specs.Labels.{IsNumber, IsNumberOf, IsProtected, IsStringOf, IsUnder, IsUnderIn, IsValueOf, first_value, is_label, label_view, string_in, unprotected_value, value_under};
-ghost use Rattle.ffi_query.specs.Places.{bytes_in};
+ghost use Rattle.ffi_query.specs.Answers.{Answers, AnswersNumber, AnswersOr, Finds, WritesString};
+ghost use Rattle.ffi_query.specs.Labels.{HasNoNumber, HasNoString, IsNumber, IsNumberOf, IsProtected, IsStringOf, IsUnder, IsUnderIn, IsValueOf, first_value, is_label, label_view, unprotected_value, value_under};
+ghost use Rattle.ffi_query.specs.Places.{bytes_in, string_in};
 
 use crate::item::{bytes_in, element, encoding, item_of};
 use crate::kind::Kind;
 use crate::refusal::Refusal;
-use crate::written::write_found;
+use crate::written::{put, write_found};
 use coset::Result;
 use coset::cbor::de::{Pairs, Pull};
 use coset::cbor::value::Value;
@@ -225,6 +225,24 @@ fn string_in(value: Value) -> Option<Vec<u8>>
     }
 }
 
+/// Writes what the value that was found holds to the front of `out`, where it is a string, and returns its length.
+///
+/// # Errors
+/// `Short`; `WrongType` where it is no string; `Absent` where none was found; or why nothing is known of it. `out` is then as
+/// it was.
+fn write_string(found: Result<Option<Value>>, out: &mut [u8]) -> Result<usize, Refusal>
+    ensures { WritesString value_item found out.old out.new result }
+{
+    match found {
+        Ok(Some(value)) => match string_in(value) {
+            Some(bytes) => put(&bytes, out),
+            None => Err(Refusal::WrongType),
+        },
+        Ok(None) => Err(Refusal::Absent),
+        Err(error) => Err(Refusal::Cose(error)),
+    }
+}
+
 /// What that value holds, where it is a string.
 ///
 /// # Errors
@@ -251,7 +269,7 @@ pub(crate) fn find_string(
 /// are to the front of `out`, and returns its length.
 ///
 /// # Errors
-/// The same as [`value_of`]; `Absent` also where the value is no string.
+/// The same as [`value_of`], and `WrongType` where the value is no string.
 pub fn string_of(
     alloc: Global,
     kind: Kind,
@@ -260,11 +278,11 @@ pub fn string_of(
     label: Label<'_>,
     out: &mut [u8],
 ) -> Result<usize, Refusal>
-    ensures { Answers kind bytes.now (IsStringOf kind map (label_view label.entry))
-        out.old out.new result }
+    ensures { AnswersOr kind bytes.now (IsStringOf kind map (label_view label.entry))
+        (HasNoString kind map (label_view label.entry)) out.old out.new result }
 {
     match item_of(alloc, kind, bytes) {
-        Ok(item) => write_found(find_string(alloc, kind, item, map, label), out),
+        Ok(item) => write_string(find_value(alloc, kind, item, map, label), out),
         Err(error) => Err(Refusal::Cose(error)),
     }
 }
@@ -282,8 +300,8 @@ pub(crate) fn number_in(value: &Value) -> Option<i64>
 /// The integer that is under the label in that map of the item that the bytes are.
 ///
 /// # Errors
-/// `Absent` where the item has no such map, that no such label, or the value is no integer of 64 bits; `Cose` as
-/// [`check`](crate::check) says.
+/// `Absent` where the item has no such map, or that no such label; `WrongType` where the value is no integer of 64 bits;
+/// `Cose` as [`check`](crate::check) says.
 pub fn integer_of(
     alloc: Global,
     kind: Kind,
@@ -291,9 +309,9 @@ pub fn integer_of(
     map: Map,
     label: Label<'_>,
 ) -> Result<i64, Refusal>
-    ensures { AnswersNumber kind bytes.now (IsNumberOf kind map (label_view label.entry)) result }
+    ensures { AnswersNumber kind bytes.now (IsNumberOf kind map (label_view label.entry))
+        (HasNoNumber kind map (label_view label.entry)) result }
 {
-    one_item();
     let item = match item_of(alloc, kind, bytes) {
         Ok(item) => item,
         Err(error) => return Err(Refusal::Cose(error)),
@@ -301,7 +319,7 @@ pub fn integer_of(
     match find_value(alloc, kind, item, map, label) {
         Ok(Some(value)) => match number_in(&value) {
             Some(number) => Ok(number),
-            None => Err(Refusal::Absent),
+            None => Err(Refusal::WrongType),
         },
         Ok(None) => Err(Refusal::Absent),
         Err(error) => Err(Refusal::Cose(error)),

@@ -1,6 +1,6 @@
 //! What is asked of bytes that may be an item of COSE, in one call each: whether they are one, the parts of it, the values
-//! of its labels, and what is signed, authenticated or goes with a ciphertext of it; and of a message with one signature all
-//! that verifying it takes, in one call.
+//! of its labels, and what is signed, authenticated or goes with a ciphertext of it; and all that verifying or decrypting a
+//! message takes, in one call.
 //!
 //! Each call is a function of its input's bytes. It keeps nothing, and what it returns it writes into the caller's memory,
 //! which is left as it was where the answer has no room there, and where there is none. So these are the calls that a
@@ -10,6 +10,7 @@
 //! refused for its own fault, and then the part that is asked for is looked up in the bytes themselves.
 #![tactic(auto)]
 
+mod critical;
 mod fault;
 mod item;
 mod kind;
@@ -26,5 +27,5 @@ pub use label::{Label, Map, integer_of, string_of, value_of};
 pub use part::{Part, count_of, member_of, part_of};
 pub use refusal::{Refusal, Status};
 pub use structure::{recipient_structure_of, structure_of};
-pub use view::{Algorithm, KeyIdPlace, Sign1View, sign1_view};
+pub use view::{Algorithm, KeyIdPlace, MessageView, message_view};
 pub use written::write_found;

@@ -6,7 +6,7 @@ ghost use Rattle.coset.specs.Item.{items_count};
 ghost use Rattle.coset.specs.Elements.{items_left};
 ghost use Rattle.coset.specs.Pulls.{pull_item};
 ghost use Rattle.ffi_query.specs.Answers.{Answers, AnswersNumber, Finds};
-ghost use Rattle.ffi_query.specs.Parts.{IsCount, IsMember, IsPart, has_headers, place_of};
+ghost use Rattle.ffi_query.specs.Parts.{HasNoCount, IsMember, IsPart, IsPositiveCount, has_headers, place_of};
 
 use crate::item::{bytes_in, encoding, item_of, member_at, members};
 use crate::kind::Kind;
@@ -38,7 +38,7 @@ impl Kind {
     }
 
     /// Which element of an item's array the part is.
-    fn place_of(self, part: Part) -> Option<usize>
+    pub(crate) fn place_of(self, part: Part) -> Option<usize>
         ensures { result ≡ place_of part self }
     {
         match part {
@@ -156,13 +156,14 @@ fn count_members(members: Items<'_>) -> Result<usize>
     Ok(count)
 }
 
-/// How many signatures, recipients or keys the item has that the bytes are.
+/// How many signatures, recipients or keys the item has that the bytes are: one or more. An empty list is refused, so that
+/// who verifies each of them has verified one.
 ///
 /// # Errors
-/// `Absent` where items of the kind have none, or where a recipient has no list of others; `Cose` as
-/// [`check`](crate::check) says.
+/// `Absent` where items of the kind have none, or where a recipient has no list of others; `Empty` where the list is empty;
+/// `Cose` as [`check`](crate::check) says.
 pub fn count_of(alloc: Global, kind: Kind, bytes: &[u8]) -> Result<usize, Refusal>
-    ensures { AnswersNumber kind bytes.now (IsCount kind) result }
+    ensures { AnswersNumber kind bytes.now (IsPositiveCount kind) (HasNoCount kind) result }
 {
     let item = match item_of(alloc, kind, bytes) {
         Ok(item) => item,
@@ -170,7 +171,13 @@ pub fn count_of(alloc: Global, kind: Kind, bytes: &[u8]) -> Result<usize, Refusa
     };
     match members(kind, item) {
         Some(members) => match count_members(members) {
-            Ok(count) => Ok(count),
+            Ok(count) => {
+                if count == 0 {
+                    Err(Refusal::Empty)
+                } else {
+                    Ok(count)
+                }
+            }
             Err(error) => Err(Refusal::Cose(error)),
         },
         None => Err(Refusal::Absent),

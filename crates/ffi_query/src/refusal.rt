@@ -13,6 +13,12 @@ pub enum Refusal {
     Short(usize),
     /// The bytes are of the kind, and what is asked for isn't in them.
     Absent,
+    /// What is asked for is in them, and is of another kind: no string, or no integer of 64 bits.
+    WrongType,
+    /// The list that is counted is empty.
+    Empty,
+    /// A payload is given as detached, and the message carries one.
+    Misuse,
     /// The bytes aren't of the kind, for this fault; or a request for memory was refused.
     Cose(CoseError),
 }
@@ -44,6 +50,12 @@ pub enum Status {
     NotPrivate,
     /// What is asked for isn't there.
     Absent,
+    /// It is there, and of another kind.
+    WrongType,
+    /// The list that is counted is empty.
+    Empty,
+    /// A payload is given as detached, and the message carries one.
+    Misuse,
 }
 
 impl Refusal {
@@ -54,6 +66,9 @@ impl Refusal {
         match self {
             Refusal::Short(_) => Status::Short,
             Refusal::Absent => Status::Absent,
+            Refusal::WrongType => Status::WrongType,
+            Refusal::Empty => Status::Empty,
+            Refusal::Misuse => Status::Misuse,
             Refusal::Cose(error) => cose_status(error),
         }
     }

@@ -7,12 +7,13 @@ ghost use Rattle.coset.specs.CoseError.TheVariants.{OutOfMemory};
 ghost use Rattle.coset.specs.Pulls.{pull_item};
 ghost use Rattle.coset.specs.Shortest.{IsShortest};
 ghost use Rattle.coset.specs.Structure.{structure};
-ghost use Rattle.ffi_query.specs.Answers.{Answers, Finds, IsEncodingOf};
+ghost use Rattle.ffi_query.specs.Answers.{Answers, AnswersOr, Finds, IsEncodingOf};
 ghost use Rattle.ffi_query.specs.Places.{element};
-ghost use Rattle.ffi_query.specs.Structures.{IsRecipientStructure, IsStructure, content_at, content_in, content_structure, encryption_structure, signer_in, signer_structure, structure_of_one, structure_of_three, structure_of_two};
+ghost use Rattle.ffi_query.specs.Structures.{HasNoStructure, IsRecipientStructure, IsStructure, content_at, content_in, content_structure, encryption_structure, is_carried, is_filled, is_given_twice, signer_in, signer_structure, structure_of_one, structure_of_three, structure_of_two};
 
 use crate::item::{bytes_in, element, item_of, member_at};
 use crate::kind::Kind;
+use crate::part::Part;
 use crate::refusal::Refusal;
 use crate::written::write_found;
 use coset::Result;
@@ -296,6 +297,37 @@ pub(crate) fn find_structure(
     }
 }
 
+/// Whether a place holds something else than `nil`.
+fn is_filled(place: Option<Pull<'_>>) -> bool
+    ensures { result ≡ is_filled (option_map pull_item place.entry) }
+{
+    match place {
+        Some(item) => !item.is_null(),
+        None => false,
+    }
+}
+
+/// Whether an item of that kind carries a payload.
+fn is_carried(kind: Kind, item: Pull<'_>) -> bool
+    ensures { result ≡ is_carried kind (pull_item item.entry) }
+{
+    match kind.place_of(Part::Payload) {
+        Some(place) => is_filled(element(item, place)),
+        None => false,
+    }
+}
+
+/// Whether a payload is given of an item of that kind that carries one.
+pub(crate) fn is_given_twice(kind: Kind, detached: Option<&[u8]>, item: Pull<'_>) -> bool
+    ensures { result
+        ≡ is_given_twice kind (option_copied detached.entry) (pull_item item.entry) }
+{
+    match detached {
+        Some(_) => is_carried(kind, item),
+        None => false,
+    }
+}
+
 /// Writes what is signed of a message, what is authenticated, or what goes with the ciphertext to the front of `out`, and
 /// returns its length: the shortest encoding of `Sig_structure`, `MAC_structure` or `Enc_structure`, with the bytes of
 /// protected headers as they were received (RFC 8152, sections 4.4, 5.3 and 6.3).
@@ -305,9 +337,9 @@ pub(crate) fn find_structure(
 /// payload is `nil`, so that it is detached. A structure that goes with a ciphertext has no use for it.
 ///
 /// # Errors
-/// `Short` where `out` has no room for it; `Absent` where items of the kind have no structure, where there are no more than
-/// `index` signers, where the message carries no payload and none is given, and where it carries one and another is given;
-/// `Cose` as [`check`](crate::check) says. `out` is then as it was.
+/// `Short` where `out` has no room for it; `Misuse` where the message carries a payload and another is given; `Absent` where
+/// items of the kind have no structure, where there are no more than `index` signers, and where the message carries no
+/// payload and none is given; `Cose` as [`check`](crate::check) says. `out` is then as it was.
 pub fn structure_of(
     alloc: Global,
     kind: Kind,
@@ -317,17 +349,21 @@ pub fn structure_of(
     detached: Option<&[u8]>,
     out: &mut [u8],
 ) -> Result<usize, Refusal>
-    ensures { Answers kind bytes.now
-        (IsStructure kind index external_aad.now (option_copied detached.entry)) out.old out.new
-        result }
+    ensures { let d = option_copied detached.entry in
+        AnswersOr kind bytes.now (IsStructure kind index external_aad.now d)
+        (HasNoStructure kind index external_aad.now d) out.old out.new result }
 {
-    match item_of(alloc, kind, bytes) {
-        Ok(item) => write_found(
-            find_structure(alloc, kind, item, index, external_aad, detached),
-            out,
-        ),
-        Err(error) => Err(Refusal::Cose(error)),
+    let item = match item_of(alloc, kind, bytes) {
+        Ok(item) => item,
+        Err(error) => return Err(Refusal::Cose(error)),
+    };
+    if is_given_twice(kind, detached, item) {
+        return Err(Refusal::Misuse);
     }
+    write_found(
+        find_structure(alloc, kind, item, index, external_aad, detached),
+        out,
+    )
 }
 
 /// The structure that goes with the ciphertext of a recipient, by what holds it.

@@ -1,19 +1,20 @@
-//! All that verifying a message with one signature takes (RFC 8152, section 4.2), in one call.
+//! All that verifying or decrypting a message takes (RFC 8152, sections 4 to 6), in one call.
 
-ghost use Rattle.std.specs.Prelude.{◌≡◌, ◌++◌, IfOk, IfErr, IfSome};
+ghost use Rattle.std.specs.Prelude.{◌≡◌, ◌++◌, IfOk, IfErr, IfSome, option_map};
 ghost use Rattle.std.specs.Option.{option_copied};
 ghost use Rattle.coset.specs.CoseError.TheVariants.{OutOfMemory};
 ghost use Rattle.coset.specs.Pulls.{pull_item};
 ghost use Rattle.coset.specs.View.{value_item};
 ghost use Rattle.ffi_query.specs.Answers.{AnswersWith, FindsWith, PutsWith};
-ghost use Rattle.ffi_query.specs.View.{HasAlgorithm, IsAlgorithm, IsCarried, IsCritical, IsKeyId, IsSign1View, IsTold};
+ghost use Rattle.ffi_query.specs.View.{HasAlgorithm, HasNoView, IsAlgorithm, IsContent, IsKeyId, IsMessageView, IsTold, bearer, content_part, is_under_tag, kind_of_bearer, proof_in};
 
-use crate::item::{is_under, whole_of, without_tag};
-use crate::kind::{Form, Kind};
+use crate::critical::critical_of;
+use crate::item::{bytes_in, is_under, member_at, whole_of, without_tag};
+use crate::kind::Kind;
 use crate::label::{Label, Map, find_string, find_value, number_in};
 use crate::part::{Part, find_part};
 use crate::refusal::Refusal;
-use crate::structure::find_structure;
+use crate::structure::{find_structure, is_given_twice};
 use crate::written::put;
 use coset::Result;
 use coset::cbor::de::Pull;
@@ -42,23 +43,26 @@ pub enum KeyIdPlace {
     Unprotected,
 }
 
-/// What [`sign1_view`] says of a message with one signature, beside four texts.
+/// What [`message_view`] says of a message, beside four texts.
 #[derive(Clone, Copy, Debug, PartialEq, Eq)]
-pub struct Sign1View {
-    /// The algorithm that the protected header names.
+pub struct MessageView {
+    /// The algorithm that the protected header names: the message's, and of a message with signers the signer's.
     pub algorithm: Algorithm,
-    /// Where the identifier of the key is.
+    /// Where the identifier of the key is, in the headers of the message or of the signer.
     pub key_id_place: KeyIdPlace,
-    /// Whether either header has `crit`, label 2: labels that must be understood (RFC 8152, section 3.1).
+    /// Whether either header has `crit`, label 2: labels that must be understood (RFC 8152, section 3.1). Of a message with
+    /// signers the headers of both count.
     pub has_critical: bool,
-    /// Whether the message is under its tag, 18.
+    /// Whether all of them are among those that the caller understands, and protected; also where there are none.
+    pub is_understood: bool,
+    /// Whether the message is under its tag.
     pub is_tagged: bool,
-    /// How many bytes `Sig_structure` has, the first text.
+    /// How many bytes the structure has, the first text.
     pub structure_len: usize,
-    /// How many bytes the signature has, the second.
-    pub signature_len: usize,
-    /// How many bytes the payload has that the message carries, the third: 0 where it is detached.
-    pub payload_len: usize,
+    /// How many bytes the signature or the tag has, the second: 0 of an encrypted message.
+    pub proof_len: usize,
+    /// How many bytes the payload or the ciphertext has that the message carries, the third: 0 where it is detached.
+    pub content_len: usize,
     /// How many bytes the identifier of the key has, the fourth: 0 where there is none.
     pub key_id_len: usize,
     /// How many bytes the four have together.
@@ -75,7 +79,7 @@ struct KeyId {
 /// A view, and the four texts one behind the other.
 #[derive(Drop)]
 struct Told {
-    view: Sign1View,
+    view: MessageView,
     text: Vec<u8>,
 }
 
@@ -100,23 +104,6 @@ fn find_algorithm(alloc: Global, kind: Kind, item: Pull<'_>) -> Result<Algorithm
     match find_value(alloc, kind, item, Map::Protected, Label::Number(1))? {
         Some(value) => Ok(algorithm_of(&value)),
         None => Ok(Algorithm::Absent),
-    }
-}
-
-/// Whether one of the headers has `crit`.
-///
-/// # Errors
-/// `OutOfMemory` alone.
-fn has_critical(alloc: Global, kind: Kind, item: Pull<'_>) -> Result<bool>
-    ensures critical { IfOk result (IsCritical kind (pull_item item.entry)) }
-    ensures memory { IfErr result (λ e. e ≡ OutOfMemory) }
-{
-    match find_value(alloc, kind, item, Map::Protected, Label::Number(2))? {
-        Some(_) => Ok(true),
-        None => match find_value(alloc, kind, item, Map::Unprotected, Label::Number(2))? {
-            Some(_) => Ok(true),
-            None => Ok(false),
-        },
     }
 }
 
@@ -147,17 +134,72 @@ fn find_key_id(alloc: Global, kind: Kind, item: Pull<'_>) -> Result<KeyId>
     }
 }
 
-/// The payload that the message carries, and nothing where it is detached.
+/// What names the algorithm and the key: the signer of that index, where the message has signers; else the message.
+fn bearer(kind: Kind, item: Pull<'_>, index: usize) -> Option<Pull<'_>>
+    ensures { option_map pull_item result ≡ bearer kind index (pull_item item.entry) }
+{
+    match kind {
+        Kind::Sign(_) => member_at(kind, item, index),
+        _ => Some(item),
+    }
+}
+
+/// The kind of that.
+fn kind_of_bearer(kind: Kind) -> Kind
+    ensures { result ≡ kind_of_bearer kind }
+{
+    match kind {
+        Kind::Sign(_) => Kind::Signature,
+        _ => kind,
+    }
+}
+
+/// The signature or the tag, and nothing where items of the kind have none.
 ///
 /// # Errors
 /// `OutOfMemory` alone.
-fn find_carried(alloc: Global, kind: Kind, item: Pull<'_>) -> Result<Vec<u8>>
-    ensures carried { IfOk result (λ b. IsCarried kind (pull_item item.entry) b.items) }
+fn find_proof(alloc: Global, kind: Kind, item: Pull<'_>) -> Result<Option<Vec<u8>>>
+    ensures proof { IfOk result (λ o. option_map (λ b. b.items) o
+        ≡ proof_in kind (pull_item item.entry)) }
     ensures memory { IfErr result (λ e. e ≡ OutOfMemory) }
 {
-    match find_part(alloc, kind, item, Part::Payload)? {
-        Some(payload) => Ok(payload),
+    match kind.place_of(Part::Proof) {
+        Some(place) => bytes_in(alloc, item, place),
+        None => Ok(Some(Vec::new(alloc))),
+    }
+}
+
+/// The part that is a message's content.
+fn content_part(kind: Kind) -> Part
+    ensures { result ≡ content_part kind }
+{
+    match kind {
+        Kind::Encrypt0(_) | Kind::Encrypt(_) => Part::Ciphertext,
+        _ => Part::Payload,
+    }
+}
+
+/// The payload or the ciphertext that the message carries, and nothing where it is detached.
+///
+/// # Errors
+/// `OutOfMemory` alone.
+fn find_content(alloc: Global, kind: Kind, item: Pull<'_>) -> Result<Vec<u8>>
+    ensures content { IfOk result (λ b. IsContent kind (pull_item item.entry) b.items) }
+    ensures memory { IfErr result (λ e. e ≡ OutOfMemory) }
+{
+    match find_part(alloc, kind, item, content_part(kind))? {
+        Some(content) => Ok(content),
         None => Ok(Vec::new(alloc)),
+    }
+}
+
+/// Whether the item is under the tag of that kind.
+fn is_under_tag(kind: Kind, whole: Pull<'_>) -> bool
+    ensures { result ≡ is_under_tag kind (pull_item whole.entry) }
+{
+    match kind.tag() {
+        Some(number) => is_under(number, whole),
+        None => false,
     }
 }
 
@@ -168,23 +210,23 @@ fn find_carried(alloc: Global, kind: Kind, item: Pull<'_>) -> Result<Vec<u8>>
 fn joined(
     alloc: Global,
     signed: &[u8],
-    signature: &[u8],
-    payload: &[u8],
+    proof: &[u8],
+    content: &[u8],
     key_id: &[u8],
 ) -> Result<Vec<u8>>
     ensures text { IfOk result (λ b. b.items
-        ≡ signed.now ++ (signature.now ++ (payload.now ++ key_id.now))) }
+        ≡ signed.now ++ (proof.now ++ (content.now ++ key_id.now))) }
     ensures memory { IfErr result (λ e. e ≡ OutOfMemory) }
 {
     let room = signed
         .len()
-        .saturating_add(signature.len())
-        .saturating_add(payload.len())
+        .saturating_add(proof.len())
+        .saturating_add(content.len())
         .saturating_add(key_id.len());
     let mut text = Vec::with_capacity(alloc, room)?;
     text.extend_from_slice(signed)?;
-    text.extend_from_slice(signature)?;
-    text.extend_from_slice(payload)?;
+    text.extend_from_slice(proof)?;
+    text.extend_from_slice(content)?;
     text.extend_from_slice(key_id)?;
     Ok(text)
 }
@@ -197,34 +239,40 @@ fn find_told(
     alloc: Global,
     kind: Kind,
     item: Pull<'_>,
+    index: usize,
     external_aad: &[u8],
     detached: Option<&[u8]>,
+    known: &[i64],
     is_tagged: bool,
 ) -> Result<Option<Told>>
-    ensures told { IfOk result (FindsWith (λ x. x.view) (λ x. x.text.items) (IsTold kind
-        external_aad.now (option_copied detached.entry) (pull_item item.entry))) }
+    ensures told { IfOk result (FindsWith (λ x. x.view) (λ x. x.text.items) (IsTold kind index
+        external_aad.now (option_copied detached.entry) known.now (pull_item item.entry))) }
     ensures tag { IfOk result (λ o. IfSome o (λ x. x.view.is_tagged ≡ is_tagged)) }
     ensures memory { IfErr result (λ e. e ≡ OutOfMemory) }
 {
-    let Some(signed) = find_structure(alloc, kind, item, 0, external_aad, detached)? else {
+    let Some(signed) = find_structure(alloc, kind, item, index, external_aad, detached)? else {
         return Ok(None);
     };
-    let Some(signature) = find_part(alloc, kind, item, Part::Proof)? else {
+    let Some(bearer) = bearer(kind, item, index) else {
         return Ok(None);
     };
-    let payload = find_carried(alloc, kind, item)?;
-    let key_id = find_key_id(alloc, kind, item)?;
-    let text = joined(alloc, &signed, &signature, &payload, &key_id.bytes)?;
-    let algorithm = find_algorithm(alloc, kind, item)?;
-    let has_critical = has_critical(alloc, kind, item)?;
-    let view = Sign1View {
-        algorithm,
+    let named = kind_of_bearer(kind);
+    let Some(proof) = find_proof(alloc, named, bearer)? else {
+        return Ok(None);
+    };
+    let content = find_content(alloc, kind, item)?;
+    let key_id = find_key_id(alloc, named, bearer)?;
+    let text = joined(alloc, &signed, &proof, &content, &key_id.bytes)?;
+    let critical = critical_of(alloc, kind, item, bearer, known)?;
+    let view = MessageView {
+        algorithm: find_algorithm(alloc, named, bearer)?,
         key_id_place: key_id.place,
-        has_critical,
+        has_critical: critical.is_there,
+        is_understood: critical.is_understood,
         is_tagged,
         structure_len: signed.len(),
-        signature_len: signature.len(),
-        payload_len: payload.len(),
+        proof_len: proof.len(),
+        content_len: content.len(),
         key_id_len: key_id.bytes.len(),
         len: text.len(),
     };
@@ -235,7 +283,7 @@ fn find_told(
 ///
 /// # Errors
 /// `Short` where `out` has no room for them: it is then as it was.
-fn put_told(told: Told, out: &mut [u8]) -> Result<Sign1View, Refusal>
+fn put_told(told: Told, out: &mut [u8]) -> Result<MessageView, Refusal>
     ensures { PutsWith told.view told.text.items out.old out.new result }
 {
     match put(&told.text, out) {
@@ -244,47 +292,59 @@ fn put_told(told: Told, out: &mut [u8]) -> Result<Sign1View, Refusal>
     }
 }
 
-/// Writes all that verifying a message with one signature takes, a [`Kind::Sign1`] in that form: writes four texts to the
-/// front of `out`, one behind the other, and returns their lengths, with the algorithm, where the key's identifier is,
-/// whether there is `crit`, and whether the message is under its tag. The texts are what is signed (`Sig_structure`, RFC
-/// 8152, section 4.4, with the bytes of the protected header as they were received); the signature; the payload that the
-/// message carries, which is the one that is signed; and the identifier of the key.
+/// Writes all that verifying or decrypting a message of that kind takes: writes four texts to the front of `out`, one behind
+/// the other, and returns their lengths, with the algorithm, where the key's identifier is, what there is of `crit`, and
+/// whether the message is under its tag. The texts are what is signed, authenticated, or goes with the ciphertext, as
+/// [`structure_of`](crate::structure_of) writes it; the signature or the tag, and nothing of an encrypted message; the
+/// payload or the ciphertext that the message carries; and the identifier of the key. Of a [`Kind::Sign`] the signer of that
+/// index, counted from 0, has signed, and names the algorithm and the key; other kinds have no use for `index`.
 ///
-/// What is signed is over the payload that the message carries, where `detached` is `None`; and over `detached`, where the
-/// payload is `nil`, so that it is detached: the third text is then empty.
+/// What is signed or authenticated is over the payload that the message carries, where `detached` is `None`; and over
+/// `detached`, where the payload is `nil`, so that it is detached: the third text is then empty.
 ///
-/// The signature is of the key that you trust, and by the algorithm that you allow for it: the message only names them. A
-/// message that has `crit` names labels that you must understand; refuse it unless you do.
+/// The key is one that you trust, and the algorithm one that you allow for it: the message only names them. `known` are the
+/// critical labels that you understand. Refuse a message that names others.
 ///
 /// # Errors
-/// `Short` where `out` has no room for the four, with the length that they have together; `Absent` where the message carries
-/// no payload and none is given, and where it carries one and another is given; `Cose` as [`check`](crate::check) says.
-/// `out` is then as it was.
-pub fn sign1_view(
+/// `Short` where `out` has no room for the four, with the length that they have together; `Misuse` where the message carries
+/// a payload and another is given; `Absent` where items of the kind have no structure, where there are no more than `index`
+/// signers, and where the message carries no payload and none is given; `Cose` as [`check`](crate::check) says. `out` is then
+/// as it was.
+pub fn message_view(
     alloc: Global,
-    form: Form,
+    kind: Kind,
     bytes: &[u8],
+    index: usize,
     external_aad: &[u8],
     detached: Option<&[u8]>,
+    known: &[i64],
     out: &mut [u8],
-) -> Result<Sign1View, Refusal>
-    ensures { AnswersWith (Kind.Sign1 form) bytes.now (IsSign1View form bytes.now external_aad.now
-        (option_copied detached.entry)) out.old out.new result }
+) -> Result<MessageView, Refusal>
+    ensures { let d = option_copied detached.entry in
+        AnswersWith kind bytes.now
+        (IsMessageView kind index external_aad.now d known.now bytes.now)
+        (HasNoView kind index external_aad.now d) out.old out.new result }
 {
-    let kind = Kind::Sign1(form);
     let whole = match whole_of(alloc, kind, bytes) {
         Ok(whole) => whole,
         Err(error) => return Err(Refusal::Cose(error)),
     };
-    let item = without_tag(Some(18), whole);
-    match find_told(
+    let item = without_tag(kind.tag(), whole);
+    if is_given_twice(kind, detached, item) {
+        return Err(Refusal::Misuse);
+    }
+    let is_tagged = is_under_tag(kind, whole);
+    let told = find_told(
         alloc,
         kind,
         item,
+        index,
         external_aad,
         detached,
-        is_under(18, whole),
-    ) {
+        known,
+        is_tagged,
+    );
+    match told {
         Ok(Some(told)) => put_told(told, out),
         Ok(None) => Err(Refusal::Absent),
         Err(error) => Err(Refusal::Cose(error)),

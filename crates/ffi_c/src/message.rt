@@ -1,0 +1,157 @@
+//! All that verifying or decrypting a message takes, in one call, by the labels that the caller understands.
+
+ghost use Rattle.std.specs.Prelude.{◌≡◌, MatchOption};
+ghost use Rattle.ffi_query.specs.Answers.{AnswersWith};
+ghost use Rattle.ffi_query.specs.View.{HasNoView, IsMessageView};
+ghost use Rattle.ffi_c.specs.Numbers.{bytes_if, content_query};
+ghost use Rattle.ffi_c.specs.Replies.{IsMisuse, reply_status, length_of};
+ghost use Rattle.ffi_c.specs.Views.{RepliesMessage, critical_number, length_told, message_of, message_told, no_message};
+
+use crate::numbers::{bytes_if, content_query};
+use crate::replies::{misused, reply};
+use crate::sign1::{COSET_NONE, algorithm_numbers, length_told, number_of_bool, number_of_map};
+use ffi_query::{MessageView, Refusal, message_view};
+use std::alloc::Global;
+
+/// Labels that must be understood, and are.
+const COSET_UNDERSTOOD: u32 = 1;
+/// Labels that must be understood, one of which isn't, or isn't protected.
+const COSET_NOT_UNDERSTOOD: u32 = 2;
+
+/// What `coset_message` says in numbers: `coset_message_view` of `include/coset.h`.
+#[repr(C)]
+#[derive(Clone, Copy)]
+pub struct Message {
+    /// The number of the algorithm that the protected header names, where the form is `COSET_INT`, else 0.
+    pub algorithm: i64,
+    /// `COSET_NONE`, `COSET_INT` or `COSET_TEXT`.
+    pub algorithm_form: u32,
+    /// `COSET_IN_PROTECTED` or `COSET_IN_UNPROTECTED`, where the key's identifier is, else 0.
+    pub key_id_map: u32,
+    /// `COSET_NONE`, `COSET_UNDERSTOOD` or `COSET_NOT_UNDERSTOOD`: what there is of `crit`.
+    pub critical: u32,
+    /// 1 where the message is under its tag, else 0.
+    pub is_tagged: u32,
+    /// How many bytes the structure has.
+    pub structure_len: usize,
+    /// How many bytes the signature or the tag has.
+    pub proof_len: usize,
+    /// How many bytes the payload or the ciphertext has that the message carries.
+    pub content_len: usize,
+    /// How many bytes the key's identifier has.
+    pub key_id_len: usize,
+}
+
+/// The number of what there is of labels that must be understood.
+fn critical_number(has_critical: bool, is_understood: bool) -> u32
+    ensures { result ≡ critical_number has_critical is_understood }
+{
+    match (has_critical, is_understood) {
+        (false, _) => COSET_NONE,
+        (true, true) => COSET_UNDERSTOOD,
+        (true, false) => COSET_NOT_UNDERSTOOD,
+    }
+}
+
+/// A view in numbers.
+fn message_told(told: MessageView) -> Message
+    ensures { result ≡ message_told told }
+{
+    let (algorithm, algorithm_form) = algorithm_numbers(told.algorithm);
+    Message {
+        algorithm,
+        algorithm_form,
+        key_id_map: number_of_map(told.key_id_place),
+        critical: critical_number(told.has_critical, told.is_understood),
+        is_tagged: number_of_bool(told.is_tagged),
+        structure_len: told.structure_len,
+        proof_len: told.proof_len,
+        content_len: told.content_len,
+        key_id_len: told.key_id_len,
+    }
+}
+
+/// What is in the caller's struct where nothing is returned.
+fn no_message() -> Message
+    ensures { result ≡ no_message }
+{
+    Message {
+        algorithm: 0,
+        algorithm_form: COSET_NONE,
+        key_id_map: COSET_NONE,
+        critical: COSET_NONE,
+        is_tagged: 0,
+        structure_len: 0,
+        proof_len: 0,
+        content_len: 0,
+        key_id_len: 0,
+    }
+}
+
+/// What is there after an answer: the view, and else nothing but zeros.
+fn message_of(answer: &Result<MessageView, Refusal>) -> Message
+    ensures { result ≡ message_of answer.now }
+{
+    match answer {
+        Ok(told) => message_told(*told),
+        Err(_) => no_message(),
+    }
+}
+
+/// The status of an answer that is a view, which is in the struct afterwards, and else nothing but zeros; how long the
+/// texts are, as [`reply`] says, is in the other place.
+fn reply_message(answer: Result<MessageView, Refusal>, len: &mut usize, view: &mut Message) -> i32
+    ensures status { result ≡ reply_status answer }
+    ensures number { len.new ≡ length_of (length_told answer) }
+    ensures told { view.new ≡ message_of answer }
+{
+    *view = message_of(&answer);
+    reply(length_told(answer), len)
+}
+
+/// Writes what is signed of the input, is authenticated, or goes with its ciphertext; the signature or the tag; the payload
+/// or the ciphertext that it carries; and the identifier of the key, one behind the other, and says the rest in `view`.
+/// `detached` is the payload where `has_detached` isn't 0, and else it is empty. `known` are the critical labels that the
+/// caller understands.
+#[unsafe(no_mangle)]
+pub extern "C" fn coset_message(
+    alloc: Global,
+    kind: u32,
+    input: &[u8],
+    index: usize,
+    external_aad: &[u8],
+    has_detached: u32,
+    detached: &[u8],
+    known: &[i64],
+    out: &mut [u8],
+    len: &mut usize,
+    view: &mut Message,
+) -> i32
+    ensures { let d = bytes_if has_detached detached.now in
+        MatchOption (content_query kind has_detached detached.now)
+        (IsMisuse result len.new 0 × (view.new ≡ no_message) × (out.new ≡ out.old))
+        (λ k. RepliesMessage (AnswersWith k input.now
+        (IsMessageView k index external_aad.now d known.now input.now)
+        (HasNoView k index external_aad.now d) out.old out.new) result len.new view.new) }
+{
+    match content_query(kind, has_detached, detached) {
+        Some(kind) => {
+            let detached = bytes_if(has_detached, detached);
+            let told = message_view(
+                alloc,
+                kind,
+                input,
+                index,
+                external_aad,
+                detached,
+                known,
+                out,
+            );
+            reply_message(told, len, view)
+        }
+        None => {
+            *view = no_message();
+            misused(0, len)
+        }
+    }
+}
