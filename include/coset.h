@@ -71,6 +71,7 @@ enum {
   COSET_KEY = 10,      /* COSE_Key (section 7) */
   COSET_KEY_SET = 11,  /* COSE_KeySet (section 7) */
   COSET_CLAIMS = 12,   /* the claims of a web token (RFC 8392, section 3) */
+  COSET_ITEM = 13,     /* any item of CBOR, as the value of a label; its labels may repeat */
   COSET_TAGGED = 0x100, /* added to a message's kind, one of the first six: under its tag */
   COSET_EITHER = 0x200  /* added to a message's kind: under its tag or plain */
 };
@@ -87,7 +88,7 @@ enum {
 enum {
   COSET_IN_PROTECTED = 1,   /* the protected header of a message, a signature or a recipient */
   COSET_IN_UNPROTECTED = 2, /* its unprotected header */
-  COSET_IN_ITEM = 3         /* the item itself: of COSET_HEADER, COSET_KEY and COSET_CLAIMS */
+  COSET_IN_ITEM = 3         /* the item itself: of COSET_HEADER, COSET_KEY, COSET_CLAIMS and COSET_ITEM */
 };
 
 /* Forms in which a message names its algorithm. */
@@ -116,8 +117,8 @@ enum {
 COSET_CALL(4)
 coset_status coset_check(uint32_t kind, const uint8_t *in, size_t in_len, size_t *offset);
 
-/* How many signatures a COSET_SIGN has, recipients a COSET_MAC, COSET_ENCRYPT or COSET_RECIPIENT, or keys a COSET_KEY_SET: one
- * at least. Also: COSET_ABSENT, COSET_EMPTY. */
+/* How many signatures a COSET_SIGN has, recipients a COSET_MAC, COSET_ENCRYPT or COSET_RECIPIENT, keys a COSET_KEY_SET, or
+ * elements a COSET_ITEM that is an array: one at least. Also: COSET_ABSENT, COSET_EMPTY. */
 COSET_CALL(4)
 coset_status coset_count(uint32_t kind, const uint8_t *in, size_t in_len, size_t *count);
 
@@ -126,7 +127,7 @@ COSET_CALL(7)
 coset_status coset_part(uint32_t kind, const uint8_t *in, size_t in_len, uint32_t part, uint8_t *out, size_t cap, size_t *len);
 
 /* The signature, recipient or key of that index, counted from 0, in its shortest encoding: a COSET_SIGNATURE,
- * COSET_RECIPIENT or COSET_KEY. Also: COSET_SHORT, COSET_ABSENT. */
+ * COSET_RECIPIENT or COSET_KEY; or the element of a COSET_ITEM that is an array. Also: COSET_SHORT, COSET_ABSENT. */
 COSET_CALL(7)
 coset_status coset_member(uint32_t kind, const uint8_t *in, size_t in_len, size_t index, uint8_t *out, size_t cap,
                           size_t *len);
@@ -147,6 +148,21 @@ coset_status coset_label_int(uint32_t kind, const uint8_t *in, size_t in_len, ui
 COSET_CALL(9)
 coset_status coset_text_label(uint32_t kind, const uint8_t *in, size_t in_len, uint32_t map, const uint8_t *label,
                               size_t label_len, uint8_t *out, size_t cap, size_t *len);
+
+/* The label, and the value, of the pair of that index, counted from 0, of a map: a COSET_HEADER, COSET_KEY, COSET_CLAIMS or
+ * COSET_ITEM, each in its shortest encoding. Also: COSET_SHORT; COSET_ABSENT where there are no more pairs. */
+COSET_CALL(7)
+coset_status coset_label_at(uint32_t kind, const uint8_t *in, size_t in_len, size_t index, uint8_t *out, size_t cap,
+                            size_t *len);
+COSET_CALL(7)
+coset_status coset_value_at(uint32_t kind, const uint8_t *in, size_t in_len, size_t index, uint8_t *out, size_t cap,
+                            size_t *len);
+
+/* The first key of the COSET_KEY_SET whose identifier, label 2, is this, in its shortest encoding: others may have the same.
+ * Also: COSET_SHORT, COSET_ABSENT. */
+COSET_CALL(7)
+coset_status coset_key_of(const uint8_t *in, size_t in_len, const uint8_t *key_id, size_t key_id_len, uint8_t *out, size_t cap,
+                          size_t *len);
 
 /* What is signed (of a COSET_SIGN by the signer of that index), authenticated, or goes with the ciphertext: Sig_structure,
  * MAC_structure or Enc_structure. Where has_detached is 0, the payload is the one that the message carries, and detached_len
@@ -253,8 +269,8 @@ coset_status coset_make(uint32_t kind, const uint8_t *prot, size_t prot_len, con
                         uint32_t has_content, const uint8_t *content, size_t content_len, const uint8_t *proof,
                         size_t proof_len, uint8_t *out, size_t cap, size_t *len);
 
-/* The item with one signature, recipient or key more, behind the others. A COSET_KEY_SET may begin with nothing. All
- * else of the item stays. */
+/* The item with one signature, recipient, key or element more, behind the others. A COSET_KEY_SET, or a COSET_ITEM that is an
+ * array, may begin with nothing. All else of the item stays. */
 COSET_CALL(8)
 coset_status coset_add(uint32_t kind, const uint8_t *in, size_t in_len, const uint8_t *member, size_t member_len, uint8_t *out,
                        size_t cap, size_t *len);

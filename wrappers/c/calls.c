@@ -1,6 +1,7 @@
 /* Makes the calls that it reads, one a line, and tells what each answered (tools/c).
  *
  *   check KIND IN | count KIND IN | part KIND IN CAP PART | member KIND IN CAP INDEX | label KIND IN CAP MAP LABEL
+ *   label_at KIND IN CAP INDEX | value_at KIND IN CAP INDEX | key_of 11 IN CAP KID
  *   label_bytes KIND IN CAP MAP LABEL | label_int KIND IN MAP LABEL | text_label KIND IN CAP MAP LABEL
  *   structure KIND IN CAP INDEX AAD HAS DETACHED | recipient_structure HOLDER IN CAP AAD
  *   sign1 KIND IN CAP AAD HAS DETACHED | message KIND IN CAP INDEX AAD HAS DETACHED KNOWN
@@ -252,6 +253,12 @@ int main(void) {
     if (!strcmp(call, "count")) status = coset_count(kind, in.at, in.len, &len);
     if (!strcmp(call, "part")) status = coset_part(kind, in.at, in.len, w4, out, cap, &len);
     if (!strcmp(call, "member")) status = coset_member(kind, in.at, in.len, strtoul(word[4], NULL, 0), out, cap, &len);
+    if (!strcmp(call, "label_at")) status = coset_label_at(kind, in.at, in.len, strtoul(word[4], NULL, 0), out, cap, &len);
+    if (!strcmp(call, "value_at")) status = coset_value_at(kind, in.at, in.len, strtoul(word[4], NULL, 0), out, cap, &len);
+    if (!strcmp(call, "key_of")) {
+      extra = spelled(word[4]);
+      status = coset_key_of(in.at, in.len, extra.at, extra.len, out, cap, &len);
+    }
     if (!strcmp(call, "label")) status = coset_label(kind, in.at, in.len, w4, label, out, cap, &len);
     if (!strcmp(call, "label_bytes")) status = coset_label_bytes(kind, in.at, in.len, w4, label, out, cap, &len);
     if (!strcmp(call, "label_int"))

@@ -99,6 +99,12 @@ def answer(name, kind, given="-", *words):
         return coset.member(kind, given, int(words[1])).hex()
     if name == "label":
         return coset.label(kind, given, int(words[1]), int(words[2])).hex()
+    if name == "label_at":
+        return coset.label_at(kind, given, int(words[1])).hex()
+    if name == "value_at":
+        return coset.value_at(kind, given, int(words[1])).hex()
+    if name == "key_of":
+        return coset.key_of(given, data(words[1])).hex()
     if name == "label_bytes":
         return coset.label_bytes(kind, given, int(words[1]), int(words[2])).hex()
     if name == "label_int":

@@ -15,12 +15,12 @@ class Kind(enum.IntEnum):
     """What bytes should be an item of. A message, one of the first six, is plain, or under its tag (TAGGED is added to the kind),
     or either is taken (EITHER is added): SIGN1 + EITHER is Kind.SIGN1_EITHER."""
 
-    SIGN1, SIGN, MAC0, MAC, ENCRYPT0, ENCRYPT, SIGNATURE, RECIPIENT, HEADER, KEY, KEY_SET, CLAIMS = range(1, 13)
+    SIGN1, SIGN, MAC0, MAC, ENCRYPT0, ENCRYPT, SIGNATURE, RECIPIENT, HEADER, KEY, KEY_SET, CLAIMS, ITEM = range(1, 14)
     SIGN1_TAGGED, SIGN_TAGGED, MAC0_TAGGED, MAC_TAGGED, ENCRYPT0_TAGGED, ENCRYPT_TAGGED = range(0x101, 0x107)
     SIGN1_EITHER, SIGN_EITHER, MAC0_EITHER, MAC_EITHER, ENCRYPT0_EITHER, ENCRYPT_EITHER = range(0x201, 0x207)
 
 
-SIGN1, SIGN, MAC0, MAC, ENCRYPT0, ENCRYPT, SIGNATURE, RECIPIENT, HEADER, KEY, KEY_SET, CLAIMS = map(Kind, range(1, 13))
+SIGN1, SIGN, MAC0, MAC, ENCRYPT0, ENCRYPT, SIGNATURE, RECIPIENT, HEADER, KEY, KEY_SET, CLAIMS, ITEM = map(Kind, range(1, 14))
 TAGGED, EITHER = 0x100, 0x200  # added to a message's kind, one of the first six
 PROTECTED, PAYLOAD, CIPHERTEXT, PROOF = range(1, 5)
 IN_PROTECTED, IN_UNPROTECTED, IN_ITEM = range(1, 4)
@@ -160,6 +160,8 @@ def _declare():
         "label_bytes": [number, integer] + to,
         "label_int": [number, integer, ctypes.POINTER(integer)],
         "text_label": [number, at, size] + to,
+        "label_at": [size] + to,
+        "value_at": [size] + to,
         "structure": [size, at, size, number, at, size] + to,
         "recipient_structure": [at, size] + to,
         "sign1": [at, size, number, at, size] + to + [ctypes.POINTER(_View)],
@@ -179,6 +181,7 @@ def _declare():
     for name, arguments in calls.items():
         call = getattr(_library, "coset_" + name)
         call.argtypes, call.restype = given + arguments, ctypes.c_int32
+    _library.coset_key_of.argtypes, _library.coset_key_of.restype = [at, size, at, size] + to, ctypes.c_int32
     _library.coset_version.argtypes, _library.coset_version.restype = [], at
     _library.coset_status_text.argtypes, _library.coset_status_text.restype = [ctypes.c_int32], at
 
@@ -298,6 +301,21 @@ def label_int(kind, data, which, name):
     value = ctypes.c_int64()
     _raise(_library.coset_label_int(_kind(kind), *_bytes(data), _number(which), _int64(name), ctypes.byref(value)))
     return value.value
+
+
+def label_at(kind, data, index):
+    """The label of the pair of that index of a map, in its shortest encoding."""
+    return _written(_library.coset_label_at, _kind(kind), *_bytes(data), _size(index))
+
+
+def value_at(kind, data, index):
+    """The value of the pair of that index of a map, in its shortest encoding."""
+    return _written(_library.coset_value_at, _kind(kind), *_bytes(data), _size(index))
+
+
+def key_of(data, key_id):
+    """The first key of a set that has that identifier, in its shortest encoding."""
+    return _written(_library.coset_key_of, *_bytes(data), *_bytes(key_id))
 
 
 def structure(kind, data, index=0, external_aad=b"", detached=None):

@@ -30,6 +30,7 @@ fn kind(word: &str) -> Kind {
         9 => Kind::Header,
         10 => Kind::Key,
         11 => Kind::KeySet,
+        13 => Kind::Item,
         _ => Kind::Claims,
     }
 }
@@ -177,6 +178,9 @@ fn answer(w: &[&str]) -> Result<String, Error> {
         "part" => hex(&coset::part(k, &input, part(w[4]))?),
         "member" => hex(&coset::member(k, &input, w[4].parse().unwrap())?),
         "label" => hex(&coset::label(k, &input, map(w[4]), w[5].parse().unwrap())?),
+        "label_at" => hex(&coset::label_at(k, &input, w[4].parse().unwrap())?),
+        "value_at" => hex(&coset::value_at(k, &input, w[4].parse().unwrap())?),
+        "key_of" => hex(&coset::key_of(&input, &bytes(w[4]))?),
         "label_bytes" => hex(&coset::label_bytes(k, &input, map(w[4]), w[5].parse().unwrap())?),
         "label_int" => coset::label_int(k, &input, map(w[3]), w[4].parse().unwrap())?.to_string(),
         "text_label" => hex(&coset::text_label(k, &input, map(w[4]), &String::from_utf8(bytes(w[5])).unwrap())?),

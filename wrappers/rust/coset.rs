@@ -26,6 +26,8 @@ pub enum Kind {
     Key,
     KeySet,
     Claims,
+    /// Any item of CBOR.
+    Item,
 }
 
 /// A part of an item.
@@ -262,6 +264,9 @@ mod c {
         pub fn coset_label_bytes(kind: u32, input: *const u8, input_len: usize, map: u32, label: i64, out: *mut u8, cap: usize, len: *mut usize) -> i32;
         pub fn coset_label_int(kind: u32, input: *const u8, input_len: usize, map: u32, label: i64, value: *mut i64) -> i32;
         pub fn coset_text_label(kind: u32, input: *const u8, input_len: usize, map: u32, label: *const u8, label_len: usize, out: *mut u8, cap: usize, len: *mut usize) -> i32;
+        pub fn coset_label_at(kind: u32, input: *const u8, input_len: usize, index: usize, out: *mut u8, cap: usize, len: *mut usize) -> i32;
+        pub fn coset_value_at(kind: u32, input: *const u8, input_len: usize, index: usize, out: *mut u8, cap: usize, len: *mut usize) -> i32;
+        pub fn coset_key_of(input: *const u8, input_len: usize, key_id: *const u8, key_id_len: usize, out: *mut u8, cap: usize, len: *mut usize) -> i32;
         pub fn coset_structure(kind: u32, input: *const u8, input_len: usize, index: usize, external_aad: *const u8, external_aad_len: usize, has_detached: u32, detached: *const u8, detached_len: usize, out: *mut u8, cap: usize, len: *mut usize) -> i32;
         pub fn coset_recipient_structure(holder: u32, input: *const u8, input_len: usize, external_aad: *const u8, external_aad_len: usize, out: *mut u8, cap: usize, len: *mut usize) -> i32;
         pub fn coset_sign1(kind: u32, input: *const u8, input_len: usize, external_aad: *const u8, external_aad_len: usize, has_detached: u32, detached: *const u8, detached_len: usize, out: *mut u8, cap: usize, len: *mut usize, view: *mut View) -> i32;
@@ -299,6 +304,7 @@ impl Kind {
             Kind::Key => 10,
             Kind::KeySet => 11,
             Kind::Claims => 12,
+            Kind::Item => 13,
         }
     }
 }
@@ -391,6 +397,21 @@ pub fn text_label(kind: Kind, bytes: &[u8], map: Map, label: &str) -> Result<Vec
     written(|out, cap, len| unsafe {
         c::coset_text_label(kind.number(), bytes.as_ptr(), bytes.len(), map as u32, label.as_ptr(), label.len(), out, cap, len)
     })
+}
+
+/// The label of the pair of that index of a map, in its shortest encoding.
+pub fn label_at(kind: Kind, bytes: &[u8], index: usize) -> Result<Vec<u8>, Error> {
+    written(|out, cap, len| unsafe { c::coset_label_at(kind.number(), bytes.as_ptr(), bytes.len(), index, out, cap, len) })
+}
+
+/// The value of the pair of that index of a map, in its shortest encoding.
+pub fn value_at(kind: Kind, bytes: &[u8], index: usize) -> Result<Vec<u8>, Error> {
+    written(|out, cap, len| unsafe { c::coset_value_at(kind.number(), bytes.as_ptr(), bytes.len(), index, out, cap, len) })
+}
+
+/// The first key of a set that has that identifier, in its shortest encoding.
+pub fn key_of(set: &[u8], key_id: &[u8]) -> Result<Vec<u8>, Error> {
+    written(|out, cap, len| unsafe { c::coset_key_of(set.as_ptr(), set.len(), key_id.as_ptr(), key_id.len(), out, cap, len) })
 }
 
 /// What is signed (by the signer of that index), authenticated, or goes with the ciphertext: over the payload that the message

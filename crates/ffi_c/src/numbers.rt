@@ -31,6 +31,8 @@ const COSET_KEY_SET: u32 = 11;
 
 const COSET_CLAIMS: u32 = 12;
 
+const COSET_ITEM: u32 = 13;
+
 /// Added to a message's number: under its tag.
 const COSET_TAGGED: u32 = 0x100;
 /// Added to a message's number: under its tag or plain.
@@ -92,6 +94,7 @@ fn other_of(number: u32) -> Option<Kind>
         COSET_KEY => Some(Kind::Key),
         COSET_KEY_SET => Some(Kind::KeySet),
         COSET_CLAIMS => Some(Kind::Claims),
+        COSET_ITEM => Some(Kind::Any),
         _ => None,
     }
 }

@@ -5,7 +5,7 @@ use Rattle.coset.specs.Grammar.{IsItem}
 use Rattle.coset.specs.Answers.{IsWholeFault}
 use Rattle.coset.specs.CoseError.{CoseError}
 use Rattle.ffi_query.specs.declared.kind.Kind as kinds
-use Rattle.ffi_query.specs.declared.kind.Kind.TheVariants.{Sign, Mac, Encrypt, Recipient, KeySet}
+use Rattle.ffi_query.specs.declared.kind.Kind.TheVariants.{Sign, Mac, Encrypt, Recipient, KeySet, Any}
 use Rattle.ffi_query.specs.declared.refusal.Refusal as refusals
 use Rattle.ffi_make.specs.Given.{AnyFaults, IsAny}
 use Rattle.ffi_make.specs.Makes.{MakesOf}
@@ -24,10 +24,11 @@ in_last f no_items = None
 in_last f (item v no_items) = f v
 in_last f (item v (item w ws)) = option_map (item v) (in_last f (item w ws))
 
--- the places of an item of that kind with one element more, where it has a list of them: a set is one; it is the last place of
+-- the places of an item of that kind with one element more, where it has a list of them: a set is one, and any array; it is the last place of
 -- the others (RFC 8152, sections 4.1, 5.1, 6.1 and 7)
 abbrev pub places_with : kinds.Kind → Item → Items → Option Items
 places_with KeySet m vs = Some (and_item vs m)
+places_with Any m vs = Some (and_item vs m)
 places_with Recipient m vs = in_last (member_in true m) vs
 places_with (Sign f) m vs = in_last (member_in false m) vs
 places_with (Mac f) m vs = in_last (member_in false m) vs

@@ -96,7 +96,7 @@ fn places_with(
     ensures memory { IfErr result (λ e. e ≡ OutOfMemory) }
 {
     match kind {
-        Kind::KeySet => Ok(Some(and_value(places, member)?)),
+        Kind::KeySet | Kind::Any => Ok(Some(and_value(places, member)?)),
         Kind::Recipient => in_last(alloc, places, member, true),
         Kind::Sign(_) | Kind::Mac(_) | Kind::Encrypt(_) => in_last(alloc, places, member, false),
         _ => Ok(None),
@@ -143,7 +143,7 @@ fn within_tag(alloc: Global, kind: Kind, value: Value, member: Value) -> Result<
 
 /// Puts one signature, recipient or key behind those that the item has, writes its shortest encoding to the front of `out`,
 /// and returns the length of that. What was signed, authenticated or goes with a ciphertext stays. A set of keys may begin
-/// with no bytes; a recipient that has no list of others begins one.
+/// with no bytes, and so may any array, of a [`Kind::Any`]; a recipient that has no list of others begins one.
 ///
 /// # Errors
 /// `Short` where `out` has no room for it; `Absent` where items of the kind have no such list; `Cose` where the bytes of

@@ -5,7 +5,7 @@ use Rattle.coset.specs.Grammar.{IsItem}
 use Rattle.coset.specs.CoseError.{CoseError}
 use Rattle.coset.specs.Answers.{Describes, DescribesNothing, IsOnlyItem, SliceFaults}
 use Rattle.coset.specs.Errors.{UnlessMemory}
-use Rattle.coset.specs.Shape.{Shape, tagged}
+use Rattle.coset.specs.Shape.{Shape, any, tagged}
 use Rattle.coset.specs.PerhapsTagged.{perhaps_tagged, untagged}
 use Rattle.coset.specs.Headers.{HeaderView, SignatureView, header, signature}
 use Rattle.coset.specs.Sign1.{Sign1View, sign1}
@@ -20,7 +20,7 @@ use Rattle.coset.specs.Claims.{ClaimsView, claims}
 use Rattle.ffi_query.specs.declared.kind.Form as forms
 use Rattle.ffi_query.specs.declared.kind.Form.TheVariants.{Plain, Tagged, Either}
 use Rattle.ffi_query.specs.declared.kind.Kind as kinds
-use Rattle.ffi_query.specs.declared.kind.Kind.TheVariants.{Sign1, Sign, Mac0, Mac, Encrypt0, Encrypt, Signature, Recipient, Header, Key, KeySet, Claims}
+use Rattle.ffi_query.specs.declared.kind.Kind.TheVariants.{Sign1, Sign, Mac0, Mac, Encrypt0, Encrypt, Signature, Recipient, Header, Key, KeySet, Claims, Any}
 
 -- the shape of messages in a form, where this is the number of their tag and this their shape (RFC 8152, section 2)
 abbrev pub in_form : {A : Type 0} → forms.Form → ℕ → Shape A → Shape A
@@ -42,6 +42,7 @@ HoldsOf Header P = P HeaderView header
 HoldsOf Key P = P KeyView key
 HoldsOf KeySet P = P (List KeyView) key_set
 HoldsOf Claims P = P ClaimsView claims
+HoldsOf Any P = P Item any
 
 -- the bytes describe something; or, out of memory aside, a fault is in them, and they describe nothing
 abbrev pub ChecksAs : {A : Type 0} → Shape A → List ℕ → Result (Unit {0}) CoseError → Type 0

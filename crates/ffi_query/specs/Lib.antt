@@ -5,6 +5,8 @@ pub mod Places
 pub mod Answers
 pub mod Parts
 pub mod Labels
+pub mod Pairs
+pub mod Sets
 pub mod Structures
 pub mod Critical
 pub mod View

@@ -3,7 +3,7 @@ use Rattle.std.specs.Prelude.{ℕ, zero, suc, List, Option, Some, None, option_a
 use Rattle.coset.specs.Item.{Item, bytes, text, Items, no_items, item}
 use Rattle.coset.specs.Parts.{as_array, as_bytes}
 use Rattle.ffi_query.specs.declared.kind.Kind as kinds
-use Rattle.ffi_query.specs.declared.kind.Kind.TheVariants.{Sign, Mac, Encrypt, Recipient, KeySet}
+use Rattle.ffi_query.specs.declared.kind.Kind.TheVariants.{Sign, Mac, Encrypt, Recipient, KeySet, Any}
 
 -- the one of that index
 abbrev pub nth : ℕ → Items → Option Item
@@ -29,14 +29,15 @@ string_in v = None
 abbrev pub array_in : ℕ → Item → Option Items
 array_in n v = option_and_then as_array (element n v)
 
--- the signatures of a message, the recipients of a message or of a recipient, or the keys of a set (RFC 8152, sections 4.1,
--- 5.1, 6.1 and 7)
+-- the signatures of a message, the recipients of a message or of a recipient, the keys of a set (RFC 8152, sections 4.1,
+-- 5.1, 6.1 and 7), or the elements of any array
 abbrev pub members : kinds.Kind → Item → Option Items
 members (Sign f) v = array_in 3 v
 members (Encrypt f) v = array_in 3 v
 members Recipient v = array_in 3 v
 members (Mac f) v = array_in 4 v
 members KeySet v = as_array v
+members Any v = as_array v
 members k v = None
 
 -- the one of that index

@@ -111,7 +111,7 @@ pub(crate) fn bytes_in(alloc: Global, item: Pull<'_>, index: usize) -> Result<Op
     }
 }
 
-/// The signatures, recipients or keys of an item of that kind.
+/// The signatures, recipients or keys of an item of that kind, or the elements of any array.
 pub(crate) fn members(kind: Kind, item: Pull<'_>) -> Option<Items<'_>>
     ensures { option_map items_left result ≡ members kind (pull_item item.entry) }
 {
@@ -120,7 +120,7 @@ pub(crate) fn members(kind: Kind, item: Pull<'_>) -> Option<Items<'_>>
         Kind::Encrypt(_) => array_in(item, 3),
         Kind::Recipient => array_in(item, 3),
         Kind::Mac(_) => array_in(item, 4),
-        Kind::KeySet => item.items(),
+        Kind::KeySet | Kind::Any => item.items(),
         _ => None,
     }
 }

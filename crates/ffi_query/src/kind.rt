@@ -5,6 +5,7 @@ ghost use Rattle.coset.specs.PerhapsTagged.{perhaps_tagged};
 ghost use Rattle.coset.specs.Shape.{tagged};
 ghost use Rattle.ffi_query.specs.Kinds.{Checks, ChecksAs, in_form, tag_of};
 
+use coset::cbor::value::Value;
 use coset::cwt::ClaimsSet;
 use coset::{
     CborSerializable, CoseEncrypt, CoseEncrypt0, CoseKey, CoseKeySet, CoseMac, CoseMac0,
@@ -50,6 +51,8 @@ pub enum Kind {
     KeySet,
     /// The claims of a web token (RFC 8392, section 3).
     Claims,
+    /// Any item of CBOR.
+    Any,
 }
 
 impl Kind {
@@ -129,5 +132,6 @@ pub fn check(alloc: Global, kind: Kind, bytes: &[u8]) -> Result<()>
         Kind::Key => check_plain::<CoseKey>(alloc, bytes),
         Kind::KeySet => check_plain::<CoseKeySet>(alloc, bytes),
         Kind::Claims => check_plain::<ClaimsSet>(alloc, bytes),
+        Kind::Any => check_plain::<Value>(alloc, bytes),
     }
 }

@@ -81,7 +81,7 @@ fn value_among(alloc: Global, label: Label<'_>, pairs: Pairs<'_>) -> Result<Opti
 ///
 /// # Errors
 /// `OutOfMemory` alone.
-fn value_under(alloc: Global, label: Label<'_>, map: Pull<'_>) -> Result<Option<Value>>
+pub(crate) fn value_under(alloc: Global, label: Label<'_>, map: Pull<'_>) -> Result<Option<Value>>
     ensures value { IfOk result (λ o. option_map value_item o
         ≡ value_under (label_view label.entry) (pull_item map.entry)) }
     ensures memory { IfErr result (λ e. e ≡ OutOfMemory) }

@@ -13,8 +13,10 @@
 mod critical;
 mod fault;
 mod item;
+mod keys;
 mod kind;
 mod label;
+mod pair;
 mod part;
 mod refusal;
 mod structure;
@@ -22,8 +24,10 @@ mod view;
 mod written;
 
 pub use fault::fault_offset;
+pub use keys::key_of;
 pub use kind::{Form, Kind, check};
 pub use label::{Label, Map, integer_of, string_of, value_of};
+pub use pair::{Half, pair_of};
 pub use part::{Part, count_of, member_of, part_of};
 pub use refusal::{Refusal, Status};
 pub use structure::{recipient_structure_of, structure_of};

@@ -34,7 +34,10 @@ impl Kind {
     pub fn has_headers(self) -> bool
         ensures { result ≡ has_headers self }
     {
-        !matches!(self, Kind::Header | Kind::Key | Kind::KeySet | Kind::Claims)
+        !matches!(
+            self,
+            Kind::Header | Kind::Key | Kind::KeySet | Kind::Claims | Kind::Any
+        )
     }
 
     /// Which element of an item's array the part is.
@@ -119,6 +122,7 @@ pub fn part_of(
 
 /// Writes the signature, recipient or key of that index, counted from 0, to the front of `out`, as its shortest encoding
 /// (RFC 8949, section 4.2.1), and returns the length of that: a [`Kind::Signature`], [`Kind::Recipient`] or [`Kind::Key`].
+/// Of a [`Kind::Any`] it is the element of an array.
 ///
 /// # Errors
 /// `Short` where `out` has no room for it; `Absent` where there are no more than `index`; `Cose` as
@@ -156,7 +160,7 @@ fn count_members(members: Items<'_>) -> Result<usize>
     Ok(count)
 }
 
-/// How many signatures, recipients or keys the item has that the bytes are: one or more. An empty list is refused, so that
+/// How many signatures, recipients, keys or elements the item has that the bytes are: one or more. An empty list is refused, so that
 /// who verifies each of them has verified one.
 ///
 /// # Errors

@@ -35,3 +35,6 @@ returns-in-KeySet c = rw c.in-KeySet.is c.check_plain-in-KeySet.ensures
 
 pub returns-in-Claims : goal.returns-in-Claims
 returns-in-Claims c = rw c.in-Claims.is c.check_plain-in-Claims.ensures
+
+pub returns-in-Any : goal.returns-in-Any
+returns-in-Any c = rw c.in-Any.is c.check_plain-in-Any.ensures
