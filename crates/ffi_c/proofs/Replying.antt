@@ -2,7 +2,7 @@
 use Rattle.std.proofs.Common.{◌≡◌, Option, Some, Result, Ok, Err, refl, subst}
 use Rattle.std.specs.Prelude.{MatchOption}
 use Rattle.ffi_query.specs.declared.refusal.Refusal as refusals
-use Rattle.ffi_query.specs.declared.view.Sign1View.{Sign1View}
+use Rattle.ffi_query.specs.declared.view.MessageView.{MessageView}
 use Rattle.ffi_c.specs.Replies.{reply_status}
 use Rattle.ffi_c.specs.Views.{length_told}
 
@@ -10,6 +10,6 @@ pub replied : {A : Type 0} (P : A → Type 0) (X : Type 0) (o : Option A) (x : A
 replied P X o x e h = subst (λ p. MatchOption p X P) e h
 
 -- how long a text is, is returned as all is well where the view is
-pub same_status : (r : Result Sign1View refusals.Refusal) → reply_status (length_told r) ≡ reply_status r
+pub same_status : (r : Result MessageView refusals.Refusal) → reply_status (length_told r) ≡ reply_status r
 same_status (Ok n) = refl
 same_status (Err e) = refl

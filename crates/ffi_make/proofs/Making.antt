@@ -7,7 +7,7 @@ use Rattle.coset.specs.CoseError.TheVariants.{OutOfMemory}
 use Rattle.coset.specs.Errors.{UnlessMemory}
 use Rattle.ffi_query.specs.declared.kind.Kind as kinds
 use Rattle.ffi_query.specs.declared.refusal.Refusal as refusals
-use Rattle.ffi_query.specs.declared.refusal.Refusal.TheVariants.{Short, Absent, Cose}
+use Rattle.ffi_query.specs.declared.refusal.Refusal.TheVariants.{Short, Absent, WrongType, Empty, Misuse, Cose}
 use Rattle.ffi_query.specs.declared.kind.Kind.TheVariants.{Header}
 use Rattle.ffi_query.specs.Answers.{WritesFound}
 use Rattle.ffi_query.specs.Kinds.{Checks}
@@ -22,6 +22,9 @@ pub written :
 written text_of P N faults old new (Ok (Some x)) (Ok n) f w = (text_of x, f, w)
 written text_of P N faults old new (Ok (Some x)) (Err (Short n)) f w = (text_of x, f, w)
 written text_of P N faults old new (Ok (Some x)) (Err Absent) f w = absurd w
+written text_of P N faults old new (Ok (Some x)) (Err WrongType) f w = absurd w
+written text_of P N faults old new (Ok (Some x)) (Err Empty) f w = absurd w
+written text_of P N faults old new (Ok (Some x)) (Err Misuse) f w = absurd w
 written text_of P N faults old new (Ok (Some x)) (Err (Cose e)) f w = absurd w
 written text_of P N faults old new (Ok None) r f w = subst (Writes P N faults old new) (sym w.0) (f, w.1)
 written text_of P N faults old new (Err e) r f w = subst (Writes P N faults old new) (sym w.0) (f, w.1)

@@ -19,6 +19,7 @@ Writes P IsNone faults old new (Ok n) = (t : List ℕ) × P t × Puts t old new 
 Writes P IsNone faults old new (Err (Short n)) = (t : List ℕ) × P t × Puts t old new (Err (Short n))
 Writes P IsNone faults old new (Err Absent) = IsNone × (new ≡ old)
 Writes P IsNone faults old new (Err (Cose e)) = UnlessMemory e faults × (new ≡ old)
+Writes P IsNone faults old new (Err r) = ⊥
 
 -- the text is the shortest encoding of the item that is made, and an item of that kind
 abbrev pub IsMade : kinds.Kind → Option Item → List ℕ → Type 0

@@ -1,5 +1,5 @@
 -- The values of labels.
-use Rattle.std.proofs.Common.{◌≡◌, ◌∙◌, ◌++◌, ℕ, ℤ, List, [], Option, Some, None, Result, ap, sym, subst, refl, option_map}
+use Rattle.std.proofs.Common.{◌≡◌, ◌∙◌, ◌++◌, ℕ, List, [], Option, Some, None, Result, ap, sym, subst, refl, option_map}
 use Rattle.std.specs.Prelude.{IfOk}
 use Rattle.coset.specs.Item.{Item}
 use Rattle.coset.specs.Grammar.{IsEncoding}
@@ -10,7 +10,7 @@ use Rattle.ffi_query.specs.declared.kind.Kind as kinds
 use Rattle.ffi_query.specs.declared.label.Map as maps
 use Rattle.ffi_query.specs.declared.label.Map.TheVariants as of
 use Rattle.ffi_query.specs.Answers.{Finds}
-use Rattle.ffi_query.specs.Labels.{IsNumber, IsNumberOf, IsProtected, IsStringOf, IsUnder, IsUnderIn, value_under}
+use Rattle.ffi_query.specs.Labels.{IsProtected, IsStringOf, IsUnder, IsUnderIn, value_under}
 use Rattle.ffi_query.specs.Places.{bytes_in, string_in}
 
 -- the law of `one_item`
@@ -33,7 +33,7 @@ one_value law k of.Protected l v w x p q = same_protected law l (bytes_in 0 v) w
 one_value law k of.Unprotected l v w x p q = some-one p.1 q.1
 one_value law k of.Item l v w x p q = some-one p q
 
--- ---- strings and integers
+-- ---- strings
 
 pub string_found :
     {T : Type 0} (bytes_of : T → List ℕ) → OneItem → (k : kinds.Kind) (m : maps.Map) (l : Name) (v w : Item) (o : Option T) → IsUnder k m l v w
@@ -41,10 +41,6 @@ pub string_found :
     → Finds bytes_of (IsStringOf k m l v) o
 string_found bytes_of law k m l v w (Some x) u e = (w, u, sym e)
 string_found bytes_of law k m l v w None u e = λ t h. some-none (ap string_in (one_value law k m l v w h.0 u h.1) ∙ h.2) (sym e)
-
-pub no_number : OneItem → (k : kinds.Kind) (m : maps.Map) (l : Name) (v w : Item) → IsUnder k m l v w → ((n : ℤ) → IsNumber w n → ⊥) → (n : ℤ)
-    → IsNumberOf k m l v n → ⊥
-no_number law k m l v w u none n h = none n (let same : w ≡ h.0 = one_value law k m l v w h.0 u h.1 in rw same h.2)
 
 -- ---- in a protected header
 

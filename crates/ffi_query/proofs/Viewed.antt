@@ -1,5 +1,5 @@
--- What is said of a message with one signature.
-use Rattle.std.proofs.Common.{◌≡◌, ◌∙◌, ◌==◌, ℕ, List, Result, Ok, Err, Bool, true, false, ap, sym, subst, arith, true≢false}
+-- What is said of a message.
+use Rattle.std.proofs.Common.{◌≡◌, ◌∙◌, ◌==◌, ℕ, List, Option, Some, None, Result, Ok, Err, Bool, true, false, ap, sym, subst, arith, true≢false}
 use Rattle.std.proofs.lemmas.Bool.{eqb-true}
 use Rattle.coset.specs.Item.{Item, integer, bytes, float, text, boolean, null, tag, array, dict}
 use Rattle.coset.specs.Grammar.{IsItem}
@@ -9,11 +9,11 @@ use Rattle.ffi_query.specs.declared.label.Map.TheVariants as of
 use Rattle.ffi_query.specs.declared.view.Algorithm as algorithms
 use Rattle.ffi_query.specs.declared.view.Algorithm.TheVariants as named
 use Rattle.ffi_query.specs.declared.refusal.Refusal as refusals
-use Rattle.ffi_query.specs.declared.refusal.Refusal.TheVariants.{Short, Absent, Cose}
+use Rattle.ffi_query.specs.declared.refusal.Refusal.TheVariants.{Short, Absent, WrongType, Empty, Misuse, Cose}
 use Rattle.ffi_query.specs.Answers.{AnswersWith, PutsWith}
 use Rattle.ffi_query.specs.Kinds.{IsItemOf, is_under}
 use Rattle.ffi_query.specs.Labels.{IsUnder}
-use Rattle.ffi_query.specs.View.{HasAlgorithm, IsAlgorithm, TellsTag, alg_label}
+use Rattle.ffi_query.specs.View.{HasAlgorithm, IsAlgorithm, TellsTag, TellsTagOf, alg_label, is_under_some}
 
 -- ---- the tag
 
@@ -37,6 +37,11 @@ tells_tag n b w false is e =
     λ h. let same : is_under n (tag n h.0) ≡ is_under n w = ap (is_under n) (is.1 (tag n h.0) h.1) in
     true≢false (sym (same_number n) ∙ (same ∙ sym e))
 
+pub tells_tag_of :
+    (o : Option ℕ) (b : List ℕ) (w : Item) (x : Bool) → IsOnlyItem b w → x ≡ is_under_some o w → TellsTagOf o b x
+tells_tag_of None b w x is e = e
+tells_tag_of (Some n) b w x is e = tells_tag n b w x is e
+
 -- ---- the algorithm
 
 pub algorithm_found :
@@ -49,9 +54,12 @@ algorithm_found k v w named.Text u h = (w, u, h)
 -- ---- from what is said to what is returned
 
 pub viewed :
-    {N : Type 0} (k : kinds.Kind) (b old new : List ℕ) (P : Item → N → List ℕ → Type 0) (v : Item) (n : N) (t : List ℕ)
-    (r : Result N refusals.Refusal) → IsItemOf k b v → P v n t → PutsWith n t old new r → AnswersWith k b P old new r
-viewed k b old new P v n t (Ok m) i p w = (v, i, (t, subst (λ x. P v x t) (sym w.0) p, w.1))
-viewed k b old new P v n t (Err (Short m)) i p w = (v, i, (n, (t, p, w)))
-viewed k b old new P v n t (Err Absent) i p w = absurd w
-viewed k b old new P v n t (Err (Cose e)) i p w = absurd w
+    {N : Type 0} (k : kinds.Kind) (b old new : List ℕ) (P : Item → N → List ℕ → Type 0) (Q : Item → refusals.Refusal → Type 0) (v : Item) (n : N)
+    (t : List ℕ) (r : Result N refusals.Refusal) → IsItemOf k b v → P v n t → PutsWith n t old new r → AnswersWith k b P Q old new r
+viewed k b old new P Q v n t (Ok m) i p w = (v, i, (t, subst (λ x. P v x t) (sym w.0) p, w.1))
+viewed k b old new P Q v n t (Err (Short m)) i p w = (v, i, (n, (t, p, w)))
+viewed k b old new P Q v n t (Err Absent) i p w = absurd w
+viewed k b old new P Q v n t (Err WrongType) i p w = absurd w
+viewed k b old new P Q v n t (Err Empty) i p w = absurd w
+viewed k b old new P Q v n t (Err Misuse) i p w = absurd w
+viewed k b old new P Q v n t (Err (Cose e)) i p w = absurd w

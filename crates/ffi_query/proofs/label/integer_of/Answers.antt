@@ -4,7 +4,6 @@ use Rattle.coset.specs.View.{value_item}
 use Rattle.ffi_query.specs.Answers.{Finds}
 use Rattle.ffi_query.specs.Labels.{IsUnder, label_view}
 use Rattle.ffi_query.proofs.EachKind.{memory_refuses}
-use Rattle.ffi_query.proofs.Valued.{no_number}
 use Rattle.ffi_query.proofs.label.integer_of.Goals as goal
 
 pub returns-in-Ok-Some : goal.returns-in-Ok-Some
@@ -14,8 +13,11 @@ returns-in-Ok-Some c =
     let v = pull_item c.in-Ok.item in (
       v,
       c.in-Ok.ensures,
-      no_number c.one_item.ensures k c.args.map l v (value_item c.in-Ok-Some.value)
-          (subst (Finds value_item (IsUnder k c.args.map l v)) c.in-Ok-Some.field-0-is c.in-Ok-Some.ensures.value) c.in-None.ensures,
+      (
+        value_item c.in-Ok-Some.value,
+        subst (Finds value_item (IsUnder k c.args.map l v)) c.in-Ok-Some.field-0-is c.in-Ok-Some.ensures.value,
+        c.in-None.ensures,
+      ),
     )
 
 pub returns : goal.returns
