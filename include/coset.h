@@ -72,6 +72,7 @@ enum {
   COSET_KEY_SET = 11,  /* COSE_KeySet (section 7) */
   COSET_CLAIMS = 12,   /* the claims of a web token (RFC 8392, section 3) */
   COSET_ITEM = 13,     /* any item of CBOR, as the value of a label; its labels may repeat */
+  COSET_KDF_CONTEXT = 14, /* COSE_KDF_Context (RFC 8152, section 11.2), an array: it is taken apart and made as a COSET_ITEM */
   COSET_TAGGED = 0x100, /* added to a message's kind, one of the first six: under its tag */
   COSET_EITHER = 0x200  /* added to a message's kind: under its tag or plain */
 };

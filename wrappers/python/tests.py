@@ -27,7 +27,7 @@ for value in (True, False):
     assert type(raised(coset.put, coset.CLAIMS, b"", 1, value)) is TypeError
 assert coset.put_encoded(coset.HEADER, b"", 99, b"\xf5") == b"\xa1\x18\x63\xf5"
 
-for number in (0, 14, -1, (1 << 32) + 1, (1 << 64) + 1, 1.5, None):
+for number in (0, 15, -1, (1 << 32) + 1, (1 << 64) + 1, 1.5, None):
     assert type(raised(coset.check, number, b"\x84")) is coset.Misuse, number
 assert coset.Kind(coset.SIGN1 + coset.EITHER) is coset.Kind.SIGN1_EITHER
 assert type(raised(coset.part, coset.SIGN1, bytes.fromhex("8440a0f640"), (1 << 32) + 1)) is coset.Misuse

@@ -31,6 +31,7 @@ fn kind(word: &str) -> Kind {
         10 => Kind::Key,
         11 => Kind::KeySet,
         13 => Kind::Item,
+        14 => Kind::KdfContext,
         _ => Kind::Claims,
     }
 }

@@ -28,6 +28,8 @@ pub enum Kind {
     Claims,
     /// Any item of CBOR.
     Item,
+    /// What a key is derived for: an array, which is taken apart and made as an item.
+    KdfContext,
 }
 
 /// A part of an item.
@@ -305,6 +307,7 @@ impl Kind {
             Kind::KeySet => 11,
             Kind::Claims => 12,
             Kind::Item => 13,
+            Kind::KdfContext => 14,
         }
     }
 }

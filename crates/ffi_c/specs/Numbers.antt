@@ -6,7 +6,7 @@ use Rattle.coset_label.specs.declared.ordering.CborOrdering.TheVariants.{Lexicog
 use Rattle.ffi_query.specs.declared.kind.Form as forms
 use Rattle.ffi_query.specs.declared.kind.Form.TheVariants.{Plain, Tagged, Either}
 use Rattle.ffi_query.specs.declared.kind.Kind as kinds
-use Rattle.ffi_query.specs.declared.kind.Kind.TheVariants.{Sign1, Sign, Mac0, Mac, Encrypt0, Encrypt, Signature, Recipient, Header, Key, KeySet, Claims, Any}
+use Rattle.ffi_query.specs.declared.kind.Kind.TheVariants.{Sign1, Sign, Mac0, Mac, Encrypt0, Encrypt, Signature, Recipient, Header, Key, KeySet, Claims, Any, KdfContext}
 use Rattle.ffi_query.specs.declared.label.Map as maps
 use Rattle.ffi_query.specs.declared.label.Map.TheVariants as of
 use Rattle.ffi_query.specs.declared.part.Part as parts
@@ -35,7 +35,8 @@ other_of n =
     (if n == 10 then Some Key else
     (if n == 11 then Some KeySet else
     (if n == 12 then Some Claims else
-    (if n == 13 then Some Any else None))))))
+    (if n == 13 then Some Any else
+    (if n == 14 then Some KdfContext else None)))))))
 
 -- the message of that number, where there is a form
 abbrev pub message_in : ℕ → Option forms.Form → Option kinds.Kind

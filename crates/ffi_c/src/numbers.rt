@@ -33,6 +33,8 @@ const COSET_CLAIMS: u32 = 12;
 
 const COSET_ITEM: u32 = 13;
 
+const COSET_KDF_CONTEXT: u32 = 14;
+
 /// Added to a message's number: under its tag.
 const COSET_TAGGED: u32 = 0x100;
 /// Added to a message's number: under its tag or plain.
@@ -95,6 +97,7 @@ fn other_of(number: u32) -> Option<Kind>
         COSET_KEY_SET => Some(Kind::KeySet),
         COSET_CLAIMS => Some(Kind::Claims),
         COSET_ITEM => Some(Kind::Any),
+        COSET_KDF_CONTEXT => Some(Kind::KdfContext),
         _ => None,
     }
 }

@@ -8,7 +8,7 @@ use Rattle.coset.specs.ShapeLaws.{some-none, some-one}
 use Rattle.ffi_query.specs.declared.kind.Form as forms
 use Rattle.ffi_query.specs.declared.kind.Form.TheVariants.{Plain, Tagged, Either}
 use Rattle.ffi_query.specs.declared.kind.Kind as kinds
-use Rattle.ffi_query.specs.declared.kind.Kind.TheVariants.{Sign1, Sign, Mac0, Mac, Encrypt0, Encrypt, Signature, Recipient, Header, Key, KeySet, Claims, Any}
+use Rattle.ffi_query.specs.declared.kind.Kind.TheVariants.{Sign1, Sign, Mac0, Mac, Encrypt0, Encrypt, Signature, Recipient, Header, Key, KeySet, Claims, Any, KdfContext}
 use Rattle.ffi_query.specs.Places.{bytes_in, nth}
 use Rattle.ffi_query.specs.Structures.{content_at, structure_in, structure_of_three, structure_of_two}
 use Rattle.ffi_make.specs.Laws.{MadeUnsigned, SignatureAdded, StructureOfMade, StructureOfSigner, inside}
@@ -68,6 +68,7 @@ structure_of_made Key i p u c d s x aad w y m o st = absurd (none_is st)
 structure_of_made KeySet i p u c d s x aad w y m o st = absurd (none_is st)
 structure_of_made Claims i p u c d s x aad w y m o st = absurd (none_is st)
 structure_of_made Any i p u c d s x aad w y m o st = absurd (none_is st)
+structure_of_made KdfContext i p u c d s x aad w y m o st = absurd (none_is st)
 
 pub made_unsigned : MadeUnsigned
 made_unsigned f p u c [] w m = ap (untagged 98) (some-one m refl) ∙ without_tag_again f 98 (places (Sign f) p u c [])

@@ -8,7 +8,7 @@ use Rattle.coset.specs.PerhapsTagged.{untagged}
 use Rattle.coset.specs.ShapeLaws.{some-none, some-one}
 use Rattle.ffi_query.specs.declared.kind.Form as forms
 use Rattle.ffi_query.specs.declared.kind.Kind as kinds
-use Rattle.ffi_query.specs.declared.kind.Kind.TheVariants.{Sign1, Sign, Mac0, Mac, Encrypt0, Encrypt, Signature, Recipient, Header, Key, KeySet, Claims, Any}
+use Rattle.ffi_query.specs.declared.kind.Kind.TheVariants.{Sign1, Sign, Mac0, Mac, Encrypt0, Encrypt, Signature, Recipient, Header, Key, KeySet, Claims, Any, KdfContext}
 use Rattle.ffi_query.specs.Places.{bytes_in, element, nth}
 use Rattle.ffi_query.specs.Structures.{content_at, content_in, recipient_structure_in, signer_in, structure_in}
 use Rattle.ffi_query.specs.Structures.{structure_of_one, structure_of_three, structure_of_two}
@@ -226,6 +226,7 @@ structure_kept Key i m w x y aad d h e = absurd (none_is e)
 structure_kept KeySet i m w x y aad d h e = absurd (none_is e)
 structure_kept Claims i m w x y aad d h e = absurd (none_is e)
 structure_kept Any i m w x y aad d h e = absurd (none_is e)
+structure_kept KdfContext i m w x y aad d h e = absurd (none_is e)
 
 recipient_kept :
     (k : kinds.Kind) (context : List ℕ) (m w x y : Item) (aad : List ℕ)
@@ -253,6 +254,7 @@ recipient_structure_kept Key m w x y aad h e = absurd (none_is e)
 recipient_structure_kept KeySet m w x y aad h e = absurd (none_is e)
 recipient_structure_kept Claims m w x y aad h e = absurd (none_is e)
 recipient_structure_kept Any m w x y aad h e = absurd (none_is e)
+recipient_structure_kept KdfContext m w x y aad h e = absurd (none_is e)
 
 -- of a recipient that was made
 recipient_made :
@@ -271,6 +273,7 @@ recipient_made Key p u c aad = refl
 recipient_made KeySet p u c aad = refl
 recipient_made Claims p u c aad = refl
 recipient_made Any p u c aad = refl
+recipient_made KdfContext p u c aad = refl
 
 pub recipient_structure_of_made : RecipientStructureOfMade
 recipient_structure_of_made h p u c [] aad w m = ap (recipient_structure_in h aad) (some-one m refl) ∙ recipient_made h p u c aad

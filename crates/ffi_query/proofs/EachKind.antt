@@ -9,7 +9,7 @@ use Rattle.coset.specs.CoseError.TheVariants.{OutOfMemory}
 use Rattle.coset.specs.Answers.{Describes, DescribesNothing, IsOnlyItem, IsWholeFault, SliceFaults}
 use Rattle.coset.specs.Errors.{UnlessMemory}
 use Rattle.ffi_query.specs.declared.kind.Kind as kinds
-use Rattle.ffi_query.specs.declared.kind.Kind.TheVariants.{Sign1, Sign, Mac0, Mac, Encrypt0, Encrypt, Signature, Recipient, Header, Key, KeySet, Claims, Any}
+use Rattle.ffi_query.specs.declared.kind.Kind.TheVariants.{Sign1, Sign, Mac0, Mac, Encrypt0, Encrypt, Signature, Recipient, Header, Key, KeySet, Claims, Any, KdfContext}
 use Rattle.ffi_query.specs.Kinds.{ChecksAs, HoldsOf, IsItemOf, IsOf, IsRefused, tag_of, without_tag}
 
 -- what holds of each shape holds of a kind's
@@ -27,6 +27,7 @@ holds_of_all Key P h = h _ _
 holds_of_all KeySet P h = h _ _
 holds_of_all Claims P h = h _ _
 holds_of_all Any P h = h _ _
+holds_of_all KdfContext P h = h _ _
 
 -- what follows for each shape follows of a kind's
 follows_of : (k : kinds.Kind) (P : (A : Type 0) → Shape A → Type 0) (Q : Type 0) → ((A : Type 0) (s : Shape A) → P A s → Q) → HoldsOf k P → Q
@@ -43,6 +44,7 @@ follows_of Key P Q h p = h _ _ p
 follows_of KeySet P Q h p = h _ _ p
 follows_of Claims P Q h p = h _ _ p
 follows_of Any P Q h p = h _ _ p
+follows_of KdfContext P Q h p = h _ _ p
 
 -- bytes of a kind are one item
 is_item : (k : kinds.Kind) (b : List ℕ) → IsOf k b → (v : Item) × IsItem b v

@@ -17,10 +17,11 @@ use Rattle.coset.specs.Encrypt.{EncryptView, encrypt}
 use Rattle.coset.specs.Recipient.{RecipientView, recipient}
 use Rattle.coset.specs.Keys.{KeyView, key, key_set}
 use Rattle.coset.specs.Claims.{ClaimsView, claims}
+use Rattle.coset.specs.Context.{ContextView, context}
 use Rattle.ffi_query.specs.declared.kind.Form as forms
 use Rattle.ffi_query.specs.declared.kind.Form.TheVariants.{Plain, Tagged, Either}
 use Rattle.ffi_query.specs.declared.kind.Kind as kinds
-use Rattle.ffi_query.specs.declared.kind.Kind.TheVariants.{Sign1, Sign, Mac0, Mac, Encrypt0, Encrypt, Signature, Recipient, Header, Key, KeySet, Claims, Any}
+use Rattle.ffi_query.specs.declared.kind.Kind.TheVariants.{Sign1, Sign, Mac0, Mac, Encrypt0, Encrypt, Signature, Recipient, Header, Key, KeySet, Claims, Any, KdfContext}
 
 -- the shape of messages in a form, where this is the number of their tag and this their shape (RFC 8152, section 2)
 abbrev pub in_form : {A : Type 0} → forms.Form → ℕ → Shape A → Shape A
@@ -43,6 +44,7 @@ HoldsOf Key P = P KeyView key
 HoldsOf KeySet P = P (List KeyView) key_set
 HoldsOf Claims P = P ClaimsView claims
 HoldsOf Any P = P Item any
+HoldsOf KdfContext P = P ContextView context
 
 -- the bytes describe something; or, out of memory aside, a fault is in them, and they describe nothing
 abbrev pub ChecksAs : {A : Type 0} → Shape A → List ℕ → Result (Unit {0}) CoseError → Type 0

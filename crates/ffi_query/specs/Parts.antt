@@ -2,7 +2,7 @@
 use Rattle.std.specs.Prelude.{◌≡◌, ◌<◌, ℕ, List, Option, Some, None, Bool, true, false, option_and_then, if◌then◌else◌}
 use Rattle.coset.specs.Item.{Item, Items, items_count}
 use Rattle.ffi_query.specs.declared.kind.Kind as kinds
-use Rattle.ffi_query.specs.declared.kind.Kind.TheVariants.{Sign1, Sign, Mac0, Mac, Encrypt0, Encrypt, Signature, Recipient, Header, Key, KeySet, Claims, Any}
+use Rattle.ffi_query.specs.declared.kind.Kind.TheVariants.{Sign1, Sign, Mac0, Mac, Encrypt0, Encrypt, Signature, Recipient, Header, Key, KeySet, Claims, Any, KdfContext}
 use Rattle.ffi_query.specs.declared.part.Part as parts
 use Rattle.ffi_query.specs.declared.refusal.Refusal as refusals
 use Rattle.ffi_query.specs.declared.refusal.Refusal.TheVariants.{Absent, Empty}
@@ -17,6 +17,7 @@ has_headers Key = false
 has_headers KeySet = false
 has_headers Claims = false
 has_headers Any = false
+has_headers KdfContext = false
 has_headers k = true
 
 -- payload : bstr / nil

@@ -8,8 +8,9 @@ ghost use Rattle.ffi_query.specs.Kinds.{Checks, ChecksAs, in_form, tag_of};
 use coset::cbor::value::Value;
 use coset::cwt::ClaimsSet;
 use coset::{
-    CborSerializable, CoseEncrypt, CoseEncrypt0, CoseKey, CoseKeySet, CoseMac, CoseMac0,
-    CoseRecipient, CoseSign, CoseSign1, CoseSignature, Header, Result, TaggedCborSerializable,
+    CborSerializable, CoseEncrypt, CoseEncrypt0, CoseKdfContext, CoseKey, CoseKeySet, CoseMac,
+    CoseMac0, CoseRecipient, CoseSign, CoseSign1, CoseSignature, Header, Result,
+    TaggedCborSerializable,
 };
 use std::alloc::Global;
 
@@ -53,6 +54,8 @@ pub enum Kind {
     Claims,
     /// Any item of CBOR.
     Any,
+    /// What a key is derived for: `COSE_KDF_Context` (RFC 8152, section 11.2).
+    KdfContext,
 }
 
 impl Kind {
@@ -133,5 +136,6 @@ pub fn check(alloc: Global, kind: Kind, bytes: &[u8]) -> Result<()>
         Kind::KeySet => check_plain::<CoseKeySet>(alloc, bytes),
         Kind::Claims => check_plain::<ClaimsSet>(alloc, bytes),
         Kind::Any => check_plain::<Value>(alloc, bytes),
+        Kind::KdfContext => check_plain::<CoseKdfContext>(alloc, bytes),
     }
 }

@@ -36,7 +36,7 @@ impl Kind {
     {
         !matches!(
             self,
-            Kind::Header | Kind::Key | Kind::KeySet | Kind::Claims | Kind::Any
+            Kind::Header | Kind::Key | Kind::KeySet | Kind::Claims | Kind::Any | Kind::KdfContext
         )
     }
 

@@ -38,3 +38,6 @@ returns-in-Claims c = rw c.in-Claims.is c.check_plain-in-Claims.ensures
 
 pub returns-in-Any : goal.returns-in-Any
 returns-in-Any c = rw c.in-Any.is c.check_plain-in-Any.ensures
+
+pub returns-in-KdfContext : goal.returns-in-KdfContext
+returns-in-KdfContext c = rw c.in-KdfContext.is c.check_plain-in-KdfContext.ensures
