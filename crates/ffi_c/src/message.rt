@@ -132,7 +132,7 @@ pub extern "C" fn coset_message(
         (IsMisuse result len.new 0 × (view.new ≡ no_message) × (out.new ≡ out.old))
         (λ k. RepliesMessage (AnswersWith k input.now
         (IsMessageView k index external_aad.now d known.now input.now)
-        (HasNoView k index external_aad.now d) out.old out.new) result len.new view.new) }
+        (HasNoView k index external_aad.now d known.now) out.old out.new) result len.new view.new) }
 {
     match content_query(kind, has_detached, detached) {
         Some(kind) => {

@@ -157,7 +157,7 @@ pub extern "C" fn coset_sign1(
         MatchOption (sign1_query kind has_detached detached.now)
         (IsMisuse result len.new 0 × (view.new ≡ no_view) × (out.new ≡ out.old))
         (λ k. RepliesView (AnswersWith k input.now
-        (IsMessageView k 0 external_aad.now d [] input.now) (HasNoView k 0 external_aad.now d)
+        (IsMessageView k 0 external_aad.now d [] input.now) (HasNoView k 0 external_aad.now d [])
         out.old out.new) result len.new view.new) }
 {
     match sign1_query(kind, has_detached, detached) {

@@ -2,3 +2,4 @@ pub mod EachKind
 pub mod Answering
 pub mod Valued
 pub mod Viewed
+pub mod Known

@@ -134,7 +134,7 @@ abbrev pub IsMessageView :
 IsMessageView k i aad d ns b v n t = IsTold k i aad d ns v n t × TellsTagOf (tag_of k) b n.is_tagged
 
 -- why there is none: a payload is given, and the message carries another; or it has no structure, or no such signer or proof
-abbrev pub HasNoView : kinds.Kind → ℕ → List ℕ → Option (List ℕ) → Item → refusals.Refusal → Type 0
-HasNoView k i aad d v Misuse = is_given_twice k d v ≡ true
-HasNoView k i aad d v Absent = (is_given_twice k d v ≡ false) × ((ns : List ℤ) (n : MessageView) (t : List ℕ) → IsTold k i aad d ns v n t → ⊥)
-HasNoView k i aad d v r = ⊥
+abbrev pub HasNoView : kinds.Kind → ℕ → List ℕ → Option (List ℕ) → List ℤ → Item → refusals.Refusal → Type 0
+HasNoView k i aad d ns v Misuse = is_given_twice k d v ≡ true
+HasNoView k i aad d ns v Absent = (is_given_twice k d v ≡ false) × ((n : MessageView) (t : List ℕ) → IsTold k i aad d ns v n t → ⊥)
+HasNoView k i aad d ns v r = ⊥

@@ -1,6 +1,6 @@
 //! Labels that must be understood: `crit` (RFC 8152, section 3.1).
 
-ghost use Rattle.std.specs.Prelude.{◌≡◌, IfOk, IfErr};
+ghost use Rattle.std.specs.Prelude.{◌≡◌, IfOk, IfErr, true, false, if◌then◌else◌};
 ghost use Rattle.coset.specs.CoseError.TheVariants.{OutOfMemory};
 ghost use Rattle.coset.specs.Pulls.{pull_item};
 ghost use Rattle.coset.specs.View.{value_item};
@@ -71,6 +71,20 @@ fn critical_in(alloc: Global, kind: Kind, item: Pull<'_>, known: &[i64]) -> Resu
     }
 }
 
+/// Whether one of the two is so.
+fn either(a: bool, b: bool) -> bool
+    ensures { result ≡ (if a then true else b) }
+{
+    a || b
+}
+
+/// Whether both are.
+fn both(a: bool, b: bool) -> bool
+    ensures { result ≡ (if a then b else false) }
+{
+    a && b
+}
+
 /// The same of a message of that kind, and of its signer where it is one with signers.
 ///
 /// # Errors
@@ -91,16 +105,8 @@ pub(crate) fn critical_of(
             let message = critical_in(alloc, kind, item, known)?;
             let signer = critical_in(alloc, Kind::Signature, bearer, known)?;
             Ok(Critical {
-                is_there: if message.is_there {
-                    true
-                } else {
-                    signer.is_there
-                },
-                is_understood: if message.is_understood {
-                    signer.is_understood
-                } else {
-                    false
-                },
+                is_there: either(message.is_there, signer.is_there),
+                is_understood: both(message.is_understood, signer.is_understood),
             })
         }
         _ => critical_in(alloc, kind, item, known),

@@ -323,7 +323,7 @@ pub fn message_view(
     ensures { let d = option_copied detached.entry in
         AnswersWith kind bytes.now
         (IsMessageView kind index external_aad.now d known.now bytes.now)
-        (HasNoView kind index external_aad.now d) out.old out.new result }
+        (HasNoView kind index external_aad.now d known.now) out.old out.new result }
 {
     let whole = match whole_of(alloc, kind, bytes) {
         Ok(whole) => whole,

@@ -1,12 +1,17 @@
+use Rattle.std.proofs.Common.{◌∙◌, sym}
 use Rattle.std.specs.Option.{option_copied}
 use Rattle.coset.specs.Pulls.{pull_item}
-use Rattle.ffi_query.specs.Structures.{IsStructure}
-use Rattle.ffi_query.proofs.Answering.{answered}
+use Rattle.ffi_query.specs.Structures.{HasNoStructure, IsStructure}
+use Rattle.ffi_query.proofs.Answering.{answered_or}
 use Rattle.ffi_query.proofs.structure.structure_of.Goals as goal
 
-pub returns-in-Ok : goal.returns-in-Ok
-returns-in-Ok c =
+pub returns : goal.returns
+returns c =
     let k = c.args.kind in
-    answered (λ b. b.items) k c.args.bytes.now c.args.out.now c.write_found.new.out
-    (IsStructure k c.args.index c.args.external_aad.now (option_copied c.args.detached)) (pull_item c.in-Ok.item) c.find_structure.result
-    c.write_found.result c.in-Ok.ensures c.find_structure.ensures.found c.find_structure.ensures.memory c.write_found.ensures
+    let i = c.args.index in
+    let aad = c.args.external_aad.now in
+    let d = option_copied c.args.detached in
+    let once = sym c.is_given_twice.ensures ∙ c.if-is_given_twice.false in
+    answered_or (λ b. b.items) k c.args.bytes.now c.args.out.now c.write_found.new.out (IsStructure k i aad d) (HasNoStructure k i aad d)
+    (pull_item c.in-Ok.item) c.find_structure.result c.write_found.result (λ none. (once, none)) c.in-Ok.ensures c.find_structure.ensures.found
+    c.find_structure.ensures.memory c.write_found.ensures
