@@ -1,5 +1,3 @@
-use Rattle.std.specs.Prelude.{IfErr}
-use Rattle.coset.specs.CoseError.TheVariants.{OutOfMemory}
 use Rattle.coset.specs.Pulls.{pull_item}
 use Rattle.ffi_query.specs.Critical.{IsCriticalIn, IsCriticalOf}
 use Rattle.ffi_query.proofs.Known.{if_ok, of_one}

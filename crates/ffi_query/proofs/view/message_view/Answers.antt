@@ -1,9 +1,7 @@
-use Rattle.std.proofs.Common.{◌≡◌, ◌∙◌, ap, false, refl, sym}
+use Rattle.std.proofs.Common.{◌∙◌, ap, refl, sym}
 use Rattle.std.specs.Option.{option_copied}
-use Rattle.coset.specs.Item.{Item}
 use Rattle.coset.specs.Pulls.{pull_item}
-use Rattle.ffi_query.specs.Kinds.{IsItemOf, tag_of, without_tag}
-use Rattle.ffi_query.specs.Structures.{is_given_twice}
+use Rattle.ffi_query.specs.Kinds.{tag_of, without_tag}
 use Rattle.ffi_query.specs.View.{HasNoView, IsMessageView}
 use Rattle.ffi_query.proofs.EachKind.{inside, memory_refuses}
 use Rattle.ffi_query.proofs.Viewed.{tells_tag_of, viewed}
