@@ -6,6 +6,7 @@
  * in, in_len     the bytes of an item of the kind. Any pointer to bytes may be NULL where the length beside it is 0.
  * out, cap, len  where an answer goes, and how long it is. COSET_SHORT: it is longer than cap, and *len says how long.
  *                Where the status isn't COSET_OK, out is as it was; where it is neither that nor COSET_SHORT, *len is 0.
+ * No length is above PTRDIFF_MAX: no object is as long, and no call looks.
  * What is const may overlap; out, len, count, offset, value and view overlap nothing that the call is given, and but for out
  * they are never NULL. A call may take 1 MB of stack, and asks for memory: it is not for signal handlers, nor for a child that
  * a process with threads forked. The library asks the C library for malloc, free, memcpy, memmove and memset.
