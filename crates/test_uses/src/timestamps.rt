@@ -34,7 +34,7 @@ const FRACTIONAL: &[(u64, &str)] = &[
 fn is_written(rt: &HostRuntime, timestamp: &Timestamp, expected: &str) -> Result<bool, Fail> {
     let mut text = String::new(rt.alloc());
     write!(text, "{timestamp}").ok().ok_or("memory")?;
-    Ok(text == expected)
+    Ok(text.as_str() == expected)
 }
 
 #[test]
