@@ -1,6 +1,6 @@
 use mir.Syntax.{w32}
 use mir.Val.{of_z, to_z}
-use Rattle.std.proofs.Common.{◌≡◌, [], rules, subst}
+use Rattle.std.proofs.Common.{◌≡◌, ℕ, ℤ, List, [], rules, subst}
 use Rattle.ffi_query.specs.Answers.{AnswersWith}
 use Rattle.ffi_query.specs.View.{HasNoView, IsMessageView}
 use Rattle.ffi_c.specs.Numbers.{bytes_if}
@@ -13,9 +13,9 @@ pub returns-in-Some : goal.returns-in-Some
 returns-in-Some c =
     let k = c.in-Some.kind in
     let b = c.args.input.now in
-    let i = 0 in
+    let i : ℕ = 0 in
     let aad = c.args.external_aad.now in
-    let ns = [] in
+    let ns : List ℤ = [] in
     let d = bytes_if c.args.has_detached c.args.detached.now in
     let answers =
     subst (λ x. AnswersWith k b (IsMessageView k i aad x ns b) (HasNoView k i aad x ns) c.args.out.now c.message_view-told.new.out c.message_view-told.result)
