@@ -22,6 +22,7 @@ class Kind(enum.IntEnum):
 
 SIGN1, SIGN, MAC0, MAC, ENCRYPT0, ENCRYPT, SIGNATURE, RECIPIENT, HEADER, KEY, KEY_SET, CLAIMS, ITEM, KDF_CONTEXT = map(Kind, range(1, 15))
 TAGGED, EITHER = 0x100, 0x200  # added to a message's kind, one of the first six
+_KINDS = frozenset(map(int, Kind))
 PROTECTED, PAYLOAD, CIPHERTEXT, PROOF = range(1, 5)
 IN_PROTECTED, IN_UNPROTECTED, IN_ITEM = range(1, 4)
 LEXICOGRAPHIC, LENGTH_FIRST = range(1, 3)  # orders of labels
@@ -213,10 +214,9 @@ def _bytes(data):
 
 def _kind(number):
     """The number of a kind."""
-    try:
-        return Kind(number)
-    except ValueError:
-        raise Misuse("a number that stands for no kind") from None
+    if number not in _KINDS:
+        raise Misuse("a number that stands for no kind")
+    return number
 
 
 def _number(number):
@@ -241,7 +241,10 @@ def _size(number):
 def _written(call, *arguments, behind=()):
     """What the call writes, with arguments behind those for that too. The memory for it is as long as an answer may be: all that
     is given, once and once more, with heads. Should it be short all the same, the call is made again."""
-    room, length = 256 + 2 * sum(len(it) for it in arguments if isinstance(it, bytes)), ctypes.c_size_t()
+    room, length = 256, ctypes.c_size_t()
+    for it in arguments:
+        if type(it) is bytes:
+            room += 2 * len(it)
     while True:
         out = ctypes.create_string_buffer(room)
         status = call(*arguments, out, room, ctypes.byref(length), *behind)
