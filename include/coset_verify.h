@@ -1,7 +1,7 @@
 /* Verifying and decrypting in one call, over the calls of coset.h and the cryptography that the caller has. What the message
  * says is handed out only after the caller's function said yes.
  *
- * These are static inline, and nothing is proved of them; they look at nothing but what coset_message answers, which is. */
+ * These are static inline, and nothing is proved of them; they look at nothing but what the calls of coset.h answer, which is. */
 #ifndef COSET_VERIFY_H
 #define COSET_VERIFY_H
 
