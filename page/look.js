@@ -155,7 +155,7 @@ function put(status, answered) {
 
 function told() {
   const fault = firstRefused();
-  return [rows.said, fault < 0 ? "" : row(fault).note].filter(Boolean).join(". ");
+  return [rows.said, fault < 0 ? "" : row(fault).note].filter(Boolean).join("; ");
 }
 
 let refusedAt = -1, refusedOf = null;

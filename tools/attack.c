@@ -27,8 +27,8 @@ union word {
 struct function {
   const char *name;
   int32_t (*call)(const union word *);
-  const char *classes; /* k kind, f flag, u number, i index, s label, b bytes and z their length, o a buffer
-                          and c its length, l the answer's length, a and v other answers */
+  const char *classes; /* k kind, f flag, u number, i index, s label, b bytes and z their length, w labels
+                          and y how many they are, o a buffer and c its length, l the answer's length, a and v other answers */
   size_t sizes[WORDS]; /* of answers */
 };
 #include "calls.h"
@@ -66,7 +66,7 @@ static _Thread_local long requests, refused_at = -1, live;
 
 static void tell_words(void) {
   for (size_t i = 0; now->classes[i]; i++) {
-    if (now->classes[i] != 'b') {
+    if (!strchr("bw", now->classes[i])) {
       fprintf(stdout, " %#" PRIx64, words[i].number);
       continue;
     }
@@ -215,6 +215,17 @@ static size_t bytes_for(struct place *p, const struct row *first, const uint8_t 
   return chosen(2) ? damaged(p->was, row->len) : row->len;
 }
 
+/* Lends some labels. */
+static void lend_labels(struct place *p) {
+  size_t count = chosen(5);
+  for (size_t i = 0; i < count; i++) {
+    uint64_t label = number('s', 0);
+    memcpy(p->was + i * sizeof label, &label, sizeof label);
+  }
+  lend(p, count * sizeof(int64_t), 0);
+  if (count) memcpy(p->at, p->was, p->n);
+}
+
 /* A row for a function, half of the time one that it had an answer for; none for libFuzzer. */
 static const struct row *row_for(const struct function *f) {
   uint64_t count = liked[f - functions].count;
@@ -238,6 +249,8 @@ static void choose(const uint8_t *rest, size_t left) {
       row = NULL;
       break;
     case 'o': lend(p, chosen(2) ? 0 : chosen(2) ? chosen(256) : LARGEST, at_start), words[i].at = p->at; break;
+    case 'w': lend_labels(p), words[i].at = p->at; break;
+    case 'y': words[i].number = places[i - 1].n / sizeof(int64_t); break;
     case 'z': case 'c': words[i].number = places[i - 1].n; break;
     case 'l': case 'a': case 'v': lend(p, now->sizes[i], 0), words[i].at = p->at; break;
     default: words[i].number = number(now->classes[i], kind);
@@ -257,9 +270,9 @@ static void look(int32_t status, size_t len) {
   for (int i = 0; now->classes[i]; i++) {
     struct place *p = &places[i];
     char class = now->classes[i];
-    if (!strchr("bolav", class)) continue;
+    if (!strchr("bwolav", class)) continue;
     if (!is_untouched(p->at == p->start ? p->at + p->n : p->at - CANARY, CANARY)) fail("writes outside of a place");
-    if (class == 'b' && p->n && memcmp(p->at, p->was, p->n)) fail("writes into an input");
+    if (strchr("bw", class) && p->n && memcmp(p->at, p->was, p->n)) fail("writes into an input");
     if (class == 'o' && status == COSET_OK && len > p->n) fail("a length that is more than there is");
     size_t written = status == COSET_OK ? len : 0;
     if (class == 'o' && !is_untouched(p->at + written, p->n - written)) fail("writes into out behind the answer");

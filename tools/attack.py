@@ -41,8 +41,10 @@ def enum(text, first):
 
 def class_of(type_, name, before):
     """The letter by which attack.c makes an argument, and the type that the answer there has; None where it knows none."""
-    if type_ == "size_t" and before in ("b", "o"):
-        return ("z" if before == "b" else "c"), None
+    if type_ == "size_t" and before in ("b", "w", "o"):
+        return {"b": "z", "w": "y", "o": "c"}[before], None
+    if type_ == "const int64_t *":
+        return "w", None
     if type_ in ("const uint8_t *", "uint8_t *"):
         return ("o" if type_ == "uint8_t *" else "b"), None
     if type_ in ("uint32_t", "int32_t", "coset_status"):
@@ -78,7 +80,7 @@ def table(text):
         if None in found:
             left.append(name)
             continue
-        words = ", ".join(f"a[{at}].at" if letter in "bolav" else f"a[{at}].number" for at, (letter, _) in enumerate(found))
+        words = ", ".join(f"a[{at}].at" if letter in "bwolav" else f"a[{at}].number" for at, (letter, _) in enumerate(found))
         lines.append(f"static int32_t call_{place}(const union word *a) {{ return {name}({words}); }}")
         sizes = ", ".join(f"sizeof({type_})" if type_ else "0" for _, type_ in found)
         rows.append(f'    {{"{name}", call_{place}, "{"".join(letter for letter, _ in found)}", {{{sizes}}}}},')
