@@ -66,6 +66,13 @@ def hints(source):
     return text
 
 
+def unlike():
+    """The functions that the type hints have otherwise than the wrapper: parameters by other names, or none."""
+    arguments = lambda text: {it.name: [arg.arg for arg in it.args.args] for it in ast.parse(text).body if isinstance(it, ast.FunctionDef)}
+    there = arguments(read("wrappers/python/coset.py"))
+    return [name for name, found in arguments(read("packaging/python/coset.pyi")).items() if there.get(name) != found]
+
+
 def texts(prefix, quick):
     """Each text that is installed, by its path."""
     fill = lambda path: filled(read(path), prefix, quick)
@@ -154,6 +161,7 @@ def tried(library, quick, token, payload, check):
         install(library, prefix, quick)
         given = run("nm", "-D", "--defined-only", "--format=just-symbols", f"{prefix}/lib/libcoset.so").split()
         check(given and all(it.startswith("coset_") for it in given), f"libcoset.so gives {given}")
+        check(not unlike(), f"the type hints of {', '.join(unlike())} aren't those of the wrapper")
         for path in ("try.c", "try.py", "CMakeLists.txt", "Cargo.toml", "src/main.rs"):
             os.makedirs(os.path.dirname(f"{folder}/{path}"), exist_ok=True)
             with open(f"{folder}/{path}", "w", encoding="utf-8") as file:

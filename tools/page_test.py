@@ -213,44 +213,56 @@ def wait(page, script):
     return False
 
 
-def use(page, wrong):
-    """Types, drops and clicks as a user does."""
+def click(page, row, side):
+    """Clicks on a side of a row: 0 are its bytes, 2 is what they are."""
+    page.click(*page.run(f"""(() => {{ const it = document.querySelectorAll(".row")[{row}].children[{side}].firstChild;
+      const range = document.createRange(); range.selectNode(it); const at = range.getBoundingClientRect(); return [at.x + 4, at.y + 5]; }})()"""))
 
-    def check(condition, words):
-        if not condition:
-            wrong.append(words)
 
+def mark(page):
+    """Types a message, clicks on either side of it, goes on by a key, and copies: what is wrong."""
     page.look_like(1280, 1400, "light")
     page.run('at("clear").click(); at("input").focus()')
     page.call("Input.insertText", text="d28443a10126a10442313154546869732069732074686520636f6e74656e742e41aa")
-    check(wait(page, 'at("status").textContent.startsWith("Accepted")'), "what was typed isn't accepted")
-    place = page.run('(() => { const it = document.querySelectorAll(".row")[2].children[0].getBoundingClientRect(); return [it.x + 5, it.y + 5]; })()')
-    page.click(*place)
+    if not wait(page, 'at("status").textContent.startsWith("Accepted")'):
+        yield "what was typed isn't accepted"
     marked = '[...document.querySelectorAll(".marked")].map(it => it.id).join(" ")'
-    check(wait(page, f'{marked} === "row-2 row-3 row-4 row-5 row-6"'), f"a click on bytes marks {page.run(marked)}")
-    place = page.run('(() => { const it = document.querySelectorAll(".row")[4].children[2].getBoundingClientRect(); return [it.x + 60, it.y + 5]; })()')
-    page.click(*place)
-    check(wait(page, f'{marked} === "row-4"'), f"a click on a meaning marks {page.run(marked)}")
+    for row, side, wanted in ((2, 0, "row-2 row-3 row-4 row-5 row-6"), (4, 2, "row-4")):
+        click(page, row, side)
+        if not wait(page, f'{marked} === "{wanted}"'):
+            yield f"a click marks {page.run(marked)} and not {wanted}"
     page.run('at("rows").focus()')
     page.key("ArrowDown")
-    check(wait(page, f'{marked} === "row-5"'), f"the arrow key marks {page.run(marked)}")
+    if not wait(page, f'{marked} === "row-5"'):
+        yield f"the arrow key marks {page.run(marked)}"
     page.call("Browser.grantPermissions", permissions=["clipboardReadWrite", "clipboardSanitizedWrite"])
     page.run('document.querySelector(".note button").click()')
-    check(wait(page, 'document.querySelector(".note button").textContent !== "Copy"'), "nothing is said of a copy")
+    if not wait(page, 'document.querySelector(".note button").textContent === "Copied"'):
+        yield "what is signed isn't copied"
+
+
+def give(page):
+    """Gives the page markup, a file and a fault, and asks for a request: what is wrong."""
     markup = "<img src=x onerror=alert(1)><script>alert(2)</script>"
     page.run(f"type({json.dumps((head(3, len(markup)) + markup.encode()).hex())})")
-    check(wait(page, f'document.querySelector(".row code:last-of-type") && at("rows").textContent.includes({json.dumps(markup)})'), "markup isn't shown as it is")
-    check(page.run('document.querySelectorAll("img").length + at("rows").querySelectorAll("script").length') == 0, "a text becomes markup")
+    if not wait(page, f'at("rows").textContent.includes({json.dumps(markup)})'):
+        yield "markup isn't shown as it is"
+    if page.run('document.querySelectorAll("img").length + at("rows").querySelectorAll("script").length'):
+        yield "a text becomes markup"
     page.run("""(() => { const held = new DataTransfer(); held.items.add(new File([new Uint8Array([0x83, 1, 2, 3])], "three.cbor"));
       document.dispatchEvent(new DragEvent("drop", {dataTransfer: held, cancelable: true})); })()""")
-    check(wait(page, 'at("status").textContent.includes("4 bytes") && at("dropped").textContent.startsWith("three.cbor")'), "a dropped file isn't shown")
+    if not wait(page, 'at("status").textContent.includes("4 bytes") && at("dropped").textContent.startsWith("three.cbor")'):
+        yield "a dropped file isn't shown"
     page.run('type("a2012601"); at("kind").value = 0')
-    check(wait(page, '!at("fault").hidden'), "a fault isn't marked")
+    if not wait(page, '!at("fault").hidden'):
+        yield "a fault isn't marked"
     page.run('at("fault").click()')
-    check(page.run('document.querySelector("[aria-selected=true]").className').startswith("row r"), "the fault isn't found")
+    if not page.run('document.querySelector("[aria-selected=true]")?.className ?? ""').startswith("row r"):
+        yield "the fault isn't found"
     refused = page.run("""new Promise(done => { document.addEventListener("securitypolicyviolation", event => done(event.violatedDirective), {once: true});
       fetch("https://example.com/").catch(() => setTimeout(() => done("nothing"), 500)); })""")
-    check(refused == "connect-src", f"a request isn't refused by the policy: {refused}")
+    if refused != "connect-src":
+        yield f"a request isn't refused by the policy: {refused}"
 
 
 def shots(page):
@@ -295,8 +307,7 @@ def test(path, program, quick):
         first = page.run("(async () => { const begun = performance.now(); type(EXAMPLE); await globalThis.showing; return performance.now() - begun; })()")
         print(f"first answer after {first:.0f} ms; a megabyte: {times(page)}")
         page.run(SCRIPT)
-        use(page, wrong)
-        wrong += shots(page)
+        wrong += [*mark(page), *give(page), *shots(page)]
         print(compare(page, program, wrong))
         print(compare_hostile(page, program, wrong, quick))
         others = [it for it in page.requests if it != f"file://{path}" and not it.startswith(("blob:", "https://example.com/"))]
