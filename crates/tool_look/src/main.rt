@@ -4,15 +4,13 @@
 //! memory ran out.
 #![tactic(auto)]
 
-mod asked;
-mod look;
-mod page;
+mod arguments;
 
-use asked::{Asked, Form};
-use look::{Shown, UNANSWERED, look};
+use arguments::Arguments;
 use std::io::{ErrorKind, IsTerminal, Read};
 use std::process::ExitCode;
 use std::{env, fs, io};
+use tool_view::{Asked, END, FRONT, Form, Shown, UNANSWERED, look};
 
 /// What is printed where an argument isn't understood.
 const USAGE: &str = "usage: tool_look [OPTION..] [KIND] [FILE]..
@@ -69,39 +67,39 @@ fn show_input(rt: &HostRuntime, asked: &Asked) -> io::Result<u8> {
 }
 
 /// Takes all files apart that the arguments name, or standard input, and returns the greatest status.
-fn answer(rt: &HostRuntime, mut asked: Asked) -> io::Result<u8> {
+fn answer(rt: &HostRuntime, mut arguments: Arguments) -> io::Result<u8> {
     let mut status = None;
     for argument in env::args(rt)?.skip(1) {
         let argument = argument.as_str();
-        if asked.takes(rt.alloc(), argument)? {
+        if arguments.takes(rt.alloc(), argument)? {
             continue;
         }
         if argument.starts_with("--") {
             eprint!(rt; "error: {argument} isn't understood\n{USAGE}")?;
             return Ok(UNANSWERED);
         }
-        let shown = show_file(rt, &asked, argument)?;
+        let shown = show_file(rt, &arguments.asked, argument)?;
         status = Some(shown.max(status.unwrap_or(0)));
     }
     match status {
         Some(status) => Ok(status),
-        None => show_input(rt, &asked),
+        None => show_input(rt, &arguments.asked),
     }
 }
 
 /// The same, within a page where that is asked for.
 fn answer_all(rt: &HostRuntime) -> io::Result<u8> {
-    let mut asked = Asked::new(rt.alloc(), is_terminal(rt));
+    let mut arguments = Arguments::new(rt.alloc(), is_terminal(rt));
     if !env::args(rt)?
         .skip(1)
         .any(|argument| argument.as_str() == "--html")
     {
-        return answer(rt, asked);
+        return answer(rt, arguments);
     }
-    asked.form = Form::Page;
-    print!(rt; "{}", page::FRONT)?;
-    let status = answer(rt, asked)?;
-    print!(rt; "{}", page::END)?;
+    arguments.asked.form = Form::Page;
+    print!(rt; "{}", FRONT)?;
+    let status = answer(rt, arguments)?;
+    print!(rt; "{}", END)?;
     Ok(status)
 }
 

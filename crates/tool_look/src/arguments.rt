@@ -1,63 +1,38 @@
-//! How inputs are looked at.
+//! What the arguments ask for.
 
 use std::alloc::{AllocError, Global};
 use tool_explain::Kind;
+use tool_view::{Asked, Form};
 
-/// What is written of an input.
-#[derive(Clone, Copy, Debug, PartialEq, Eq)]
-pub enum Form {
-    /// Its lines, with bytes and notes.
-    Annotated,
-    /// The same as a part of a page of HTML.
-    Page,
-    /// Diagnostic notation alone.
-    Plain,
-    /// Where the fault is, and which it is.
-    Where,
-}
-
-/// How an input is looked at.
+/// How inputs are looked at, by the arguments so far.
 #[derive(Drop)]
-pub struct Asked {
-    /// What the input should be.
-    pub kind: Kind,
-    /// What is written.
-    pub form: Form,
-    /// The moment at which a token is looked at, in seconds since 1970 began.
-    pub now: Option<i64>,
-    /// What the application has authenticated beside messages (RFC 8152, section 4.3).
-    pub external_aad: Vec<u8>,
-    /// Whether lines are written in colours.
-    pub is_colored: bool,
-    /// Whether they are where that isn't said.
+pub struct Arguments {
+    /// How the next input is.
+    pub asked: Asked,
+    /// Whether lines are written in colours where that isn't said.
     is_terminal: bool,
 }
 
-impl Asked {
-    /// By the tag, with bytes and notes, at no moment, with an empty `external_aad`, and in colours for a terminal.
-    pub fn new(alloc: Global, is_terminal: bool) -> Asked {
-        Asked {
-            kind: Kind::Auto,
-            form: Form::Annotated,
-            now: None,
-            external_aad: Vec::new(alloc),
-            is_colored: is_terminal,
-            is_terminal,
-        }
+impl Arguments {
+    /// Nothing is said yet: lines are in colours for a terminal.
+    pub fn new(alloc: Global, is_terminal: bool) -> Arguments {
+        let mut asked = Asked::new(alloc);
+        asked.is_colored = is_terminal;
+        Arguments { asked, is_terminal }
     }
 
     /// Takes what is to be written; of a page nothing else is.
     fn takes_form(&mut self, form: Form) -> bool {
-        if self.form == Form::Page {
+        if self.asked.form == Form::Page {
             return form == Form::Page;
         }
-        self.form = form;
+        self.asked.form = form;
         true
     }
 
     /// Takes when there are colours.
     fn takes_color(&mut self, when: &str) -> bool {
-        self.is_colored = match when {
+        self.asked.is_colored = match when {
             "always" => true,
             "never" => false,
             "auto" => self.is_terminal,
@@ -70,7 +45,7 @@ impl Asked {
     fn takes_aad(&mut self, alloc: Global, digits: &str) -> Result<bool, AllocError> {
         match hex::decode(alloc, digits) {
             Ok(bytes) => {
-                self.external_aad = bytes;
+                self.asked.external_aad = bytes;
                 Ok(true)
             }
             Err(hex::FromHexError::OutOfMemory) => Err(AllocError),
@@ -81,8 +56,8 @@ impl Asked {
     /// Takes an option, and says whether it is one.
     fn takes_option(&mut self, alloc: Global, argument: &str) -> Result<bool, AllocError> {
         if let Some(moment) = argument.strip_prefix("--now=") {
-            self.now = moment.parse::<i64>().ok();
-            return Ok(self.now.is_some());
+            self.asked.now = moment.parse::<i64>().ok();
+            return Ok(self.asked.now.is_some());
         }
         if let Some(digits) = argument.strip_prefix("--external-aad=") {
             return self.takes_aad(alloc, digits);
@@ -105,7 +80,7 @@ impl Asked {
     pub fn takes(&mut self, alloc: Global, argument: &str) -> Result<bool, AllocError> {
         match Kind::of(argument) {
             Some(kind) => {
-                self.kind = kind;
+                self.asked.kind = kind;
                 Ok(true)
             }
             None => self.takes_option(alloc, argument),

@@ -1,11 +1,17 @@
 //! What is written for an input.
 
+ghost use Rattle.std.specs.Prelude.{◌≡◌, IfOk, None, false};
+ghost use Rattle.tool_explain.specs.Refusal.{JudgesAs};
+ghost use Rattle.tool_explain.specs.declared.kind.Kind.TheVariants.{Auto};
+ghost use Rattle.tool_view.specs.Accepted.{Accepts, AcceptsInput};
+
 use crate::asked::{Asked, Form};
 use crate::page::section;
+use crate::rows::rows;
 use coset::CoseError;
 use std::alloc::{AllocError, Global};
 use tool_explain::{
-    Kind, annotated, annotated_structures, colored, explain, explain_whole, fault, fitting,
+    Kind, Line, annotated, annotated_structures, colored, explain, explain_whole, fault, fitting,
     notation, structure_notes,
 };
 use tool_spelled::{Spelling, line_and_column, text_of};
@@ -28,6 +34,13 @@ pub struct Shown {
     pub text: String,
     /// The status.
     pub status: u8,
+}
+
+/// The status of an input that is refused, or not.
+fn status_of(is_refused: bool) -> u8
+    ensures { result ≡ 0 → is_refused ≡ false }
+{
+    if is_refused { REFUSED } else { TAKEN }
 }
 
 /// What a spelling is called.
@@ -118,7 +131,9 @@ fn kind_of(
     asked: &Asked,
     bytes: &[u8],
     said: &mut String,
-) -> Result<Kind, AllocError> {
+) -> Result<Kind, AllocError>
+    ensures { IfOk result (λ k. (asked.entry.now.kind ≡ Auto → ⊥) → k ≡ asked.entry.now.kind) }
+{
     if asked.kind != Kind::Auto || begins_with_tag(bytes) {
         return Ok(asked.kind);
     }
@@ -134,7 +149,9 @@ fn kind_of(
 }
 
 /// The offset of the fault, the path there and the error, in one line; `accepted` where there is none.
-fn fault_line(alloc: Global, kind: Kind, bytes: &[u8]) -> Result<(String, u8), AllocError> {
+fn fault_line(alloc: Global, kind: Kind, bytes: &[u8]) -> Result<(String, u8), AllocError>
+    ensures { IfOk result (λ r. r.1 ≡ 0 → JudgesAs kind bytes.now None) }
+{
     let Some(refusal) = fault(alloc, kind, bytes)? else {
         return Ok((String::from_str(alloc, "accepted\n")?, TAKEN));
     };
@@ -149,7 +166,25 @@ fn fault_line(alloc: Global, kind: Kind, bytes: &[u8]) -> Result<(String, u8), A
     Ok((text, REFUSED))
 }
 
-/// The lines of bytes as a text or a part of a page, and the status.
+/// The lines of bytes as a text, and behind them what is signed as comments.
+fn annotated_text(
+    alloc: Global,
+    asked: &Asked,
+    kind: Kind,
+    bytes: &[u8],
+    lines: &[Line<'_>],
+) -> Result<String, AllocError> {
+    let mut text = if asked.is_colored {
+        colored(alloc, lines)?
+    } else {
+        annotated(alloc, lines)?
+    };
+    let comments = annotated_structures(alloc, kind, bytes, &asked.external_aad)?;
+    text.push_str(comments.as_str())?;
+    Ok(text)
+}
+
+/// The lines of bytes in the form that is asked for, and the status.
 fn lines_of(
     alloc: Global,
     asked: &Asked,
@@ -157,27 +192,23 @@ fn lines_of(
     bytes: &[u8],
     said: &str,
     name: &str,
-) -> Result<(String, u8), AllocError> {
+) -> Result<(String, u8), AllocError>
+    ensures { IfOk result (λ r. r.1 ≡ 0 → JudgesAs kind bytes.now None) }
+{
     let explained = explain_whole(alloc, kind, bytes, asked.now)?;
     let lines = &explained.lines;
-    let text = if asked.form == Form::Page {
-        let notes = structure_notes(alloc, kind, bytes, &asked.external_aad)?;
-        section(alloc, name, said, lines, &notes)?
-    } else {
-        let mut text = if asked.is_colored {
-            colored(alloc, lines)?
-        } else {
-            annotated(alloc, lines)?
-        };
-        let comments = annotated_structures(alloc, kind, bytes, &asked.external_aad)?;
-        text.push_str(comments.as_str())?;
-        text
+    let text = match asked.form {
+        Form::Page => {
+            let notes = structure_notes(alloc, kind, bytes, &asked.external_aad)?;
+            section(alloc, name, said, lines, &notes)?
+        }
+        Form::Rows => {
+            let notes = structure_notes(alloc, kind, bytes, &asked.external_aad)?;
+            rows(alloc, said, lines, &notes)?
+        }
+        _ => annotated_text(alloc, asked, kind, bytes, lines)?,
     };
-    let status = if explained.error.is_some() {
-        REFUSED
-    } else {
-        TAKEN
-    };
+    let status = status_of(explained.error.is_some());
     Ok((text, status))
 }
 
@@ -187,13 +218,11 @@ fn notation_of(
     asked: &Asked,
     kind: Kind,
     bytes: &[u8],
-) -> Result<(String, u8), AllocError> {
+) -> Result<(String, u8), AllocError>
+    ensures { IfOk result (λ r. r.1 ≡ 0 → JudgesAs kind bytes.now None) }
+{
     let explained = explain(alloc, kind, bytes, asked.now)?;
-    let status = if explained.error.is_some() {
-        REFUSED
-    } else {
-        TAKEN
-    };
+    let status = status_of(explained.error.is_some());
     Ok((notation(alloc, &explained.lines)?, status))
 }
 
@@ -204,10 +233,12 @@ fn look_at(
     bytes: &[u8],
     mut said: String,
     name: &str,
-) -> Result<Shown, AllocError> {
+) -> Result<Shown, AllocError>
+    ensures { IfOk result (λ shown. shown.status ≡ 0 → Accepts asked.entry.now.kind bytes.now) }
+{
     let kind = kind_of(alloc, asked, bytes, &mut said)?;
     let (text, status) = match asked.form {
-        Form::Annotated | Form::Page => {
+        Form::Annotated | Form::Page | Form::Rows => {
             lines_of(alloc, asked, kind, bytes, said.as_str(), name)?
         }
         Form::Plain => notation_of(alloc, asked, kind, bytes)?,
@@ -216,11 +247,14 @@ fn look_at(
     Ok(Shown { said, text, status })
 }
 
-/// What is written for an input of that name.
+/// What is written for an input of that name. The status is 0 only where the library reads the bytes that it spells as something
+/// of the kind.
 ///
 /// # Errors
 /// `AllocError` alone.
-pub fn look(alloc: Global, asked: &Asked, input: &[u8], name: &str) -> Result<Shown, AllocError> {
+pub fn look(alloc: Global, asked: &Asked, input: &[u8], name: &str) -> Result<Shown, AllocError>
+    ensures { IfOk result (λ shown. shown.status ≡ 0 → AcceptsInput asked.entry.now.kind input.now) }
+{
     let spelled = text_of(input);
     match spelled.bytes(alloc)? {
         Ok(bytes) => {
@@ -231,10 +265,10 @@ pub fn look(alloc: Global, asked: &Asked, input: &[u8], name: &str) -> Result<Sh
         Err(place) => {
             let offset = spelled.offset.saturating_add(place.0);
             let said = misspelled(alloc, spelled.spelling, input, offset)?;
-            let text = if asked.form == Form::Page {
-                section(alloc, name, said.as_str(), &[], &[])?
-            } else {
-                String::new(alloc)
+            let text = match asked.form {
+                Form::Page => section(alloc, name, said.as_str(), &[], &[])?,
+                Form::Rows => rows(alloc, said.as_str(), &[], &[])?,
+                _ => String::new(alloc),
             };
             Ok(Shown {
                 said,

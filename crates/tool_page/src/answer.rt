@@ -1,0 +1,65 @@
+//! Answers in the page's memory.
+
+ghost use Rattle.std.specs.Prelude.{◌≡◌};
+ghost use Rattle.tool_page.specs.Told.{Tells, number_of};
+ghost use Rattle.tool_view.specs.Accepted.{AcceptsInput};
+
+use std::alloc::Global;
+use tool_view::{Asked, look};
+
+/// Why there is no answer.
+#[derive(Clone, Copy, Debug)]
+pub enum Unanswered {
+    /// Memory ran out.
+    Memory,
+    /// There is no room for an answer of this length.
+    Short(usize),
+}
+
+/// Writes the text to the front of `out`, and returns the status that goes with it.
+///
+/// # Errors
+/// `Short`.
+fn put(text: &[u8], status: u8, out: &mut [u8], len: &mut usize) -> Result<u8, Unanswered>
+    ensures { Tells (λ s. s ≡ status) out.old out.new len.new result }
+{
+    *len = text.len();
+    if out.len() < text.len() {
+        return Err(Unanswered::Short(text.len()));
+    }
+    let (front, _) = out.split_at_mut(text.len());
+    front.copy_from_slice(text);
+    Ok(status)
+}
+
+/// Writes what is shown of an input to the front of `out`, and returns the status.
+///
+/// # Errors
+/// Each of `Unanswered`.
+pub(crate) fn answered(
+    alloc: Global,
+    asked: &Asked,
+    input: &[u8],
+    out: &mut [u8],
+    len: &mut usize,
+) -> Result<u8, Unanswered>
+    ensures { Tells (λ s. s ≡ 0 → AcceptsInput asked.entry.now.kind input.now)
+        out.old out.new len.new result }
+{
+    *len = 0;
+    match look(alloc, asked, input, "") {
+        Ok(shown) => put(shown.text.as_str().as_bytes(), shown.status, out, len),
+        Err(_) => Err(Unanswered::Memory),
+    }
+}
+
+/// The number of an answer.
+pub(crate) fn number_of(answer: Result<u8, Unanswered>) -> i32
+    ensures { result ≡ number_of answer }
+{
+    match answer {
+        Ok(status) => i32::from(status),
+        Err(Unanswered::Memory) => 2,
+        Err(Unanswered::Short(_)) => 3,
+    }
+}

@@ -1,0 +1,62 @@
+//! Numbers as kinds and forms.
+
+ghost use Rattle.std.specs.Prelude.{◌≡◌, IfOk};
+ghost use Rattle.tool_page.specs.Numbers.{kind_of};
+
+use std::alloc::{AllocError, Global};
+use tool_explain::Kind;
+use tool_view::{Asked, Form};
+
+/// The kind of that number.
+fn kind_of(number: u32) -> Kind
+    ensures { result ≡ kind_of number }
+{
+    match number {
+        1 => Kind::Cwt,
+        2 => Kind::Value,
+        3 => Kind::Sign1,
+        4 => Kind::Sign,
+        5 => Kind::Mac,
+        6 => Kind::Mac0,
+        7 => Kind::Encrypt,
+        8 => Kind::Encrypt0,
+        9 => Kind::Countersignature,
+        10 => Kind::Key,
+        11 => Kind::Keyset,
+        12 => Kind::Claims,
+        13 => Kind::Kdf,
+        _ => Kind::Auto,
+    }
+}
+
+/// The form of that number.
+fn form_of(number: u32) -> Form {
+    match number {
+        1 => Form::Annotated,
+        2 => Form::Plain,
+        3 => Form::Where,
+        _ => Form::Rows,
+    }
+}
+
+/// How an input is looked at, by these numbers.
+///
+/// # Errors
+/// `AllocError` alone.
+pub(crate) fn asked(
+    alloc: Global,
+    kind: u32,
+    form: u32,
+    now: Option<i64>,
+    external_aad: &[u8],
+) -> Result<Asked, AllocError>
+    ensures { IfOk result (λ a. a.kind ≡ kind_of kind) }
+{
+    Ok(Asked {
+        kind: kind_of(kind),
+        form: form_of(form),
+        now,
+        external_aad: Vec::from_slice(alloc, external_aad)?,
+        is_colored: false,
+    })
+}

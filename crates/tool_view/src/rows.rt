@@ -1,0 +1,55 @@
+//! Lines as rows for a program that shows them.
+
+use std::alloc::{AllocError, Global};
+use tool_explain::{Cover, Line};
+
+/// The letter of a cover.
+fn letter(cover: Cover) -> char {
+    match cover {
+        Cover::Plain => '-',
+        Cover::Signed => 's',
+        Cover::Authenticated => 'a',
+        Cover::NotSigned => 'n',
+        Cover::NotAuthenticated => 'u',
+        Cover::Seal => 'c',
+        Cover::Refused => 'r',
+    }
+}
+
+/// Adds a row: the letter of its cover, how deep it is, its bytes in hexadecimal, its text and its note, with tabs between
+/// them. No text or note has a control character.
+fn push_row(alloc: Global, text: &mut String, line: &Line<'_>) -> Result<(), AllocError> {
+    let (letter, depth, digits) = (
+        letter(line.cover),
+        line.depth,
+        hex::encode(alloc, line.bytes)?,
+    );
+    write!(text, "{letter}\t{depth}\t{digits}\t")?;
+    text.push_str(line.text.as_str())?;
+    text.push('\t')?;
+    text.push_str(line.note.as_str())?;
+    text.push('\n')
+}
+
+/// What the input was read as in a row of its own; a row for each line; and behind `=` the notes for under them.
+///
+/// # Errors
+/// `AllocError` alone.
+pub fn rows(
+    alloc: Global,
+    said: &str,
+    lines: &[Line<'_>],
+    notes: &[String],
+) -> Result<String, AllocError> {
+    let mut text = String::from_str(alloc, said)?;
+    text.push('\n')?;
+    for line in lines {
+        push_row(alloc, &mut text, line)?;
+    }
+    for note in notes {
+        text.push('=')?;
+        text.push_str(note.as_str())?;
+        text.push('\n')?;
+    }
+    Ok(text)
+}

@@ -1,0 +1,12 @@
+# A version serves whoever asks for an older one with the same first two numbers.
+set(PACKAGE_VERSION "@NUMBERS@")
+string(REGEX MATCH "^[0-9]+\\.[0-9]+" _coset_asked "${PACKAGE_FIND_VERSION}.0")
+if(PACKAGE_FIND_VERSION VERSION_GREATER PACKAGE_VERSION OR NOT _coset_asked STREQUAL "@SERIES@")
+  set(PACKAGE_VERSION_COMPATIBLE FALSE)
+else()
+  set(PACKAGE_VERSION_COMPATIBLE TRUE)
+endif()
+if(PACKAGE_FIND_VERSION VERSION_EQUAL PACKAGE_VERSION)
+  set(PACKAGE_VERSION_EXACT TRUE)
+endif()
+unset(_coset_asked)

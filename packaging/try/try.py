@@ -1,0 +1,6 @@
+"""Shows the payload of a signed token, which is bytes in hexadecimal."""
+import sys
+
+import coset
+
+print(coset.part(coset.SIGN1 + coset.EITHER, bytes.fromhex(sys.argv[1]), coset.PAYLOAD).hex())

@@ -1,0 +1,131 @@
+"""The attack on the C interface that `tools/c --attack` and `tools/fuzz` make: tools/attack.c over each function that the headers
+in include/ declare. The table of these functions is written from the headers, so that a new function is attacked as well."""
+import os
+import re
+import subprocess
+import sys
+
+import common
+
+HERE = common.HERE
+SEED = 20_160_101
+STATUSES, KINDS = "COSET_OK", "COSET_SIGN1"  # the constant that an enum of the header begins with
+ROWS = "sign1 sign mac0 mac encrypt0 encrypt signature recipient header key keyset claims".split()
+ANSWERS = ("size_t", "int64_t", "uint64_t", "int32_t", "uint32_t", "double")
+TAGGED = 0x100
+
+
+def run(command, **more):
+    ran = subprocess.run(command, capture_output=True, text=True, errors="replace", check=False, **more)
+    if ran.returncode:
+        sys.exit(f"{' '.join(command)}\n{ran.stdout[-3000:]}{ran.stderr[-3000:]}")
+    return ran.stdout
+
+
+def headers():
+    return sorted(it for it in os.listdir(f"{HERE}/include") if it.endswith(".h"))
+
+
+def declarations():
+    """The headers as the compiler sees them, without attributes."""
+    given = "".join(f"#include <{it}>\n" for it in headers())
+    text = run(["cc", "-E", "-P", "-D__attribute__(x)=", f"-I{HERE}/include", "-x", "c", "-"], input=given)
+    return re.sub(r"\[\[.*?\]\]", "", text)
+
+
+def enum(text, first):
+    """The names and numbers of the enum that begins with this constant."""
+    found = re.search(r"enum\s*\w*\s*\{\s*" + first + r"\s*=.*?\}", text, re.S)
+    return [(name, int(number, 0)) for name, number in re.findall(r"(COSET_\w+)\s*=\s*(\w+)", found[0])]
+
+
+def class_of(type_, name, before):
+    """The letter by which attack.c makes an argument, and the type that the answer there has; None where it knows none."""
+    if type_ == "size_t" and before in ("b", "w", "o"):
+        return {"b": "z", "w": "y", "o": "c"}[before], None
+    if type_ == "const int64_t *":
+        return "w", None
+    if type_ in ("const uint8_t *", "uint8_t *"):
+        return ("o" if type_ == "uint8_t *" else "b"), None
+    if type_ in ("uint32_t", "int32_t", "coset_status"):
+        return ("k" if name in ("kind", "holder") else "f" if name.startswith("has_") else "u"), None
+    if type_ in ("size_t", "int64_t"):
+        return ("i" if type_ == "size_t" else "s"), None
+    pointed = re.fullmatch(r"(\w+) \*", type_)
+    if pointed and (pointed[1] in ANSWERS or pointed[1].startswith("coset_")):
+        return ("l" if before == "c" and type_ == "size_t *" else "v" if pointed[1].endswith("_view") else "a"), pointed[1]
+    return None
+
+
+def functions(text):
+    """Each function that returns a status: its name, and the class and the type of each argument, None where one isn't known."""
+    while re.search(r"\{[^{}]*\}", text):
+        text = re.sub(r"\{[^{}]*\}", "", text)
+    for name, arguments in re.findall(r"\b(?:int32_t|coset_status)\s+(coset_\w+)\s*\(([^()]*)\)\s*;", text):
+        found = []
+        for one in arguments.split(","):
+            type_, argument = re.fullmatch(r"\s*(.*?)\s*(\w+)\s*", re.sub(r"\s+", " ", one)).groups()
+            found.append(class_of(type_, argument, found[-1][0] if found and found[-1] else ""))
+        yield name, found
+
+
+def table(text):
+    """The file calls.h: each function with its classes, kinds and statuses; and the names of those that are left out."""
+    statuses, kinds = enum(text, STATUSES), enum(text, KINDS)
+    numbers = dict(statuses)
+    lines = [f"enum {{ STATUSES = {max(numbers.values()) + 1}, FORM = {TAGGED} }};"]
+    lines += ["static const uint32_t kinds[] = {" + ", ".join(str(n) for _, n in kinds if n < TAGGED) + "};"]
+    rows, left = [], []
+    for place, (name, found) in enumerate(functions(text)):
+        if None in found:
+            left.append(name)
+            continue
+        words = ", ".join(f"a[{at}].at" if letter in "bwolav" else f"a[{at}].number" for at, (letter, _) in enumerate(found))
+        lines.append(f"static int32_t call_{place}(const union word *a) {{ return {name}({words}); }}")
+        sizes = ", ".join(f"sizeof({type_})" if type_ else "0" for _, type_ in found)
+        rows.append(f'    {{"{name}", call_{place}, "{"".join(letter for letter, _ in found)}", {{{sizes}}}}},')
+    lines += ["static const struct function functions[] = {", *rows, "};"]
+    return "\n".join(lines) + "\n", left
+
+
+def rows():
+    """The rows of coset_vectors that hold bytes: the number of the kind, and the bytes."""
+    with open(f"{HERE}/crates/coset_vectors/stdin", encoding="utf-8") as file:
+        for line in file:
+            words = line.split()
+            tagged = words[:1] == ["tagged"]
+            words = words[tagged:]
+            if len(words) >= 2 and words[0] in (*ROWS, "value") and re.fullmatch(r"([0-9a-f]{2}){1,8192}", words[1]):
+                number = ROWS.index(words[0]) + 1 if words[0] in ROWS else 9
+                yield number + TAGGED * tagged, bytes.fromhex(words[1])
+
+
+def prepared(folder):
+    """Writes calls.h and the file of rows; answers the names of the functions that are left out."""
+    text, left = table(declarations())
+    with open(f"{folder}/calls.h", "w", encoding="utf-8") as file:
+        file.write(text)
+    with open(f"{folder}/rows", "w", encoding="utf-8") as file:
+        file.writelines(f"{number} {data.hex()}\n" for number, data in rows())
+    return left
+
+
+def attack(folder, objects, calls):
+    """Attacks the library of these object files in a folder by about so many calls, and answers what is to be said of it."""
+    left = prepared(folder)
+    flags = ["-std=c11", "-O2", "-Wall", "-Wextra", "-Werror", f"-I{HERE}/include", f"-I{folder}"]
+    run(["cc", *flags, "-o", "attack", f"{HERE}/tools/attack.c", *objects, "-lpthread"], cwd=folder)
+    ran = subprocess.run([f"{folder}/attack", f"{folder}/rows", str(SEED), str(calls)], capture_output=True, text=True, check=False)
+    told = ran.stdout.strip() or f"the attack says nothing: {ran.stderr.strip()[-500:]}"
+    more = [f"not attacked: {', '.join(left)}"] if left else []
+    return ran.returncode == 0, "; ".join([told, *more])
+
+
+def corpus(folder):
+    """Writes each row as an input of libFuzzer: the choices that attack.c takes first, and the bytes."""
+    kinds = [number for _, number in enum(declarations(), KINDS) if number < TAGGED]
+    os.makedirs(folder, exist_ok=True)
+    for place, (number, data) in enumerate(rows()):
+        first = bytes([place % 251, kinds.index(number % TAGGED), number // TAGGED])
+        with open(f"{folder}/row-{place:04}", "wb") as file:
+            file.write(first.ljust(24, b"\xff") + data)

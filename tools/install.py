@@ -1,0 +1,173 @@
+"""What `tools/c --install PREFIX` lays out for those who use the C interface, made of packaging/ and wrappers/:
+
+    include/*.h                 the headers
+    lib/                        libcoset.a and libcoset.so, coset.pc for pkg-config, and the files of CMake
+    share/coset/python          a package for pip: `pip install PREFIX/share/coset/python`
+    share/coset/rust            a crate for Cargo: coset-rattle = { path = "PREFIX/share/coset/rust" }
+    share/doc/coset             docs/C.md and the license
+"""
+import ast
+import os
+import re
+import shutil
+import subprocess
+import sys
+import tempfile
+
+import common
+
+HERE = common.HERE
+PACKAGING = f"{HERE}/packaging"
+
+
+def read(path):
+    with open(f"{HERE}/{path}", encoding="utf-8") as file:
+        return file.read()
+
+
+def version():
+    return read("VERSION").strip()
+
+
+def numbers():
+    """The version's numbers, without the word behind them."""
+    return re.match(r"[\d.]+\d", version())[0]
+
+
+def series():
+    """The first two of them: until there is a version 1, a change of the second may change the interface."""
+    return ".".join(numbers().split(".")[:2])
+
+
+def soname():
+    return f"libcoset.so.{series()}"
+
+
+def filled(text, prefix, quick):
+    """A file of packaging/ with what it has to say in place of each @WORD@."""
+    words = {"PREFIX": prefix, "VERSION": version(), "NUMBERS": numbers(), "SERIES": series(), "SONAME": soname(),
+             "PYTHON_VERSION": version().replace("-", "+", 1), "PROVED": "no" if quick else "yes",
+             "UNPROVED": "; built with --quick, not proved" if quick else ""}
+    return re.sub(r"@([A-Z_]+)@", lambda it: words[it[1]], text)
+
+
+def hints(source):
+    """The type hints of the Python package: those of packaging/, and a line without them for each name that they lack."""
+    text = read("packaging/python/coset.pyi")
+    known = {it.name for it in ast.parse(text).body if hasattr(it, "name")}
+    known |= {it.target.id for it in ast.parse(text).body if isinstance(it, ast.AnnAssign)}
+    for it in ast.parse(source).body:
+        if isinstance(it, ast.FunctionDef) and it.name not in known and not it.name.startswith("_"):
+            text += f"def {it.name}({ast.unparse(it.args)}) -> Any: ...\n"
+        named = [it.name] if isinstance(it, ast.ClassDef) else []
+        for target in it.targets if isinstance(it, ast.Assign) else []:
+            named += [name.id for name in ast.walk(target) if isinstance(name, ast.Name)]
+        text += "".join(f"{name}: Any\n" for name in named if name not in known and not name.startswith("_"))
+    return text
+
+
+def unlike():
+    """The functions that the type hints have otherwise than the wrapper: parameters by other names, or none."""
+    arguments = lambda text: {it.name: [arg.arg for arg in it.args.args] for it in ast.parse(text).body if isinstance(it, ast.FunctionDef)}
+    there = arguments(read("wrappers/python/coset.py"))
+    return [name for name, found in arguments(read("packaging/python/coset.pyi")).items() if there.get(name) != found]
+
+
+def texts(prefix, quick):
+    """Each text that is installed, by its path."""
+    fill = lambda path: filled(read(path), prefix, quick)
+    wrapper = read("wrappers/python/coset.py")
+    found = {f"include/{it}": read(f"include/{it}") for it in os.listdir(f"{HERE}/include") if it.endswith(".h")}
+    found["lib/pkgconfig/coset.pc"] = fill("packaging/coset.pc.in")
+    for name in ("coset-config", "coset-config-version"):
+        found[f"lib/cmake/coset/{name}.cmake"] = fill(f"packaging/cmake/{name}.cmake")
+    for name in ("pyproject.toml", "backend.py"):
+        found[f"share/coset/python/{name}"] = fill(f"packaging/python/{name}")
+    found |= {f"share/coset/python/coset/{name}": text
+              for name, text in (("__init__.py", wrapper), ("__init__.pyi", hints(wrapper)), ("py.typed", ""))}
+    for name in ("Cargo.toml", "build.rs"):
+        found[f"share/coset/rust/{name}"] = fill(f"packaging/rust/{name}")
+    found["share/coset/rust/src/lib.rs"] = read("wrappers/rust/coset.rs")
+    return found | {"share/doc/coset/C.md": read("docs/C.md"), "share/doc/coset/LICENSE": read("LICENSE")}
+
+
+def install(library, prefix, quick, below=""):
+    """Lays out the library, libcoset.a and libcoset.so of a folder, for a prefix; `below` is what stands in front of the paths for
+    now, as whoever builds a package has it. Answers what is to be said."""
+    prefix = os.path.abspath(prefix)
+    root = below + prefix
+    for path, text in texts(prefix, quick).items():
+        os.makedirs(os.path.dirname(f"{root}/{path}"), exist_ok=True)
+        with open(f"{root}/{path}", "w", encoding="utf-8") as file:
+            file.write(text)
+    shared = f"libcoset.so.{numbers()}"
+    for name, path in (("a", "lib/libcoset.a"), ("so", f"lib/{shared}"), ("so", "share/coset/python/coset/libcoset.so")):
+        # A program that runs keeps the file that it has.
+        shutil.copy(f"{library}/libcoset.{name}", f"{root}/{path}.new")
+        os.replace(f"{root}/{path}.new", f"{root}/{path}")
+    for name in (soname(), "libcoset.so"):
+        os.symlink(shared, f"{root}/lib/{name}.new")
+        os.replace(f"{root}/lib/{name}.new", f"{root}/lib/{name}")
+    return [f"installed in {root}: coset {version()}{', built without a proof' if quick else ''}"]
+
+
+# ---- whether what was installed can be used: what a program of each kind prints of a token
+
+
+def run(*command, **more):
+    """What the command prints, or what is wrong with it."""
+    ran = subprocess.run(command, capture_output=True, text=True, errors="replace", check=False, **more)
+    return ran.stdout.strip() if ran.returncode == 0 else f"{' '.join(command)}: {ran.stdout[-1000:]}{ran.stderr[-1000:]}"
+
+
+def by_pkg_config(prefix, folder, token):
+    where = {**os.environ, "PKG_CONFIG_PATH": f"{prefix}/lib/pkgconfig"}
+    flags = run("pkg-config", "--cflags", "--libs", "coset", env=where).split()
+    told = run("cc", "-Wall", "-Wextra", "-Werror", "try.c", *flags, f"-Wl,-rpath,{prefix}/lib", "-o", "try_pc", cwd=folder)
+    return [told or run(f"{folder}/try_pc", token)]
+
+
+def by_cmake(prefix, folder, token):
+    told = run("cmake", "-S", folder, "-B", f"{folder}/built", f"-DCMAKE_PREFIX_PATH={prefix}")
+    told += run("cmake", "--build", f"{folder}/built")
+    found = [f"{folder}/built/{name}" for name in ("try_shared", "try_static")]
+    return [run(it, token) if os.path.exists(it) else told for it in found]
+
+
+def by_pip(prefix, folder, token):
+    pip = [sys.executable, "-m", "pip", "install", "--quiet", "--disable-pip-version-check", "--no-index"]
+    told = run(*pip, "--target", f"{folder}/site", f"{prefix}/share/coset/python")
+    where = {name: value for name, value in os.environ.items() if name != "COSET_LIBRARY"}
+    return [told or run(sys.executable, f"{folder}/try.py", token, env={**where, "PYTHONPATH": f"{folder}/site"})]
+
+
+def by_cargo(_, folder, token):
+    where = {**os.environ, "RUSTFLAGS": "-D warnings", "CARGO_TARGET_DIR": f"{folder}/target"}
+    told = run("cargo", "build", "--offline", "--quiet", cwd=folder, env=where)
+    return [told or run(f"{folder}/target/debug/try", token)]
+
+
+WAYS = {"pkg-config": by_pkg_config, "cmake": by_cmake, "pip": by_pip, "cargo": by_cargo}
+
+
+def has(tool):
+    return shutil.which(tool) if tool != "pip" else not run(sys.executable, "-c", "import pip")
+
+
+def tried(library, quick, token, payload, check):
+    """Installs the library elsewhere, and checks that a program shows the payload of a token that was built in each way for
+    which the tool is there; answers which."""
+    with tempfile.TemporaryDirectory() as prefix, tempfile.TemporaryDirectory() as folder:
+        install(library, prefix, quick)
+        given = run("nm", "-D", "--defined-only", "--format=just-symbols", f"{prefix}/lib/libcoset.so").split()
+        check(given and all(it.startswith("coset_") for it in given), f"libcoset.so gives {given}")
+        check(not unlike(), f"the type hints of {', '.join(unlike())} aren't those of the wrapper")
+        for path in ("try.c", "try.py", "CMakeLists.txt", "Cargo.toml", "src/main.rs"):
+            os.makedirs(os.path.dirname(f"{folder}/{path}"), exist_ok=True)
+            with open(f"{folder}/{path}", "w", encoding="utf-8") as file:
+                file.write(filled(read(f"packaging/try/{path}"), prefix, quick))
+        there = [tool for tool in WAYS if has(tool)]
+        for tool in there:
+            told = WAYS[tool](prefix, folder, token.hex())
+            check(set(told) == {payload.hex()}, f"installed for {tool}: {told}")
+    return [f"installed for {', '.join(there)}", *(f"there is no {tool}" for tool in WAYS if tool not in there)]
