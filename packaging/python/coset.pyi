@@ -1,19 +1,51 @@
+from collections.abc import Callable, Collection
+from enum import IntEnum
 from typing import Any, NamedTuple
 
 _Bytes = bytes | bytearray | memoryview
 
-SIGN1: int
-SIGN: int
-MAC0: int
-MAC: int
-ENCRYPT0: int
-ENCRYPT: int
-SIGNATURE: int
-RECIPIENT: int
-HEADER: int
-KEY: int
-KEY_SET: int
-CLAIMS: int
+class Kind(IntEnum):
+    SIGN1 = 1
+    SIGN = 2
+    MAC0 = 3
+    MAC = 4
+    ENCRYPT0 = 5
+    ENCRYPT = 6
+    SIGNATURE = 7
+    RECIPIENT = 8
+    HEADER = 9
+    KEY = 10
+    KEY_SET = 11
+    CLAIMS = 12
+    ITEM = 13
+    KDF_CONTEXT = 14
+    SIGN1_TAGGED = 257
+    SIGN_TAGGED = 258
+    MAC0_TAGGED = 259
+    MAC_TAGGED = 260
+    ENCRYPT0_TAGGED = 261
+    ENCRYPT_TAGGED = 262
+    SIGN1_EITHER = 513
+    SIGN_EITHER = 514
+    MAC0_EITHER = 515
+    MAC_EITHER = 516
+    ENCRYPT0_EITHER = 517
+    ENCRYPT_EITHER = 518
+
+SIGN1: Kind
+SIGN: Kind
+MAC0: Kind
+MAC: Kind
+ENCRYPT0: Kind
+ENCRYPT: Kind
+SIGNATURE: Kind
+RECIPIENT: Kind
+HEADER: Kind
+KEY: Kind
+KEY_SET: Kind
+CLAIMS: Kind
+ITEM: Kind
+KDF_CONTEXT: Kind
 TAGGED: int
 EITHER: int
 PROTECTED: int
@@ -28,6 +60,8 @@ LENGTH_FIRST: int
 NONE: int
 INT: int
 TEXT: int
+UNDERSTOOD: int
+NOT_UNDERSTOOD: int
 
 class Fault(ValueError):
     status: int
@@ -35,6 +69,30 @@ class Fault(ValueError):
     def __init__(self, status: int, offset: int | None = None) -> None: ...
 
 class Absent(LookupError): ...
+class Empty(LookupError): ...
+class WrongType(TypeError): ...
+class Misuse(TypeError): ...
+class Refused(Exception): ...
+class NotAllowed(Refused): ...
+class Critical(Refused): ...
+
+class Question(NamedTuple):
+    algorithm: int
+    key_id: bytes | None
+    key_id_map: int | None
+    input: bytes
+    proof: bytes
+
+class Message(NamedTuple):
+    algorithm: int | None
+    algorithm_form: int
+    key_id_map: int | None
+    critical: int
+    is_tagged: bool
+    input: bytes
+    proof: bytes
+    content: bytes
+    key_id: bytes
 
 class Sign1(NamedTuple):
     algorithm: int | None
@@ -55,11 +113,43 @@ def label(kind: int, data: _Bytes, which: int, name: int | str) -> bytes: ...
 def has(kind: int, data: _Bytes, which: int, name: int | str) -> bool: ...
 def label_bytes(kind: int, data: _Bytes, which: int, name: int) -> bytes: ...
 def label_int(kind: int, data: _Bytes, which: int, name: int) -> int: ...
+def label_at(kind: int, data: _Bytes, index: int) -> bytes: ...
+def value_at(kind: int, data: _Bytes, index: int) -> bytes: ...
+def key_of(data: _Bytes, key_id: _Bytes) -> bytes: ...
 def structure(
     kind: int, data: _Bytes, index: int = 0, external_aad: _Bytes = b"", detached: _Bytes | None = None
 ) -> bytes: ...
 def recipient_structure(holder: int, data: _Bytes, external_aad: _Bytes = b"") -> bytes: ...
 def sign1(kind: int, data: _Bytes, external_aad: _Bytes = b"", detached: _Bytes | None = None) -> Sign1: ...
+def message(
+    kind: int,
+    data: _Bytes,
+    index: int = 0,
+    critical: Collection[int] = (),
+    external_aad: _Bytes = b"",
+    detached: _Bytes | None = None,
+) -> Message: ...
+def verify(
+    kind: int,
+    data: _Bytes,
+    algorithms: Collection[int],
+    verify: Callable[[Question], bool],
+    index: int = 0,
+    critical: Collection[int] = (),
+    external_aad: _Bytes = b"",
+    detached: _Bytes | None = None,
+) -> bytes: ...
+def decrypt(
+    kind: int,
+    data: _Bytes,
+    algorithms: Collection[int],
+    decrypt: Callable[[Question, bytes | None], bytes | None],
+    critical: Collection[int] = (),
+    external_aad: _Bytes = b"",
+    detached: _Bytes | None = None,
+) -> bytes: ...
+def version() -> str: ...
+def status_text(status: int) -> str: ...
 def put(kind: int, data: _Bytes, name: int, value: int | str | _Bytes) -> bytes: ...
 def put_encoded(kind: int, data: _Bytes, name: int | str, value: _Bytes) -> bytes: ...
 def structure_of(
