@@ -14,8 +14,8 @@ pub trait Headed {
     /// The type.
     type Made: CborSerializable + Drop;
 
-    /// The error where a line names no call of the type.
-    fn unknown() -> CoseError;
+    /// What is missing where a line names no call of the type.
+    const CALL: &'static str;
 
     /// Changes the protected header as the word says ([`change`](crate::header::change)).
     ///
@@ -30,17 +30,26 @@ pub trait Headed {
     fn rebuilt(alloc: Global, made: Self::Made) -> Result<Self::Made>;
 }
 
-/// What a call is given beside the message.
+/// The error where a line names no call of the type.
+pub fn unknown<H: Headed>() -> CoseError {
+    CoseError::UnexpectedItem("name", H::CALL)
+}
+
+/// A call that takes a closure, and what it is given beside the message.
 #[derive(Drop)]
-pub struct Given<B> {
+pub struct Given<'a, B> {
+    /// Where memory comes from.
+    pub alloc: Global,
+    /// The call's name.
+    pub name: &'a str,
     /// What the closure returns that judges.
     pub says_yes: bool,
     /// Of `CoseSign` a signature, of `CoseRecipient` a context.
     pub beside: B,
     /// A payload or ciphertext that is detached, or a plaintext.
     pub content: Vec<u8>,
-    /// What is authenticated besides.
-    pub external_aad: Vec<u8>,
+    /// `external_aad`.
+    pub aad: Vec<u8>,
 }
 
 /// The calls of a message, and of its builder, that take closures.
@@ -71,10 +80,8 @@ pub trait Message: Headed {
     /// # Errors
     /// The name isn't known, or the message isn't one of which the call can be made.
     fn ask(
-        alloc: Global,
-        name: &str,
         message: Self::Made,
-        given: Given<Self::Beside>,
+        given: Given<'_, Self::Beside>,
         asked: &mut Asked,
         missed: &mut u32,
     ) -> Result<Answer<Self::Made>>;
@@ -85,10 +92,8 @@ pub trait Message: Headed {
     /// # Errors
     /// The name isn't known, the message isn't one of which the call can be made, or memory ran out.
     fn create(
-        alloc: Global,
-        name: &str,
         message: Self::Made,
-        given: Given<Self::Beside>,
+        given: Given<'_, Self::Beside>,
         asked: &mut Asked,
     ) -> Result<Answer<Self::Made>>;
 }
@@ -101,7 +106,7 @@ pub fn call_headed<H: Headed>(alloc: Global, name: &str, words: &Words<'_>) -> R
     match name {
         "build" => build::<H>(alloc, words),
         "to_vec_with" => tell::written(alloc, headed::<H>(alloc, words)?),
-        _ => Err(H::unknown()),
+        _ => Err(unknown::<H>()),
     }
 }
 
@@ -164,22 +169,24 @@ fn with_closure<M: Message>(
     let mut message: M::Made = spelled::read(alloc, rest.next_word())?;
     let mut beside = M::beside(alloc, name, &mut rest)?;
     let content = next_bytes(alloc, shape.content, &mut rest)?;
-    let external_aad = bytes(alloc, rest.next_word())?;
+    let aad = bytes(alloc, rest.next_word())?;
     let mut asked = not_asked(alloc, shape, says_yes, &mut rest)?;
     M::change(&mut message, rest.next_word())?;
     M::change_beside(&mut message, &mut beside, &mut rest)?;
     let given = Given {
+        alloc,
+        name,
         says_yes,
         beside,
         content,
-        external_aad,
+        aad,
     };
     let mut missed = 0u32;
     let answer = if shape.creates() {
-        M::create(alloc, name, message, given, &mut asked)
+        M::create(message, given, &mut asked)
     } else {
         mark::begin(alloc);
-        M::ask(alloc, name, message, given, &mut asked, &mut missed)
+        M::ask(message, given, &mut asked, &mut missed)
     };
     mark::end(alloc);
     let text = asked.told(alloc, answer?)?;

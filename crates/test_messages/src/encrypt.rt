@@ -1,55 +1,49 @@
 //! Calls of `CoseEncrypt` and its builder.
 
 use crate::missing::no_ciphertext;
-use coset::{
-    CoseEncrypt, CoseEncryptBuilder, CoseError, CoseRecipient, Header, ProtectedHeader, Result,
-};
+use coset::{CoseEncrypt, CoseEncryptBuilder, Result};
 use std::alloc::Global;
 use test_lines::answer::Answer;
 use test_lines::asked::{Asked, missing};
 use test_lines::builder::{and_each, built};
-use test_lines::message::{Given, Headed, Message, and};
+use test_lines::message::{Given, Headed, Message, and, unknown};
 use test_lines::words::{Rest, Words};
 use test_lines::{header, mark};
 
 /// The calls of `CoseEncrypt`.
 pub struct EncryptCalls;
 
-/// A builder with these headers and recipients.
+/// A builder with the message's headers and recipients; and its ciphertext.
 ///
 /// # Errors
 /// `OutOfMemory` alone.
-fn filled(
-    alloc: Global,
-    protected: ProtectedHeader,
-    unprotected: Header,
-    recipients: Vec<CoseRecipient>,
-) -> Result<CoseEncryptBuilder> {
+fn taken(alloc: Global, message: CoseEncrypt) -> Result<(CoseEncryptBuilder, Option<Vec<u8>>)> {
     let builder = CoseEncryptBuilder::new(alloc)
-        .protected(protected.header)
-        .unprotected(unprotected);
-    and_each(builder, recipients)
+        .protected(message.protected.header)
+        .unprotected(message.unprotected);
+    Ok((and_each(builder, message.recipients)?, message.ciphertext))
+}
+
+/// The message, of which the headers and the recipients count; a recipient more.
+///
+/// # Errors
+/// The words are none, or memory ran out.
+pub fn add_recipient(alloc: Global, words: &Words<'_>) -> Result<String> {
+    let (builder, _) = taken(alloc, words.value(alloc, 1)?)?;
+    and(alloc, builder, words)
 }
 
 impl Headed for EncryptCalls {
     type Made = CoseEncrypt;
 
-    fn unknown() -> CoseError {
-        CoseError::UnexpectedItem("name", "call of CoseEncrypt")
-    }
+    const CALL: &'static str = "call of CoseEncrypt";
 
     fn change(message: &mut CoseEncrypt, word: &str) -> Result<()> {
         header::change(&mut message.protected, word)
     }
 
     fn rebuilt(alloc: Global, message: CoseEncrypt) -> Result<CoseEncrypt> {
-        let CoseEncrypt {
-            protected,
-            unprotected,
-            ciphertext,
-            recipients,
-        } = message;
-        let builder = filled(alloc, protected, unprotected, recipients)?;
+        let (builder, ciphertext) = taken(alloc, message)?;
         match ciphertext {
             Some(ciphertext) => Ok(builder.ciphertext_from(alloc, &ciphertext)?.build()),
             None => Ok(builder.build()),
@@ -65,102 +59,70 @@ impl Message for EncryptCalls {
     }
 
     fn ask(
-        alloc: Global,
-        name: &str,
         message: CoseEncrypt,
-        given: Given<()>,
+        given: Given<'_, ()>,
         asked: &mut Asked,
         missed: &mut u32,
     ) -> Result<Answer<CoseEncrypt>> {
-        Ok(match name {
+        let (alloc, content, aad) = (given.alloc, &given.content, &given.aad);
+        let open = move |ciphertext: &[u8], structure: &[u8]| asked.try_make(ciphertext, structure);
+        Ok(match given.name {
             "decrypt" => {
                 if message.ciphertext.is_none() {
                     return Err(no_ciphertext());
                 }
-                Answer::Opened(message.decrypt(
-                    alloc,
-                    &given.external_aad,
-                    move |ciphertext, structure| asked.try_make(ciphertext, structure),
-                ))
+                Answer::Opened(message.decrypt(alloc, aad, open))
             }
             "decrypt_ciphertext" => Answer::Opened(message.decrypt_ciphertext(
                 alloc,
-                &given.external_aad,
+                aad,
                 move || missing(missed),
-                move |ciphertext, structure| asked.try_make(ciphertext, structure),
+                open,
             )),
             "decrypt_detached" => Answer::Opened(message.decrypt_detached(
-                alloc,
-                &given.content,
-                &given.external_aad,
-                move |ciphertext, structure| asked.try_make(ciphertext, structure),
+                alloc, content, aad, open,
             )),
-            "aad" => Answer::Bytes(message.aad(alloc, &given.external_aad)),
-            _ => return Err(EncryptCalls::unknown()),
+            "aad" => Answer::Bytes(message.aad(alloc, aad)),
+            _ => return Err(unknown::<EncryptCalls>()),
         })
     }
 
     fn create(
-        alloc: Global,
-        name: &str,
         message: CoseEncrypt,
-        given: Given<()>,
+        given: Given<'_, ()>,
         asked: &mut Asked,
     ) -> Result<Answer<CoseEncrypt>> {
-        let CoseEncrypt {
-            protected,
-            unprotected,
-            ciphertext: _,
-            recipients,
-        } = message;
-        let builder = filled(alloc, protected, unprotected, recipients)?;
+        let (alloc, content, aad) = (given.alloc, &given.content, &given.aad);
+        let (builder, _) = taken(alloc, message)?;
         mark::begin(alloc);
-        Ok(match name {
+        Ok(match given.name {
             "create_ciphertext" => Answer::Made(built(builder.create_ciphertext(
                 alloc,
-                &given.content,
-                &given.external_aad,
-                move |plaintext, structure| asked.make(plaintext, structure),
+                content,
+                aad,
+                move |a, b| asked.make(a, b),
             ))),
             "try_create_ciphertext" => Answer::Tried(built(builder.try_create_ciphertext(
                 alloc,
-                &given.content,
-                &given.external_aad,
-                move |plaintext, structure| asked.try_make(plaintext, structure),
+                content,
+                aad,
+                move |a, b| asked.try_make(a, b),
             ))),
             "create_detached_ciphertext" => Answer::Sealed(builder.create_detached_ciphertext(
                 alloc,
-                &given.content,
-                &given.external_aad,
-                move |plaintext, structure| asked.make(plaintext, structure),
+                content,
+                aad,
+                move |a, b| asked.make(a, b),
             )),
             "try_create_detached_ciphertext" => Answer::Opened(
                 builder.try_create_detached_ciphertext(
                     alloc,
-                    &given.content,
-                    &given.external_aad,
-                    move |plaintext, structure| asked.try_make(plaintext, structure),
+                    content,
+                    aad,
+                    move |a, b| asked.try_make(a, b),
                 ),
             ),
-            _ => return Err(EncryptCalls::unknown()),
+            _ => return Err(unknown::<EncryptCalls>()),
         })
     }
-}
-
-/// The message, of which the headers and the recipients count; a recipient more.
-///
-/// # Errors
-/// The words are none, or memory ran out.
-pub fn add_recipient(alloc: Global, words: &Words<'_>) -> Result<String> {
-    let CoseEncrypt {
-        protected,
-        unprotected,
-        ciphertext: _,
-        recipients,
-    } = words.value(alloc, 1)?;
-    and(
-        alloc,
-        filled(alloc, protected, unprotected, recipients)?,
-        words,
-    )
 }

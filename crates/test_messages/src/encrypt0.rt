@@ -1,43 +1,37 @@
 //! Calls of `CoseEncrypt0` and its builder.
 
 use crate::missing::no_ciphertext;
-use coset::{CoseEncrypt0, CoseEncrypt0Builder, CoseError, Header, ProtectedHeader, Result};
+use coset::{CoseEncrypt0, CoseEncrypt0Builder, Result};
 use std::alloc::Global;
 use test_lines::answer::Answer;
 use test_lines::asked::{Asked, missing};
 use test_lines::builder::built;
-use test_lines::message::{Given, Headed, Message};
+use test_lines::message::{Given, Headed, Message, unknown};
 use test_lines::words::Rest;
 use test_lines::{header, mark};
 
 /// The calls of `CoseEncrypt0`.
 pub struct Encrypt0Calls;
 
-/// A builder with these headers.
-fn headed(alloc: Global, protected: ProtectedHeader, unprotected: Header) -> CoseEncrypt0Builder {
-    CoseEncrypt0Builder::new(alloc)
-        .protected(protected.header)
-        .unprotected(unprotected)
+/// A builder with the message's headers; and its ciphertext.
+fn taken(alloc: Global, message: CoseEncrypt0) -> (CoseEncrypt0Builder, Option<Vec<u8>>) {
+    let builder = CoseEncrypt0Builder::new(alloc)
+        .protected(message.protected.header)
+        .unprotected(message.unprotected);
+    (builder, message.ciphertext)
 }
 
 impl Headed for Encrypt0Calls {
     type Made = CoseEncrypt0;
 
-    fn unknown() -> CoseError {
-        CoseError::UnexpectedItem("name", "call of CoseEncrypt0")
-    }
+    const CALL: &'static str = "call of CoseEncrypt0";
 
     fn change(message: &mut CoseEncrypt0, word: &str) -> Result<()> {
         header::change(&mut message.protected, word)
     }
 
     fn rebuilt(alloc: Global, message: CoseEncrypt0) -> Result<CoseEncrypt0> {
-        let CoseEncrypt0 {
-            protected,
-            unprotected,
-            ciphertext,
-        } = message;
-        let builder = headed(alloc, protected, unprotected);
+        let (builder, ciphertext) = taken(alloc, message);
         match ciphertext {
             Some(ciphertext) => Ok(builder.ciphertext_from(alloc, &ciphertext)?.build()),
             None => Ok(builder.build()),
@@ -53,83 +47,70 @@ impl Message for Encrypt0Calls {
     }
 
     fn ask(
-        alloc: Global,
-        name: &str,
         message: CoseEncrypt0,
-        given: Given<()>,
+        given: Given<'_, ()>,
         asked: &mut Asked,
         missed: &mut u32,
     ) -> Result<Answer<CoseEncrypt0>> {
-        Ok(match name {
+        let (alloc, content, aad) = (given.alloc, &given.content, &given.aad);
+        let open = move |ciphertext: &[u8], structure: &[u8]| asked.try_make(ciphertext, structure);
+        Ok(match given.name {
             "decrypt" => {
                 if message.ciphertext.is_none() {
                     return Err(no_ciphertext());
                 }
-                Answer::Opened(message.decrypt(
-                    alloc,
-                    &given.external_aad,
-                    move |ciphertext, structure| asked.try_make(ciphertext, structure),
-                ))
+                Answer::Opened(message.decrypt(alloc, aad, open))
             }
             "decrypt_ciphertext" => Answer::Opened(message.decrypt_ciphertext(
                 alloc,
-                &given.external_aad,
+                aad,
                 move || missing(missed),
-                move |ciphertext, structure| asked.try_make(ciphertext, structure),
+                open,
             )),
             "decrypt_detached" => Answer::Opened(message.decrypt_detached(
-                alloc,
-                &given.content,
-                &given.external_aad,
-                move |ciphertext, structure| asked.try_make(ciphertext, structure),
+                alloc, content, aad, open,
             )),
-            "aad" => Answer::Bytes(message.aad(alloc, &given.external_aad)),
-            _ => return Err(Encrypt0Calls::unknown()),
+            "aad" => Answer::Bytes(message.aad(alloc, aad)),
+            _ => return Err(unknown::<Encrypt0Calls>()),
         })
     }
 
     fn create(
-        alloc: Global,
-        name: &str,
         message: CoseEncrypt0,
-        given: Given<()>,
+        given: Given<'_, ()>,
         asked: &mut Asked,
     ) -> Result<Answer<CoseEncrypt0>> {
-        let CoseEncrypt0 {
-            protected,
-            unprotected,
-            ciphertext: _,
-        } = message;
-        let builder = headed(alloc, protected, unprotected);
+        let (alloc, content, aad) = (given.alloc, &given.content, &given.aad);
+        let (builder, _) = taken(alloc, message);
         mark::begin(alloc);
-        Ok(match name {
+        Ok(match given.name {
             "create_ciphertext" => Answer::Made(built(builder.create_ciphertext(
                 alloc,
-                &given.content,
-                &given.external_aad,
-                move |plaintext, structure| asked.make(plaintext, structure),
+                content,
+                aad,
+                move |a, b| asked.make(a, b),
             ))),
             "try_create_ciphertext" => Answer::Tried(built(builder.try_create_ciphertext(
                 alloc,
-                &given.content,
-                &given.external_aad,
-                move |plaintext, structure| asked.try_make(plaintext, structure),
+                content,
+                aad,
+                move |a, b| asked.try_make(a, b),
             ))),
             "create_detached_ciphertext" => Answer::Sealed(builder.create_detached_ciphertext(
                 alloc,
-                &given.content,
-                &given.external_aad,
-                move |plaintext, structure| asked.make(plaintext, structure),
+                content,
+                aad,
+                move |a, b| asked.make(a, b),
             )),
             "try_create_detached_ciphertext" => Answer::Opened(
                 builder.try_create_detached_ciphertext(
                     alloc,
-                    &given.content,
-                    &given.external_aad,
-                    move |plaintext, structure| asked.try_make(plaintext, structure),
+                    content,
+                    aad,
+                    move |a, b| asked.try_make(a, b),
                 ),
             ),
-            _ => return Err(Encrypt0Calls::unknown()),
+            _ => return Err(unknown::<Encrypt0Calls>()),
         })
     }
 }

@@ -1,32 +1,40 @@
 //! Calls of `CoseMac` and its builder.
 
 use crate::missing::no_payload;
-use coset::{CoseError, CoseMac, CoseMacBuilder, CoseRecipient, Header, ProtectedHeader, Result};
+use coset::{CoseMac, CoseMacBuilder, Result};
 use std::alloc::Global;
 use test_lines::answer::Answer;
 use test_lines::asked::{Asked, missing};
 use test_lines::builder::{and_each, built};
-use test_lines::message::{Given, Headed, Message, and};
+use test_lines::message::{Given, Headed, Message, and, unknown};
 use test_lines::words::{Rest, Words};
 use test_lines::{header, mark};
 
 /// The calls of `CoseMac`.
 pub struct MacCalls;
 
-/// A builder with these headers and recipients.
+/// A builder with the message's headers and recipients; its payload, and its tag.
 ///
 /// # Errors
 /// `OutOfMemory` alone.
-fn filled(
-    alloc: Global,
-    protected: ProtectedHeader,
-    unprotected: Header,
-    recipients: Vec<CoseRecipient>,
-) -> Result<CoseMacBuilder> {
+fn taken(alloc: Global, message: CoseMac) -> Result<(CoseMacBuilder, Option<Vec<u8>>, Vec<u8>)> {
     let builder = CoseMacBuilder::new(alloc)
-        .protected(protected.header)
-        .unprotected(unprotected);
-    and_each(builder, recipients)
+        .protected(message.protected.header)
+        .unprotected(message.unprotected);
+    Ok((
+        and_each(builder, message.recipients)?,
+        message.payload,
+        message.tag,
+    ))
+}
+
+/// The message, of which the headers and the recipients count; a recipient more.
+///
+/// # Errors
+/// The words are none, or memory ran out.
+pub fn add_recipient(alloc: Global, words: &Words<'_>) -> Result<String> {
+    let (builder, _, _) = taken(alloc, words.value(alloc, 1)?)?;
+    and(alloc, builder, words)
 }
 
 /// The builder with this payload, where there is one.
@@ -40,23 +48,14 @@ fn with_payload(builder: CoseMacBuilder, payload: Option<Vec<u8>>) -> CoseMacBui
 impl Headed for MacCalls {
     type Made = CoseMac;
 
-    fn unknown() -> CoseError {
-        CoseError::UnexpectedItem("name", "call of CoseMac")
-    }
+    const CALL: &'static str = "call of CoseMac";
 
     fn change(message: &mut CoseMac, word: &str) -> Result<()> {
         header::change(&mut message.protected, word)
     }
 
     fn rebuilt(alloc: Global, message: CoseMac) -> Result<CoseMac> {
-        let CoseMac {
-            protected,
-            unprotected,
-            payload,
-            tag,
-            recipients,
-        } = message;
-        let builder = filled(alloc, protected, unprotected, recipients)?;
+        let (builder, payload, tag) = taken(alloc, message)?;
         let builder = builder.tag_from(alloc, &tag)?;
         match payload {
             Some(payload) => Ok(builder.payload_from(alloc, &payload)?.build()),
@@ -73,77 +72,54 @@ impl Message for MacCalls {
     }
 
     fn ask(
-        alloc: Global,
-        name: &str,
         message: CoseMac,
-        given: Given<()>,
+        given: Given<'_, ()>,
         asked: &mut Asked,
         missed: &mut u32,
     ) -> Result<Answer<CoseMac>> {
-        let says_yes = given.says_yes;
-        Ok(match name {
+        let (alloc, says_yes) = (given.alloc, given.says_yes);
+        let (content, aad) = (&given.content, &given.aad);
+        let judge = move |tag: &[u8], tbm: &[u8]| asked.judge(tag, tbm, says_yes);
+        Ok(match given.name {
             "verify_tag" => {
                 if message.payload.is_none() {
                     return Err(no_payload());
                 }
-                Answer::Judged(message.verify_tag(
-                    alloc,
-                    &given.external_aad,
-                    move |tag, tbm| asked.judge(tag, tbm, says_yes),
-                ))
+                Answer::Judged(message.verify_tag(alloc, aad, judge))
             }
             "verify_payload_tag" => Answer::Judged(message.verify_payload_tag(
                 alloc,
-                &given.external_aad,
+                aad,
                 move || missing(missed),
-                move |tag, tbm| asked.judge(tag, tbm, says_yes),
+                judge,
             )),
-            "verify_detached_tag" => Answer::Judged(message.verify_detached_tag(
-                alloc,
-                &given.content,
-                &given.external_aad,
-                move |tag, tbm| asked.judge(tag, tbm, says_yes),
-            )),
-            "tbm" => Answer::Perhaps(message.tbm(alloc, &given.external_aad)),
-            "tbm_detached" => Answer::Bytes(message.tbm_detached(
-                alloc,
-                &given.content,
-                &given.external_aad,
-            )),
-            _ => return Err(MacCalls::unknown()),
+            "verify_detached_tag" => {
+                Answer::Judged(message.verify_detached_tag(alloc, content, aad, judge))
+            }
+            "tbm" => Answer::Perhaps(message.tbm(alloc, aad)),
+            "tbm_detached" => Answer::Bytes(message.tbm_detached(alloc, content, aad)),
+            _ => return Err(unknown::<MacCalls>()),
         })
     }
 
     fn create(
-        alloc: Global,
-        name: &str,
         message: CoseMac,
-        given: Given<()>,
+        given: Given<'_, ()>,
         asked: &mut Asked,
     ) -> Result<Answer<CoseMac>> {
-        let CoseMac {
-            protected,
-            unprotected,
-            payload,
-            tag: _,
-            recipients,
-        } = message;
-        let builder = filled(alloc, protected, unprotected, recipients)?;
+        let (alloc, content, aad) = (given.alloc, &given.content, &given.aad);
+        let (builder, payload, _) = taken(alloc, message)?;
         mark::begin(alloc);
-        Ok(match name {
+        Ok(match given.name {
             "create_tag" => {
                 let builder = builder.payload(payload.ok_or(no_payload())?);
-                Answer::Made(built(builder.create_tag(
-                    alloc,
-                    &given.external_aad,
-                    move |tbm| asked.make(&[], tbm),
-                )))
+                Answer::Made(built(builder.create_tag(alloc, aad, move |tbm| asked.make(&[], tbm))))
             }
             "try_create_tag" => {
                 let builder = builder.payload(payload.ok_or(no_payload())?);
                 Answer::Tried(built(builder.try_create_tag(
                     alloc,
-                    &given.external_aad,
+                    aad,
                     move |tbm| asked.try_make(&[], tbm),
                 )))
             }
@@ -151,8 +127,8 @@ impl Message for MacCalls {
                 let builder = with_payload(builder, payload);
                 Answer::Made(built(builder.create_detached_tag(
                     alloc,
-                    &given.content,
-                    &given.external_aad,
+                    content,
+                    aad,
                     move |tbm| asked.make(&[], tbm),
                 )))
             }
@@ -160,31 +136,12 @@ impl Message for MacCalls {
                 let builder = with_payload(builder, payload);
                 Answer::Tried(built(builder.try_create_detached_tag(
                     alloc,
-                    &given.content,
-                    &given.external_aad,
+                    content,
+                    aad,
                     move |tbm| asked.try_make(&[], tbm),
                 )))
             }
-            _ => return Err(MacCalls::unknown()),
+            _ => return Err(unknown::<MacCalls>()),
         })
     }
-}
-
-/// The message, of which the headers and the recipients count; a recipient more.
-///
-/// # Errors
-/// The words are none, or memory ran out.
-pub fn add_recipient(alloc: Global, words: &Words<'_>) -> Result<String> {
-    let CoseMac {
-        protected,
-        unprotected,
-        payload: _,
-        tag: _,
-        recipients,
-    } = words.value(alloc, 1)?;
-    and(
-        alloc,
-        filled(alloc, protected, unprotected, recipients)?,
-        words,
-    )
 }

@@ -1,23 +1,24 @@
 //! Calls of `CoseMac0` and its builder.
 
 use crate::missing::no_payload;
-use coset::{CoseError, CoseMac0, CoseMac0Builder, Header, ProtectedHeader, Result};
+use coset::{CoseMac0, CoseMac0Builder, Result};
 use std::alloc::Global;
 use test_lines::answer::Answer;
 use test_lines::asked::{Asked, missing};
 use test_lines::builder::built;
-use test_lines::message::{Given, Headed, Message};
+use test_lines::message::{Given, Headed, Message, unknown};
 use test_lines::words::Rest;
 use test_lines::{header, mark};
 
 /// The calls of `CoseMac0`.
 pub struct Mac0Calls;
 
-/// A builder with these headers.
-fn headed(alloc: Global, protected: ProtectedHeader, unprotected: Header) -> CoseMac0Builder {
-    CoseMac0Builder::new(alloc)
-        .protected(protected.header)
-        .unprotected(unprotected)
+/// A builder with the message's headers; its payload, and its tag.
+fn taken(alloc: Global, message: CoseMac0) -> (CoseMac0Builder, Option<Vec<u8>>, Vec<u8>) {
+    let builder = CoseMac0Builder::new(alloc)
+        .protected(message.protected.header)
+        .unprotected(message.unprotected);
+    (builder, message.payload, message.tag)
 }
 
 /// The builder with this payload, where there is one.
@@ -31,22 +32,14 @@ fn with_payload(builder: CoseMac0Builder, payload: Option<Vec<u8>>) -> CoseMac0B
 impl Headed for Mac0Calls {
     type Made = CoseMac0;
 
-    fn unknown() -> CoseError {
-        CoseError::UnexpectedItem("name", "call of CoseMac0")
-    }
+    const CALL: &'static str = "call of CoseMac0";
 
     fn change(message: &mut CoseMac0, word: &str) -> Result<()> {
         header::change(&mut message.protected, word)
     }
 
     fn rebuilt(alloc: Global, message: CoseMac0) -> Result<CoseMac0> {
-        let CoseMac0 {
-            protected,
-            unprotected,
-            payload,
-            tag,
-        } = message;
-        let builder = headed(alloc, protected, unprotected);
+        let (builder, payload, tag) = taken(alloc, message);
         let builder = builder.tag_from(alloc, &tag)?;
         match payload {
             Some(payload) => Ok(builder.payload_from(alloc, &payload)?.build()),
@@ -63,76 +56,54 @@ impl Message for Mac0Calls {
     }
 
     fn ask(
-        alloc: Global,
-        name: &str,
         message: CoseMac0,
-        given: Given<()>,
+        given: Given<'_, ()>,
         asked: &mut Asked,
         missed: &mut u32,
     ) -> Result<Answer<CoseMac0>> {
-        let says_yes = given.says_yes;
-        Ok(match name {
+        let (alloc, says_yes) = (given.alloc, given.says_yes);
+        let (content, aad) = (&given.content, &given.aad);
+        let judge = move |tag: &[u8], tbm: &[u8]| asked.judge(tag, tbm, says_yes);
+        Ok(match given.name {
             "verify_tag" => {
                 if message.payload.is_none() {
                     return Err(no_payload());
                 }
-                Answer::Judged(message.verify_tag(
-                    alloc,
-                    &given.external_aad,
-                    move |tag, tbm| asked.judge(tag, tbm, says_yes),
-                ))
+                Answer::Judged(message.verify_tag(alloc, aad, judge))
             }
             "verify_payload_tag" => Answer::Judged(message.verify_payload_tag(
                 alloc,
-                &given.external_aad,
+                aad,
                 move || missing(missed),
-                move |tag, tbm| asked.judge(tag, tbm, says_yes),
+                judge,
             )),
-            "verify_detached_tag" => Answer::Judged(message.verify_detached_tag(
-                alloc,
-                &given.content,
-                &given.external_aad,
-                move |tag, tbm| asked.judge(tag, tbm, says_yes),
-            )),
-            "tbm" => Answer::Perhaps(message.tbm(alloc, &given.external_aad)),
-            "tbm_detached" => Answer::Bytes(message.tbm_detached(
-                alloc,
-                &given.content,
-                &given.external_aad,
-            )),
-            _ => return Err(Mac0Calls::unknown()),
+            "verify_detached_tag" => {
+                Answer::Judged(message.verify_detached_tag(alloc, content, aad, judge))
+            }
+            "tbm" => Answer::Perhaps(message.tbm(alloc, aad)),
+            "tbm_detached" => Answer::Bytes(message.tbm_detached(alloc, content, aad)),
+            _ => return Err(unknown::<Mac0Calls>()),
         })
     }
 
     fn create(
-        alloc: Global,
-        name: &str,
         message: CoseMac0,
-        given: Given<()>,
+        given: Given<'_, ()>,
         asked: &mut Asked,
     ) -> Result<Answer<CoseMac0>> {
-        let CoseMac0 {
-            protected,
-            unprotected,
-            payload,
-            tag: _,
-        } = message;
-        let builder = headed(alloc, protected, unprotected);
+        let (alloc, content, aad) = (given.alloc, &given.content, &given.aad);
+        let (builder, payload, _) = taken(alloc, message);
         mark::begin(alloc);
-        Ok(match name {
+        Ok(match given.name {
             "create_tag" => {
                 let builder = builder.payload(payload.ok_or(no_payload())?);
-                Answer::Made(built(builder.create_tag(
-                    alloc,
-                    &given.external_aad,
-                    move |tbm| asked.make(&[], tbm),
-                )))
+                Answer::Made(built(builder.create_tag(alloc, aad, move |tbm| asked.make(&[], tbm))))
             }
             "try_create_tag" => {
                 let builder = builder.payload(payload.ok_or(no_payload())?);
                 Answer::Tried(built(builder.try_create_tag(
                     alloc,
-                    &given.external_aad,
+                    aad,
                     move |tbm| asked.try_make(&[], tbm),
                 )))
             }
@@ -140,8 +111,8 @@ impl Message for Mac0Calls {
                 let builder = with_payload(builder, payload);
                 Answer::Made(built(builder.create_detached_tag(
                     alloc,
-                    &given.content,
-                    &given.external_aad,
+                    content,
+                    aad,
                     move |tbm| asked.make(&[], tbm),
                 )))
             }
@@ -149,12 +120,12 @@ impl Message for Mac0Calls {
                 let builder = with_payload(builder, payload);
                 Answer::Tried(built(builder.try_create_detached_tag(
                     alloc,
-                    &given.content,
-                    &given.external_aad,
+                    content,
+                    aad,
                     move |tbm| asked.try_make(&[], tbm),
                 )))
             }
-            _ => return Err(Mac0Calls::unknown()),
+            _ => return Err(unknown::<Mac0Calls>()),
         })
     }
 }

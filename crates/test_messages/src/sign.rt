@@ -5,7 +5,7 @@ use std::alloc::Global;
 use test_lines::answer::Answer;
 use test_lines::asked::Asked;
 use test_lines::builder::{and_each, built};
-use test_lines::message::{Given, Headed, Message, and};
+use test_lines::message::{Given, Headed, Message, and, unknown};
 use test_lines::words::{Rest, Words, index};
 use test_lines::{header, mark, spelled};
 
@@ -76,9 +76,7 @@ pub fn add_signature(alloc: Global, words: &Words<'_>) -> Result<String> {
 impl Headed for SignCalls {
     type Made = CoseSign;
 
-    fn unknown() -> CoseError {
-        CoseError::UnexpectedItem("name", "call of CoseSign")
-    }
+    const CALL: &'static str = "call of CoseSign";
 
     fn change(message: &mut CoseSign, word: &str) -> Result<()> {
         header::change(&mut message.protected, word)
@@ -130,31 +128,27 @@ impl Message for SignCalls {
     }
 
     fn ask(
-        alloc: Global,
-        name: &str,
         mut message: CoseSign,
-        given: Given<Signer>,
+        given: Given<'_, Signer>,
         asked: &mut Asked,
         _missed: &mut u32,
     ) -> Result<Answer<CoseSign>> {
         let Given {
+            alloc,
+            name,
             says_yes,
             beside,
             content,
-            external_aad,
+            aad,
         } = given;
+        let judge = move |signature: &[u8], tbs: &[u8]| asked.judge(signature, tbs, says_yes);
         Ok(match name {
             "verify_signature" => {
                 let which = beside.place()?;
                 if which >= message.signatures.len() {
                     return Err(no_signature());
                 }
-                Answer::Judged(message.verify_signature(
-                    alloc,
-                    which,
-                    &external_aad,
-                    move |signature, tbs| asked.judge(signature, tbs, says_yes),
-                ))
+                Answer::Judged(message.verify_signature(alloc, which, &aad, judge))
             }
             "verify_detached_signature" => {
                 let which = beside.place()?;
@@ -163,54 +157,54 @@ impl Message for SignCalls {
                 }
                 message.payload = None;
                 Answer::Judged(message.verify_detached_signature(
-                    alloc,
-                    which,
-                    &content,
-                    &external_aad,
-                    move |signature, tbs| asked.judge(signature, tbs, says_yes),
+                    alloc, which, &content, &aad, judge,
                 ))
             }
-            "tbs_data" => Answer::Bytes(message.tbs_data(alloc, &external_aad, &beside.own()?)),
+            "tbs_data" => Answer::Bytes(message.tbs_data(alloc, &aad, &beside.own()?)),
             "tbs_detached_data" => {
                 message.payload = None;
-                Answer::Bytes(message.tbs_detached_data(
-                    alloc,
-                    &content,
-                    &external_aad,
-                    &beside.own()?,
-                ))
+                Answer::Bytes(message.tbs_detached_data(alloc, &content, &aad, &beside.own()?))
             }
-            _ => return Err(SignCalls::unknown()),
+            _ => return Err(unknown::<SignCalls>()),
         })
     }
 
     fn create(
-        alloc: Global,
-        name: &str,
         message: CoseSign,
-        given: Given<Signer>,
+        given: Given<'_, Signer>,
         asked: &mut Asked,
     ) -> Result<Answer<CoseSign>> {
+        let (alloc, name) = (given.alloc, given.name);
         let signature = given.beside.own()?;
-        match name {
-            "add_created_signature" | "try_add_created_signature" => {
-                let builder = filled(alloc, message)?;
-                mark::begin(alloc);
-                created(alloc, name, builder, signature, &given.external_aad, asked)
-            }
-            _ => {
-                mark::begin(alloc);
-                detached(
-                    alloc,
-                    name,
-                    message,
-                    signature,
-                    &given.content,
-                    &given.external_aad,
-                    asked,
-                )
-            }
+        if name.contains("_created_") {
+            let builder = filled(alloc, message)?;
+            mark::begin(alloc);
+            return created(alloc, name, builder, signature, &given.aad, asked);
         }
+        let builder = CoseSignBuilder::new(alloc)
+            .protected(message.protected.header)
+            .unprotected(message.unprotected);
+        let (content, aad) = (&given.content, &given.aad);
+        mark::begin(alloc);
+        Ok(match name {
+            "add_detached_signature" => Answer::Made(built(builder.add_detached_signature(
+                alloc,
+                signature,
+                content,
+                aad,
+                move |tbs| asked.make(&[], tbs),
+            ))),
+            "try_add_detached_signature" => Answer::Tried(built(
+                builder.try_add_detached_signature(
+                    alloc,
+                    signature,
+                    content,
+                    aad,
+                    move |tbs| asked.try_make(&[], tbs),
+                ),
+            )),
+            _ => return Err(unknown::<SignCalls>()),
+        })
     }
 }
 
@@ -223,57 +217,22 @@ fn created(
     name: &str,
     builder: CoseSignBuilder,
     signature: CoseSignature,
-    external_aad: &[u8],
+    aad: &[u8],
     asked: &mut Asked,
 ) -> Result<Answer<CoseSign>> {
     Ok(match name {
         "add_created_signature" => Answer::Made(built(builder.add_created_signature(
             alloc,
             signature,
-            external_aad,
+            aad,
             move |tbs| asked.make(&[], tbs),
         ))),
         "try_add_created_signature" => Answer::Tried(built(builder.try_add_created_signature(
             alloc,
             signature,
-            external_aad,
+            aad,
             move |tbs| asked.try_make(&[], tbs),
         ))),
-        _ => return Err(SignCalls::unknown()),
-    })
-}
-
-/// Makes the call of that name of a builder that has the message's headers alone.
-///
-/// # Errors
-/// The name isn't known.
-fn detached(
-    alloc: Global,
-    name: &str,
-    message: CoseSign,
-    signature: CoseSignature,
-    payload: &[u8],
-    external_aad: &[u8],
-    asked: &mut Asked,
-) -> Result<Answer<CoseSign>> {
-    let builder = CoseSignBuilder::new(alloc)
-        .protected(message.protected.header)
-        .unprotected(message.unprotected);
-    Ok(match name {
-        "add_detached_signature" => Answer::Made(built(builder.add_detached_signature(
-            alloc,
-            signature,
-            payload,
-            external_aad,
-            move |tbs| asked.make(&[], tbs),
-        ))),
-        "try_add_detached_signature" => Answer::Tried(built(builder.try_add_detached_signature(
-            alloc,
-            signature,
-            payload,
-            external_aad,
-            move |tbs| asked.try_make(&[], tbs),
-        ))),
-        _ => return Err(SignCalls::unknown()),
+        _ => return Err(unknown::<SignCalls>()),
     })
 }

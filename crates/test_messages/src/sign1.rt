@@ -1,11 +1,11 @@
 //! Calls of `CoseSign1` and its builder.
 
-use coset::{CoseError, CoseSign1, CoseSign1Builder, Result};
+use coset::{CoseSign1, CoseSign1Builder, Result};
 use std::alloc::Global;
 use test_lines::answer::Answer;
 use test_lines::asked::Asked;
 use test_lines::builder::built;
-use test_lines::message::{Given, Headed, Message};
+use test_lines::message::{Given, Headed, Message, unknown};
 use test_lines::words::Rest;
 use test_lines::{header, mark};
 
@@ -15,9 +15,7 @@ pub struct Sign1Calls;
 impl Headed for Sign1Calls {
     type Made = CoseSign1;
 
-    fn unknown() -> CoseError {
-        CoseError::UnexpectedItem("name", "call of CoseSign1")
-    }
+    const CALL: &'static str = "call of CoseSign1";
 
     fn change(message: &mut CoseSign1, word: &str) -> Result<()> {
         header::change(&mut message.protected, word)
@@ -49,87 +47,71 @@ impl Message for Sign1Calls {
     }
 
     fn ask(
-        alloc: Global,
-        name: &str,
         mut message: CoseSign1,
-        given: Given<()>,
+        given: Given<'_, ()>,
         asked: &mut Asked,
         _missed: &mut u32,
     ) -> Result<Answer<CoseSign1>> {
-        let says_yes = given.says_yes;
-        Ok(match name {
-            "verify_signature" => Answer::Judged(message.verify_signature(
-                alloc,
-                &given.external_aad,
-                move |signature, tbs| asked.judge(signature, tbs, says_yes),
-            )),
+        let (alloc, says_yes) = (given.alloc, given.says_yes);
+        let (content, aad) = (&given.content, &given.aad);
+        let judge = move |signature: &[u8], tbs: &[u8]| asked.judge(signature, tbs, says_yes);
+        Ok(match given.name {
+            "verify_signature" => Answer::Judged(message.verify_signature(alloc, aad, judge)),
             "verify_detached_signature" => {
                 message.payload = None;
-                Answer::Judged(message.verify_detached_signature(
-                    alloc,
-                    &given.content,
-                    &given.external_aad,
-                    move |signature, tbs| asked.judge(signature, tbs, says_yes),
-                ))
+                Answer::Judged(message.verify_detached_signature(alloc, content, aad, judge))
             }
-            "tbs_data" => Answer::Bytes(message.tbs_data(alloc, &given.external_aad)),
+            "tbs_data" => Answer::Bytes(message.tbs_data(alloc, aad)),
             "tbs_detached_data" => {
                 message.payload = None;
-                Answer::Bytes(message.tbs_detached_data(alloc, &given.content, &given.external_aad))
+                Answer::Bytes(message.tbs_detached_data(alloc, content, aad))
             }
-            _ => return Err(Sign1Calls::unknown()),
+            _ => return Err(unknown::<Sign1Calls>()),
         })
     }
 
     fn create(
-        alloc: Global,
-        name: &str,
         message: CoseSign1,
-        given: Given<()>,
+        given: Given<'_, ()>,
         asked: &mut Asked,
     ) -> Result<Answer<CoseSign1>> {
-        let CoseSign1 {
-            protected,
-            unprotected,
-            payload,
-            signature: _,
-        } = message;
+        let (alloc, content, aad) = (given.alloc, &given.content, &given.aad);
         let builder = CoseSign1Builder::new(alloc)
-            .protected(protected.header)
-            .unprotected(unprotected);
+            .protected(message.protected.header)
+            .unprotected(message.unprotected);
         mark::begin(alloc);
-        Ok(match name {
+        Ok(match given.name {
             "create_signature" => {
-                let builder = with_payload(builder, payload);
+                let builder = with_payload(builder, message.payload);
                 Answer::Made(built(builder.create_signature(
                     alloc,
-                    &given.external_aad,
+                    aad,
                     move |tbs| asked.make(&[], tbs),
                 )))
             }
             "try_create_signature" => {
-                let builder = with_payload(builder, payload);
+                let builder = with_payload(builder, message.payload);
                 Answer::Tried(built(builder.try_create_signature(
                     alloc,
-                    &given.external_aad,
+                    aad,
                     move |tbs| asked.try_make(&[], tbs),
                 )))
             }
             "create_detached_signature" => Answer::Made(built(builder.create_detached_signature(
                 alloc,
-                &given.content,
-                &given.external_aad,
+                content,
+                aad,
                 move |tbs| asked.make(&[], tbs),
             ))),
             "try_create_detached_signature" => Answer::Tried(built(
                 builder.try_create_detached_signature(
                     alloc,
-                    &given.content,
-                    &given.external_aad,
+                    content,
+                    aad,
                     move |tbs| asked.try_make(&[], tbs),
                 ),
             )),
-            _ => return Err(Sign1Calls::unknown()),
+            _ => return Err(unknown::<Sign1Calls>()),
         })
     }
 }

@@ -1,8 +1,7 @@
 //! Calls of `CoseSignature` and `CoseCountersignature`, and of their builders.
 
 use coset::{
-    CoseCountersignature, CoseCountersignatureBuilder, CoseError, CoseSignature,
-    CoseSignatureBuilder, Result,
+    CoseCountersignature, CoseCountersignatureBuilder, CoseSignature, CoseSignatureBuilder, Result,
 };
 use std::alloc::Global;
 use test_lines::header;
@@ -14,9 +13,7 @@ pub struct SignatureCalls;
 impl Headed for SignatureCalls {
     type Made = CoseSignature;
 
-    fn unknown() -> CoseError {
-        CoseError::UnexpectedItem("name", "call of CoseSignature")
-    }
+    const CALL: &'static str = "call of CoseSignature";
 
     fn change(made: &mut CoseSignature, word: &str) -> Result<()> {
         header::change(&mut made.protected, word)
@@ -42,9 +39,7 @@ pub struct CountersignatureCalls;
 impl Headed for CountersignatureCalls {
     type Made = CoseCountersignature;
 
-    fn unknown() -> CoseError {
-        CoseError::UnexpectedItem("name", "call of CoseCountersignature")
-    }
+    const CALL: &'static str = "call of CoseCountersignature";
 
     fn change(made: &mut CoseCountersignature, word: &str) -> Result<()> {
         header::change(&mut made.protected, word)

@@ -3,15 +3,12 @@
 ghost use Rattle.std.specs.Prelude.{IfOk};
 ghost use Rattle.coset_recipient.specs.Recipient.{IsOfRecipient};
 
-use coset::{
-    CoseError, CoseRecipient, CoseRecipientBuilder, EncryptionContext, Header, ProtectedHeader,
-    Result,
-};
+use coset::{CoseError, CoseRecipient, CoseRecipientBuilder, EncryptionContext, Result};
 use std::alloc::Global;
 use test_lines::answer::Answer;
 use test_lines::asked::{Asked, missing};
 use test_lines::builder::{and_each, built};
-use test_lines::message::{Given, Headed, Message, and};
+use test_lines::message::{Given, Headed, Message, and, unknown};
 use test_lines::words::{Rest, Words};
 use test_lines::{header, mark};
 
@@ -47,20 +44,21 @@ fn of_recipient(context: EncryptionContext) -> Result<EncryptionContext>
     }
 }
 
-/// A builder with these headers and recipients.
+/// A builder with the recipient's headers and recipients; and its ciphertext.
 ///
 /// # Errors
 /// `OutOfMemory` alone.
-fn filled(
+fn taken(
     alloc: Global,
-    protected: ProtectedHeader,
-    unprotected: Header,
-    recipients: Vec<CoseRecipient>,
-) -> Result<CoseRecipientBuilder> {
+    recipient: CoseRecipient,
+) -> Result<(CoseRecipientBuilder, Option<Vec<u8>>)> {
     let builder = CoseRecipientBuilder::new(alloc)
-        .protected(protected.header)
-        .unprotected(unprotected);
-    and_each(builder, recipients)
+        .protected(recipient.protected.header)
+        .unprotected(recipient.unprotected);
+    Ok((
+        and_each(builder, recipient.recipients)?,
+        recipient.ciphertext,
+    ))
 }
 
 /// The recipient, of which the headers and the recipients count; a recipient more.
@@ -68,38 +66,21 @@ fn filled(
 /// # Errors
 /// The words are none, or memory ran out.
 pub fn add_recipient(alloc: Global, words: &Words<'_>) -> Result<String> {
-    let CoseRecipient {
-        protected,
-        unprotected,
-        ciphertext: _,
-        recipients,
-    } = words.value(alloc, 1)?;
-    and(
-        alloc,
-        filled(alloc, protected, unprotected, recipients)?,
-        words,
-    )
+    let (builder, _) = taken(alloc, words.value(alloc, 1)?)?;
+    and(alloc, builder, words)
 }
 
 impl Headed for RecipientCalls {
     type Made = CoseRecipient;
 
-    fn unknown() -> CoseError {
-        CoseError::UnexpectedItem("name", "call of CoseRecipient")
-    }
+    const CALL: &'static str = "call of CoseRecipient";
 
     fn change(recipient: &mut CoseRecipient, word: &str) -> Result<()> {
         header::change(&mut recipient.protected, word)
     }
 
     fn rebuilt(alloc: Global, recipient: CoseRecipient) -> Result<CoseRecipient> {
-        let CoseRecipient {
-            protected,
-            unprotected,
-            ciphertext,
-            recipients,
-        } = recipient;
-        let builder = filled(alloc, protected, unprotected, recipients)?;
+        let (builder, ciphertext) = taken(alloc, recipient)?;
         match ciphertext {
             Some(ciphertext) => Ok(builder.ciphertext_from(alloc, &ciphertext)?.build()),
             None => Ok(builder.build()),
@@ -115,73 +96,60 @@ impl Message for RecipientCalls {
     }
 
     fn ask(
-        alloc: Global,
-        name: &str,
         recipient: CoseRecipient,
-        given: Given<EncryptionContext>,
+        given: Given<'_, EncryptionContext>,
         asked: &mut Asked,
         missed: &mut u32,
     ) -> Result<Answer<CoseRecipient>> {
-        if name == "aad" {
-            let answer = recipient.aad(alloc, given.beside, &given.external_aad);
-            return Ok(Answer::Bytes(answer));
+        let (alloc, aad) = (given.alloc, &given.aad);
+        if given.name == "aad" {
+            return Ok(Answer::Bytes(recipient.aad(alloc, given.beside, aad)));
         }
         let context = of_recipient(given.beside)?;
-        Ok(match name {
+        let open = move |ciphertext: &[u8], structure: &[u8]| asked.try_make(ciphertext, structure);
+        Ok(match given.name {
             "decrypt" => {
                 if recipient.ciphertext.is_none() {
                     return Err(CoseError::UnexpectedItem("no ciphertext", "ciphertext"));
                 }
-                Answer::Opened(recipient.decrypt(
-                    alloc,
-                    context,
-                    &given.external_aad,
-                    move |ciphertext, structure| asked.try_make(ciphertext, structure),
-                ))
+                Answer::Opened(recipient.decrypt(alloc, context, aad, open))
             }
             "decrypt_ciphertext" => Answer::Opened(recipient.decrypt_ciphertext(
                 alloc,
                 context,
-                &given.external_aad,
+                aad,
                 move || missing(missed),
-                move |ciphertext, structure| asked.try_make(ciphertext, structure),
+                open,
             )),
-            _ => return Err(RecipientCalls::unknown()),
+            _ => return Err(unknown::<RecipientCalls>()),
         })
     }
 
     fn create(
-        alloc: Global,
-        name: &str,
         recipient: CoseRecipient,
-        given: Given<EncryptionContext>,
+        given: Given<'_, EncryptionContext>,
         asked: &mut Asked,
     ) -> Result<Answer<CoseRecipient>> {
-        let CoseRecipient {
-            protected,
-            unprotected,
-            ciphertext: _,
-            recipients,
-        } = recipient;
+        let (alloc, content, aad) = (given.alloc, &given.content, &given.aad);
         let context = of_recipient(given.beside)?;
-        let builder = filled(alloc, protected, unprotected, recipients)?;
+        let (builder, _) = taken(alloc, recipient)?;
         mark::begin(alloc);
-        Ok(match name {
+        Ok(match given.name {
             "create_ciphertext" => Answer::Made(built(builder.create_ciphertext(
                 alloc,
                 context,
-                &given.content,
-                &given.external_aad,
-                move |plaintext, structure| asked.make(plaintext, structure),
+                content,
+                aad,
+                move |a, b| asked.make(a, b),
             ))),
             "try_create_ciphertext" => Answer::Tried(built(builder.try_create_ciphertext(
                 alloc,
                 context,
-                &given.content,
-                &given.external_aad,
-                move |plaintext, structure| asked.try_make(plaintext, structure),
+                content,
+                aad,
+                move |a, b| asked.try_make(a, b),
             ))),
-            _ => return Err(RecipientCalls::unknown()),
+            _ => return Err(unknown::<RecipientCalls>()),
         })
     }
 }
