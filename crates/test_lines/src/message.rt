@@ -105,7 +105,7 @@ pub trait Message: Headed {
 pub fn call_headed<H: Headed>(alloc: Global, name: &str, words: &Words<'_>) -> Result<String> {
     match name {
         "build" => build::<H>(alloc, words),
-        "to_vec_with" => tell::written(alloc, headed::<H>(alloc, words)?),
+        "to_vec_with" => tell::written(alloc, changed::<H>(alloc, words)?),
         _ => Err(unknown::<H>()),
     }
 }
@@ -122,7 +122,7 @@ pub fn call<M: Message>(alloc: Global, name: &str, words: &Words<'_>) -> Result<
 }
 
 /// The value of the first word, with its protected header as the second one says.
-fn headed<H: Headed>(alloc: Global, words: &Words<'_>) -> Result<H::Made> {
+fn changed<H: Headed>(alloc: Global, words: &Words<'_>) -> Result<H::Made> {
     let mut made: H::Made = words.value(alloc, 1)?;
     H::change(&mut made, words.word(2))?;
     Ok(made)
@@ -130,7 +130,7 @@ fn headed<H: Headed>(alloc: Global, words: &Words<'_>) -> Result<H::Made> {
 
 /// The value; what becomes of its protected header.
 fn build<H: Headed>(alloc: Global, words: &Words<'_>) -> Result<String> {
-    let made = headed::<H>(alloc, words)?;
+    let made = changed::<H>(alloc, words)?;
     mark::begin(alloc);
     let answer = H::rebuilt(alloc, made);
     mark::end(alloc);

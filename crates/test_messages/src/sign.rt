@@ -31,7 +31,7 @@ impl Signer {
     }
 
     /// The signature of its own.
-    fn own(self) -> Result<CoseSignature> {
+    fn signature(self) -> Result<CoseSignature> {
         match self {
             Signer::At(_) => Err(no_signature()),
             Signer::Own(signature) => Ok(signature),
@@ -160,10 +160,10 @@ impl Message for SignCalls {
                     alloc, which, &content, &aad, judge,
                 ))
             }
-            "tbs_data" => Answer::Bytes(message.tbs_data(alloc, &aad, &beside.own()?)),
+            "tbs_data" => Answer::Bytes(message.tbs_data(alloc, &aad, &beside.signature()?)),
             "tbs_detached_data" => {
                 message.payload = None;
-                Answer::Bytes(message.tbs_detached_data(alloc, &content, &aad, &beside.own()?))
+                Answer::Bytes(message.tbs_detached_data(alloc, &content, &aad, &beside.signature()?))
             }
             _ => return Err(unknown::<SignCalls>()),
         })
@@ -175,7 +175,7 @@ impl Message for SignCalls {
         asked: &mut Asked,
     ) -> Result<Answer<CoseSign>> {
         let (alloc, name) = (given.alloc, given.name);
-        let signature = given.beside.own()?;
+        let signature = given.beside.signature()?;
         if name.contains("_created_") {
             let builder = filled(alloc, message)?;
             mark::begin(alloc);
