@@ -4,8 +4,8 @@
 //!
 //! Who signs makes a [`CoseSign1`] (its builder's `create_signature` signs it with a closure), and writes it with
 //! `to_vec` of [`CborSerializable`], or `to_tagged_vec` of [`TaggedCborSerializable`]. Who verifies reads it with
-//! `from_slice`, `from_tagged_slice` or, whether it is tagged or not, `from_any_slice`, and calls `verify_signature` with a closure, which is given the signature and
-//! what it is over: the bytes as they were received. Somebody else's signature over a message is in its header as a
+//! `from_slice`, `from_tagged_slice` or, whether it is tagged or not, `from_any_slice`, and calls `verify_signature` with a
+//! closure, which is given the signature and what it is over: the bytes as they were received. Somebody else's signature over a message is in its header as a
 //! [`CoseCountersignature`], which [`verify_countersignature`] verifies. A message with a MAC ([`CoseMac0`]) is made by
 //! `create_tag` and verified by `verify_tag`, an encrypted one ([`CoseEncrypt0`]) is made by `create_ciphertext` and read
 //! by `decrypt`; [`CoseMac`] and [`CoseEncrypt`] have recipients besides ([`CoseRecipient`]). Keys are [`CoseKey`] and
@@ -22,6 +22,7 @@ pub use coset_claims::{
     CoseKdfContext, CoseKdfContextBuilder, Nonce, PartyInfo, PartyInfoBuilder, SuppPubInfo,
     SuppPubInfoBuilder,
 };
+pub use coset_codec::read::{Decoder, ItemSource};
 pub use coset_key::{
     CoseKey, CoseKeyBuilder, CoseKeySet, MlDsaVariant, ParseSec1OctetStringError,
     ToSec1OctetStringError,

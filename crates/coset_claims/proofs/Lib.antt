@@ -5,3 +5,6 @@ pub mod Elements
 pub mod ByteStrings
 pub mod ClaimSplitting
 mod Comparing
+mod Months
+mod Years
+mod WrittenMoments

@@ -1,5 +1,6 @@
 pub mod NumberView
 pub mod Timestamp
+pub mod Dates
 pub mod Seconds
 pub mod ClaimLabels
 pub mod Claims

@@ -3,6 +3,7 @@
 
 mod claims_set;
 mod context;
+mod date;
 mod known;
 mod number;
 mod party;

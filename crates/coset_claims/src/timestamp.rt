@@ -7,6 +7,7 @@ ghost use Rattle.coset_codec.specs.declared.error.CoseError.TheVariants.{OutOfMe
 ghost use Rattle.coset_claims.specs.Seconds.{is_after, seconds_cmp};
 ghost use Rattle.coset_claims.specs.Timestamp.{timestamp, timestamp_eq, timestamp_eq_equiv, timestamp_view};
 
+use crate::date::{write_fraction, write_seconds};
 use crate::number::{self, number_of};
 use coset_cbor::value::{Float, Value};
 use coset_codec::read::Decoder;
@@ -14,6 +15,7 @@ use coset_codec::write::Encode;
 use coset_codec::{Codec, Result};
 use std::alloc::{AllocError, Global};
 use std::cmp::Ordering;
+use std::fmt;
 
 /// Seconds since 1970 began in UTC, without leap seconds (RFC 8392, section 2; RFC 8949, section 3.4.2).
 ///
@@ -60,6 +62,22 @@ impl Codec for Timestamp {
         match self {
             Timestamp::WholeSeconds(seconds) => seconds.encode(alloc, out),
             Timestamp::FractionalSeconds(seconds) => Value::Float(*seconds).encode(alloc, out),
+        }
+    }
+}
+
+/// The moment in UTC as RFC 3339 writes it (section 5.6), of a float with its microseconds: `2013-03-21T20:04:00Z` or
+/// `2015-10-04T07:49:04.500000Z`. Before the year 1, after the year 9999, and where a float is no moment, it is the number
+/// of seconds, as in `-62135596801 seconds since 1970`.
+impl fmt::Display for Timestamp {
+    ghost use Rattle.coset_claims.specs.Dates.{timestamp_output};
+
+    ghost output = { timestamp_output };
+
+    fn fmt<W: fmt::Write>(&self, f: &mut fmt::Formatter<W>) -> fmt::Result {
+        match self {
+            Timestamp::WholeSeconds(seconds) => write_seconds(*seconds, f),
+            Timestamp::FractionalSeconds(seconds) => write_fraction(seconds.to_f64(), f),
         }
     }
 }

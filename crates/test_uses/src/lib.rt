@@ -34,4 +34,6 @@ mod signers;
 #[cfg(test)]
 mod stores;
 #[cfg(test)]
+mod timestamps;
+#[cfg(test)]
 mod tokens;

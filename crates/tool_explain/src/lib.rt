@@ -5,7 +5,6 @@
 mod apart;
 mod column;
 mod cover;
-mod date;
 mod faults;
 mod frame;
 mod guess;

@@ -1,12 +1,12 @@
 //! What there is to say of an item, by its head.
 
 use crate::cover::of_element;
-use crate::date::{has_date, push_date};
 use crate::frame::Frame;
 use crate::head::{argument, integer, is_shortest};
 use crate::role::{Part, Role, is_private, is_registered, name_of, title};
-use crate::text::is_nan;
+use crate::text::float;
 use coset::cbor::head::{Head, MajorType};
+use coset::cwt::Timestamp;
 use std::alloc::AllocError;
 
 /// The note of a line, to which pieces are added.
@@ -37,19 +37,22 @@ impl Notes<'_> {
         self.text.push_str(piece)
     }
 
-    /// Adds the date of a number of seconds, and whether a token is valid at the moment `now`, where that is known (RFC
-    /// 8392, section 3.1).
-    fn add_date(&mut self, role: Role, seconds: i64, now: Option<i64>) -> Result<(), AllocError> {
+    /// Adds the date of a timestamp, and whether a token is valid at the moment `now`, where that is known (RFC 8392,
+    /// section 3.1).
+    fn add_date(
+        &mut self,
+        role: Role,
+        timestamp: &Timestamp,
+        now: Option<i64>,
+    ) -> Result<(), AllocError> {
         if !matches!(role, Role::Expiry | Role::Start | Role::Time) {
             return Ok(());
         }
-        if has_date(seconds) {
-            self.begin()?;
-            push_date(self.text, seconds)?;
-        }
+        self.begin()?;
+        write!(self.text, "{timestamp}")?;
         match (role, now) {
-            (Role::Expiry, Some(now)) if seconds <= now => self.add("expired"),
-            (Role::Start, Some(now)) if now < seconds => self.add("not valid yet"),
+            (Role::Expiry, Some(now)) if !timestamp.is_after(now) => self.add("expired"),
+            (Role::Start, Some(now)) if timestamp.is_after(now) => self.add("not valid yet"),
             _ => Ok(()),
         }
     }
@@ -99,7 +102,7 @@ fn detached(frame: &Frame, head: &Head) -> &'static str {
 
 /// Adds the bits of a NaN, whose payload diagnostic notation doesn't show (RFC 8949, section 8).
 fn add_bits(notes: &mut Notes<'_>, head: &Head) -> Result<(), AllocError> {
-    if !head.is_float() || !is_nan(head) {
+    if !head.is_float() || !float(head).to_f64().is_nan() {
         return Ok(());
     }
     notes.begin()?;
@@ -137,7 +140,10 @@ pub(crate) fn push(
     notes.add(detached(frame, head))?;
     if let Some(number) = integer(head) {
         notes.add(name(part.role, number))?;
-        notes.add_date(part.role, number, now)?;
+        notes.add_date(part.role, &Timestamp::WholeSeconds(number), now)?;
+    }
+    if head.is_float() {
+        notes.add_date(part.role, &Timestamp::FractionalSeconds(float(head)), now)?;
     }
     notes.add(unprotected(frame, part.role))?;
     if head.major_type == MajorType::Array || head.major_type == MajorType::Map {

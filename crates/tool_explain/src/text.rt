@@ -2,8 +2,8 @@
 
 use crate::head::{argument, is_shortest};
 use coset::cbor::head::{Head, MajorType};
+use coset::cbor::value::Float;
 use std::alloc::{AllocError, Global};
-use std::num::{f32_from_bits_with_nan, f64_from_bits_with_nan};
 
 /// Whether each byte is a printable character of ASCII, and there is one.
 fn is_printable(bytes: &[u8]) -> bool {
@@ -66,67 +66,27 @@ fn push_negative(text: &mut String, number: u64) -> Result<(), AllocError> {
     }
 }
 
-/// The double with the value of a half that is finite.
-fn half_value(half: u16) -> f64 {
-    let mantissa = half % 1_024;
-    let exponent = half / 1_024 % 32;
-    let value = if exponent == 0 {
-        f64::from(mantissa) / 16_777_216.0
-    } else {
-        let exponent = u64::from(exponent) + 1_008;
-        f64_from_bits_with_nan(
-            exponent * 0x0010_0000_0000_0000 + u64::from(mantissa) * 0x0400_0000_0000,
-        )
-    };
-    if half < 32_768 { value } else { -value }
-}
-
-/// The value of a float that is finite.
-fn float_value(head: &Head) -> f64 {
-    let number = argument(head);
+/// A float with this head.
+pub(crate) fn float(head: &Head) -> Float {
+    let bits = argument(head);
     match head.width() {
-        2 => half_value((number % 65_536) as u16),
-        4 => f64::from(f32_from_bits_with_nan((number % 4_294_967_296) as u32)),
-        _ => f64_from_bits_with_nan(number),
+        2 => Float::Half((bits % 65_536) as u16),
+        4 => Float::Single((bits % 4_294_967_296) as u32),
+        _ => Float::Double(bits),
     }
-}
-
-/// How a float is spelled that is no finite number; `None` of others.
-fn special(head: &Head) -> Option<&'static str> {
-    let number = argument(head);
-    let (bits, sign, infinity) = match head.width() {
-        2 => (number % 32_768, 32_768, 0x7c00),
-        4 => (number % 2_147_483_648, 2_147_483_648, 0x7f80_0000),
-        _ => (
-            number % 0x8000_0000_0000_0000,
-            0x8000_0000_0000_0000,
-            0x7ff0_0000_0000_0000,
-        ),
-    };
-    if bits < infinity {
-        None
-    } else if infinity < bits {
-        Some("NaN")
-    } else if number < sign {
-        Some("Infinity")
-    } else {
-        Some("-Infinity")
-    }
-}
-
-/// Whether a float is no number.
-pub(crate) fn is_nan(head: &Head) -> bool {
-    special(head) == Some("NaN")
 }
 
 /// Adds a float.
 fn push_float(text: &mut String, head: &Head) -> Result<(), AllocError> {
-    match special(head) {
-        Some(name) => text.push_str(name),
-        None => {
-            let value = float_value(head);
-            write!(text, "{value:?}")
-        }
+    let value = float(head).to_f64();
+    if value.is_nan() {
+        text.push_str("NaN")
+    } else if value.is_finite() {
+        write!(text, "{value:?}")
+    } else if value > 0.0 {
+        text.push_str("Infinity")
+    } else {
+        text.push_str("-Infinity")
     }
 }
 
