@@ -163,7 +163,12 @@ impl Message for SignCalls {
             "tbs_data" => Answer::Bytes(message.tbs_data(alloc, &aad, &beside.signature()?)),
             "tbs_detached_data" => {
                 message.payload = None;
-                Answer::Bytes(message.tbs_detached_data(alloc, &content, &aad, &beside.signature()?))
+                Answer::Bytes(message.tbs_detached_data(
+                    alloc,
+                    &content,
+                    &aad,
+                    &beside.signature()?,
+                ))
             }
             _ => return Err(unknown::<SignCalls>()),
         })
