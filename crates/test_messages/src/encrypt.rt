@@ -18,10 +18,16 @@ pub struct EncryptCalls;
 /// # Errors
 /// `OutOfMemory` alone.
 fn taken(alloc: Global, message: CoseEncrypt) -> Result<(CoseEncryptBuilder, Option<Vec<u8>>)> {
+    let CoseEncrypt {
+        protected,
+        unprotected,
+        ciphertext,
+        recipients,
+    } = message;
     let builder = CoseEncryptBuilder::new(alloc)
-        .protected(message.protected.header)
-        .unprotected(message.unprotected);
-    Ok((and_each(builder, message.recipients)?, message.ciphertext))
+        .protected(protected.header)
+        .unprotected(unprotected);
+    Ok((and_each(builder, recipients)?, ciphertext))
 }
 
 /// The message, of which the headers and the recipients count; a recipient more.

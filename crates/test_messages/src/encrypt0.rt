@@ -15,10 +15,15 @@ pub struct Encrypt0Calls;
 
 /// A builder with the message's headers; and its ciphertext.
 fn taken(alloc: Global, message: CoseEncrypt0) -> (CoseEncrypt0Builder, Option<Vec<u8>>) {
+    let CoseEncrypt0 {
+        protected,
+        unprotected,
+        ciphertext,
+    } = message;
     let builder = CoseEncrypt0Builder::new(alloc)
-        .protected(message.protected.header)
-        .unprotected(message.unprotected);
-    (builder, message.ciphertext)
+        .protected(protected.header)
+        .unprotected(unprotected);
+    (builder, ciphertext)
 }
 
 impl Headed for Encrypt0Calls {

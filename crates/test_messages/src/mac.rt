@@ -18,14 +18,17 @@ pub struct MacCalls;
 /// # Errors
 /// `OutOfMemory` alone.
 fn taken(alloc: Global, message: CoseMac) -> Result<(CoseMacBuilder, Option<Vec<u8>>, Vec<u8>)> {
+    let CoseMac {
+        protected,
+        unprotected,
+        payload,
+        tag,
+        recipients,
+    } = message;
     let builder = CoseMacBuilder::new(alloc)
-        .protected(message.protected.header)
-        .unprotected(message.unprotected);
-    Ok((
-        and_each(builder, message.recipients)?,
-        message.payload,
-        message.tag,
-    ))
+        .protected(protected.header)
+        .unprotected(unprotected);
+    Ok((and_each(builder, recipients)?, payload, tag))
 }
 
 /// The message, of which the headers and the recipients count; a recipient more.

@@ -15,10 +15,16 @@ pub struct Mac0Calls;
 
 /// A builder with the message's headers; its payload, and its tag.
 fn taken(alloc: Global, message: CoseMac0) -> (CoseMac0Builder, Option<Vec<u8>>, Vec<u8>) {
+    let CoseMac0 {
+        protected,
+        unprotected,
+        payload,
+        tag,
+    } = message;
     let builder = CoseMac0Builder::new(alloc)
-        .protected(message.protected.header)
-        .unprotected(message.unprotected);
-    (builder, message.payload, message.tag)
+        .protected(protected.header)
+        .unprotected(unprotected);
+    (builder, payload, tag)
 }
 
 /// The builder with this payload, where there is one.

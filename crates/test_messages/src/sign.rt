@@ -186,9 +186,15 @@ impl Message for SignCalls {
             mark::begin(alloc);
             return created(alloc, name, builder, signature, &given.aad, asked);
         }
+        let CoseSign {
+            protected,
+            unprotected,
+            payload: _,
+            signatures: _,
+        } = message;
         let builder = CoseSignBuilder::new(alloc)
-            .protected(message.protected.header)
-            .unprotected(message.unprotected);
+            .protected(protected.header)
+            .unprotected(unprotected);
         let (content, aad) = (&given.content, &given.aad);
         mark::begin(alloc);
         Ok(match name {

@@ -76,13 +76,19 @@ impl Message for Sign1Calls {
         asked: &mut Asked,
     ) -> Result<Answer<CoseSign1>> {
         let (alloc, content, aad) = (given.alloc, &given.content, &given.aad);
+        let CoseSign1 {
+            protected,
+            unprotected,
+            payload,
+            signature: _,
+        } = message;
         let builder = CoseSign1Builder::new(alloc)
-            .protected(message.protected.header)
-            .unprotected(message.unprotected);
+            .protected(protected.header)
+            .unprotected(unprotected);
         mark::begin(alloc);
         Ok(match given.name {
             "create_signature" => {
-                let builder = with_payload(builder, message.payload);
+                let builder = with_payload(builder, payload);
                 Answer::Made(built(builder.create_signature(
                     alloc,
                     aad,
@@ -90,7 +96,7 @@ impl Message for Sign1Calls {
                 )))
             }
             "try_create_signature" => {
-                let builder = with_payload(builder, message.payload);
+                let builder = with_payload(builder, payload);
                 Answer::Tried(built(builder.try_create_signature(
                     alloc,
                     aad,

@@ -52,13 +52,16 @@ fn taken(
     alloc: Global,
     recipient: CoseRecipient,
 ) -> Result<(CoseRecipientBuilder, Option<Vec<u8>>)> {
+    let CoseRecipient {
+        protected,
+        unprotected,
+        ciphertext,
+        recipients,
+    } = recipient;
     let builder = CoseRecipientBuilder::new(alloc)
-        .protected(recipient.protected.header)
-        .unprotected(recipient.unprotected);
-    Ok((
-        and_each(builder, recipient.recipients)?,
-        recipient.ciphertext,
-    ))
+        .protected(protected.header)
+        .unprotected(unprotected);
+    Ok((and_each(builder, recipients)?, ciphertext))
 }
 
 /// The recipient, of which the headers and the recipients count; a recipient more.
