@@ -11,8 +11,9 @@ use std::alloc::Global;
 
 /// The calls of a type that has a protected header and a builder.
 pub trait Headed {
-    /// The type.
-    type Made: CborSerializable + Drop;
+    /// The type. That it is read and written is asked of it by each function that does so: the toolchain of today fails at
+    /// an `impl` whose associated type has to have `CborSerializable`.
+    type Made: Drop;
 
     /// What is missing where a line names no call of the type.
     const CALL: &'static str;
@@ -102,7 +103,10 @@ pub trait Message: Headed {
 ///
 /// # Errors
 /// What it is given can't be made of the words, or the name isn't known.
-pub fn call_headed<H: Headed>(alloc: Global, name: &str, words: &Words<'_>) -> Result<String> {
+pub fn call_headed<H: Headed>(alloc: Global, name: &str, words: &Words<'_>) -> Result<String>
+where
+    H::Made: CborSerializable,
+{
     match name {
         "build" => build::<H>(alloc, words),
         "to_vec_with" => tell::written(alloc, changed::<H>(alloc, words)?),
@@ -114,7 +118,10 @@ pub fn call_headed<H: Headed>(alloc: Global, name: &str, words: &Words<'_>) -> R
 ///
 /// # Errors
 /// The same as [`call_headed`].
-pub fn call<M: Message>(alloc: Global, name: &str, words: &Words<'_>) -> Result<String> {
+pub fn call<M: Message>(alloc: Global, name: &str, words: &Words<'_>) -> Result<String>
+where
+    M::Made: CborSerializable,
+{
     match Shape::of(name) {
         Some(shape) => with_closure::<M>(alloc, name, shape, words),
         None => call_headed::<M>(alloc, name, words),
@@ -122,14 +129,20 @@ pub fn call<M: Message>(alloc: Global, name: &str, words: &Words<'_>) -> Result<
 }
 
 /// The value of the first word, with its protected header as the second one says.
-fn changed<H: Headed>(alloc: Global, words: &Words<'_>) -> Result<H::Made> {
+fn changed<H: Headed>(alloc: Global, words: &Words<'_>) -> Result<H::Made>
+where
+    H::Made: CborSerializable,
+{
     let mut made: H::Made = words.value(alloc, 1)?;
     H::change(&mut made, words.word(2))?;
     Ok(made)
 }
 
 /// The value; what becomes of its protected header.
-fn build<H: Headed>(alloc: Global, words: &Words<'_>) -> Result<String> {
+fn build<H: Headed>(alloc: Global, words: &Words<'_>) -> Result<String>
+where
+    H::Made: CborSerializable,
+{
     let made = changed::<H>(alloc, words)?;
     mark::begin(alloc);
     let answer = H::rebuilt(alloc, made);
@@ -159,7 +172,10 @@ fn with_closure<M: Message>(
     name: &str,
     shape: Shape,
     words: &Words<'_>,
-) -> Result<String> {
+) -> Result<String>
+where
+    M::Made: CborSerializable,
+{
     let mut rest = words.after_name();
     let says_yes = if shape.may_refuse() {
         says_yes(rest.next_word())?
