@@ -1,5 +1,6 @@
 //! Closures that calls are given: what they answer, what they were handed, and how often they were called.
 
+use crate::answer::Answer;
 use crate::tell;
 use coset::{CallError, CborSerializable, Result};
 use std::alloc::Global;
@@ -157,6 +158,41 @@ impl Asked {
         };
         self.behind(alloc, text)
     }
+
+    /// The same where the closure didn't refuse.
+    ///
+    /// # Errors
+    /// `OutOfMemory` alone.
+    pub fn sealed(&self, alloc: Global, answer: Result<Vec<u8>>) -> Result<String> {
+        let text = tell::bytes(alloc, answer)?;
+        self.behind(alloc, text)
+    }
+
+    /// What a call of a message or of its builder gave.
+    ///
+    /// # Errors
+    /// `OutOfMemory` alone.
+    pub fn told<T: CborSerializable + Drop>(
+        &self,
+        alloc: Global,
+        answer: Answer<T>,
+    ) -> Result<String> {
+        match answer {
+            Answer::Bytes(answer) => tell::bytes(alloc, answer),
+            Answer::Perhaps(answer) => tell::perhaps(alloc, answer),
+            Answer::Judged(answer) => self.judged(alloc, answer),
+            Answer::Opened(answer) => self.opened(alloc, answer),
+            Answer::Sealed(answer) => self.sealed(alloc, answer),
+            Answer::Made(answer) => self.made(alloc, answer),
+            Answer::Tried(answer) => self.tried(alloc, answer),
+        }
+    }
+}
+
+/// The closure says that what the message would carry is missing: it is called once more, and refuses.
+pub fn missing(missed: &mut u32) -> No {
+    *missed = missed.saturating_add(1);
+    No
 }
 
 /// The text, and how often the closure was called that says what is missing: ` missing 1`, or ` missing 0`.

@@ -31,6 +31,18 @@ pub fn bytes(alloc: Global, answer: Result<Vec<u8>>) -> Result<String> {
     }
 }
 
+/// `ok` and the bytes, `none` where there are none, or the error's text.
+///
+/// # Errors
+/// `OutOfMemory` where there is none for the text.
+pub fn perhaps(alloc: Global, answer: Result<Option<Vec<u8>>>) -> Result<String> {
+    match answer {
+        Ok(Some(bytes)) => self::bytes(alloc, Ok(bytes)),
+        Ok(None) => none(alloc),
+        Err(error) => refused(alloc, error),
+    }
+}
+
 /// `ok` and what is written of the value, or the error's text.
 ///
 /// # Errors

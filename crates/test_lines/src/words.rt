@@ -45,35 +45,7 @@ impl<'a> Words<'a> {
     /// # Errors
     /// It is neither that nor `no`.
     pub fn says_yes(&self, place: usize) -> Result<bool> {
-        match self.word(place) {
-            "yes" => Ok(true),
-            "no" => Ok(false),
-            _ => Err(CoseError::UnexpectedItem("word", "yes or no")),
-        }
-    }
-
-    /// The bytes that a closure makes: those that the word at `place` spells, where that at `answer` is `yes`.
-    ///
-    /// # Errors
-    /// The word spells none, the other one is neither `yes` nor `no`, or memory ran out.
-    pub fn made(&self, alloc: Global, answer: usize, place: usize) -> Result<Option<Vec<u8>>> {
-        let made = self.bytes(alloc, place)?;
-        if self.says_yes(answer)? {
-            Ok(Some(made))
-        } else {
-            Ok(None)
-        }
-    }
-
-    /// The place in a list that the word there spells.
-    ///
-    /// # Errors
-    /// The word spells none.
-    pub fn index(&self, place: usize) -> Result<usize> {
-        match self.word(place).parse::<usize>() {
-            Ok(index) => Ok(index),
-            Err(_) => Err(CoseError::UnexpectedItem("word", "place in a list")),
-        }
+        says_yes(self.word(place))
     }
 
     /// The number that the word there spells.
@@ -82,6 +54,53 @@ impl<'a> Words<'a> {
     /// The word spells none.
     pub fn number(&self, place: usize) -> Result<i64> {
         number(self.word(place))
+    }
+
+    /// The words behind the call's name.
+    pub fn after_name(&self) -> Rest<'a> {
+        Rest {
+            words: *self,
+            place: 1,
+        }
+    }
+}
+
+/// The words of a line, one after the other.
+#[derive(Drop)]
+pub struct Rest<'a> {
+    words: Words<'a>,
+    place: usize,
+}
+
+impl<'a> Rest<'a> {
+    /// The next word; an empty one where there is none.
+    pub fn next_word(&mut self) -> &'a str {
+        let word = self.words.word(self.place);
+        self.place = self.place.saturating_add(1);
+        word
+    }
+}
+
+/// Whether the word is `yes`. It says what a closure returns.
+///
+/// # Errors
+/// It is neither that nor `no`.
+pub fn says_yes(word: &str) -> Result<bool> {
+    match word {
+        "yes" => Ok(true),
+        "no" => Ok(false),
+        _ => Err(CoseError::UnexpectedItem("word", "yes or no")),
+    }
+}
+
+/// The place in a list that the word spells.
+///
+/// # Errors
+/// It spells none.
+pub fn index(word: &str) -> Result<usize> {
+    match word.parse::<usize>() {
+        Ok(index) => Ok(index),
+        Err(_) => Err(CoseError::UnexpectedItem("word", "place in a list")),
     }
 }
 

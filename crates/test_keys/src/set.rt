@@ -1,0 +1,31 @@
+//! Calls of `CoseKeySet`.
+
+use coset::{CoseKey, CoseKeySet, Result};
+use std::alloc::Global;
+use test_lines::words::Words;
+use test_lines::{mark, tell};
+
+/// The bytes of a set of keys: of each key what it is written as, or the error's text.
+///
+/// # Errors
+/// The word is no hexadecimal, or memory ran out.
+pub fn each(alloc: Global, words: &Words<'_>) -> Result<String> {
+    let bytes = words.bytes(alloc, 1)?;
+    mark::begin(alloc);
+    let answer = CoseKeySet::each_from_slice(alloc, &bytes);
+    mark::end(alloc);
+    match answer {
+        Ok(keys) => tell_keys(alloc, keys),
+        Err(error) => tell::refused(alloc, error),
+    }
+}
+
+/// What is said of each key.
+fn tell_keys(alloc: Global, keys: Vec<Result<CoseKey>>) -> Result<String> {
+    let mut text = String::from_str(alloc, "ok")?;
+    for key in keys {
+        text.push_str("; ")?;
+        text.push_str(&tell::value(alloc, key)?)?;
+    }
+    Ok(text)
+}

@@ -1,0 +1,150 @@
+//! Calls of `CoseMac` and its builder.
+
+use crate::missing::no_payload;
+use coset::{CoseMac, CoseMacBuilder, Result};
+use std::alloc::Global;
+use test_lines::answer::Answer;
+use test_lines::asked::{Asked, missing};
+use test_lines::builder::{and_each, built};
+use test_lines::message::{Given, Headed, Message, and, unknown};
+use test_lines::words::{Rest, Words};
+use test_lines::{header, mark};
+
+/// The calls of `CoseMac`.
+pub struct MacCalls;
+
+/// A builder with the message's headers and recipients; its payload, and its tag.
+///
+/// # Errors
+/// `OutOfMemory` alone.
+fn taken(alloc: Global, message: CoseMac) -> Result<(CoseMacBuilder, Option<Vec<u8>>, Vec<u8>)> {
+    let CoseMac {
+        protected,
+        unprotected,
+        payload,
+        tag,
+        recipients,
+    } = message;
+    let builder = CoseMacBuilder::new(alloc)
+        .protected(protected.header)
+        .unprotected(unprotected);
+    Ok((and_each(builder, recipients)?, payload, tag))
+}
+
+/// The message, of which the headers and the recipients count; a recipient more.
+///
+/// # Errors
+/// The words are none, or memory ran out.
+pub fn add_recipient(alloc: Global, words: &Words<'_>) -> Result<String> {
+    let (builder, _, _) = taken(alloc, words.value(alloc, 1)?)?;
+    and(alloc, builder, words)
+}
+
+/// The builder with this payload, where there is one.
+fn with_payload(builder: CoseMacBuilder, payload: Option<Vec<u8>>) -> CoseMacBuilder {
+    match payload {
+        Some(payload) => builder.payload(payload),
+        None => builder,
+    }
+}
+
+impl Headed for MacCalls {
+    type Made = CoseMac;
+
+    const CALL: &'static str = "call of CoseMac";
+
+    fn change(message: &mut CoseMac, word: &str) -> Result<()> {
+        header::change(&mut message.protected, word)
+    }
+
+    fn rebuilt(alloc: Global, message: CoseMac) -> Result<CoseMac> {
+        let (builder, payload, tag) = taken(alloc, message)?;
+        let builder = builder.tag_from(alloc, &tag)?;
+        match payload {
+            Some(payload) => Ok(builder.payload_from(alloc, &payload)?.build()),
+            None => Ok(builder.build()),
+        }
+    }
+}
+
+impl Message for MacCalls {
+    type Beside = ();
+
+    fn beside(_alloc: Global, _name: &str, _words: &mut Rest<'_>) -> Result<()> {
+        Ok(())
+    }
+
+    fn ask(
+        message: CoseMac,
+        given: Given<'_, ()>,
+        asked: &mut Asked,
+        missed: &mut u32,
+    ) -> Result<Answer<CoseMac>> {
+        let (alloc, says_yes) = (given.alloc, given.says_yes);
+        let (content, aad) = (&given.content, &given.aad);
+        let judge = move |tag: &[u8], tbm: &[u8]| asked.judge(tag, tbm, says_yes);
+        Ok(match given.name {
+            "verify_tag" => {
+                if message.payload.is_none() {
+                    return Err(no_payload());
+                }
+                Answer::Judged(message.verify_tag(alloc, aad, judge))
+            }
+            "verify_payload_tag" => Answer::Judged(message.verify_payload_tag(
+                alloc,
+                aad,
+                move || missing(missed),
+                judge,
+            )),
+            "verify_detached_tag" => {
+                Answer::Judged(message.verify_detached_tag(alloc, content, aad, judge))
+            }
+            "tbm" => Answer::Perhaps(message.tbm(alloc, aad)),
+            "tbm_detached" => Answer::Bytes(message.tbm_detached(alloc, content, aad)),
+            _ => return Err(unknown::<MacCalls>()),
+        })
+    }
+
+    fn create(
+        message: CoseMac,
+        given: Given<'_, ()>,
+        asked: &mut Asked,
+    ) -> Result<Answer<CoseMac>> {
+        let (alloc, content, aad) = (given.alloc, &given.content, &given.aad);
+        let (builder, payload, _) = taken(alloc, message)?;
+        mark::begin(alloc);
+        Ok(match given.name {
+            "create_tag" => {
+                let builder = builder.payload(payload.ok_or(no_payload())?);
+                Answer::Made(built(builder.create_tag(alloc, aad, move |tbm| asked.make(&[], tbm))))
+            }
+            "try_create_tag" => {
+                let builder = builder.payload(payload.ok_or(no_payload())?);
+                Answer::Tried(built(builder.try_create_tag(
+                    alloc,
+                    aad,
+                    move |tbm| asked.try_make(&[], tbm),
+                )))
+            }
+            "create_detached_tag" => {
+                let builder = with_payload(builder, payload);
+                Answer::Made(built(builder.create_detached_tag(
+                    alloc,
+                    content,
+                    aad,
+                    move |tbm| asked.make(&[], tbm),
+                )))
+            }
+            "try_create_detached_tag" => {
+                let builder = with_payload(builder, payload);
+                Answer::Tried(built(builder.try_create_detached_tag(
+                    alloc,
+                    content,
+                    aad,
+                    move |tbm| asked.try_make(&[], tbm),
+                )))
+            }
+            _ => return Err(unknown::<MacCalls>()),
+        })
+    }
+}

@@ -1,0 +1,249 @@
+//! Calls of `CoseSign` and its builder.
+
+use coset::{CoseError, CoseSign, CoseSignBuilder, CoseSignature, Result};
+use std::alloc::Global;
+use test_lines::answer::Answer;
+use test_lines::asked::Asked;
+use test_lines::builder::{and_each, built};
+use test_lines::message::{Given, Headed, Message, and, unknown};
+use test_lines::words::{Rest, Words, index};
+use test_lines::{header, mark, spelled};
+
+/// The calls of `CoseSign`.
+pub struct SignCalls;
+
+/// The signature that a call is about.
+#[derive(Drop)]
+pub enum Signer {
+    /// The signature of the message at that place.
+    At(usize),
+    /// A signature of its own.
+    Own(CoseSignature),
+}
+
+impl Signer {
+    /// The place of a signature of the message.
+    fn place(&self) -> Result<usize> {
+        match self {
+            Signer::At(which) => Ok(*which),
+            Signer::Own(_) => Err(no_signature()),
+        }
+    }
+
+    /// The signature of its own.
+    fn signature(self) -> Result<CoseSignature> {
+        match self {
+            Signer::At(_) => Err(no_signature()),
+            Signer::Own(signature) => Ok(signature),
+        }
+    }
+}
+
+/// That there is no signature at the place that a call is given.
+fn no_signature() -> CoseError {
+    CoseError::UnexpectedItem("number", "number of a signature")
+}
+
+/// A builder with the message's headers and signatures, and with its payload where it has one.
+///
+/// # Errors
+/// `OutOfMemory` alone.
+fn filled(alloc: Global, message: CoseSign) -> Result<CoseSignBuilder> {
+    let CoseSign {
+        protected,
+        unprotected,
+        payload,
+        signatures,
+    } = message;
+    let builder = CoseSignBuilder::new(alloc)
+        .protected(protected.header)
+        .unprotected(unprotected);
+    let builder = match payload {
+        Some(payload) => builder.payload(payload),
+        None => builder,
+    };
+    and_each(builder, signatures)
+}
+
+/// The message; a signature more.
+///
+/// # Errors
+/// The words are none, or memory ran out.
+pub fn add_signature(alloc: Global, words: &Words<'_>) -> Result<String> {
+    and(alloc, filled(alloc, words.value(alloc, 1)?)?, words)
+}
+
+impl Headed for SignCalls {
+    type Made = CoseSign;
+
+    const CALL: &'static str = "call of CoseSign";
+
+    fn change(message: &mut CoseSign, word: &str) -> Result<()> {
+        header::change(&mut message.protected, word)
+    }
+
+    fn rebuilt(alloc: Global, message: CoseSign) -> Result<CoseSign> {
+        let CoseSign {
+            protected,
+            unprotected,
+            payload,
+            signatures,
+        } = message;
+        let builder = CoseSignBuilder::new(alloc)
+            .protected(protected.header)
+            .unprotected(unprotected);
+        let builder = match payload {
+            Some(payload) => builder.payload_from(alloc, &payload)?,
+            None => builder,
+        };
+        built(and_each(builder, signatures))
+    }
+}
+
+impl Message for SignCalls {
+    type Beside = Signer;
+
+    fn beside(alloc: Global, name: &str, words: &mut Rest<'_>) -> Result<Signer> {
+        let word = words.next_word();
+        if name.starts_with("verify_") {
+            Ok(Signer::At(index(word)?))
+        } else {
+            Ok(Signer::Own(spelled::read(alloc, word)?))
+        }
+    }
+
+    fn change_beside(
+        message: &mut CoseSign,
+        signer: &mut Signer,
+        words: &mut Rest<'_>,
+    ) -> Result<()> {
+        let word = words.next_word();
+        match signer {
+            Signer::At(which) => match message.signatures.get_mut(*which) {
+                Some(signature) => header::change(&mut signature.protected, word),
+                None => Err(no_signature()),
+            },
+            Signer::Own(signature) => header::change(&mut signature.protected, word),
+        }
+    }
+
+    fn ask(
+        mut message: CoseSign,
+        given: Given<'_, Signer>,
+        asked: &mut Asked,
+        _missed: &mut u32,
+    ) -> Result<Answer<CoseSign>> {
+        let Given {
+            alloc,
+            name,
+            says_yes,
+            beside,
+            content,
+            aad,
+        } = given;
+        let judge = move |signature: &[u8], tbs: &[u8]| asked.judge(signature, tbs, says_yes);
+        Ok(match name {
+            "verify_signature" => {
+                let which = beside.place()?;
+                if which >= message.signatures.len() {
+                    return Err(no_signature());
+                }
+                Answer::Judged(message.verify_signature(alloc, which, &aad, judge))
+            }
+            "verify_detached_signature" => {
+                let which = beside.place()?;
+                if which >= message.signatures.len() {
+                    return Err(no_signature());
+                }
+                message.payload = None;
+                Answer::Judged(message.verify_detached_signature(
+                    alloc, which, &content, &aad, judge,
+                ))
+            }
+            "tbs_data" => Answer::Bytes(message.tbs_data(alloc, &aad, &beside.signature()?)),
+            "tbs_detached_data" => {
+                message.payload = None;
+                Answer::Bytes(message.tbs_detached_data(
+                    alloc,
+                    &content,
+                    &aad,
+                    &beside.signature()?,
+                ))
+            }
+            _ => return Err(unknown::<SignCalls>()),
+        })
+    }
+
+    fn create(
+        message: CoseSign,
+        given: Given<'_, Signer>,
+        asked: &mut Asked,
+    ) -> Result<Answer<CoseSign>> {
+        let (alloc, name) = (given.alloc, given.name);
+        let signature = given.beside.signature()?;
+        if name.contains("_created_") {
+            let builder = filled(alloc, message)?;
+            mark::begin(alloc);
+            return created(alloc, name, builder, signature, &given.aad, asked);
+        }
+        let CoseSign {
+            protected,
+            unprotected,
+            payload: _,
+            signatures: _,
+        } = message;
+        let builder = CoseSignBuilder::new(alloc)
+            .protected(protected.header)
+            .unprotected(unprotected);
+        let (content, aad) = (&given.content, &given.aad);
+        mark::begin(alloc);
+        Ok(match name {
+            "add_detached_signature" => Answer::Made(built(builder.add_detached_signature(
+                alloc,
+                signature,
+                content,
+                aad,
+                move |tbs| asked.make(&[], tbs),
+            ))),
+            "try_add_detached_signature" => Answer::Tried(built(
+                builder.try_add_detached_signature(
+                    alloc,
+                    signature,
+                    content,
+                    aad,
+                    move |tbs| asked.try_make(&[], tbs),
+                ),
+            )),
+            _ => return Err(unknown::<SignCalls>()),
+        })
+    }
+}
+
+/// Makes the call of the builder of that name, which signs the payload that the builder has.
+///
+/// # Errors
+/// The name isn't known.
+fn created(
+    alloc: Global,
+    name: &str,
+    builder: CoseSignBuilder,
+    signature: CoseSignature,
+    aad: &[u8],
+    asked: &mut Asked,
+) -> Result<Answer<CoseSign>> {
+    Ok(match name {
+        "add_created_signature" => Answer::Made(built(builder.add_created_signature(
+            alloc,
+            signature,
+            aad,
+            move |tbs| asked.make(&[], tbs),
+        ))),
+        "try_add_created_signature" => Answer::Tried(built(builder.try_add_created_signature(
+            alloc,
+            signature,
+            aad,
+            move |tbs| asked.try_make(&[], tbs),
+        ))),
+        _ => return Err(unknown::<SignCalls>()),
+    })
+}
