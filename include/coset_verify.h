@@ -113,21 +113,21 @@ static inline coset_status coset_verify(uint32_t kind, const uint8_t *in, size_t
   return COSET_OK;
 }
 
-/* The same of a COSET_SIGN1, by its form: 0, COSET_TAGGED or COSET_EITHER. */
+/* coset_verify for one signature, a COSET_SIGN1; form is 0, COSET_TAGGED or COSET_EITHER. */
 static inline coset_status coset_sign1_verify(uint32_t form, const uint8_t *in, size_t in_len, const coset_policy *policy,
                                               coset_verifier verify, void *context, uint8_t *out, size_t cap,
                                               const uint8_t **payload, size_t *payload_len) {
   return coset_verify(coset_kind_in(COSET_SIGN1, form), in, in_len, 0, policy, verify, context, out, cap, payload, payload_len);
 }
 
-/* The same of a COSET_MAC0. */
+/* coset_verify for a MAC, a COSET_MAC0. */
 static inline coset_status coset_mac0_verify(uint32_t form, const uint8_t *in, size_t in_len, const coset_policy *policy,
                                              coset_verifier verify, void *context, uint8_t *out, size_t cap,
                                              const uint8_t **payload, size_t *payload_len) {
   return coset_verify(coset_kind_in(COSET_MAC0, form), in, in_len, 0, policy, verify, context, out, cap, payload, payload_len);
 }
 
-/* The same of a COSET_SIGN, and of its signer of that index. Which signers are enough is the caller's to say. */
+/* coset_verify for the signer of that index of a COSET_SIGN. Which signers are enough is the caller's to say. */
 static inline coset_status coset_sign_verify(uint32_t form, const uint8_t *in, size_t in_len, size_t index,
                                              const coset_policy *policy, coset_verifier verify, void *context, uint8_t *out,
                                              size_t cap, const uint8_t **payload, size_t *payload_len) {

@@ -132,7 +132,8 @@ fn kind_of(
     bytes: &[u8],
     said: &mut String,
 ) -> Result<Kind, AllocError>
-    ensures { IfOk result (λ k. (asked.entry.now.kind ≡ Auto → ⊥) → k ≡ asked.entry.now.kind) }
+    ensures { IfOk result
+        (λ k. (asked.entry.now.kind ≡ Auto → ⊥) → k ≡ asked.entry.now.kind) }
 {
     if asked.kind != Kind::Auto || begins_with_tag(bytes) {
         return Ok(asked.kind);
@@ -234,7 +235,8 @@ fn look_at(
     mut said: String,
     name: &str,
 ) -> Result<Shown, AllocError>
-    ensures { IfOk result (λ shown. shown.status ≡ 0 → Accepts asked.entry.now.kind bytes.now) }
+    ensures { IfOk result
+        (λ shown. shown.status ≡ 0 → Accepts asked.entry.now.kind bytes.now) }
 {
     let kind = kind_of(alloc, asked, bytes, &mut said)?;
     let (text, status) = match asked.form {
@@ -253,7 +255,8 @@ fn look_at(
 /// # Errors
 /// `AllocError` alone.
 pub fn look(alloc: Global, asked: &Asked, input: &[u8], name: &str) -> Result<Shown, AllocError>
-    ensures { IfOk result (λ shown. shown.status ≡ 0 → AcceptsInput asked.entry.now.kind input.now) }
+    ensures { IfOk result
+        (λ shown. shown.status ≡ 0 → AcceptsInput asked.entry.now.kind input.now) }
 {
     let spelled = text_of(input);
     match spelled.bytes(alloc)? {
