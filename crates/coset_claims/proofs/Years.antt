@@ -37,7 +37,9 @@ unfolding year_after
 later most y n h = grind (arith, nat_tests)
 
 -- the year that is k years later, where so many days of it have passed
-pub counted : (k most j l n r : ℕ) → l ≡ k + j → k ≤ most → n + days_of_years j ≡ days_of_years l + r → r < days_in_year (suc l) → year_after most (suc j) n ≡ (suc l, r)
+pub counted :
+    (k most j l n r : ℕ) → l ≡ k + j → k ≤ most → n + days_of_years j ≡ days_of_years l + r → r < days_in_year (suc l) →
+    year_after most (suc j) n ≡ (suc l, r)
 counted zero most j l n r is enough e h =
     let at : l ≡ j = omega (arith, is) in
     let same : n ≡ r = omega (arith, e, ap days_of_years at) in

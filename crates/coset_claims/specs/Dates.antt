@@ -1,5 +1,6 @@
 -- Moments in UTC as RFC 3339, section 5.6, writes them: the Gregorian calendar, of the years 1 to 9999.
-use Rattle.std.specs.Prelude.{◌==◌, ◌&&◌, ◌||◌, ◌+◌, ◌-◌, ◌/◌, ◌%◌, ◌^◌, not, nat_lt, if◌then◌else◌, ℕ, zero, suc, ℤ, pos, negsuc, ◌+ℤ◌, List, ◌++◌, Bool, Option, Some, None}
+use Rattle.std.specs.Prelude.{◌==◌, ◌&&◌, ◌||◌, ◌+◌, ◌-◌, ◌/◌, ◌%◌, ◌^◌, not, nat_lt, if◌then◌else◌}
+use Rattle.std.specs.Prelude.{ℕ, zero, suc, ℤ, pos, negsuc, ◌+ℤ◌, List, ◌++◌, Bool, Option, Some, None}
 use Rattle.std.specs.Fmt.{format_spec, signed_decimal, styled_decimal}
 use lib.Chars.{codes}
 use Rattle.coset_claims.specs.declared.timestamp.Timestamp.{Timestamp}

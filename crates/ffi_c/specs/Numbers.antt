@@ -6,7 +6,8 @@ use Rattle.coset_label.specs.declared.ordering.CborOrdering.TheVariants.{Lexicog
 use Rattle.ffi_query.specs.declared.kind.Form as forms
 use Rattle.ffi_query.specs.declared.kind.Form.TheVariants.{Plain, Tagged, Either}
 use Rattle.ffi_query.specs.declared.kind.Kind as kinds
-use Rattle.ffi_query.specs.declared.kind.Kind.TheVariants.{Sign1, Sign, Mac0, Mac, Encrypt0, Encrypt, Signature, Recipient, Header, Key, KeySet, Claims, Any, KdfContext}
+use Rattle.ffi_query.specs.declared.kind.Kind.TheVariants.{Sign1, Sign, Mac0, Mac, Encrypt0, Encrypt, Signature, Recipient}
+use Rattle.ffi_query.specs.declared.kind.Kind.TheVariants.{Header, Key, KeySet, Claims, Any, KdfContext}
 use Rattle.ffi_query.specs.declared.label.Map as maps
 use Rattle.ffi_query.specs.declared.label.Map.TheVariants as of
 use Rattle.ffi_query.specs.declared.part.Part as parts

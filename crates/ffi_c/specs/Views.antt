@@ -65,7 +65,7 @@ abbrev pub RepliesView : (Result MessageView refusals.Refusal → Type 0) → �
 RepliesView P status n view =
     (r : Result MessageView refusals.Refusal) × P r × (status ≡ reply_status r) × (n ≡ length_of (length_told r)) × (view ≡ view_of r)
 
--- ---- the same of any message
+-- ---- any message
 
 -- 0 where there are no critical labels, 1 where all of them are understood, and 2 where they aren't
 abbrev pub critical_number : (has understood : Bool) → ℕ

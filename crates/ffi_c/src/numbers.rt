@@ -147,7 +147,7 @@ pub(crate) fn content_query(kind: u32, has_content: u32, content: &[u8]) -> Opti
     }
 }
 
-/// The same of a message with one signature.
+/// The kind of that number, where it has one signature, unless a content is given without the number that says so.
 pub(crate) fn sign1_query(kind: u32, has_content: u32, content: &[u8]) -> Option<Kind>
     ensures { result ≡ sign1_query kind has_content content.now }
 {

@@ -8,7 +8,8 @@ use Rattle.coset.specs.ShapeLaws.{some-none, some-one}
 use Rattle.ffi_query.specs.declared.kind.Form as forms
 use Rattle.ffi_query.specs.declared.kind.Form.TheVariants.{Plain, Tagged, Either}
 use Rattle.ffi_query.specs.declared.kind.Kind as kinds
-use Rattle.ffi_query.specs.declared.kind.Kind.TheVariants.{Sign1, Sign, Mac0, Mac, Encrypt0, Encrypt, Signature, Recipient, Header, Key, KeySet, Claims, Any, KdfContext}
+use Rattle.ffi_query.specs.declared.kind.Kind.TheVariants.{Sign1, Sign, Mac0, Mac, Encrypt0, Encrypt, Signature, Recipient}
+use Rattle.ffi_query.specs.declared.kind.Kind.TheVariants.{Header, Key, KeySet, Claims, Any, KdfContext}
 use Rattle.ffi_query.specs.Places.{bytes_in, nth}
 use Rattle.ffi_query.specs.Structures.{content_at, structure_in, structure_of_three, structure_of_two}
 use Rattle.ffi_make.specs.Laws.{MadeUnsigned, SignatureAdded, StructureOfMade, StructureOfSigner, inside}

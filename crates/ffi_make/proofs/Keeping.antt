@@ -8,7 +8,8 @@ use Rattle.coset.specs.PerhapsTagged.{untagged}
 use Rattle.coset.specs.ShapeLaws.{some-none, some-one}
 use Rattle.ffi_query.specs.declared.kind.Form as forms
 use Rattle.ffi_query.specs.declared.kind.Kind as kinds
-use Rattle.ffi_query.specs.declared.kind.Kind.TheVariants.{Sign1, Sign, Mac0, Mac, Encrypt0, Encrypt, Signature, Recipient, Header, Key, KeySet, Claims, Any, KdfContext}
+use Rattle.ffi_query.specs.declared.kind.Kind.TheVariants.{Sign1, Sign, Mac0, Mac, Encrypt0, Encrypt, Signature, Recipient}
+use Rattle.ffi_query.specs.declared.kind.Kind.TheVariants.{Header, Key, KeySet, Claims, Any, KdfContext}
 use Rattle.ffi_query.specs.Places.{bytes_in, element, nth}
 use Rattle.ffi_query.specs.Structures.{content_at, content_in, recipient_structure_in, signer_in, structure_in}
 use Rattle.ffi_query.specs.Structures.{structure_of_one, structure_of_three, structure_of_two}

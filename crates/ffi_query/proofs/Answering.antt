@@ -31,7 +31,7 @@ answered_or bytes_of k b old new P Q v (Ok (Some x)) (Err (Cose e)) none i f m w
 answered_or bytes_of k b old new P Q v (Ok None) r none i f m w = subst (AnswersOr k b P Q old new) (sym w.0) (v, i, none f, w.1)
 answered_or bytes_of k b old new P Q v (Err e) r none i f m w = subst (AnswersOr k b P Q old new) (sym w.0) (memory_refuses k b e m, w.1)
 
--- the same of a call that has no other reason than that there is none
+-- a call that refuses only because there is no text
 pub answered :
     {T : Type 0} (bytes_of : T → List ℕ) (k : kinds.Kind) (b old new : List ℕ) (P : Item → List ℕ → Type 0) (v : Item) (found : Result (Option T) CoseError)
     (r : Result ℕ refusals.Refusal) → IsItemOf k b v → IfOk found (Finds bytes_of (P v)) → IfErr found (λ e. e ≡ OutOfMemory)

@@ -9,7 +9,8 @@ use Rattle.coset.specs.CoseError.TheVariants.{OutOfMemory}
 use Rattle.coset.specs.Answers.{Describes, DescribesNothing, IsOnlyItem, IsWholeFault, SliceFaults}
 use Rattle.coset.specs.Errors.{UnlessMemory}
 use Rattle.ffi_query.specs.declared.kind.Kind as kinds
-use Rattle.ffi_query.specs.declared.kind.Kind.TheVariants.{Sign1, Sign, Mac0, Mac, Encrypt0, Encrypt, Signature, Recipient, Header, Key, KeySet, Claims, Any, KdfContext}
+use Rattle.ffi_query.specs.declared.kind.Kind.TheVariants.{Sign1, Sign, Mac0, Mac, Encrypt0, Encrypt, Signature, Recipient}
+use Rattle.ffi_query.specs.declared.kind.Kind.TheVariants.{Header, Key, KeySet, Claims, Any, KdfContext}
 use Rattle.ffi_query.specs.Kinds.{ChecksAs, HoldsOf, IsItemOf, IsOf, IsRefused, tag_of, without_tag}
 
 -- what holds of each shape holds of a kind's

@@ -7,7 +7,8 @@ use Rattle.coset.specs.View.{value_items, value_item}
 use Rattle.coset_value.specs.declared.value.Value.{Value}
 use Rattle.ffi_query.specs.declared.kind.Form as forms
 use Rattle.ffi_query.specs.declared.kind.Kind as kinds
-use Rattle.ffi_query.specs.declared.kind.Kind.TheVariants.{Sign1, Sign, Mac0, Mac, Encrypt0, Encrypt, Signature, Recipient, Header, Key, KeySet, Claims, Any, KdfContext}
+use Rattle.ffi_query.specs.declared.kind.Kind.TheVariants.{Sign1, Sign, Mac0, Mac, Encrypt0, Encrypt, Signature, Recipient}
+use Rattle.ffi_query.specs.declared.kind.Kind.TheVariants.{Header, Key, KeySet, Claims, Any, KdfContext}
 use Rattle.ffi_query.specs.Critical.{IsCriticalIn, IsCriticalOf, each_known, is_known}
 
 if-and : (t p q : Bool) → p ≡ q → (if t then p else false) ≡ (t && q)

@@ -35,7 +35,7 @@ abbrev pub HasNoText : (Item → List ℕ → Type 0) → Item → refusals.Refu
 HasNoText P v Absent = (t : List ℕ) → P v t → ⊥
 HasNoText P v r = ⊥
 
--- the same of a call that has no other reason
+-- What a call returns that writes the text of which P holds, or refuses because there is none
 abbrev pub Answers : kinds.Kind → List ℕ → (Item → List ℕ → Type 0) → List ℕ → List ℕ → Result ℕ refusals.Refusal → Type 0
 Answers k b P old new r = AnswersOr k b P (HasNoText P) old new r
 

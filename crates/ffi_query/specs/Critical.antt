@@ -55,7 +55,7 @@ IsUnderstood k ns v false = HasCritical k of.Unprotected v ⊎ NamesKnown k ns v
 abbrev pub IsCriticalIn : kinds.Kind → List ℤ → Item → Bool → Bool → Type 0
 IsCriticalIn k ns v has understood = IsCritical k v has × IsUnderstood k ns v understood
 
--- the same of a message v and of its signer s: either has such labels; and all of both are understood
+-- whether a message v or its signer s has such labels, and whether all of both are understood
 pub record IsCriticalOfBoth (k : kinds.Kind) (ns : List ℤ) (v : Item) (s : Item) (has : Bool) (understood : Bool) : Type 0 where
   pub in_message : Bool
   pub of_message : Bool

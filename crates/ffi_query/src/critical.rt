@@ -85,7 +85,7 @@ fn both(a: bool, b: bool) -> bool
     a && b
 }
 
-/// The same of a message of that kind, and of its signer where it is one with signers.
+/// Whether a message of that kind, or its signer where it has signers, has critical labels, and whether all are understood.
 ///
 /// # Errors
 /// `OutOfMemory` alone.
