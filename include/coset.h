@@ -55,7 +55,21 @@ enum {
   COSET_MISUSE = 13,       /* a number that stands for no kind, no part, no map or no order, or for a kind of another call; or a
                               payload that is given as detached, and the message carries one, or the flag says that none is */
   COSET_TYPE = 14,         /* what is asked for is there, and is no string, or no integer of 64 bits */
-  COSET_EMPTY = 15         /* the list is empty: who verifies each of its signatures has verified none */
+  COSET_EMPTY = 15,        /* the list is empty: who verifies each of its signatures has verified none */
+  /* Of coset_token_claims; the first two of coset_verify.h too. */
+  COSET_NOT_ALLOWED = 16,  /* a protected header names no algorithm by a number, or none that is allowed */
+  COSET_CRITICAL = 17,     /* a label that must be understood isn't, or isn't protected */
+  COSET_LAYER = 19,        /* a layer of the token waits: verify or decrypt it, and call again */
+  COSET_TOO_DEEP = 20,     /* more than four layers are within one another */
+  COSET_UNAUTHENTICATED = 21, /* no layer authenticates who sent the token */
+  COSET_NOT_CLAIMS = 22,   /* what is in the innermost layer isn't a claims set */
+  COSET_NO_EXPIRATION = 23, /* the token doesn't say when it expires, exp */
+  COSET_EXPIRED = 24,      /* it has expired */
+  COSET_NOT_YET_VALID = 25, /* it isn't valid yet, nbf */
+  COSET_ISSUED_LATER = 26, /* it is issued later than now, iat */
+  COSET_TOO_OLD = 27,      /* it has reached the greatest age, or doesn't say when it was issued */
+  COSET_ISSUER = 28,       /* it is of another issuer, or of none */
+  COSET_AUDIENCE = 29      /* it is for another audience, or for none */
 };
 
 /* Kinds. */
@@ -227,6 +241,72 @@ coset_status coset_message(uint32_t kind, const uint8_t *in, size_t in_len, size
                            size_t external_aad_len, uint32_t has_detached, const uint8_t *detached, size_t detached_len,
                            const int64_t *known, size_t known_len, uint8_t *out, size_t cap, size_t *len,
                            coset_message_view *view);
+
+/* ---- Web tokens (RFC 8392), whose layers are COSE_Sign1, COSE_Mac0 and COSE_Encrypt0 in any order, at most four of them; each
+ * plain or under its tag, and the outermost also under tag 61 on that. coset_token_judge of coset_verify.h calls this with
+ * the caller's functions. */
+
+/* What a verifier asks of a token. Zeros, but for size, are the strictest: no leeway, no greatest age; layers without a tag are
+ * COSE_Sign1; a signature or a MAC authenticates; unassigned claims are refused; a token must expire, and not be issued later
+ * than now. */
+typedef struct coset_rules {
+  size_t size;                  /* sizeof(coset_rules) */
+  uint64_t leeway;              /* how many seconds the clocks of issuer and verifier may differ */
+  uint64_t max_age;             /* the age in seconds at which a token is refused, where has_max_age isn't 0 */
+  uint32_t has_max_age;
+  uint32_t plain;               /* the form of a layer without a tag: 0 or COSET_SIGN1, COSET_MAC0, COSET_ENCRYPT0 */
+  uint32_t authenticated_by;    /* 0, or COSET_BY_SIGNATURE, COSET_BY_ANY */
+  uint32_t leaves_out;          /* where it isn't 0, claims with unassigned numbers are left out */
+  uint32_t may_not_expire;      /* where it isn't 0, a token need not have exp */
+  uint32_t may_be_issued_later; /* where it isn't 0, iat may be later than now */
+  uint32_t has_issuer;          /* where it isn't 0, iss must be the issuer that is given */
+  uint32_t has_audience;        /* where it isn't 0, aud must be the audience that is given */
+} coset_rules;
+
+/* Which layers authenticate who sent a token. */
+enum {
+  COSET_BY_SIGNATURE = 1, /* one with a signature, and no MAC */
+  COSET_BY_ANY = 2        /* any: also an encrypted one, by whoever shares its key */
+};
+
+/* A layer that the caller opened, by where it is in the bytes that are given beside it. */
+typedef struct coset_opened {
+  uint32_t form;        /* COSET_SIGN1, COSET_MAC0 or COSET_ENCRYPT0 */
+  size_t offset;        /* where the structure is, and behind it the signature, the MAC or the ciphertext, as they were told */
+  size_t structure_len;
+  size_t proof_len;
+  size_t plaintext;     /* of COSET_ENCRYPT0: where the plaintext is, and its length; else 0 */
+  size_t plaintext_len;
+} coset_opened;
+
+/* What is told of a layer that waits, in numbers: nothing but zeros where the status isn't COSET_LAYER. */
+typedef struct coset_layer {
+  uint32_t form;        /* COSET_SIGN1: verify the signature; COSET_MAC0: verify the MAC; COSET_ENCRYPT0: decrypt */
+  uint32_t key_id_map;  /* as in coset_sign1_view */
+  int64_t algorithm;    /* one of those that are allowed */
+  size_t structure_len; /* the lengths of the five texts */
+  size_t proof_len;
+  size_t key_id_len;    /* the last three are 0 where there is none */
+  size_t iv_len;
+  size_t partial_iv_len;
+} coset_layer;
+
+/* The claims of a token at `now`, in seconds since 1970 began in UTC: a COSET_CLAIMS in its shortest encoding, without those that
+ * are left out. Call it first with no layer opened. COSET_LAYER: out begins with five texts of the layer that waits, one behind
+ * the other: what is signed, authenticated, or goes with the ciphertext, for an empty external_aad; the signature, the MAC or the
+ * ciphertext; the key's identifier, the initialization vector and the partial one; and *len is their length. Verify or decrypt
+ * by a key that you trust, append the layer to `opened`, and call again. COSET_OK: each layer is among those that you opened,
+ * with these very bytes, and the token is as the rules ask. The algorithms are those that you allow in signatures, in MACs and
+ * in encryption, critical the labels that you understand; issuer and audience are UTF-8, and empty where the flag is 0. Also:
+ * COSET_SHORT, COSET_ABSENT where a layer carries no payload, and those from COSET_NOT_ALLOWED on. COSET_MISUSE where a number of
+ * the rules has no meaning, or a name isn't UTF-8 or has no flag. */
+COSET_CALL(1, 23, 24)
+coset_status coset_token_claims(const coset_rules *rules, const int64_t *signatures, size_t signatures_len, const int64_t *macs,
+                                size_t macs_len, const int64_t *ciphers, size_t ciphers_len, const int64_t *critical,
+                                size_t critical_len, const uint8_t *issuer, size_t issuer_len, const uint8_t *audience,
+                                size_t audience_len, const uint8_t *in, size_t in_len, int64_t now,
+                                const coset_opened *opened, size_t opened_len, const uint8_t *bytes, size_t bytes_len,
+                                uint8_t *out, size_t cap, size_t *len, coset_layer *layer);
 
 /* ---- Making: the structure first, then your signature, tag or ciphertext, then the message. Each answer is the shortest
  * encoding of an item of the kind. Also, of each: COSET_SHORT; and where nothing else is said, COSET_ABSENT where what is given

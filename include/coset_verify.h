@@ -11,11 +11,9 @@
 extern "C" {
 #endif
 
-/* More statuses, of these calls. */
+/* One more status, of these calls. */
 enum {
-  COSET_NOT_ALLOWED = 16, /* the message names no algorithm by a number in its protected header, or none that is allowed */
-  COSET_CRITICAL = 17,    /* it names a label that must be understood, and isn't, or isn't protected */
-  COSET_REFUSED = 18      /* the caller's function said no */
+  COSET_REFUSED = 18 /* the caller's function said no */
 };
 
 /* What the caller allows. All zeros are a policy that allows nothing. */
@@ -182,6 +180,111 @@ static inline coset_status coset_encrypt0_decrypt(uint32_t form, const uint8_t *
   coset_cleared(plain, plain_cap);
   *plain_len = 0;
   return COSET_REFUSED;
+}
+
+/* ---- Web tokens */
+
+/* What a verifier asks of a token: the rules, and the lists and names that go with them. All zeros, but for the size of the
+ * rules, are a policy that allows nothing. */
+typedef struct coset_token_policy {
+  coset_rules rules;
+  const int64_t *signatures; /* the algorithms that are allowed in signatures */
+  size_t signatures_len;
+  const int64_t *macs; /* in MACs */
+  size_t macs_len;
+  const int64_t *ciphers; /* and in encryption */
+  size_t ciphers_len;
+  const int64_t *critical; /* the critical labels that the caller understands, and acts on */
+  size_t critical_len;
+  const char *issuer; /* UTF-8; where rules.has_issuer isn't 0 */
+  size_t issuer_len;
+  const char *audience; /* UTF-8; where rules.has_audience isn't 0 */
+  size_t audience_len;
+} coset_token_policy;
+
+/* What the caller's function is asked of a layer. */
+typedef struct coset_layer_question {
+  uint32_t form; /* COSET_SIGN1: is `proof` a signature of `input`? COSET_MAC0: a MAC? COSET_ENCRYPT0: decrypt `proof` */
+  int64_t algorithm;
+  const uint8_t *key_id; /* NULL where the layer names no key */
+  size_t key_id_len;
+  uint32_t key_id_map;
+  const uint8_t *input;
+  size_t input_len;
+  const uint8_t *proof;
+  size_t proof_len;
+  const uint8_t *iv; /* NULL where there is none */
+  size_t iv_len;
+  const uint8_t *partial_iv; /* NULL where there is none */
+  size_t partial_iv_len;
+} coset_layer_question;
+
+/* Whether the layer is what it says, by a key that the caller trusts for that algorithm: 1 for yes. Of COSET_ENCRYPT0 the plaintext
+ * is then in `plain`, of `cap` bytes, and `*len` is its length. */
+typedef int (*coset_opener)(void *context, const coset_layer_question *question, uint8_t *plain, size_t cap, size_t *len);
+
+/* The question of a layer that waits, and of its texts. */
+static inline coset_layer_question coset_layer_asked(const coset_layer *layer, const uint8_t *text) {
+  coset_layer_question question;
+  question.form = layer->form;
+  question.algorithm = layer->algorithm;
+  question.input = text;
+  question.input_len = layer->structure_len;
+  question.proof = text + layer->structure_len;
+  question.proof_len = layer->proof_len;
+  question.key_id = layer->key_id_len ? question.proof + layer->proof_len : NULL;
+  question.key_id_len = layer->key_id_len;
+  question.key_id_map = layer->key_id_map;
+  question.iv = layer->iv_len ? question.proof + layer->proof_len + layer->key_id_len : NULL;
+  question.iv_len = layer->iv_len;
+  question.partial_iv = layer->partial_iv_len ? question.proof + layer->proof_len + layer->key_id_len + layer->iv_len : NULL;
+  question.partial_iv_len = layer->partial_iv_len;
+  return question;
+}
+
+/* The status of a token at `now`, in seconds since 1970 began in UTC. Where it is COSET_OK, `opener` said yes to each layer, the token
+ * is as the policy asks, and `*claims` are its claims, a COSET_CLAIMS of `*claims_len` bytes in `work`. Else `*claims` is NULL, and
+ * `work` holds zeros. `work` has room for what is told of each layer, for plaintexts, and for the claims; four times the token's
+ * length and 64 bytes for each of its layers are enough. Where it has no room, the status is COSET_SHORT. */
+static inline coset_status coset_token_judge(const uint8_t *in, size_t in_len, int64_t now, const coset_token_policy *policy,
+                                             coset_opener opener, void *context, uint8_t *work, size_t cap,
+                                             const uint8_t **claims, size_t *claims_len) {
+  coset_opened opened[4];
+  coset_layer layer;
+  coset_layer_question question;
+  size_t count = 0, used = 0, len, plain;
+  coset_status status;
+  *claims = NULL;
+  *claims_len = 0;
+  for (;;) {
+    status = coset_token_claims(&policy->rules, policy->signatures, policy->signatures_len, policy->macs, policy->macs_len,
+                                policy->ciphers, policy->ciphers_len, policy->critical, policy->critical_len,
+                                (const uint8_t *)policy->issuer, policy->issuer_len, (const uint8_t *)policy->audience,
+                                policy->audience_len, in, in_len, now, opened, count, work, used, work + used, cap - used,
+                                &len, &layer);
+    if (status == COSET_OK) {
+      *claims = work + used;
+      *claims_len = len;
+      return COSET_OK;
+    }
+    if (status != COSET_LAYER) break;
+    question = coset_layer_asked(&layer, work + used);
+    plain = 0;
+    status = COSET_REFUSED;
+    if (opener(context, &question, work + used + len, cap - used - len, &plain) != 1) break;
+    if (layer.form != COSET_ENCRYPT0) plain = 0;
+    if (count == 4 || plain > cap - used - len) break;
+    opened[count].form = layer.form;
+    opened[count].offset = used;
+    opened[count].structure_len = layer.structure_len;
+    opened[count].proof_len = layer.proof_len;
+    opened[count].plaintext = used + len;
+    opened[count].plaintext_len = plain;
+    count++;
+    used += len + plain;
+  }
+  coset_cleared(work, cap);
+  return status;
 }
 
 #ifdef __cplusplus

@@ -62,6 +62,8 @@ INT: int
 TEXT: int
 UNDERSTOOD: int
 NOT_UNDERSTOOD: int
+BY_SIGNATURE: int
+BY_ANY: int
 
 class Fault(ValueError):
     status: int
@@ -74,7 +76,20 @@ class WrongType(TypeError): ...
 class Misuse(TypeError): ...
 class Refused(Exception): ...
 class NotAllowed(Refused): ...
+class NotLetIn(Refused):
+    status: int
+    def __init__(self, status: int) -> None: ...
 class Critical(Refused): ...
+
+class Layer(NamedTuple):
+    form: int
+    algorithm: int
+    key_id: bytes | None
+    key_id_map: int
+    input: bytes
+    proof: bytes
+    iv: bytes | None
+    partial_iv: bytes | None
 
 class Question(NamedTuple):
     algorithm: int
@@ -147,6 +162,24 @@ def decrypt(
     critical: Collection[int] = (),
     external_aad: _Bytes = b"",
     detached: _Bytes | None = None,
+) -> bytes: ...
+def token_claims(
+    data: _Bytes,
+    now: int,
+    opener: Callable[[Layer], bool | _Bytes | None],
+    signatures: Collection[int] = (),
+    macs: Collection[int] = (),
+    ciphers: Collection[int] = (),
+    critical: Collection[int] = (),
+    issuer: str | None = None,
+    audience: str | None = None,
+    leeway: int = 0,
+    max_age: int | None = None,
+    plain: int = ...,
+    authenticated_by: int = 0,
+    leaves_out: bool = False,
+    may_not_expire: bool = False,
+    may_be_issued_later: bool = False,
 ) -> bytes: ...
 def version() -> str: ...
 def status_text(status: int) -> str: ...

@@ -10,13 +10,16 @@
  *   structure_of KIND PROTECTED CAP SIGNER AAD CONTENT | recipient_structure_of HOLDER PROTECTED CAP AAD
  *   make KIND PROTECTED CAP UNPROTECTED HAS CONTENT PROOF
  *   add KIND IN CAP MEMBER | write KIND IN CAP | canonical_key ORDER IN CAP
+ *   token 0 IN CAP NOW RULES SIGNATURES MACS CIPHERS CRITICAL ISS AUD ANSWERS
  *   text STATUS | issued 0 KID CAP ISS SUB AUD CTI EXP NBF IAT SIGNED SIGNATURE
  *
  * Bytes, and labels and values that aren't integers, are hexadecimal, `-` for none, which is passed as NULL. To `verified` of
  * verify.c a signature is good where all four are as the line says, and to `issued` of issue.c it is SIGNATURE, where SIGNED
  * is what it is asked for. `safe` is the call of coset_verify.h for the kind; yes is said where the input, the proof and the
  * key's identifier are as the line says, and a ciphertext is then read as the IV and its bytes, each xor 5a. ALGS and KNOWN are
- * integers with commas between them. Beside the status and the number the whole buffer is told, of CAP bytes and 8 more, each of which
+ * integers with commas between them. `token` is coset_token_judge, by a policy of these lists and names; RULES are the numbers of
+ * coset_rules behind its size, with commas; ANSWERS are what is said of each layer, with commas: yes, no, or a plaintext. Told
+ * are the status, the claims, how many layers were asked of, the proof and the input of each, and what else is said of it. Beside the status and the number the whole buffer is told, of CAP bytes and 8 more, each of which
  * was ee before; behind it, of `sign1`, the numbers of its view, which were 77, and so of `message`. What `verified` and
  * `safe` point to is told in place of what their buffers hold. Each input is in memory of its own, and with REFUSE=N in the environment, the N-th request for memory
  * of each call is refused. */
@@ -117,6 +120,87 @@ static int32_t verified_as_said(char **words, struct bytes in, uint8_t *out, siz
   for (size_t i = 0; status >= COSET_NOT_ALLOWED && i < cap; i++) status = out[i] && out[i] != 0xee ? -5 : status;
   if (status >= COSET_NOT_ALLOWED) memset(out, 0xee, cap);
   return status;
+}
+
+/* What is still said of layers, and what was asked. */
+struct script {
+  const char *answers;
+  uint8_t asked[1 << 16];
+  size_t len, count, used;
+  char layers[1 << 12];
+};
+
+/* Adds what else a question says: the form, the algorithm, where the key's identifier is, and it, the IV and the partial one. */
+static void heard(struct script *script, const coset_layer_question *q) {
+  const uint8_t *at[] = {q->key_id, q->iv, q->partial_iv};
+  const size_t lens[] = {q->key_id_len, q->iv_len, q->partial_iv_len};
+  char *to = script->layers + script->used;
+  to += sprintf(to, "%s%" PRIu32 "/%" PRId64 "/%" PRIu32, script->used ? "," : "", q->form, q->algorithm, q->key_id_map);
+  for (int i = 0; i < 3; i++) {
+    *to++ = '/';
+    for (size_t n = 0; at[i] && n < lens[i]; n++) to += sprintf(to, "%02x", at[i][n]);
+  }
+  script->used = (size_t)(to - script->layers);
+}
+
+/* The next answer of the script: yes, no, or the plaintext. */
+static int is_opened(void *context, const coset_layer_question *question, uint8_t *plain, size_t cap, size_t *len) {
+  struct script *script = context;
+  const size_t n = strcspn(script->answers, ",");
+  char word[1 << 14];
+  struct bytes spelled_out;
+  memcpy(word, script->answers, n), word[n] = 0;
+  script->answers += n + (script->answers[n] == ',');
+  memcpy(script->asked + script->len, question->proof, question->proof_len);
+  memcpy(script->asked + script->len + question->proof_len, question->input, question->input_len);
+  script->len += question->proof_len + question->input_len, script->count++;
+  heard(script, question);
+  if (!strcmp(word, "no") || !*word) return 0;
+  spelled_out = spelled(strcmp(word, "yes") ? word : "-");
+  if (spelled_out.len > cap) return 0;
+  if (spelled_out.len) memcpy(plain, spelled_out.at, spelled_out.len);
+  *len = spelled_out.len;
+  free(spelled_out.at);
+  return 1;
+}
+
+/* Tells what coset_token_judge says of a token, by those words. */
+static void token(char **word, struct bytes in, size_t cap) {
+  struct script *script = calloc(1, sizeof *script);
+  struct bytes issuer = spelled(word[10]), audience = spelled(word[11]);
+  int64_t lists[4][64];
+  coset_token_policy policy = {0};
+  uint32_t *flag = &policy.rules.has_max_age;
+  uint8_t *work = malloc(cap ? cap : 1);
+  const uint8_t *claims = work;
+  size_t len = 77;
+  int32_t status;
+  char *end = word[5];
+  policy.rules.size = sizeof policy.rules;
+  policy.rules.leeway = strtoull(end, &end, 10);
+  policy.rules.max_age = strtoull(end + 1, &end, 10);
+  for (int i = 0; i < 8; i++) flag[i] = (uint32_t)strtoul(end + 1, &end, 10);
+  policy.signatures = lists[0], policy.signatures_len = integers(word[6], lists[0], 64);
+  policy.macs = lists[1], policy.macs_len = integers(word[7], lists[1], 64);
+  policy.ciphers = lists[2], policy.ciphers_len = integers(word[8], lists[2], 64);
+  policy.critical = lists[3], policy.critical_len = integers(word[9], lists[3], 64);
+  policy.issuer = (const char *)issuer.at, policy.issuer_len = issuer.len;
+  policy.audience = (const char *)audience.at, policy.audience_len = audience.len;
+  script->answers = word[12];
+  memset(work, 0xee, cap);
+  status = coset_token_judge(in.at, in.len, strtoll(word[4], NULL, 10), &policy, is_opened, script, work, cap, &claims, &len);
+  if ((status == COSET_OK) != (claims != NULL)) status = -2;
+  for (size_t i = 0; status && i < cap; i++) status = work[i] ? -3 : status;
+  printf("%" PRId32 " %zu", status, len);
+  if (status != COSET_MEMORY) {
+    printf(" %s", status == COSET_OK ? "" : "-");
+    for (size_t i = 0; status == COSET_OK && i < len; i++) printf("%02x", claims[i]);
+    printf(" %zu ", script->count);
+    for (size_t i = 0; i < script->len; i++) printf("%02x", script->asked[i]);
+    printf(" %s", script->used ? script->layers : "-");
+  }
+  puts("");
+  free(work), free(issuer.at), free(audience.at), free(script);
 }
 
 /* Whether the question is that of the words; a plaintext is then the IV, and the bytes of the ciphertext, each xor 5a. */
@@ -248,6 +332,12 @@ int main(void) {
     coset_message_view message = {77, 77, 77, 77, 77, 77, 77, 77, 77};
     memset(out, 0xee, room);
     left = refused ? atol(refused) : -1;
+    if (!strcmp(call, "token")) {
+      token(word, in, cap);
+      free(in.at), free(out);
+      if (live) return fprintf(stderr, "%ld blocks are left\n", live), 1;
+      continue;
+    }
     int32_t status = made(word, kind, in, out, cap, &len);
     if (!strcmp(call, "check")) status = coset_check(kind, in.at, in.len, &len);
     if (!strcmp(call, "count")) status = coset_count(kind, in.at, in.len, &len);

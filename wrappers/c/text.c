@@ -27,9 +27,20 @@ const char *coset_status_text(coset_status status) {
   case COSET_MISUSE: return "a number without a meaning for this call, or a payload that is given twice or without its flag";
   case COSET_TYPE: return "what is asked for is there, and of another kind";
   case COSET_EMPTY: return "the list is empty";
-  case 16: return "the algorithm isn't one that is allowed"; /* these three are of coset_verify.h */
-  case 17: return "a label that must be understood isn't";
-  case 18: return "the signature, the tag or the ciphertext is refused";
+  case COSET_NOT_ALLOWED: return "the algorithm isn't one that is allowed";
+  case COSET_CRITICAL: return "a label that must be understood isn't";
+  case 18: return "the signature, the tag or the ciphertext is refused"; /* of coset_verify.h */
+  case COSET_LAYER: return "a layer of the token waits to be opened";
+  case COSET_TOO_DEEP: return "too many layers are within one another";
+  case COSET_UNAUTHENTICATED: return "no layer authenticates who sent the token";
+  case COSET_NOT_CLAIMS: return "what is in the token isn't a claims set";
+  case COSET_NO_EXPIRATION: return "the token doesn't say when it expires";
+  case COSET_EXPIRED: return "the token has expired";
+  case COSET_NOT_YET_VALID: return "the token isn't valid yet";
+  case COSET_ISSUED_LATER: return "the token is issued later than now";
+  case COSET_TOO_OLD: return "the token is too old";
+  case COSET_ISSUER: return "the token is of another issuer";
+  case COSET_AUDIENCE: return "the token is for another audience";
   default: return "no status of this library";
   }
 }

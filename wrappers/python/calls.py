@@ -8,6 +8,7 @@ from verify import verified
 
 _NAMES = {3: "Ends", 4: "Malformed", 5: "Deep", 6: "Extraneous", 7: "Unexpected", 8: "Duplicate", 9: "OutOfRange",
           10: "Unregistered", 11: "NotPrivate"}
+_NOT_LET_IN = dict(zip(range(20, 30), "TooDeep Unauthenticated NotClaims NoExpiration Expired NotYetValid IssuedLater TooOld Issuer Audience".split()))
 _RAISED = {coset.Absent: "Absent", coset.Empty: "Empty", coset.WrongType: "Type", coset.Misuse: "Misuse", coset.Refused: "Refused",
            coset.NotAllowed: "NotAllowed", coset.Critical: "Critical", MemoryError: "Memory"}
 
@@ -79,12 +80,35 @@ def safe(kind, given, index, aad, has, content, algorithms, known, *words):
     return coset.verify(kind, given, integers(algorithms), is_asked, int(index), **more).hex()
 
 
+def judged(given, now, rules, signatures, macs, ciphers, critical, issuer, audience, said):
+    """What `token_claims` answers, and what was asked, as calls.c says."""
+    leeway, max_age, has_max_age, plain, by, leaves_out, forever, later, has_issuer, has_audience = map(int, rules.split(","))
+    answers, asked, heard = iter(said.split(",")), [], []
+
+    def opener(layer):
+        asked.append(layer.proof + layer.input)
+        texts = "/".join((text or b"").hex() for text in (layer.key_id, layer.iv, layer.partial_iv))
+        heard.append(f"{layer.form}/{layer.algorithm}/{layer.key_id_map}/{texts}")
+        word = next(answers, "no")
+        if layer.form == coset.ENCRYPT0:
+            return None if word == "no" else b"" if word == "yes" else data(word)
+        return word != "no"
+
+    claims = coset.token_claims(
+        given, int(now), opener, integers(signatures), integers(macs), integers(ciphers), integers(critical),
+        data(issuer).decode() if has_issuer else None, data(audience).decode() if has_audience else None, leeway,
+        max_age if has_max_age else None, plain, by, bool(leaves_out), bool(forever), bool(later))
+    return f"{claims.hex()} {len(asked)} {b''.join(asked).hex()} {','.join(heard)}"
+
+
 def answer(name, kind, given="-", *words):
     kind, given = int(kind), data(given)
     if name == "text":
         return f"{coset.version()}: {coset.status_text(kind)}"
     if name == "message":
         return message(kind, given, *words[1:])
+    if name == "token":
+        return judged(given, *words[1:])
     if name == "safe":
         return safe(kind, given, *words[1:])
     if name == "issued":
@@ -127,6 +151,8 @@ def answer(name, kind, given="-", *words):
 for line in sys.stdin:
     try:
         print("ok", answer(*line.split()))
+    except coset.NotLetIn as refused:
+        print(_NOT_LET_IN[refused.status])
     except tuple(_RAISED) as raised:
         print(_RAISED[type(raised)])
     except coset.Fault as fault:

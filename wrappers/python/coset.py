@@ -3,7 +3,8 @@
 A call is given bytes and answers bytes, a number or None, and raises Fault where the bytes, or what would be made of them, are
 no item of the kind, Absent where what is asked for isn't in them or what is given has no place, WrongType where it is there and
 of another kind, Empty, Misuse, and MemoryError. `verify` and `decrypt` hand out what a message says once the caller's function
-said yes, and raise NotAllowed, Critical or Refused. What is promised of each call stands in the header and in docs/C.md.
+said yes, and raise NotAllowed, Critical or Refused; `token_claims` those of a web token, and raises NotLetIn too. What is promised
+of each call stands in the header and in docs/C.md.
 """
 import ctypes
 import enum
@@ -26,10 +27,11 @@ _KINDS = frozenset(map(int, Kind))
 PROTECTED, PAYLOAD, CIPHERTEXT, PROOF = range(1, 5)
 IN_PROTECTED, IN_UNPROTECTED, IN_ITEM = range(1, 4)
 LEXICOGRAPHIC, LENGTH_FIRST = range(1, 3)  # orders of labels
+BY_SIGNATURE, BY_ANY = range(1, 3)  # which layers authenticate who sent a token
 NONE, INT, TEXT = range(0, 3)  # forms in which a message names its algorithm
 UNDERSTOOD, NOT_UNDERSTOOD = range(1, 3)  # what there is of labels that must be understood; NONE where there are none
 
-_OK, _SHORT, _MEMORY, _ABSENT, _MISUSE, _TYPE, _EMPTY = 0, 1, 2, 12, 13, 14, 15
+_OK, _SHORT, _MEMORY, _ABSENT, _MISUSE, _TYPE, _EMPTY, _NOT_ALLOWED, _CRITICAL, _LAYER = 0, 1, 2, 12, 13, 14, 15, 16, 17, 19
 _FAULTS = {
     3: "the bytes end before the item does",
     4: "the bytes aren't well-formed",
@@ -96,6 +98,26 @@ class Question(namedtuple("Question", "algorithm key_id key_id_map input proof")
     __slots__ = ()
 
 
+class NotLetIn(Refused):
+    """The token isn't let in: `status` says why, one of the header's from COSET_TOO_DEEP on."""
+
+    def __init__(self, status):
+        super().__init__(status)
+        self.status = status
+
+    def __str__(self):
+        return status_text(self.status)
+
+
+class Layer(namedtuple("Layer", "form algorithm key_id key_id_map input proof iv partial_iv")):
+    """What the caller's function is asked of a layer of a token: its form, SIGN1, MAC0 or ENCRYPT0; the algorithm, one of those that
+    are allowed; the key's identifier, None where the layer names no key, and where it stands, as in Sign1; what is signed or
+    authenticated, or what goes with the ciphertext; the signature, the MAC or the ciphertext; and the initialization vector and the
+    partial one, each None where there is none."""
+
+    __slots__ = ()
+
+
 class Message(namedtuple("Message", "algorithm algorithm_form key_id_map critical is_tagged input proof content key_id")):
     """All that verifying or decrypting a message takes, as Sign1 of any message: `critical` is NONE, UNDERSTOOD or
     NOT_UNDERSTOOD; `input` is what is signed or authenticated, or what goes with the ciphertext; `proof` is the signature or the
@@ -149,6 +171,52 @@ class _Message(ctypes.Structure):
     ]
 
 
+class _Rules(ctypes.Structure):
+    """coset_rules of the header."""
+
+    _fields_ = [
+        ("size", ctypes.c_size_t),
+        ("leeway", ctypes.c_uint64),
+        ("max_age", ctypes.c_uint64),
+        ("has_max_age", ctypes.c_uint32),
+        ("plain", ctypes.c_uint32),
+        ("authenticated_by", ctypes.c_uint32),
+        ("leaves_out", ctypes.c_uint32),
+        ("may_not_expire", ctypes.c_uint32),
+        ("may_be_issued_later", ctypes.c_uint32),
+        ("has_issuer", ctypes.c_uint32),
+        ("has_audience", ctypes.c_uint32),
+    ]
+
+
+class _Opened(ctypes.Structure):
+    """coset_opened of the header."""
+
+    _fields_ = [
+        ("form", ctypes.c_uint32),
+        ("offset", ctypes.c_size_t),
+        ("structure_len", ctypes.c_size_t),
+        ("proof_len", ctypes.c_size_t),
+        ("plaintext", ctypes.c_size_t),
+        ("plaintext_len", ctypes.c_size_t),
+    ]
+
+
+class _Layer(ctypes.Structure):
+    """coset_layer of the header."""
+
+    _fields_ = [
+        ("form", ctypes.c_uint32),
+        ("key_id_map", ctypes.c_uint32),
+        ("algorithm", ctypes.c_int64),
+        ("structure_len", ctypes.c_size_t),
+        ("proof_len", ctypes.c_size_t),
+        ("key_id_len", ctypes.c_size_t),
+        ("iv_len", ctypes.c_size_t),
+        ("partial_iv_len", ctypes.c_size_t),
+    ]
+
+
 def _declare():
     number, size, integer, at = ctypes.c_uint32, ctypes.c_size_t, ctypes.c_int64, ctypes.c_char_p
     given, to = [number, at, size], [ctypes.c_void_p, size, ctypes.POINTER(size)]
@@ -183,6 +251,10 @@ def _declare():
         call = getattr(_library, "coset_" + name)
         call.argtypes, call.restype = given + arguments, ctypes.c_int32
     _library.coset_key_of.argtypes, _library.coset_key_of.restype = [at, size, at, size] + to, ctypes.c_int32
+    lists, names = [ctypes.POINTER(integer), size] * 4, [at, size] * 3
+    opened = [ctypes.POINTER(_Opened), size, at, size]
+    _library.coset_token_claims.argtypes = [ctypes.POINTER(_Rules), *lists, *names, integer, *opened, *to, ctypes.POINTER(_Layer)]
+    _library.coset_token_claims.restype = ctypes.c_int32
     _library.coset_version.argtypes, _library.coset_version.restype = [], at
     _library.coset_status_text.argtypes, _library.coset_status_text.restype = [ctypes.c_int32], at
 
@@ -202,6 +274,12 @@ def _raise(status, offset=None):
         raise Empty("the list is empty")
     if status == _MISUSE:
         raise Misuse("a number without a meaning for this call, or a payload that the message carries and that is given too")
+    if status == _NOT_ALLOWED:
+        raise NotAllowed("the algorithm isn't one that is allowed")
+    if status == _CRITICAL:
+        raise Critical("a label that must be understood isn't")
+    if status > _LAYER:
+        raise NotLetIn(status)
     if status != _OK:
         raise Fault(status, offset)
 
@@ -416,6 +494,56 @@ def decrypt(kind, data, algorithms, decrypt, critical=(), external_aad=b"", deta
     if plain is None:
         raise Refused("the ciphertext is refused")
     return plain
+
+
+def _integers(numbers):
+    """The integers and their number, as an array."""
+    return (ctypes.c_int64 * len(numbers))(*map(_int64, numbers)), len(numbers)
+
+
+def _layer(view, text):
+    """The layer that waits."""
+    texts = _split(text, view.structure_len, view.proof_len, view.key_id_len, view.iv_len, view.partial_iv_len)
+    structure, proof, key_id, iv, partial_iv = texts
+    return Layer(view.form, view.algorithm, key_id or None, view.key_id_map, structure, proof, iv or None, partial_iv or None)
+
+
+def token_claims(data, now, opener, signatures=(), macs=(), ciphers=(), critical=(), issuer=None, audience=None, leeway=0, max_age=None,
+                 plain=SIGN1, authenticated_by=0, leaves_out=False, may_not_expire=False, may_be_issued_later=False):
+    """The claims of a web token at `now`, in seconds since 1970 began in UTC: a CLAIMS, once `opener` said yes to each layer. It
+    is handed a Layer, and returns True where that is signed, or has a MAC, by a key that the caller trusts for that algorithm; of an
+    ENCRYPT0 it returns the plaintext, or None where the ciphertext is none by such a key. The algorithms are those that are
+    allowed in signatures, in MACs and in encryption; the rest is as coset_rules of the header says. Where the token isn't let
+    in, it raises NotAllowed, Critical, Refused, or NotLetIn with the reason."""
+    names = [None if name is None else name.encode() for name in (issuer, audience)]
+    flags = [max_age is not None, plain, authenticated_by, leaves_out, may_not_expire, may_be_issued_later, *(name is not None for name in names)]
+    seconds = [leeway, max_age or 0]
+    if any(not 0 <= number < 1 << 64 for number in seconds):
+        raise OverflowError("a number of seconds that is negative or too large")
+    rules = _Rules(ctypes.sizeof(_Rules), *seconds, *map(_number, map(int, flags)))
+    given = [it for numbers in (signatures, macs, ciphers, critical) for it in _integers(numbers)]
+    given += [it for text in (*(name or b"" for name in names), data) for it in _bytes(text)]
+    layers, known, view = [], b"", _Layer()
+    length, room = ctypes.c_size_t(), 2 * len(data) + 256
+    while True:
+        out = ctypes.create_string_buffer(room)
+        status = _library.coset_token_claims(ctypes.byref(rules), *given, _int64(now), (_Opened * len(layers))(*layers), len(layers),
+                                             known, len(known), out, room, ctypes.byref(length), ctypes.byref(view))
+        if status == _SHORT:
+            room = length.value
+            continue
+        text = ctypes.string_at(out, length.value)
+        if status != _LAYER:
+            _raise(status)
+            return text
+        layer = _layer(view, text)
+        said = opener(layer)
+        if said is not True if layer.form != ENCRYPT0 else said is None:
+            raise Refused("the signature, the MAC or the ciphertext is refused")
+        plaintext = bytes(said) if layer.form == ENCRYPT0 else b""
+        handed, start = layer.input + layer.proof, len(known)
+        layers.append(_Opened(view.form, start, view.structure_len, view.proof_len, start + len(handed), len(plaintext)))
+        known += handed + plaintext
 
 
 def version():

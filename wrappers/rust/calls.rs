@@ -5,7 +5,9 @@ mod coset;
 mod issue;
 mod verify;
 
-use coset::{Algorithm, Critical, Entry, Error, Form, Kind, Map, Order, Part, Policy, Question};
+use coset::{
+    Algorithm, Authentication, Critical, Entry, Error, Form, Kind, Layer, Map, Order, Part, Policy, Question, TokenForm, TokenPolicy,
+};
 use std::io::BufRead;
 
 fn form(word: &str) -> Form {
@@ -159,8 +161,48 @@ fn safe(w: &[&str]) -> Result<String, Error> {
     Ok(hex(&answer?))
 }
 
+/// What `token_claims` answers, and what was asked, as calls.c says.
+fn token(w: &[&str]) -> Result<String, Error> {
+    let numbers: Vec<u64> = w[5].split(',').map(|number| number.parse().unwrap()).collect();
+    let lists = [6, 7, 8, 9].map(|place| integers(w[place]));
+    let names = [10, 11].map(|place| text(w[place]));
+    let named = |flag: usize, place: usize| (numbers[flag] != 0).then_some(names[place].as_str());
+    let policy = TokenPolicy {
+        signatures: &lists[0],
+        macs: &lists[1],
+        ciphers: &lists[2],
+        critical: &lists[3],
+        plain: [TokenForm::Sign1, TokenForm::Sign1, TokenForm::Sign1, TokenForm::Mac0, TokenForm::Mac0, TokenForm::Encrypt0][numbers[3] as usize],
+        authenticated_by: [Authentication::SignatureOrMac, Authentication::BySignature, Authentication::ByAny][numbers[4] as usize],
+        leaves_out: numbers[5] != 0,
+        may_not_expire: numbers[6] != 0,
+        may_be_issued_later: numbers[7] != 0,
+        max_age: (numbers[2] != 0).then_some(numbers[1]),
+        leeway: numbers[0],
+        issuer: named(8, 0),
+        audience: named(9, 1),
+    };
+    let mut answers = w[12].split(',');
+    let (mut asked, mut heard) = (String::new(), Vec::new());
+    let opener = |layer: &Layer<'_>| {
+        asked += &hex(layer.proof);
+        asked += &hex(layer.input);
+        let map = layer.key_id_map.map_or(0, |map| map as u32);
+        let texts = [layer.key_id, layer.iv, layer.partial_iv].map(|text| hex(text.unwrap_or_default())).join("/");
+        heard.push(format!("{}/{}/{map}/{texts}", layer.form as u32, layer.algorithm));
+        match answers.next() {
+            None | Some("no") => None,
+            Some("yes") => Some(Vec::new()),
+            Some(plaintext) => Some(bytes(plaintext)),
+        }
+    };
+    let claims = coset::token_claims(&bytes(w[2]), w[4].parse().unwrap(), &policy, opener)?;
+    Ok(format!("{} {} {asked} {}", hex(&claims), heard.len(), heard.join(",")))
+}
+
 fn answer(w: &[&str]) -> Result<String, Error> {
     match w[0] {
+        "token" => return token(w),
         "message" => return message(w),
         "safe" => return safe(w),
         "text" => return Ok(format!("{}: {}", coset::version(), coset::status_text(w[1].parse().unwrap()))),

@@ -151,6 +151,92 @@ pub struct Question<'a> {
     pub proof: &'a [u8],
 }
 
+/// The form of a layer of a web token.
+#[derive(Clone, Copy, Debug, PartialEq, Eq)]
+pub enum TokenForm {
+    /// `COSE_Sign1`: is the proof a signature of the input?
+    Sign1 = 1,
+    /// `COSE_Mac0`: is the proof a MAC of the input?
+    Mac0 = 3,
+    /// `COSE_Encrypt0`: decrypt the proof, with the input as additional data.
+    Encrypt0 = 5,
+}
+
+/// Which layers authenticate who sent a web token.
+#[derive(Clone, Copy, Debug, PartialEq, Eq)]
+pub enum Authentication {
+    SignatureOrMac = 0,
+    BySignature = 1,
+    /// Also an encrypted one, by whoever shares its key.
+    ByAny = 2,
+}
+
+/// What a verifier asks of a web token. The default allows nothing, and is the strictest.
+#[derive(Clone, Copy, Debug)]
+pub struct TokenPolicy<'a> {
+    /// The algorithms that are allowed in signatures.
+    pub signatures: &'a [i64],
+    /// In MACs.
+    pub macs: &'a [i64],
+    /// And in encryption.
+    pub ciphers: &'a [i64],
+    /// The critical labels that the caller understands, and acts on.
+    pub critical: &'a [i64],
+    /// The form of a layer without a tag.
+    pub plain: TokenForm,
+    pub authenticated_by: Authentication,
+    /// Whether claims with unassigned numbers are left out; else a token that has one is refused.
+    pub leaves_out: bool,
+    pub may_not_expire: bool,
+    pub may_be_issued_later: bool,
+    /// The age, in seconds, at which a token is refused.
+    pub max_age: Option<u64>,
+    /// How many seconds the clocks of issuer and verifier may differ.
+    pub leeway: u64,
+    /// The issuer that the claims must name, and the audience.
+    pub issuer: Option<&'a str>,
+    pub audience: Option<&'a str>,
+}
+
+impl Default for TokenPolicy<'_> {
+    fn default() -> Self {
+        TokenPolicy {
+            signatures: &[],
+            macs: &[],
+            ciphers: &[],
+            critical: &[],
+            plain: TokenForm::Sign1,
+            authenticated_by: Authentication::SignatureOrMac,
+            leaves_out: false,
+            may_not_expire: false,
+            may_be_issued_later: false,
+            max_age: None,
+            leeway: 0,
+            issuer: None,
+            audience: None,
+        }
+    }
+}
+
+/// What the caller's function is asked of a layer of a web token.
+#[derive(Clone, Copy, Debug)]
+pub struct Layer<'a> {
+    pub form: TokenForm,
+    /// One of those that are allowed.
+    pub algorithm: i64,
+    /// `None` where the layer names no key.
+    pub key_id: Option<&'a [u8]>,
+    /// Where the identifier is: in the protected header; else in the other, which isn't covered.
+    pub key_id_map: Option<Map>,
+    /// What is signed or authenticated, or what goes with the ciphertext.
+    pub input: &'a [u8],
+    /// The signature, the MAC or the ciphertext.
+    pub proof: &'a [u8],
+    /// The initialization vector, and the partial one.
+    pub iv: Option<&'a [u8]>,
+    pub partial_iv: Option<&'a [u8]>,
+}
+
 /// Why a call has no answer.
 #[derive(Clone, Copy, Debug, PartialEq, Eq)]
 pub enum Error {
@@ -188,6 +274,26 @@ pub enum Error {
     Critical,
     /// The caller's function said no.
     Refused,
+    /// More than four layers of a token are within one another.
+    TooDeep,
+    /// No layer authenticates who sent the token.
+    Unauthenticated,
+    /// What is in the innermost layer isn't a claims set.
+    NotClaims,
+    /// The token doesn't say when it expires.
+    NoExpiration,
+    /// It has expired.
+    Expired,
+    /// It isn't valid yet.
+    NotYetValid,
+    /// It is issued later than now.
+    IssuedLater,
+    /// It has reached the greatest age, or doesn't say when it was issued.
+    TooOld,
+    /// It is of another issuer, or of none.
+    Issuer,
+    /// It is for another audience, or for none.
+    Audience,
 }
 
 impl fmt::Display for Error {
@@ -210,6 +316,16 @@ impl fmt::Display for Error {
             Error::NotAllowed => "the algorithm isn't one that is allowed",
             Error::Critical => "a label that must be understood isn't",
             Error::Refused => "the signature, the tag or the ciphertext is refused",
+            Error::TooDeep => "too many layers are within one another",
+            Error::Unauthenticated => "no layer authenticates who sent the token",
+            Error::NotClaims => "what is in the token isn't a claims set",
+            Error::NoExpiration => "the token doesn't say when it expires",
+            Error::Expired => "the token has expired",
+            Error::NotYetValid => "the token isn't valid yet",
+            Error::IssuedLater => "the token is issued later than now",
+            Error::TooOld => "the token is too old",
+            Error::Issuer => "the token is of another issuer",
+            Error::Audience => "the token is for another audience",
         })
     }
 }
@@ -254,7 +370,49 @@ mod c {
         pub key_id_len: usize,
     }
 
+    /// `coset_rules` of the header.
+    #[repr(C)]
+    pub struct Rules {
+        pub size: usize,
+        pub leeway: u64,
+        pub max_age: u64,
+        pub has_max_age: u32,
+        pub plain: u32,
+        pub authenticated_by: u32,
+        pub leaves_out: u32,
+        pub may_not_expire: u32,
+        pub may_be_issued_later: u32,
+        pub has_issuer: u32,
+        pub has_audience: u32,
+    }
+
+    /// `coset_opened` of the header.
+    #[repr(C)]
+    pub struct Opened {
+        pub form: u32,
+        pub offset: usize,
+        pub structure_len: usize,
+        pub proof_len: usize,
+        pub plaintext: usize,
+        pub plaintext_len: usize,
+    }
+
+    /// `coset_layer` of the header.
+    #[repr(C)]
+    #[derive(Default)]
+    pub struct Layer {
+        pub form: u32,
+        pub key_id_map: u32,
+        pub algorithm: i64,
+        pub structure_len: usize,
+        pub proof_len: usize,
+        pub key_id_len: usize,
+        pub iv_len: usize,
+        pub partial_iv_len: usize,
+    }
+
     unsafe extern "C" {
+        pub fn coset_token_claims(rules: *const Rules, signatures: *const i64, signatures_len: usize, macs: *const i64, macs_len: usize, ciphers: *const i64, ciphers_len: usize, critical: *const i64, critical_len: usize, issuer: *const u8, issuer_len: usize, audience: *const u8, audience_len: usize, input: *const u8, input_len: usize, now: i64, opened: *const Opened, opened_len: usize, bytes: *const u8, bytes_len: usize, out: *mut u8, cap: usize, len: *mut usize, layer: *mut Layer) -> i32;
         pub fn coset_version() -> *const std::ffi::c_char;
         pub fn coset_status_text(status: i32) -> *const std::ffi::c_char;
         pub fn coset_message(kind: u32, input: *const u8, input_len: usize, index: usize, external_aad: *const u8, external_aad_len: usize, has_detached: u32, detached: *const u8, detached_len: usize, known: *const i64, known_len: usize, out: *mut u8, cap: usize, len: *mut usize, view: *mut Message) -> i32;
@@ -332,6 +490,18 @@ fn answer<T>(status: i32, value: T) -> Result<T, Error> {
         13 => Error::Misuse,
         14 => Error::Type,
         15 => Error::Empty,
+        16 => Error::NotAllowed,
+        17 => Error::Critical,
+        20 => Error::TooDeep,
+        21 => Error::Unauthenticated,
+        22 => Error::NotClaims,
+        23 => Error::NoExpiration,
+        24 => Error::Expired,
+        25 => Error::NotYetValid,
+        26 => Error::IssuedLater,
+        27 => Error::TooOld,
+        28 => Error::Issuer,
+        29 => Error::Audience,
         status => unreachable!("status {status}"),
     })
 }
@@ -572,6 +742,97 @@ pub fn decrypt(
         (None, None) => return Err(Error::Absent),
     };
     decrypt(&found.asked(policy, ciphertext)?, iv.as_deref()).ok_or(Error::Refused)
+}
+
+impl<'a> Layer<'a> {
+    /// The layer that waits, by its numbers and its texts.
+    fn of(view: &c::Layer, text: &'a [u8]) -> Layer<'a> {
+        let (input, rest) = text.split_at(view.structure_len);
+        let (proof, rest) = rest.split_at(view.proof_len);
+        let (key_id, rest) = rest.split_at(view.key_id_len);
+        let (iv, partial_iv) = rest.split_at(view.iv_len);
+        let there = |bytes: &'a [u8]| (!bytes.is_empty()).then_some(bytes);
+        Layer {
+            form: match view.form {
+                1 => TokenForm::Sign1,
+                3 => TokenForm::Mac0,
+                _ => TokenForm::Encrypt0,
+            },
+            algorithm: view.algorithm,
+            key_id: there(key_id),
+            key_id_map: key_id_map(view.key_id_map),
+            input,
+            proof,
+            iv: there(iv),
+            partial_iv: there(partial_iv),
+        }
+    }
+}
+
+impl TokenPolicy<'_> {
+    fn rules(&self) -> c::Rules {
+        c::Rules {
+            size: size_of::<c::Rules>(),
+            leeway: self.leeway,
+            max_age: self.max_age.unwrap_or(0),
+            has_max_age: self.max_age.is_some().into(),
+            plain: self.plain as u32,
+            authenticated_by: self.authenticated_by as u32,
+            leaves_out: self.leaves_out.into(),
+            may_not_expire: self.may_not_expire.into(),
+            may_be_issued_later: self.may_be_issued_later.into(),
+            has_issuer: self.issuer.is_some().into(),
+            has_audience: self.audience.is_some().into(),
+        }
+    }
+}
+
+/// The claims of a web token at `now`, in seconds since 1970 began in UTC, a `Kind::Claims`, once `opener` said yes to each layer: by
+/// `Some` of nothing, where it is signed or has a MAC by a key that the caller trusts for that algorithm, or of the plaintext, where it
+/// is encrypted; `None` refuses the token.
+pub fn token_claims(
+    token: &[u8],
+    now: i64,
+    policy: &TokenPolicy<'_>,
+    mut opener: impl FnMut(&Layer<'_>) -> Option<Vec<u8>>,
+) -> Result<Vec<u8>, Error> {
+    const LAYER: i32 = 19;
+    let rules = policy.rules();
+    let lists = [policy.signatures, policy.macs, policy.ciphers, policy.critical];
+    let (issuer, audience) = (policy.issuer.unwrap_or_default(), policy.audience.unwrap_or_default());
+    let (mut opened, mut known, mut out) = (Vec::<c::Opened>::new(), Vec::<u8>::new(), vec![0; 256]);
+    loop {
+        let (mut len, mut view) = (0, c::Layer::default());
+        let status = unsafe {
+            c::coset_token_claims(
+                &rules, lists[0].as_ptr(), lists[0].len(), lists[1].as_ptr(), lists[1].len(), lists[2].as_ptr(), lists[2].len(),
+                lists[3].as_ptr(), lists[3].len(), issuer.as_ptr(), issuer.len(), audience.as_ptr(), audience.len(), token.as_ptr(),
+                token.len(), now, opened.as_ptr(), opened.len(), known.as_ptr(), known.len(), out.as_mut_ptr(), out.len(), &mut len,
+                &mut view,
+            )
+        };
+        if status == SHORT {
+            out.resize(len, 0);
+            continue;
+        }
+        if status != LAYER {
+            out.truncate(len);
+            return answer(status, out);
+        }
+        let layer = Layer::of(&view, &out[..len]);
+        let plaintext = opener(&layer).ok_or(Error::Refused)?;
+        let (offset, handed) = (known.len(), view.structure_len + view.proof_len);
+        known.extend_from_slice(&out[..handed]);
+        opened.push(c::Opened {
+            form: view.form,
+            offset,
+            structure_len: view.structure_len,
+            proof_len: view.proof_len,
+            plaintext: known.len(),
+            plaintext_len: plaintext.len(),
+        });
+        known.extend_from_slice(&plaintext);
+    }
 }
 
 /// The version of the library that is linked, and behind it ` (unproved)` where it was built without a proof.

@@ -1,3 +1,4 @@
 pub mod Numbers
 pub mod Replies
 pub mod Views
+pub mod Tokens

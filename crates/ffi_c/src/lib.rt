@@ -1,6 +1,6 @@
 //! `ffi_query` and `ffi_make` for C: the functions that `include/coset.h` declares. What crosses are numbers, slices (in
 //! C a pointer and a length) and places for a number or for a struct of numbers; nothing is kept between calls. `docs/C.md`
-//! says how they are called. Those that read are here, but for those in `elements`, `sign1` and `message`, and those that make in `making`.
+//! says how they are called. Those that read are here, but for those in `elements`, `sign1`, `message` and `token`, and those that make in `making`.
 #![tactic(auto)]
 
 ghost use Rattle.std.specs.Prelude.{◌≡◌, MatchOption, pos};
@@ -19,6 +19,7 @@ mod message;
 mod numbers;
 mod replies;
 mod sign1;
+mod token;
 
 use ffi_query::{
     Label, check, count_of, integer_of, member_of, part_of, recipient_structure_of, string_of,

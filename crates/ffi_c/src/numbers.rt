@@ -7,15 +7,15 @@ ghost use Rattle.ffi_c.specs.Numbers.{bytes_if, content_query, form_of, is_unfla
 use coset::CborOrdering;
 use ffi_query::{Form, Kind, Map, Part};
 
-const COSET_SIGN1: u32 = 1;
+pub(crate) const COSET_SIGN1: u32 = 1;
 
 const COSET_SIGN: u32 = 2;
 
-const COSET_MAC0: u32 = 3;
+pub(crate) const COSET_MAC0: u32 = 3;
 
 const COSET_MAC: u32 = 4;
 
-const COSET_ENCRYPT0: u32 = 5;
+pub(crate) const COSET_ENCRYPT0: u32 = 5;
 
 const COSET_ENCRYPT: u32 = 6;
 

@@ -8,11 +8,11 @@ use coset::CoseError;
 use ffi_query::{Refusal, Status, fault_offset};
 
 /// All is well.
-const COSET_OK: i32 = 0;
+pub(crate) const COSET_OK: i32 = 0;
 /// The answer is longer than the memory for it.
 const COSET_SHORT: i32 = 1;
 /// A request for memory was refused.
-const COSET_MEMORY: i32 = 2;
+pub(crate) const COSET_MEMORY: i32 = 2;
 /// The bytes end before the item does.
 const COSET_ENDS: i32 = 3;
 /// The bytes aren't well-formed.
@@ -32,16 +32,16 @@ const COSET_UNREGISTERED: i32 = 10;
 /// An integer without a name and outside the private range of its registry.
 const COSET_NOT_PRIVATE: i32 = 11;
 /// What is asked for isn't there.
-const COSET_ABSENT: i32 = 12;
+pub(crate) const COSET_ABSENT: i32 = 12;
 /// A number of no kind, no part or no map; or a payload that is given and has no place.
 const COSET_MISUSE: i32 = 13;
 /// What is asked for is there, and of another kind.
-const COSET_TYPE: i32 = 14;
+pub(crate) const COSET_TYPE: i32 = 14;
 /// The list that is counted is empty.
 const COSET_EMPTY: i32 = 15;
 
 /// The number of a status.
-fn status_number(status: Status) -> i32
+pub(crate) fn status_number(status: Status) -> i32
     ensures { result ≡ pos (status_number status) }
 {
     match status {

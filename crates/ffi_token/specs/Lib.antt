@@ -1,0 +1,4 @@
+pub mod Opened
+pub mod Rules
+pub mod Tokens
+pub mod Waiting

@@ -1,0 +1,84 @@
+-- What a caller is told of a token.
+use Rattle.std.specs.Prelude.{◌≡◌, ℕ, ℤ, List, Result, Ok, Err, None}
+use Rattle.coset.specs.Claims.{ClaimsView, claims, claims_view}
+use Rattle.coset.specs.CoseError.TheVariants as errors
+use Rattle.coset.specs.Errors.{UnlessMemory}
+use Rattle.coset.specs.KnownClaims.{KnownClaims}
+use Rattle.cwt_gate.specs.Door.{JudgesWith}
+use Rattle.cwt_gate.specs.Policy.{PolicyView}
+use Rattle.cwt_gate.specs.declared.error.GateError.{GateError}
+use Rattle.cwt_gate.specs.declared.error.GateError.TheVariants as gate
+use Rattle.cwt_gate.specs.declared.error.PolicyError.{PolicyError}
+use Rattle.cwt_gate.specs.declared.error.PolicyError.TheVariants as policy
+use Rattle.ffi_query.specs.Answers.{BeginsWith, IsEncodingOf, Puts}
+use Rattle.ffi_query.specs.declared.refusal.Refusal.TheVariants as answers
+use Rattle.ffi_token.specs.Opened.{opened_view}
+use Rattle.ffi_token.specs.declared.layer.Layer as layers
+use Rattle.ffi_token.specs.declared.layer.Waiting as waiting
+use Rattle.ffi_token.specs.declared.layer.Waiting.TheVariants as waits
+use Rattle.ffi_token.specs.declared.opened.Opened.{Opened}
+use Rattle.ffi_token.specs.declared.refusal.Apart as aparts
+use Rattle.ffi_token.specs.declared.refusal.Apart.TheVariants as apart_as
+use Rattle.ffi_token.specs.declared.refusal.Reason.TheVariants as reasons
+use Rattle.ffi_token.specs.declared.refusal.Refusal as refusals
+use Rattle.ffi_token.specs.declared.refusal.Refusal.TheVariants.{Layer, Answer, NotClaims, Policy}
+
+-- ---- the error of a token that was judged: a layer that waits, or a refusal
+
+abbrev pub apart_of_caller : waiting.Waiting → aparts.Apart
+apart_of_caller (waits.Layer l) = apart_as.Layer l
+apart_of_caller waits.OutOfMemory = apart_as.Refused (Answer (answers.Cose errors.OutOfMemory))
+
+abbrev pub apart_of_gate : GateError waiting.Waiting → aparts.Apart
+apart_of_gate (gate.Token e) = apart_as.Refused (Answer (answers.Cose e))
+apart_of_gate gate.NoPayload = apart_as.Refused (Policy reasons.NoPayload)
+apart_of_gate (gate.Caller w) = apart_of_caller w
+apart_of_gate (gate.Claims e) = apart_as.Refused (NotClaims e)
+apart_of_gate gate.FractionalTime = apart_as.Refused (Policy reasons.FractionalTime)
+apart_of_gate gate.Expired = apart_as.Refused (Policy reasons.Expired)
+apart_of_gate gate.NotYetValid = apart_as.Refused (Policy reasons.NotYetValid)
+
+abbrev pub apart : PolicyError waiting.Waiting → aparts.Apart
+apart (policy.Gate e) = apart_of_gate e
+apart policy.Algorithm = apart_as.Refused (Policy reasons.NotAllowed)
+apart policy.Critical = apart_as.Refused (Policy reasons.Critical)
+apart policy.TooDeep = apart_as.Refused (Policy reasons.TooDeep)
+apart policy.Unauthenticated = apart_as.Refused (Policy reasons.Unauthenticated)
+apart policy.NoExpiration = apart_as.Refused (Policy reasons.NoExpiration)
+apart policy.IssuedLater = apart_as.Refused (Policy reasons.IssuedLater)
+apart policy.TooOld = apart_as.Refused (Policy reasons.TooOld)
+apart policy.Issuer = apart_as.Refused (Policy reasons.Issuer)
+apart policy.Audience = apart_as.Refused (Policy reasons.Audience)
+
+-- ---- what is then in the memory, and returned
+
+-- the claims are at the front of the memory, in their shortest encoding; or it has no room for that; or memory ran out
+abbrev pub WritesClaims : ClaimsView → List ℕ → List ℕ → Result ℕ refusals.Refusal → Type 0
+WritesClaims c old new (Ok n) = (t : List ℕ) × IsEncodingOf (claims.image c) t × Puts t old new (Ok n)
+WritesClaims c old new (Err (Answer (answers.Short n))) =
+    (t : List ℕ) × IsEncodingOf (claims.image c) t × Puts t old new (Err (answers.Short n))
+WritesClaims c old new (Err (Answer (answers.Cose e))) =
+    UnlessMemory e (λ f. (f ≡ errors.DuplicateMapKey) × (claims.image c ≡ None)) × (new ≡ old)
+WritesClaims c old new (Err r) = ⊥
+
+-- the texts of the layer are at the front of the memory, and this is what is said of it; or it has no room for them
+abbrev pub TellsLayer : layers.Layer → List ℕ → List ℕ → refusals.Refusal → Type 0
+TellsLayer l old new (Layer v) = (v ≡ l.view) × BeginsWith l.text.items old new
+TellsLayer l old new (Answer (answers.Short n)) = Puts l.text.items old new (Err (answers.Short n))
+TellsLayer l old new r = ⊥
+
+abbrev pub TellsApart : aparts.Apart → List ℕ → List ℕ → Result ℕ refusals.Refusal → Type 0
+TellsApart a old new (Ok n) = ⊥
+TellsApart (apart_as.Layer l) old new (Err r) = TellsLayer l old new r
+TellsApart (apart_as.Refused e) old new (Err r) = (r ≡ e) × (new ≡ old)
+
+-- what a caller is told of a token that was judged
+abbrev pub Tells : Result KnownClaims (PolicyError waiting.Waiting) → List ℕ → List ℕ → Result ℕ refusals.Refusal → Type 0
+Tells (Ok x) old new r = WritesClaims (claims_view x.claims) old new r
+Tells (Err e) old new r = TellsApart (apart e) old new r
+
+-- What a call returns of the token b at a moment, where the caller opened these layers: what it is told of the token as the
+-- gate judges it by keys that accept those
+abbrev pub AnswersToken : List ℕ → List Opened → PolicyView → List ℕ → ℤ → List ℕ → List ℕ → Result ℕ refusals.Refusal → Type 0
+AnswersToken bytes os p b now old new r =
+    (j : Result KnownClaims (PolicyError waiting.Waiting)) × JudgesWith (opened_view bytes os) p now b j × Tells j old new r

@@ -1,0 +1,52 @@
+-- What a caller is told of a layer that waits to be opened.
+use Rattle.std.specs.Prelude.{◌≡◌, ◌++◌, ℕ, ℤ, List, [], ◌∷◌, length, Option, Some, None}
+use Rattle.coset.specs.Headers.{fields_in}
+use Rattle.coset.specs.Names.{RegisteredName, assigned, private_use, text_name}
+use Rattle.cwt_gate.specs.Keys.{SealView, first_nonempty, key_id_of}
+use Rattle.cwt_gate.specs.declared.form.Form.{Form}
+use Rattle.ffi_query.specs.declared.view.KeyIdPlace.{KeyIdPlace}
+use Rattle.ffi_query.specs.declared.view.KeyIdPlace.TheVariants as places
+use Rattle.ffi_token.specs.declared.layer.Layer as declared
+use Rattle.ffi_token.specs.declared.layer.Waiting.{Waiting}
+use Rattle.ffi_token.specs.declared.layer.Waiting.TheVariants.{Layer, OutOfMemory}
+
+-- the number of an algorithm, unless a text names it
+abbrev pub number_of : RegisteredName → Option ℤ
+number_of (assigned i) = Some i
+number_of (private_use i) = Some i
+number_of (text_name s) = None
+
+abbrev pub number_in : Option RegisteredName → Option ℤ
+number_in (Some a) = number_of a
+number_in None = None
+
+-- the header in which the identifier of the key is, by that of the protected one and of the other
+abbrev pub place_of : List ℕ → List ℕ → KeyIdPlace
+place_of (b ∷ bs) u = places.Protected
+place_of [] (b ∷ bs) = places.Unprotected
+place_of [] [] = places.Absent
+
+-- the initialization vector, and the partial one (RFC 8152, section 3.1, "IV" and "Partial IV"): as the identifier of the key
+abbrev pub iv_of : SealView → List ℕ
+iv_of s = first_nonempty (fields_in s.protected.header).iv (fields_in s.unprotected).iv
+
+abbrev pub partial_iv_of : SealView → List ℕ
+partial_iv_of s = first_nonempty (fields_in s.protected.header).partial_iv (fields_in s.unprotected).partial_iv
+
+-- this is what is said of a layer of which keys are handed s
+pub record IsLayer (form : Form) (s : SealView) (l : declared.Layer) : Type 0 where
+  pub form : l.view.form ≡ form
+  pub algorithm : l.view.algorithm ≡ number_in (fields_in s.protected.header).alg
+  pub key_id_place : l.view.key_id_place ≡ place_of (fields_in s.protected.header).key_id (fields_in s.unprotected).key_id
+  pub structure_len : l.view.structure_len ≡ length s.structure
+  pub proof_len : l.view.proof_len ≡ length s.proof
+  pub key_id_len : l.view.key_id_len ≡ length (key_id_of s)
+  pub iv_len : l.view.iv_len ≡ length (iv_of s)
+  pub partial_iv_len : l.view.partial_iv_len ≡ length (partial_iv_of s)
+  pub len : l.view.len ≡ length l.text.items
+  pub text : l.text.items ≡ s.structure ++ (s.proof ++ (key_id_of s ++ (iv_of s ++ partial_iv_of s)))
+
+-- the layer waits, or memory ran out
+abbrev pub IsWaiting : Form → SealView → Waiting → Type 0
+IsWaiting form s (Layer l) = IsLayer form s l
+IsWaiting form s OutOfMemory = Unit {0}
