@@ -46,17 +46,18 @@ unassigned_of n = if n == 0 then Refused else LeftOut
 abbrev pub seconds_if : ℕ → ℕ → Option ℕ
 seconds_if flag n = if flag == 0 then None else Some n
 
--- a name may be wanted: it is UTF-8; and none is given without the flag
+-- The name that is wanted, where the flag isn't 0, and else none. Nothing, where it isn't UTF-8, or is given without the flag
 abbrev pub name_fits : ℕ → List ℕ → Bool
 name_fits flag b = if flag == 0 then not (is_some b) else is_utf8 b
 
-abbrev pub name_if : ℕ → List ℕ → Option (List ℕ)
-name_if flag b = if flag == 0 then None else Some b
+abbrev pub name_of : ℕ → List ℕ → Option (Option (List ℕ))
+name_of flag b = if name_fits flag b then Some (if flag == 0 then None else Some b) else None
 
--- the policy of these rules
-abbrev pub policy_of_forms :
-    Option Form → Option Authentication → Rules → List ℤ → List ℤ → List ℤ → List ℤ → List ℕ → List ℕ → Option PolicyView
-policy_of_forms (Some form) (Some authenticated) r signatures macs ciphers critical issuer audience = Some (record {
+-- the policy of these rules, of algorithms for signatures, MACs and encryption, and of labels that are understood
+abbrev pub policy_with :
+    Option (Option (List ℕ)) → Option (Option (List ℕ)) → Option Form → Option Authentication → Rules → List ℤ → List ℤ → List ℤ → List ℤ
+    → Option PolicyView
+policy_with (Some issuer) (Some audience) (Some form) (Some authenticated) r signatures macs ciphers critical = Some (record {
   signatures = map algorithm_named signatures;
   macs = map algorithm_named macs;
   ciphers = map algorithm_named ciphers;
@@ -68,17 +69,17 @@ policy_of_forms (Some form) (Some authenticated) r signatures macs ciphers criti
   issued = r.may_be_issued_later == 0;
   max_age = seconds_if r.has_max_age r.max_age;
   leeway = r.leeway;
-  issuer = name_if r.has_issuer issuer;
-  audience = name_if r.has_audience audience;
+  issuer = issuer;
+  audience = audience;
 })
-policy_of_forms None a r signatures macs ciphers critical issuer audience = None
-policy_of_forms (Some form) None r signatures macs ciphers critical issuer audience = None
+policy_with i a f u r signatures macs ciphers critical = None
 
 -- where their numbers have a meaning
 abbrev pub policy_of : Rules → List ℤ → List ℤ → List ℤ → List ℤ → List ℕ → List ℕ → Option PolicyView
 policy_of r signatures macs ciphers critical issuer audience =
-    if r.size == RULES_SIZE && name_fits r.has_issuer issuer && name_fits r.has_audience audience then
-        policy_of_forms (plain_of r.plain) (authentication_of r.authenticated_by) r signatures macs ciphers critical issuer audience
+    if r.size == RULES_SIZE then
+        policy_with (name_of r.has_issuer issuer) (name_of r.has_audience audience) (plain_of r.plain) (authentication_of r.authenticated_by)
+            r signatures macs ciphers critical
     else None
 
 -- ---- what C is told

@@ -6,7 +6,7 @@ ghost use Rattle.ffi_query.specs.declared.refusal.Refusal.TheVariants as answers
 ghost use Rattle.ffi_token.specs.Rules.{rules_view};
 ghost use Rattle.ffi_token.specs.Tokens.{AnswersToken};
 ghost use Rattle.ffi_c.specs.Replies.{IsMisuse};
-ghost use Rattle.ffi_c.specs.Tokens.{RepliesToken, algorithm_or_0, authentication_of, claims_number, layer_of, layer_told, name_fits, name_if, no_layer, plain_of, policy_of, reason_number, seconds_if, token_length, token_number, token_status, unassigned_of};
+ghost use Rattle.ffi_c.specs.Tokens.{RepliesToken, algorithm_or_0, authentication_of, claims_number, layer_of, layer_told, name_of, no_layer, plain_of, policy_of, reason_number, seconds_if, token_length, token_number, token_status, unassigned_of};
 
 use crate::numbers::{COSET_ENCRYPT0, COSET_MAC0, COSET_SIGN1};
 use crate::replies::{COSET_ABSENT, COSET_MEMORY, COSET_OK, COSET_TYPE, misused, status_number};
@@ -145,17 +145,15 @@ fn seconds_if(flag: u32, seconds: u64) -> Option<u64>
 }
 
 /// The name that is wanted, where the flag isn't 0; `None` where it isn't UTF-8, or is given without the flag.
-fn name_if(flag: u32, name: &[u8]) -> Option<Option<&str>>
-    ensures { option_map (option_map (λ s. s.now)) result ≡ (if name_fits flag name.now
-        then Some (name_if flag name.now) else None) }
+fn name_of(flag: u32, name: &[u8]) -> Option<Option<&str>>
+    ensures { option_map (option_map (λ s. s.now)) result ≡ name_of flag name.now }
 {
     if flag == 0 {
-        if name.is_empty() { Some(None) } else { None }
-    } else {
-        match std::str::from_utf8(name) {
-            Ok(name) => Some(Some(name)),
-            Err(_) => None,
-        }
+        return if name.is_empty() { Some(None) } else { None };
+    }
+    match std::str::from_utf8(name) {
+        Ok(name) => Some(Some(name)),
+        Err(_) => None,
     }
 }
 
@@ -175,8 +173,8 @@ fn rules_of<'a>(
     if rules.size != RULES_SIZE {
         return None;
     }
-    let issuer = name_if(rules.has_issuer, issuer)?;
-    let audience = name_if(rules.has_audience, audience)?;
+    let issuer = name_of(rules.has_issuer, issuer)?;
+    let audience = name_of(rules.has_audience, audience)?;
     let plain = plain_of(rules.plain)?;
     let authenticated_by = authentication_of(rules.authenticated_by)?;
     Some(ffi_token::Rules {
