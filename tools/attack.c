@@ -18,7 +18,7 @@
 #include <sys/mman.h>
 #include <unistd.h>
 
-enum { WORDS = 20, ROOM = 1 << 18, PAGE = 4096, CANARY = 64, THREADS = 8, CHOICES = 24, LARGEST = 1 << 14 };
+enum { WORDS = 26, ROOM = 1 << 18, PAGE = 4096, CANARY = 64, THREADS = 8, CHOICES = 24, LARGEST = 1 << 14 };
 
 union word {
   uint64_t number;
@@ -28,8 +28,9 @@ struct function {
   const char *name;
   int32_t (*call)(const union word *);
   const char *classes; /* k kind, f flag, u number, i index, s label, b bytes and z their length, w labels
-                          and y how many they are, o a buffer and c its length, l the answer's length, a and v other answers */
-  size_t sizes[WORDS]; /* of answers */
+                          and y how many they are, x structs and n how many they are, r a struct that begins with its size, o a buffer
+                          and c its length, l the answer's length, a and v other answers */
+  size_t sizes[WORDS]; /* of answers and structs */
 };
 #include "calls.h"
 
@@ -226,6 +227,17 @@ static void lend_labels(struct place *p) {
   if (count) memcpy(p->at, p->was, p->n);
 }
 
+/* Lends structs of that size, whose fields are small numbers; of one that begins with its size this is mostly right. */
+static void lend_structs(struct place *p, size_t size, size_t count, int has_size) {
+  lend(p, count * size, 0);
+  for (size_t at = 0; at < p->n; at += 4) {
+    uint32_t field = at % 8 && chosen(4) ? 0 : chosen(64) ? (uint32_t)chosen(chosen(2) ? 6 : 300) : UINT32_MAX;
+    memcpy(p->at + at, &field, sizeof field);
+  }
+  if (has_size && chosen(32)) memcpy(p->at, &size, sizeof size);
+  if (p->n) memcpy(p->was, p->at, p->n);
+}
+
 /* A row for a function, half of the time one that it had an answer for; none for libFuzzer. */
 static const struct row *row_for(const struct function *f) {
   uint64_t count = liked[f - functions].count;
@@ -251,6 +263,9 @@ static void choose(const uint8_t *rest, size_t left) {
     case 'o': lend(p, chosen(2) ? 0 : chosen(2) ? chosen(256) : LARGEST, at_start), words[i].at = p->at; break;
     case 'w': lend_labels(p), words[i].at = p->at; break;
     case 'y': words[i].number = places[i - 1].n / sizeof(int64_t); break;
+    case 'x': lend_structs(p, now->sizes[i], chosen(5), 0), words[i].at = p->at; break;
+    case 'n': words[i].number = places[i - 1].n / now->sizes[i - 1]; break;
+    case 'r': lend_structs(p, now->sizes[i], 1, 1), words[i].at = p->at; break;
     case 'z': case 'c': words[i].number = places[i - 1].n; break;
     case 'l': case 'a': case 'v': lend(p, now->sizes[i], 0), words[i].at = p->at; break;
     default: words[i].number = number(now->classes[i], kind);
@@ -264,19 +279,22 @@ static struct place *of(char class) {
   return found ? &places[found - now->classes] : NULL;
 }
 
+/* Whether a call with that status wrote an answer: what was asked for, or a layer that waits. */
+static int is_answer(int32_t status) { return status == COSET_OK || status == COSET_LAYER; }
+
 /* What is to hold of each place after a call with that status; `len` is the length that was told. */
 static void look(int32_t status, size_t len) {
   static const uint8_t zeros[1 << 10];
   for (int i = 0; now->classes[i]; i++) {
     struct place *p = &places[i];
     char class = now->classes[i];
-    if (!strchr("bwolav", class)) continue;
+    if (!strchr("bwolavxr", class)) continue;
     if (!is_untouched(p->at == p->start ? p->at + p->n : p->at - CANARY, CANARY)) fail("writes outside of a place");
-    if (strchr("bw", class) && p->n && memcmp(p->at, p->was, p->n)) fail("writes into an input");
-    if (class == 'o' && status == COSET_OK && len > p->n) fail("a length that is more than there is");
-    size_t written = status == COSET_OK ? len : 0;
+    if (strchr("bwxr", class) && p->n && memcmp(p->at, p->was, p->n)) fail("writes into an input");
+    if (class == 'o' && is_answer(status) && len > p->n) fail("a length that is more than there is");
+    size_t written = is_answer(status) ? len : 0;
     if (class == 'o' && !is_untouched(p->at + written, p->n - written)) fail("writes into out behind the answer");
-    if (class == 'l' && status != COSET_OK && status != COSET_SHORT && len) fail("a length without an answer");
+    if (class == 'l' && !is_answer(status) && status != COSET_SHORT && len) fail("a length without an answer");
     if (class == 'v' && status != COSET_OK && memcmp(p->at, zeros, p->n)) fail("a view without an answer");
   }
   if (status == COSET_SHORT && (!of('o') || len <= of('o')->n)) fail("COSET_SHORT with room enough");
@@ -297,7 +315,7 @@ static int32_t made(size_t cap, size_t *len) {
     if (strchr("lav", now->classes[i])) lend(&places[i], places[i].n, 0);
   requests = 0;
   int32_t status = now->call(words);
-  calls++, accepted += status == COSET_OK;
+  calls++, accepted += is_answer(status);
   *len = 0;
   if (length) memcpy(len, length->at, sizeof *len);
   look(status, *len);
@@ -323,14 +341,13 @@ static void attack(void) {
   struct place *out = of('o');
   size_t len, again, cap = out ? out->n : 0;
   int32_t status = made(cap, &len);
-  if (out && (status == COSET_OK || status == COSET_SHORT) && len < ROOM - CANARY) {
-    if (made(len, &again) != COSET_OK || again != len) fail("no answer with just enough room");
+  if (out && (is_answer(status) || status == COSET_SHORT) && len < ROOM - CANARY) {
+    if (!is_answer(status = made(len, &again)) || again != len) fail("no answer with just enough room");
     memcpy(answer, out->at, len);
     if (len && (made(len - 1, &again) != COSET_SHORT || again != len)) fail("not COSET_SHORT with a byte less");
-    if (made(cap = len + 1, &again) != COSET_OK || again != len || memcmp(answer, out->at, len)) fail("another answer with more room");
-    status = COSET_OK;
+    if (made(cap = len + 1, &again) != status || again != len || memcmp(answer, out->at, len)) fail("another answer with more room");
   }
-  if (status == COSET_OK && row_now) liked[now - functions].rows[liked[now - functions].count++ % 64] = row_now;
+  if (is_answer(status) && row_now) liked[now - functions].rows[liked[now - functions].count++ % 64] = row_now;
   if (!choices && chosen(8) == 0) refuse_each(status, cap, len);
 }
 
