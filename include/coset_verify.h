@@ -182,6 +182,107 @@ static inline coset_status coset_encrypt0_decrypt(uint32_t form, const uint8_t *
   return COSET_REFUSED;
 }
 
+/* ---- A bound of depth, for threads with little stack */
+
+enum { COSET_MOST_LEVELS = 64 };
+
+/* A container, of which `left` items are still to come: UINT64_MAX where it has no length of its own. A byte string that may be a
+ * protected header holds one. `outer` is where what is around it ends. */
+struct coset_level {
+  uint64_t left;
+  size_t outer;
+  int is_string, is_array, is_first;
+};
+
+/* Where a walk through items is, and what is around that. */
+struct coset_walk {
+  const uint8_t *in;
+  size_t at, end, depth, most;
+  struct coset_level levels[COSET_MOST_LEVELS + 1];
+};
+
+/* The head at the place of the walk (RFC 8949, section 3): 1, or 0 where there is none. Additional information 31 is 31 in info. */
+static inline int coset_head(struct coset_walk *walk, unsigned *major, unsigned *info, uint64_t *number) {
+  size_t more;
+  if (walk->at == walk->end) return 0;
+  *major = walk->in[walk->at] >> 5, *info = walk->in[walk->at] & 31u, *number = *info;
+  walk->at++;
+  if (*info < 24 || *info == 31) return 1;
+  more = *info < 28 ? (size_t)1 << (*info - 24) : SIZE_MAX;
+  if (walk->end - walk->at < more) return 0;
+  for (*number = 0; more > 0; more--) *number = *number << 8 | walk->in[walk->at++];
+  return 1;
+}
+
+/* Goes into a container, or into the next `held` bytes: 1 where that is one level too many. */
+static inline int coset_enter(struct coset_walk *walk, uint64_t left, int is_array, size_t held) {
+  struct coset_level *level;
+  if (walk->depth == walk->most) return 1;
+  level = &walk->levels[++walk->depth];
+  level->left = left, level->outer = walk->end;
+  level->is_string = held > 0, level->is_array = is_array, level->is_first = 1;
+  if (held) walk->end = walk->at + held;
+  return 0;
+}
+
+/* One item more was read. */
+static inline void coset_count_item(struct coset_walk *walk) {
+  if (walk->levels[walk->depth].left != UINT64_MAX) walk->levels[walk->depth].left--;
+}
+
+/* Reads a head, and goes into what it begins, or past it: 1 where that is too deep, -1 where the bytes can't be read. */
+static inline int coset_step(struct coset_walk *walk) {
+  struct coset_level *level = &walk->levels[walk->depth];
+  const int begins_array = level->is_array && level->is_first;
+  unsigned major, info;
+  uint64_t number;
+  if (!coset_head(walk, &major, &info, &number)) return -1;
+  level->is_first = 0;
+  if (major == 7 && info == 31) { /* the break of a container without a length */
+    if (level->left != UINT64_MAX) return -1;
+    level->left = 0;
+    return 0;
+  }
+  if (info == 31 && (major < 2 || major == 6)) return -1;
+  if (info == 31 && major == 2 && begins_array) return 1;
+  if (info == 31) return coset_enter(walk, UINT64_MAX, major == 4, 0);
+  if (major == 2 || major == 3) {
+    if (number > walk->end - walk->at) return -1;
+    if (major == 2 && begins_array && number) return coset_enter(walk, 1, 0, (size_t)number);
+    walk->at += (size_t)number;
+  } else if (major > 3 && major < 7 && (number || major == 6)) {
+    return coset_enter(walk, major == 6 ? 1 : major == 5 && number < UINT64_MAX / 4 ? 2 * number : number, major == 4, 0);
+  }
+  coset_count_item(walk);
+  return 0;
+}
+
+/* Whether arrays, maps, tags and protected headers are more than `most` within one another, as far as the bytes can be read:
+ * 1 or 0. `most` is at most COSET_MOST_LEVELS. A call takes stack by levels (docs/C.md): so a thread that has little asks this
+ * first, and refuses what is deeper. Any byte string that begins an array counts as a protected header here, and one of these
+ * without a length as deeper than any bound. It takes 3 kB of stack, and no heap. */
+static inline int coset_is_deeper(const uint8_t *in, size_t len, size_t most) {
+  struct coset_walk walk;
+  walk.in = in, walk.at = 0, walk.end = len, walk.depth = 0;
+  walk.most = most < (size_t)COSET_MOST_LEVELS ? most : (size_t)COSET_MOST_LEVELS;
+  walk.levels[0].left = 1, walk.levels[0].is_array = 0, walk.levels[0].is_first = 0;
+  for (;;) {
+    const int found = coset_step(&walk);
+    if (found == 1) return 1;
+    if (found == -1) { /* what is behind the byte string around that is still to be read */
+      while (walk.depth && !walk.levels[walk.depth].is_string) walk.depth--;
+      if (!walk.depth) return 0;
+      walk.levels[walk.depth].left = 0;
+    }
+    while (walk.levels[walk.depth].left == 0) {
+      if (!walk.depth) return 0;
+      if (walk.levels[walk.depth].is_string) walk.at = walk.end;
+      walk.end = walk.levels[walk.depth--].outer;
+      coset_count_item(&walk);
+    }
+  }
+}
+
 /* ---- Web tokens */
 
 /* What a verifier asks of a token: the rules, and the lists and names that go with them. All zeros, but for the size of the

@@ -10,6 +10,7 @@
  *   structure_of KIND PROTECTED CAP SIGNER AAD CONTENT | recipient_structure_of HOLDER PROTECTED CAP AAD
  *   make KIND PROTECTED CAP UNPROTECTED HAS CONTENT PROOF
  *   add KIND IN CAP MEMBER | write KIND IN CAP | canonical_key ORDER IN CAP
+ *   deeper 0 IN CAP
  *   token 0 IN CAP NOW RULES SIGNATURES MACS CIPHERS CRITICAL ISS AUD ANSWERS
  *   text STATUS | issued 0 KID CAP ISS SUB AUD CTI EXP NBF IAT SIGNED SIGNATURE
  *
@@ -203,6 +204,13 @@ static void token(char **word, struct bytes in, size_t cap) {
   free(work), free(issuer.at), free(audience.at), free(script);
 }
 
+/* Tells how many levels are within one another, at most 64. */
+static void deeper(struct bytes in) {
+  size_t most = 0;
+  while (most < 64 && coset_is_deeper(in.at, in.len, most)) most++;
+  printf("levels %zu\n", most + (size_t)coset_is_deeper(in.at, in.len, most));
+}
+
 /* Whether the question is that of the words; a plaintext is then the IV, and the bytes of the ciphertext, each xor 5a. */
 static int is_asked(void *words, const coset_question *question) {
   char **word = words;
@@ -332,8 +340,9 @@ int main(void) {
     coset_message_view message = {77, 77, 77, 77, 77, 77, 77, 77, 77};
     memset(out, 0xee, room);
     left = refused ? atol(refused) : -1;
-    if (!strcmp(call, "token")) {
-      token(word, in, cap);
+    if (!strcmp(call, "token") || !strcmp(call, "deeper")) {
+      if (*call == 't') token(word, in, cap);
+      else deeper(in);
       free(in.at), free(out);
       if (live) return fprintf(stderr, "%ld blocks are left\n", live), 1;
       continue;
