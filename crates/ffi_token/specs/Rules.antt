@@ -1,5 +1,5 @@
 -- What a verifier asks of a token, with algorithms and labels by their numbers.
-use Rattle.std.specs.Prelude.{◌≡◌, ℤ, List, map, option_map, Option, Some, None}
+use Rattle.std.specs.Prelude.{◌≡◌, ℤ, map, option_map, Option, Some, None}
 use Rattle.coset.specs.LabelViews.{algorithm_view}
 use Rattle.coset.specs.Names.{RegisteredName, assigned, private_use}
 use Rattle.coset.specs.Registry.{first_numbered}

@@ -34,8 +34,8 @@ abbrev pub partial_iv_of : SealView → List ℕ
 partial_iv_of s = first_nonempty (fields_in s.protected.header).partial_iv (fields_in s.unprotected).partial_iv
 
 -- this is what is said of a layer of which keys are handed s
-pub record IsLayer (form : Form) (s : SealView) (l : declared.Layer) : Type 0 where
-  pub form : l.view.form ≡ form
+pub record IsLayer (of_form : Form) (s : SealView) (l : declared.Layer) : Type 0 where
+  pub form : l.view.form ≡ of_form
   pub algorithm : l.view.algorithm ≡ number_in (fields_in s.protected.header).alg
   pub key_id_place : l.view.key_id_place ≡ place_of (fields_in s.protected.header).key_id (fields_in s.unprotected).key_id
   pub structure_len : l.view.structure_len ≡ length s.structure

@@ -150,7 +150,7 @@ fn layer_of(alloc: Global, form: Form, sealed: &Sealed<'_>) -> Result<Layer, All
 }
 
 /// The layer of that form, which waits; or that memory ran out.
-pub(crate) fn waiting(alloc: Global, form: Form, sealed: &Sealed<'_>) -> Waiting
+pub(crate) fn wait_for(alloc: Global, form: Form, sealed: &Sealed<'_>) -> Waiting
     ensures { IsWaiting form (seal_view sealed.now) result }
 {
     match layer_of(alloc, form, sealed) {

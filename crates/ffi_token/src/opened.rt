@@ -5,7 +5,7 @@ ghost use Rattle.std.specs.Option.{option_copied};
 ghost use Rattle.cwt_gate.specs.Keys.{seal_view};
 ghost use Rattle.ffi_token.specs.Opened.{content_in, form_number, is_at, is_of, opened_in, slice_at};
 
-use crate::layer::{Waiting, waiting};
+use crate::layer::{Waiting, wait_for};
 use cwt_gate::{Form, Keys, Sealed};
 use std::alloc::Global;
 
@@ -126,21 +126,21 @@ impl Keys for OpenedLayers<'_> {
     fn no_key(&self, form: Form, sealed: &Sealed<'_>) -> Waiting {
         match self.find(form, sealed) {
             Some(_) => Waiting::OutOfMemory,
-            None => waiting(self.alloc, form, sealed),
+            None => wait_for(self.alloc, form, sealed),
         }
     }
 
     fn verify(&self, sealed: &Sealed<'_>) -> Result<(), Waiting> {
         match self.find(Form::Sign1, sealed) {
             Some(_) => Ok(()),
-            None => Err(waiting(self.alloc, Form::Sign1, sealed)),
+            None => Err(wait_for(self.alloc, Form::Sign1, sealed)),
         }
     }
 
     fn verify_tag(&self, sealed: &Sealed<'_>) -> Result<(), Waiting> {
         match self.find(Form::Mac0, sealed) {
             Some(_) => Ok(()),
-            None => Err(waiting(self.alloc, Form::Mac0, sealed)),
+            None => Err(wait_for(self.alloc, Form::Mac0, sealed)),
         }
     }
 
@@ -150,7 +150,7 @@ impl Keys for OpenedLayers<'_> {
                 Ok(plaintext) => Ok(plaintext),
                 Err(_) => Err(Waiting::OutOfMemory),
             },
-            None => Err(waiting(alloc, Form::Encrypt0, sealed)),
+            None => Err(wait_for(alloc, Form::Encrypt0, sealed)),
         }
     }
 }
