@@ -1,7 +1,6 @@
 -- What a verifier asks of a token, and what C is told of it, in numbers.
-use Rattle.std.specs.Prelude.{◌≡◌, ◌==◌, ◌&&◌, not, ℕ, ℤ, pos, List, map, Bool, true, false, Option, Some, None, Result, Ok, Err, if◌then◌else◌}
+use Rattle.std.specs.Prelude.{◌≡◌, ◌==◌, not, ℕ, ℤ, pos, List, map, Bool, Option, Some, None, Result, Ok, Err, if◌then◌else◌}
 use Rattle.std.specs.Str.{is_utf8}
-use Rattle.coset.specs.CoseError.{CoseError}
 use Rattle.cwt_gate.specs.Policy.{PolicyView}
 use Rattle.cwt_gate.specs.declared.form.Form.{Form}
 use Rattle.cwt_gate.specs.declared.form.Form.TheVariants.{Sign1, Mac0, Encrypt0}
@@ -78,8 +77,8 @@ policy_with i a f u r signatures macs ciphers critical = None
 abbrev pub policy_of : Rules → List ℤ → List ℤ → List ℤ → List ℤ → List ℕ → List ℕ → Option PolicyView
 policy_of r signatures macs ciphers critical issuer audience =
     if r.size == RULES_SIZE then
-        policy_with (name_of r.has_issuer issuer) (name_of r.has_audience audience) (plain_of r.plain) (authentication_of r.authenticated_by)
-            r signatures macs ciphers critical
+    policy_with (name_of r.has_issuer issuer) (name_of r.has_audience audience) (plain_of r.plain) (authentication_of r.authenticated_by)
+    r signatures macs ciphers critical
     else None
 
 -- ---- what C is told
