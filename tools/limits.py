@@ -55,26 +55,26 @@ def nesting(token):
     yield "128 recipients, the innermost with such protected headers", [16], [(RECIPIENT, hostile.nests([7])["recipients"])]
 
 
-def list_of(head, member, size):
-    """An array of the member, behind these bytes, so long that all is about so many bytes."""
-    count = (size - len(head)) // len(member)
-    return head + hostile.head(4, count) + member * count
+def list_of(start, member, count):
+    """An array of so many members, behind these bytes."""
+    return start + hostile.head(4, count) + member * count
 
 
 def amounts(token):
     """The rows of the table of memory: what is read, its kind and its bytes."""
     key = b"\xa3\x01\x04\x02" + hostile.byte_string(b"a key's id") + b"\x20" + hostile.byte_string(bytes(32))
-    signers = b"\x84\x40\xa0\xf6"
+    payload = hostile.byte_string(bytes(10**6))
+    signers, recipients_of = b"\x84\x40\xa0\xf6", b"\x85\x40\xa0\xf6\x40"
+    signer, recipient, integers = b"\x83\x40\xa0\x40", b"\x83\x40\xa0\xf6", b"\xa1\x18\x46"
     yield "a signed token (RFC 8392, appendix A.3)", SIGN1 + EITHER, token
+    yield "a message with a payload of 1 MB", SIGN1, b"\x84\x43\xa1\x01\x26\xa0" + payload + hostile.byte_string(bytes(64))
     yield "a set of 100 keys, each with an identifier and 32 bytes", KEY_SET, hostile.head(4, 100) + 100 * key
-    yield "a message with a payload of 1 MB", SIGN1, b"\x84\x43\xa1\x01\x26\xa0" + hostile.byte_string(bytes(10**6)) + hostile.byte_string(bytes(64))
-    yield "a header whose value is 10 kB of small integers", SIGN1, hostile.message(b"", b"\xa1\x18\x46" + list_of(b"", b"\x00", 10**4))
-    yield "a header whose value is 1 MB of small integers", SIGN1, hostile.message(b"", b"\xa1\x18\x46" + list_of(b"", b"\x00", 10**6))
-    yield "10 kB of keys with nothing but their type", KEY_SET, list_of(b"", b"\xa1\x01\x04", 10**4)
-    yield "1 MB of keys with nothing but their type", KEY_SET, list_of(b"", b"\xa1\x01\x04", 10**6)
-    yield "10 kB of recipients with nothing in them", MAC, b"\x85\x40\xa0\x40\x40" + list_of(b"", b"\x83\x40\xa0\xf6", 10**4)
-    yield "10 kB of signers with nothing in them", SIGN, list_of(signers, b"\x83\x40\xa0\x40", 10**4)
-    yield "1 MB of signers with nothing in them", SIGN, list_of(signers, b"\x83\x40\xa0\x40", 10**6)
+    for count in (10**4, 10**6):
+        yield f"an array of {count:,} small integers in a header", SIGN1, hostile.message(b"", list_of(integers, b"\x00", count))
+    yield "333,000 keys with nothing but their type", KEY_SET, list_of(b"", b"\xa1\x01\x04", 333_000)
+    for count in (2_500, 250_000):
+        yield f"{count:,} signers with nothing in them", SIGN, list_of(signers, signer, count)
+    yield "4,097 recipients with nothing in them", MAC, list_of(recipients_of, recipient, 4_097)
 
 
 def told(program, kind, data, **more):
@@ -106,9 +106,10 @@ def rounded(number, step):
     return -(-number // step) * step
 
 
-def spelled(number):
-    """A number of bytes in words, rounded up to two digits."""
-    number = rounded(number, 10 ** max(0, len(str(number)) - 2))
+def spelled(number, up=True):
+    """A number of bytes in words, of two digits, rounded up where nothing else is said."""
+    unit = 10 ** max(0, len(str(number)) - 2)
+    number = rounded(number, unit) if up else (number + unit // 2) // unit * unit
     for unit, name in ((10**6, "MB"), (10**3, "kB")):
         if number >= unit:
             return f"{number / unit:.{1 if number < 10 * unit else 0}f} {name}"
@@ -127,4 +128,4 @@ def tables(program, token):
     yield "|---|---|---|---|---|"
     for name, kind, data in amounts(token):
         _, _, most, requests = measured(program, kind, data)
-        yield f"| {name} | {spelled(len(data))} | {spelled(most)} | {requests} | {most / len(data):.0f} |"
+        yield f"| {name} | {spelled(len(data), up=False)} | {spelled(most)} | {requests} | {most / len(data):.0f} |"
