@@ -93,7 +93,7 @@ def measured(program, kind, data):
 
 def refusals(program, token, check):
     """Each request of each call over the token is refused by the program's heap in turn: nothing but COSET_MEMORY, or what is
-    answered with ample memory, comes of it. The program itself sees that all is freed. Answers how many requests there were."""
+    answered with ample memory, comes of it. The program itself sees that all is freed. Returns how many requests there were."""
     ample = told(program, SIGN1 + EITHER, token)
     check(all(it[0] in (0, 12, 13) and (it[3] or it[0]) for it in ample), f"over a heap of the program's own: {ample}")
     for number in range(1, max(it[3] for it in ample) + 1):

@@ -1,6 +1,6 @@
 /* Measures what calls take (tools/c --limits), over the library that was built by --own-heap: this is the program that gives it
- * memory. Of each line `CALL KIND IN`, where IN is hexadecimal, it makes the call in a thread whose stack was painted before, and
- * tells the status, how many bytes of the stack were written, the most bytes of memory that were held at once, and how many
+ * memory. For each line `CALL KIND IN`, where IN is hexadecimal, it makes the call in a thread whose stack was painted before, and
+ * prints the status, how many bytes of the stack were written, the most bytes of memory that were held at once, and how many
  * requests there were. With REFUSE=N in the environment the N-th request of each call is refused. */
 #define _GNU_SOURCE
 #include "coset.h"
