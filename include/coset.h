@@ -8,8 +8,9 @@
  *                Where the status isn't COSET_OK, out is as it was; where it is neither that nor COSET_SHORT, *len is 0.
  * No length is above PTRDIFF_MAX: no object is as long, and no call looks.
  * What is const may overlap; out, len, count, offset, value and view overlap nothing that the call is given, and but for out
- * they are never NULL. A call may take 1 MB of stack, and asks for memory: it is not for signal handlers, nor for a child that
- * a process with threads forked. The library asks the C library for malloc, free, memcpy, memmove and memset.
+ * they are never NULL. A call may take 1 MB of stack (docs/C.md: what a call takes), and asks for memory: it is not for signal
+ * handlers, nor for a child that a process with threads forked. The library asks the C library for malloc, free, memcpy, memmove
+ * and memset; or your program for its memory, where it was built so (docs/C.md: a heap of your own).
  *
  * Any call may return COSET_OK, COSET_MEMORY, COSET_MISUSE, or one from COSET_ENDS to COSET_NOT_PRIVATE; what else it may
  * return stands behind `Also:`. */

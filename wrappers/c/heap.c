@@ -1,11 +1,19 @@
-/* The heap of the library: what it asks for memory, over malloc and free. Link this, or define these three functions over a heap
- * of your own. `align` is at most 16.
+/* The heap of the library: what it asks for memory, over malloc and free; or, where COSET_OWN_HEAP is defined (tools/c
+ * --own-heap), over coset_malloc and coset_free of the program. `align` is at most 16.
  *
  * Each block is wiped before it is freed, so that no key that the library was given or found is left behind in the heap. So
  * a block says how long it is, in the 16 bytes before it, and one that grows is copied to a new one. */
 #include <stdint.h>
 #include <stdlib.h>
 #include <string.h>
+
+#ifdef COSET_OWN_HEAP
+void *coset_malloc(size_t size);
+void coset_free(void *block);
+#else
+#define coset_malloc malloc
+#define coset_free free
+#endif
 
 enum { BEFORE = 16 };
 
@@ -26,7 +34,7 @@ struct tried rattle_alloc(uint64_t size, uint64_t align) {
   (void)align;
   struct tried refused = {0, (void *)16};
   if (size > SIZE_MAX - BEFORE) return refused;
-  uint8_t *block = malloc((size_t)size + BEFORE);
+  uint8_t *block = coset_malloc((size_t)size + BEFORE);
   if (!block) return refused;
   memcpy(block, &size, sizeof size);
   return (struct tried){1, block + BEFORE};
@@ -37,7 +45,7 @@ void rattle_dealloc(void *at) {
   uint64_t size;
   memcpy(&size, block, sizeof size);
   wipe(at, (size_t)size);
-  free(block);
+  coset_free(block);
 }
 
 struct tried rattle_realloc(void *at, uint64_t kept, uint64_t size, uint64_t align) {

@@ -1,0 +1,131 @@
+"""How much stack and memory calls from C take, by their input, which `tools/c --limits` measures (wrappers/c/limits.c): the
+tables of docs/C.md. Each number there is a bound: the greatest of all calls over that input, rounded up."""
+import itertools
+import os
+import subprocess
+import sys
+
+import common
+
+sys.path.append(f"{common.HERE}/crates/tool_bench")
+import hostile  # noqa: E402
+
+SIGN1, SIGN, MAC, RECIPIENT, KEY_SET, EITHER = 1, 2, 4, 8, 11, 0x200
+CALLS = {SIGN1: "check part label structure detached sign1 message write", SIGN: "check count member structure message write",
+         MAC: "check count member structure message write", RECIPIENT: "check count member recipient_structure add write",
+         KEY_SET: "check count member write"}
+
+
+def levels(count):
+    """A message whose unprotected header has a value of so many arrays inside one another."""
+    return hostile.message(b"", hostile.head(5, 1) + hostile.head(0, 70) + hostile.head(4, 1) * (count - 1) + hostile.head(4, 0))
+
+
+def headers(count):
+    """A message with so many headers inside one another, each the unprotected one of a counter signature of the one before."""
+    return hostile.message(b"", hostile.nested(count - 1, hostile.head(5, 0), itertools.cycle([7])))
+
+
+def protected(count, around=0):
+    """A message with so many protected headers inside one another, each in the innermost of so many unprotected ones."""
+    content = b""
+    for _ in range(count - 1):
+        content = hostile.nested(around, hostile.with_counter_signature(7, content, hostile.head(5, 0)), itertools.cycle([7]))
+    return hostile.message(content, hostile.head(5, 0))
+
+
+def recipients(count):
+    """So many recipients inside one another."""
+    return hostile.recipients(count, b"", b"\xf6")
+
+
+def nesting(token):
+    """The rows of the table of stack: what is inside one another, how deep, and the inputs, each with its kind."""
+    yield "a signed token (RFC 8392, appendix A.3)", [""], [(SIGN1 + EITHER, token)]
+    counts = (16, 64, 128)
+    yield "arrays in the value of a label", [*counts, 254], [(SIGN1, levels(n)) for n in (*counts, 254)]
+    counts = (2, 16, 64, 127)
+    yield "headers, each of a counter signature of the one before", counts, [(SIGN1, headers(n)) for n in counts]
+    counts = (2, 4, 8, 16)
+    yield "protected headers, each in a counter signature of the one before", counts, [(SIGN1, protected(n)) for n in counts]
+    counts = (2, 16, 64, 128)
+    yield "recipients", counts, [(RECIPIENT, recipients(n)) for n in counts]
+    counts = (2, 4, 8, 16)
+    yield "protected headers, each in the innermost of 127 headers", counts, [(SIGN1, protected(n, 126)) for n in counts]
+    yield "128 recipients, the innermost with such protected headers", [16], [(RECIPIENT, hostile.nests([7])["recipients"])]
+
+
+def list_of(start, member, count):
+    """An array of so many members, behind these bytes."""
+    return start + hostile.head(4, count) + member * count
+
+
+def amounts(token):
+    """The rows of the table of memory: what is read, its kind and its bytes."""
+    key = b"\xa3\x01\x04\x02" + hostile.byte_string(b"a key's id") + b"\x20" + hostile.byte_string(bytes(32))
+    payload = hostile.byte_string(bytes(10**6))
+    signers, recipients_of = b"\x84\x40\xa0\xf6", b"\x85\x40\xa0\xf6\x40"
+    signer, recipient, integers = b"\x83\x40\xa0\x40", b"\x83\x40\xa0\xf6", b"\xa1\x18\x46"
+    yield "a signed token (RFC 8392, appendix A.3)", SIGN1 + EITHER, token
+    yield "a message with a payload of 1 MB", SIGN1, b"\x84\x43\xa1\x01\x26\xa0" + payload + hostile.byte_string(bytes(64))
+    yield "a set of 100 keys, each with an identifier and 32 bytes", KEY_SET, hostile.head(4, 100) + 100 * key
+    for count in (10**4, 10**6):
+        yield f"an array of {count:,} small integers in a header", SIGN1, hostile.message(b"", list_of(integers, b"\x00", count))
+    yield "333,000 keys with nothing but their type", KEY_SET, list_of(b"", b"\xa1\x01\x04", 333_000)
+    for count in (2_500, 250_000):
+        yield f"{count:,} signers with nothing in them", SIGN, list_of(signers, signer, count)
+    yield "4,097 recipients with nothing in them", MAC, list_of(recipients_of, recipient, 4_097)
+
+
+def told(program, kind, data, **more):
+    """What each call over that input answers and takes: its status, the bytes of stack, of memory at once, and the requests."""
+    lines = "".join(f"{call} {kind} {data.hex()}\n" for call in CALLS[kind & 0xFF].split())
+    ran = subprocess.run([program], input=lines, capture_output=True, text=True, check=False, **more)
+    if ran.returncode:
+        sys.exit(f"limits: {ran.returncode} {ran.stderr[-1000:]}")
+    return [tuple(map(int, line.split())) for line in ran.stdout.splitlines()]
+
+
+def measured(program, kind, data):
+    """The most stack, memory and requests that a call takes over that input."""
+    return [max(column) for column in zip(*told(program, kind, data))]
+
+
+def refusals(program, token, check):
+    """Each request of each call over the token is refused by the program's heap in turn: nothing but COSET_MEMORY, or what is
+    answered with ample memory, comes of it. The program itself sees that all is freed. Returns how many requests there were."""
+    ample = told(program, SIGN1 + EITHER, token)
+    check(all(it[0] in (0, 12, 13) and (it[3] or it[0]) for it in ample), f"over a heap of the program's own: {ample}")
+    for number in range(1, max(it[3] for it in ample) + 1):
+        for now, then in zip(told(program, SIGN1 + EITHER, token, env={**os.environ, "REFUSE": str(number)}), ample):
+            check(now[0] in (2, then[0]) and (now[0] == 2) <= (then[3] >= number), f"over a heap of the program's own: {now} and {then}")
+    return sum(it[3] for it in ample)
+
+
+def rounded(number, step):
+    return -(-number // step) * step
+
+
+def spelled(number, up=True):
+    """A number of bytes in words, of two digits, rounded up where nothing else is said."""
+    unit = 10 ** max(0, len(str(number)) - 2)
+    number = rounded(number, unit) if up else (number + unit // 2) // unit * unit
+    for unit, name in ((10**6, "MB"), (10**3, "kB")):
+        if number >= unit:
+            return f"{number / unit:.{1 if number < 10 * unit else 0}f} {name}"
+    return f"{number} bytes"
+
+
+def tables(program, token):
+    """The two tables, as docs/C.md has them."""
+    yield "| Inside one another | How many | kB of stack |"
+    yield "|---|---|---|"
+    for name, counts, inputs in nesting(token):
+        took = [rounded(measured(program, kind, data)[1], 4096) // 1024 for kind, data in inputs]
+        yield f"| {name} | {', '.join(map(str, counts))} | {', '.join(map(str, took))} |"
+    yield ""
+    yield "| Input | Its length | Memory at once | Requests | Times its length |"
+    yield "|---|---|---|---|---|"
+    for name, kind, data in amounts(token):
+        _, _, most, requests = measured(program, kind, data)
+        yield f"| {name} | {spelled(len(data), up=False)} | {spelled(most)} | {requests} | {most / len(data):.0f} |"
