@@ -13,6 +13,6 @@ returns-in-Array c =
     let ns = c.args.known.now in
     let vs = c.in-Array.labels.items in
     let found = all_from_yields_List (λ l. is_known ns (value_item l)) _ _ _ c.all.ensures.ran (YieldsList-from_slice vs cc)
-            (λ x b q k. search (rules, tests)) in
+    (λ x b q k. search (rules, tests)) in
     let whole : value_item c.args.labels.now ≡ array (value_items vs) = ap value_item c.in-Array.is ∙ value_item-Array c.in-Array.labels in
     found ∙ sym (ap (are_known ns) whole ∙ each_all ns vs)
