@@ -41,8 +41,10 @@ def enum(text, first):
 
 def class_of(type_, name, before):
     """The letter by which attack.c makes an argument, and the type that the answer there has; None where it knows none."""
-    if type_ == "size_t" and before in ("b", "w", "o"):
-        return {"b": "z", "w": "y", "o": "c"}[before], None
+    if type_ == "size_t" and before in ("b", "w", "o", "p"):
+        return {"b": "z", "w": "y", "o": "c", "p": "q"}[before], None
+    if type_ == "const coset_pair *":
+        return "p", None
     if type_ == "const int64_t *":
         return "w", None
     if type_ in ("const uint8_t *", "uint8_t *"):
@@ -80,7 +82,7 @@ def table(text):
         if None in found:
             left.append(name)
             continue
-        words = ", ".join(f"a[{at}].at" if letter in "bwolav" else f"a[{at}].number" for at, (letter, _) in enumerate(found))
+        words = ", ".join(f"a[{at}].at" if letter in "bwpolav" else f"a[{at}].number" for at, (letter, _) in enumerate(found))
         lines.append(f"static int32_t call_{place}(const union word *a) {{ return {name}({words}); }}")
         sizes = ", ".join(f"sizeof({type_})" if type_ else "0" for _, type_ in found)
         rows.append(f'    {{"{name}", call_{place}, "{"".join(letter for letter, _ in found)}", {{{sizes}}}}},')

@@ -1,3 +1,5 @@
 pub mod Numbers
 pub mod Replies
 pub mod Views
+pub mod PairsGiven
+pub mod SpansTold

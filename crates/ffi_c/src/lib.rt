@@ -17,8 +17,10 @@ mod elements;
 mod making;
 mod message;
 mod numbers;
+mod pairs;
 mod replies;
 mod sign1;
+mod spans;
 
 use ffi_query::{
     Label, check, count_of, integer_of, member_of, part_of, recipient_structure_of, string_of,
