@@ -16,6 +16,7 @@ use Rattle.ffi_query.specs.declared.view.Algorithm as algorithms
 use Rattle.ffi_query.specs.declared.view.Algorithm.TheVariants as named
 use Rattle.ffi_query.specs.declared.view.KeyIdPlace as places
 use Rattle.ffi_query.specs.declared.view.KeyIdPlace.TheVariants as stands
+use Rattle.ffi_query.specs.declared.view.MessageView.{MessageView}
 use Rattle.ffi_query.specs.Critical.{crit_label}
 use Rattle.ffi_query.specs.Labels.{IsNumber, IsProtected, unprotected_value}
 use Rattle.ffi_query.specs.Located.{IsLocated, IsTextIn, located_item}
@@ -90,14 +91,19 @@ pub record AreTexts (k : kinds.Kind) (d : Option (List ℕ)) (b : List ℕ) (v :
   pub key_id_in_b : IsTextIn b x.key_id.text
   pub is_signed : IsSigned place d (option_copied x.signed)
 
--- all that is said of the item v of that kind is that, and its texts are in b, but for the structure, whose front and end are told apart
-pub record IsLent (k : kinds.Kind) (i : ℕ) (aad : List ℕ) (d : Option (List ℕ)) (ns : List ℤ) (b : List ℕ) (v : Item) (x : declared.Lent) : Type 0 where
+-- all that n says of the item v of that kind, with these four texts
+pub record Says (k : kinds.Kind) (i : ℕ) (aad : List ℕ) (d : Option (List ℕ)) (ns : List ℤ) (v : Item) (n : MessageView) (s p c t : List ℕ) : Type 0 where
   pub text : List ℕ
-  pub told : IsTold k i aad d ns v x.view text
-  pub is_signed : told.signed ≡ x.structure.front.items ++ x.structure.end.now
-  pub is_proof : told.proof ≡ x.proof.bytes.now
-  pub is_content : told.content ≡ x.content.bytes.now
-  pub is_key_id : told.key_id ≡ x.key_id.bytes.now
+  pub told : IsTold k i aad d ns v n text
+  pub is_signed : told.signed ≡ s
+  pub is_proof : told.proof ≡ p
+  pub is_content : told.content ≡ c
+  pub is_key_id : told.key_id ≡ t
+
+-- what is lent says all of the item v, and its texts are in b, but for the structure
+pub record IsLent (k : kinds.Kind) (i : ℕ) (aad : List ℕ) (d : Option (List ℕ)) (ns : List ℤ) (b : List ℕ) (v : Item) (x : declared.Lent) : Type 0 where
+  pub says :
+      Says k i aad d ns v x.view (x.structure.front.items ++ x.structure.end.now) x.proof.bytes.now x.content.bytes.now x.key_id.bytes.now
   pub proof_in_b : IsTextIn b x.proof
   pub content_in_b : IsTextIn b x.content
   pub key_id_in_b : IsTextIn b x.key_id

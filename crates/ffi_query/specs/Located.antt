@@ -1,5 +1,5 @@
 -- Parts of the input, each with the bytes from its first one to the input's end.
-use Rattle.std.specs.Prelude.{◌≡◌, ◌==◌, ◌%◌, ℕ, List, [], ◌∷◌, ◌++◌, length, Some, if◌then◌else◌}
+use Rattle.std.specs.Prelude.{◌≡◌, ◌==◌, ◌%◌, ℕ, List, [], ◌∷◌, ◌++◌, length, Some, Bool, false, if◌then◌else◌}
 use Rattle.std.specs.Borrow.{Bor}
 use Rattle.coset.specs.Item.{Item}
 use Rattle.coset.specs.Parts.{as_bytes}
@@ -31,6 +31,11 @@ head_len_by info = if info == 24 then 2 else (if info == 25 then 3 else (if info
 abbrev pub head_len : List ℕ → ℕ
 head_len [] = 0
 head_len (x ∷ xs) = head_len_by (x % 32)
+
+-- the bytes open a byte string of indefinite length (RFC 8949, section 3.2.3)
+abbrev pub opens_string : List ℕ → Bool
+opens_string [] = false
+opens_string (x ∷ xs) = x == 0x5F
 
 -- the byte string v, of which b are the bytes, holds s, and these end with it
 pub record IsString (b : List ℕ) (v : Item) (s : List ℕ) : Type 0 where

@@ -1,5 +1,5 @@
 -- What one call says of a message, where the texts are named by places in the input or in what is written.
-use Rattle.std.specs.Prelude.{◌≡◌, ◌++◌, ◌+◌, ◌-◌, ◌^◌, ℕ, ℤ, List, length, min, Option, true, false, Result, Ok, Err, if◌then◌else◌}
+use Rattle.std.specs.Prelude.{◌≡◌, ◌++◌, ◌-◌, ℕ, ℤ, List, length, Option, true, false, Result, Ok, Err, if◌then◌else◌}
 use Rattle.coset.specs.CoseError.TheVariants.{OutOfMemory}
 use Rattle.coset.specs.Item.{Item}
 use Rattle.ffi_query.specs.declared.kind.Kind as kinds
@@ -55,16 +55,16 @@ pub record AreLentSpans (b : List ℕ) (x : declared.Lent) (m : MessageSpans) : 
 abbrev pub written_at : ℕ → Span
 written_at n = record { is_input = false; at = n }
 
--- the sum, or the greatest number of the machine's
-abbrev pub sum : ℕ → ℕ → ℕ
-sum a b = min (a + b) (2 ^ 64 - 1)
-
 -- the spans of texts that are written one behind the other
 abbrev pub copied_spans : MessageView → MessageSpans
 copied_spans n = record {
   view = n;
   proof = written_at n.structure_len;
-  content = written_at (sum n.structure_len n.proof_len);
-  key_id = written_at (sum (sum n.structure_len n.proof_len) n.content_len);
+  content = written_at (n.len - n.key_id_len - n.content_len);
+  key_id = written_at (n.len - n.key_id_len);
   len = n.len;
 }
+
+abbrev pub copied : Result MessageView refusals.Refusal → Result MessageSpans refusals.Refusal
+copied (Ok n) = Ok (copied_spans n)
+copied (Err r) = Err r

@@ -79,19 +79,17 @@ fn has_four(alloc: Global, item: Pull<'_>) -> bool
     let Some(fourth) = places.next() else {
         return false;
     };
-    if places.next().is_some() {
+    let None = places.next() else {
         return false;
+    };
+    if is_content(third) {
+        if is_string(fourth) {
+            if is_protected(alloc, first) {
+                return is_unprotected(alloc, second);
+            }
+        }
     }
-    if !is_content(third) {
-        return false;
-    }
-    if !is_string(fourth) {
-        return false;
-    }
-    if !is_protected(alloc, first) {
-        return false;
-    }
-    is_unprotected(alloc, second)
+    false
 }
 
 /// Whether the item is an array of two headers and a content.
@@ -111,16 +109,15 @@ fn has_three(alloc: Global, item: Pull<'_>) -> bool
     let Some(third) = places.next() else {
         return false;
     };
-    if places.next().is_some() {
+    let None = places.next() else {
         return false;
+    };
+    if is_content(third) {
+        if is_protected(alloc, first) {
+            return is_unprotected(alloc, second);
+        }
     }
-    if !is_content(third) {
-        return false;
-    }
-    if !is_protected(alloc, first) {
-        return false;
-    }
-    is_unprotected(alloc, second)
+    false
 }
 
 /// Whether the item is known to be a message of that kind: one with a single signature, or with a MAC or encrypted for

@@ -4,7 +4,7 @@ ghost use Rattle.std.specs.Prelude.{◌≡◌, option_map, IfOk, IfErr, MatchRes
 ghost use Rattle.coset.specs.CoseError.TheVariants.{OutOfMemory};
 ghost use Rattle.coset.specs.Elements.{items_left};
 ghost use Rattle.coset.specs.PerhapsTagged.{untagged};
-ghost use Rattle.coset.specs.Pulls.{pull_item};
+ghost use Rattle.coset.specs.Pulls.{pull_bytes, pull_item};
 ghost use Rattle.coset.specs.Shortest.{IsShortest};
 ghost use Rattle.coset.specs.View.{value_item};
 ghost use Rattle.ffi_query.specs.Kinds.{IsItemOf, IsRefused, IsWholeOf, is_under, without_tag};
@@ -55,8 +55,9 @@ pub(crate) fn is_under(number: u64, item: Pull<'_>) -> bool
 /// # Errors
 /// The same as [`check`].
 pub(crate) fn whole_of(alloc: Global, kind: Kind, bytes: &[u8]) -> Result<Pull<'_>>
-    ensures { MatchResult result (λ item. IsWholeOf kind bytes.now (pull_item item)) (λ e.
+    ensures whole { MatchResult result (λ item. IsWholeOf kind bytes.now (pull_item item)) (λ e.
         IsRefused kind bytes.now e) }
+    ensures bytes { IfOk result (λ item. pull_bytes item ≡ bytes.now) }
 {
     if let Ok(whole) = whole_item(bytes) {
         if fits(alloc, kind, whole) {

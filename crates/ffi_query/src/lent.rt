@@ -1,7 +1,7 @@
 //! All that verifying or decrypting a message takes, as parts of the input: of messages without a list of signatures, whose
 //! strings have their lengths announced, and which name no critical labels. Others are read by copies (`view`).
 
-ghost use Rattle.std.specs.Prelude.{◌≡◌, ◌+◌, ◌++◌, ◌∷◌, [], ℕ, ℤ, List, Some, IfOk, IfErr, IfSome, IsTrue, OnOk, option_map};
+ghost use Rattle.std.specs.Prelude.{◌≡◌, ◌<◌, ◌+◌, ◌^◌, ◌++◌, ◌∷◌, [], ℕ, ℤ, List, Some, IfOk, IfErr, IfSome, OnOk, false, length, option_map};
 ghost use Rattle.std.specs.Option.{option_copied};
 ghost use Rattle.coset.specs.CoseError.TheVariants.{OutOfMemory};
 ghost use Rattle.coset.specs.Item.{Item};
@@ -16,7 +16,7 @@ ghost use Rattle.ffi_query.specs.Lent.{AreHeaders, AreTexts, HasNoCritical, IsCa
 ghost use Rattle.ffi_query.specs.Located.{IsLocated, IsTextIn, located_item};
 ghost use Rattle.ffi_query.specs.Places.{bytes_in};
 ghost use Rattle.ffi_query.specs.Structures.{content_at, structure_of_one, structure_of_two};
-ghost use Rattle.ffi_query.specs.View.{proof_in};
+ghost use Rattle.ffi_query.specs.View.{IsAlgorithm, proof_in};
 
 use crate::kind::Kind;
 use crate::located::{Located, Text, bytes_located, element_located, value_located};
@@ -120,15 +120,22 @@ fn number_of(item: Pull<'_>) -> Option<i64>
     }
 }
 
+/// The algorithm that is named by that value.
+fn algorithm_by(value: Pull<'_>) -> Algorithm
+    ensures { IsAlgorithm (pull_item value.entry) result }
+{
+    match number_of(value) {
+        Some(number) => Algorithm::Number(number),
+        None => Algorithm::Text,
+    }
+}
+
 /// The algorithm that the protected header names.
 fn algorithm_in(headers: Headers<'_>) -> Algorithm
     ensures { (b : List ℕ) (v : Item) → AreHeaders b v headers.entry → KnowsAlgorithm v result }
 {
     match protected_located(headers, 1) {
-        Some(found) => match number_of(found.item) {
-            Some(number) => Algorithm::Number(number),
-            None => Algorithm::Text,
-        },
+        Some(found) => algorithm_by(found.item),
         None => Algorithm::Absent,
     }
 }
@@ -138,37 +145,47 @@ fn key_id_in<'a>(headers: Headers<'a>, nothing: Text<'a>) -> Option<KeyId<'a>>
     ensures { (b : List ℕ) (v : Item) → AreHeaders b v headers.entry → IsEmptyIn b nothing.entry
         → IfSome result (λ i. KnowsKeyId v i.place i.text.bytes.now × IsTextIn b i.text) }
 {
-    if let Some(found) = protected_located(headers, 4) {
-        let text = bytes_located(found)?;
-        return Some(KeyId {
-            place: KeyIdPlace::Protected,
-            text,
-        });
-    }
-    match unprotected_located(headers, 4) {
+    match protected_located(headers, 4) {
         Some(found) => {
             let text = bytes_located(found)?;
             Some(KeyId {
-                place: KeyIdPlace::Unprotected,
+                place: KeyIdPlace::Protected,
                 text,
             })
         }
-        None => Some(KeyId {
-            place: KeyIdPlace::Absent,
-            text: nothing,
-        }),
+        None => match unprotected_located(headers, 4) {
+            Some(found) => {
+                let text = bytes_located(found)?;
+                Some(KeyId {
+                    place: KeyIdPlace::Unprotected,
+                    text,
+                })
+            }
+            None => Some(KeyId {
+                place: KeyIdPlace::Absent,
+                text: nothing,
+            }),
+        },
     }
 }
 
-/// Whether no header has `crit`, labels that must be understood.
-fn is_uncritical(headers: Headers<'_>) -> bool
-    ensures { (b : List ℕ) (v : Item) → AreHeaders b v headers.entry → IsTrue result
+/// Whether a header has `crit`, labels that must be understood.
+fn is_critical(headers: Headers<'_>) -> bool
+    ensures { (b : List ℕ) (v : Item) → AreHeaders b v headers.entry → result ≡ false
         → HasNoCritical v }
 {
     if protected_located(headers, 2).is_some() {
-        return false;
+        return true;
     }
-    unprotected_located(headers, 2).is_none()
+    unprotected_located(headers, 2).is_some()
+}
+
+/// Nothing, where the rest of the input begins.
+fn nothing_at(rest: &[u8]) -> Text<'_>
+    ensures bytes { result.bytes.now ≡ [] }
+    ensures rest { result.rest.now ≡ rest.now }
+{
+    Text { bytes: &[], rest }
 }
 
 /// What the message carries in this place: what a byte string holds whose length is announced, or nothing where it is `nil`.
@@ -217,6 +234,7 @@ fn proof_located<'a>(kind: Kind, item: Located<'a>, nothing: Text<'a>) -> Option
 #[tactic(auto, unfolding(coset_cbor::specs::Least::least_head))]
 fn put_bytes_head(out: &mut Vec<u8>, length: usize) -> Result<()>
     ensures ok { OnOk result (out.new.items ≡ out.old.items ++ least_head 2 length) }
+    ensures small { length < 2 ^ 64 }
     ensures memory { IfErr result (λ e. e ≡ OutOfMemory) }
 {
     let n = length as u64;
@@ -333,6 +351,13 @@ fn structure_lent<'a>(
     }
 }
 
+/// How many bytes the two have, where that is a number of the machine's.
+fn length_of(front: &[u8], end: &[u8]) -> Option<usize>
+    ensures { IfSome result (λ n. n ≡ length front.now + length end.now) }
+{
+    front.len().checked_add(end.len())
+}
+
 /// What the sum of these is, where it is a number of the machine's.
 fn sum_of(a: usize, b: usize, c: usize, d: usize) -> Option<usize>
     ensures { IfSome result (λ n. n ≡ a + (b + (c + d))) }
@@ -355,12 +380,9 @@ fn texts_of<'a>(kind: Kind, item: Located<'a>, detached: Option<&'a [u8]>) -> Op
     ensures { (b : List ℕ) → IsLocated b item.entry → IfSome result
         (AreTexts kind (option_copied detached.entry) b (located_item item.entry)) }
 {
-    let nothing = Text {
-        bytes: &[],
-        rest: item.rest,
-    };
+    let nothing = nothing_at(item.rest);
     let headers = headers_of(item)?;
-    if !is_uncritical(headers) {
+    if is_critical(headers) {
         return None;
     }
     let place = element_located(item, 2)?;
@@ -401,7 +423,7 @@ pub(crate) fn find_lent<'a>(
     let Some(structure) = found else {
         return Ok(None);
     };
-    let Some(structure_len) = structure.front.len().checked_add(structure.end.len()) else {
+    let Some(structure_len) = length_of(&structure.front, structure.end) else {
         return Ok(None);
     };
     let (proof_len, content_len) = (texts.proof.bytes.len(), texts.content.bytes.len());

@@ -7,10 +7,11 @@ ghost use Rattle.coset.specs.Parts.{as_bytes};
 ghost use Rattle.coset.specs.Pulls.{pull_bytes, pull_item};
 ghost use Rattle.ffi_query.specs.Kinds.{without_tag};
 ghost use Rattle.ffi_query.specs.Labels.{first_value, is_label, value_under};
-ghost use Rattle.ffi_query.specs.Located.{AreLocated, IsContentOf, IsLocated, IsTextIn, head_len, located_item};
+ghost use Rattle.ffi_query.specs.Located.{AreLocated, IsContentOf, IsLocated, IsTextIn, head_len, located_item, opens_string};
 ghost use Rattle.ffi_query.specs.Places.{element, nth};
 
 use coset::cbor::de::{Items, Pairs, Pull};
+use coset_cbor::laws::lent_chunks;
 
 /// A lent item, and the bytes from its first one to the end of the input.
 #[derive(Clone, Copy)]
@@ -159,11 +160,22 @@ pub(crate) fn value_located(map: Located<'_>, label: i64) -> Option<Located<'_>>
     }
 }
 
+/// Whether the bytes open a byte string of indefinite length (RFC 8949, section 3.2.3).
+fn opens_string(bytes: &[u8]) -> bool
+    ensures { result ≡ opens_string bytes.now }
+{
+    match bytes.first() {
+        Some(first) => *first == 0x5F,
+        None => false,
+    }
+}
+
 /// What a byte string holds that is one chunk, where its length is announced.
 fn only_chunk(item: Pull<'_>) -> Option<&[u8]>
     ensures { IfSome result (IsContentOf (pull_bytes item.entry) (pull_item item.entry)) }
 {
-    if item.slice().first() == Some(&0x5f) {
+    lent_chunks();
+    if opens_string(item.slice()) {
         return None;
     }
     let mut chunks = item.bytes_chunks()?;

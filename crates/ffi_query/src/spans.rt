@@ -1,11 +1,11 @@
 //! All that verifying or decrypting a message takes, where what the message itself holds stays where it is: texts are named by
 //! their places.
 
-ghost use Rattle.std.specs.Prelude.{◌≡◌, ◌++◌, true, false};
+ghost use Rattle.std.specs.Prelude.{◌≡◌, ◌++◌, true};
 ghost use Rattle.std.specs.Option.{option_copied};
 ghost use Rattle.ffi_query.specs.Answers.{AnswersWith};
 ghost use Rattle.ffi_query.specs.Located.{IsTextIn};
-ghost use Rattle.ffi_query.specs.Spans.{AreLentSpans, IsAt, IsMessageSpans, PutsSpans, copied_spans};
+ghost use Rattle.ffi_query.specs.Spans.{AreLentSpans, IsAt, IsMessageSpans, PutsSpans, copied, copied_spans, written_at};
 ghost use Rattle.ffi_query.specs.declared.spans.MessageSpans.{MessageSpans};
 ghost use Rattle.ffi_query.specs.View.{HasNoView};
 
@@ -105,7 +105,7 @@ fn put_lent(lent: &Lent<'_>, input: &[u8], out: &mut [u8]) -> Result<MessageSpan
 
 /// A place in what was written.
 fn written_at(at: usize) -> Span
-    ensures { result ≡ record { is_input = false; at = at } }
+    ensures { result ≡ written_at at }
 {
     Span {
         is_input: false,
@@ -117,13 +117,23 @@ fn written_at(at: usize) -> Span
 fn copied_spans(view: MessageView) -> MessageSpans
     ensures { result ≡ copied_spans view }
 {
-    let content = view.structure_len.saturating_add(view.proof_len);
+    let key_id = view.len.saturating_sub(view.key_id_len);
     MessageSpans {
         view,
         proof: written_at(view.structure_len),
-        content: written_at(content),
-        key_id: written_at(content.saturating_add(view.content_len)),
+        content: written_at(key_id.saturating_sub(view.content_len)),
+        key_id: written_at(key_id),
         len: view.len,
+    }
+}
+
+/// The same for an answer.
+fn copied(answer: Result<MessageView, Refusal>) -> Result<MessageSpans, Refusal>
+    ensures { result ≡ copied answer }
+{
+    match answer {
+        Ok(view) => Ok(copied_spans(view)),
+        Err(refusal) => Err(refusal),
     }
 }
 
@@ -162,12 +172,16 @@ pub fn message_spans(
     let is_tagged = is_under_tag(kind, whole);
     match find_lent(alloc, kind, item, external_aad, detached, is_tagged) {
         Ok(Some(lent)) => put_lent(&lent, bytes, out),
-        Ok(None) => {
-            match view_of(alloc, kind, whole, index, external_aad, detached, known, out) {
-                Ok(view) => Ok(copied_spans(view)),
-                Err(refusal) => Err(refusal),
-            }
-        }
+        Ok(None) => copied(view_of(
+            alloc,
+            kind,
+            whole,
+            index,
+            external_aad,
+            detached,
+            known,
+            out,
+        )),
         Err(error) => Err(Refusal::Cose(error)),
     }
 }
