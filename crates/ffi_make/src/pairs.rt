@@ -44,11 +44,7 @@ fn with_one(
 ///
 /// # Errors
 /// The same as [`with_one`].
-fn with_all(
-    alloc: Global,
-    map: Value,
-    pairs: &[(Label<'_>, Entry<'_>)],
-) -> Result<Option<Value>>
+fn with_all(alloc: Global, map: Value, pairs: &[(Label<'_>, Entry<'_>)]) -> Result<Option<Value>>
     ensures { let xs = pairs_view pairs.now in
         MatchResult result (λ o. (qs : Pairs) × ArePairs xs qs
         × (option_map value_item o ≡ with_pairs qs (value_item map)))

@@ -1,12 +1,10 @@
 -- Items that are found to be messages.
-use Rattle.std.proofs.Common.{◌≡◌, ◌∙◌, ℕ, List, Option, Some, None, Bool, true, false, ap, sym, subst, refl, inl, inr}
-use Rattle.std.specs.Prelude.{IsTrue}
+use Rattle.std.proofs.Common.{◌≡◌, ◌∙◌, ℕ, List, Option, Some, None, false, ap, sym, subst, refl}
 use Rattle.coset.specs.Encrypt0.{encrypt0, encrypt0_of}
 use Rattle.coset.specs.Item.{Item, integer, bytes, float, text, boolean, null, tag, array, dict, Items, no_items, item}
 use Rattle.coset.specs.Mac0.{mac0, mac0_of}
 use Rattle.coset.specs.ShapeLaws.{some-none}
 use Rattle.coset.specs.Sign1.{sign1, sign1_of}
-use Rattle.coset.specs.Grammar.{IsItem}
 use Rattle.coset.specs.Headers.{HeaderView, ProtectedView, header, protected}
 use Rattle.coset.specs.Messages.{with_headers}
 use Rattle.coset.specs.Parts.{as_array, as_bytes}
@@ -17,7 +15,7 @@ use Rattle.ffi_query.specs.declared.kind.Form.TheVariants.{Plain, Tagged, Either
 use Rattle.ffi_query.specs.declared.kind.Kind as kinds
 use Rattle.ffi_query.specs.declared.kind.Kind.TheVariants.{Sign1, Sign, Mac0, Mac, Encrypt0, Encrypt, Signature, Recipient}
 use Rattle.ffi_query.specs.declared.kind.Kind.TheVariants.{Header, Key, KeySet, Claims, Any, KdfContext}
-use Rattle.ffi_query.specs.Fits.{Fits, FitsKind, IsInForm}
+use Rattle.ffi_query.specs.Fits.{FitsKind, IsInForm}
 use Rattle.ffi_query.specs.Kinds.{HoldsOf, IsOf, in_form}
 
 none_is : {A : Type 0} {x : A} → None ≡ Some x → ⊥

@@ -1,5 +1,5 @@
 -- What is found of a message as parts of the input.
-use Rattle.std.proofs.Common.{◌≡◌, ◌∙◌, ◌⊎◌, ◌++◌, ◌+◌, ℕ, ℤ, List, [], ◌∷◌, length, Option, Some, None, Bor, Bool, true, false, ap, sym, subst, refl, inl, inr, arith}
+use Rattle.std.proofs.Common.{◌≡◌, ◌∙◌, ◌++◌, ◌+◌, ℕ, ℤ, List, [], length, Option, Some, None, Bor, true, false, ap, sym, subst, refl, inl, inr, arith}
 use Rattle.std.proofs.lemmas.List.{length-append}
 use Rattle.std.specs.Option.{option_copied}
 use Rattle.std.specs.Prelude.{IfSome, codes, option_and_then}
@@ -9,10 +9,8 @@ use Rattle.coset.specs.ShapeLaws.{some-none}
 use Rattle.ffi_query.specs.declared.kind.Kind as kinds
 use Rattle.ffi_query.specs.declared.kind.Kind.TheVariants.{Sign1, Sign, Mac0, Mac, Encrypt0, Encrypt, Signature, Recipient}
 use Rattle.ffi_query.specs.declared.kind.Kind.TheVariants.{Header, Key, KeySet, Claims, Any, KdfContext}
-use Rattle.ffi_query.specs.declared.label.Map.TheVariants as of
 use Rattle.ffi_query.specs.declared.lent.Texts.{Texts}
 use Rattle.ffi_query.specs.declared.located.Text.{Text}
-use Rattle.ffi_query.specs.declared.part.Part.TheVariants.{Proof}
 use Rattle.ffi_query.specs.declared.view.Algorithm as algorithms
 use Rattle.ffi_query.specs.declared.view.Algorithm.TheVariants as named
 use Rattle.ffi_query.specs.declared.view.KeyIdPlace as places
@@ -47,14 +45,14 @@ knows_algorithm v w named.Text u h = (w, u, h)
 
 pub empty_in : (b s r : List ℕ) (t : Text) → t.bytes.now ≡ [] → t.rest.now ≡ r → AreLocated b s r → IsEmptyIn b t
 empty_in b s r t e f l = (
-      e,
-      record {
-        before = l.before;
-        behind = t.rest.now;
-        ends = l.ends ∙ ap (λ x. l.before ++ x) (sym f);
-        begins = ap (λ x. x ++ t.rest.now) (sym e);
-      },
-    )
+  e,
+  record {
+    before = l.before;
+    behind = t.rest.now;
+    ends = l.ends ∙ ap (λ x. l.before ++ x) (sym f);
+    begins = ap (λ x. x ++ t.rest.now) (sym e);
+  },
+)
 
 pub signed_is :
     (place : Item) (d : Option (List ℕ)) (r : Option (Bor (List ℕ))) → IfSome r (λ c. content_at place d ≡ Some c.now)
@@ -72,9 +70,9 @@ module _ (k : kinds.Kind) (v : Item) (has : has_headers k ≡ true) where
 
   uncritical_known : (ns : List ℤ) → HasNoCritical v → IsCriticalIn k ns v false true
   uncritical_known ns h = (
-        (λ x. h.0 x.0 x.1.1, λ x. none_is (sym h.1 ∙ x.1.1)),
-        (λ x. none_is (sym h.1 ∙ x.1.1), inl (λ x. h.0 x.0 x.1.1)),
-      )
+    (λ x. h.0 x.0 x.1.1, λ x. none_is (sym h.1 ∙ x.1.1)),
+    (λ x. none_is (sym h.1 ∙ x.1.1), inl (λ x. h.0 x.0 x.1.1)),
+  )
 
   string_of : (w : Item) (t : List ℕ) → as_bytes w ≡ Some t → string_in w ≡ Some t
   string_of (bytes s) t e = e

@@ -20,7 +20,7 @@ use Rattle.ffi_query.specs.declared.view.MessageView.{MessageView}
 use Rattle.ffi_query.specs.Critical.{crit_label}
 use Rattle.ffi_query.specs.Labels.{IsNumber, IsProtected, unprotected_value}
 use Rattle.ffi_query.specs.Located.{IsLocated, IsTextIn, located_item}
-use Rattle.ffi_query.specs.Places.{bytes_in, element, string_in}
+use Rattle.ffi_query.specs.Places.{bytes_in, element}
 use Rattle.ffi_query.specs.Structures.{content_at, structure_of_one, structure_of_two}
 use Rattle.ffi_query.specs.View.{IsTold, alg_label, kid_label, proof_in}
 

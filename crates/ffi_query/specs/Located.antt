@@ -1,5 +1,5 @@
 -- Parts of the input, each with the bytes from its first one to the input's end.
-use Rattle.std.specs.Prelude.{◌≡◌, ◌==◌, ◌%◌, ℕ, List, [], ◌∷◌, ◌++◌, length, Some, Bool, false, if◌then◌else◌}
+use Rattle.std.specs.Prelude.{◌≡◌, ◌==◌, ◌%◌, ℕ, List, [], ◌∷◌, ◌++◌, Some, Bool, false, if◌then◌else◌}
 use Rattle.std.specs.Borrow.{Bor}
 use Rattle.coset.specs.Item.{Item}
 use Rattle.coset.specs.Parts.{as_bytes}

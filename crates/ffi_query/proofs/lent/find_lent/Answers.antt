@@ -1,4 +1,4 @@
-use Rattle.std.proofs.Common.{◌≡◌, ◌∙◌, ◌++◌, ◌+◌, length, ap, refl, sym}
+use Rattle.std.proofs.Common.{◌∙◌, ◌++◌, ◌+◌, length, ap, refl, sym}
 use Rattle.std.proofs.lemmas.List.{length-append}
 use Rattle.std.specs.Option.{option_copied}
 use Rattle.ffi_query.specs.Located.{located_item}

@@ -11,7 +11,7 @@ returns c =
     let v = located_item c.args.item in
     let place = located_item c.in_ok-place.place in
     let none = empty_in b (pull_bytes c.args.item.item) c.args.item.rest.now c.nothing_at-nothing.result c.nothing_at-nothing.ensures.bytes
-            c.nothing_at-nothing.ensures.rest l in
+    c.nothing_at-nothing.ensures.rest l in
     let headers = c.in_ok-headers.ensures b l in
     let content = c.in_ok-content.ensures b (c.in_ok-place.ensures.place b l) none in
     let proof = c.in_ok-proof_located.ensures b l none in

@@ -1,4 +1,4 @@
-use Rattle.std.proofs.Common.{◌∙◌, ◌-◌, ap, drop, length}
+use Rattle.std.proofs.Common.{◌∙◌, ap, drop, length}
 use Rattle.coset.specs.Elements.{items_bytes, items_left}
 use Rattle.coset.specs.Pulls.{pull_bytes, pull_item}
 use Rattle.ffi_query.specs.Places.{nth}

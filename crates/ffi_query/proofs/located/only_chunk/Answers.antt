@@ -1,4 +1,4 @@
-use Rattle.std.proofs.Common.{◌∙◌, ap, sym, subst}
+use Rattle.std.proofs.Common.{◌∙◌, ap, sym}
 use Rattle.coset.specs.Chunks.{chunks_bytes, chunks_left}
 use Rattle.coset.specs.Pulls.{pull_bytes, pull_item}
 use Rattle.ffi_query.specs.Located.{opens_string}

@@ -1,4 +1,4 @@
-use Rattle.std.proofs.Common.{◌∙◌, [], ap, refl, sym, subst}
+use Rattle.std.proofs.Common.{◌∙◌, ap, refl, sym, subst}
 use Rattle.std.specs.Option.{option_copied}
 use Rattle.coset.specs.Pulls.{pull_bytes, pull_item}
 use Rattle.ffi_query.specs.Answers.{AnswersWith}
