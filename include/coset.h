@@ -108,11 +108,13 @@ enum {
   COSET_IN_ITEM = 3         /* the item itself: of COSET_HEADER, COSET_KEY, COSET_CLAIMS and COSET_ITEM */
 };
 
-/* Forms in which a message names its algorithm. */
+/* Forms in which a message names its algorithm, and those of a label and a value that are put into a map. */
 enum {
-  COSET_NONE = 0, /* it names none */
-  COSET_INT = 1,  /* by an integer */
-  COSET_TEXT = 2  /* by a text */
+  COSET_NONE = 0,   /* it names none */
+  COSET_INT = 1,    /* an integer */
+  COSET_TEXT = 2,   /* a text, by its UTF-8 bytes */
+  COSET_BYTES = 3,  /* of a value: a byte string */
+  COSET_ENCODED = 4 /* of a value: any item, by its encoding */
 };
 
 /* What there is of crit, label 2: labels that must be understood; COSET_NONE where there are none. */
@@ -243,6 +245,36 @@ coset_status coset_message(uint32_t kind, const uint8_t *in, size_t in_len, size
                            const int64_t *known, size_t known_len, uint8_t *out, size_t cap, size_t *len,
                            coset_message_view *view);
 
+/* What coset_message_spans says in numbers, of any message: nothing but zeros where the status isn't COSET_OK. The signature or
+ * the tag, the content and the key's identifier begin so many bytes behind `in`, where is_.._in_input is 1, else behind `out`. */
+typedef struct coset_message_spans_view {
+  int64_t algorithm;       /* as in coset_message_view, and so are the next four */
+  uint32_t algorithm_form;
+  uint32_t key_id_map;
+  uint32_t critical;
+  uint32_t is_tagged;
+  uint32_t is_proof_in_input;
+  uint32_t is_content_in_input;
+  uint32_t is_key_id_in_input;
+  size_t structure_len;    /* out begins with the structure */
+  size_t proof_at;
+  size_t proof_len;        /* 0 of an encrypted message */
+  size_t content_at;
+  size_t content_len;      /* 0 where the content is detached */
+  size_t key_id_at;
+  size_t key_id_len;       /* 0 where there is no kid */
+} coset_message_spans_view;
+
+/* The same as coset_message without a copy of what the message holds: out begins with the structure alone, and the other three
+ * are named by their places. They are in `in` where the message has no list of signatures, names no critical labels, and the
+ * lengths of its strings are announced; else behind the structure in `out`. *len is how many bytes of out are written. Also:
+ * COSET_SHORT; COSET_ABSENT where there is no payload, or no such signer. */
+COSET_CALL(14, 15)
+coset_status coset_message_spans(uint32_t kind, const uint8_t *in, size_t in_len, size_t index, const uint8_t *external_aad,
+                                 size_t external_aad_len, uint32_t has_detached, const uint8_t *detached, size_t detached_len,
+                                 const int64_t *known, size_t known_len, uint8_t *out, size_t cap, size_t *len,
+                                 coset_message_spans_view *view);
+
 /* ---- Web tokens (RFC 8392), whose layers are COSE_Sign1, COSE_Mac0 and COSE_Encrypt0 in any order, at most four of them; each
  * plain or under its tag, and the outermost also under tag 61 on that. coset_token_judge of coset_verify.h calls this with
  * the caller's functions. */
@@ -331,6 +363,26 @@ coset_status coset_put_int(uint32_t kind, const uint8_t *in, size_t in_len, int6
 COSET_CALL(10)
 coset_status coset_put_text_label(uint32_t kind, const uint8_t *in, size_t in_len, const uint8_t *label, size_t label_len,
                                   const uint8_t *value, size_t value_len, uint8_t *out, size_t cap, size_t *len);
+
+/* A label and a value for coset_put_all. What isn't an integer is a part of the bytes that are given beside the pairs: so many
+ * from that offset on. coset_pairs.h puts such pairs together. */
+typedef struct coset_pair {
+  uint32_t label_form; /* COSET_INT or COSET_TEXT */
+  uint32_t value_form; /* COSET_INT, COSET_TEXT, COSET_BYTES or COSET_ENCODED */
+  int64_t label;       /* where the form is COSET_INT; else by the next two */
+  size_t label_at;
+  size_t label_len;
+  int64_t value;       /* where the form is COSET_INT; else by the next two */
+  size_t value_at;
+  size_t value_len;
+} coset_pair;
+
+/* The same with many pairs more, in this order: what coset_put and the others make pair by pair, but that what is made is checked
+ * once, with all of them, and the time is that of one call. COSET_MISUSE where a pair has another form, or a part that the
+ * bytes don't have. */
+COSET_CALL(10)
+coset_status coset_put_all(uint32_t kind, const uint8_t *in, size_t in_len, const coset_pair *pairs, size_t pairs_len,
+                           const uint8_t *bytes, size_t bytes_len, uint8_t *out, size_t cap, size_t *len);
 
 /* As coset_structure, of a message that isn't made yet. prot is its protected header, a map or nothing; signer is that of the
  * signer, of a COSET_SIGN alone; content is the payload, carried or detached. Enc_structure has none. */

@@ -28,8 +28,8 @@ struct function {
   const char *name;
   int32_t (*call)(const union word *);
   const char *classes; /* k kind, f flag, u number, i index, s label, b bytes and z their length, w labels
-                          and y how many they are, x structs and n how many they are, r a struct that begins with its size, o a buffer
-                          and c its length, l the answer's length, a and v other answers */
+                          and y how many they are, p pairs and q how many they are, x other structs and n how many they are, r a struct
+                          that begins with its size, o a buffer and c its length, l the answer's length, a and v other answers */
   size_t sizes[WORDS]; /* of answers and structs */
 };
 #include "calls.h"
@@ -67,7 +67,7 @@ static _Thread_local long requests, refused_at = -1, live;
 
 static void tell_words(void) {
   for (size_t i = 0; now->classes[i]; i++) {
-    if (!strchr("bw", now->classes[i])) {
+    if (!strchr("bwp", now->classes[i])) {
       fprintf(stdout, " %#" PRIx64, words[i].number);
       continue;
     }
@@ -238,6 +238,19 @@ static void lend_structs(struct place *p, size_t size, size_t count, int has_siz
   if (p->n) memcpy(p->was, p->at, p->n);
 }
 
+/* Lends some pairs: some say nothing, and some point to bytes that aren't there. */
+static void lend_pairs(struct place *p) {
+  size_t count = chosen(5);
+  for (size_t i = 0; i < count; i++) {
+    coset_pair pair = {(uint32_t)(chosen(16) ? 1 + chosen(2) : chosen(6)), (uint32_t)(chosen(16) ? 1 + chosen(4) : chosen(6)),
+                       (int64_t)number('s', 0), chosen(8), chosen(16) ? chosen(4) : SIZE_MAX >> chosen(64),
+                       (int64_t)number('s', 0), chosen(16) ? chosen(8) : SIZE_MAX >> chosen(64), chosen(8)};
+    memcpy(p->was + i * sizeof pair, &pair, sizeof pair);
+  }
+  lend(p, count * sizeof(coset_pair), 0);
+  if (count) memcpy(p->at, p->was, p->n);
+}
+
 /* A row for a function, half of the time one that it had an answer for; none for libFuzzer. */
 static const struct row *row_for(const struct function *f) {
   uint64_t count = liked[f - functions].count;
@@ -266,6 +279,8 @@ static void choose(const uint8_t *rest, size_t left) {
     case 'x': lend_structs(p, now->sizes[i], chosen(5), 0), words[i].at = p->at; break;
     case 'n': words[i].number = places[i - 1].n / now->sizes[i - 1]; break;
     case 'r': lend_structs(p, now->sizes[i], 1, 1), words[i].at = p->at; break;
+    case 'p': lend_pairs(p), words[i].at = p->at; break;
+    case 'q': words[i].number = places[i - 1].n / sizeof(coset_pair); break;
     case 'z': case 'c': words[i].number = places[i - 1].n; break;
     case 'l': case 'a': case 'v': lend(p, now->sizes[i], 0), words[i].at = p->at; break;
     default: words[i].number = number(now->classes[i], kind);
@@ -282,21 +297,34 @@ static struct place *of(char class) {
 /* Whether a call with that status wrote an answer: what was asked for, or a layer that waits. */
 static int is_answer(int32_t status) { return status == COSET_OK || status == COSET_LAYER; }
 
+/* The texts that are named by places are in the input, or in what was written. */
+static void look_at_spans(size_t len) {
+  coset_message_spans_view view;
+  memcpy(&view, of('v')->at, sizeof view);
+  size_t rooms[] = {len, of('b')->n};
+  size_t places_of[][3] = {{0, 0, view.structure_len}, {view.is_proof_in_input, view.proof_at, view.proof_len},
+                           {view.is_content_in_input, view.content_at, view.content_len}, {view.is_key_id_in_input, view.key_id_at, view.key_id_len}};
+  for (int i = 0; i < 4; i++)
+    if (places_of[i][0] > 1 || places_of[i][1] > rooms[places_of[i][0]] || places_of[i][2] > rooms[places_of[i][0]] - places_of[i][1])
+      fail("a text outside of its place");
+}
+
 /* What is to hold of each place after a call with that status; `len` is the length that was told. */
 static void look(int32_t status, size_t len) {
   static const uint8_t zeros[1 << 10];
   for (int i = 0; now->classes[i]; i++) {
     struct place *p = &places[i];
     char class = now->classes[i];
-    if (!strchr("bwolavxr", class)) continue;
+    if (!strchr("bwpolavxr", class)) continue;
     if (!is_untouched(p->at == p->start ? p->at + p->n : p->at - CANARY, CANARY)) fail("writes outside of a place");
-    if (strchr("bwxr", class) && p->n && memcmp(p->at, p->was, p->n)) fail("writes into an input");
+    if (strchr("bwpxr", class) && p->n && memcmp(p->at, p->was, p->n)) fail("writes into an input");
     if (class == 'o' && is_answer(status) && len > p->n) fail("a length that is more than there is");
     size_t written = is_answer(status) ? len : 0;
     if (class == 'o' && !is_untouched(p->at + written, p->n - written)) fail("writes into out behind the answer");
     if (class == 'l' && !is_answer(status) && status != COSET_SHORT && len) fail("a length without an answer");
     if (class == 'v' && status != COSET_OK && memcmp(p->at, zeros, p->n)) fail("a view without an answer");
   }
+  if (status == COSET_OK && of('v') && of('v')->n == sizeof(coset_message_spans_view)) look_at_spans(len);
   if (status == COSET_SHORT && (!of('o') || len <= of('o')->n)) fail("COSET_SHORT with room enough");
   if (status < 0 || status >= STATUSES) fail("a status that the header doesn't have");
   if (status == COSET_MEMORY && refused_at < 0) fail("COSET_MEMORY though no request was refused");

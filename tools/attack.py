@@ -41,8 +41,10 @@ def enum(text, first):
 
 def class_of(type_, name, before):
     """The letter by which attack.c makes an argument, and the type that the answer there has; None where it knows none."""
-    if type_ == "size_t" and before in ("b", "w", "o", "x"):
-        return {"b": "z", "w": "y", "o": "c", "x": "n"}[before], None
+    if type_ == "size_t" and before in ("b", "w", "o", "p", "x"):
+        return {"b": "z", "w": "y", "o": "c", "p": "q", "x": "n"}[before], None
+    if type_ == "const coset_pair *":
+        return "p", None
     if type_.startswith("const coset_"):
         return ("r" if name == "rules" else "x"), type_[6:-2]
     if type_ == "const int64_t *":
@@ -82,7 +84,7 @@ def table(text):
         if None in found:
             left.append(name)
             continue
-        words = ", ".join(f"a[{at}].at" if letter in "bwolavxr" else f"a[{at}].number" for at, (letter, _) in enumerate(found))
+        words = ", ".join(f"a[{at}].at" if letter in "bwpolavxr" else f"a[{at}].number" for at, (letter, _) in enumerate(found))
         lines.append(f"static int32_t call_{place}(const union word *a) {{ return {name}({words}); }}")
         sizes = ", ".join(f"sizeof({type_})" if type_ else "0" for _, type_ in found)
         rows.append(f'    {{"{name}", call_{place}, "{"".join(letter for letter, _ in found)}", {{{sizes}}}}},')

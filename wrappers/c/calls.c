@@ -6,6 +6,7 @@
  *   structure KIND IN CAP INDEX AAD HAS DETACHED | recipient_structure HOLDER IN CAP AAD
  *   sign1 KIND IN CAP AAD HAS DETACHED | message KIND IN CAP INDEX AAD HAS DETACHED KNOWN
  *   verified KIND IN CAP ALG KID SIGNED SIGNATURE | safe KIND IN CAP INDEX AAD HAS DETACHED ALGS KNOWN INPUT PROOF KID
+ *   spans KIND IN CAP INDEX AAD HAS DETACHED KNOWN | put_all KIND IN CAP PAIRS
  *   put, put_bytes, put_text, put_int or put_text_label KIND IN CAP LABEL VALUE
  *   structure_of KIND PROTECTED CAP SIGNER AAD CONTENT | recipient_structure_of HOLDER PROTECTED CAP AAD
  *   make KIND PROTECTED CAP UNPROTECTED HAS CONTENT PROOF
@@ -283,6 +284,80 @@ static int sign_as_said(void *words, const uint8_t *tbs, size_t tbs_len, uint8_t
   return is;
 }
 
+/* The part of a word up to a letter that is none of hexadecimal, as bytes behind those that are there. */
+static char *part(char *word, uint8_t *bytes, size_t *count, size_t *at, size_t *len) {
+  *at = *count;
+  for (; strchr("0123456789abcdef", *word) && *word; word += 2) bytes[(*count)++] = (uint8_t)(digit(word[0]) << 4 | digit(word[1]));
+  *len = *count - *at;
+  return word;
+}
+
+/* The pairs of a word: of each a label and a value with `=` between them, and `,` behind; `i` and an integer, or `t`, `b` or `e`
+ * and hexadecimal. `n` is a form that there isn't, and `o` a text that isn't there. */
+static int32_t put_all(char *word, uint32_t kind, struct bytes in, uint8_t *out, size_t cap, size_t *len) {
+  static const char forms[] = "nitbe";
+  struct bytes bytes = {malloc(strlen(word) + 1), 0};
+  coset_pair *pairs = malloc((strlen(word) + 1) * sizeof *pairs);
+  size_t count = 0;
+  for (char *now = word; *now && *now != '-'; now += *now == ',') {
+    coset_pair *pair = &pairs[count++];
+    *pair = (coset_pair){0};
+    pair->label_form = *now == 'o' ? 2 : (uint32_t)(strchr(forms, *now) - forms);
+    if (*now == 'i') pair->label = strtoll(now + 1, &now, 10);
+    else if (*now == 'o') now++, pair->label_len = SIZE_MAX;
+    else now = part(now + 1, bytes.at, &bytes.len, &pair->label_at, &pair->label_len);
+    now++;
+    pair->value_form = *now == 'o' ? 2 : (uint32_t)(strchr(forms, *now) - forms);
+    if (*now == 'i') pair->value = strtoll(now + 1, &now, 10);
+    else if (*now == 'o') now++, pair->value_at = SIZE_MAX;
+    else now = part(now + 1, bytes.at, &bytes.len, &pair->value_at, &pair->value_len);
+  }
+  /* In blocks of their own size, so that a read behind them is seen. */
+  struct bytes held = {malloc(bytes.len + !bytes.len), bytes.len};
+  coset_pair *own = malloc((count + !count) * sizeof *own);
+  if (bytes.len) memcpy(held.at, bytes.at, bytes.len);
+  if (count) memcpy(own, pairs, count * sizeof *own);
+  int32_t status = coset_put_all(kind, in.at, in.len, count ? own : NULL, count, bytes.len ? held.at : NULL, bytes.len, out, cap, len);
+  free(pairs), free(bytes.at), free(held.at), free(own);
+  return status;
+}
+
+/* The status of coset_message_spans; the texts that it names are then at the front of `out`, and in `flags` which are in the input,
+ * and whether the message is of more than one place. -6: what it shouldn't have written. */
+static int32_t spans(char **word, uint32_t kind, struct bytes in, uint8_t *out, size_t cap, size_t *len, coset_message_view *told,
+                     uint32_t *flags) {
+  struct bytes aad = spelled(word[5]), detached = spelled(word[7]);
+  int64_t known[64];
+  coset_message_spans_view view;
+  memset(&view, 0x77, sizeof view);
+  int32_t status = coset_message_spans(kind, in.at, in.len, strtoul(word[4], NULL, 0), aad.at, aad.len,
+                                       (uint32_t)strtoul(word[6], NULL, 0), detached.at, detached.len, known,
+                                       integers(word[8], known, 64), out, cap, len, &view);
+  free(aad.at), free(detached.at);
+  size_t written = status == COSET_OK ? *len : 0;
+  for (size_t i = written; i < cap + 8; i++)
+    if (out[i] != 0xee) return -6;
+  if (status != COSET_OK && (view.algorithm || view.critical || view.proof_at || view.key_id_len || view.is_content_in_input)) return -6;
+  if (status != COSET_OK) return *told = (coset_message_view){0}, status;
+  const struct { uint32_t is_in; size_t at, len; } texts[] = {{0, 0, view.structure_len},
+    {view.is_proof_in_input, view.proof_at, view.proof_len}, {view.is_content_in_input, view.content_at, view.content_len},
+    {view.is_key_id_in_input, view.key_id_at, view.key_id_len}};
+  uint8_t *all = malloc(in.len + written + 1);
+  size_t total = 0;
+  for (int i = 0; i < 4; i++) {
+    size_t room = texts[i].is_in ? in.len : written;
+    if (texts[i].at > room || texts[i].len > room - texts[i].at) return free(all), -6;
+    if (texts[i].len) memcpy(all + total, (texts[i].is_in ? in.at : out) + texts[i].at, texts[i].len);
+    total += texts[i].len;
+  }
+  memcpy(out, all, *len = total);
+  free(all);
+  *flags = view.is_proof_in_input + view.is_content_in_input + view.is_key_id_in_input;
+  *told = (coset_message_view){view.algorithm, view.algorithm_form, view.key_id_map, view.critical, view.is_tagged,
+                               view.structure_len, view.proof_len, view.content_len, view.key_id_len};
+  return status;
+}
+
 /* What the call that the words name answers, of those that make. -2: none of these. */
 static int32_t made(char **word, uint32_t kind, struct bytes in, uint8_t *out, size_t cap, size_t *len) {
   const char *call = word[0];
@@ -307,6 +382,7 @@ static int32_t made(char **word, uint32_t kind, struct bytes in, uint8_t *out, s
   if (!strcmp(call, "add")) status = coset_add(kind, in.at, in.len, b[0].at, b[0].len, out, cap, len);
   if (!strcmp(call, "write")) status = coset_write(kind, in.at, in.len, out, cap, len);
   if (!strcmp(call, "canonical_key")) status = coset_canonical_key(kind, in.at, in.len, out, cap, len);
+  if (!strcmp(call, "put_all")) status = put_all(word[4], kind, in, out, cap, len);
   if (!strcmp(call, "issued")) {
     char *words[2] = {word[11], word[12]};
     struct token t = {{b[0].at, b[0].len}, {b[1].at, b[1].len}, {b[2].at, b[2].len}, {b[3].at, b[3].len}, {in.at, in.len},
@@ -391,13 +467,17 @@ int main(void) {
       status = coset_message(kind, in.at, in.len, strtoul(word[4], NULL, 0), aad.at, aad.len, (uint32_t)strtoul(word[6], NULL, 0),
                              extra.at, extra.len, known, integers(word[8], known, 64), out, cap, &len, &message);
     }
-    int is_safe = !strcmp(call, "safe"), views = !strcmp(call, "sign1") || !strcmp(call, "message");
+    uint32_t flags = 0;
+    int is_spans = !strcmp(call, "spans");
+    if (is_spans) status = spans(word, kind, in, out, cap, &len, &message, &flags);
+    int is_safe = !strcmp(call, "safe"), views = is_spans || !strcmp(call, "sign1") || !strcmp(call, "message");
     if (is_safe) status = safe(word, kind, in, out, cap, &len);
     left = -1;
     int integer = !strcmp(call, "label_int"), writes = strcmp(call, "check") && strcmp(call, "count") && !integer;
     if (integer) snprintf(number, sizeof number, "%" PRId64, value);
     else snprintf(number, sizeof number, "%zu", len);
-    tell(status, number, out, is_safe ? (status ? 0 : len) : writes ? room : 0, views ? &message : NULL);
+    if (is_spans) printf("%" PRIu32 " ", flags);
+    tell(status, number, out, is_safe || is_spans ? (status ? 0 : len) : writes ? room : 0, views ? &message : NULL);
     free(in.at), free(aad.at), free(extra.at), free(out);
     if (live) return fprintf(stderr, "%ld blocks are left\n", live), 1;
   }

@@ -17,6 +17,13 @@ def data(word):
     return bytes.fromhex("" if word == "-" else word)
 
 
+def pairs(word):
+    """The pairs of the word of `put_all`."""
+    values = {"i": int, "t": lambda it: data(it).decode(), "b": data, "e": lambda it: coset.Encoded(data(it))}
+    halves = [pair.split("=") for pair in word.split(",") if "=" in pair]
+    return [tuple(values[half[0]](half[1:]) for half in pair) for pair in halves]
+
+
 def made(name, kind, given, *words):
     """What that call answers, of those that make."""
     if name == "put_int":
@@ -27,6 +34,8 @@ def made(name, kind, given, *words):
         return coset.put(kind, given, int(words[1]), data(words[2]).decode())
     if name == "put":
         return coset.put_encoded(kind, given, int(words[1]), data(words[2]))
+    if name == "put_all":
+        return coset.put_all(kind, given, pairs(words[1]))
     if name == "put_text_label":
         return coset.put_encoded(kind, given, data(words[1]).decode(), data(words[2]))
     if name == "structure_of":
@@ -105,7 +114,7 @@ def answer(name, kind, given="-", *words):
     kind, given = int(kind), data(given)
     if name == "text":
         return f"{coset.version()}: {coset.status_text(kind)}"
-    if name == "message":
+    if name in ("message", "spans"):
         return message(kind, given, *words[1:])
     if name == "token":
         return judged(given, *words[1:])

@@ -9,6 +9,8 @@ of each call stands in the header and in docs/C.md.
 import ctypes
 import enum
 import os
+import struct
+import threading
 from collections import namedtuple
 
 
@@ -28,7 +30,7 @@ PROTECTED, PAYLOAD, CIPHERTEXT, PROOF = range(1, 5)
 IN_PROTECTED, IN_UNPROTECTED, IN_ITEM = range(1, 4)
 LEXICOGRAPHIC, LENGTH_FIRST = range(1, 3)  # orders of labels
 BY_SIGNATURE, BY_ANY = range(1, 3)  # which layers authenticate who sent a token
-NONE, INT, TEXT = range(0, 3)  # forms in which a message names its algorithm
+NONE, INT, TEXT, BYTES, ENCODED = range(0, 5)  # forms in which a message names its algorithm: the first three; and of labels and values
 UNDERSTOOD, NOT_UNDERSTOOD = range(1, 3)  # what there is of labels that must be understood; NONE where there are none
 
 _OK, _SHORT, _MEMORY, _ABSENT, _MISUSE, _TYPE, _EMPTY, _NOT_ALLOWED, _CRITICAL, _LAYER = 0, 1, 2, 12, 13, 14, 15, 16, 17, 19
@@ -139,24 +141,8 @@ class Sign1(namedtuple("Sign1", "algorithm algorithm_form key_id_map has_critica
     __slots__ = ()
 
 
-class _View(ctypes.Structure):
-    """coset_sign1_view of the header."""
-
-    _fields_ = [
-        ("algorithm", ctypes.c_int64),
-        ("algorithm_form", ctypes.c_uint32),
-        ("key_id_map", ctypes.c_uint32),
-        ("has_critical", ctypes.c_uint32),
-        ("is_tagged", ctypes.c_uint32),
-        ("structure_len", ctypes.c_size_t),
-        ("signature_len", ctypes.c_size_t),
-        ("payload_len", ctypes.c_size_t),
-        ("key_id_len", ctypes.c_size_t),
-    ]
-
-
-class _Message(ctypes.Structure):
-    """coset_message_view of the header."""
+class _Spans(ctypes.Structure):
+    """coset_message_spans_view of the header."""
 
     _fields_ = [
         ("algorithm", ctypes.c_int64),
@@ -164,10 +150,31 @@ class _Message(ctypes.Structure):
         ("key_id_map", ctypes.c_uint32),
         ("critical", ctypes.c_uint32),
         ("is_tagged", ctypes.c_uint32),
+        ("is_proof_in_input", ctypes.c_uint32),
+        ("is_content_in_input", ctypes.c_uint32),
+        ("is_key_id_in_input", ctypes.c_uint32),
         ("structure_len", ctypes.c_size_t),
+        ("proof_at", ctypes.c_size_t),
         ("proof_len", ctypes.c_size_t),
+        ("content_at", ctypes.c_size_t),
         ("content_len", ctypes.c_size_t),
+        ("key_id_at", ctypes.c_size_t),
         ("key_id_len", ctypes.c_size_t),
+    ]
+
+
+class _Pair(ctypes.Structure):
+    """coset_pair of the header."""
+
+    _fields_ = [
+        ("label_form", ctypes.c_uint32),
+        ("value_form", ctypes.c_uint32),
+        ("label", ctypes.c_int64),
+        ("label_at", ctypes.c_size_t),
+        ("label_len", ctypes.c_size_t),
+        ("value", ctypes.c_int64),
+        ("value_at", ctypes.c_size_t),
+        ("value_len", ctypes.c_size_t),
     ]
 
 
@@ -233,8 +240,8 @@ def _declare():
         "value_at": [size] + to,
         "structure": [size, at, size, number, at, size] + to,
         "recipient_structure": [at, size] + to,
-        "sign1": [at, size, number, at, size] + to + [ctypes.POINTER(_View)],
-        "message": [size, at, size, number, at, size, ctypes.POINTER(integer), size] + to + [ctypes.POINTER(_Message)],
+        "message_spans": [size, at, size, number, at, size, ctypes.c_void_p, size] + to + [ctypes.POINTER(_Spans)],
+        "put_all": [ctypes.POINTER(_Pair), size, at, size] + to,
         "put": [integer, at, size] + to,
         "put_bytes": [integer, at, size] + to,
         "put_text": [integer, at, size] + to,
@@ -286,7 +293,8 @@ def _raise(status, offset=None):
 
 def _bytes(data):
     """The bytes and their number, of any object that lends them."""
-    data = bytes(memoryview(data))
+    if type(data) is not bytes:
+        data = bytes(memoryview(data))
     return data, len(data)
 
 
@@ -413,37 +421,65 @@ def recipient_structure(holder, data, external_aad=b""):
     return _written(_library.coset_recipient_structure, _kind(holder), *_bytes(data), *_bytes(external_aad))
 
 
-def _split(text, *lengths):
-    """The texts of those lengths, one behind the other."""
-    texts, start = [], 0
-    for length in lengths:
-        texts.append(text[start : start + length])
-        start += length
-    return texts
+class _Room(threading.local):
+    """Memory for the structure and the view of a message, which a thread uses again and again."""
+
+    def __init__(self):
+        self.size = 4096
+        self.view, self.length = ctypes.create_string_buffer(ctypes.sizeof(_Spans)), ctypes.c_size_t()
+        self.out = ctypes.create_string_buffer(self.size)
+        self.behind = ctypes.byref(self.length), ctypes.cast(self.view, ctypes.POINTER(_Spans))
+
+
+_room = _Room()
+_NUMBERS = struct.Struct("@qIIIIIIINNNNNNN")  # those of _Spans
+
+
+def _seen(kind, data, index, critical, external_aad, detached):
+    """The numbers of a message up to is_tagged, and its four texts: the structure, and what is cut out of the message."""
+    data, data_len = _bytes(data)
+    aad, aad_len = _bytes(external_aad)
+    content, content_len = (b"", 0) if detached is None else _bytes(detached)
+    known = (ctypes.c_int64 * len(critical))(*map(_int64, critical)) if critical else None
+    # The structure has all that is given once, with heads; what has no place in the message may be behind it.
+    needed = 2 * data_len + aad_len + content_len + 128
+    out, size = (_room.out, _room.size) if needed <= _room.size else (ctypes.create_string_buffer(needed), needed)
+    given = _kind(kind), data, data_len, index, aad, aad_len, detached is not None, content, content_len, known, len(critical)
+    status = _library.coset_message_spans(*given, out, size, *_room.behind)
+    if status == _SHORT:
+        size = _room.length.value
+        out = ctypes.create_string_buffer(size)
+        status = _library.coset_message_spans(*given, out, size, *_room.behind)
+    if status != _OK:
+        _raise(status)
+    numbers = _NUMBERS.unpack_from(_room.view)
+    signed, at, proof_len, content_at, content_len, key_id_at, key_id_len = numbers[8:]
+    text = ctypes.string_at(out, _room.length.value)
+    proof, held, key_id = (data if is_input else text for is_input in numbers[5:8])
+    return numbers[:5], (
+        text if signed == len(text) else text[:signed],
+        proof[at : at + proof_len],
+        held[content_at : content_at + content_len],
+        key_id[key_id_at : key_id_at + key_id_len],
+    )
 
 
 def sign1(kind, data, external_aad=b"", detached=None):
     """All that verifying a message with one signature takes (Sign1), of a kind SIGN1, with TAGGED or EITHER or neither: over the
     payload that the message carries, or over `detached`, where that isn't None and it carries none."""
-    content, view = _bytes(b"" if detached is None else detached), _View()
-    given = _kind(kind), *_bytes(data), *_bytes(external_aad), detached is not None, *content
-    text = _written(_library.coset_sign1, *given, behind=(ctypes.byref(view),))
-    texts = _split(text, view.structure_len, view.signature_len, view.payload_len, view.key_id_len)
-    algorithm = view.algorithm if view.algorithm_form == INT else None
-    return Sign1(algorithm, view.algorithm_form, view.key_id_map or None, bool(view.has_critical), bool(view.is_tagged), *texts)
+    if kind & 0xFF != SIGN1:
+        raise Misuse("a kind of another call")
+    (algorithm, form, key_id_map, critical, is_tagged), texts = _seen(kind, data, 0, (), external_aad, detached)
+    return Sign1(algorithm if form == INT else None, form, key_id_map or None, critical != NONE, is_tagged != 0, *texts)
 
 
 def message(kind, data, index=0, critical=(), external_aad=b"", detached=None):
     """All that verifying or decrypting a message takes (Message), and of the signer of that index where it is one with signers:
     over the payload that the message carries, or over `detached`, where that isn't None and it carries none. The caller
     understands the critical labels."""
-    content, view = _bytes(b"" if detached is None else detached), _Message()
-    known = (ctypes.c_int64 * len(critical))(*map(_int64, critical))
-    given = _kind(kind), *_bytes(data), _size(index), *_bytes(external_aad), detached is not None, *content, known, len(known)
-    text = _written(_library.coset_message, *given, behind=(ctypes.byref(view),))
-    texts = _split(text, view.structure_len, view.proof_len, view.content_len, view.key_id_len)
-    algorithm = view.algorithm if view.algorithm_form == INT else None
-    return Message(algorithm, view.algorithm_form, view.key_id_map or None, view.critical, bool(view.is_tagged), *texts)
+    numbers, texts = _seen(kind, data, _size(index), critical, external_aad, detached)
+    algorithm, form, key_id_map, labels, is_tagged = numbers
+    return Message(algorithm if form == INT else None, form, key_id_map or None, labels, is_tagged != 0, *texts)
 
 
 def _asked(found, algorithms, proof):
@@ -574,6 +610,46 @@ def put_encoded(kind, data, name, value):
     if isinstance(name, str):
         return _written(_library.coset_put_text_label, _kind(kind), *_bytes(data), *_bytes(name.encode()), *_bytes(value))
     return _written(_library.coset_put, _kind(kind), *_bytes(data), _int64(name), *_bytes(value))
+
+
+class Encoded(bytes):
+    """A value by its encoding, one item of CBOR, for `put_all`."""
+
+    __slots__ = ()
+
+
+def _part(data, parts):
+    """Where the bytes begin among the parts, once they are the last of these, and how many they are."""
+    at = len(parts)
+    parts += data
+    return at, len(parts) - at
+
+
+def _pair(name, value, parts):
+    """The struct of a pair, whose texts and bytes are then the last parts."""
+    pair = _Pair()
+    if isinstance(name, str):
+        pair.label_form, (pair.label_at, pair.label_len) = TEXT, _part(name.encode(), parts)
+    else:
+        pair.label_form, pair.label = INT, _int64(name)
+    if isinstance(value, bool):
+        raise TypeError("True and False are no integers of CBOR: Encoded takes their encodings")
+    if isinstance(value, int):
+        pair.value_form, pair.value = INT, _int64(value)
+    elif isinstance(value, str):
+        pair.value_form, (pair.value_at, pair.value_len) = TEXT, _part(value.encode(), parts)
+    else:
+        form = ENCODED if isinstance(value, Encoded) else BYTES
+        pair.value_form, (pair.value_at, pair.value_len) = form, _part(memoryview(value), parts)
+    return pair
+
+
+def put_all(kind, data, pairs):
+    """The header, key or claims set, which may be empty, with these pairs more, in their order, in one call: of a dict, or
+    labels with values. A label is an int or a str; a value is an int, a str, bytes, or Encoded, one item of CBOR."""
+    parts = bytearray()
+    told = [_pair(name, value, parts) for name, value in (pairs.items() if isinstance(pairs, dict) else pairs)]
+    return _written(_library.coset_put_all, _kind(kind), *_bytes(data), (_Pair * len(told))(*told), len(told), *_bytes(parts))
 
 
 def structure_of(kind, protected, content=b"", signer=b"", external_aad=b""):

@@ -4,9 +4,7 @@ import coset
 
 def issued(claims, key_id, sign):
     """A token of these claims, by their labels, signed by ES256; None where `sign`, which is given what is signed, answers None."""
-    payload = b""
-    for label, value in claims.items():
-        payload = coset.put(coset.CLAIMS, payload, label, value)
+    payload = coset.put_all(coset.CLAIMS, b"", claims)
     protected = coset.put(coset.HEADER, b"", 1, -7)
     unprotected = coset.put(coset.HEADER, b"", 4, key_id)
     signature = sign(coset.structure_of(coset.SIGN1, protected, payload))

@@ -6,7 +6,7 @@ mod issue;
 mod verify;
 
 use coset::{
-    Algorithm, Authentication, Critical, Entry, Error, Form, Kind, Layer, Map, Order, Part, Policy, Question, TokenForm, TokenPolicy,
+    Algorithm, Authentication, Critical, Entry, Error, Form, Kind, Label, Layer, Map, Order, Part, Policy, Question, TokenForm, TokenPolicy,
 };
 use std::io::BufRead;
 
@@ -75,6 +75,7 @@ fn made(w: &[&str]) -> Result<Vec<u8>, Error> {
         "structure_of" => coset::structure_of(k, &input, &bytes(w[4]), &bytes(w[5]), &bytes(w[6])),
         "recipient_structure_of" => coset::recipient_structure_of(k, &input, &bytes(w[4])),
         "make" => coset::make(k, &input, &bytes(w[4]), (w[5] != "0").then_some(&bytes(w[6])), &bytes(w[7])),
+        "put_all" => put_all(k, &input, w[4]),
         "add" => coset::add(k, &input, &bytes(w[4])),
         "write" => coset::write(k, &input),
         "canonical_key" => coset::canonical_key(order(w[1]), &input),
@@ -117,6 +118,54 @@ fn told(w: &[&str]) -> Result<String, Error> {
 /// The integers of a word, with commas between them.
 fn integers(word: &str) -> Vec<i64> {
     word.split(',').filter_map(|number| number.parse().ok()).collect()
+}
+
+/// The bytes, and what is made of them by `put_all`'s word.
+fn put_all(k: Kind, input: &[u8], word: &str) -> Result<Vec<u8>, Error> {
+    let held: Vec<(String, Vec<u8>, &str, Vec<u8>)> = word
+        .split(',')
+        .filter_map(|pair| pair.split_once('='))
+        .map(|(label, value)| {
+            let label_text = if label.starts_with('t') { text(&label[1..]) } else { String::new() };
+            let value_bytes = if value.starts_with('i') { Vec::new() } else { bytes(&value[1..]) };
+            (label_text, label.as_bytes().to_vec(), value, value_bytes)
+        })
+        .collect();
+    let pairs: Vec<(Label<'_>, Entry<'_>)> = held
+        .iter()
+        .map(|(label_text, label, value, held)| {
+            let label = match label[0] {
+                b'i' => std::str::from_utf8(&label[1..]).unwrap().parse::<i64>().unwrap().into(),
+                _ => label_text.as_str().into(),
+            };
+            let value = match value.as_bytes()[0] {
+                b'i' => Entry::Int(value[1..].parse().unwrap()),
+                b't' => Entry::Text(std::str::from_utf8(held).unwrap()),
+                b'b' => Entry::Bytes(held),
+                _ => Entry::Encoded(held),
+            };
+            (label, value)
+        })
+        .collect();
+    coset::put_all(k, input, &pairs)
+}
+
+/// What `message_lent` tells, as `message` does.
+fn spans(w: &[&str]) -> Result<String, Error> {
+    let (aad, content, known) = (bytes(w[5]), bytes(w[7]), integers(w[8]));
+    let detached = (w[6] != "0").then_some(content.as_slice());
+    let policy = Policy { algorithms: &[], critical: &known, external_aad: &aad, detached };
+    let input = bytes(w[2]);
+    let m = coset::message_lent(kind(w[1]), &input, w[4].parse().unwrap(), &policy)?;
+    let (number, named) = match m.algorithm {
+        Algorithm::Absent => (0, 0),
+        Algorithm::Int(number) => (number, 1),
+        Algorithm::Text => (0, 2),
+    };
+    let map = m.key_id_map.map_or(0, |map| map as u32);
+    let lengths = [m.input.len(), m.proof.len(), m.content.len(), m.key_id.len()].map(|n| n.to_string()).join(" ");
+    let texts = hex(&[&m.input, &*m.proof, &*m.content, &*m.key_id].concat());
+    Ok(format!("{texts} {number} {named} {map} {} {} {lengths}", m.critical as u32, u32::from(m.is_tagged)))
 }
 
 /// What `message` tells, as `told` does.
@@ -204,6 +253,7 @@ fn answer(w: &[&str]) -> Result<String, Error> {
     match w[0] {
         "token" => return token(w),
         "message" => return message(w),
+        "spans" => return spans(w),
         "safe" => return safe(w),
         "text" => return Ok(format!("{}: {}", coset::version(), coset::status_text(w[1].parse().unwrap()))),
         _ => {}

@@ -1,6 +1,7 @@
 //! Safe Rust over `include/coset.h`: a file to take into a program that links `libcoset.a`. What is promised of each call
 //! stands in the header and in docs/C.md; what an answer is long, the call finds out.
 
+use std::borrow::Cow;
 use std::fmt;
 
 /// Whether a message is under its tag (RFC 8152, section 2).
@@ -68,6 +69,25 @@ pub enum Entry<'a> {
     Encoded(&'a [u8]),
 }
 
+/// A label of a map (RFC 8152, section 1.4).
+#[derive(Clone, Copy, Debug, PartialEq, Eq)]
+pub enum Label<'a> {
+    Int(i64),
+    Text(&'a str),
+}
+
+impl From<i64> for Label<'_> {
+    fn from(label: i64) -> Self {
+        Label::Int(label)
+    }
+}
+
+impl<'a> From<&'a str> for Label<'a> {
+    fn from(label: &'a str) -> Self {
+        Label::Text(label)
+    }
+}
+
 /// The algorithm that a protected header names (RFC 8152, section 3.1).
 #[derive(Clone, Copy, Debug, PartialEq, Eq)]
 pub enum Algorithm {
@@ -122,6 +142,23 @@ pub struct Message {
     /// The payload or the ciphertext that the message carries; empty where it is detached.
     pub content: Vec<u8>,
     pub key_id: Vec<u8>,
+}
+
+/// The same as [`Message`], where what the message holds is lent of it: it is copied where it has no place of its own there, as a
+/// string in chunks, or where the message has a list of signatures or names critical labels.
+#[derive(Clone, Debug, PartialEq, Eq)]
+pub struct LentMessage<'a> {
+    pub algorithm: Algorithm,
+    pub key_id_map: Option<Map>,
+    pub critical: Critical,
+    pub is_tagged: bool,
+    /// What is signed or authenticated, or what goes with the ciphertext.
+    pub input: Vec<u8>,
+    /// The signature or the tag; empty of an encrypted message.
+    pub proof: Cow<'a, [u8]>,
+    /// The payload or the ciphertext that the message carries; empty where it is detached.
+    pub content: Cow<'a, [u8]>,
+    pub key_id: Cow<'a, [u8]>,
 }
 
 /// What the caller allows. The default allows nothing.
@@ -370,6 +407,41 @@ mod c {
         pub key_id_len: usize,
     }
 
+    /// `coset_message_spans_view` of the header.
+    #[repr(C)]
+    #[derive(Default)]
+    pub struct Spans {
+        pub algorithm: i64,
+        pub algorithm_form: u32,
+        pub key_id_map: u32,
+        pub critical: u32,
+        pub is_tagged: u32,
+        pub is_proof_in_input: u32,
+        pub is_content_in_input: u32,
+        pub is_key_id_in_input: u32,
+        pub structure_len: usize,
+        pub proof_at: usize,
+        pub proof_len: usize,
+        pub content_at: usize,
+        pub content_len: usize,
+        pub key_id_at: usize,
+        pub key_id_len: usize,
+    }
+
+    /// `coset_pair` of the header.
+    #[repr(C)]
+    #[derive(Default)]
+    pub struct Pair {
+        pub label_form: u32,
+        pub value_form: u32,
+        pub label: i64,
+        pub label_at: usize,
+        pub label_len: usize,
+        pub value: i64,
+        pub value_at: usize,
+        pub value_len: usize,
+    }
+
     /// `coset_rules` of the header.
     #[repr(C)]
     pub struct Rules {
@@ -430,6 +502,8 @@ mod c {
         pub fn coset_structure(kind: u32, input: *const u8, input_len: usize, index: usize, external_aad: *const u8, external_aad_len: usize, has_detached: u32, detached: *const u8, detached_len: usize, out: *mut u8, cap: usize, len: *mut usize) -> i32;
         pub fn coset_recipient_structure(holder: u32, input: *const u8, input_len: usize, external_aad: *const u8, external_aad_len: usize, out: *mut u8, cap: usize, len: *mut usize) -> i32;
         pub fn coset_sign1(kind: u32, input: *const u8, input_len: usize, external_aad: *const u8, external_aad_len: usize, has_detached: u32, detached: *const u8, detached_len: usize, out: *mut u8, cap: usize, len: *mut usize, view: *mut View) -> i32;
+        pub fn coset_message_spans(kind: u32, input: *const u8, input_len: usize, index: usize, external_aad: *const u8, external_aad_len: usize, has_detached: u32, detached: *const u8, detached_len: usize, known: *const i64, known_len: usize, out: *mut u8, cap: usize, len: *mut usize, view: *mut Spans) -> i32;
+        pub fn coset_put_all(kind: u32, input: *const u8, input_len: usize, pairs: *const Pair, pairs_len: usize, bytes: *const u8, bytes_len: usize, out: *mut u8, cap: usize, len: *mut usize) -> i32;
         pub fn coset_put(kind: u32, input: *const u8, input_len: usize, label: i64, value: *const u8, value_len: usize, out: *mut u8, cap: usize, len: *mut usize) -> i32;
         pub fn coset_put_bytes(kind: u32, input: *const u8, input_len: usize, label: i64, value: *const u8, value_len: usize, out: *mut u8, cap: usize, len: *mut usize) -> i32;
         pub fn coset_put_text(kind: u32, input: *const u8, input_len: usize, label: i64, value: *const u8, value_len: usize, out: *mut u8, cap: usize, len: *mut usize) -> i32;
@@ -676,6 +750,37 @@ pub fn message(kind: Kind, bytes: &[u8], index: usize, policy: &Policy<'_>) -> R
     })
 }
 
+/// The same of a message that lends what it holds.
+pub fn message_lent<'a>(kind: Kind, bytes: &'a [u8], index: usize, policy: &Policy<'_>) -> Result<LentMessage<'a>, Error> {
+    let (kind, content) = (kind.number(), policy.detached.unwrap_or_default());
+    let (aad, known) = (policy.external_aad, policy.critical);
+    let mut view = c::Spans::default();
+    let told: *mut c::Spans = &mut view;
+    let mut input = written(|out, cap, len| unsafe {
+        c::coset_message_spans(
+            kind, bytes.as_ptr(), bytes.len(), index, aad.as_ptr(), aad.len(), policy.detached.is_some().into(),
+            content.as_ptr(), content.len(), known.as_ptr(), known.len(), out, cap, len, told,
+        )
+    })?;
+    let text = |is_in_input, at, len| {
+        if is_in_input != 0 { Cow::Borrowed(&bytes[at..at + len]) } else { Cow::Owned(input[at..at + len].to_vec()) }
+    };
+    let proof = text(view.is_proof_in_input, view.proof_at, view.proof_len);
+    let content = text(view.is_content_in_input, view.content_at, view.content_len);
+    let key_id = text(view.is_key_id_in_input, view.key_id_at, view.key_id_len);
+    input.truncate(view.structure_len);
+    Ok(LentMessage {
+        algorithm: algorithm(view.algorithm_form, view.algorithm),
+        key_id_map: key_id_map(view.key_id_map),
+        critical: [Critical::Absent, Critical::Understood, Critical::NotUnderstood][view.critical as usize],
+        is_tagged: view.is_tagged != 0,
+        input,
+        proof,
+        content,
+        key_id,
+    })
+}
+
 impl Message {
     /// What is asked of it, where the policy allows that; with this proof.
     fn asked<'a>(&'a self, policy: &Policy<'_>, proof: &'a [u8]) -> Result<Question<'a>, Error> {
@@ -863,7 +968,37 @@ pub fn put(kind: Kind, map: &[u8], label: i64, value: Entry<'_>) -> Result<Vec<u
     })
 }
 
-/// The same with a text label, and a value by its encoding.
+/// The same with many pairs more, in this order: the map is read once, and what is made is checked and written once.
+pub fn put_all<'a, L: Copy + Into<Label<'a>>>(kind: Kind, map: &[u8], pairs: &[(L, Entry<'_>)]) -> Result<Vec<u8>, Error> {
+    let mut bytes = Vec::new();
+    let mut part = |part: &[u8]| {
+        bytes.extend_from_slice(part);
+        (bytes.len() - part.len(), part.len())
+    };
+    let told: Vec<c::Pair> = pairs
+        .iter()
+        .map(|(label, value)| {
+            let (label_form, label, (label_at, label_len)) = match (*label).into() {
+                Label::Int(label) => (1, label, (0, 0)),
+                Label::Text(text) => (2, 0, part(text.as_bytes())),
+            };
+            let (value_form, value, (value_at, value_len)) = match *value {
+                Entry::Int(value) => (1, value, (0, 0)),
+                Entry::Text(text) => (2, 0, part(text.as_bytes())),
+                Entry::Bytes(bytes) => (3, 0, part(bytes)),
+                Entry::Encoded(bytes) => (4, 0, part(bytes)),
+            };
+            c::Pair { label_form, value_form, label, label_at, label_len, value, value_at, value_len }
+        })
+        .collect();
+    written(|out, cap, len| unsafe {
+        c::coset_put_all(
+            kind.number(), map.as_ptr(), map.len(), told.as_ptr(), told.len(), bytes.as_ptr(), bytes.len(), out, cap, len,
+        )
+    })
+}
+
+/// `put` with a text label, and a value by its encoding.
 pub fn put_text_label(kind: Kind, map: &[u8], label: &str, value: &[u8]) -> Result<Vec<u8>, Error> {
     written(|out, cap, len| unsafe {
         c::coset_put_text_label(

@@ -4,10 +4,7 @@ use crate::coset::{self, Entry, Error, Form, Kind};
 
 /// A token of these claims, signed by ES256; `None` where `sign`, which is given what is signed, has no signature.
 pub fn issued(claims: &[(i64, Entry<'_>)], key_id: &[u8], sign: impl FnOnce(&[u8]) -> Option<Vec<u8>>) -> Result<Option<Vec<u8>>, Error> {
-    let mut payload = Vec::new();
-    for (label, value) in claims {
-        payload = coset::put(Kind::Claims, &payload, *label, *value)?;
-    }
+    let payload = coset::put_all(Kind::Claims, b"", claims)?;
     let protected = coset::put(Kind::Header, b"", 1, Entry::Int(-7))?;
     let unprotected = coset::put(Kind::Header, b"", 4, Entry::Bytes(key_id))?;
     let signed = coset::structure_of(Kind::Sign1(Form::Plain), &protected, b"", b"", &payload)?;

@@ -1,4 +1,6 @@
 pub mod Numbers
 pub mod Replies
 pub mod Views
+pub mod PairsGiven
+pub mod SpansTold
 pub mod Tokens

@@ -17,8 +17,10 @@ mod elements;
 mod making;
 mod message;
 mod numbers;
+mod pairs;
 mod replies;
 mod sign1;
+mod spans;
 mod token;
 
 use ffi_query::{

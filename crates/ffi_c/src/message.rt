@@ -43,7 +43,7 @@ pub struct Message {
 }
 
 /// The number of what there is of labels that must be understood.
-fn critical_number(has_critical: bool, is_understood: bool) -> u32
+pub(crate) fn critical_number(has_critical: bool, is_understood: bool) -> u32
     ensures { result ≡ critical_number has_critical is_understood }
 {
     match (has_critical, is_understood) {

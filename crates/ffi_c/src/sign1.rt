@@ -16,9 +16,9 @@ use std::alloc::Global;
 /// Nothing names an algorithm, or no header holds an identifier of the key.
 pub(crate) const COSET_NONE: u32 = 0;
 /// The algorithm is named by an integer.
-const COSET_INT: u32 = 1;
+pub(crate) const COSET_INT: u32 = 1;
 /// It is named by a text.
-const COSET_TEXT: u32 = 2;
+pub(crate) const COSET_TEXT: u32 = 2;
 
 /// What `coset_sign1` says in numbers: `coset_sign1_view` of `include/coset.h`.
 #[repr(C)]

@@ -1,5 +1,5 @@
 -- What calls are given: bytes that should be one item, labels, and values by what they hold.
-use Rattle.std.specs.Prelude.{◌≡◌, ℕ, ℤ, List, [], ◌∷◌, Result, Ok, Err}
+use Rattle.std.specs.Prelude.{◌≡◌, ℕ, ℤ, List, [], ◌∷◌, map, Result, Ok, Err}
 use Rattle.std.specs.Str.{IsUtf8}
 use Rattle.std.specs.Str.Lossy.{utf8_valid_len}
 use Rattle.coset.specs.Item.{Item, integer, bytes, text}
@@ -10,6 +10,8 @@ use Rattle.coset.specs.CoseError.TheVariants.{DecodeFailed}
 use Rattle.coset.specs.Error.TheVariants.{Syntax}
 use Rattle.coset.specs.Errors.{UnlessMemory}
 use Rattle.coset.specs.Names.{Name, number, text_label}
+use Rattle.ffi_query.specs.declared.label.Label as labels
+use Rattle.ffi_query.specs.Labels.{label_view}
 use Rattle.ffi_make.specs.declared.given.Entry as entries
 use Rattle.ffi_make.specs.declared.given.Entry.TheVariants.{Integer, Bytes, Text, Encoded}
 
@@ -61,6 +63,13 @@ entry_view (Integer n) = an_integer n
 entry_view (Bytes b) = a_string b.now
 entry_view (Text t) = a_text t.now
 entry_view (Encoded b) = an_encoding b.now
+
+-- a label and a value without their memory
+abbrev pub pair_view : labels.Label × entries.Entry → Name × EntryView
+pair_view p = (label_view p.0, entry_view p.1)
+
+abbrev pub pairs_view : List (labels.Label × entries.Entry) → List (Name × EntryView)
+pairs_view ps = map pair_view ps
 
 -- the item is that value
 abbrev pub IsEntry : EntryView → Item → Type 0

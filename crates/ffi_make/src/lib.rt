@@ -18,6 +18,7 @@ mod made;
 mod member;
 mod message;
 mod pair;
+mod pairs;
 mod structure;
 
 pub use given::Entry;
@@ -26,4 +27,5 @@ pub use made::write;
 pub use member::add;
 pub use message::make;
 pub use pair::put;
+pub use pairs::put_all;
 pub use structure::{recipient_structure_of, structure_of};

@@ -18,7 +18,7 @@ use std::alloc::Global;
 ///
 /// # Errors
 /// `OutOfMemory` alone.
-fn with_pair(map: Value, key: Value, value: Value) -> Result<Option<Value>>
+pub(crate) fn with_pair(map: Value, key: Value, value: Value) -> Result<Option<Value>>
     ensures value { IfOk result (λ o. option_map value_item o
         ≡ with_pair (value_item key) (value_item value) (value_item map)) }
     ensures memory { IfErr result (λ e. e ≡ OutOfMemory) }

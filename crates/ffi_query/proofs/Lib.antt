@@ -3,3 +3,7 @@ pub mod Answering
 pub mod Valued
 pub mod Viewed
 pub mod Known
+pub mod Locating
+pub mod Fitting
+pub mod Lending
+pub mod Spanning

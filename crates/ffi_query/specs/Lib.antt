@@ -10,3 +10,7 @@ pub mod Sets
 pub mod Structures
 pub mod Critical
 pub mod View
+pub mod Located
+pub mod Fits
+pub mod Lent
+pub mod Spans

@@ -4,12 +4,13 @@ ghost use Rattle.std.specs.Prelude.{◌≡◌, option_map, IfOk, IfErr, MatchRes
 ghost use Rattle.coset.specs.CoseError.TheVariants.{OutOfMemory};
 ghost use Rattle.coset.specs.Elements.{items_left};
 ghost use Rattle.coset.specs.PerhapsTagged.{untagged};
-ghost use Rattle.coset.specs.Pulls.{pull_item};
+ghost use Rattle.coset.specs.Pulls.{pull_bytes, pull_item};
 ghost use Rattle.coset.specs.Shortest.{IsShortest};
 ghost use Rattle.coset.specs.View.{value_item};
 ghost use Rattle.ffi_query.specs.Kinds.{IsItemOf, IsRefused, IsWholeOf, is_under, without_tag};
 ghost use Rattle.ffi_query.specs.Places.{array_in, bytes_in, element, member_at, members, nth};
 
+use crate::fits::fits;
 use crate::kind::{Kind, check};
 use coset::Result;
 use coset::cbor::de::{Items, Pull};
@@ -48,14 +49,21 @@ pub(crate) fn is_under(number: u64, item: Pull<'_>) -> bool
     }
 }
 
-/// The item of that kind that the bytes are, with the tag that a message may be under.
+/// The item of that kind that the bytes are, with the tag that a message may be under. Whether it is one is found without a
+/// copy of its content, where it can be; else, and for the fault of what is none, it is read whole.
 ///
 /// # Errors
 /// The same as [`check`].
 pub(crate) fn whole_of(alloc: Global, kind: Kind, bytes: &[u8]) -> Result<Pull<'_>>
-    ensures { MatchResult result (λ item. IsWholeOf kind bytes.now (pull_item item)) (λ e.
+    ensures whole { MatchResult result (λ item. IsWholeOf kind bytes.now (pull_item item)) (λ e.
         IsRefused kind bytes.now e) }
+    ensures bytes { IfOk result (λ item. pull_bytes item ≡ bytes.now) }
 {
+    if let Ok(whole) = whole_item(bytes) {
+        if fits(alloc, kind, whole) {
+            return Ok(whole);
+        }
+    }
     check(alloc, kind, bytes)?;
     Ok(whole_item(bytes)?)
 }

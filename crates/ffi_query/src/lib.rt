@@ -12,13 +12,17 @@
 
 mod critical;
 mod fault;
+mod fits;
 mod item;
 mod keys;
 mod kind;
 mod label;
+mod lent;
+mod located;
 mod pair;
 mod part;
 mod refusal;
+mod spans;
 mod structure;
 mod view;
 mod written;
@@ -30,6 +34,7 @@ pub use label::{Label, Map, integer_of, string_of, value_of};
 pub use pair::{Half, pair_of};
 pub use part::{Part, count_of, member_of, part_of};
 pub use refusal::{Refusal, Status};
+pub use spans::{MessageSpans, Span, message_spans};
 pub use structure::{recipient_structure_of, structure_of};
 pub use view::{Algorithm, KeyIdPlace, MessageView, message_view};
 pub use written::write_found;

@@ -1,11 +1,12 @@
 //! All that verifying or decrypting a message takes (RFC 8152, sections 4 to 6), in one call.
 
-ghost use Rattle.std.specs.Prelude.{◌≡◌, ◌++◌, IfOk, IfErr, IfSome, option_map};
+ghost use Rattle.std.specs.Prelude.{◌≡◌, ◌++◌, IfOk, IfErr, IfSome, List, ℕ, option_map};
 ghost use Rattle.std.specs.Option.{option_copied};
 ghost use Rattle.coset.specs.CoseError.TheVariants.{OutOfMemory};
 ghost use Rattle.coset.specs.Pulls.{pull_item};
 ghost use Rattle.coset.specs.View.{value_item};
 ghost use Rattle.ffi_query.specs.Answers.{AnswersWith, FindsWith, PutsWith};
+ghost use Rattle.ffi_query.specs.Kinds.{IsWholeOf};
 ghost use Rattle.ffi_query.specs.View.{HasAlgorithm, HasNoView, IsAlgorithm, IsContent, IsKeyId, IsMessageView, IsTold, bearer, content_part, is_under_tag, kind_of_bearer, proof_in};
 
 use crate::critical::critical_of;
@@ -194,7 +195,7 @@ fn find_content(alloc: Global, kind: Kind, item: Pull<'_>) -> Result<Vec<u8>>
 }
 
 /// Whether the item is under the tag of that kind.
-fn is_under_tag(kind: Kind, whole: Pull<'_>) -> bool
+pub(crate) fn is_under_tag(kind: Kind, whole: Pull<'_>) -> bool
     ensures { result ≡ is_under_tag kind (pull_item whole.entry) }
 {
     match kind.tag() {
@@ -292,6 +293,47 @@ fn put_told(told: Told, out: &mut [u8]) -> Result<MessageView, Refusal>
     }
 }
 
+/// The same as [`message_view`] of bytes that are known to be this item of that kind.
+///
+/// # Errors
+/// The same as [`message_view`], but that the bytes are of the kind.
+pub(crate) fn view_of(
+    alloc: Global,
+    kind: Kind,
+    whole: Pull<'_>,
+    index: usize,
+    external_aad: &[u8],
+    detached: Option<&[u8]>,
+    known: &[i64],
+    out: &mut [u8],
+) -> Result<MessageView, Refusal>
+    ensures { (b : List ℕ) → IsWholeOf kind b (pull_item whole.entry) →
+        let d = option_copied detached.entry in
+        AnswersWith kind b (IsMessageView kind index external_aad.now d known.now b)
+        (HasNoView kind index external_aad.now d known.now) out.old out.new result }
+{
+    let item = without_tag(kind.tag(), whole);
+    if is_given_twice(kind, detached, item) {
+        return Err(Refusal::Misuse);
+    }
+    let is_tagged = is_under_tag(kind, whole);
+    let told = find_told(
+        alloc,
+        kind,
+        item,
+        index,
+        external_aad,
+        detached,
+        known,
+        is_tagged,
+    );
+    match told {
+        Ok(Some(told)) => put_told(told, out),
+        Ok(None) => Err(Refusal::Absent),
+        Err(error) => Err(Refusal::Cose(error)),
+    }
+}
+
 /// Writes all that verifying or decrypting a message of that kind takes: writes four texts to the front of `out`, one behind
 /// the other, and returns their lengths, with the algorithm, where the key's identifier is, what there is of `crit`, and
 /// whether the message is under its tag. The texts are what is signed, authenticated, or goes with the ciphertext, as
@@ -325,28 +367,17 @@ pub fn message_view(
         (IsMessageView kind index external_aad.now d known.now bytes.now)
         (HasNoView kind index external_aad.now d known.now) out.old out.new result }
 {
-    let whole = match whole_of(alloc, kind, bytes) {
-        Ok(whole) => whole,
-        Err(error) => return Err(Refusal::Cose(error)),
-    };
-    let item = without_tag(kind.tag(), whole);
-    if is_given_twice(kind, detached, item) {
-        return Err(Refusal::Misuse);
-    }
-    let is_tagged = is_under_tag(kind, whole);
-    let told = find_told(
-        alloc,
-        kind,
-        item,
-        index,
-        external_aad,
-        detached,
-        known,
-        is_tagged,
-    );
-    match told {
-        Ok(Some(told)) => put_told(told, out),
-        Ok(None) => Err(Refusal::Absent),
+    match whole_of(alloc, kind, bytes) {
+        Ok(whole) => view_of(
+            alloc,
+            kind,
+            whole,
+            index,
+            external_aad,
+            detached,
+            known,
+            out,
+        ),
         Err(error) => Err(Refusal::Cose(error)),
     }
 }

@@ -3,15 +3,15 @@ use Rattle.ffi_query.specs.Kinds.{IsRefused, IsWholeOf}
 use Rattle.ffi_query.proofs.EachKind.{not_whole, refuses}
 use Rattle.ffi_query.proofs.item.whole_of.Goals as goal
 
-pub returns-in_err-check : goal.returns-in_err-check
-returns-in_err-check c =
+pub returns-in_err-check-clause-whole : goal.returns-in_err-check-clause-whole
+returns-in_err-check-clause-whole c =
     let k = c.args.kind in
     let b = c.args.bytes.now in
     refuses (λ p. IsWholeOf k b (pull_item p)) (IsRefused k b) c.in_err-check.field-0.0 c.from_residual.result c.from_residual.ensures.1
     c.in_err-check.ensures
 
-pub returns-in_err-whole_item : goal.returns-in_err-whole_item
-returns-in_err-whole_item c =
+pub returns-in_err-whole_item-clause-whole : goal.returns-in_err-whole_item-clause-whole
+returns-in_err-whole_item-clause-whole c =
     let k = c.args.kind in
     let b = c.args.bytes.now in
     let e = c.in_err-whole_item.field-0.0 in

@@ -1,0 +1,178 @@
+//! All that verifying or decrypting a message takes, in one call, without a copy of what the message holds.
+
+ghost use Rattle.std.specs.Prelude.{◌≡◌, MatchOption};
+ghost use Rattle.ffi_query.specs.Answers.{AnswersWith};
+ghost use Rattle.ffi_query.specs.Spans.{IsMessageSpans};
+ghost use Rattle.ffi_query.specs.View.{HasNoView};
+ghost use Rattle.ffi_c.specs.Numbers.{bytes_if, content_query};
+ghost use Rattle.ffi_c.specs.Replies.{IsMisuse, reply_status, length_of};
+ghost use Rattle.ffi_c.specs.SpansTold.{RepliesSpans, length_written, no_spans, spans_of, spans_told};
+
+use crate::message::critical_number;
+use crate::numbers::{bytes_if, content_query};
+use crate::replies::{misused, reply};
+use crate::sign1::{COSET_NONE, algorithm_numbers, number_of_bool, number_of_map};
+use ffi_query::{MessageSpans, Refusal, message_spans};
+use std::alloc::Global;
+
+/// What `coset_message_spans` says in numbers: `coset_message_spans_view` of `include/coset.h`.
+#[repr(C)]
+#[derive(Clone, Copy)]
+pub struct Spans {
+    /// The number of the algorithm that the protected header names, where the form is `COSET_INT`, else 0.
+    pub algorithm: i64,
+    /// `COSET_NONE`, `COSET_INT` or `COSET_TEXT`.
+    pub algorithm_form: u32,
+    /// `COSET_IN_PROTECTED` or `COSET_IN_UNPROTECTED`, where the key's identifier is, else 0.
+    pub key_id_map: u32,
+    /// `COSET_NONE`, `COSET_UNDERSTOOD` or `COSET_NOT_UNDERSTOOD`: what there is of `crit`.
+    pub critical: u32,
+    /// 1 where the message is under its tag, else 0.
+    pub is_tagged: u32,
+    /// 1 where the signature or the tag is in the input, else 0.
+    pub is_proof_in_input: u32,
+    /// 1 where the payload or the ciphertext is in the input, else 0.
+    pub is_content_in_input: u32,
+    /// 1 where the key's identifier is in the input, else 0.
+    pub is_key_id_in_input: u32,
+    /// How many bytes the structure has, at the front of what is written.
+    pub structure_len: usize,
+    /// Where the signature or the tag begins.
+    pub proof_at: usize,
+    /// How many bytes it has.
+    pub proof_len: usize,
+    /// Where the payload or the ciphertext begins that the message carries.
+    pub content_at: usize,
+    /// How many bytes it has.
+    pub content_len: usize,
+    /// Where the key's identifier begins.
+    pub key_id_at: usize,
+    /// How many bytes it has.
+    pub key_id_len: usize,
+}
+
+/// The spans in numbers.
+fn spans_told(told: MessageSpans) -> Spans
+    ensures { result ≡ spans_told told }
+{
+    let view = told.view;
+    let (algorithm, algorithm_form) = algorithm_numbers(view.algorithm);
+    Spans {
+        algorithm,
+        algorithm_form,
+        key_id_map: number_of_map(view.key_id_place),
+        critical: critical_number(view.has_critical, view.is_understood),
+        is_tagged: number_of_bool(view.is_tagged),
+        is_proof_in_input: number_of_bool(told.proof.is_input),
+        is_content_in_input: number_of_bool(told.content.is_input),
+        is_key_id_in_input: number_of_bool(told.key_id.is_input),
+        structure_len: view.structure_len,
+        proof_at: told.proof.at,
+        proof_len: view.proof_len,
+        content_at: told.content.at,
+        content_len: view.content_len,
+        key_id_at: told.key_id.at,
+        key_id_len: view.key_id_len,
+    }
+}
+
+/// What is in the caller's struct where nothing is returned.
+fn no_spans() -> Spans
+    ensures { result ≡ no_spans }
+{
+    Spans {
+        algorithm: 0,
+        algorithm_form: COSET_NONE,
+        key_id_map: COSET_NONE,
+        critical: COSET_NONE,
+        is_tagged: 0,
+        is_proof_in_input: 0,
+        is_content_in_input: 0,
+        is_key_id_in_input: 0,
+        structure_len: 0,
+        proof_at: 0,
+        proof_len: 0,
+        content_at: 0,
+        content_len: 0,
+        key_id_at: 0,
+        key_id_len: 0,
+    }
+}
+
+/// What is there after an answer: the spans, and else nothing but zeros.
+fn spans_of(answer: &Result<MessageSpans, Refusal>) -> Spans
+    ensures { result ≡ spans_of answer.now }
+{
+    match answer {
+        Ok(told) => spans_told(*told),
+        Err(_) => no_spans(),
+    }
+}
+
+/// How many bytes go with the spans.
+fn length_written(answer: Result<MessageSpans, Refusal>) -> Result<usize, Refusal>
+    ensures { result ≡ length_written answer }
+{
+    match answer {
+        Ok(told) => Ok(told.len),
+        Err(refusal) => Err(refusal),
+    }
+}
+
+/// The status of an answer that is spans, which are in the struct afterwards, and else nothing but zeros; how many bytes
+/// were written, as [`reply`] says, is in the other place.
+fn reply_spans(answer: Result<MessageSpans, Refusal>, len: &mut usize, spans: &mut Spans) -> i32
+    ensures status { result ≡ reply_status answer }
+    ensures number { len.new ≡ length_of (length_written answer) }
+    ensures told { spans.new ≡ spans_of answer }
+{
+    *spans = spans_of(&answer);
+    reply(length_written(answer), len)
+}
+
+/// Writes what is signed of the input, is authenticated, or goes with its ciphertext, and says in `view` where the signature or
+/// the tag, the payload or the ciphertext that it carries, and the identifier of the key are: in the input, or behind that.
+/// `detached` is the payload where `has_detached` isn't 0, and else it is empty. `known` are the critical labels that the
+/// caller understands.
+#[unsafe(no_mangle)]
+pub extern "C" fn coset_message_spans(
+    alloc: Global,
+    kind: u32,
+    input: &[u8],
+    index: usize,
+    external_aad: &[u8],
+    has_detached: u32,
+    detached: &[u8],
+    known: &[i64],
+    out: &mut [u8],
+    len: &mut usize,
+    view: &mut Spans,
+) -> i32
+    ensures { let d = bytes_if has_detached detached.now in
+        MatchOption (content_query kind has_detached detached.now)
+        (IsMisuse result len.new 0 × (view.new ≡ no_spans) × (out.new ≡ out.old))
+        (λ k. RepliesSpans (AnswersWith k input.now
+        (IsMessageSpans k index external_aad.now d known.now input.now)
+        (HasNoView k index external_aad.now d known.now) out.old out.new) result len.new view.new) }
+{
+    match content_query(kind, has_detached, detached) {
+        Some(kind) => {
+            let detached = bytes_if(has_detached, detached);
+            let told = message_spans(
+                alloc,
+                kind,
+                input,
+                index,
+                external_aad,
+                detached,
+                known,
+                out,
+            );
+            reply_spans(told, len, view)
+        }
+        None => {
+            *view = no_spans();
+            misused(0, len)
+        }
+    }
+}

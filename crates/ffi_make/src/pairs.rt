@@ -1,0 +1,85 @@
+//! Headers, keys and claims, of many pairs at once.
+
+ghost use Rattle.std.specs.Prelude.{◌≡◌, ◌⊎◌, MatchResult, option_map, option_and_then};
+ghost use Rattle.coset.specs.Errors.{UnlessMemory};
+ghost use Rattle.coset.specs.Item.{Item, Pairs};
+ghost use Rattle.coset.specs.View.{value_item};
+ghost use Rattle.ffi_query.specs.Labels.{label_view};
+ghost use Rattle.ffi_make.specs.Given.{EntryFaults, IsEntry, IsKey, KeyFaults, entry_view, pairs_view};
+ghost use Rattle.ffi_make.specs.PairsMade.{ArePairs, PutsPairs, SomePairFaults, with_pair, with_pairs};
+
+use crate::given::{Entry, entry_value, key_value, value_or};
+use crate::made::write_made;
+use crate::pair::with_pair;
+use coset::Result;
+use coset::cbor::value::Value;
+use ffi_query::{Kind, Label, Refusal};
+use std::alloc::Global;
+
+/// What was made so far, with one pair more.
+///
+/// # Errors
+/// That a text isn't UTF-8, why bytes aren't one item, or `OutOfMemory`.
+fn with_one(
+    alloc: Global,
+    made: Option<Value>,
+    label: Label<'_>,
+    entry: Entry<'_>,
+) -> Result<Option<Value>>
+    ensures { let l = label_view label.entry in let e = entry_view entry.entry in
+        MatchResult result (λ o. (k : Item) × (v : Item) × (IsKey l k × IsEntry e v)
+        × (option_map value_item o
+        ≡ option_and_then (with_pair k v) (option_map value_item made)))
+        (λ f. UnlessMemory f (λ f. KeyFaults l f ⊎ EntryFaults e f)) }
+{
+    let key = key_value(alloc, label)?;
+    let value = entry_value(alloc, entry)?;
+    match made {
+        Some(map) => with_pair(map, key, value),
+        None => Ok(None),
+    }
+}
+
+/// An item with these pairs behind those of a map; the same item where there are none.
+///
+/// # Errors
+/// The same as [`with_one`].
+fn with_all(alloc: Global, map: Value, pairs: &[(Label<'_>, Entry<'_>)]) -> Result<Option<Value>>
+    ensures { let xs = pairs_view pairs.now in
+        MatchResult result (λ o. (qs : Pairs) × ArePairs xs qs
+        × (option_map value_item o ≡ with_pairs qs (value_item map)))
+        (λ f. UnlessMemory f (SomePairFaults xs)) }
+{
+    let mut made = Some(map);
+    for pair in pairs {
+        made = with_one(alloc, made, pair.0, pair.1)?;
+    }
+    Ok(made)
+}
+
+/// Puts pairs behind those of a header, a key or a claims set, in this order, writes its shortest encoding to the front of
+/// `out`, and returns the length of that: what [`put`](crate::put) makes pair by pair, but that the bytes are read once, and
+/// what is made is checked and written once, with all of them. No bytes are an empty map.
+///
+/// # Errors
+/// `Short` where `out` has no room for it; `Absent` where the bytes are no map; `Cose` where they aren't one item, or those
+/// of a value; where a text isn't UTF-8; where what is made is none of the kind, as it is with two values for a label; or
+/// where memory runs out. `out` is then as it was.
+pub fn put_all(
+    alloc: Global,
+    kind: Kind,
+    map: &[u8],
+    pairs: &[(Label<'_>, Entry<'_>)],
+    out: &mut [u8],
+) -> Result<usize, Refusal>
+    ensures { PutsPairs kind map.now (pairs_view pairs.now) out.old out.new result }
+{
+    let map = match value_or(alloc, map, Value::Map(Vec::new(alloc))) {
+        Ok(map) => map,
+        Err(error) => return Err(Refusal::Cose(error)),
+    };
+    match with_all(alloc, map, pairs) {
+        Ok(made) => write_made(alloc, kind, Ok(made), out),
+        Err(error) => Err(Refusal::Cose(error)),
+    }
+}

@@ -1,0 +1,30 @@
+use Rattle.std.proofs.Common.{sym}
+use Rattle.std.specs.Option.{option_copied}
+use Rattle.coset.specs.Pulls.{pull_bytes}
+use Rattle.ffi_query.specs.Located.{located_item}
+use Rattle.ffi_query.proofs.Lending.{empty_in, signed_is}
+use Rattle.ffi_query.proofs.lent.texts_of.Goals as goal
+
+pub returns : goal.returns
+returns c =
+    λ b l.
+    let v = located_item c.args.item in
+    let place = located_item c.in_ok-place.place in
+    let none = empty_in b (pull_bytes c.args.item.item) c.args.item.rest.now c.nothing_at-nothing.result c.nothing_at-nothing.ensures.bytes
+    c.nothing_at-nothing.ensures.rest l in
+    let headers = c.in_ok-headers.ensures b l in
+    let content = c.in_ok-content.ensures b (c.in_ok-place.ensures.place b l) none in
+    let proof = c.in_ok-proof_located.ensures b l none in
+    let key_id = c.in_ok-key_id_in.ensures b v headers none in record {
+      place = place;
+      headers = headers;
+      is_place = sym c.in_ok-place.ensures.item;
+      is_uncritical = c.is_critical.ensures b v headers c.if-is_critical.false;
+      is_proof = proof.0;
+      proof_in_b = proof.1;
+      is_content = content.0;
+      content_in_b = content.1;
+      is_key_id = key_id.0;
+      key_id_in_b = key_id.1;
+      is_signed = signed_is place (option_copied c.args.detached) c.signed_content.result (c.signed_content.ensures content.0);
+    }

@@ -1,0 +1,109 @@
+-- What is found of a message as parts of the input b.
+use Rattle.std.specs.Prelude.{◌≡◌, ◌⊎◌, ◌++◌, ℕ, ℤ, List, [], Option, Some, None, IfSome, codes, ⊤}
+use Rattle.std.specs.Option.{option_copied}
+use Rattle.coset.specs.Answers.{IsOnlyItem}
+use Rattle.coset.specs.Grammar.{IsItem}
+use Rattle.coset.specs.Item.{Item, null}
+use Rattle.coset.specs.Parts.{as_bytes}
+use Rattle.ffi_query.specs.declared.kind.Kind as kinds
+use Rattle.ffi_query.specs.declared.kind.Kind.TheVariants.{Sign1, Mac0, Mac, Encrypt0, Encrypt}
+use Rattle.ffi_query.specs.declared.lent.Headers.{Headers}
+use Rattle.ffi_query.specs.declared.lent.Lent as declared
+use Rattle.ffi_query.specs.declared.lent.Texts.{Texts}
+use Rattle.ffi_query.specs.declared.located.Located.{Located}
+use Rattle.ffi_query.specs.declared.located.Text.{Text}
+use Rattle.ffi_query.specs.declared.view.Algorithm as algorithms
+use Rattle.ffi_query.specs.declared.view.Algorithm.TheVariants as named
+use Rattle.ffi_query.specs.declared.view.KeyIdPlace as places
+use Rattle.ffi_query.specs.declared.view.KeyIdPlace.TheVariants as stands
+use Rattle.ffi_query.specs.declared.view.MessageView.{MessageView}
+use Rattle.ffi_query.specs.Critical.{crit_label}
+use Rattle.ffi_query.specs.Labels.{IsNumber, IsProtected, unprotected_value}
+use Rattle.ffi_query.specs.Located.{IsLocated, IsTextIn, located_item}
+use Rattle.ffi_query.specs.Places.{bytes_in, element}
+use Rattle.ffi_query.specs.Structures.{content_at, structure_of_one, structure_of_two}
+use Rattle.ffi_query.specs.View.{IsTold, alg_label, kid_label, proof_in}
+
+-- the bytes are one item, which this is, or none
+abbrev pub IsMapOf : List ℕ → Option Located → Type 0
+IsMapOf p None = (m : Item) → IsItem p m → ⊥
+IsMapOf p (Some l) = IsOnlyItem p (located_item l)
+
+-- the headers are those of the item v
+pub record AreHeaders (b : List ℕ) (v : Item) (h : Headers) : Type 0 where
+  pub protected : bytes_in 0 v ≡ Some h.protected.bytes.now
+  pub protected_in : IsTextIn b h.protected
+  pub map : IsMapOf h.protected.bytes.now h.map
+  pub map_in : IfSome h.map (IsLocated b)
+  pub unprotected : element 1 v ≡ Some (located_item h.unprotected)
+  pub unprotected_in : IsLocated b h.unprotected
+
+-- nothing, at some place
+abbrev pub IsEmptyIn : List ℕ → Text → Type 0
+IsEmptyIn b t = (t.bytes.now ≡ []) × IsTextIn b t
+
+-- the algorithm of an item that begins with two headers
+abbrev pub KnowsAlgorithm : Item → algorithms.Algorithm → Type 0
+KnowsAlgorithm v named.Absent = (w : Item) → IsProtected alg_label (bytes_in 0 v) w → ⊥
+KnowsAlgorithm v (named.Number n) = (w : Item) × IsProtected alg_label (bytes_in 0 v) w × IsNumber w n
+KnowsAlgorithm v named.Text = (w : Item) × IsProtected alg_label (bytes_in 0 v) w × ((n : ℤ) → IsNumber w n → ⊥)
+
+-- where it has the identifier of the key, and t is what that holds
+abbrev pub KnowsKeyId : Item → places.KeyIdPlace → List ℕ → Type 0
+KnowsKeyId v stands.Absent t = ((w : Item) → IsProtected kid_label (bytes_in 0 v) w → ⊥) × (unprotected_value kid_label v ≡ None) × (t ≡ [])
+KnowsKeyId v stands.Protected t = (w : Item) × IsProtected kid_label (bytes_in 0 v) w × (as_bytes w ≡ Some t)
+KnowsKeyId v stands.Unprotected t =
+    ((w : Item) → IsProtected kid_label (bytes_in 0 v) w → ⊥) × ((w : Item) × (unprotected_value kid_label v ≡ Some w) × (as_bytes w ≡ Some t))
+
+-- it has no critical labels
+abbrev pub HasNoCritical : Item → Type 0
+HasNoCritical v = ((w : Item) → IsProtected crit_label (bytes_in 0 v) w → ⊥) × (unprotected_value crit_label v ≡ None)
+
+-- what is carried where this is the content's place: what a byte string holds, or nothing where it is nil
+abbrev pub IsCarried : Item → List ℕ → Type 0
+IsCarried v t = (as_bytes v ≡ Some t) ⊎ ((v ≡ null) × (t ≡ []))
+
+-- the structure of a message without signers, of what its protected header holds, and of its content
+abbrev pub structure_by : kinds.Kind → List ℕ → List ℕ → Option (List ℕ) → Option Item
+structure_by (Sign1 f) aad p c = structure_of_two (codes "Signature1") aad (Some p) c
+structure_by (Mac0 f) aad p c = structure_of_two (codes "MAC0") aad (Some p) c
+structure_by (Mac f) aad p c = structure_of_two (codes "MAC") aad (Some p) c
+structure_by (Encrypt0 f) aad p c = structure_of_one (codes "Encrypt0") aad (Some p)
+structure_by (Encrypt f) aad p c = structure_of_one (codes "Encrypt") aad (Some p)
+structure_by k aad p c = None
+
+-- the content that is signed or authenticated, where there is one
+abbrev pub IsSigned : Item → Option (List ℕ) → Option (List ℕ) → Type 0
+IsSigned place d None = ⊤
+IsSigned place d (Some c) = content_at place d ≡ Some c
+
+-- the texts are those of the item v
+pub record AreTexts (k : kinds.Kind) (d : Option (List ℕ)) (b : List ℕ) (v : Item) (x : Texts) : Type 0 where
+  pub place : Item
+  pub headers : AreHeaders b v x.headers
+  pub is_place : element 2 v ≡ Some place
+  pub is_uncritical : HasNoCritical v
+  pub is_proof : proof_in k v ≡ Some x.proof.bytes.now
+  pub proof_in_b : IsTextIn b x.proof
+  pub is_content : IsCarried place x.content.bytes.now
+  pub content_in_b : IsTextIn b x.content
+  pub is_key_id : KnowsKeyId v x.key_id.place x.key_id.text.bytes.now
+  pub key_id_in_b : IsTextIn b x.key_id.text
+  pub is_signed : IsSigned place d (option_copied x.signed)
+
+-- all that n says of the item v of that kind, with these four texts
+pub record Says (k : kinds.Kind) (i : ℕ) (aad : List ℕ) (d : Option (List ℕ)) (ns : List ℤ) (v : Item) (n : MessageView) (s p c t : List ℕ) : Type 0 where
+  pub text : List ℕ
+  pub told : IsTold k i aad d ns v n text
+  pub is_signed : told.signed ≡ s
+  pub is_proof : told.proof ≡ p
+  pub is_content : told.content ≡ c
+  pub is_key_id : told.key_id ≡ t
+
+-- what is lent says all of the item v, and its texts are in b, but for the structure
+pub record IsLent (k : kinds.Kind) (i : ℕ) (aad : List ℕ) (d : Option (List ℕ)) (ns : List ℤ) (b : List ℕ) (v : Item) (x : declared.Lent) : Type 0 where
+  pub says :
+      Says k i aad d ns v x.view (x.structure.front.items ++ x.structure.end.now) x.proof.bytes.now x.content.bytes.now x.key_id.bytes.now
+  pub proof_in_b : IsTextIn b x.proof
+  pub content_in_b : IsTextIn b x.content
+  pub key_id_in_b : IsTextIn b x.key_id

@@ -1,0 +1,47 @@
+-- Parts of the input, each with the bytes from its first one to the input's end.
+use Rattle.std.specs.Prelude.{◌≡◌, ◌==◌, ◌%◌, ℕ, List, [], ◌∷◌, ◌++◌, Some, Bool, false, if◌then◌else◌}
+use Rattle.std.specs.Borrow.{Bor}
+use Rattle.coset.specs.Item.{Item}
+use Rattle.coset.specs.Parts.{as_bytes}
+use Rattle.coset.specs.Pulls.{pull_bytes, pull_item}
+use Rattle.ffi_query.specs.declared.located.Located.{Located}
+use Rattle.ffi_query.specs.declared.located.Text.{Text}
+
+abbrev pub located_item : Located → Item
+located_item l = pull_item l.item
+
+-- r are the last bytes of b, and begin with s
+pub record AreLocated (b s r : List ℕ) : Type 0 where
+  pub before : List ℕ
+  pub behind : List ℕ
+  pub ends : b ≡ before ++ r
+  pub begins : r ≡ s ++ behind
+
+-- the item is in b, and so is the text
+abbrev pub IsLocated : List ℕ → Located → Type 0
+IsLocated b l = AreLocated b (pull_bytes l.item) l.rest.now
+
+abbrev pub IsTextIn : List ℕ → Text → Type 0
+IsTextIn b t = AreLocated b t.bytes.now t.rest.now
+
+-- how many bytes a head has with that additional information, and the head that b begins with (RFC 8949, section 3)
+abbrev pub head_len_by : ℕ → ℕ
+head_len_by info = if info == 24 then 2 else (if info == 25 then 3 else (if info == 26 then 5 else (if info == 27 then 9 else 1)))
+
+abbrev pub head_len : List ℕ → ℕ
+head_len [] = 0
+head_len (x ∷ xs) = head_len_by (x % 32)
+
+-- the bytes open a byte string of indefinite length (RFC 8949, section 3.2.3)
+abbrev pub opens_string : List ℕ → Bool
+opens_string [] = false
+opens_string (x ∷ xs) = x == 0x5F
+
+-- the byte string v, of which b are the bytes, holds s, and these end with it
+pub record IsString (b : List ℕ) (v : Item) (s : List ℕ) : Type 0 where
+  pub head : List ℕ
+  pub ends : b ≡ head ++ s
+  pub holds : as_bytes v ≡ Some s
+
+abbrev pub IsContentOf : List ℕ → Item → Bor (List ℕ) → Type 0
+IsContentOf b v s = IsString b v s.now

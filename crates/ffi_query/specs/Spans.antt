@@ -1,0 +1,70 @@
+-- What one call says of a message, where the texts are named by places in the input or in what is written.
+use Rattle.std.specs.Prelude.{◌≡◌, ◌++◌, ◌-◌, ℕ, ℤ, List, length, Option, true, false, Result, Ok, Err, if◌then◌else◌}
+use Rattle.coset.specs.CoseError.TheVariants.{OutOfMemory}
+use Rattle.coset.specs.Item.{Item}
+use Rattle.ffi_query.specs.declared.kind.Kind as kinds
+use Rattle.ffi_query.specs.declared.lent.Lent as declared
+use Rattle.ffi_query.specs.declared.refusal.Refusal as refusals
+use Rattle.ffi_query.specs.declared.refusal.Refusal.TheVariants.{Cose}
+use Rattle.ffi_query.specs.declared.spans.MessageSpans.{MessageSpans}
+use Rattle.ffi_query.specs.declared.spans.Span.{Span}
+use Rattle.ffi_query.specs.declared.view.MessageView.{MessageView}
+use Rattle.ffi_query.specs.Answers.{BeginsWith, Puts}
+use Rattle.ffi_query.specs.Kinds.{tag_of}
+use Rattle.ffi_query.specs.Located.{IsTextIn}
+use Rattle.ffi_query.specs.View.{IsTold, TellsTagOf}
+
+-- s is in b, from that offset on
+pub record IsAt (b : List ℕ) (at : ℕ) (s : List ℕ) : Type 0 where
+  pub before : List ℕ
+  pub behind : List ℕ
+  pub parts : b ≡ before ++ (s ++ behind)
+  pub offset : at ≡ length before
+
+-- the text s is at that place: in the input b, or else in what is written, t
+abbrev pub IsSpan : List ℕ → List ℕ → Span → List ℕ → Type 0
+IsSpan b t p s = IsAt (if p.is_input then b else t) p.at s
+
+-- What `message_spans` says of the bytes b, which are the message v of that kind: what `message_view` says, but that t begins
+-- with what is signed, authenticated, or goes with the ciphertext, and the other texts are where the spans say
+pub record IsMessageSpans (k : kinds.Kind) (i : ℕ) (aad : List ℕ) (d : Option (List ℕ)) (ns : List ℤ) (b : List ℕ) (v : Item) (m : MessageSpans) (t : List ℕ) : Type 0 where
+  pub text : List ℕ
+  pub told : IsTold k i aad d ns v m.view text
+  pub is_tagged : TellsTagOf (tag_of k) b m.view.is_tagged
+  pub structure : IsAt t 0 told.signed
+  pub proof : IsSpan b t m.proof told.proof
+  pub content : IsSpan b t m.content told.content
+  pub key_id : IsSpan b t m.key_id told.key_id
+  pub len : m.len ≡ length t
+
+-- writing the text into the memory, and saying m where it has room; or its length is no number of the machine's
+abbrev pub PutsSpans : MessageSpans → List ℕ → List ℕ → List ℕ → Result MessageSpans refusals.Refusal → Type 0
+PutsSpans m t old new (Ok n) = (n ≡ m) × BeginsWith t old new
+PutsSpans m t old new (Err (Cose e)) = (e ≡ OutOfMemory) × (new ≡ old)
+PutsSpans m t old new (Err r) = Puts t old new (Err r)
+
+-- the spans of texts that are in the input
+pub record AreLentSpans (b : List ℕ) (x : declared.Lent) (m : MessageSpans) : Type 0 where
+  pub view : m.view ≡ x.view
+  pub proof : (m.proof.is_input ≡ true) × (IsTextIn b x.proof → IsAt b m.proof.at x.proof.bytes.now)
+  pub content : (m.content.is_input ≡ true) × (IsTextIn b x.content → IsAt b m.content.at x.content.bytes.now)
+  pub key_id : (m.key_id.is_input ≡ true) × (IsTextIn b x.key_id → IsAt b m.key_id.at x.key_id.bytes.now)
+  pub len : m.len ≡ x.view.structure_len
+
+-- a place in what is written
+abbrev pub written_at : ℕ → Span
+written_at n = record { is_input = false; at = n }
+
+-- the spans of texts that are written one behind the other
+abbrev pub copied_spans : MessageView → MessageSpans
+copied_spans n = record {
+  view = n;
+  proof = written_at n.structure_len;
+  content = written_at (n.len - n.key_id_len - n.content_len);
+  key_id = written_at (n.len - n.key_id_len);
+  len = n.len;
+}
+
+abbrev pub copied : Result MessageView refusals.Refusal → Result MessageSpans refusals.Refusal
+copied (Ok n) = Ok (copied_spans n)
+copied (Err r) = Err r

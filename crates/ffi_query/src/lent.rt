@@ -1,0 +1,453 @@
+//! All that verifying or decrypting a message takes, as parts of the input: of messages without a list of signatures, whose
+//! strings have their lengths announced, and which name no critical labels. Others are read by copies (`view`).
+
+ghost use Rattle.std.specs.Prelude.{◌≡◌, ◌<◌, ◌+◌, ◌^◌, ◌++◌, ◌∷◌, [], ℕ, ℤ, List, Some, IfOk, IfErr, IfSome, OnOk, false, length, option_map};
+ghost use Rattle.std.specs.Option.{option_copied};
+ghost use Rattle.coset.specs.CoseError.TheVariants.{OutOfMemory};
+ghost use Rattle.coset.specs.Item.{Item};
+ghost use Rattle.coset.specs.Names.{number};
+ghost use Rattle.coset.specs.Pulls.{pull_item};
+ghost use Rattle.coset.specs.Shortest.{IsShortest};
+ghost use Rattle.coset.specs.Structure.{structure};
+ghost use Rattle.coset_cbor.specs.Least.{least_head};
+ghost use Rattle.ffi_query.specs.Answers.{Finds, IsEncodingOf};
+ghost use Rattle.ffi_query.specs.Labels.{IsNumber, IsProtected, unprotected_value};
+ghost use Rattle.ffi_query.specs.Lent.{AreHeaders, AreTexts, HasNoCritical, IsCarried, IsEmptyIn, IsLent, IsMapOf, KnowsAlgorithm, KnowsKeyId, structure_by};
+ghost use Rattle.ffi_query.specs.Located.{IsLocated, IsTextIn, located_item};
+ghost use Rattle.ffi_query.specs.Places.{bytes_in};
+ghost use Rattle.ffi_query.specs.Structures.{content_at, structure_of_one, structure_of_two};
+ghost use Rattle.ffi_query.specs.View.{IsAlgorithm, proof_in};
+
+use crate::kind::Kind;
+use crate::located::{Located, Text, bytes_located, element_located, value_located};
+use crate::part::Part;
+use crate::view::{Algorithm, KeyIdPlace, MessageView};
+use coset::Result;
+use coset::cbor::de::Pull;
+use coset_cbor::laws::least_encoding_is_shortest;
+use coset_codec::traits::whole_item;
+use coset_core::structure::{begin_structure, structure_bytes};
+use std::alloc::Global;
+
+/// The headers of a message: what the protected one's byte string holds, the map which that is, and the unprotected one.
+#[derive(Clone, Copy)]
+struct Headers<'a> {
+    protected: Text<'a>,
+    map: Option<Located<'a>>,
+    unprotected: Located<'a>,
+}
+
+/// The identifier of a key, and where it is.
+#[derive(Clone, Copy)]
+struct KeyId<'a> {
+    place: KeyIdPlace,
+    text: Text<'a>,
+}
+
+/// A structure, but for the content that it ends with, and that.
+#[derive(Drop)]
+pub(crate) struct Structure<'a> {
+    pub(crate) front: Vec<u8>,
+    pub(crate) end: &'a [u8],
+}
+
+/// What a message says: a view, the structure, and three texts.
+#[derive(Drop)]
+pub(crate) struct Lent<'a> {
+    pub(crate) view: MessageView,
+    pub(crate) structure: Structure<'a>,
+    pub(crate) proof: Text<'a>,
+    pub(crate) content: Text<'a>,
+    pub(crate) key_id: Text<'a>,
+}
+
+/// The map that a protected header's bytes are; `None` where they are none.
+fn map_located(protected: Text<'_>) -> Option<Located<'_>>
+    ensures map { IsMapOf protected.entry.bytes.now result }
+    ensures place { (b : List ℕ) → IsTextIn b protected.entry → IfSome result (IsLocated b) }
+{
+    match whole_item(protected.bytes) {
+        Ok(item) => Some(Located {
+            item,
+            rest: protected.rest,
+        }),
+        Err(_) => None,
+    }
+}
+
+/// The headers that an item begins with.
+fn headers_of(item: Located<'_>) -> Option<Headers<'_>>
+    ensures { (b : List ℕ) → IsLocated b item.entry
+        → IfSome result (AreHeaders b (located_item item.entry)) }
+{
+    let protected = bytes_located(element_located(item, 0)?)?;
+    let unprotected = element_located(item, 1)?;
+    Some(Headers {
+        protected,
+        map: map_located(protected),
+        unprotected,
+    })
+}
+
+/// The value under an integer label in the protected header.
+fn protected_located(headers: Headers<'_>, label: i64) -> Option<Located<'_>>
+    ensures { (b : List ℕ) (v : Item) → AreHeaders b v headers.entry
+        → Finds located_item (IsProtected (number label) (bytes_in 0 v)) result
+        × IfSome result (IsLocated b) }
+{
+    match headers.map {
+        Some(map) => value_located(map, label),
+        None => None,
+    }
+}
+
+/// The value under an integer label in the unprotected header.
+fn unprotected_located(headers: Headers<'_>, label: i64) -> Option<Located<'_>>
+    ensures { (b : List ℕ) (v : Item) → AreHeaders b v headers.entry
+        → (option_map located_item result ≡ unprotected_value (number label) v)
+        × IfSome result (IsLocated b) }
+{
+    value_located(headers.unprotected, label)
+}
+
+/// The number of an integer, where it has 64 bits.
+fn number_of(item: Pull<'_>) -> Option<i64>
+    ensures { Finds (λ n. n) (IsNumber (pull_item item.entry)) result }
+{
+    match item.integer() {
+        Some(number) => i64::try_from(number).ok(),
+        None => None,
+    }
+}
+
+/// The algorithm that is named by that value.
+fn algorithm_by(value: Pull<'_>) -> Algorithm
+    ensures { IsAlgorithm (pull_item value.entry) result }
+{
+    match number_of(value) {
+        Some(number) => Algorithm::Number(number),
+        None => Algorithm::Text,
+    }
+}
+
+/// The algorithm that the protected header names.
+fn algorithm_in(headers: Headers<'_>) -> Algorithm
+    ensures { (b : List ℕ) (v : Item) → AreHeaders b v headers.entry → KnowsAlgorithm v result }
+{
+    match protected_located(headers, 1) {
+        Some(found) => algorithm_by(found.item),
+        None => Algorithm::Absent,
+    }
+}
+
+/// The identifier of the key, where it is a byte string whose length is announced, or there is none.
+fn key_id_in<'a>(headers: Headers<'a>, nothing: Text<'a>) -> Option<KeyId<'a>>
+    ensures { (b : List ℕ) (v : Item) → AreHeaders b v headers.entry → IsEmptyIn b nothing.entry
+        → IfSome result (λ i. KnowsKeyId v i.place i.text.bytes.now × IsTextIn b i.text) }
+{
+    match protected_located(headers, 4) {
+        Some(found) => {
+            let text = bytes_located(found)?;
+            Some(KeyId {
+                place: KeyIdPlace::Protected,
+                text,
+            })
+        }
+        None => match unprotected_located(headers, 4) {
+            Some(found) => {
+                let text = bytes_located(found)?;
+                Some(KeyId {
+                    place: KeyIdPlace::Unprotected,
+                    text,
+                })
+            }
+            None => Some(KeyId {
+                place: KeyIdPlace::Absent,
+                text: nothing,
+            }),
+        },
+    }
+}
+
+/// Whether a header has `crit`, labels that must be understood.
+fn is_critical(headers: Headers<'_>) -> bool
+    ensures { (b : List ℕ) (v : Item) → AreHeaders b v headers.entry → result ≡ false
+        → HasNoCritical v }
+{
+    if protected_located(headers, 2).is_some() {
+        return true;
+    }
+    unprotected_located(headers, 2).is_some()
+}
+
+/// Nothing, where the rest of the input begins.
+fn nothing_at(rest: &[u8]) -> Text<'_>
+    ensures bytes { result.bytes.now ≡ [] }
+    ensures rest { result.rest.now ≡ rest.now }
+{
+    Text { bytes: &[], rest }
+}
+
+/// What the message carries in this place: what a byte string holds whose length is announced, or nothing where it is `nil`.
+fn carried<'a>(place: Located<'a>, nothing: Text<'a>) -> Option<Text<'a>>
+    ensures { (b : List ℕ) → IsLocated b place.entry → IsEmptyIn b nothing.entry
+        → IfSome result (λ t. IsCarried (located_item place.entry) t.bytes.now × IsTextIn b t) }
+{
+    if place.item.is_null() {
+        return Some(nothing);
+    }
+    bytes_located(place)
+}
+
+/// The content that is signed or authenticated: what the message carries, or else what is given where the place is `nil`.
+fn signed_content<'a>(
+    place: Pull<'a>,
+    carried: &'a [u8],
+    detached: Option<&'a [u8]>,
+) -> Option<&'a [u8]>
+    ensures { IsCarried (pull_item place.entry) carried.now → IfSome result (λ c.
+        content_at (pull_item place.entry) (option_copied detached.entry) ≡ Some c.now) }
+{
+    match (detached, place.is_null()) {
+        (Some(content), true) => Some(content),
+        (None, false) => Some(carried),
+        _ => None,
+    }
+}
+
+/// The signature or the tag, where its length is announced, and nothing where items of the kind have none.
+fn proof_located<'a>(kind: Kind, item: Located<'a>, nothing: Text<'a>) -> Option<Text<'a>>
+    ensures { (b : List ℕ) → IsLocated b item.entry → IsEmptyIn b nothing.entry
+        → IfSome result (λ t. (proof_in kind (located_item item.entry) ≡ Some t.bytes.now)
+        × IsTextIn b t) }
+{
+    match kind.place_of(Part::Proof) {
+        Some(place) => bytes_located(element_located(item, place)?),
+        None => Some(nothing),
+    }
+}
+
+/// Appends the shortest head of a byte string of that length.
+///
+/// # Errors
+/// `OutOfMemory` alone.
+#[tactic(auto, unfolding(coset_cbor::specs::Least::least_head))]
+fn put_bytes_head(out: &mut Vec<u8>, length: usize) -> Result<()>
+    ensures ok { OnOk result (out.new.items ≡ out.old.items ++ least_head 2 length) }
+    ensures small { length < 2 ^ 64 }
+    ensures memory { IfErr result (λ e. e ≡ OutOfMemory) }
+{
+    let n = length as u64;
+    if n < 24 {
+        out.push(0x40 + n as u8)?;
+    } else if n < 0x100 {
+        out.push(0x58)?;
+        out.push(n as u8)?;
+    } else if n < 0x1_0000 {
+        out.push(0x59)?;
+        out.extend_from_slice(&(n as u16).to_be_bytes())?;
+    } else if n < 0x1_0000_0000 {
+        out.push(0x5A)?;
+        out.extend_from_slice(&(n as u32).to_be_bytes())?;
+    } else {
+        out.push(0x5B)?;
+        out.extend_from_slice(&n.to_be_bytes())?;
+    }
+    Ok(())
+}
+
+/// The longest head (RFC 8949, section 3).
+const LONGEST_HEAD: usize = 9;
+
+/// The shortest encoding of a structure over a content, but for the content, which ends it.
+///
+/// # Errors
+/// `OutOfMemory` alone.
+fn front_of(
+    alloc: Global,
+    context: &str,
+    protected: &[u8],
+    external_aad: &[u8],
+    content: &[u8],
+) -> Result<Vec<u8>>
+    ensures front { IfOk result (λ f. IsShortest (f.items ++ content.now)
+        (structure context.now (protected.now ∷ external_aad.now ∷ content.now ∷ []))) }
+    ensures memory { IfErr result (λ e. e ≡ OutOfMemory) }
+{
+    least_encoding_is_shortest();
+    let parts = [protected, external_aad];
+    let mut front = begin_structure(alloc, context, &parts, 1, LONGEST_HEAD)?;
+    put_bytes_head(&mut front, content.len())?;
+    Ok(front)
+}
+
+/// The structure over a content.
+///
+/// # Errors
+/// `OutOfMemory` alone.
+fn over_content<'a>(
+    alloc: Global,
+    context: &str,
+    protected: &[u8],
+    external_aad: &[u8],
+    content: Option<&'a [u8]>,
+) -> Result<Option<Structure<'a>>>
+    ensures found { IfOk result (λ o. IfSome o (λ s.
+        IsEncodingOf (structure_of_two context.now external_aad.now (Some protected.now)
+        (option_copied content.entry)) (s.front.items ++ s.end.now))) }
+    ensures memory { IfErr result (λ e. e ≡ OutOfMemory) }
+{
+    match content {
+        Some(end) => {
+            let front = front_of(alloc, context, protected, external_aad, end)?;
+            Ok(Some(Structure { front, end }))
+        }
+        None => Ok(None),
+    }
+}
+
+/// The structure that goes with a ciphertext.
+///
+/// # Errors
+/// `OutOfMemory` alone.
+fn beside_ciphertext<'a>(
+    alloc: Global,
+    context: &str,
+    protected: &[u8],
+    external_aad: &[u8],
+) -> Result<Option<Structure<'a>>>
+    ensures found { IfOk result (λ o. IfSome o (λ s.
+        IsEncodingOf (structure_of_one context.now external_aad.now (Some protected.now))
+        (s.front.items ++ s.end.now))) }
+    ensures memory { IfErr result (λ e. e ≡ OutOfMemory) }
+{
+    let front = structure_bytes(alloc, context, &[protected, external_aad])?;
+    Ok(Some(Structure { front, end: &[] }))
+}
+
+/// The structure of a message of that kind, by what it holds in its first and its third place.
+///
+/// # Errors
+/// `OutOfMemory` alone.
+fn structure_lent<'a>(
+    alloc: Global,
+    kind: Kind,
+    protected: &[u8],
+    external_aad: &[u8],
+    content: Option<&'a [u8]>,
+) -> Result<Option<Structure<'a>>>
+    ensures found { IfOk result (λ o. IfSome o (λ s.
+        IsEncodingOf (structure_by kind external_aad.now protected.now
+        (option_copied content.entry)) (s.front.items ++ s.end.now))) }
+    ensures memory { IfErr result (λ e. e ≡ OutOfMemory) }
+{
+    match kind {
+        Kind::Sign1(_) => over_content(alloc, "Signature1", protected, external_aad, content),
+        Kind::Mac0(_) => over_content(alloc, "MAC0", protected, external_aad, content),
+        Kind::Mac(_) => over_content(alloc, "MAC", protected, external_aad, content),
+        Kind::Encrypt0(_) => beside_ciphertext(alloc, "Encrypt0", protected, external_aad),
+        Kind::Encrypt(_) => beside_ciphertext(alloc, "Encrypt", protected, external_aad),
+        _ => Ok(None),
+    }
+}
+
+/// How many bytes the two have, where that is a number of the machine's.
+fn length_of(front: &[u8], end: &[u8]) -> Option<usize>
+    ensures { IfSome result (λ n. n ≡ length front.now + length end.now) }
+{
+    front.len().checked_add(end.len())
+}
+
+/// What the sum of these is, where it is a number of the machine's.
+fn sum_of(a: usize, b: usize, c: usize, d: usize) -> Option<usize>
+    ensures { IfSome result (λ n. n ≡ a + (b + (c + d))) }
+{
+    a.checked_add(b)?.checked_add(c)?.checked_add(d)
+}
+
+/// The texts of a message beside the structure.
+#[derive(Clone, Copy)]
+struct Texts<'a> {
+    headers: Headers<'a>,
+    proof: Text<'a>,
+    content: Text<'a>,
+    key_id: KeyId<'a>,
+    signed: Option<&'a [u8]>,
+}
+
+/// The texts of an item of that kind, where each is a part of the input, and no labels are critical.
+fn texts_of<'a>(kind: Kind, item: Located<'a>, detached: Option<&'a [u8]>) -> Option<Texts<'a>>
+    ensures { (b : List ℕ) → IsLocated b item.entry → IfSome result
+        (AreTexts kind (option_copied detached.entry) b (located_item item.entry)) }
+{
+    let nothing = nothing_at(item.rest);
+    let headers = headers_of(item)?;
+    if is_critical(headers) {
+        return None;
+    }
+    let place = element_located(item, 2)?;
+    let content = carried(place, nothing)?;
+    Some(Texts {
+        headers,
+        proof: proof_located(kind, item, nothing)?,
+        content,
+        key_id: key_id_in(headers, nothing)?,
+        signed: signed_content(place.item, content.bytes, detached),
+    })
+}
+
+/// What is said of an item of that kind, with whether it is under its tag as it is given, where all of it is a part of the
+/// input.
+///
+/// # Errors
+/// `OutOfMemory` alone.
+pub(crate) fn find_lent<'a>(
+    alloc: Global,
+    kind: Kind,
+    item: Located<'a>,
+    external_aad: &[u8],
+    detached: Option<&'a [u8]>,
+    is_tagged: bool,
+) -> Result<Option<Lent<'a>>>
+    ensures lent { (b : List ℕ) (i : ℕ) (ns : List ℤ) → IsLocated b item.entry → IfOk result (λ o.
+        IfSome o (IsLent kind i external_aad.now (option_copied detached.entry) ns b
+        (located_item item.entry))) }
+    ensures tag { IfOk result (λ o. IfSome o (λ x. x.view.is_tagged ≡ is_tagged)) }
+    ensures memory { IfErr result (λ e. e ≡ OutOfMemory) }
+{
+    let Some(texts) = texts_of(kind, item, detached) else {
+        return Ok(None);
+    };
+    let protected = texts.headers.protected.bytes;
+    let found = structure_lent(alloc, kind, protected, external_aad, texts.signed)?;
+    let Some(structure) = found else {
+        return Ok(None);
+    };
+    let Some(structure_len) = length_of(&structure.front, structure.end) else {
+        return Ok(None);
+    };
+    let (proof_len, content_len) = (texts.proof.bytes.len(), texts.content.bytes.len());
+    let key_id_len = texts.key_id.text.bytes.len();
+    let Some(len) = sum_of(structure_len, proof_len, content_len, key_id_len) else {
+        return Ok(None);
+    };
+    let view = MessageView {
+        algorithm: algorithm_in(texts.headers),
+        key_id_place: texts.key_id.place,
+        has_critical: false,
+        is_understood: true,
+        is_tagged,
+        structure_len,
+        proof_len,
+        content_len,
+        key_id_len,
+        len,
+    };
+    Ok(Some(Lent {
+        view,
+        structure,
+        proof: texts.proof,
+        content: texts.content,
+        key_id: texts.key_id.text,
+    }))
+}

@@ -1,0 +1,187 @@
+//! All that verifying or decrypting a message takes, where what the message itself holds stays where it is: texts are named by
+//! their places.
+
+ghost use Rattle.std.specs.Prelude.{◌≡◌, ◌++◌, true};
+ghost use Rattle.std.specs.Option.{option_copied};
+ghost use Rattle.ffi_query.specs.Answers.{AnswersWith};
+ghost use Rattle.ffi_query.specs.Located.{IsTextIn};
+ghost use Rattle.ffi_query.specs.Spans.{AreLentSpans, IsAt, IsMessageSpans, PutsSpans, copied, copied_spans, written_at};
+ghost use Rattle.ffi_query.specs.declared.spans.MessageSpans.{MessageSpans};
+ghost use Rattle.ffi_query.specs.View.{HasNoView};
+
+use crate::item::whole_of;
+use crate::kind::Kind;
+use crate::lent::{Lent, find_lent};
+use crate::located::{Located, Text, without_tag_located};
+use crate::refusal::Refusal;
+use crate::view::{MessageView, is_under_tag, view_of};
+use coset::CoseError;
+use std::alloc::Global;
+
+/// Where a text begins.
+#[derive(Clone, Copy, Debug, PartialEq, Eq)]
+pub struct Span {
+    /// Whether it is in the input; else it is in what was written.
+    pub is_input: bool,
+    /// How many bytes are before it there.
+    pub at: usize,
+}
+
+/// What [`message_spans`] says of a message, beside the structure.
+#[derive(Clone, Copy, Debug, PartialEq, Eq)]
+pub struct MessageSpans {
+    /// What [`message_view`](crate::message_view) says: how long the texts are, and all else. Its `len` is the length of the four.
+    pub view: MessageView,
+    /// Where the signature or the tag is.
+    pub proof: Span,
+    /// Where the payload or the ciphertext is that the message carries.
+    pub content: Span,
+    /// Where the identifier of the key is.
+    pub key_id: Span,
+    /// How many bytes were written.
+    pub len: usize,
+}
+
+/// Where a text of the input begins.
+fn span_of(text: Text<'_>, input: &[u8]) -> Span
+    ensures input { result.is_input ≡ true }
+    ensures at { IsTextIn input.now text.entry → IsAt input.now result.at text.entry.bytes.now }
+{
+    Span {
+        is_input: true,
+        at: input.len().saturating_sub(text.rest.len()),
+    }
+}
+
+/// Writes two texts to the front of `out`, one behind the other, and returns the spans.
+///
+/// # Errors
+/// `Short` where `out` has no room for it: it is then as it was.
+fn put_two(
+    front: &[u8],
+    end: &[u8],
+    spans: MessageSpans,
+    out: &mut [u8],
+) -> Result<MessageSpans, Refusal>
+    ensures { PutsSpans spans (front.now ++ end.now) out.old out.new result }
+{
+    let Some(len) = front.len().checked_add(end.len()) else {
+        return Err(Refusal::Cose(CoseError::OutOfMemory));
+    };
+    if out.len() < len {
+        return Err(Refusal::Short(len));
+    }
+    let (first, rest) = out.split_at_mut(front.len());
+    first.copy_from_slice(front);
+    let (second, _) = rest.split_at_mut(end.len());
+    second.copy_from_slice(end);
+    Ok(spans)
+}
+
+/// The spans of texts that are in the input.
+fn lent_spans(lent: &Lent<'_>, input: &[u8]) -> MessageSpans
+    ensures { AreLentSpans input.now lent.now result }
+{
+    MessageSpans {
+        view: lent.view,
+        proof: span_of(lent.proof, input),
+        content: span_of(lent.content, input),
+        key_id: span_of(lent.key_id, input),
+        len: lent.view.structure_len,
+    }
+}
+
+/// Writes the structure to the front of `out`, and returns where all else is in the input.
+///
+/// # Errors
+/// `Short` where `out` has no room for it: it is then as it was.
+fn put_lent(lent: &Lent<'_>, input: &[u8], out: &mut [u8]) -> Result<MessageSpans, Refusal>
+    ensures { (m : MessageSpans) × AreLentSpans input.now lent.now m × PutsSpans m
+        (lent.now.structure.front.items ++ lent.now.structure.end.now) out.old out.new result }
+{
+    let spans = lent_spans(lent, input);
+    put_two(&lent.structure.front, lent.structure.end, spans, out)
+}
+
+/// A place in what was written.
+fn written_at(at: usize) -> Span
+    ensures { result ≡ written_at at }
+{
+    Span {
+        is_input: false,
+        at,
+    }
+}
+
+/// The spans of texts that were written one behind the other.
+fn copied_spans(view: MessageView) -> MessageSpans
+    ensures { result ≡ copied_spans view }
+{
+    let key_id = view.len.saturating_sub(view.key_id_len);
+    MessageSpans {
+        view,
+        proof: written_at(view.structure_len),
+        content: written_at(key_id.saturating_sub(view.content_len)),
+        key_id: written_at(key_id),
+        len: view.len,
+    }
+}
+
+/// The same for an answer.
+fn copied(answer: Result<MessageView, Refusal>) -> Result<MessageSpans, Refusal>
+    ensures { result ≡ copied answer }
+{
+    match answer {
+        Ok(view) => Ok(copied_spans(view)),
+        Err(refusal) => Err(refusal),
+    }
+}
+
+/// Writes all that verifying or decrypting a message of that kind takes, as [`message_view`](crate::message_view) does, but
+/// that what the message holds isn't copied: writes what is signed, authenticated, or goes with the ciphertext to the front of
+/// `out`, and says where the signature or the tag, the content and the identifier of the key are, in `bytes` or behind the
+/// structure. They are in `bytes` where the message has no list of signatures, the lengths of its strings are announced (RFC
+/// 8949, section 3.2.3), and it names no critical labels.
+///
+/// # Errors
+/// The same as [`message_view`](crate::message_view).
+pub fn message_spans(
+    alloc: Global,
+    kind: Kind,
+    bytes: &[u8],
+    index: usize,
+    external_aad: &[u8],
+    detached: Option<&[u8]>,
+    known: &[i64],
+    out: &mut [u8],
+) -> Result<MessageSpans, Refusal>
+    ensures { let d = option_copied detached.entry in
+        AnswersWith kind bytes.now
+        (IsMessageSpans kind index external_aad.now d known.now bytes.now)
+        (HasNoView kind index external_aad.now d known.now) out.old out.new result }
+{
+    let whole = match whole_of(alloc, kind, bytes) {
+        Ok(whole) => whole,
+        Err(error) => return Err(Refusal::Cose(error)),
+    };
+    let located = Located {
+        item: whole,
+        rest: bytes,
+    };
+    let item = without_tag_located(kind.tag(), located);
+    let is_tagged = is_under_tag(kind, whole);
+    match find_lent(alloc, kind, item, external_aad, detached, is_tagged) {
+        Ok(Some(lent)) => put_lent(&lent, bytes, out),
+        Ok(None) => copied(view_of(
+            alloc,
+            kind,
+            whole,
+            index,
+            external_aad,
+            detached,
+            known,
+            out,
+        )),
+        Err(error) => Err(Refusal::Cose(error)),
+    }
+}

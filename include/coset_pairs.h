@@ -1,0 +1,100 @@
+/* Pairs for coset_put_all, put together in memory of yours. Nothing is proved of this header; it looks at nothing but the room.
+ *
+ *   coset_pair room[8];
+ *   uint8_t bytes[512];
+ *   coset_pairs claims = coset_pairs_in(room, 8, bytes, sizeof bytes);
+ *   coset_pairs_text(&claims, 1, iss, iss_len);
+ *   coset_pairs_int(&claims, 4, exp);
+ *   status = coset_put_pairs(COSET_CLAIMS, NULL, 0, &claims, out, cap, &len);
+ *
+ * Texts, byte strings and encodings are copied into the bytes. Where there is no room for a pair, coset_put_pairs returns
+ * COSET_MISUSE, and *len is 0. */
+#ifndef COSET_PAIRS_H
+#define COSET_PAIRS_H
+
+#include "coset.h"
+#include <string.h>
+
+typedef struct coset_pairs {
+  coset_pair *at;
+  size_t count, room;
+  uint8_t *bytes;
+  size_t len, cap;
+  int is_full; /* there was no room for a pair */
+} coset_pairs;
+
+/* No pairs, with room for so many, and for so many bytes of texts, byte strings and encodings. */
+static inline coset_pairs coset_pairs_in(coset_pair *at, size_t room, uint8_t *bytes, size_t cap) {
+  coset_pairs pairs;
+  memset(&pairs, 0, sizeof pairs);
+  pairs.at = at, pairs.room = room, pairs.bytes = bytes, pairs.cap = cap;
+  return pairs;
+}
+
+/* Copies bytes behind those that are there; returns where they begin. */
+static inline size_t coset_pairs_copy(coset_pairs *pairs, const void *at, size_t len) {
+  const size_t begins = pairs->len;
+  if (len > pairs->cap - begins) {
+    pairs->is_full = 1;
+    return 0;
+  }
+  if (len) memcpy(pairs->bytes + begins, at, len);
+  pairs->len = begins + len;
+  return begins;
+}
+
+static inline void coset_pairs_add(coset_pairs *pairs, coset_pair pair) {
+  if (pairs->count == pairs->room)
+    pairs->is_full = 1;
+  else
+    pairs->at[pairs->count++] = pair;
+}
+
+/* One pair more, behind the others: an integer label, and a value of that form, by its bytes. */
+static inline void coset_pairs_value(coset_pairs *pairs, int64_t label, uint32_t form, const void *at, size_t len) {
+  coset_pair pair;
+  memset(&pair, 0, sizeof pair);
+  pair.label_form = COSET_INT, pair.label = label;
+  pair.value_form = form, pair.value_at = coset_pairs_copy(pairs, at, len), pair.value_len = len;
+  coset_pairs_add(pairs, pair);
+}
+
+static inline void coset_pairs_text(coset_pairs *pairs, int64_t label, const void *at, size_t len) {
+  coset_pairs_value(pairs, label, COSET_TEXT, at, len);
+}
+
+static inline void coset_pairs_bytes(coset_pairs *pairs, int64_t label, const void *at, size_t len) {
+  coset_pairs_value(pairs, label, COSET_BYTES, at, len);
+}
+
+static inline void coset_pairs_encoded(coset_pairs *pairs, int64_t label, const void *at, size_t len) {
+  coset_pairs_value(pairs, label, COSET_ENCODED, at, len);
+}
+
+static inline void coset_pairs_int(coset_pairs *pairs, int64_t label, int64_t value) {
+  coset_pair pair;
+  memset(&pair, 0, sizeof pair);
+  pair.label_form = COSET_INT, pair.label = label;
+  pair.value_form = COSET_INT, pair.value = value;
+  coset_pairs_add(pairs, pair);
+}
+
+/* One with a text label, and a value of that form, by its bytes. */
+static inline void coset_pairs_named(coset_pairs *pairs, const void *label, size_t label_len, uint32_t form, const void *at,
+                                     size_t len) {
+  coset_pair pair;
+  memset(&pair, 0, sizeof pair);
+  pair.label_form = COSET_TEXT, pair.label_at = coset_pairs_copy(pairs, label, label_len), pair.label_len = label_len;
+  pair.value_form = form, pair.value_at = coset_pairs_copy(pairs, at, len), pair.value_len = len;
+  coset_pairs_add(pairs, pair);
+}
+
+/* The map with these pairs more, by coset_put_all. */
+static inline coset_status coset_put_pairs(uint32_t kind, const uint8_t *in, size_t in_len, const coset_pairs *pairs,
+                                           uint8_t *out, size_t cap, size_t *len) {
+  *len = 0;
+  if (pairs->is_full) return COSET_MISUSE;
+  return coset_put_all(kind, in, in_len, pairs->at, pairs->count, pairs->bytes, pairs->len, out, cap, len);
+}
+
+#endif
