@@ -1,5 +1,8 @@
 //! Lines, and the calls that they name.
 
+ghost use Rattle.std.specs.Prelude.{◌≡◌, true, IfOk, string_bytes};
+ghost use Rattle.test_lines.specs.Line.{is_comment as is_comment_spec};
+
 use crate::typed::Operation;
 use crate::words::Words;
 use coset::{CoseError, Result};
@@ -54,8 +57,7 @@ pub trait Calls {
     }
 }
 
-/// Answers each line of standard input, one after the other: no more than one is held. An empty one, and a comment, which
-/// begins with `#`, is returned by itself.
+/// Answers each line of standard input, one after the other: no more than one is held.
 ///
 /// # Errors
 /// Those of input and output, and out of memory where the line itself, or what a call is given, has no room.
@@ -64,19 +66,30 @@ pub fn answer_input<C: Calls, R: AllocGlobal + Input + Print>(rt: &R) -> io::Res
     let reader = BufReader::new(alloc, rt.reader())?;
     let mut writer = BufWriter::new(alloc, io::writer(rt))?;
     for line in reader.lines(alloc) {
-        let line = line?;
-        let answer = if is_comment(line.as_str()) {
-            line
-        } else {
-            C::answer(alloc, line.as_str())?
-        };
+        let answer = answer_line::<C>(alloc, line?.as_str())?;
         writeln!(writer, "{answer}")?;
     }
     writer.flush()
 }
 
+/// The line that returns this one: itself where it is empty or a comment, which begins with `#`; else the program's answer.
+///
+/// # Errors
+/// `AllocError` alone.
+pub fn answer_line<C: Calls>(alloc: Global, line: &str) -> std::result::Result<String, AllocError>
+    ensures { is_comment_spec line.now ≡ true
+        → IfOk result (λ answer. string_bytes answer ≡ line.now) }
+{
+    if is_comment(line) {
+        return String::from_str(alloc, line);
+    }
+    C::answer(alloc, line)
+}
+
 /// Whether the line is empty, or begins with `#`.
-fn is_comment(line: &str) -> bool {
+fn is_comment(line: &str) -> bool
+    ensures { result ≡ is_comment_spec line.now }
+{
     matches!(line.as_bytes().first(), None | Some(b'#'))
 }
 
