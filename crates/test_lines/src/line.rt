@@ -9,7 +9,7 @@ use coset::{CoseError, Result};
 use std::alloc::{AllocError, Global};
 use std::io::{self, BufRead, BufReader, BufWriter, Write};
 
-/// The calls that a program makes, by their names. Of what it doesn't say the name isn't known.
+/// The calls that a program makes, by their names: by default it knows none.
 pub trait Calls {
     /// Makes a call that every type has, of the type of that name.
     ///
