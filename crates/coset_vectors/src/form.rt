@@ -10,6 +10,9 @@ use std::alloc::Global;
 
 /// How values of a type are read from the bytes of a row, and what is written of them.
 pub trait Form<T> {
+    /// Whether what is written of a value is a structure, or some, that `external_aad` is in.
+    const IS_STRUCTURE: bool = false;
+
     /// Reads a value straight from bytes.
     ///
     /// # Errors

@@ -16,25 +16,8 @@ mod strings;
 mod structures;
 mod sweep;
 
-use std::alloc::Global;
-use std::io::{self, BufRead, BufReader, BufWriter, Write};
-
-/// Answers each line that the reader has left, one after the other: no more than one is held.
-fn answer_lines<R: BufRead + Drop, W: Write>(
-    alloc: Global,
-    reader: R,
-    writer: &mut W,
-) -> io::Result<()> {
-    for line in reader.lines(alloc) {
-        let answer = row::answer_line(alloc, line?.as_str())?;
-        writeln!(writer, "{answer}")?;
-    }
-    writer.flush()
-}
+use std::io;
 
 fn main(rt: HostRuntime) -> io::Result<()> {
-    let alloc = rt.alloc();
-    let reader = BufReader::new(alloc, rt.reader())?;
-    let mut writer = BufWriter::new(alloc, io::writer(&rt))?;
-    answer_lines(alloc, reader, &mut writer)
+    test_lines::line::answer_input::<row::Rows, _>(&rt)
 }

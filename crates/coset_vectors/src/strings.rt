@@ -1,8 +1,10 @@
 //! Strings of each length, in each spelling.
 
-use crate::kind::Kind;
+use crate::answer::answer;
+use crate::form::Plain;
 use coset::cbor::de::read_value;
 use coset::cbor::ser::write_value;
+use coset::cbor::value::Value;
 use std::alloc::{AllocError, Global};
 
 /// The longest string of the sweep.
@@ -42,7 +44,7 @@ pub fn strings(alloc: Global, major: Major) -> Result<String, AllocError> {
         let expected = expected(alloc, major, length)?;
         let spellings = spellings(alloc, major, length)?;
         for spelling in &spellings {
-            let text = Kind::Value.answer(alloc, spelling, &[])?;
+            let text = answer::<Plain, Value>(alloc, spelling, &[])?;
             if text != expected || written_lent(alloc, spelling)? != expected {
                 return format!(in alloc; "wrong: length {length}: {text}");
             }

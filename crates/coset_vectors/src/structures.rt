@@ -187,6 +187,8 @@ pub struct Of<M> {
 }
 
 impl<T: CborSerializable + Drop, M: Made<T>> Form<T> for Of<M> {
+    const IS_STRUCTURE: bool = true;
+
     fn read(alloc: Global, bytes: &[u8]) -> Result<T> {
         T::from_slice(alloc, bytes)
     }

@@ -1,6 +1,8 @@
 //! Sweeps: lines that each make many rows.
 
-use crate::kind::Kind;
+use crate::answer::answer;
+use crate::form::{Form, Plain};
+use coset::cbor::value::Value;
 use std::alloc::{AllocError, Global};
 
 /// What the inputs of a sweep were returned.
@@ -22,8 +24,12 @@ impl Tally {
 
     /// Takes one more answer. An accepted input must be written as bytes that are returned by themselves, and no other
     /// may be refused for memory; `differs` where reading it straight and by way of a value don't agree.
-    fn take(&mut self, alloc: Global, kind: Kind, input: &[u8]) -> Result<(), AllocError> {
-        let text = kind.answer(alloc, input, &[])?;
+    fn take<F: Form<T>, T: PartialEq + Drop>(
+        &mut self,
+        alloc: Global,
+        input: &[u8],
+    ) -> Result<(), AllocError> {
+        let text = answer::<F, T>(alloc, input, &[])?;
         match text.as_str() {
             "differs" | "error: out of memory" => return self.blame(alloc, input),
             other if other.starts_with("error: ") => return Ok(()),
@@ -31,7 +37,7 @@ impl Tally {
         }
         self.accepted = self.accepted.saturating_add(1);
         match hex::decode(alloc, text.as_bytes()) {
-            Ok(written) if kind.answer(alloc, &written, &[])? == text => Ok(()),
+            Ok(written) if answer::<F, T>(alloc, &written, &[])? == text => Ok(()),
             _ => self.blame(alloc, input),
         }
     }
@@ -57,25 +63,24 @@ impl Tally {
 }
 
 /// Every input of at most two bytes.
-pub fn every(alloc: Global, kind: Kind) -> Result<String, AllocError> {
+pub fn every<F: Form<T>, T: PartialEq + Drop>(alloc: Global) -> Result<String, AllocError> {
     let mut tally = Tally::new();
-    tally.take(alloc, kind, &[])?;
+    tally.take::<F, T>(alloc, &[])?;
     for first in 0..=u8::MAX {
-        tally.take(alloc, kind, &[first])?;
-        with_a_second(alloc, kind, first, &mut tally)?;
+        tally.take::<F, T>(alloc, &[first])?;
+        with_a_second::<F, T>(alloc, first, &mut tally)?;
     }
     tally.told(alloc)
 }
 
 /// Every input of two bytes that begins with this one.
-fn with_a_second(
+fn with_a_second<F: Form<T>, T: PartialEq + Drop>(
     alloc: Global,
-    kind: Kind,
     first: u8,
     tally: &mut Tally,
 ) -> Result<(), AllocError> {
     for second in 0..=u8::MAX {
-        tally.take(alloc, kind, &[first, second])?;
+        tally.take::<F, T>(alloc, &[first, second])?;
     }
     Ok(())
 }
@@ -90,7 +95,7 @@ pub fn nested(alloc: Global, outer: &[u8], inner: &[u8]) -> Result<String, Alloc
     let mut refusal = String::new(alloc);
     for times in 0..=NESTED {
         let input = repeated(alloc, outer, times, inner)?;
-        let text = Kind::Value.answer(alloc, &input, &[])?;
+        let text = answer::<Plain, Value>(alloc, &input, &[])?;
         if refusal.is_empty() && text == hex::encode(alloc, &input)? {
             accepted = accepted.saturating_add(1);
         } else if refusal.is_empty() {

@@ -11,8 +11,8 @@ mod writing;
 
 use coset::Result;
 use std::alloc::Global;
-use std::io::{self, BufReader, BufWriter};
-use test_lines::line::{Calls, answer_lines, unknown};
+use std::io;
+use test_lines::line::{Calls, answer_input, unknown};
 use test_lines::typed::Operation;
 use test_lines::words::Words;
 
@@ -20,56 +20,43 @@ use test_lines::words::Words;
 struct AllCalls;
 
 impl Calls for AllCalls {
-    fn call(&self, alloc: Global, words: &Words<'_>) -> Result<String> {
-        let Some((kind, name)) = words.word(0).split_once("::") else {
-            return of_no_type(alloc, words.word(0), words);
-        };
-        match Operation::of(name) {
-            Some(operation) => typed(alloc, kind, operation, words),
-            None => of_type(alloc, kind, name, words),
+    /// A call that every type has.
+    fn typed(alloc: Global, kind: &str, call: Operation, words: &Words<'_>) -> Result<String> {
+        match kind {
+            "Value" => value::typed(alloc, call, words),
+            _ => own_types::call(alloc, kind, call, words),
+        }
+    }
+
+    /// A call of a type that is its own.
+    fn of_type(alloc: Global, kind: &str, name: &str, words: &Words<'_>) -> Result<String> {
+        match (kind, name) {
+            ("Value", "try_as_array_then_convert") => lists::convert(alloc, words),
+            ("Value", _) => value::call(alloc, name, words),
+            ("Integer", _) => value::call_integer(alloc, name, words),
+            ("Float", "to_f64") => value::to_double(alloc, words),
+            ("Pull", _) => pull::call(alloc, name, words),
+            _ => Err(unknown()),
+        }
+    }
+
+    /// A call of no type.
+    fn of_no_type(alloc: Global, name: &str, words: &Words<'_>) -> Result<String> {
+        match name {
+            "read_value" => reading::read(alloc, words),
+            "decode_unbounded" => reading::decode(alloc, words),
+            "check" => reading::check_front(alloc, words),
+            "front_length" => reading::front(alloc, words),
+            "has_repeats" => lists::repeats(alloc, words),
+            "to_cbor_array" => writing::array(alloc, words),
+            "de_error" => value::reader_error(alloc, words),
+            "ser_error" => value::writer_error(alloc, words),
+            "ser_error_becomes" => value::writer_error_becomes(alloc, words),
+            _ => writing::call(alloc, name, words),
         }
     }
 }
 
-/// A call of a type that is its own.
-fn of_type(alloc: Global, kind: &str, name: &str, words: &Words<'_>) -> Result<String> {
-    match (kind, name) {
-        ("Value", "try_as_array_then_convert") => lists::convert(alloc, words),
-        ("Value", _) => value::call(alloc, name, words),
-        ("Integer", _) => value::call_integer(alloc, name, words),
-        ("Float", "to_f64") => value::to_double(alloc, words),
-        ("Pull", _) => pull::call(alloc, name, words),
-        _ => Err(unknown()),
-    }
-}
-
-/// A call of no type.
-fn of_no_type(alloc: Global, name: &str, words: &Words<'_>) -> Result<String> {
-    match name {
-        "read_value" => reading::read(alloc, words),
-        "decode_unbounded" => reading::decode(alloc, words),
-        "check" => reading::check_front(alloc, words),
-        "front_length" => reading::front(alloc, words),
-        "has_repeats" => lists::repeats(alloc, words),
-        "to_cbor_array" => writing::array(alloc, words),
-        "de_error" => value::reader_error(alloc, words),
-        "ser_error" => value::writer_error(alloc, words),
-        "ser_error_becomes" => value::writer_error_becomes(alloc, words),
-        _ => writing::call(alloc, name, words),
-    }
-}
-
-/// A call that every type has.
-fn typed(alloc: Global, kind: &str, call: Operation, words: &Words<'_>) -> Result<String> {
-    match kind {
-        "Value" => value::typed(alloc, call, words),
-        _ => own_types::call(alloc, kind, call, words),
-    }
-}
-
 fn main(rt: HostRuntime) -> io::Result<()> {
-    let alloc = rt.alloc();
-    let reader = BufReader::new(alloc, rt.reader())?;
-    let mut writer = BufWriter::new(alloc, io::writer(&rt))?;
-    answer_lines(&AllCalls, alloc, reader, &mut writer)
+    answer_input::<AllCalls, _>(&rt)
 }

@@ -9,9 +9,9 @@ mod timestamp;
 use coset::Result;
 use coset::cwt::{ClaimsSet, Timestamp};
 use std::alloc::Global;
-use std::io::{self, BufReader, BufWriter};
+use std::io;
 use test_lines::copies::{copied, copy};
-use test_lines::line::{Calls, answer_lines, unknown};
+use test_lines::line::{Calls, answer_input, unknown};
 use test_lines::typed::{Operation, eq, plain, valued};
 use test_lines::words::Words;
 
@@ -19,43 +19,34 @@ use test_lines::words::Words;
 struct AllCalls;
 
 impl Calls for AllCalls {
-    fn call(&self, alloc: Global, words: &Words<'_>) -> Result<String> {
-        let Some((kind, name)) = words.word(0).split_once("::") else {
-            return Err(unknown());
-        };
-        match Operation::of(name) {
-            Some(operation) => typed(alloc, kind, operation, words),
-            None => of_type(alloc, kind, name, words),
+    /// A call that every type has. A timestamp is read and written as an item alone.
+    fn typed(alloc: Global, kind: &str, call: Operation, words: &Words<'_>) -> Result<String> {
+        match (kind, call) {
+            ("ClaimsSet", _) => plain(alloc, call, words, |v: &ClaimsSet| copied(v.clone())),
+            ("Timestamp", Operation::Eq) => eq::<Timestamp>(alloc, words),
+            ("Timestamp", Operation::Clone) => copy(
+                alloc,
+                words,
+                |v: &Timestamp| copied(v.clone()),
+            ),
+            ("Timestamp", _) => valued::<Timestamp>(alloc, call, words),
+            _ => Err(unknown()),
+        }
+    }
+
+    /// A call of a type, or of its builder, that is its own.
+    fn of_type(alloc: Global, kind: &str, name: &str, words: &Words<'_>) -> Result<String> {
+        match (kind, name) {
+            ("ClaimsSet", "get") => claims::get(alloc, words),
+            ("ClaimsSet", "known_from_slice") => claims::known(alloc, words),
+            ("ClaimsSetBuilder", "build") => builder::build(alloc, words),
+            ("Timestamp", "debug") => timestamp::debug(alloc, words),
+            ("Timestamp", "compare") => timestamp::compare(alloc, words),
+            _ => Err(unknown()),
         }
     }
 }
 
-/// A call of a type, or of its builder, that is its own.
-fn of_type(alloc: Global, kind: &str, name: &str, words: &Words<'_>) -> Result<String> {
-    match (kind, name) {
-        ("ClaimsSet", "get") => claims::get(alloc, words),
-        ("ClaimsSet", "known_from_slice") => claims::known(alloc, words),
-        ("ClaimsSetBuilder", "build") => builder::build(alloc, words),
-        ("Timestamp", "debug") => timestamp::debug(alloc, words),
-        ("Timestamp", "compare") => timestamp::compare(alloc, words),
-        _ => Err(unknown()),
-    }
-}
-
-/// A call that every type has. A timestamp is read and written as an item alone.
-fn typed(alloc: Global, kind: &str, call: Operation, words: &Words<'_>) -> Result<String> {
-    match (kind, call) {
-        ("ClaimsSet", _) => plain(alloc, call, words, |v: &ClaimsSet| copied(v.clone())),
-        ("Timestamp", Operation::Eq) => eq::<Timestamp>(alloc, words),
-        ("Timestamp", Operation::Clone) => copy(alloc, words, |v: &Timestamp| copied(v.clone())),
-        ("Timestamp", _) => valued::<Timestamp>(alloc, call, words),
-        _ => Err(unknown()),
-    }
-}
-
 fn main(rt: HostRuntime) -> io::Result<()> {
-    let alloc = rt.alloc();
-    let reader = BufReader::new(alloc, rt.reader())?;
-    let mut writer = BufWriter::new(alloc, io::writer(&rt))?;
-    answer_lines(&AllCalls, alloc, reader, &mut writer)
+    answer_input::<AllCalls, _>(&rt)
 }

@@ -28,9 +28,9 @@ use coset::{AsCborValue, CborSerializable, CoseError, RegisteredLabelWithPrivate
 use cwt_gate::{Authentication, Form, Policy, PolicyError, Unassigned, judge, judge_with};
 use std::alloc::Global;
 use std::fmt::Debug;
-use std::io::{self, BufReader, BufWriter};
+use std::io;
 use test_lines::asked::{Asked, No};
-use test_lines::line::{Calls, answer_lines, unknown};
+use test_lines::line::{Calls, answer_input, unknown};
 use test_lines::words::{Words, bytes};
 use test_lines::{mark, tell};
 
@@ -38,8 +38,8 @@ use test_lines::{mark, tell};
 struct GateCalls;
 
 impl Calls for GateCalls {
-    fn call(&self, alloc: Global, words: &Words<'_>) -> Result<String> {
-        match words.word(0) {
+    fn of_no_type(alloc: Global, name: &str, words: &Words<'_>) -> Result<String> {
+        match name {
             "judge" => at_a_moment(alloc, words),
             "judge_with" => by_a_policy(alloc, words),
             "judge_token" => by_a_strict_policy(alloc, words),
@@ -289,8 +289,5 @@ fn by_a_strict_policy(alloc: Global, words: &Words<'_>) -> Result<String> {
 }
 
 fn main(rt: HostRuntime) -> io::Result<()> {
-    let alloc = rt.alloc();
-    let reader = BufReader::new(alloc, rt.reader())?;
-    let mut writer = BufWriter::new(alloc, io::writer(&rt))?;
-    answer_lines(&GateCalls, alloc, reader, &mut writer)
+    answer_input::<GateCalls, _>(&rt)
 }

@@ -8,9 +8,9 @@ mod protected;
 
 use coset::{Header, ProtectedBstr, ProtectedHeader, Result};
 use std::alloc::Global;
-use std::io::{self, BufReader, BufWriter};
+use std::io;
 use test_lines::copies::copied;
-use test_lines::line::{Calls, answer_lines, unknown};
+use test_lines::line::{Calls, answer_input, unknown};
 use test_lines::typed::{Operation, plain, serialized};
 use test_lines::words::Words;
 
@@ -18,41 +18,28 @@ use test_lines::words::Words;
 struct AllCalls;
 
 impl Calls for AllCalls {
-    fn call(&self, alloc: Global, words: &Words<'_>) -> Result<String> {
-        let Some((kind, name)) = words.word(0).split_once("::") else {
-            return Err(unknown());
-        };
-        match Operation::of(name) {
-            Some(operation) => typed(alloc, kind, operation, words),
-            None => of_type(alloc, kind, name, words),
+    /// A call that every type has.
+    fn typed(alloc: Global, kind: &str, call: Operation, words: &Words<'_>) -> Result<String> {
+        match kind {
+            "Header" => plain(alloc, call, words, |v: &Header| copied(v.clone())),
+            "ProtectedHeader" => plain(alloc, call, words, |v: &ProtectedHeader| copied(v.clone())),
+            "ProtectedBstr" => serialized::<ProtectedBstr>(alloc, call, words),
+            _ => Err(unknown()),
+        }
+    }
+
+    /// A call of a type, or of its builder, that is its own.
+    fn of_type(alloc: Global, kind: &str, name: &str, words: &Words<'_>) -> Result<String> {
+        match (kind, name) {
+            ("Header", "is_empty") => header::is_empty(alloc, words),
+            ("Header", "get") => header::get(alloc, words),
+            ("HeaderBuilder", "build") => builder::build(alloc, words),
+            ("ProtectedHeader", _) => protected::call(alloc, name, words),
+            _ => Err(unknown()),
         }
     }
 }
 
-/// A call of a type, or of its builder, that is its own.
-fn of_type(alloc: Global, kind: &str, name: &str, words: &Words<'_>) -> Result<String> {
-    match (kind, name) {
-        ("Header", "is_empty") => header::is_empty(alloc, words),
-        ("Header", "get") => header::get(alloc, words),
-        ("HeaderBuilder", "build") => builder::build(alloc, words),
-        ("ProtectedHeader", _) => protected::call(alloc, name, words),
-        _ => Err(unknown()),
-    }
-}
-
-/// A call that every type has.
-fn typed(alloc: Global, kind: &str, call: Operation, words: &Words<'_>) -> Result<String> {
-    match kind {
-        "Header" => plain(alloc, call, words, |v: &Header| copied(v.clone())),
-        "ProtectedHeader" => plain(alloc, call, words, |v: &ProtectedHeader| copied(v.clone())),
-        "ProtectedBstr" => serialized::<ProtectedBstr>(alloc, call, words),
-        _ => Err(unknown()),
-    }
-}
-
 fn main(rt: HostRuntime) -> io::Result<()> {
-    let alloc = rt.alloc();
-    let reader = BufReader::new(alloc, rt.reader())?;
-    let mut writer = BufWriter::new(alloc, io::writer(&rt))?;
-    answer_lines(&AllCalls, alloc, reader, &mut writer)
+    answer_input::<AllCalls, _>(&rt)
 }

@@ -15,9 +15,9 @@ use coset::{
     RegisteredLabelWithPrivate, Result,
 };
 use std::alloc::Global;
-use std::io::{self, BufReader, BufWriter};
+use std::io;
 use test_lines::copies::copied;
-use test_lines::line::{Calls, answer_lines, unknown};
+use test_lines::line::{Calls, answer_input, unknown};
 use test_lines::typed::{Operation, plain};
 use test_lines::words::Words;
 
@@ -25,66 +25,53 @@ use test_lines::words::Words;
 struct AllCalls;
 
 impl Calls for AllCalls {
-    fn call(&self, alloc: Global, words: &Words<'_>) -> Result<String> {
-        let Some((kind, name)) = words.word(0).split_once("::") else {
-            return Err(unknown());
-        };
-        match Operation::of(name) {
-            Some(operation) => typed(alloc, kind, operation, words),
-            None => of_type(alloc, kind, name, words),
+    /// A call that every type has. Labels of a registry that have no name of their own go by that of the registry.
+    fn typed(alloc: Global, kind: &str, call: Operation, words: &Words<'_>) -> Result<String> {
+        match kind {
+            "Label" => plain(alloc, call, words, |v: &Label| copied(v.clone())),
+            "Algorithm" => plain(alloc, call, words, |v: &Algorithm| copied(v.clone())),
+            "ContentType" => plain(alloc, call, words, |v: &ContentType| copied(v.clone())),
+            "KeyType" => plain(alloc, call, words, |v: &KeyType| copied(v.clone())),
+            "KeyOperation" => plain(alloc, call, words, |v: &KeyOperation| copied(v.clone())),
+            "ClaimName" => plain(alloc, call, words, |v: &ClaimName| copied(v.clone())),
+            "HeaderParameter" => plain(
+                alloc,
+                call,
+                words,
+                |v: &RegisteredLabelWithPrivate<HeaderParameter>| copied(v.clone()),
+            ),
+            "EllipticCurve" => plain(
+                alloc,
+                call,
+                words,
+                |v: &RegisteredLabel<EllipticCurve>| copied(v.clone()),
+            ),
+            "Own" => plain(
+                alloc,
+                call,
+                words,
+                |v: &RegisteredLabelWithPrivate<Own>| copied(v.clone()),
+            ),
+            _ => Err(unknown()),
+        }
+    }
+
+    /// A call of a type of labels, or of a registry, that is its own.
+    fn of_type(alloc: Global, kind: &str, name: &str, words: &Words<'_>) -> Result<String> {
+        match (kind, name) {
+            ("iana", _) => registry::call(alloc, name, words),
+            ("CborOrdering", "compare") => order::compare(alloc, words),
+            (_, "cmp") => order::cmp(alloc, kind, words),
+            ("Label", "cmp_canonical") => order::cmp_canonical(alloc, words),
+            (_, "debug" | "display") => label::show(alloc, kind, name, words),
+            (_, "of_private_use") => label::of_private_use(alloc, kind, words),
+            (_, "from") => label::from(alloc, kind, words),
+            (_, "default") => label::default(alloc, kind),
+            _ => Err(unknown()),
         }
     }
 }
 
-/// A call of a type of labels, or of a registry, that is its own.
-fn of_type(alloc: Global, kind: &str, name: &str, words: &Words<'_>) -> Result<String> {
-    match (kind, name) {
-        ("iana", _) => registry::call(alloc, name, words),
-        ("CborOrdering", "compare") => order::compare(alloc, words),
-        (_, "cmp") => order::cmp(alloc, kind, words),
-        ("Label", "cmp_canonical") => order::cmp_canonical(alloc, words),
-        (_, "debug" | "display") => label::show(alloc, kind, name, words),
-        (_, "of_private_use") => label::of_private_use(alloc, kind, words),
-        (_, "from") => label::from(alloc, kind, words),
-        (_, "default") => label::default(alloc, kind),
-        _ => Err(unknown()),
-    }
-}
-
-/// A call that every type has. Labels of a registry that have no name of their own go by that of the registry.
-fn typed(alloc: Global, kind: &str, call: Operation, words: &Words<'_>) -> Result<String> {
-    match kind {
-        "Label" => plain(alloc, call, words, |v: &Label| copied(v.clone())),
-        "Algorithm" => plain(alloc, call, words, |v: &Algorithm| copied(v.clone())),
-        "ContentType" => plain(alloc, call, words, |v: &ContentType| copied(v.clone())),
-        "KeyType" => plain(alloc, call, words, |v: &KeyType| copied(v.clone())),
-        "KeyOperation" => plain(alloc, call, words, |v: &KeyOperation| copied(v.clone())),
-        "ClaimName" => plain(alloc, call, words, |v: &ClaimName| copied(v.clone())),
-        "HeaderParameter" => plain(
-            alloc,
-            call,
-            words,
-            |v: &RegisteredLabelWithPrivate<HeaderParameter>| copied(v.clone()),
-        ),
-        "EllipticCurve" => plain(
-            alloc,
-            call,
-            words,
-            |v: &RegisteredLabel<EllipticCurve>| copied(v.clone()),
-        ),
-        "Own" => plain(
-            alloc,
-            call,
-            words,
-            |v: &RegisteredLabelWithPrivate<Own>| copied(v.clone()),
-        ),
-        _ => Err(unknown()),
-    }
-}
-
 fn main(rt: HostRuntime) -> io::Result<()> {
-    let alloc = rt.alloc();
-    let reader = BufReader::new(alloc, rt.reader())?;
-    let mut writer = BufWriter::new(alloc, io::writer(&rt))?;
-    answer_lines(&AllCalls, alloc, reader, &mut writer)
+    answer_input::<AllCalls, _>(&rt)
 }

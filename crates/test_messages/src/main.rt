@@ -25,9 +25,9 @@ use coset::{
     CoseSignature, Result,
 };
 use std::alloc::Global;
-use std::io::{self, BufReader, BufWriter};
+use std::io;
 use test_lines::copies::copied;
-use test_lines::line::{Calls, answer_lines, unknown};
+use test_lines::line::{Calls, answer_input, unknown};
 use test_lines::message::{call, call_headed};
 use test_lines::typed::{Operation, message, plain};
 use test_lines::words::Words;
@@ -36,62 +36,56 @@ use test_lines::words::Words;
 struct AllCalls;
 
 impl Calls for AllCalls {
-    fn call(&self, alloc: Global, words: &Words<'_>) -> Result<String> {
-        let Some((kind, name)) = words.word(0).split_once("::") else {
-            return structures::call(alloc, words.word(0), words);
-        };
-        match Operation::of(name) {
-            Some(operation) => typed(alloc, kind, operation, words),
-            None => of_type(alloc, kind, name, words),
+    /// A call that every type has.
+    fn typed(alloc: Global, kind: &str, call: Operation, words: &Words<'_>) -> Result<String> {
+        match kind {
+            "CoseSign1" => message(alloc, call, words, |v: &CoseSign1| copied(v.clone())),
+            "CoseSign" => message(alloc, call, words, |v: &CoseSign| copied(v.clone())),
+            "CoseMac0" => message(alloc, call, words, |v: &CoseMac0| copied(v.clone())),
+            "CoseMac" => message(alloc, call, words, |v: &CoseMac| copied(v.clone())),
+            "CoseEncrypt0" => message(alloc, call, words, |v: &CoseEncrypt0| copied(v.clone())),
+            "CoseEncrypt" => message(alloc, call, words, |v: &CoseEncrypt| copied(v.clone())),
+            "CoseSignature" => plain(alloc, call, words, |v: &CoseSignature| copied(v.clone())),
+            "CoseCountersignature" => message(
+                alloc,
+                call,
+                words,
+                |v: &CoseCountersignature| copied(v.clone()),
+            ),
+            _ => Err(unknown()),
         }
     }
-}
 
-/// A call of a type, or of its builder, that is its own.
-fn of_type(alloc: Global, kind: &str, name: &str, words: &Words<'_>) -> Result<String> {
-    match (kind, name) {
-        ("CoseSignBuilder", "add_signature") => sign::add_signature(alloc, words),
-        ("CoseMacBuilder", "add_recipient") => mac::add_recipient(alloc, words),
-        ("CoseEncryptBuilder", "add_recipient") => encrypt::add_recipient(alloc, words),
-        ("CoseSign1" | "CoseSign1Builder", _) => call::<Sign1Calls>(alloc, name, words),
-        ("CoseSign" | "CoseSignBuilder", _) => call::<SignCalls>(alloc, name, words),
-        ("CoseMac0" | "CoseMac0Builder", _) => call::<Mac0Calls>(alloc, name, words),
-        ("CoseMac" | "CoseMacBuilder", _) => call::<MacCalls>(alloc, name, words),
-        ("CoseEncrypt0" | "CoseEncrypt0Builder", _) => call::<Encrypt0Calls>(alloc, name, words),
-        ("CoseEncrypt" | "CoseEncryptBuilder", _) => call::<EncryptCalls>(alloc, name, words),
-        ("CoseSignature" | "CoseSignatureBuilder", _) => {
-            call_headed::<SignatureCalls>(alloc, name, words)
+    /// A call of a type, or of its builder, that is its own.
+    fn of_type(alloc: Global, kind: &str, name: &str, words: &Words<'_>) -> Result<String> {
+        match (kind, name) {
+            ("CoseSignBuilder", "add_signature") => sign::add_signature(alloc, words),
+            ("CoseMacBuilder", "add_recipient") => mac::add_recipient(alloc, words),
+            ("CoseEncryptBuilder", "add_recipient") => encrypt::add_recipient(alloc, words),
+            ("CoseSign1" | "CoseSign1Builder", _) => call::<Sign1Calls>(alloc, name, words),
+            ("CoseSign" | "CoseSignBuilder", _) => call::<SignCalls>(alloc, name, words),
+            ("CoseMac0" | "CoseMac0Builder", _) => call::<Mac0Calls>(alloc, name, words),
+            ("CoseMac" | "CoseMacBuilder", _) => call::<MacCalls>(alloc, name, words),
+            ("CoseEncrypt0" | "CoseEncrypt0Builder", _) => call::<Encrypt0Calls>(
+                alloc, name, words,
+            ),
+            ("CoseEncrypt" | "CoseEncryptBuilder", _) => call::<EncryptCalls>(alloc, name, words),
+            ("CoseSignature" | "CoseSignatureBuilder", _) => {
+                call_headed::<SignatureCalls>(alloc, name, words)
+            }
+            ("CoseCountersignature" | "CoseCountersignatureBuilder", _) => {
+                call_headed::<CountersignatureCalls>(alloc, name, words)
+            }
+            _ => Err(unknown()),
         }
-        ("CoseCountersignature" | "CoseCountersignatureBuilder", _) => {
-            call_headed::<CountersignatureCalls>(alloc, name, words)
-        }
-        _ => Err(unknown()),
     }
-}
 
-/// A call that every type has.
-fn typed(alloc: Global, kind: &str, call: Operation, words: &Words<'_>) -> Result<String> {
-    match kind {
-        "CoseSign1" => message(alloc, call, words, |v: &CoseSign1| copied(v.clone())),
-        "CoseSign" => message(alloc, call, words, |v: &CoseSign| copied(v.clone())),
-        "CoseMac0" => message(alloc, call, words, |v: &CoseMac0| copied(v.clone())),
-        "CoseMac" => message(alloc, call, words, |v: &CoseMac| copied(v.clone())),
-        "CoseEncrypt0" => message(alloc, call, words, |v: &CoseEncrypt0| copied(v.clone())),
-        "CoseEncrypt" => message(alloc, call, words, |v: &CoseEncrypt| copied(v.clone())),
-        "CoseSignature" => plain(alloc, call, words, |v: &CoseSignature| copied(v.clone())),
-        "CoseCountersignature" => message(
-            alloc,
-            call,
-            words,
-            |v: &CoseCountersignature| copied(v.clone()),
-        ),
-        _ => Err(unknown()),
+    /// A call of no type.
+    fn of_no_type(alloc: Global, name: &str, words: &Words<'_>) -> Result<String> {
+        structures::call(alloc, name, words)
     }
 }
 
 fn main(rt: HostRuntime) -> io::Result<()> {
-    let alloc = rt.alloc();
-    let reader = BufReader::new(alloc, rt.reader())?;
-    let mut writer = BufWriter::new(alloc, io::writer(&rt))?;
-    answer_lines(&AllCalls, alloc, reader, &mut writer)
+    answer_input::<AllCalls, _>(&rt)
 }

@@ -9,9 +9,9 @@ mod recipient;
 use crate::recipient::RecipientCalls;
 use coset::{CoseKdfContext, CoseRecipient, PartyInfo, Result, SuppPubInfo};
 use std::alloc::Global;
-use std::io::{self, BufReader, BufWriter};
+use std::io;
 use test_lines::copies::copied;
-use test_lines::line::{Calls, answer_lines, unknown};
+use test_lines::line::{Calls, answer_input, unknown};
 use test_lines::message::call;
 use test_lines::typed::{Operation, plain};
 use test_lines::words::Words;
@@ -20,44 +20,33 @@ use test_lines::words::Words;
 struct AllCalls;
 
 impl Calls for AllCalls {
-    fn call(&self, alloc: Global, words: &Words<'_>) -> Result<String> {
-        let Some((kind, name)) = words.word(0).split_once("::") else {
-            return Err(unknown());
-        };
-        match Operation::of(name) {
-            Some(operation) => typed(alloc, kind, operation, words),
-            None => of_type(alloc, kind, name, words),
+    /// A call that every type has.
+    fn typed(alloc: Global, kind: &str, call: Operation, words: &Words<'_>) -> Result<String> {
+        match kind {
+            "CoseRecipient" => plain(alloc, call, words, |v: &CoseRecipient| copied(v.clone())),
+            "PartyInfo" => plain(alloc, call, words, |v: &PartyInfo| copied(v.clone())),
+            "SuppPubInfo" => plain(alloc, call, words, |v: &SuppPubInfo| copied(v.clone())),
+            "CoseKdfContext" => plain(alloc, call, words, |v: &CoseKdfContext| copied(v.clone())),
+            "Nonce" if call == Operation::Clone => nonce::copy(alloc, words),
+            _ => Err(unknown()),
+        }
+    }
+
+    /// A call of a type, or of its builder, that is its own.
+    fn of_type(alloc: Global, kind: &str, name: &str, words: &Words<'_>) -> Result<String> {
+        match (kind, name) {
+            ("CoseRecipientBuilder", "add_recipient") => recipient::add_recipient(alloc, words),
+            ("CoseRecipient" | "CoseRecipientBuilder", _) => call::<RecipientCalls>(
+                alloc, name, words,
+            ),
+            ("PartyInfoBuilder", "build") => context::build_party(alloc, words),
+            ("SuppPubInfoBuilder", "build") => context::build_public(alloc, words),
+            ("CoseKdfContextBuilder", "build") => context::build(alloc, words),
+            _ => Err(unknown()),
         }
     }
 }
 
-/// A call of a type, or of its builder, that is its own.
-fn of_type(alloc: Global, kind: &str, name: &str, words: &Words<'_>) -> Result<String> {
-    match (kind, name) {
-        ("CoseRecipientBuilder", "add_recipient") => recipient::add_recipient(alloc, words),
-        ("CoseRecipient" | "CoseRecipientBuilder", _) => call::<RecipientCalls>(alloc, name, words),
-        ("PartyInfoBuilder", "build") => context::build_party(alloc, words),
-        ("SuppPubInfoBuilder", "build") => context::build_public(alloc, words),
-        ("CoseKdfContextBuilder", "build") => context::build(alloc, words),
-        _ => Err(unknown()),
-    }
-}
-
-/// A call that every type has.
-fn typed(alloc: Global, kind: &str, call: Operation, words: &Words<'_>) -> Result<String> {
-    match kind {
-        "CoseRecipient" => plain(alloc, call, words, |v: &CoseRecipient| copied(v.clone())),
-        "PartyInfo" => plain(alloc, call, words, |v: &PartyInfo| copied(v.clone())),
-        "SuppPubInfo" => plain(alloc, call, words, |v: &SuppPubInfo| copied(v.clone())),
-        "CoseKdfContext" => plain(alloc, call, words, |v: &CoseKdfContext| copied(v.clone())),
-        "Nonce" if call == Operation::Clone => nonce::copy(alloc, words),
-        _ => Err(unknown()),
-    }
-}
-
 fn main(rt: HostRuntime) -> io::Result<()> {
-    let alloc = rt.alloc();
-    let reader = BufReader::new(alloc, rt.reader())?;
-    let mut writer = BufWriter::new(alloc, io::writer(&rt))?;
-    answer_lines(&AllCalls, alloc, reader, &mut writer)
+    answer_input::<AllCalls, _>(&rt)
 }

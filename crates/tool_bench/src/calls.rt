@@ -19,7 +19,7 @@ use std::sync::ledger::{Blank, Ledger};
 use std::time::{Duration, Instant};
 
 /// Reads the value, and drops it.
-pub fn time_read<T: CborSerializable + Drop, R: AllocGlobal + Clock>(
+fn time_read<T: CborSerializable + Drop, R: AllocGlobal + Clock>(
     rt: &R,
     bytes: &[u8],
     calls: usize,
@@ -63,7 +63,7 @@ fn copies<T: Clone + Drop>(alloc: Global, value: &T, calls: usize) -> Result<Vec
 }
 
 /// Writes a value that was read, and drops it and its text. The copies that are written are made before the time.
-pub fn time_write<T: CborSerializable + Clone + Drop, R: AllocGlobal + Clock>(
+fn time_write<T: CborSerializable + Clone + Drop, R: AllocGlobal + Clock>(
     rt: &R,
     bytes: &[u8],
     calls: usize,
@@ -82,6 +82,20 @@ pub fn time_write<T: CborSerializable + Clone + Drop, R: AllocGlobal + Clock>(
         }
     }
     Ok(start.elapsed(rt)?)
+}
+
+/// Writes a value, or reads one.
+pub fn time_value<T: CborSerializable + Clone + Drop, R: AllocGlobal + Clock>(
+    is_written: bool,
+    rt: &R,
+    bytes: &[u8],
+    calls: usize,
+) -> Result<Duration, Fault> {
+    if is_written {
+        time_write::<T, R>(rt, bytes, calls)
+    } else {
+        time_read::<T, R>(rt, bytes, calls)
+    }
 }
 
 /// Copies a value that was read, and drops the copy.

@@ -3,7 +3,7 @@
 ghost use Rattle.std.specs.Prelude.{◌≡◌, ◌++◌, MatchOption, codes};
 ghost use Rattle.tool_bench.specs.Operation.{kind_name};
 
-use crate::calls::{time_read, time_write};
+use crate::calls::time_value;
 use crate::fault::Fault;
 use coset_cbor::value::Value;
 use coset_claims::{ClaimsSet, CoseKdfContext};
@@ -79,78 +79,37 @@ impl Kind {
         ensures { MatchOption result ((k : Kind) → name.now ≡ kind_name k ++ codes "_write" → ⊥)
             (λ k. name.now ≡ kind_name k ++ codes "_write") }
     {
-        match name {
-            "value_write" => Some(Kind::Value),
-            "header_write" => Some(Kind::Header),
-            "countersignature_write" => Some(Kind::Countersignature),
-            "sign1_write" => Some(Kind::Sign1),
-            "sign_write" => Some(Kind::Sign),
-            "mac0_write" => Some(Kind::Mac0),
-            "mac_write" => Some(Kind::Mac),
-            "encrypt0_write" => Some(Kind::Encrypt0),
-            "encrypt_write" => Some(Kind::Encrypt),
-            "recipient_write" => Some(Kind::Recipient),
-            "key_write" => Some(Kind::Key),
-            "keyset_write" => Some(Kind::KeySet),
-            "claims_write" => Some(Kind::Claims),
-            "kdf_write" => Some(Kind::Kdf),
-            _ => None,
-        }
+        Kind::read_by(name.strip_suffix("_write")?)
     }
 
-    /// How long the calls took that read a value of the type.
+    /// How long the calls took that write a value of the type, or that read one.
     ///
     /// # Errors
     /// Why a call failed.
-    pub fn time_read<R: AllocGlobal + Clock>(
+    pub fn time<R: AllocGlobal + Clock>(
         self,
+        is_written: bool,
         rt: &R,
         bytes: &[u8],
         calls: usize,
     ) -> Result<Duration, Fault> {
         match self {
-            Kind::Value => time_read::<Value, R>(rt, bytes, calls),
-            Kind::Header => time_read::<Header, R>(rt, bytes, calls),
-            Kind::Countersignature => time_read::<CoseCountersignature, R>(rt, bytes, calls),
-            Kind::Sign1 => time_read::<CoseSign1, R>(rt, bytes, calls),
-            Kind::Sign => time_read::<CoseSign, R>(rt, bytes, calls),
-            Kind::Mac0 => time_read::<CoseMac0, R>(rt, bytes, calls),
-            Kind::Mac => time_read::<CoseMac, R>(rt, bytes, calls),
-            Kind::Encrypt0 => time_read::<CoseEncrypt0, R>(rt, bytes, calls),
-            Kind::Encrypt => time_read::<CoseEncrypt, R>(rt, bytes, calls),
-            Kind::Recipient => time_read::<CoseRecipient, R>(rt, bytes, calls),
-            Kind::Key => time_read::<CoseKey, R>(rt, bytes, calls),
-            Kind::KeySet => time_read::<CoseKeySet, R>(rt, bytes, calls),
-            Kind::Claims => time_read::<ClaimsSet, R>(rt, bytes, calls),
-            Kind::Kdf => time_read::<CoseKdfContext, R>(rt, bytes, calls),
-        }
-    }
-
-    /// How long the calls took that write a value of the type.
-    ///
-    /// # Errors
-    /// Why a call failed.
-    pub fn time_write<R: AllocGlobal + Clock>(
-        self,
-        rt: &R,
-        bytes: &[u8],
-        calls: usize,
-    ) -> Result<Duration, Fault> {
-        match self {
-            Kind::Value => time_write::<Value, R>(rt, bytes, calls),
-            Kind::Header => time_write::<Header, R>(rt, bytes, calls),
-            Kind::Countersignature => time_write::<CoseCountersignature, R>(rt, bytes, calls),
-            Kind::Sign1 => time_write::<CoseSign1, R>(rt, bytes, calls),
-            Kind::Sign => time_write::<CoseSign, R>(rt, bytes, calls),
-            Kind::Mac0 => time_write::<CoseMac0, R>(rt, bytes, calls),
-            Kind::Mac => time_write::<CoseMac, R>(rt, bytes, calls),
-            Kind::Encrypt0 => time_write::<CoseEncrypt0, R>(rt, bytes, calls),
-            Kind::Encrypt => time_write::<CoseEncrypt, R>(rt, bytes, calls),
-            Kind::Recipient => time_write::<CoseRecipient, R>(rt, bytes, calls),
-            Kind::Key => time_write::<CoseKey, R>(rt, bytes, calls),
-            Kind::KeySet => time_write::<CoseKeySet, R>(rt, bytes, calls),
-            Kind::Claims => time_write::<ClaimsSet, R>(rt, bytes, calls),
-            Kind::Kdf => time_write::<CoseKdfContext, R>(rt, bytes, calls),
+            Kind::Value => time_value::<Value, R>(is_written, rt, bytes, calls),
+            Kind::Header => time_value::<Header, R>(is_written, rt, bytes, calls),
+            Kind::Countersignature => time_value::<CoseCountersignature, R>(
+                is_written, rt, bytes, calls,
+            ),
+            Kind::Sign1 => time_value::<CoseSign1, R>(is_written, rt, bytes, calls),
+            Kind::Sign => time_value::<CoseSign, R>(is_written, rt, bytes, calls),
+            Kind::Mac0 => time_value::<CoseMac0, R>(is_written, rt, bytes, calls),
+            Kind::Mac => time_value::<CoseMac, R>(is_written, rt, bytes, calls),
+            Kind::Encrypt0 => time_value::<CoseEncrypt0, R>(is_written, rt, bytes, calls),
+            Kind::Encrypt => time_value::<CoseEncrypt, R>(is_written, rt, bytes, calls),
+            Kind::Recipient => time_value::<CoseRecipient, R>(is_written, rt, bytes, calls),
+            Kind::Key => time_value::<CoseKey, R>(is_written, rt, bytes, calls),
+            Kind::KeySet => time_value::<CoseKeySet, R>(is_written, rt, bytes, calls),
+            Kind::Claims => time_value::<ClaimsSet, R>(is_written, rt, bytes, calls),
+            Kind::Kdf => time_value::<CoseKdfContext, R>(is_written, rt, bytes, calls),
         }
     }
 }

@@ -88,8 +88,8 @@ impl Operation {
     ) -> Result<Duration, Fault> {
         match self {
             Operation::Check => time_check(rt, bytes, calls),
-            Operation::Read(kind) => kind.time_read(rt, bytes, calls),
-            Operation::Write(kind) => kind.time_write(rt, bytes, calls),
+            Operation::Read(kind) => kind.time(false, rt, bytes, calls),
+            Operation::Write(kind) => kind.time(true, rt, bytes, calls),
             Operation::Make(structure) => structure.time(rt, bytes, calls),
             Operation::Sign1Refused => time_refusal::<CoseSign1, R>(rt, bytes, calls),
             Operation::Sign1Copy => time_copy::<CoseSign1, R>(rt, bytes, calls),
