@@ -39,7 +39,7 @@ def recipients(count):
     return hostile.recipients(count, b"", b"\xf6")
 
 
-def nesting(token):
+def nesting(program, token):
     """The rows of the table of stack: what is inside one another, how deep, and the inputs, each with its kind."""
     yield "a signed token (RFC 8392, appendix A.3)", [""], [(SIGN1 + EITHER, token)]
     counts = (16, 64, 128)
@@ -53,6 +53,24 @@ def nesting(token):
     counts = (2, 4, 8, 16)
     yield "protected headers, each in the innermost of 127 headers", counts, [(SIGN1, protected(n, 126)) for n in counts]
     yield "128 recipients, the innermost with such protected headers", [16], [(RECIPIENT, hostile.nests([7])["recipients"])]
+    yield "any of these, of so many levels as `coset_is_deeper` counts", *zip(*((most, shallow(program, most)) for most in (16, 32, 64)))
+
+
+def is_deeper(program, data, most):
+    """Whether coset_is_deeper says so."""
+    ran = subprocess.run([program], input=f"deeper {most} {data.hex()}\n", capture_output=True, text=True, check=True)
+    return ran.stdout.split()[0] == "1"
+
+
+def shallow(program, most):
+    """The deepest inputs of each kind that `coset_is_deeper` takes for no deeper than that."""
+    kinds = [(SIGN1, levels), (SIGN1, headers), (SIGN1, protected), (RECIPIENT, recipients)]
+    kinds += [(SIGN1, lambda count, around=around: protected(count, around)) for around in (1, 2, 4)]
+    found = []
+    for kind, make in kinds:
+        fits = [data for data in map(make, range(1, min(most, 17 if make is protected else most))) if not is_deeper(program, data, most)]
+        found.append((kind, fits[-1]))
+    return found
 
 
 def list_of(start, member, count):
@@ -120,8 +138,9 @@ def tables(program, token):
     """The two tables, as docs/C.md has them."""
     yield "| Inside one another | How many | kB of stack |"
     yield "|---|---|---|"
-    for name, counts, inputs in nesting(token):
-        took = [rounded(measured(program, kind, data)[1], 4096) // 1024 for kind, data in inputs]
+    for name, counts, inputs in nesting(program, token):
+        each = [inputs_of if isinstance(inputs_of, list) else [inputs_of] for inputs_of in inputs]
+        took = [rounded(max(measured(program, kind, data)[1] for kind, data in them), 4096) // 1024 for them in each]
         yield f"| {name} | {', '.join(map(str, counts))} | {', '.join(map(str, took))} |"
     yield ""
     yield "| Input | Its length | Memory at once | Requests | Times its length |"

@@ -3,7 +3,7 @@
  * prints the status, how many bytes of the stack were written, the most bytes of memory that were held at once, and how many
  * requests there were. With REFUSE=N in the environment the N-th request of each call is refused. */
 #define _GNU_SOURCE
-#include "coset.h"
+#include "coset_verify.h"
 #include <pthread.h>
 #include <stdio.h>
 #include <stdlib.h>
@@ -54,6 +54,7 @@ static coset_status answer(const char *call, uint32_t kind, const uint8_t *in, s
   coset_sign1_view view;
   coset_message_view message;
   const uint8_t member[] = {0x83, 0x40, 0xa0, 0xf6};
+  if (!strcmp(call, "deeper")) return coset_is_deeper(in, n, kind);
   if (!strcmp(call, "check")) return coset_check(kind, in, n, &len);
   if (!strcmp(call, "count")) return coset_count(kind, in, n, &len);
   if (!strcmp(call, "part")) return coset_part(kind, in, n, COSET_PROTECTED, out, OUT, &len);
