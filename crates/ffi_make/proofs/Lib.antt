@@ -2,3 +2,4 @@ pub mod Making
 pub mod Lists
 pub mod Agreeing
 pub mod Keeping
+pub mod Putting
