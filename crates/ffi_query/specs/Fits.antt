@@ -14,7 +14,7 @@ use Rattle.ffi_query.specs.Kinds.{HoldsOf}
 abbrev pub Fits : {A : Type 0} → Shape A → Item → Bool → Type 0
 Fits {A} s v b = IsTrue b → (x : A) × s.describes v x
 
--- the same of two headers, and what follows them
+-- what two headers and what follows them must be
 abbrev pub FitsHeaders : {A : Type 0} → Elements A → Item → Bool → Type 0
 FitsHeaders ps v b = Fits (with_headers ps) v b
 

@@ -27,7 +27,8 @@ IsSpan b t p s = IsAt (if p.is_input then b else t) p.at s
 
 -- What `message_spans` says of the bytes b, which are the message v of that kind: what `message_view` says, but that t begins
 -- with what is signed, authenticated, or goes with the ciphertext, and the other texts are where the spans say
-pub record IsMessageSpans (k : kinds.Kind) (i : ℕ) (aad : List ℕ) (d : Option (List ℕ)) (ns : List ℤ) (b : List ℕ) (v : Item) (m : MessageSpans) (t : List ℕ) : Type 0 where
+pub record IsMessageSpans (k : kinds.Kind) (i : ℕ) (aad : List ℕ) (d : Option (List ℕ)) (ns : List ℤ) (b : List ℕ) (v : Item) (m : MessageSpans)
+    (t : List ℕ) : Type 0 where
   pub text : List ℕ
   pub told : IsTold k i aad d ns v m.view text
   pub is_tagged : TellsTagOf (tag_of k) b m.view.is_tagged

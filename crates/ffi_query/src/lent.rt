@@ -132,7 +132,8 @@ fn algorithm_by(value: Pull<'_>) -> Algorithm
 
 /// The algorithm that the protected header names.
 fn algorithm_in(headers: Headers<'_>) -> Algorithm
-    ensures { (b : List ℕ) (v : Item) → AreHeaders b v headers.entry → KnowsAlgorithm v result }
+    ensures { (b : List ℕ) (v : Item) → AreHeaders b v headers.entry
+        → KnowsAlgorithm v result }
 {
     match protected_located(headers, 1) {
         Some(found) => algorithm_by(found.item),
