@@ -163,7 +163,8 @@ module _
       proof_len = proof_len;
       content_len = content_len;
       key_id_len = key_id_len;
-      len = total s x.proof.bytes.now x.content.bytes.now x.key_id.text.bytes.now n.len n.structure_len n.proof_len n.content_len n.key_id_len len structure_len proof_len content_len key_id_len;
+      len = total s x.proof.bytes.now x.content.bytes.now x.key_id.text.bytes.now n.len n.structure_len
+          n.proof_len n.content_len n.key_id_len len structure_len proof_len content_len key_id_len;
     };
     is_signed = refl;
     is_proof = refl;

@@ -1,5 +1,6 @@
 -- Parts of the input.
-use Rattle.std.proofs.Common.{◌≡◌, ◌∙◌, ◌++◌, ◌+◌, ◌-◌, ◌*◌, ◌%◌, ◌<◌, ℕ, zero, suc, List, [], ◌∷◌, length, drop, Some, false, true≢false, ap, sym, subst, refl, inl, inr, arith}
+use Rattle.std.proofs.Common.{◌≡◌, ◌∙◌, ◌++◌, ◌+◌, ◌-◌, ◌*◌, ◌%◌, ◌<◌, ℕ, zero, suc, List, []}
+use Rattle.std.proofs.Common.{◌∷◌, length, drop, Some, false, true≢false, ap, sym, subst, refl, inl, inr, arith}
 use Rattle.std.proofs.lemmas.List.{append-nil, append_assoc, drop_at, length-append}
 use Rattle.coset.specs.Grammar.{EachInOrder, HeadWidth, within, one, two, four, eight, Holds, IsDefinite, IsHeaded, IsHeld, head_in, joined_chunks}
 use Rattle.coset.specs.Item.{Item, Items, item}

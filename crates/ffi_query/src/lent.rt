@@ -132,7 +132,8 @@ fn algorithm_by(value: Pull<'_>) -> Algorithm
 
 /// The algorithm that the protected header names.
 fn algorithm_in(headers: Headers<'_>) -> Algorithm
-    ensures { (b : List ℕ) (v : Item) → AreHeaders b v headers.entry → KnowsAlgorithm v result }
+    ensures { (b : List ℕ) (v : Item) → AreHeaders b v headers.entry
+        → KnowsAlgorithm v result }
 {
     match protected_located(headers, 1) {
         Some(found) => algorithm_by(found.item),
@@ -142,7 +143,8 @@ fn algorithm_in(headers: Headers<'_>) -> Algorithm
 
 /// The identifier of the key, where it is a byte string whose length is announced, or there is none.
 fn key_id_in<'a>(headers: Headers<'a>, nothing: Text<'a>) -> Option<KeyId<'a>>
-    ensures { (b : List ℕ) (v : Item) → AreHeaders b v headers.entry → IsEmptyIn b nothing.entry
+    ensures { (b : List ℕ) (v : Item) → AreHeaders b v headers.entry
+        → IsEmptyIn b nothing.entry
         → IfSome result (λ i. KnowsKeyId v i.place i.text.bytes.now × IsTextIn b i.text) }
 {
     match protected_located(headers, 4) {
@@ -409,7 +411,8 @@ pub(crate) fn find_lent<'a>(
     detached: Option<&'a [u8]>,
     is_tagged: bool,
 ) -> Result<Option<Lent<'a>>>
-    ensures lent { (b : List ℕ) (i : ℕ) (ns : List ℤ) → IsLocated b item.entry → IfOk result (λ o.
+    ensures lent { (b : List ℕ) (i : ℕ) (ns : List ℤ) → IsLocated b item.entry
+        → IfOk result (λ o.
         IfSome o (IsLent kind i external_aad.now (option_copied detached.entry) ns b
         (located_item item.entry))) }
     ensures tag { IfOk result (λ o. IfSome o (λ x. x.view.is_tagged ≡ is_tagged)) }

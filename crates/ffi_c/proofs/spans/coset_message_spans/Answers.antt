@@ -19,7 +19,8 @@ returns-in-Some c =
     let ns = c.args.known.now in
     let d = bytes_if c.args.has_detached c.args.detached.now in
     let answers =
-    subst (λ x. AnswersWith k b (IsMessageSpans k i aad x ns b) (HasNoView k i aad x ns) c.args.out.now c.message_spans-told.new.out c.message_spans-told.result)
+    subst (λ x. AnswersWith k b (IsMessageSpans k i aad x ns b) (HasNoView k i aad x ns) c.args.out.now c.message_spans-told.new.out
+    c.message_spans-told.result)
     c.bytes_if-detached.ensures c.message_spans-told.ensures in
     let status : to_z w32 (of_z w32 c.reply_spans.result) ≡ reply_status c.message_spans-told.result = search rules in
     replied

@@ -8,7 +8,8 @@ pub returns-in_err-whole : goal.returns-in_err-whole
 returns-in_err-whole c =
     let k = c.args.kind in
     let b = c.args.bytes.now in
-    refuses (λ p. IsItemOf k b (pull_item p)) (IsRefused k b) c.in_err-whole.field-0.0 c.from_residual.result c.from_residual.ensures.1 c.in_err-whole.ensures.whole
+    refuses (λ p. IsItemOf k b (pull_item p)) (IsRefused k b) c.in_err-whole.field-0.0 c.from_residual.result c.from_residual.ensures.1
+    c.in_err-whole.ensures.whole
 
 pub returns : goal.returns
 returns c =

@@ -23,7 +23,8 @@ returns-in-Ok-Some c =
     let w = pull_item c.in-Ok.whole in
     let v = located_item c.without_tag_located-item.result in
     let x = c.in-Ok-Some.lent in
-    let is = inside k b w v c.in-Ok.ensures.whole.1 c.in-Ok.ensures.whole.0 (c.without_tag_located-item.ensures.item ∙ ap (λ t. without_tag t w) c.tag.ensures) in
+    let is = inside k b w v c.in-Ok.ensures.whole.1 c.in-Ok.ensures.whole.0
+    (c.without_tag_located-item.ensures.item ∙ ap (λ t. without_tag t w) c.tag.ensures) in
     let here = c.without_tag_located-item.ensures.place b (whole_located b (pull_bytes c.in-Ok.whole) c.in-Ok.ensures.bytes) in
     let lent = (rw c.in-Ok-Some.field-0-is at c.in-Ok-Some.ensures.lent) b i ns here in
     let tag = rw c.in-Ok-Some.field-0-is at c.in-Ok-Some.ensures.tag in
