@@ -30,7 +30,7 @@ one_then :
     → both (λ y ys. y ∷ ys) o q ≡ Some zs → p ≡ Some x → (r : Option (List (Name × EntryView)))
     → ((ys : List (Name × EntryView)) → q ≡ Some ys → r ≡ Some (ys ++ x ∷ [])) → both (λ y ys. y ∷ ys) o r ≡ Some (zs ++ x ∷ [])
 one_then (Some y) p (Some ys) zs x e f r h =
-    ap (both (λ y ys. y ∷ ys) (Some y)) (h ys refl) ∙ ap (λ l. Some (l ++ x ∷ [])) (some-one e refl)
+    ap (both (λ y ys. y ∷ ys) (Some y)) (h ys refl) ∙ ap (λ l. Some (l ++ x ∷ [])) (sym (some-one e refl))
 one_then (Some y) p None zs x e f r h = absurd (none_is e)
 one_then None p q zs x e f r h = absurd (none_is e)
 
@@ -38,7 +38,7 @@ pairs_push :
     (b : List ℕ) (ps : List Pair) (p : Pair) (xs : List (Name × EntryView)) (x : Name × EntryView) → pairs_of b ps ≡ Some xs → pair_of b p ≡ Some x
     → pairs_of b (ps ++ p ∷ []) ≡ Some (xs ++ x ∷ [])
 pairs_push b [] p xs x e f =
-    ap (λ o. both (λ y ys. y ∷ ys) o (Some [])) f ∙ ap (λ (l : List (Name × EntryView)). Some (l ++ x ∷ [])) (some-one e refl)
+    ap (λ o. both (λ y ys. y ∷ ys) o (Some [])) f ∙ ap (λ (l : List (Name × EntryView)). Some (l ++ x ∷ [])) (sym (some-one e refl))
 pairs_push b (q ∷ ps) p xs x e f =
     one_then (pair_of b q) (pair_of b p) (pairs_of b ps) xs x e f (pairs_of b (ps ++ p ∷ [])) (λ ys is. pairs_push b ps p ys x is f)
 

@@ -102,11 +102,21 @@ fn pair_of(pair: Pair, bytes: &[u8]) -> Option<(Label<'_>, Entry<'_>)>
     }
 }
 
+/// Whether a pair has a label and a value.
+fn is_pair(pair: Pair, bytes: &[u8]) -> bool
+    ensures { result ≡ is_some (pair_of bytes.now pair) }
+{
+    match pair_of(pair, bytes) {
+        Some(_) => true,
+        None => false,
+    }
+}
+
 /// Whether each pair has a label and a value.
 fn are_pairs(pairs: &[Pair], bytes: &[u8]) -> bool
     ensures { result ≡ is_some (pairs_of bytes.now pairs.now) }
 {
-    pairs.iter().all(|pair| pair_of(*pair, bytes).is_some())
+    pairs.iter().all(|pair| is_pair(*pair, bytes))
 }
 
 /// The labels and values of pairs.

@@ -25,5 +25,5 @@ returns-in-Some c =
     let status : to_z w32 (of_z w32 c.reply_spans.result) ≡ reply_status c.message_spans-told.result = search rules in
     replied
     (λ j. RepliesSpans (AnswersWith j b (IsMessageSpans j i aad d ns b) (HasNoView j i aad d ns) c.args.out.now c.message_spans-told.new.out)
-    (to_z w32 (of_z w32 c.reply_spans.result)) c.reply_spans.new.len c.reply_spans.new.view)
+    (to_z w32 (of_z w32 c.reply_spans.result)) c.reply_spans.new.len c.reply_spans.new.spans)
     _ _ k c.in-Some.ensures (c.message_spans-told.result, answers, status, c.reply_spans.ensures.number, c.reply_spans.ensures.told)
