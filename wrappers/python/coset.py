@@ -539,7 +539,10 @@ def _integers(numbers):
 
 def _layer(view, text):
     """The layer that waits."""
-    texts = _split(text, view.structure_len, view.proof_len, view.key_id_len, view.iv_len, view.partial_iv_len)
+    texts, start = [], 0
+    for length in (view.structure_len, view.proof_len, view.key_id_len, view.iv_len, view.partial_iv_len):
+        texts.append(text[start : start + length])
+        start += length
     structure, proof, key_id, iv, partial_iv = texts
     return Layer(view.form, view.algorithm, key_id or None, view.key_id_map, structure, proof, iv or None, partial_iv or None)
 
