@@ -240,7 +240,7 @@ def _declare():
         "value_at": [size] + to,
         "structure": [size, at, size, number, at, size] + to,
         "recipient_structure": [at, size] + to,
-        "message_spans": [size, at, size, number, at, size, ctypes.c_void_p, size] + to + [ctypes.POINTER(_Spans)],
+        "message_spans": [size, at, size, number, at, size, ctypes.c_void_p, size, ctypes.c_void_p, size, ctypes.c_void_p, ctypes.c_void_p],
         "put_all": [ctypes.POINTER(_Pair), size, at, size] + to,
         "put": [integer, at, size] + to,
         "put_bytes": [integer, at, size] + to,
@@ -422,46 +422,48 @@ def recipient_structure(holder, data, external_aad=b""):
 
 
 class _Room(threading.local):
-    """Memory for the structure and the view of a message, which a thread uses again and again."""
+    """Memory for the structure, its length and the view of a message, which a thread uses again and again, and where it is."""
 
     def __init__(self):
-        self.size = 4096
-        self.view, self.length = ctypes.create_string_buffer(ctypes.sizeof(_Spans)), ctypes.c_size_t()
-        self.out = ctypes.create_string_buffer(self.size)
-        self.behind = ctypes.byref(self.length), ctypes.cast(self.view, ctypes.POINTER(_Spans))
+        out, length, view = ctypes.create_string_buffer(4096), ctypes.c_size_t(), ctypes.create_string_buffer(ctypes.sizeof(_Spans))
+        self.parts = memoryview(out).cast("B"), length, view, *map(ctypes.addressof, (out, length, view))
 
 
 _room = _Room()
-_NUMBERS = struct.Struct("@qIIIIIIINNNNNNN")  # those of _Spans
+_numbers = struct.Struct("@qIIIIIIINNNNNNN").unpack_from  # those of _Spans
 
 
 def _seen(kind, data, index, critical, external_aad, detached):
-    """The numbers of a message up to is_tagged, and its four texts: the structure, and what is cut out of the message."""
+    """What Message has."""
     data, data_len = _bytes(data)
     aad, aad_len = _bytes(external_aad)
     content, content_len = (b"", 0) if detached is None else _bytes(detached)
     known = (ctypes.c_int64 * len(critical))(*map(_int64, critical)) if critical else None
+    out, length, view, out_at, length_at, view_at = _room.parts
     # The structure has all that is given once, with heads; what has no place in the message may be behind it.
-    needed = 2 * data_len + aad_len + content_len + 128
-    out, size = (_room.out, _room.size) if needed <= _room.size else (ctypes.create_string_buffer(needed), needed)
-    given = _kind(kind), data, data_len, index, aad, aad_len, detached is not None, content, content_len, known, len(critical)
-    status = _library.coset_message_spans(*given, out, size, *_room.behind)
-    if status == _SHORT:
-        size = _room.length.value
-        out = ctypes.create_string_buffer(size)
-        status = _library.coset_message_spans(*given, out, size, *_room.behind)
+    room, needed = 4096, 2 * data_len + aad_len + content_len + 128
+    while True:
+        if needed > room:
+            held = ctypes.create_string_buffer(needed)
+            out, out_at, room = memoryview(held).cast("B"), ctypes.addressof(held), needed
+        status = _library.coset_message_spans(
+            _kind(kind), data, data_len, index, aad, aad_len, detached is not None, content, content_len, known, len(critical),
+            out_at, room, length_at, view_at,
+        )
+        if status != _SHORT:
+            break
+        needed = length.value
     if status != _OK:
         _raise(status)
-    numbers = _NUMBERS.unpack_from(_room.view)
-    signed, at, proof_len, content_at, content_len, key_id_at, key_id_len = numbers[8:]
-    text = ctypes.string_at(out, _room.length.value)
-    proof, held, key_id = (data if is_input else text for is_input in numbers[5:8])
-    return numbers[:5], (
-        text if signed == len(text) else text[:signed],
-        proof[at : at + proof_len],
-        held[content_at : content_at + content_len],
-        key_id[key_id_at : key_id_at + key_id_len],
-    )
+    algorithm, form, key_id_map, labels, is_tagged, is_proof, is_held, is_key, signed, at, n, held_at, held_n, key_at, key_n = _numbers(view)
+    proof = held = key = data
+    if not (is_proof and is_held and is_key):
+        text = out[: length.value].tobytes()
+        proof, held, key = (data if is_input else text for is_input in (is_proof, is_held, is_key))
+    if form != INT:
+        algorithm = None
+    texts = out[:signed].tobytes(), proof[at : at + n], held[held_at : held_at + held_n], key[key_at : key_at + key_n]
+    return (algorithm, form, key_id_map or None, labels, is_tagged != 0) + texts
 
 
 def sign1(kind, data, external_aad=b"", detached=None):
@@ -469,17 +471,15 @@ def sign1(kind, data, external_aad=b"", detached=None):
     payload that the message carries, or over `detached`, where that isn't None and it carries none."""
     if kind & 0xFF != SIGN1:
         raise Misuse("a kind of another call")
-    (algorithm, form, key_id_map, critical, is_tagged), texts = _seen(kind, data, 0, (), external_aad, detached)
-    return Sign1(algorithm if form == INT else None, form, key_id_map or None, critical != NONE, is_tagged != 0, *texts)
+    found = _seen(kind, data, 0, (), external_aad, detached)
+    return Sign1._make(found[:3] + (found[3] != NONE,) + found[4:])
 
 
 def message(kind, data, index=0, critical=(), external_aad=b"", detached=None):
     """All that verifying or decrypting a message takes (Message), and of the signer of that index where it is one with signers:
     over the payload that the message carries, or over `detached`, where that isn't None and it carries none. The caller
     understands the critical labels."""
-    numbers, texts = _seen(kind, data, _size(index), critical, external_aad, detached)
-    algorithm, form, key_id_map, labels, is_tagged = numbers
-    return Message(algorithm if form == INT else None, form, key_id_map or None, labels, is_tagged != 0, *texts)
+    return Message._make(_seen(kind, data, _size(index), critical, external_aad, detached))
 
 
 def _asked(found, algorithms, proof):
