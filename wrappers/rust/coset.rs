@@ -750,7 +750,7 @@ pub fn message(kind: Kind, bytes: &[u8], index: usize, policy: &Policy<'_>) -> R
     })
 }
 
-/// The same of a message that lends what it holds.
+/// All that verifying or decrypting a message takes, as [`Message`], lent from the message.
 pub fn message_lent<'a>(kind: Kind, bytes: &'a [u8], index: usize, policy: &Policy<'_>) -> Result<LentMessage<'a>, Error> {
     let (kind, content) = (kind.number(), policy.detached.unwrap_or_default());
     let (aad, known) = (policy.external_aad, policy.critical);

@@ -54,8 +54,8 @@ name_of flag b = if name_fits flag b then Some (if flag == 0 then None else Some
 
 -- the policy of these rules, of algorithms for signatures, MACs and encryption, and of labels that are understood
 abbrev pub policy_with :
-    Option (Option (List ℕ)) → Option (Option (List ℕ)) → Option Form → Option Authentication → Rules → List ℤ → List ℤ → List ℤ → List ℤ
-    → Option PolicyView
+    Option (Option (List ℕ)) → Option (Option (List ℕ)) → Option Form → Option Authentication → Rules
+    → List ℤ → List ℤ → List ℤ → List ℤ → Option PolicyView
 policy_with (Some issuer) (Some audience) (Some form) (Some authenticated) r signatures macs ciphers critical = Some (record {
   signatures = map algorithm_named signatures;
   macs = map algorithm_named macs;

@@ -17,9 +17,9 @@ use Rattle.ffi_query.proofs.EachKind.{memory_refuses}
 
 -- what was found of the item, written, is what is returned; where nothing was, for a reason of which Q holds
 pub answered_or :
-    {T : Type 0} (bytes_of : T → List ℕ) (k : kinds.Kind) (b old new : List ℕ) (P : Item → List ℕ → Type 0) (Q : Item → refusals.Refusal → Type 0)
-    (v : Item) (found : Result (Option T) CoseError) (r : Result ℕ refusals.Refusal) → (((t : List ℕ) → P v t → ⊥) → Q v Absent) → IsItemOf k b v
-    → IfOk found (Finds bytes_of (P v))
+    {T : Type 0} (bytes_of : T → List ℕ) (k : kinds.Kind) (b old new : List ℕ) (P : Item → List ℕ → Type 0)
+    (Q : Item → refusals.Refusal → Type 0) (v : Item) (found : Result (Option T) CoseError) (r : Result ℕ refusals.Refusal)
+    → (((t : List ℕ) → P v t → ⊥) → Q v Absent) → IsItemOf k b v → IfOk found (Finds bytes_of (P v))
     → IfErr found (λ e. e ≡ OutOfMemory) → WritesFound bytes_of found old new r → AnswersOr k b P Q old new r
 answered_or bytes_of k b old new P Q v (Ok (Some x)) (Ok n) none i f m w = (v, i, (bytes_of x, f, w))
 answered_or bytes_of k b old new P Q v (Ok (Some x)) (Err (Short n)) none i f m w = (v, i, (bytes_of x, f, w))

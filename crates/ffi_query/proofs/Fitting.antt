@@ -36,7 +36,8 @@ not_nil (dict ps) s e = refl
 -- four places, of which each fits; and three
 module _ (v : Item) (a b c d : Item) where
   pub four :
-      (vs ws xs ys zs : Items) → Some vs ≡ as_array v → vs ≡ item a ws → ws ≡ item b xs → xs ≡ item c ys → ys ≡ item d zs → zs ≡ no_items
+      (vs ws xs ys zs : Items) → Some vs ≡ as_array v → vs ≡ item a ws → ws ≡ item b xs → xs ≡ item c ys → ys ≡ item d zs
+      → zs ≡ no_items
       → (p : ProtectedView) × protected.describes a p → (u : HeaderView) × header.describes b u
       → (o : Option (List ℕ)) × (or_nil bstr).describes c o → (s : List ℕ) × bstr.describes d s
       → (x : ProtectedView × (HeaderView × (Option (List ℕ) × (List ℕ × Unit {0})))) × (with_headers (or_nil bstr then bstr then end)).describes v x

@@ -1,5 +1,6 @@
 -- What is found of a message as parts of the input.
-use Rattle.std.proofs.Common.{◌≡◌, ◌∙◌, ◌++◌, ◌+◌, ℕ, ℤ, List, [], length, Option, Some, None, Bor, true, false, ap, sym, subst, refl, inl, inr, arith}
+use Rattle.std.proofs.Common.{◌≡◌, ◌∙◌, ◌++◌, ◌+◌, ℕ, ℤ, List, [], length, Option, Some}
+use Rattle.std.proofs.Common.{None, Bor, true, false, ap, sym, subst, refl, inl, inr, arith}
 use Rattle.std.proofs.lemmas.List.{length-append}
 use Rattle.std.specs.Option.{option_copied}
 use Rattle.std.specs.Prelude.{IfSome, codes, option_and_then}

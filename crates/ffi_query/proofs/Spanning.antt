@@ -1,5 +1,6 @@
 -- Texts that are named by their places.
-use Rattle.std.proofs.Common.{◌≡◌, ◌∙◌, ◌++◌, ◌-◌, ◌+◌, ℕ, ℤ, List, [], length, Option, Result, Ok, Err, true, ap, sym, subst, refl, arith}
+use Rattle.std.proofs.Common.{◌≡◌, ◌∙◌, ◌++◌, ◌-◌, ◌+◌, ℕ, ℤ, List, [], length}
+use Rattle.std.proofs.Common.{Option, Result, Ok, Err, true, ap, sym, subst, refl, arith}
 use Rattle.std.proofs.lemmas.List.{append-nil, append_assoc, length-append}
 use Rattle.std.specs.Prelude.{if◌then◌else◌}
 use Rattle.coset.specs.Item.{Item}

@@ -24,7 +24,8 @@ Puts t old new (Err r) = ⊥
 -- memory, or that has no room for it; or there is none, for a reason of which Q holds; or the bytes are no such item. But for
 -- the first the memory is as it was
 abbrev pub AnswersOr :
-    kinds.Kind → List ℕ → (Item → List ℕ → Type 0) → (Item → refusals.Refusal → Type 0) → List ℕ → List ℕ → Result ℕ refusals.Refusal → Type 0
+    kinds.Kind → List ℕ → (Item → List ℕ → Type 0) → (Item → refusals.Refusal → Type 0) → List ℕ → List ℕ
+    → Result ℕ refusals.Refusal → Type 0
 AnswersOr k b P Q old new (Ok n) = (v : Item) × IsItemOf k b v × ((t : List ℕ) × P v t × Puts t old new (Ok n))
 AnswersOr k b P Q old new (Err (Short n)) = (v : Item) × IsItemOf k b v × ((t : List ℕ) × P v t × Puts t old new (Err (Short n)))
 AnswersOr k b P Q old new (Err (Cose e)) = IsRefused k b e × (new ≡ old)

@@ -92,7 +92,8 @@ pub record AreTexts (k : kinds.Kind) (d : Option (List ℕ)) (b : List ℕ) (v :
   pub is_signed : IsSigned place d (option_copied x.signed)
 
 -- all that n says of the item v of that kind, with these four texts
-pub record Says (k : kinds.Kind) (i : ℕ) (aad : List ℕ) (d : Option (List ℕ)) (ns : List ℤ) (v : Item) (n : MessageView) (s p c t : List ℕ) : Type 0 where
+pub record Says (k : kinds.Kind) (i : ℕ) (aad : List ℕ) (d : Option (List ℕ)) (ns : List ℤ) (v : Item) (n : MessageView)
+    (s p c t : List ℕ) : Type 0 where
   pub text : List ℕ
   pub told : IsTold k i aad d ns v n text
   pub is_signed : told.signed ≡ s
@@ -101,7 +102,8 @@ pub record Says (k : kinds.Kind) (i : ℕ) (aad : List ℕ) (d : Option (List �
   pub is_key_id : told.key_id ≡ t
 
 -- what is lent says all of the item v, and its texts are in b, but for the structure
-pub record IsLent (k : kinds.Kind) (i : ℕ) (aad : List ℕ) (d : Option (List ℕ)) (ns : List ℤ) (b : List ℕ) (v : Item) (x : declared.Lent) : Type 0 where
+pub record IsLent (k : kinds.Kind) (i : ℕ) (aad : List ℕ) (d : Option (List ℕ)) (ns : List ℤ) (b : List ℕ) (v : Item)
+    (x : declared.Lent) : Type 0 where
   pub says :
       Says k i aad d ns v x.view (x.structure.front.items ++ x.structure.end.now) x.proof.bytes.now x.content.bytes.now x.key_id.bytes.now
   pub proof_in_b : IsTextIn b x.proof

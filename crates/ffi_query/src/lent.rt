@@ -143,7 +143,8 @@ fn algorithm_in(headers: Headers<'_>) -> Algorithm
 
 /// The identifier of the key, where it is a byte string whose length is announced, or there is none.
 fn key_id_in<'a>(headers: Headers<'a>, nothing: Text<'a>) -> Option<KeyId<'a>>
-    ensures { (b : List ℕ) (v : Item) → AreHeaders b v headers.entry → IsEmptyIn b nothing.entry
+    ensures { (b : List ℕ) (v : Item) → AreHeaders b v headers.entry
+        → IsEmptyIn b nothing.entry
         → IfSome result (λ i. KnowsKeyId v i.place i.text.bytes.now × IsTextIn b i.text) }
 {
     match protected_located(headers, 4) {
@@ -410,9 +411,9 @@ pub(crate) fn find_lent<'a>(
     detached: Option<&'a [u8]>,
     is_tagged: bool,
 ) -> Result<Option<Lent<'a>>>
-    ensures lent { (b : List ℕ) (i : ℕ) (ns : List ℤ) → IsLocated b item.entry → IfOk result (λ o.
-        IfSome o (IsLent kind i external_aad.now (option_copied detached.entry) ns b
-        (located_item item.entry))) }
+    ensures lent { (b : List ℕ) (i : ℕ) (ns : List ℤ) → IsLocated b item.entry
+        → IfOk result (λ o. IfSome o (IsLent kind i external_aad.now
+        (option_copied detached.entry) ns b (located_item item.entry))) }
     ensures tag { IfOk result (λ o. IfSome o (λ x. x.view.is_tagged ≡ is_tagged)) }
     ensures memory { IfErr result (λ e. e ≡ OutOfMemory) }
 {

@@ -188,7 +188,8 @@ fn only_chunk(item: Pull<'_>) -> Option<&[u8]>
 
 /// What a byte string holds whose length is announced; `None` of any other item.
 pub(crate) fn bytes_located(string: Located<'_>) -> Option<Text<'_>>
-    ensures bytes { IfSome result (λ t. as_bytes (located_item string.entry) ≡ Some t.bytes.now) }
+    ensures bytes { IfSome result (λ t.
+        as_bytes (located_item string.entry) ≡ Some t.bytes.now) }
     ensures place { (b : List ℕ) → IsLocated b string.entry → IfSome result (IsTextIn b) }
 {
     let bytes = only_chunk(string.item)?;

@@ -1,5 +1,6 @@
 -- The layers that a caller opened.
-use Rattle.std.specs.Prelude.{◌≡◌, ◌==◌, ◌&&◌, ◌+◌, ℕ, List, [], ◌∷◌, length, drop, take, nat_lt, Bool, false, Option, Some, None, if◌then◌else◌}
+use Rattle.std.specs.Prelude.{◌≡◌, ◌==◌, ◌&&◌, ◌+◌, ℕ, List, [], ◌∷◌, length}
+use Rattle.std.specs.Prelude.{drop, take, nat_lt, Bool, false, Option, Some, None, if◌then◌else◌}
 use Rattle.std.specs.Cmp.Lexicographic.{pointwise}
 use Rattle.cwt_gate.specs.Keys.{KeysView, SealView}
 use Rattle.cwt_gate.specs.declared.form.Form.{Form}
