@@ -185,7 +185,7 @@ fn text_chunks(alloc: Global, bytes: &[u8]) -> Result<(String, &[u8]), ReadError
 }
 
 /// A byte string of that many bytes, or in chunks where no length is announced.
-#[inline]
+#[inline(always)]
 pub(crate) fn byte_string(
     alloc: Global,
     left: usize,
@@ -203,7 +203,7 @@ pub(crate) fn byte_string(
 
 /// A text string of that many bytes, or in chunks where no length is announced. `left` is what was
 /// left at the head.
-#[inline]
+#[inline(always)]
 pub(crate) fn text_string(
     alloc: Global,
     left: usize,

@@ -270,7 +270,7 @@ fn fill_fields(
 ///
 /// # Errors
 /// `UnexpectedItem`: the item is no map; it is skipped.
-#[inline(never)]
+#[inline(always)]
 fn begin_pairs(
     pairs: &mut MapEntries,
     input: &mut Decoder<'_>,
