@@ -1,6 +1,6 @@
 /* coset for C. Each call is a function of the bytes that it is given: nothing is kept between calls, nothing has to be freed,
- * and calls in several threads do not touch one another. What each call answers is proved of its code; the contracts stand
- * beside the functions of the same names in crates/ffi_c/src, and docs/C.md tells them in words. coset_verify.h verifies
+ * and calls in several threads do not touch one another. What each call answers is proved of its code; the contracts are
+ * beside the functions of the same names in crates/ffi_c/src, and docs/C.md has them in words. coset_verify.h verifies
  * and decrypts in one call.
  *
  * in, in_len     the bytes of an item of the kind. Any pointer to bytes may be NULL where the length beside it is 0.
@@ -13,7 +13,7 @@
  * and memset; or your program for its memory, where it was built so (docs/C.md: a heap of your own).
  *
  * Any call may return COSET_OK, COSET_MEMORY, COSET_MISUSE, or one from COSET_ENDS to COSET_NOT_PRIVATE; what else it may
- * return stands behind `Also:`. */
+ * return is behind `Also:`. */
 #ifndef COSET_H
 #define COSET_H
 
@@ -53,7 +53,7 @@ enum {
   COSET_UNREGISTERED = 10, /* an integer without a name, in a registry without a private range */
   COSET_NOT_PRIVATE = 11,  /* an integer without a name, and outside the private range of its registry */
   COSET_ABSENT = 12,       /* what is asked for isn't in the bytes, or what is given has no place in items of the kind */
-  COSET_MISUSE = 13,       /* a number that stands for no kind, no part, no map or no order, or for a kind of another call; or a
+  COSET_MISUSE = 13,       /* a number that is of no kind, no part, no map or no order, or for a kind of another call; or a
                               payload that is given as detached, and the message carries one, or the flag says that none is */
   COSET_TYPE = 14,         /* what is asked for is there, and is no string, or no integer of 64 bits */
   COSET_EMPTY = 15,        /* the list is empty: who verifies each of its signatures has verified none */
@@ -198,11 +198,11 @@ COSET_CALL(8)
 coset_status coset_recipient_structure(uint32_t holder, const uint8_t *in, size_t in_len, const uint8_t *external_aad,
                                        size_t external_aad_len, uint8_t *out, size_t cap, size_t *len);
 
-/* What coset_sign1 tells in numbers, of a message with one signature: nothing but zeros where the status isn't COSET_OK. */
+/* What coset_sign1 says in numbers, of a message with one signature: nothing but zeros where the status isn't COSET_OK. */
 typedef struct coset_sign1_view {
   int64_t algorithm;       /* alg, label 1, of the protected header, where the form is COSET_INT, else 0 */
   uint32_t algorithm_form; /* COSET_NONE, COSET_INT or COSET_TEXT */
-  uint32_t key_id_map;     /* where kid, label 4, stands: COSET_IN_PROTECTED; else COSET_IN_UNPROTECTED, which isn't signed;
+  uint32_t key_id_map;     /* where kid, label 4, is: COSET_IN_PROTECTED; else COSET_IN_UNPROTECTED, which isn't signed;
                               else 0 */
   uint32_t has_critical;   /* 1 where either header has crit, label 2: labels that must be understood; else 0 */
   uint32_t is_tagged;      /* 1 where the message is under its tag, else 0 */
@@ -213,7 +213,7 @@ typedef struct coset_sign1_view {
 } coset_sign1_view;
 
 /* All that verifying a COSET_SIGN1 (with COSET_TAGGED or COSET_EITHER, or neither) takes: out then begins with four texts,
- * one behind the other, which are what is signed, as coset_structure tells it; the signature; the payload that the message
+ * one behind the other, which are what is signed, as coset_structure says it; the signature; the payload that the message
  * carries; and the key's identifier. *len is the length of the four together. Verify the signature over what is signed, by a
  * key that you trust and an algorithm that you allow for it, before you use the payload; and refuse a message that has crit.
  * Also: COSET_SHORT; COSET_ABSENT where there is no payload. */
@@ -222,7 +222,7 @@ coset_status coset_sign1(uint32_t kind, const uint8_t *in, size_t in_len, const 
                          uint32_t has_detached, const uint8_t *detached, size_t detached_len, uint8_t *out, size_t cap,
                          size_t *len, coset_sign1_view *view);
 
-/* What coset_message tells in numbers, of any message: nothing but zeros where the status isn't COSET_OK. The headers are those
+/* What coset_message says in numbers, of any message: nothing but zeros where the status isn't COSET_OK. The headers are those
  * of the message, and of a COSET_SIGN those of the signer. */
 typedef struct coset_message_view {
   int64_t algorithm;       /* as in coset_sign1_view, and so are the next two */
@@ -305,14 +305,14 @@ enum {
 /* A layer that the caller opened, by where it is in the bytes that are given beside it. */
 typedef struct coset_opened {
   uint32_t form;        /* COSET_SIGN1, COSET_MAC0 or COSET_ENCRYPT0 */
-  size_t offset;        /* where the structure is, and behind it the signature, the MAC or the ciphertext, as they were told */
+  size_t offset;        /* where the structure is, and behind it the signature, the MAC or the ciphertext, as they were written */
   size_t structure_len;
   size_t proof_len;
   size_t plaintext;     /* of COSET_ENCRYPT0: where the plaintext is, and its length; else 0 */
   size_t plaintext_len;
 } coset_opened;
 
-/* What is told of a layer that waits, in numbers: nothing but zeros where the status isn't COSET_LAYER. */
+/* What is said of a layer that waits, in numbers: nothing but zeros where the status isn't COSET_LAYER. */
 typedef struct coset_layer {
   uint32_t form;        /* COSET_SIGN1: verify the signature; COSET_MAC0: verify the MAC; COSET_ENCRYPT0: decrypt */
   uint32_t key_id_map;  /* as in coset_sign1_view */
@@ -398,7 +398,8 @@ coset_status coset_recipient_structure_of(uint32_t holder, const uint8_t *prot, 
 
 /* A message (under its tag, with COSET_TAGGED), a COSET_SIGNATURE or a COSET_RECIPIENT, of its protected header, its
  * unprotected one, each a map or nothing, its payload or ciphertext, and its signature or tag. Where has_content is 0, the
- * content is detached, and content_len is 0, else it is COSET_MISUSE. A message with signers or recipients is made without them, for coset_add. */
+ * content is detached, and content_len is 0, else it is COSET_MISUSE. A message with signers or recipients is made without
+ * them, for coset_add. */
 COSET_CALL(13)
 coset_status coset_make(uint32_t kind, const uint8_t *prot, size_t prot_len, const uint8_t *unprot, size_t unprot_len,
                         uint32_t has_content, const uint8_t *content, size_t content_len, const uint8_t *proof,

@@ -55,7 +55,7 @@ static inline void coset_cleared(uint8_t *at, size_t len) {
 }
 
 /* What the view says against the policy: COSET_OK, COSET_NOT_ALLOWED or COSET_CRITICAL. */
-static inline coset_status coset_permitted(const coset_message_view *view, const coset_policy *policy) {
+static inline coset_status coset_permitted(const coset_message_spans_view *view, const coset_policy *policy) {
   size_t i = 0;
   if (view->critical == COSET_NOT_UNDERSTOOD) return COSET_CRITICAL;
   if (view->algorithm_form != COSET_INT) return COSET_NOT_ALLOWED;
@@ -69,44 +69,46 @@ static inline uint32_t coset_kind_in(uint32_t message, uint32_t form) {
   return form == 0 || form == COSET_TAGGED || form == COSET_EITHER ? message + form : 0;
 }
 
-/* The question of a view and of its texts. */
-static inline coset_question coset_asked(const coset_message_view *view, const uint8_t *out) {
+/* The question of a view, and of the texts that it names in the message and in `out`. */
+static inline coset_question coset_asked(const coset_message_spans_view *view, const uint8_t *in, const uint8_t *out) {
   coset_question question;
   question.algorithm = view->algorithm;
   question.input = out;
   question.input_len = view->structure_len;
-  question.proof = out + view->structure_len;
+  question.proof = (view->is_proof_in_input ? in : out) + view->proof_at;
   question.proof_len = view->proof_len;
-  question.key_id = view->key_id_map ? question.proof + view->proof_len + view->content_len : NULL;
+  question.key_id = view->key_id_map ? (view->is_key_id_in_input ? in : out) + view->key_id_at : NULL;
   question.key_id_len = view->key_id_len;
   question.key_id_map = view->key_id_map;
   return question;
 }
 
-/* The status of a message of that kind, one of the first four, and of the signer of that index. Where it is COSET_OK, `verify` said yes, and `*payload`
- * is the payload, of `*payload_len` bytes: in `out`, or the detached one. Else `*payload` is NULL, and `out` holds nothing of
- * the message. `out` has room for what is signed and for the rest of the message: where that isn't enough, the status is
- * COSET_SHORT, and `*payload_len` says how much is. */
+/* The status of a message of that kind, one of the first four, and of the signer of that index. Where it is COSET_OK, `verify`
+ * said yes, and `*payload` is the payload, of `*payload_len` bytes: in `out`, where what is signed or authenticated ends with it,
+ * or the detached one. Else `*payload` is NULL, and `out` holds nothing of the message. `out` has room for what is signed, and
+ * for the rest of a message that is read by copies (coset_message_spans): where that isn't enough, the status is COSET_SHORT, and
+ * `*payload_len` says how much is. */
 static inline coset_status coset_verify(uint32_t kind, const uint8_t *in, size_t in_len, size_t index, const coset_policy *policy,
                                         coset_verifier verify, void *context, uint8_t *out, size_t cap,
                                         const uint8_t **payload, size_t *payload_len) {
-  coset_message_view view;
+  coset_message_spans_view view;
   coset_question question;
   size_t len;
-  coset_status status = coset_message((kind & 0xff) <= COSET_MAC ? kind : 0, in, in_len, index, policy->external_aad,
-                                      policy->external_aad_len, policy->has_detached, policy->detached,
-                                      policy->detached_len, policy->critical, policy->critical_len, out, cap, &len, &view);
+  coset_status status = coset_message_spans((kind & 0xff) <= COSET_MAC ? kind : 0, in, in_len, index, policy->external_aad,
+                                            policy->external_aad_len, policy->has_detached, policy->detached,
+                                            policy->detached_len, policy->critical, policy->critical_len, out, cap, &len,
+                                            &view);
   *payload = NULL;
   *payload_len = status == COSET_SHORT ? len : 0;
   if (status) return status;
-  question = coset_asked(&view, out);
+  question = coset_asked(&view, in, out);
   status = coset_permitted(&view, policy);
   if (!status && verify(context, &question) != 1) status = COSET_REFUSED;
   if (status) {
     coset_cleared(out, len);
     return status;
   }
-  *payload = policy->detached_len ? policy->detached : question.proof + view.proof_len;
+  *payload = policy->detached_len ? policy->detached : out + view.structure_len - view.content_len;
   *payload_len = policy->has_detached ? policy->detached_len : view.content_len;
   return COSET_OK;
 }
@@ -152,18 +154,18 @@ static inline coset_status coset_is_carried(uint32_t kind, const uint8_t *in, si
 
 /* The status of a COSET_ENCRYPT0, by its form. Where it is COSET_OK, `decrypt` said yes, and `plain` holds the plaintext, of
  * `*plain_len` bytes; else `*plain_len` is 0, and `plain` holds zeros where `decrypt` was asked. `out` is memory to work in,
- * with room for Enc_structure and the rest of the message: where that isn't enough, the status is COSET_SHORT, and `*plain_len`
- * says how much is. */
+ * with room for Enc_structure, for the IV, and for the rest of a message that is read by copies: where that isn't enough, the
+ * status is COSET_SHORT, and `*plain_len` says how much is. */
 static inline coset_status coset_encrypt0_decrypt(uint32_t form, const uint8_t *in, size_t in_len, const coset_policy *policy,
                                                   coset_decrypter decrypt, void *context, uint8_t *out, size_t cap,
                                                   uint8_t *plain, size_t plain_cap, size_t *plain_len) {
   const uint32_t kind = coset_kind_in(COSET_ENCRYPT0, form);
-  coset_message_view view;
+  coset_message_spans_view view;
   coset_question question;
   size_t len, iv_len = 0;
-  coset_status status = coset_message(kind, in, in_len, 0, policy->external_aad, policy->external_aad_len,
-                                      policy->has_detached, policy->detached, policy->detached_len, policy->critical,
-                                      policy->critical_len, out, cap, &len, &view);
+  coset_status status = coset_message_spans(kind, in, in_len, 0, policy->external_aad, policy->external_aad_len,
+                                            policy->has_detached, policy->detached, policy->detached_len, policy->critical,
+                                            policy->critical_len, out, cap, &len, &view);
   *plain_len = status == COSET_SHORT ? len : 0;
   if (status) return status;
   status = coset_iv(kind, in, in_len, out + len, cap - len, &iv_len);
@@ -171,7 +173,8 @@ static inline coset_status coset_encrypt0_decrypt(uint32_t form, const uint8_t *
   if (!status) status = coset_is_carried(kind, in, in_len, policy);
   if (!status) status = coset_permitted(&view, policy);
   if (status) return status;
-  question = coset_asked(&view, out);
+  question = coset_asked(&view, in, out);
+  question.proof = (view.is_content_in_input ? in : out) + view.content_at;
   question.proof = policy->has_detached ? policy->detached : question.proof;
   question.proof_len = policy->has_detached ? policy->detached_len : view.content_len;
   if (decrypt(context, &question, iv_len ? out + len : NULL, iv_len, plain, plain_cap, plain_len) == 1 &&
@@ -343,10 +346,10 @@ static inline coset_layer_question coset_layer_asked(const coset_layer *layer, c
   return question;
 }
 
-/* The status of a token at `now`, in seconds since 1970 began in UTC. Where it is COSET_OK, `opener` said yes to each layer, the token
- * is as the policy asks, and `*claims` are its claims, a COSET_CLAIMS of `*claims_len` bytes in `work`. Else `*claims` is NULL, and
- * `work` holds zeros. `work` has room for what is told of each layer, for plaintexts, and for the claims; four times the token's
- * length and 64 bytes for each of its layers are enough. Where it has no room, the status is COSET_SHORT. */
+/* The status of a token at `now`, in seconds since 1970 began in UTC. Where it is COSET_OK, `opener` said yes to each layer, the
+ * token is as the policy asks, and `*claims` are its claims, a COSET_CLAIMS of `*claims_len` bytes in `work`. Else `*claims` is
+ * NULL, and `work` holds zeros. `work` has room for what is said of each layer, for plaintexts, and for the claims; four times
+ * the token's length and 64 bytes for each of its layers are enough. Where it has no room, the status is COSET_SHORT. */
 static inline coset_status coset_token_judge(const uint8_t *in, size_t in_len, int64_t now, const coset_token_policy *policy,
                                              coset_opener opener, void *context, uint8_t *work, size_t cap,
                                              const uint8_t **claims, size_t *claims_len) {

@@ -69,7 +69,7 @@ function dated(seconds) {
 
 let rows = { bytes: NO_BYTES, starts: new Uint32Array(1), count: 0 };
 
-// The answer's first line, where each line behind it begins, and the notes, which stand at the end behind `=`.
+// The answer's first line, where each line behind it begins, and the notes, which are at the end behind `=`.
 function parsed(bytes) {
   let lines = 0;
   for (let end = bytes.indexOf(10); end >= 0; end = bytes.indexOf(10, end + 1)) lines++;

@@ -331,7 +331,7 @@ static void look(int32_t status, size_t len) {
   if (live) fail("a block isn't freed");
 }
 
-/* Makes the call, with room for `cap` bytes of an answer, and looks at all places; `*len` is the length that it tells. */
+/* Makes the call, with room for `cap` bytes of an answer, and looks at all places; `*len` is the length that it says. */
 static int32_t made(size_t cap, size_t *len) {
   struct place *out = of('o'), *length = of('l');
   if (out) {

@@ -92,7 +92,7 @@ def texts(prefix, quick):
 
 
 def install(library, prefix, quick, below=""):
-    """Lays out the library, libcoset.a and libcoset.so of a folder, for a prefix; `below` is what stands in front of the paths for
+    """Lays out the library, libcoset.a and libcoset.so of a folder, for a prefix; `below` is what is in front of the paths for
     now, as whoever builds a package has it. Answers what is to be said."""
     prefix = os.path.abspath(prefix)
     root = below + prefix

@@ -1,4 +1,4 @@
-/* Makes the calls that it reads, one a line, and tells what each answered (tools/c).
+/* Makes the calls that it reads, one a line, and says what each answered (tools/c).
  *
  *   check KIND IN | count KIND IN | part KIND IN CAP PART | member KIND IN CAP INDEX | label KIND IN CAP MAP LABEL
  *   label_at KIND IN CAP INDEX | value_at KIND IN CAP INDEX | key_of 11 IN CAP KID
@@ -112,7 +112,7 @@ static int is_as_said(void *words, const coset_question *q) {
          same(word[3], q->proof, q->proof_len);
 }
 
-/* The status of `verified`, by those words. The payload that it points to then stands at the front of `out`, and nothing else. */
+/* The status of `verified`, by those words. The payload that it points to is then at the front of `out`, and nothing else. */
 static int32_t verified_as_said(char **words, struct bytes in, uint8_t *out, size_t cap, size_t *len) {
   const uint8_t *payload = out;
   int32_t status = verified(in.at, in.len, is_as_said, words, out, cap, &payload, len);
@@ -166,7 +166,7 @@ static int is_opened(void *context, const coset_layer_question *question, uint8_
   return 1;
 }
 
-/* Tells what coset_token_judge says of a token, by those words. */
+/* Prints what coset_token_judge says of a token, by those words. */
 static void token(char **word, struct bytes in, size_t cap) {
   struct script *script = calloc(1, sizeof *script);
   struct bytes issuer = spelled(word[10]), audience = spelled(word[11]);
@@ -205,7 +205,7 @@ static void token(char **word, struct bytes in, size_t cap) {
   free(work), free(issuer.at), free(audience.at), free(script);
 }
 
-/* Tells how many levels are within one another, at most 64. */
+/* Prints how many levels are within one another, at most 64. */
 static void deeper(struct bytes in) {
   size_t most = 0;
   while (most < 64 && coset_is_deeper(in.at, in.len, most)) most++;
@@ -229,7 +229,7 @@ static int is_decrypted(void *words, const coset_question *question, const uint8
   return 1;
 }
 
-/* The status of the call of coset_verify.h for the kind, by those words; what it points to then stands at the front of `out`,
+/* The status of the call of coset_verify.h for the kind, by those words; what it points to is then at the front of `out`,
  * and where it is refused, nothing but zeros is there. */
 static int32_t safe(char **word, uint32_t number, struct bytes in, uint8_t *out, size_t cap, size_t *len) {
   const uint32_t form = number >> 16 ? number >> 16 : number & 0xff00;

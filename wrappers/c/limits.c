@@ -49,10 +49,26 @@ static struct {
 } asked;
 static uint8_t out[OUT];
 
+static int yes(void *context, const coset_layer_question *question, uint8_t *plain, size_t cap, size_t *len) {
+  return context && question && plain && cap && len;
+}
+
+/* The claims of a token whose signature is one of ES256. */
+static coset_status judged(const uint8_t *in, size_t n) {
+  static const int64_t es256 = -7;
+  coset_token_policy policy = {0};
+  const uint8_t *claims;
+  size_t len;
+  policy.rules.size = sizeof policy.rules;
+  policy.signatures = &es256, policy.signatures_len = 1;
+  return coset_token_judge(in, n, 1443944944, &policy, yes, out, out, OUT, &claims, &len);
+}
+
 static coset_status answer(const char *call, uint32_t kind, const uint8_t *in, size_t n) {
   size_t len;
   coset_sign1_view view;
   coset_message_view message;
+  coset_message_spans_view spans;
   const uint8_t member[] = {0x83, 0x40, 0xa0, 0xf6};
   if (!strcmp(call, "deeper")) return coset_is_deeper(in, n, kind);
   if (!strcmp(call, "check")) return coset_check(kind, in, n, &len);
@@ -66,6 +82,8 @@ static coset_status answer(const char *call, uint32_t kind, const uint8_t *in, s
   if (!strcmp(call, "recipient_structure")) return coset_recipient_structure(COSET_RECIPIENT, in, n, NULL, 0, out, OUT, &len);
   if (!strcmp(call, "sign1")) return coset_sign1(kind, in, n, NULL, 0, 0, NULL, 0, out, OUT, &len, &view);
   if (!strcmp(call, "message")) return coset_message(kind, in, n, 0, NULL, 0, 0, NULL, 0, NULL, 0, out, OUT, &len, &message);
+  if (!strcmp(call, "spans")) return coset_message_spans(kind, in, n, 0, NULL, 0, 0, NULL, 0, NULL, 0, out, OUT, &len, &spans);
+  if (!strcmp(call, "token")) return judged(in, n);
   if (!strcmp(call, "add")) return coset_add(kind, in, n, member, sizeof member, out, OUT, &len);
   if (!strcmp(call, "write")) return coset_write(kind, in, n, out, OUT, &len);
   if (!strcmp(call, "canonical_key")) return coset_canonical_key(COSET_LEXICOGRAPHIC, in, n, out, OUT, &len);

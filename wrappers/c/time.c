@@ -1,5 +1,5 @@
 /* Times verifying and issuing a token, without any cryptography (tools/c --time): the token is the argument, in hexadecimal. It
- * tells the least time of a call among the rounds, in nanoseconds. */
+ * prints the least time of a call among the rounds, in nanoseconds. */
 #define _POSIX_C_SOURCE 199309L
 #include "coset_verify.h"
 #include <stdio.h>

@@ -1,4 +1,4 @@
-"""Makes the calls that it reads, as wrappers/c/calls.c does, through the wrapper, and tells what each answered (tools/c): `ok`
+"""Makes the calls that it reads, as wrappers/c/calls.c does, through the wrapper, and says what each answered (tools/c): `ok`
 and the answer, or the error."""
 import sys
 
@@ -59,7 +59,7 @@ def token(key_id, issuer, subject, audience, token_id, *words):
 
 
 def told(kind, given, aad, has, content):
-    """What `sign1` tells: its texts one behind the other, and the numbers of the view that coset_sign1 told."""
+    """What `sign1` says: its texts one behind the other, and the numbers of the view that coset_sign1 gave."""
     m = coset.sign1(kind, given, data(aad), None if has == "0" else data(content))
     texts = [m.signed, m.signature, m.payload, m.key_id]
     numbers = [m.algorithm or 0, m.algorithm_form, m.key_id_map or 0, int(m.has_critical), int(m.is_tagged), *map(len, texts)]
@@ -72,7 +72,7 @@ def integers(word):
 
 
 def message(kind, given, index, aad, has, content, known):
-    """What `message` tells, as `told` does."""
+    """What `message` says, as `told` does."""
     m = coset.message(kind, given, int(index), integers(known), data(aad), None if has == "0" else data(content))
     texts = [m.input, m.proof, m.content, m.key_id]
     numbers = [m.algorithm or 0, m.algorithm_form, m.key_id_map or 0, m.critical, int(m.is_tagged), *map(len, texts)]

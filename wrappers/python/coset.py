@@ -1,10 +1,10 @@
-"""coset from Python: the calls of include/coset.h over libcoset.so, which stands beside this file or where COSET_LIBRARY says.
+"""coset from Python: the calls of include/coset.h over libcoset.so, which is beside this file or where COSET_LIBRARY says.
 
 A call is given bytes and answers bytes, a number or None, and raises Fault where the bytes, or what would be made of them, are
 no item of the kind, Absent where what is asked for isn't in them or what is given has no place, WrongType where it is there and
 of another kind, Empty, Misuse, and MemoryError. `verify` and `decrypt` hand out what a message says once the caller's function
 said yes, and raise NotAllowed, Critical or Refused; `token_claims` those of a web token, and raises NotLetIn too. What is promised
-of each call stands in the header and in docs/C.md.
+of each call is in the header and in docs/C.md.
 """
 import ctypes
 import enum
@@ -52,8 +52,8 @@ _library = ctypes.CDLL(os.environ.get("COSET_LIBRARY", _beside))
 
 
 class Fault(ValueError):
-    """The bytes, or what would be made of them, are no item of the kind. `status` is the status of the call; `offset`, which `check` alone tells, where they
-    stop being one item of CBOR, or None."""
+    """The bytes, or what would be made of them, are no item of the kind. `status` is the status of the call; `offset`, which
+    `check` alone knows, where they stop being one item of CBOR, or None."""
 
     def __init__(self, status, offset=None):
         super().__init__(status, offset)
@@ -76,7 +76,7 @@ class WrongType(TypeError):
 
 
 class Misuse(TypeError):
-    """A number that stands for no kind, no part, no map or no order, or for a kind of another call; or a payload that is given
+    """A number that is of no kind, no part, no map or no order, or for a kind of another call; or a payload that is given
     as detached, and the message carries one."""
 
 
@@ -94,7 +94,7 @@ class Critical(Refused):
 
 class Question(namedtuple("Question", "algorithm key_id key_id_map input proof")):
     """What the caller's function is asked of: the algorithm, one of those that are allowed; the key's identifier, None where the
-    message names no key, and where it stands, as in Sign1; what is signed or authenticated, or what goes with the ciphertext; and
+    message names no key, and where it is, as in Sign1; what is signed or authenticated, or what goes with the ciphertext; and
     the signature or the tag, or to `decrypt` the ciphertext."""
 
     __slots__ = ()
@@ -113,7 +113,7 @@ class NotLetIn(Refused):
 
 class Layer(namedtuple("Layer", "form algorithm key_id key_id_map input proof iv partial_iv")):
     """What the caller's function is asked of a layer of a token: its form, SIGN1, MAC0 or ENCRYPT0; the algorithm, one of those that
-    are allowed; the key's identifier, None where the layer names no key, and where it stands, as in Sign1; what is signed or
+    are allowed; the key's identifier, None where the layer names no key, and where it is, as in Sign1; what is signed or
     authenticated, or what goes with the ciphertext; the signature, the MAC or the ciphertext; and the initialization vector and the
     partial one, each None where there is none."""
 
@@ -131,7 +131,7 @@ class Message(namedtuple("Message", "algorithm algorithm_form key_id_map critica
 
 class Sign1(namedtuple("Sign1", "algorithm algorithm_form key_id_map has_critical is_tagged signed signature payload key_id")):
     """All that verifying a message with one signature takes: the algorithm that the protected header names, an int or None, and
-    its form, NONE, INT or TEXT; where the key's identifier stands, IN_PROTECTED, else IN_UNPROTECTED, which isn't signed, else
+    its form, NONE, INT or TEXT; where the key's identifier is, IN_PROTECTED, else IN_UNPROTECTED, which isn't signed, else
     None; whether either header has crit, labels that must be understood; whether the message is under its tag; and what is
     signed, the signature, the payload that the message carries (empty where it is detached), and the key's identifier.
 
@@ -301,14 +301,14 @@ def _bytes(data):
 def _kind(number):
     """The number of a kind."""
     if number not in _KINDS:
-        raise Misuse("a number that stands for no kind")
+        raise Misuse("a number of no kind")
     return number
 
 
 def _number(number):
     """The number of a part, a map or an order."""
     if not 0 <= number < 1 << 32:
-        raise Misuse("a number that stands for no part, no map or no order")
+        raise Misuse("a number of no part, no map or no order")
     return number
 
 
@@ -431,12 +431,15 @@ class _Room(threading.local):
 
 _room = _Room()
 _numbers = struct.Struct("@qIIIIIIINNNNNNN").unpack_from  # those of _Spans
+_message_spans, _made = _library.coset_message_spans, tuple.__new__
 
 
-def _seen(kind, data, index, critical, external_aad, detached):
-    """What Message has."""
-    data, data_len = _bytes(data)
-    aad, aad_len = _bytes(external_aad)
+def _seen(shape, kind, data, index, critical, external_aad, detached):
+    """What Message has, or with `has_critical` Sign1: a value of that shape."""
+    if kind not in _KINDS:
+        _kind(kind)
+    data, data_len = (data, len(data)) if type(data) is bytes else _bytes(data)
+    aad, aad_len = (external_aad, len(external_aad)) if type(external_aad) is bytes else _bytes(external_aad)
     content, content_len = (b"", 0) if detached is None else _bytes(detached)
     known = (ctypes.c_int64 * len(critical))(*map(_int64, critical)) if critical else None
     out, length, view, out_at, length_at, view_at = _room.parts
@@ -446,8 +449,8 @@ def _seen(kind, data, index, critical, external_aad, detached):
         if needed > room:
             held = ctypes.create_string_buffer(needed)
             out, out_at, room = memoryview(held).cast("B"), ctypes.addressof(held), needed
-        status = _library.coset_message_spans(
-            _kind(kind), data, data_len, index, aad, aad_len, detached is not None, content, content_len, known, len(critical),
+        status = _message_spans(
+            kind, data, data_len, index, aad, aad_len, detached is not None, content, content_len, known, len(critical),
             out_at, room, length_at, view_at,
         )
         if status != _SHORT:
@@ -460,10 +463,10 @@ def _seen(kind, data, index, critical, external_aad, detached):
     if not (is_proof and is_held and is_key):
         text = out[: length.value].tobytes()
         proof, held, key = (data if is_input else text for is_input in (is_proof, is_held, is_key))
-    if form != INT:
-        algorithm = None
-    texts = out[:signed].tobytes(), proof[at : at + n], held[held_at : held_at + held_n], key[key_at : key_at + key_n]
-    return (algorithm, form, key_id_map or None, labels, is_tagged != 0) + texts
+    return _made(shape, (
+        algorithm if form == INT else None, form, key_id_map or None, labels if shape is Message else labels != NONE, is_tagged != 0,
+        out[:signed].tobytes(), proof[at : at + n], held[held_at : held_at + held_n], key[key_at : key_at + key_n],
+    ))
 
 
 def sign1(kind, data, external_aad=b"", detached=None):
@@ -471,15 +474,14 @@ def sign1(kind, data, external_aad=b"", detached=None):
     payload that the message carries, or over `detached`, where that isn't None and it carries none."""
     if kind & 0xFF != SIGN1:
         raise Misuse("a kind of another call")
-    found = _seen(kind, data, 0, (), external_aad, detached)
-    return Sign1._make(found[:3] + (found[3] != NONE,) + found[4:])
+    return _seen(Sign1, kind, data, 0, (), external_aad, detached)
 
 
 def message(kind, data, index=0, critical=(), external_aad=b"", detached=None):
     """All that verifying or decrypting a message takes (Message), and of the signer of that index where it is one with signers:
     over the payload that the message carries, or over `detached`, where that isn't None and it carries none. The caller
     understands the critical labels."""
-    return Message._make(_seen(kind, data, _size(index), critical, external_aad, detached))
+    return _seen(Message, kind, data, _size(index), critical, external_aad, detached)
 
 
 def _asked(found, algorithms, proof):

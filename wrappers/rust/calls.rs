@@ -1,4 +1,4 @@
-//! Makes the calls that it reads, as `wrappers/c/calls.c` does, through the safe wrapper, and tells what each answered
+//! Makes the calls that it reads, as `wrappers/c/calls.c` does, through the safe wrapper, and says what each answered
 //! (`tools/c`): `ok` and the answer, or the error.
 
 mod coset;
@@ -100,7 +100,7 @@ fn issued(w: &[&str]) -> Result<String, Error> {
     Ok(token.map_or("no".to_string(), |token| hex(&token)))
 }
 
-/// What `sign1` tells: its texts one behind the other, and the numbers of the view that `coset_sign1` told.
+/// What `sign1` says: its texts one behind the other, and the numbers of the view that `coset_sign1` gave.
 fn told(w: &[&str]) -> Result<String, Error> {
     let content = bytes(w[6]);
     let m = coset::sign1(form(w[1]), &bytes(w[2]), &bytes(w[4]), (w[5] != "0").then_some(content.as_slice()))?;
@@ -150,7 +150,7 @@ fn put_all(k: Kind, input: &[u8], word: &str) -> Result<Vec<u8>, Error> {
     coset::put_all(k, input, &pairs)
 }
 
-/// What `message_lent` tells, as `message` does.
+/// What `message_lent` says, as `message` does.
 fn spans(w: &[&str]) -> Result<String, Error> {
     let (aad, content, known) = (bytes(w[5]), bytes(w[7]), integers(w[8]));
     let detached = (w[6] != "0").then_some(content.as_slice());
@@ -168,7 +168,7 @@ fn spans(w: &[&str]) -> Result<String, Error> {
     Ok(format!("{texts} {number} {named} {map} {} {} {lengths}", m.critical as u32, u32::from(m.is_tagged)))
 }
 
-/// What `message` tells, as `told` does.
+/// What `message` says, as `told` does.
 fn message(w: &[&str]) -> Result<String, Error> {
     let (aad, content, known) = (bytes(w[5]), bytes(w[7]), integers(w[8]));
     let detached = (w[6] != "0").then_some(content.as_slice());

@@ -1,5 +1,5 @@
 //! Safe Rust over `include/coset.h`: a file to take into a program that links `libcoset.a`. What is promised of each call
-//! stands in the header and in docs/C.md; what an answer is long, the call finds out.
+//! is in the header and in docs/C.md; what an answer is long, the call finds out.
 
 use std::borrow::Cow;
 use std::fmt;
@@ -102,7 +102,7 @@ pub enum Algorithm {
 pub struct Sign1 {
     /// The algorithm that the protected header names.
     pub algorithm: Algorithm,
-    /// Where the key's identifier stands: in the protected header; else in the unprotected one, which isn't signed.
+    /// Where the key's identifier is: in the protected header; else in the unprotected one, which isn't signed.
     pub key_id_map: Option<Map>,
     /// Whether either header has `crit`: labels that must be understood.
     pub has_critical: bool,
@@ -781,7 +781,7 @@ pub fn message_lent<'a>(kind: Kind, bytes: &'a [u8], index: usize, policy: &Poli
     })
 }
 
-impl Message {
+impl LentMessage<'_> {
     /// What is asked of it, where the policy allows that; with this proof.
     fn asked<'a>(&'a self, policy: &Policy<'_>, proof: &'a [u8]) -> Result<Question<'a>, Error> {
         if self.critical == Critical::NotUnderstood {
@@ -793,7 +793,7 @@ impl Message {
         if !policy.algorithms.contains(&algorithm) {
             return Err(Error::NotAllowed);
         }
-        let key_id = self.key_id_map.map(|_| self.key_id.as_slice());
+        let key_id = self.key_id_map.map(|_| self.key_id.as_ref());
         Ok(Question { algorithm, key_id, key_id_map: self.key_id_map, input: &self.input, proof })
     }
 }
@@ -811,11 +811,11 @@ pub fn verify(
     if !matches!(kind, Kind::Sign1(_) | Kind::Sign(_) | Kind::Mac0(_) | Kind::Mac(_)) {
         return Err(Error::Misuse);
     }
-    let found = message(kind, bytes, index, policy)?;
+    let found = message_lent(kind, bytes, index, policy)?;
     if !verify(&found.asked(policy, &found.proof)?) {
         return Err(Error::Refused);
     }
-    Ok(policy.detached.map_or(found.content, <[u8]>::to_vec))
+    Ok(policy.detached.map_or_else(|| found.content.into_owned(), <[u8]>::to_vec))
 }
 
 /// The plaintext of a `Kind::Encrypt0` in that form, which `decrypt` has of the question, where the proof is the ciphertext, and
@@ -827,7 +827,7 @@ pub fn decrypt(
     decrypt: impl FnOnce(&Question<'_>, Option<&[u8]>) -> Option<Vec<u8>>,
 ) -> Result<Vec<u8>, Error> {
     let kind = Kind::Encrypt0(form);
-    let found = message(kind, bytes, 0, policy)?;
+    let found = message_lent(kind, bytes, 0, policy)?;
     let iv = match label_bytes(kind, bytes, Map::InProtected, 5) {
         Err(Error::Absent) => label_bytes(kind, bytes, Map::InUnprotected, 5),
         iv => iv,
