@@ -13,7 +13,7 @@ use Rattle.ffi_make.specs.Given.{EntryView}
 use Rattle.ffi_c.specs.declared.pairs.Pair.{Pair}
 use Rattle.ffi_c.specs.PairsGiven.{pair_of, pairs_of}
 use Rattle.ffi_c.specs.Replies.{reply_status}
-use Rattle.ffi_c.specs.SpansTold.{length_written}
+use Rattle.ffi_c.specs.SpansNumbers.{length_written}
 
 -- how many bytes are written, is returned as all is well where the spans are
 pub same_spans_status : (r : Result MessageSpans refusals.Refusal) → reply_status (length_written r) ≡ reply_status r

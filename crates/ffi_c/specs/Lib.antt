@@ -2,5 +2,5 @@ pub mod Numbers
 pub mod Replies
 pub mod Views
 pub mod PairsGiven
-pub mod SpansTold
+pub mod SpansNumbers
 pub mod Tokens

@@ -61,10 +61,10 @@ check_status (Ok x) = pos 0
 check_status (Err e) = pos (status_number (refusal_status (refused.Cose e)))
 
 -- where the bytes stop being one item; or the greatest number, where they are of the kind or nothing is said
-abbrev pub IsToldOffset : List ℕ → Result (Unit {0}) CoseError → ℕ → Type 0
-IsToldOffset b (Ok x) n = n ≡ 2 ^ 64 - 1
-IsToldOffset b (Err e) n = (o : Option ℕ) × IsOffset b o × (n ≡ unwrap_or o (2 ^ 64 - 1))
+abbrev pub RepliesOffset : List ℕ → Result (Unit {0}) CoseError → ℕ → Type 0
+RepliesOffset b (Ok x) n = n ≡ 2 ^ 64 - 1
+RepliesOffset b (Err e) n = (o : Option ℕ) × IsOffset b o × (n ≡ unwrap_or o (2 ^ 64 - 1))
 
 -- the status and the offset are those of a check of the bytes
 abbrev pub RepliesCheck : kinds.Kind → List ℕ → ℤ → ℕ → Type 0
-RepliesCheck k b status n = (r : Result (Unit {0}) CoseError) × Checks k b r × (status ≡ check_status r) × IsToldOffset b r n
+RepliesCheck k b status n = (r : Result (Unit {0}) CoseError) × Checks k b r × (status ≡ check_status r) × RepliesOffset b r n

@@ -1,4 +1,4 @@
--- What a verifier asks of a token, and what C is told of it, in numbers.
+-- The rules of a verifier, and what is returned of a token, in numbers.
 use Rattle.std.specs.Prelude.{◌≡◌, ◌==◌, not, ℕ, ℤ, pos, List, map, Bool, Option, Some, None, Result, Ok, Err, if◌then◌else◌}
 use Rattle.std.specs.Str.{is_utf8}
 use Rattle.cwt_gate.specs.Policy.{PolicyView}
@@ -81,7 +81,7 @@ policy_of r signatures macs ciphers critical issuer audience =
     r signatures macs ciphers critical
     else None
 
--- ---- what C is told
+-- ---- what is returned
 
 -- the number of a reason
 abbrev pub reason_number : reasons.Reason → ℕ
@@ -126,8 +126,8 @@ abbrev pub algorithm_or_0 : Option ℤ → ℤ
 algorithm_or_0 (Some n) = n
 algorithm_or_0 None = pos 0
 
-abbrev pub layer_told : LayerView → layers.Layer
-layer_told v = record {
+abbrev pub layer_numbers : LayerView → layers.Layer
+layer_numbers v = record {
   form = form_number v.form;
   key_id_map = number_of_map v.key_id_place;
   algorithm = algorithm_or_0 v.algorithm;
@@ -153,7 +153,7 @@ no_layer = record {
 
 abbrev pub layer_of : Result ℕ refusals.Refusal → layers.Layer
 layer_of (Ok n) = no_layer
-layer_of (Err (Layer v)) = layer_told v
+layer_of (Err (Layer v)) = layer_numbers v
 layer_of (Err r) = no_layer
 
 -- the status, the length and the struct are those of an answer of which P holds

@@ -4,7 +4,7 @@ use Rattle.ffi_query.specs.declared.refusal.Refusal as refusals
 use Rattle.ffi_query.specs.declared.view.Algorithm as algorithms
 use Rattle.ffi_query.specs.declared.view.Algorithm.TheVariants as named
 use Rattle.ffi_query.specs.declared.view.KeyIdPlace as places
-use Rattle.ffi_query.specs.declared.view.KeyIdPlace.TheVariants as stands
+use Rattle.ffi_query.specs.declared.view.KeyIdPlace.TheVariants as found
 use Rattle.ffi_query.specs.declared.view.MessageView.{MessageView}
 use Rattle.ffi_c.specs.declared.sign1.View.{View}
 use Rattle.ffi_c.specs.declared.message.Message.{Message}
@@ -18,13 +18,13 @@ algorithm_numbers named.Text = (pos 0, 2)
 
 -- the number of the map in which the identifier of the key is, and 0 where there is none
 abbrev pub number_of_map : places.KeyIdPlace → ℕ
-number_of_map stands.Absent = 0
-number_of_map stands.Protected = 1
-number_of_map stands.Unprotected = 2
+number_of_map found.Absent = 0
+number_of_map found.Protected = 1
+number_of_map found.Unprotected = 2
 
 -- the struct of a view
-abbrev pub view_told : MessageView → View
-view_told n = record {
+abbrev pub sign1_numbers : MessageView → View
+sign1_numbers n = record {
   algorithm = (algorithm_numbers n.algorithm).0;
   algorithm_form = (algorithm_numbers n.algorithm).1;
   key_id_map = number_of_map n.key_id_place;
@@ -52,18 +52,18 @@ no_view = record {
 
 -- the struct of an answer: that of the view, and zeros where there is none
 abbrev pub view_of : Result MessageView refusals.Refusal → View
-view_of (Ok n) = view_told n
+view_of (Ok n) = sign1_numbers n
 view_of (Err r) = no_view
 
 -- the length of the text that goes with a view
-abbrev pub length_told : Result MessageView refusals.Refusal → Result ℕ refusals.Refusal
-length_told (Ok n) = Ok n.len
-length_told (Err r) = Err r
+abbrev pub texts_len : Result MessageView refusals.Refusal → Result ℕ refusals.Refusal
+texts_len (Ok n) = Ok n.len
+texts_len (Err r) = Err r
 
 -- the status, the number and the struct are those of an answer of which P holds
 abbrev pub RepliesView : (Result MessageView refusals.Refusal → Type 0) → ℤ → ℕ → View → Type 0
 RepliesView P status n view =
-    (r : Result MessageView refusals.Refusal) × P r × (status ≡ reply_status r) × (n ≡ length_of (length_told r)) × (view ≡ view_of r)
+    (r : Result MessageView refusals.Refusal) × P r × (status ≡ reply_status r) × (n ≡ length_of (texts_len r)) × (view ≡ view_of r)
 
 -- ---- any message
 
@@ -72,8 +72,8 @@ abbrev pub critical_number : (has understood : Bool) → ℕ
 critical_number has understood = if has then (if understood then 1 else 2) else 0
 
 -- the struct of a view
-abbrev pub message_told : MessageView → Message
-message_told n = record {
+abbrev pub message_numbers : MessageView → Message
+message_numbers n = record {
   algorithm = (algorithm_numbers n.algorithm).0;
   algorithm_form = (algorithm_numbers n.algorithm).1;
   key_id_map = number_of_map n.key_id_place;
@@ -101,10 +101,10 @@ no_message = record {
 
 -- the struct of an answer: that of the view, and zeros where there is none
 abbrev pub message_of : Result MessageView refusals.Refusal → Message
-message_of (Ok n) = message_told n
+message_of (Ok n) = message_numbers n
 message_of (Err r) = no_message
 
 -- the status, the number and the struct are those of an answer of which P holds
 abbrev pub RepliesMessage : (Result MessageView refusals.Refusal → Type 0) → ℤ → ℕ → Message → Type 0
 RepliesMessage P status n view =
-    (r : Result MessageView refusals.Refusal) × P r × (status ≡ reply_status r) × (n ≡ length_of (length_told r)) × (view ≡ message_of r)
+    (r : Result MessageView refusals.Refusal) × P r × (status ≡ reply_status r) × (n ≡ length_of (texts_len r)) × (view ≡ message_of r)

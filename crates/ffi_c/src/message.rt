@@ -5,11 +5,11 @@ ghost use Rattle.ffi_query.specs.Answers.{AnswersWith};
 ghost use Rattle.ffi_query.specs.View.{HasNoView, IsMessageView};
 ghost use Rattle.ffi_c.specs.Numbers.{bytes_if, content_query};
 ghost use Rattle.ffi_c.specs.Replies.{IsMisuse, reply_status, length_of};
-ghost use Rattle.ffi_c.specs.Views.{RepliesMessage, critical_number, length_told, message_of, message_told, no_message};
+ghost use Rattle.ffi_c.specs.Views.{RepliesMessage, critical_number, texts_len, message_of, message_numbers, no_message};
 
 use crate::numbers::{bytes_if, content_query};
 use crate::replies::{misused, reply};
-use crate::sign1::{COSET_NONE, algorithm_numbers, length_told, number_of_bool, number_of_map};
+use crate::sign1::{COSET_NONE, algorithm_numbers, number_of_bool, number_of_map, texts_len};
 use ffi_query::{MessageView, Refusal, message_view};
 use std::alloc::Global;
 
@@ -54,20 +54,20 @@ pub(crate) fn critical_number(has_critical: bool, is_understood: bool) -> u32
 }
 
 /// A view in numbers.
-fn message_told(told: MessageView) -> Message
-    ensures { result ≡ message_told told }
+fn message_numbers(view: MessageView) -> Message
+    ensures { result ≡ message_numbers view }
 {
-    let (algorithm, algorithm_form) = algorithm_numbers(told.algorithm);
+    let (algorithm, algorithm_form) = algorithm_numbers(view.algorithm);
     Message {
         algorithm,
         algorithm_form,
-        key_id_map: number_of_map(told.key_id_place),
-        critical: critical_number(told.has_critical, told.is_understood),
-        is_tagged: number_of_bool(told.is_tagged),
-        structure_len: told.structure_len,
-        proof_len: told.proof_len,
-        content_len: told.content_len,
-        key_id_len: told.key_id_len,
+        key_id_map: number_of_map(view.key_id_place),
+        critical: critical_number(view.has_critical, view.is_understood),
+        is_tagged: number_of_bool(view.is_tagged),
+        structure_len: view.structure_len,
+        proof_len: view.proof_len,
+        content_len: view.content_len,
+        key_id_len: view.key_id_len,
     }
 }
 
@@ -93,7 +93,7 @@ fn message_of(answer: &Result<MessageView, Refusal>) -> Message
     ensures { result ≡ message_of answer.now }
 {
     match answer {
-        Ok(told) => message_told(*told),
+        Ok(view) => message_numbers(*view),
         Err(_) => no_message(),
     }
 }
@@ -102,11 +102,11 @@ fn message_of(answer: &Result<MessageView, Refusal>) -> Message
 /// texts are, as [`reply`] says, is in the other place.
 fn reply_message(answer: Result<MessageView, Refusal>, len: &mut usize, view: &mut Message) -> i32
     ensures status { result ≡ reply_status answer }
-    ensures number { len.new ≡ length_of (length_told answer) }
-    ensures told { view.new ≡ message_of answer }
+    ensures number { len.new ≡ length_of (texts_len answer) }
+    ensures view { view.new ≡ message_of answer }
 {
     *view = message_of(&answer);
-    reply(length_told(answer), len)
+    reply(texts_len(answer), len)
 }
 
 /// Writes what is signed of the input, is authenticated, or goes with its ciphertext; the signature or the tag; the payload
@@ -137,7 +137,7 @@ pub extern "C" fn coset_message(
     match content_query(kind, has_detached, detached) {
         Some(kind) => {
             let detached = bytes_if(has_detached, detached);
-            let told = message_view(
+            let answer = message_view(
                 alloc,
                 kind,
                 input,
@@ -147,7 +147,7 @@ pub extern "C" fn coset_message(
                 known,
                 out,
             );
-            reply_message(told, len, view)
+            reply_message(answer, len, view)
         }
         None => {
             *view = no_message();

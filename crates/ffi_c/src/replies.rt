@@ -2,7 +2,7 @@
 
 ghost use Rattle.std.specs.Prelude.{◌≡◌, pos};
 ghost use Rattle.ffi_query.specs.Faults.{IsOffset};
-ghost use Rattle.ffi_c.specs.Replies.{IsMisuse, IsToldOffset, check_status, integer_of, length_of, reply_status, status_number};
+ghost use Rattle.ffi_c.specs.Replies.{IsMisuse, RepliesOffset, check_status, integer_of, length_of, reply_status, status_number};
 
 use coset::CoseError;
 use ffi_query::{Refusal, Status, fault_offset};
@@ -101,7 +101,7 @@ pub(crate) fn reply_integer(answer: Result<i64, Refusal>, place: &mut i64) -> i3
 /// number where nothing is said of that.
 pub(crate) fn reply_check(answer: Result<(), CoseError>, bytes: &[u8], place: &mut usize) -> i32
     ensures status { result ≡ check_status answer }
-    ensures offset { IsToldOffset bytes.now answer place.new }
+    ensures offset { RepliesOffset bytes.now answer place.new }
 {
     match answer {
         Ok(()) => {

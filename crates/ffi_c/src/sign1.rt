@@ -6,7 +6,7 @@ ghost use Rattle.ffi_query.specs.Answers.{AnswersWith};
 ghost use Rattle.ffi_query.specs.View.{HasNoView, IsMessageView};
 ghost use Rattle.ffi_c.specs.Numbers.{bytes_if, sign1_query};
 ghost use Rattle.ffi_c.specs.Replies.{IsMisuse, reply_status, length_of};
-ghost use Rattle.ffi_c.specs.Views.{RepliesView, algorithm_numbers, length_told, no_view, number_of_map, view_of, view_told};
+ghost use Rattle.ffi_c.specs.Views.{RepliesView, algorithm_numbers, texts_len, no_view, number_of_map, view_of, sign1_numbers};
 
 use crate::numbers::{COSET_IN_PROTECTED, COSET_IN_UNPROTECTED, bytes_if, sign1_query};
 use crate::replies::{misused, reply};
@@ -74,20 +74,20 @@ pub(crate) fn number_of_bool(is: bool) -> u32
 }
 
 /// A view in numbers.
-fn view_told(told: MessageView) -> View
-    ensures { result ≡ view_told told }
+fn sign1_numbers(view: MessageView) -> View
+    ensures { result ≡ sign1_numbers view }
 {
-    let (algorithm, algorithm_form) = algorithm_numbers(told.algorithm);
+    let (algorithm, algorithm_form) = algorithm_numbers(view.algorithm);
     View {
         algorithm,
         algorithm_form,
-        key_id_map: number_of_map(told.key_id_place),
-        has_critical: number_of_bool(told.has_critical),
-        is_tagged: number_of_bool(told.is_tagged),
-        structure_len: told.structure_len,
-        signature_len: told.proof_len,
-        payload_len: told.content_len,
-        key_id_len: told.key_id_len,
+        key_id_map: number_of_map(view.key_id_place),
+        has_critical: number_of_bool(view.has_critical),
+        is_tagged: number_of_bool(view.is_tagged),
+        structure_len: view.structure_len,
+        signature_len: view.proof_len,
+        payload_len: view.content_len,
+        key_id_len: view.key_id_len,
     }
 }
 
@@ -113,17 +113,17 @@ fn view_of(answer: &Result<MessageView, Refusal>) -> View
     ensures { result ≡ view_of answer.now }
 {
     match answer {
-        Ok(told) => view_told(*told),
+        Ok(view) => sign1_numbers(*view),
         Err(_) => no_view(),
     }
 }
 
 /// How long the texts are that go with a view.
-pub(crate) fn length_told(answer: Result<MessageView, Refusal>) -> Result<usize, Refusal>
-    ensures { result ≡ length_told answer }
+pub(crate) fn texts_len(answer: Result<MessageView, Refusal>) -> Result<usize, Refusal>
+    ensures { result ≡ texts_len answer }
 {
     match answer {
-        Ok(told) => Ok(told.len),
+        Ok(view) => Ok(view.len),
         Err(refusal) => Err(refusal),
     }
 }
@@ -132,11 +132,11 @@ pub(crate) fn length_told(answer: Result<MessageView, Refusal>) -> Result<usize,
 /// texts are, as [`reply`] says, is in the other place.
 fn reply_view(answer: Result<MessageView, Refusal>, len: &mut usize, view: &mut View) -> i32
     ensures status { result ≡ reply_status answer }
-    ensures number { len.new ≡ length_of (length_told answer) }
-    ensures told { view.new ≡ view_of answer }
+    ensures number { len.new ≡ length_of (texts_len answer) }
+    ensures view { view.new ≡ view_of answer }
 {
     *view = view_of(&answer);
-    reply(length_told(answer), len)
+    reply(texts_len(answer), len)
 }
 
 /// Writes what is signed of the input, the signature, the payload that it carries and the identifier of the key, one behind
@@ -163,8 +163,8 @@ pub extern "C" fn coset_sign1(
     match sign1_query(kind, has_detached, detached) {
         Some(kind) => {
             let detached = bytes_if(has_detached, detached);
-            let told = message_view(alloc, kind, input, 0, external_aad, detached, &[], out);
-            reply_view(told, len, view)
+            let answer = message_view(alloc, kind, input, 0, external_aad, detached, &[], out);
+            reply_view(answer, len, view)
         }
         None => {
             *view = no_view();

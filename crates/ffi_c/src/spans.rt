@@ -6,7 +6,7 @@ ghost use Rattle.ffi_query.specs.Spans.{IsMessageSpans};
 ghost use Rattle.ffi_query.specs.View.{HasNoView};
 ghost use Rattle.ffi_c.specs.Numbers.{bytes_if, content_query};
 ghost use Rattle.ffi_c.specs.Replies.{IsMisuse, reply_status, length_of};
-ghost use Rattle.ffi_c.specs.SpansTold.{RepliesSpans, length_written, no_spans, spans_of, spans_told};
+ghost use Rattle.ffi_c.specs.SpansNumbers.{RepliesSpans, length_written, no_spans, spans_of, spans_numbers};
 
 use crate::message::critical_number;
 use crate::numbers::{bytes_if, content_query};
@@ -52,10 +52,10 @@ pub struct Spans {
 }
 
 /// The spans in numbers.
-fn spans_told(told: MessageSpans) -> Spans
-    ensures { result ≡ spans_told told }
+fn spans_numbers(spans: MessageSpans) -> Spans
+    ensures { result ≡ spans_numbers spans }
 {
-    let view = told.view;
+    let view = spans.view;
     let (algorithm, algorithm_form) = algorithm_numbers(view.algorithm);
     Spans {
         algorithm,
@@ -63,15 +63,15 @@ fn spans_told(told: MessageSpans) -> Spans
         key_id_map: number_of_map(view.key_id_place),
         critical: critical_number(view.has_critical, view.is_understood),
         is_tagged: number_of_bool(view.is_tagged),
-        is_proof_in_input: number_of_bool(told.proof.is_input),
-        is_content_in_input: number_of_bool(told.content.is_input),
-        is_key_id_in_input: number_of_bool(told.key_id.is_input),
+        is_proof_in_input: number_of_bool(spans.proof.is_input),
+        is_content_in_input: number_of_bool(spans.content.is_input),
+        is_key_id_in_input: number_of_bool(spans.key_id.is_input),
         structure_len: view.structure_len,
-        proof_at: told.proof.at,
+        proof_at: spans.proof.at,
         proof_len: view.proof_len,
-        content_at: told.content.at,
+        content_at: spans.content.at,
         content_len: view.content_len,
-        key_id_at: told.key_id.at,
+        key_id_at: spans.key_id.at,
         key_id_len: view.key_id_len,
     }
 }
@@ -104,7 +104,7 @@ fn spans_of(answer: &Result<MessageSpans, Refusal>) -> Spans
     ensures { result ≡ spans_of answer.now }
 {
     match answer {
-        Ok(told) => spans_told(*told),
+        Ok(spans) => spans_numbers(*spans),
         Err(_) => no_spans(),
     }
 }
@@ -114,7 +114,7 @@ fn length_written(answer: Result<MessageSpans, Refusal>) -> Result<usize, Refusa
     ensures { result ≡ length_written answer }
 {
     match answer {
-        Ok(told) => Ok(told.len),
+        Ok(spans) => Ok(spans.len),
         Err(refusal) => Err(refusal),
     }
 }
@@ -124,7 +124,7 @@ fn length_written(answer: Result<MessageSpans, Refusal>) -> Result<usize, Refusa
 fn reply_spans(answer: Result<MessageSpans, Refusal>, len: &mut usize, spans: &mut Spans) -> i32
     ensures status { result ≡ reply_status answer }
     ensures number { len.new ≡ length_of (length_written answer) }
-    ensures told { spans.new ≡ spans_of answer }
+    ensures view { spans.new ≡ spans_of answer }
 {
     *spans = spans_of(&answer);
     reply(length_written(answer), len)
@@ -158,7 +158,7 @@ pub extern "C" fn coset_message_spans(
     match content_query(kind, has_detached, detached) {
         Some(kind) => {
             let detached = bytes_if(has_detached, detached);
-            let told = message_spans(
+            let answer = message_spans(
                 alloc,
                 kind,
                 input,
@@ -168,7 +168,7 @@ pub extern "C" fn coset_message_spans(
                 known,
                 out,
             );
-            reply_spans(told, len, view)
+            reply_spans(answer, len, view)
         }
         None => {
             *view = no_spans();

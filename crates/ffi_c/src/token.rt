@@ -6,7 +6,7 @@ ghost use Rattle.ffi_query.specs.declared.refusal.Refusal.TheVariants as answers
 ghost use Rattle.ffi_token.specs.Rules.{rules_view};
 ghost use Rattle.ffi_token.specs.Tokens.{AnswersToken};
 ghost use Rattle.ffi_c.specs.Replies.{IsMisuse};
-ghost use Rattle.ffi_c.specs.Tokens.{RepliesToken, algorithm_or_0, authentication_of, claims_number, layer_of, layer_told, name_of, no_layer, plain_of, policy_of, reason_number, seconds_if, token_length, token_number, token_status, unassigned_of};
+ghost use Rattle.ffi_c.specs.Tokens.{RepliesToken, algorithm_or_0, authentication_of, claims_number, layer_of, layer_numbers, name_of, no_layer, plain_of, policy_of, reason_number, seconds_if, token_length, token_number, token_status, unassigned_of};
 
 use crate::numbers::{COSET_ENCRYPT0, COSET_MAC0, COSET_SIGN1};
 use crate::replies::{COSET_ABSENT, COSET_MEMORY, COSET_OK, COSET_TYPE, misused, status_number};
@@ -248,18 +248,18 @@ fn algorithm_or_0(algorithm: Option<i64>) -> i64
 }
 
 /// What is said of a layer, in numbers.
-fn layer_told(told: LayerView) -> Layer
-    ensures { result ≡ layer_told told }
+fn layer_numbers(layer: LayerView) -> Layer
+    ensures { result ≡ layer_numbers layer }
 {
     Layer {
-        form: form_number(told.form),
-        key_id_map: number_of_map(told.key_id_place),
-        algorithm: algorithm_or_0(told.algorithm),
-        structure_len: told.structure_len,
-        proof_len: told.proof_len,
-        key_id_len: told.key_id_len,
-        iv_len: told.iv_len,
-        partial_iv_len: told.partial_iv_len,
+        form: form_number(layer.form),
+        key_id_map: number_of_map(layer.key_id_place),
+        algorithm: algorithm_or_0(layer.algorithm),
+        structure_len: layer.structure_len,
+        proof_len: layer.proof_len,
+        key_id_len: layer.key_id_len,
+        iv_len: layer.iv_len,
+        partial_iv_len: layer.partial_iv_len,
     }
 }
 
@@ -284,7 +284,7 @@ fn layer_of(answer: &Result<usize, Refusal>) -> Layer
     ensures { result ≡ layer_of answer.now }
 {
     match answer {
-        Err(Refusal::Layer(view)) => layer_told(*view),
+        Err(Refusal::Layer(view)) => layer_numbers(*view),
         _ => no_layer(),
     }
 }
@@ -305,7 +305,7 @@ fn token_length(answer: &Result<usize, Refusal>) -> usize
 fn reply_token(answer: Result<usize, Refusal>, len: &mut usize, layer: &mut Layer) -> i32
     ensures status { result ≡ token_status answer }
     ensures number { len.new ≡ token_length answer }
-    ensures told { layer.new ≡ layer_of answer }
+    ensures view { layer.new ≡ layer_of answer }
 {
     *len = token_length(&answer);
     *layer = layer_of(&answer);

@@ -15,7 +15,7 @@ use Rattle.ffi_query.specs.declared.located.Text.{Text}
 use Rattle.ffi_query.specs.declared.view.Algorithm as algorithms
 use Rattle.ffi_query.specs.declared.view.Algorithm.TheVariants as named
 use Rattle.ffi_query.specs.declared.view.KeyIdPlace as places
-use Rattle.ffi_query.specs.declared.view.KeyIdPlace.TheVariants as stands
+use Rattle.ffi_query.specs.declared.view.KeyIdPlace.TheVariants as found
 use Rattle.ffi_query.specs.declared.view.MessageView.{MessageView}
 use Rattle.ffi_query.specs.Answers.{IsEncodingOf}
 use Rattle.ffi_query.specs.Critical.{IsCriticalIn, IsCriticalOf}
@@ -87,9 +87,9 @@ module _ (k : kinds.Kind) (v : Item) (has : has_headers k ≡ true) where
   string_of (dict ps) t e = absurd (none_is e)
 
   key_id_known : (p : places.KeyIdPlace) (t : List ℕ) → KnowsKeyId v p t → IsKeyId k v p t
-  key_id_known stands.Absent t h = (λ s x. h.0 x.0 x.1.1, λ s x. none_is (sym h.1 ∙ x.1.1), h.2)
-  key_id_known stands.Protected t h = (h.0, (has, h.1), string_of h.0 t h.2)
-  key_id_known stands.Unprotected t h = (λ s x. h.0 x.0 x.1.1, (h.1.0, (has, h.1.1), string_of h.1.0 t h.1.2))
+  key_id_known found.Absent t h = (λ s x. h.0 x.0 x.1.1, λ s x. none_is (sym h.1 ∙ x.1.1), h.2)
+  key_id_known found.Protected t h = (h.0, (has, h.1), string_of h.0 t h.2)
+  key_id_known found.Unprotected t h = (λ s x. h.0 x.0 x.1.1, (h.1.0, (has, h.1.1), string_of h.1.0 t h.1.2))
 
 content_known :
     (k : kinds.Kind) (v place : Item) (t : List ℕ) → place_of (content_part k) k ≡ Some 2 → element 2 v ≡ Some place → IsCarried place t
@@ -142,7 +142,7 @@ module _
       → Says k i aad d ns v n s x.proof.bytes.now x.content.bytes.now x.key_id.text.bytes.now
   says_by k texts has one same place critical is = record {
     text = s ++ (x.proof.bytes.now ++ (x.content.bytes.now ++ x.key_id.text.bytes.now));
-    told = record {
+    view = record {
       signer = v;
       signed = s;
       proof = x.proof.bytes.now;

@@ -11,11 +11,11 @@ use Rattle.ffi_query.specs.declared.refusal.Refusal.TheVariants.{Short, Absent, 
 use Rattle.ffi_query.specs.declared.spans.MessageSpans.{MessageSpans}
 use Rattle.ffi_query.specs.declared.spans.Span.{Span}
 use Rattle.ffi_query.specs.declared.view.MessageView.{MessageView}
-use Rattle.ffi_query.specs.Answers.{AnswersWith}
-use Rattle.ffi_query.specs.Kinds.{IsItemOf, tag_of}
-use Rattle.ffi_query.specs.Lent.{IsLent, Says}
+use Rattle.ffi_query.specs.Answers.{AnswersWith, PutsTexts}
+use Rattle.ffi_query.specs.Kinds.{tag_of}
+use Rattle.ffi_query.specs.Lent.{IsLent, IsLentOf, Says}
 use Rattle.ffi_query.specs.Located.{AreLocated}
-use Rattle.ffi_query.specs.Spans.{AreLentSpans, IsAt, IsMessageSpans, IsSpan, PutsSpans, copied, copied_spans}
+use Rattle.ffi_query.specs.Spans.{AreLentSpans, IsAt, IsMessageSpans, IsSpan, copied, copied_spans}
 use Rattle.ffi_query.specs.View.{IsMessageView, TellsTagOf}
 use Rattle.ffi_query.proofs.EachKind.{memory_refuses}
 
@@ -47,66 +47,65 @@ module _
         let says : Says k i aad d ns v m.view t x.proof.bytes.now x.content.bytes.now x.key_id.bytes.now =
         subst (λ n. Says k i aad d ns v n t x.proof.bytes.now x.content.bytes.now x.key_id.bytes.now) (sym spans.view) l.says in record {
           text = says.text;
-          told = says.told;
+          view = says.view;
           is_tagged = subst (λ n. TellsTagOf (tag_of k) b n.is_tagged) (sym spans.view) tagged;
-          structure = at_front t says.told.signed says.is_signed;
-          proof = in_input b t x.proof.bytes.now says.told.proof m.proof spans.proof.0 says.is_proof (spans.proof.1 l.proof_in_b);
-          content = in_input b t x.content.bytes.now says.told.content m.content spans.content.0 says.is_content (spans.content.1 l.content_in_b);
-          key_id = in_input b t x.key_id.bytes.now says.told.key_id m.key_id spans.key_id.0 says.is_key_id (spans.key_id.1 l.key_id_in_b);
-          len = spans.len ∙ (sym (ap (λ n. n.structure_len) spans.view) ∙ (says.told.structure_len ∙ ap length says.is_signed));
+          structure = at_front t says.view.signed says.is_signed;
+          proof = in_input b t x.proof.bytes.now says.view.proof m.proof spans.proof.0 says.is_proof (spans.proof.1 l.proof_in_b);
+          content = in_input b t x.content.bytes.now says.view.content m.content spans.content.0 says.is_content (spans.content.1 l.content_in_b);
+          key_id = in_input b t x.key_id.bytes.now says.view.key_id m.key_id spans.key_id.0 says.is_key_id (spans.key_id.1 l.key_id_in_b);
+          len = spans.len ∙ (sym (ap (λ n. n.structure_len) spans.view) ∙ (says.view.structure_len ∙ ap length says.is_signed));
         }
 
     pub lent_answered :
-        (v : Item) (x : declared.Lent) (m : MessageSpans) (r : Result MessageSpans refusals.Refusal) → IsItemOf k b v → IsLent k i aad d ns b v x
-        → TellsTagOf (tag_of k) b x.view.is_tagged
-        → AreLentSpans b x m → PutsSpans m (x.structure.front.items ++ x.structure.end.now) old new r
+        (x : declared.Lent) (m : MessageSpans) (r : Result MessageSpans refusals.Refusal) → IsLentOf k i aad d ns b x → AreLentSpans b x m
+        → PutsTexts m (x.structure.front.items ++ x.structure.end.now) old new r
         → AnswersWith k b (IsMessageSpans k i aad d ns b) Q old new r
-    lent_answered v x m (Ok n) is l tagged spans w =
+    lent_answered x m (Ok n) l spans w =
         let t = x.structure.front.items ++ x.structure.end.now in
-        (v, is, (t, subst (λ y. IsMessageSpans k i aad d ns b v y t) (sym w.0) (lent_is v x m l tagged spans), w.1))
-    lent_answered v x m (Err (Short n)) is l tagged spans w =
-        (v, is, (m, (x.structure.front.items ++ x.structure.end.now, lent_is v x m l tagged spans, w)))
-    lent_answered v x m (Err (Cose e)) is l tagged spans w = (memory_refuses k b e w.0, w.1)
-    lent_answered v x m (Err Absent) is l tagged spans w = absurd w
-    lent_answered v x m (Err WrongType) is l tagged spans w = absurd w
-    lent_answered v x m (Err Empty) is l tagged spans w = absurd w
-    lent_answered v x m (Err Misuse) is l tagged spans w = absurd w
+        (l.item, l.is_item, (t, subst (λ y. IsMessageSpans k i aad d ns b l.item y t) (sym w.0) (lent_is l.item x m l.lent l.is_tagged spans), w.1))
+    lent_answered x m (Err (Short n)) l spans w =
+        (l.item, l.is_item, (m, (x.structure.front.items ++ x.structure.end.now, lent_is l.item x m l.lent l.is_tagged spans, w)))
+    lent_answered x m (Err (Cose e)) l spans w = (memory_refuses k b e w.0, w.1)
+    lent_answered x m (Err Absent) l spans w = absurd w
+    lent_answered x m (Err WrongType) l spans w = absurd w
+    lent_answered x m (Err Empty) l spans w = absurd w
+    lent_answered x m (Err Misuse) l spans w = absurd w
 
     -- what was written one behind the other, by its places
     copied_is : (v : Item) (n : MessageView) (t : List ℕ) → IsMessageView k i aad d ns b v n t → IsMessageSpans k i aad d ns b v (copied_spans n) t
     copied_is v n t h =
-        let told = h.0 in
-        let s = told.signed in
-        let p = told.proof in
-        let c = told.content in
-        let u = told.key_id in
+        let view = h.0 in
+        let s = view.signed in
+        let p = view.proof in
+        let c = view.content in
+        let u = view.key_id in
         let x = length-append s (p ++ (c ++ u)) in
         let y = length-append p (c ++ u) in
         let z = length-append c u in
         let all : n.len ≡ length s + (length p + (length c + length u)) =
-        told.len ∙ (ap length told.is_text ∙ omega (arith, x, y, z)) in
+        view.len ∙ (ap length view.is_text ∙ omega (arith, x, y, z)) in
         let two = length-append s p in
         let three = length-append (s ++ p) c in record {
           text = t;
-          told = told;
+          view = view;
           is_tagged = h.1;
-          structure = record { before = []; behind = p ++ (c ++ u); parts = told.is_text; offset = refl };
-          proof = record { before = s; behind = c ++ u; parts = told.is_text; offset = told.structure_len };
+          structure = record { before = []; behind = p ++ (c ++ u); parts = view.is_text; offset = refl };
+          proof = record { before = s; behind = c ++ u; parts = view.is_text; offset = view.structure_len };
           content = record {
             before = s ++ p;
             behind = u;
-            parts = told.is_text ∙ sym (append_assoc s p (c ++ u));
-            offset = omega (arith, all, two, told.content_len, told.key_id_len);
+            parts = view.is_text ∙ sym (append_assoc s p (c ++ u));
+            offset = omega (arith, all, two, view.content_len, view.key_id_len);
           };
           key_id = record {
             before = (s ++ p) ++ c;
             behind = [];
             parts =
-                told.is_text
+                view.is_text
                 ∙ (sym (append_assoc s p (c ++ u)) ∙ (sym (append_assoc (s ++ p) c u) ∙ ap (λ q. ((s ++ p) ++ c) ++ q) (sym (append-nil u))));
-            offset = omega (arith, all, two, three, told.key_id_len);
+            offset = omega (arith, all, two, three, view.key_id_len);
           };
-          len = told.len;
+          len = view.len;
         }
 
     pub copied_answered :

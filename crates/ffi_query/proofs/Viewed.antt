@@ -1,20 +1,24 @@
 -- What is said of a message.
-use Rattle.std.proofs.Common.{◌≡◌, ◌∙◌, ◌==◌, ℕ, List, Option, Some, None, Result}
-use Rattle.std.proofs.Common.{Ok, Err, Bool, true, false, ap, sym, subst, arith, true≢false}
+use Rattle.std.proofs.Common.{◌≡◌, ◌∙◌, ◌++◌, ◌==◌, ℕ, ℤ, List, Option, Some, None, Result}
+use Rattle.std.proofs.Common.{IfSome, Ok, Err, Bool, true, false, ap, ap₂, sym, subst, arith, true≢false}
 use Rattle.std.proofs.lemmas.Bool.{eqb-true}
 use Rattle.coset.specs.Item.{Item, integer, bytes, float, text, boolean, null, tag, array, dict}
 use Rattle.coset.specs.Grammar.{IsItem}
 use Rattle.coset.specs.Answers.{IsOnlyItem}
 use Rattle.ffi_query.specs.declared.kind.Kind as kinds
 use Rattle.ffi_query.specs.declared.label.Map.TheVariants as of
+use Rattle.ffi_query.specs.declared.lent.Lent as declared
 use Rattle.ffi_query.specs.declared.view.Algorithm as algorithms
 use Rattle.ffi_query.specs.declared.view.Algorithm.TheVariants as named
+use Rattle.ffi_query.specs.declared.view.MessageView.{MessageView}
 use Rattle.ffi_query.specs.declared.refusal.Refusal as refusals
 use Rattle.ffi_query.specs.declared.refusal.Refusal.TheVariants.{Short, Absent, WrongType, Empty, Misuse, Cose}
-use Rattle.ffi_query.specs.Answers.{AnswersWith, PutsWith}
-use Rattle.ffi_query.specs.Kinds.{IsItemOf, is_under}
+use Rattle.ffi_query.specs.Answers.{AnswersWith, PutsTexts, PutsWith}
+use Rattle.ffi_query.specs.Kinds.{IsItemOf, is_under, tag_of}
 use Rattle.ffi_query.specs.Labels.{IsUnder}
-use Rattle.ffi_query.specs.View.{HasAlgorithm, IsAlgorithm, TellsTag, TellsTagOf, alg_label, is_under_some}
+use Rattle.ffi_query.specs.Lent.{IsLent, IsLentOf, lent_text}
+use Rattle.ffi_query.specs.View.{HasAlgorithm, IsAlgorithm, IsMessageView, IsViewOf, TellsTag, TellsTagOf, alg_label, is_under_some, is_under_tag}
+use Rattle.ffi_query.proofs.EachKind.{memory_refuses}
 
 -- ---- the tag
 
@@ -64,3 +68,40 @@ viewed k b old new P Q v n t (Err WrongType) i p w = absurd w
 viewed k b old new P Q v n t (Err Empty) i p w = absurd w
 viewed k b old new P Q v n t (Err Misuse) i p w = absurd w
 viewed k b old new P Q v n t (Err (Cose e)) i p w = absurd w
+
+-- what is lent of an item, which the bytes are
+pub lent_of :
+    (k : kinds.Kind) (i : ℕ) (aad : List ℕ) (d : Option (List ℕ)) (ns : List ℤ) (b : List ℕ) (w v : Item) (t : Bool) (o : Option declared.Lent)
+    → IsItemOf k b v → IsOnlyItem b w → IfSome o (IsLent k i aad d ns b v) → IfSome o (λ x. x.view.is_tagged ≡ t)
+    → t ≡ is_under_tag k w → IfSome o (IsLentOf k i aad d ns b)
+lent_of k i aad d ns b w v t None is only l g e = tt
+lent_of k i aad d ns b w v t (Some x) is only l g e = record {
+  item = v;
+  is_item = is;
+  lent = l;
+  is_tagged = tells_tag_of (tag_of k) b w x.view.is_tagged only (g ∙ e);
+}
+
+module _
+    (k : kinds.Kind) (i : ℕ) (aad : List ℕ) (d : Option (List ℕ)) (ns : List ℤ) (b old new : List ℕ) (Q : Item → refusals.Refusal → Type 0)
+    (x : declared.Lent)
+  where
+    -- the four texts of what is lent
+    lent_view : (l : IsLentOf k i aad d ns b x) → IsMessageView k i aad d ns b l.item x.view (lent_text x)
+    lent_view l =
+        let says = l.lent.says in
+        let texts = ap₂ (λ s t. s ++ t) says.is_signed
+        (ap₂ (λ s t. s ++ t) says.is_proof (ap₂ (λ s t. s ++ t) says.is_content says.is_key_id)) in
+        (subst (IsViewOf k i aad d ns l.item x.view) (says.view.is_text ∙ texts) says.view, l.is_tagged)
+
+    pub lent_viewed :
+        (r : Result MessageView refusals.Refusal) → IsLentOf k i aad d ns b x → PutsTexts x.view (lent_text x) old new r
+        → AnswersWith k b (IsMessageView k i aad d ns b) Q old new r
+    lent_viewed (Ok n) l w =
+        (l.item, l.is_item, (lent_text x, subst (λ y. IsMessageView k i aad d ns b l.item y (lent_text x)) (sym w.0) (lent_view l), w.1))
+    lent_viewed (Err (Short n)) l w = (l.item, l.is_item, (x.view, (lent_text x, lent_view l, w)))
+    lent_viewed (Err (Cose e)) l w = (memory_refuses k b e w.0, w.1)
+    lent_viewed (Err Absent) l w = absurd w
+    lent_viewed (Err WrongType) l w = absurd w
+    lent_viewed (Err Empty) l w = absurd w
+    lent_viewed (Err Misuse) l w = absurd w

@@ -2,6 +2,7 @@
 use Rattle.std.specs.Prelude.{◌≡◌, ◌<◌, ◌≤◌, ℕ, List, ◌++◌, length, drop, Option, Some, None, Result, Ok, Err}
 use Rattle.coset.specs.Item.{Item}
 use Rattle.coset.specs.CoseError.{CoseError}
+use Rattle.coset.specs.CoseError.TheVariants.{OutOfMemory}
 use Rattle.coset.specs.Shortest.{IsShortest}
 use Rattle.ffi_query.specs.declared.kind.Kind as kinds
 use Rattle.ffi_query.specs.declared.refusal.Refusal as refusals
@@ -66,6 +67,12 @@ AnswersNumber k b P Q (Err r) = (v : Item) × IsItemOf k b v × Q v r
 abbrev pub PutsWith : {N : Type 0} → N → List ℕ → List ℕ → List ℕ → Result N refusals.Refusal → Type 0
 PutsWith n t old new (Ok m) = (m ≡ n) × BeginsWith t old new
 PutsWith n t old new (Err r) = Puts t old new (Err r)
+
+-- Writing the text into the memory, and returning n where it has room; or the text's length is no number of the machine's
+abbrev pub PutsTexts : {N : Type 0} → N → List ℕ → List ℕ → List ℕ → Result N refusals.Refusal → Type 0
+PutsTexts n t old new (Ok m) = (m ≡ n) × BeginsWith t old new
+PutsTexts n t old new (Err (Cose e)) = (e ≡ OutOfMemory) × (new ≡ old)
+PutsTexts n t old new (Err r) = Puts t old new (Err r)
 
 -- Writing what was found
 abbrev pub WritesFound : {T : Type 0} → (T → List ℕ) → Result (Option T) CoseError → List ℕ → List ℕ → Result ℕ refusals.Refusal → Type 0

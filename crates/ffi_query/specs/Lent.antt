@@ -15,14 +15,15 @@ use Rattle.ffi_query.specs.declared.located.Text.{Text}
 use Rattle.ffi_query.specs.declared.view.Algorithm as algorithms
 use Rattle.ffi_query.specs.declared.view.Algorithm.TheVariants as named
 use Rattle.ffi_query.specs.declared.view.KeyIdPlace as places
-use Rattle.ffi_query.specs.declared.view.KeyIdPlace.TheVariants as stands
+use Rattle.ffi_query.specs.declared.view.KeyIdPlace.TheVariants as found
 use Rattle.ffi_query.specs.declared.view.MessageView.{MessageView}
 use Rattle.ffi_query.specs.Critical.{crit_label}
+use Rattle.ffi_query.specs.Kinds.{IsItemOf, tag_of}
 use Rattle.ffi_query.specs.Labels.{IsNumber, IsProtected, unprotected_value}
 use Rattle.ffi_query.specs.Located.{IsLocated, IsTextIn, located_item}
 use Rattle.ffi_query.specs.Places.{bytes_in, element}
 use Rattle.ffi_query.specs.Structures.{content_at, structure_of_one, structure_of_two}
-use Rattle.ffi_query.specs.View.{IsTold, alg_label, kid_label, proof_in}
+use Rattle.ffi_query.specs.View.{IsViewOf, TellsTagOf, alg_label, kid_label, proof_in}
 
 -- the bytes are one item, which this is, or none
 abbrev pub IsMapOf : List ℕ → Option Located → Type 0
@@ -50,9 +51,9 @@ KnowsAlgorithm v named.Text = (w : Item) × IsProtected alg_label (bytes_in 0 v)
 
 -- where it has the identifier of the key, and t is what that holds
 abbrev pub KnowsKeyId : Item → places.KeyIdPlace → List ℕ → Type 0
-KnowsKeyId v stands.Absent t = ((w : Item) → IsProtected kid_label (bytes_in 0 v) w → ⊥) × (unprotected_value kid_label v ≡ None) × (t ≡ [])
-KnowsKeyId v stands.Protected t = (w : Item) × IsProtected kid_label (bytes_in 0 v) w × (as_bytes w ≡ Some t)
-KnowsKeyId v stands.Unprotected t =
+KnowsKeyId v found.Absent t = ((w : Item) → IsProtected kid_label (bytes_in 0 v) w → ⊥) × (unprotected_value kid_label v ≡ None) × (t ≡ [])
+KnowsKeyId v found.Protected t = (w : Item) × IsProtected kid_label (bytes_in 0 v) w × (as_bytes w ≡ Some t)
+KnowsKeyId v found.Unprotected t =
     ((w : Item) → IsProtected kid_label (bytes_in 0 v) w → ⊥) × ((w : Item) × (unprotected_value kid_label v ≡ Some w) × (as_bytes w ≡ Some t))
 
 -- it has no critical labels
@@ -95,11 +96,11 @@ pub record AreTexts (k : kinds.Kind) (d : Option (List ℕ)) (b : List ℕ) (v :
 pub record Says (k : kinds.Kind) (i : ℕ) (aad : List ℕ) (d : Option (List ℕ)) (ns : List ℤ) (v : Item) (n : MessageView)
     (s p c t : List ℕ) : Type 0 where
   pub text : List ℕ
-  pub told : IsTold k i aad d ns v n text
-  pub is_signed : told.signed ≡ s
-  pub is_proof : told.proof ≡ p
-  pub is_content : told.content ≡ c
-  pub is_key_id : told.key_id ≡ t
+  pub view : IsViewOf k i aad d ns v n text
+  pub is_signed : view.signed ≡ s
+  pub is_proof : view.proof ≡ p
+  pub is_content : view.content ≡ c
+  pub is_key_id : view.key_id ≡ t
 
 -- what is lent says all of the item v, and its texts are in b, but for the structure
 pub record IsLent (k : kinds.Kind) (i : ℕ) (aad : List ℕ) (d : Option (List ℕ)) (ns : List ℤ) (b : List ℕ) (v : Item)
@@ -109,3 +110,14 @@ pub record IsLent (k : kinds.Kind) (i : ℕ) (aad : List ℕ) (d : Option (List 
   pub proof_in_b : IsTextIn b x.proof
   pub content_in_b : IsTextIn b x.content
   pub key_id_in_b : IsTextIn b x.key_id
+
+-- the bytes b are an item of that kind, and what is lent says all of it, and whether they are under the message's tag
+pub record IsLentOf (k : kinds.Kind) (i : ℕ) (aad : List ℕ) (d : Option (List ℕ)) (ns : List ℤ) (b : List ℕ) (x : declared.Lent) : Type 0 where
+  pub item : Item
+  pub is_item : IsItemOf k b item
+  pub lent : IsLent k i aad d ns b item x
+  pub is_tagged : TellsTagOf (tag_of k) b x.view.is_tagged
+
+-- the four texts one behind the other
+abbrev pub lent_text : declared.Lent → List ℕ
+lent_text x = (x.structure.front.items ++ x.structure.end.now) ++ (x.proof.bytes.now ++ (x.content.bytes.now ++ x.key_id.bytes.now))

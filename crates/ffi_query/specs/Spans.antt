@@ -1,18 +1,15 @@
 -- What one call says of a message, where the texts are named by places in the input or in what is written.
 use Rattle.std.specs.Prelude.{◌≡◌, ◌++◌, ◌-◌, ℕ, ℤ, List, length, Option, true, false, Result, Ok, Err, if◌then◌else◌}
-use Rattle.coset.specs.CoseError.TheVariants.{OutOfMemory}
 use Rattle.coset.specs.Item.{Item}
 use Rattle.ffi_query.specs.declared.kind.Kind as kinds
 use Rattle.ffi_query.specs.declared.lent.Lent as declared
 use Rattle.ffi_query.specs.declared.refusal.Refusal as refusals
-use Rattle.ffi_query.specs.declared.refusal.Refusal.TheVariants.{Cose}
 use Rattle.ffi_query.specs.declared.spans.MessageSpans.{MessageSpans}
 use Rattle.ffi_query.specs.declared.spans.Span.{Span}
 use Rattle.ffi_query.specs.declared.view.MessageView.{MessageView}
-use Rattle.ffi_query.specs.Answers.{BeginsWith, Puts}
 use Rattle.ffi_query.specs.Kinds.{tag_of}
 use Rattle.ffi_query.specs.Located.{IsTextIn}
-use Rattle.ffi_query.specs.View.{IsTold, TellsTagOf}
+use Rattle.ffi_query.specs.View.{IsViewOf, TellsTagOf}
 
 -- s is in b, from that offset on
 pub record IsAt (b : List ℕ) (at : ℕ) (s : List ℕ) : Type 0 where
@@ -30,19 +27,13 @@ IsSpan b t p s = IsAt (if p.is_input then b else t) p.at s
 pub record IsMessageSpans (k : kinds.Kind) (i : ℕ) (aad : List ℕ) (d : Option (List ℕ)) (ns : List ℤ) (b : List ℕ) (v : Item) (m : MessageSpans)
     (t : List ℕ) : Type 0 where
   pub text : List ℕ
-  pub told : IsTold k i aad d ns v m.view text
+  pub view : IsViewOf k i aad d ns v m.view text
   pub is_tagged : TellsTagOf (tag_of k) b m.view.is_tagged
-  pub structure : IsAt t 0 told.signed
-  pub proof : IsSpan b t m.proof told.proof
-  pub content : IsSpan b t m.content told.content
-  pub key_id : IsSpan b t m.key_id told.key_id
+  pub structure : IsAt t 0 view.signed
+  pub proof : IsSpan b t m.proof view.proof
+  pub content : IsSpan b t m.content view.content
+  pub key_id : IsSpan b t m.key_id view.key_id
   pub len : m.len ≡ length t
-
--- writing the text into the memory, and saying m where it has room; or its length is no number of the machine's
-abbrev pub PutsSpans : MessageSpans → List ℕ → List ℕ → List ℕ → Result MessageSpans refusals.Refusal → Type 0
-PutsSpans m t old new (Ok n) = (n ≡ m) × BeginsWith t old new
-PutsSpans m t old new (Err (Cose e)) = (e ≡ OutOfMemory) × (new ≡ old)
-PutsSpans m t old new (Err r) = Puts t old new (Err r)
 
 -- the spans of texts that are in the input
 pub record AreLentSpans (b : List ℕ) (x : declared.Lent) (m : MessageSpans) : Type 0 where

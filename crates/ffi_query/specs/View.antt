@@ -14,7 +14,7 @@ use Rattle.ffi_query.specs.declared.refusal.Refusal.TheVariants.{Absent, Misuse}
 use Rattle.ffi_query.specs.declared.view.Algorithm as algorithms
 use Rattle.ffi_query.specs.declared.view.Algorithm.TheVariants as named
 use Rattle.ffi_query.specs.declared.view.KeyIdPlace as places
-use Rattle.ffi_query.specs.declared.view.KeyIdPlace.TheVariants as stands
+use Rattle.ffi_query.specs.declared.view.KeyIdPlace.TheVariants as found
 use Rattle.ffi_query.specs.declared.view.MessageView.{MessageView}
 use Rattle.ffi_query.specs.Critical.{IsCriticalOf}
 use Rattle.ffi_query.specs.Kinds.{is_under, tag_of}
@@ -50,9 +50,9 @@ HasNoKeyId k m v = (t : List ℕ) → IsStringOf k m kid_label v t → ⊥
 -- where the identifier of the key is, and t is what it holds: in the protected header; or else in the unprotected one; or
 -- else in neither, and t is empty
 abbrev pub IsKeyId : kinds.Kind → Item → places.KeyIdPlace → List ℕ → Type 0
-IsKeyId k v stands.Absent t = HasNoKeyId k of.Protected v × HasNoKeyId k of.Unprotected v × (t ≡ [])
-IsKeyId k v stands.Protected t = IsStringOf k of.Protected kid_label v t
-IsKeyId k v stands.Unprotected t = HasNoKeyId k of.Protected v × IsStringOf k of.Unprotected kid_label v t
+IsKeyId k v found.Absent t = HasNoKeyId k of.Protected v × HasNoKeyId k of.Unprotected v × (t ≡ [])
+IsKeyId k v found.Protected t = IsStringOf k of.Protected kid_label v t
+IsKeyId k v found.Unprotected t = HasNoKeyId k of.Protected v × IsStringOf k of.Unprotected kid_label v t
 
 -- what names the algorithm and the key: the signer of that index, where a message has signers; else the message v itself
 abbrev pub bearer : kinds.Kind → ℕ → Item → Option Item
@@ -107,7 +107,7 @@ TellsTagOf (Some n) b x = TellsTag n b x
 -- the signer of that index), authenticated, or goes with its ciphertext, over external_aad and, where it is detached, the
 -- payload d; the signature or the tag; the content that it carries; and the identifier of the key. The caller understands the
 -- labels ns
-pub record IsTold (k : kinds.Kind) (i : ℕ) (aad : List ℕ) (d : Option (List ℕ)) (ns : List ℤ) (v : Item) (n : MessageView) (t : List ℕ) : Type 0 where
+pub record IsViewOf (k : kinds.Kind) (i : ℕ) (aad : List ℕ) (d : Option (List ℕ)) (ns : List ℤ) (v : Item) (n : MessageView) (t : List ℕ) : Type 0 where
   pub signer : Item
   pub signed : List ℕ
   pub proof : List ℕ
@@ -131,10 +131,10 @@ pub record IsTold (k : kinds.Kind) (i : ℕ) (aad : List ℕ) (d : Option (List 
 -- message's tag (section 2, table 1)
 abbrev pub IsMessageView :
     kinds.Kind → ℕ → List ℕ → Option (List ℕ) → List ℤ → List ℕ → Item → MessageView → List ℕ → Type 0
-IsMessageView k i aad d ns b v n t = IsTold k i aad d ns v n t × TellsTagOf (tag_of k) b n.is_tagged
+IsMessageView k i aad d ns b v n t = IsViewOf k i aad d ns v n t × TellsTagOf (tag_of k) b n.is_tagged
 
 -- why there is none: a payload is given, and the message carries another; or it has no structure, or no such signer or proof
 abbrev pub HasNoView : kinds.Kind → ℕ → List ℕ → Option (List ℕ) → List ℤ → Item → refusals.Refusal → Type 0
 HasNoView k i aad d ns v Misuse = is_given_twice k d v ≡ true
-HasNoView k i aad d ns v Absent = (is_given_twice k d v ≡ false) × ((n : MessageView) (t : List ℕ) → IsTold k i aad d ns v n t → ⊥)
+HasNoView k i aad d ns v Absent = (is_given_twice k d v ≡ false) × ((n : MessageView) (t : List ℕ) → IsViewOf k i aad d ns v n t → ⊥)
 HasNoView k i aad d ns v r = ⊥

@@ -1,21 +1,21 @@
 //! All that verifying or decrypting a message takes, where what the message itself holds stays where it is: texts are named by
 //! their places.
 
-ghost use Rattle.std.specs.Prelude.{◌≡◌, ◌++◌, true};
+ghost use Rattle.std.specs.Prelude.{◌≡◌, ◌++◌, length, true};
 ghost use Rattle.std.specs.Option.{option_copied};
-ghost use Rattle.ffi_query.specs.Answers.{AnswersWith};
+ghost use Rattle.ffi_query.specs.Answers.{AnswersWith, PutsTexts};
 ghost use Rattle.ffi_query.specs.Located.{IsTextIn};
-ghost use Rattle.ffi_query.specs.Spans.{AreLentSpans, IsAt, IsMessageSpans, PutsSpans, copied, copied_spans, written_at};
+ghost use Rattle.ffi_query.specs.Spans.{AreLentSpans, IsAt, IsMessageSpans, copied, copied_spans, written_at};
 ghost use Rattle.ffi_query.specs.declared.spans.MessageSpans.{MessageSpans};
 ghost use Rattle.ffi_query.specs.View.{HasNoView};
 
-use crate::item::whole_of;
 use crate::kind::Kind;
-use crate::lent::{Lent, find_lent};
-use crate::located::{Located, Text, without_tag_located};
+use crate::lent::Lent;
+use crate::located::Text;
+use crate::message::{Found, find_message};
 use crate::refusal::Refusal;
-use crate::view::{MessageView, is_under_tag, view_of};
-use coset::CoseError;
+use crate::view::{MessageView, view_of};
+use crate::written::put_texts;
 use std::alloc::Global;
 
 /// Where a text begins.
@@ -53,29 +53,14 @@ fn span_of(text: Text<'_>, input: &[u8]) -> Span
     }
 }
 
-/// Writes two texts to the front of `out`, one behind the other, and returns the spans.
+/// Writes a structure, which is in two parts, to the front of `out`, and returns how many bytes it has.
 ///
 /// # Errors
 /// `Short` where `out` has no room for it: it is then as it was.
-fn put_two(
-    front: &[u8],
-    end: &[u8],
-    spans: MessageSpans,
-    out: &mut [u8],
-) -> Result<MessageSpans, Refusal>
-    ensures { PutsSpans spans (front.now ++ end.now) out.old out.new result }
+fn put_structure(front: &[u8], end: &[u8], out: &mut [u8]) -> Result<usize, Refusal>
+    ensures { let t = front.now ++ end.now in PutsTexts (length t) t out.old out.new result }
 {
-    let Some(len) = front.len().checked_add(end.len()) else {
-        return Err(Refusal::Cose(CoseError::OutOfMemory));
-    };
-    if out.len() < len {
-        return Err(Refusal::Short(len));
-    }
-    let (first, rest) = out.split_at_mut(front.len());
-    first.copy_from_slice(front);
-    let (second, _) = rest.split_at_mut(end.len());
-    second.copy_from_slice(end);
-    Ok(spans)
+    put_texts(&[front, end], out)
 }
 
 /// The spans of texts that are in the input.
@@ -96,11 +81,14 @@ fn lent_spans(lent: &Lent<'_>, input: &[u8]) -> MessageSpans
 /// # Errors
 /// `Short` where `out` has no room for it: it is then as it was.
 fn put_lent(lent: &Lent<'_>, input: &[u8], out: &mut [u8]) -> Result<MessageSpans, Refusal>
-    ensures { (m : MessageSpans) × AreLentSpans input.now lent.now m × PutsSpans m
+    ensures { (m : MessageSpans) × AreLentSpans input.now lent.now m × PutsTexts m
         (lent.now.structure.front.items ++ lent.now.structure.end.now) out.old out.new result }
 {
     let spans = lent_spans(lent, input);
-    put_two(&lent.structure.front, lent.structure.end, spans, out)
+    match put_structure(&lent.structure.front, lent.structure.end, out) {
+        Ok(_) => Ok(spans),
+        Err(refusal) => Err(refusal),
+    }
 }
 
 /// A place in what was written.
@@ -160,19 +148,13 @@ pub fn message_spans(
         (IsMessageSpans kind index external_aad.now d known.now bytes.now)
         (HasNoView kind index external_aad.now d known.now) out.old out.new result }
 {
-    let whole = match whole_of(alloc, kind, bytes) {
-        Ok(whole) => whole,
+    let Found { whole, lent } = match find_message(alloc, kind, bytes, external_aad, detached) {
+        Ok(found) => found,
         Err(error) => return Err(Refusal::Cose(error)),
     };
-    let located = Located {
-        item: whole,
-        rest: bytes,
-    };
-    let item = without_tag_located(kind.tag(), located);
-    let is_tagged = is_under_tag(kind, whole);
-    match find_lent(alloc, kind, item, external_aad, detached, is_tagged) {
-        Ok(Some(lent)) => put_lent(&lent, bytes, out),
-        Ok(None) => copied(view_of(
+    match lent {
+        Some(lent) => put_lent(&lent, bytes, out),
+        None => copied(view_of(
             alloc,
             kind,
             whole,
@@ -182,6 +164,5 @@ pub fn message_spans(
             known,
             out,
         )),
-        Err(error) => Err(Refusal::Cose(error)),
     }
 }

@@ -1,4 +1,4 @@
-//! All that verifying or decrypting a message takes (RFC 8152, sections 4 to 6), in one call.
+//! What is said of a message by copies of its texts.
 
 ghost use Rattle.std.specs.Prelude.{◌≡◌, ◌++◌, IfOk, IfErr, IfSome, List, ℕ, option_map};
 ghost use Rattle.std.specs.Option.{option_copied};
@@ -7,10 +7,10 @@ ghost use Rattle.coset.specs.Pulls.{pull_item};
 ghost use Rattle.coset.specs.View.{value_item};
 ghost use Rattle.ffi_query.specs.Answers.{AnswersWith, FindsWith, PutsWith};
 ghost use Rattle.ffi_query.specs.Kinds.{IsWholeOf};
-ghost use Rattle.ffi_query.specs.View.{HasAlgorithm, HasNoView, IsAlgorithm, IsContent, IsKeyId, IsMessageView, IsTold, bearer, content_part, is_under_tag, kind_of_bearer, proof_in};
+ghost use Rattle.ffi_query.specs.View.{HasAlgorithm, HasNoView, IsAlgorithm, IsContent, IsKeyId, IsMessageView, IsViewOf, bearer, content_part, is_under_tag, kind_of_bearer, proof_in};
 
 use crate::critical::critical_of;
-use crate::item::{bytes_in, is_under, member_at, whole_of, without_tag};
+use crate::item::{bytes_in, is_under, member_at, without_tag};
 use crate::kind::Kind;
 use crate::label::{Label, Map, find_string, find_value, number_in};
 use crate::part::{Part, find_part};
@@ -44,7 +44,7 @@ pub enum KeyIdPlace {
     Unprotected,
 }
 
-/// What [`message_view`] says of a message, beside four texts.
+/// What [`message_view`](crate::message_view) says of a message, beside four texts.
 #[derive(Clone, Copy, Debug, PartialEq, Eq)]
 pub struct MessageView {
     /// The algorithm that the protected header names: the message's, and of a message with signers the signer's.
@@ -79,7 +79,7 @@ struct KeyId {
 
 /// A view, and the four texts one behind the other.
 #[derive(Drop)]
-struct Told {
+struct Copies {
     view: MessageView,
     text: Vec<u8>,
 }
@@ -236,7 +236,7 @@ fn joined(
 ///
 /// # Errors
 /// `OutOfMemory` alone.
-fn find_told(
+fn find_copies(
     alloc: Global,
     kind: Kind,
     item: Pull<'_>,
@@ -245,8 +245,8 @@ fn find_told(
     detached: Option<&[u8]>,
     known: &[i64],
     is_tagged: bool,
-) -> Result<Option<Told>>
-    ensures told { IfOk result (FindsWith (λ x. x.view) (λ x. x.text.items) (IsTold kind index
+) -> Result<Option<Copies>>
+    ensures copies { IfOk result (FindsWith (λ x. x.view) (λ x. x.text.items) (IsViewOf kind index
         external_aad.now (option_copied detached.entry) known.now (pull_item item.entry))) }
     ensures tag { IfOk result (λ o. IfSome o (λ x. x.view.is_tagged ≡ is_tagged)) }
     ensures memory { IfErr result (λ e. e ≡ OutOfMemory) }
@@ -277,26 +277,26 @@ fn find_told(
         key_id_len: key_id.bytes.len(),
         len: text.len(),
     };
-    Ok(Some(Told { view, text }))
+    Ok(Some(Copies { view, text }))
 }
 
 /// Writes the texts to the front of `out`, and returns the view.
 ///
 /// # Errors
 /// `Short` where `out` has no room for them: it is then as it was.
-fn put_told(told: Told, out: &mut [u8]) -> Result<MessageView, Refusal>
-    ensures { PutsWith told.view told.text.items out.old out.new result }
+fn put_copies(copies: Copies, out: &mut [u8]) -> Result<MessageView, Refusal>
+    ensures { PutsWith copies.view copies.text.items out.old out.new result }
 {
-    match put(&told.text, out) {
-        Ok(_) => Ok(told.view),
+    match put(&copies.text, out) {
+        Ok(_) => Ok(copies.view),
         Err(refusal) => Err(refusal),
     }
 }
 
-/// The same as [`message_view`] of bytes that are known to be this item of that kind.
+/// The same as [`message_view`](crate::message_view) of bytes that are known to be this item of that kind, by copies of its texts.
 ///
 /// # Errors
-/// The same as [`message_view`], but that the bytes are of the kind.
+/// The same as [`message_view`](crate::message_view), but that the bytes are of the kind.
 pub(crate) fn view_of(
     alloc: Global,
     kind: Kind,
@@ -317,7 +317,7 @@ pub(crate) fn view_of(
         return Err(Refusal::Misuse);
     }
     let is_tagged = is_under_tag(kind, whole);
-    let told = find_told(
+    let found = find_copies(
         alloc,
         kind,
         item,
@@ -327,57 +327,9 @@ pub(crate) fn view_of(
         known,
         is_tagged,
     );
-    match told {
-        Ok(Some(told)) => put_told(told, out),
+    match found {
+        Ok(Some(copies)) => put_copies(copies, out),
         Ok(None) => Err(Refusal::Absent),
-        Err(error) => Err(Refusal::Cose(error)),
-    }
-}
-
-/// Writes all that verifying or decrypting a message of that kind takes: writes four texts to the front of `out`, one behind
-/// the other, and returns their lengths, with the algorithm, where the key's identifier is, what there is of `crit`, and
-/// whether the message is under its tag. The texts are what is signed, authenticated, or goes with the ciphertext, as
-/// [`structure_of`](crate::structure_of) writes it; the signature or the tag, and nothing of an encrypted message; the
-/// payload or the ciphertext that the message carries; and the identifier of the key. Of a [`Kind::Sign`] the signer of that
-/// index, counted from 0, has signed, and names the algorithm and the key; other kinds have no use for `index`.
-///
-/// What is signed or authenticated is over the payload that the message carries, where `detached` is `None`; and over
-/// `detached`, where the payload is `nil`, so that it is detached: the third text is then empty.
-///
-/// The key is one that you trust, and the algorithm one that you allow for it: the message only names them. `known` are the
-/// critical labels that you understand. Refuse a message that names others.
-///
-/// # Errors
-/// `Short` where `out` has no room for the four, with the length that they have together; `Misuse` where the message carries
-/// a payload and another is given; `Absent` where items of the kind have no structure, where there are no more than `index`
-/// signers, and where the message carries no payload and none is given; `Cose` as [`check`](crate::check) says. `out` is then
-/// as it was.
-pub fn message_view(
-    alloc: Global,
-    kind: Kind,
-    bytes: &[u8],
-    index: usize,
-    external_aad: &[u8],
-    detached: Option<&[u8]>,
-    known: &[i64],
-    out: &mut [u8],
-) -> Result<MessageView, Refusal>
-    ensures { let d = option_copied detached.entry in
-        AnswersWith kind bytes.now
-        (IsMessageView kind index external_aad.now d known.now bytes.now)
-        (HasNoView kind index external_aad.now d known.now) out.old out.new result }
-{
-    match whole_of(alloc, kind, bytes) {
-        Ok(whole) => view_of(
-            alloc,
-            kind,
-            whole,
-            index,
-            external_aad,
-            detached,
-            known,
-            out,
-        ),
         Err(error) => Err(Refusal::Cose(error)),
     }
 }

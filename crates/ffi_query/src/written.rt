@@ -1,10 +1,11 @@
 //! Answers in the caller's memory.
 
-ghost use Rattle.std.specs.Prelude.{◌≡◌};
-ghost use Rattle.ffi_query.specs.Answers.{Puts, WritesFound};
+ghost use Rattle.std.specs.List.{flat_map};
+ghost use Rattle.std.specs.Prelude.{◌≡◌, IfSome, length};
+ghost use Rattle.ffi_query.specs.Answers.{Puts, PutsTexts, WritesFound};
 
 use crate::refusal::Refusal;
-use coset::Result;
+use coset::{CoseError, Result};
 
 /// Writes the bytes to the front of `out`, and returns how many they are.
 ///
@@ -19,6 +20,41 @@ pub(crate) fn put(bytes: &[u8], out: &mut [u8]) -> Result<usize, Refusal>
     let (front, _) = out.split_at_mut(bytes.len());
     front.copy_from_slice(bytes);
     Ok(bytes.len())
+}
+
+/// How many bytes the texts have together, where that is a number of the machine's.
+fn total_len(texts: &[&[u8]]) -> Option<usize>
+    ensures { IfSome result (λ n. n ≡ length (flat_map (λ t. t.now) texts.now)) }
+{
+    let mut total: usize = 0;
+    for text in texts {
+        total = total.checked_add(text.len())?;
+    }
+    Some(total)
+}
+
+/// Writes the texts to the front of `out`, one behind the other, and returns how many bytes they have together.
+///
+/// # Errors
+/// `Short` where `out` has no room for them: it is then as it was.
+pub(crate) fn put_texts(texts: &[&[u8]], out: &mut [u8]) -> Result<usize, Refusal>
+    ensures { let t = flat_map (λ t. t.now) texts.now in
+        PutsTexts (length t) t out.old out.new result }
+{
+    let Some(len) = total_len(texts) else {
+        return Err(Refusal::Cose(CoseError::OutOfMemory));
+    };
+    if out.len() < len {
+        return Err(Refusal::Short(len));
+    }
+    let mut at = 0;
+    for text in texts {
+        let (_, rest) = out.split_at_mut(at);
+        let (front, _) = rest.split_at_mut(text.len());
+        front.copy_from_slice(text);
+        at += text.len();
+    }
+    Ok(len)
 }
 
 /// Writes what was found to the front of `out`, and returns its length. `ffi_make` answers by it too.

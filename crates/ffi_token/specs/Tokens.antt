@@ -1,4 +1,4 @@
--- What a caller is told of a token.
+-- What is returned of a token.
 use Rattle.std.specs.Prelude.{◌≡◌, ℕ, ℤ, List, Result, Ok, Err, None}
 use Rattle.coset.specs.Claims.{ClaimsView, claims, claims_view}
 use Rattle.coset.specs.CoseError.TheVariants as errors
@@ -62,23 +62,23 @@ WritesClaims c old new (Err (Answer (answers.Cose e))) =
 WritesClaims c old new (Err r) = ⊥
 
 -- the texts of the layer are at the front of the memory, and this is what is said of it; or it has no room for them
-abbrev pub TellsLayer : layers.Layer → List ℕ → List ℕ → refusals.Refusal → Type 0
-TellsLayer l old new (Layer v) = (v ≡ l.view) × BeginsWith l.text.items old new
-TellsLayer l old new (Answer (answers.Short n)) = Puts l.text.items old new (Err (answers.Short n))
-TellsLayer l old new r = ⊥
+abbrev pub WritesLayer : layers.Layer → List ℕ → List ℕ → refusals.Refusal → Type 0
+WritesLayer l old new (Layer v) = (v ≡ l.view) × BeginsWith l.text.items old new
+WritesLayer l old new (Answer (answers.Short n)) = Puts l.text.items old new (Err (answers.Short n))
+WritesLayer l old new r = ⊥
 
-abbrev pub TellsApart : aparts.Apart → List ℕ → List ℕ → Result ℕ refusals.Refusal → Type 0
-TellsApart a old new (Ok n) = ⊥
-TellsApart (apart_as.Layer l) old new (Err r) = TellsLayer l old new r
-TellsApart (apart_as.Refused e) old new (Err r) = (r ≡ e) × (new ≡ old)
+abbrev pub ReturnsApart : aparts.Apart → List ℕ → List ℕ → Result ℕ refusals.Refusal → Type 0
+ReturnsApart a old new (Ok n) = ⊥
+ReturnsApart (apart_as.Layer l) old new (Err r) = WritesLayer l old new r
+ReturnsApart (apart_as.Refused e) old new (Err r) = (r ≡ e) × (new ≡ old)
 
--- what a caller is told of a token that was judged
-abbrev pub Tells : Result KnownClaims (PolicyError waiting.Waiting) → List ℕ → List ℕ → Result ℕ refusals.Refusal → Type 0
-Tells (Ok x) old new r = WritesClaims (claims_view x.claims) old new r
-Tells (Err e) old new r = TellsApart (apart e) old new r
+-- what is returned of a token that was judged
+abbrev pub ReturnsJudged : Result KnownClaims (PolicyError waiting.Waiting) → List ℕ → List ℕ → Result ℕ refusals.Refusal → Type 0
+ReturnsJudged (Ok x) old new r = WritesClaims (claims_view x.claims) old new r
+ReturnsJudged (Err e) old new r = ReturnsApart (apart e) old new r
 
--- What a call returns of the token b at a moment, where the caller opened these layers: what it is told of the token as the
+-- What a call returns of the token b at a moment, where the caller opened these layers: what is said of the token as the
 -- gate judges it by keys that accept those
 abbrev pub AnswersToken : List ℕ → List Opened → PolicyView → List ℕ → ℤ → List ℕ → List ℕ → Result ℕ refusals.Refusal → Type 0
 AnswersToken bytes os p b now old new r =
-    (j : Result KnownClaims (PolicyError waiting.Waiting)) × JudgesWith (opened_view bytes os) p now b j × Tells j old new r
+    (j : Result KnownClaims (PolicyError waiting.Waiting)) × JudgesWith (opened_view bytes os) p now b j × ReturnsJudged j old new r

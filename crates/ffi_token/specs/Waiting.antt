@@ -1,4 +1,4 @@
--- What a caller is told of a layer that waits to be opened.
+-- What is said of a layer that waits to be opened.
 use Rattle.std.specs.Prelude.{◌≡◌, ◌++◌, ℕ, ℤ, List, [], ◌∷◌, length, Option, Some, None}
 use Rattle.coset.specs.Headers.{fields_in}
 use Rattle.coset.specs.Names.{RegisteredName, assigned, private_use, text_name}

@@ -1,8 +1,8 @@
 //! Web tokens, judged as `cwt_gate` judges them, for a caller in another language (`ffi_c`): one that has its own cryptography
-//! and hands over no function. It calls [`claims_of`] with the layers that it opened so far, at first with none. It is told
-//! which layer waits, opens that, and calls again, until it is given the claims or a reason against the token.
+//! and hands over no function. It calls [`claims_of`] with the layers that it opened so far, at first with none. An answer
+//! says which layer waits; the caller opens that, and calls again, until it is given the claims or a reason against the token.
 //!
-//! Nothing is kept between calls. A layer counts as opened only where the caller hands back what it was told of it, so what
+//! Nothing is kept between calls. A layer counts as opened only where the caller hands back what was written of it, so what
 //! it opened of one token opens nothing of another.
 #![tactic(auto)]
 

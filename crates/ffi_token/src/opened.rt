@@ -16,7 +16,7 @@ use std::alloc::Global;
 pub struct Opened {
     /// The form, as `coset.h` numbers its messages: 1 of `COSE_Sign1`, 3 of `COSE_Mac0`, and 5 of `COSE_Encrypt0`.
     pub form: u32,
-    /// Where what the caller was told of the layer is: the structure, and behind it the signature, the MAC or the ciphertext.
+    /// Where what was written of the layer is: the structure, and behind it the signature, the MAC or the ciphertext.
     pub offset: usize,
     /// How many bytes the structure has.
     pub structure_len: usize,
@@ -31,7 +31,7 @@ pub struct Opened {
 /// The layers that a caller opened, in any order.
 #[derive(Clone, Copy)]
 pub struct OpenedLayers<'a> {
-    /// The memory for what is told of a layer that waits.
+    /// The memory for what is said of a layer that waits.
     pub alloc: Global,
     /// The layers.
     pub layers: &'a [Opened],
@@ -122,7 +122,7 @@ impl Keys for OpenedLayers<'_> {
 
     ghost view = { λ k. opened_view k.bytes.now k.layers.now };
 
-    /// The layer, which waits. Of one that was opened nothing waits, and nothing is asked for it.
+    /// The layer, which waits. Of one that was opened nothing waits, and this isn't called for it.
     fn no_key(&self, form: Form, sealed: &Sealed<'_>) -> Waiting {
         match self.find(form, sealed) {
             Some(_) => Waiting::OutOfMemory,

@@ -2,11 +2,11 @@
 
 ghost use Rattle.coset.specs.Claims.{claims_view};
 ghost use Rattle.ffi_token.specs.Rules.{rules_view};
-ghost use Rattle.ffi_token.specs.Tokens.{AnswersToken, Tells, TellsLayer, WritesClaims};
+ghost use Rattle.ffi_token.specs.Tokens.{AnswersToken, ReturnsJudged, WritesLayer, WritesClaims};
 
 use crate::layer::{Layer, Waiting};
 use crate::opened::OpenedLayers;
-use crate::refusal::{Apart, Refusal, told_apart};
+use crate::refusal::{Apart, Refusal, apart};
 use crate::rules::Rules;
 use coset::CborSerializable;
 use coset::cwt::{ClaimsSet, KnownClaims};
@@ -32,8 +32,8 @@ fn write_claims(alloc: Global, claims: ClaimsSet, out: &mut [u8]) -> Result<usiz
 }
 
 /// Writes the texts of a layer that waits to the front of `out`, and returns what is said of it.
-fn tell_layer(layer: Layer, out: &mut [u8]) -> Refusal
-    ensures { TellsLayer layer out.old out.new result }
+fn write_layer(layer: Layer, out: &mut [u8]) -> Refusal
+    ensures { WritesLayer layer out.old out.new result }
 {
     match write_found(Ok(Some(layer.text)), out) {
         Ok(_) => Refusal::Layer(layer.view),
@@ -41,18 +41,18 @@ fn tell_layer(layer: Layer, out: &mut [u8]) -> Refusal
     }
 }
 
-/// What the caller is told of a token that was judged.
-fn tell(
+/// What is returned of a token that was judged.
+fn answer(
     alloc: Global,
     judged: Result<KnownClaims, PolicyError<Waiting>>,
     out: &mut [u8],
 ) -> Result<usize, Refusal>
-    ensures { Tells judged out.old out.new result }
+    ensures { ReturnsJudged judged out.old out.new result }
 {
     match judged {
         Ok(known) => write_claims(alloc, known.claims, out),
-        Err(error) => match told_apart(error) {
-            Apart::Layer(layer) => Err(tell_layer(layer, out)),
+        Err(error) => match apart(error) {
+            Apart::Layer(layer) => Err(write_layer(layer, out)),
             Apart::Refused(refusal) => Err(refusal),
         },
     }
@@ -84,5 +84,5 @@ pub fn claims_of(
         token.now now out.old out.new result }
 {
     let judged = rules.judge(alloc, opened, token, now);
-    tell(alloc, judged, out)
+    answer(alloc, judged, out)
 }

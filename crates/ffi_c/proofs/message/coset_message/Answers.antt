@@ -18,10 +18,10 @@ returns-in-Some c =
     let ns = c.args.known.now in
     let d = bytes_if c.args.has_detached c.args.detached.now in
     let answers =
-    subst (λ x. AnswersWith k b (IsMessageView k i aad x ns b) (HasNoView k i aad x ns) c.args.out.now c.message_view-told.new.out c.message_view-told.result)
-    c.bytes_if-detached.ensures c.message_view-told.ensures in
-    let status : to_z w32 (of_z w32 c.reply_message.result) ≡ reply_status c.message_view-told.result = search rules in
+    subst (λ x. AnswersWith k b (IsMessageView k i aad x ns b) (HasNoView k i aad x ns) c.args.out.now c.message_view-answer.new.out c.message_view-answer.result)
+    c.bytes_if-detached.ensures c.message_view-answer.ensures in
+    let status : to_z w32 (of_z w32 c.reply_message.result) ≡ reply_status c.message_view-answer.result = search rules in
     replied
-    (λ j. RepliesMessage (AnswersWith j b (IsMessageView j i aad d ns b) (HasNoView j i aad d ns) c.args.out.now c.message_view-told.new.out)
+    (λ j. RepliesMessage (AnswersWith j b (IsMessageView j i aad d ns b) (HasNoView j i aad d ns) c.args.out.now c.message_view-answer.new.out)
     (to_z w32 (of_z w32 c.reply_message.result)) c.reply_message.new.len c.reply_message.new.view)
-    _ _ k c.in-Some.ensures (c.message_view-told.result, answers, status, c.reply_message.ensures.number, c.reply_message.ensures.told)
+    _ _ k c.in-Some.ensures (c.message_view-answer.result, answers, status, c.reply_message.ensures.number, c.reply_message.ensures.view)

@@ -7,8 +7,8 @@ use Rattle.ffi_c.proofs.message.reply_message.Goals as goal
 
 pub returns-clause-status : goal.returns-clause-status
 returns-clause-status c =
-    let status : to_z w32 (of_z w32 c.reply.result) ≡ reply_status c.length_told.result = search rules in
-    status ∙ (ap reply_status c.length_told.ensures ∙ same_status c.args.answer)
+    let status : to_z w32 (of_z w32 c.reply.result) ≡ reply_status c.texts_len.result = search rules in
+    status ∙ (ap reply_status c.texts_len.ensures ∙ same_status c.args.answer)
 
 pub returns-clause-number : goal.returns-clause-number
-returns-clause-number c = c.reply.ensures.number ∙ ap length_of c.length_told.ensures
+returns-clause-number c = c.reply.ensures.number ∙ ap length_of c.texts_len.ensures

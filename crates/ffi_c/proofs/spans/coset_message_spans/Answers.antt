@@ -6,7 +6,7 @@ use Rattle.ffi_query.specs.Spans.{IsMessageSpans}
 use Rattle.ffi_query.specs.View.{HasNoView}
 use Rattle.ffi_c.specs.Numbers.{bytes_if}
 use Rattle.ffi_c.specs.Replies.{reply_status}
-use Rattle.ffi_c.specs.SpansTold.{RepliesSpans}
+use Rattle.ffi_c.specs.SpansNumbers.{RepliesSpans}
 use Rattle.ffi_c.proofs.Replying.{replied}
 use Rattle.ffi_c.proofs.spans.coset_message_spans.Goals as goal
 
@@ -19,11 +19,11 @@ returns-in-Some c =
     let ns = c.args.known.now in
     let d = bytes_if c.args.has_detached c.args.detached.now in
     let answers =
-    subst (λ x. AnswersWith k b (IsMessageSpans k i aad x ns b) (HasNoView k i aad x ns) c.args.out.now c.message_spans-told.new.out
-    c.message_spans-told.result)
-    c.bytes_if-detached.ensures c.message_spans-told.ensures in
-    let status : to_z w32 (of_z w32 c.reply_spans.result) ≡ reply_status c.message_spans-told.result = search rules in
+    subst (λ x. AnswersWith k b (IsMessageSpans k i aad x ns b) (HasNoView k i aad x ns) c.args.out.now c.message_spans-answer.new.out
+    c.message_spans-answer.result)
+    c.bytes_if-detached.ensures c.message_spans-answer.ensures in
+    let status : to_z w32 (of_z w32 c.reply_spans.result) ≡ reply_status c.message_spans-answer.result = search rules in
     replied
-    (λ j. RepliesSpans (AnswersWith j b (IsMessageSpans j i aad d ns b) (HasNoView j i aad d ns) c.args.out.now c.message_spans-told.new.out)
+    (λ j. RepliesSpans (AnswersWith j b (IsMessageSpans j i aad d ns b) (HasNoView j i aad d ns) c.args.out.now c.message_spans-answer.new.out)
     (to_z w32 (of_z w32 c.reply_spans.result)) c.reply_spans.new.len c.reply_spans.new.spans)
-    _ _ k c.in-Some.ensures (c.message_spans-told.result, answers, status, c.reply_spans.ensures.number, c.reply_spans.ensures.told)
+    _ _ k c.in-Some.ensures (c.message_spans-answer.result, answers, status, c.reply_spans.ensures.number, c.reply_spans.ensures.view)

@@ -21,4 +21,4 @@ returns-in-Some c =
     replied
     (λ q. RepliesToken (AnswersToken c.args.bytes.now opened q b c.args.now c.args.out.now new)
     (to_z w32 (of_z w32 c.reply_token.result)) c.reply_token.new.len c.reply_token.new.layer)
-    _ _ p c.in-Some.ensures (r, answers, status, c.reply_token.ensures.number, c.reply_token.ensures.told)
+    _ _ p c.in-Some.ensures (r, answers, status, c.reply_token.ensures.number, c.reply_token.ensures.view)

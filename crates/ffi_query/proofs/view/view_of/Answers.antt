@@ -26,12 +26,12 @@ returns-in-Ok-Some c =
     let ns = c.args.known.now in
     let w = pull_item c.args.whole in
     let v = pull_item c.without_tag-item.result in
-    let t = c.in-Ok-Some.told in
+    let t = c.in-Ok-Some.copies in
     let is = inside k b w v o.1 o.0 (c.without_tag-item.ensures ∙ ap (λ x. without_tag x w) c.tag.ensures) in
-    let told = rw c.in-Ok-Some.field-0-is at c.in-Ok-Some.ensures.told in
+    let says = rw c.in-Ok-Some.field-0-is at c.in-Ok-Some.ensures.copies in
     let tag = rw c.in-Ok-Some.field-0-is at c.in-Ok-Some.ensures.tag in
-    viewed k b c.args.out.now c.put_told.new.out (IsMessageView k i aad d ns b) (HasNoView k i aad d ns) v t.view t.text.items c.put_told.result
-    is (told, tells_tag_of (tag_of k) b w t.view.is_tagged o.0 (tag ∙ c.is_under_tag-is_tagged.ensures)) c.put_told.ensures
+    viewed k b c.args.out.now c.put_copies.new.out (IsMessageView k i aad d ns b) (HasNoView k i aad d ns) v t.view t.text.items c.put_copies.result
+    is (says, tells_tag_of (tag_of k) b w t.view.is_tagged o.0 (tag ∙ c.is_under_tag-is_tagged.ensures)) c.put_copies.ensures
 
 pub returns-in-Ok-None : goal.returns-in-Ok-None
 returns-in-Ok-None c =
@@ -40,6 +40,6 @@ returns-in-Ok-None c =
     let w = pull_item c.args.whole in
     let v = pull_item c.without_tag-item.result in
     let is = inside k b w v o.1 o.0 (c.without_tag-item.ensures ∙ ap (λ t. without_tag t w) c.tag.ensures) in
-    let none = rw c.in-Ok-None.field-0-is at c.in-Ok-None.ensures.told in
+    let none = rw c.in-Ok-None.field-0-is at c.in-Ok-None.ensures.copies in
     let once = sym c.is_given_twice.ensures ∙ c.if-is_given_twice.false in
     (v, is, (once, none), refl)

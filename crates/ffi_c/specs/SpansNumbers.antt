@@ -7,8 +7,8 @@ use Rattle.ffi_c.specs.Replies.{length_of, reply_status}
 use Rattle.ffi_c.specs.Views.{algorithm_numbers, critical_number, number_of_map}
 
 -- the struct of spans
-abbrev pub spans_told : MessageSpans → Spans
-spans_told m = record {
+abbrev pub spans_numbers : MessageSpans → Spans
+spans_numbers m = record {
   algorithm = (algorithm_numbers m.view.algorithm).0;
   algorithm_form = (algorithm_numbers m.view.algorithm).1;
   key_id_map = number_of_map m.view.key_id_place;
@@ -48,7 +48,7 @@ no_spans = record {
 
 -- the struct of an answer: that of the spans, and zeros where there are none
 abbrev pub spans_of : Result MessageSpans refusals.Refusal → Spans
-spans_of (Ok m) = spans_told m
+spans_of (Ok m) = spans_numbers m
 spans_of (Err r) = no_spans
 
 -- how many bytes go with the spans
