@@ -1,6 +1,6 @@
 -- Pairs that are given as structs of numbers, and answers that are spans.
 use Rattle.std.proofs.Common.{◌≡◌, ◌∙◌, ◌++◌, ◌+◌, ◌<◌, ◌&&◌, ℕ, zero, suc, List, [], ◌∷◌, length, get_or}
-use Rattle.std.proofs.Common.{take, Option, Some, None, Result, Ok, Err, Bool, true, false, ap, sym, subst, refl, arith}
+use Rattle.std.proofs.Common.{take, Option, Some, None, Result, Ok, Err, Bool, ap, sym, refl, arith}
 use Rattle.std.proofs.lemmas.List.{take_more}
 use Rattle.std.specs.List.{list_all}
 use Rattle.std.specs.Prelude.{is_some}

@@ -90,7 +90,7 @@ fn apart_of_gate(error: GateError<Waiting>) -> Apart
 }
 
 /// The layer that waits, or the reason against the token.
-pub(crate) fn apart(error: PolicyError<Waiting>) -> Apart
+pub(crate) fn taken_apart(error: PolicyError<Waiting>) -> Apart
     ensures { result ≡ apart error }
 {
     let reason = match error {

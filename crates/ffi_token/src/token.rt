@@ -6,7 +6,7 @@ ghost use Rattle.ffi_token.specs.Tokens.{AnswersToken, ReturnsJudged, WritesLaye
 
 use crate::layer::{Layer, Waiting};
 use crate::opened::OpenedLayers;
-use crate::refusal::{Apart, Refusal, apart};
+use crate::refusal::{Apart, Refusal, taken_apart};
 use crate::rules::Rules;
 use coset::CborSerializable;
 use coset::cwt::{ClaimsSet, KnownClaims};
@@ -51,7 +51,7 @@ fn answer(
 {
     match judged {
         Ok(known) => write_claims(alloc, known.claims, out),
-        Err(error) => match apart(error) {
+        Err(error) => match taken_apart(error) {
             Apart::Layer(layer) => Err(write_layer(layer, out)),
             Apart::Refused(refusal) => Err(refusal),
         },
